@@ -1,0 +1,5 @@
+use Rattle.xs_trace.proofs.PlayLaws.{play-then}
+use Rattle.xs_trace.proofs.laws.play_of_then.Goals as goal
+
+pub returns : goal.returns
+returns c = play-then

@@ -1,0 +1,9 @@
+use Rattle.std.proofs.Common.{refl}
+use Rattle.xs_trace.proofs.CutLaws.{then-assoc, then-nil}
+use Rattle.xs_trace.proofs.laws.then_joins.Goals as goal
+
+pub returns-clause-associative : goal.returns-clause-associative
+returns-clause-associative c = then-assoc
+
+pub returns-clause-unit : goal.returns-clause-unit
+returns-clause-unit c = λ x. (refl, then-nil x)

@@ -1,0 +1,9 @@
+pub mod Event
+pub mod Mark
+pub mod Cut
+pub mod Laws
+pub mod State
+pub mod Play
+pub mod PlayLaws
+pub mod Kept
+pub mod Run
