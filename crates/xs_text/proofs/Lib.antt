@@ -1,0 +1,4 @@
+pub mod Escaping
+pub mod Naming
+pub mod Unescaping
+pub mod Utf8

@@ -1,0 +1,12 @@
+use Rattle.std.proofs.Common.{◌≡◌, length, take}
+use Rattle.xs_text.specs.Escapes.{unescaped, behind}
+use Rattle.xs_text.proofs.escapes.append_unescaped.Given as goal
+
+abbrev pub invariant-loop-plain : goal.invariant-loop-plain
+invariant-loop-plain l = record {
+  whole : behind l.out.items (unescaped l.rest) ≡ behind l.initial.out.items (unescaped l.text);
+  front : take (length l.initial.out.items) l.out.items ≡ l.initial.out.items;
+}
+
+abbrev pub decreases-loop-plain : goal.decreases-loop-plain
+decreases-loop-plain l = length l.rest

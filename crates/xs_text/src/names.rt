@@ -1,0 +1,72 @@
+//! NCNames and QNames of Namespaces in XML 1.0, and white space.
+
+ghost use Rattle.std.specs.Prelude.{◌≡◌, ℕ, ◌↔◌, List, IsTrue, IfSome, IfNone};
+ghost use Rattle.xs_text.specs.Names.{starts_name, continues_name, IsNcName, IsQName, is_space};
+
+/// Whether a character is white space: XML 1.0, 2.3, production 3.
+pub fn is_space(c: char) -> bool
+    ensures { result ≡ is_space c }
+{
+    matches!(c, ' ' | '\t' | '\r' | '\n')
+}
+
+/// Whether a character may begin a name: XML 1.0, 2.3, production 4, without the colon.
+pub fn is_name_start(c: char) -> bool
+    ensures { result ≡ starts_name c }
+{
+    matches!(
+        c,
+        'A'..='Z'
+            | '_'
+            | 'a'..='z'
+            | '\u{C0}'..='\u{D6}'
+            | '\u{D8}'..='\u{F6}'
+            | '\u{F8}'..='\u{2FF}'
+            | '\u{370}'..='\u{37D}'
+            | '\u{37F}'..='\u{1FFF}'
+            | '\u{200C}'..='\u{200D}'
+            | '\u{2070}'..='\u{218F}'
+            | '\u{2C00}'..='\u{2FEF}'
+            | '\u{3001}'..='\u{D7FF}'
+            | '\u{F900}'..='\u{FDCF}'
+            | '\u{FDF0}'..='\u{FFFD}'
+            | '\u{10000}'..='\u{EFFFF}'
+    )
+}
+
+/// Whether a character may stand in a name behind its first: XML 1.0, 2.3, production 4a, without the colon.
+pub fn is_name_char(c: char) -> bool
+    ensures { result ≡ continues_name c }
+{
+    is_name_start(c)
+        || matches!(c, '-' | '.' | '0'..='9' | '\u{B7}' | '\u{300}'..='\u{36F}' | '\u{203F}'..='\u{2040}')
+}
+
+/// Whether a text is an NCName: a name of XML 1.0, fifth edition, without a colon.
+pub fn is_ncname(s: &str) -> bool
+    ensures { IsTrue result ↔ IsNcName s.now }
+{
+    let mut chars = s.chars();
+    let Some(first) = chars.next() else {
+        return false;
+    };
+    is_name_start(first) && chars.all(is_name_char)
+}
+
+/// The prefix, which may be empty, and the local part of a QName; `None` where the text is no QName.
+pub fn split_qname(s: &str) -> Option<(&str, &str)>
+    ensures parts { IfSome result (λ name. IsQName s.now name.0.now name.1.now) }
+    ensures none { IfNone result ((prefix local : List ℕ) → ¬ IsQName s.now prefix local) }
+{
+    let Some((prefix, local)) = s.split_once(':') else {
+        return if is_ncname(s) { Some(("", s)) } else { None };
+    };
+    if is_ncname(prefix) && is_ncname(local) {
+        Some((prefix, local))
+    } else {
+        None
+    }
+}
+
+#[cfg(test)]
+mod tests;
