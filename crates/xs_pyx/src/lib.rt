@@ -1,0 +1,7 @@
+//! Documents in PYX form, line by line.
+#![tactic(auto)]
+
+mod cut;
+pub mod line;
+#[cfg(test)]
+mod tests;
