@@ -1,0 +1,17 @@
+// An XML document, or several, as a tree of nodes in document order (XPath 1.0, 5).
+#![tactic(auto)]
+
+mod entries;
+mod kinds;
+mod names;
+mod nodes;
+mod table;
+mod trees;
+
+pub use kinds::Kind;
+pub use names::{Name, NameText};
+pub use nodes::Node;
+pub use trees::{Attributes, Children, MOST_NODES, Tree, TreeFault};
+
+#[cfg(test)]
+mod tests;

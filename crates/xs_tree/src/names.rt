@@ -1,0 +1,81 @@
+// Expanded names and the texts that they are made of.
+#![tactic(auto)]
+
+ghost use Rattle.std.specs.Prelude.{◌≡◌, IfOk};
+ghost use Rattle.std.specs.Cmp;
+ghost use Rattle.std.specs.Cmp.{on_equiv, on_per};
+ghost use Rattle.std.specs.Cmp.Lexicographic.{nat_list_eq_equiv};
+ghost use Rattle.std.specs.Hash as fed;
+ghost use Rattle.std.specs.Cmp.Rules.{hashing};
+ghost use Rattle.std.proofs.Common.{rules};
+ghost use Rattle.xs_tree.specs.Names.{same_text};
+
+use std::alloc::{AllocError, Global};
+use std::hash::{Hash, Hasher};
+use std::marker::Model;
+
+/// A part of a name: a prefix, a local part or a namespace URI.
+#[derive(Drop, Debug)]
+pub struct NameText {
+    text: String,
+}
+
+impl Model for NameText {
+    ghost use Rattle.std.specs.Prelude.{List, ℕ, string_bytes};
+
+    ghost Value = { List ℕ };
+
+    ghost view = { λ n. string_bytes n.text };
+}
+
+impl NameText {
+    /// The name part with these characters.
+    pub fn of(alloc: Global, text: &str) -> Result<NameText, AllocError>
+        ensures value { IfOk result (λ part. part ≡ text.now) }
+    {
+        let text = String::from_str(alloc, text)?;
+        Ok(NameText { text })
+    }
+
+    /// The characters.
+    pub fn as_str(&self) -> &str
+        ensures value { result.now ≡ self.now }
+    {
+        self.text.as_str()
+    }
+}
+
+impl PartialEq for NameText {
+    ghost eq = { same_text };
+
+    ghost laws = { Cmp.partial_equiv_from_equiv nat_list_eq_equiv };
+
+    fn eq(&self, other: &Self) -> bool {
+        self.as_str() == other.as_str()
+    }
+}
+
+impl Eq for NameText {
+    ghost laws = { nat_list_eq_equiv };
+}
+
+impl Hash for NameText {
+    ghost hash_input = { fed.str };
+
+    ghost respects_eq = { Prim.search (hashing, rules) };
+
+    fn hash<H: Hasher>(&self, state: &mut H) {
+        self.as_str().hash(state);
+    }
+}
+
+/// An expanded name with the prefix that it was written with (Namespaces in XML 1.0, 2.1 and 4).
+#[derive(Drop, Debug, PartialEq, Eq, Hash)]
+pub struct Name {
+    /// The namespace URI, empty for none.
+    pub uri: NameText,
+    /// The local part. Of a namespace node the prefix, of a processing instruction the target.
+    pub local: NameText,
+    /// The prefix, empty for none.
+    pub prefix: NameText,
+}

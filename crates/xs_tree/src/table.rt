@@ -1,0 +1,66 @@
+// The table of a tree's names, each kept once.
+#![tactic(auto)]
+
+ghost use Rattle.std.specs.Prelude.{◌≡◌, ◌<◌, ◌≤◌, [], Some, slice_get, length, IfOk, OnErr, OnOk};
+ghost use Rattle.std.specs.Option.{option_and_then, option_copied};
+ghost use Rattle.xs_tree.specs.Growth.{IsNumberBelow, Keeps};
+
+use crate::names::Name;
+use indexmap::IndexSet;
+use std::alloc::{AllocError, Global};
+use std::marker::Model;
+
+/// Names by number, no two of them equal.
+#[derive(Drop)]
+pub struct NameTable {
+    names: IndexSet<Name>,
+}
+
+impl Model for NameTable {
+    ghost use Rattle.std.specs.Prelude.{List};
+    ghost use Rattle.xs_tree.specs.declared.names.Name.{Name};
+
+    ghost Value = { List Name };
+
+    ghost view = { λ t. t.names.keys };
+}
+
+impl NameTable {
+    /// A table without names.
+    pub fn new(alloc: Global) -> NameTable
+        ensures empty { result ≡ [] }
+    {
+        NameTable {
+            names: IndexSet::new(alloc),
+        }
+    }
+
+    /// The number of a name, which is added if it is new.
+    pub fn intern(&mut self, name: Name) -> Result<u32, AllocError>
+        ensures stored { IfOk result (λ number. slice_get self.new number ≡ Some name) }
+        ensures numbered { IfOk result (λ number. number < length self.new) }
+        ensures kept { Keeps self.old self.new }
+    {
+        let (number, _) = self.names.insert_full(name)?;
+        u32::try_from(number).map_err(|_| AllocError)
+    }
+
+    /// The number of a name, if there is one.
+    pub fn intern_any(&mut self, name: Option<Name>) -> Result<Option<u32>, AllocError>
+        ensures stored { IfOk result (λ number. option_and_then (slice_get self.new) number ≡ name) }
+        ensures numbered { IfOk result (λ number. IsNumberBelow (length self.new) number) }
+        ensures kept { Keeps self.old self.new }
+    {
+        match name {
+            Some(name) => Ok(Some(self.intern(name)?)),
+            None => Ok(None),
+        }
+    }
+
+    /// The name with a number.
+    pub fn get(&self, number: u32) -> Option<&Name>
+        ensures name { option_copied result ≡ slice_get self.now number }
+    {
+        self.names.get_index(number as usize)
+    }
+}

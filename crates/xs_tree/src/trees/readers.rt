@@ -1,0 +1,88 @@
+// What a tree says of one node.
+#![tactic(auto)]
+
+ghost use Rattle.std.specs.Prelude.{◌≡◌, ◌+◌, ◌<◌, ◌≤◌, length, nat_lt, if◌then◌else◌, Some, None, IsTrue, ◌↔◌};
+ghost use Rattle.std.specs.Option.{option_copied};
+ghost use Rattle.xs_tree.specs.Record.{at};
+ghost use Rattle.xs_tree.specs.Shape.{HasParentFrom, IsTree};
+
+use super::Tree;
+use crate::kinds::Kind;
+use crate::names::Name;
+use crate::nodes::Node;
+
+impl Tree {
+    /// The number of nodes.
+    pub fn len(&self) -> usize
+        ensures count { result ≡ length self.now }
+        ensures few { result ≤ 8000000 }
+        ensures tree { IsTree self.now }
+    {
+        self.nodes.len()
+    }
+
+    /// The kind of a node.
+    pub fn kind(&self, n: Node) -> Kind
+        requires { n < length self.now }
+        ensures kind { result ≡ (at self.now n).kind }
+    {
+        self.nodes[n.place() as usize].kind
+    }
+
+    /// The expanded name of an element, an attribute, a namespace node or a processing instruction.
+    pub fn name(&self, n: Node) -> Option<&Name>
+        requires { n < length self.now }
+        ensures name { option_copied result ≡ (at self.now n).name }
+    {
+        let number = self.nodes[n.place() as usize].name?;
+        self.names.get(number)
+    }
+
+    /// The text of a text node, a comment or a processing instruction, the value of an attribute or the URI of a
+    /// namespace node; empty for roots and elements.
+    pub fn text(&self, n: Node) -> &str
+        requires { n < length self.now }
+        ensures text { result.now ≡ (at self.now n).text }
+    {
+        let entry = self.nodes[n.place() as usize];
+        &self.text.as_str()[entry.start..entry.end]
+    }
+
+    /// The parent of a node, none for a root.
+    pub fn parent(&self, n: Node) -> Option<Node>
+        requires { n < length self.now }
+        ensures parent { result ≡ (at self.now n).parent }
+        ensures tree { IsTree self.now }
+    {
+        let entry = self.nodes[n.place() as usize];
+        match entry.kind {
+            Kind::Root => None,
+            _ => Some(Node::at(entry.parent)),
+        }
+    }
+
+    /// The node that follows in document order, none after the last.
+    pub fn next_in_order(&self, n: Node) -> Option<Node>
+        requires { n < length self.now }
+        ensures next { result ≡ (if nat_lt (n + 1) (length self.now) then Some (n + 1) else None) }
+    {
+        let count = self.len();
+        let next = n.place() + 1;
+        if (next as usize) < count {
+            Some(Node::at(next))
+        } else {
+            None
+        }
+    }
+
+    // Whether the parent of a node is a given node or comes after it.
+    pub(crate) fn begins_inside(&self, n: Node, node: Node) -> bool
+        requires { node < length self.now }
+        ensures value { IsTrue result ↔ HasParentFrom n (at self.now node) }
+    {
+        match self.parent(node) {
+            Some(parent) => n.place() <= parent.place(),
+            None => false,
+        }
+    }
+}
