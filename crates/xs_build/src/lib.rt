@@ -1,0 +1,15 @@
+//! Small documents: from bytes to a tree.
+#![tactic(auto)]
+
+mod builder;
+mod document;
+mod fault;
+mod nodes;
+mod plain;
+mod stack;
+
+pub use document::read_document;
+pub use plain::is_plain;
+
+#[cfg(test)]
+mod tests;
