@@ -1,0 +1,161 @@
+-- Which trees are small stylesheets, and what their one template holds. A name is what is written, its prefix
+-- included.
+use Rattle.std.specs.Prelude.{ℕ, zero, suc, ◌-◌, ◌==◌, ◌&&◌, ◌||◌, not, Bool, true, false, List, [], ◌∷◌, map, filter, Option, Some, None, is_none, option_map, option_and_then, if◌then◌else◌, codes}
+use Rattle.std.specs.List.{list_all, list_any}
+use Rattle.std.specs.Option.{option_map_or}
+use Rattle.std.specs.Str.{bytes_eq}
+use Rattle.xs_tree.specs.Record.{Record, at, children, attributes}
+use Rattle.xs_tree.specs.declared.kinds.Kind.{Kind}
+use Rattle.xs_tree.specs.declared.kinds.Kind.TheVariants.{Root, Element, Attribute, Space, Text, Comment, Pi}
+use Rattle.xs_body.specs.Parts.{Part, text, literal, value_of, Parts, no_parts, part}
+use Rattle.xs_body.specs.Path.{path_of}
+
+-- the first of some nodes
+abbrev pub first : List ℕ → Option ℕ
+first [] = None
+first (n ∷ more) = Some n
+
+-- white space (XML 1.0, 2.3)
+abbrev pub is_space : ℕ → Bool
+is_space b = (b == 32) || (b == 9) || (b == 10) || (b == 13)
+
+abbrev pub is_element : Kind → Bool
+is_element Root = false
+is_element Element = true
+is_element Attribute = false
+is_element Space = false
+is_element Text = false
+is_element Comment = false
+is_element Pi = false
+
+abbrev pub is_text : Kind → Bool
+is_text Root = false
+is_text Element = false
+is_text Attribute = false
+is_text Space = false
+is_text Text = true
+is_text Comment = false
+is_text Pi = false
+
+-- the name of a node; empty where it bears none
+abbrev pub name_at : List Record → ℕ → List ℕ
+name_at rs n = option_map_or (λ name. name.local) (at rs n).name []
+
+-- an element of this name
+abbrev pub is_named : List ℕ → List Record → ℕ → Bool
+is_named name rs n = is_element (at rs n).kind && bytes_eq (name_at rs n) name
+
+-- a text node of a stylesheet that is stripped, since it holds only white space (XSLT 1.0, 3.4)
+abbrev pub is_stripped : List Record → ℕ → Bool
+is_stripped rs n = is_text (at rs n).kind && list_all is_space (at rs n).text
+
+-- the children of a node of a stylesheet that stay
+abbrev pub content : List Record → ℕ → List ℕ
+content rs n = filter (λ k. not (is_stripped rs k)) (children rs n)
+
+-- the one node of these, where there is exactly one
+abbrev pub single : List ℕ → Option ℕ
+single [] = None
+single (a ∷ []) = Some a
+single (a ∷ b ∷ more) = None
+
+-- the two nodes of these, where there are exactly two
+abbrev pub pair : List ℕ → Option (ℕ × ℕ)
+pair [] = None
+pair (a ∷ []) = None
+pair (a ∷ b ∷ []) = Some (a, b)
+pair (a ∷ b ∷ c ∷ more) = None
+
+-- the value of an attribute of this name
+abbrev pub value_named : List ℕ → List Record → ℕ → Option (List ℕ)
+value_named name rs a = if bytes_eq (name_at rs a) name then Some (at rs a).text else None
+
+-- the value of the attribute of this name, where the element has no other
+abbrev pub only_attribute : List ℕ → List Record → ℕ → Option (List ℕ)
+only_attribute name rs n = option_and_then (value_named name rs) (single (attributes rs n))
+
+abbrev pub has_only : List ℕ → List ℕ → List Record → ℕ → Bool
+has_only name value rs n = option_map_or (λ v. bytes_eq v value) (only_attribute name rs n) false
+
+-- an attribute of this name and value
+abbrev pub is_setting : List ℕ → List ℕ → List Record → ℕ → Bool
+is_setting name value rs a = bytes_eq (name_at rs a) name && bytes_eq (at rs a).text value
+
+-- nothing is left in an element
+abbrev pub is_empty : List Record → ℕ → Bool
+is_empty rs n = is_none (first (content rs n))
+
+-- The root element of a stylesheet has two attributes, in either order: the XSLT namespace, declared for the prefix
+-- `xsl`, and the version (XSLT 1.0, 2.1 and 2.2).
+abbrev pub declares_xsl : List Record → ℕ → Bool
+declares_xsl rs a = is_setting (codes "xmlns:xsl") (codes "http://www.w3.org/1999/XSL/Transform") rs a
+
+abbrev pub is_version_1 : List Record → ℕ → Bool
+is_version_1 rs a = is_setting (codes "version") (codes "1.0") rs a
+
+abbrev pub are_sheet_attributes : List Record → ℕ × ℕ → Bool
+are_sheet_attributes rs p = (declares_xsl rs p.0 && is_version_1 rs p.1) || (is_version_1 rs p.0 && declares_xsl rs p.1)
+
+abbrev pub is_sheet_element : List Record → ℕ → Bool
+is_sheet_element rs n = is_named (codes "xsl:stylesheet") rs n && option_map_or (are_sheet_attributes rs) (pair (attributes rs n)) false
+
+-- the result is written as text (XSLT 1.0, 16.3)
+abbrev pub is_text_output : List Record → ℕ → Bool
+is_text_output rs n = is_named (codes "xsl:output") rs n && has_only (codes "method") (codes "text") rs n && is_empty rs n
+
+-- the template of the root (XSLT 1.0, 5.2 and 5.3)
+abbrev pub is_root_template : List Record → ℕ → Bool
+is_root_template rs n = is_named (codes "xsl:template") rs n && has_only (codes "match") (codes "/") rs n
+
+-- the output and the template of a stylesheet, and then the template
+abbrev pub template_among : List Record → ℕ × ℕ → Option ℕ
+template_among rs p = if is_text_output rs p.0 && is_root_template rs p.1 then Some p.1 else None
+
+abbrev pub template_in : List Record → ℕ → Option ℕ
+template_in rs sheet = if is_sheet_element rs sheet then option_and_then (template_among rs) (pair (content rs sheet)) else None
+
+-- the one template of a small stylesheet
+abbrev pub template_of : List Record → Option ℕ
+template_of rs = option_and_then (template_in rs) (single (content rs 0))
+
+-- an instruction that puts the string of what its path reaches (XSLT 1.0, 7.6.1)
+abbrev pub value_of_part : List Record → ℕ → Option Part
+value_of_part rs n = if is_empty rs n then option_map value_of (option_and_then path_of (only_attribute (codes "select") rs n)) else None
+
+-- an element without attributes whose name has no prefix: it is put on the result (XSLT 1.0, 7.1.1)
+abbrev pub is_literal : List Record → ℕ → Bool
+is_literal rs n = is_none (first (attributes rs n)) && not (list_any (λ b. b == 58) (name_at rs n))
+
+-- what an element stands for, given what its content stands for
+abbrev pub element_part : List Record → ℕ → Option Parts → Option Part
+element_part rs n inner = if is_named (codes "xsl:value-of") rs n then value_of_part rs n else (if is_literal rs n then option_map literal inner else None)
+
+-- what a node of this kind and text stands for, given what it stands for as an element
+abbrev pub node_part : Kind → List ℕ → Option Part → Option Part
+node_part Root t element = None
+node_part Element t element = element
+node_part Attribute t element = None
+node_part Space t element = None
+node_part Text t element = Some (text t)
+node_part Comment t element = None
+node_part Pi t element = None
+
+-- all of them, or None where one is missing
+abbrev pub all_parts : List (Option Part) → Option Parts
+all_parts [] = Some no_parts
+all_parts (None ∷ ps) = None
+all_parts (Some p ∷ ps) = option_map (part p) (all_parts ps)
+
+-- what a node in a template stands for, where elements may nest `depth` deep from it on
+unfoldable pub part_at : ℕ → List Record → ℕ → Option Part
+part_at zero rs n = node_part (at rs n).kind (at rs n).text None
+part_at (suc depth) rs n = node_part (at rs n).kind (at rs n).text (element_part rs n (all_parts (map (part_at depth rs) (content rs n))))
+
+-- what the content of a node stands for, where elements may nest `depth` deep in it
+abbrev pub parts_at : ℕ → List Record → ℕ → Option Parts
+parts_at depth rs n = all_parts (map (part_at depth rs) (content rs n))
+
+-- What the template of a small stylesheet holds; None exactly where the tree is no small stylesheet. The root element
+-- is at depth 1 and the template at depth 2, and no element is deeper than 256.
+abbrev pub body_of : List Record → Option Parts
+body_of rs = option_and_then (parts_at (256 - 2) rs) (template_of rs)

@@ -1,0 +1,129 @@
+//! The children of a node, one after another.
+ghost use Rattle.std.specs.Prelude.{◌≡◌, ◌+◌, ◌<◌, ◌≤◌, length, IfSome};
+ghost use Rattle.xs_body.specs.Walk.{Stands, content_from};
+ghost use Rattle.xs_tree.specs.Kinds.{is_child_kind};
+ghost use Rattle.xs_tree.specs.Record.{at, children};
+ghost use Rattle.xs_body.specs.Sheet.{content, first, pair, single};
+ghost use Rattle.xs_tree.specs.Walk.{children_from};
+
+use crate::nodes::is_stripped;
+use xs_tree::{Kind, Node, Tree};
+
+/// The first child of a node.
+#[tactic(auto, using(crate::proofs::Siblings::starts))]
+pub(crate) fn first_child(tree: &Tree, n: Node) -> Option<Node>
+    requires { n < length tree.now }
+    ensures child { result ≡ first (children tree.now n) }
+    ensures later { IfSome result (λ k. (n < k) × (k < length tree.now)) }
+{
+    let _count = tree.len();
+    child_after(tree, n, n)
+}
+
+/// The first child of a node after a place.
+#[tactic(auto, using(crate::proofs::Siblings::siblings))]
+pub(crate) fn child_after(tree: &Tree, n: Node, after: Node) -> Option<Node>
+    requires inside { after < length tree.now }
+    requires later { n ≤ after }
+    ensures child { result ≡ first (children_from tree.now n (after + 1)) }
+    ensures later { IfSome result (λ k. (after < k) × (k < length tree.now)) }
+{
+    let count = tree.len() as u32;
+    for place in after.place() + 1..count {
+        let node = Node::at(place);
+        match standing_of(tree, n, node) {
+            Standing::Child => return Some(node),
+            Standing::Inside => {}
+            Standing::Outside => return None,
+        }
+    }
+    None
+}
+
+/// The first child of a stylesheet's node that stays.
+#[tactic(auto, using(crate::proofs::Siblings::starts))]
+pub(crate) fn first_kept(tree: &Tree, n: Node) -> Option<Node>
+    requires { n < length tree.now }
+    ensures child { result ≡ first (content tree.now n) }
+    ensures later { IfSome result (λ k. (n < k) × (k < length tree.now)) }
+{
+    let _count = tree.len();
+    kept_after(tree, n, n)
+}
+
+/// The first child of a stylesheet's node that stays, after a place.
+#[tactic(auto, using(crate::proofs::Siblings::onwards))]
+pub(crate) fn kept_after(tree: &Tree, n: Node, after: Node) -> Option<Node>
+    requires inside { after < length tree.now }
+    requires later { n ≤ after }
+    ensures child { result ≡ first (content_from tree.now n (after + 1)) }
+    ensures later { IfSome result (λ k. (after < k) × (k < length tree.now)) }
+{
+    let mut next = child_after(tree, n, after);
+    while let Some(child) = next {
+        if !is_stripped(tree, child) {
+            return next;
+        }
+        next = child_after(tree, n, child);
+    }
+    None
+}
+
+/// The child of a stylesheet's node that stays, where there is exactly one.
+#[tactic(auto, using(crate::proofs::Siblings::contents))]
+pub(crate) fn single_kept(tree: &Tree, n: Node) -> Option<Node>
+    requires { n < length tree.now }
+    ensures child { result ≡ single (content tree.now n) }
+    ensures inside { IfSome result (λ k. k < length tree.now) }
+{
+    let first = first_kept(tree, n)?;
+    match kept_after(tree, n, first) {
+        None => Some(first),
+        Some(_) => None,
+    }
+}
+
+/// The children of a stylesheet's node that stay, where there are exactly two.
+#[tactic(auto, using(crate::proofs::Siblings::contents))]
+pub(crate) fn kept_pair(tree: &Tree, n: Node) -> Option<(Node, Node)>
+    requires { n < length tree.now }
+    ensures children { result ≡ pair (content tree.now n) }
+    ensures inside { IfSome result (λ p. (p.0 < length tree.now) × (p.1 < length tree.now)) }
+{
+    let first = first_kept(tree, n)?;
+    let second = kept_after(tree, n, first)?;
+    match kept_after(tree, n, second) {
+        None => Some((first, second)),
+        Some(_) => None,
+    }
+}
+
+// How a later node stands to a node: as a child, inside it otherwise, or past its end.
+enum Standing {
+    Child,
+    Inside,
+    Outside,
+}
+
+fn standing_of(tree: &Tree, n: Node, later: Node) -> Standing
+    requires inside { n < length tree.now }
+    requires later { later < length tree.now }
+    ensures { Stands tree.now n later result }
+{
+    match tree.parent(later) {
+        None => Standing::Outside,
+        Some(parent) if parent.place() < n.place() => Standing::Outside,
+        Some(parent) if parent.place() == n.place() && can_be_child(tree, later) => Standing::Child,
+        Some(_) => Standing::Inside,
+    }
+}
+
+fn can_be_child(tree: &Tree, n: Node) -> bool
+    requires { n < length tree.now }
+    ensures { result ≡ is_child_kind (at tree.now n).kind }
+{
+    matches!(
+        tree.kind(n),
+        Kind::Element | Kind::Text | Kind::Comment | Kind::Pi
+    )
+}
