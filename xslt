@@ -1,0 +1,24 @@
+#!/usr/bin/env bash
+# Runs the program on the given words, in the folder of the call, and ends with its status.
+# Proves and builds it first where it is not built or a source is newer: the first time takes some minutes.
+set -u
+top=$(cd "$(dirname "$(readlink -f "$0")")" && pwd)
+program=$top/crates/xslt/out/xslt
+
+is_stale() {
+    [ ! -x "$program" ] || [ -n "$(find "$top/crates.txt" "$top/crates" \( -name out -o -name must-fail \) -prune -o -type f -newer "$program" -print -quit)" ]
+}
+
+if is_stale; then
+    log=$(mktemp) || exit 6
+    hello=$top/examples/hello
+    echo "xslt: proving and building the program" >&2
+    if ! (cd "$top/crates/xslt" && rt run -- "$hello/sheet.pyx" "$hello/source.pyx") >"$log" 2>&1 </dev/null; then
+        cat "$log" >&2
+        rm -f "$log"
+        exit 6
+    fi
+    rm -f "$log"
+    touch "$program"
+fi
+exec "$program" "$@"
