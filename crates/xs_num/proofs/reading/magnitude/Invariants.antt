@@ -1,0 +1,7 @@
+use Rattle.std.proofs.Common.{◌≡◌, ◌≤◌, take}
+use Rattle.std.specs.Str.Parse.{digits_value}
+use Rattle.xs_num.specs.Range.{greatest}
+use Rattle.xs_num.proofs.reading.magnitude.Given as goal
+
+abbrev pub invariant-loop-digit : goal.invariant-loop-digit
+invariant-loop-digit l = (l.value ≡ digits_value 10 (take l.digit-index l.digits)) × (l.value ≤ greatest)

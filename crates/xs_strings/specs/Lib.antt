@@ -1,0 +1,4 @@
+pub mod Positions
+pub mod Searching
+pub mod Spaces
+pub mod Translation
