@@ -1,6 +1,11 @@
 pub mod Rows
-pub mod Beginnings
+pub mod Found
+pub mod Laws
+pub mod Growing
+pub mod Here
+pub mod Exits
+pub mod Texts
+pub mod Endings
 pub mod Siblings
-pub mod Reaching
 pub mod Inside
 pub mod Reading

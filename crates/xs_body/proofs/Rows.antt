@@ -5,7 +5,7 @@ use Rattle.xs_body.specs.declared.syntax.Body.{Body, Body', Row_of-Instr, end_of
 
 pub row-items : {m : _} (row : Row_of-Instr m) → row_parts row ≡ parts_of_all (items-the_row-Instr m row)
 row-items end_of-Instr = refl
-row-items (more_of-Instr kind rest) = ap (λ (ps : Parts). part (part_of kind) ps) (row-items rest)
+row-items (more_of-Instr site kind rest) = ap (λ (ps : Parts). part site (part_of kind) ps) (row-items rest)
 
 pub body_items : (body : Body) → parts_of body ≡ parts_of_all (out-Body body).instrs.items
 body_items (Body' n row) =

@@ -91,13 +91,10 @@ children-start rs n t lt =
     whole (is_child rs n) rs
     ∙ skipped (is_child rs n) rs (n + 1) (omega arith) (λ k le. ap (λ (b : Bool). b && is_child_kind (at rs k).kind) (not-before rs n k (at rs k).parent refl t (omega arith) (omega arith)))
 
-pub first-child-start : (rs : List Record) (n : ℕ) → IsTree rs → n < length rs → first (children rs n) ≡ first (children_from rs n (n + 1))
-first-child-start rs n t lt = ap first (children-start rs n t lt)
-
 pub first-kept-start : (rs : List Record) (n : ℕ) → IsTree rs → n < length rs → first (content rs n) ≡ first (content_from rs n (n + 1))
 first-kept-start rs n t lt = ap (λ ks. first (filter (λ j. not (is_stripped rs j)) ks)) (children-start rs n t lt)
 
-pub ruleset starts = (first-child-start, first-kept-start)
+pub ruleset starts = (first-kept-start)
 
 -- from a place where the walk stands, that place and what passes after it
 abbrev pub rest_of : (ℕ → Bool) → List Record → Option ℕ → List ℕ
@@ -122,11 +119,7 @@ onward rs n next = rest_of (is_child rs n) rs next
 pub onward-next : (rs : List Record) (n k : ℕ) → onward rs n (first (children_from rs n k)) ≡ children_from rs n k
 onward-next rs n k = rest-first (is_child rs n) rs k
 
-pub onward-start : (rs : List Record) (n : ℕ) → onward rs n (first (children rs n)) ≡ children rs n
-onward-start rs n =
-    ap (λ ks. onward rs n (first ks)) (whole (is_child rs n) rs) ∙ rest-first (is_child rs n) rs 0 ∙ sym (whole (is_child rs n) rs)
-
-pub ruleset onwards = (onward-next, onward-start)
+pub ruleset onwards = (onward-next)
 
 pub later-on : (here next : Option ℕ) (after child end : ℕ) → here ≡ Some child → IfSome here (λ k. (after < k) × (k < end)) → IfSome next (λ k. (child < k) × (k < end)) → IfSome next (λ k. (after < k) × (k < end))
 later-on here None after child end e h g = tt

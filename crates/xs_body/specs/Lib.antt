@@ -1,6 +1,8 @@
+pub mod Paths
 pub mod Parts
 pub mod Path
 pub mod Sheet
-pub mod Result
 pub mod Walk
-pub mod Begins
+pub mod Select
+pub mod Trace
+pub mod Steps

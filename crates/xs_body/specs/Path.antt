@@ -1,6 +1,8 @@
--- Names, and paths of names.
-use Rattle.std.specs.Prelude.{ℕ, nat_le, ◌==◌, ◌&&◌, ◌||◌, List, [], ◌∷◌, Bool, false, Option, Some, None, if◌then◌else◌}
-use Rattle.std.specs.List.{list_all, slice_split}
+-- Names, paths of names, and tests, as a stylesheet writes them.
+use Rattle.std.specs.Prelude.{ℕ, nat_le, ◌-◌, ◌==◌, ◌&&◌, ◌||◌, List, [], ◌∷◌, length, take, drop, Bool, false, Option, Some, None, option_map, option_and_then, if◌then◌else◌, codes}
+use Rattle.std.specs.List.{list_all, list_any, slice_split, before_first, after_first}
+use Rattle.std.specs.Str.{bytes_eq}
+use Rattle.xs_body.specs.Paths.{Way, here, down, Condition, exists, equals}
 
 -- the letters A to Z and a to z
 abbrev pub is_letter : ℕ → Bool
@@ -19,6 +21,29 @@ abbrev pub is_name : List ℕ → Bool
 is_name [] = false
 is_name (b ∷ bs) = is_name_start b && list_all is_name_byte bs
 
--- one or more names, joined by `/`: a relative location path of child steps (XPath 1.0, 2)
-abbrev pub path_of : List ℕ → Option (List (List ℕ))
-path_of text = let names = slice_split (λ b. b == 47) text in if list_all is_name names then Some names else None
+-- one or more names, joined by `/`
+abbrev pub names_of : List ℕ → Option (List (List ℕ))
+names_of text = let names = slice_split (λ b. b == 47) text in if list_all is_name names then Some names else None
+
+-- a relative location path: `.` (XPath 1.0, 2.5), or child steps (2)
+abbrev pub path_of : List ℕ → Option Way
+path_of text = if bytes_eq text (codes ".") then Some here else option_map down (names_of text)
+
+abbrev pub is_quote : ℕ → Bool
+is_quote b = b == 39
+
+-- what stands before an ending, where a text has that ending
+abbrev pub before_end : List ℕ → List ℕ → Option (List ℕ)
+before_end end text = if bytes_eq (drop (length text - length end) text) end then Some (take (length text - length end) text) else None
+
+-- the text of a literal, given what follows its first quote; its second quote is the end (XPath 1.0, 3.7)
+abbrev pub quoted : List ℕ → Option (List ℕ)
+quoted rest = option_and_then (λ text. if list_any is_quote text then None else Some text) (before_end (codes "'") rest)
+
+-- a path, ` = ` and a literal, given what stands before and after the literal's first quote (XPath 1.0, 3.4)
+abbrev pub comparison_of : List ℕ → List ℕ → Option Condition
+comparison_of before after = option_and_then (λ way. option_map (equals way) (quoted after)) (option_and_then path_of (before_end (codes " = ") before))
+
+-- a test: such a comparison, or a path alone
+abbrev pub test_of : List ℕ → Option Condition
+test_of text = if list_any is_quote text then comparison_of (before_first is_quote text) (after_first is_quote text) else option_map exists (path_of text)

@@ -1,14 +1,17 @@
 -- Which trees are small stylesheets, and what their one template holds. A name is what is written, its prefix
 -- included.
-use Rattle.std.specs.Prelude.{ℕ, zero, suc, ◌-◌, ◌==◌, ◌&&◌, ◌||◌, not, Bool, true, false, List, [], ◌∷◌, map, filter, Option, Some, None, is_none, option_map, option_and_then, if◌then◌else◌, codes}
+use Rattle.std.specs.Prelude.{ℕ, zero, suc, ◌-◌, ◌==◌, ◌&&◌, ◌||◌, not, Bool, true, false, List, [], ◌∷◌, map, filter, Option, Some, None, is_none, option_map, option_and_then, if◌then◌else◌, codes, get_or}
 use Rattle.std.specs.List.{list_all, list_any}
 use Rattle.std.specs.Option.{option_map_or}
 use Rattle.std.specs.Str.{bytes_eq}
 use Rattle.xs_tree.specs.Record.{Record, at, children, attributes}
+use Rattle.xs_trace.specs.declared.item.Site.{Site}
 use Rattle.xs_tree.specs.declared.kinds.Kind.{Kind}
 use Rattle.xs_tree.specs.declared.kinds.Kind.TheVariants.{Root, Element, Attribute, Space, Text, Comment, Pi}
-use Rattle.xs_body.specs.Parts.{Part, text, literal, value_of, Parts, no_parts, part}
-use Rattle.xs_body.specs.Path.{path_of}
+use Rattle.xs_body.specs.Parts.{Part, text, literal, value_of, for_each, only_if, message, Parts, no_parts, part}
+use Rattle.xs_body.specs.Path.{path_of, test_of}
+use Rattle.xs_body.specs.Paths.{Way}
+use Rattle.xs_body.specs.Select.{is_element}
 
 -- the first of some nodes
 abbrev pub first : List ℕ → Option ℕ
@@ -18,15 +21,6 @@ first (n ∷ more) = Some n
 -- white space (XML 1.0, 2.3)
 abbrev pub is_space : ℕ → Bool
 is_space b = (b == 32) || (b == 9) || (b == 10) || (b == 13)
-
-abbrev pub is_element : Kind → Bool
-is_element Root = false
-is_element Element = true
-is_element Attribute = false
-is_element Space = false
-is_element Text = false
-is_element Comment = false
-is_element Pi = false
 
 abbrev pub is_text : Kind → Bool
 is_text Root = false
@@ -118,17 +112,44 @@ template_in rs sheet = if is_sheet_element rs sheet then option_and_then (templa
 abbrev pub template_of : List Record → Option ℕ
 template_of rs = option_and_then (template_in rs) (single (content rs 0))
 
--- an instruction that puts the string of what its path reaches (XSLT 1.0, 7.6.1)
+-- the path in the attribute `select`, where an element has no other attribute (XPath 1.0, 2)
+abbrev pub select_of : List Record → ℕ → Option Way
+select_of rs n = option_and_then path_of (only_attribute (codes "select") rs n)
+
+-- an empty element that puts the string of what its path gives (XSLT 1.0, 7.6.1)
 abbrev pub value_of_part : List Record → ℕ → Option Part
-value_of_part rs n = if is_empty rs n then option_map value_of (option_and_then path_of (only_attribute (codes "select") rs n)) else None
+value_of_part rs n = if is_empty rs n then option_map value_of (select_of rs n) else None
+
+-- an element that does its content for each node that its path gives (XSLT 1.0, 8)
+abbrev pub for_each_part : List Record → ℕ → Option Parts → Option Part
+for_each_part rs n inner = option_and_then (λ way. option_map (for_each way) inner) (select_of rs n)
+
+-- an element that does its content where its one attribute, `test`, holds (XSLT 1.0, 9.1)
+abbrev pub if_part : List Record → ℕ → Option Parts → Option Part
+if_part rs n inner = option_and_then (λ condition. option_map (only_if condition) inner) (option_and_then test_of (only_attribute (codes "test") rs n))
+
+abbrev pub has_none : List Record → ℕ → Bool
+has_none rs n = is_none (first (attributes rs n))
+
+-- an element without attributes that says the text of its content to the user (XSLT 1.0, 13)
+abbrev pub message_part : List Record → ℕ → Option Parts → Option Part
+message_part rs n inner = if has_none rs n then option_map message inner else None
 
 -- an element without attributes whose name has no prefix: it is put on the result (XSLT 1.0, 7.1.1)
 abbrev pub is_literal : List Record → ℕ → Bool
-is_literal rs n = is_none (first (attributes rs n)) && not (list_any (λ b. b == 58) (name_at rs n))
+is_literal rs n = has_none rs n && not (list_any (λ b. b == 58) (name_at rs n))
+
+abbrev pub literal_part : List Record → ℕ → Option Parts → Option Part
+literal_part rs n inner = if is_literal rs n then option_map (literal (name_at rs n)) inner else None
 
 -- what an element stands for, given what its content stands for
 abbrev pub element_part : List Record → ℕ → Option Parts → Option Part
-element_part rs n inner = if is_named (codes "xsl:value-of") rs n then value_of_part rs n else (if is_literal rs n then option_map literal inner else None)
+element_part rs n inner =
+    if is_named (codes "xsl:value-of") rs n then value_of_part rs n
+    else (if is_named (codes "xsl:for-each") rs n then for_each_part rs n inner
+    else (if is_named (codes "xsl:if") rs n then if_part rs n inner
+    else (if is_named (codes "xsl:message") rs n then message_part rs n inner
+    else literal_part rs n inner)))
 
 -- what a node of this kind and text stands for, given what it stands for as an element
 abbrev pub node_part : Kind → List ℕ → Option Part → Option Part
@@ -140,22 +161,34 @@ node_part Text t element = Some (text t)
 node_part Comment t element = None
 node_part Pi t element = None
 
--- all of them, or None where one is missing
-abbrev pub all_parts : List (Option Part) → Option Parts
-all_parts [] = Some no_parts
-all_parts (None ∷ ps) = None
-all_parts (Some p ∷ ps) = option_map (part p) (all_parts ps)
+-- where a node of a stylesheet stands, given the line of each: in the first module, at its line
+abbrev pub site_of : List ℕ → ℕ → Site
+site_of lines n = record { «module» = 0; line = get_or lines n 0 }
+
+-- a part that stands somewhere, and then others; None where one is missing
+abbrev pub with_part : Site → Option Part → Option Parts → Option Parts
+with_part site None rest = None
+with_part site (Some p) rest = option_map (part site p) rest
+
+-- what some nodes stand for, each at its place, given what each stands for
+abbrev pub all_parts : List ℕ → (ℕ → Option Part) → List ℕ → Option Parts
+all_parts lines part_of [] = Some no_parts
+all_parts lines part_of (n ∷ ns) = with_part (site_of lines n) (part_of n) (all_parts lines part_of ns)
 
 -- what a node in a template stands for, where elements may nest `depth` deep from it on
-unfoldable pub part_at : ℕ → List Record → ℕ → Option Part
-part_at zero rs n = node_part (at rs n).kind (at rs n).text None
-part_at (suc depth) rs n = node_part (at rs n).kind (at rs n).text (element_part rs n (all_parts (map (part_at depth rs) (content rs n))))
+unfoldable pub part_at : ℕ → List Record → List ℕ → ℕ → Option Part
+part_at zero rs lines n = node_part (at rs n).kind (at rs n).text None
+part_at (suc depth) rs lines n = node_part (at rs n).kind (at rs n).text (element_part rs n (all_parts lines (part_at depth rs lines) (content rs n)))
 
 -- what the content of a node stands for, where elements may nest `depth` deep in it
-abbrev pub parts_at : ℕ → List Record → ℕ → Option Parts
-parts_at depth rs n = all_parts (map (part_at depth rs) (content rs n))
+abbrev pub parts_at : ℕ → List Record → List ℕ → ℕ → Option Parts
+parts_at depth rs lines n = all_parts lines (part_at depth rs lines) (content rs n)
 
--- What the template of a small stylesheet holds; None exactly where the tree is no small stylesheet. The root element
--- is at depth 1 and the template at depth 2, and no element is deeper than 256.
-abbrev pub body_of : List Record → Option Parts
-body_of rs = option_and_then (parts_at (256 - 2) rs) (template_of rs)
+-- What the template of a small stylesheet holds, given the line of each node; None exactly where the tree is no small
+-- stylesheet. The root element is at depth 1 and the template at depth 2, and no element is deeper than 256.
+abbrev pub body_of : List Record → List ℕ → Option Parts
+body_of rs lines = option_and_then (parts_at (256 - 2) rs lines) (template_of rs)
+
+-- the line of the root element; 0 where there is none
+abbrev pub root_line : List Record → List ℕ → ℕ
+root_line rs lines = option_map_or (λ n. get_or lines n 0) (first (content rs 0)) 0

@@ -1,6 +1,6 @@
 //! The attributes of an element.
-ghost use Rattle.std.specs.Prelude.{◌≡◌, ◌<◌, length, IfSome, is_none, option_map};
-ghost use Rattle.xs_body.specs.Sheet.{first, has_only, only_attribute, pair, single, value_named};
+ghost use Rattle.std.specs.Prelude.{◌≡◌, ◌<◌, length, IfSome, option_map};
+ghost use Rattle.xs_body.specs.Sheet.{has_none, has_only, only_attribute, pair, single, value_named};
 ghost use Rattle.xs_tree.specs.Record.{attributes};
 
 use crate::nodes::name_at;
@@ -33,7 +33,7 @@ pub(crate) fn has_only(tree: &Tree, n: Node, name: &str, value: &str) -> bool
 /// Whether an element has no attribute.
 pub(crate) fn has_none(tree: &Tree, n: Node) -> bool
     requires { n < length tree.now }
-    ensures { result ≡ is_none (first (attributes tree.now n)) }
+    ensures { result ≡ has_none tree.now n }
 {
     tree.attributes(n).next().is_none()
 }

@@ -2,27 +2,16 @@
 ghost use Rattle.std.specs.Prelude.{◌≡◌, ◌+◌, ◌<◌, ◌≤◌, length, IfSome};
 ghost use Rattle.xs_body.specs.Walk.{Stands, content_from};
 ghost use Rattle.xs_tree.specs.Kinds.{is_child_kind};
-ghost use Rattle.xs_tree.specs.Record.{at, children};
+ghost use Rattle.xs_tree.specs.Record.{at};
 ghost use Rattle.xs_body.specs.Sheet.{content, first, pair, single};
 ghost use Rattle.xs_tree.specs.Walk.{children_from};
 
 use crate::nodes::is_stripped;
 use xs_tree::{Kind, Node, Tree};
 
-/// The first child of a node.
-#[tactic(auto, using(crate::proofs::Siblings::starts))]
-pub(crate) fn first_child(tree: &Tree, n: Node) -> Option<Node>
-    requires { n < length tree.now }
-    ensures child { result ≡ first (children tree.now n) }
-    ensures later { IfSome result (λ k. (n < k) × (k < length tree.now)) }
-{
-    let _count = tree.len();
-    child_after(tree, n, n)
-}
-
 /// The first child of a node after a place.
 #[tactic(auto, using(crate::proofs::Siblings::siblings))]
-pub(crate) fn child_after(tree: &Tree, n: Node, after: Node) -> Option<Node>
+fn child_after(tree: &Tree, n: Node, after: Node) -> Option<Node>
     requires inside { after < length tree.now }
     requires later { n ≤ after }
     ensures child { result ≡ first (children_from tree.now n (after + 1)) }

@@ -1,14 +1,20 @@
-//! The body of a stylesheet's template: read from the stylesheet's tree, and turned into text.
+//! The body of a stylesheet's template: read from the stylesheet's tree, and evaluated.
 #![tactic(auto)]
 
 mod attributes;
 mod children;
+pub mod context;
+mod expressions;
 mod names;
 mod nodes;
-mod reach;
+pub mod paths;
 pub mod read;
+pub mod run;
+mod select;
 mod shape;
+#[cfg(test)]
+mod sheet_tests;
+mod strings;
 pub mod syntax;
 #[cfg(test)]
 mod tests;
-pub mod write;

@@ -1,23 +1,20 @@
-//! Names, and paths of names.
+//! Names.
 ghost use Rattle.std.specs.Prelude.{◌≡◌, IfOk, option_map};
 ghost use Rattle.std.specs.List.{list_all, slice_split};
 ghost use Rattle.std.specs.Prelude.{◌==◌};
-ghost use Rattle.xs_body.specs.Path.{is_name, is_name_byte, is_name_start, path_of};
+ghost use Rattle.xs_body.specs.Path.{is_name, is_name_byte, is_name_start, names_of};
 
-use crate::syntax::Path;
 use std::alloc::{AllocError, Global};
 use xs_trace::text::TextBuf;
 
-/// The path that a text writes: one or more names without a prefix, joined by `/`. None for any other text.
-pub fn read_path(alloc: Global, text: &str) -> Result<Option<Path>, AllocError>
-    ensures { IfOk result (λ path. option_map (λ p. p.names.items) path ≡ path_of text.now) }
+/// The names, without a prefix, that a text joins by `/`. None for any other text.
+pub(crate) fn read_names(alloc: Global, text: &str) -> Result<Option<Vec<TextBuf>>, AllocError>
+    ensures { IfOk result (λ names. option_map (λ v. v.items) names ≡ names_of text.now) }
 {
     if !are_names(text) {
         return Ok(None);
     }
-    Ok(Some(Path {
-        names: pieces(alloc, text)?,
-    }))
+    Ok(Some(pieces(alloc, text)?))
 }
 
 // The pieces between the slashes.

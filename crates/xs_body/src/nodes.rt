@@ -1,7 +1,8 @@
 //! What is asked of a stylesheet's nodes.
 ghost use Rattle.std.specs.Prelude.{◌≡◌, ◌<◌, length};
 ghost use Rattle.std.specs.List.{list_all};
-ghost use Rattle.xs_body.specs.Sheet.{is_element, is_named, is_setting, is_space, is_stripped, is_text, name_at};
+ghost use Rattle.xs_body.specs.Select.{is_element};
+ghost use Rattle.xs_body.specs.Sheet.{is_named, is_setting, is_space, is_stripped, is_text, name_at};
 ghost use Rattle.xs_tree.specs.Record.{at};
 
 use xs_tree::{Kind, Node, Tree};

@@ -1,51 +1,88 @@
 //! Reads the body of a small stylesheet.
 ghost use Rattle.std.specs.Prelude.{◌≡◌, ◌<◌, length, IfOk, Some, option_map};
 ghost use Rattle.xs_body.specs.Parts.{part_of, parts_of, text};
+ghost use Rattle.xs_body.specs.Paths.{way_of};
+ghost use Rattle.xs_body.specs.Sheet.{body_of, element_part, for_each_part, if_part, literal_part, message_part, part_at, parts_at, root_line, select_of, site_of, value_of_part};
 ghost use Rattle.xs_tree.specs.Record.{at};
-ghost use Rattle.xs_body.specs.Sheet.{body_of, element_part, part_at, parts_at, value_of_part};
 
-use crate::attributes::only_attribute;
+use crate::attributes::{has_none, only_attribute};
 use crate::children::{first_kept, kept_after};
-use crate::names::read_path;
-use crate::nodes::is_named;
+use crate::expressions::{read_path, read_test};
+use crate::nodes::{is_named, name_at};
+use crate::paths::Path;
 use crate::shape::{is_empty, is_literal, template_of};
 use crate::syntax::{Body, Instr, InstrKind};
 use std::alloc::{AllocError, Global};
+use xs_trace::item::Site;
 use xs_trace::text::TextBuf;
 use xs_tree::{Kind, Node, Tree};
 
 /// How deep elements may nest in a template, whose own depth is 2: no element is deeper than 256.
 const MOST_DEPTH: u32 = 256 - 2;
 
-/// What the template of a small stylesheet holds. None for a tree that is no small stylesheet.
+/// What the template of a small stylesheet holds, each part with its line: `lines` gives the line of each node of the
+/// tree, in document order. None for a tree that is no small stylesheet.
 ///
 /// Nothing is copied before the stylesheet's own elements and attributes are found as they must be.
-pub fn read_body(alloc: Global, tree: &Tree) -> Result<Option<Body>, AllocError>
-    ensures body { IfOk result (λ body. option_map parts_of body ≡ body_of tree.now) }
+pub fn read_body(alloc: Global, tree: &Tree, lines: &[u32]) -> Result<Option<Body>, AllocError>
+    requires { length lines.now ≡ length tree.now }
+    ensures body { IfOk result (λ body. option_map parts_of body ≡ body_of tree.now lines.now) }
 {
     match template_of(tree) {
-        Some(template) => read_content(alloc, tree, template, MOST_DEPTH),
+        Some(template) => read_content(alloc, tree, lines, template, MOST_DEPTH),
         None => Ok(None),
+    }
+}
+
+/// The line of the root element of a stylesheet, given the line of each node of its tree; 0 where there is no such element.
+pub fn root_line(tree: &Tree, lines: &[u32]) -> u32
+    requires { length lines.now ≡ length tree.now }
+    ensures line { result ≡ root_line tree.now lines.now }
+{
+    let has_root = tree.len() > 0;
+    prove!(has_root);
+    match first_kept(tree, Node::root()) {
+        Some(sheet) => lines[sheet.place() as usize],
+        None => 0,
     }
 }
 
 // What an element's content stands for, in which elements may nest so deep.
 #[cycle(read)]
-fn read_content(alloc: Global, tree: &Tree, n: Node, depth: u32) -> Result<Option<Body>, AllocError>
-    requires { n < length tree.now }
-    ensures { IfOk result (λ body. option_map parts_of body ≡ parts_at depth tree.now n) }
+fn read_content(
+    alloc: Global,
+    tree: &Tree,
+    lines: &[u32],
+    n: Node,
+    depth: u32,
+) -> Result<Option<Body>, AllocError>
+    requires inside { n < length tree.now }
+    requires lines { length lines.now ≡ length tree.now }
+    ensures { IfOk result (λ body. option_map parts_of body ≡ parts_at depth tree.now lines.now n) }
 {
     let mut instrs = Vec::new(alloc);
     let mut next = first_kept(tree, n);
     while let Some(child) = next {
-        let kind = match read_node(alloc, tree, child, depth)? {
+        let kind = match read_node(alloc, tree, lines, child, depth)? {
             Some(kind) => kind,
             None => return Ok(None),
         };
-        instrs.push(Instr { kind })?;
+        let site = site_of(lines, child);
+        instrs.push(Instr { site, kind })?;
         next = kept_after(tree, n, child);
     }
     Ok(Some(Body::of(instrs)))
+}
+
+// Where a node of a stylesheet stands.
+fn site_of(lines: &[u32], n: Node) -> Site
+    requires { n < length lines.now }
+    ensures { result ≡ site_of lines.now n }
+{
+    Site {
+        module: 0,
+        line: lines[n.place() as usize],
+    }
 }
 
 #[cycle(read)]
@@ -53,15 +90,17 @@ fn read_content(alloc: Global, tree: &Tree, n: Node, depth: u32) -> Result<Optio
 fn read_node(
     alloc: Global,
     tree: &Tree,
+    lines: &[u32],
     n: Node,
     depth: u32,
 ) -> Result<Option<InstrKind>, AllocError>
-    requires { n < length tree.now }
-    ensures { IfOk result (λ kind. option_map part_of kind ≡ part_at depth tree.now n) }
+    requires inside { n < length tree.now }
+    requires lines { length lines.now ≡ length tree.now }
+    ensures { IfOk result (λ kind. option_map part_of kind ≡ part_at depth tree.now lines.now n) }
 {
     match tree.kind(n) {
         Kind::Text => read_text(alloc, tree, n),
-        Kind::Element if depth > 0 => read_element(alloc, tree, n, depth - 1),
+        Kind::Element if depth > 0 => read_element(alloc, tree, lines, n, depth - 1),
         _ => Ok(None),
     }
 }
@@ -78,21 +117,24 @@ fn read_text(alloc: Global, tree: &Tree, n: Node) -> Result<Option<InstrKind>, A
 fn read_element(
     alloc: Global,
     tree: &Tree,
+    lines: &[u32],
     n: Node,
     depth: u32,
 ) -> Result<Option<InstrKind>, AllocError>
-    requires { n < length tree.now }
-    ensures { IfOk result (λ kind. option_map part_of kind ≡ element_part tree.now n (parts_at depth tree.now n)) }
+    requires inside { n < length tree.now }
+    requires lines { length lines.now ≡ length tree.now }
+    ensures { IfOk result (λ kind. option_map part_of kind ≡ element_part tree.now n (parts_at depth tree.now lines.now n)) }
 {
     if is_named(tree, n, "xsl:value-of") {
         read_value_of(alloc, tree, n)
-    } else if is_literal(tree, n) {
-        match read_content(alloc, tree, n, depth)? {
-            Some(body) => Ok(Some(InstrKind::Literal { body })),
-            None => Ok(None),
-        }
+    } else if is_named(tree, n, "xsl:for-each") {
+        read_for_each(alloc, tree, lines, n, depth)
+    } else if is_named(tree, n, "xsl:if") {
+        read_if(alloc, tree, lines, n, depth)
+    } else if is_named(tree, n, "xsl:message") {
+        read_message(alloc, tree, lines, n, depth)
     } else {
-        Ok(None)
+        read_literal(alloc, tree, lines, n, depth)
     }
 }
 
@@ -103,11 +145,109 @@ fn read_value_of(alloc: Global, tree: &Tree, n: Node) -> Result<Option<InstrKind
     if !is_empty(tree, n) {
         return Ok(None);
     }
-    let Some(select) = only_attribute(tree, n, "select") else {
+    match read_select(alloc, tree, n)? {
+        Some(select) => Ok(Some(InstrKind::ValueOf { select })),
+        None => Ok(None),
+    }
+}
+
+// The path in an element's one attribute, `select`.
+fn read_select(alloc: Global, tree: &Tree, n: Node) -> Result<Option<Path>, AllocError>
+    requires { n < length tree.now }
+    ensures { IfOk result (λ path. option_map way_of path ≡ select_of tree.now n) }
+{
+    match only_attribute(tree, n, "select") {
+        Some(select) => read_path(alloc, select),
+        None => Ok(None),
+    }
+}
+
+#[cycle(read)]
+fn read_for_each(
+    alloc: Global,
+    tree: &Tree,
+    lines: &[u32],
+    n: Node,
+    depth: u32,
+) -> Result<Option<InstrKind>, AllocError>
+    requires inside { n < length tree.now }
+    requires lines { length lines.now ≡ length tree.now }
+    ensures { IfOk result (λ kind. option_map part_of kind ≡ for_each_part tree.now n (parts_at depth tree.now lines.now n)) }
+{
+    let Some(select) = read_select(alloc, tree, n)? else {
         return Ok(None);
     };
-    match read_path(alloc, select)? {
-        Some(path) => Ok(Some(InstrKind::ValueOf { path })),
+    match read_content(alloc, tree, lines, n, depth)? {
+        Some(body) => Ok(Some(InstrKind::ForEach { select, body })),
+        None => Ok(None),
+    }
+}
+
+#[cycle(read)]
+fn read_if(
+    alloc: Global,
+    tree: &Tree,
+    lines: &[u32],
+    n: Node,
+    depth: u32,
+) -> Result<Option<InstrKind>, AllocError>
+    requires inside { n < length tree.now }
+    requires lines { length lines.now ≡ length tree.now }
+    ensures { IfOk result (λ kind. option_map part_of kind ≡ if_part tree.now n (parts_at depth tree.now lines.now n)) }
+{
+    let Some(written) = only_attribute(tree, n, "test") else {
+        return Ok(None);
+    };
+    let Some(test) = read_test(alloc, written)? else {
+        return Ok(None);
+    };
+    match read_content(alloc, tree, lines, n, depth)? {
+        Some(body) => Ok(Some(InstrKind::If { test, body })),
+        None => Ok(None),
+    }
+}
+
+#[cycle(read)]
+fn read_message(
+    alloc: Global,
+    tree: &Tree,
+    lines: &[u32],
+    n: Node,
+    depth: u32,
+) -> Result<Option<InstrKind>, AllocError>
+    requires inside { n < length tree.now }
+    requires lines { length lines.now ≡ length tree.now }
+    ensures { IfOk result (λ kind. option_map part_of kind ≡ message_part tree.now n (parts_at depth tree.now lines.now n)) }
+{
+    if !has_none(tree, n) {
+        return Ok(None);
+    }
+    match read_content(alloc, tree, lines, n, depth)? {
+        Some(body) => Ok(Some(InstrKind::Message { body })),
+        None => Ok(None),
+    }
+}
+
+#[cycle(read)]
+fn read_literal(
+    alloc: Global,
+    tree: &Tree,
+    lines: &[u32],
+    n: Node,
+    depth: u32,
+) -> Result<Option<InstrKind>, AllocError>
+    requires inside { n < length tree.now }
+    requires lines { length lines.now ≡ length tree.now }
+    ensures { IfOk result (λ kind. option_map part_of kind ≡ literal_part tree.now n (parts_at depth tree.now lines.now n)) }
+{
+    if !is_literal(tree, n) {
+        return Ok(None);
+    }
+    match read_content(alloc, tree, lines, n, depth)? {
+        Some(body) => {
+            let name = TextBuf::of(alloc, name_at(tree, n))?;
+            Ok(Some(InstrKind::Literal { name, body }))
+        }
         None => Ok(None),
     }
 }

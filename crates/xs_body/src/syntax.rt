@@ -1,5 +1,7 @@
 //! What a template holds.
 
+use crate::paths::{Path, Test};
+use xs_trace::item::Site;
 use xs_trace::text::TextBuf;
 
 /// The content of a template or of an element in it, in document order (XSLT 1.0, 5.1).
@@ -14,6 +16,8 @@ pub struct Body {
 #[cycle(body)]
 #[derive(Drop)]
 pub struct Instr {
+    /// Its module, and its line there; of a text, the line where it begins.
+    pub site: Site,
     /// What it does.
     pub kind: InstrKind,
 }
@@ -24,23 +28,37 @@ pub struct Instr {
 pub enum InstrKind {
     /// Puts a text (XSLT 1.0, 7.2).
     Text(TextBuf),
-    /// Puts what is inside a literal result element (XSLT 1.0, 7.1.1).
+    /// Puts a literal result element without attributes, whose name is in no namespace (XSLT 1.0, 7.1.1).
     Literal {
+        /// The name of the element.
+        name: TextBuf,
         /// What the element holds.
         body: Body,
     },
-    /// Puts the string of the first node that a path reaches (XSLT 1.0, 7.6.1).
+    /// Puts the string of the first node that a path gives (XSLT 1.0, 7.6.1).
     ValueOf {
         /// Where the node is.
-        path: Path,
+        select: Path,
     },
-}
-
-/// A way from a node to its descendants, one step along the child axis for each name (XPath 1.0, 2).
-#[derive(Drop)]
-pub struct Path {
-    /// The names of the elements, the outermost first.
-    pub names: Vec<TextBuf>,
+    /// Does a body for each node that a path gives (XSLT 1.0, 8).
+    ForEach {
+        /// Where the nodes are.
+        select: Path,
+        /// What is done for each.
+        body: Body,
+    },
+    /// Does a body where a test holds (XSLT 1.0, 9.1).
+    If {
+        /// The test.
+        test: Test,
+        /// What is done where it holds.
+        body: Body,
+    },
+    /// Says the text of what a body gives to the user (XSLT 1.0, 13).
+    Message {
+        /// What gives the text.
+        body: Body,
+    },
 }
 
 impl Body {

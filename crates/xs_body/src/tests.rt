@@ -1,21 +1,20 @@
-// Small stylesheets and sources, made node by node.
+//! Small bodies, run.
 #![tactic(auto)]
 
-ghost use Rattle.std.specs.Prelude.{◌≡◌, ◌<◌, length, IsTrue};
-ghost use Rattle.xs_tree.specs.Kinds.{can_hold};
+ghost use Rattle.std.specs.Prelude.{◌≡◌, ◌<◌, length, OnOk};
 ghost use Rattle.xs_tree.specs.Record.{at};
-ghost use Rattle.xs_tree.specs.Shape.{HasParentFrom, IsOpen, KeepsOrder};
+ghost use Rattle.xs_tree.specs.Shape.{IsOpen};
+ghost use Rattle.xs_tree.specs.declared.kinds.Kind.TheVariants.{Element};
 
-use crate::read::read_body;
-use crate::write::body_text;
+use crate::paths::{Path, Test};
+use crate::run::run_body;
+use crate::syntax::{Body, Instr, InstrKind};
 use std::alloc::{AllocError, Global};
 use std::test::Fail;
+use xs_trace::event::Event;
+use xs_trace::item::{Ended, Item, Limits, Site};
+use xs_trace::text::TextBuf;
 use xs_tree::{Kind, Name, NameText, Node, Tree};
-
-// A node: its kind, its name, its text and the place of its parent.
-type Row = (Kind, &'static str, &'static str, u32);
-
-const XSL: &str = "http://www.w3.org/1999/XSL/Transform";
 
 fn plain_name(alloc: Global, local: &str) -> Result<Name, AllocError> {
     Ok(Name {
@@ -25,186 +24,111 @@ fn plain_name(alloc: Global, local: &str) -> Result<Name, AllocError> {
     })
 }
 
-fn can_hold(holder: Kind, held: Kind) -> bool
-    ensures { result ≡ can_hold holder held }
+// Adds an element `i` with a text.
+fn add_item(alloc: Global, tree: &mut Tree, parent: Node, text: &str) -> Result<(), Fail>
+    requires within { parent < length tree.old }
+    requires held { (at tree.old parent).kind ≡ Element }
+    requires open { IsOpen tree.old parent }
+    ensures within { OnOk result (parent < length tree.new) }
+    ensures held { OnOk result ((at tree.new parent).kind ≡ Element) }
+    ensures open { OnOk result (IsOpen tree.new parent) }
 {
-    match holder {
-        Kind::Root => held.is_child(),
-        Kind::Element => !matches!(held, Kind::Root),
+    let item = tree.add(Kind::Element, Some(plain_name(alloc, "i")?), "", parent)?;
+    tree.add(Kind::Text, None, text, item)?;
+    Ok(())
+}
+
+// An element `r` with three elements `i`.
+fn three_items(alloc: Global) -> Result<Tree, Fail> {
+    let mut tree = Tree::new(alloc)?;
+    let top = tree.add(
+        Kind::Element,
+        Some(plain_name(alloc, "r")?),
+        "",
+        Node::root(),
+    )?;
+    add_item(alloc, &mut tree, top, "1")?;
+    add_item(alloc, &mut tree, top, "2")?;
+    add_item(alloc, &mut tree, top, "3")?;
+    Ok(tree)
+}
+
+fn instr(line: u32, kind: InstrKind) -> Instr {
+    Instr {
+        site: Site { module: 0, line },
+        kind,
+    }
+}
+
+fn alone(alloc: Global, line: u32, kind: InstrKind) -> Result<Body, AllocError> {
+    Ok(Body::of(vec![in alloc; instr(line, kind)]?))
+}
+
+// For each `r/i`, at line 9: if it is `2`, at line 11, its value, at line 13.
+fn picks_two(alloc: Global) -> Result<Body, AllocError> {
+    let value = alone(alloc, 13, InstrKind::ValueOf { select: Path::Here })?;
+    let test = Test::Equals(Path::Here, TextBuf::of(alloc, "2")?);
+    let inner = alone(alloc, 11, InstrKind::If { test, body: value })?;
+    let names = vec![in alloc; TextBuf::of(alloc, "r")?, TextBuf::of(alloc, "i")?]?;
+    let select = Path::Down(names);
+    alone(
+        alloc,
+        9,
+        InstrKind::ForEach {
+            select,
+            body: inner,
+        },
+    )
+}
+
+fn ticks_alone(ticks: u64) -> Limits {
+    Limits {
+        ticks,
+        events: None,
+    }
+}
+
+fn is_text(item: Option<&Item>, text: &str) -> bool {
+    match item {
+        Some(Item::Put(Event::Chars(found))) => found.as_str() == text,
         _ => false,
     }
 }
 
-// Whether a later node is inside another.
-fn stays_inside(tree: &Tree, parent: Node, later: Node) -> bool
-    requires { later < length tree.now }
-    ensures { IsTrue result → HasParentFrom parent (at tree.now later) }
-{
-    match tree.parent(later) {
-        Some(above) => above.place() >= parent.place(),
-        None => false,
-    }
-}
-
-fn is_open(tree: &Tree, parent: Node) -> bool
-    requires { parent < length tree.now }
-    ensures { IsTrue result → IsOpen tree.now parent }
-{
-    let count = tree.len() as u32;
-    for place in parent.place() + 1..count {
-        if !stays_inside(tree, parent, Node::at(place)) {
-            return false;
-        }
-    }
-    true
-}
-
-fn takes_attributes(tree: &Tree, parent: Node) -> bool
-    requires { parent < length tree.now }
-    ensures { IsTrue result → KeepsOrder tree.now parent Kind.Attribute }
-{
-    let count = tree.len() as u32;
-    for place in parent.place() + 1..count {
-        if tree.kind(Node::at(place)).rank() > 1 {
-            return false;
-        }
-    }
-    true
-}
-
-fn add_element(alloc: Global, tree: &mut Tree, name: &str, parent: Node) -> Result<(), Fail>
-    requires within { parent < length tree.old }
-    requires open { IsOpen tree.old parent }
-{
-    if !can_hold(tree.kind(parent), Kind::Element) {
-        return Err(Fail::new("an element has no such parent"));
-    }
-    tree.add(Kind::Element, Some(plain_name(alloc, name)?), "", parent)?;
-    Ok(())
-}
-
-fn add_attribute(
-    alloc: Global,
-    tree: &mut Tree,
-    name: &str,
-    value: &str,
-    parent: Node,
-) -> Result<(), Fail>
-    requires within { parent < length tree.old }
-    requires open { IsOpen tree.old parent }
-{
-    if !can_hold(tree.kind(parent), Kind::Attribute) || !takes_attributes(tree, parent) {
-        return Err(Fail::new("an attribute has no such parent"));
-    }
-    tree.add(
-        Kind::Attribute,
-        Some(plain_name(alloc, name)?),
-        value,
-        parent,
-    )?;
-    Ok(())
-}
-
-fn add_text(tree: &mut Tree, text: &str, parent: Node) -> Result<(), Fail>
-    requires within { parent < length tree.old }
-    requires open { IsOpen tree.old parent }
-{
-    if !can_hold(tree.kind(parent), Kind::Text) {
-        return Err(Fail::new("a text has no such parent"));
-    }
-    tree.add(Kind::Text, None, text, parent)?;
-    Ok(())
-}
-
-fn grow(alloc: Global, tree: &mut Tree, row: &Row) -> Result<(), Fail> {
-    let (kind, name, text, place) = *row;
-    let parent = Node::at(place);
-    if place as usize >= tree.len() || !is_open(tree, parent) {
-        return Err(Fail::new("no such open node"));
-    }
-    match kind {
-        Kind::Element => add_element(alloc, tree, name, parent),
-        Kind::Attribute => add_attribute(alloc, tree, name, text, parent),
-        _ => add_text(tree, text, parent),
-    }
-}
-
-fn tree_of(alloc: Global, rows: &[Row]) -> Result<Tree, Fail> {
-    let mut tree = Tree::new(alloc)?;
-    for row in rows {
-        grow(alloc, &mut tree, row)?;
-    }
-    Ok(tree)
-}
-
-// What a stylesheet, whose template is at place 7, gives on a source.
-fn text_of(alloc: Global, template: &[Row], source: &[Row]) -> Result<Option<Vec<u8>>, Fail> {
-    let mut sheet = tree_of(
-        alloc,
-        &[
-            (Kind::Element, "xsl:stylesheet", "", 0),
-            (Kind::Attribute, "version", "1.0", 1),
-            (Kind::Attribute, "xmlns:xsl", XSL, 1),
-            (Kind::Text, "", " \n", 1),
-            (Kind::Element, "xsl:output", "", 1),
-            (Kind::Attribute, "method", "text", 5),
-        ],
-    )?;
-    for row in template {
-        grow(alloc, &mut sheet, row)?;
-    }
-    let source = tree_of(alloc, source)?;
-    match read_body(alloc, &sheet)? {
-        None => Ok(None),
-        Some(body) => {
-            let mut out = Vec::new(alloc);
-            body_text(&body, &source, &mut out)?;
-            Ok(Some(out))
-        }
-    }
-}
-
-const TOTALS: [Row; 5] = [
-    (Kind::Element, "inv", "", 0),
-    (Kind::Element, "total", "", 1),
-    (Kind::Text, "", "350", 2),
-    (Kind::Element, "total", "", 1),
-    (Kind::Text, "", "9", 4),
-];
-
-const BEFORE: [Row; 6] = [
-    (Kind::Element, "xsl:template", "", 1),
-    (Kind::Attribute, "match", "/", 7),
-    (Kind::Text, "", "Total: ", 7),
-    (Kind::Element, "b", "", 7),
-    (Kind::Text, "", " \t", 10),
-    (Kind::Element, "xsl:value-of", "", 10),
-];
-
 #[test]
-fn first_of_several(rt: HostRuntime) -> Result<(), Fail> {
-    let mut template = Vec::from_slice(rt.alloc(), &BEFORE)?;
-    template.push((Kind::Attribute, "select", "inv/total", 12))?;
-    template.push((Kind::Text, "", ".", 7))?;
-    let out = text_of(rt.alloc(), &template, &TOTALS)?.ok_or("a small stylesheet")?;
-    assert_eq!(rt; out.as_slice(), b"Total: 350.".as_slice());
+fn picks_the_second_item(rt: HostRuntime) -> Result<(), Fail> {
+    let alloc = rt.alloc();
+    let tree = three_items(alloc)?;
+    let kept = run_body(alloc, &picks_two(alloc)?, 1, &tree, ticks_alone(17))?;
+    assert_eq!(rt; kept.ticks, 17);
+    assert!(rt; matches!(&kept.ended, Ended::Whole));
+    assert!(rt; kept.items.iter().any(|item| is_text(Some(item), "2")));
     Ok(())
 }
 
 #[test]
-fn nothing_reached(rt: HostRuntime) -> Result<(), Fail> {
-    let mut template = Vec::from_slice(rt.alloc(), &BEFORE)?;
-    template.push((Kind::Attribute, "select", "inv/none", 12))?;
-    template.push((Kind::Text, "", ".", 7))?;
-    let out = text_of(rt.alloc(), &template, &TOTALS)?.ok_or("a small stylesheet")?;
-    assert_eq!(rt; out.as_slice(), b"Total: .".as_slice());
+fn stops_at_the_last_test(rt: HostRuntime) -> Result<(), Fail> {
+    let alloc = rt.alloc();
+    let tree = three_items(alloc)?;
+    let kept = run_body(alloc, &picks_two(alloc)?, 1, &tree, ticks_alone(16))?;
+    assert_eq!(rt; kept.ticks, 16);
+    match kept.ended {
+        Ended::Spent(spot) => assert_eq!(rt; spot.line, 11),
+        _ => return Err("it did not stop".into()),
+    }
     Ok(())
 }
 
 #[test]
-fn no_small_stylesheet(rt: HostRuntime) -> Result<(), Fail> {
-    let mut template = Vec::from_slice(rt.alloc(), &BEFORE)?;
-    template.push((Kind::Attribute, "select", "inv//total", 12))?;
-    assert!(rt; text_of(rt.alloc(), &template, &TOTALS)?.is_none());
+fn says_the_text_inside_an_element(rt: HostRuntime) -> Result<(), Fail> {
+    let alloc = rt.alloc();
+    let tree = Tree::new(alloc)?;
+    let text = alone(alloc, 3, InstrKind::Text(TextBuf::of(alloc, "so")?))?;
+    let name = TextBuf::of(alloc, "b")?;
+    let element = alone(alloc, 2, InstrKind::Literal { name, body: text })?;
+    let message = alone(alloc, 1, InstrKind::Message { body: element })?;
+    let kept = run_body(alloc, &message, 1, &tree, ticks_alone(9))?;
+    assert_eq!(rt; kept.ticks, 4);
+    assert!(rt; matches!(kept.items.last(), Some(Item::Say(said)) if said.as_str() == "so"));
     Ok(())
 }

@@ -43,7 +43,7 @@ checks_bind : {X Y : Type 0} (a b c : Bool) (f : X → Option Y) (o : Option X) 
 checks_bind a b c f None = checks_none a b c
 checks_bind a b c f (Some x) = refl
 
-with_text_nil : (lines : List Line) → with_text [] lines ≡ lines
+pub with_text_nil : (lines : List Line) → with_text [] lines ≡ lines
 with_text_nil [] = refl
 with_text_nil (Start n ∷ lines) = refl
 with_text_nil (Attr n v ∷ lines) = refl
@@ -67,7 +67,7 @@ with_text_other b text (Chars t ∷ lines) h = absurd h
 with_text_other b text (End n ∷ lines) h = refl
 
 -- two texts, one after the other
-with_text_twice : (a b : List ℕ) (lines : List Line) → with_text a (with_text b lines) ≡ with_text (a ++ b) lines
+pub with_text_twice : (a b : List ℕ) (lines : List Line) → with_text a (with_text b lines) ≡ with_text (a ++ b) lines
 with_text_twice a [] lines = ap (with_text a) (with_text_nil lines) ∙ ap (λ t. with_text t lines) (sym (append-nil a))
 with_text_twice a (c ∷ b) (Chars t ∷ lines) = ap (λ u. Chars u ∷ lines) (sym (append_assoc a (c ∷ b) t))
 with_text_twice [] (c ∷ b) [] = refl

@@ -9,7 +9,9 @@ use Rattle.xs_pyx.specs.declared.line.LineFault as line
 use Rattle.xs_pyx.specs.declared.line.LineFault.TheVariants as lines
 use Rattle.xs_build.specs.declared.fault.BuildFault.{BuildFault}
 use Rattle.xs_build.specs.declared.fault.BuildFault.TheVariants.{NotSmall, NoMemory}
+use Rattle.xs_build.specs.declared.built.Built.{Built}
 use Rattle.xs_build.specs.Faults.{fault_of}
+use Rattle.xs_build.specs.Numbering.{Builds}
 use Rattle.xs_build.specs.Tree.{Steps, Reads}
 use Rattle.xs_tree.specs.Record.{Record}
 use Rattle.xs_build.specs.Document.{document, document_of}
@@ -57,9 +59,13 @@ pub exit_take : (e : BuildFault) (r : Result (Option ℕ) BuildFault) (s t : Sta
 exit_take NotSmall r s t one bytes rest g h step is = rw is (left_bad s one bytes rest g h step)
 exit_take NoMemory r s t one bytes rest g h step is = rw is tt
 
-pub exit_read : (e : BuildFault) (r : Result (List Record) BuildFault) (s t : State) (bytes rest : List ℕ) → Goes (Err e) s t rest → left s rest ≡ left initial bytes → r ≡ Err e → Reads r (option_and_then document_of (lines_of bytes))
+pub exit_read : (e : BuildFault) (r : Result Built BuildFault) (s t : State) (bytes rest : List ℕ) → Goes (Err e) s t rest → left s rest ≡ left initial bytes → r ≡ Err e → Builds r (option_and_then document_of (lines_of bytes))
 exit_read NotSmall r s t bytes rest h same is = rw is (sym (left_all bytes) ∙ sym same ∙ h)
 exit_read NoMemory r s t bytes rest h same is = rw is tt
+
+pub exit_finish : (e : BuildFault) (r : Result Built BuildFault) (said there : Option (List Record)) → said ≡ there → Reads {X = List Record} (Err e) there → r ≡ Err e → Builds r said
+exit_finish NotSmall r said there same h is = rw is (same ∙ h)
+exit_finish NoMemory r said there same h is = rw is tt
 
 -- at the end of the bytes
 pub whole : (s t : State) (bytes rest : List ℕ) → left s rest ≡ concluded t → left s rest ≡ left initial bytes → option_and_then document_of (lines_of bytes) ≡ concluded t

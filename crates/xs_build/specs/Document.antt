@@ -15,6 +15,10 @@ use Rattle.xs_build.specs.Rules.{attributes_follow, attributes_differ, is_balanc
 abbrev pub most_nodes : ℕ
 most_nodes = 8000000
 
+-- the most bytes of a document, whatever its limit
+abbrev pub most_bytes : ℕ
+most_bytes = 268435456
+
 -- A name as it is written, colons included.
 abbrev pub plain_name : List ℕ → Name
 plain_name name = record { uri = []; local = name; prefix = [] }

@@ -2,12 +2,15 @@
 #![tactic(auto)]
 
 mod builder;
+mod built;
 mod document;
 mod fault;
 mod nodes;
+mod numbers;
 mod plain;
 mod stack;
 
+pub use built::Built;
 pub use document::read_document;
 pub use plain::is_plain;
 

@@ -1,18 +1,40 @@
+ghost use Rattle.std.specs.Prelude.{◌≤◌};
+
 use crate::{is_plain, read_document};
 use std::test::*;
 
-fn nodes(rt: &HostRuntime, bytes: &[u8], limit: u64) -> Option<usize> {
+fn nodes(rt: &HostRuntime, bytes: &[u8], limit: u64) -> Option<usize>
+    requires { limit ≤ 1000 }
+{
     match read_document(rt.alloc(), bytes, limit) {
-        Ok(Some(tree)) => Some(tree.len()),
+        Ok(Some(built)) => Some(built.tree.len()),
         _ => None,
     }
 }
 
 fn is_plain_document(rt: &HostRuntime, bytes: &[u8]) -> bool {
     match read_document(rt.alloc(), bytes, 1000) {
-        Ok(Some(tree)) => is_plain(&tree),
+        Ok(Some(built)) => is_plain(&built.tree),
         _ => false,
     }
+}
+
+/// The line of the node at this place.
+fn line(rt: &HostRuntime, bytes: &[u8], place: usize) -> Option<u32> {
+    match read_document(rt.alloc(), bytes, 1000) {
+        Ok(Some(built)) => built.lines.get(place).copied(),
+        _ => None,
+    }
+}
+
+#[test]
+fn lines_of_nodes(rt: HostRuntime) {
+    let bytes = b"(r\nAa 1\n-\n-x\n-y\n(s\n)s\n)r\n";
+    assert_eq!(rt; line(&rt, bytes, 0), Some(0));
+    assert_eq!(rt; line(&rt, bytes, 2), Some(2));
+    assert_eq!(rt; line(&rt, bytes, 3), Some(4));
+    assert_eq!(rt; line(&rt, bytes, 4), Some(6));
+    assert_eq!(rt; line(&rt, bytes, 5), None);
 }
 
 #[test]

@@ -1,2 +1,5 @@
-pub mod Reading
+pub mod Digits
+pub mod Ending
+pub mod Kept
 pub mod Owing
+pub mod Fetched

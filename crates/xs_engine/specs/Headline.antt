@@ -1,13 +1,10 @@
 -- What holds after a run, whatever its words, files, sinks, workers and schedule.
-use Rattle.std.specs.Prelude.{◌≡◌, ℕ, ◌⊎◌, List, [], ◌∷◌, ◌++◌, Option, Some, None, IfSome, IsSome, MatchOption, drop, length, map, String, string_bytes, option_and_then}
-use Rattle.std.specs.declared.alloc.Global.{Global}
+use Rattle.std.specs.Prelude.{◌≡◌, ℕ, ◌⊎◌, List, [], ◌∷◌, ◌++◌, Option, Some, None, IfSome, IsSome, MatchOption, drop, length, option_and_then}
 use Rattle.xs_outside.specs.Edge.{Files, IsBeginning}
 use Rattle.xs_engine.specs.Answer.{Answer, usage, read_fault}
-use Rattle.xs_engine.specs.Run.{Job, job_of, sheet_of, run_answer}
-
--- words as their bytes
-abbrev pub texts : List (String Global) → List (List ℕ)
-texts words = map string_bytes words
+use Rattle.xs_engine.specs.Words.{Job, job_of}
+use Rattle.xs_engine.specs.Sheet.{sheet_of}
+use Rattle.xs_engine.specs.Run.{run_answer}
 
 -- The answer to a job, where the library tells its files.
 abbrev pub job_answers : Job → Option Files → Option Answer

@@ -1,4 +1,8 @@
 pub mod Answer
-pub mod Run
+pub mod Asked
 pub mod Headline
+pub mod Items
 pub mod Reply
+pub mod Run
+pub mod Sheet
+pub mod Words

@@ -5,7 +5,7 @@ ghost use Rattle.xs_outside.specs.Edge.{Rose};
 ghost use Rattle.xs_engine.specs.Headline.{IsStatus, Gained, IsWritten, LinesFirst};
 ghost use Rattle.xs_engine.specs.Reply.{IsWholeOrEmpty};
 
-use crate::answer::Reply;
+use crate::reply::Reply;
 use xs_outside::{Sink, write_whole};
 
 /// The status of a run whose answer could not be written.

@@ -3,9 +3,15 @@
 
 mod answer;
 mod deliver;
+mod items;
+mod reading;
+mod reply;
 mod top;
+mod words;
 
 pub use top::{Report, transform};
+pub use xs_outside as outside;
+pub use xs_trace::place::{Claim, Place};
 
 #[cfg(test)]
 mod tests;

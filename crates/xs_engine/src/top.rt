@@ -2,8 +2,9 @@
 
 ghost use Rattle.std.specs.Prelude.{◌≡◌, ◌≢◌, ◌<◌, ◌⊎◌, [], length, IfSome, None};
 ghost use Rattle.xs_outside.specs.Edge.{Rose};
-ghost use Rattle.xs_engine.specs.Run.{job_of};
-ghost use Rattle.xs_engine.specs.Headline.{texts, due, AsksFor, FailsAtMostOnce, IsStatus, Gained, IsWritten, LinesFirst};
+ghost use Rattle.xs_engine.specs.Words.{job_of};
+ghost use Rattle.xs_engine.specs.Asked.{texts};
+ghost use Rattle.xs_engine.specs.Headline.{due, AsksFor, FailsAtMostOnce, IsStatus, Gained, IsWritten, LinesFirst};
 
 use crate::answer::reply_to;
 use crate::deliver::deliver;
@@ -61,6 +62,8 @@ pub fn transform<R: Threads + Sync, L: Library, O: Sink, E: Sink, G: Gate>(
     ensures lines_first { IfSome (due (texts words.now) (L.files library.old) (L.failed library.old) (L.failed library.new))
         (λ due. LinesFirst (O.held out.old) (O.held out.new) (E.held err.old) (E.held err.new) due.lines) }
     ensures untouched { result.status ≢ 0 → result.status ≢ 5 → O.held out.new ≡ O.held out.old }
+    ensures out_extends { Gained (O.held out.old) (O.held out.new) (λ _. Unit {0}) }
+    ensures err_extends { Gained (E.held err.old) (E.held err.new) (λ _. Unit {0}) }
     ensures no_memory { result.status ≡ 6 → E.held err.new ≡ E.held err.old }
 
     // The other fields of the report.

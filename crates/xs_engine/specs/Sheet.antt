@@ -1,0 +1,23 @@
+-- What the bytes of a stylesheet stand for.
+use Rattle.std.specs.Prelude.{ℕ, List, Option, option_map, option_and_then}
+use Rattle.xs_tree.specs.Record.{Record}
+use Rattle.xs_build.specs.Document.{document}
+use Rattle.xs_build.specs.LineNumbers.{document_lines}
+use Rattle.xs_body.specs.Parts.{Parts}
+use Rattle.xs_body.specs.Sheet.{body_of, root_line}
+
+-- the line of a stylesheet's root element, and what its template holds
+pub record Template : Type 0 where
+  pub root_line : ℕ
+  pub parts : Parts
+
+-- the most bytes of a stylesheet's module
+abbrev pub module_limit : ℕ
+module_limit = 4194304
+
+abbrev pub template_in : List Record → List ℕ → Option Template
+template_in records lines = option_map (λ parts. record { root_line = root_line records lines; parts = parts }) (body_of records lines)
+
+-- the template of a stylesheet's bytes
+unfoldable pub sheet_of : List ℕ → Option Template
+sheet_of bytes = option_and_then (λ records. option_and_then (template_in records) (document_lines module_limit bytes)) (document module_limit bytes)
