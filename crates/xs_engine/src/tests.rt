@@ -304,6 +304,19 @@ fn keeps_what_a_failing_sink_took(rt: HostRuntime) -> Result<(), Fail> {
 }
 
 #[test]
+fn fetches_and_writes_no_more_than_it_needs(rt: HostRuntime) -> Result<(), Fail> {
+    let alloc = rt.alloc();
+    let library = two_files(alloc, TOTAL, INVOICE, vec![in alloc; 3]?)?;
+    let words = ["s.pyx", "src.pyx"];
+    let second = vec![in alloc; 2]?;
+    let first = vec![in alloc; 1]?;
+    let seen = run_with(&rt, alloc, &words, library, 4096, second, first)?;
+    assert_eq!(rt; seen.status, 0);
+    assert_eq!(rt; seen.out.as_slice(), b"Total: 350.".as_slice());
+    Ok(())
+}
+
+#[test]
 fn writes_no_result_where_a_line_fails(rt: HostRuntime) -> Result<(), Fail> {
     let alloc = rt.alloc();
     let library = sheet_alone(alloc, TOTAL)?;

@@ -5,3 +5,5 @@ mod cut;
 pub mod line;
 #[cfg(test)]
 mod tests;
+
+pub use xs_trace::text::TextBuf;
