@@ -19,9 +19,9 @@ pub const NO_MEMORY: u8 = 6;
 /// What a run reports besides what it wrote.
 #[derive(Debug, Drop)]
 pub struct Report {
-    /// 0 Ok, 1 Usage, 2 ReadFault, 3 Refused, 5 WriteFault, 6 NoMemory.
+    /// 0 Ok, 1 Usage, 2 ReadFault, 3 Refused, 4 RunFault, 5 WriteFault, 6 NoMemory.
     pub status: u8,
-    /// How many ticks passed the budget's cut; 0 on a status other than 0 and 4.
+    /// How many ticks passed the budget's cut; 0 on status 1, 2, 3 and 6, and on 5 what it was for the status that was due.
     pub ticks: u64,
     /// How many pieces the workers claimed.
     pub pieces: u64,
