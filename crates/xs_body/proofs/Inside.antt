@@ -1,4 +1,4 @@
--- The places that a filter gives are in the tree.
+-- The first attribute is in the tree.
 use Rattle.std.proofs.Common.{◌≡◌, ℕ, zero, suc, ◌+◌, ◌<◌, Bool, true, false, cond, List, ◌∷◌, filter, length, arith}
 use Rattle.std.specs.List.{range_with_len}
 use Rattle.xs_tree.specs.Record.{Record, attributes, is_attribute}
@@ -11,20 +11,7 @@ first-inside : (test : ℕ → Bool) (k m a : ℕ) (more : List ℕ) → filter 
 first-inside test k zero a more e = cc
 first-inside test k (suc m) a more e = first-at test k m a more (test k) (λ f. let g = first-inside test (k + 1) m a more f in omega arith) e
 
-second-at : (test : ℕ → Bool) (k m a b : ℕ) (more : List ℕ) (t : Bool) → (filter test (range_with_len (k + 1) m) ≡ (a ∷ b ∷ more) → b < k + suc m) → cond t (k ∷ filter test (range_with_len (k + 1) m)) (filter test (range_with_len (k + 1) m)) ≡ (a ∷ b ∷ more) → b < k + suc m
-second-at test k m a b more true h e =
-    let rest : filter test (range_with_len (k + 1) m) ≡ (b ∷ more) = cc in
-    let g = first-inside test (k + 1) m b more rest in omega arith
-second-at test k m a b more false h e = h e
-
-second-inside : (test : ℕ → Bool) (k m a b : ℕ) (more : List ℕ) → filter test (range_with_len k m) ≡ (a ∷ b ∷ more) → b < k + m
-second-inside test k zero a b more e = cc
-second-inside test k (suc m) a b more e = second-at test k m a b more (test k) (λ f. let g = second-inside test (k + 1) m a b more f in omega arith) e
-
 pub first-attribute : (rs : List Record) (n a : ℕ) (more : List ℕ) → attributes rs n ≡ (a ∷ more) → a < length rs
 first-attribute rs n a more e = let g = first-inside (is_attribute rs n) 0 (length rs) a more e in omega arith
 
-pub second-attribute : (rs : List Record) (n a b : ℕ) (more : List ℕ) → attributes rs n ≡ (a ∷ b ∷ more) → b < length rs
-second-attribute rs n a b more e = let g = second-inside (is_attribute rs n) 0 (length rs) a b more e in omega arith
-
-pub ruleset inside = (first-attribute, second-attribute)
+pub ruleset inside = (first-attribute)

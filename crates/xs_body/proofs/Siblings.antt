@@ -8,7 +8,7 @@ use Rattle.xs_tree.specs.Record.{Record, at, is_child, is_place, children}
 use Rattle.xs_tree.specs.Shape.{IsTree, IsPlaced, HasParentFrom}
 use Rattle.xs_tree.specs.declared.kinds.Kind.TheVariants.{Root}
 use Rattle.xs_tree.specs.Walk.{children_from, passing_from}
-use Rattle.xs_body.specs.Sheet.{content, first, is_stripped}
+use Rattle.xs_body.specs.Sheet.{content, first, is_ignored}
 use Rattle.xs_body.specs.Walk.{IsOutside, content_from}
 
 -- the place k comes next
@@ -92,7 +92,7 @@ children-start rs n t lt =
     ∙ skipped (is_child rs n) rs (n + 1) (omega arith) (λ k le. ap (λ (b : Bool). b && is_child_kind (at rs k).kind) (not-before rs n k (at rs k).parent refl t (omega arith) (omega arith)))
 
 pub first-kept-start : (rs : List Record) (n : ℕ) → IsTree rs → n < length rs → first (content rs n) ≡ first (content_from rs n (n + 1))
-first-kept-start rs n t lt = ap (λ ks. first (filter (λ j. not (is_stripped rs j)) ks)) (children-start rs n t lt)
+first-kept-start rs n t lt = ap (λ ks. first (filter (λ j. not (is_ignored rs j)) ks)) (children-start rs n t lt)
 
 pub ruleset starts = (first-kept-start)
 
@@ -139,10 +139,10 @@ filter-twice keep test (k ∷ ks) = twice-at keep k (filter test ks) (filter (λ
 
 -- a child that stays
 abbrev pub is_kept : List Record → ℕ → ℕ → Bool
-is_kept rs n k = is_child rs n k && not (is_stripped rs k)
+is_kept rs n k = is_child rs n k && not (is_ignored rs k)
 
 kept-twice : (rs : List Record) (n k : ℕ) → content_from rs n k ≡ passing_from (is_kept rs n) rs k
-kept-twice rs n k = filter-twice (λ j. not (is_stripped rs j)) (is_child rs n) (range_with_len k (length rs - k))
+kept-twice rs n k = filter-twice (λ j. not (is_ignored rs j)) (is_child rs n) (range_with_len k (length rs - k))
 
 -- what is left of the content of a node from where a walk over it stands
 abbrev pub kept_onward : List Record → ℕ → Option ℕ → List ℕ
@@ -161,7 +161,7 @@ kept-next rs n k =
     ∙ sym (kept-twice rs n k)
 
 content-whole : (rs : List Record) (n : ℕ) → content rs n ≡ content_from rs n 0
-content-whole rs n = ap (filter (λ j. not (is_stripped rs j))) (whole (is_child rs n) rs)
+content-whole rs n = ap (filter (λ j. not (is_ignored rs j))) (whole (is_child rs n) rs)
 
 pub kept-start : (rs : List Record) (n : ℕ) → kept_onward rs n (first (content rs n)) ≡ content rs n
 kept-start rs n = ap (λ ks. kept_onward rs n (first ks)) (content-whole rs n) ∙ kept-next rs n 0 ∙ sym (content-whole rs n)

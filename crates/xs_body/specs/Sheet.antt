@@ -1,7 +1,6 @@
--- Which trees are small stylesheets, and what their one template holds. A name is what is written, its prefix
--- included.
+-- Which trees are small stylesheets, and what their one template holds.
 use Rattle.std.specs.Prelude.{ℕ, zero, suc, ◌-◌, ◌==◌, ◌&&◌, ◌||◌, not, Bool, true, false, List, [], ◌∷◌, map, filter, Option, Some, None, is_none, option_map, option_and_then, if◌then◌else◌, codes, get_or}
-use Rattle.std.specs.List.{list_all, list_any}
+use Rattle.std.specs.List.{list_all}
 use Rattle.std.specs.Option.{option_map_or}
 use Rattle.std.specs.Str.{bytes_eq}
 use Rattle.xs_tree.specs.Record.{Record, at, children, attributes}
@@ -31,21 +30,47 @@ is_text Text = true
 is_text Comment = false
 is_text Pi = false
 
--- the name of a node; empty where it bears none
+-- a comment or a processing instruction
+abbrev pub is_remark : Kind → Bool
+is_remark Root = false
+is_remark Element = false
+is_remark Attribute = false
+is_remark Space = false
+is_remark Text = false
+is_remark Comment = true
+is_remark Pi = true
+
+-- the local part of the name of a node; empty where it bears none
 abbrev pub name_at : List Record → ℕ → List ℕ
 name_at rs n = option_map_or (λ name. name.local) (at rs n).name []
 
--- an element of this name
-abbrev pub is_named : List ℕ → List Record → ℕ → Bool
-is_named name rs n = is_element (at rs n).kind && bytes_eq (name_at rs n) name
+-- the namespace URI of the name of a node; empty where it is in none (Namespaces in XML 1.0, 2.1)
+abbrev pub uri_at : List Record → ℕ → List ℕ
+uri_at rs n = option_map_or (λ name. name.uri) (at rs n).name []
 
--- a text node of a stylesheet that is stripped, since it holds only white space (XSLT 1.0, 3.4)
+-- the namespace of XSLT's elements, whatever prefix they bear (XSLT 1.0, 2.1)
+abbrev pub xslt_uri : List ℕ
+xslt_uri = codes "http://www.w3.org/1999/XSL/Transform"
+
+abbrev pub is_in_xslt : List Record → ℕ → Bool
+is_in_xslt rs n = bytes_eq (uri_at rs n) xslt_uri
+
+-- an element of XSLT with this local part
+abbrev pub is_named : List ℕ → List Record → ℕ → Bool
+is_named local rs n = is_element (at rs n).kind && (is_in_xslt rs n && bytes_eq (name_at rs n) local)
+
+-- A text node of a stylesheet that is stripped, since it holds only white space (XSLT 1.0, 3.4). Neither `xsl:text` nor `xml:space`
+-- has to be looked at: an element of that name or with that attribute is not built.
 abbrev pub is_stripped : List Record → ℕ → Bool
 is_stripped rs n = is_text (at rs n).kind && list_all is_space (at rs n).text
 
--- the children of a node of a stylesheet that stay
+-- a child of a node of a stylesheet that stands for nothing
+abbrev pub is_ignored : List Record → ℕ → Bool
+is_ignored rs n = is_remark (at rs n).kind || is_stripped rs n
+
+-- the children of a node of a stylesheet that stay; each text node for itself, also beside a comment
 abbrev pub content : List Record → ℕ → List ℕ
-content rs n = filter (λ k. not (is_stripped rs k)) (children rs n)
+content rs n = filter (λ k. not (is_ignored rs k)) (children rs n)
 
 -- the one node of these, where there is exactly one
 abbrev pub single : List ℕ → Option ℕ
@@ -60,9 +85,9 @@ pair (a ∷ []) = None
 pair (a ∷ b ∷ []) = Some (a, b)
 pair (a ∷ b ∷ c ∷ more) = None
 
--- the value of an attribute of this name
+-- the value of an attribute of this name, which is in no namespace (XSLT 1.0, 2.1)
 abbrev pub value_named : List ℕ → List Record → ℕ → Option (List ℕ)
-value_named name rs a = if bytes_eq (name_at rs a) name then Some (at rs a).text else None
+value_named name rs a = if bytes_eq (uri_at rs a) [] && bytes_eq (name_at rs a) name then Some (at rs a).text else None
 
 -- the value of the attribute of this name, where the element has no other
 abbrev pub only_attribute : List ℕ → List Record → ℕ → Option (List ℕ)
@@ -71,35 +96,21 @@ only_attribute name rs n = option_and_then (value_named name rs) (single (attrib
 abbrev pub has_only : List ℕ → List ℕ → List Record → ℕ → Bool
 has_only name value rs n = option_map_or (λ v. bytes_eq v value) (only_attribute name rs n) false
 
--- an attribute of this name and value
-abbrev pub is_setting : List ℕ → List ℕ → List Record → ℕ → Bool
-is_setting name value rs a = bytes_eq (name_at rs a) name && bytes_eq (at rs a).text value
-
 -- nothing is left in an element
 abbrev pub is_empty : List Record → ℕ → Bool
 is_empty rs n = is_none (first (content rs n))
 
--- The root element of a stylesheet has two attributes, in either order: the XSLT namespace, declared for the prefix
--- `xsl`, and the version (XSLT 1.0, 2.1 and 2.2).
-abbrev pub declares_xsl : List Record → ℕ → Bool
-declares_xsl rs a = is_setting (codes "xmlns:xsl") (codes "http://www.w3.org/1999/XSL/Transform") rs a
-
-abbrev pub is_version_1 : List Record → ℕ → Bool
-is_version_1 rs a = is_setting (codes "version") (codes "1.0") rs a
-
-abbrev pub are_sheet_attributes : List Record → ℕ × ℕ → Bool
-are_sheet_attributes rs p = (declares_xsl rs p.0 && is_version_1 rs p.1) || (is_version_1 rs p.0 && declares_xsl rs p.1)
-
+-- the root element of a stylesheet, whose one attribute is the version (XSLT 1.0, 2.2)
 abbrev pub is_sheet_element : List Record → ℕ → Bool
-is_sheet_element rs n = is_named (codes "xsl:stylesheet") rs n && option_map_or (are_sheet_attributes rs) (pair (attributes rs n)) false
+is_sheet_element rs n = is_named (codes "stylesheet") rs n && has_only (codes "version") (codes "1.0") rs n
 
 -- the result is written as text (XSLT 1.0, 16.3)
 abbrev pub is_text_output : List Record → ℕ → Bool
-is_text_output rs n = is_named (codes "xsl:output") rs n && has_only (codes "method") (codes "text") rs n && is_empty rs n
+is_text_output rs n = is_named (codes "output") rs n && has_only (codes "method") (codes "text") rs n && is_empty rs n
 
 -- the template of the root (XSLT 1.0, 5.2 and 5.3)
 abbrev pub is_root_template : List Record → ℕ → Bool
-is_root_template rs n = is_named (codes "xsl:template") rs n && has_only (codes "match") (codes "/") rs n
+is_root_template rs n = is_named (codes "template") rs n && has_only (codes "match") (codes "/") rs n
 
 -- the output and the template of a stylesheet, and then the template
 abbrev pub template_among : List Record → ℕ × ℕ → Option ℕ
@@ -135,9 +146,9 @@ has_none rs n = is_none (first (attributes rs n))
 abbrev pub message_part : List Record → ℕ → Option Parts → Option Part
 message_part rs n inner = if has_none rs n then option_map message inner else None
 
--- an element without attributes whose name has no prefix: it is put on the result (XSLT 1.0, 7.1.1)
+-- an element without attributes that is not in XSLT's namespace: it is put on the result (XSLT 1.0, 7.1.1)
 abbrev pub is_literal : List Record → ℕ → Bool
-is_literal rs n = has_none rs n && not (list_any (λ b. b == 58) (name_at rs n))
+is_literal rs n = has_none rs n && not (is_in_xslt rs n)
 
 abbrev pub literal_part : List Record → ℕ → Option Parts → Option Part
 literal_part rs n inner = if is_literal rs n then option_map (literal (name_at rs n)) inner else None
@@ -145,10 +156,10 @@ literal_part rs n inner = if is_literal rs n then option_map (literal (name_at r
 -- what an element stands for, given what its content stands for
 abbrev pub element_part : List Record → ℕ → Option Parts → Option Part
 element_part rs n inner =
-    if is_named (codes "xsl:value-of") rs n then value_of_part rs n
-    else (if is_named (codes "xsl:for-each") rs n then for_each_part rs n inner
-    else (if is_named (codes "xsl:if") rs n then if_part rs n inner
-    else (if is_named (codes "xsl:message") rs n then message_part rs n inner
+    if is_named (codes "value-of") rs n then value_of_part rs n
+    else (if is_named (codes "for-each") rs n then for_each_part rs n inner
+    else (if is_named (codes "if") rs n then if_part rs n inner
+    else (if is_named (codes "message") rs n then message_part rs n inner
     else literal_part rs n inner)))
 
 -- what a node of this kind and text stands for, given what it stands for as an element

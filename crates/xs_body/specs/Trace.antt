@@ -17,7 +17,8 @@ use Rattle.xs_body.specs.Select.{selected, holds, first_string}
 abbrev pub with_node : ℕ → Context
 with_node n = record { node = n }
 
--- a name in no namespace
+-- A literal element is told by its local part alone, as a name in no namespace: its namespace and its namespace nodes (XSLT 1.0,
+-- 7.1.1) are not told yet, and no text result shows them.
 abbrev pub label : List ℕ → Label
 label local = record { uri = []; local = local; prefix = [] }
 

@@ -2,7 +2,7 @@
 use Rattle.std.specs.Prelude.{◌≡◌, ℕ, ◌<◌, not, true, false, List, filter, Option, Some, None}
 use Rattle.xs_tree.specs.Record.{Record, at, is_child}
 use Rattle.xs_tree.specs.Walk.{children_from}
-use Rattle.xs_body.specs.Sheet.{is_stripped}
+use Rattle.xs_body.specs.Sheet.{is_ignored}
 use Rattle.xs_body.specs.declared.children.Standing.{Standing}
 use Rattle.xs_body.specs.declared.children.Standing.TheVariants.{Child, Inside, Outside}
 
@@ -19,4 +19,4 @@ Stands rs n k Outside = IsOutside n (at rs k).parent
 
 -- what is left, from the place k on, of the children of a stylesheet's node that stay
 abbrev pub content_from : List Record → ℕ → ℕ → List ℕ
-content_from rs n k = filter (λ j. not (is_stripped rs j)) (children_from rs n k)
+content_from rs n k = filter (λ j. not (is_ignored rs j)) (children_from rs n k)

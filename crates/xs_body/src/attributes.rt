@@ -1,18 +1,18 @@
 //! The attributes of an element.
 ghost use Rattle.std.specs.Prelude.{◌≡◌, ◌<◌, length, IfSome, option_map};
-ghost use Rattle.xs_body.specs.Sheet.{has_none, has_only, only_attribute, pair, single, value_named};
+ghost use Rattle.xs_body.specs.Sheet.{has_none, has_only, only_attribute, single, value_named};
 ghost use Rattle.xs_tree.specs.Record.{attributes};
 
-use crate::nodes::name_at;
+use crate::nodes::{name_at, uri_at};
 use xs_tree::{Node, Tree};
 
-/// The value of the attribute of this name, where the element has no other.
+/// The value of the attribute of this name, in no namespace, where the element has no other.
 pub(crate) fn only_attribute<'a>(tree: &'a Tree, n: Node, name: &str) -> Option<&'a str>
     requires { n < length tree.now }
     ensures { option_map (λ value. value.now) result ≡ only_attribute name.now tree.now n }
 {
     let attribute = single_attribute(tree, n)?;
-    if name_at(tree, attribute) == name {
+    if uri_at(tree, attribute).is_empty() && name_at(tree, attribute) == name {
         Some(tree.text(attribute))
     } else {
         None
@@ -36,22 +36,6 @@ pub(crate) fn has_none(tree: &Tree, n: Node) -> bool
     ensures { result ≡ has_none tree.now n }
 {
     tree.attributes(n).next().is_none()
-}
-
-/// The two attributes of an element that has exactly two.
-#[tactic(auto, using(crate::proofs::Inside::inside))]
-pub(crate) fn attribute_pair(tree: &Tree, n: Node) -> Option<(Node, Node)>
-    requires { n < length tree.now }
-    ensures attributes { result ≡ pair (attributes tree.now n) }
-    ensures inside { IfSome result (λ p. (p.0 < length tree.now) × (p.1 < length tree.now)) }
-{
-    let mut attributes = tree.attributes(n);
-    let one = attributes.next()?;
-    let other = attributes.next()?;
-    match attributes.next() {
-        None => Some((one, other)),
-        Some(_) => None,
-    }
 }
 
 // The attribute of an element that has exactly one.

@@ -6,7 +6,7 @@ ghost use Rattle.xs_tree.specs.Record.{at};
 ghost use Rattle.xs_body.specs.Sheet.{content, first, pair, single};
 ghost use Rattle.xs_tree.specs.Walk.{children_from};
 
-use crate::nodes::is_stripped;
+use crate::nodes::is_ignored;
 use xs_tree::{Kind, Node, Tree};
 
 /// The first child of a node after a place.
@@ -50,7 +50,7 @@ pub(crate) fn kept_after(tree: &Tree, n: Node, after: Node) -> Option<Node>
 {
     let mut next = child_after(tree, n, after);
     while let Some(child) = next {
-        if !is_stripped(tree, child) {
+        if !is_ignored(tree, child) {
             return next;
         }
         next = child_after(tree, n, child);

@@ -5,6 +5,8 @@ mod attributes;
 mod children;
 pub mod context;
 mod expressions;
+#[cfg(test)]
+mod made_trees;
 mod names;
 mod nodes;
 pub mod paths;

@@ -125,13 +125,13 @@ fn read_element(
     requires lines { length lines.now ≡ length tree.now }
     ensures { IfOk result (λ kind. option_map part_of kind ≡ element_part tree.now n (parts_at depth tree.now lines.now n)) }
 {
-    if is_named(tree, n, "xsl:value-of") {
+    if is_named(tree, n, "value-of") {
         read_value_of(alloc, tree, n)
-    } else if is_named(tree, n, "xsl:for-each") {
+    } else if is_named(tree, n, "for-each") {
         read_for_each(alloc, tree, lines, n, depth)
-    } else if is_named(tree, n, "xsl:if") {
+    } else if is_named(tree, n, "if") {
         read_if(alloc, tree, lines, n, depth)
-    } else if is_named(tree, n, "xsl:message") {
+    } else if is_named(tree, n, "message") {
         read_message(alloc, tree, lines, n, depth)
     } else {
         read_literal(alloc, tree, lines, n, depth)

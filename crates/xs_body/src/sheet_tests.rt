@@ -1,143 +1,26 @@
-//! Small stylesheets, made node by node and read.
+//! Small stylesheets, read from trees that are made node by node.
 #![tactic(auto)]
 
-ghost use Rattle.std.specs.Prelude.{◌≡◌, ◌<◌, length, IsTrue};
-ghost use Rattle.xs_tree.specs.Kinds.{can_hold};
-ghost use Rattle.xs_tree.specs.Record.{at};
-ghost use Rattle.xs_tree.specs.Shape.{HasParentFrom, IsOpen, KeepsOrder};
-
 use crate::expressions::{read_path, read_test};
+use crate::made_trees::{NONE, Row, XSL, grow, other, plain, tree_of, xsl};
 use crate::paths::{Path, Test};
 use crate::read::{read_body, root_line};
-use crate::syntax::{Body, InstrKind};
+use crate::syntax::{Body, Instr, InstrKind};
 use std::alloc::{AllocError, Global};
 use std::test::Fail;
 use xs_trace::item::Site;
-use xs_tree::{Kind, Name, NameText, Node, Tree};
+use xs_tree::{Kind, Tree};
 
-// A node: its kind, its name, its text and the place of its parent.
-type Row = (Kind, &'static str, &'static str, u32);
-
-const XSL: &str = "http://www.w3.org/1999/XSL/Transform";
-
-fn plain_name(alloc: Global, local: &str) -> Result<Name, AllocError> {
-    Ok(Name {
-        uri: NameText::of(alloc, "")?,
-        local: NameText::of(alloc, local)?,
-        prefix: NameText::of(alloc, "")?,
-    })
-}
-
-fn can_hold(holder: Kind, held: Kind) -> bool
-    ensures { result ≡ can_hold holder held }
-{
-    match holder {
-        Kind::Root => held.is_child(),
-        Kind::Element => !matches!(held, Kind::Root),
-        _ => false,
+// The body of a stylesheet of which each node stands in the line of its place.
+fn body_in(alloc: Global, sheet: &Tree) -> Result<Option<Body>, Fail> {
+    let mut lines = Vec::new(alloc);
+    for place in 0..sheet.len() as u32 {
+        lines.push(place)?;
     }
-}
-
-// Whether a later node is inside another.
-fn stays_inside(tree: &Tree, parent: Node, later: Node) -> bool
-    requires { later < length tree.now }
-    ensures { IsTrue result → HasParentFrom parent (at tree.now later) }
-{
-    match tree.parent(later) {
-        Some(above) => above.place() >= parent.place(),
-        None => false,
+    if lines.len() != sheet.len() {
+        return Err(Fail::new("another number of nodes"));
     }
-}
-
-fn is_open(tree: &Tree, parent: Node) -> bool
-    requires { parent < length tree.now }
-    ensures { IsTrue result → IsOpen tree.now parent }
-{
-    let count = tree.len() as u32;
-    for place in parent.place() + 1..count {
-        if !stays_inside(tree, parent, Node::at(place)) {
-            return false;
-        }
-    }
-    true
-}
-
-fn takes_attributes(tree: &Tree, parent: Node) -> bool
-    requires { parent < length tree.now }
-    ensures { IsTrue result → KeepsOrder tree.now parent Kind.Attribute }
-{
-    let count = tree.len() as u32;
-    for place in parent.place() + 1..count {
-        if tree.kind(Node::at(place)).rank() > 1 {
-            return false;
-        }
-    }
-    true
-}
-
-fn add_element(alloc: Global, tree: &mut Tree, name: &str, parent: Node) -> Result<(), Fail>
-    requires within { parent < length tree.old }
-    requires open { IsOpen tree.old parent }
-{
-    if !can_hold(tree.kind(parent), Kind::Element) {
-        return Err(Fail::new("an element has no such parent"));
-    }
-    tree.add(Kind::Element, Some(plain_name(alloc, name)?), "", parent)?;
-    Ok(())
-}
-
-fn add_attribute(
-    alloc: Global,
-    tree: &mut Tree,
-    name: &str,
-    value: &str,
-    parent: Node,
-) -> Result<(), Fail>
-    requires within { parent < length tree.old }
-    requires open { IsOpen tree.old parent }
-{
-    if !can_hold(tree.kind(parent), Kind::Attribute) || !takes_attributes(tree, parent) {
-        return Err(Fail::new("an attribute has no such parent"));
-    }
-    tree.add(
-        Kind::Attribute,
-        Some(plain_name(alloc, name)?),
-        value,
-        parent,
-    )?;
-    Ok(())
-}
-
-fn add_text(tree: &mut Tree, text: &str, parent: Node) -> Result<(), Fail>
-    requires within { parent < length tree.old }
-    requires open { IsOpen tree.old parent }
-{
-    if !can_hold(tree.kind(parent), Kind::Text) {
-        return Err(Fail::new("a text has no such parent"));
-    }
-    tree.add(Kind::Text, None, text, parent)?;
-    Ok(())
-}
-
-fn grow(alloc: Global, tree: &mut Tree, row: &Row) -> Result<(), Fail> {
-    let (kind, name, text, place) = *row;
-    let parent = Node::at(place);
-    if place as usize >= tree.len() || !is_open(tree, parent) {
-        return Err(Fail::new("no such open node"));
-    }
-    match kind {
-        Kind::Element => add_element(alloc, tree, name, parent),
-        Kind::Attribute => add_attribute(alloc, tree, name, text, parent),
-        _ => add_text(tree, text, parent),
-    }
-}
-
-fn tree_of(alloc: Global, rows: &[Row]) -> Result<Tree, Fail> {
-    let mut tree = Tree::new(alloc)?;
-    for row in rows {
-        grow(alloc, &mut tree, row)?;
-    }
-    Ok(tree)
+    Ok(read_body(alloc, sheet, &lines)?)
 }
 
 // A stylesheet that has this template, from place 6 on; each node stands in the line of its place.
@@ -145,21 +28,17 @@ fn body_of(alloc: Global, template: &[Row]) -> Result<Option<Body>, Fail> {
     let mut sheet = tree_of(
         alloc,
         &[
-            (Kind::Element, "xsl:stylesheet", "", 0),
-            (Kind::Attribute, "version", "1.0", 1),
-            (Kind::Attribute, "xmlns:xsl", XSL, 1),
-            (Kind::Element, "xsl:output", "", 1),
-            (Kind::Attribute, "method", "text", 4),
+            (Kind::Element, xsl("stylesheet"), "", 0),
+            (Kind::Space, plain("xsl"), XSL, 1),
+            (Kind::Attribute, plain("version"), "1.0", 1),
+            (Kind::Element, xsl("output"), "", 1),
+            (Kind::Attribute, plain("method"), "text", 4),
         ],
     )?;
     for row in template {
         grow(alloc, &mut sheet, row)?;
     }
-    let lines = Vec::from_slice(alloc, &[0, 1, 2, 3, 4, 5, 6, 7, 8, 9, 10, 11, 12])?;
-    if lines.len() != sheet.len() || root_line(&sheet, &lines) != 1 {
-        return Err(Fail::new("another number of nodes, or another line"));
-    }
-    Ok(read_body(alloc, &sheet, &lines)?)
+    body_in(alloc, &sheet)
 }
 
 // Whether a body is one instruction in line 8, for each `i`, that holds one in line 10 with a test.
@@ -194,13 +73,13 @@ fn in_line(line: u32) -> Site {
 #[test]
 fn reads_a_loop_with_a_test(rt: HostRuntime) -> Result<(), Fail> {
     let template = [
-        (Kind::Element, "xsl:template", "", 1),
-        (Kind::Attribute, "match", "/", 6),
-        (Kind::Element, "xsl:for-each", "", 6),
-        (Kind::Attribute, "select", "r/i", 8),
-        (Kind::Element, "xsl:if", "", 8),
-        (Kind::Attribute, "test", ". = '2'", 10),
-        (Kind::Element, "xsl:message", "", 10),
+        (Kind::Element, xsl("template"), "", 1),
+        (Kind::Attribute, plain("match"), "/", 6),
+        (Kind::Element, xsl("for-each"), "", 6),
+        (Kind::Attribute, plain("select"), "r/i", 8),
+        (Kind::Element, xsl("if"), "", 8),
+        (Kind::Attribute, plain("test"), ". = '2'", 10),
+        (Kind::Element, xsl("message"), "", 10),
     ];
     let body = body_of(rt.alloc(), &template)?.ok_or("a small stylesheet")?;
     assert!(rt; is_loop_with_test(&body));
@@ -210,15 +89,149 @@ fn reads_a_loop_with_a_test(rt: HostRuntime) -> Result<(), Fail> {
 #[test]
 fn refuses_a_second_attribute(rt: HostRuntime) -> Result<(), Fail> {
     let template = [
-        (Kind::Element, "xsl:template", "", 1),
-        (Kind::Attribute, "match", "/", 6),
-        (Kind::Element, "xsl:for-each", "", 6),
-        (Kind::Attribute, "select", "r/i", 8),
-        (Kind::Attribute, "test", ".", 8),
-        (Kind::Text, "", "x", 8),
-        (Kind::Text, "", "y", 6),
+        (Kind::Element, xsl("template"), "", 1),
+        (Kind::Attribute, plain("match"), "/", 6),
+        (Kind::Element, xsl("for-each"), "", 6),
+        (Kind::Attribute, plain("select"), "r/i", 8),
+        (Kind::Attribute, plain("test"), ".", 8),
+        (Kind::Text, NONE, "x", 8),
+        (Kind::Text, NONE, "y", 6),
     ];
     assert!(rt; body_of(rt.alloc(), &template)?.is_none());
+    Ok(())
+}
+
+#[test]
+fn finds_the_line_of_the_root_element(rt: HostRuntime) -> Result<(), Fail> {
+    let rows = [
+        (Kind::Comment, NONE, "c", 0),
+        (Kind::Element, xsl("stylesheet"), "", 0),
+    ];
+    let sheet = tree_of(rt.alloc(), &rows)?;
+    let lines = [0, 7, 9];
+    if lines.len() != sheet.len() {
+        return Err(Fail::new("another number of nodes"));
+    }
+    assert_eq!(rt; root_line(&sheet, &lines), 9);
+    Ok(())
+}
+
+// Whether a stylesheet with an empty template is read, where the names of its elements have this URI and this prefix.
+fn is_read_under(alloc: Global, uri: &'static str, prefix: &'static str) -> Result<bool, Fail> {
+    let rows = [
+        (Kind::Element, (uri, prefix, "stylesheet"), "", 0),
+        (Kind::Space, plain(prefix), uri, 1),
+        (Kind::Attribute, plain("version"), "1.0", 1),
+        (Kind::Element, (uri, prefix, "output"), "", 1),
+        (Kind::Attribute, plain("method"), "text", 4),
+        (Kind::Element, (uri, prefix, "template"), "", 1),
+        (Kind::Attribute, plain("match"), "/", 6),
+    ];
+    let sheet = tree_of(alloc, &rows)?;
+    Ok(body_in(alloc, &sheet)?.is_some())
+}
+
+#[test]
+fn knows_elements_by_their_namespace(rt: HostRuntime) -> Result<(), Fail> {
+    assert!(rt; is_read_under(rt.alloc(), XSL, "xsl")?);
+    assert!(rt; is_read_under(rt.alloc(), XSL, "t")?);
+    assert!(rt; is_read_under(rt.alloc(), XSL, "")?);
+    assert!(rt; !is_read_under(rt.alloc(), "urn:o", "xsl")?);
+    assert!(rt; !is_read_under(rt.alloc(), "", "")?);
+    Ok(())
+}
+
+fn is_text_in(instr: Option<&Instr>, text: &str, line: u32) -> bool {
+    match instr {
+        Some(
+            Instr {
+                site,
+                kind: InstrKind::Text(found),
+            },
+        ) => found.as_str() == text && *site == in_line(line),
+        _ => false,
+    }
+}
+
+#[test]
+fn ignores_comments_and_processing_instructions(rt: HostRuntime) -> Result<(), Fail> {
+    let rows = [
+        (Kind::Pi, plain("p"), "x", 0),
+        (Kind::Element, xsl("stylesheet"), "", 0),
+        (Kind::Attribute, plain("version"), "1.0", 2),
+        (Kind::Comment, NONE, "c", 2),
+        (Kind::Element, xsl("output"), "", 2),
+        (Kind::Attribute, plain("method"), "text", 5),
+        (Kind::Comment, NONE, "c", 5),
+        (Kind::Pi, plain("p"), "", 2),
+        (Kind::Element, xsl("template"), "", 2),
+        (Kind::Attribute, plain("match"), "/", 9),
+        (Kind::Text, NONE, "x", 9),
+        (Kind::Comment, NONE, "c", 9),
+        (Kind::Text, NONE, " ", 9),
+        (Kind::Pi, plain("p"), "", 9),
+        (Kind::Text, NONE, "y", 9),
+        (Kind::Comment, NONE, "c", 0),
+    ];
+    let sheet = tree_of(rt.alloc(), &rows)?;
+    let body = body_in(rt.alloc(), &sheet)?.ok_or("a small stylesheet")?;
+    assert_eq!(rt; body.instrs.len(), 2);
+    assert!(rt; is_text_in(body.instrs.first(), "x", 11));
+    assert!(rt; is_text_in(body.instrs.last(), "y", 15));
+    Ok(())
+}
+
+// What the one instruction of a template puts on the result, where that is an element.
+fn element_in(body: &Body) -> &str {
+    match body.instrs.as_slice() {
+        [
+            Instr {
+                kind: InstrKind::Literal { name, .. },
+                ..
+            },
+        ] => name.as_str(),
+        _ => "",
+    }
+}
+
+#[test]
+fn reads_an_element_of_another_namespace(rt: HostRuntime) -> Result<(), Fail> {
+    let template = [
+        (Kind::Element, xsl("template"), "", 1),
+        (Kind::Attribute, plain("match"), "/", 6),
+        (Kind::Element, other("e"), "", 6),
+        (Kind::Space, plain("o"), "urn:o", 8),
+        (Kind::Comment, NONE, "c", 8),
+    ];
+    let body = body_of(rt.alloc(), &template)?.ok_or("a small stylesheet")?;
+    assert_eq!(rt; element_in(&body), "e");
+    Ok(())
+}
+
+#[test]
+fn refuses_an_unknown_element_of_xslt(rt: HostRuntime) -> Result<(), Fail> {
+    let template = [
+        (Kind::Element, xsl("template"), "", 1),
+        (Kind::Attribute, plain("match"), "/", 6),
+        (Kind::Element, xsl("text"), "", 6),
+    ];
+    assert!(rt; body_of(rt.alloc(), &template)?.is_none());
+    Ok(())
+}
+
+#[test]
+fn refuses_an_attribute_of_another_namespace(rt: HostRuntime) -> Result<(), Fail> {
+    let template = [
+        (Kind::Element, xsl("template"), "", 1),
+        (Kind::Attribute, other("match"), "/", 6),
+    ];
+    assert!(rt; body_of(rt.alloc(), &template)?.is_none());
+    let both = [
+        (Kind::Element, xsl("template"), "", 1),
+        (Kind::Attribute, plain("match"), "/", 6),
+        (Kind::Attribute, other("match"), "/", 6),
+    ];
+    assert!(rt; body_of(rt.alloc(), &both)?.is_none());
     Ok(())
 }
 

@@ -1,4 +1,11 @@
-pub mod Counts
+pub mod Cuts
+pub mod Declaring
+pub mod Goods
 pub mod Laws
 pub mod Lefts
+pub mod Readings
+pub mod Scopes
+pub mod SpaceNodes
+pub mod Starts
+pub mod Texts
 pub mod Wells

@@ -1,86 +1,79 @@
 -- The open elements stay open while records are added inside the innermost of them.
-use Rattle.std.proofs.Common.{◌≡◌, ℕ, ◌<◌, ◌≤◌, List, [], ◌∷◌, ◌++◌, None, Some, false, refl, sym, ◌∙◌, ap, length, inl, inr, arith}
-use Rattle.std.specs.Prelude.{not, ◌==◌}
-use Rattle.std.proofs.lemmas.Bool.{cases_Bool}
-use Rattle.std.proofs.lemmas.Bool.Decides.{nat_tests}
+use Rattle.std.proofs.Common.{◌≡◌, ℕ, ◌<◌, ◌≤◌, List, [], ◌∷◌, ◌++◌, Some, refl, ◌∙◌, ap, length, append_assoc, append-nil, arith}
 use Rattle.xs_tree.specs.declared.kinds.Kind.TheVariants.{Attribute}
-use Rattle.xs_tree.specs.Kinds.{rank}
+use Rattle.xs_tree.specs.declared.names.Name.{Name}
+use Rattle.xs_tree.specs.Shape.{KeepsOrder}
 use Rattle.xs_tree.specs.Record.{Record}
 use Rattle.xs_tree.proofs.ShapeLemmas.{at-append, at-added, length-added, IsOpen-last, IsOpen-added, KeepsOrder-last, KeepsOrder-added}
-use Rattle.xs_build.specs.Rules.{without_innermost}
-use Rattle.xs_build.specs.Document.{most_nodes, innermost, element, text_node, guard}
-use Rattle.xs_build.specs.Tree.{pushed, with_text_node, Stands, IsWell, IsFresh}
+use Rattle.xs_build.specs.declared.opened.Opened.{Opened}
+use Rattle.xs_build.specs.Namespaces.{Bindings}
+use Rattle.xs_build.specs.Stack.{without_innermost}
+use Rattle.xs_build.specs.Context.{innermost, element, space, spaces, text_node}
+use Rattle.xs_build.specs.State.{with_text_node}
+use Rattle.xs_build.specs.Open.{Stands, IsWell}
 
--- what was added, and that there was room
-pub pushed_is : (rs : List Record) (r : Record) (now : List Record) → pushed rs r ≡ Some now → (now ≡ rs ++ r ∷ []) × ((length rs == most_nodes) ≡ false)
-pushed_is rs r now h =
-    elim (cases_Bool (length rs == most_nodes)) [
-      | inl t ↦ (let impossible : None ≡ Some now = sym (ap (λ b. guard (not b) (Some (rs ++ r ∷ []))) t) ∙ h in cc)
-      | inr f ↦ ((let is : Some (rs ++ r ∷ []) ≡ Some now = sym (ap (λ b. guard (not b) (Some (rs ++ r ∷ []))) f) ∙ h in cc), f)
-    ]
-
-Stands-added : (rs : List Record) (r : Record) (p : ℕ) (ps : List ℕ) → r.parent ≡ Some p → innermost ps ≤ p → Stands rs ps → Stands (rs ++ r ∷ []) ps
+Stands-added : (rs : List Record) (r : Record) (p : ℕ) (os : List Opened) → r.parent ≡ Some p → innermost os ≤ p → Stands rs os → Stands (rs ++ r ∷ []) os
 Stands-added rs r p [] is below s = tt
 Stands-added rs r p (q ∷ qs) is below s = (
   omega (arith, length-added rs r, s.0),
-  ap (λ (x : Record). x.kind) (at-append rs (r ∷ []) q s.0) ∙ s.1,
-  IsOpen-added rs r q p is below s.2,
+  ap (λ (x : Record). x.kind) (at-append rs (r ∷ []) q.node s.0) ∙ s.1,
+  IsOpen-added rs r q.node p is below s.2,
   s.3,
   Stands-added rs r p qs is (omega (arith, s.3, below)) s.4,
 )
 
-pub well_added : (rs : List Record) (ps : List ℕ) (r : Record) (now : List Record) → IsWell rs ps → r.parent ≡ Some (innermost ps) → pushed rs r ≡ Some now → IsWell now ps
-well_added rs ps r now w is h =
-    let p = pushed_is rs r now h in
-    let fact : length rs ≤ most_nodes = w.few in
-    let few : length (rs ++ r ∷ []) ≤ most_nodes = grind (arith, nat_tests, length-added rs r, p.1, w.few) in
-    rw (p.0) (record {
-      few = few;
-      some = omega (arith, length-added rs r);
-      root = ap (λ (x : Record). x.kind) (at-append rs (r ∷ []) 0 w.some) ∙ w.root;
-      inside = IsOpen-added rs r 0 (innermost ps) is (omega arith) w.inside;
-      stack = Stands-added rs r (innermost ps) ps is (omega arith) w.stack;
-    })
+pub well_added : (rs : List Record) (os : List Opened) (r : Record) → IsWell rs os → r.parent ≡ Some (innermost os) → IsWell (rs ++ r ∷ []) os
+well_added rs os r w is = record {
+  some = omega (arith, length-added rs r);
+  root = ap (λ (x : Record). x.kind) (at-append rs (r ∷ []) 0 w.some) ∙ w.root;
+  inside = IsOpen-added rs r 0 (innermost os) is (omega arith) w.inside;
+  stack = Stands-added rs r (innermost os) os is (omega arith) w.stack;
+}
 
-pub well_within : (rs : List Record) (ps : List ℕ) → IsWell rs ps → innermost ps < length rs
+pub well_text : (rs : List Record) (os : List Opened) (text : List ℕ) → IsWell rs os → IsWell (with_text_node rs (innermost os) text) os
+well_text rs os [] w = w
+well_text rs os (b ∷ text) w = well_added rs os (text_node (b ∷ text) (innermost os)) w refl
+
+pub well_within : (rs : List Record) (os : List Opened) → IsWell rs os → innermost os < length rs
 well_within rs [] w = w.some
-well_within rs (p ∷ ps) w = w.stack.0
+well_within rs (o ∷ os) w = w.stack.0
+
+pub well_left : (rs : List Record) (os : List Opened) → IsWell rs os → IsWell rs (without_innermost os)
+well_left rs [] w = w
+well_left rs (o ∷ os) w = record { some = w.some; root = w.root; inside = w.inside; stack = w.stack.4 }
 
 -- an element that was added and is open now
-pub well_entered : (rs : List Record) (ps : List ℕ) (name : List ℕ) (now : List Record) → IsWell rs ps → pushed rs (element name (innermost ps)) ≡ Some now → IsWell now (length rs ∷ ps)
-well_entered rs ps name now w h =
-    let r = element name (innermost ps) in
-    let p = pushed_is rs r now h in
-    let v = well_added rs ps r now w refl h in
+pub well_entered : (rs : List Record) (os : List Opened) (name : Name) (o : Opened) → IsWell rs os → o.node ≡ length rs → IsWell (rs ++ element name (innermost os) ∷ []) (o ∷ os)
+well_entered rs os name o w is =
+    let r = element name (innermost os) in
+    let v = well_added rs os r w refl in
     record {
-      few = v.few;
       some = v.some;
       root = v.root;
       inside = v.inside;
       stack = (
-        rw p.0 (omega (arith, length-added rs r)),
-        rw p.0 (ap (λ (x : Record). x.kind) (at-added rs r)),
-        rw p.0 (IsOpen-last rs r),
-        well_within rs ps w,
+        omega (arith, length-added rs r, is),
+        rw is (ap (λ (x : Record). x.kind) (at-added rs r)),
+        rw is (IsOpen-last rs r),
+        rw is (well_within rs os w),
         v.stack,
       );
     }
 
-pub fresh_entered : (rs : List Record) (ps : List ℕ) (name text : List ℕ) (now : List Record) → text ≡ [] → pushed rs (element name (innermost ps)) ≡ Some now → IsFresh now (length rs ∷ ps) text
-fresh_entered rs ps name text now e h =
-    let r = element name (innermost ps) in
-    let p = pushed_is rs r now h in
-    record { quiet = e; within = omega arith; order = rw p.0 (KeepsOrder-last rs r Attribute) }
+pub order_entered : (rs : List Record) (os : List Opened) (name : Name) → KeepsOrder (rs ++ element name (innermost os) ∷ []) (length rs) Attribute
+order_entered rs os name = KeepsOrder-last rs (element name (innermost os)) Attribute
 
-pub fresh_added : (rs : List Record) (ps : List ℕ) (r : Record) (now : List Record) (text : List ℕ) → IsFresh rs ps text → rank r.kind ≤ 1 → pushed rs r ≡ Some now → IsFresh now ps text
-fresh_added rs ps r now text f low h =
-    let p = pushed_is rs r now h in
-    record { quiet = f.quiet; within = f.within; order = rw p.0 (KeepsOrder-added rs r (innermost ps) Attribute f.order low) }
+-- its namespace nodes
+pub well_spaces : (scope : Bindings) (rs : List Record) (o : Opened) (os : List Opened) → IsWell rs (o ∷ os) → IsWell (rs ++ spaces o.node scope) (o ∷ os)
+well_spaces [] rs o os w = rw (append-nil rs) w
+well_spaces (b ∷ bs) rs o os w =
+    let h : IsWell ((rs ++ space o.node b ∷ []) ++ spaces o.node bs) (o ∷ os) = well_spaces bs (rs ++ space o.node b ∷ []) o os (well_added rs (o ∷ os) (space o.node b) w refl) in
+    let e : (rs ++ space o.node b ∷ []) ++ spaces o.node bs ≡ rs ++ space o.node b ∷ spaces o.node bs = append_assoc rs (space o.node b ∷ []) (spaces o.node bs) in
+    rw (← e) h
 
-pub well_left : (rs : List Record) (ps : List ℕ) → IsWell rs ps → IsWell rs (without_innermost ps)
-well_left rs [] w = w
-well_left rs (p ∷ ps) w = record { few = w.few; some = w.some; root = w.root; inside = w.inside; stack = w.stack.4 }
-
-pub well_text : (rs : List Record) (ps text : List ℕ) (now : List Record) → IsWell rs ps → with_text_node rs ps text ≡ Some now → IsWell now ps
-well_text rs ps [] now w h = let e : rs ≡ now = cc in rw (← e) w
-well_text rs ps (b ∷ text) now w h = well_added rs ps (text_node (b ∷ text) (innermost ps)) now w refl h
+pub order_spaces : (scope : Bindings) (rs : List Record) (p : ℕ) → KeepsOrder rs p Attribute → KeepsOrder (rs ++ spaces p scope) p Attribute
+order_spaces [] rs p w = rw (append-nil rs) w
+order_spaces (b ∷ bs) rs p w =
+    let h : KeepsOrder ((rs ++ space p b ∷ []) ++ spaces p bs) p Attribute = order_spaces bs (rs ++ space p b ∷ []) p (KeepsOrder-added rs (space p b) p Attribute w (omega arith)) in
+    let e : (rs ++ space p b ∷ []) ++ spaces p bs ≡ rs ++ space p b ∷ spaces p bs = append_assoc rs (space p b ∷ []) (spaces p bs) in
+    rw (← e) h

@@ -1,95 +1,104 @@
--- What the builder has read so far, and what becomes of it with the lines that are left.
-use Rattle.std.specs.Prelude.{◌≡◌, ℕ, List, [], ◌∷◌, ◌++◌, Option, None, Some, Result, Ok, Err, Bool, true, false, not, ◌&&◌, ◌||◌, nat_le, length, option_and_then, IsTrue, reverse, string_bytes, drop}
-use Rattle.std.specs.Option.{option_map}
-use Rattle.std.specs.List.{list_any}
-use Rattle.std.specs.Str.{bytes_eq}
-use Rattle.xs_build.specs.declared.fault.BuildFault.{BuildFault}
-use Rattle.xs_build.specs.declared.fault.BuildFault.TheVariants.{NotSmall, NoMemory}
-use Rattle.xs_pyx.specs.Lines.{lines_of}
+-- What the builder has read so far, and what one more line makes of it.
+use Rattle.std.specs.Prelude.{◌≡◌, ℕ, ◌+◌, List, [], ◌∷◌, ◌++◌, Option, None, Some, Result, Ok, Err, Bool, false, not, ◌&&◌, nat_le, if◌then◌else◌, length, map, reverse, string_bytes}
+use Rattle.std.specs.List.{list_all}
+use Rattle.xs_pyx.specs.Row.{Row}
 use Rattle.xs_pyx.specs.declared.line.Line.{Line}
-use Rattle.xs_pyx.specs.declared.line.Line.TheVariants.{Start, Attr, Chars, End}
+use Rattle.xs_pyx.specs.declared.line.Line.TheVariants.{Start, Attr, Chars, End, Pi, Comment}
 use Rattle.xs_tree.specs.Record.{Record, root_record}
-use Rattle.xs_build.specs.declared.stack.Opened.{Opened}
 use Rattle.xs_build.specs.declared.builder.Builder.{Builder}
-use Rattle.xs_build.specs.Opens.{places, names}
-use Rattle.xs_build.specs.Tree.{pushed, with_text_node, IsWell, IsFresh}
-use Rattle.xs_build.specs.Rules.{attributes_follow, attributes_differ, is_balanced, is_empty, is_innermost, without_innermost, with_text, joined}
-use Rattle.xs_build.specs.Document.{most_nodes, innermost, element, attribute, nodes, guard}
+use Rattle.xs_build.specs.declared.expanded.Expanded.{Expanded}
+use Rattle.xs_build.specs.declared.fault.BuildFault.{BuildFault}
+use Rattle.xs_build.specs.declared.fault.BuildFault.TheVariants.{Bad, NoMemory}
+use Rattle.xs_build.specs.declared.opened.Opened.{Opened}
+use Rattle.xs_build.specs.Limits.{most_nodes}
+use Rattle.xs_build.specs.Namespaces.{is_empty}
+use Rattle.xs_build.specs.Context.{Context, innermost, text_node}
+use Rattle.xs_build.specs.Document.{Step, bad, gives, is_space, start_step, attribute_step, end_step, instruction_step, comment_step}
 
 pub record State : Type 0 where
-  pub records : List Record
-  pub text : List ℕ  -- the text before the next line, no node yet
-  pub around : List Opened  -- the open elements, innermost first
-  pub seen : List (List ℕ)  -- the names of the attributes of the element that began last
-  pub due : Bool  -- the top element has not begun
-  pub follows : Bool  -- an attribute may follow
+  pub records : List Record  -- the nodes, but for the text before the next line
+  pub lines : List ℕ  -- the line of each node, also of the text before the next line
+  pub text : List ℕ  -- the text before the next line, which is no node yet; empty: none
+  pub around : List Opened  -- the open elements, the innermost first
+  pub begun : Bool  -- the top element has begun
+  pub tag : Option (List Expanded)  -- where an attribute may follow: the names of those before it in its start tag
+  pub line : ℕ  -- the number of the next line
 
 abbrev pub state : Builder → State
-state b = record { records = b.tree; text = string_bytes b.text; around = reverse b.around.items; seen = b.seen.keys; due = b.due; follows = b.follows }
+state b = record { records = b.tree; lines = b.lines.items; text = string_bytes b.text; around = reverse b.around.items; begun = b.begun; tag = if b.follows then Some b.seen.keys else None; line = b.line }
 
 -- before the first line
 abbrev pub initial : State
-initial = record { records = root_record ∷ []; text = []; around = []; seen = []; due = true; follows = false }
+initial = record { records = root_record ∷ []; lines = 0 ∷ []; text = []; around = []; begun = false; tag = None; line = 1 }
 
--- the records, if there are not too many
-abbrev pub fitting : List Record → Option (List Record)
-fitting records = guard (nat_le (length records) most_nodes) (Some records)
+-- where the next line stands
+abbrev pub context : State → Context
+context s = record { around = s.around; begun = s.begun; tag = s.tag; in_text = not (is_empty s.text); nodes = length s.lines }
 
--- the document of what was read and these lines
-abbrev pub finished : State → List Line → Option (List Record)
-finished s lines =
-    guard (attributes_follow s.follows lines) (guard (attributes_differ s.seen lines) (guard (is_balanced s.due (names s.around) lines)
-    (fitting (s.records ++ nodes (length s.records) (places s.around) (with_text s.text (joined lines))))))
+-- the records, and a text inside this node if it is not empty
+abbrev pub with_text_node : List Record → ℕ → List ℕ → List Record
+with_text_node records parent [] = records
+with_text_node records parent (b ∷ text) = records ++ text_node (b ∷ text) parent ∷ []
 
-abbrev pub text_ended : State → Option (List Record)
-text_ended s = with_text_node s.records (places s.around) s.text
+-- the text can no longer go on
+abbrev pub ended : State → State
+ended s = record s { records = with_text_node s.records (innermost s.around) s.text; text = [] }
 
--- the state after each kind of line, if the line keeps the rules and there is room
-unfoldable pub started : State → List ℕ → Option State
-started s name =
-    guard (s.due || not (is_empty (names s.around)))
-    (option_and_then (λ records. option_map
-    (λ more. record { records = more; text = []; around = record { node = length records; name = name } ∷ s.around; seen = []; due = false; follows = true })
-    (pushed records (element name (innermost (places s.around)))))
-    (text_ended s))
+-- a list, and others at its end
+abbrev pub with_items : {X : Type 0} → List X → List X → List X
+with_items xs [] = xs
+with_items xs (y ∷ ys) = xs ++ y ∷ ys
 
-unfoldable pub attributed : State → List ℕ → List ℕ → Option State
-attributed s name value =
-    guard s.follows (guard (not (list_any (bytes_eq name) s.seen))
-    (option_map (λ records. record s { records = records; seen = s.seen ++ name ∷ []; follows = true })
-    (pushed s.records (attribute name value (innermost (places s.around))))))
+-- with the nodes of a line, in the context behind it
+abbrev pub placed : State → List Record → Context → State
+placed s nodes c = record { records = with_items s.records nodes; lines = with_items s.lines (map (λ _. s.line) nodes); text = s.text; around = c.around; begun = c.begun; tag = c.tag; line = s.line }
 
-unfoldable pub spoken : State → List ℕ → Option State
-spoken s text =
-    guard (is_empty text || not (is_empty (names s.around))) (Some (record s { text = s.text ++ text; follows = false }))
+-- a state, or the fault of a line
+pub data Next : Type 0 where
+  stops : ℕ → ℕ → Next
+  goes : State → Next
 
-unfoldable pub closed : State → List ℕ → Option State
-closed s name =
-    guard (is_innermost name (names s.around))
-    (option_map (λ records. record s { records = records; text = []; around = without_innermost s.around; follows = false })
-    (text_ended s))
+-- an attribute line, which no text stands before
+abbrev pub taken : State → Step → Next
+taken s (bad number) = stops number s.line
+taken s (gives nodes c) = goes (placed s nodes c)
 
-abbrev pub stepped : State → Line → Option State
-stepped s (Start name) = started s name
-stepped s (Attr name value) = attributed s name value
-stepped s (Chars text) = spoken s text
-stepped s (End name) = closed s name
+-- a line that ends the text before it
+abbrev pub moved : State → Step → Next
+moved s (bad number) = stops number s.line
+moved s (gives nodes c) = goes (placed (ended s) nodes c)
 
--- the records at the end of the lines
-unfoldable pub concluded : State → Option (List Record)
-concluded s = guard (not s.due && is_empty (names s.around)) (text_ended s)
+-- a text outside the top element
+abbrev pub spoken_outside : State → List ℕ → Next
+spoken_outside s text = if list_all is_space text then goes (record s { tag = None }) else stops 5 s.line
 
--- the document of what was read and these bytes
-unfoldable pub left : State → List ℕ → Option (List Record)
-left s bytes = option_and_then (finished s) (lines_of bytes)
+-- the first text of a node
+abbrev pub spoken_first : State → List ℕ → Next
+spoken_first s text = if nat_le (length s.lines + 1) most_nodes then goes (record s { lines = s.lines ++ s.line ∷ []; text = text; tag = None }) else stops 11 s.line
 
--- One line was read: the document is that of the new state and the bytes behind it. Memory may run out.
-abbrev pub Goes : Result (Option ℕ) BuildFault → State → State → List ℕ → Type 0
-Goes (Ok None) old new bytes = left old bytes ≡ concluded new
-Goes (Ok (Some taken)) old new bytes = left old bytes ≡ left new (drop taken bytes)
-Goes (Err NotSmall) old new bytes = left old bytes ≡ None
-Goes (Err NoMemory) old new bytes = Unit {0}
+-- a text in an element
+abbrev pub spoken_inside : State → List ℕ → Next
+spoken_inside s text = if is_empty s.text && not (is_empty text) then spoken_first s text else goes (record s { text = s.text ++ text; tag = None })
 
-pub record IsGood (s : State) : Type 0 where
-  pub well : IsWell s.records (places s.around)
-  pub fresh : IsTrue s.follows → IsFresh s.records (places s.around) s.text
+-- a text, which is no node before its last line
+unfoldable pub spoken : State → List ℕ → Next
+spoken s text = if is_empty s.around then spoken_outside s text else spoken_inside s text
+
+-- the state after a line, or the fault of the line
+abbrev pub stepped : State → Line → List Row → Next
+stepped s (Start name) rows = moved s (start_step (context s) name rows)
+stepped s (Attr name value) rows = taken s (attribute_step (context s) name value)
+stepped s (Chars text) rows = spoken s text
+stepped s (End name) rows = moved s (end_step (context s) name)
+stepped s (Pi target text) rows = moved s (instruction_step (context s) s.line target text)
+stepped s (Comment text) rows = moved s (comment_step (context s) text)
+
+-- The state is the one that is said, and Bad comes exactly where a fault is. Memory may run out.
+abbrev pub Steps : {X : Type 0} → Result X BuildFault → Next → State → Type 0
+Steps (Ok x) said now = said ≡ goes now
+Steps (Err (Bad number line)) said now = said ≡ stops number line
+Steps (Err NoMemory) said now = Unit {0}
+
+-- counted on to the next line
+abbrev pub next_line : State → State
+next_line s = record s { line = s.line + 1 }

@@ -1,148 +1,130 @@
 //! A tree that grows by one line after the other.
-ghost use Rattle.std.specs.Prelude.{◌≡◌, IfOk, OnOk};
-ghost use Rattle.xs_build.specs.State.{State, state, initial, started, attributed, spoken, closed, stepped, concluded, IsGood};
-ghost use Rattle.xs_build.specs.Tree.{Steps, Reads};
 
+ghost use Rattle.std.specs.Prelude.{◌≡◌, ◌+◌, ◌<◌, IfOk, OnOk, length};
+ghost use Rattle.xs_pyx.specs.Row.{rows_of};
+ghost use Rattle.xs_build.specs.Left.{concluded};
+ghost use Rattle.xs_build.specs.Namespaces.{outermost};
+ghost use Rattle.xs_build.specs.Open.{IsGood, IsWell};
+ghost use Rattle.xs_build.specs.Results.{Builds};
+ghost use Rattle.xs_build.specs.State.{state, initial, stepped, ended, next_line, Steps};
+
+use crate::built::Built;
+use crate::expanded::Expanded;
 use crate::fault::BuildFault;
-use crate::nodes::{put_attribute, put_element, put_text};
-use crate::stack::{Opened, is_innermost, is_inside};
+use crate::nodes::put_text;
+use crate::opened::{Opened, is_inside};
+use crate::scope::Scope;
 use indexmap::IndexSet;
 use std::alloc::{AllocError, Global};
 use xs_pyx::line::Line;
-use xs_trace::text::TextBuf;
-use xs_tree::{NameText, Tree};
+use xs_tree::Tree;
 
 /// What was read so far.
 #[derive(Drop)]
 pub struct Builder {
     /// The nodes, but for the text before the next line.
     pub tree: Tree,
-    /// The text before the next line, which is no node yet.
+    /// The line of each node, also of the text before the next line.
+    pub lines: Vec<u32>,
+    /// The text before the next line, which is no node yet; empty where there is none.
     pub text: String,
     /// The elements that are open, the innermost last.
     pub around: Vec<Opened>,
+    /// The bindings outside all elements.
+    pub outermost: Scope,
     /// The names of the attributes of the element that began last.
-    pub seen: IndexSet<NameText>,
-    /// Whether the top element has not begun.
-    pub due: bool,
+    pub seen: IndexSet<Expanded>,
     /// Whether an attribute may follow.
     pub follows: bool,
+    /// Whether the top element has begun.
+    pub begun: bool,
+    /// The number of the next line.
+    pub line: u32,
 }
 
 impl Builder {
     /// Before the first line.
     pub fn new(alloc: Global) -> Result<Builder, AllocError>
         ensures start { IfOk result (λ builder. state builder ≡ initial) }
-        ensures good { IfOk result (λ builder. IsGood (state builder)) }
+        ensures outermost { IfOk result (λ builder. builder.outermost ≡ outermost) }
     {
         Ok(Builder {
             tree: Tree::new(alloc)?,
+            lines: vec![in alloc; 0]?,
             text: String::new(alloc),
             around: Vec::new(alloc),
+            outermost: Scope::outermost(alloc)?,
             seen: IndexSet::new(alloc),
-            due: true,
             follows: false,
+            begun: false,
+            line: 1,
         })
     }
 
-    /// Takes the start of an element.
-    #[tactic(auto, unfolding(crate::specs::State::started))]
-    fn start(&mut self, alloc: Global, name: TextBuf) -> Result<(), BuildFault>
-        requires { IsGood (state self.old) }
-        ensures step { Steps result (started (state self.old) name) (state self.new) }
-        ensures good { OnOk result (IsGood (state self.new)) }
+    /// A fault of the next line.
+    pub fn bad(&self, number: u8) -> BuildFault
+        ensures { result ≡ BuildFault.Bad number self.now.line }
     {
-        if !self.due && !is_inside(self.around.as_slice()) {
-            return Err(BuildFault::NotSmall);
+        BuildFault::Bad {
+            number,
+            line: self.line,
         }
+    }
+
+    /// Makes a node of the text before the next line.
+    pub fn end_text(&mut self) -> Result<(), AllocError>
+        requires { IsGood (state self.old) }
+        ensures ended { OnOk result (state self.new ≡ ended (state self.old)) }
+        ensures well { OnOk result (IsWell (state self.new).records (state self.new).around) }
+        ensures counted { OnOk result (length self.new.tree ≡ length self.new.lines.items) }
+        ensures outermost { OnOk result (self.new.outermost ≡ self.old.outermost) }
+    {
         put_text(&mut self.tree, self.around.as_slice(), self.text.as_str())?;
         self.text.clear();
-        let node = put_element(&mut self.tree, alloc, self.around.as_slice(), name.as_str())?;
-        self.around.push(Opened { node, name })?;
-        self.seen = IndexSet::new(alloc);
-        self.due = false;
-        self.follows = true;
         Ok(())
     }
 
-    /// Takes an attribute.
-    #[tactic(auto, unfolding(crate::specs::State::attributed))]
-    fn attribute(&mut self, alloc: Global, name: TextBuf, value: TextBuf) -> Result<(), BuildFault>
-        requires { IsGood (state self.old) }
-        ensures step { Steps result (attributed (state self.old) name value) (state self.new) }
-        ensures good { OnOk result (IsGood (state self.new)) }
-    {
-        if !self.follows {
-            return Err(BuildFault::NotSmall);
-        }
-        if !self.seen.insert(NameText::of(alloc, name.as_str())?)? {
-            return Err(BuildFault::NotSmall);
-        }
-        put_attribute(
-            &mut self.tree,
-            alloc,
-            self.around.as_slice(),
-            name.as_str(),
-            value.as_str(),
-        )
-    }
-
-    /// Takes a text.
-    #[tactic(auto, unfolding(crate::specs::State::spoken))]
-    fn chars(&mut self, text: TextBuf) -> Result<(), BuildFault>
-        requires { IsGood (state self.old) }
-        ensures step { Steps result (spoken (state self.old) text) (state self.new) }
-        ensures good { OnOk result (IsGood (state self.new)) }
-    {
-        if !text.as_str().is_empty() && !is_inside(self.around.as_slice()) {
-            return Err(BuildFault::NotSmall);
-        }
-        self.text.push_str(text.as_str())?;
-        self.follows = false;
-        Ok(())
-    }
-
-    /// Takes the end of an element.
-    #[tactic(auto, unfolding(crate::specs::State::closed))]
-    fn end(&mut self, name: TextBuf) -> Result<(), BuildFault>
-        requires { IsGood (state self.old) }
-        ensures step { Steps result (closed (state self.old) name) (state self.new) }
-        ensures good { OnOk result (IsGood (state self.new)) }
-    {
-        if !is_innermost(name.as_str(), self.around.as_slice()) {
-            return Err(BuildFault::NotSmall);
-        }
-        put_text(&mut self.tree, self.around.as_slice(), self.text.as_str())?;
-        self.text.clear();
-        let _ = self.around.pop();
-        self.follows = false;
-        Ok(())
-    }
-
-    /// Takes the next line.
-    pub fn take(&mut self, alloc: Global, line: Line) -> Result<(), BuildFault>
-        requires { IsGood (state self.old) }
-        ensures step { Steps result (stepped (state self.old) line) (state self.new) }
-        ensures good { OnOk result (IsGood (state self.new)) }
+    /// Takes the next line, behind which `rest` stands.
+    pub fn take(&mut self, alloc: Global, line: Line, rest: &[u8]) -> Result<(), BuildFault>
+        requires good { IsGood (state self.old) }
+        requires outermost { self.old.outermost ≡ outermost }
+        ensures step { Steps result (stepped (state self.old) line (rows_of rest.now)) (state self.new) }
+        ensures outermost { OnOk result (self.new.outermost ≡ outermost) }
     {
         match line {
-            Line::Start(name) => self.start(alloc, name),
+            Line::Start(name) => self.start(alloc, name, rest),
             Line::Attr { name, value } => self.attribute(alloc, name, value),
             Line::Chars(text) => self.chars(text),
             Line::End(name) => self.end(name),
+            Line::Pi { target, value } => self.instruction(alloc, target, value),
+            Line::Comment(text) => self.comment(text),
         }
     }
 
     /// The tree at the end of the lines.
-    #[tactic(auto, unfolding(crate::specs::State::concluded))]
-    pub fn finish(mut self) -> Result<Tree, BuildFault>
+    #[tactic(auto, unfolding(crate::specs::Left::concluded))]
+    pub fn finish(mut self) -> Result<Built, BuildFault>
         requires { IsGood (state self) }
-        ensures { Reads result (concluded (state self)) }
+        ensures document { Builds result (concluded (state self)) }
+        ensures each { IfOk result (λ built. length built.lines.items ≡ length built.tree) }
     {
-        if self.due || is_inside(self.around.as_slice()) {
-            return Err(BuildFault::NotSmall);
+        let last = self.line - 1;
+        if !self.begun {
+            return Err(BuildFault::Bad {
+                number: 6,
+                line: last,
+            });
+        }
+        if is_inside(self.around.as_slice()) {
+            return Err(BuildFault::Bad {
+                number: 12,
+                line: last,
+            });
         }
         put_text(&mut self.tree, self.around.as_slice(), self.text.as_str())?;
-        Ok(self.tree)
+        Ok(Built {
+            tree: self.tree,
+            lines: self.lines,
+        })
     }
 }

@@ -1,76 +1,96 @@
-//! Small documents, whole.
-ghost use Rattle.std.specs.Prelude.{◌≡◌, ◌+◌, ◌<◌, ◌≤◌, length, drop, Some, IfOk, IfSome, OnOk, option_and_then};
-ghost use Rattle.std.specs.Option.{option_map};
-ghost use Rattle.xs_pyx.specs.Lines.{lines_of};
-ghost use Rattle.xs_build.specs.Document.{document, document_of, most_bytes};
-ghost use Rattle.xs_build.specs.LineNumbers.{document_lines};
-ghost use Rattle.xs_build.specs.Numbering.{numbering_of, unread, lines_left, Numbers, Builds};
-ghost use Rattle.xs_build.specs.State.{state, left, Goes, IsGood};
+//! Documents, whole.
+
+ghost use Rattle.std.specs.Prelude.{◌≡◌, ◌+◌, ◌<◌, ◌≤◌, ◌&&◌, not, length, IfOk, IfSome, OnOk};
+ghost use Rattle.xs_build.specs.Document.{document};
+ghost use Rattle.xs_build.specs.Left.{left, fault_at, Goes};
+ghost use Rattle.xs_build.specs.Limits.{most_bytes};
+ghost use Rattle.xs_build.specs.Namespaces.{outermost};
+ghost use Rattle.xs_build.specs.Open.{IsGood};
+ghost use Rattle.xs_build.specs.Results.{Builds};
+ghost use Rattle.xs_build.specs.State.{state, initial};
+ghost use Rattle.xs_build.specs.Start.{begins_with};
+ghost use Rattle.xs_pyx.specs.Row.{rows_of};
 
 use crate::builder::Builder;
 use crate::built::Built;
 use crate::fault::BuildFault;
-use crate::numbers::NodeLines;
-use std::alloc::{AllocError, Global};
-use xs_pyx::line::next_line;
+use std::alloc::Global;
+use xs_pyx::{LineFault, next_line};
 
-/// The tree of a small document of at most `limit` bytes and 8,000,000 nodes, and the line of each node, or none if `bytes`
-/// are no such document.
-pub fn read_document(alloc: Global, bytes: &[u8], limit: u64) -> Result<Option<Built>, AllocError>
+/// The tree that the bytes of a document stand for, and the line of each node; or the fault of the least bad line.
+///
+/// `limit` is the most bytes that the document may have, and 8,000,000 the most nodes, namespace nodes among them.
+pub fn build_tree(alloc: Global, bytes: &[u8], limit: u64) -> Result<Built, BuildFault>
     requires limit { limit ≤ most_bytes }
-    ensures document { IfOk result (λ found. option_map (λ built. built.tree) found ≡ document limit bytes.now) }
-    ensures lines { IfOk result (λ found. option_map (λ built. built.lines.items) found ≡ document_lines limit bytes.now) }
-    ensures each { IfOk result (λ found. IfSome found (λ built. length built.lines.items ≡ length built.tree)) }
+    ensures document { Builds result (document limit bytes.now) }
+    ensures each { IfOk result (λ built. length built.lines.items ≡ length built.tree) }
+
+    // More bytes than the limit are refused without memory.
+    ensures large { limit < length bytes.now → result ≡ Err (BuildFault.Bad 11 0) }
 {
     if bytes.len() as u64 > limit {
-        return Ok(None);
+        return Err(BuildFault::Bad {
+            number: 11,
+            line: 0,
+        });
     }
-    match read_lines(alloc, bytes) {
-        Ok(built) => Ok(Some(built)),
-        Err(BuildFault::NotSmall) => Ok(None),
-        Err(BuildFault::NoMemory) => Err(AllocError),
-    }
+    read_lines(alloc, bytes)
 }
 
+/// The tree that all lines give.
 fn read_lines(alloc: Global, bytes: &[u8]) -> Result<Built, BuildFault>
     requires { length bytes.now ≤ most_bytes }
-    ensures tree { Builds result (option_and_then document_of (lines_of bytes.now)) }
-    ensures lines { IfOk result (λ built. lines_left unread bytes.now ≡ Some built.lines.items) }
+    ensures document { Builds result (left initial (rows_of bytes.now)) }
+    ensures each { IfOk result (λ built. length built.lines.items ≡ length built.tree) }
 {
     let mut builder = Builder::new(alloc)?;
-    let mut numbers = NodeLines::new(alloc)?;
     let mut rest = bytes;
-    while let Some(taken) = read_line(&mut builder, &mut numbers, alloc, rest)? {
-        rest = &rest[taken..];
+    while let Some(size) = read_line(&mut builder, alloc, rest)? {
+        rest = &rest[size..];
     }
-    let tree = builder.finish()?;
-    Ok(Built {
-        tree,
-        lines: numbers.lines,
-    })
+    builder.finish()
 }
 
-/// Takes the first line, and answers how many bytes it took.
+/// Takes the first line, and answers how many bytes it has.
 fn read_line(
     builder: &mut Builder,
-    numbers: &mut NodeLines,
     alloc: Global,
     bytes: &[u8],
 ) -> Result<Option<usize>, BuildFault>
     requires good { IsGood (state builder.old) }
-    requires few { numbers.old.next + length bytes.now < 4294967296 }
+    requires outermost { builder.old.outermost ≡ outermost }
+    requires few { builder.old.line + length bytes.now < 4294967296 }
     ensures goes { Goes result (state builder.old) (state builder.new) bytes.now }
     ensures good { OnOk result (IsGood (state builder.new)) }
-    ensures numbers { Numbers result (numbering_of numbers.old) (numbering_of numbers.new) bytes.now }
-    ensures next { OnOk result (numbers.new.next ≤ numbers.old.next + 1) }
-    ensures taken { IfOk result (λ found. IfSome found (λ taken. (0 < taken) × (taken ≤ length bytes.now))) }
+    ensures outermost { OnOk result (builder.new.outermost ≡ outermost) }
+    ensures line { OnOk result (builder.new.line ≤ builder.old.line + 1) }
+    ensures size { IfOk result (λ found. IfSome found (λ size. (0 < size) × (size ≤ length bytes.now))) }
 {
-    match next_line(alloc, bytes)? {
-        None => Ok(None),
-        Some((line, taken)) => {
-            numbers.take(&line)?;
-            builder.take(alloc, line)?;
-            Ok(Some(taken))
+    match next_line(alloc, bytes) {
+        Ok(None) => Ok(None),
+        Ok(Some((line, size))) => {
+            builder.take(alloc, line, &bytes[size..])?;
+            builder.line += 1;
+            Ok(Some(size))
         }
+        Err(LineFault::Bad { number }) => Err(builder.bad(fault_at(
+            is_stray(builder, bytes),
+            number,
+        ))),
+        Err(LineFault::NoMemory) => Err(BuildFault::NoMemory),
     }
+}
+
+/// Whether the first line is an attribute that follows no start tag.
+fn is_stray(builder: &Builder, bytes: &[u8]) -> bool
+    ensures { result ≡ (begins_with 65 bytes.now && not builder.now.follows) }
+{
+    matches!(bytes, [b'A', ..]) && !builder.follows
+}
+
+/// The fault of a line that says nothing: of a stray attribute 1 comes before all but 3.
+fn fault_at(is_stray: bool, number: u8) -> u8
+    ensures { result ≡ fault_at is_stray number }
+{
+    if is_stray && number != 3 { 1 } else { number }
 }

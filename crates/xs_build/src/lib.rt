@@ -1,18 +1,28 @@
-//! Small documents: from bytes to a tree.
+//! From the lines of a document to its tree, or to the fault of its least bad line.
 #![tactic(auto)]
 
+mod attributes;
 mod builder;
 mod built;
+mod contents;
 mod document;
+mod elements;
+mod expanded;
 mod fault;
 mod nodes;
-mod numbers;
-mod plain;
-mod stack;
+mod opened;
+mod qnames;
+mod scope;
+mod spaces;
+mod start_tag;
 
 pub use built::Built;
-pub use document::read_document;
-pub use plain::is_plain;
+pub use document::build_tree;
+pub use fault::BuildFault;
 
+#[cfg(test)]
+mod fault_tests;
+#[cfg(test)]
+mod scope_tests;
 #[cfg(test)]
 mod tests;

@@ -1,14 +1,19 @@
 //! Nodes that are added to a tree, inside the innermost open element.
-ghost use Rattle.std.specs.Prelude.{◌≡◌, ◌<◌, ◌↔◌, IsTrue, Some, [], ◌∷◌, length, is_some, reverse, IfOk, OnOk};
+//!
+//! There is room for each of them, as nodes are counted before they are added.
+
+ghost use Rattle.std.specs.Prelude.{◌≡◌, ◌+◌, ◌<◌, ◌≤◌, IsTrue, Some, [], ◌∷◌, ◌++◌, length, is_some, reverse, IfOk, OnOk};
 ghost use Rattle.xs_tree.specs.Kinds.{bears_name, can_hold};
 ghost use Rattle.xs_tree.specs.Record.{at};
 ghost use Rattle.xs_tree.specs.Shape.{IsOpen, KeepsOrder};
-ghost use Rattle.xs_build.specs.Document.{innermost, plain_name, element, attribute};
-ghost use Rattle.xs_build.specs.Opens.{places};
-ghost use Rattle.xs_build.specs.Tree.{Steps, pushed, with_text_node, IsWell, IsFresh};
+ghost use Rattle.xs_build.specs.Context.{innermost, element, attribute, spaces, comment, instruction, local_name};
+ghost use Rattle.xs_build.specs.Limits.{most_nodes};
+ghost use Rattle.xs_build.specs.Open.{IsWell};
+ghost use Rattle.xs_build.specs.State.{with_text_node};
 
-use crate::fault::BuildFault;
-use crate::stack::{Opened, innermost};
+use crate::opened::{Opened, innermost};
+use crate::scope::Scope;
+use crate::spaces::put_spaces;
 use std::alloc::{AllocError, Global};
 use xs_tree::{Kind, Name, NameText, Node, Tree, TreeFault};
 
@@ -18,39 +23,30 @@ fn put(
     name: Option<Name>,
     text: &str,
     parent: Node,
-) -> Result<Node, BuildFault>
+) -> Result<Node, AllocError>
     requires within { parent < length tree.old }
     requires held { IsTrue (can_hold (at tree.old parent).kind kind) }
     requires named { is_some name ≡ bears_name kind }
     requires plain { kind ≡ Kind.Element → text.now ≡ [] }
     requires open { IsOpen tree.old parent }
     requires order { KeepsOrder tree.old parent kind }
-    ensures put { Steps result (pushed tree.old (record { kind = kind; name = name; text = text.now; parent = Some parent })) tree.new }
+    requires room { length tree.old < most_nodes }
+    ensures put { OnOk result (tree.new ≡ tree.old ++ record { kind = kind; name = name; text = text.now; parent = Some parent } ∷ []) }
     ensures node { IfOk result (λ node. node ≡ length tree.old) }
 {
     match tree.add(kind, name, text, parent) {
         Ok(node) => Ok(node),
-        Err(TreeFault::TooLarge) => Err(BuildFault::NotSmall),
-        Err(TreeFault::NoMemory) => Err(BuildFault::NoMemory),
+        Err(TreeFault::NoMemory) => Err(AllocError),
+        Err(TreeFault::TooLarge) => unreachable!(),
     }
 }
 
-/// A name as it is written.
-fn name_of(alloc: Global, name: &str) -> Result<Name, AllocError>
-    ensures { IfOk result (λ made. made ≡ plain_name name.now) }
-{
-    Ok(Name {
-        uri: NameText::of(alloc, "")?,
-        local: NameText::of(alloc, name)?,
-        prefix: NameText::of(alloc, "")?,
-    })
-}
-
 /// Adds the text, unless it is empty.
-pub fn put_text(tree: &mut Tree, around: &[Opened], text: &str) -> Result<(), BuildFault>
-    requires { IsWell tree.old (places (reverse around.now)) }
-    ensures put { Steps result (with_text_node tree.old (places (reverse around.now)) text.now) tree.new }
-    ensures well { OnOk result (IsWell tree.new (places (reverse around.now))) }
+pub fn put_text(tree: &mut Tree, around: &[Opened], text: &str) -> Result<(), AllocError>
+    requires well { IsWell tree.old (reverse around.now) }
+    requires room { length (with_text_node tree.old (innermost (reverse around.now)) text.now) ≤ most_nodes }
+    ensures put { OnOk result (tree.new ≡ with_text_node tree.old (innermost (reverse around.now)) text.now) }
+    ensures well { OnOk result (IsWell tree.new (reverse around.now)) }
 {
     if text.is_empty() {
         return Ok(());
@@ -59,39 +55,75 @@ pub fn put_text(tree: &mut Tree, around: &[Opened], text: &str) -> Result<(), Bu
     Ok(())
 }
 
-/// Adds an element, which is the innermost open one from then on.
-#[tactic(auto, using(crate::proofs::Wells::well_entered, crate::proofs::Wells::fresh_entered))]
+/// Adds an element and its namespace nodes.
 pub fn put_element(
     tree: &mut Tree,
     alloc: Global,
     around: &[Opened],
-    name: &str,
-) -> Result<Node, BuildFault>
-    requires { IsWell tree.old (places (reverse around.now)) }
-    ensures put { Steps result (pushed tree.old (element name.now (innermost (places (reverse around.now))))) tree.new }
+    name: Name,
+    scope: &Scope,
+) -> Result<Node, AllocError>
+    requires well { IsWell tree.old (reverse around.now) }
+    requires room { length tree.old + 1 + length scope.now ≤ most_nodes }
+    ensures put { OnOk result (tree.new ≡ tree.old ++ element name (innermost (reverse around.now)) ∷ spaces (length tree.old) scope.now) }
     ensures node { IfOk result (λ node. node ≡ length tree.old) }
-    ensures well { IfOk result (λ node. IsWell tree.new (node ∷ places (reverse around.now))) }
-    ensures fresh { IfOk result (λ node. IsFresh tree.new (node ∷ places (reverse around.now)) []) }
 {
-    let name = name_of(alloc, name)?;
-    put(tree, Kind::Element, Some(name), "", innermost(around))
+    let node = put(tree, Kind::Element, Some(name), "", innermost(around))?;
+    put_spaces(tree, alloc, node, scope)?;
+    Ok(node)
 }
 
 /// Adds an attribute.
 pub fn put_attribute(
     tree: &mut Tree,
-    alloc: Global,
     around: &[Opened],
-    name: &str,
+    name: Name,
     value: &str,
-) -> Result<(), BuildFault>
-    requires well { IsWell tree.old (places (reverse around.now)) }
-    requires fresh { IsFresh tree.old (places (reverse around.now)) [] }
-    ensures put { Steps result (pushed tree.old (attribute name.now value.now (innermost (places (reverse around.now))))) tree.new }
-    ensures well { OnOk result (IsWell tree.new (places (reverse around.now))) }
-    ensures fresh { OnOk result (IsFresh tree.new (places (reverse around.now)) []) }
+) -> Result<(), AllocError>
+    requires well { IsWell tree.old (reverse around.now) }
+    requires within { 0 < length around.now }
+    requires order { KeepsOrder tree.old (innermost (reverse around.now)) Kind.Attribute }
+    requires room { length tree.old < most_nodes }
+    ensures put { OnOk result (tree.new ≡ tree.old ++ attribute name value.now (innermost (reverse around.now)) ∷ []) }
 {
-    let name = name_of(alloc, name)?;
     put(tree, Kind::Attribute, Some(name), value, innermost(around))?;
     Ok(())
+}
+
+/// Adds a comment.
+pub fn put_comment(tree: &mut Tree, around: &[Opened], text: &str) -> Result<(), AllocError>
+    requires well { IsWell tree.old (reverse around.now) }
+    requires room { length tree.old < most_nodes }
+    ensures put { OnOk result (tree.new ≡ tree.old ++ comment text.now (innermost (reverse around.now)) ∷ []) }
+{
+    put(tree, Kind::Comment, None, text, innermost(around))?;
+    Ok(())
+}
+
+/// Adds a processing instruction.
+pub fn put_instruction(
+    tree: &mut Tree,
+    alloc: Global,
+    around: &[Opened],
+    target: &str,
+    text: &str,
+) -> Result<(), AllocError>
+    requires well { IsWell tree.old (reverse around.now) }
+    requires room { length tree.old < most_nodes }
+    ensures put { OnOk result (tree.new ≡ tree.old ++ instruction target.now text.now (innermost (reverse around.now)) ∷ []) }
+{
+    let name = local_name(alloc, target)?;
+    put(tree, Kind::Pi, Some(name), text, innermost(around))?;
+    Ok(())
+}
+
+/// A name in no namespace.
+fn local_name(alloc: Global, local: &str) -> Result<Name, AllocError>
+    ensures { IfOk result (λ name. name ≡ local_name local.now) }
+{
+    Ok(Name {
+        uri: NameText::of(alloc, "")?,
+        local: NameText::of(alloc, local)?,
+        prefix: NameText::of(alloc, "")?,
+    })
 }

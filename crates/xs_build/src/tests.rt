@@ -1,69 +1,123 @@
 ghost use Rattle.std.specs.Prelude.{◌≤◌};
 
-use crate::{is_plain, read_document};
+use crate::{BuildFault, build_tree};
 use std::test::*;
+use xs_tree::{Name, Node};
 
-fn nodes(rt: &HostRuntime, bytes: &[u8], limit: u64) -> Option<usize>
+/// The fault of a document, if it has one, and its line.
+fn fault_of(rt: &HostRuntime, bytes: &[u8], limit: u64) -> Option<(u8, u32)>
     requires { limit ≤ 1000 }
 {
-    match read_document(rt.alloc(), bytes, limit) {
-        Ok(Some(built)) => Some(built.tree.len()),
+    match build_tree(rt.alloc(), bytes, limit) {
+        Err(BuildFault::Bad { number, line }) => Some((number, line)),
         _ => None,
     }
 }
 
-fn is_plain_document(rt: &HostRuntime, bytes: &[u8]) -> bool {
-    match read_document(rt.alloc(), bytes, 1000) {
-        Ok(Some(built)) => is_plain(&built.tree),
-        _ => false,
+/// How many nodes a document has.
+fn count(rt: &HostRuntime, bytes: &[u8]) -> Option<usize> {
+    match build_tree(rt.alloc(), bytes, 1000) {
+        Ok(built) => Some(built.tree.len()),
+        Err(_) => None,
     }
 }
 
-/// The line of the node at this place.
+/// Whether the node at this place has this text.
+fn has_text(rt: &HostRuntime, bytes: &[u8], place: u32, text: &str) -> bool {
+    match build_tree(rt.alloc(), bytes, 1000) {
+        Ok(built) => (place as usize) < built.tree.len()
+            && built.tree.text(Node::at(place)) == text,
+        Err(_) => false,
+    }
+}
+
+/// The line of the node at a place.
 fn line(rt: &HostRuntime, bytes: &[u8], place: usize) -> Option<u32> {
-    match read_document(rt.alloc(), bytes, 1000) {
-        Ok(Some(built)) => built.lines.get(place).copied(),
-        _ => None,
+    match build_tree(rt.alloc(), bytes, 1000) {
+        Ok(built) => built.lines.get(place).copied(),
+        Err(_) => None,
     }
+}
+
+#[test]
+fn adjacent_texts(rt: HostRuntime) {
+    let bytes = b"(a\n-x\\n\n-y\\\\\nCc\n-z\n)a\n";
+    assert_eq!(rt; count(&rt, bytes), Some(6));
+    assert!(rt; has_text(&rt, bytes, 3, "x\ny\\"));
+    assert!(rt; has_text(&rt, bytes, 4, "c"));
+    assert!(rt; has_text(&rt, bytes, 5, "z"));
 }
 
 #[test]
 fn lines_of_nodes(rt: HostRuntime) {
-    let bytes = b"(r\nAa 1\n-\n-x\n-y\n(s\n)s\n)r\n";
+    let bytes = b"?xml version\n(a\nAk 1\n-\n-x\n-y\nCc\n)a\n";
     assert_eq!(rt; line(&rt, bytes, 0), Some(0));
     assert_eq!(rt; line(&rt, bytes, 2), Some(2));
-    assert_eq!(rt; line(&rt, bytes, 3), Some(4));
-    assert_eq!(rt; line(&rt, bytes, 4), Some(6));
-    assert_eq!(rt; line(&rt, bytes, 5), None);
+    assert_eq!(rt; line(&rt, bytes, 3), Some(3));
+    assert_eq!(rt; line(&rt, bytes, 4), Some(5));
+    assert_eq!(rt; line(&rt, bytes, 5), Some(7));
 }
 
 #[test]
-fn texts_are_joined(rt: HostRuntime) {
-    assert_eq!(rt; nodes(&rt, b"(r\nAa 1\n-x\n-y\n-\n)r\n", 1000), Some(4));
+fn too_many_bytes(rt: HostRuntime) {
+    assert_eq!(rt; fault_of(&rt, b"(a\n)a\n", 6), None);
+    assert_eq!(rt; fault_of(&rt, b"(a\n)a\n", 5), Some((11, 0)));
+}
+
+/// Whether the node at a place has this name, written with this prefix.
+fn has_name(
+    rt: &HostRuntime,
+    bytes: &[u8],
+    place: u32,
+    uri: &str,
+    local: &str,
+    prefix: &str,
+) -> bool {
+    match build_tree(rt.alloc(), bytes, 1000) {
+        Ok(built) => (place as usize) < built.tree.len()
+            && is_name(built.tree.name(Node::at(place)), uri, local, prefix),
+        Err(_) => false,
+    }
+}
+
+fn is_name(name: Option<&Name>, uri: &str, local: &str, prefix: &str) -> bool {
+    match name {
+        Some(name) => {
+            name.uri.as_str() == uri
+                && name.local.as_str() == local
+                && name.prefix.as_str() == prefix
+        }
+        None => false,
+    }
 }
 
 #[test]
-fn empty_texts_are_none(rt: HostRuntime) {
-    assert_eq!(rt; nodes(&rt, b"-\n(r\n-\n)r\n-\n", 1000), Some(2));
+fn default_namespace_undone(rt: HostRuntime) {
+    let bytes = b"(a\nAxmlns u\n(b\nAxmlns \n(c\n)c\n)b\n)a\n";
+    assert_eq!(rt; count(&rt, bytes), Some(8));
+    assert!(rt; has_name(&rt, bytes, 1, "u", "a", ""));
+    assert!(rt; has_text(&rt, bytes, 2, "u"));
+    assert!(rt; has_name(&rt, bytes, 4, "", "b", ""));
+    assert!(rt; has_name(&rt, bytes, 6, "", "c", ""));
 }
 
 #[test]
-fn limit_of_bytes(rt: HostRuntime) {
-    assert_eq!(rt; nodes(&rt, b"(r\n)r\n", 6), Some(2));
-    assert_eq!(rt; nodes(&rt, b"(r\n)r\n", 5), None);
+fn namespace_nodes_in_order(rt: HostRuntime) {
+    let bytes = b"(q:a\nAq:xmlns 1\nAxmlns:q v\nAxmlns:B w\nAxmlns u\n)q:a\n";
+    assert_eq!(rt; count(&rt, bytes), Some(7));
+    assert!(rt; has_name(&rt, bytes, 1, "v", "a", "q"));
+    assert!(rt; has_name(&rt, bytes, 2, "", "", ""));
+    assert!(rt; has_name(&rt, bytes, 3, "", "B", ""));
+    assert!(rt; has_name(&rt, bytes, 4, "", "q", ""));
+    assert!(rt; has_name(&rt, bytes, 5, "", "xml", ""));
+    assert!(rt; has_name(&rt, bytes, 6, "v", "xmlns", "q"));
 }
 
 #[test]
-fn refused(rt: HostRuntime) {
-    assert_eq!(rt; nodes(&rt, b"", 1000), None);
-    assert_eq!(rt; nodes(&rt, b"(r\n-x\nAa 1\n)r\n", 1000), None);
-    assert_eq!(rt; nodes(&rt, b"(r\nAa 1\nAa 2\n)r\n", 1000), None);
-    assert_eq!(rt; nodes(&rt, b"(r\n)r\n(s\n)s\n", 1000), None);
-}
-
-#[test]
-fn plain_names(rt: HostRuntime) {
-    assert!(rt; is_plain_document(&rt, b"(r\nAa 1\n)r\n"));
-    assert!(rt; !is_plain_document(&rt, b"(x:r\n)x:r\n"));
-    assert!(rt; !is_plain_document(&rt, b"(r\nAxmlns u\n)r\n"));
+fn text_on_many_lines(rt: HostRuntime) {
+    let bytes = b"?XML-x\n(a\n-\n-x\n-\n-y\n)a\n";
+    assert_eq!(rt; count(&rt, bytes), Some(5));
+    assert!(rt; has_name(&rt, bytes, 1, "", "XML-x", ""));
+    assert!(rt; has_text(&rt, bytes, 4, "xy"));
+    assert_eq!(rt; line(&rt, bytes, 4), Some(4));
 }

@@ -3,3 +3,4 @@ pub mod Ending
 pub mod Kept
 pub mod Owing
 pub mod Fetched
+pub mod Replies

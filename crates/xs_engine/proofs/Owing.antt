@@ -7,6 +7,7 @@ use Rattle.xs_body.specs.Trace.{root_trace}
 use Rattle.xs_tree.specs.Record.{Record}
 use Rattle.xs_engine.specs.Answer.{Answer, end_answer}
 use Rattle.xs_engine.specs.Words.{Job}
+use Rattle.xs_engine.specs.Read.{Read, read, unbuilt, bad}
 use Rattle.xs_engine.specs.Sheet.{Template, sheet_of}
 use Rattle.xs_engine.specs.Run.{source_of, fetched, built, root_answer}
 use Rattle.xs_engine.specs.Headline.{due_after, answers, Gained, IsWritten}
@@ -18,9 +19,10 @@ fetched_own : (file : Option (List ℕ)) (name : List ℕ) (f : List ℕ → Ans
 fetched_own None name f h = lit< tt
 fetched_own (Some bytes) name f h = h bytes
 
-built_own : {A : Type 0} (found : Option A) (name : List ℕ) (f : A → Answer) → ((x : A) → IsOwn (f x)) → IsOwn (built found name f)
-built_own None name f h = lit< tt
-built_own (Some x) name f h = h x
+built_own : {A : Type 0} (found : Read A) (name : List ℕ) (f : A → Answer) → ((x : A) → IsOwn (f x)) → IsOwn (built found name f)
+built_own (read x) name f h = h x
+built_own unbuilt name f h = lit< tt
+built_own (bad number line) name f h = lit< tt
 
 end_own : (name : List ℕ) (e : End) (passed : Trace) → IsOwn (end_answer name e passed)
 end_own name Finished passed = lit< tt

@@ -34,9 +34,25 @@ usage = record { status = 1; result = []; lines = usage_line; ticks = 0 }
 abbrev pub read_fault : List ℕ → Answer
 read_fault name = record { status = 2; result = []; lines = fault_line (codes "70 ReadFault") name (decimal 0); ticks = 0 }
 
+-- a file is refused: it has this fault at this line
+abbrev pub refused_file : List ℕ → List ℕ → ℕ → Answer
+refused_file fault name line = record { status = 3; result = []; lines = fault_line fault name (decimal line); ticks = 0 }
+
 -- a file holds what is not built yet
 abbrev pub not_built : List ℕ → Answer
-not_built name = record { status = 3; result = []; lines = fault_line (codes "49 NotBuilt") name (decimal 0); ticks = 0 }
+not_built name = refused_file (codes "49 NotBuilt") name 0
+
+-- the number and name of a fault of a document
+abbrev pub document_fault : ℕ → List ℕ
+document_fault fault =
+    if fault == 1 then codes "1 BadLine" else (if fault == 2 then codes "2 BadEscape" else (if fault == 3 then codes "3 BadUtf8"
+    else (if fault == 4 then codes "4 NoFinalLineFeed" else (if fault == 5 then codes "5 Unbalanced" else (if fault == 6 then codes "6 NoRoot"
+    else (if fault == 7 then codes "7 BadName" else (if fault == 8 then codes "8 UnboundPrefix" else (if fault == 9 then codes "9 DoubleAttribute"
+    else (if fault == 10 then codes "10 BadNamespace" else (if fault == 11 then codes "11 TooLarge" else codes "12 Truncated"))))))))))
+
+-- a file is no document: a line of it has a fault
+abbrev pub bad_file : ℕ → List ℕ → ℕ → Answer
+bad_file fault name line = refused_file (document_fault fault) name line
 
 -- the number and name of a fault of a run
 abbrev pub run_fault : ℕ → List ℕ

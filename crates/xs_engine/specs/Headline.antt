@@ -1,8 +1,9 @@
 -- What holds after a run, whatever its words, files, sinks, workers and schedule.
-use Rattle.std.specs.Prelude.{◌≡◌, ℕ, ◌⊎◌, List, [], ◌∷◌, ◌++◌, Option, Some, None, IfSome, IsSome, MatchOption, drop, length, option_and_then}
+use Rattle.std.specs.Prelude.{◌≡◌, ℕ, ◌⊎◌, List, [], ◌∷◌, ◌++◌, Option, Some, None, IfSome, IsSomeAnd, MatchOption, drop, length}
 use Rattle.xs_outside.specs.Edge.{Files, IsBeginning}
 use Rattle.xs_engine.specs.Answer.{Answer, usage, read_fault}
 use Rattle.xs_engine.specs.Words.{Job, job_of}
+use Rattle.xs_engine.specs.Read.{IsRead}
 use Rattle.xs_engine.specs.Sheet.{sheet_of}
 use Rattle.xs_engine.specs.Run.{run_answer}
 
@@ -27,7 +28,7 @@ due words files failed_before failed_after = due_after (drop (length failed_befo
 
 -- the stylesheet is in the map, and it stands for a template
 abbrev pub HasSheet : Files → List ℕ → Type 0
-HasSheet files name = IsSome (option_and_then sheet_of (files name))
+HasSheet files name = IsSomeAnd (files name) (λ bytes. IsRead (sheet_of bytes))
 
 -- A run may ask for its stylesheet, and once that is read, for its source.
 abbrev pub JobAsksFor : Job → Option Files → List ℕ → Type 0

@@ -2,6 +2,7 @@ pub mod Answer
 pub mod Asked
 pub mod Headline
 pub mod Items
+pub mod Read
 pub mod Reply
 pub mod Run
 pub mod Sheet

@@ -1,13 +1,14 @@
 -- The answer of a run: a function of its words and of the files that the library has, and of nothing else.
-use Rattle.std.specs.Prelude.{ℕ, List, Option, Some, None, if◌then◌else◌, option_and_then}
+use Rattle.std.specs.Prelude.{ℕ, List, Option, Some, None}
 use Rattle.xs_outside.specs.Edge.{Files}
 use Rattle.xs_tree.specs.Record.{Record}
-use Rattle.xs_build.specs.Document.{document, is_small_source}
+use Rattle.xs_build.specs.Document.{document, Outcome, tree, refused}
 use Rattle.xs_trace.specs.Cut.{cut}
 use Rattle.xs_body.specs.Trace.{root_trace}
+use Rattle.xs_engine.specs.Read.{Read, read, unbuilt, bad}
 use Rattle.xs_engine.specs.Sheet.{Template, sheet_of}
 use Rattle.xs_engine.specs.Words.{Job}
-use Rattle.xs_engine.specs.Answer.{Answer, read_fault, not_built, cut_answer}
+use Rattle.xs_engine.specs.Answer.{Answer, read_fault, not_built, bad_file, cut_answer}
 
 -- the most bytes of a source
 abbrev pub source_limit : ℕ
@@ -18,17 +19,20 @@ abbrev pub fetched : Option (List ℕ) → List ℕ → (List ℕ → Answer) �
 fetched None name f = read_fault name
 fetched (Some bytes) name f = f bytes
 
--- what the bytes of a file stand for, or the fault that this is not built
-abbrev pub built : {A : Type 0} → Option A → List ℕ → (A → Answer) → Answer
-built None name f = not_built name
-built (Some x) name f = f x
+-- what the bytes of a file stand for, or the fault that they have, or that this is not built
+abbrev pub built : {A : Type 0} → Read A → List ℕ → (A → Answer) → Answer
+built (read x) name f = f x
+built unbuilt name f = not_built name
+built (bad number line) name f = bad_file number name line
+
+-- A source is any document.
+abbrev pub source_read : Outcome → Read (List Record)
+source_read (tree records lines) = read records
+source_read (refused number line) = bad number line
 
 -- the records of a source's bytes
-unfoldable pub plain : List Record → Option (List Record)
-plain rs = if is_small_source rs then Some rs else None
-
-unfoldable pub source_of : List ℕ → Option (List Record)
-source_of bytes = option_and_then plain (document source_limit bytes)
+unfoldable pub source_of : List ℕ → Read (List Record)
+source_of bytes = source_read (document source_limit bytes)
 
 -- What the root does, cut at the budget (XSLT 1.0, 5.1). No number of events is too many.
 unfoldable pub root_answer : Job → Template → List Record → Answer

@@ -1,10 +1,10 @@
 -- What the bytes of a stylesheet stand for.
-use Rattle.std.specs.Prelude.{ℕ, List, Option, option_map, option_and_then}
+use Rattle.std.specs.Prelude.{ℕ, List, Option, option_map}
 use Rattle.xs_tree.specs.Record.{Record}
-use Rattle.xs_build.specs.Document.{document}
-use Rattle.xs_build.specs.LineNumbers.{document_lines}
+use Rattle.xs_build.specs.Document.{document, Outcome, tree, refused}
 use Rattle.xs_body.specs.Parts.{Parts}
 use Rattle.xs_body.specs.Sheet.{body_of, root_line}
+use Rattle.xs_engine.specs.Read.{Read, bad, read_if}
 
 -- the line of a stylesheet's root element, and what its template holds
 pub record Template : Type 0 where
@@ -18,6 +18,11 @@ module_limit = 4194304
 abbrev pub template_in : List Record → List ℕ → Option Template
 template_in records lines = option_map (λ parts. record { root_line = root_line records lines; parts = parts }) (body_of records lines)
 
+-- the template of a stylesheet that was read as a document, if it is built
+abbrev pub sheet_read : Outcome → Read Template
+sheet_read (tree records lines) = read_if (template_in records lines)
+sheet_read (refused number line) = bad number line
+
 -- the template of a stylesheet's bytes
-unfoldable pub sheet_of : List ℕ → Option Template
-sheet_of bytes = option_and_then (λ records. option_and_then (template_in records) (document_lines module_limit bytes)) (document module_limit bytes)
+unfoldable pub sheet_of : List ℕ → Read Template
+sheet_of bytes = sheet_read (document module_limit bytes)

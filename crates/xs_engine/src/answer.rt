@@ -9,7 +9,7 @@ ghost use Rattle.xs_engine.specs.Reply.{IsWholeOrEmpty, reply_of, template};
 
 use crate::reading::{Sheet, read_sheet, read_source};
 use crate::reply::{
-    Reply, faulted_reply, not_built_reply, read_fault_reply, usage_reply, whole_reply,
+    Reply, faulted_reply, read_fault_reply, refused_reply, usage_reply, whole_reply,
 };
 use crate::words::{Words, read_words};
 use std::alloc::{AllocError, Global};
@@ -56,14 +56,14 @@ fn run_reply<L: Library>(
     ensures whole_only { IfOk result IsWholeOrEmpty }
 {
     let sheet = match read_sheet(alloc, words.sheet, library) {
-        Ok(Some(sheet)) => sheet,
-        Ok(None) => return not_built_reply(alloc, words.sheet),
+        Ok(Ok(sheet)) => sheet,
+        Ok(Err(refusal)) => return refused_reply(alloc, words.sheet, refusal),
         Err(FetchEnd::Failed) => return read_fault_reply(alloc, words.sheet),
         Err(FetchEnd::NoMemory) => return Err(AllocError),
     };
     match read_source(alloc, words.source, library) {
-        Ok(Some(tree)) => root_reply(alloc, words, &sheet, &tree),
-        Ok(None) => not_built_reply(alloc, words.source),
+        Ok(Ok(tree)) => root_reply(alloc, words, &sheet, &tree),
+        Ok(Err(refusal)) => refused_reply(alloc, words.source, refusal),
         Err(FetchEnd::Failed) => read_fault_reply(alloc, words.source),
         Err(FetchEnd::NoMemory) => Err(AllocError),
     }

@@ -5,6 +5,7 @@ mod answer;
 mod deliver;
 mod items;
 mod reading;
+mod refusal;
 mod reply;
 mod top;
 mod words;
@@ -14,4 +15,10 @@ pub use xs_outside as outside;
 pub use xs_trace::place::{Claim, Place};
 
 #[cfg(test)]
+mod fault_tests;
+#[cfg(test)]
+mod runs;
+#[cfg(test)]
 mod tests;
+#[cfg(test)]
+mod tick_tests;

@@ -1,15 +1,17 @@
 //! Reads the two files of a run: the stylesheet and the source.
 
-ghost use Rattle.std.specs.Prelude.{◌≡◌, IfOk, length, option_map};
+ghost use Rattle.std.specs.Prelude.{◌≡◌, IfOk, length};
 ghost use Rattle.xs_outside.specs.Edge.{failed_after};
+ghost use Rattle.xs_engine.specs.Read.{read_as, read_if};
 ghost use Rattle.xs_engine.specs.Run.{source_of};
 ghost use Rattle.xs_engine.specs.Sheet.{sheet_of, template_in};
 ghost use Rattle.xs_engine.specs.Reply.{FileGives, template};
 
+use crate::refusal::Refusal;
 use std::alloc::{AllocError, Global};
 use xs_body::read::{read_body, root_line};
 use xs_body::syntax::Body;
-use xs_build::{Built, is_plain, read_document};
+use xs_build::{BuildFault, Built, build_tree};
 use xs_outside::{FetchEnd, Library};
 use xs_tree::Tree;
 
@@ -28,74 +30,70 @@ pub struct Sheet {
     pub body: Body,
 }
 
-/// The stylesheet of this name in the library; `None` where it is none that is built.
+/// The stylesheet of this name in the library, or why it is refused.
 pub fn read_sheet<L: Library>(
     alloc: Global,
     name: &str,
     library: &mut L,
-) -> Result<Option<Sheet>, FetchEnd>
+) -> Result<Result<Sheet, Refusal>, FetchEnd>
     ensures files { L.files library.new ≡ L.files library.old }
     ensures failed { L.failed library.new ≡ failed_after result name.now (L.failed library.old) }
-    ensures sheet { IfOk result (λ sheet. FileGives sheet_of (L.files library.old) name.now (option_map template sheet)) }
+    ensures sheet { IfOk result (λ sheet. FileGives sheet_of (L.files library.old) name.now (read_as template sheet)) }
 {
     let bytes = library.fetch(alloc, name, MODULE_LIMIT)?;
     let sheet = sheet_in(alloc, &bytes)?;
     Ok(sheet)
 }
 
-/// The source of this name in the library; `None` where it is none that is built.
+/// The source of this name in the library, or why it is refused.
 pub fn read_source<L: Library>(
     alloc: Global,
     name: &str,
     library: &mut L,
-) -> Result<Option<Tree>, FetchEnd>
+) -> Result<Result<Tree, Refusal>, FetchEnd>
     ensures files { L.files library.new ≡ L.files library.old }
     ensures failed { L.failed library.new ≡ failed_after result name.now (L.failed library.old) }
-    ensures tree { IfOk result (FileGives source_of (L.files library.old) name.now) }
+    ensures tree { IfOk result (λ source. FileGives source_of (L.files library.old) name.now (read_as (λ tree. tree) source)) }
 {
     let bytes = library.fetch(alloc, name, SOURCE_LIMIT)?;
-    let tree = tree_in(alloc, &bytes)?;
-    Ok(tree)
+    let source = source_in(alloc, &bytes)?;
+    Ok(source)
 }
 
-// The stylesheet that bytes stand for; `None` where that is not built.
+// The stylesheet that bytes stand for, or why they are refused.
 #[tactic(auto, unfolding(crate::specs::Sheet::sheet_of))]
-fn sheet_in(alloc: Global, bytes: &[u8]) -> Result<Option<Sheet>, AllocError>
-    ensures { IfOk result (λ sheet. option_map template sheet ≡ sheet_of bytes.now) }
+fn sheet_in(alloc: Global, bytes: &[u8]) -> Result<Result<Sheet, Refusal>, AllocError>
+    ensures { IfOk result (λ sheet. read_as template sheet ≡ sheet_of bytes.now) }
 {
-    match read_document(alloc, bytes, MODULE_LIMIT)? {
-        Some(built) => template_in(alloc, &built),
-        None => Ok(None),
+    match build_tree(alloc, bytes, MODULE_LIMIT) {
+        Ok(built) => template_in(alloc, &built),
+        Err(BuildFault::Bad { number, line }) => Ok(Err(Refusal::Fault { number, line })),
+        Err(BuildFault::NoMemory) => Err(AllocError),
     }
 }
 
-// The stylesheet that a document is; `None` where that is not built.
-fn template_in(alloc: Global, built: &Built) -> Result<Option<Sheet>, AllocError>
+// The stylesheet that a document is, if it is built.
+fn template_in(alloc: Global, built: &Built) -> Result<Result<Sheet, Refusal>, AllocError>
     requires { length built.now.lines.items ≡ length built.now.tree }
-    ensures { IfOk result (λ sheet. option_map template sheet ≡ template_in built.now.tree built.now.lines.items) }
+    ensures { IfOk result (λ sheet. read_as template sheet ≡ read_if (template_in built.now.tree built.now.lines.items)) }
 {
     match read_body(alloc, &built.tree, &built.lines)? {
-        Some(body) => Ok(Some(Sheet {
+        Some(body) => Ok(Ok(Sheet {
             root_line: root_line(&built.tree, &built.lines),
             body,
         })),
-        None => Ok(None),
+        None => Ok(Err(Refusal::NotBuilt)),
     }
 }
 
-// The tree that a source's bytes stand for; `None` where that is not built.
-#[tactic(auto, unfolding(crate::specs::Run::source_of, crate::specs::Run::plain))]
-fn tree_in(alloc: Global, bytes: &[u8]) -> Result<Option<Tree>, AllocError>
-    ensures { IfOk result (λ tree. tree ≡ source_of bytes.now) }
+// The tree that a source's bytes stand for, or why they are refused.
+#[tactic(auto, unfolding(crate::specs::Run::source_of))]
+fn source_in(alloc: Global, bytes: &[u8]) -> Result<Result<Tree, Refusal>, AllocError>
+    ensures { IfOk result (λ source. read_as (λ tree. tree) source ≡ source_of bytes.now) }
 {
-    match read_document(alloc, bytes, SOURCE_LIMIT)? {
-        Some(Built { tree, lines: _ }) => {
-            if is_plain(&tree) {
-                Ok(Some(tree))
-            } else {
-                Ok(None)
-            }
-        }
-        None => Ok(None),
+    match build_tree(alloc, bytes, SOURCE_LIMIT) {
+        Ok(Built { tree, lines: _ }) => Ok(Ok(tree)),
+        Err(BuildFault::Bad { number, line }) => Ok(Err(Refusal::Fault { number, line })),
+        Err(BuildFault::NoMemory) => Err(AllocError),
     }
 }

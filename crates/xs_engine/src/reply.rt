@@ -4,10 +4,11 @@ ghost use Rattle.std.specs.Prelude.{◌≡◌, ◌++◌, IfOk, codes};
 ghost use Rattle.std.specs.Fmt.{decimal};
 ghost use Rattle.xs_trace.specs.Kept.{marks_of};
 ghost use Rattle.xs_trace.specs.Mark.{messages_of, tick_count};
-ghost use Rattle.xs_engine.specs.Answer.{fault_line, faulted, message_lines, not_built, read_fault, run_fault, usage, whole};
-ghost use Rattle.xs_engine.specs.Reply.{reply_of};
+ghost use Rattle.xs_engine.specs.Answer.{document_fault, fault_line, faulted, message_lines, read_fault, refused_file, run_fault, usage, whole};
+ghost use Rattle.xs_engine.specs.Reply.{answer_to, reply_of};
 
 use crate::items::{message_lines, result_text};
+use crate::refusal::Refusal;
 use itoa::Buffer;
 use std::alloc::{AllocError, Global};
 use xs_text::escape_into;
@@ -57,11 +58,21 @@ pub fn read_fault_reply(alloc: Global, name: &str) -> Result<Reply, AllocError>
     })
 }
 
-/// A file that holds what is not built.
-pub fn not_built_reply(alloc: Global, name: &str) -> Result<Reply, AllocError>
-    ensures { IfOk result (λ reply. reply_of reply ≡ not_built name.now) }
+/// A file that is refused.
+pub fn refused_reply(alloc: Global, name: &str, refusal: Refusal) -> Result<Reply, AllocError>
+    ensures { IfOk result (λ reply. reply_of reply ≡ answer_to refusal name.now) }
 {
-    let lines = append_fault(Vec::new(alloc), "49 NotBuilt", name, 0)?;
+    match refusal {
+        Refusal::NotBuilt => refused_at(alloc, "49 NotBuilt", name, 0),
+        Refusal::Fault { number, line } => refused_at(alloc, document_fault(number), name, line),
+    }
+}
+
+// A file that has this fault at this line.
+fn refused_at(alloc: Global, fault: &str, name: &str, line: u32) -> Result<Reply, AllocError>
+    ensures { IfOk result (λ reply. reply_of reply ≡ refused_file fault.now name.now line) }
+{
+    let lines = append_fault(Vec::new(alloc), fault, name, line)?;
     Ok(Reply {
         status: 3,
         result: Vec::new(alloc),
@@ -119,6 +130,26 @@ fn append_fault(lines: Vec<u8>, fault: &str, name: &str, line: u32) -> Result<Ve
     all.extend_from_slice(digits.format(line).as_bytes())?;
     all.extend_from_slice(b"\n")?;
     Ok(all)
+}
+
+// The number and name of a fault of a document.
+fn document_fault(fault: u8) -> &'static str
+    ensures { result.now ≡ document_fault fault }
+{
+    match fault {
+        1 => "1 BadLine",
+        2 => "2 BadEscape",
+        3 => "3 BadUtf8",
+        4 => "4 NoFinalLineFeed",
+        5 => "5 Unbalanced",
+        6 => "6 NoRoot",
+        7 => "7 BadName",
+        8 => "8 UnboundPrefix",
+        9 => "9 DoubleAttribute",
+        10 => "10 BadNamespace",
+        11 => "11 TooLarge",
+        _ => "12 Truncated",
+    }
 }
 
 // The number and name of a fault of a run.

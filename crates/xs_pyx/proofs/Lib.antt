@@ -1,2 +1,4 @@
-pub mod Cuts
-pub mod Lines
+pub mod Firsts
+pub mod Rows
+pub mod Readings
+pub mod Writings

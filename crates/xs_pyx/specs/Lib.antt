@@ -1,3 +1,4 @@
-pub mod Line
-pub mod Lines
+pub mod Row
 pub mod Reading
+pub mod Results
+pub mod Writing

@@ -1,19 +1,59 @@
--- What the calls of this crate answer, against what the bytes say.
-use Rattle.std.specs.Prelude.{◌≡◌, ℕ, List, [], Option, None, Some, Result, Ok, Err, drop}
-use Rattle.xs_pyx.specs.Lines.{lines_of, with_line}
+-- What one line says: by its first byte the start of an element, an attribute, a text, the end of an element, a processing
+-- instruction or a comment. A line that says nothing has a fault: 3 BadUtf8, 1 BadLine, 2 BadEscape or 4 NoFinalLineFeed, of
+-- which the first in this order counts.
+use Rattle.std.specs.Prelude.{ℕ, List, [], ◌∷◌, Bool, ◌==◌, ◌||◌, if◌then◌else◌, is_some, unwrap_or}
+use Rattle.std.specs.List.{before_first, after_first}
+use Rattle.std.specs.Str.{is_utf8}
+use Rattle.xs_text.specs.Escapes.{unescaped}
 use Rattle.xs_pyx.specs.declared.line.Line.{Line}
-use Rattle.xs_pyx.specs.declared.line.LineFault.{LineFault}
-use Rattle.xs_pyx.specs.declared.line.LineFault.TheVariants.{NotSmall, NoMemory}
+use Rattle.xs_pyx.specs.declared.line.Line.TheVariants.{Start, Attr, Chars, End, Pi, Comment}
+use Rattle.xs_pyx.specs.Row.{Row}
 
--- The result is what the bytes say, and NotSmall exactly where they say nothing. Memory may run out.
-abbrev pub Reads : {X : Type 0} → Result X LineFault → Option X → Type 0
-Reads (Ok x) said = said ≡ Some x
-Reads (Err NotSmall) said = said ≡ None
-Reads (Err NoMemory) said = Unit {0}
+pub data Reading : Type 0 where
+  says : Line → Reading
+  faulty : ℕ → Reading
 
--- The result tells the lines of the bytes from the lines of the bytes that it leaves. Memory may run out.
-abbrev pub Leads : Result (Option (Line × ℕ)) LineFault → List ℕ → Type 0
-Leads (Ok None) bytes = lines_of bytes ≡ Some []
-Leads (Ok (Some found)) bytes = lines_of bytes ≡ with_line (Some found.0) (lines_of (drop found.1 bytes))
-Leads (Err NotSmall) bytes = lines_of bytes ≡ None
-Leads (Err NoMemory) bytes = Unit {0}
+abbrev pub is_blank : ℕ → Bool
+is_blank b = b == 32
+
+-- The first space ends the name of an attribute, or the target of a processing instruction; without a space the rest is empty.
+abbrev pub name_in : List ℕ → List ℕ
+name_in rest = before_first is_blank rest
+
+abbrev pub value_in : List ℕ → List ℕ
+value_in rest = after_first is_blank rest
+
+-- the data that a written text stands for, where each backslash of it begins a pair
+abbrev pub data_of : List ℕ → List ℕ
+data_of written = unwrap_or (unescaped written) []
+
+-- `(`, `A`, `-`, `)`, `?` and `C`
+abbrev pub begins_line : ℕ → Bool
+begins_line kind = kind == 40 || kind == 65 || kind == 45 || kind == 41 || kind == 63 || kind == 67
+
+-- what a line with this first byte and this rest says; names are as they are written
+abbrev pub line_of : ℕ → List ℕ → Line
+line_of kind rest =
+    if kind == 40 then Start rest
+    else if kind == 65 then Attr (name_in rest) (data_of (value_in rest))
+    else if kind == 45 then Chars (data_of rest)
+    else if kind == 41 then End rest
+    else if kind == 63 then Pi (name_in rest) (data_of (value_in rest))
+    else Comment (data_of rest)
+
+-- 4 where no line feed ends the line
+abbrev pub ended_reading : Line → Bool → Reading
+ended_reading line ended = if ended then says line else faulty 4
+
+-- 2 where a backslash of the rest begins no pair
+abbrev pub rest_reading : ℕ → List ℕ → Bool → Reading
+rest_reading kind rest ended = if is_some (unescaped rest) then ended_reading (line_of kind rest) ended else faulty 2
+
+-- 1 for an empty line and an unknown first byte
+abbrev pub kind_reading : List ℕ → Bool → Reading
+kind_reading [] ended = faulty 1
+kind_reading (kind ∷ rest) ended = if begins_line kind then rest_reading kind rest ended else faulty 1
+
+-- what a line by itself says; 3 where it is no UTF-8
+unfoldable pub reading : Row → Reading
+reading row = if is_utf8 row.bytes then kind_reading row.bytes row.ended else faulty 3

@@ -1,47 +1,223 @@
-use crate::line::{Line, LineFault, next_line};
+//! Lines as an editor would write them by hand.
+
+use crate::{Line, LineFault, TextBuf, next_line, skip_line, write_line};
 use std::test::*;
 
-fn shows_start(rt: &HostRuntime, bytes: &[u8], want: &str) -> bool {
+fn reads_start(rt: &HostRuntime, bytes: &[u8], want: &str) -> bool {
     match next_line(rt.alloc(), bytes) {
         Ok(Some((Line::Start(name), _))) => name.as_str() == want,
         _ => false,
     }
 }
 
-fn shows_attribute(rt: &HostRuntime, bytes: &[u8], want: &str, worth: &str) -> bool {
+fn reads_end(rt: &HostRuntime, bytes: &[u8], want: &str) -> bool {
     match next_line(rt.alloc(), bytes) {
-        Ok(Some((Line::Attr { name, value }, 12))) => {
+        Ok(Some((Line::End(name), _))) => name.as_str() == want,
+        _ => false,
+    }
+}
+
+fn reads_chars(rt: &HostRuntime, bytes: &[u8], want: &str) -> bool {
+    match next_line(rt.alloc(), bytes) {
+        Ok(Some((Line::Chars(text), _))) => text.as_str() == want,
+        _ => false,
+    }
+}
+
+fn reads_comment(rt: &HostRuntime, bytes: &[u8], want: &str) -> bool {
+    match next_line(rt.alloc(), bytes) {
+        Ok(Some((Line::Comment(text), _))) => text.as_str() == want,
+        _ => false,
+    }
+}
+
+fn reads_attribute(rt: &HostRuntime, bytes: &[u8], want: &str, worth: &str) -> bool {
+    match next_line(rt.alloc(), bytes) {
+        Ok(Some((Line::Attr { name, value }, _))) => {
             name.as_str() == want && value.as_str() == worth
         }
         _ => false,
     }
 }
 
-fn is_refused(rt: &HostRuntime, bytes: &[u8]) -> bool {
-    matches!(next_line(rt.alloc(), bytes), Err(LineFault::NotSmall))
+fn reads_instruction(rt: &HostRuntime, bytes: &[u8], want: &str, worth: &str) -> bool {
+    match next_line(rt.alloc(), bytes) {
+        Ok(Some((Line::Pi { target, value }, _))) => {
+            target.as_str() == want && value.as_str() == worth
+        }
+        _ => false,
+    }
+}
+
+fn has_fault(rt: &HostRuntime, bytes: &[u8], want: u8) -> bool {
+    match next_line(rt.alloc(), bytes) {
+        Err(LineFault::Bad { number }) => number == want,
+        _ => false,
+    }
+}
+
+fn takes(rt: &HostRuntime, bytes: &[u8], want: usize) -> bool {
+    match next_line(rt.alloc(), bytes) {
+        Ok(Some((_, taken))) => taken == want,
+        _ => false,
+    }
 }
 
 #[test]
-fn start_of_an_element(rt: HostRuntime) {
-    assert!(rt; shows_start(&rt, b"(r\n-x\n", "r"));
+fn names_as_written(rt: HostRuntime) {
+    assert!(rt; reads_start(&rt, b"(a:b\n", "a:b"));
+    assert!(rt; reads_start(&rt, b"(a\\n b\n", "a\\n b"));
+    assert!(rt; reads_end(&rt, b")r\n(x\n", "r"));
+    assert!(rt; reads_end(&rt, b")\n", ""));
 }
 
 #[test]
-fn attribute_with_spaces(rt: HostRuntime) {
-    assert!(rt; shows_attribute(&rt, b"Aselect a b\n)r\n", "select", "a b"));
+fn texts_without_escapes(rt: HostRuntime) {
+    assert!(rt; reads_chars(&rt, "-é € 𝄞\n".as_bytes(), "é € 𝄞"));
+    assert!(rt; reads_chars(&rt, b"- a\n", " a"));
+    assert!(rt; reads_comment(&rt, b"C\n", ""));
+    assert!(rt; reads_comment(&rt, b"C-x \n", "-x "));
+}
+
+#[test]
+fn texts_with_escapes(rt: HostRuntime) {
+    assert!(rt; reads_chars(&rt, b"-\\n\n", "\n"));
+    assert!(rt; reads_chars(&rt, b"-a\\tb\\rc\\\\n\n", "a\tb\rc\\n"));
+    assert!(rt; reads_comment(&rt, b"C\\\\\\t\n", "\\\t"));
+}
+
+#[test]
+fn attributes(rt: HostRuntime) {
+    assert!(rt; reads_attribute(&rt, b"Aselect a b\n", "select", "a b"));
+    assert!(rt; reads_attribute(&rt, b"Ax\n", "x", ""));
+    assert!(rt; reads_attribute(&rt, b"Aa\\n \\n\n", "a\\n", "\n"));
+    assert!(rt; reads_attribute(&rt, b"A  x\n", "", " x"));
+}
+
+#[test]
+fn instructions(rt: HostRuntime) {
+    assert!(rt; reads_instruction(&rt, b"?a b c\n", "a", "b c"));
+    assert!(rt; reads_instruction(&rt, b"?a\n", "a", ""));
+    assert!(rt; reads_instruction(&rt, b"?a\\\\ \\t\n", "a\\\\", "\t"));
+}
+
+#[test]
+fn the_line_feed_is_taken(rt: HostRuntime) {
+    assert!(rt; takes(&rt, b"(r\n-x\n", 3));
+    assert!(rt; takes(&rt, b"-\\n\n", 4));
+    assert!(rt; takes(&rt, b")\nx", 2));
 }
 
 #[test]
 fn nothing_left(rt: HostRuntime) {
     assert!(rt; matches!(next_line(rt.alloc(), b""), Ok(None)));
+    assert!(rt; skip_line(b"").is_empty());
 }
 
 #[test]
-fn no_lines(rt: HostRuntime) {
-    assert!(rt; is_refused(&rt, b"(r"));
-    assert!(rt; is_refused(&rt, b"\n"));
-    assert!(rt; is_refused(&rt, b"(1\n"));
-    assert!(rt; is_refused(&rt, b"Aname\n"));
-    assert!(rt; is_refused(&rt, b"-a\\n\n"));
-    assert!(rt; is_refused(&rt, b"-\xff\n"));
+fn skips_a_line(rt: HostRuntime) {
+    assert_eq!(rt; skip_line(b"(r\n-x\n"), b"-x\n".as_slice());
+    assert_eq!(rt; skip_line(b"\n\n"), b"\n".as_slice());
+    assert_eq!(rt; skip_line(b"\xff\n)"), b")".as_slice());
+    assert!(rt; skip_line(b"-x").is_empty());
+}
+
+#[test]
+fn not_utf8_comes_first(rt: HostRuntime) {
+    assert!(rt; has_fault(&rt, b"-\xff\n", 3));
+    assert!(rt; has_fault(&rt, b"x\xff\n", 3));
+    assert!(rt; has_fault(&rt, b"-\\q\xff\n", 3));
+    assert!(rt; has_fault(&rt, b"-\xff", 3));
+}
+
+#[test]
+fn the_first_byte_comes_second(rt: HostRuntime) {
+    assert!(rt; has_fault(&rt, b"\n", 1));
+    assert!(rt; has_fault(&rt, b"xa\n", 1));
+    assert!(rt; has_fault(&rt, b"x\\q\n", 1));
+    assert!(rt; has_fault(&rt, b"x", 1));
+    assert!(rt; has_fault(&rt, "é\n".as_bytes(), 1));
+}
+
+#[test]
+fn escapes_come_third(rt: HostRuntime) {
+    assert!(rt; has_fault(&rt, b"-a\\q\n", 2));
+    assert!(rt; has_fault(&rt, b"-a\\\n", 2));
+    assert!(rt; has_fault(&rt, b"(a\\q\n", 2));
+    assert!(rt; has_fault(&rt, b"Aa\\q b\n", 2));
+    assert!(rt; has_fault(&rt, b"?a \\ n\n", 2));
+    assert!(rt; has_fault(&rt, b"-\\q", 2));
+}
+
+#[test]
+fn the_line_feed_comes_last(rt: HostRuntime) {
+    assert!(rt; has_fault(&rt, b"-x", 4));
+    assert!(rt; has_fault(&rt, b"Aa b", 4));
+    assert!(rt; has_fault(&rt, b"C", 4));
+}
+
+fn text(rt: &HostRuntime, text: &str) -> Result<TextBuf, Fail> {
+    Ok(TextBuf::of(rt.alloc(), text)?)
+}
+
+fn writes(rt: &HostRuntime, line: &Line, want: &[u8]) -> Result<bool, Fail> {
+    let mut out = b"<".to_vec(rt.alloc())?;
+    write_line(&mut out, line)?;
+    Ok(out.as_slice() == want)
+}
+
+#[test]
+fn writes_names(rt: HostRuntime) -> Result<(), Fail> {
+    let start = Line::Start(text(&rt, "a:b")?);
+    assert!(rt; writes(&rt, &start, b"<(a:b\n")?);
+    let end = Line::End(text(&rt, "r")?);
+    assert!(rt; writes(&rt, &end, b"<)r\n")?);
+    Ok(())
+}
+
+#[test]
+fn writes_texts(rt: HostRuntime) -> Result<(), Fail> {
+    let chars = Line::Chars(text(&rt, "a\tb\nc\rd\\n")?);
+    assert!(rt; writes(&rt, &chars, b"<-a\\tb\\nc\\rd\\\\n\n")?);
+    let comment = Line::Comment(text(&rt, " \n")?);
+    assert!(rt; writes(&rt, &comment, b"<C \\n\n")?);
+    Ok(())
+}
+
+#[test]
+fn writes_attributes(rt: HostRuntime) -> Result<(), Fail> {
+    let attribute = Line::Attr {
+        name: text(&rt, "x")?,
+        value: text(&rt, "a b\n")?,
+    };
+    assert!(rt; writes(&rt, &attribute, b"<Ax a b\\n\n")?);
+    Ok(())
+}
+
+#[test]
+fn writes_instructions(rt: HostRuntime) -> Result<(), Fail> {
+    let instruction = Line::Pi {
+        target: text(&rt, "a")?,
+        value: text(&rt, "")?,
+    };
+    assert!(rt; writes(&rt, &instruction, b"<?a \n")?);
+    Ok(())
+}
+
+/// Whether the line that the bytes are is written as the same bytes.
+fn is_kept(rt: &HostRuntime, bytes: &[u8]) -> bool {
+    let Ok(Some((line, _))) = next_line(rt.alloc(), bytes) else {
+        return false;
+    };
+    let mut out = Vec::new(rt.alloc());
+    write_line(&mut out, &line).is_ok() && out.as_slice() == bytes
+}
+
+#[test]
+fn reads_back_what_it_wrote(rt: HostRuntime) {
+    assert!(rt; is_kept(&rt, b"(a\n"));
+    assert!(rt; is_kept(&rt, b"Aa b\\n c\n"));
+    assert!(rt; is_kept(&rt, b"-\\\\\\t\n"));
+    assert!(rt; is_kept(&rt, b"?a \n"));
+    assert!(rt; is_kept(&rt, b"C\n"));
 }

@@ -117,8 +117,8 @@ fn first_pair(text: &[u8]) -> Result<Option<(&[u8], u8, &[u8])>, TextFault>
     Ok(None)
 }
 
-/// Whether each backslash begins a pair.
-fn is_well_escaped(text: &[u8]) -> bool
+/// Whether each backslash of `text` begins a pair, so that it stands for data. No memory.
+pub fn is_well_escaped(text: &[u8]) -> bool
     ensures { IsTrue result ↔ IsSome (unescaped text.now) }
 {
     let mut rest = text;

@@ -14,7 +14,7 @@ use Rattle.xs_tree.specs.declared.kinds.Kind.{Kind}
 use Rattle.xs_tree.specs.declared.kinds.Kind.TheVariants.{Root, Element, Attribute, Space, Text, Comment, Pi}
 use Rattle.xs_tree.specs.Kinds.{rank, is_attribute_kind, is_text_kind, has_content}
 use Rattle.xs_tree.specs.Record.{Record, at, is_place, is_child, is_attribute, children, attributes, climbs, is_inside, is_text_inside, own_text, places, string_value}
-use Rattle.xs_tree.specs.Shape.{HasParentFrom, IsPlaced, IsTree}
+use Rattle.xs_tree.specs.Shape.{HasParentFrom, IsPlaced, IsTree, EndsAt}
 use Rattle.xs_tree.specs.Walk.{passing_from, children_from, attributes_from, texts_from}
 
 range-step : (k m : ℕ) → k < m → range_with_len k (m - k) ≡ k ∷ range_with_len (k + 1) (m - (k + 1))
@@ -46,6 +46,14 @@ passing-skip test rs (suc k) h none =
     passing-skip test rs k (omega arith) (λ j b. none j (omega arith))
     ∙ rw e (passing-false test rs k (omega arith) (none k (omega arith)))
 
+-- and so may what does not pass between two places
+passing-over : (test : ℕ → Bool) (rs : List Record) (k m : ℕ) → k + m ≤ length rs → ((j : ℕ) → k ≤ j → j < k + m → test j ≡ false) → passing_from test rs k ≡ passing_from test rs (k + m)
+passing-over test rs k zero h none = let e : k + 0 ≡ k = omega arith in rw e refl
+passing-over test rs k (suc m) h none =
+    let e : k + suc m ≡ (k + 1) + m = omega arith in
+    passing-false test rs k (omega arith) (none k (omega arith) (omega arith))
+    ∙ rw e (passing-over test rs (k + 1) m (omega arith) (λ j a b. none j (omega arith) (omega (arith, b))))
+
 -- the parent that a node has
 pub IsPlaced-at : (rs : List Record) (k p : ℕ) → IsTree rs → k < length rs → (at rs k).parent ≡ Some p → IsPlaced rs k p
 IsPlaced-at rs k p t h e =
@@ -59,7 +67,7 @@ is_place-false : (n : ℕ) (o : Option ℕ) → (o ≡ Some n → ⊥) → is_pl
 is_place-false n None h = refl
 is_place-false n (Some p) h = eqb-no p n (λ e. h (ap Some e))
 
-HasParentFrom-own : (r : Record) (n : ℕ) → r.parent ≡ Some n → HasParentFrom n r
+pub HasParentFrom-own : (r : Record) (n : ℕ) → r.parent ≡ Some n → HasParentFrom n r
 HasParentFrom-own r n e = let le : n ≤ n = omega arith in rw e le
 
 not_before : (rs : List Record) (n : ℕ) → IsTree rs → n < length rs → (j : ℕ) → j < n + 1 → (at rs j).parent ≡ Some n → ⊥
@@ -76,6 +84,16 @@ not_child-past rs n k t a h out =
           | inl same ↦ out (rw same (HasParentFrom-own (at rs j) n e))
           | inr later ↦ out ((IsPlaced-at rs j n t w e).inside k a later)
         ]
+
+-- and none is inside another child: after a child comes the first place that is not in its subtree
+pub children-next : (rs : List Record) (n k e : ℕ) → n < k → EndsAt rs k e → children_from rs n (k + 1) ≡ children_from rs n e
+children-next rs n k e a ends =
+    let e_is : (k + 1) + (e - (k + 1)) ≡ e = omega (arith, ends.after) in
+    subst (λ x. children_from rs n (k + 1) ≡ children_from rs n x) e_is
+    (passing-over (is_child rs n) rs (k + 1) (e - (k + 1)) (omega (arith, e_is, ends.within)) (λ j b c. rw (is_place-false n (at rs j).parent (λ f. not_own j b (omega (arith, c, e_is)) f)) refl))
+  where
+    not_own : (j : ℕ) → k + 1 ≤ j → j < e → (at rs j).parent ≡ Some n → ⊥
+    not_own j b c f = let le : k ≤ n = rw f at (ends.inside j (omega (arith, b)) c) in omega (arith, le, a)
 
 rank-attribute : (kind : Kind) → is_attribute_kind kind ≡ true → rank kind ≡ 1
 rank-attribute Root e = cc
@@ -117,10 +135,10 @@ attributes-after rs n t h =
 
 -- ---- chains of parents
 
-le_or_gt : (a b : ℕ) → (a ≤ b) ⊎ (b < a)
+pub le_or_gt : (a b : ℕ) → (a ≤ b) ⊎ (b < a)
 le_or_gt a b = elim (leb_tells a b) [ inl h ↦ inl h.1 | inr h ↦ inr h.1 ]
 
-from_earlier : (o : Option ℕ) (p q : ℕ) → p ≤ q → IsSomeAnd o (λ x. q ≤ x) → IsSomeAnd o (λ x. p ≤ x)
+pub from_earlier : (o : Option ℕ) (p q : ℕ) → p ≤ q → IsSomeAnd o (λ x. q ≤ x) → IsSomeAnd o (λ x. p ≤ x)
 from_earlier None p q le h = absurd h
 from_earlier (Some x) p q le h = omega (arith, le, h)
 
@@ -202,6 +220,14 @@ texts-after rs n t h =
 
 pub texts-end : (rs : List Record) (n k : ℕ) → length rs ≤ k → texts_from rs n k ≡ []
 texts-end rs n k h = let e : length rs - k ≡ 0 = omega arith in rw e refl
+
+-- nor the end of its subtree
+pub texts-over : (rs : List Record) (n e : ℕ) → IsTree rs → EndsAt rs n e → texts_from rs n e ≡ []
+texts-over rs n e t ends =
+    elim (le_or_gt (length rs) e) [
+      | inl past ↦ texts-end rs n e past
+      | inr within ↦ texts-past rs n e t ends.after within (ends.outside within)
+    ]
 
 -- the next node inside n
 pub texts-step : (rs : List Record) (n k : ℕ) → IsTree rs → n < k → k < length rs → ((j : ℕ) → n < j → j ≤ k → HasParentFrom n (at rs j)) → texts_from rs n k ≡ own_text (at rs k) ++ texts_from rs n (k + 1)

@@ -80,3 +80,23 @@ has_content Space = false
 has_content Text = false
 has_content Comment = false
 has_content Pi = false
+
+-- whether a node of this kind begins a document (XPath 1.0, 5.1)
+abbrev pub is_root_kind : Kind → Bool
+is_root_kind Root = true
+is_root_kind Element = false
+is_root_kind Attribute = false
+is_root_kind Space = false
+is_root_kind Text = false
+is_root_kind Comment = false
+is_root_kind Pi = false
+
+-- whether a node of this kind is a namespace node (XPath 1.0, 5.4)
+abbrev pub is_space_kind : Kind → Bool
+is_space_kind Root = false
+is_space_kind Element = false
+is_space_kind Attribute = false
+is_space_kind Space = true
+is_space_kind Text = false
+is_space_kind Comment = false
+is_space_kind Pi = false

@@ -1,7 +1,10 @@
+pub mod Axis
+pub mod Closing
 pub mod Growth
 pub mod Kinds
 pub mod Names
 pub mod Record
 pub mod Shape
+pub mod Store
 pub mod View
 pub mod Walk

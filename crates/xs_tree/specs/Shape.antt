@@ -36,3 +36,10 @@ pub record IsTree (rs : List Record) : Type 0 where
   pub some : 0 < length rs
   pub first : at rs 0 ≡ root_record
   pub placed : (k : ℕ) → k < length rs → IsRootOrPlaced rs k
+
+-- all from the node at n up to the place e, and nothing after that, is the node at n or inside it
+pub record EndsAt (rs : List Record) (n e : ℕ) : Type 0 where
+  pub after : n < e
+  pub within : e ≤ length rs
+  pub inside : (k : ℕ) → n < k → k < e → HasParentFrom n (at rs k)
+  pub outside : e < length rs → HasParentFrom n (at rs e) → ⊥

@@ -1,16 +1,15 @@
 -- How a tree is kept.
-use Rattle.std.specs.Prelude.{ℕ, ◌≤◌, List, Option, None, Some, All, map, length, slice_get, string_bytes}
-use Rattle.std.specs.Str.{IsCharBoundary}
-use Rattle.std.specs.List.{slice_range}
+use Rattle.std.specs.Prelude.{◌≡◌, ℕ, ◌<◌, ◌≤◌, List, Option, None, Some, All, map, length, slice_get, ◌⊎◌}
 use Rattle.std.specs.Option.{option_and_then}
 use Rattle.xs_tree.specs.declared.kinds.Kind.{Kind}
 use Rattle.xs_tree.specs.declared.kinds.Kind.TheVariants.{Root, Element, Attribute, Space, Text, Comment, Pi}
-use Rattle.xs_tree.specs.declared.names.Name.{Name}
 use Rattle.xs_tree.specs.declared.entries.Entry.{Entry}
+use Rattle.xs_tree.specs.declared.store.Store.{Store}
 use Rattle.xs_tree.specs.declared.trees.Tree.TheInside.{Inside}
 use Rattle.xs_tree.specs.Growth.{IsNumberBelow}
 use Rattle.xs_tree.specs.Record.{Record}
-use Rattle.xs_tree.specs.Shape.{IsTree}
+use Rattle.xs_tree.specs.Shape.{IsOpen, IsTree, EndsAt}
+use Rattle.xs_tree.specs.Store.{text_at, IsTextIn}
 
 -- a root has no parent
 abbrev pub parent_of : Kind → ℕ → Option ℕ
@@ -22,21 +21,29 @@ parent_of Text p = Some p
 parent_of Comment p = Some p
 parent_of Pi p = Some p
 
--- the node of an entry, over the names by number and the bytes of all texts
-abbrev pub record_of : List Name → List ℕ → Entry → Record
-record_of names text e = record { kind = e.kind; name = option_and_then (slice_get names) e.name; text = slice_range text e.start e.end; parent = parent_of e.kind e.parent }
+-- the node of an entry, over the names and texts that are kept
+abbrev pub record_of : Store → Entry → Record
+record_of s e = record { kind = e.kind; name = option_and_then (slice_get s.names) e.name; text = text_at s e.text; parent = parent_of e.kind e.parent }
 
 abbrev pub records : Inside → List Record
-records t = map (record_of t.names (string_bytes t.text)) t.nodes.items
+records t = map (record_of t.store) t.nodes.items
 
--- an entry's text is a part of the buffer, cut between characters, and its name is in the table
-pub record IsStored (names : List Name) (text : List ℕ) (e : Entry) : Type 0 where
-  pub ordered : e.start ≤ e.end
-  pub from : IsCharBoundary text e.start
-  pub to : IsCharBoundary text e.end
-  pub named : IsNumberBelow (length names) e.name
+-- an entry's text is kept, and its name is in the table
+pub record IsStored (s : Store) (e : Entry) : Type 0 where
+  pub placed : IsTextIn s e.text
+  pub named : IsNumberBelow (length s.names) e.name
+
+-- the end of the node's subtree as an entry keeps it: 0 while the node is open, and else the place of the first node that
+-- is not in the subtree
+abbrev pub IsEnd : List Record → ℕ → ℕ → Type 0
+IsEnd rs n e = ((e ≡ 0) × IsOpen rs n) ⊎ ((e < length rs) × EndsAt rs n e)
+
+-- all entries keep the ends of their nodes' subtrees
+abbrev pub HaveEnds : List Record → List Entry → Type 0
+HaveEnds rs es = (k : ℕ) (e : Entry) → slice_get es k ≡ Some e → IsEnd rs k e.end
 
 pub record IsWell (t : Inside) : Type 0 where
-  pub stored : All (IsStored t.names (string_bytes t.text)) t.nodes.items
+  pub stored : All (IsStored t.store) t.nodes.items
   pub shape : IsTree (records t)
   pub few : length t.nodes.items ≤ 8000000
+  pub ends : HaveEnds (records t) t.nodes.items

@@ -1,13 +1,17 @@
 // An XML document, or several, as a tree of nodes in document order (XPath 1.0, 5).
 #![tactic(auto)]
 
+mod axes;
+mod closing;
 mod entries;
 mod kinds;
 mod names;
 mod nodes;
+mod store;
 mod table;
 mod trees;
 
+pub use axes::Axis;
 pub use kinds::Kind;
 pub use names::{Name, NameText};
 pub use nodes::Node;

@@ -1,16 +1,17 @@
 // Expanded names and the texts that they are made of.
 #![tactic(auto)]
 
-ghost use Rattle.std.specs.Prelude.{◌≡◌, IfOk};
+ghost use Rattle.std.specs.Prelude.{◌≡◌, IfOk, Some};
 ghost use Rattle.std.specs.Cmp;
 ghost use Rattle.std.specs.Cmp.{on_equiv, on_per};
-ghost use Rattle.std.specs.Cmp.Lexicographic.{nat_list_eq_equiv};
+ghost use Rattle.std.specs.Cmp.Lexicographic.{nat_list_eq_equiv, nat_list_cmp_total, texts_ties, texts_po};
 ghost use Rattle.std.specs.Hash as fed;
 ghost use Rattle.std.specs.Cmp.Rules.{hashing};
-ghost use Rattle.std.proofs.Common.{rules};
-ghost use Rattle.xs_tree.specs.Names.{same_text};
+ghost use Rattle.std.proofs.Common.{rules, refl};
+ghost use Rattle.xs_tree.specs.Names.{same_text, order_of_texts};
 
 use std::alloc::{AllocError, Global};
+use std::cmp::Ordering;
 use std::hash::{Hash, Hasher};
 use std::marker::Model;
 
@@ -43,6 +44,23 @@ impl NameText {
     {
         self.text.as_str()
     }
+
+    /// The same characters in memory of their own.
+    pub fn copy(&self) -> Result<NameText, AllocError>
+        ensures value { IfOk result (λ part. part ≡ self.now) }
+    {
+        Ok(NameText {
+            text: self.text.clone()?,
+        })
+    }
+}
+
+impl Clone for NameText {
+    ghost is_clone = { λ part made. made ≡ part };
+
+    fn clone(&self) -> Result<NameText, AllocError> {
+        self.copy()
+    }
 }
 
 impl PartialEq for NameText {
@@ -57,6 +75,30 @@ impl PartialEq for NameText {
 
 impl Eq for NameText {
     ghost laws = { nat_list_eq_equiv };
+}
+
+impl PartialOrd for NameText {
+    ghost partial_cmp = { λ a b. Some (order_of_texts a b) };
+
+    ghost laws = { texts_po };
+
+    fn partial_cmp(&self, other: &Self) -> Option<Ordering> {
+        Some(self.cmp(other))
+    }
+}
+
+impl Ord for NameText {
+    ghost cmp = { order_of_texts };
+
+    ghost total = { nat_list_cmp_total };
+
+    ghost matches_partial_cmp = { λ a b. refl };
+
+    ghost matches_eq = { texts_ties };
+
+    fn cmp(&self, other: &Self) -> Ordering {
+        self.as_str().cmp(other.as_str())
+    }
 }
 
 impl Hash for NameText {

@@ -1,11 +1,11 @@
-// The table of a tree's names, each kept once.
+// The tables of a tree's names and of its namespace URIs, each kept once.
 #![tactic(auto)]
 
 ghost use Rattle.std.specs.Prelude.{◌≡◌, ◌<◌, ◌≤◌, [], Some, slice_get, length, IfOk, OnErr, OnOk};
 ghost use Rattle.std.specs.Option.{option_and_then, option_copied};
 ghost use Rattle.xs_tree.specs.Growth.{IsNumberBelow, Keeps};
 
-use crate::names::Name;
+use crate::names::{Name, NameText};
 use indexmap::IndexSet;
 use std::alloc::{AllocError, Global};
 use std::marker::Model;
@@ -62,5 +62,47 @@ impl NameTable {
         ensures name { option_copied result ≡ slice_get self.now number }
     {
         self.names.get_index(number as usize)
+    }
+}
+
+/// Namespace URIs by number, no two of them equal.
+#[derive(Drop)]
+pub struct UriTable {
+    uris: IndexSet<NameText>,
+}
+
+impl Model for UriTable {
+    ghost use Rattle.std.specs.Prelude.{List, ℕ};
+
+    ghost Value = { List (List ℕ) };
+
+    ghost view = { λ t. t.uris.keys };
+}
+
+impl UriTable {
+    /// A table without URIs.
+    pub fn new(alloc: Global) -> UriTable
+        ensures empty { result ≡ [] }
+    {
+        UriTable {
+            uris: IndexSet::new(alloc),
+        }
+    }
+
+    /// The number of a URI, which is added if it is new.
+    pub fn intern(&mut self, uri: NameText) -> Result<u32, AllocError>
+        ensures stored { IfOk result (λ number. slice_get self.new number ≡ Some uri) }
+        ensures numbered { IfOk result (λ number. number < length self.new) }
+        ensures kept { Keeps self.old self.new }
+    {
+        let (number, _) = self.uris.insert_full(uri)?;
+        u32::try_from(number).map_err(|_| AllocError)
+    }
+
+    /// The URI with a number.
+    pub fn get(&self, number: u32) -> Option<&NameText>
+        ensures uri { option_copied result ≡ slice_get self.now number }
+    {
+        self.uris.get_index(number as usize)
     }
 }

@@ -4,7 +4,9 @@
 ghost use Rattle.std.specs.Prelude.{◌<◌, length};
 
 use super::*;
+use crate::entries::Entry;
 use std::alloc::{AllocError, Global};
+use std::mem::size_of;
 use std::test::Fail;
 
 fn local_name(alloc: Global, local: &str) -> Result<Name, AllocError> {
@@ -37,6 +39,7 @@ fn root_alone(rt: HostRuntime) -> Result<(), Fail> {
     assert_eq!(rt; tree.text(Node::root()), "");
     assert!(rt; tree.parent(Node::root()).is_none());
     assert!(rt; tree.next_in_order(Node::root()).is_none());
+    assert_eq!(rt; tree.subtree_end(Node::root()), 1);
     Ok(())
 }
 
@@ -92,5 +95,37 @@ fn attribute_by_name(rt: HostRuntime) -> Result<(), Fail> {
     assert_eq!(rt; tree.attributes(element).next(), Some(attribute));
     let name = tree.name(attribute).ok_or("a name")?;
     assert_eq!(rt; name.local.as_str(), "x");
+    Ok(())
+}
+
+#[test]
+fn names_in_order_and_copied(rt: HostRuntime) -> Result<(), Fail> {
+    let alloc = rt.alloc();
+    let short = NameText::of(alloc, "b")?;
+    let long = NameText::of(alloc, "ab")?;
+    assert!(rt; long < short);
+    assert!(rt; short.copy()? == short);
+    Ok(())
+}
+
+#[test]
+fn namespace_node_again(rt: HostRuntime) -> Result<(), Fail> {
+    let alloc = rt.alloc();
+    let mut tree = Tree::new(alloc)?;
+    let element = tree.add(
+        Kind::Element,
+        Some(local_name(alloc, "a")?),
+        "",
+        Node::root(),
+    )?;
+    let space = tree.add(Kind::Space, Some(local_name(alloc, "p")?), "urn:p", element)?;
+    let again = tree.add_same(space, element)?;
+    assert_eq!(rt; tree.text(again), "urn:p");
+    Ok(())
+}
+
+#[test]
+fn entries_are_small(rt: HostRuntime) -> Result<(), Fail> {
+    assert_eq!(rt; size_of::<Entry>(), 32);
     Ok(())
 }

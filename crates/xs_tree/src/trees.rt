@@ -1,7 +1,7 @@
 // The tree: making one, and adding nodes.
 #![tactic(auto)]
 
-ghost use Rattle.std.specs.Prelude.{◌≡◌, ◌<◌, ◌↔◌, [], ◌∷◌, ◌++◌, Some, Err, length, is_some, IfOk, OnOk, OnErr, IsTrue};
+ghost use Rattle.std.specs.Prelude.{◌≡◌, ◌<◌, ◌≤◌, ◌↔◌, [], ◌∷◌, ◌++◌, Some, Err, length, is_some, IfOk, OnOk, OnErr, IsTrue};
 ghost use Rattle.xs_tree.specs.Kinds.{bears_name, can_hold};
 ghost use Rattle.xs_tree.specs.Record.{Record, root_record, at};
 ghost use Rattle.xs_tree.specs.Shape.{IsOpen, KeepsOrder, IsTree};
@@ -10,11 +10,12 @@ mod readers;
 mod string_value;
 mod walks;
 
-use crate::entries::Entry;
+use crate::closing::keep;
+use crate::entries::{Entry, TextPlace};
 use crate::kinds::Kind;
 use crate::names::Name;
 use crate::nodes::Node;
-use crate::table::NameTable;
+use crate::store::Store;
 use std::alloc::{AllocError, Global};
 use std::marker::Model;
 use thiserror::Error;
@@ -36,12 +37,12 @@ pub enum TreeFault {
 
 /// One or more documents as nodes in document order (XPath 1.0, 5).
 ///
-/// Each name is kept once, the texts lie one after another in one buffer, and a node takes 32 bytes beside its text.
+/// Each name and each namespace URI is kept once, the other texts lie one after another in one buffer, and a node takes 32
+/// bytes beside its text. Adding a node takes constant time on average, and so does finding where its subtree ends.
 #[derive(Drop)]
 pub struct Tree {
     nodes: Vec<Entry>,
-    names: NameTable,
-    text: String,
+    store: Store,
 }
 
 impl Model for Tree {
@@ -64,16 +65,15 @@ impl Tree {
     {
         let mut nodes = Vec::new(alloc);
         nodes.push(Entry {
-            start: 0,
-            end: 0,
+            text: TextPlace::Range(0, 0),
             name: None,
             parent: 0,
+            end: 0,
             kind: Kind::Root,
         })?;
         Ok(Tree {
             nodes,
-            names: NameTable::new(alloc),
-            text: String::new(alloc),
+            store: Store::new(alloc),
         })
     }
 
@@ -96,11 +96,41 @@ impl Tree {
         ensures too_large { (result ≡ Err TreeFault.TooLarge) ↔ (length self.old ≡ MOST_NODES) }
         ensures refused { OnErr result (self.new ≡ self.old) }
     {
-        if self.nodes.len() == MOST_NODES {
+        if self.is_full() {
             return Err(TreeFault::TooLarge);
         }
         self.store(kind, name, text, parent)
             .map_err(|_| TreeFault::NoMemory)
+    }
+
+    /// Adds a namespace node inside an open element, with the name and the URI of one that is in the tree.
+    ///
+    /// Takes memory for the node alone.
+    pub fn add_same(&mut self, like: Node, parent: Node) -> Result<Node, TreeFault>
+        requires found { like < length self.old }
+        requires space { (at self.old like).kind ≡ Kind.Space }
+        requires within { parent < length self.old }
+        requires held { IsTrue (can_hold (at self.old parent).kind Kind.Space) }
+        requires open { IsOpen self.old parent }
+        requires order { KeepsOrder self.old parent Kind.Space }
+        ensures node { IfOk result (λ node. node ≡ length self.old) }
+        ensures added { OnOk result (self.new ≡ self.old ++ record { kind = Kind.Space; name = (at self.old like).name; text = (at self.old like).text; parent = Some parent } ∷ []) }
+        ensures too_large { (result ≡ Err TreeFault.TooLarge) ↔ (length self.old ≡ MOST_NODES) }
+        ensures refused { OnErr result (self.new ≡ self.old) }
+    {
+        if self.is_full() {
+            return Err(TreeFault::TooLarge);
+        }
+        self.store_same(like, parent)
+            .map_err(|_| TreeFault::NoMemory)
+    }
+
+    // Whether there is no room for another node.
+    fn is_full(&self) -> bool
+        ensures value { IsTrue result ↔ (length self.now ≡ MOST_NODES) }
+        ensures few { length self.now ≤ MOST_NODES }
+    {
+        self.nodes.len() == MOST_NODES
     }
 
     // Adds a node where there is room for one.
@@ -121,17 +151,38 @@ impl Tree {
         ensures added { OnOk result (self.new ≡ self.old ++ record { kind = kind; name = name; text = text.now; parent = Some parent } ∷ []) }
         ensures refused { OnErr result (self.new ≡ self.old) }
     {
-        let name = self.names.intern_any(name)?;
-        let start = self.text.len();
-        self.text.push_str(text)?;
-        let place = self.nodes.len() as u32;
-        self.nodes.push(Entry {
-            start,
-            end: self.text.len(),
+        let name = self.store.keep_name(name)?;
+        let text = self.store.keep_text(kind, text)?;
+        let entry = Entry {
+            text,
             name,
             parent: parent.place(),
+            end: 0,
             kind,
-        })?;
-        Ok(Node::at(place))
+        };
+        let node = keep(&mut self.nodes, entry)?;
+        Ok(node)
+    }
+
+    // Adds a namespace node like another where there is room for one.
+    fn store_same(&mut self, like: Node, parent: Node) -> Result<Node, AllocError>
+        requires room { length self.old < MOST_NODES }
+        requires found { like < length self.old }
+        requires space { (at self.old like).kind ≡ Kind.Space }
+        requires within { parent < length self.old }
+        requires held { IsTrue (can_hold (at self.old parent).kind Kind.Space) }
+        requires open { IsOpen self.old parent }
+        requires order { KeepsOrder self.old parent Kind.Space }
+        ensures node { IfOk result (λ node. node ≡ length self.old) }
+        ensures added { OnOk result (self.new ≡ self.old ++ record { kind = Kind.Space; name = (at self.old like).name; text = (at self.old like).text; parent = Some parent } ∷ []) }
+        ensures refused { OnErr result (self.new ≡ self.old) }
+    {
+        let entry = Entry {
+            parent: parent.place(),
+            end: 0,
+            ..self.nodes[like.place() as usize]
+        };
+        let node = keep(&mut self.nodes, entry)?;
+        Ok(node)
     }
 }

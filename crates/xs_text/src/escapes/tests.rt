@@ -39,3 +39,13 @@ fn refuses_other_pairs(rt: HostRuntime) -> Result<(), Fail> {
     }
     Ok(())
 }
+
+#[test]
+fn tells_data_from_other_texts(rt: HostRuntime) {
+    for text in ["", "a", "é\\\\", "\\n\\t\\r"] {
+        assert!(rt; is_well_escaped(text.as_bytes()), "{text}");
+    }
+    for text in ["\\", "a\\q", "\\\\\\", "\\nn\\"] {
+        assert!(rt; !is_well_escaped(text.as_bytes()), "{text}");
+    }
+}

@@ -4,7 +4,7 @@
 ghost use Rattle.std.specs.Prelude.{◌≡◌, ◌+◌, ◌<◌, ◌≤◌, length, nat_lt, if◌then◌else◌, Some, None, IsTrue, ◌↔◌};
 ghost use Rattle.std.specs.Option.{option_copied};
 ghost use Rattle.xs_tree.specs.Record.{at};
-ghost use Rattle.xs_tree.specs.Shape.{HasParentFrom, IsTree};
+ghost use Rattle.xs_tree.specs.Shape.{EndsAt, HasParentFrom, IsTree};
 
 use super::Tree;
 use crate::kinds::Kind;
@@ -35,7 +35,7 @@ impl Tree {
         ensures name { option_copied result ≡ (at self.now n).name }
     {
         let number = self.nodes[n.place() as usize].name?;
-        self.names.get(number)
+        self.store.name(number)
     }
 
     /// The text of a text node, a comment or a processing instruction, the value of an attribute or the URI of a
@@ -45,7 +45,7 @@ impl Tree {
         ensures text { result.now ≡ (at self.now n).text }
     {
         let entry = self.nodes[n.place() as usize];
-        &self.text.as_str()[entry.start..entry.end]
+        self.store.text(entry.text)
     }
 
     /// The parent of a node, none for a root.
@@ -72,6 +72,20 @@ impl Tree {
             Some(Node::at(next))
         } else {
             None
+        }
+    }
+
+    /// The place after a node and all that is inside it: that of the next node outside it, or the number of nodes.
+    pub fn subtree_end(&self, n: Node) -> u32
+        requires { n < length self.now }
+        ensures end { EndsAt self.now n result }
+        ensures tree { IsTree self.now }
+    {
+        let end = self.nodes[n.place() as usize].end;
+        if end == 0 {
+            self.nodes.len() as u32
+        } else {
+            end
         }
     }
 

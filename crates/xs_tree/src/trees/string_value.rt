@@ -33,13 +33,9 @@ impl Tree {
         ensures refused { OnErr result (out.new.items ≡ out.old.items) }
     {
         let before = out.len();
-        let count = self.len() as u32;
-        for place in n.place() + 1..count {
-            let node = Node::at(place);
-            if !self.begins_inside(n, node) {
-                return Ok(());
-            }
-            if self.own_text_into(node, out).is_err() {
+        let end = self.subtree_end(n);
+        for place in n.place() + 1..end {
+            if self.own_text_into(Node::at(place), out).is_err() {
                 out.truncate(before);
                 return Err(AllocError);
             }

@@ -29,8 +29,8 @@ impl Tree {
         self.parent(node) == Some(parent) && self.kind(node) == Kind::Attribute
     }
 
-    // The first child of a node from a place on.
-    fn child_from(&self, parent: Node, from: Node) -> Option<Node>
+    /// The first child of a node from a place on.
+    pub fn child_from(&self, parent: Node, from: Node) -> Option<Node>
         requires { parent < from }
         ensures value { MatchOption result (children_from self.now parent from ≡ []) (λ child. children_from self.now parent from ≡ child ∷ children_from self.now parent (child + 1)) }
         ensures within { IfSome result (λ child. child < length self.now) }
@@ -49,8 +49,8 @@ impl Tree {
         None
     }
 
-    // The first attribute of a node from a place on.
-    fn attribute_from(&self, parent: Node, from: Node) -> Option<Node>
+    /// The first attribute of a node from a place on.
+    pub fn attribute_from(&self, parent: Node, from: Node) -> Option<Node>
         requires { parent < from }
         ensures value { MatchOption result (attributes_from self.now parent from ≡ []) (λ child. attributes_from self.now parent from ≡ child ∷ attributes_from self.now parent (child + 1)) }
         ensures within { IfSome result (λ child. child < length self.now) }
@@ -124,7 +124,7 @@ impl Iterator for Children<'_> {
 
     fn next(&mut self) -> Option<Node> {
         let child = self.tree.child_from(self.parent, self.next)?;
-        self.next = Node::at(child.place() + 1);
+        self.next = Node::at(self.tree.subtree_end(child));
         Some(child)
     }
 }

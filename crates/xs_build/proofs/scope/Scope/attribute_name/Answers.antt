@@ -1,0 +1,18 @@
+use Rattle.std.proofs.Common.{◌≡◌, ◌∙◌, sym, ap, subst, [], Option, Some}
+use Rattle.std.specs.Result.{IfOk}
+use Rattle.xs_tree.specs.declared.names.Name.{Name}
+use Rattle.xs_build.specs.Namespaces.{named}
+use Rattle.xs_build.proofs.Scopes.{attribute_prefixed, attribute_plain}
+use Rattle.xs_build.proofs.scope.Scope.attribute_name.Goals as goal
+
+pub returns-then-not-is_empty : goal.returns-then-not-is_empty
+returns-then-not-is_empty c =
+    subst (λ (n : Option Name). IfOk c.prefixed_name.result (λ name. name ≡ n))
+    (attribute_prefixed c.args.self.now c.args.prefix.now c.args.local.now (sym c.is_empty.ensures ∙ c.if-not-is_empty.true))
+    c.prefixed_name.ensures
+
+pub returns : goal.returns
+returns c =
+    ap Some c.in_ok-plain_name.ensures
+    ∙ ap (λ uri. Some (named (record { prefix = []; local = c.args.local.now }) uri)) c.in_ok-uri.ensures.value
+    ∙ attribute_plain c.args.self.now c.args.prefix.now c.args.local.now (sym c.is_empty.ensures ∙ c.if-not-is_empty.false)

@@ -1,0 +1,150 @@
+//! Lines that are attributes and declarations.
+
+ghost use Rattle.std.specs.Prelude.{◌≡◌, ◌<◌, true, length, reverse, IfOk, OnOk};
+ghost use Rattle.xs_build.specs.Attributes.{named_step};
+ghost use Rattle.xs_build.specs.Context.{scope_of};
+ghost use Rattle.xs_build.specs.Document.{attribute_step, declaration_step, plain_step, written_step, declaration_name};
+ghost use Rattle.xs_build.specs.Namespaces.{attribute_name, declared_prefix, expanded};
+ghost use Rattle.xs_build.specs.Open.{IsGood};
+ghost use Rattle.xs_build.specs.State.{state, context, taken, Steps};
+
+use crate::builder::Builder;
+use crate::expanded::Expanded;
+use crate::fault::BuildFault;
+use crate::nodes::put_attribute;
+use crate::qnames::{XMLNS_URI, declared_prefix, is_bad_binding, qname_parts};
+use std::alloc::{AllocError, Global};
+use xs_pyx::TextBuf;
+use xs_tree::{MOST_NODES, Name, NameText};
+
+impl Builder {
+    /// Takes an attribute or a declaration.
+    #[tactic(auto, unfolding(crate::specs::Document::attribute_step))]
+    pub fn attribute(
+        &mut self,
+        alloc: Global,
+        name: TextBuf,
+        value: TextBuf,
+    ) -> Result<(), BuildFault>
+        requires { IsGood (state self.old) }
+        ensures step { Steps result (taken (state self.old) (attribute_step (context (state self.old)) name value)) (state self.new) }
+        ensures outermost { OnOk result (self.new.outermost ≡ self.old.outermost) }
+    {
+        if !self.follows {
+            return Err(self.bad(1));
+        }
+        match qname_parts(name.as_str()) {
+            Some((prefix, local)) => self.written(alloc, prefix, local, value.as_str()),
+            None => Err(self.bad(7)),
+        }
+    }
+
+    /// Takes an attribute or a declaration of a name that is a QName.
+    fn written(
+        &mut self,
+        alloc: Global,
+        prefix: &str,
+        local: &str,
+        value: &str,
+    ) -> Result<(), BuildFault>
+        requires good { IsGood (state self.old) }
+        requires follows { self.old.follows ≡ true }
+        ensures step { Steps result (taken (state self.old) (written_step (context (state self.old)) self.old.seen.keys value.now (record { prefix = prefix.now; local = local.now }) (declared_prefix (record { prefix = prefix.now; local = local.now })))) (state self.new) }
+        ensures outermost { OnOk result (self.new.outermost ≡ self.old.outermost) }
+    {
+        match declared_prefix(prefix, local) {
+            Some(declared) => self.declaration(alloc, declared, value),
+            None => self.plain(alloc, prefix, local, value),
+        }
+    }
+
+    /// Takes a declaration, which is no node.
+    #[tactic(auto, unfolding(crate::specs::Document::declaration_step))]
+    fn declaration(&mut self, alloc: Global, prefix: &str, uri: &str) -> Result<(), BuildFault>
+        requires { self.old.follows ≡ true }
+        ensures step { Steps result (taken (state self.old) (declaration_step (context (state self.old)) self.old.seen.keys uri.now prefix.now)) (state self.new) }
+        ensures outermost { OnOk result (self.new.outermost ≡ self.old.outermost) }
+    {
+        if !self.seen.insert(declaration_name(alloc, prefix)?)? {
+            return Err(self.bad(9));
+        }
+        if is_bad_binding(prefix, uri) {
+            return Err(self.bad(10));
+        }
+        Ok(())
+    }
+
+    /// Takes an attribute that is a node.
+    #[tactic(auto, unfolding(crate::specs::Document::plain_step))]
+    fn plain(
+        &mut self,
+        alloc: Global,
+        prefix: &str,
+        local: &str,
+        value: &str,
+    ) -> Result<(), BuildFault>
+        requires good { IsGood (state self.old) }
+        requires follows { self.old.follows ≡ true }
+        ensures step { Steps result (taken (state self.old) (plain_step (context (state self.old)) self.old.seen.keys value.now (record { prefix = prefix.now; local = local.now }))) (state self.new) }
+        ensures outermost { OnOk result (self.new.outermost ≡ self.old.outermost) }
+    {
+        match self.attribute_name(alloc, prefix, local)? {
+            Some(name) => self.named(name, value),
+            None => Err(self.bad(8)),
+        }
+    }
+
+    /// The name of an attribute in the innermost open element.
+    fn attribute_name(
+        &self,
+        alloc: Global,
+        prefix: &str,
+        local: &str,
+    ) -> Result<Option<Name>, AllocError>
+        requires { 0 < length self.now.around.items }
+        ensures { IfOk result (λ name. name ≡ attribute_name (scope_of (reverse self.now.around.items)) (record { prefix = prefix.now; local = local.now })) }
+    {
+        match self.around.as_slice().split_last() {
+            Some((element, _)) => element.scope.attribute_name(alloc, prefix, local),
+            None => unreachable!(),
+        }
+    }
+
+    /// Takes an attribute of this name.
+    fn named(&mut self, name: Name, value: &str) -> Result<(), BuildFault>
+        requires good { IsGood (state self.old) }
+        requires follows { self.old.follows ≡ true }
+        ensures step { Steps result (taken (state self.old) (named_step (context (state self.old)) self.old.seen.keys value.now name)) (state self.new) }
+        ensures outermost { OnOk result (self.new.outermost ≡ self.old.outermost) }
+    {
+        if !self.seen.insert(expanded(&name)?)? {
+            return Err(self.bad(9));
+        }
+        if self.lines.len() >= MOST_NODES {
+            return Err(self.bad(11));
+        }
+        put_attribute(&mut self.tree, self.around.as_slice(), name, value)?;
+        self.lines.push(self.line)?;
+        Ok(())
+    }
+}
+
+/// The expanded name of a declaration.
+fn declaration_name(alloc: Global, prefix: &str) -> Result<Expanded, AllocError>
+    ensures { IfOk result (λ name. name ≡ declaration_name prefix.now) }
+{
+    Ok(Expanded {
+        uri: NameText::of(alloc, XMLNS_URI)?,
+        local: NameText::of(alloc, prefix)?,
+    })
+}
+
+/// A name without the prefix that it is written with.
+fn expanded(name: &Name) -> Result<Expanded, AllocError>
+    ensures { IfOk result (λ found. found ≡ expanded name.now) }
+{
+    Ok(Expanded {
+        uri: name.uri.copy()?,
+        local: name.local.copy()?,
+    })
+}

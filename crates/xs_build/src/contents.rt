@@ -1,0 +1,123 @@
+//! Lines that are texts, processing instructions and comments.
+
+ghost use Rattle.std.specs.Prelude.{◌≡◌, false, [], OnOk, reverse, string_bytes};
+ghost use Rattle.xs_build.specs.Document.{gives, past, instruction_step, comment_step};
+ghost use Rattle.xs_build.specs.Open.{IsGood};
+ghost use Rattle.xs_build.specs.State.{state, context, moved, spoken, spoken_inside, spoken_first, Steps};
+
+use crate::builder::Builder;
+use crate::fault::BuildFault;
+use crate::nodes::{put_comment, put_instruction};
+use crate::opened::is_inside;
+use crate::qnames::{is_target, is_white, is_xml};
+use std::alloc::Global;
+use xs_pyx::TextBuf;
+use xs_tree::MOST_NODES;
+
+impl Builder {
+    /// Takes a text.
+    #[tactic(auto, unfolding(crate::specs::State::spoken))]
+    pub fn chars(&mut self, text: TextBuf) -> Result<(), BuildFault>
+        ensures step { Steps result (spoken (state self.old) text) (state self.new) }
+        ensures outermost { OnOk result (self.new.outermost ≡ self.old.outermost) }
+    {
+        self.follows = false;
+        if is_inside(self.around.as_slice()) {
+            return self.text_inside(text.as_str());
+        }
+        if !is_white(text.as_str()) {
+            return Err(self.bad(5));
+        }
+        Ok(())
+    }
+
+    /// Takes a text in an element.
+    fn text_inside(&mut self, text: &str) -> Result<(), BuildFault>
+        requires { self.old.follows ≡ false }
+        ensures step { Steps result (spoken_inside (state self.old) text.now) (state self.new) }
+        ensures outermost { OnOk result (self.new.outermost ≡ self.old.outermost) }
+    {
+        if self.text.is_empty() && !text.is_empty() {
+            return self.first_text(text);
+        }
+        self.text.push_str(text)?;
+        Ok(())
+    }
+
+    /// Takes the first text of a node.
+    fn first_text(&mut self, text: &str) -> Result<(), BuildFault>
+        requires follows { self.old.follows ≡ false }
+        requires quiet { string_bytes self.old.text ≡ [] }
+        ensures step { Steps result (spoken_first (state self.old) text.now) (state self.new) }
+        ensures outermost { OnOk result (self.new.outermost ≡ self.old.outermost) }
+    {
+        if self.lines.len() >= MOST_NODES {
+            return Err(self.bad(11));
+        }
+        self.lines.push(self.line)?;
+        self.text.push_str(text)?;
+        Ok(())
+    }
+
+    /// Takes a processing instruction. The XML declaration is none.
+    #[tactic(auto, unfolding(crate::specs::Document::instruction_step))]
+    pub fn instruction(
+        &mut self,
+        alloc: Global,
+        target: TextBuf,
+        text: TextBuf,
+    ) -> Result<(), BuildFault>
+        requires { IsGood (state self.old) }
+        ensures step { Steps result (moved (state self.old) (instruction_step (context (state self.old)) self.old.line target text)) (state self.new) }
+        ensures outermost { OnOk result (self.new.outermost ≡ self.old.outermost) }
+    {
+        if self.line == 1 && is_xml(target.as_str()) {
+            return self.declare_xml();
+        }
+        if !is_target(target.as_str()) {
+            return Err(self.bad(7));
+        }
+        if self.lines.len() >= MOST_NODES {
+            return Err(self.bad(11));
+        }
+        self.end_text()?;
+        put_instruction(
+            &mut self.tree,
+            alloc,
+            self.around.as_slice(),
+            target.as_str(),
+            text.as_str(),
+        )?;
+        self.lines.push(self.line)?;
+        self.follows = false;
+        Ok(())
+    }
+
+    /// Takes an XML declaration.
+    fn declare_xml(&mut self) -> Result<(), BuildFault>
+        requires { IsGood (state self.old) }
+        ensures step { Steps result (moved (state self.old) (gives [] (past (context (state self.old)) (reverse self.old.around.items) 0))) (state self.new) }
+        ensures outermost { OnOk result (self.new.outermost ≡ self.old.outermost) }
+    {
+        self.end_text()?;
+        self.follows = false;
+        Ok(())
+    }
+
+    /// Takes a comment.
+    #[tactic(auto, unfolding(crate::specs::Document::comment_step))]
+    pub fn comment(&mut self, text: TextBuf) -> Result<(), BuildFault>
+        requires { IsGood (state self.old) }
+        ensures step { Steps result (moved (state self.old) (comment_step (context (state self.old)) text)) (state self.new) }
+        ensures outermost { OnOk result (self.new.outermost ≡ self.old.outermost) }
+    {
+        if self.lines.len() >= MOST_NODES {
+            return Err(self.bad(11));
+        }
+        self.end_text()?;
+        put_comment(&mut self.tree, self.around.as_slice(), text.as_str())?;
+        self.lines.push(self.line)?;
+        self.follows = false;
+        Ok(())
+    }
+}

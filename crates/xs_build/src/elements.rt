@@ -1,0 +1,130 @@
+//! Lines that start and end an element.
+
+ghost use Rattle.std.specs.Prelude.{◌≡◌, ◌+◌, ◌≤◌, ◌∷◌, ◌++◌, length, map, reverse, IfOk, OnOk};
+ghost use Rattle.std.specs.List.{range_with_len};
+ghost use Rattle.xs_pyx.specs.Row.{rows_of};
+ghost use Rattle.xs_build.specs.Context.{scope_of, innermost, element, spaces};
+ghost use Rattle.xs_build.specs.Document.{start_step};
+ghost use Rattle.xs_build.specs.Entering.{Names, named_start, entered, closed_step};
+ghost use Rattle.xs_build.specs.Limits.{most_nodes};
+ghost use Rattle.xs_build.specs.Namespaces.{outermost, scope_with};
+ghost use Rattle.xs_build.specs.Open.{IsGood, IsWell};
+ghost use Rattle.xs_build.specs.Start.{declarations};
+ghost use Rattle.xs_build.specs.State.{state, context, moved, Steps};
+
+use crate::builder::Builder;
+use crate::fault::BuildFault;
+use crate::nodes::put_element;
+use crate::opened::{Opened, is_innermost, is_inside};
+use crate::qnames::qname_parts;
+use crate::scope::Scope;
+use crate::start_tag::declarations;
+use indexmap::IndexSet;
+use std::alloc::{AllocError, Global};
+use xs_pyx::TextBuf;
+use xs_tree::{MOST_NODES, Name};
+
+impl Builder {
+    /// Takes the start of an element, behind which `rest` stands.
+    #[tactic(auto, unfolding(crate::specs::Document::start_step))]
+    pub fn start(&mut self, alloc: Global, name: TextBuf, rest: &[u8]) -> Result<(), BuildFault>
+        requires good { IsGood (state self.old) }
+        requires outermost { self.old.outermost ≡ outermost }
+        ensures step { Steps result (moved (state self.old) (start_step (context (state self.old)) name (rows_of rest.now))) (state self.new) }
+        ensures outermost { OnOk result (self.new.outermost ≡ outermost) }
+    {
+        if self.begun && !is_inside(self.around.as_slice()) {
+            return Err(self.bad(5));
+        }
+        let scope = self.scope_inside(alloc, rest)?;
+        self.start_in(alloc, name, scope)
+    }
+
+    /// Takes the start of an element in which these bindings are in force.
+    fn start_in(&mut self, alloc: Global, name: TextBuf, scope: Scope) -> Result<(), BuildFault>
+        requires { IsGood (state self.old) }
+        ensures step { Steps result (moved (state self.old) (named_start (context (state self.old)) name scope)) (state self.new) }
+        ensures outermost { OnOk result (self.new.outermost ≡ self.old.outermost) }
+    {
+        let full = self.name_in(alloc, &scope, name.as_str())?;
+        if self.lines.len() + scope.len() >= MOST_NODES {
+            return Err(self.bad(11));
+        }
+        self.enter(alloc, name, full, scope)?;
+        Ok(())
+    }
+
+    /// The bindings in force in an element that starts before these bytes.
+    fn scope_inside(&self, alloc: Global, rest: &[u8]) -> Result<Scope, AllocError>
+        requires { self.now.outermost ≡ outermost }
+        ensures { IfOk result (λ scope. scope ≡ scope_with (declarations (rows_of rest.now)) (scope_of (reverse self.now.around.items))) }
+    {
+        let declared = declarations(alloc, rest)?;
+        match self.around.as_slice().split_last() {
+            Some((element, _)) => element.scope.with(alloc, declared),
+            None => self.outermost.with(alloc, declared),
+        }
+    }
+
+    /// The name of an element that is written so.
+    fn name_in(&self, alloc: Global, scope: &Scope, written: &str) -> Result<Name, BuildFault>
+        ensures { Names result scope.now written.now self.now.line }
+    {
+        match qname_parts(written) {
+            Some((prefix, local)) => match scope.element_name(alloc, prefix, local)? {
+                Some(name) => Ok(name),
+                None => Err(self.bad(8)),
+            },
+            None => Err(self.bad(7)),
+        }
+    }
+
+    /// Adds an element, which is the innermost open one from then on.
+    fn enter(
+        &mut self,
+        alloc: Global,
+        name: TextBuf,
+        full: Name,
+        scope: Scope,
+    ) -> Result<(), AllocError>
+        requires good { IsGood (state self.old) }
+        requires room { length self.old.lines.items + 1 + length scope ≤ most_nodes }
+        ensures entered { OnOk result (state self.new ≡ entered (state self.old) name full scope) }
+        ensures outermost { OnOk result (self.new.outermost ≡ self.old.outermost) }
+    {
+        self.end_text()?;
+        let node = put_element(&mut self.tree, alloc, self.around.as_slice(), full, &scope)?;
+        self.lines.push(self.line)?;
+        push_lines(&mut self.lines, self.line, scope.len())?;
+        self.around.push(Opened { name, node, scope })?;
+        self.seen = IndexSet::new(alloc);
+        self.follows = true;
+        self.begun = true;
+        Ok(())
+    }
+
+    /// Takes the end of an element.
+    pub fn end(&mut self, name: TextBuf) -> Result<(), BuildFault>
+        requires { IsGood (state self.old) }
+        ensures step { Steps result (moved (state self.old) (closed_step (context (state self.old)) name)) (state self.new) }
+        ensures outermost { OnOk result (self.new.outermost ≡ self.old.outermost) }
+    {
+        if !is_innermost(name.as_str(), self.around.as_slice()) {
+            return Err(self.bad(5));
+        }
+        self.end_text()?;
+        let _ = self.around.pop();
+        self.follows = false;
+        Ok(())
+    }
+}
+
+/// Adds the line of this many nodes.
+fn push_lines(lines: &mut Vec<u32>, line: u32, count: usize) -> Result<(), AllocError>
+    ensures { OnOk result (lines.new.items ≡ lines.old.items ++ map (λ _. line) (range_with_len 0 count)) }
+{
+    for _place in 0..count {
+        lines.push(line)?;
+    }
+    Ok(())
+}

@@ -1,0 +1,56 @@
+//! The namespace nodes of an element (XPath 1.0, 5.4).
+
+ghost use Rattle.std.specs.Prelude.{◌≡◌, ◌+◌, ◌<◌, ◌≤◌, ◌++◌, ◌∷◌, [], length, OnOk};
+ghost use Rattle.xs_tree.specs.Record.{at};
+ghost use Rattle.xs_tree.specs.Shape.{IsOpen, KeepsOrder};
+ghost use Rattle.xs_build.specs.Limits.{most_nodes};
+ghost use Rattle.xs_build.specs.Context.{space, spaces};
+
+use crate::scope::Scope;
+use std::alloc::{AllocError, Global};
+use xs_tree::{Kind, Name, NameText, Node, Tree, TreeFault};
+
+/// Adds the namespace node of one binding to an element in which nothing but others stands.
+fn put_space(
+    tree: &mut Tree,
+    alloc: Global,
+    element: Node,
+    prefix: &NameText,
+    uri: &NameText,
+) -> Result<(), AllocError>
+    requires within { element < length tree.old }
+    requires element { (at tree.old element).kind ≡ Kind.Element }
+    requires open { IsOpen tree.old element }
+    requires order { KeepsOrder tree.old element Kind.Space }
+    requires room { length tree.old < most_nodes }
+    ensures { OnOk result (tree.new ≡ tree.old ++ space element (prefix.now, uri.now) ∷ []) }
+{
+    let name = Name {
+        uri: NameText::of(alloc, "")?,
+        local: prefix.copy()?,
+        prefix: NameText::of(alloc, "")?,
+    };
+    match tree.add(Kind::Space, Some(name), uri.as_str(), element) {
+        Ok(_) => Ok(()),
+        Err(TreeFault::NoMemory) => Err(AllocError),
+        Err(TreeFault::TooLarge) => unreachable!(),
+    }
+}
+
+/// Adds the namespace nodes of an element that was just added, one for each binding in force (XPath 1.0, 5.4).
+pub fn put_spaces(
+    tree: &mut Tree,
+    alloc: Global,
+    element: Node,
+    scope: &Scope,
+) -> Result<(), AllocError>
+    requires last { element + 1 ≡ length tree.old }
+    requires element { (at tree.old element).kind ≡ Kind.Element }
+    requires room { length tree.old + length scope.now ≤ most_nodes }
+    ensures { OnOk result (tree.new ≡ tree.old ++ spaces element scope.now) }
+{
+    for (prefix, uri) in scope.bindings() {
+        put_space(tree, alloc, element, prefix, uri)?;
+    }
+    Ok(())
+}

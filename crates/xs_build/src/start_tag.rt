@@ -1,0 +1,97 @@
+//! What the attribute lines of a start tag declare (Namespaces in XML 1.0, 3).
+
+ghost use Rattle.std.specs.Prelude.{◌≡◌, ◌++◌, true, IfOk, OnOk, map, option_map};
+ghost use Rattle.std.specs.Option.{option_to_list};
+ghost use Rattle.xs_pyx.specs.Row.{rows_of, first_row};
+ghost use Rattle.xs_pyx.specs.Reading.{reading};
+ghost use Rattle.xs_build.specs.Start.{begins_with, binding_of, line_binding, reading_binding, declarations};
+ghost use Rattle.xs_build.specs.Tag.{binding, bindings_of};
+
+use crate::qnames::{declared_prefix, is_bad_binding, qname_parts};
+use crate::scope::Declared;
+use std::alloc::{AllocError, Global};
+use xs_pyx::{Line, LineFault, next_line, skip_line};
+use xs_tree::NameText;
+
+/// What an attribute of this name and value declares, if it declares something.
+#[tactic(auto, unfolding(crate::specs::Start::binding_of))]
+fn attribute_declaration(
+    alloc: Global,
+    name: &str,
+    value: &str,
+) -> Result<Option<Declared>, AllocError>
+    ensures { IfOk result (λ found. option_map binding found ≡ binding_of name.now value.now) }
+{
+    let Some((prefix, local)) = qname_parts(name) else {
+        return Ok(None);
+    };
+    let Some(prefix) = declared_prefix(prefix, local) else {
+        return Ok(None);
+    };
+    if is_bad_binding(prefix, value) {
+        return Ok(None);
+    }
+    Ok(Some(Declared {
+        prefix: NameText::of(alloc, prefix)?,
+        uri: NameText::of(alloc, value)?,
+    }))
+}
+
+fn line_declaration(alloc: Global, line: &Line) -> Result<Option<Declared>, AllocError>
+    ensures { IfOk result (λ found. option_map binding found ≡ line_binding line.now) }
+{
+    match line {
+        Line::Attr { name, value } => attribute_declaration(alloc, name.as_str(), value.as_str()),
+        _ => Ok(None),
+    }
+}
+
+fn is_attribute(bytes: &[u8]) -> bool
+    ensures { result ≡ begins_with 65 bytes.now }
+{
+    matches!(bytes, [b'A', ..])
+}
+
+/// What the first line declares, which is an attribute line. One that does not begin with `Axmlns` is not read.
+fn first_declaration(alloc: Global, bytes: &[u8]) -> Result<Option<Declared>, AllocError>
+    requires { begins_with 65 bytes.now ≡ true }
+    ensures { IfOk result (λ found. option_map binding found ≡ reading_binding (reading (first_row bytes.now))) }
+{
+    if !bytes.starts_with(b"Axmlns") {
+        return Ok(None);
+    }
+    match next_line(alloc, bytes) {
+        Ok(Some((line, _))) => line_declaration(alloc, &line),
+        Ok(None) => Ok(None),
+        Err(LineFault::Bad { .. }) => Ok(None),
+        Err(LineFault::NoMemory) => Err(AllocError),
+    }
+}
+
+/// Adds what the first line declares, which is an attribute line.
+fn push_declaration(
+    declared: &mut Vec<Declared>,
+    alloc: Global,
+    bytes: &[u8],
+) -> Result<(), AllocError>
+    requires { begins_with 65 bytes.now ≡ true }
+    ensures { OnOk result (bindings_of declared.new ≡ bindings_of declared.old ++ option_to_list (reading_binding (reading (first_row bytes.now)))) }
+{
+    if let Some(found) = first_declaration(alloc, bytes)? {
+        declared.push(found)?;
+    }
+    Ok(())
+}
+
+/// What the attribute lines at the head of the bytes declare, in their order.
+pub fn declarations(alloc: Global, bytes: &[u8]) -> Result<Vec<Declared>, AllocError>
+    ensures { IfOk result (λ declared. bindings_of declared ≡ declarations (rows_of bytes.now)) }
+{
+    let mut declared = Vec::new(alloc);
+    let mut rest = bytes;
+    while is_attribute(rest) {
+        push_declaration(&mut declared, alloc, rest)?;
+        rest = skip_line(rest);
+    }
+    Ok(declared)
+}

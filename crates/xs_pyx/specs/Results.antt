@@ -1,0 +1,37 @@
+-- What the calls of this crate answer, against what the bytes say.
+use Rattle.std.specs.Prelude.{◌≡◌, ℕ, ◌<◌, ◌≤◌, List, [], Option, None, Some, Result, Ok, Err, length, drop}
+use Rattle.xs_pyx.specs.declared.line.Line.{Line}
+use Rattle.xs_pyx.specs.declared.line.LineFault.{LineFault}
+use Rattle.xs_pyx.specs.declared.line.LineFault.TheVariants.{Bad, NoMemory}
+use Rattle.xs_pyx.specs.Row.{first_row, behind_row}
+use Rattle.xs_pyx.specs.Reading.{Reading, says, faulty, reading}
+
+-- a line was found that takes so many bytes
+pub record TakesLine (bytes : List ℕ) (line : Line) (taken : ℕ) : Type 0 where
+  pub some : 0 < taken
+  pub within : taken ≤ length bytes
+  pub says : reading (first_row bytes) ≡ says line
+  pub behind : drop taken bytes ≡ behind_row bytes
+
+-- the first line says nothing
+pub record IsFaulty (bytes : List ℕ) (number : ℕ) : Type 0 where
+  pub some : 0 < length bytes
+  pub faulty : reading (first_row bytes) ≡ faulty number
+
+-- There is no line exactly where there are no bytes; else the first line is what its bytes say, or has the fault that they have.
+-- Memory may run out.
+abbrev pub Reads : Result (Option (Line × ℕ)) LineFault → List ℕ → Type 0
+Reads (Ok None) bytes = bytes ≡ []
+Reads (Ok (Some found)) bytes = TakesLine bytes found.0 found.1
+Reads (Err (Bad number)) bytes = IsFaulty bytes number
+Reads (Err NoMemory) bytes = Unit {0}
+
+-- the line has no fault
+abbrev pub SaysLine : Reading → Type 0
+SaysLine said = (line : Line) × (said ≡ says line)
+
+-- What the reading of one line by itself answers. Memory may run out for a line that has no fault.
+abbrev pub IsReading : Result Line LineFault → Reading → Type 0
+IsReading (Ok line) said = said ≡ says line
+IsReading (Err (Bad number)) said = said ≡ faulty number
+IsReading (Err NoMemory) said = SaysLine said

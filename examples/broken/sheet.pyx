@@ -1,0 +1,15 @@
+(xsl:stylesheet
+Axmlns:xsl http://www.w3.org/1999/XSL/Transform
+Aversion 1.0
+(xsl:output
+Amethod text
+)xsl:output
+(xsl:template
+Amatch /
+-Hello, 
+(xsl:value-of
+Aselect greeting/name
+)xsl:value-of
+-!
+)xsl:template
+)xsl:stylesheet
