@@ -1,0 +1,6 @@
+mod BackwardAxes
+mod ForwardAxes
+mod Inside
+mod LawLemmas
+mod Ranges
+mod Roots

@@ -1,0 +1,6 @@
+use Rattle.xs_axes.proofs.ForwardAxes.{axis-children}
+use Rattle.xs_axes.proofs.starts.children.Goals as goal
+
+pub returns-clause-left : goal.returns-clause-left
+returns-clause-left c =
+    rw c.place_after-from.ensures.place (axis-children c.args.tree.now c.args.node c.place_after-from.ensures.tree c.requires)

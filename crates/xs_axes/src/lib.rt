@@ -1,0 +1,17 @@
+// The axes of XPath over a tree (XPath 1.0, 2.2).
+#![tactic(auto)]
+
+mod backward;
+mod documents;
+mod forward;
+pub mod laws;
+mod nodes;
+mod starts;
+mod walks;
+
+pub use nodes::{AxisNodes, axis_nodes};
+
+#[cfg(test)]
+mod test_trees;
+#[cfg(test)]
+mod tests;
