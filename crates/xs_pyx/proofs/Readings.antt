@@ -42,7 +42,7 @@ cut_behind_kind bytes view begins same some is met text =
     IsCharBoundary-after_ascii bytes 0 text long (kind_below (get_or bytes 0 0) first)
 
 -- a row is read as what its text says, or is no text
-reading_text : (bytes : List ℕ) (ended : Bool) → IsUtf8 bytes → reading (record { bytes = bytes; ended = ended }) ≡ kind_reading bytes ended
+pub reading_text : (bytes : List ℕ) (ended : Bool) → IsUtf8 bytes → reading (record { bytes = bytes; ended = ended }) ≡ kind_reading bytes ended
 unfolding reading
 reading_text bytes ended text = rw (is_utf8-from_IsUtf8 bytes text) refl
 

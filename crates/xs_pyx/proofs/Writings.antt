@@ -15,7 +15,7 @@ use Rattle.xs_pyx.specs.declared.line.Line.TheVariants.{Start, Attr, Chars, End,
 use Rattle.xs_pyx.specs.Row.{first_row, behind_row, is_line_feed}
 use Rattle.xs_pyx.specs.Reading.{Reading, says, reading, kind_reading, is_blank, name_in, value_in}
 use Rattle.xs_pyx.specs.Writing.{written, breaks_name, IsPlainName, IsPlain, HasTexts, IsReadBack}
-use Rattle.xs_pyx.proofs.Firsts.{before-at, after-at, any-at, any-fewer}
+use Rattle.xs_pyx.proofs.Firsts.{before-none, before-at, after-at, any-at, any-fewer}
 use Rattle.xs_pyx.proofs.Readings.{is_backslash, unescaped-front, unescaped_itself}
 
 -- a plain name
@@ -46,9 +46,13 @@ escaped-one_line (b ∷ text) =
     ∙ or_from _ _ (byte-one_line (letter_of b) b refl) (escaped-one_line text)
 
 -- a line that a line feed ends
-row-ended : (body more : List ℕ) → list_any is_line_feed body ≡ false → first_row (body ++ 10 ∷ more) ≡ record { bytes = body; ended = true }
+pub row-ended : (body more : List ℕ) → list_any is_line_feed body ≡ false → first_row (body ++ 10 ∷ more) ≡ record { bytes = body; ended = true }
 row-ended body more none =
     rw (before-at is_line_feed body 10 more none refl, any-at is_line_feed body 10 more refl) refl
+
+-- a line that none ends
+pub row-unended : (bytes : List ℕ) → list_any is_line_feed bytes ≡ false → first_row bytes ≡ record { bytes = bytes; ended = false }
+row-unended bytes none = rw (before-none is_line_feed bytes none, none) refl
 
 ascii_one : (b : ℕ) → b < 128 → (i : ℕ) → get_or (b ∷ []) i 0 < 128
 ascii_one b small zero = small

@@ -1,6 +1,7 @@
--- What one line says: by its first byte the start of an element, an attribute, a text, the end of an element, a processing
--- instruction or a comment. A line that says nothing has a fault: 3 BadUtf8, 1 BadLine, 2 BadEscape or 4 NoFinalLineFeed, of
--- which the first in this order counts.
+-- What one line says, as a function of its bytes, for the crates above. By its first byte a line is the start of an element, an
+-- attribute, a text, the end of an element, a processing instruction or a comment. A line that says nothing has a fault: 3
+-- BadUtf8, 1 BadLine, 2 BadEscape or 4 NoFinalLineFeed, of which the first in this order counts. `Lines` has the same by rules,
+-- and `LineLaws` says that both agree.
 use Rattle.std.specs.Prelude.{ℕ, List, [], ◌∷◌, Bool, ◌==◌, ◌||◌, if◌then◌else◌, is_some, unwrap_or}
 use Rattle.std.specs.List.{before_first, after_first}
 use Rattle.std.specs.Str.{is_utf8}

@@ -1,4 +1,4 @@
--- The lines of a document as its bytes have them, before anything is read of them.
+-- The lines of a document as its bytes have them, before anything is read of them. `Lines` has the same by rules.
 use Rattle.std.specs.Prelude.{ℕ, List, [], ◌∷◌, ◌++◌, Bool, true, false, ◌==◌, if◌then◌else◌}
 use Rattle.std.specs.List.{before_first, after_first, list_any}
 

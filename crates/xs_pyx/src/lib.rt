@@ -1,6 +1,7 @@
 //! Documents in PYX form, line by line.
 #![tactic(auto)]
 
+pub mod laws;
 pub mod line;
 mod read;
 #[cfg(test)]

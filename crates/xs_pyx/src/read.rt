@@ -5,13 +5,13 @@ ghost use Rattle.std.specs.List.{list_any};
 ghost use Rattle.xs_text.specs.Escapes.{unescaped};
 ghost use Rattle.xs_pyx.specs.Row.{first_row, behind_row, rows_of, is_line_feed};
 ghost use Rattle.xs_pyx.specs.Reading.{reading, kind_reading, rest_reading, begins_line, line_of, name_in, value_in, data_of};
-ghost use Rattle.xs_pyx.specs.Results.{Reads, IsReading, SaysLine};
+ghost use Rattle.xs_pyx.specs.Results.{Reads, Finds, IsReading, SaysLine};
 
 use crate::line::{Line, LineFault};
 use memchr::memchr;
 use std::alloc::{AllocError, Global};
 use std::str::from_utf8;
-use xs_text::{is_well_escaped, unescape_into};
+use xs_text::{TextFault, is_well_escaped, unescape_into};
 use xs_trace::text::TextBuf;
 
 /// The bytes of the first line without its line feed, whether a line feed ends it, and the bytes behind it.
@@ -34,19 +34,24 @@ fn has_backslash(text: &str) -> bool
     memchr(b'\\', text.as_bytes()).is_some()
 }
 
-/// The data that a written text stands for. One without a backslash stands for itself.
+/// The data that a well escaped text stands for. One without a backslash stands for itself.
 #[tactic(auto, using(crate::proofs::Readings::unescaped_itself))]
 fn read_data(alloc: Global, written: &str) -> Result<TextBuf, AllocError>
+    requires { IsSome (unescaped written.now) }
     ensures { IfOk result (λ text. text ≡ data_of written.now) }
 {
     if !has_backslash(written) {
         return TextBuf::of(alloc, written);
     }
     let mut read = Vec::with_capacity(alloc, written.len())?;
-    unescape_into(&mut read, written).map_err(|_| AllocError)?;
+    match unescape_into(&mut read, written) {
+        Ok(()) => (),
+        Err(TextFault::NoMemory) => return Err(AllocError),
+        Err(TextFault::BadEscape) => unreachable!(),
+    }
     match String::from_utf8(read) {
         Ok(text) => Ok(TextBuf::from_string(text)),
-        Err(_) => Err(AllocError),
+        Err(_) => unreachable!(),
     }
 }
 
@@ -61,7 +66,9 @@ fn split_name(rest: &str) -> (&str, &str)
     }
 }
 
+#[tactic(auto, using(crate::proofs::Sayings::value_escaped))]
 fn read_attribute(alloc: Global, rest: &str) -> Result<Line, AllocError>
+    requires { IsSome (unescaped rest.now) }
     ensures { IfOk result (λ line. line ≡ Line.Attr (name_in rest.now) (data_of (value_in rest.now))) }
 {
     let (name, value) = split_name(rest);
@@ -71,7 +78,9 @@ fn read_attribute(alloc: Global, rest: &str) -> Result<Line, AllocError>
     })
 }
 
+#[tactic(auto, using(crate::proofs::Sayings::value_escaped))]
 fn read_instruction(alloc: Global, rest: &str) -> Result<Line, AllocError>
+    requires { IsSome (unescaped rest.now) }
     ensures { IfOk result (λ line. line ≡ Line.Pi (name_in rest.now) (data_of (value_in rest.now))) }
 {
     let (target, value) = split_name(rest);
@@ -81,8 +90,9 @@ fn read_instruction(alloc: Global, rest: &str) -> Result<Line, AllocError>
     })
 }
 
-/// The line with this first byte and this rest.
+/// The line with this first byte and this rest, which is well escaped.
 fn read_kind(alloc: Global, kind: u8, rest: &str) -> Result<Line, AllocError>
+    requires { IsSome (unescaped rest.now) }
     ensures { IfOk result (λ line. line ≡ line_of kind rest.now) }
 {
     match kind {
@@ -145,9 +155,11 @@ fn read_row(alloc: Global, bytes: &[u8], ended: bool) -> Result<Line, LineFault>
 /// The first line of a document, and how many bytes it takes, the line feed at its end among them.
 ///
 /// There is no line exactly where `bytes` is empty. `Bad` has the fault of the first line by itself; `NoMemory` says that
-/// memory ran out for a line that has no fault.
+/// memory ran out for a line that has no fault. `lines` says so by the relation between bytes and whole lines, `first` by the
+/// function `reading`.
 pub fn next_line(alloc: Global, bytes: &[u8]) -> Result<Option<(Line, usize)>, LineFault>
     ensures first { Reads result bytes.now }
+    ensures lines { Finds result bytes.now }
     ensures rows { 0 < length bytes.now → rows_of bytes.now ≡ first_row bytes.now ∷ rows_of (behind_row bytes.now) }
 
     // A fault is told even where there is no memory.

@@ -1,5 +1,9 @@
 //! Lines as an editor would write them by hand.
 
+ghost use Rattle.std.specs.Prelude.{◌≡◌, ◌∷◌, [], true, false, codes};
+ghost use Rattle.xs_pyx.specs.Reading.{says, faulty};
+ghost use Rattle.xs_pyx.specs.Lines.{AreLines, Says};
+
 use crate::{Line, LineFault, TextBuf, next_line, skip_line, write_line};
 use std::test::*;
 
@@ -63,6 +67,43 @@ fn takes(rt: &HostRuntime, bytes: &[u8], want: usize) -> bool {
     }
 }
 
+/// What single rows say by the relation between bytes and lines.
+fn worked_lines()
+    ensures name { Says (record { bytes = codes "(a:b"; ended = true }) (says (Line.Start (codes "a:b"))) }
+    ensures pair_in_name { Says (record { bytes = codes "(a\\n"; ended = true }) (says (Line.Start (codes "a\\n"))) }
+    ensures no_space { Says (record { bytes = codes "Ax"; ended = true }) (says (Line.Attr (codes "x") [])) }
+    ensures space_at_end { Says (record { bytes = codes "Ax "; ended = true }) (says (Line.Attr (codes "x") [])) }
+    ensures two_spaces { Says (record { bytes = codes "?a b c"; ended = true }) (says (Line.Pi (codes "a") (codes "b c"))) }
+    ensures space_first { Says (record { bytes = codes "A  x"; ended = true }) (says (Line.Attr [] (codes " x"))) }
+    ensures pairs { Says (record { bytes = codes "Aa\\n \\n"; ended = true }) (says (Line.Attr (codes "a\\n") (10 ∷ []))) }
+    ensures empty_text { Says (record { bytes = codes "-"; ended = true }) (says (Line.Chars [])) }
+    ensures carriage_return { Says (record { bytes = 45 ∷ 97 ∷ 13 ∷ []; ended = true }) (says (Line.Chars (97 ∷ 13 ∷ []))) }
+{}
+
+/// The faults of single rows by the relation, where several might be meant.
+fn worked_faults()
+    ensures not_utf8 { Says (record { bytes = 45 ∷ 92 ∷ 113 ∷ 255 ∷ []; ended = false }) (faulty 3) }
+    ensures empty { Says (record { bytes = []; ended = true }) (faulty 1) }
+    ensures unknown { Says (record { bytes = codes "x\\q"; ended = false }) (faulty 1) }
+    ensures pair_over_space { Says (record { bytes = codes "A\\ b"; ended = true }) (faulty 2) }
+    ensures bad_pair_unended { Says (record { bytes = codes "-\\q"; ended = false }) (faulty 2) }
+    ensures last_backslash { Says (record { bytes = codes "C\\"; ended = true }) (faulty 2) }
+    ensures unended { Says (record { bytes = codes "-x"; ended = false }) (faulty 4) }
+{}
+
+/// A document of two lines, and one of none.
+fn worked_documents()
+    ensures two { AreLines (40 ∷ 114 ∷ 10 ∷ 41 ∷ 114 ∷ 10 ∷ []) (Line.Start (codes "r") ∷ Line.End (codes "r") ∷ []) }
+    ensures none { AreLines [] [] }
+{}
+
+#[test]
+fn worked_rows(_rt: HostRuntime) {
+    worked_lines();
+    worked_faults();
+    worked_documents();
+}
+
 #[test]
 fn names_as_written(rt: HostRuntime) {
     assert!(rt; reads_start(&rt, b"(a:b\n", "a:b"));
@@ -75,6 +116,8 @@ fn names_as_written(rt: HostRuntime) {
 fn texts_without_escapes(rt: HostRuntime) {
     assert!(rt; reads_chars(&rt, "-é € 𝄞\n".as_bytes(), "é € 𝄞"));
     assert!(rt; reads_chars(&rt, b"- a\n", " a"));
+    assert!(rt; reads_chars(&rt, b"-\n", ""));
+    assert!(rt; reads_chars(&rt, b"-a\r\n", "a\r"));
     assert!(rt; reads_comment(&rt, b"C\n", ""));
     assert!(rt; reads_comment(&rt, b"C-x \n", "-x "));
 }
@@ -145,6 +188,7 @@ fn escapes_come_third(rt: HostRuntime) {
     assert!(rt; has_fault(&rt, b"-a\\\n", 2));
     assert!(rt; has_fault(&rt, b"(a\\q\n", 2));
     assert!(rt; has_fault(&rt, b"Aa\\q b\n", 2));
+    assert!(rt; has_fault(&rt, b"A\\ b\n", 2));
     assert!(rt; has_fault(&rt, b"?a \\ n\n", 2));
     assert!(rt; has_fault(&rt, b"-\\q", 2));
 }

@@ -1,0 +1,5 @@
+use Rattle.xs_pyx.proofs.Sayings as law
+use Rattle.xs_pyx.proofs.laws.bytes_are_cut.Goals as goal
+
+pub returns : goal.returns
+returns c = law.bytes_are_cut

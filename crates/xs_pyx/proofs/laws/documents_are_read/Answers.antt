@@ -1,0 +1,5 @@
+use Rattle.xs_pyx.proofs.Sayings as law
+use Rattle.xs_pyx.proofs.laws.documents_are_read.Goals as goal
+
+pub returns : goal.returns
+returns c = law.documents_are_read
