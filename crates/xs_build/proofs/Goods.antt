@@ -14,18 +14,23 @@ use Rattle.xs_tree.specs.Kinds.{rank}
 use Rattle.xs_tree.specs.Shape.{KeepsOrder}
 use Rattle.xs_tree.specs.declared.kinds.Kind.TheVariants.{Attribute}
 use Rattle.xs_tree.specs.declared.names.Name.{Name}
-use Rattle.xs_tree.proofs.ShapeLemmas.{KeepsOrder-added}
+use Rattle.xs_tree.proofs.ShapeLemmas.{length-added, KeepsOrder-added}
 use Rattle.xs_build.specs.declared.expanded.Expanded.{Expanded}
 use Rattle.xs_build.specs.declared.opened.Opened.{Opened}
 use Rattle.xs_build.specs.Limits.{most_nodes}
-use Rattle.xs_build.specs.Namespaces.{Written, is_empty, is_ncname, is_bad_binding, qname_of, element_name, attribute_name, declared_prefix, expanded, scope_with}
+use Rattle.xs_build.specs.Namespaces.{Written, is_empty, is_ncname, is_bad_binding, qname_of, element_name, attribute_name, declared_prefix, scope_with}
+use Rattle.xs_build.specs.Context.{expanded}
 use Rattle.xs_build.specs.Start.{declarations}
-use Rattle.xs_build.specs.Context.{Context, innermost, scope_of, element, attribute, spaces, text_node, comment, instruction}
-use Rattle.xs_build.specs.Document.{Step, bad, gives, rule, needs, adds, past, with_name, same_name, is_space, declaration_name, is_xml, start_step, declaration_step, plain_step, written_step, attribute_step, close, end_step, instruction_step, comment_step}
+use Rattle.xs_build.specs.Context.{Context, innermost, scope_of}
+use Rattle.xs_build.specs.Nodes.{element, attribute, spaces, text_node, comment, instruction}
+use Rattle.xs_build.specs.Meaning.{Step, bad, gives, rule, needs, adds, past, with_name, same_name, declaration_name, start_step, declaration_step, plain_step, written_step, attribute_step, close, end_step, instruction_step, comment_step}
+use Rattle.xs_text.specs.Names.{is_space}
+use Rattle.xs_build.specs.Namespaces.{is_xml}
 use Rattle.xs_build.specs.State.{State, Next, stops, goes, initial, context, with_text_node, ended, placed, taken, moved, spoken_outside, spoken_first, spoken_inside, spoken, stepped, next_line}
-use Rattle.xs_build.specs.Open.{IsWell, IsGood}
+use Rattle.xs_build.specs.Open.{StandFrom, IsWell, IsGood}
 use Rattle.xs_build.proofs.Laws.{ended_is}
-use Rattle.xs_build.proofs.Wells.{well_added, well_text, well_left, well_entered, order_entered, well_spaces, order_spaces}
+use Rattle.xs_build.proofs.Standing.{stand_last}
+use Rattle.xs_build.proofs.Wells.{well_added, well_text, well_left, well_entered, well_spaced, order_entered, well_spaces, order_spaces}
 
 abbrev pub GoodNext : Next → Type 0
 GoodNext (stops number line) = Unit {0}
@@ -102,9 +107,12 @@ counted_entered rs nodes r ls line h = omega (arith, h, length-append rs (r ∷ 
 
 well_start : (rs : List Record) (os : List Opened) (full : Name) (o : Opened) → IsWell rs os → o.node ≡ length rs → IsWell (rs ++ element full (innermost os) ∷ spaces o.node o.scope) (o ∷ os)
 well_start rs os full o w is =
-    let h : IsWell ((rs ++ element full (innermost os) ∷ []) ++ spaces o.node o.scope) (o ∷ os) = well_spaces o.scope (rs ++ element full (innermost os) ∷ []) o os (well_entered rs os full o w is) in
-    let e : (rs ++ element full (innermost os) ∷ []) ++ spaces o.node o.scope ≡ rs ++ element full (innermost os) ∷ spaces o.node o.scope = append_assoc rs (element full (innermost os) ∷ []) (spaces o.node o.scope) in
-    rw (← e) h
+    let front = rs ++ element full (innermost os) ∷ [] in
+    let bare : Opened = record o { scope = [] } in
+    let h : IsWell (front ++ spaces o.node o.scope) (bare ∷ os) = well_spaces o.scope front bare os (well_entered rs os full bare refl w is) in
+    let stand : StandFrom (front ++ spaces o.node o.scope) (o.node + 1) (spaces o.node o.scope) = stand_last front (o.node + 1) (spaces o.node o.scope) (omega (arith, length-added rs (element full (innermost os)), is)) in
+    let e : front ++ spaces o.node o.scope ≡ rs ++ element full (innermost os) ∷ spaces o.node o.scope = append_assoc rs (element full (innermost os) ∷ []) (spaces o.node o.scope) in
+    subst (λ t. IsWell t (o ∷ os)) e (well_spaced (front ++ spaces o.node o.scope) o os h stand)
 
 order_start : (rs : List Record) (os : List Opened) (full : Name) (o : Opened) → o.node ≡ length rs → KeepsOrder (rs ++ element full (innermost os) ∷ spaces o.node o.scope) o.node Attribute
 order_start rs os full o is =

@@ -15,10 +15,15 @@ use Rattle.xs_tree.specs.declared.names.Name.{Name}
 use Rattle.xs_build.specs.declared.expanded.Expanded.{Expanded}
 use Rattle.xs_build.specs.declared.opened.Opened.{Opened}
 use Rattle.xs_build.specs.Limits.{most_nodes}
-use Rattle.xs_build.specs.Namespaces.{Bindings, Written, is_empty, qname_of, element_name, attribute_name, declared_prefix, expanded, scope_with, is_ncname, is_bad_binding}
+use Rattle.xs_build.specs.Namespaces.{Bindings, Written, is_empty, qname_of, element_name, attribute_name, declared_prefix, scope_with, is_ncname, is_bad_binding}
+use Rattle.xs_build.specs.Context.{expanded}
 use Rattle.xs_build.specs.Start.{is_text_row, text_ahead, declarations}
-use Rattle.xs_build.specs.Context.{Context, at_start, innermost, scope_of, element, attribute, space, spaces, text_node, comment, instruction}
-use Rattle.xs_build.specs.Document.{Step, bad, gives, rule, needs, adds, past, with_name, same_name, is_space, declaration_name, is_xml, start_step, declaration_step, plain_step, written_step, attribute_step, text_step, close, end_step, instruction_step, comment_step, row_step, Outcome, tree, refused, put_before, and_then, at_end, meaning}
+use Rattle.xs_build.specs.Context.{Context, at_start, innermost, scope_of}
+use Rattle.xs_build.specs.Nodes.{element, attribute, space, spaces, text_node, comment, instruction}
+use Rattle.xs_build.specs.Meaning.{Step, bad, gives, rule, needs, adds, past, with_name, same_name, declaration_name, start_step, declaration_step, plain_step, written_step, attribute_step, text_step, close, end_step, instruction_step, comment_step, row_step, put_before, and_then, at_end, meaning}
+use Rattle.xs_text.specs.Names.{is_space}
+use Rattle.xs_build.specs.Namespaces.{is_xml}
+use Rattle.xs_build.specs.Document.{Outcome, tree, refused}
 use Rattle.xs_build.specs.State.{State, Next, stops, goes, initial, context, with_text_node, ended, with_items, placed, taken, moved, spoken, stepped, next_line}
 use Rattle.xs_build.specs.Open.{IsGood}
 use Rattle.xs_build.specs.Left.{going_on, behind, left, concluded}
@@ -45,11 +50,11 @@ length_with : (ls : List ℕ) (line : ℕ) (nodes : List Record) → length (wit
 length_with ls line [] = omega arith
 length_with ls line (n ∷ nodes) = length-append ls (line ∷ map (λ _. line) nodes) ∙ ap (λ k. length ls + k) (length-map (n ∷ nodes) (λ (_ : Record). line))
 
-text_ahead_none : (row : Row) (rows : List Row) → is_text_row row ≡ false → text_ahead (row ∷ rows) ≡ []
+pub text_ahead_none : (row : Row) (rows : List Row) → is_text_row row ≡ false → text_ahead (row ∷ rows) ≡ []
 unfolding text_ahead
 text_ahead_none row rows h = rw (take_while-cons is_text_row row rows, h) refl
 
-text_ahead_more : (row : Row) (rows : List Row) (text : List ℕ) → is_text_row row ≡ true → reading row ≡ says (Chars text) → text_ahead (row ∷ rows) ≡ text ++ text_ahead rows
+pub text_ahead_more : (row : Row) (rows : List Row) (text : List ℕ) → is_text_row row ≡ true → reading row ≡ says (Chars text) → text_ahead (row ∷ rows) ≡ text ++ text_ahead rows
 unfolding text_ahead
 text_ahead_more row rows text h e = rw (take_while-cons is_text_row row rows, h, e) refl
 

@@ -18,6 +18,7 @@ use Rattle.xs_build.specs.Left.{left, concluded, fault_at, Goes}
 use Rattle.xs_build.specs.Open.{IsGood}
 use Rattle.xs_build.specs.Results.{Builds}
 use Rattle.xs_build.specs.State.{State, stops, goes, initial, context, stepped, next_line, Steps}
+use Rattle.xs_build.proofs.Agreement.{agreement}
 use Rattle.xs_build.proofs.Declaring.{attribute_first}
 use Rattle.xs_build.proofs.Goods.{GoodNext, good_line, good_next}
 use Rattle.xs_build.proofs.Laws.{after, after_line, after_bad, after_all, from_start}
@@ -92,7 +93,7 @@ whole r s t bytes rest h same b = subst (Builds r) (sym h ∙ same) b
 -- a document of at most as many bytes as the limit, and a longer one
 pub within_limit : (limit : ℕ) (bytes : List ℕ) → length bytes ≤ limit → document limit bytes ≡ left initial (rows_of bytes)
 unfolding document
-within_limit limit bytes h = let yes : nat_le (length bytes) limit ≡ true = grind (arith, nat_tests) in rw yes (sym (from_start (rows_of bytes)))
+within_limit limit bytes h = let yes : nat_le (length bytes) limit ≡ true = grind (arith, nat_tests) in rw yes (agreement (rows_of bytes) ∙ sym (from_start (rows_of bytes)))
 
 pub beyond_limit : (limit : ℕ) (bytes : List ℕ) → limit < length bytes → document limit bytes ≡ refused 11 0
 unfolding document

@@ -1,11 +1,16 @@
+pub mod Agreement
+pub mod Copies
 pub mod Cuts
 pub mod Declaring
 pub mod Goods
+pub mod Judging
 pub mod Laws
 pub mod Lefts
+pub mod Placing
 pub mod Readings
 pub mod Scopes
 pub mod SpaceNodes
+pub mod Standing
 pub mod Starts
 pub mod Texts
 pub mod Wells

@@ -13,7 +13,7 @@ use Rattle.xs_build.specs.Start.{begins_with, is_attribute_row, is_text_row}
 use Rattle.xs_build.specs.declared.expanded.Expanded.{Expanded}
 use Rattle.xs_build.specs.Context.{Context}
 use Rattle.xs_build.specs.Left.{fault_at}
-use Rattle.xs_build.specs.Document.{bad, attribute_step, line_step, row_step}
+use Rattle.xs_build.specs.Meaning.{bad, attribute_step, line_step, row_step}
 
 -- the first byte of a line
 abbrev pub kind_of : Line → ℕ
@@ -71,7 +71,7 @@ begins row l h =
       | inr f ↦ (let no : faulty 3 ≡ says l = rw f at h in cc)
     ]
 
-begins_other : (a b : ℕ) (bytes : List ℕ) → (a == b) ≡ false → begins_with a bytes ≡ true → begins_with b bytes ≡ false
+pub begins_other : (a b : ℕ) (bytes : List ℕ) → (a == b) ≡ false → begins_with a bytes ≡ true → begins_with b bytes ≡ false
 begins_other a b [] n h = refl
 begins_other a b (x ∷ xs) n h = grind (arith, nat_tests)
 

@@ -1,15 +1,19 @@
 -- Bindings that are taken over, added and looked up.
 use Rattle.std.proofs.Common.{◌≡◌, ℕ, List, [], ◌∷◌, ◌++◌, true, false, Some, length, eqb, refl, sym, ◌∙◌, ap, arith, unwrap_or, option_map, map}
 use Rattle.std.proofs.lemmas.List.{map-append}
+use Rattle.std.specs.Prelude.{not}
 use Rattle.std.specs.List.{AllZip}
 use Rattle.std.specs.BTreeMap.{insert_entry, is_at}
 use Rattle.std.specs.Map.{remove_entry}
 use Rattle.std.proofs.lemmas.List.Elements.{same_from_all_zip}
 use Rattle.std.proofs.lemmas.Bool.Decides.{nat_tests}
 use Rattle.xs_tree.specs.Names.{order_of_texts}
+use Rattle.xs_build.specs.declared.opened.Opened.{Opened}
 use Rattle.xs_build.specs.declared.scope.Declared.{Declared}
 use Rattle.xs_build.specs.Tag.{binding}
-use Rattle.xs_build.specs.Namespaces.{Binding, Bindings, bound, scope_with, uri_in, uri_of, named, element_name, attribute_name}
+use Rattle.xs_build.specs.Context.{scope_of}
+use Rattle.xs_build.specs.Open.{HasBindings}
+use Rattle.xs_build.specs.Namespaces.{Binding, Bindings, is_empty, bound, scope_with, uri_in, uri_of, named, element_name, attribute_name}
 
 same_pair : (x y : Binding) → (y.0 ≡ x.0) × (y.1 ≡ x.1) → y ≡ x
 same_pair x y h = ap (λ (k : List ℕ). (k, y.1)) h.0 ∙ ap (λ (v : List ℕ). (x.0, v)) h.1
@@ -37,6 +41,11 @@ pub with_none : (ds : List Declared) (outer : Bindings) → length ds ≡ 0 → 
 unfolding scope_with
 with_none [] outer h = refl
 with_none (d ∷ ds) outer h = absurd (omega arith)
+
+-- an element that declares nothing has the bindings of the one around it
+pub has_same : (os : List Opened) (ds : List Declared) (scope : Bindings) → length ds ≡ 0 → not (is_empty os) ≡ true → scope ≡ scope_with (map binding ds) (scope_of os) → HasBindings os scope
+has_same [] ds scope none inside is = absurd (cc)
+has_same (o ∷ os) ds scope none inside is = is ∙ sym (with_none ds o.scope none)
 
 -- one declaration less to bind
 pub with_popped : (old new : List Declared) (d : Declared) (before after whole : Bindings) → old ≡ new ++ d ∷ [] → after ≡ bound (d.prefix, d.uri) before → scope_with (map binding old) before ≡ whole → scope_with (map binding new) after ≡ whole

@@ -6,7 +6,7 @@ use Rattle.xs_tree.specs.Shape.{IsOpen, KeepsOrder}
 use Rattle.xs_tree.proofs.ShapeLemmas.{at-append, length-added, IsOpen-added, KeepsOrder-added}
 use Rattle.xs_build.specs.Limits.{most_nodes}
 use Rattle.xs_build.specs.Namespaces.{Binding, Bindings}
-use Rattle.xs_build.specs.Context.{space, spaces}
+use Rattle.xs_build.specs.Nodes.{space, spaces}
 
 -- an element in which only namespace nodes stand so far, and those that are left to add give the whole
 pub record IsSpaced (tree : List Record) (element : ℕ) (left : Bindings) (whole : List Record) : Type 0 where

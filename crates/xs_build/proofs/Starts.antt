@@ -14,8 +14,9 @@ use Rattle.xs_build.specs.declared.fault.BuildFault.TheVariants.{Bad, NoMemory}
 use Rattle.xs_build.specs.declared.opened.Opened.{Opened}
 use Rattle.xs_build.specs.Limits.{most_nodes}
 use Rattle.xs_build.specs.Namespaces.{Bindings}
-use Rattle.xs_build.specs.Context.{Context, innermost, element, space, spaces}
-use Rattle.xs_build.specs.Document.{close, end_step}
+use Rattle.xs_build.specs.Context.{Context, innermost}
+use Rattle.xs_build.specs.Nodes.{element, space, spaces}
+use Rattle.xs_build.specs.Meaning.{close, end_step}
 use Rattle.xs_build.specs.Entering.{Names, with_element, named_start, entered, closed_step}
 use Rattle.xs_build.specs.State.{State, stops, goes, context, ended, placed, moved, Steps}
 use Rattle.xs_build.specs.Open.{IsGood}

@@ -1,5 +1,5 @@
 -- The open elements stay open while records are added inside the innermost of them.
-use Rattle.std.proofs.Common.{◌≡◌, ℕ, ◌<◌, ◌≤◌, List, [], ◌∷◌, ◌++◌, Some, refl, ◌∙◌, ap, length, append_assoc, append-nil, arith}
+use Rattle.std.proofs.Common.{◌≡◌, ℕ, ◌+◌, ◌<◌, ◌≤◌, List, [], ◌∷◌, ◌++◌, Some, refl, ◌∙◌, ap, length, append_assoc, append-nil, arith}
 use Rattle.xs_tree.specs.declared.kinds.Kind.TheVariants.{Attribute}
 use Rattle.xs_tree.specs.declared.names.Name.{Name}
 use Rattle.xs_tree.specs.Shape.{KeepsOrder}
@@ -8,9 +8,11 @@ use Rattle.xs_tree.proofs.ShapeLemmas.{at-append, at-added, length-added, IsOpen
 use Rattle.xs_build.specs.declared.opened.Opened.{Opened}
 use Rattle.xs_build.specs.Namespaces.{Bindings}
 use Rattle.xs_build.specs.Stack.{without_innermost}
-use Rattle.xs_build.specs.Context.{innermost, element, space, spaces, text_node}
+use Rattle.xs_build.specs.Context.{innermost}
+use Rattle.xs_build.specs.Nodes.{element, space, spaces, text_node}
 use Rattle.xs_build.specs.State.{with_text_node}
-use Rattle.xs_build.specs.Open.{Stands, IsWell}
+use Rattle.xs_build.specs.Open.{Stands, StandFrom, IsWell, HasBindings}
+use Rattle.xs_build.proofs.Standing.{stand_append, stand_none}
 
 Stands-added : (rs : List Record) (r : Record) (p : ℕ) (os : List Opened) → r.parent ≡ Some p → innermost os ≤ p → Stands rs os → Stands (rs ++ r ∷ []) os
 Stands-added rs r p [] is below s = tt
@@ -19,7 +21,8 @@ Stands-added rs r p (q ∷ qs) is below s = (
   ap (λ (x : Record). x.kind) (at-append rs (r ∷ []) q.node s.0) ∙ s.1,
   IsOpen-added rs r q.node p is below s.2,
   s.3,
-  Stands-added rs r p qs is (omega (arith, s.3, below)) s.4,
+  stand_append rs (r ∷ []) (q.node + 1) (spaces q.node q.scope) s.4,
+  Stands-added rs r p qs is (omega (arith, s.3, below)) s.5,
 )
 
 pub well_added : (rs : List Record) (os : List Opened) (r : Record) → IsWell rs os → r.parent ≡ Some (innermost os) → IsWell (rs ++ r ∷ []) os
@@ -40,11 +43,20 @@ well_within rs (o ∷ os) w = w.stack.0
 
 pub well_left : (rs : List Record) (os : List Opened) → IsWell rs os → IsWell rs (without_innermost os)
 well_left rs [] w = w
-well_left rs (o ∷ os) w = record { some = w.some; root = w.root; inside = w.inside; stack = w.stack.4 }
+well_left rs (o ∷ os) w = record { some = w.some; root = w.root; inside = w.inside; stack = w.stack.5 }
 
--- an element that was added and is open now
-pub well_entered : (rs : List Record) (os : List Opened) (name : Name) (o : Opened) → IsWell rs os → o.node ≡ length rs → IsWell (rs ++ element name (innermost os) ∷ []) (o ∷ os)
-well_entered rs os name o w is =
+-- the namespace nodes of the innermost open element
+pub well_alike : (rs : List Record) (os : List Opened) (scope : Bindings) → HasBindings os scope → IsWell rs os → StandFrom rs (innermost os + 1) (spaces (innermost os) scope)
+well_alike rs [] scope has w = absurd has
+well_alike rs (o ∷ os) scope has w = rw has w.stack.4
+
+-- they stay behind it when a node is added
+pub alike_behind : (rs new : List Record) (r : Record) (os : List Opened) (parent : ℕ) (scope : Bindings) → HasBindings os scope → IsWell rs os → parent ≡ innermost os → new ≡ rs ++ r ∷ [] → StandFrom new (parent + 1) (spaces parent scope)
+alike_behind rs new r os parent scope has w is put = rw (put, is) (stand_append rs (r ∷ []) (innermost os + 1) (spaces (innermost os) scope) (well_alike rs os scope has w))
+
+-- an element that was added and is open now, before its namespace nodes are there
+pub well_entered : (rs : List Record) (os : List Opened) (name : Name) (o : Opened) → o.scope ≡ [] → IsWell rs os → o.node ≡ length rs → IsWell (rs ++ element name (innermost os) ∷ []) (o ∷ os)
+well_entered rs os name o bare w is =
     let r = element name (innermost os) in
     let v = well_added rs os r w refl in
     record {
@@ -56,9 +68,19 @@ well_entered rs os name o w is =
         rw is (ap (λ (x : Record). x.kind) (at-added rs r)),
         rw is (IsOpen-last rs r),
         rw is (well_within rs os w),
+        rw bare (stand_none (rs ++ r ∷ []) (o.node + 1) (omega (arith, length-added rs r, is))),
         v.stack,
       );
     }
+
+-- the same element, with its namespace nodes
+pub well_spaced : (rs : List Record) (o : Opened) (os : List Opened) → IsWell rs (record o { scope = [] } ∷ os) → StandFrom rs (o.node + 1) (spaces o.node o.scope) → IsWell rs (o ∷ os)
+well_spaced rs o os w s = record {
+  some = w.some;
+  root = w.root;
+  inside = w.inside;
+  stack = (w.stack.0, w.stack.1, w.stack.2, w.stack.3, s, w.stack.5);
+}
 
 pub order_entered : (rs : List Record) (os : List Opened) (name : Name) → KeepsOrder (rs ++ element name (innermost os) ∷ []) (length rs) Attribute
 order_entered rs os name = KeepsOrder-last rs (element name (innermost os)) Attribute

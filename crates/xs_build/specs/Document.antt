@@ -1,180 +1,84 @@
--- The tree that the lines of a document stand for, or the fault of the least bad line.
-use Rattle.std.specs.Prelude.{ℕ, ◌+◌, ◌-◌, List, [], ◌∷◌, ◌++◌, Bool, true, false, not, ◌&&◌, ◌||◌, ◌==◌, nat_le, Option, None, Some, if◌then◌else◌, codes, length, map, is_none}
-use Rattle.std.specs.Char.{to_ascii_lowercase}
-use Rattle.std.specs.List.{list_all, list_any}
-use Rattle.std.specs.Str.{bytes_eq}
+-- The tree that the bytes of a document stand for, or the fault of the least bad line.
+use Rattle.std.specs.Prelude.{ℕ, ◌+◌, List, [], ◌∷◌, not, nat_le, Option, if◌then◌else◌, is_some, length, map, option_map, reverse}
+use Rattle.std.specs.List.{filter_map, flat_map}
 use Rattle.xs_pyx.specs.Row.{Row, rows_of}
-use Rattle.xs_pyx.specs.Reading.{Reading, says, faulty, reading}
-use Rattle.xs_pyx.specs.declared.line.Line.{Line}
-use Rattle.xs_pyx.specs.declared.line.Line.TheVariants.{Start, Attr, Chars, End, Pi, Comment}
+use Rattle.xs_pyx.specs.Reading.{reading}
 use Rattle.xs_tree.specs.Record.{Record, root_record}
-use Rattle.xs_build.specs.declared.expanded.Expanded.{Expanded}
-use Rattle.xs_build.specs.declared.opened.Opened.{Opened}
-use Rattle.xs_build.specs.Limits.{most_nodes}
-use Rattle.xs_build.specs.Namespaces.{Written, expanded, is_empty, is_ncname, qname_of, scope_with, element_name, attribute_name, declared_prefix, is_bad_binding, xmlns_uri}
-use Rattle.xs_build.specs.Start.{is_attribute_row, declarations, text_ahead}
-use Rattle.xs_build.specs.Context.{Context, at_start, innermost, scope_of, element, attribute, spaces, text_node, comment, instruction}
+use Rattle.xs_build.specs.Around.{Around, around, nesting, going_back, open_name, has_start}
+use Rattle.xs_build.specs.Rules.{reading_nodes, reading_faults, first_fault, is_stray}
 
--- What one line comes to: the number of its fault, or the nodes that it gives and where the next line stands.
-pub data Step : Type 0 where
-  bad : ℕ → Step
-  gives : List Record → Context → Step
+-- a line among the others: those before it, the nearest first, the line, and those behind it
+pub record Place : Type 0 where
+  pub before : List Row
+  pub row : Row
+  pub behind : List Row
 
--- a rule, and the fault of a line that breaks it
-abbrev pub rule : Bool → ℕ → Step → Step
-rule true number next = next
-rule false number next = bad number
+abbrev pub around_place : Place → Around
+around_place p = around p.before (p.row ∷ p.behind)
 
--- what has to be there, and the fault of a line where it is not
-abbrev pub needs : {X : Type 0} → Option X → ℕ → (X → Step) → Step
-needs None number next = bad number
-needs (Some x) number next = next x
+-- how many nodes a line gives; wherever they stand, they are as many
+abbrev pub count_at : Place → ℕ
+count_at p = length (reading_nodes (around_place p) p.behind 0 0 (reading p.row))
 
--- these nodes, if there is room for them: else 11 TooLarge
-abbrev pub adds : Context → List Record → Context → Step
-adds c nodes next = rule (nat_le (c.nodes + length nodes) most_nodes) 11 (gives nodes next)
+-- how many nodes stand before a line, the root among them
+unfoldable pub nodes_before : List Row → List Row → ℕ
+nodes_before [] lines = 1
+nodes_before (row ∷ before) lines = nodes_before before (row ∷ lines) + count_at (record { before = before; row = row; behind = lines })
 
--- an attribute that comes next follows no start tag, and a text that comes next begins a new node
-abbrev pub past : Context → List Opened → ℕ → Context
-past c around added = record { around = around; begun = c.begun; tag = None; in_text = false; nodes = c.nodes + added }
+-- the node of an open element, the innermost but for so many that are passed over; the root where no more are open
+unfoldable pub open_node : ℕ → List Row → List Row → ℕ
+open_node passed [] lines = 0
+open_node passed (row ∷ before) lines = going_back (nesting row) passed (λ name. nodes_before before (row ∷ lines)) (λ n. open_node n before (row ∷ lines))
 
--- The start of an element: in another one, or the only one outside (5 Unbalanced; XML 1.0, 2.1); a QName (7 BadName) whose prefix
--- is bound by the same start tag or around it (8 UnboundPrefix). It gives the element and its namespace nodes.
-unfoldable pub start_step : Context → List ℕ → List Row → Step
-start_step c name rows =
-    let scope = scope_with (declarations rows) (scope_of c.around) in
-    rule (not c.begun || not (is_empty c.around)) 5
-    (needs (qname_of name) 7 (λ w.
-    (needs (element_name scope w) 8 (λ full.
-    adds c (element full (innermost c.around) ∷ spaces c.nodes scope)
-    (record { around = record { name = name; node = c.nodes; scope = scope } ∷ c.around; begun = true; tag = Some []; in_text = false; nodes = c.nodes + 1 + length scope })))))
+-- the nodes that a line gives
+unfoldable pub nodes_at : Place → List Record
+nodes_at p = reading_nodes (around_place p) p.behind (open_node 0 p.before (p.row ∷ p.behind)) (nodes_before p.before (p.row ∷ p.behind)) (reading p.row)
 
--- whether two expanded names are the same (Namespaces in XML 1.0, 6.3)
-abbrev pub same_name : Expanded → Expanded → Bool
-same_name a b = bytes_eq a.uri b.uri && bytes_eq a.local b.local
+-- the fault of a line, the first in the order of the table; None: it has none
+unfoldable pub fault_at : Place → Option ℕ
+fault_at p = first_fault (reading_faults (around_place p) p.behind (nodes_before p.before (p.row ∷ p.behind) + count_at p) (is_stray (around_place p) p.row) (reading p.row))
 
--- one more attribute in the start tag, of an expanded name that none before it has (9 DoubleAttribute)
-abbrev pub with_name : List Expanded → Expanded → Step → Step
-with_name seen name next = rule (not (list_any (same_name name) seen)) 9 next
+-- the number of the line
+abbrev pub number_at : Place → ℕ
+number_at p = length p.before + 1
 
--- the expanded name of a declaration, which two of one prefix share
-abbrev pub declaration_name : List ℕ → Expanded
-declaration_name prefix = record { uri = xmlns_uri; local = prefix }
+-- the places of these lines, where others stand before them
+abbrev pub places : List Row → List Row → List Place
+places before [] = []
+places before (row ∷ behind) = record { before = before; row = row; behind = behind } ∷ places (row ∷ before) behind
 
--- A declaration is no node. It may not be one that is forbidden (10 BadNamespace).
-unfoldable pub declaration_step : Context → List Expanded → List ℕ → List ℕ → Step
-declaration_step c seen value prefix =
-    with_name seen (declaration_name prefix)
-    (rule (not (is_bad_binding prefix value)) 10
-    (gives [] (record c { tag = Some (seen ++ declaration_name prefix ∷ []) })))
-
--- An attribute whose prefix is bound (8 UnboundPrefix).
-unfoldable pub plain_step : Context → List Expanded → List ℕ → Written → Step
-plain_step c seen value w =
-    needs (attribute_name (scope_of c.around) w) 8 (λ name.
-    with_name seen (expanded name)
-    (adds c (attribute name value (innermost c.around) ∷ []) (record c { tag = Some (seen ++ expanded name ∷ []); nodes = c.nodes + 1 })))
-
-abbrev pub written_step : Context → List Expanded → List ℕ → Written → Option (List ℕ) → Step
-written_step c seen value w None = plain_step c seen value w
-written_step c seen value w (Some prefix) = declaration_step c seen value prefix
-
--- An attribute or a declaration, of a name that is a QName (7 BadName). It has to follow the start of an element (1 BadLine).
-unfoldable pub attribute_step : Context → List ℕ → List ℕ → Step
-attribute_step c name value =
-    needs c.tag 1 (λ seen. needs (qname_of name) 7 (λ w. written_step c seen value w (declared_prefix w)))
-
--- white space (XML 1.0, 2.3)
-abbrev pub is_space : ℕ → Bool
-is_space b = b == 32 || b == 9 || b == 10 || b == 13
-
--- Outside the top element only white space may stand, which is dropped (5 Unbalanced; XML 1.0, 2.8).
-abbrev pub outer_text_step : Context → List ℕ → Step
-outer_text_step c text = rule (list_all is_space text) 5 (gives [] (past c [] 0))
-
--- Text in an element. Adjacent texts are one node, which the first that is not empty gives (XPath 1.0, 5.7).
-abbrev pub inner_text_step : Context → List ℕ → List Row → Step
-inner_text_step c text rows =
-    if c.in_text || is_empty text then gives [] (record c { tag = None })
-    else adds c (text_node (text ++ text_ahead rows) (innermost c.around) ∷ []) (record c { tag = None; in_text = true; nodes = c.nodes + 1 })
-
-unfoldable pub text_step : Context → List ℕ → List Row → Step
-text_step c text rows = if is_empty c.around then outer_text_step c text else inner_text_step c text rows
-
--- The end of the innermost open element, by its name (5 Unbalanced; XML 1.0, 3).
-abbrev pub close : Context → List Opened → List ℕ → Step
-close c [] name = bad 5
-close c (o ∷ os) name = rule (bytes_eq o.name name) 5 (gives [] (past c os 0))
-
-unfoldable pub end_step : Context → List ℕ → Step
-end_step c name = close c c.around name
-
--- `xml`, in any case
-abbrev pub is_xml : List ℕ → Bool
-is_xml target = bytes_eq (map to_ascii_lowercase target) (codes "xml")
-
--- A processing instruction: its target is an NCName and not `xml` (7 BadName; XML 1.0, 2.6). On line 1 a target `xml` is that of
--- an XML declaration, which gives no node.
-unfoldable pub instruction_step : Context → ℕ → List ℕ → List ℕ → Step
-instruction_step c line target text =
-    if line == 1 && is_xml target then gives [] (past c c.around 0)
-    else rule (is_ncname target && not (is_xml target)) 7
-    (adds c (instruction target text (innermost c.around) ∷ []) (past c c.around 1))
-
-unfoldable pub comment_step : Context → List ℕ → Step
-comment_step c text = adds c (comment text (innermost c.around) ∷ []) (past c c.around 1)
-
--- what a line says, in a context, with the lines behind it
-abbrev pub line_step : Context → ℕ → Line → List Row → Step
-line_step c line (Start name) rows = start_step c name rows
-line_step c line (Attr name value) rows = attribute_step c name value
-line_step c line (Chars text) rows = text_step c text rows
-line_step c line (End name) rows = end_step c name
-line_step c line (Pi target text) rows = instruction_step c line target text
-line_step c line (Comment text) rows = comment_step c text
-
-abbrev pub reading_step : Context → ℕ → Reading → List Row → Step
-reading_step c line (says l) rows = line_step c line l rows
-reading_step c line (faulty number) rows = bad number
-
--- An attribute line that follows no start tag is 1 BadLine, and 3 BadUtf8 alone comes before that.
-abbrev pub stray_step : Reading → Step
-stray_step (says l) = bad 1
-stray_step (faulty number) = if number == 3 then bad 3 else bad 1
-
-unfoldable pub row_step : Context → ℕ → Row → List Row → Step
-row_step c line row rows =
-    if is_attribute_row row && is_none c.tag then stray_step (reading row) else reading_step c line (reading row) rows
-
--- What lines stand for: nodes, and the line of each; or the fault of the least bad line, with the number of that line.
+-- What lines stand for: nodes, and the line of each; or a fault, with the number of a line.
 pub data Outcome : Type 0 where
   tree : List Record → List ℕ → Outcome
   refused : ℕ → ℕ → Outcome
 
--- with these nodes before the others, each of them on this line
-abbrev pub put_before : List Record → ℕ → Outcome → Outcome
-put_before nodes line (tree more lines) = tree (nodes ++ more) (map (λ _. line) nodes ++ lines)
-put_before nodes line (refused number at) = refused number at
+-- the number of the fault of a bad line, and that of the line
+abbrev pub bad_at : Place → Option (ℕ × ℕ)
+bad_at p = option_map (λ fault. (fault, number_at p)) (fault_at p)
 
--- one line, and what the others stand for behind it
-abbrev pub and_then : ℕ → Step → (Context → Outcome) → Outcome
-and_then line (bad number) rest = refused number line
-and_then line (gives nodes c) rest = put_before nodes line (rest c)
+-- Where no line is bad: there is an element (6 NoRoot), and none is open at the end (12 Truncated), each with the number of the
+-- last line; else the nodes of all lines, one after another. The root is on line 0.
+abbrev pub without_bad_line : List Row → List Record → List ℕ → Outcome
+without_bad_line before nodes lines =
+    if not (has_start before) then refused 6 (length before)
+    else if is_some (open_name 0 before) then refused 12 (length before)
+    else tree nodes lines
 
--- After the last line there was an element (6 NoRoot), and none is open (12 Truncated).
-abbrev pub at_end : Context → ℕ → Outcome
-at_end c last =
-    if not c.begun then refused 6 last
-    else if not (is_empty c.around) then refused 12 last
-    else tree [] []
+-- the least bad line, or else what there is without one
+abbrev pub refused_first : List (ℕ × ℕ) → Outcome → Outcome
+refused_first [] whole = whole
+refused_first (b ∷ bs) whole = refused b.0 b.1
 
--- what the lines from this number on stand for, in a context
-unfoldable pub meaning : Context → ℕ → List Row → Outcome
-meaning c line [] = at_end c (line - 1)
-meaning c line (row ∷ rows) = and_then line (row_step c line row rows) (λ next. meaning next (line + 1) rows)
+abbrev pub lines_at : Place → List ℕ
+lines_at p = map (λ _. number_at p) (nodes_at p)
 
--- What the bytes of a document stand for. The root is on line 0, and so is the fault of more bytes than the limit
--- (11 TooLarge), which comes before all others.
+-- what lines stand for
+abbrev pub outcome : List Row → Outcome
+outcome rows =
+    let ps = places [] rows in
+    refused_first (filter_map bad_at ps) (without_bad_line (reverse rows) (root_record ∷ flat_map nodes_at ps) (0 ∷ flat_map lines_at ps))
+
+-- What the bytes of a document stand for. More bytes than the limit are a fault of line 0 (11 TooLarge), which comes before all
+-- others.
 unfoldable pub document : ℕ → List ℕ → Outcome
-document limit bytes =
-    if nat_le (length bytes) limit then put_before (root_record ∷ []) 0 (meaning at_start 1 (rows_of bytes)) else refused 11 0
+document limit bytes = if nat_le (length bytes) limit then outcome (rows_of bytes) else refused 11 0

@@ -5,8 +5,9 @@ use Rattle.xs_build.specs.declared.fault.BuildFault.{BuildFault}
 use Rattle.xs_build.specs.declared.fault.BuildFault.TheVariants.{Bad, NoMemory}
 use Rattle.xs_build.specs.Namespaces.{Bindings, qname_of, element_name}
 use Rattle.xs_build.specs.Stack.{is_innermost, without_innermost}
-use Rattle.xs_build.specs.Context.{Context, innermost, element, spaces}
-use Rattle.xs_build.specs.Document.{Step, bad, gives, rule, needs, adds, past}
+use Rattle.xs_build.specs.Context.{Context, innermost}
+use Rattle.xs_build.specs.Nodes.{element, spaces}
+use Rattle.xs_build.specs.Meaning.{Step, bad, gives, rule, needs, adds, past}
 use Rattle.xs_build.specs.State.{State, ended}
 
 -- Wherever the name of an element is needed it is this one, or this line has this fault. Memory may run out.

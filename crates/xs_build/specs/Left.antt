@@ -6,7 +6,8 @@ use Rattle.xs_build.specs.declared.fault.BuildFault.{BuildFault}
 use Rattle.xs_build.specs.declared.fault.BuildFault.TheVariants.{Bad, NoMemory}
 use Rattle.xs_build.specs.Start.{text_ahead}
 use Rattle.xs_build.specs.Context.{innermost}
-use Rattle.xs_build.specs.Document.{Outcome, tree, refused, at_end, meaning}
+use Rattle.xs_build.specs.Document.{Outcome, tree, refused}
+use Rattle.xs_build.specs.Meaning.{at_end, meaning}
 use Rattle.xs_build.specs.State.{State, context, with_text_node}
 
 -- a text and what goes on with it; an empty one is none, and nothing does

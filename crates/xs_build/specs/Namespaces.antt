@@ -1,5 +1,6 @@
 -- Names and the namespaces that they are in (Namespaces in XML 1.0).
-use Rattle.std.specs.Prelude.{ℕ, List, [], ◌∷◌, Bool, true, false, not, ◌&&◌, ◌||◌, ◌==◌, Option, None, Some, if◌then◌else◌, unwrap_or, codes, option_map}
+use Rattle.std.specs.Prelude.{ℕ, List, [], ◌∷◌, Bool, true, false, not, ◌&&◌, ◌||◌, ◌==◌, Option, None, Some, if◌then◌else◌, unwrap_or, codes, option_map, map}
+use Rattle.std.specs.Char.{to_ascii_lowercase}
 use Rattle.std.specs.List.{list_any, before_first, after_first}
 use Rattle.std.specs.Str.{bytes_eq, chars}
 use Rattle.std.specs.BTreeMap.{insert_entry, is_at}
@@ -7,7 +8,6 @@ use Rattle.std.specs.Map.{lookup, remove_entry}
 use Rattle.xs_text.specs.Names.{spells_ncname}
 use Rattle.xs_tree.specs.Names.{order_of_texts}
 use Rattle.xs_tree.specs.declared.names.Name.{Name}
-use Rattle.xs_build.specs.declared.expanded.Expanded.{Expanded}
 
 -- the namespace of the prefix `xml` (Namespaces in XML 1.0, 3)
 abbrev pub xml_uri : List ℕ
@@ -78,8 +78,16 @@ abbrev pub named : Written → List ℕ → Name
 named w uri = record { uri = uri; local = w.local; prefix = w.prefix }
 
 -- a name without the prefix that it is written with (Namespaces in XML 1.0, 2.1)
-abbrev pub expanded : Name → Expanded
-expanded name = record { uri = name.uri; local = name.local }
+pub record ExpandedName : Type 0 where
+  pub uri : List ℕ
+  pub local : List ℕ
+
+abbrev pub expanded_name : Name → ExpandedName
+expanded_name name = record { uri = name.uri; local = name.local }
+
+-- the same URI and the same local part (Namespaces in XML 1.0, 6.3)
+abbrev pub are_same : ExpandedName → ExpandedName → Bool
+are_same a b = bytes_eq a.uri b.uri && bytes_eq a.local b.local
 
 -- an element without a prefix is in the default namespace (Namespaces in XML 1.0, 6.2)
 unfoldable pub element_name : Bindings → Written → Option Name
@@ -97,6 +105,15 @@ declared_prefix w =
     else if bytes_eq w.prefix (codes "xmlns") then Some w.local
     else None
 
+-- an attribute that declares a prefix is in the namespace of `xmlns`, so that two that declare one prefix have the same name
+abbrev pub declaring_name : List ℕ → ExpandedName
+declaring_name prefix = record { uri = xmlns_uri; local = prefix }
+
+-- The expanded name of an attribute; None: its prefix is not bound.
+abbrev pub attribute_expanded : Bindings → Written → Option (List ℕ) → Option ExpandedName
+attribute_expanded scope w None = option_map expanded_name (attribute_name scope w)
+attribute_expanded scope w (Some prefix) = Some (declaring_name prefix)
+
 -- A prefix that is declared as nothing, the prefix `xmlns`, the prefix `xml` for another URI than its own, and its URI or that of
 -- `xmlns` for another prefix or as the default (Namespaces in XML 1.0, 2.2 and 3).
 unfoldable pub is_bad_binding : List ℕ → List ℕ → Bool
@@ -106,3 +123,7 @@ is_bad_binding prefix uri =
     || bytes_eq prefix (codes "xml") && not (bytes_eq uri xml_uri)
     || not (bytes_eq prefix (codes "xml")) && bytes_eq uri xml_uri
     || bytes_eq uri xmlns_uri
+
+-- `xml`, in any case, which no processing instruction has as its target (XML 1.0, 2.6)
+abbrev pub is_xml : List ℕ → Bool
+is_xml target = bytes_eq (map to_ascii_lowercase target) (codes "xml")

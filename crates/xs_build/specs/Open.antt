@@ -1,17 +1,31 @@
 -- The open elements among the records that were read.
-use Rattle.std.specs.Prelude.{◌≡◌, ◌<◌, ◌≤◌, List, [], ◌∷◌, IsSome, length}
+use Rattle.std.specs.Prelude.{◌≡◌, ℕ, ◌+◌, ◌<◌, ◌≤◌, List, [], ◌∷◌, ◌++◌, IsSome, length}
 use Rattle.xs_tree.specs.declared.kinds.Kind.TheVariants.{Root, Element, Attribute}
 use Rattle.xs_tree.specs.Record.{Record, at}
 use Rattle.xs_tree.specs.Shape.{IsOpen, KeepsOrder}
 use Rattle.xs_build.specs.declared.opened.Opened.{Opened}
 use Rattle.xs_build.specs.Limits.{most_nodes}
+use Rattle.xs_build.specs.Namespaces.{Bindings}
 use Rattle.xs_build.specs.Context.{innermost}
+use Rattle.xs_build.specs.Nodes.{spaces}
 use Rattle.xs_build.specs.State.{State, with_text_node}
 
--- Each open element, the innermost first, is an element that stays open, inside the next.
+-- these nodes stand one after another, the first of them at this place
+pub record StandFrom (records : List Record) (place : ℕ) (nodes : List Record) : Type 0 where
+  pub before : List Record
+  pub behind : List Record
+  pub from : length before ≡ place
+  pub among : records ≡ before ++ (nodes ++ behind)
+
+-- Each open element, the innermost first, is an element that stays open, inside the next, with its namespace nodes right behind it.
 abbrev pub Stands : List Record → List Opened → Type 0
 Stands records [] = Unit {0}
-Stands records (o ∷ os) = (o.node < length records) × ((at records o.node).kind ≡ Element) × IsOpen records o.node × (innermost os < o.node) × Stands records os
+Stands records (o ∷ os) = (o.node < length records) × ((at records o.node).kind ≡ Element) × IsOpen records o.node × (innermost os < o.node) × StandFrom records (o.node + 1) (spaces o.node o.scope) × Stands records os
+
+-- an element is open, and these are the bindings in force in the innermost one
+abbrev pub HasBindings : List Opened → Bindings → Type 0
+HasBindings [] scope = ⊥
+HasBindings (o ∷ os) scope = scope ≡ o.scope
 
 pub record IsWell (records : List Record) (around : List Opened) : Type 0 where
   pub some : 0 < length records

@@ -4,7 +4,7 @@ use Rattle.std.specs.List.{filter_map, flat_map}
 use Rattle.xs_pyx.specs.Row.{Row}
 use Rattle.xs_pyx.specs.Reading.{Reading, says, faulty, reading}
 use Rattle.xs_pyx.specs.declared.line.Line.{Line}
-use Rattle.xs_pyx.specs.declared.line.Line.TheVariants.{Start, Attr, Chars, End, Pi, Comment}
+use Rattle.xs_pyx.specs.declared.line.Line.TheVariants.{Attr, Chars}
 use Rattle.xs_build.specs.Namespaces.{Binding, qname_of, declared_prefix, is_bad_binding}
 
 abbrev pub begins_with : ℕ → List ℕ → Bool
@@ -28,12 +28,8 @@ unfoldable pub binding_of : List ℕ → List ℕ → Option Binding
 binding_of name value = option_and_then (bound_to value) (option_and_then declared_prefix (qname_of name))
 
 abbrev pub line_binding : Line → Option Binding
-line_binding (Start name) = None
 line_binding (Attr name value) = binding_of name value
-line_binding (Chars text) = None
-line_binding (End name) = None
-line_binding (Pi target value) = None
-line_binding (Comment text) = None
+line_binding line = None
 
 abbrev pub reading_binding : Reading → Option Binding
 reading_binding (says line) = line_binding line
@@ -45,13 +41,8 @@ unfoldable pub declarations : List Row → List Binding
 declarations rows = filter_map (λ row. reading_binding (reading row)) (take_while is_attribute_row rows)
 
 abbrev pub reading_text : Reading → List ℕ
-reading_text (says (Start name)) = []
-reading_text (says (Attr name value)) = []
 reading_text (says (Chars text)) = text
-reading_text (says (End name)) = []
-reading_text (says (Pi target value)) = []
-reading_text (says (Comment text)) = []
-reading_text (faulty number) = []
+reading_text other = []
 
 -- the text of the text lines at the head of these lines, which are one text node (XPath 1.0, 5.7)
 unfoldable pub text_ahead : List Row → List ℕ

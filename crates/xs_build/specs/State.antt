@@ -12,8 +12,10 @@ use Rattle.xs_build.specs.declared.fault.BuildFault.TheVariants.{Bad, NoMemory}
 use Rattle.xs_build.specs.declared.opened.Opened.{Opened}
 use Rattle.xs_build.specs.Limits.{most_nodes}
 use Rattle.xs_build.specs.Namespaces.{is_empty}
-use Rattle.xs_build.specs.Context.{Context, innermost, text_node}
-use Rattle.xs_build.specs.Document.{Step, bad, gives, is_space, start_step, attribute_step, end_step, instruction_step, comment_step}
+use Rattle.xs_build.specs.Context.{Context, innermost}
+use Rattle.xs_build.specs.Nodes.{text_node}
+use Rattle.xs_build.specs.Meaning.{Step, bad, gives, start_step, attribute_step, end_step, instruction_step, comment_step}
+use Rattle.xs_text.specs.Names.{is_space}
 
 pub record State : Type 0 where
   pub records : List Record  -- the nodes, but for the text before the next line

@@ -3,8 +3,9 @@
 ghost use Rattle.std.specs.Prelude.{◌≡◌, ◌<◌, true, length, reverse, IfOk, OnOk};
 ghost use Rattle.xs_build.specs.Attributes.{named_step};
 ghost use Rattle.xs_build.specs.Context.{scope_of};
-ghost use Rattle.xs_build.specs.Document.{attribute_step, declaration_step, plain_step, written_step, declaration_name};
-ghost use Rattle.xs_build.specs.Namespaces.{attribute_name, declared_prefix, expanded};
+ghost use Rattle.xs_build.specs.Meaning.{attribute_step, declaration_step, plain_step, written_step, declaration_name};
+ghost use Rattle.xs_build.specs.Namespaces.{attribute_name, declared_prefix};
+ghost use Rattle.xs_build.specs.Context.{expanded};
 ghost use Rattle.xs_build.specs.Open.{IsGood};
 ghost use Rattle.xs_build.specs.State.{state, context, taken, Steps};
 
@@ -19,7 +20,7 @@ use xs_tree::{MOST_NODES, Name, NameText};
 
 impl Builder {
     /// Takes an attribute or a declaration.
-    #[tactic(auto, unfolding(crate::specs::Document::attribute_step))]
+    #[tactic(auto, unfolding(crate::specs::Meaning::attribute_step))]
     pub fn attribute(
         &mut self,
         alloc: Global,
@@ -59,7 +60,7 @@ impl Builder {
     }
 
     /// Takes a declaration, which is no node.
-    #[tactic(auto, unfolding(crate::specs::Document::declaration_step))]
+    #[tactic(auto, unfolding(crate::specs::Meaning::declaration_step))]
     fn declaration(&mut self, alloc: Global, prefix: &str, uri: &str) -> Result<(), BuildFault>
         requires { self.old.follows ≡ true }
         ensures step { Steps result (taken (state self.old) (declaration_step (context (state self.old)) self.old.seen.keys uri.now prefix.now)) (state self.new) }
@@ -75,7 +76,7 @@ impl Builder {
     }
 
     /// Takes an attribute that is a node.
-    #[tactic(auto, unfolding(crate::specs::Document::plain_step))]
+    #[tactic(auto, unfolding(crate::specs::Meaning::plain_step))]
     fn plain(
         &mut self,
         alloc: Global,

@@ -1,7 +1,7 @@
 //! Lines that are texts, processing instructions and comments.
 
 ghost use Rattle.std.specs.Prelude.{◌≡◌, false, [], OnOk, reverse, string_bytes};
-ghost use Rattle.xs_build.specs.Document.{gives, past, instruction_step, comment_step};
+ghost use Rattle.xs_build.specs.Meaning.{gives, past, instruction_step, comment_step};
 ghost use Rattle.xs_build.specs.Open.{IsGood};
 ghost use Rattle.xs_build.specs.State.{state, context, moved, spoken, spoken_inside, spoken_first, Steps};
 
@@ -60,7 +60,7 @@ impl Builder {
     }
 
     /// Takes a processing instruction. The XML declaration is none.
-    #[tactic(auto, unfolding(crate::specs::Document::instruction_step))]
+    #[tactic(auto, unfolding(crate::specs::Meaning::instruction_step))]
     pub fn instruction(
         &mut self,
         alloc: Global,
@@ -105,7 +105,7 @@ impl Builder {
     }
 
     /// Takes a comment.
-    #[tactic(auto, unfolding(crate::specs::Document::comment_step))]
+    #[tactic(auto, unfolding(crate::specs::Meaning::comment_step))]
     pub fn comment(&mut self, text: TextBuf) -> Result<(), BuildFault>
         requires { IsGood (state self.old) }
         ensures step { Steps result (moved (state self.old) (comment_step (context (state self.old)) text)) (state self.new) }

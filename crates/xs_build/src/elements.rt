@@ -1,23 +1,25 @@
 //! Lines that start and end an element.
 
-ghost use Rattle.std.specs.Prelude.{◌≡◌, ◌+◌, ◌≤◌, ◌∷◌, ◌++◌, length, map, reverse, IfOk, OnOk};
+ghost use Rattle.std.specs.Prelude.{◌≡◌, ◌+◌, ◌≤◌, ◌∷◌, ◌++◌, true, length, map, reverse, IfOk, OnOk};
 ghost use Rattle.std.specs.List.{range_with_len};
 ghost use Rattle.xs_pyx.specs.Row.{rows_of};
-ghost use Rattle.xs_build.specs.Context.{scope_of, innermost, element, spaces};
-ghost use Rattle.xs_build.specs.Document.{start_step};
+ghost use Rattle.xs_build.specs.Context.{scope_of, innermost};
+ghost use Rattle.xs_build.specs.Nodes.{element, spaces};
+ghost use Rattle.xs_build.specs.Meaning.{start_step};
 ghost use Rattle.xs_build.specs.Entering.{Names, named_start, entered, closed_step};
 ghost use Rattle.xs_build.specs.Limits.{most_nodes};
 ghost use Rattle.xs_build.specs.Namespaces.{outermost, scope_with};
-ghost use Rattle.xs_build.specs.Open.{IsGood, IsWell};
+ghost use Rattle.xs_build.specs.Open.{IsGood, IsWell, HasBindings};
 ghost use Rattle.xs_build.specs.Start.{declarations};
 ghost use Rattle.xs_build.specs.State.{state, context, moved, Steps};
+ghost use Rattle.xs_build.specs.Tag.{bindings_of};
 
 use crate::builder::Builder;
 use crate::fault::BuildFault;
 use crate::nodes::put_element;
 use crate::opened::{Opened, is_innermost, is_inside};
 use crate::qnames::qname_parts;
-use crate::scope::Scope;
+use crate::scope::{Declared, Scope};
 use crate::start_tag::declarations;
 use indexmap::IndexSet;
 use std::alloc::{AllocError, Global};
@@ -26,7 +28,7 @@ use xs_tree::{MOST_NODES, Name};
 
 impl Builder {
     /// Takes the start of an element, behind which `rest` stands.
-    #[tactic(auto, unfolding(crate::specs::Document::start_step))]
+    #[tactic(auto, unfolding(crate::specs::Meaning::start_step))]
     pub fn start(&mut self, alloc: Global, name: TextBuf, rest: &[u8]) -> Result<(), BuildFault>
         requires good { IsGood (state self.old) }
         requires outermost { self.old.outermost ≡ outermost }
@@ -36,13 +38,23 @@ impl Builder {
         if self.begun && !is_inside(self.around.as_slice()) {
             return Err(self.bad(5));
         }
-        let scope = self.scope_inside(alloc, rest)?;
-        self.start_in(alloc, name, scope)
+        let declared = declarations(alloc, rest)?;
+        let is_same = declared.is_empty() && is_inside(self.around.as_slice());
+        let scope = self.scope_inside(alloc, declared)?;
+        self.start_in(alloc, name, scope, is_same)
     }
 
-    /// Takes the start of an element in which these bindings are in force.
-    fn start_in(&mut self, alloc: Global, name: TextBuf, scope: Scope) -> Result<(), BuildFault>
-        requires { IsGood (state self.old) }
+    /// Takes the start of an element in which these bindings are in force. `is_same` only where they are those of the element
+    /// around it.
+    fn start_in(
+        &mut self,
+        alloc: Global,
+        name: TextBuf,
+        scope: Scope,
+        is_same: bool,
+    ) -> Result<(), BuildFault>
+        requires good { IsGood (state self.old) }
+        requires same { is_same ≡ true → HasBindings (state self.old).around scope }
         ensures step { Steps result (moved (state self.old) (named_start (context (state self.old)) name scope)) (state self.new) }
         ensures outermost { OnOk result (self.new.outermost ≡ self.old.outermost) }
     {
@@ -50,16 +62,15 @@ impl Builder {
         if self.lines.len() + scope.len() >= MOST_NODES {
             return Err(self.bad(11));
         }
-        self.enter(alloc, name, full, scope)?;
+        self.enter(alloc, name, full, scope, is_same)?;
         Ok(())
     }
 
-    /// The bindings in force in an element that starts before these bytes.
-    fn scope_inside(&self, alloc: Global, rest: &[u8]) -> Result<Scope, AllocError>
+    /// The bindings in force in an element that declares this.
+    fn scope_inside(&self, alloc: Global, declared: Vec<Declared>) -> Result<Scope, AllocError>
         requires { self.now.outermost ≡ outermost }
-        ensures { IfOk result (λ scope. scope ≡ scope_with (declarations (rows_of rest.now)) (scope_of (reverse self.now.around.items))) }
+        ensures { IfOk result (λ scope. scope ≡ scope_with (bindings_of declared) (scope_of (reverse self.now.around.items))) }
     {
-        let declared = declarations(alloc, rest)?;
         match self.around.as_slice().split_last() {
             Some((element, _)) => element.scope.with(alloc, declared),
             None => self.outermost.with(alloc, declared),
@@ -79,21 +90,25 @@ impl Builder {
         }
     }
 
-    /// Adds an element, which is the innermost open one from then on.
+    /// Adds an element, which is the innermost open one from then on. `is_same` only where its bindings are those of the
+    /// element around it.
     fn enter(
         &mut self,
         alloc: Global,
         name: TextBuf,
         full: Name,
         scope: Scope,
+        is_same: bool,
     ) -> Result<(), AllocError>
         requires good { IsGood (state self.old) }
+        requires same { is_same ≡ true → HasBindings (state self.old).around scope }
         requires room { length self.old.lines.items + 1 + length scope ≤ most_nodes }
         ensures entered { OnOk result (state self.new ≡ entered (state self.old) name full scope) }
         ensures outermost { OnOk result (self.new.outermost ≡ self.old.outermost) }
     {
         self.end_text()?;
-        let node = put_element(&mut self.tree, alloc, self.around.as_slice(), full, &scope)?;
+        let around = self.around.as_slice();
+        let node = put_element(&mut self.tree, alloc, around, full, &scope, is_same)?;
         self.lines.push(self.line)?;
         push_lines(&mut self.lines, self.line, scope.len())?;
         self.around.push(Opened { name, node, scope })?;

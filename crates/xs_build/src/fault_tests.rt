@@ -1,11 +1,17 @@
-//! The faults of lines and of a document, alone and in pairs, as the rules give them. The limits are tested elsewhere.
+//! The faults of lines and of a document, alone and in pairs, as the rules give them.
 
 use crate::{BuildFault, build_tree};
+use std::alloc::{AllocError, Global};
 use std::test::*;
 
-/// Whether a document has this fault at this line; number 0 stands for none.
+/// Whether a document of at most 1,000 bytes has this fault at this line; number 0 stands for none.
 fn has_fault(rt: &HostRuntime, bytes: &[u8], number: u8, line: u32) -> bool {
-    match build_tree(rt.alloc(), bytes, 1000) {
+    has_fault_within(rt, bytes, 1000, number, line)
+}
+
+/// Whether a document has this fault at this line, under a limit on its bytes.
+fn has_fault_within(rt: &HostRuntime, bytes: &[u8], limit: u16, number: u8, line: u32) -> bool {
+    match build_tree(rt.alloc(), bytes, u64::from(limit)) {
         Ok(_) => number == 0,
         Err(
             BuildFault::Bad {
@@ -305,4 +311,69 @@ fn no_fault(rt: HostRuntime) {
     for (bytes, number, line) in &table {
         assert!(rt; has_fault(&rt, bytes, *number, *line));
     }
+}
+
+/// Fault 11 for bytes, alone and before each other fault.
+#[test]
+fn too_many_bytes(rt: HostRuntime) {
+    let table: [(&[u8], u16, u8, u32); 17] = [
+        (b"", 0, 6, 0),
+        (b"\n", 0, 11, 0),
+        (b"(a\n)a\n", 6, 0, 0),
+        (b"(a\n)a\n", 5, 11, 0),
+        (b"(a\n)a\n", 0, 11, 0),
+        (b"!\xff\n", 3, 3, 1),
+        (b"!\xff\n", 2, 11, 0),
+        (b"!\n", 1, 11, 0),
+        (b"(a\n-\\q\n", 6, 11, 0),
+        (b"(a", 1, 11, 0),
+        (b")a\n", 2, 11, 0),
+        (b"C\n", 1, 11, 0),
+        (b"(1\n", 2, 11, 0),
+        (b"(p:a\n", 4, 11, 0),
+        (b"(a\nAx 1\nAx 2\n", 12, 11, 0),
+        (b"(a\nAxmlns:p \n", 12, 11, 0),
+        (b"(a\n", 2, 11, 0),
+    ];
+    for (bytes, limit, number, line) in &table {
+        assert!(rt; has_fault_within(&rt, bytes, *limit, *number, *line));
+    }
+}
+
+/// The start of a document of just 8,000,000 nodes, of which each element has 1,001 namespace nodes; its last line, 16,997,
+/// starts an element.
+fn full_document(alloc: Global) -> Result<Vec<u8>, AllocError> {
+    let mut bytes = Vec::new(alloc);
+    bytes.extend_from_slice(b"(a\n")?;
+    for number in 0..1000u32 {
+        bytes.extend_from_slice(format!(in alloc; "Axmlns:p{number} u\n")?.as_bytes())?;
+    }
+    for _comment in 0..31 {
+        bytes.extend_from_slice(b"C\n")?;
+    }
+    for _element in 0..7982 {
+        bytes.extend_from_slice(b"(b\n)b\n")?;
+    }
+    bytes.extend_from_slice(b"(b\n")?;
+    Ok(bytes)
+}
+
+/// Fault 11 for nodes: it comes at the line of the first node too many, behind the other faults of that line. A line without a
+/// node has none.
+#[test]
+fn too_many_nodes(rt: HostRuntime) -> Result<(), AllocError> {
+    let table: [(&[u8], u8, u32); 4] = [
+        (b"-\n)b\n)a\n", 0, 0),
+        (b"Ax 1\n", 11, 16_998),
+        (b"Axmlns:q u\n", 11, 16_997),
+        (b"Aq:x 1\n", 8, 16_998),
+    ];
+    let mut bytes = full_document(rt.alloc())?;
+    for (last, number, line) in &table {
+        let size = bytes.len();
+        bytes.extend_from_slice(last)?;
+        assert!(rt; has_fault_within(&rt, bytes.as_slice(), 65_000, *number, *line));
+        bytes.truncate(size);
+    }
+    Ok(())
 }

@@ -2,18 +2,19 @@
 //!
 //! There is room for each of them, as nodes are counted before they are added.
 
-ghost use Rattle.std.specs.Prelude.{◌≡◌, ◌+◌, ◌<◌, ◌≤◌, IsTrue, Some, [], ◌∷◌, ◌++◌, length, is_some, reverse, IfOk, OnOk};
+ghost use Rattle.std.specs.Prelude.{◌≡◌, ◌+◌, ◌<◌, ◌≤◌, IsTrue, true, Some, [], ◌∷◌, ◌++◌, length, is_some, reverse, IfOk, OnOk};
 ghost use Rattle.xs_tree.specs.Kinds.{bears_name, can_hold};
 ghost use Rattle.xs_tree.specs.Record.{at};
 ghost use Rattle.xs_tree.specs.Shape.{IsOpen, KeepsOrder};
-ghost use Rattle.xs_build.specs.Context.{innermost, element, attribute, spaces, comment, instruction, local_name};
+ghost use Rattle.xs_build.specs.Context.{innermost};
+ghost use Rattle.xs_build.specs.Nodes.{element, attribute, spaces, comment, instruction, local_name};
 ghost use Rattle.xs_build.specs.Limits.{most_nodes};
-ghost use Rattle.xs_build.specs.Open.{IsWell};
+ghost use Rattle.xs_build.specs.Open.{IsWell, HasBindings};
 ghost use Rattle.xs_build.specs.State.{with_text_node};
 
 use crate::opened::{Opened, innermost};
 use crate::scope::Scope;
-use crate::spaces::put_spaces;
+use crate::spaces::{copy_spaces, put_spaces};
 use std::alloc::{AllocError, Global};
 use xs_tree::{Kind, Name, NameText, Node, Tree, TreeFault};
 
@@ -55,20 +56,27 @@ pub fn put_text(tree: &mut Tree, around: &[Opened], text: &str) -> Result<(), Al
     Ok(())
 }
 
-/// Adds an element and its namespace nodes.
+/// Adds an element and its namespace nodes, which are copies of its parent's where `is_same`: the bindings are the same.
 pub fn put_element(
     tree: &mut Tree,
     alloc: Global,
     around: &[Opened],
     name: Name,
     scope: &Scope,
+    is_same: bool,
 ) -> Result<Node, AllocError>
     requires well { IsWell tree.old (reverse around.now) }
+    requires same { is_same ≡ true → HasBindings (reverse around.now) scope.now }
     requires room { length tree.old + 1 + length scope.now ≤ most_nodes }
     ensures put { OnOk result (tree.new ≡ tree.old ++ element name (innermost (reverse around.now)) ∷ spaces (length tree.old) scope.now) }
     ensures node { IfOk result (λ node. node ≡ length tree.old) }
 {
-    let node = put(tree, Kind::Element, Some(name), "", innermost(around))?;
+    let parent = innermost(around);
+    let node = put(tree, Kind::Element, Some(name), "", parent)?;
+    if is_same {
+        copy_spaces(tree, node, scope, parent)?;
+        return Ok(node);
+    }
     put_spaces(tree, alloc, node, scope)?;
     Ok(node)
 }

@@ -3,7 +3,8 @@
 ghost use Rattle.std.specs.Prelude.{◌≡◌, ◌&&◌, not, option_map};
 ghost use Rattle.std.specs.List.{list_all};
 ghost use Rattle.xs_build.specs.Namespaces.{Written, is_empty, is_ncname, prefixed, unprefixed, qname_of, declared_prefix, is_bad_binding};
-ghost use Rattle.xs_build.specs.Document.{is_space, is_xml};
+ghost use Rattle.xs_text.specs.Names.{is_space};
+ghost use Rattle.xs_build.specs.Namespaces.{is_xml};
 ghost use Rattle.xs_build.specs.Tag.{written_of};
 
 /// The namespace of the prefix `xml` (Namespaces in XML 1.0, 3).
@@ -103,5 +104,5 @@ pub fn is_white(text: &str) -> bool
     ensures { result ≡ list_all is_space text.now }
 {
     text.bytes()
-        .all(|b| matches!(b, b' ' | b'\t' | b'\n' | b'\r'))
+        .all(|b| matches!(b, b' ' | b'\t' | b'\r' | b'\n'))
 }

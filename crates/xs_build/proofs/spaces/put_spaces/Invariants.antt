@@ -1,5 +1,5 @@
 use Rattle.std.proofs.Common.{◌++◌}
-use Rattle.xs_build.specs.Context.{spaces}
+use Rattle.xs_build.specs.Nodes.{spaces}
 use Rattle.xs_build.proofs.SpaceNodes.{IsSpaced}
 use Rattle.xs_build.proofs.spaces.put_spaces.Given as goal
 

@@ -1,5 +1,5 @@
 use Rattle.std.proofs.Common.{sym, subst}
-use Rattle.xs_build.specs.Document.{Step}
+use Rattle.xs_build.specs.Meaning.{Step}
 use Rattle.xs_build.specs.State.{state, context, moved, Steps}
 use Rattle.xs_build.proofs.Starts.{end_is}
 use Rattle.xs_build.proofs.builder.Builder.take.Goals as goal

@@ -1,0 +1,168 @@
+-- A document line by line, in the order of the work: what a line comes to in the context that those before it left. That this is
+-- what Document says is a law (proofs/Agreement).
+use Rattle.std.specs.Prelude.{ℕ, ◌+◌, ◌-◌, List, [], ◌∷◌, ◌++◌, Bool, true, false, not, ◌&&◌, ◌||◌, ◌==◌, nat_le, Option, None, Some, if◌then◌else◌, length, map, is_none}
+use Rattle.std.specs.List.{list_all, list_any}
+use Rattle.std.specs.Str.{bytes_eq}
+use Rattle.xs_text.specs.Names.{is_space}
+use Rattle.xs_pyx.specs.Row.{Row}
+use Rattle.xs_pyx.specs.Reading.{Reading, says, faulty, reading}
+use Rattle.xs_pyx.specs.declared.line.Line.{Line}
+use Rattle.xs_pyx.specs.declared.line.Line.TheVariants.{Start, Attr, Chars, End, Pi, Comment}
+use Rattle.xs_tree.specs.Record.{Record, root_record}
+use Rattle.xs_build.specs.declared.expanded.Expanded.{Expanded}
+use Rattle.xs_build.specs.declared.opened.Opened.{Opened}
+use Rattle.xs_build.specs.Limits.{most_nodes}
+use Rattle.xs_build.specs.Namespaces.{Written, is_empty, is_ncname, is_xml, qname_of, scope_with, element_name, attribute_name, declared_prefix, is_bad_binding, xmlns_uri}
+use Rattle.xs_build.specs.Start.{is_attribute_row, declarations, text_ahead}
+use Rattle.xs_build.specs.Nodes.{element, attribute, spaces, text_node, comment, instruction}
+use Rattle.xs_build.specs.Document.{Outcome, tree, refused}
+use Rattle.xs_build.specs.Context.{Context, at_start, innermost, scope_of, expanded}
+
+-- What one line comes to: the number of its fault, or the nodes that it gives and where the next line stands.
+pub data Step : Type 0 where
+  bad : ℕ → Step
+  gives : List Record → Context → Step
+
+-- a rule, and the fault of a line that breaks it
+abbrev pub rule : Bool → ℕ → Step → Step
+rule true number next = next
+rule false number next = bad number
+
+-- what has to be there, and the fault of a line where it is not
+abbrev pub needs : {X : Type 0} → Option X → ℕ → (X → Step) → Step
+needs None number next = bad number
+needs (Some x) number next = next x
+
+-- these nodes, if there is room for them: else 11 TooLarge
+abbrev pub adds : Context → List Record → Context → Step
+adds c nodes next = rule (nat_le (c.nodes + length nodes) most_nodes) 11 (gives nodes next)
+
+-- an attribute that comes next follows no start tag, and a text that comes next begins a new node
+abbrev pub past : Context → List Opened → ℕ → Context
+past c around added = record { around = around; begun = c.begun; tag = None; in_text = false; nodes = c.nodes + added }
+
+-- The start of an element: in another one, or the only one outside (5 Unbalanced; XML 1.0, 2.1); a QName (7 BadName) whose prefix
+-- is bound by the same start tag or around it (8 UnboundPrefix). It gives the element and its namespace nodes.
+unfoldable pub start_step : Context → List ℕ → List Row → Step
+start_step c name rows =
+    let scope = scope_with (declarations rows) (scope_of c.around) in
+    rule (not c.begun || not (is_empty c.around)) 5
+    (needs (qname_of name) 7 (λ w.
+    (needs (element_name scope w) 8 (λ full.
+    adds c (element full (innermost c.around) ∷ spaces c.nodes scope)
+    (record { around = record { name = name; node = c.nodes; scope = scope } ∷ c.around; begun = true; tag = Some []; in_text = false; nodes = c.nodes + 1 + length scope })))))
+
+-- whether two expanded names are the same (Namespaces in XML 1.0, 6.3)
+abbrev pub same_name : Expanded → Expanded → Bool
+same_name a b = bytes_eq a.uri b.uri && bytes_eq a.local b.local
+
+-- one more attribute in the start tag, of an expanded name that none before it has (9 DoubleAttribute)
+abbrev pub with_name : List Expanded → Expanded → Step → Step
+with_name seen name next = rule (not (list_any (same_name name) seen)) 9 next
+
+-- the expanded name of a declaration, which two of one prefix share
+abbrev pub declaration_name : List ℕ → Expanded
+declaration_name prefix = record { uri = xmlns_uri; local = prefix }
+
+-- A declaration is no node. It may not be one that is forbidden (10 BadNamespace).
+unfoldable pub declaration_step : Context → List Expanded → List ℕ → List ℕ → Step
+declaration_step c seen value prefix =
+    with_name seen (declaration_name prefix)
+    (rule (not (is_bad_binding prefix value)) 10
+    (gives [] (record c { tag = Some (seen ++ declaration_name prefix ∷ []) })))
+
+-- An attribute whose prefix is bound (8 UnboundPrefix).
+unfoldable pub plain_step : Context → List Expanded → List ℕ → Written → Step
+plain_step c seen value w =
+    needs (attribute_name (scope_of c.around) w) 8 (λ name.
+    with_name seen (expanded name)
+    (adds c (attribute name value (innermost c.around) ∷ []) (record c { tag = Some (seen ++ expanded name ∷ []); nodes = c.nodes + 1 })))
+
+abbrev pub written_step : Context → List Expanded → List ℕ → Written → Option (List ℕ) → Step
+written_step c seen value w None = plain_step c seen value w
+written_step c seen value w (Some prefix) = declaration_step c seen value prefix
+
+-- An attribute or a declaration, of a name that is a QName (7 BadName). It has to follow the start of an element (1 BadLine).
+unfoldable pub attribute_step : Context → List ℕ → List ℕ → Step
+attribute_step c name value =
+    needs c.tag 1 (λ seen. needs (qname_of name) 7 (λ w. written_step c seen value w (declared_prefix w)))
+
+-- Outside the top element only white space may stand, which is dropped (5 Unbalanced; XML 1.0, 2.8).
+abbrev pub outer_text_step : Context → List ℕ → Step
+outer_text_step c text = rule (list_all is_space text) 5 (gives [] (past c [] 0))
+
+-- Text in an element. Adjacent texts are one node, which the first that is not empty gives (XPath 1.0, 5.7).
+abbrev pub inner_text_step : Context → List ℕ → List Row → Step
+inner_text_step c text rows =
+    if c.in_text || is_empty text then gives [] (record c { tag = None })
+    else adds c (text_node (text ++ text_ahead rows) (innermost c.around) ∷ []) (record c { tag = None; in_text = true; nodes = c.nodes + 1 })
+
+unfoldable pub text_step : Context → List ℕ → List Row → Step
+text_step c text rows = if is_empty c.around then outer_text_step c text else inner_text_step c text rows
+
+-- The end of the innermost open element, by its name (5 Unbalanced; XML 1.0, 3).
+abbrev pub close : Context → List Opened → List ℕ → Step
+close c [] name = bad 5
+close c (o ∷ os) name = rule (bytes_eq o.name name) 5 (gives [] (past c os 0))
+
+unfoldable pub end_step : Context → List ℕ → Step
+end_step c name = close c c.around name
+
+-- A processing instruction: its target is an NCName and not `xml` (7 BadName; XML 1.0, 2.6). On line 1 a target `xml` is that of
+-- an XML declaration, which gives no node.
+unfoldable pub instruction_step : Context → ℕ → List ℕ → List ℕ → Step
+instruction_step c line target text =
+    if line == 1 && is_xml target then gives [] (past c c.around 0)
+    else rule (is_ncname target && not (is_xml target)) 7
+    (adds c (instruction target text (innermost c.around) ∷ []) (past c c.around 1))
+
+unfoldable pub comment_step : Context → List ℕ → Step
+comment_step c text = adds c (comment text (innermost c.around) ∷ []) (past c c.around 1)
+
+-- what a line says, in a context, with the lines behind it
+abbrev pub line_step : Context → ℕ → Line → List Row → Step
+line_step c line (Start name) rows = start_step c name rows
+line_step c line (Attr name value) rows = attribute_step c name value
+line_step c line (Chars text) rows = text_step c text rows
+line_step c line (End name) rows = end_step c name
+line_step c line (Pi target text) rows = instruction_step c line target text
+line_step c line (Comment text) rows = comment_step c text
+
+abbrev pub reading_step : Context → ℕ → Reading → List Row → Step
+reading_step c line (says l) rows = line_step c line l rows
+reading_step c line (faulty number) rows = bad number
+
+-- An attribute line that follows no start tag is 1 BadLine, and 3 BadUtf8 alone comes before that.
+abbrev pub stray_step : Reading → Step
+stray_step (says l) = bad 1
+stray_step (faulty number) = if number == 3 then bad 3 else bad 1
+
+unfoldable pub row_step : Context → ℕ → Row → List Row → Step
+row_step c line row rows =
+    if is_attribute_row row && is_none c.tag then stray_step (reading row) else reading_step c line (reading row) rows
+
+-- with these nodes before the others, each of them on this line
+abbrev pub put_before : List Record → ℕ → Outcome → Outcome
+put_before nodes line (tree more lines) = tree (nodes ++ more) (map (λ _. line) nodes ++ lines)
+put_before nodes line (refused number at) = refused number at
+
+-- one line, and what the others stand for behind it
+abbrev pub and_then : ℕ → Step → (Context → Outcome) → Outcome
+and_then line (bad number) rest = refused number line
+and_then line (gives nodes c) rest = put_before nodes line (rest c)
+
+-- After the last line there was an element (6 NoRoot), and none is open (12 Truncated).
+abbrev pub at_end : Context → ℕ → Outcome
+at_end c last =
+    if not c.begun then refused 6 last
+    else if not (is_empty c.around) then refused 12 last
+    else tree [] []
+
+-- what the lines from this number on stand for, in a context
+unfoldable pub meaning : Context → ℕ → List Row → Outcome
+meaning c line [] = at_end c (line - 1)
+meaning c line (row ∷ rows) = and_then line (row_step c line row rows) (λ next. meaning next (line + 1) rows)
+
+-- what all lines stand for; the root is on line 0
+unfoldable pub stepped_document : List Row → Outcome
+stepped_document rows = put_before (root_record ∷ []) 0 (meaning at_start 1 rows)
