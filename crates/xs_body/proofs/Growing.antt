@@ -8,12 +8,13 @@ use Rattle.xs_trace.proofs.Grows.{Grows, same, before-then, by-grows, play-grows
 use Rattle.xs_trace.proofs.RunLaws.{limited-grows}
 use Rattle.xs_tree.specs.Record.{Record}
 use Rattle.xs_body.specs.declared.context.Context.{Context}
+use Rattle.xs_body.specs.declared.syntax.SpaceLabel.{SpaceLabel}
 use Rattle.xs_body.specs.Paths.{Way, Condition}
 use Rattle.xs_body.specs.Parts.{Part, Parts}
 use Rattle.xs_body.specs.Select.{children_named, down_from, selected, holds}
 use Rattle.xs_body.specs.Trace.{chars, each, part_trace, trace}
-use Rattle.xs_body.specs.Steps.{visited, found_from, down_steps, select_steps, test_steps, chars_steps, each_steps, part_steps, steps}
-use Rattle.xs_body.proofs.Laws.{visited-agrees, found-agrees, down-agrees, select-agrees, test-agrees, chars-agrees, each-agrees, part-agrees, steps-agree}
+use Rattle.xs_body.specs.Steps.{visited, found_from, down_steps, select_steps, test_steps, chars_steps, space_steps, each_steps, part_steps, steps}
+use Rattle.xs_body.proofs.Laws.{visited-agrees, found-agrees, down-agrees, select-agrees, test-agrees, chars-agrees, spaces-agree, spaces_trace, each-agrees, part-agrees, steps-agree}
 
 -- what is equal to a step that grows
 from : {A : Type 0} (g h : Step A) (s : State) → g ≡ h → Before s.told h → Before s.told g
@@ -36,6 +37,9 @@ test-grows condition p rs n s = from _ _ s (test-agrees condition p rs n s) (lim
 
 pub chars-grows : (p : Site) (t : List ℕ) → Grows (chars_steps p t)
 chars-grows p t s = from _ _ s (chars-agrees p t s) (play-grows (chars p t) s)
+
+pub spaces-grow : (spaces : List SpaceLabel) → Grows (space_steps spaces)
+spaces-grow spaces s = from _ _ s (spaces-agree spaces s) (play-grows (spaces_trace spaces) s)
 
 pub part-grows : (x : Part) (p : Site) (rs : List Record) (c : Context) → Grows (part_steps x p rs c)
 part-grows x p rs c s = from _ _ s (part-agrees x p rs c s) (play-grows (part_trace x p rs c) s)

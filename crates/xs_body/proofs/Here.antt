@@ -2,15 +2,17 @@
 use Rattle.std.proofs.Common.{◌≡◌, ℕ, ◌+◌, ◌<◌, List, [], ◌++◌, length, get_or, drop, sym, ap, ◌∙◌}
 use Rattle.std.proofs.lemmas.List.{at_drop_more}
 use Rattle.xs_trace.specs.State.{State}
-use Rattle.xs_trace.specs.Play.{Told, and_then, ticked}
+use Rattle.xs_trace.specs.Play.{Told, and_then, put, ticked}
+use Rattle.xs_trace.specs.declared.event.Event.TheVariants.{Space}
 use Rattle.xs_trace.specs.declared.item.Site.{Site}
 use Rattle.xs_tree.specs.Record.{Record, children}
 use Rattle.xs_body.specs.declared.context.Context.{Context}
 use Rattle.xs_body.specs.declared.syntax.Instr.{Instr}
+use Rattle.xs_body.specs.declared.syntax.SpaceLabel.{SpaceLabel}
 use Rattle.xs_body.specs.Parts.{part_of, parts_of_all}
 use Rattle.xs_body.specs.Select.{children_named}
 use Rattle.xs_body.specs.Trace.{with_node}
-use Rattle.xs_body.specs.Steps.{visited, found_from, down_steps, each_steps, part_steps, steps}
+use Rattle.xs_body.specs.Steps.{visited, found_from, down_steps, space_steps, each_steps, part_steps, steps}
 
 pub found-here : (p : Site) (name : List ℕ) (rs : List Record) (ns : List ℕ) (i d x : ℕ) (found : List ℕ) (s : State) → i < length ns → x ≡ get_or ns i d → found_from p name rs (drop i ns) found s ≡ and_then (visited p name rs (children rs x) s) (λ u m. found_from p name rs (drop (i + 1) ns) (found ++ children_named name rs x) m)
 found-here p name rs ns i d x found s lt e =
@@ -27,6 +29,11 @@ pub each-here : (p : Site) (body : Context → State → Told) (ns : List ℕ) (
 each-here p body ns i d x s lt e =
     at_drop_more (λ js. each_steps p body js s) ns i d lt
     ∙ ap (λ y. and_then (ticked p s) (λ u m. and_then (body (with_node y) m) (λ w k. each_steps p body (drop (i + 1) ns) k))) (sym e)
+
+pub spaces-here : (xs : List SpaceLabel) (i : ℕ) (x : SpaceLabel) (s : State) → i < length xs → x ≡ get_or xs i x → space_steps (drop i xs) s ≡ and_then (put (Space x.prefix x.uri) s) (λ u m. space_steps (drop (i + 1) xs) m)
+spaces-here xs i x s lt e =
+    at_drop_more (λ js. space_steps js s) xs i x lt
+    ∙ ap (λ (y : SpaceLabel). and_then (put (Space y.prefix y.uri) s) (λ u m. space_steps (drop (i + 1) xs) m)) (sym e)
 
 pub steps-here : (is : List Instr) (i : ℕ) (x : Instr) (rs : List Record) (c : Context) (s : State) → i < length is → x ≡ get_or is i x → steps (parts_of_all (drop i is)) rs c s ≡ and_then (ticked x.site s) (λ u m. and_then (part_steps (part_of x.kind) x.site rs c m) (λ w k. steps (parts_of_all (drop (i + 1) is)) rs c k))
 steps-here is i x rs c s lt e =

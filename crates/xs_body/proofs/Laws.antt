@@ -1,22 +1,24 @@
 -- What a body tells a recorder, step by step, is its trace, told mark by mark.
-use Rattle.std.proofs.Common.{◌≡◌, ℕ, suc, ◌+◌, length, List, [], ◌∷◌, ◌++◌, filter, Bool, true, false, cond, refl, sym, ap, ◌∙◌, arith, ◌==◌, append_assoc, append-nil, length-append}
+use Rattle.std.proofs.Common.{◌≡◌, ℕ, suc, ◌+◌, length, List, [], ◌∷◌, ◌++◌, map, filter, Bool, true, false, cond, refl, sym, ap, ◌∙◌, arith, ◌==◌, append_assoc, append-nil, length-append}
 use Rattle.std.specs.List.{flat_map, list_any}
 use Rattle.std.specs.Str.{bytes_eq}
 use Rattle.xs_trace.specs.Mark.{Put, Trace, ◌⨾◌}
 use Rattle.xs_trace.specs.State.{State, opened, popped, top}
 use Rattle.xs_trace.specs.Play.{Step, Goes, Told, goes, and_then, ticked, ticked_by, put, put_at, said_at, play}
 use Rattle.xs_trace.specs.Run.{Run, Gives, give, ◌>>=◌, limited, evaluated}
-use Rattle.xs_trace.specs.declared.event.Event.TheVariants.{Start, Chars, End}
+use Rattle.xs_trace.specs.declared.event.Event.TheVariants.{Start, Space, Chars, End}
+use Rattle.xs_trace.specs.declared.event.Label.{Label}
 use Rattle.xs_trace.specs.declared.item.Site.{Site}
 use Rattle.xs_trace.proofs.PlayLaws.{then-same, then-then, then-goes, play-then, play-put, play-say, play-captured}
 use Rattle.xs_trace.proofs.RunLaws.{by-none, by-one, by-plus, limited-more, limited-tick, limited-end, limited-bind, play-evaluated}
 use Rattle.xs_tree.specs.Record.{Record, children, string_value}
 use Rattle.xs_body.specs.declared.context.Context.{Context}
+use Rattle.xs_body.specs.declared.syntax.SpaceLabel.{SpaceLabel}
 use Rattle.xs_body.specs.Paths.{Way, here, down, Condition, exists, equals}
 use Rattle.xs_body.specs.Parts.{Part, text, literal, value_of, for_each, only_if, message, Parts, no_parts, part}
 use Rattle.xs_body.specs.Select.{passes, children_named, down_from, selected, first_string, is_some_node, holds}
-use Rattle.xs_body.specs.Trace.{with_node, label, puts, chars, says, text_in, each, part_trace, trace}
-use Rattle.xs_body.specs.Steps.{visited_one, visited, found_from, down_steps, select_steps, test_steps, chars_steps, each_steps, part_steps, steps}
+use Rattle.xs_body.specs.Trace.{with_node, begins, puts, chars, says, text_in, each, part_trace, trace}
+use Rattle.xs_body.specs.Steps.{visited_one, visited, found_from, down_steps, select_steps, test_steps, chars_steps, space_steps, begun, each_steps, part_steps, steps}
 
 -- paths
 abbrev Visits : Site → List ℕ → List Record → ℕ → List ℕ → State → Bool → Type 0
@@ -98,6 +100,17 @@ each-agrees p body tr (n ∷ ns) s e =
     ∙ then-same (play (tr (with_node n)) m) (λ w k. each_steps p body ns k) (λ w k. play (each p tr ns) k) (λ w k. each-agrees p body tr ns k e)
     ∙ sym (play-then (tr (with_node n)) (each p tr ns) m))
 
+-- the namespace nodes of an element that begins
+abbrev pub spaces_trace : List SpaceLabel → Trace
+spaces_trace spaces = map (λ (x : SpaceLabel). Put (Space x.prefix x.uri)) spaces
+
+pub spaces-agree : (spaces : List SpaceLabel) (s : State) → space_steps spaces s ≡ play (spaces_trace spaces) s
+spaces-agree [] s = refl
+spaces-agree (x ∷ xs) s = then-same (put (Space x.prefix x.uri) s) (λ u m. space_steps xs m) (λ u m. play (spaces_trace xs) m) (λ u m. spaces-agree xs m)
+
+pub begun-agrees : (name : Label) (spaces : List SpaceLabel) (s : State) → begun name spaces s ≡ play (begins name spaces) s
+begun-agrees name spaces s = then-same (put (Start name) s) (λ u m. space_steps spaces m) (λ u m. play (spaces_trace spaces) m) (λ u m. spaces-agree spaces m)
+
 chosen : (b : Bool) (g : Told) (x : Trace) (s : State) → g ≡ play x s → cond b g (goes s) ≡ play (cond b x []) s
 chosen true g x s e = e
 chosen false g x s e = refl
@@ -105,11 +118,13 @@ chosen false g x s e = refl
 mutual
   pub part-agrees : (x : Part) (p : Site) (rs : List Record) (c : Context) (s : State) → part_steps x p rs c s ≡ play (part_trace x p rs c) s
   part-agrees (text t) p rs c s = chars-agrees p t s
-  part-agrees (literal name parts) p rs c s =
-      then-same (put (Start (label name)) s) (λ u m. and_then (steps parts rs c m) (λ w k. put End k)) (λ u m. play (trace parts rs c ⨾ Put End ∷ []) m) (λ u m.
+  part-agrees (literal name spaces parts) p rs c s =
+      ap (λ g. and_then g (λ u m. and_then (steps parts rs c m) (λ w k. put End k))) (begun-agrees name spaces s)
+      ∙ then-same (play (begins name spaces) s) (λ u m. and_then (steps parts rs c m) (λ w k. put End k)) (λ u m. play (trace parts rs c ⨾ Put End ∷ []) m) (λ u m.
       ap (λ g. and_then g (λ w k. put End k)) (steps-agree parts rs c m)
       ∙ then-same (play (trace parts rs c) m) (λ w k. put End k) (λ w k. play (Put End ∷ []) k) (λ w k. sym (then-goes (put End k)))
       ∙ sym (play-then (trace parts rs c) (Put End ∷ []) m))
+      ∙ sym (play-then (begins name spaces) (trace parts rs c ⨾ Put End ∷ []) s)
   part-agrees (value_of way) p rs c s = evaluates p (selected way rs c.node) _ _ (λ ns. chars p (first_string rs ns)) s (select-agrees way p rs c.node s) (λ ns m. chars-agrees p (first_string rs ns) m)
   part-agrees (for_each way parts) p rs c s =
       evaluates p (selected way rs c.node) _ _ (λ ns. each p (trace parts rs) ns) s (select-agrees way p rs c.node s) (λ ns m. each-agrees p (steps parts rs) (trace parts rs) ns m (λ d k. steps-agree parts rs d k))

@@ -9,3 +9,4 @@ pub mod Endings
 pub mod Siblings
 pub mod Inside
 pub mod Reading
+pub mod Spaces

@@ -26,7 +26,7 @@ passing-miss : (test : ℕ → Bool) (rs : List Record) (k : ℕ) → k < length
 passing-miss test rs k lt e =
     ap (filter test) (next-place k (length rs) lt) ∙ ap (λ (b : Bool). cond b (k ∷ passing_from test rs (k + 1)) (passing_from test rs (k + 1))) e
 
-passing-past : (test : ℕ → Bool) (rs : List Record) (k : ℕ) → length rs ≤ k → passing_from test rs k ≡ []
+pub passing-past : (test : ℕ → Bool) (rs : List Record) (k : ℕ) → length rs ≤ k → passing_from test rs k ≡ []
 passing-past test rs k le = ap (filter test) (no-place k (length rs) le)
 
 passing-nowhere : (test : ℕ → Bool) (a m : ℕ) → ((j : ℕ) → a ≤ j → j < a + m → test j ≡ false) → filter test (range_with_len a m) ≡ []
@@ -71,7 +71,7 @@ child-outside rs n k t lt out =
 pub ruleset siblings = (child-hit, child-miss, child-past, child-outside)
 
 -- no node is a child of one at or after it, so the children are those from the next place on
-not-before : (rs : List Record) (n j : ℕ) (o : Option ℕ) → (at rs j).parent ≡ o → IsTree rs → j < length rs → j ≤ n → is_place n o ≡ false
+pub not-before : (rs : List Record) (n j : ℕ) (o : Option ℕ) → (at rs j).parent ≡ o → IsTree rs → j < length rs → j ≤ n → is_place n o ≡ false
 not-before rs n j None e t in_tree le = refl
 not-before rs n j (Some p) e t in_tree le =
     ne_eqb p n (λ same.

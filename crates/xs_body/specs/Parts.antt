@@ -1,18 +1,20 @@
 -- What a template holds, as plain data.
 use Rattle.std.specs.Prelude.{ℕ, List, [], ◌∷◌}
+use Rattle.xs_trace.specs.declared.event.Label.{Label}
 use Rattle.xs_trace.specs.declared.item.Site.{Site}
 use Rattle.xs_body.specs.Paths.{Way, way_of, Condition, condition_of}
 use Rattle.xs_body.specs.declared.syntax.Body.{Body, Body', Row_of-Instr, end_of-Instr, more_of-Instr}
 use Rattle.xs_body.specs.declared.syntax.Instr.{Instr}
 use Rattle.xs_body.specs.declared.syntax.InstrKind.{InstrKind}
+use Rattle.xs_body.specs.declared.syntax.SpaceLabel.{SpaceLabel}
 use Rattle.xs_body.specs.declared.syntax.InstrKind.TheVariants.{Text, Literal, ValueOf, ForEach, If, Message}
 
 -- the content of a template, in document order (XSLT 1.0, 5.1), each part with its place: texts, literal result elements
--- (7.1.1), and instructions (7.6.1, 8, 9.1, 13)
+-- with their names and the namespace nodes that they bring to the result (7.1.1), and instructions (7.6.1, 8, 9.1, 13)
 mutual
   pub data Part : Type 0 where
     text : List ℕ → Part
-    literal : List ℕ → Parts → Part
+    literal : Label → List SpaceLabel → Parts → Part
     value_of : Way → Part
     for_each : Way → Parts → Part
     only_if : Condition → Parts → Part
@@ -26,7 +28,7 @@ mutual
 abbrev mutual
   pub part_of : InstrKind → Part
   part_of (Text t) = text t
-  part_of (Literal name body) = literal name (parts_of body)
+  part_of (Literal name spaces body) = literal name spaces.items (parts_of body)
   part_of (ValueOf select) = value_of (way_of select)
   part_of (ForEach select body) = for_each (way_of select) (parts_of body)
   part_of (If test body) = only_if (condition_of test) (parts_of body)

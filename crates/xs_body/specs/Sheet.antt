@@ -3,10 +3,13 @@ use Rattle.std.specs.Prelude.{ℕ, zero, suc, ◌-◌, ◌==◌, ◌&&◌, ◌||
 use Rattle.std.specs.List.{list_all}
 use Rattle.std.specs.Option.{option_map_or}
 use Rattle.std.specs.Str.{bytes_eq}
-use Rattle.xs_tree.specs.Record.{Record, at, children, attributes}
+use Rattle.xs_tree.specs.Axis.{is_space as is_space_of}
+use Rattle.xs_tree.specs.Record.{Record, at, children, attributes, places}
+use Rattle.xs_trace.specs.declared.event.Label.{Label}
 use Rattle.xs_trace.specs.declared.item.Site.{Site}
 use Rattle.xs_tree.specs.declared.kinds.Kind.{Kind}
 use Rattle.xs_tree.specs.declared.kinds.Kind.TheVariants.{Root, Element, Attribute, Space, Text, Comment, Pi}
+use Rattle.xs_body.specs.declared.syntax.SpaceLabel.{SpaceLabel}
 use Rattle.xs_body.specs.Parts.{Part, text, literal, value_of, for_each, only_if, message, Parts, no_parts, part}
 use Rattle.xs_body.specs.Path.{path_of, test_of}
 use Rattle.xs_body.specs.Paths.{Way}
@@ -47,6 +50,10 @@ name_at rs n = option_map_or (λ name. name.local) (at rs n).name []
 -- the namespace URI of the name of a node; empty where it is in none (Namespaces in XML 1.0, 2.1)
 abbrev pub uri_at : List Record → ℕ → List ℕ
 uri_at rs n = option_map_or (λ name. name.uri) (at rs n).name []
+
+-- the prefix that the name of a node was written with; empty where there is none
+abbrev pub prefix_at : List Record → ℕ → List ℕ
+prefix_at rs n = option_map_or (λ name. name.prefix) (at rs n).name []
 
 -- the namespace of XSLT's elements, whatever prefix they bear (XSLT 1.0, 2.1)
 abbrev pub xslt_uri : List ℕ
@@ -150,8 +157,29 @@ message_part rs n inner = if has_none rs n then option_map message inner else No
 abbrev pub is_literal : List Record → ℕ → Bool
 is_literal rs n = has_none rs n && not (is_in_xslt rs n)
 
+-- the name of a node, as it was written
+abbrev pub label_at : List Record → ℕ → Label
+label_at rs n = record { uri = uri_at rs n; local = name_at rs n; prefix = prefix_at rs n }
+
+-- the namespace nodes of an element, in document order (XPath 1.0, 5.4)
+abbrev pub spaces : List Record → ℕ → List ℕ
+spaces rs n = filter (is_space_of rs n) (places rs)
+
+-- The namespace nodes that are copied to the result: all but those whose string-value is XSLT's URI (XSLT 1.0, 7.1.1), and the
+-- one of the prefix `xml`, which every element has anyway (XPath 1.0, 5.4).
+abbrev pub is_copied : List Record → ℕ → Bool
+is_copied rs k = not (bytes_eq (at rs k).text xslt_uri) && not (bytes_eq (name_at rs k) (codes "xml"))
+
+-- the prefix and the URI of a namespace node (XPath 1.0, 5.4)
+abbrev pub space_at : List Record → ℕ → SpaceLabel
+space_at rs k = record { prefix = name_at rs k; uri = (at rs k).text }
+
+-- what an element copies of its namespace nodes
+abbrev pub copied_spaces : List Record → ℕ → List SpaceLabel
+copied_spaces rs n = map (space_at rs) (filter (is_copied rs) (spaces rs n))
+
 abbrev pub literal_part : List Record → ℕ → Option Parts → Option Part
-literal_part rs n inner = if is_literal rs n then option_map (literal (name_at rs n)) inner else None
+literal_part rs n inner = if is_literal rs n then option_map (literal (label_at rs n) (copied_spaces rs n)) inner else None
 
 -- what an element stands for, given what its content stands for
 abbrev pub element_part : List Record → ℕ → Option Parts → Option Part

@@ -4,14 +4,16 @@ use Rattle.std.specs.List.{list_any}
 use Rattle.std.specs.Str.{bytes_eq}
 use Rattle.xs_trace.specs.State.{State, opened, popped, top}
 use Rattle.xs_trace.specs.Play.{Step, Goes, Told, goes, and_then, ticked, put, put_at, said_at}
-use Rattle.xs_trace.specs.declared.event.Event.TheVariants.{Start, Chars, End}
+use Rattle.xs_trace.specs.declared.event.Event.TheVariants.{Start, Space, Chars, End}
+use Rattle.xs_trace.specs.declared.event.Label.{Label}
 use Rattle.xs_trace.specs.declared.item.Site.{Site}
 use Rattle.xs_tree.specs.Record.{Record, children, string_value}
 use Rattle.xs_body.specs.declared.context.Context.{Context}
+use Rattle.xs_body.specs.declared.syntax.SpaceLabel.{SpaceLabel}
 use Rattle.xs_body.specs.Paths.{Way, here, down, Condition, exists, equals}
 use Rattle.xs_body.specs.Parts.{Part, text, literal, value_of, for_each, only_if, message, Parts, no_parts, part}
 use Rattle.xs_body.specs.Select.{passes, children_named, first_string, is_some_node}
-use Rattle.xs_body.specs.Trace.{with_node, label, text_in}
+use Rattle.xs_body.specs.Trace.{with_node, text_in}
 
 -- a tick for each node that passes the node test
 abbrev pub visited_one : Site → Bool → State → Told
@@ -48,8 +50,15 @@ each_steps p body (n ∷ ns) s = and_then (ticked p s) (λ u m. and_then (body (
 abbrev pub value_steps : Way → Site → List Record → ℕ → State → Told
 value_steps way p rs n s = and_then (select_steps way p rs n s) (λ ns m. chars_steps p (first_string rs ns) m)
 
-abbrev pub enclosed : List ℕ → (State → Told) → State → Told
-enclosed name body s = and_then (put (Start (label name)) s) (λ u m. and_then (body m) (λ w k. put End k))
+abbrev pub space_steps : List SpaceLabel → State → Told
+space_steps [] s = goes s
+space_steps (x ∷ xs) s = and_then (put (Space x.prefix x.uri) s) (λ u m. space_steps xs m)
+
+abbrev pub begun : Label → List SpaceLabel → State → Told
+begun name spaces s = and_then (put (Start name) s) (λ u m. space_steps spaces m)
+
+abbrev pub enclosed : Label → List SpaceLabel → (State → Told) → State → Told
+enclosed name spaces body s = and_then (begun name spaces s) (λ u m. and_then (body m) (λ w k. put End k))
 
 abbrev pub taken : Site → (State → Told) → State → Told
 taken p body s = and_then (body (opened s)) (λ u m. said_at p (text_in (top m.captures)) (popped m))
@@ -63,7 +72,7 @@ guarded condition p body rs n s = and_then (test_steps condition p rs n s) (λ b
 abbrev mutual
   pub part_steps : Part → Site → List Record → Context → State → Told
   part_steps (text t) p rs c s = chars_steps p t s
-  part_steps (literal name parts) p rs c s = enclosed name (steps parts rs c) s
+  part_steps (literal name spaces parts) p rs c s = enclosed name spaces (steps parts rs c) s
   part_steps (value_of way) p rs c s = value_steps way p rs c.node s
   part_steps (for_each way parts) p rs c s = each_node way p (steps parts rs) rs c.node s
   part_steps (only_if condition parts) p rs c s = guarded condition p (steps parts rs c) rs c.node s

@@ -1,5 +1,5 @@
 -- What a body does, in order, with no limit.
-use Rattle.std.specs.Prelude.{ℕ, ◌/◌, ◌==◌, length, List, [], ◌∷◌, if◌then◌else◌}
+use Rattle.std.specs.Prelude.{ℕ, ◌/◌, ◌==◌, length, List, [], ◌∷◌, map, if◌then◌else◌}
 use Rattle.std.specs.List.{flat_map}
 use Rattle.xs_trace.specs.Event.{text_of}
 use Rattle.xs_trace.specs.Mark.{Tick, Put, Say, Trace, ◌⨾◌, ticks, captured}
@@ -10,6 +10,7 @@ use Rattle.xs_trace.specs.declared.event.Label.{Label}
 use Rattle.xs_trace.specs.declared.item.Site.{Site}
 use Rattle.xs_tree.specs.Record.{Record}
 use Rattle.xs_body.specs.declared.context.Context.{Context}
+use Rattle.xs_body.specs.declared.syntax.SpaceLabel.{SpaceLabel}
 use Rattle.xs_body.specs.Parts.{Part, text, literal, value_of, for_each, only_if, message, Parts, no_parts, part}
 use Rattle.xs_body.specs.Select.{selected, holds, first_string}
 
@@ -17,10 +18,9 @@ use Rattle.xs_body.specs.Select.{selected, holds, first_string}
 abbrev pub with_node : ℕ → Context
 with_node n = record { node = n }
 
--- A literal element is told by its local part alone, as a name in no namespace: its namespace and its namespace nodes (XSLT 1.0,
--- 7.1.1) are not told yet, and no text result shows them.
-abbrev pub label : List ℕ → Label
-label local = record { uri = []; local = local; prefix = [] }
+-- a literal result element begins: its whole name, and then a copy of each of its namespace nodes (XSLT 1.0, 7.1.1)
+abbrev pub begins : Label → List SpaceLabel → Trace
+begins name spaces = Put (Start name) ∷ map (λ (s : SpaceLabel). Put (Space s.prefix s.uri)) spaces
 
 -- an event is put, after a tick for each full 256 bytes of its text
 abbrev pub puts : Site → Event → Trace
@@ -57,7 +57,7 @@ each p body (n ∷ ns) = Tick p ∷ (body (with_node n) ⨾ each p body ns)
 abbrev mutual
   pub part_trace : Part → Site → List Record → Context → Trace
   part_trace (text t) p rs c = chars p t
-  part_trace (literal name parts) p rs c = Put (Start (label name)) ∷ (trace parts rs c ⨾ Put End ∷ [])
+  part_trace (literal name spaces parts) p rs c = begins name spaces ⨾ (trace parts rs c ⨾ Put End ∷ [])
   part_trace (value_of way) p rs c = evaluated p (selected way rs c.node) (λ ns. chars p (first_string rs ns))
   part_trace (for_each way parts) p rs c = evaluated p (selected way rs c.node) (λ ns. each p (trace parts rs) ns)
   part_trace (only_if condition parts) p rs c = evaluated p (holds condition rs c.node) (λ b. if b then trace parts rs c else [])

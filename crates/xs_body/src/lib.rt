@@ -5,6 +5,9 @@ mod attributes;
 mod children;
 pub mod context;
 mod expressions;
+mod literal;
+#[cfg(test)]
+mod literal_tests;
 #[cfg(test)]
 mod made_trees;
 mod names;

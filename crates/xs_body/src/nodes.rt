@@ -2,13 +2,13 @@
 ghost use Rattle.std.specs.Prelude.{◌≡◌, ◌<◌, length};
 ghost use Rattle.std.specs.List.{list_all};
 ghost use Rattle.xs_body.specs.Select.{is_element};
-ghost use Rattle.xs_body.specs.Sheet.{is_ignored, is_in_xslt, is_named, is_remark, is_space, is_stripped, is_text, name_at, uri_at};
+ghost use Rattle.xs_body.specs.Sheet.{is_ignored, is_in_xslt, is_named, is_remark, is_space, is_stripped, is_text, name_at, prefix_at, uri_at};
 ghost use Rattle.xs_tree.specs.Record.{at};
 
 use xs_tree::{Kind, Node, Tree};
 
 /// The namespace of XSLT's elements (XSLT 1.0, 2.1).
-const XSLT_URI: &str = "http://www.w3.org/1999/XSL/Transform";
+pub(crate) const XSLT_URI: &str = "http://www.w3.org/1999/XSL/Transform";
 
 /// The local part of the name of a node; empty where it bears none.
 pub(crate) fn name_at<'a>(tree: &'a Tree, n: Node) -> &'a str
@@ -28,6 +28,17 @@ pub(crate) fn uri_at<'a>(tree: &'a Tree, n: Node) -> &'a str
 {
     match tree.name(n) {
         Some(name) => name.uri.as_str(),
+        None => "",
+    }
+}
+
+/// The prefix that the name of a node was written with; empty where there is none.
+pub(crate) fn prefix_at<'a>(tree: &'a Tree, n: Node) -> &'a str
+    requires { n < length tree.now }
+    ensures { result.now ≡ prefix_at tree.now n }
+{
+    match tree.name(n) {
+        Some(name) => name.prefix.as_str(),
         None => "",
     }
 }

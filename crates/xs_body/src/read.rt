@@ -8,7 +8,8 @@ ghost use Rattle.xs_tree.specs.Record.{at};
 use crate::attributes::{has_none, only_attribute};
 use crate::children::{first_kept, kept_after};
 use crate::expressions::{read_path, read_test};
-use crate::nodes::{is_named, name_at};
+use crate::literal::{copied_spaces, label_at};
+use crate::nodes::is_named;
 use crate::paths::Path;
 use crate::shape::{is_empty, is_literal, template_of};
 use crate::syntax::{Body, Instr, InstrKind};
@@ -245,8 +246,9 @@ fn read_literal(
     }
     match read_content(alloc, tree, lines, n, depth)? {
         Some(body) => {
-            let name = TextBuf::of(alloc, name_at(tree, n))?;
-            Ok(Some(InstrKind::Literal { name, body }))
+            let name = label_at(alloc, tree, n)?;
+            let spaces = copied_spaces(alloc, tree, n)?;
+            Ok(Some(InstrKind::Literal { name, spaces, body }))
         }
         None => Ok(None),
     }

@@ -4,17 +4,18 @@ ghost use Rattle.std.specs.List.{All};
 ghost use Rattle.xs_body.specs.Parts.{part_of, parts_of};
 ghost use Rattle.xs_body.specs.Paths.{condition_of, way_of};
 ghost use Rattle.xs_body.specs.Select.{first_string};
-ghost use Rattle.xs_body.specs.Steps.{chars_steps, each_node, enclosed, guarded, part_steps, steps, taken, test_steps, value_steps};
-ghost use Rattle.xs_body.specs.Trace.{label, root_trace, trace};
+ghost use Rattle.xs_body.specs.Steps.{begun, chars_steps, each_node, enclosed, guarded, part_steps, space_steps, steps, taken, test_steps, value_steps};
+ghost use Rattle.xs_body.specs.Trace.{root_trace, trace};
 ghost use Rattle.xs_trace.specs.Cut.{cut};
 ghost use Rattle.xs_trace.specs.Kept.{Keeps};
-ghost use Rattle.xs_trace.specs.Play.{IsStep, play};
+ghost use Rattle.xs_trace.specs.Play.{IsStep, play, put};
+ghost use Rattle.xs_trace.specs.declared.event.Event.TheVariants.{Space};
 
 use crate::context::Context;
 use crate::paths::{Path, Test};
 use crate::select::select;
 use crate::strings::{any_is, first_string, text_in};
-use crate::syntax::{Body, InstrKind};
+use crate::syntax::{Body, InstrKind, SpaceLabel};
 use std::alloc::{AllocError, Global};
 use xs_trace::event::{Event, Label};
 use xs_trace::item::{Limits, Site};
@@ -104,8 +105,8 @@ fn evaluate_part<R: Recorder>(
 {
     match kind {
         InstrKind::Text(text) => put_text(site, text.copy()?, recorder),
-        InstrKind::Literal { name, body } => {
-            evaluate_element(alloc, name, body, tree, context, recorder)
+        InstrKind::Literal { name, spaces, body } => {
+            evaluate_element(alloc, name, spaces, body, tree, context, recorder)
         }
         InstrKind::ValueOf { select } => {
             put_value(alloc, select, site, tree, context.node, recorder)
@@ -172,17 +173,17 @@ fn evaluate_if<R: Recorder>(
 #[cycle(run)]
 fn evaluate_element<R: Recorder>(
     alloc: Global,
-    name: &TextBuf,
+    name: &Label,
+    spaces: &[SpaceLabel],
     body: &Body,
     tree: &Tree,
     context: &Context,
     recorder: &mut R,
 ) -> Result<(), Halt>
     requires { context.now.node < length tree.now }
-    ensures { IsStep R.may_end (enclosed name.now (steps (parts_of body.now) tree.now context.now) (R.state recorder.old)) result (R.state recorder.new) }
+    ensures { IsStep R.may_end (enclosed name.now spaces.now (steps (parts_of body.now) tree.now context.now) (R.state recorder.old)) result (R.state recorder.new) }
 {
-    let name = plain_label(alloc, name)?;
-    recorder.put(Event::Start(name))?;
+    begin_element(name, spaces, recorder)?;
     evaluate_body(alloc, body, tree, context, recorder)?;
     recorder.put(Event::End)
 }
@@ -261,13 +262,33 @@ fn holds<T: Tally>(
     }
 }
 
-// A name in no namespace.
-fn plain_label(alloc: Global, local: &TextBuf) -> Result<Label, AllocError>
-    ensures { IfOk result (λ name. name ≡ label local.now) }
+// Begins an element, with its namespace nodes.
+fn begin_element<R: Recorder>(
+    name: &Label,
+    spaces: &[SpaceLabel],
+    recorder: &mut R,
+) -> Result<(), Halt>
+    ensures { IsStep R.may_end (begun name.now spaces.now (R.state recorder.old)) result (R.state recorder.new) }
 {
-    Ok(Label {
-        uri: TextBuf::of(alloc, "")?,
-        local: local.copy()?,
-        prefix: TextBuf::of(alloc, "")?,
+    let name = name.copy()?;
+    recorder.put(Event::Start(name))?;
+    put_spaces(spaces, recorder)
+}
+
+fn put_spaces<R: Recorder>(spaces: &[SpaceLabel], recorder: &mut R) -> Result<(), Halt>
+    ensures { IsStep R.may_end (space_steps spaces.now (R.state recorder.old)) result (R.state recorder.new) }
+{
+    for space in spaces {
+        put_space(space, recorder)?;
+    }
+    Ok(())
+}
+
+fn put_space<R: Recorder>(space: &SpaceLabel, recorder: &mut R) -> Result<(), Halt>
+    ensures { IsStep R.may_end (put (Space space.now.prefix space.now.uri) (R.state recorder.old)) result (R.state recorder.new) }
+{
+    recorder.put(Event::Space {
+        prefix: space.prefix.copy()?,
+        uri: space.uri.copy()?,
     })
 }

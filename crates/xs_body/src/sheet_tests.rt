@@ -23,8 +23,8 @@ fn body_in(alloc: Global, sheet: &Tree) -> Result<Option<Body>, Fail> {
     Ok(read_body(alloc, sheet, &lines)?)
 }
 
-// A stylesheet that has this template, from place 6 on; each node stands in the line of its place.
-fn body_of(alloc: Global, template: &[Row]) -> Result<Option<Body>, Fail> {
+/// The body of a stylesheet that has this template, from place 6 on; each node stands in the line of its place.
+pub(crate) fn body_of(alloc: Global, template: &[Row]) -> Result<Option<Body>, Fail> {
     let mut sheet = tree_of(
         alloc,
         &[
@@ -189,7 +189,7 @@ fn element_in(body: &Body) -> &str {
                 kind: InstrKind::Literal { name, .. },
                 ..
             },
-        ] => name.as_str(),
+        ] => name.local.as_str(),
         _ => "",
     }
 }

@@ -1,6 +1,7 @@
 //! What a template holds.
 
 use crate::paths::{Path, Test};
+use xs_trace::event::Label;
 use xs_trace::item::Site;
 use xs_trace::text::TextBuf;
 
@@ -22,16 +23,27 @@ pub struct Instr {
     pub kind: InstrKind,
 }
 
+/// A namespace node of a literal result element (XPath 1.0, 5.4).
+#[derive(Drop)]
+pub struct SpaceLabel {
+    /// The prefix; empty for the default namespace.
+    pub prefix: TextBuf,
+    /// The URI that it is bound to.
+    pub uri: TextBuf,
+}
+
 /// What one part of a body does.
 #[cycle(body)]
 #[derive(Drop)]
 pub enum InstrKind {
     /// Puts a text (XSLT 1.0, 7.2).
     Text(TextBuf),
-    /// Puts a literal result element without attributes, whose name is in no namespace (XSLT 1.0, 7.1.1).
+    /// Puts a literal result element without attributes (XSLT 1.0, 7.1.1).
     Literal {
-        /// The name of the element.
-        name: TextBuf,
+        /// The name of the element, as it was written.
+        name: Label,
+        /// The namespace nodes that come with it, in order.
+        spaces: Vec<SpaceLabel>,
         /// What the element holds.
         body: Body,
     },

@@ -11,7 +11,7 @@ use crate::run::run_body;
 use crate::syntax::{Body, Instr, InstrKind};
 use std::alloc::{AllocError, Global};
 use std::test::Fail;
-use xs_trace::event::Event;
+use xs_trace::event::{Event, Label};
 use xs_trace::item::{Ended, Item, Limits, Site};
 use xs_trace::text::TextBuf;
 use xs_tree::{Kind, Name, NameText, Node, Tree};
@@ -51,6 +51,14 @@ fn three_items(alloc: Global) -> Result<Tree, Fail> {
     add_item(alloc, &mut tree, top, "2")?;
     add_item(alloc, &mut tree, top, "3")?;
     Ok(tree)
+}
+
+fn plain_label(alloc: Global, local: &str) -> Result<Label, AllocError> {
+    Ok(Label {
+        uri: TextBuf::of(alloc, "")?,
+        local: TextBuf::of(alloc, local)?,
+        prefix: TextBuf::of(alloc, "")?,
+    })
 }
 
 fn instr(line: u32, kind: InstrKind) -> Instr {
@@ -124,8 +132,17 @@ fn says_the_text_inside_an_element(rt: HostRuntime) -> Result<(), Fail> {
     let alloc = rt.alloc();
     let tree = Tree::new(alloc)?;
     let text = alone(alloc, 3, InstrKind::Text(TextBuf::of(alloc, "so")?))?;
-    let name = TextBuf::of(alloc, "b")?;
-    let element = alone(alloc, 2, InstrKind::Literal { name, body: text })?;
+    let name = plain_label(alloc, "b")?;
+    let spaces = Vec::new(alloc);
+    let element = alone(
+        alloc,
+        2,
+        InstrKind::Literal {
+            name,
+            spaces,
+            body: text,
+        },
+    )?;
     let message = alone(alloc, 1, InstrKind::Message { body: element })?;
     let kept = run_body(alloc, &message, 1, &tree, ticks_alone(9))?;
     assert_eq!(rt; kept.ticks, 4);

@@ -1,8 +1,8 @@
-use Rattle.std.proofs.Common.{arith, cond, refl, sym, ap, ◌∙◌}
+use Rattle.std.proofs.Common.{arith, cond, refl, ap}
 use Rattle.std.proofs.lemmas.Result.{err_from_is_err_and}
 use Rattle.xs_trace.specs.Play.{and_then, goes, put, said_at}
 use Rattle.xs_trace.specs.State.{popped, top}
-use Rattle.xs_trace.specs.declared.event.Event.TheVariants.{Start, End}
+use Rattle.xs_trace.specs.declared.event.Event.TheVariants.{End}
 use Rattle.xs_trace.proofs.Grows.{before-then, if-grows, passes as passed_on, put-grows, same, said_at-grows}
 use Rattle.xs_body.specs.Parts.{parts_of}
 use Rattle.xs_body.specs.Steps.{each_steps, steps}
@@ -31,18 +31,16 @@ evaluate_each-returns-in_err-evaluate_body g t c =
     let p = err_from_is_err_and c.from_residual-in_err-evaluate_body.result c.from_residual-in_err-evaluate_body.ensures.1 in
     at-node g.R.Tally.may_end c.args.site (parts_of c.args.body.now) c.args.tree.now c.as_slice-place-items.result.now c.loop-place.place-index _ c.at.result _ (g.R.Tally.state c.loop-place.recorder) (g.R.Tally.state c.tick.new.self) (g.R.Tally.state c.evaluate_body.new.recorder) _ c.from_residual-in_err-evaluate_body.result _ _ (omega arith) c.at.ensures c.loop-place.invariant.0 c.in_ok-tick.ensures.told p.1 p.2 c.in_err-evaluate_body.ensures
 
-pub evaluate_element-returns-in_err-put : goal.evaluate_element-returns-in_err-put
-evaluate_element-returns-in_err-put g t c =
-    let p = err_from_is_err_and c.from_residual-in_err-put.result c.from_residual-in_err-put.ensures.1 in
-    let e = ap (λ l. and_then (put (Start l) (g.R.Tally.state c.args.recorder.now)) (λ u m. and_then (steps (parts_of c.args.body.now) c.args.tree.now c.args.context.now m) (λ w k. put End k))) (sym c.in_ok-name.ensures) in
-    passed_on (λ x. x) (λ x. x) g.R.Tally.may_end _ _ (λ u m. and_then (steps (parts_of c.args.body.now) c.args.tree.now c.args.context.now m) (λ w k. put End k)) (g.R.Tally.state c.put.new.self) c.from_residual-in_err-put.result _ _ e
-    (λ u m. before-then m.told (steps (parts_of c.args.body.now) c.args.tree.now c.args.context.now m) (λ w k. put End k) (steps-grow (parts_of c.args.body.now) c.args.tree.now c.args.context.now m) (λ w. put-grows End)) p.1 p.2 c.in_err-put.ensures.told
+pub evaluate_element-returns-in_err-begin_element : goal.evaluate_element-returns-in_err-begin_element
+evaluate_element-returns-in_err-begin_element g t c =
+    let p = err_from_is_err_and c.from_residual.result c.from_residual.ensures.1 in
+    passed_on (λ x. x) (λ x. x) g.R.Tally.may_end _ _ (λ u m. and_then (steps (parts_of c.args.body.now) c.args.tree.now c.args.context.now m) (λ w k. put End k)) (g.R.Tally.state c.begin_element.new.recorder) c.from_residual.result _ _ refl
+    (λ u m. before-then m.told (steps (parts_of c.args.body.now) c.args.tree.now c.args.context.now m) (λ w k. put End k) (steps-grow (parts_of c.args.body.now) c.args.tree.now c.args.context.now m) (λ w. put-grows End)) p.1 p.2 c.in_err-begin_element.ensures
 
 pub evaluate_element-returns-in_err-evaluate_body : goal.evaluate_element-returns-in_err-evaluate_body
 evaluate_element-returns-in_err-evaluate_body g t c =
     let p = err_from_is_err_and c.from_residual-in_err-evaluate_body.result c.from_residual-in_err-evaluate_body.ensures.1 in
-    let e = ap (λ l. and_then (put (Start l) (g.R.Tally.state c.args.recorder.now)) (λ u m. and_then (steps (parts_of c.args.body.now) c.args.tree.now c.args.context.now m) (λ w k. put End k))) (sym c.in_ok-name.ensures)
-    ∙ ap (λ j. and_then j (λ u m. and_then (steps (parts_of c.args.body.now) c.args.tree.now c.args.context.now m) (λ w k. put End k))) c.in_ok-put.ensures.told in
+    let e = ap (λ j. and_then j (λ u m. and_then (steps (parts_of c.args.body.now) c.args.tree.now c.args.context.now m) (λ w k. put End k))) c.in_ok-begin_element.ensures in
     passed_on (λ x. x) (λ x. x) g.R.Tally.may_end _ _ (λ w k. put End k) (g.R.Tally.state c.evaluate_body.new.recorder) c.from_residual-in_err-evaluate_body.result _ _ e (λ w. put-grows End) p.1 p.2 c.in_err-evaluate_body.ensures
 
 pub evaluate_message-returns-in_err-open_capture : goal.evaluate_message-returns-in_err-open_capture
