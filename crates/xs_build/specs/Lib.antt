@@ -1,9 +1,10 @@
--- What a reader has to believe stands in Limits, Namespaces, Start, Nodes, Around, Rules, Document and Results; the other files say
--- what the code keeps, and no public contract cites them.
+-- What a reader has to believe stands in Limits, Namespaces, Start, Nodes, Around, Rules, Document and Results; DocumentTree
+-- has what follows for trees; the other files say what the code keeps, and no public contract cites them.
 pub mod Around
 pub mod Attributes
 pub mod Context
 pub mod Document
+pub mod DocumentTree
 pub mod Entering
 pub mod Left
 pub mod Limits

@@ -2,6 +2,7 @@
 
 ghost use Rattle.std.specs.Prelude.{◌≡◌, ◌+◌, ◌<◌, ◌≤◌, ◌&&◌, not, length, IfOk, IfSome, OnOk};
 ghost use Rattle.xs_build.specs.Document.{document};
+ghost use Rattle.xs_build.specs.DocumentTree.{IsDocument};
 ghost use Rattle.xs_build.specs.Left.{left, fault_at, Goes};
 ghost use Rattle.xs_build.specs.Limits.{most_bytes};
 ghost use Rattle.xs_build.specs.Namespaces.{outermost};
@@ -17,13 +18,15 @@ use crate::fault::BuildFault;
 use std::alloc::Global;
 use xs_pyx::{LineFault, next_line};
 
-/// The tree that the bytes of a document stand for, and the line of each node; or the fault of the least bad line.
+/// The tree that the bytes of a document stand for, and the line of each node; or the fault of the least bad line. The tree is
+/// that of one well-formed document (XPath 1.0, 5).
 ///
 /// `limit` is the most bytes that the document may have, and 8,000,000 the most nodes, namespace nodes among them.
 pub fn build_tree(alloc: Global, bytes: &[u8], limit: u64) -> Result<Built, BuildFault>
     requires limit { limit ≤ most_bytes }
     ensures document { Builds result (document limit bytes.now) }
     ensures each { IfOk result (λ built. length built.lines.items ≡ length built.tree) }
+    ensures tree { IfOk result (λ built. IsDocument built.tree) }
 
     // More bytes than the limit are refused without memory.
     ensures large { limit < length bytes.now → result ≡ Err (BuildFault.Bad 11 0) }
