@@ -1,6 +1,5 @@
-mod BackwardAxes
-mod ForwardAxes
-mod Inside
-mod LawLemmas
-mod Ranges
-mod Roots
+mod BackwardAxisLemmas
+mod ForwardAxisLemmas
+mod SubtreeLemmas
+mod AxisLawLemmas
+mod RangeLemmas

@@ -14,11 +14,13 @@ five_axes = Ancestor ∷ Descendant ∷ Following ∷ Preceding ∷ SelfNode ∷
 -- each node of a document, but for attribute and namespace nodes, is on exactly one of the axes ancestor, descendant,
 -- following, preceding and self (XPath 1.0, 2.2)
 abbrev pub AxesShareOut : Type 0
-AxesShareOut = (rs : List Record) (n k : ℕ) → IsTree rs → n < length rs → k < length rs → is_same_document rs n k ≡ true → (is_root_kind (at rs k).kind || is_child_kind (at rs k).kind) ≡ true → count_by (λ axis. is_on axis rs n k) five_axes ≡ 1
+AxesShareOut = (rs : List Record) (n k : ℕ) → IsTree rs → n < length rs → k < length rs → is_same_document rs n k ≡ true
+    → (is_root_kind (at rs k).kind || is_child_kind (at rs k).kind) ≡ true → count_by (λ axis. is_on axis rs n k) five_axes ≡ 1
 
 -- what is on an axis of a node is in its document
 abbrev pub AxesStayInside : Type 0
-AxesStayInside = (axis : Axis) (rs : List Record) (n k : ℕ) → IsTree rs → n < length rs → k < length rs → is_on axis rs n k ≡ true → is_same_document rs n k ≡ true
+AxesStayInside = (axis : Axis) (rs : List Record) (n k : ℕ) → IsTree rs → n < length rs → k < length rs → is_on axis rs n k ≡ true
+    → is_same_document rs n k ≡ true
 
 -- an axis that goes backwards has only the node and nodes before it (XPath 1.0, 2.4)
 abbrev pub ReverseAxesGoBack : Type 0

@@ -1,12 +1,13 @@
 -- What is left of a walk along an axis.
-use Rattle.std.specs.Prelude.{◌≡◌, ℕ, ◌+◌, ◌-◌, ◌<◌, ◌≤◌, Bool, List, [], ◌∷◌, Some, filter, reverse, length}
+use Rattle.std.specs.Prelude.{◌≡◌, ℕ, ◌+◌, ◌-◌, ◌<◌, ◌≤◌, Bool, List, [], ◌∷◌, Option, Some, MatchOption, filter, reverse, length}
 use Rattle.std.specs.List.{range_with_len}
 use Rattle.xs_tree.specs.Kinds.{is_child_kind}
 use Rattle.xs_tree.specs.Record.{Record, at, is_child}
-use Rattle.xs_tree.specs.Walk.{passing_from, children_from, attributes_from}
-use Rattle.xs_tree.specs.Axis.{is_ancestor, is_preceding, is_space, root_of}
+use Rattle.xs_tree.specs.Walk.{children_from, attributes_from, namespaces_from}
+use Rattle.xs_tree.specs.Axis.{is_ancestor, is_preceding, root_of}
 use Rattle.xs_axes.specs.declared.walks.Walk.{Walk}
-use Rattle.xs_axes.specs.declared.walks.Walk.TheVariants.{Nothing, Single, Siblings, Attributes, Spaces, Content, SelfAndContent, Ancestors, SelfAndAncestors, SiblingsBefore, Preceding}
+use Rattle.xs_axes.specs.declared.walks.Walk.TheVariants.{Nothing, Single, Siblings, Attributes, Namespaces, Content, SelfAndContent, Ancestors}
+use Rattle.xs_axes.specs.declared.walks.Walk.TheVariants.{SelfAndAncestors, SiblingsBefore, Preceding}
 
 -- the places before k that pass the test, the last first
 abbrev pub passing_before : (ℕ → Bool) → ℕ → List ℕ
@@ -26,7 +27,7 @@ nodes_left rs Nothing = []
 nodes_left rs (Single n) = n ∷ []
 nodes_left rs (Siblings parent from) = children_from rs parent from
 nodes_left rs (Attributes parent from) = attributes_from rs parent from
-nodes_left rs (Spaces parent from) = passing_from (is_space rs parent) rs from
+nodes_left rs (Namespaces parent from) = namespaces_from rs parent from
 nodes_left rs (Content from end) = passing_between (is_content rs) from end
 nodes_left rs (SelfAndContent n end) = n ∷ passing_between (is_content rs) (n + 1) end
 nodes_left rs (Ancestors n) = passing_before (is_ancestor rs n) n
@@ -34,13 +35,17 @@ nodes_left rs (SelfAndAncestors n) = n ∷ passing_before (is_ancestor rs n) n
 nodes_left rs (SiblingsBefore parent before) = passing_before (is_child rs parent) before
 nodes_left rs (Preceding n root before) = passing_before (is_preceding rs n) before
 
+-- the first of some nodes, with a walk that has the others left; none where there is none
+abbrev pub IsStepOf : List Record → List ℕ → Option (ℕ × Walk) → Type 0
+IsStepOf rs left step = MatchOption step (left ≡ []) (λ s. left ≡ s.0 ∷ nodes_left rs s.1)
+
 -- the walk is one of the tree
 abbrev pub IsWalkOf : List Record → Walk → Type 0
 IsWalkOf rs Nothing = Unit {0}
 IsWalkOf rs (Single n) = Unit {0}
 IsWalkOf rs (Siblings parent from) = parent < from
 IsWalkOf rs (Attributes parent from) = parent < from
-IsWalkOf rs (Spaces parent from) = parent < from
+IsWalkOf rs (Namespaces parent from) = parent < from
 IsWalkOf rs (Content from end) = end ≤ length rs
 IsWalkOf rs (SelfAndContent n end) = (n < length rs) × (end ≤ length rs)
 IsWalkOf rs (Ancestors n) = n < length rs

@@ -1,10 +1,9 @@
-// One step along the axes that go backwards.
-#![tactic(auto)]
+//! One step along the axes that go backwards.
 
 ghost use Rattle.std.specs.Prelude.{◌≡◌, ◌<◌, ◌≤◌, [], ◌∷◌, Some, length, MatchOption, IfSome};
 ghost use Rattle.xs_tree.specs.Record.{at, is_child};
 ghost use Rattle.xs_tree.specs.Axis.{is_ancestor, is_preceding, root_of};
-ghost use Rattle.xs_axes.specs.Walks.{nodes_left, passing_before, IsWalkOf};
+ghost use Rattle.xs_axes.specs.Walks.{IsStepOf, nodes_left, passing_before, IsWalkOf};
 
 use crate::walks::Walk;
 use xs_tree::{Node, Tree};
@@ -12,7 +11,7 @@ use xs_tree::{Node, Tree};
 /// The parent of a node, the first of its ancestors.
 pub(crate) fn next_ancestor(tree: &Tree, node: Node) -> Option<(Node, Walk)>
     requires { node < length tree.now }
-    ensures step { MatchOption result (passing_before (is_ancestor tree.now node) node ≡ []) (λ s. passing_before (is_ancestor tree.now node) node ≡ s.0 ∷ nodes_left tree.now s.1) }
+    ensures step { IsStepOf tree.now (passing_before (is_ancestor tree.now node) node) result }
     ensures walk { IfSome result (λ s. IsWalkOf tree.now s.1) }
 {
     let parent = tree.parent(node)?;
@@ -23,18 +22,22 @@ pub(crate) fn next_ancestor(tree: &Tree, node: Node) -> Option<(Node, Walk)>
 pub(crate) fn next_sibling_before(tree: &Tree, parent: Node, before: Node) -> Option<(Node, Walk)>
     requires within { before < length tree.now }
     requires child { (at tree.now before).parent ≡ Some parent }
-    ensures step { MatchOption result (passing_before (is_child tree.now parent) before ≡ []) (λ s. passing_before (is_child tree.now parent) before ≡ s.0 ∷ nodes_left tree.now s.1) }
+    ensures step { IsStepOf tree.now (passing_before (is_child tree.now parent) before) result }
     ensures walk { IfSome result (λ s. IsWalkOf tree.now s.1) }
 {
     let before = sibling_before(tree, parent, before)?;
     Some((before, Walk::SiblingsBefore { parent, before }))
 }
 
-// The last child of a node before one that has it as its parent: the node just before is inside it, if it is another.
+// The last child of a node before one that has it as its parent: the node just before is inside it,
+// if it is another.
 fn sibling_before(tree: &Tree, parent: Node, before: Node) -> Option<Node>
     requires within { before < length tree.now }
     requires child { (at tree.now before).parent ≡ Some parent }
-    ensures value { MatchOption result (passing_before (is_child tree.now parent) before ≡ []) (λ s. passing_before (is_child tree.now parent) before ≡ s ∷ passing_before (is_child tree.now parent) s) }
+    ensures value { MatchOption result
+        (passing_before (is_child tree.now parent) before ≡ [])
+        (λ s. passing_before (is_child tree.now parent) before
+        ≡ s ∷ passing_before (is_child tree.now parent) s) }
     ensures child { IfSome result (λ s. (at tree.now s).parent ≡ Some parent) }
     ensures before { IfSome result (λ s. s < before) }
 {
@@ -54,8 +57,8 @@ fn sibling_before(tree: &Tree, parent: Node, before: Node) -> Option<Node>
     None
 }
 
-/// The last node below a place that is before a node in its document and is neither an ancestor of it nor an attribute
-/// or namespace node.
+/// The last node below a place that is before a node in its document and is neither an ancestor of
+/// it nor an attribute or namespace node.
 pub(crate) fn next_preceding(
     tree: &Tree,
     node: Node,
@@ -65,7 +68,7 @@ pub(crate) fn next_preceding(
     requires within { node < length tree.now }
     requires before { before ≤ node }
     requires root { root_of tree.now node ≡ root }
-    ensures step { MatchOption result (passing_before (is_preceding tree.now node) before ≡ []) (λ s. passing_before (is_preceding tree.now node) before ≡ s.0 ∷ nodes_left tree.now s.1) }
+    ensures step { IsStepOf tree.now (passing_before (is_preceding tree.now node) before) result }
     ensures walk { IfSome result (λ s. IsWalkOf tree.now s.1) }
 {
     let mut before = before;

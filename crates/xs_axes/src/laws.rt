@@ -1,10 +1,9 @@
 //! What is true of the axes. The functions do nothing: their contracts are the laws.
-#![tactic(auto)]
 
 ghost use Rattle.xs_axes.specs.AxisLaws.{AxesShareOut, AxesStayInside, ReverseAxesGoBack};
 
-/// The axes ancestor, descendant, following, preceding and self share a document out: each of its nodes but attribute and
-/// namespace nodes is on exactly one of them (XPath 1.0, 2.2).
+/// The axes ancestor, descendant, following, preceding and self share a document out: each of its
+/// nodes but attribute and namespace nodes is on exactly one of them (XPath 1.0, 2.2).
 pub fn axes_share_out()
     ensures { AxesShareOut }
 {}

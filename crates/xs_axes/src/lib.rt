@@ -1,8 +1,7 @@
-// The axes of XPath over a tree (XPath 1.0, 2.2).
+//! The axes of XPath over a tree (XPath 1.0, 2.2).
 #![tactic(auto)]
 
 mod backward;
-mod documents;
 mod forward;
 pub mod laws;
 mod nodes;

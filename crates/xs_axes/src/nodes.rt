@@ -1,5 +1,4 @@
-// The nodes of an axis.
-#![tactic(auto)]
+//! The nodes of an axis.
 
 ghost use Rattle.std.specs.Prelude.{◌≡◌, ◌<◌, length};
 ghost use Rattle.std.specs.Iterator.{YieldsFirst, item_count};
@@ -10,8 +9,8 @@ use crate::walks::Walk;
 use std::marker::Model;
 use xs_tree::{Axis, Node, Tree};
 
-/// The nodes of an axis, in the order of the axis: document order, and turned round where the axis goes backwards
-/// (XPath 1.0, 2.2 and 2.4). Takes no memory, when it is made or as it goes on.
+/// The nodes of an axis, in the order of the axis: document order, and turned round where the axis
+/// goes backwards (XPath 1.0, 2.2 and 2.4). Takes no memory, when it is made or as it goes on.
 pub fn axis_nodes(tree: &Tree, node: Node, axis: Axis) -> AxisNodes<'_>
     requires { node < length tree.now }
     ensures { result ≡ axis_list axis tree.now node }

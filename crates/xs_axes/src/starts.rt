@@ -1,5 +1,4 @@
-// Where the walk along an axis begins.
-#![tactic(auto)]
+//! Where the walk along an axis begins.
 
 ghost use Rattle.std.specs.Prelude.{◌≡◌, ◌+◌, ◌<◌, None, length, if◌then◌else◌};
 ghost use Rattle.xs_tree.specs.Axis.{axis_list};
@@ -8,7 +7,6 @@ ghost use Rattle.xs_tree.specs.Record.{at};
 ghost use Rattle.xs_tree.specs.Shape.{IsTree};
 ghost use Rattle.xs_axes.specs.Walks.{nodes_left, IsWalkOf};
 
-use crate::documents::document_root;
 use crate::walks::Walk;
 use xs_tree::{Axis, Kind, Node, Tree};
 
@@ -45,6 +43,7 @@ fn place_after(tree: &Tree, node: Node) -> u32
     node.place() + 1
 }
 
+// Each child is followed by the one where its subtree ends.
 fn children(tree: &Tree, node: Node) -> Walk
     requires { node < length tree.now }
     ensures left { nodes_left tree.now result ≡ axis_list Axis.Child tree.now node }
@@ -67,15 +66,17 @@ fn attributes(tree: &Tree, node: Node) -> Walk
     }
 }
 
+// They stand right after the node.
 fn namespaces(tree: &Tree, node: Node) -> Walk
     requires { node < length tree.now }
     ensures left { nodes_left tree.now result ≡ axis_list Axis.Namespace tree.now node }
     ensures walk { IsWalkOf tree.now result }
 {
     let from = place_after(tree, node);
-    Walk::Spaces { parent: node, from }
+    Walk::Namespaces { parent: node, from }
 }
 
+// All up to the end of the subtree, but for attributes and namespace nodes.
 fn descendants(tree: &Tree, node: Node) -> Walk
     requires { node < length tree.now }
     ensures left { nodes_left tree.now result ≡ axis_list Axis.Descendant tree.now node }
@@ -86,6 +87,7 @@ fn descendants(tree: &Tree, node: Node) -> Walk
     Walk::Content { from, end }
 }
 
+// The node, and all up to the end of its subtree, but for attributes and namespace nodes.
 fn self_and_descendants(tree: &Tree, node: Node) -> Walk
     requires { node < length tree.now }
     ensures left { nodes_left tree.now result ≡ axis_list Axis.DescendantOrSelf tree.now node }
@@ -95,6 +97,7 @@ fn self_and_descendants(tree: &Tree, node: Node) -> Walk
     Walk::SelfAndContent { node, end }
 }
 
+// Only a root has no parent.
 fn parent_alone(tree: &Tree, node: Node) -> Walk
     requires { node < length tree.now }
     ensures left { nodes_left tree.now result ≡ axis_list Axis.Parent tree.now node }
@@ -106,6 +109,7 @@ fn parent_alone(tree: &Tree, node: Node) -> Walk
     }
 }
 
+// From parent to parent, up to the root.
 fn ancestors(tree: &Tree, node: Node) -> Walk
     requires { node < length tree.now }
     ensures left { nodes_left tree.now result ≡ axis_list Axis.Ancestor tree.now node }
@@ -115,6 +119,7 @@ fn ancestors(tree: &Tree, node: Node) -> Walk
     Walk::Ancestors(node)
 }
 
+// The node, and from parent to parent, up to the root.
 fn self_and_ancestors(tree: &Tree, node: Node) -> Walk
     requires { node < length tree.now }
     ensures left { nodes_left tree.now result ≡ axis_list Axis.AncestorOrSelf tree.now node }
@@ -127,7 +132,8 @@ fn self_and_ancestors(tree: &Tree, node: Node) -> Walk
 // The parent of a node that can be a child; attribute and namespace nodes have no siblings.
 fn parent_of_child(tree: &Tree, node: Node) -> Option<Node>
     requires { node < length tree.now }
-    ensures parent { result ≡ (if is_child_kind (at tree.now node).kind then (at tree.now node).parent else None) }
+    ensures parent { result ≡ (if is_child_kind (at tree.now node).kind
+        then (at tree.now node).parent else None) }
 {
     if tree.kind(node).is_child() {
         tree.parent(node)
@@ -136,6 +142,7 @@ fn parent_of_child(tree: &Tree, node: Node) -> Option<Node>
     }
 }
 
+// The children of the parent from the end of the node's subtree on.
 fn following_siblings(tree: &Tree, node: Node) -> Walk
     requires { node < length tree.now }
     ensures left { nodes_left tree.now result ≡ axis_list Axis.FollowingSibling tree.now node }
@@ -148,6 +155,7 @@ fn following_siblings(tree: &Tree, node: Node) -> Walk
     }
 }
 
+// The children of the parent before the node, the last first.
 fn preceding_siblings(tree: &Tree, node: Node) -> Walk
     requires { node < length tree.now }
     ensures left { nodes_left tree.now result ≡ axis_list Axis.PrecedingSibling tree.now node }
@@ -163,25 +171,27 @@ fn preceding_siblings(tree: &Tree, node: Node) -> Walk
     }
 }
 
+// What comes after the end of the node's subtree, in its document.
 fn following(tree: &Tree, node: Node) -> Walk
     requires { node < length tree.now }
     ensures left { nodes_left tree.now result ≡ axis_list Axis.Following tree.now node }
     ensures walk { IsWalkOf tree.now result }
 {
-    let root = document_root(tree, node);
+    let root = tree.root_of(node);
     Walk::Content {
         from: tree.subtree_end(node),
         end: tree.subtree_end(root),
     }
 }
 
+// What comes before the node in its document and is no ancestor, the last first.
 fn preceding(tree: &Tree, node: Node) -> Walk
     requires { node < length tree.now }
     ensures left { nodes_left tree.now result ≡ axis_list Axis.Preceding tree.now node }
     ensures walk { IsWalkOf tree.now result }
 {
     let _count = tree.len();
-    let root = document_root(tree, node);
+    let root = tree.root_of(node);
     Walk::Preceding {
         node,
         root,

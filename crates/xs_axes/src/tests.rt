@@ -1,5 +1,4 @@
-// The axes of small documents, against lists written out by hand from XPath 1.0, 2.2.
-#![tactic(auto)]
+//! The axes of small documents, against lists written out by hand from XPath 1.0, 2.2.
 
 ghost use Rattle.std.specs.Prelude.{◌<◌, length};
 
@@ -9,9 +8,9 @@ use std::alloc::Global;
 use std::test::Fail;
 use xs_tree::{Axis, Kind, Node, Tree};
 
-// From place 1 on, of all kinds: an element r, its namespace node 2, its attributes 3 and 4, a text 5, an element a at 6
-// with a namespace node 7, an attribute 8, a comment 9 and an element b at 10, which holds a text 11; then a processing
-// instruction 12 and an empty element 13.
+// From place 1 on, of all kinds: an element r, its namespace node 2, its attributes 3 and 4, a text
+// 5, an element a at 6 with a namespace node 7, an attribute 8, a comment 9 and an element b at 10,
+// which holds a text 11; then a processing instruction 12 and an empty element 13.
 const ALL_KINDS: [Row; 13] = [
     (Kind::Element, 0),
     (Kind::Space, 1),
@@ -28,7 +27,8 @@ const ALL_KINDS: [Row; 13] = [
     (Kind::Element, 1),
 ];
 
-// Adds a line to a table: a node, and the nodes of an axis from there; no line where there are none.
+// Adds a line to a table: a node, and the nodes of an axis from there; no line where there are
+// none.
 fn add_line(out: &mut String, tree: &Tree, node: Node, axis: Axis) -> Result<(), Fail>
     requires { node < length tree.now }
 {

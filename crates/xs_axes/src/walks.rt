@@ -1,14 +1,14 @@
-// What is left of a walk along an axis.
-#![tactic(auto)]
+//! What is left of a walk along an axis.
 
 ghost use Rattle.std.specs.Prelude.{◌≡◌, [], ◌∷◌, MatchOption, IfSome};
-ghost use Rattle.xs_axes.specs.Walks.{nodes_left, IsWalkOf};
+ghost use Rattle.xs_axes.specs.Walks.{IsStepOf, nodes_left, IsWalkOf};
 
 use crate::backward::{next_ancestor, next_preceding, next_sibling_before};
-use crate::forward::{next_attribute, next_content, next_sibling, next_space};
+use crate::forward::{next_attribute, next_content, next_namespace, next_sibling};
 use xs_tree::{Node, Tree};
 
-/// What is left of a walk along an axis: a few places, from which the nodes are found one after another.
+/// What is left of a walk along an axis: a few places, from which the nodes are found one after
+/// another.
 #[derive(Clone, Copy)]
 pub(crate) enum Walk {
     /// No node.
@@ -20,7 +20,7 @@ pub(crate) enum Walk {
     /// The attributes of a node from a place on.
     Attributes { parent: Node, from: u32 },
     /// The namespace nodes of a node from a place on.
-    Spaces { parent: Node, from: u32 },
+    Namespaces { parent: Node, from: u32 },
     /// The nodes from a place on and before another, but for attributes and namespace nodes.
     Content { from: u32, end: u32 },
     /// A node, and the nodes after it and before a place, but for attributes and namespace nodes.
@@ -31,8 +31,8 @@ pub(crate) enum Walk {
     SelfAndAncestors(Node),
     /// The children of a node before one of them.
     SiblingsBefore { parent: Node, before: Node },
-    /// The nodes before a node, from below a place down to the root of its document, but for its ancestors, attributes
-    /// and namespace nodes.
+    /// The nodes before a node, from below a place down to the root of its document, but for its
+    /// ancestors, attributes and namespace nodes.
     Preceding { node: Node, root: Node, before: u32 },
 }
 
@@ -40,7 +40,7 @@ impl Walk {
     /// The node that comes next, and what is left of the walk after it; none at the end.
     pub(crate) fn step(self, tree: &Tree) -> Option<(Node, Walk)>
         requires { IsWalkOf tree.now self }
-        ensures step { MatchOption result (nodes_left tree.now self ≡ []) (λ s. nodes_left tree.now self ≡ s.0 ∷ nodes_left tree.now s.1) }
+        ensures step { IsStepOf tree.now (nodes_left tree.now self) result }
         ensures walk { IfSome result (λ s. IsWalkOf tree.now s.1) }
     {
         match self {
@@ -48,7 +48,7 @@ impl Walk {
             Walk::Single(node) => Some((node, Walk::Nothing)),
             Walk::Siblings { parent, from } => next_sibling(tree, parent, from),
             Walk::Attributes { parent, from } => next_attribute(tree, parent, from),
-            Walk::Spaces { parent, from } => next_space(tree, parent, from),
+            Walk::Namespaces { parent, from } => next_namespace(tree, parent, from),
             Walk::Content { from, end } => next_content(tree, from, end),
             Walk::SelfAndContent { node, end } => {
                 let _count = tree.len();

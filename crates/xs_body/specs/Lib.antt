@@ -1,8 +1,7 @@
-pub mod Paths
-pub mod Parts
+pub mod Body
 pub mod Path
 pub mod Sheet
-pub mod Walk
 pub mod Select
 pub mod Trace
-pub mod Steps
+pub mod Need
+pub mod steps

@@ -2,7 +2,10 @@
 use Rattle.std.specs.Prelude.{ℕ, nat_le, ◌-◌, ◌==◌, ◌&&◌, ◌||◌, List, [], ◌∷◌, length, take, drop, Bool, false, Option, Some, None, option_map, option_and_then, if◌then◌else◌, codes}
 use Rattle.std.specs.List.{list_all, list_any, slice_split, before_first, after_first}
 use Rattle.std.specs.Str.{bytes_eq}
-use Rattle.xs_body.specs.Paths.{Way, here, down, Condition, exists, equals}
+use Rattle.xs_body.specs.declared.paths.Path.{Path}
+use Rattle.xs_body.specs.declared.paths.Path.TheVariants.{Here, Down}
+use Rattle.xs_body.specs.declared.paths.Test.{Test}
+use Rattle.xs_body.specs.declared.paths.Test.TheVariants.{Exists, Equals}
 
 -- the letters A to Z and a to z
 abbrev pub is_letter : ℕ → Bool
@@ -26,8 +29,8 @@ abbrev pub names_of : List ℕ → Option (List (List ℕ))
 names_of text = let names = slice_split (λ b. b == 47) text in if list_all is_name names then Some names else None
 
 -- a relative location path: `.` (XPath 1.0, 2.5), or child steps (2)
-abbrev pub path_of : List ℕ → Option Way
-path_of text = if bytes_eq text (codes ".") then Some here else option_map down (names_of text)
+abbrev pub path_of : List ℕ → Option Path
+path_of text = if bytes_eq text (codes ".") then Some Here else option_map Down (names_of text)
 
 abbrev pub is_quote : ℕ → Bool
 is_quote b = b == 39
@@ -41,9 +44,9 @@ abbrev pub quoted : List ℕ → Option (List ℕ)
 quoted rest = option_and_then (λ text. if list_any is_quote text then None else Some text) (before_end (codes "'") rest)
 
 -- a path, ` = ` and a literal, given what stands before and after the literal's first quote (XPath 1.0, 3.4)
-abbrev pub comparison_of : List ℕ → List ℕ → Option Condition
-comparison_of before after = option_and_then (λ way. option_map (equals way) (quoted after)) (option_and_then path_of (before_end (codes " = ") before))
+abbrev pub comparison_of : List ℕ → List ℕ → Option Test
+comparison_of before after = option_and_then (λ path. option_map (Equals path) (quoted after)) (option_and_then path_of (before_end (codes " = ") before))
 
 -- a test: such a comparison, or a path alone
-abbrev pub test_of : List ℕ → Option Condition
-test_of text = if list_any is_quote text then comparison_of (before_first is_quote text) (after_first is_quote text) else option_map exists (path_of text)
+abbrev pub test_of : List ℕ → Option Test
+test_of text = if list_any is_quote text then comparison_of (before_first is_quote text) (after_first is_quote text) else option_map Exists (path_of text)

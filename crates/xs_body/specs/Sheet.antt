@@ -1,37 +1,23 @@
 -- Which trees are small stylesheets, and what their one template holds.
-use Rattle.std.specs.Prelude.{ℕ, zero, suc, ◌-◌, ◌==◌, ◌&&◌, ◌||◌, not, Bool, true, false, List, [], ◌∷◌, map, filter, Option, Some, None, is_none, option_map, option_and_then, if◌then◌else◌, codes, get_or}
-use Rattle.std.specs.List.{list_all}
+use Rattle.std.specs.Prelude.{ℕ, zero, suc, ◌-◌, ◌&&◌, ◌||◌, not, Bool, true, false, List, [], ◌∷◌, map, filter, Option, Some, None, is_none, option_map, option_and_then, if◌then◌else◌, codes, get_or}
 use Rattle.std.specs.Option.{option_map_or}
 use Rattle.std.specs.Str.{bytes_eq}
-use Rattle.xs_tree.specs.Axis.{is_space as is_space_of}
-use Rattle.xs_tree.specs.Record.{Record, at, children, attributes, places}
+use Rattle.xs_text.specs.WhiteSpace.{is_blank}
+use Rattle.xs_tree.specs.Kinds.{is_element_kind, is_text_kind}
+use Rattle.xs_tree.specs.Record.{Record, at, children, attributes, namespaces, uri_at, local_at, prefix_at}
 use Rattle.xs_trace.specs.declared.event.Label.{Label}
 use Rattle.xs_trace.specs.declared.item.Site.{Site}
 use Rattle.xs_tree.specs.declared.kinds.Kind.{Kind}
 use Rattle.xs_tree.specs.declared.kinds.Kind.TheVariants.{Root, Element, Attribute, Space, Text, Comment, Pi}
 use Rattle.xs_body.specs.declared.syntax.SpaceLabel.{SpaceLabel}
-use Rattle.xs_body.specs.Parts.{Part, text, literal, value_of, for_each, only_if, message, Parts, no_parts, part}
+use Rattle.xs_body.specs.Body.{InstrData, text, literal, value_of, for_each, only_if, message, BodyData, empty_body, instr}
 use Rattle.xs_body.specs.Path.{path_of, test_of}
-use Rattle.xs_body.specs.Paths.{Way}
-use Rattle.xs_body.specs.Select.{is_element}
+use Rattle.xs_body.specs.declared.paths.Path.{Path}
 
 -- the first of some nodes
 abbrev pub first : List ℕ → Option ℕ
 first [] = None
 first (n ∷ more) = Some n
-
--- white space (XML 1.0, 2.3)
-abbrev pub is_space : ℕ → Bool
-is_space b = (b == 32) || (b == 9) || (b == 10) || (b == 13)
-
-abbrev pub is_text : Kind → Bool
-is_text Root = false
-is_text Element = false
-is_text Attribute = false
-is_text Space = false
-is_text Text = true
-is_text Comment = false
-is_text Pi = false
 
 -- a comment or a processing instruction
 abbrev pub is_remark : Kind → Bool
@@ -43,18 +29,6 @@ is_remark Text = false
 is_remark Comment = true
 is_remark Pi = true
 
--- the local part of the name of a node; empty where it bears none
-abbrev pub name_at : List Record → ℕ → List ℕ
-name_at rs n = option_map_or (λ name. name.local) (at rs n).name []
-
--- the namespace URI of the name of a node; empty where it is in none (Namespaces in XML 1.0, 2.1)
-abbrev pub uri_at : List Record → ℕ → List ℕ
-uri_at rs n = option_map_or (λ name. name.uri) (at rs n).name []
-
--- the prefix that the name of a node was written with; empty where there is none
-abbrev pub prefix_at : List Record → ℕ → List ℕ
-prefix_at rs n = option_map_or (λ name. name.prefix) (at rs n).name []
-
 -- the namespace of XSLT's elements, whatever prefix they bear (XSLT 1.0, 2.1)
 abbrev pub xslt_uri : List ℕ
 xslt_uri = codes "http://www.w3.org/1999/XSL/Transform"
@@ -64,12 +38,12 @@ is_in_xslt rs n = bytes_eq (uri_at rs n) xslt_uri
 
 -- an element of XSLT with this local part
 abbrev pub is_named : List ℕ → List Record → ℕ → Bool
-is_named local rs n = is_element (at rs n).kind && (is_in_xslt rs n && bytes_eq (name_at rs n) local)
+is_named local rs n = is_element_kind (at rs n).kind && (is_in_xslt rs n && bytes_eq (local_at rs n) local)
 
 -- A text node of a stylesheet that is stripped, since it holds only white space (XSLT 1.0, 3.4). Neither `xsl:text` nor `xml:space`
 -- has to be looked at: an element of that name or with that attribute is not built.
 abbrev pub is_stripped : List Record → ℕ → Bool
-is_stripped rs n = is_text (at rs n).kind && list_all is_space (at rs n).text
+is_stripped rs n = is_text_kind (at rs n).kind && is_blank (at rs n).text
 
 -- a child of a node of a stylesheet that stands for nothing
 abbrev pub is_ignored : List Record → ℕ → Bool
@@ -94,7 +68,7 @@ pair (a ∷ b ∷ c ∷ more) = None
 
 -- the value of an attribute of this name, which is in no namespace (XSLT 1.0, 2.1)
 abbrev pub value_named : List ℕ → List Record → ℕ → Option (List ℕ)
-value_named name rs a = if bytes_eq (uri_at rs a) [] && bytes_eq (name_at rs a) name then Some (at rs a).text else None
+value_named name rs a = if bytes_eq (uri_at rs a) [] && bytes_eq (local_at rs a) name then Some (at rs a).text else None
 
 -- the value of the attribute of this name, where the element has no other
 abbrev pub only_attribute : List ℕ → List Record → ℕ → Option (List ℕ)
@@ -131,27 +105,27 @@ abbrev pub template_of : List Record → Option ℕ
 template_of rs = option_and_then (template_in rs) (single (content rs 0))
 
 -- the path in the attribute `select`, where an element has no other attribute (XPath 1.0, 2)
-abbrev pub select_of : List Record → ℕ → Option Way
+abbrev pub select_of : List Record → ℕ → Option Path
 select_of rs n = option_and_then path_of (only_attribute (codes "select") rs n)
 
 -- an empty element that puts the string of what its path gives (XSLT 1.0, 7.6.1)
-abbrev pub value_of_part : List Record → ℕ → Option Part
-value_of_part rs n = if is_empty rs n then option_map value_of (select_of rs n) else None
+abbrev pub value_of_instr : List Record → ℕ → Option InstrData
+value_of_instr rs n = if is_empty rs n then option_map value_of (select_of rs n) else None
 
 -- an element that does its content for each node that its path gives (XSLT 1.0, 8)
-abbrev pub for_each_part : List Record → ℕ → Option Parts → Option Part
-for_each_part rs n inner = option_and_then (λ way. option_map (for_each way) inner) (select_of rs n)
+abbrev pub for_each_instr : List Record → ℕ → Option BodyData → Option InstrData
+for_each_instr rs n inner = option_and_then (λ path. option_map (for_each path) inner) (select_of rs n)
 
 -- an element that does its content where its one attribute, `test`, holds (XSLT 1.0, 9.1)
-abbrev pub if_part : List Record → ℕ → Option Parts → Option Part
-if_part rs n inner = option_and_then (λ condition. option_map (only_if condition) inner) (option_and_then test_of (only_attribute (codes "test") rs n))
+abbrev pub if_instr : List Record → ℕ → Option BodyData → Option InstrData
+if_instr rs n inner = option_and_then (λ test. option_map (only_if test) inner) (option_and_then test_of (only_attribute (codes "test") rs n))
 
 abbrev pub has_none : List Record → ℕ → Bool
 has_none rs n = is_none (first (attributes rs n))
 
 -- an element without attributes that says the text of its content to the user (XSLT 1.0, 13)
-abbrev pub message_part : List Record → ℕ → Option Parts → Option Part
-message_part rs n inner = if has_none rs n then option_map message inner else None
+abbrev pub message_instr : List Record → ℕ → Option BodyData → Option InstrData
+message_instr rs n inner = if has_none rs n then option_map message inner else None
 
 -- an element without attributes that is not in XSLT's namespace: it is put on the result (XSLT 1.0, 7.1.1)
 abbrev pub is_literal : List Record → ℕ → Bool
@@ -159,74 +133,70 @@ is_literal rs n = has_none rs n && not (is_in_xslt rs n)
 
 -- the name of a node, as it was written
 abbrev pub label_at : List Record → ℕ → Label
-label_at rs n = record { uri = uri_at rs n; local = name_at rs n; prefix = prefix_at rs n }
-
--- the namespace nodes of an element, in document order (XPath 1.0, 5.4)
-abbrev pub spaces : List Record → ℕ → List ℕ
-spaces rs n = filter (is_space_of rs n) (places rs)
+label_at rs n = record { uri = uri_at rs n; local = local_at rs n; prefix = prefix_at rs n }
 
 -- The namespace nodes that are copied to the result: all but those whose string-value is XSLT's URI (XSLT 1.0, 7.1.1), and the
 -- one of the prefix `xml`, which every element has anyway (XPath 1.0, 5.4).
 abbrev pub is_copied : List Record → ℕ → Bool
-is_copied rs k = not (bytes_eq (at rs k).text xslt_uri) && not (bytes_eq (name_at rs k) (codes "xml"))
+is_copied rs k = not (bytes_eq (at rs k).text xslt_uri) && not (bytes_eq (local_at rs k) (codes "xml"))
 
 -- the prefix and the URI of a namespace node (XPath 1.0, 5.4)
 abbrev pub space_at : List Record → ℕ → SpaceLabel
-space_at rs k = record { prefix = name_at rs k; uri = (at rs k).text }
+space_at rs k = record { prefix = local_at rs k; uri = (at rs k).text }
 
 -- what an element copies of its namespace nodes
 abbrev pub copied_spaces : List Record → ℕ → List SpaceLabel
-copied_spaces rs n = map (space_at rs) (filter (is_copied rs) (spaces rs n))
+copied_spaces rs n = map (space_at rs) (filter (is_copied rs) (namespaces rs n))
 
-abbrev pub literal_part : List Record → ℕ → Option Parts → Option Part
-literal_part rs n inner = if is_literal rs n then option_map (literal (label_at rs n) (copied_spaces rs n)) inner else None
+abbrev pub literal_instr : List Record → ℕ → Option BodyData → Option InstrData
+literal_instr rs n inner = if is_literal rs n then option_map (literal (label_at rs n) (copied_spaces rs n)) inner else None
 
 -- what an element stands for, given what its content stands for
-abbrev pub element_part : List Record → ℕ → Option Parts → Option Part
-element_part rs n inner =
-    if is_named (codes "value-of") rs n then value_of_part rs n
-    else (if is_named (codes "for-each") rs n then for_each_part rs n inner
-    else (if is_named (codes "if") rs n then if_part rs n inner
-    else (if is_named (codes "message") rs n then message_part rs n inner
-    else literal_part rs n inner)))
+abbrev pub element_instr : List Record → ℕ → Option BodyData → Option InstrData
+element_instr rs n inner =
+    if is_named (codes "value-of") rs n then value_of_instr rs n
+    else (if is_named (codes "for-each") rs n then for_each_instr rs n inner
+    else (if is_named (codes "if") rs n then if_instr rs n inner
+    else (if is_named (codes "message") rs n then message_instr rs n inner
+    else literal_instr rs n inner)))
 
 -- what a node of this kind and text stands for, given what it stands for as an element
-abbrev pub node_part : Kind → List ℕ → Option Part → Option Part
-node_part Root t element = None
-node_part Element t element = element
-node_part Attribute t element = None
-node_part Space t element = None
-node_part Text t element = Some (text t)
-node_part Comment t element = None
-node_part Pi t element = None
+abbrev pub node_instr : Kind → List ℕ → Option InstrData → Option InstrData
+node_instr Root t element = None
+node_instr Element t element = element
+node_instr Attribute t element = None
+node_instr Space t element = None
+node_instr Text t element = Some (text t)
+node_instr Comment t element = None
+node_instr Pi t element = None
 
 -- where a node of a stylesheet stands, given the line of each: in the first module, at its line
 abbrev pub site_of : List ℕ → ℕ → Site
 site_of lines n = record { «module» = 0; line = get_or lines n 0 }
 
--- a part that stands somewhere, and then others; None where one is missing
-abbrev pub with_part : Site → Option Part → Option Parts → Option Parts
-with_part site None rest = None
-with_part site (Some p) rest = option_map (part site p) rest
+-- an instruction that stands somewhere, and then others; None where one is missing
+abbrev pub with_instr : Site → Option InstrData → Option BodyData → Option BodyData
+with_instr site None rest = None
+with_instr site (Some p) rest = option_map (instr site p) rest
 
 -- what some nodes stand for, each at its place, given what each stands for
-abbrev pub all_parts : List ℕ → (ℕ → Option Part) → List ℕ → Option Parts
-all_parts lines part_of [] = Some no_parts
-all_parts lines part_of (n ∷ ns) = with_part (site_of lines n) (part_of n) (all_parts lines part_of ns)
+abbrev pub all_instrs : List ℕ → (ℕ → Option InstrData) → List ℕ → Option BodyData
+all_instrs lines instr_of [] = Some empty_body
+all_instrs lines instr_of (n ∷ ns) = with_instr (site_of lines n) (instr_of n) (all_instrs lines instr_of ns)
 
 -- what a node in a template stands for, where elements may nest `depth` deep from it on
-unfoldable pub part_at : ℕ → List Record → List ℕ → ℕ → Option Part
-part_at zero rs lines n = node_part (at rs n).kind (at rs n).text None
-part_at (suc depth) rs lines n = node_part (at rs n).kind (at rs n).text (element_part rs n (all_parts lines (part_at depth rs lines) (content rs n)))
+unfoldable pub instr_at : ℕ → List Record → List ℕ → ℕ → Option InstrData
+instr_at zero rs lines n = node_instr (at rs n).kind (at rs n).text None
+instr_at (suc depth) rs lines n = node_instr (at rs n).kind (at rs n).text (element_instr rs n (all_instrs lines (instr_at depth rs lines) (content rs n)))
 
 -- what the content of a node stands for, where elements may nest `depth` deep in it
-abbrev pub parts_at : ℕ → List Record → List ℕ → ℕ → Option Parts
-parts_at depth rs lines n = all_parts lines (part_at depth rs lines) (content rs n)
+abbrev pub body_at : ℕ → List Record → List ℕ → ℕ → Option BodyData
+body_at depth rs lines n = all_instrs lines (instr_at depth rs lines) (content rs n)
 
 -- What the template of a small stylesheet holds, given the line of each node; None exactly where the tree is no small
 -- stylesheet. The root element is at depth 1 and the template at depth 2, and no element is deeper than 256.
-abbrev pub body_of : List Record → List ℕ → Option Parts
-body_of rs lines = option_and_then (parts_at (256 - 2) rs lines) (template_of rs)
+abbrev pub body_of : List Record → List ℕ → Option BodyData
+body_of rs lines = option_and_then (body_at (256 - 2) rs lines) (template_of rs)
 
 -- the line of the root element; 0 where there is none
 abbrev pub root_line : List Record → List ℕ → ℕ

@@ -11,7 +11,7 @@ use Rattle.xs_trace.specs.declared.item.Site.{Site}
 use Rattle.xs_tree.specs.Record.{Record}
 use Rattle.xs_body.specs.declared.context.Context.{Context}
 use Rattle.xs_body.specs.declared.syntax.SpaceLabel.{SpaceLabel}
-use Rattle.xs_body.specs.Parts.{Part, text, literal, value_of, for_each, only_if, message, Parts, no_parts, part}
+use Rattle.xs_body.specs.Body.{InstrData, text, literal, value_of, for_each, only_if, message, BodyData, empty_body, instr}
 use Rattle.xs_body.specs.Select.{selected, holds, first_string}
 
 -- the context of an instruction whose current node this is (XSLT 1.0, 4)
@@ -19,19 +19,19 @@ abbrev pub with_node : ℕ → Context
 with_node n = record { node = n }
 
 -- a literal result element begins: its whole name, and then a copy of each of its namespace nodes (XSLT 1.0, 7.1.1)
-abbrev pub begins : Label → List SpaceLabel → Trace
+abbrev pub begins : {H : Type 0} → Label → List SpaceLabel → Trace H
 begins name spaces = Put (Start name) ∷ map (λ (s : SpaceLabel). Put (Space s.prefix s.uri)) spaces
 
 -- an event is put, after a tick for each full 256 bytes of its text
-abbrev pub puts : Site → Event → Trace
+abbrev pub puts : {H : Type 0} → Site → Event → Trace H
 puts p e = ticks p (length (text_of e) / 256) (Put e ∷ [])
 
 -- a text; an empty one is not put
-abbrev pub chars : Site → List ℕ → Trace
+abbrev pub chars : {H : Type 0} → Site → List ℕ → Trace H
 chars p t = if length t == 0 then [] else puts p (Chars t)
 
 -- a message is said, after a tick for each full 256 bytes
-abbrev pub says : Site → List ℕ → Trace
+abbrev pub says : {H : Type 0} → Site → List ℕ → Trace H
 says p t = ticks p (length t / 256) (Say t ∷ [])
 
 abbrev pub own_chars : Event → List ℕ
@@ -48,26 +48,26 @@ abbrev pub text_in : List Event → List ℕ
 text_in es = flat_map own_chars es
 
 -- for each node a tick, and then what is done with it as the current node
-abbrev pub each : Site → (Context → Trace) → List ℕ → Trace
+abbrev pub each : {H : Type 0} → Site → (Context → Trace H) → List ℕ → Trace H
 each p body [] = []
 each p body (n ∷ ns) = Tick p ∷ (body (with_node n) ⨾ each p body ns)
 
--- What each kind of part does: a text (XSLT 1.0, 7.2), a literal result element (7.1.1), value-of (7.6.1), for-each (8),
--- if (9.1) and message (13). Each part takes a tick before all else.
+-- What each kind of instruction does: a text (XSLT 1.0, 7.2), a literal result element (7.1.1), value-of (7.6.1), for-each (8),
+-- if (9.1) and message (13). Each takes a tick before all else.
 abbrev mutual
-  pub part_trace : Part → Site → List Record → Context → Trace
-  part_trace (text t) p rs c = chars p t
-  part_trace (literal name spaces parts) p rs c = begins name spaces ⨾ (trace parts rs c ⨾ Put End ∷ [])
-  part_trace (value_of way) p rs c = evaluated p (selected way rs c.node) (λ ns. chars p (first_string rs ns))
-  part_trace (for_each way parts) p rs c = evaluated p (selected way rs c.node) (λ ns. each p (trace parts rs) ns)
-  part_trace (only_if condition parts) p rs c = evaluated p (holds condition rs c.node) (λ b. if b then trace parts rs c else [])
-  part_trace (message parts) p rs c = captured (trace parts rs c) (λ es. says p (text_in es))
+  pub instr_trace : {H : Type 0} → InstrData → Site → List Record → Context → Trace H
+  instr_trace (text t) p rs c = chars p t
+  instr_trace (literal name spaces instrs) p rs c = begins name spaces ⨾ (trace instrs rs c ⨾ Put End ∷ [])
+  instr_trace (value_of path) p rs c = evaluated p (selected path rs c.node) (λ ns. chars p (first_string rs ns))
+  instr_trace (for_each path instrs) p rs c = evaluated p (selected path rs c.node) (λ ns. each p (trace instrs rs) ns)
+  instr_trace (only_if test instrs) p rs c = evaluated p (holds test rs c.node) (λ b. if b then trace instrs rs c else [])
+  instr_trace (message instrs) p rs c = captured (trace instrs rs c) (λ es. says p (text_in es))
 
-  pub trace : Parts → List Record → Context → Trace
-  trace no_parts rs c = []
-  trace (part p x parts) rs c = Tick p ∷ (part_trace x p rs c ⨾ trace parts rs c)
+  pub trace : {H : Type 0} → BodyData → List Record → Context → Trace H
+  trace empty_body rs c = []
+  trace (instr p x instrs) rs c = Tick p ∷ (instr_trace x p rs c ⨾ trace instrs rs c)
 
 -- What the template of the root does: the root takes a tick, at the root element of the stylesheet, and then it is the
 -- current node (XSLT 1.0, 5.1).
-abbrev pub root_trace : ℕ → Parts → List Record → Trace
-root_trace root_line parts rs = Tick (record { «module» = 0; line = root_line }) ∷ trace parts rs (with_node 0)
+abbrev pub root_trace : {H : Type 0} → ℕ → BodyData → List Record → Trace H
+root_trace root_line instrs rs = Tick (record { «module» = 0; line = root_line }) ∷ trace instrs rs (with_node 0)

@@ -3,7 +3,6 @@ ghost use Rattle.std.specs.Prelude.{◌≡◌, ◌<◌, length, IfSome, option_m
 ghost use Rattle.xs_body.specs.Sheet.{has_none, has_only, only_attribute, single, value_named};
 ghost use Rattle.xs_tree.specs.Record.{attributes};
 
-use crate::nodes::{name_at, uri_at};
 use xs_tree::{Node, Tree};
 
 /// The value of the attribute of this name, in no namespace, where the element has no other.
@@ -12,7 +11,7 @@ pub(crate) fn only_attribute<'a>(tree: &'a Tree, n: Node, name: &str) -> Option<
     ensures { option_map (λ value. value.now) result ≡ only_attribute name.now tree.now n }
 {
     let attribute = single_attribute(tree, n)?;
-    if uri_at(tree, attribute).is_empty() && name_at(tree, attribute) == name {
+    if tree.uri(attribute).is_empty() && tree.local(attribute) == name {
         Some(tree.text(attribute))
     } else {
         None
@@ -39,7 +38,7 @@ pub(crate) fn has_none(tree: &Tree, n: Node) -> bool
 }
 
 // The attribute of an element that has exactly one.
-#[tactic(auto, using(crate::proofs::Inside::inside))]
+#[tactic(auto, using(crate::proofs::AttributeLemmas::inside))]
 fn single_attribute(tree: &Tree, n: Node) -> Option<Node>
     requires { n < length tree.now }
     ensures attribute { result ≡ single (attributes tree.now n) }

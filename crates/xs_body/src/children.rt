@@ -1,36 +1,25 @@
 //! The children of a node, one after another.
 ghost use Rattle.std.specs.Prelude.{◌≡◌, ◌+◌, ◌<◌, ◌≤◌, length, IfSome};
-ghost use Rattle.xs_body.specs.Walk.{Stands, content_from};
-ghost use Rattle.xs_tree.specs.Kinds.{is_child_kind};
-ghost use Rattle.xs_tree.specs.Record.{at};
 ghost use Rattle.xs_body.specs.Sheet.{content, first, pair, single};
+ghost use Rattle.xs_body.specs.steps.Children.{content_from};
 ghost use Rattle.xs_tree.specs.Walk.{children_from};
 
 use crate::nodes::is_ignored;
-use xs_tree::{Kind, Node, Tree};
+use xs_tree::{Node, Tree};
 
-/// The first child of a node after a place.
-#[tactic(auto, using(crate::proofs::Siblings::siblings))]
+// The first child of a node after a place.
 fn child_after(tree: &Tree, n: Node, after: Node) -> Option<Node>
     requires inside { after < length tree.now }
     requires later { n ≤ after }
     ensures child { result ≡ first (children_from tree.now n (after + 1)) }
     ensures later { IfSome result (λ k. (after < k) × (k < length tree.now)) }
 {
-    let count = tree.len() as u32;
-    for place in after.place() + 1..count {
-        let node = Node::at(place);
-        match standing_of(tree, n, node) {
-            Standing::Child => return Some(node),
-            Standing::Inside => {}
-            Standing::Outside => return None,
-        }
-    }
-    None
+    let _count = tree.len();
+    tree.child_from(n, Node::at(after.place() + 1))
 }
 
 /// The first child of a stylesheet's node that stays.
-#[tactic(auto, using(crate::proofs::Siblings::starts))]
+#[tactic(auto, using(crate::proofs::ChildLemmas::starts))]
 pub(crate) fn first_kept(tree: &Tree, n: Node) -> Option<Node>
     requires { n < length tree.now }
     ensures child { result ≡ first (content tree.now n) }
@@ -41,7 +30,7 @@ pub(crate) fn first_kept(tree: &Tree, n: Node) -> Option<Node>
 }
 
 /// The first child of a stylesheet's node that stays, after a place.
-#[tactic(auto, using(crate::proofs::Siblings::onwards))]
+#[tactic(auto, using(crate::proofs::ChildLemmas::onwards))]
 pub(crate) fn kept_after(tree: &Tree, n: Node, after: Node) -> Option<Node>
     requires inside { after < length tree.now }
     requires later { n ≤ after }
@@ -59,7 +48,7 @@ pub(crate) fn kept_after(tree: &Tree, n: Node, after: Node) -> Option<Node>
 }
 
 /// The child of a stylesheet's node that stays, where there is exactly one.
-#[tactic(auto, using(crate::proofs::Siblings::contents))]
+#[tactic(auto, using(crate::proofs::ChildLemmas::contents))]
 pub(crate) fn single_kept(tree: &Tree, n: Node) -> Option<Node>
     requires { n < length tree.now }
     ensures child { result ≡ single (content tree.now n) }
@@ -73,7 +62,7 @@ pub(crate) fn single_kept(tree: &Tree, n: Node) -> Option<Node>
 }
 
 /// The children of a stylesheet's node that stay, where there are exactly two.
-#[tactic(auto, using(crate::proofs::Siblings::contents))]
+#[tactic(auto, using(crate::proofs::ChildLemmas::contents))]
 pub(crate) fn kept_pair(tree: &Tree, n: Node) -> Option<(Node, Node)>
     requires { n < length tree.now }
     ensures children { result ≡ pair (content tree.now n) }
@@ -85,34 +74,4 @@ pub(crate) fn kept_pair(tree: &Tree, n: Node) -> Option<(Node, Node)>
         None => Some((first, second)),
         Some(_) => None,
     }
-}
-
-// How a later node stands to a node: as a child, inside it otherwise, or past its end.
-enum Standing {
-    Child,
-    Inside,
-    Outside,
-}
-
-fn standing_of(tree: &Tree, n: Node, later: Node) -> Standing
-    requires inside { n < length tree.now }
-    requires later { later < length tree.now }
-    ensures { Stands tree.now n later result }
-{
-    match tree.parent(later) {
-        None => Standing::Outside,
-        Some(parent) if parent.place() < n.place() => Standing::Outside,
-        Some(parent) if parent.place() == n.place() && can_be_child(tree, later) => Standing::Child,
-        Some(_) => Standing::Inside,
-    }
-}
-
-fn can_be_child(tree: &Tree, n: Node) -> bool
-    requires { n < length tree.now }
-    ensures { result ≡ is_child_kind (at tree.now n).kind }
-{
-    matches!(
-        tree.kind(n),
-        Kind::Element | Kind::Text | Kind::Comment | Kind::Pi
-    )
 }

@@ -1,31 +1,33 @@
 //! Paths and tests, as a stylesheet writes them.
 ghost use Rattle.std.specs.Prelude.{◌≡◌, true, false, IfOk, MatchOption, option_map};
 ghost use Rattle.std.specs.List.{after_first, before_first, list_any};
+ghost use Rattle.xs_body.specs.declared.paths.Test.TheVariants.{Exists};
 ghost use Rattle.xs_body.specs.Path.{before_end, comparison_of, is_quote, path_of, quoted, test_of};
-ghost use Rattle.xs_body.specs.Paths.{condition_of, exists, way_of};
 
 use crate::names::read_names;
-use crate::paths::{Path, Test};
+use crate::paths::{Names, Path, Test};
 use std::alloc::{AllocError, Global};
 use xs_trace::text::TextBuf;
 
-/// The path that a text writes: `.`, or one or more names without a prefix, joined by `/`. None for any other text.
+/// The path that a text writes: `.`, or one or more names without a prefix, joined by `/`. None for
+/// any other text.
 pub(crate) fn read_path(alloc: Global, text: &str) -> Result<Option<Path>, AllocError>
-    ensures { IfOk result (λ path. option_map way_of path ≡ path_of text.now) }
+    ensures { IfOk result (λ path. path ≡ path_of text.now) }
 {
     if text == "." {
         return Ok(Some(Path::Here));
     }
     match read_names(alloc, text)? {
-        Some(names) => Ok(Some(Path::Down(names))),
+        Some(names) => Ok(Some(Path::Down(Names::of(names)))),
         None => Ok(None),
     }
 }
 
-/// The test that a text writes: a path, or a path, ` = ` and a text in single quotes that holds no single quote. None for
+/// The test that a text writes: a path, or a path, ` = ` and a text in single quotes that holds no
+/// single quote. None for
 /// any other text.
 pub(crate) fn read_test(alloc: Global, text: &str) -> Result<Option<Test>, AllocError>
-    ensures { IfOk result (λ test. option_map condition_of test ≡ test_of text.now) }
+    ensures { IfOk result (λ test. test ≡ test_of text.now) }
 {
     match parts_at_quote(text) {
         Some((before, after)) => read_comparison(alloc, before, after),
@@ -33,8 +35,9 @@ pub(crate) fn read_test(alloc: Global, text: &str) -> Result<Option<Test>, Alloc
     }
 }
 
+// The test that a path makes alone.
 fn read_existence(alloc: Global, text: &str) -> Result<Option<Test>, AllocError>
-    ensures { IfOk result (λ test. option_map condition_of test ≡ option_map exists (path_of text.now)) }
+    ensures { IfOk result (λ test. test ≡ option_map Exists (path_of text.now)) }
 {
     match read_path(alloc, text)? {
         Some(path) => Ok(Some(Test::Exists(path))),
@@ -42,9 +45,10 @@ fn read_existence(alloc: Global, text: &str) -> Result<Option<Test>, AllocError>
     }
 }
 
-// The test of a path, ` = ` and a literal, from what stands before and after the literal's first quote.
+// The test of a path, ` = ` and a literal, from what stands before and after the literal's first
+// quote.
 fn read_comparison(alloc: Global, before: &str, after: &str) -> Result<Option<Test>, AllocError>
-    ensures { IfOk result (λ test. option_map condition_of test ≡ comparison_of before.now after.now) }
+    ensures { IfOk result (λ test. test ≡ comparison_of before.now after.now) }
 {
     let Some(path_text) = before_end(before, " = ") else {
         return Ok(None);
@@ -79,11 +83,15 @@ fn before_end<'a>(text: &'a str, end: &str) -> Option<&'a str>
 
 // What stands before and after the first quote of a text.
 fn parts_at_quote(text: &str) -> Option<(&str, &str)>
-    ensures { MatchOption result (list_any is_quote text.now ≡ false) (λ p. (list_any is_quote text.now ≡ true) × (p.0.now ≡ before_first is_quote text.now) × (p.1.now ≡ after_first is_quote text.now)) }
+    ensures { MatchOption result (list_any is_quote text.now ≡ false)
+        (λ p. (list_any is_quote text.now ≡ true)
+        × (p.0.now ≡ before_first is_quote text.now)
+        × (p.1.now ≡ after_first is_quote text.now)) }
 {
     text.split_once('\'')
 }
 
+// Whether a single quote is among some bytes.
 fn has_quote(bytes: &[u8]) -> bool
     ensures { result ≡ list_any is_quote bytes.now }
 {

@@ -5,6 +5,7 @@ mod attributes;
 mod children;
 pub mod context;
 mod expressions;
+pub mod laws;
 mod literal;
 #[cfg(test)]
 mod literal_tests;

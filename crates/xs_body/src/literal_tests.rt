@@ -44,6 +44,7 @@ fn binds(item: Option<&Item>, prefix: &str, uri: &str) -> bool {
     }
 }
 
+// Whether this text is put.
 fn is_text(item: Option<&Item>, text: &str) -> bool {
     match item {
         Some(Item::Put(Event::Chars(found))) => found.as_str() == text,
@@ -51,12 +52,15 @@ fn is_text(item: Option<&Item>, text: &str) -> bool {
     }
 }
 
+// Whether an element ends.
 fn ends(item: Option<&Item>) -> bool {
     matches!(item, Some(Item::Put(Event::End)))
 }
 
-// Of `<o:e xmlns="urn:d" xmlns:o="urn:o" xmlns:t="http://www.w3.org/1999/XSL/Transform">x</o:e>` in a template the result has
-// an element of the same expanded name, with a copy of each namespace node that is not XSLT's (XSLT 1.0, 7.1.1).
+// Of `<o:e xmlns="urn:d" xmlns:o="urn:o" xmlns:t="http://www.w3.org/1999/XSL/Transform">x</o:e>` in
+// a template the result has
+// an element of the same expanded name, with a copy of each namespace node that is not XSLT's (XSLT
+// 1.0, 7.1.1).
 // Before them come the ticks of the root and of the element, and before the text its own.
 #[test]
 fn tells_the_whole_name_and_the_namespaces(rt: HostRuntime) -> Result<(), Fail> {
@@ -87,7 +91,8 @@ fn tells_the_whole_name_and_the_namespaces(rt: HostRuntime) -> Result<(), Fail> 
     Ok(())
 }
 
-// The namespace nodes of an element are told before what is in it, and those of an inner element with that element.
+// The namespace nodes of an element are told before what is in it, and those of an inner element
+// with that element.
 #[test]
 fn tells_the_namespaces_of_an_inner_element(rt: HostRuntime) -> Result<(), Fail> {
     let template = [

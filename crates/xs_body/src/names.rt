@@ -35,6 +35,7 @@ fn are_names(text: &str) -> bool
     text.split('/').all(|piece| is_name(piece))
 }
 
+// Whether a text is a name without a prefix.
 fn is_name(text: &str) -> bool
     ensures { result ≡ is_name text.now }
 {
@@ -44,18 +45,21 @@ fn is_name(text: &str) -> bool
     }
 }
 
+// Whether a name may go on with these bytes.
 fn are_name_bytes(bytes: &[u8]) -> bool
     ensures { result ≡ list_all is_name_byte bytes.now }
 {
     bytes.iter().all(|byte| is_name_byte(*byte))
 }
 
+// Whether a name may begin with a byte.
 fn is_name_start(byte: u8) -> bool
     ensures { result ≡ is_name_start byte }
 {
     byte.is_ascii_alphabetic() || byte == b'_'
 }
 
+// Whether a name may go on with a byte.
 fn is_name_byte(byte: u8) -> bool
     ensures { result ≡ is_name_byte byte }
 {

@@ -1,8 +1,9 @@
 //! Reads the body of a small stylesheet.
 ghost use Rattle.std.specs.Prelude.{◌≡◌, ◌<◌, length, IfOk, Some, option_map};
-ghost use Rattle.xs_body.specs.Parts.{part_of, parts_of, text};
-ghost use Rattle.xs_body.specs.Paths.{way_of};
-ghost use Rattle.xs_body.specs.Sheet.{body_of, element_part, for_each_part, if_part, literal_part, message_part, part_at, parts_at, root_line, select_of, site_of, value_of_part};
+ghost use Rattle.xs_body.specs.Body.{instr_data, body_data, text};
+ghost use Rattle.xs_body.specs.Sheet.{body_of, element_instr, for_each_instr, if_instr};
+ghost use Rattle.xs_body.specs.Sheet.{literal_instr, message_instr, instr_at, body_at, root_line};
+ghost use Rattle.xs_body.specs.Sheet.{select_of, site_of, value_of_instr};
 ghost use Rattle.xs_tree.specs.Record.{at};
 
 use crate::attributes::{has_none, only_attribute};
@@ -21,13 +22,14 @@ use xs_tree::{Kind, Node, Tree};
 /// How deep elements may nest in a template, whose own depth is 2: no element is deeper than 256.
 const MOST_DEPTH: u32 = 256 - 2;
 
-/// What the template of a small stylesheet holds, each part with its line: `lines` gives the line of each node of the
+/// What the template of a small stylesheet holds, each part with its line: `lines` gives the line
+/// of each node of the
 /// tree, in document order. None for a tree that is no small stylesheet.
 ///
 /// Nothing is copied before the stylesheet's own elements and attributes are found as they must be.
 pub fn read_body(alloc: Global, tree: &Tree, lines: &[u32]) -> Result<Option<Body>, AllocError>
     requires { length lines.now ≡ length tree.now }
-    ensures body { IfOk result (λ body. option_map parts_of body ≡ body_of tree.now lines.now) }
+    ensures body { IfOk result (λ body. option_map body_data body ≡ body_of tree.now lines.now) }
 {
     match template_of(tree) {
         Some(template) => read_content(alloc, tree, lines, template, MOST_DEPTH),
@@ -35,7 +37,8 @@ pub fn read_body(alloc: Global, tree: &Tree, lines: &[u32]) -> Result<Option<Bod
     }
 }
 
-/// The line of the root element of a stylesheet, given the line of each node of its tree; 0 where there is no such element.
+/// The line of the root element of a stylesheet, given the line of each node of its tree; 0 where
+/// there is no such element.
 pub fn root_line(tree: &Tree, lines: &[u32]) -> u32
     requires { length lines.now ≡ length tree.now }
     ensures line { result ≡ root_line tree.now lines.now }
@@ -59,7 +62,7 @@ fn read_content(
 ) -> Result<Option<Body>, AllocError>
     requires inside { n < length tree.now }
     requires lines { length lines.now ≡ length tree.now }
-    ensures { IfOk result (λ body. option_map parts_of body ≡ parts_at depth tree.now lines.now n) }
+    ensures { IfOk result (λ body. option_map body_data body ≡ body_at depth tree.now lines.now n) }
 {
     let mut instrs = Vec::new(alloc);
     let mut next = first_kept(tree, n);
@@ -86,8 +89,9 @@ fn site_of(lines: &[u32], n: Node) -> Site
     }
 }
 
+// What a node in a template stands for, in which elements may nest so deep.
 #[cycle(read)]
-#[tactic(auto, using(crate::proofs::Reading::nodes))]
+#[tactic(auto, using(crate::proofs::ReadLemmas::nodes))]
 fn read_node(
     alloc: Global,
     tree: &Tree,
@@ -97,7 +101,8 @@ fn read_node(
 ) -> Result<Option<InstrKind>, AllocError>
     requires inside { n < length tree.now }
     requires lines { length lines.now ≡ length tree.now }
-    ensures { IfOk result (λ kind. option_map part_of kind ≡ part_at depth tree.now lines.now n) }
+    ensures { IfOk result (λ kind. option_map instr_data kind
+        ≡ instr_at depth tree.now lines.now n) }
 {
     match tree.kind(n) {
         Kind::Text => read_text(alloc, tree, n),
@@ -106,14 +111,16 @@ fn read_node(
     }
 }
 
+// The text that a text node puts (XSLT 1.0, 7.2).
 fn read_text(alloc: Global, tree: &Tree, n: Node) -> Result<Option<InstrKind>, AllocError>
     requires { n < length tree.now }
-    ensures { IfOk result (λ kind. option_map part_of kind ≡ Some (text (at tree.now n).text)) }
+    ensures { IfOk result (λ kind. option_map instr_data kind ≡ Some (text (at tree.now n).text)) }
 {
     let text = TextBuf::of(alloc, tree.text(n))?;
     Ok(Some(InstrKind::Text(text)))
 }
 
+// What an element in a template stands for, by its name.
 #[cycle(read)]
 fn read_element(
     alloc: Global,
@@ -124,7 +131,8 @@ fn read_element(
 ) -> Result<Option<InstrKind>, AllocError>
     requires inside { n < length tree.now }
     requires lines { length lines.now ≡ length tree.now }
-    ensures { IfOk result (λ kind. option_map part_of kind ≡ element_part tree.now n (parts_at depth tree.now lines.now n)) }
+    ensures { IfOk result (λ kind. option_map instr_data kind
+        ≡ element_instr tree.now n (body_at depth tree.now lines.now n)) }
 {
     if is_named(tree, n, "value-of") {
         read_value_of(alloc, tree, n)
@@ -139,9 +147,10 @@ fn read_element(
     }
 }
 
+// An `xsl:value-of` (XSLT 1.0, 7.6.1).
 fn read_value_of(alloc: Global, tree: &Tree, n: Node) -> Result<Option<InstrKind>, AllocError>
     requires { n < length tree.now }
-    ensures { IfOk result (λ kind. option_map part_of kind ≡ value_of_part tree.now n) }
+    ensures { IfOk result (λ kind. option_map instr_data kind ≡ value_of_instr tree.now n) }
 {
     if !is_empty(tree, n) {
         return Ok(None);
@@ -155,7 +164,7 @@ fn read_value_of(alloc: Global, tree: &Tree, n: Node) -> Result<Option<InstrKind
 // The path in an element's one attribute, `select`.
 fn read_select(alloc: Global, tree: &Tree, n: Node) -> Result<Option<Path>, AllocError>
     requires { n < length tree.now }
-    ensures { IfOk result (λ path. option_map way_of path ≡ select_of tree.now n) }
+    ensures { IfOk result (λ path. path ≡ select_of tree.now n) }
 {
     match only_attribute(tree, n, "select") {
         Some(select) => read_path(alloc, select),
@@ -163,6 +172,7 @@ fn read_select(alloc: Global, tree: &Tree, n: Node) -> Result<Option<Path>, Allo
     }
 }
 
+// An `xsl:for-each` (XSLT 1.0, 8).
 #[cycle(read)]
 fn read_for_each(
     alloc: Global,
@@ -173,7 +183,8 @@ fn read_for_each(
 ) -> Result<Option<InstrKind>, AllocError>
     requires inside { n < length tree.now }
     requires lines { length lines.now ≡ length tree.now }
-    ensures { IfOk result (λ kind. option_map part_of kind ≡ for_each_part tree.now n (parts_at depth tree.now lines.now n)) }
+    ensures { IfOk result (λ kind. option_map instr_data kind
+        ≡ for_each_instr tree.now n (body_at depth tree.now lines.now n)) }
 {
     let Some(select) = read_select(alloc, tree, n)? else {
         return Ok(None);
@@ -184,6 +195,7 @@ fn read_for_each(
     }
 }
 
+// An `xsl:if` (XSLT 1.0, 9.1).
 #[cycle(read)]
 fn read_if(
     alloc: Global,
@@ -194,7 +206,8 @@ fn read_if(
 ) -> Result<Option<InstrKind>, AllocError>
     requires inside { n < length tree.now }
     requires lines { length lines.now ≡ length tree.now }
-    ensures { IfOk result (λ kind. option_map part_of kind ≡ if_part tree.now n (parts_at depth tree.now lines.now n)) }
+    ensures { IfOk result (λ kind. option_map instr_data kind
+        ≡ if_instr tree.now n (body_at depth tree.now lines.now n)) }
 {
     let Some(written) = only_attribute(tree, n, "test") else {
         return Ok(None);
@@ -208,6 +221,7 @@ fn read_if(
     }
 }
 
+// An `xsl:message` (XSLT 1.0, 13).
 #[cycle(read)]
 fn read_message(
     alloc: Global,
@@ -218,7 +232,8 @@ fn read_message(
 ) -> Result<Option<InstrKind>, AllocError>
     requires inside { n < length tree.now }
     requires lines { length lines.now ≡ length tree.now }
-    ensures { IfOk result (λ kind. option_map part_of kind ≡ message_part tree.now n (parts_at depth tree.now lines.now n)) }
+    ensures { IfOk result (λ kind. option_map instr_data kind
+        ≡ message_instr tree.now n (body_at depth tree.now lines.now n)) }
 {
     if !has_none(tree, n) {
         return Ok(None);
@@ -229,6 +244,7 @@ fn read_message(
     }
 }
 
+// A literal result element (XSLT 1.0, 7.1.1).
 #[cycle(read)]
 fn read_literal(
     alloc: Global,
@@ -239,7 +255,8 @@ fn read_literal(
 ) -> Result<Option<InstrKind>, AllocError>
     requires inside { n < length tree.now }
     requires lines { length lines.now ≡ length tree.now }
-    ensures { IfOk result (λ kind. option_map part_of kind ≡ literal_part tree.now n (parts_at depth tree.now lines.now n)) }
+    ensures { IfOk result (λ kind. option_map instr_data kind
+        ≡ literal_instr tree.now n (body_at depth tree.now lines.now n)) }
 {
     if !is_literal(tree, n) {
         return Ok(None);

@@ -1,13 +1,14 @@
 //! The evaluation of a body, which tells a recorder what it does.
-ghost use Rattle.std.specs.Prelude.{◌≡◌, ◌<◌, length, IfOk};
+ghost use Rattle.std.specs.Prelude.{◌≡◌, ◌<◌, ℕ, length, IfOk};
 ghost use Rattle.std.specs.List.{All};
-ghost use Rattle.xs_body.specs.Parts.{part_of, parts_of};
-ghost use Rattle.xs_body.specs.Paths.{condition_of, way_of};
+ghost use Rattle.xs_body.specs.Body.{instr_data, body_data};
 ghost use Rattle.xs_body.specs.Select.{first_string};
-ghost use Rattle.xs_body.specs.Steps.{begun, chars_steps, each_node, enclosed, guarded, part_steps, space_steps, steps, taken, test_steps, value_steps};
+ghost use Rattle.xs_body.specs.steps.Evaluation.{begun, chars_steps, each_node, enclosed, guarded};
+ghost use Rattle.xs_body.specs.steps.Evaluation.{instr_steps, space_steps, steps, taken};
+ghost use Rattle.xs_body.specs.steps.Evaluation.{test_steps, value_steps};
 ghost use Rattle.xs_body.specs.Trace.{root_trace, trace};
 ghost use Rattle.xs_trace.specs.Cut.{cut};
-ghost use Rattle.xs_trace.specs.Kept.{Keeps};
+ghost use Rattle.xs_trace.specs.Kept.{Keeps, NeedsNone};
 ghost use Rattle.xs_trace.specs.Play.{IsStep, play, put};
 ghost use Rattle.xs_trace.specs.declared.event.Event.TheVariants.{Space};
 
@@ -32,14 +33,17 @@ pub fn run_body(
     tree: &Tree,
     limits: Limits,
 ) -> Result<Kept, AllocError>
-    ensures cut { IfOk result (λ kept. Keeps (cut (root_trace root_line (parts_of body.now) tree.now) limits.ticks limits.events) kept) }
+    ensures cut { IfOk result (λ kept. Keeps {H = ℕ}
+        (cut (root_trace root_line (body_data body.now) tree.now) limits.ticks limits.events)
+        kept) }
 {
-    let mut whole = Whole::new(alloc, limits);
+    let mut whole: Whole<u64> = Whole::new(alloc, limits);
     let told = tell_root(alloc, body, root_line, tree, &mut whole);
-    whole.keep(limits, told)
+    whole.keep(told)
 }
 
-/// Tells a recorder what the template of the root does, in order: all of it, or up to where the recorder ends it.
+/// Tells a recorder what the template of the root does, in order: all of it, or up to where the
+/// recorder ends it. It needs no global variable.
 pub fn tell_root<R: Recorder>(
     alloc: Global,
     body: &Body,
@@ -47,7 +51,27 @@ pub fn tell_root<R: Recorder>(
     tree: &Tree,
     recorder: &mut R,
 ) -> Result<(), Halt>
-    ensures told { IsStep R.may_end (play (root_trace root_line (parts_of body.now) tree.now) (R.state recorder.old)) result (R.state recorder.new) }
+    ensures told { IsStep (play (root_trace root_line (body_data body.now) tree.now)
+        (R.state recorder.old))
+        result (R.state recorder.new) }
+    ensures kept { R.kept recorder.new ≡ R.kept recorder.old }
+    ensures settled { NeedsNone result }
+{
+    evaluate_root(alloc, body, root_line, tree, recorder)
+}
+
+// The tick of the root, and what its template does.
+fn evaluate_root<R: Recorder>(
+    alloc: Global,
+    body: &Body,
+    root_line: u32,
+    tree: &Tree,
+    recorder: &mut R,
+) -> Result<(), Halt>
+    ensures told { IsStep (play (root_trace root_line (body_data body.now) tree.now)
+        (R.state recorder.old))
+        result (R.state recorder.new) }
+    ensures kept { R.kept recorder.new ≡ R.kept recorder.old }
 {
     let has_root = tree.len() > 0;
     prove!(has_root);
@@ -67,13 +91,17 @@ pub fn tell_body<R: Recorder>(
     recorder: &mut R,
 ) -> Result<(), Halt>
     requires { context.now.node < length tree.now }
-    ensures told { IsStep R.may_end (play (trace (parts_of body.now) tree.now context.now) (R.state recorder.old)) result (R.state recorder.new) }
+    ensures told { IsStep (play (trace (body_data body.now) tree.now context.now)
+        (R.state recorder.old))
+        result (R.state recorder.new) }
+    ensures kept { R.kept recorder.new ≡ R.kept recorder.old }
 {
     evaluate_body(alloc, body, tree, context, recorder)
 }
 
+// What a body does, its instructions one after another.
 #[cycle(run)]
-#[tactic(auto, using(crate::proofs::Rows::rows))]
+#[tactic(auto, using(crate::proofs::RowLemmas::rows))]
 fn evaluate_body<R: Recorder>(
     alloc: Global,
     body: &Body,
@@ -82,17 +110,20 @@ fn evaluate_body<R: Recorder>(
     recorder: &mut R,
 ) -> Result<(), Halt>
     requires { context.now.node < length tree.now }
-    ensures { IsStep R.may_end (steps (parts_of body.now) tree.now context.now (R.state recorder.old)) result (R.state recorder.new) }
+    ensures told { IsStep (steps (body_data body.now) tree.now context.now (R.state recorder.old))
+        result (R.state recorder.new) }
+    ensures kept { R.kept recorder.new ≡ R.kept recorder.old }
 {
     for instr in &body.instrs {
         recorder.tick(instr.site)?;
-        evaluate_part(alloc, &instr.kind, instr.site, tree, context, recorder)?;
+        evaluate_instr(alloc, &instr.kind, instr.site, tree, context, recorder)?;
     }
     Ok(())
 }
 
+// What an instruction does after its own tick.
 #[cycle(run)]
-fn evaluate_part<R: Recorder>(
+fn evaluate_instr<R: Recorder>(
     alloc: Global,
     kind: &InstrKind,
     site: Site,
@@ -101,7 +132,10 @@ fn evaluate_part<R: Recorder>(
     recorder: &mut R,
 ) -> Result<(), Halt>
     requires { context.now.node < length tree.now }
-    ensures { IsStep R.may_end (part_steps (part_of kind.now) site tree.now context.now (R.state recorder.old)) result (R.state recorder.new) }
+    ensures told { IsStep (instr_steps (instr_data kind.now) site tree.now context.now
+        (R.state recorder.old))
+        result (R.state recorder.new) }
+    ensures kept { R.kept recorder.new ≡ R.kept recorder.old }
 {
     match kind {
         InstrKind::Text(text) => put_text(site, text.copy()?, recorder),
@@ -135,7 +169,11 @@ fn evaluate_each<R: Recorder>(
     recorder: &mut R,
 ) -> Result<(), Halt>
     requires { from < length tree.now }
-    ensures { IsStep R.may_end (each_node (way_of path.now) site (steps (parts_of body.now) tree.now) tree.now from (R.state recorder.old)) result (R.state recorder.new) }
+    ensures told { IsStep (each_node path.now site (steps (body_data body.now) tree.now)
+        tree.now from
+        (R.state recorder.old))
+        result (R.state recorder.new) }
+    ensures kept { R.kept recorder.new ≡ R.kept recorder.old }
 {
     let places = select(alloc, path, site, tree, from, recorder)?;
     for place in places.as_slice() {
@@ -160,7 +198,10 @@ fn evaluate_if<R: Recorder>(
     recorder: &mut R,
 ) -> Result<(), Halt>
     requires { context.now.node < length tree.now }
-    ensures { IsStep R.may_end (guarded (condition_of test.now) site (steps (parts_of body.now) tree.now context.now) tree.now context.now.node (R.state recorder.old)) result (R.state recorder.new) }
+    ensures told { IsStep (guarded test.now site (steps (body_data body.now) tree.now context.now)
+        tree.now context.now.node (R.state recorder.old))
+        result (R.state recorder.new) }
+    ensures kept { R.kept recorder.new ≡ R.kept recorder.old }
 {
     if holds(alloc, test, site, tree, context.node, recorder)? {
         evaluate_body(alloc, body, tree, context, recorder)
@@ -181,7 +222,11 @@ fn evaluate_element<R: Recorder>(
     recorder: &mut R,
 ) -> Result<(), Halt>
     requires { context.now.node < length tree.now }
-    ensures { IsStep R.may_end (enclosed name.now spaces.now (steps (parts_of body.now) tree.now context.now) (R.state recorder.old)) result (R.state recorder.new) }
+    ensures told { IsStep (enclosed name.now spaces.now
+        (steps (body_data body.now) tree.now context.now)
+        (R.state recorder.old))
+        result (R.state recorder.new) }
+    ensures kept { R.kept recorder.new ≡ R.kept recorder.old }
 {
     begin_element(name, spaces, recorder)?;
     evaluate_body(alloc, body, tree, context, recorder)?;
@@ -199,7 +244,10 @@ fn evaluate_message<R: Recorder>(
     recorder: &mut R,
 ) -> Result<(), Halt>
     requires { context.now.node < length tree.now }
-    ensures { IsStep R.may_end (taken site (steps (parts_of body.now) tree.now context.now) (R.state recorder.old)) result (R.state recorder.new) }
+    ensures told { IsStep (taken site (steps (body_data body.now) tree.now context.now)
+        (R.state recorder.old))
+        result (R.state recorder.new) }
+    ensures kept { R.kept recorder.new ≡ R.kept recorder.old }
 {
     recorder.open_capture()?;
     evaluate_body(alloc, body, tree, context, recorder)?;
@@ -217,7 +265,9 @@ fn put_value<R: Recorder>(
     recorder: &mut R,
 ) -> Result<(), Halt>
     requires { node < length tree.now }
-    ensures { IsStep R.may_end (value_steps (way_of path.now) site tree.now node (R.state recorder.old)) result (R.state recorder.new) }
+    ensures told { IsStep (value_steps path.now site tree.now node (R.state recorder.old))
+        result (R.state recorder.new) }
+    ensures kept { R.kept recorder.new ≡ R.kept recorder.old }
 {
     let places = select(alloc, path, site, tree, node, recorder)?;
     put_text(
@@ -229,7 +279,10 @@ fn put_value<R: Recorder>(
 
 // Puts a text that is not empty.
 fn put_text<R: Recorder>(site: Site, text: TextBuf, recorder: &mut R) -> Result<(), Halt>
-    ensures { IsStep R.may_end (chars_steps site text (R.state recorder.old)) result (R.state recorder.new) }
+    ensures told { IsStep (chars_steps site text
+        (R.state recorder.old))
+        result (R.state recorder.new) }
+    ensures kept { R.kept recorder.new ≡ R.kept recorder.old }
 {
     if text.as_str().is_empty() {
         Ok(())
@@ -248,7 +301,9 @@ fn holds<T: Tally>(
     tally: &mut T,
 ) -> Result<bool, Halt>
     requires { node < length tree.now }
-    ensures { IsStep T.may_end (test_steps (condition_of test.now) site tree.now node (T.state tally.old)) result (T.state tally.new) }
+    ensures told { IsStep (test_steps test.now site tree.now node (T.state tally.old))
+        result (T.state tally.new) }
+    ensures kept { T.kept tally.new ≡ T.kept tally.old }
 {
     match test {
         Test::Exists(path) => {
@@ -268,15 +323,22 @@ fn begin_element<R: Recorder>(
     spaces: &[SpaceLabel],
     recorder: &mut R,
 ) -> Result<(), Halt>
-    ensures { IsStep R.may_end (begun name.now spaces.now (R.state recorder.old)) result (R.state recorder.new) }
+    ensures told { IsStep (begun name.now spaces.now
+        (R.state recorder.old))
+        result (R.state recorder.new) }
+    ensures kept { R.kept recorder.new ≡ R.kept recorder.old }
 {
     let name = name.copy()?;
     recorder.put(Event::Start(name))?;
     put_spaces(spaces, recorder)
 }
 
+// Puts the namespace nodes of an element that has begun.
 fn put_spaces<R: Recorder>(spaces: &[SpaceLabel], recorder: &mut R) -> Result<(), Halt>
-    ensures { IsStep R.may_end (space_steps spaces.now (R.state recorder.old)) result (R.state recorder.new) }
+    ensures told { IsStep (space_steps spaces.now
+        (R.state recorder.old))
+        result (R.state recorder.new) }
+    ensures kept { R.kept recorder.new ≡ R.kept recorder.old }
 {
     for space in spaces {
         put_space(space, recorder)?;
@@ -284,8 +346,11 @@ fn put_spaces<R: Recorder>(spaces: &[SpaceLabel], recorder: &mut R) -> Result<()
     Ok(())
 }
 
+// Puts a namespace node.
 fn put_space<R: Recorder>(space: &SpaceLabel, recorder: &mut R) -> Result<(), Halt>
-    ensures { IsStep R.may_end (put (Space space.now.prefix space.now.uri) (R.state recorder.old)) result (R.state recorder.new) }
+    ensures told { IsStep (put (Space space.now.prefix space.now.uri) (R.state recorder.old))
+        result (R.state recorder.new) }
+    ensures kept { R.kept recorder.new ≡ R.kept recorder.old }
 {
     recorder.put(Event::Space {
         prefix: space.prefix.copy()?,

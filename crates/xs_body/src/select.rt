@@ -1,9 +1,10 @@
 //! Which nodes a path gives.
 ghost use Rattle.std.specs.Prelude.{◌≡◌, ◌<◌, ◌++◌, ◌∷◌, [], ℕ, length, IfOk, OnOk, if◌then◌else◌};
 ghost use Rattle.std.specs.List.{All};
-ghost use Rattle.xs_body.specs.Paths.{way_of};
-ghost use Rattle.xs_body.specs.Select.{children_named, is_element, passes};
-ghost use Rattle.xs_body.specs.Steps.{down_steps, found_from, select_steps, visited, visited_one};
+ghost use Rattle.xs_body.specs.Select.{children_named, passes};
+ghost use Rattle.xs_tree.specs.Kinds.{is_element_kind};
+ghost use Rattle.xs_body.specs.steps.Evaluation.{down_steps, found_from, select_steps, visited};
+ghost use Rattle.xs_body.specs.steps.Evaluation.{visited_one};
 ghost use Rattle.xs_trace.specs.Play.{IsStep, IsStepBy};
 ghost use Rattle.xs_tree.specs.Record.{at, children};
 
@@ -18,7 +19,8 @@ use xs_tree::{Kind, Node, Tree};
 /// The places of nodes, in document order; up to four need no memory.
 pub(crate) type Places = SmallVec<u32, 4>;
 
-/// The nodes that a path gives from a node, in document order; a tick for each node that passes the node test of a step.
+/// The nodes that a path gives from a node, in document order; a tick for each node that passes the
+/// node test of a step.
 pub(crate) fn select<T: Tally>(
     alloc: Global,
     path: &Path,
@@ -28,7 +30,10 @@ pub(crate) fn select<T: Tally>(
     tally: &mut T,
 ) -> Result<Places, Halt>
     requires { node < length tree.now }
-    ensures nodes { IsStepBy (λ v. v.items) T.may_end (select_steps (way_of path.now) site tree.now node (T.state tally.old)) result (T.state tally.new) }
+    ensures nodes { IsStepBy (λ v. v.items)
+        (select_steps path.now site tree.now node (T.state tally.old))
+        result (T.state tally.new) }
+    ensures kept { T.kept tally.new ≡ T.kept tally.old }
     ensures inside { IfOk result (λ v. All (λ k. k < length tree.now) v.items) }
 {
     match path {
@@ -36,7 +41,7 @@ pub(crate) fn select<T: Tally>(
             tally.tick(site)?;
             Ok(SmallVec::from_slice(alloc, &[node.place()])?)
         }
-        Path::Down(names) => select_down(alloc, names, site, tree, node, tally),
+        Path::Down(names) => { select_down(alloc, names.as_slice(), site, tree, node, tally) }
     }
 }
 
@@ -50,7 +55,10 @@ fn select_down<T: Tally>(
     tally: &mut T,
 ) -> Result<Places, Halt>
     requires { node < length tree.now }
-    ensures nodes { IsStepBy (λ v. v.items) T.may_end (down_steps site names.now tree.now (node ∷ []) (T.state tally.old)) result (T.state tally.new) }
+    ensures nodes { IsStepBy (λ v. v.items)
+        (down_steps site names.now tree.now (node ∷ []) (T.state tally.old))
+        result (T.state tally.new) }
+    ensures kept { T.kept tally.new ≡ T.kept tally.old }
     ensures inside { IfOk result (λ v. All (λ k. k < length tree.now) v.items) }
 {
     let mut places = SmallVec::from_slice(alloc, &[node.place()])?;
@@ -70,7 +78,10 @@ fn step<T: Tally>(
     tally: &mut T,
 ) -> Result<Places, Halt>
     requires { All (λ k. k < length tree.now) places.now }
-    ensures nodes { IsStepBy (λ v. v.items) T.may_end (found_from site name.now tree.now places.now [] (T.state tally.old)) result (T.state tally.new) }
+    ensures nodes { IsStepBy (λ v. v.items)
+        (found_from site name.now tree.now places.now [] (T.state tally.old))
+        result (T.state tally.new) }
+    ensures kept { T.kept tally.new ≡ T.kept tally.old }
     ensures inside { IfOk result (λ v. All (λ k. k < length tree.now) v.items) }
 {
     let mut found = SmallVec::new(alloc);
@@ -91,8 +102,12 @@ fn find_children<T: Tally>(
 ) -> Result<(), Halt>
     requires inside { parent < length tree.now }
     requires held { All (λ k. k < length tree.now) found.old.items }
-    ensures told { IsStep T.may_end (visited site name.now tree.now (children tree.now parent) (T.state tally.old)) result (T.state tally.new) }
-    ensures found { OnOk result (found.new.items ≡ found.old.items ++ children_named name.now tree.now parent) }
+    ensures told { IsStep (visited site name.now tree.now (children tree.now parent)
+        (T.state tally.old))
+        result (T.state tally.new) }
+    ensures kept { T.kept tally.new ≡ T.kept tally.old }
+    ensures found { OnOk result (found.new.items
+        ≡ found.old.items ++ children_named name.now tree.now parent) }
     ensures inside { OnOk result (All (λ k. k < length tree.now) found.new.items) }
 {
     for child in tree.children(parent) {
@@ -111,8 +126,13 @@ fn visit<T: Tally>(
     tally: &mut T,
 ) -> Result<(), Halt>
     requires { node < length tree.now }
-    ensures told { IsStep T.may_end (visited_one site (passes name.now tree.now node) (T.state tally.old)) result (T.state tally.new) }
-    ensures found { OnOk result (found.new.items ≡ (if passes name.now tree.now node then found.old.items ++ node ∷ [] else found.old.items)) }
+    ensures told { IsStep (visited_one site (passes name.now tree.now node) (T.state tally.old))
+        result (T.state tally.new) }
+    ensures kept { T.kept tally.new ≡ T.kept tally.old }
+    ensures found { OnOk result (found.new.items
+        ≡ (if passes name.now tree.now node
+        then found.old.items ++ node ∷ []
+        else found.old.items)) }
 {
     if passes(name, tree, node) {
         tally.tick(site)?;
@@ -135,8 +155,9 @@ fn passes(name: &str, tree: &Tree, node: Node) -> bool
     }
 }
 
+// Whether a kind is that of elements.
 fn is_element(kind: Kind) -> bool
-    ensures { result ≡ is_element kind }
+    ensures { result ≡ is_element_kind kind }
 {
     matches!(kind, Kind::Element)
 }

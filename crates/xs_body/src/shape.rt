@@ -1,6 +1,7 @@
 //! The shape of a small stylesheet around what its template holds.
 ghost use Rattle.std.specs.Prelude.{◌≡◌, ◌<◌, length, IfSome};
-ghost use Rattle.xs_body.specs.Sheet.{is_empty, is_literal, is_root_template, is_sheet_element, is_text_output, template_in, template_of};
+ghost use Rattle.xs_body.specs.Sheet.{is_empty, is_literal, is_root_template, is_sheet_element};
+ghost use Rattle.xs_body.specs.Sheet.{is_text_output, template_in, template_of};
 
 use crate::attributes::{has_none, has_only};
 use crate::children::{first_kept, kept_pair, single_kept};
@@ -18,6 +19,7 @@ pub(crate) fn template_of(tree: &Tree) -> Option<Node>
     template_in(tree, sheet)
 }
 
+// The template of a small stylesheet, given its root element.
 fn template_in(tree: &Tree, sheet: Node) -> Option<Node>
     requires { sheet < length tree.now }
     ensures template { result ≡ template_in tree.now sheet }
@@ -34,6 +36,7 @@ fn template_in(tree: &Tree, sheet: Node) -> Option<Node>
     }
 }
 
+// Whether an element is the root of a stylesheet of version 1.0.
 fn is_sheet_element(tree: &Tree, n: Node) -> bool
     requires { n < length tree.now }
     ensures { result ≡ is_sheet_element tree.now n }
@@ -41,6 +44,7 @@ fn is_sheet_element(tree: &Tree, n: Node) -> bool
     is_named(tree, n, "stylesheet") && has_only(tree, n, "version", "1.0")
 }
 
+// Whether an element says that the result is text.
 fn is_text_output(tree: &Tree, n: Node) -> bool
     requires { n < length tree.now }
     ensures { result ≡ is_text_output tree.now n }
@@ -48,6 +52,7 @@ fn is_text_output(tree: &Tree, n: Node) -> bool
     is_named(tree, n, "output") && has_only(tree, n, "method", "text") && is_empty(tree, n)
 }
 
+// Whether an element is the template of the root.
 fn is_root_template(tree: &Tree, n: Node) -> bool
     requires { n < length tree.now }
     ensures { result ≡ is_root_template tree.now n }
@@ -63,7 +68,8 @@ pub(crate) fn is_empty(tree: &Tree, n: Node) -> bool
     first_kept(tree, n).is_none()
 }
 
-/// Whether an element is one that is put on the result: it has no attributes, and it is not in XSLT's namespace.
+/// Whether an element is one that is put on the result: it has no attributes, and it is not in
+/// XSLT's namespace.
 pub(crate) fn is_literal(tree: &Tree, n: Node) -> bool
     requires { n < length tree.now }
     ensures { result ≡ is_literal tree.now n }

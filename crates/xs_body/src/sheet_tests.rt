@@ -23,7 +23,8 @@ fn body_in(alloc: Global, sheet: &Tree) -> Result<Option<Body>, Fail> {
     Ok(read_body(alloc, sheet, &lines)?)
 }
 
-/// The body of a stylesheet that has this template, from place 6 on; each node stands in the line of its place.
+/// The body of a stylesheet that has this template, from place 6 on; each node stands in the line
+/// of its place.
 pub(crate) fn body_of(alloc: Global, template: &[Row]) -> Result<Option<Body>, Fail> {
     let mut sheet = tree_of(
         alloc,
@@ -52,6 +53,7 @@ fn is_loop_with_test(body: &Body) -> bool {
     }
 }
 
+// Whether a body is one test in line 10.
 fn is_if_in_line_10(body: &Body) -> bool {
     let [instr] = body.instrs.as_slice() else {
         return false;
@@ -66,10 +68,12 @@ fn is_if_in_line_10(body: &Body) -> bool {
         )
 }
 
+// A line of the first module.
 fn in_line(line: u32) -> Site {
     Site { module: 0, line }
 }
 
+// A loop that holds a test is read, each at its line.
 #[test]
 fn reads_a_loop_with_a_test(rt: HostRuntime) -> Result<(), Fail> {
     let template = [
@@ -86,6 +90,7 @@ fn reads_a_loop_with_a_test(rt: HostRuntime) -> Result<(), Fail> {
     Ok(())
 }
 
+// An instruction with an attribute that it does not have is not built.
 #[test]
 fn refuses_a_second_attribute(rt: HostRuntime) -> Result<(), Fail> {
     let template = [
@@ -101,6 +106,7 @@ fn refuses_a_second_attribute(rt: HostRuntime) -> Result<(), Fail> {
     Ok(())
 }
 
+// The root element is found behind a comment.
 #[test]
 fn finds_the_line_of_the_root_element(rt: HostRuntime) -> Result<(), Fail> {
     let rows = [
@@ -116,7 +122,8 @@ fn finds_the_line_of_the_root_element(rt: HostRuntime) -> Result<(), Fail> {
     Ok(())
 }
 
-// Whether a stylesheet with an empty template is read, where the names of its elements have this URI and this prefix.
+// Whether a stylesheet with an empty template is read, where the names of its elements have this
+// URI and this prefix.
 fn is_read_under(alloc: Global, uri: &'static str, prefix: &'static str) -> Result<bool, Fail> {
     let rows = [
         (Kind::Element, (uri, prefix, "stylesheet"), "", 0),
@@ -131,6 +138,7 @@ fn is_read_under(alloc: Global, uri: &'static str, prefix: &'static str) -> Resu
     Ok(body_in(alloc, &sheet)?.is_some())
 }
 
+// The namespace makes an element one of XSLT, whatever its prefix.
 #[test]
 fn knows_elements_by_their_namespace(rt: HostRuntime) -> Result<(), Fail> {
     assert!(rt; is_read_under(rt.alloc(), XSL, "xsl")?);
@@ -141,6 +149,7 @@ fn knows_elements_by_their_namespace(rt: HostRuntime) -> Result<(), Fail> {
     Ok(())
 }
 
+// Whether an instruction puts this text, and stands in this line.
 fn is_text_in(instr: Option<&Instr>, text: &str, line: u32) -> bool {
     match instr {
         Some(
@@ -153,6 +162,7 @@ fn is_text_in(instr: Option<&Instr>, text: &str, line: u32) -> bool {
     }
 }
 
+// Comments and processing instructions of a stylesheet stand for nothing.
 #[test]
 fn ignores_comments_and_processing_instructions(rt: HostRuntime) -> Result<(), Fail> {
     let rows = [
@@ -194,6 +204,7 @@ fn element_in(body: &Body) -> &str {
     }
 }
 
+// An element of another namespace is a literal one.
 #[test]
 fn reads_an_element_of_another_namespace(rt: HostRuntime) -> Result<(), Fail> {
     let template = [
@@ -208,6 +219,7 @@ fn reads_an_element_of_another_namespace(rt: HostRuntime) -> Result<(), Fail> {
     Ok(())
 }
 
+// An element of XSLT's namespace that is not built is no literal one.
 #[test]
 fn refuses_an_unknown_element_of_xslt(rt: HostRuntime) -> Result<(), Fail> {
     let template = [
@@ -219,6 +231,7 @@ fn refuses_an_unknown_element_of_xslt(rt: HostRuntime) -> Result<(), Fail> {
     Ok(())
 }
 
+// An attribute of another namespace is not the one of the same local part.
 #[test]
 fn refuses_an_attribute_of_another_namespace(rt: HostRuntime) -> Result<(), Fail> {
     let template = [
@@ -235,14 +248,16 @@ fn refuses_an_attribute_of_another_namespace(rt: HostRuntime) -> Result<(), Fail
     Ok(())
 }
 
+// How many names a path has; none for a text that is no path.
 fn names_in(alloc: Global, text: &str) -> Result<Option<usize>, AllocError> {
     match read_path(alloc, text)? {
         Some(Path::Here) => Ok(Some(0)),
-        Some(Path::Down(names)) => Ok(Some(names.len())),
+        Some(Path::Down(names)) => Ok(Some(names.as_slice().len())),
         None => Ok(None),
     }
 }
 
+// Paths, and texts that are none.
 #[test]
 fn reads_paths(rt: HostRuntime) -> Result<(), Fail> {
     assert_eq!(rt; names_in(rt.alloc(), ".")?, Some(0));
@@ -254,6 +269,7 @@ fn reads_paths(rt: HostRuntime) -> Result<(), Fail> {
     Ok(())
 }
 
+// Whether a text is a comparison with this literal.
 fn compares_with(alloc: Global, test: &str, text: &str) -> Result<bool, AllocError> {
     match read_test(alloc, test)? {
         Some(Test::Equals(_, found)) => Ok(found.as_str() == text),
@@ -261,10 +277,12 @@ fn compares_with(alloc: Global, test: &str, text: &str) -> Result<bool, AllocErr
     }
 }
 
+// Whether a text is a test.
 fn is_test(alloc: Global, test: &str) -> Result<bool, AllocError> {
     Ok(read_test(alloc, test)?.is_some())
 }
 
+// Tests are read, whatever their literals hold.
 #[test]
 fn reads_tests(rt: HostRuntime) -> Result<(), Fail> {
     assert!(rt; compares_with(rt.alloc(), ". = '2'", "2")?);
@@ -274,6 +292,7 @@ fn reads_tests(rt: HostRuntime) -> Result<(), Fail> {
     Ok(())
 }
 
+// Texts that are no tests.
 #[test]
 fn refuses_other_tests(rt: HostRuntime) -> Result<(), Fail> {
     assert!(rt; !is_test(rt.alloc(), ".='2'")?);

@@ -1,18 +1,16 @@
 //! The strings of nodes.
-ghost use Rattle.std.specs.Prelude.{◌≡◌, ◌+◌, ◌<◌, ◌++◌, ◌≢◌, ℕ, List, length, IfOk, MatchOption, IsTrue, ◌↔◌};
+ghost use Rattle.std.specs.Prelude.{◌≡◌, ◌<◌, ◌++◌, ◌≢◌, ℕ, List, length, IfOk, MatchOption};
 ghost use Rattle.std.specs.List.{All, list_any};
-ghost use Rattle.std.specs.String.{string_bytes};
 ghost use Rattle.std.specs.Str.{bytes_eq};
 ghost use Rattle.xs_body.specs.Select.{first_string};
 ghost use Rattle.xs_body.specs.Trace.{own_chars, text_in};
-ghost use Rattle.xs_tree.specs.Record.{at, own_text, string_value};
-ghost use Rattle.xs_tree.specs.Shape.{HasParentFrom, IsTree};
-ghost use Rattle.xs_tree.specs.Walk.{texts_from};
+ghost use Rattle.xs_body.specs.steps.Children.{texts_of};
+ghost use Rattle.xs_tree.specs.Record.{at, string_value, texts};
 
 use std::alloc::{AllocError, Global};
 use xs_trace::event::{Event, Fragment};
 use xs_trace::text::TextBuf;
-use xs_tree::{Kind, Node, Tree};
+use xs_tree::{Node, Tree};
 
 /// The string of the first of some nodes; empty where there is none.
 pub(crate) fn first_string(
@@ -44,15 +42,16 @@ pub(crate) fn any_is(tree: &Tree, places: &[u32], text: &str) -> bool
 
 /// The text of all text nodes among some events.
 pub(crate) fn text_in(alloc: Global, fragment: &Fragment) -> Result<TextBuf, AllocError>
-    ensures { IfOk result (λ text. text ≡ text_in fragment.now.events.items) }
+    ensures { IfOk result (λ text. text ≡ text_in fragment.now) }
 {
     let mut text = String::new(alloc);
-    for event in &fragment.events {
+    for event in fragment.events() {
         text.push_str(own_chars(event))?;
     }
     Ok(TextBuf::from_string(text))
 }
 
+// The text that an event puts.
 fn own_chars(event: &Event) -> &str
     ensures { result.now ≡ own_chars event.now }
 {
@@ -67,29 +66,12 @@ fn string_of(alloc: Global, tree: &Tree, node: Node) -> Result<TextBuf, AllocErr
     requires { node < length tree.now }
     ensures { IfOk result (λ text. text ≡ string_value tree.now node) }
 {
-    if tree.kind(node).has_content() {
-        Ok(TextBuf::from_string(texts_inside(alloc, tree, node)?))
-    } else {
-        TextBuf::of(alloc, tree.text(node))
+    let mut bytes = Vec::new(alloc);
+    tree.string_value_into(node, &mut bytes)?;
+    match String::from_utf8(bytes) {
+        Ok(text) => Ok(TextBuf::from_string(text)),
+        Err(_) => unreachable!(),
     }
-}
-
-// The texts inside a node, one after another.
-fn texts_inside(alloc: Global, tree: &Tree, outer: Node) -> Result<String, AllocError>
-    requires { outer < length tree.now }
-    ensures texts { IfOk result (λ texts. string_bytes texts ≡ texts_from tree.now outer (outer + 1)) }
-    ensures tree { IsTree tree.now }
-{
-    let mut texts = String::new(alloc);
-    let count = tree.len() as u32;
-    for place in outer.place() + 1..count {
-        let node = Node::at(place);
-        if !begins_inside(tree, outer, node) {
-            return Ok(texts);
-        }
-        texts.push_str(own_text(tree, node))?;
-    }
-    Ok(texts)
 }
 
 // Whether a node has this string.
@@ -107,17 +89,11 @@ fn is_string_of(tree: &Tree, node: Node, text: &[u8]) -> bool
 // Whether the texts inside a node are these bytes, one after another.
 fn are_texts_inside(tree: &Tree, outer: Node, text: &[u8]) -> bool
     requires { outer < length tree.now }
-    ensures texts { result ≡ bytes_eq (texts_from tree.now outer (outer + 1)) text.now }
-    ensures tree { IsTree tree.now }
+    ensures { result ≡ bytes_eq (texts_of tree.now (texts tree.now outer)) text.now }
 {
     let mut rest = text;
-    let count = tree.len() as u32;
-    for place in outer.place() + 1..count {
-        let node = Node::at(place);
-        if !begins_inside(tree, outer, node) {
-            return rest.is_empty();
-        }
-        match after(rest, own_text(tree, node).as_bytes()) {
+    for node in tree.texts(outer) {
+        match after(rest, tree.text(node).as_bytes()) {
             Some(left) => rest = left,
             None => return false,
         }
@@ -127,30 +103,8 @@ fn are_texts_inside(tree: &Tree, outer: Node, text: &[u8]) -> bool
 
 // What follows a beginning, where it is one.
 fn after<'a>(text: &'a [u8], beginning: &[u8]) -> Option<&'a [u8]>
-    ensures { MatchOption result ((rest : List ℕ) → text.now ≢ beginning.now ++ rest) (λ rest. text.now ≡ beginning.now ++ rest.now) }
+    ensures { MatchOption result ((rest : List ℕ) → text.now ≢ beginning.now ++ rest)
+        (λ rest. text.now ≡ beginning.now ++ rest.now) }
 {
     text.strip_prefix(beginning)
-}
-
-// Whether the parent of a node is another or comes after that.
-fn begins_inside(tree: &Tree, outer: Node, node: Node) -> bool
-    requires { node < length tree.now }
-    ensures value { IsTrue result ↔ HasParentFrom outer (at tree.now node) }
-{
-    match tree.parent(node) {
-        Some(parent) => parent >= outer,
-        None => false,
-    }
-}
-
-// The characters of a text node; of another node none.
-fn own_text(tree: &Tree, node: Node) -> &str
-    requires { node < length tree.now }
-    ensures { result.now ≡ own_text (at tree.now node) }
-{
-    if tree.kind(node) == Kind::Text {
-        tree.text(node)
-    } else {
-        ""
-    }
 }

@@ -75,11 +75,11 @@ pub enum InstrKind {
 
 impl Body {
     ghost use Rattle.std.specs.Prelude.{◌≡◌};
-    ghost use Rattle.xs_body.specs.Parts.{parts_of, parts_of_all};
+    ghost use Rattle.xs_body.specs.Body.{body_data, instrs_data};
 
     /// The body that does this, in order.
     pub fn of(instrs: Vec<Instr>) -> Body
-        ensures { parts_of result ≡ parts_of_all instrs.items }
+        ensures { body_data result ≡ instrs_data instrs.items }
     {
         Body { instrs }
     }

@@ -1,12 +1,8 @@
 //! Small bodies, run.
 #![tactic(auto)]
 
-ghost use Rattle.std.specs.Prelude.{◌≡◌, ◌<◌, length, OnOk};
-ghost use Rattle.xs_tree.specs.Record.{at};
-ghost use Rattle.xs_tree.specs.Shape.{IsOpen};
-ghost use Rattle.xs_tree.specs.declared.kinds.Kind.TheVariants.{Element};
-
-use crate::paths::{Path, Test};
+use crate::made_trees::{NONE, plain, tree_of};
+use crate::paths::{Names, Path, Test};
 use crate::run::run_body;
 use crate::syntax::{Body, Instr, InstrKind};
 use std::alloc::{AllocError, Global};
@@ -14,45 +10,23 @@ use std::test::Fail;
 use xs_trace::event::{Event, Label};
 use xs_trace::item::{Ended, Item, Limits, Site};
 use xs_trace::text::TextBuf;
-use xs_tree::{Kind, Name, NameText, Node, Tree};
+use xs_tree::{Kind, Tree};
 
-fn plain_name(alloc: Global, local: &str) -> Result<Name, AllocError> {
-    Ok(Name {
-        uri: NameText::of(alloc, "")?,
-        local: NameText::of(alloc, local)?,
-        prefix: NameText::of(alloc, "")?,
-    })
-}
-
-// Adds an element `i` with a text.
-fn add_item(alloc: Global, tree: &mut Tree, parent: Node, text: &str) -> Result<(), Fail>
-    requires within { parent < length tree.old }
-    requires held { (at tree.old parent).kind ≡ Element }
-    requires open { IsOpen tree.old parent }
-    ensures within { OnOk result (parent < length tree.new) }
-    ensures held { OnOk result ((at tree.new parent).kind ≡ Element) }
-    ensures open { OnOk result (IsOpen tree.new parent) }
-{
-    let item = tree.add(Kind::Element, Some(plain_name(alloc, "i")?), "", parent)?;
-    tree.add(Kind::Text, None, text, item)?;
-    Ok(())
-}
-
-// An element `r` with three elements `i`.
+// An element `r` with three elements `i`, of which each holds a text.
 fn three_items(alloc: Global) -> Result<Tree, Fail> {
-    let mut tree = Tree::new(alloc)?;
-    let top = tree.add(
-        Kind::Element,
-        Some(plain_name(alloc, "r")?),
-        "",
-        Node::root(),
-    )?;
-    add_item(alloc, &mut tree, top, "1")?;
-    add_item(alloc, &mut tree, top, "2")?;
-    add_item(alloc, &mut tree, top, "3")?;
-    Ok(tree)
+    let rows = [
+        (Kind::Element, plain("r"), "", 0),
+        (Kind::Element, plain("i"), "", 1),
+        (Kind::Text, NONE, "1", 2),
+        (Kind::Element, plain("i"), "", 1),
+        (Kind::Text, NONE, "2", 4),
+        (Kind::Element, plain("i"), "", 1),
+        (Kind::Text, NONE, "3", 6),
+    ];
+    tree_of(alloc, &rows)
 }
 
+// A name in no namespace.
 fn plain_label(alloc: Global, local: &str) -> Result<Label, AllocError> {
     Ok(Label {
         uri: TextBuf::of(alloc, "")?,
@@ -61,6 +35,7 @@ fn plain_label(alloc: Global, local: &str) -> Result<Label, AllocError> {
     })
 }
 
+// An instruction in a line of the first module.
 fn instr(line: u32, kind: InstrKind) -> Instr {
     Instr {
         site: Site { module: 0, line },
@@ -68,6 +43,7 @@ fn instr(line: u32, kind: InstrKind) -> Instr {
     }
 }
 
+// A body of one instruction.
 fn alone(alloc: Global, line: u32, kind: InstrKind) -> Result<Body, AllocError> {
     Ok(Body::of(vec![in alloc; instr(line, kind)]?))
 }
@@ -78,7 +54,7 @@ fn picks_two(alloc: Global) -> Result<Body, AllocError> {
     let test = Test::Equals(Path::Here, TextBuf::of(alloc, "2")?);
     let inner = alone(alloc, 11, InstrKind::If { test, body: value })?;
     let names = vec![in alloc; TextBuf::of(alloc, "r")?, TextBuf::of(alloc, "i")?]?;
-    let select = Path::Down(names);
+    let select = Path::Down(Names::of(names));
     alone(
         alloc,
         9,
@@ -89,6 +65,7 @@ fn picks_two(alloc: Global) -> Result<Body, AllocError> {
     )
 }
 
+// A limit on ticks, and none on events.
 fn ticks_alone(ticks: u64) -> Limits {
     Limits {
         ticks,
@@ -96,6 +73,7 @@ fn ticks_alone(ticks: u64) -> Limits {
     }
 }
 
+// Whether an item puts this text.
 fn is_text(item: Option<&Item>, text: &str) -> bool {
     match item {
         Some(Item::Put(Event::Chars(found))) => found.as_str() == text,
@@ -103,6 +81,7 @@ fn is_text(item: Option<&Item>, text: &str) -> bool {
     }
 }
 
+// The loop with its test takes 17 ticks, and puts the one text that is `2`.
 #[test]
 fn picks_the_second_item(rt: HostRuntime) -> Result<(), Fail> {
     let alloc = rt.alloc();
@@ -114,6 +93,7 @@ fn picks_the_second_item(rt: HostRuntime) -> Result<(), Fail> {
     Ok(())
 }
 
+// With one tick less it ends at the test of the last node.
 #[test]
 fn stops_at_the_last_test(rt: HostRuntime) -> Result<(), Fail> {
     let alloc = rt.alloc();
@@ -127,6 +107,7 @@ fn stops_at_the_last_test(rt: HostRuntime) -> Result<(), Fail> {
     Ok(())
 }
 
+// A message says the text of what its body puts, and puts none of it.
 #[test]
 fn says_the_text_inside_an_element(rt: HostRuntime) -> Result<(), Fail> {
     let alloc = rt.alloc();

@@ -1,10 +1,11 @@
--- The tree that the bytes of a document stand for, or the fault of the least bad line.
+-- The tree that the bytes of a document stand for, or the fault of the first bad line.
 use Rattle.std.specs.Prelude.{ℕ, ◌+◌, List, [], ◌∷◌, not, nat_le, Option, if◌then◌else◌, is_some, length, map, option_map, reverse}
 use Rattle.std.specs.List.{filter_map, flat_map}
 use Rattle.xs_pyx.specs.Row.{Row, rows_of}
 use Rattle.xs_pyx.specs.Reading.{reading}
 use Rattle.xs_tree.specs.Record.{Record, root_record}
-use Rattle.xs_build.specs.Around.{Around, around, nesting, going_back, open_name, has_start}
+use Rattle.xs_build.specs.Faults.{no_root, too_large, truncated}
+use Rattle.xs_build.specs.LineContext.{LineContext, line_context, nesting, going_back, open_name, has_start}
 use Rattle.xs_build.specs.Rules.{reading_nodes, reading_faults, first_fault, is_stray}
 
 -- a line among the others: those before it, the nearest first, the line, and those behind it
@@ -13,12 +14,12 @@ pub record Place : Type 0 where
   pub row : Row
   pub behind : List Row
 
-abbrev pub around_place : Place → Around
-around_place p = around p.before (p.row ∷ p.behind)
+abbrev pub context_at : Place → LineContext
+context_at p = line_context p.before (p.row ∷ p.behind)
 
 -- how many nodes a line gives; wherever they stand, they are as many
 abbrev pub count_at : Place → ℕ
-count_at p = length (reading_nodes (around_place p) p.behind 0 0 (reading p.row))
+count_at p = length (reading_nodes (context_at p) p.behind 0 0 (reading p.row))
 
 -- how many nodes stand before a line, the root among them
 unfoldable pub nodes_before : List Row → List Row → ℕ
@@ -32,11 +33,13 @@ open_node passed (row ∷ before) lines = going_back (nesting row) passed (λ na
 
 -- the nodes that a line gives
 unfoldable pub nodes_at : Place → List Record
-nodes_at p = reading_nodes (around_place p) p.behind (open_node 0 p.before (p.row ∷ p.behind)) (nodes_before p.before (p.row ∷ p.behind)) (reading p.row)
+nodes_at p = reading_nodes (context_at p) p.behind (open_node 0 p.before (p.row ∷ p.behind)) (nodes_before p.before (p.row ∷ p.behind)) (reading p.row)
 
 -- the fault of a line, the first in the order of the table; None: it has none
 unfoldable pub fault_at : Place → Option ℕ
-fault_at p = first_fault (reading_faults (around_place p) p.behind (nodes_before p.before (p.row ∷ p.behind) + count_at p) (is_stray (around_place p) p.row) (reading p.row))
+fault_at p =
+    let nodes = nodes_before p.before (p.row ∷ p.behind) + count_at p in
+    first_fault (reading_faults (context_at p) p.behind nodes (is_stray (context_at p) p.row) (reading p.row))
 
 -- the number of the line
 abbrev pub number_at : Place → ℕ
@@ -60,11 +63,11 @@ bad_at p = option_map (λ fault. (fault, number_at p)) (fault_at p)
 -- last line; else the nodes of all lines, one after another. The root is on line 0.
 abbrev pub without_bad_line : List Row → List Record → List ℕ → Outcome
 without_bad_line before nodes lines =
-    if not (has_start before) then refused 6 (length before)
-    else if is_some (open_name 0 before) then refused 12 (length before)
+    if not (has_start before) then refused no_root (length before)
+    else if is_some (open_name 0 before) then refused truncated (length before)
     else tree nodes lines
 
--- the least bad line, or else what there is without one
+-- the first bad line, or else what there is without one
 abbrev pub refused_first : List (ℕ × ℕ) → Outcome → Outcome
 refused_first [] whole = whole
 refused_first (b ∷ bs) whole = refused b.0 b.1
@@ -81,4 +84,4 @@ outcome rows =
 -- What the bytes of a document stand for. More bytes than the limit are a fault of line 0 (11 TooLarge), which comes before all
 -- others.
 unfoldable pub document : ℕ → List ℕ → Outcome
-document limit bytes = if nat_le (length bytes) limit then outcome (rows_of bytes) else refused 11 0
+document limit bytes = if nat_le (length bytes) limit then outcome (rows_of bytes) else refused too_large 0

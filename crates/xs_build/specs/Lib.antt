@@ -1,20 +1,15 @@
--- What a reader has to believe stands in Limits, Namespaces, Start, Nodes, Around, Rules, Document and Results; DocumentTree
--- has what follows for trees; the other files say what the code keeps, and no public contract cites them.
-pub mod Around
-pub mod Attributes
-pub mod Context
+-- What a reader has to believe stands in Limits, Faults, Namespaces, Start, Nodes, LineContext, Rules, Document and Results. What
+-- follows stands in DocumentTree, Grammar and DocumentLaws. steps says what the code mirrors.
 pub mod Document
+pub mod DocumentLaws
 pub mod DocumentTree
-pub mod Entering
-pub mod Left
+pub mod Faults
+pub mod Grammar
+pub mod LineContext
 pub mod Limits
-pub mod Meaning
 pub mod Namespaces
 pub mod Nodes
-pub mod Open
 pub mod Results
 pub mod Rules
-pub mod Stack
 pub mod Start
-pub mod State
-pub mod Tag
+pub mod steps

@@ -1,9 +1,5 @@
--- The limits of a document.
+-- The limit on the bytes of a document. That on its nodes is xs_tree's.
 use Rattle.std.specs.Prelude.{ℕ}
-
--- the most nodes of a document, the root and all namespace nodes among them
-abbrev pub most_nodes : ℕ
-most_nodes = 8000000
 
 -- the greatest limit on the bytes of a document
 abbrev pub most_bytes : ℕ

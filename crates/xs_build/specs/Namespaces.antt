@@ -5,7 +5,8 @@ use Rattle.std.specs.List.{list_any, before_first, after_first}
 use Rattle.std.specs.Str.{bytes_eq, chars}
 use Rattle.std.specs.BTreeMap.{insert_entry, is_at}
 use Rattle.std.specs.Map.{lookup, remove_entry}
-use Rattle.xs_text.specs.Names.{spells_ncname}
+pub use Rattle.xs_text.specs.Names.{QName, is_colon, is_ncname, prefixed, unprefixed}
+unfoldable pub use Rattle.xs_text.specs.Names.{qname_of}
 use Rattle.xs_tree.specs.Names.{order_of_texts}
 use Rattle.xs_tree.specs.declared.names.Name.{Name}
 
@@ -20,27 +21,6 @@ xmlns_uri = codes "http://www.w3.org/2000/xmlns/"
 abbrev pub is_empty : {X : Type 0} → List X → Bool
 is_empty [] = true
 is_empty (x ∷ xs) = false
-
--- a name as it is written, taken apart at its colon; the prefix is empty where there is none
-pub record Written : Type 0 where
-  pub prefix : List ℕ
-  pub local : List ℕ
-
-abbrev pub is_colon : ℕ → Bool
-is_colon b = b == 58
-
-abbrev pub is_ncname : List ℕ → Bool
-is_ncname text = spells_ncname (chars text)
-
-abbrev pub prefixed : List ℕ → List ℕ → Option Written
-prefixed prefix local = if is_ncname prefix && is_ncname local then Some (record { prefix = prefix; local = local }) else None
-
-abbrev pub unprefixed : List ℕ → Option Written
-unprefixed text = if is_ncname text then Some (record { prefix = []; local = text }) else None
-
--- the parts of a QName (Namespaces in XML 1.0, 4); None: the text is none
-unfoldable pub qname_of : List ℕ → Option Written
-qname_of text = if list_any is_colon text then prefixed (before_first is_colon text) (after_first is_colon text) else unprefixed text
 
 -- a prefix, empty for the default namespace, and the URI that it stands for
 abbrev pub Binding : Type 0
@@ -74,7 +54,7 @@ abbrev pub uri_of : Bindings → List ℕ → List ℕ → Option (List ℕ)
 uri_of scope plain [] = Some plain
 uri_of scope plain (b ∷ prefix) = uri_in scope (b ∷ prefix)
 
-abbrev pub named : Written → List ℕ → Name
+abbrev pub named : QName → List ℕ → Name
 named w uri = record { uri = uri; local = w.local; prefix = w.prefix }
 
 -- a name without the prefix that it is written with (Namespaces in XML 1.0, 2.1)
@@ -90,16 +70,16 @@ abbrev pub are_same : ExpandedName → ExpandedName → Bool
 are_same a b = bytes_eq a.uri b.uri && bytes_eq a.local b.local
 
 -- an element without a prefix is in the default namespace (Namespaces in XML 1.0, 6.2)
-unfoldable pub element_name : Bindings → Written → Option Name
+unfoldable pub element_name : Bindings → QName → Option Name
 element_name scope w = option_map (named w) (uri_of scope (unwrap_or (uri_in scope []) []) w.prefix)
 
 -- an attribute without a prefix is in none
-unfoldable pub attribute_name : Bindings → Written → Option Name
+unfoldable pub attribute_name : Bindings → QName → Option Name
 attribute_name scope w = option_map (named w) (uri_of scope [] w.prefix)
 
 -- The prefix that an attribute of this name declares: `xmlns` declares the default namespace, which is the empty prefix, and
 -- `xmlns:p` declares `p` (Namespaces in XML 1.0, 3). None: it declares none.
-unfoldable pub declared_prefix : Written → Option (List ℕ)
+unfoldable pub declared_prefix : QName → Option (List ℕ)
 declared_prefix w =
     if is_empty w.prefix && bytes_eq w.local (codes "xmlns") then Some []
     else if bytes_eq w.prefix (codes "xmlns") then Some w.local
@@ -110,7 +90,7 @@ abbrev pub declaring_name : List ℕ → ExpandedName
 declaring_name prefix = record { uri = xmlns_uri; local = prefix }
 
 -- The expanded name of an attribute; None: its prefix is not bound.
-abbrev pub attribute_expanded : Bindings → Written → Option (List ℕ) → Option ExpandedName
+abbrev pub attribute_expanded : Bindings → QName → Option (List ℕ) → Option ExpandedName
 attribute_expanded scope w None = option_map expanded_name (attribute_name scope w)
 attribute_expanded scope w (Some prefix) = Some (declaring_name prefix)
 

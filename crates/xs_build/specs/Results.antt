@@ -1,6 +1,6 @@
 -- What the calls of this crate answer, against what the bytes stand for.
 use Rattle.std.specs.Prelude.{◌≡◌, Result, Ok, Err}
-use Rattle.xs_build.specs.declared.built.Built.{Built}
+use Rattle.xs_build.specs.declared.document.Built.{Built}
 use Rattle.xs_build.specs.declared.fault.BuildFault.{BuildFault}
 use Rattle.xs_build.specs.declared.fault.BuildFault.TheVariants.{Bad, NoMemory}
 use Rattle.xs_build.specs.Document.{Outcome, tree, refused}

@@ -1,26 +1,35 @@
 //! Lines that are attributes and declarations.
 
 ghost use Rattle.std.specs.Prelude.{◌≡◌, ◌<◌, true, length, reverse, IfOk, OnOk};
-ghost use Rattle.xs_build.specs.Attributes.{named_step};
-ghost use Rattle.xs_build.specs.Context.{scope_of};
-ghost use Rattle.xs_build.specs.Meaning.{attribute_step, declaration_step, plain_step, written_step, declaration_name};
+ghost use Rattle.xs_build.specs.steps.Lines.{named_step, scope_of, attribute_step};
+ghost use Rattle.xs_build.specs.steps.Lines.{declaration_step, plain_step, written_step};
+ghost use Rattle.xs_build.specs.steps.Lines.{declaration_name, expanded};
 ghost use Rattle.xs_build.specs.Namespaces.{attribute_name, declared_prefix};
-ghost use Rattle.xs_build.specs.Context.{expanded};
-ghost use Rattle.xs_build.specs.Open.{IsGood};
-ghost use Rattle.xs_build.specs.State.{state, context, taken, Steps};
+ghost use Rattle.xs_build.specs.steps.Invariant.{IsGood};
+ghost use Rattle.xs_build.specs.steps.State.{state, context, taken, Steps};
 
 use crate::builder::Builder;
-use crate::expanded::Expanded;
-use crate::fault::BuildFault;
+use crate::fault::{
+    BAD_LINE, BAD_NAME, BAD_NAMESPACE, BuildFault, DOUBLE_ATTRIBUTE, TOO_LARGE, UNBOUND_PREFIX,
+};
 use crate::nodes::put_attribute;
-use crate::qnames::{XMLNS_URI, declared_prefix, is_bad_binding, qname_parts};
+use crate::qnames::{XMLNS_URI, declared_prefix, is_bad_binding};
 use std::alloc::{AllocError, Global};
 use xs_pyx::TextBuf;
 use xs_tree::{MOST_NODES, Name, NameText};
 
+/// A namespace URI, empty for none, and a local part (Namespaces in XML 1.0, 2.1).
+#[derive(Drop, Debug, PartialEq, Eq, Hash)]
+pub struct Expanded {
+    /// The namespace URI, empty for none.
+    pub uri: NameText,
+    /// The local part.
+    pub local: NameText,
+}
+
 impl Builder {
     /// Takes an attribute or a declaration.
-    #[tactic(auto, unfolding(crate::specs::Meaning::attribute_step))]
+    #[tactic(auto, unfolding(crate::specs::steps::Lines::attribute_step))]
     pub fn attribute(
         &mut self,
         alloc: Global,
@@ -28,15 +37,15 @@ impl Builder {
         value: TextBuf,
     ) -> Result<(), BuildFault>
         requires { IsGood (state self.old) }
-        ensures step { Steps result (taken (state self.old) (attribute_step (context (state self.old)) name value)) (state self.new) }
-        ensures outermost { OnOk result (self.new.outermost ≡ self.old.outermost) }
+        ensures step { Steps result (taken (state self.old)
+            (attribute_step (context (state self.old)) name value)) (state self.new) }
     {
         if !self.follows {
-            return Err(self.bad(1));
+            return Err(self.bad(BAD_LINE));
         }
-        match qname_parts(name.as_str()) {
+        match xs_text::split_qname(name.as_str()) {
             Some((prefix, local)) => self.written(alloc, prefix, local, value.as_str()),
-            None => Err(self.bad(7)),
+            None => Err(self.bad(BAD_NAME)),
         }
     }
 
@@ -50,8 +59,11 @@ impl Builder {
     ) -> Result<(), BuildFault>
         requires good { IsGood (state self.old) }
         requires follows { self.old.follows ≡ true }
-        ensures step { Steps result (taken (state self.old) (written_step (context (state self.old)) self.old.seen.keys value.now (record { prefix = prefix.now; local = local.now }) (declared_prefix (record { prefix = prefix.now; local = local.now })))) (state self.new) }
-        ensures outermost { OnOk result (self.new.outermost ≡ self.old.outermost) }
+        ensures step { Steps result (taken (state self.old)
+            (written_step (context (state self.old)) self.old.seen.keys value.now
+            (record { prefix = prefix.now; local = local.now })
+            (declared_prefix (record { prefix = prefix.now; local = local.now }))))
+            (state self.new) }
     {
         match declared_prefix(prefix, local) {
             Some(declared) => self.declaration(alloc, declared, value),
@@ -60,23 +72,24 @@ impl Builder {
     }
 
     /// Takes a declaration, which is no node.
-    #[tactic(auto, unfolding(crate::specs::Meaning::declaration_step))]
+    #[tactic(auto, unfolding(crate::specs::steps::Lines::declaration_step))]
     fn declaration(&mut self, alloc: Global, prefix: &str, uri: &str) -> Result<(), BuildFault>
         requires { self.old.follows ≡ true }
-        ensures step { Steps result (taken (state self.old) (declaration_step (context (state self.old)) self.old.seen.keys uri.now prefix.now)) (state self.new) }
-        ensures outermost { OnOk result (self.new.outermost ≡ self.old.outermost) }
+        ensures step { Steps result (taken (state self.old)
+            (declaration_step (context (state self.old)) self.old.seen.keys uri.now prefix.now))
+            (state self.new) }
     {
         if !self.seen.insert(declaration_name(alloc, prefix)?)? {
-            return Err(self.bad(9));
+            return Err(self.bad(DOUBLE_ATTRIBUTE));
         }
         if is_bad_binding(prefix, uri) {
-            return Err(self.bad(10));
+            return Err(self.bad(BAD_NAMESPACE));
         }
         Ok(())
     }
 
     /// Takes an attribute that is a node.
-    #[tactic(auto, unfolding(crate::specs::Meaning::plain_step))]
+    #[tactic(auto, unfolding(crate::specs::steps::Lines::plain_step))]
     fn plain(
         &mut self,
         alloc: Global,
@@ -86,12 +99,14 @@ impl Builder {
     ) -> Result<(), BuildFault>
         requires good { IsGood (state self.old) }
         requires follows { self.old.follows ≡ true }
-        ensures step { Steps result (taken (state self.old) (plain_step (context (state self.old)) self.old.seen.keys value.now (record { prefix = prefix.now; local = local.now }))) (state self.new) }
-        ensures outermost { OnOk result (self.new.outermost ≡ self.old.outermost) }
+        ensures step { Steps result (taken (state self.old)
+            (plain_step (context (state self.old)) self.old.seen.keys value.now
+            (record { prefix = prefix.now; local = local.now })))
+            (state self.new) }
     {
         match self.attribute_name(alloc, prefix, local)? {
             Some(name) => self.named(name, value),
-            None => Err(self.bad(8)),
+            None => Err(self.bad(UNBOUND_PREFIX)),
         }
     }
 
@@ -103,7 +118,9 @@ impl Builder {
         local: &str,
     ) -> Result<Option<Name>, AllocError>
         requires { 0 < length self.now.around.items }
-        ensures { IfOk result (λ name. name ≡ attribute_name (scope_of (reverse self.now.around.items)) (record { prefix = prefix.now; local = local.now })) }
+        ensures { IfOk result (λ name. name ≡ attribute_name
+            (scope_of (reverse self.now.around.items))
+            (record { prefix = prefix.now; local = local.now })) }
     {
         match self.around.as_slice().split_last() {
             Some((element, _)) => element.scope.attribute_name(alloc, prefix, local),
@@ -115,14 +132,15 @@ impl Builder {
     fn named(&mut self, name: Name, value: &str) -> Result<(), BuildFault>
         requires good { IsGood (state self.old) }
         requires follows { self.old.follows ≡ true }
-        ensures step { Steps result (taken (state self.old) (named_step (context (state self.old)) self.old.seen.keys value.now name)) (state self.new) }
-        ensures outermost { OnOk result (self.new.outermost ≡ self.old.outermost) }
+        ensures step { Steps result (taken (state self.old)
+            (named_step (context (state self.old)) self.old.seen.keys value.now name))
+            (state self.new) }
     {
-        if !self.seen.insert(expanded(&name)?)? {
-            return Err(self.bad(9));
+        if !self.seen.insert(expanded_name(&name)?)? {
+            return Err(self.bad(DOUBLE_ATTRIBUTE));
         }
         if self.lines.len() >= MOST_NODES {
-            return Err(self.bad(11));
+            return Err(self.bad(TOO_LARGE));
         }
         put_attribute(&mut self.tree, self.around.as_slice(), name, value)?;
         self.lines.push(self.line)?;
@@ -141,7 +159,7 @@ fn declaration_name(alloc: Global, prefix: &str) -> Result<Expanded, AllocError>
 }
 
 /// A name without the prefix that it is written with.
-fn expanded(name: &Name) -> Result<Expanded, AllocError>
+fn expanded_name(name: &Name) -> Result<Expanded, AllocError>
     ensures { IfOk result (λ found. found ≡ expanded name.now) }
 {
     Ok(Expanded {

@@ -2,18 +2,16 @@
 
 ghost use Rattle.std.specs.Prelude.{◌≡◌, ◌+◌, ◌<◌, IfOk, OnOk, length};
 ghost use Rattle.xs_pyx.specs.Row.{rows_of};
-ghost use Rattle.xs_build.specs.Left.{concluded};
-ghost use Rattle.xs_build.specs.Namespaces.{outermost};
-ghost use Rattle.xs_build.specs.Open.{IsGood, IsWell};
+ghost use Rattle.xs_build.specs.steps.Rest.{concluded};
+ghost use Rattle.xs_build.specs.steps.Invariant.{IsGood, IsWell};
 ghost use Rattle.xs_build.specs.Results.{Builds};
-ghost use Rattle.xs_build.specs.State.{state, initial, stepped, ended, next_line, Steps};
+ghost use Rattle.xs_build.specs.steps.State.{state, initial, stepped, ended, next_line, Steps};
 
-use crate::built::Built;
-use crate::expanded::Expanded;
-use crate::fault::BuildFault;
+use crate::attributes::Expanded;
+use crate::document::Built;
+use crate::fault::{BuildFault, NO_ROOT, TRUNCATED};
 use crate::nodes::put_text;
 use crate::opened::{Opened, is_inside};
-use crate::scope::Scope;
 use indexmap::IndexSet;
 use std::alloc::{AllocError, Global};
 use xs_pyx::line::Line;
@@ -30,8 +28,6 @@ pub struct Builder {
     pub text: String,
     /// The elements that are open, the innermost last.
     pub around: Vec<Opened>,
-    /// The bindings outside all elements.
-    pub outermost: Scope,
     /// The names of the attributes of the element that began last.
     pub seen: IndexSet<Expanded>,
     /// Whether an attribute may follow.
@@ -46,14 +42,12 @@ impl Builder {
     /// Before the first line.
     pub fn new(alloc: Global) -> Result<Builder, AllocError>
         ensures start { IfOk result (λ builder. state builder ≡ initial) }
-        ensures outermost { IfOk result (λ builder. builder.outermost ≡ outermost) }
     {
         Ok(Builder {
             tree: Tree::new(alloc)?,
             lines: vec![in alloc; 0]?,
             text: String::new(alloc),
             around: Vec::new(alloc),
-            outermost: Scope::outermost(alloc)?,
             seen: IndexSet::new(alloc),
             follows: false,
             begun: false,
@@ -77,7 +71,6 @@ impl Builder {
         ensures ended { OnOk result (state self.new ≡ ended (state self.old)) }
         ensures well { OnOk result (IsWell (state self.new).records (state self.new).around) }
         ensures counted { OnOk result (length self.new.tree ≡ length self.new.lines.items) }
-        ensures outermost { OnOk result (self.new.outermost ≡ self.old.outermost) }
     {
         put_text(&mut self.tree, self.around.as_slice(), self.text.as_str())?;
         self.text.clear();
@@ -87,9 +80,8 @@ impl Builder {
     /// Takes the next line, behind which `rest` stands.
     pub fn take(&mut self, alloc: Global, line: Line, rest: &[u8]) -> Result<(), BuildFault>
         requires good { IsGood (state self.old) }
-        requires outermost { self.old.outermost ≡ outermost }
-        ensures step { Steps result (stepped (state self.old) line (rows_of rest.now)) (state self.new) }
-        ensures outermost { OnOk result (self.new.outermost ≡ outermost) }
+        ensures step { Steps result (stepped (state self.old) line (rows_of rest.now))
+            (state self.new) }
     {
         match line {
             Line::Start(name) => self.start(alloc, name, rest),
@@ -102,7 +94,7 @@ impl Builder {
     }
 
     /// The tree at the end of the lines.
-    #[tactic(auto, unfolding(crate::specs::Left::concluded))]
+    #[tactic(auto, unfolding(crate::specs::steps::Rest::concluded))]
     pub fn finish(mut self) -> Result<Built, BuildFault>
         requires { IsGood (state self) }
         ensures document { Builds result (concluded (state self)) }
@@ -111,13 +103,13 @@ impl Builder {
         let last = self.line - 1;
         if !self.begun {
             return Err(BuildFault::Bad {
-                number: 6,
+                number: NO_ROOT,
                 line: last,
             });
         }
         if is_inside(self.around.as_slice()) {
             return Err(BuildFault::Bad {
-                number: 12,
+                number: TRUNCATED,
                 line: last,
             });
         }

@@ -1,12 +1,13 @@
 //! Lines that are texts, processing instructions and comments.
 
 ghost use Rattle.std.specs.Prelude.{◌≡◌, false, [], OnOk, reverse, string_bytes};
-ghost use Rattle.xs_build.specs.Meaning.{gives, past, instruction_step, comment_step};
-ghost use Rattle.xs_build.specs.Open.{IsGood};
-ghost use Rattle.xs_build.specs.State.{state, context, moved, spoken, spoken_inside, spoken_first, Steps};
+ghost use Rattle.xs_build.specs.steps.Lines.{gives, past, instruction_step, comment_step};
+ghost use Rattle.xs_build.specs.steps.Invariant.{IsGood};
+ghost use Rattle.xs_build.specs.steps.State.{state, context, moved, spoken, spoken_inside};
+ghost use Rattle.xs_build.specs.steps.State.{spoken_first, Steps};
 
 use crate::builder::Builder;
-use crate::fault::BuildFault;
+use crate::fault::{BAD_NAME, BuildFault, TOO_LARGE, UNBALANCED};
 use crate::nodes::{put_comment, put_instruction};
 use crate::opened::is_inside;
 use crate::qnames::{is_target, is_white, is_xml};
@@ -16,17 +17,16 @@ use xs_tree::MOST_NODES;
 
 impl Builder {
     /// Takes a text.
-    #[tactic(auto, unfolding(crate::specs::State::spoken))]
+    #[tactic(auto, unfolding(crate::specs::steps::State::spoken))]
     pub fn chars(&mut self, text: TextBuf) -> Result<(), BuildFault>
         ensures step { Steps result (spoken (state self.old) text) (state self.new) }
-        ensures outermost { OnOk result (self.new.outermost ≡ self.old.outermost) }
     {
         self.follows = false;
         if is_inside(self.around.as_slice()) {
             return self.text_inside(text.as_str());
         }
         if !is_white(text.as_str()) {
-            return Err(self.bad(5));
+            return Err(self.bad(UNBALANCED));
         }
         Ok(())
     }
@@ -35,7 +35,6 @@ impl Builder {
     fn text_inside(&mut self, text: &str) -> Result<(), BuildFault>
         requires { self.old.follows ≡ false }
         ensures step { Steps result (spoken_inside (state self.old) text.now) (state self.new) }
-        ensures outermost { OnOk result (self.new.outermost ≡ self.old.outermost) }
     {
         if self.text.is_empty() && !text.is_empty() {
             return self.first_text(text);
@@ -49,10 +48,9 @@ impl Builder {
         requires follows { self.old.follows ≡ false }
         requires quiet { string_bytes self.old.text ≡ [] }
         ensures step { Steps result (spoken_first (state self.old) text.now) (state self.new) }
-        ensures outermost { OnOk result (self.new.outermost ≡ self.old.outermost) }
     {
         if self.lines.len() >= MOST_NODES {
-            return Err(self.bad(11));
+            return Err(self.bad(TOO_LARGE));
         }
         self.lines.push(self.line)?;
         self.text.push_str(text)?;
@@ -60,7 +58,7 @@ impl Builder {
     }
 
     /// Takes a processing instruction. The XML declaration is none.
-    #[tactic(auto, unfolding(crate::specs::Meaning::instruction_step))]
+    #[tactic(auto, unfolding(crate::specs::steps::Lines::instruction_step))]
     pub fn instruction(
         &mut self,
         alloc: Global,
@@ -68,17 +66,18 @@ impl Builder {
         text: TextBuf,
     ) -> Result<(), BuildFault>
         requires { IsGood (state self.old) }
-        ensures step { Steps result (moved (state self.old) (instruction_step (context (state self.old)) self.old.line target text)) (state self.new) }
-        ensures outermost { OnOk result (self.new.outermost ≡ self.old.outermost) }
+        ensures step { Steps result (moved (state self.old)
+            (instruction_step (context (state self.old)) self.old.line target text))
+            (state self.new) }
     {
         if self.line == 1 && is_xml(target.as_str()) {
             return self.declare_xml();
         }
         if !is_target(target.as_str()) {
-            return Err(self.bad(7));
+            return Err(self.bad(BAD_NAME));
         }
         if self.lines.len() >= MOST_NODES {
-            return Err(self.bad(11));
+            return Err(self.bad(TOO_LARGE));
         }
         self.end_text()?;
         put_instruction(
@@ -96,8 +95,9 @@ impl Builder {
     /// Takes an XML declaration.
     fn declare_xml(&mut self) -> Result<(), BuildFault>
         requires { IsGood (state self.old) }
-        ensures step { Steps result (moved (state self.old) (gives [] (past (context (state self.old)) (reverse self.old.around.items) 0))) (state self.new) }
-        ensures outermost { OnOk result (self.new.outermost ≡ self.old.outermost) }
+        ensures step { Steps result (moved (state self.old)
+            (gives [] (past (context (state self.old)) (reverse self.old.around.items) 0)))
+            (state self.new) }
     {
         self.end_text()?;
         self.follows = false;
@@ -105,14 +105,14 @@ impl Builder {
     }
 
     /// Takes a comment.
-    #[tactic(auto, unfolding(crate::specs::Meaning::comment_step))]
+    #[tactic(auto, unfolding(crate::specs::steps::Lines::comment_step))]
     pub fn comment(&mut self, text: TextBuf) -> Result<(), BuildFault>
         requires { IsGood (state self.old) }
-        ensures step { Steps result (moved (state self.old) (comment_step (context (state self.old)) text)) (state self.new) }
-        ensures outermost { OnOk result (self.new.outermost ≡ self.old.outermost) }
+        ensures step { Steps result (moved (state self.old)
+            (comment_step (context (state self.old)) text)) (state self.new) }
     {
         if self.lines.len() >= MOST_NODES {
-            return Err(self.bad(11));
+            return Err(self.bad(TOO_LARGE));
         }
         self.end_text()?;
         put_comment(&mut self.tree, self.around.as_slice(), text.as_str())?;

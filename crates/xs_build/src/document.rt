@@ -2,38 +2,48 @@
 
 ghost use Rattle.std.specs.Prelude.{◌≡◌, ◌+◌, ◌<◌, ◌≤◌, ◌&&◌, not, length, IfOk, IfSome, OnOk};
 ghost use Rattle.xs_build.specs.Document.{document};
-ghost use Rattle.xs_build.specs.DocumentTree.{IsDocument};
-ghost use Rattle.xs_build.specs.Left.{left, fault_at, Goes};
+ghost use Rattle.xs_build.specs.DocumentTree.{IsOneDocument};
+ghost use Rattle.xs_build.specs.steps.Rest.{left, fault_at, Goes};
 ghost use Rattle.xs_build.specs.Limits.{most_bytes};
-ghost use Rattle.xs_build.specs.Namespaces.{outermost};
-ghost use Rattle.xs_build.specs.Open.{IsGood};
+ghost use Rattle.xs_build.specs.steps.Invariant.{IsGood};
 ghost use Rattle.xs_build.specs.Results.{Builds};
-ghost use Rattle.xs_build.specs.State.{state, initial};
+ghost use Rattle.xs_build.specs.steps.State.{state, initial};
 ghost use Rattle.xs_build.specs.Start.{begins_with};
 ghost use Rattle.xs_pyx.specs.Row.{rows_of};
 
 use crate::builder::Builder;
-use crate::built::Built;
-use crate::fault::BuildFault;
+use crate::fault::{BAD_LINE, BAD_UTF8, BuildFault, TOO_LARGE};
 use std::alloc::Global;
 use xs_pyx::{LineFault, next_line};
+use xs_tree::Tree;
 
-/// The tree that the bytes of a document stand for, and the line of each node; or the fault of the least bad line. The tree is
-/// that of one well-formed document (XPath 1.0, 5).
+/// A document's tree, and where its nodes come from.
+#[derive(Drop)]
+pub struct Built {
+    /// The nodes.
+    pub tree: Tree,
+    /// The line that each node comes from, in document order. Lines are counted from 1, and the
+    /// root is at line 0.
+    pub lines: Vec<u32>,
+}
+
+/// The tree that the bytes of a document stand for, and the line of each node; or the fault of the
+/// first bad line. The tree is that of one well-formed document (XPath 1.0, 5).
 ///
-/// `limit` is the most bytes that the document may have, and 8,000,000 the most nodes, namespace nodes among them.
+/// `limit` is the most bytes that the document may have, and 8,000,000 the most nodes, namespace
+/// nodes among them.
 pub fn build_tree(alloc: Global, bytes: &[u8], limit: u64) -> Result<Built, BuildFault>
     requires limit { limit ≤ most_bytes }
     ensures document { Builds result (document limit bytes.now) }
     ensures each { IfOk result (λ built. length built.lines.items ≡ length built.tree) }
-    ensures tree { IfOk result (λ built. IsDocument built.tree) }
+    ensures tree { IfOk result (λ built. IsOneDocument built.tree) }
 
     // More bytes than the limit are refused without memory.
     ensures large { limit < length bytes.now → result ≡ Err (BuildFault.Bad 11 0) }
 {
     if bytes.len() as u64 > limit {
         return Err(BuildFault::Bad {
-            number: 11,
+            number: TOO_LARGE,
             line: 0,
         });
     }
@@ -61,13 +71,12 @@ fn read_line(
     bytes: &[u8],
 ) -> Result<Option<usize>, BuildFault>
     requires good { IsGood (state builder.old) }
-    requires outermost { builder.old.outermost ≡ outermost }
     requires few { builder.old.line + length bytes.now < 4294967296 }
     ensures goes { Goes result (state builder.old) (state builder.new) bytes.now }
     ensures good { OnOk result (IsGood (state builder.new)) }
-    ensures outermost { OnOk result (builder.new.outermost ≡ outermost) }
     ensures line { OnOk result (builder.new.line ≤ builder.old.line + 1) }
-    ensures size { IfOk result (λ found. IfSome found (λ size. (0 < size) × (size ≤ length bytes.now))) }
+    ensures size { IfOk result (λ found. IfSome found
+        (λ size. (0 < size) × (size ≤ length bytes.now))) }
 {
     match next_line(alloc, bytes) {
         Ok(None) => Ok(None),
@@ -95,5 +104,9 @@ fn is_stray(builder: &Builder, bytes: &[u8]) -> bool
 fn fault_at(is_stray: bool, number: u8) -> u8
     ensures { result ≡ fault_at is_stray number }
 {
-    if is_stray && number != 3 { 1 } else { number }
+    if is_stray && number != BAD_UTF8 {
+        BAD_LINE
+    } else {
+        number
+    }
 }

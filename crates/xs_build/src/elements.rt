@@ -1,24 +1,23 @@
 //! Lines that start and end an element.
 
-ghost use Rattle.std.specs.Prelude.{◌≡◌, ◌+◌, ◌≤◌, ◌∷◌, ◌++◌, true, length, map, reverse, IfOk, OnOk};
+ghost use Rattle.std.specs.Prelude.{◌≡◌, ◌+◌, ◌≤◌, ◌∷◌, ◌++◌, true, length, map, reverse, IfOk};
+ghost use Rattle.std.specs.Prelude.{OnOk};
 ghost use Rattle.std.specs.List.{range_with_len};
 ghost use Rattle.xs_pyx.specs.Row.{rows_of};
-ghost use Rattle.xs_build.specs.Context.{scope_of, innermost};
+ghost use Rattle.xs_build.specs.steps.Lines.{scope_of, innermost, start_step, end_step};
+ghost use Rattle.xs_build.specs.steps.Lines.{named_start};
 ghost use Rattle.xs_build.specs.Nodes.{element, spaces};
-ghost use Rattle.xs_build.specs.Meaning.{start_step};
-ghost use Rattle.xs_build.specs.Entering.{Names, named_start, entered, closed_step};
-ghost use Rattle.xs_build.specs.Limits.{most_nodes};
-ghost use Rattle.xs_build.specs.Namespaces.{outermost, scope_with};
-ghost use Rattle.xs_build.specs.Open.{IsGood, IsWell, HasBindings};
+ghost use Rattle.xs_build.specs.steps.State.{Names, entered, state, context, moved, Steps};
+ghost use Rattle.xs_tree.specs.Limits.{most_nodes};
+ghost use Rattle.xs_build.specs.Namespaces.{scope_with};
+ghost use Rattle.xs_build.specs.steps.Invariant.{IsGood, IsWell, HasBindings};
 ghost use Rattle.xs_build.specs.Start.{declarations};
-ghost use Rattle.xs_build.specs.State.{state, context, moved, Steps};
-ghost use Rattle.xs_build.specs.Tag.{bindings_of};
+ghost use Rattle.xs_build.specs.steps.Views.{bindings_of};
 
 use crate::builder::Builder;
-use crate::fault::BuildFault;
+use crate::fault::{BAD_NAME, BuildFault, TOO_LARGE, UNBALANCED, UNBOUND_PREFIX};
 use crate::nodes::put_element;
 use crate::opened::{Opened, is_innermost, is_inside};
-use crate::qnames::qname_parts;
 use crate::scope::{Declared, Scope};
 use crate::start_tag::declarations;
 use indexmap::IndexSet;
@@ -28,15 +27,14 @@ use xs_tree::{MOST_NODES, Name};
 
 impl Builder {
     /// Takes the start of an element, behind which `rest` stands.
-    #[tactic(auto, unfolding(crate::specs::Meaning::start_step))]
+    #[tactic(auto, unfolding(crate::specs::steps::Lines::start_step))]
     pub fn start(&mut self, alloc: Global, name: TextBuf, rest: &[u8]) -> Result<(), BuildFault>
         requires good { IsGood (state self.old) }
-        requires outermost { self.old.outermost ≡ outermost }
-        ensures step { Steps result (moved (state self.old) (start_step (context (state self.old)) name (rows_of rest.now))) (state self.new) }
-        ensures outermost { OnOk result (self.new.outermost ≡ outermost) }
+        ensures step { Steps result (moved (state self.old)
+            (start_step (context (state self.old)) name (rows_of rest.now))) (state self.new) }
     {
         if self.begun && !is_inside(self.around.as_slice()) {
-            return Err(self.bad(5));
+            return Err(self.bad(UNBALANCED));
         }
         let declared = declarations(alloc, rest)?;
         let is_same = declared.is_empty() && is_inside(self.around.as_slice());
@@ -44,8 +42,8 @@ impl Builder {
         self.start_in(alloc, name, scope, is_same)
     }
 
-    /// Takes the start of an element in which these bindings are in force. `is_same` only where they are those of the element
-    /// around it.
+    /// Takes the start of an element in which these bindings are in force. `is_same` only where
+    /// they are those of the element around it.
     fn start_in(
         &mut self,
         alloc: Global,
@@ -55,12 +53,12 @@ impl Builder {
     ) -> Result<(), BuildFault>
         requires good { IsGood (state self.old) }
         requires same { is_same ≡ true → HasBindings (state self.old).around scope }
-        ensures step { Steps result (moved (state self.old) (named_start (context (state self.old)) name scope)) (state self.new) }
-        ensures outermost { OnOk result (self.new.outermost ≡ self.old.outermost) }
+        ensures step { Steps result (moved (state self.old)
+            (named_start (context (state self.old)) name scope)) (state self.new) }
     {
         let full = self.name_in(alloc, &scope, name.as_str())?;
         if self.lines.len() + scope.len() >= MOST_NODES {
-            return Err(self.bad(11));
+            return Err(self.bad(TOO_LARGE));
         }
         self.enter(alloc, name, full, scope, is_same)?;
         Ok(())
@@ -68,12 +66,12 @@ impl Builder {
 
     /// The bindings in force in an element that declares this.
     fn scope_inside(&self, alloc: Global, declared: Vec<Declared>) -> Result<Scope, AllocError>
-        requires { self.now.outermost ≡ outermost }
-        ensures { IfOk result (λ scope. scope ≡ scope_with (bindings_of declared) (scope_of (reverse self.now.around.items))) }
+        ensures { IfOk result (λ scope. scope ≡ scope_with (bindings_of declared)
+            (scope_of (reverse self.now.around.items))) }
     {
         match self.around.as_slice().split_last() {
             Some((element, _)) => element.scope.with(alloc, declared),
-            None => self.outermost.with(alloc, declared),
+            None => Scope::outermost(alloc)?.with(alloc, declared),
         }
     }
 
@@ -81,17 +79,17 @@ impl Builder {
     fn name_in(&self, alloc: Global, scope: &Scope, written: &str) -> Result<Name, BuildFault>
         ensures { Names result scope.now written.now self.now.line }
     {
-        match qname_parts(written) {
+        match xs_text::split_qname(written) {
             Some((prefix, local)) => match scope.element_name(alloc, prefix, local)? {
                 Some(name) => Ok(name),
-                None => Err(self.bad(8)),
+                None => Err(self.bad(UNBOUND_PREFIX)),
             },
-            None => Err(self.bad(7)),
+            None => Err(self.bad(BAD_NAME)),
         }
     }
 
-    /// Adds an element, which is the innermost open one from then on. `is_same` only where its bindings are those of the
-    /// element around it.
+    /// Adds an element, which is the innermost open one from then on. `is_same` only where its
+    /// bindings are those of the element around it.
     fn enter(
         &mut self,
         alloc: Global,
@@ -104,7 +102,6 @@ impl Builder {
         requires same { is_same ≡ true → HasBindings (state self.old).around scope }
         requires room { length self.old.lines.items + 1 + length scope ≤ most_nodes }
         ensures entered { OnOk result (state self.new ≡ entered (state self.old) name full scope) }
-        ensures outermost { OnOk result (self.new.outermost ≡ self.old.outermost) }
     {
         self.end_text()?;
         let around = self.around.as_slice();
@@ -119,13 +116,14 @@ impl Builder {
     }
 
     /// Takes the end of an element.
+    #[tactic(auto, unfolding(crate::specs::steps::Lines::end_step))]
     pub fn end(&mut self, name: TextBuf) -> Result<(), BuildFault>
         requires { IsGood (state self.old) }
-        ensures step { Steps result (moved (state self.old) (closed_step (context (state self.old)) name)) (state self.new) }
-        ensures outermost { OnOk result (self.new.outermost ≡ self.old.outermost) }
+        ensures step { Steps result (moved (state self.old)
+            (end_step (context (state self.old)) name)) (state self.new) }
     {
         if !is_innermost(name.as_str(), self.around.as_slice()) {
-            return Err(self.bad(5));
+            return Err(self.bad(UNBALANCED));
         }
         self.end_text()?;
         let _ = self.around.pop();
@@ -136,7 +134,8 @@ impl Builder {
 
 /// Adds the line of this many nodes.
 fn push_lines(lines: &mut Vec<u32>, line: u32, count: usize) -> Result<(), AllocError>
-    ensures { OnOk result (lines.new.items ≡ lines.old.items ++ map (λ _. line) (range_with_len 0 count)) }
+    ensures { OnOk result (lines.new.items ≡ lines.old.items ++ map (λ _. line)
+        (range_with_len 0 count)) }
 {
     for _place in 0..count {
         lines.push(line)?;

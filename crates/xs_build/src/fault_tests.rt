@@ -340,8 +340,8 @@ fn too_many_bytes(rt: HostRuntime) {
     }
 }
 
-/// The start of a document of just 8,000,000 nodes, of which each element has 1,001 namespace nodes; its last line, 16,997,
-/// starts an element.
+/// The start of a document of just 8,000,000 nodes, of which each element has 1,001 namespace
+/// nodes; its last line, 16,997, starts an element.
 fn full_document(alloc: Global) -> Result<Vec<u8>, AllocError> {
     let mut bytes = Vec::new(alloc);
     bytes.extend_from_slice(b"(a\n")?;
@@ -358,8 +358,8 @@ fn full_document(alloc: Global) -> Result<Vec<u8>, AllocError> {
     Ok(bytes)
 }
 
-/// Fault 11 for nodes: it comes at the line of the first node too many, behind the other faults of that line. A line without a
-/// node has none.
+/// Fault 11 for nodes: it comes at the line of the first node too many, behind the other faults of
+/// that line. A line without a node has none.
 #[test]
 fn too_many_nodes(rt: HostRuntime) -> Result<(), AllocError> {
     let table: [(&[u8], u8, u32); 4] = [

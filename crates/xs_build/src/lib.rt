@@ -1,14 +1,13 @@
-//! From the lines of a document to its tree, or to the fault of its least bad line.
+//! From the lines of a document to its tree, or to the fault of its first bad line.
 #![tactic(auto)]
 
 mod attributes;
 mod builder;
-mod built;
 mod contents;
 mod document;
 mod elements;
-mod expanded;
 mod fault;
+pub mod laws;
 mod nodes;
 mod opened;
 mod qnames;
@@ -16,8 +15,7 @@ mod scope;
 mod spaces;
 mod start_tag;
 
-pub use built::Built;
-pub use document::build_tree;
+pub use document::{Built, build_tree};
 pub use fault::BuildFault;
 
 #[cfg(test)]

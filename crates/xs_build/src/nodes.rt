@@ -2,15 +2,17 @@
 //!
 //! There is room for each of them, as nodes are counted before they are added.
 
-ghost use Rattle.std.specs.Prelude.{◌≡◌, ◌+◌, ◌<◌, ◌≤◌, IsTrue, true, Some, [], ◌∷◌, ◌++◌, length, is_some, reverse, IfOk, OnOk};
-ghost use Rattle.xs_tree.specs.Kinds.{bears_name, can_hold};
+ghost use Rattle.std.specs.Prelude.{◌≡◌, ◌+◌, ◌<◌, ◌≤◌, IsTrue, true, Some, [], ◌∷◌, ◌++◌, length};
+ghost use Rattle.std.specs.Prelude.{is_some, reverse, IfOk, IfSome, OnOk};
+ghost use Rattle.xs_tree.specs.Kinds.{bears_name, can_hold, has_local_name};
 ghost use Rattle.xs_tree.specs.Record.{at};
-ghost use Rattle.xs_tree.specs.Shape.{IsOpen, KeepsOrder};
-ghost use Rattle.xs_build.specs.Context.{innermost};
-ghost use Rattle.xs_build.specs.Nodes.{element, attribute, spaces, comment, instruction, local_name};
-ghost use Rattle.xs_build.specs.Limits.{most_nodes};
-ghost use Rattle.xs_build.specs.Open.{IsWell, HasBindings};
-ghost use Rattle.xs_build.specs.State.{with_text_node};
+ghost use Rattle.xs_tree.specs.Shape.{IsLocalName, IsOpen, KeepsOrder};
+ghost use Rattle.xs_build.specs.steps.Lines.{innermost};
+ghost use Rattle.xs_build.specs.Nodes.{element, attribute, spaces, comment, instruction};
+ghost use Rattle.xs_build.specs.Nodes.{local_name};
+ghost use Rattle.xs_tree.specs.Limits.{most_nodes};
+ghost use Rattle.xs_build.specs.steps.Invariant.{IsWell, HasBindings};
+ghost use Rattle.xs_build.specs.steps.State.{with_text_node};
 
 use crate::opened::{Opened, innermost};
 use crate::scope::Scope;
@@ -18,6 +20,7 @@ use crate::spaces::{copy_spaces, put_spaces};
 use std::alloc::{AllocError, Global};
 use xs_tree::{Kind, Name, NameText, Node, Tree, TreeFault};
 
+/// Adds a node for which there is room.
 fn put(
     tree: &mut Tree,
     kind: Kind,
@@ -28,11 +31,13 @@ fn put(
     requires within { parent < length tree.old }
     requires held { IsTrue (can_hold (at tree.old parent).kind kind) }
     requires named { is_some name ≡ bears_name kind }
+    requires spelled { has_local_name kind ≡ true → IfSome name IsLocalName }
     requires plain { kind ≡ Kind.Element → text.now ≡ [] }
     requires open { IsOpen tree.old parent }
     requires order { KeepsOrder tree.old parent kind }
     requires room { length tree.old < most_nodes }
-    ensures put { OnOk result (tree.new ≡ tree.old ++ record { kind = kind; name = name; text = text.now; parent = Some parent } ∷ []) }
+    ensures put { OnOk result (tree.new ≡ tree.old
+        ++ record { kind = kind; name = name; text = text.now; parent = Some parent } ∷ []) }
     ensures node { IfOk result (λ node. node ≡ length tree.old) }
 {
     match tree.add(kind, name, text, parent) {
@@ -45,8 +50,10 @@ fn put(
 /// Adds the text, unless it is empty.
 pub fn put_text(tree: &mut Tree, around: &[Opened], text: &str) -> Result<(), AllocError>
     requires well { IsWell tree.old (reverse around.now) }
-    requires room { length (with_text_node tree.old (innermost (reverse around.now)) text.now) ≤ most_nodes }
-    ensures put { OnOk result (tree.new ≡ with_text_node tree.old (innermost (reverse around.now)) text.now) }
+    requires room { length (with_text_node tree.old
+        (innermost (reverse around.now)) text.now) ≤ most_nodes }
+    ensures put { OnOk result (tree.new ≡ with_text_node tree.old
+        (innermost (reverse around.now)) text.now) }
     ensures well { OnOk result (IsWell tree.new (reverse around.now)) }
 {
     if text.is_empty() {
@@ -56,7 +63,8 @@ pub fn put_text(tree: &mut Tree, around: &[Opened], text: &str) -> Result<(), Al
     Ok(())
 }
 
-/// Adds an element and its namespace nodes, which are copies of its parent's where `is_same`: the bindings are the same.
+/// Adds an element and its namespace nodes, which are copies of its parent's where `is_same`: the
+/// bindings are the same.
 pub fn put_element(
     tree: &mut Tree,
     alloc: Global,
@@ -68,7 +76,8 @@ pub fn put_element(
     requires well { IsWell tree.old (reverse around.now) }
     requires same { is_same ≡ true → HasBindings (reverse around.now) scope.now }
     requires room { length tree.old + 1 + length scope.now ≤ most_nodes }
-    ensures put { OnOk result (tree.new ≡ tree.old ++ element name (innermost (reverse around.now)) ∷ spaces (length tree.old) scope.now) }
+    ensures put { OnOk result (tree.new ≡ tree.old ++ element name (innermost (reverse around.now))
+        ∷ spaces (length tree.old) scope.now) }
     ensures node { IfOk result (λ node. node ≡ length tree.old) }
 {
     let parent = innermost(around);
@@ -92,7 +101,8 @@ pub fn put_attribute(
     requires within { 0 < length around.now }
     requires order { KeepsOrder tree.old (innermost (reverse around.now)) Kind.Attribute }
     requires room { length tree.old < most_nodes }
-    ensures put { OnOk result (tree.new ≡ tree.old ++ attribute name value.now (innermost (reverse around.now)) ∷ []) }
+    ensures put { OnOk result (tree.new ≡ tree.old ++ attribute name value.now
+        (innermost (reverse around.now)) ∷ []) }
 {
     put(tree, Kind::Attribute, Some(name), value, innermost(around))?;
     Ok(())
@@ -102,7 +112,8 @@ pub fn put_attribute(
 pub fn put_comment(tree: &mut Tree, around: &[Opened], text: &str) -> Result<(), AllocError>
     requires well { IsWell tree.old (reverse around.now) }
     requires room { length tree.old < most_nodes }
-    ensures put { OnOk result (tree.new ≡ tree.old ++ comment text.now (innermost (reverse around.now)) ∷ []) }
+    ensures put { OnOk result (tree.new ≡ tree.old ++ comment text.now
+        (innermost (reverse around.now)) ∷ []) }
 {
     put(tree, Kind::Comment, None, text, innermost(around))?;
     Ok(())
@@ -118,7 +129,8 @@ pub fn put_instruction(
 ) -> Result<(), AllocError>
     requires well { IsWell tree.old (reverse around.now) }
     requires room { length tree.old < most_nodes }
-    ensures put { OnOk result (tree.new ≡ tree.old ++ instruction target.now text.now (innermost (reverse around.now)) ∷ []) }
+    ensures put { OnOk result (tree.new ≡ tree.old ++ instruction target.now text.now
+        (innermost (reverse around.now)) ∷ []) }
 {
     let name = local_name(alloc, target)?;
     put(tree, Kind::Pi, Some(name), text, innermost(around))?;

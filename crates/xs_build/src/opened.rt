@@ -1,15 +1,15 @@
 //! The elements that are open.
 
 ghost use Rattle.std.specs.Prelude.{◌≡◌, not, reverse};
-ghost use Rattle.xs_build.specs.Context.{innermost};
+ghost use Rattle.xs_build.specs.steps.Lines.{innermost, is_innermost};
 ghost use Rattle.xs_build.specs.Namespaces.{is_empty};
-ghost use Rattle.xs_build.specs.Stack.{is_innermost};
 
 use crate::scope::Scope;
 use xs_trace::text::TextBuf;
 use xs_tree::Node;
 
-/// An element whose end has not come: its name as it is written, its node, and the bindings in force in it.
+/// An element whose end has not come: its name as it is written, its node, and the bindings in
+/// force in it.
 #[derive(Drop)]
 pub struct Opened {
     /// The name as it is written.

@@ -1,11 +1,9 @@
-//! Names as they are written, and the prefixes that they declare (Namespaces in XML 1.0).
+//! What names declare, and which declarations and targets may be (Namespaces in XML 1.0).
 
 ghost use Rattle.std.specs.Prelude.{◌≡◌, ◌&&◌, not, option_map};
-ghost use Rattle.std.specs.List.{list_all};
-ghost use Rattle.xs_build.specs.Namespaces.{Written, is_empty, is_ncname, prefixed, unprefixed, qname_of, declared_prefix, is_bad_binding};
-ghost use Rattle.xs_text.specs.Names.{is_space};
-ghost use Rattle.xs_build.specs.Namespaces.{is_xml};
-ghost use Rattle.xs_build.specs.Tag.{written_of};
+ghost use Rattle.xs_build.specs.Namespaces.{QName, is_empty, is_ncname, declared_prefix};
+ghost use Rattle.xs_build.specs.Namespaces.{is_bad_binding, is_xml};
+ghost use Rattle.xs_text.specs.WhiteSpace.{is_blank};
 
 /// The namespace of the prefix `xml` (Namespaces in XML 1.0, 3).
 pub const XML_URI: &str = "http://www.w3.org/XML/1998/namespace";
@@ -14,57 +12,19 @@ pub const XML_URI: &str = "http://www.w3.org/XML/1998/namespace";
 pub const XMLNS_URI: &str = "http://www.w3.org/2000/xmlns/";
 
 /// Whether there are no characters.
-#[tactic(auto, using(crate::proofs::Texts::empty_by_length))]
+#[tactic(auto, using(crate::proofs::TextLemmas::empty_by_length))]
 fn is_nothing(text: &str) -> bool
     ensures { result ≡ is_empty text.now }
 {
     text.is_empty()
 }
 
-/// Whether a text is an NCName (Namespaces in XML 1.0, 3).
-#[tactic(auto, using(crate::proofs::Texts::same_truth))]
-fn is_name(text: &str) -> bool
-    ensures { result ≡ is_ncname text.now }
-{
-    xs_text::is_ncname(text)
-}
-
-fn prefixed<'a>(prefix: &'a str, local: &'a str) -> Option<(&'a str, &'a str)>
-    ensures { option_map written_of result ≡ prefixed prefix.now local.now }
-{
-    if is_name(prefix) && is_name(local) {
-        Some((prefix, local))
-    } else {
-        None
-    }
-}
-
-fn unprefixed(text: &str) -> Option<(&str, &str)>
-    ensures { option_map written_of result ≡ unprefixed text.now }
-{
-    if is_name(text) {
-        Some(("", text))
-    } else {
-        None
-    }
-}
-
-/// The prefix, empty where there is none, and the local part of a QName; none where the text is no QName
-/// (Namespaces in XML 1.0, 4).
-#[tactic(auto, unfolding(crate::specs::Namespaces::qname_of))]
-pub fn qname_parts(text: &str) -> Option<(&str, &str)>
-    ensures { option_map (λ p. record { prefix = p.0.now; local = p.1.now }) result ≡ qname_of text.now }
-{
-    match text.split_once(':') {
-        Some((prefix, local)) => prefixed(prefix, local),
-        None => unprefixed(text),
-    }
-}
-
-/// The prefix that an attribute of this name declares (empty: the default namespace); none where it declares none.
+/// The prefix that an attribute of this name declares (empty: the default namespace); none where it
+/// declares none.
 #[tactic(auto, unfolding(crate::specs::Namespaces::declared_prefix))]
 pub fn declared_prefix<'a>(prefix: &str, local: &'a str) -> Option<&'a str>
-    ensures { option_map (λ p. p.now) result ≡ declared_prefix (record { prefix = prefix.now; local = local.now }) }
+    ensures { option_map (λ p. p.now) result ≡ declared_prefix
+        (record { prefix = prefix.now; local = local.now }) }
 {
     if is_nothing(prefix) && local == "xmlns" {
         return Some("");
@@ -85,7 +45,7 @@ pub fn is_bad_binding(prefix: &str, uri: &str) -> bool
 }
 
 /// Whether a target is `xml`, in any case.
-#[tactic(auto, using(crate::proofs::Texts::same_bytes))]
+#[tactic(auto, using(crate::proofs::TextLemmas::same_bytes))]
 pub fn is_xml(target: &str) -> bool
     ensures { result ≡ is_xml target.now }
 {
@@ -96,13 +56,12 @@ pub fn is_xml(target: &str) -> bool
 pub fn is_target(text: &str) -> bool
     ensures { result ≡ (is_ncname text.now && not (is_xml text.now)) }
 {
-    is_name(text) && !is_xml(text)
+    xs_text::is_ncname(text) && !is_xml(text)
 }
 
 /// Whether a text is white space alone (XML 1.0, 2.3).
 pub fn is_white(text: &str) -> bool
-    ensures { result ≡ list_all is_space text.now }
+    ensures { result ≡ is_blank text.now }
 {
-    text.bytes()
-        .all(|b| matches!(b, b' ' | b'\t' | b'\r' | b'\n'))
+    xs_text::is_blank(text.as_bytes())
 }

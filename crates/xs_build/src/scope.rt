@@ -1,8 +1,10 @@
 //! The bindings of prefixes that are in force in an element.
 
-ghost use Rattle.std.specs.Prelude.{◌≡◌, [], ◌^◌, ◌<◌, List, IfOk, OnOk, length, map, option_map, option_copied, unwrap_or};
-ghost use Rattle.xs_build.specs.Namespaces.{Bindings, outermost, bound, scope_with, uri_in, named, element_name, attribute_name};
-ghost use Rattle.xs_build.specs.Tag.{bindings_of};
+ghost use Rattle.std.specs.Prelude.{◌≡◌, [], ◌^◌, ◌<◌, List, IfOk, OnOk, length, map, option_map};
+ghost use Rattle.std.specs.Prelude.{option_copied, unwrap_or};
+ghost use Rattle.xs_build.specs.Namespaces.{Bindings, outermost, bound, scope_with, uri_in, named};
+ghost use Rattle.xs_build.specs.Namespaces.{element_name, attribute_name};
+ghost use Rattle.xs_build.specs.steps.Views.{bindings_of};
 
 use crate::qnames::XML_URI;
 use std::alloc::{AllocError, Global};
@@ -20,7 +22,8 @@ pub struct Declared {
     pub uri: NameText,
 }
 
-/// The bindings in force in an element, by prefix; an element that declares nothing shares those around it.
+/// The bindings in force in an element, by prefix; an element that declares nothing shares those
+/// around it.
 #[derive(Drop)]
 pub struct Scope {
     bindings: Rc<BTreeMap<NameText, NameText>>,
@@ -35,7 +38,7 @@ impl Model for Scope {
 }
 
 /// Binds a prefix, or undoes the default namespace where the URI is empty.
-#[tactic(auto, using(crate::proofs::Scopes::bound_empty, crate::proofs::Scopes::bound_some))]
+#[tactic(auto, using(crate::proofs::BindingLemmas::undone, crate::proofs::BindingLemmas::added))]
 fn bind(
     bindings: &mut BTreeMap<NameText, NameText>,
     prefix: NameText,
@@ -51,12 +54,14 @@ fn bind(
     Ok(())
 }
 
-/// Binds what is declared. The last comes first, since of two declarations of one prefix the first counts.
+/// Binds what is declared. The last comes first, since of two declarations of one prefix the first
+/// counts.
 fn bind_all(
     bindings: &mut BTreeMap<NameText, NameText>,
     mut declared: Vec<Declared>,
 ) -> Result<(), AllocError>
-    ensures { OnOk result (bindings.new.entries ≡ scope_with (bindings_of declared) bindings.old.entries) }
+    ensures { OnOk result (bindings.new.entries ≡ scope_with
+        (bindings_of declared) bindings.old.entries) }
 {
     while let Some(Declared { prefix, uri }) = declared.pop() {
         bind(bindings, prefix, uri)?;
@@ -151,7 +156,9 @@ impl Scope {
         prefix: &str,
         local: &str,
     ) -> Result<Option<Name>, AllocError>
-        ensures { IfOk result (λ name. name ≡ option_map (named (record { prefix = prefix.now; local = local.now })) (uri_in self.now prefix.now)) }
+        ensures { IfOk result (λ name. name ≡ option_map
+            (named (record { prefix = prefix.now; local = local.now }))
+            (uri_in self.now prefix.now)) }
     {
         let prefix = NameText::of(alloc, prefix)?;
         match self.uri_of(&prefix) {
@@ -171,7 +178,8 @@ impl Scope {
         prefix: &str,
         local: &str,
     ) -> Result<Option<Name>, AllocError>
-        ensures { IfOk result (λ name. name ≡ element_name self.now (record { prefix = prefix.now; local = local.now })) }
+        ensures { IfOk result (λ name. name ≡ element_name self.now
+            (record { prefix = prefix.now; local = local.now })) }
     {
         if !prefix.is_empty() {
             return self.prefixed_name(alloc, prefix, local);
@@ -179,14 +187,16 @@ impl Scope {
         Ok(Some(plain_name(alloc, self.default_uri(alloc)?, local)?))
     }
 
-    /// The name of an attribute with this prefix and local part; none where the prefix is not bound.
+    /// The name of an attribute with this prefix and local part; none where the prefix is not
+    /// bound.
     pub fn attribute_name(
         &self,
         alloc: Global,
         prefix: &str,
         local: &str,
     ) -> Result<Option<Name>, AllocError>
-        ensures { IfOk result (λ name. name ≡ attribute_name self.now (record { prefix = prefix.now; local = local.now })) }
+        ensures { IfOk result (λ name. name ≡ attribute_name self.now
+            (record { prefix = prefix.now; local = local.now })) }
     {
         if !prefix.is_empty() {
             return self.prefixed_name(alloc, prefix, local);

@@ -13,6 +13,7 @@ fn inside(alloc: Global, around: &Scope, lines: &[u8]) -> Result<Scope, AllocErr
     around.with(alloc, declarations(alloc, lines)?)
 }
 
+/// Whether a name was found, and is in this namespace.
 fn is_in(name: Option<Name>, uri: &str) -> bool {
     match name {
         Some(name) => name.uri.as_str() == uri,
@@ -45,14 +46,6 @@ fn text_at(tree: &Tree, place: u32) -> Option<&str> {
     } else {
         None
     }
-}
-
-#[test]
-fn parts_of_names(rt: HostRuntime) {
-    assert_eq!(rt; qname_parts("a:b"), Some(("a", "b")));
-    assert_eq!(rt; qname_parts("xmlns"), Some(("", "xmlns")));
-    assert!(rt; qname_parts("xmlns:").is_none());
-    assert!(rt; qname_parts("a:b:c").is_none());
 }
 
 #[test]

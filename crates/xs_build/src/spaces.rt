@@ -3,9 +3,9 @@
 ghost use Rattle.std.specs.Prelude.{◌≡◌, ◌+◌, ◌<◌, ◌≤◌, ◌++◌, ◌∷◌, [], Some, length, OnOk};
 ghost use Rattle.xs_tree.specs.Record.{at};
 ghost use Rattle.xs_tree.specs.Shape.{IsOpen, KeepsOrder};
-ghost use Rattle.xs_build.specs.Limits.{most_nodes};
+ghost use Rattle.xs_tree.specs.Limits.{most_nodes};
 ghost use Rattle.xs_build.specs.Nodes.{space, spaces};
-ghost use Rattle.xs_build.specs.Open.{StandFrom};
+ghost use Rattle.xs_build.specs.steps.Invariant.{StandFrom};
 
 use crate::scope::Scope;
 use std::alloc::{AllocError, Global};
@@ -38,7 +38,8 @@ fn put_space(
     }
 }
 
-/// Adds the namespace nodes of an element that was just added, one for each binding in force (XPath 1.0, 5.4).
+/// Adds the namespace nodes of an element that was just added, one for each binding in force (XPath
+/// 1.0, 5.4).
 pub fn put_spaces(
     tree: &mut Tree,
     alloc: Global,
@@ -65,7 +66,14 @@ fn copy_space(tree: &mut Tree, like: Node, element: Node) -> Result<(), AllocErr
     requires open { IsOpen tree.old element }
     requires order { KeepsOrder tree.old element Kind.Space }
     requires room { length tree.old < most_nodes }
-    ensures { OnOk result (tree.new ≡ tree.old ++ record { kind = Kind.Space; name = (at tree.old like).name; text = (at tree.old like).text; parent = Some element } ∷ []) }
+    ensures { OnOk result (tree.new ≡ tree.old
+        ++ record {
+          kind = Kind.Space;
+          name = (at tree.old like).name;
+          text =
+              (at tree.old like).text;
+          parent = Some element;
+        } ∷ []) }
 {
     match tree.add_same(like, element) {
         Ok(_) => Ok(()),
@@ -74,7 +82,8 @@ fn copy_space(tree: &mut Tree, like: Node, element: Node) -> Result<(), AllocErr
     }
 }
 
-/// Adds the namespace nodes of an element that was just added, in which the bindings of its parent are in force.
+/// Adds the namespace nodes of an element that was just added, in which the bindings of its parent
+/// are in force.
 ///
 /// Those of the parent stand right behind it, and each new one takes memory for the node alone.
 pub fn copy_spaces(

@@ -4,10 +4,11 @@ ghost use Rattle.std.specs.Prelude.{◌≡◌, ◌++◌, true, IfOk, OnOk, map, 
 ghost use Rattle.std.specs.Option.{option_to_list};
 ghost use Rattle.xs_pyx.specs.Row.{rows_of, first_row};
 ghost use Rattle.xs_pyx.specs.Reading.{reading};
-ghost use Rattle.xs_build.specs.Start.{begins_with, binding_of, line_binding, reading_binding, declarations};
-ghost use Rattle.xs_build.specs.Tag.{binding, bindings_of};
+ghost use Rattle.xs_build.specs.Start.{begins_with, binding_of, line_binding, reading_binding};
+ghost use Rattle.xs_build.specs.Start.{declarations};
+ghost use Rattle.xs_build.specs.steps.Views.{binding, bindings_of};
 
-use crate::qnames::{declared_prefix, is_bad_binding, qname_parts};
+use crate::qnames::{declared_prefix, is_bad_binding};
 use crate::scope::Declared;
 use std::alloc::{AllocError, Global};
 use xs_pyx::{Line, LineFault, next_line, skip_line};
@@ -22,7 +23,7 @@ fn attribute_declaration(
 ) -> Result<Option<Declared>, AllocError>
     ensures { IfOk result (λ found. option_map binding found ≡ binding_of name.now value.now) }
 {
-    let Some((prefix, local)) = qname_parts(name) else {
+    let Some((prefix, local)) = xs_text::split_qname(name) else {
         return Ok(None);
     };
     let Some(prefix) = declared_prefix(prefix, local) else {
@@ -37,6 +38,7 @@ fn attribute_declaration(
     }))
 }
 
+/// What a line declares, if it declares something.
 fn line_declaration(alloc: Global, line: &Line) -> Result<Option<Declared>, AllocError>
     ensures { IfOk result (λ found. option_map binding found ≡ line_binding line.now) }
 {
@@ -46,16 +48,19 @@ fn line_declaration(alloc: Global, line: &Line) -> Result<Option<Declared>, Allo
     }
 }
 
+/// Whether the first line is an attribute line.
 fn is_attribute(bytes: &[u8]) -> bool
     ensures { result ≡ begins_with 65 bytes.now }
 {
     matches!(bytes, [b'A', ..])
 }
 
-/// What the first line declares, which is an attribute line. One that does not begin with `Axmlns` is not read.
+/// What the first line declares, which is an attribute line. One that does not begin with `Axmlns`
+/// is not read.
 fn first_declaration(alloc: Global, bytes: &[u8]) -> Result<Option<Declared>, AllocError>
     requires { begins_with 65 bytes.now ≡ true }
-    ensures { IfOk result (λ found. option_map binding found ≡ reading_binding (reading (first_row bytes.now))) }
+    ensures { IfOk result (λ found. option_map binding found ≡ reading_binding
+        (reading (first_row bytes.now))) }
 {
     if !bytes.starts_with(b"Axmlns") {
         return Ok(None);
@@ -75,7 +80,8 @@ fn push_declaration(
     bytes: &[u8],
 ) -> Result<(), AllocError>
     requires { begins_with 65 bytes.now ≡ true }
-    ensures { OnOk result (bindings_of declared.new ≡ bindings_of declared.old ++ option_to_list (reading_binding (reading (first_row bytes.now)))) }
+    ensures { OnOk result (bindings_of declared.new ≡ bindings_of declared.old ++ option_to_list
+        (reading_binding (reading (first_row bytes.now)))) }
 {
     if let Some(found) = first_declaration(alloc, bytes)? {
         declared.push(found)?;

@@ -1,6 +1,8 @@
+//! Documents, whole: their trees, the lines of their nodes, and a fault.
+
 ghost use Rattle.std.specs.Prelude.{◌≤◌};
 
-use crate::{BuildFault, build_tree};
+use crate::{BuildFault, build_tree, laws};
 use std::test::*;
 use xs_tree::{Name, Node};
 
@@ -80,6 +82,7 @@ fn has_name(
     }
 }
 
+/// Whether a name has these parts.
 fn is_name(name: Option<&Name>, uri: &str, local: &str, prefix: &str) -> bool {
     match name {
         Some(name) => {
@@ -120,4 +123,13 @@ fn text_on_many_lines(rt: HostRuntime) {
     assert!(rt; has_name(&rt, bytes, 1, "", "XML-x", ""));
     assert!(rt; has_text(&rt, bytes, 4, "xy"));
     assert_eq!(rt; line(&rt, bytes, 4), Some(4));
+}
+
+#[test]
+fn laws_hold() {
+    laws::documents_are_trees();
+    laws::names_resolve();
+    laws::documents_follow_grammar();
+    laws::grammar_is_enough();
+    laws::lines_go_by_step();
 }

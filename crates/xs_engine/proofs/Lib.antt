@@ -1,6 +1,7 @@
-pub mod Digits
-pub mod Ending
-pub mod Kept
-pub mod Owing
-pub mod Fetched
-pub mod Replies
+pub mod CutFileLemmas
+pub mod DigitLemmas
+pub mod DueLemmas
+pub mod EndLemmas
+pub mod FetchLemmas
+pub mod GivesLemmas
+pub mod ItemLemmas

@@ -1,5 +1,7 @@
 pub mod Answer
 pub mod Asked
+pub mod Faults
+pub mod Fetches
 pub mod Headline
 pub mod Items
 pub mod Read

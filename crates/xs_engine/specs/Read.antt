@@ -1,7 +1,7 @@
 -- What the bytes of a file stand for.
 use Rattle.std.specs.Prelude.{ℕ, Option, Some, None, Result, Ok, Err}
-use Rattle.xs_engine.specs.declared.refusal.Refusal.{Refusal}
-use Rattle.xs_engine.specs.declared.refusal.Refusal.TheVariants.{NotBuilt, Fault}
+use Rattle.xs_engine.specs.declared.reading.Refusal.{Refusal}
+use Rattle.xs_engine.specs.declared.reading.Refusal.TheVariants.{NotBuilt, Fault}
 
 -- what was read; or that this is not built; or the number of a fault, and the line that has it
 pub data Read (A : Type 0) : Type 0 where

@@ -8,7 +8,7 @@ use Rattle.xs_body.specs.Trace.{root_trace}
 use Rattle.xs_engine.specs.Read.{Read, read, unbuilt, bad}
 use Rattle.xs_engine.specs.Sheet.{Template, sheet_of}
 use Rattle.xs_engine.specs.Words.{Job}
-use Rattle.xs_engine.specs.Answer.{Answer, read_fault, not_built, bad_file, cut_answer}
+use Rattle.xs_engine.specs.Answer.{Answer, read_fault, not_built, refused_file, cut_answer}
 
 -- the most bytes of a source
 abbrev pub source_limit : ℕ
@@ -23,7 +23,7 @@ fetched (Some bytes) name f = f bytes
 abbrev pub built : {A : Type 0} → Read A → List ℕ → (A → Answer) → Answer
 built (read x) name f = f x
 built unbuilt name f = not_built name
-built (bad number line) name f = bad_file number name line
+built (bad number line) name f = refused_file number name line
 
 -- A source is any document.
 abbrev pub source_read : Outcome → Read (List Record)
@@ -36,7 +36,7 @@ source_of bytes = source_read (document source_limit bytes)
 
 -- What the root does, cut at the budget (XSLT 1.0, 5.1). No number of events is too many.
 unfoldable pub root_answer : Job → Template → List Record → Answer
-root_answer job sheet records = cut_answer job.sheet (cut (root_trace sheet.root_line sheet.parts records) job.budget None)
+root_answer job sheet records = cut_answer job.sheet (cut (root_trace sheet.root_line sheet.body records) job.budget None)
 
 -- the stylesheet is read before the source
 abbrev pub run_answer : Job → Files → Answer

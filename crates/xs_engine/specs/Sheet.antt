@@ -2,21 +2,21 @@
 use Rattle.std.specs.Prelude.{ℕ, List, Option, option_map}
 use Rattle.xs_tree.specs.Record.{Record}
 use Rattle.xs_build.specs.Document.{document, Outcome, tree, refused}
-use Rattle.xs_body.specs.Parts.{Parts}
+use Rattle.xs_body.specs.Body.{BodyData}
 use Rattle.xs_body.specs.Sheet.{body_of, root_line}
 use Rattle.xs_engine.specs.Read.{Read, bad, read_if}
 
 -- the line of a stylesheet's root element, and what its template holds
 pub record Template : Type 0 where
   pub root_line : ℕ
-  pub parts : Parts
+  pub body : BodyData
 
 -- the most bytes of a stylesheet's module
 abbrev pub module_limit : ℕ
 module_limit = 4194304
 
 abbrev pub template_in : List Record → List ℕ → Option Template
-template_in records lines = option_map (λ parts. record { root_line = root_line records lines; parts = parts }) (body_of records lines)
+template_in records lines = option_map (λ body. record { root_line = root_line records lines; body = body }) (body_of records lines)
 
 -- the template of a stylesheet that was read as a document, if it is built
 abbrev pub sheet_read : Outcome → Read Template

@@ -51,4 +51,5 @@ budget_job words (Some budget) = files_job budget words
 abbrev pub job_of : List (List ℕ) → Option Job
 job_of [] = None
 job_of (word ∷ []) = None
-job_of (option ∷ number ∷ words) = if bytes_eq option (codes "--budget") then budget_job words (budget_of number) else files_job default_budget (option ∷ number ∷ words)
+job_of (option ∷ number ∷ words) =
+    if bytes_eq option (codes "--budget") then budget_job words (budget_of number) else files_job default_budget (option ∷ number ∷ words)

@@ -1,10 +1,13 @@
 //! The answer of a run, before anything of it is written.
 
-ghost use Rattle.std.specs.Prelude.{◌≡◌, ◌≢◌, ◌<◌, ◌⊎◌, IfOk, IfSome, None, drop, length};
+ghost use Rattle.std.specs.Prelude.{◌≡◌, ◌≢◌, ◌<◌, ◌⊎◌, IfOk, None, Some, length};
+ghost use Rattle.xs_engine.specs.declared.status.TheConstants.{OK, READ_FAULT, RUN_FAULT, USAGE};
+ghost use Rattle.xs_engine.specs.declared.status.TheConstants.{WRITE_FAULT};
 ghost use Rattle.xs_engine.specs.Asked.{asked, texts};
 ghost use Rattle.xs_engine.specs.Words.{job_of};
 ghost use Rattle.xs_engine.specs.Run.{root_answer};
-ghost use Rattle.xs_engine.specs.Headline.{AsksFor, FailsAtMostOnce, JobAsksFor, due, due_after, job_answers};
+ghost use Rattle.xs_engine.specs.Fetches.{Fetches, OverFiles, ReadsOnce};
+ghost use Rattle.xs_engine.specs.Headline.{HasTicks, due};
 ghost use Rattle.xs_engine.specs.Reply.{IsWholeOrEmpty, reply_of, template};
 
 use crate::reading::{Sheet, read_sheet, read_source};
@@ -25,13 +28,18 @@ pub fn reply_to<L: Library>(
     library: &mut L,
 ) -> Result<Reply, AllocError>
     ensures files { L.files library.new ≡ L.files library.old }
-    ensures answer { IfOk result (λ reply. IfSome
-        (due (texts words.now) (L.files library.old) (L.failed library.old) (L.failed library.new))
-        (λ due. reply_of reply ≡ due)) }
-    ensures failed { FailsAtMostOnce (AsksFor (texts words.now) (L.files library.old)) (L.failed library.old) (L.failed library.new) }
-    ensures usage_only { IfOk result (λ reply. reply.status ≡ 1 → job_of (texts words.now) ≡ None) }
-    ensures read_fault_only { IfOk result (λ reply. reply.status ≡ 2 → length (L.failed library.old) < length (L.failed library.new)) }
-    ensures status { IfOk result (λ reply. reply.status < 5) }
+    ensures fetches { Fetches (job_of (texts words.now)) (L.files library.old)
+        (L.asked library.old) (L.asked library.new) (L.failed library.old) (L.failed library.new) }
+    ensures answer { IfOk result (λ reply. OverFiles (L.files library.old)
+        (ReadsOnce (job_of (texts words.now)) (L.failed library.old) (L.failed library.new))
+        (λ files. reply_of reply
+        ≡ due (job_of (texts words.now)) files (L.failed library.old) (L.failed library.new))) }
+    ensures usage_only { IfOk result (λ reply.
+        reply.status ≡ USAGE → job_of (texts words.now) ≡ None) }
+    ensures read_fault_only { IfOk result (λ reply. reply.status ≡ READ_FAULT
+        → length (L.failed library.old) < length (L.failed library.new)) }
+    ensures status { IfOk result (λ reply. reply.status < WRITE_FAULT) }
+    ensures ticks { IfOk result (λ reply. HasTicks reply.status ⊎ (reply.ticks ≡ 0)) }
     ensures whole_only { IfOk result IsWholeOrEmpty }
 {
     match read_words(words) {
@@ -47,12 +55,17 @@ fn run_reply<L: Library>(
     library: &mut L,
 ) -> Result<Reply, AllocError>
     ensures files { L.files library.new ≡ L.files library.old }
-    ensures answer { IfOk result (λ reply. IfSome
-        (due_after (drop (length (L.failed library.old)) (L.failed library.new)) (job_answers (asked words.now) (L.files library.old)))
-        (λ due. reply_of reply ≡ due)) }
-    ensures failed { FailsAtMostOnce (JobAsksFor (asked words.now) (L.files library.old)) (L.failed library.old) (L.failed library.new) }
-    ensures read_fault_only { IfOk result (λ reply. reply.status ≡ 2 → length (L.failed library.old) < length (L.failed library.new)) }
-    ensures status { IfOk result (λ reply. (reply.status ≢ 1) × (reply.status < 5)) }
+    ensures fetches { Fetches (Some (asked words.now)) (L.files library.old)
+        (L.asked library.old) (L.asked library.new) (L.failed library.old) (L.failed library.new) }
+    ensures answer { IfOk result (λ reply. OverFiles (L.files library.old)
+        (ReadsOnce (Some (asked words.now)) (L.failed library.old) (L.failed library.new))
+        (λ files. reply_of reply
+        ≡ due (Some (asked words.now)) files (L.failed library.old) (L.failed library.new))) }
+    ensures read_fault_only { IfOk result (λ reply. reply.status ≡ READ_FAULT
+        → length (L.failed library.old) < length (L.failed library.new)) }
+    ensures status { IfOk result (λ reply.
+        (reply.status ≢ USAGE) × (reply.status < WRITE_FAULT)) }
+    ensures ticks { IfOk result (λ reply. HasTicks reply.status ⊎ (reply.ticks ≡ 0)) }
     ensures whole_only { IfOk result IsWholeOrEmpty }
 {
     let sheet = match read_sheet(alloc, words.sheet, library) {
@@ -77,8 +90,10 @@ fn root_reply(
     sheet: &Sheet,
     tree: &Tree,
 ) -> Result<Reply, AllocError>
-    ensures answer { IfOk result (λ reply. reply_of reply ≡ root_answer (asked words.now) (template sheet.now) tree.now) }
-    ensures status { IfOk result (λ reply. (reply.status ≡ 0) ⊎ (reply.status ≡ 4)) }
+    ensures answer { IfOk result (λ reply.
+        reply_of reply ≡ root_answer (asked words.now) (template sheet.now) tree.now) }
+    ensures status { IfOk result (λ reply.
+        (reply.status ≡ OK) ⊎ (reply.status ≡ RUN_FAULT)) }
     ensures whole_only { IfOk result IsWholeOrEmpty }
 {
     let limits = Limits {

@@ -8,24 +8,34 @@ use std::thread::Threads;
 const WORDS: [&str; 2] = ["s.pyx", "src.pyx"];
 
 // The same stylesheet as `TOTAL`, under another prefix.
-const TOTAL_UNDER_T: &[u8] =
-    b"(t:stylesheet\nAxmlns:t http://www.w3.org/1999/XSL/Transform\nAversion 1.0\n(t:output\nAmethod text\n)t:output\n(t:template\nAmatch /\n-Total: \n(b\n(t:value-of\nAselect inv/total\n)t:value-of\n)b\n-.\n)t:template\n)t:stylesheet\n";
+const TOTAL_UNDER_T: &[u8] = b"\
+    (t:stylesheet\nAxmlns:t http://www.w3.org/1999/XSL/Transform\nAversion 1.0\n(t:output\n\
+    Amethod text\n)t:output\n(t:template\nAmatch /\n-Total: \n(b\n(t:value-of\n\
+    Aselect inv/total\n)t:value-of\n)b\n-.\n)t:template\n)t:stylesheet\n";
 
-// The same stylesheet without a prefix, with comments and processing instructions between its lines.
-const TOTAL_WITH_REMARKS: &[u8] =
-    b"?xml version=\"1.0\"\nCa\n(stylesheet\nAversion 1.0\nAxmlns http://www.w3.org/1999/XSL/Transform\nCb\n(output\nAmethod text\n?p b\n)output\n-\\n\n(template\nAmatch /\n-Tot\nCc\n-al: \n?p c\n(o:b\nAxmlns:o urn:o\n(value-of\nAselect inv/total\nCd\n)value-of\n)o:b\n-.\n)template\n)stylesheet\nCe\n";
+// The same stylesheet without a prefix, with comments and processing instructions in it.
+const TOTAL_WITH_REMARKS: &[u8] = b"\
+    ?xml version=\"1.0\"\nCa\n(stylesheet\nAversion 1.0\n\
+    Axmlns http://www.w3.org/1999/XSL/Transform\nCb\n(output\nAmethod text\n?p b\n)output\n\
+    -\\n\n(template\nAmatch /\n-Tot\nCc\n-al: \n?p c\n(o:b\nAxmlns:o urn:o\n(value-of\n\
+    Aselect inv/total\nCd\n)value-of\n)o:b\n-.\n)template\n)stylesheet\nCe\n";
 
 // The prefix `xsl` for another namespace.
-const OTHER_XSL: &[u8] =
-    b"(xsl:stylesheet\nAxmlns:xsl http://www.w3.org/TR/WD-xsl\nAversion 1.0\n(xsl:output\nAmethod text\n)xsl:output\n(xsl:template\nAmatch /\n)xsl:template\n)xsl:stylesheet\n";
+const OTHER_XSL: &[u8] = b"\
+    (xsl:stylesheet\nAxmlns:xsl http://www.w3.org/TR/WD-xsl\nAversion 1.0\n(xsl:output\n\
+    Amethod text\n)xsl:output\n(xsl:template\nAmatch /\n)xsl:template\n)xsl:stylesheet\n";
 
 // An element of XSLT that is not built.
-const UNKNOWN: &[u8] =
-    b"(xsl:stylesheet\nAxmlns:xsl http://www.w3.org/1999/XSL/Transform\nAversion 1.0\n(xsl:output\nAmethod text\n)xsl:output\n(xsl:template\nAmatch /\n(xsl:text\n-x\n)xsl:text\n)xsl:template\n)xsl:stylesheet\n";
+const UNKNOWN: &[u8] = b"\
+    (xsl:stylesheet\nAxmlns:xsl http://www.w3.org/1999/XSL/Transform\nAversion 1.0\n\
+    (xsl:output\nAmethod text\n)xsl:output\n(xsl:template\nAmatch /\n(xsl:text\n-x\n\
+    )xsl:text\n)xsl:template\n)xsl:stylesheet\n";
 
 // An invoice with an XML declaration, comments, processing instructions and names in namespaces.
-const MIXED_INVOICE: &[u8] =
-    b"?xml version=\"1.0\"\nCx\n(inv\nAxmlns:o urn:o\nAo:id 7\n(o:total\n-1\n)o:total\n(total\nAxmlns urn:p\n-2\n)total\n?p 3\nC4\n(total\n-3\nCx\n-5\n?p\n-0\n)total\n)inv\n?p x\n";
+const MIXED_INVOICE: &[u8] = b"\
+    ?xml version=\"1.0\"\nCx\n(inv\nAxmlns:o urn:o\nAo:id 7\n(o:total\n-1\n)o:total\n\
+    (total\nAxmlns urn:p\n-2\n)total\n?p 3\nC4\n(total\n-3\nCx\n-5\n?p\n-0\n)total\n)inv\n\
+    ?p x\n";
 
 // Whether a run is refused with this line, for the sake of its source.
 fn refuses_source<R: Threads + Sync>(
@@ -49,6 +59,7 @@ fn refuses_sheet<R: Threads + Sync>(
     Ok(good && bad)
 }
 
+// Whether a stylesheet puts the total of a source in so many ticks.
 fn puts_total<R: Threads + Sync>(
     rt: &R,
     alloc: Global,

@@ -1,6 +1,6 @@
 //! The text and the messages that a run kept.
 
-ghost use Rattle.std.specs.Prelude.{◌≡◌, ◌++◌, IfOk, OnOk};
+ghost use Rattle.std.specs.Prelude.{◌≡◌, ℕ, ◌++◌, IfOk, OnOk};
 ghost use Rattle.xs_trace.specs.Kept.{marks_of};
 ghost use Rattle.xs_trace.specs.Mark.{events_of, messages_of};
 ghost use Rattle.xs_body.specs.Trace.{own_chars, text_in};
@@ -13,9 +13,9 @@ use xs_trace::event::Event;
 use xs_trace::item::Item;
 
 /// The text of the text nodes among the items.
-#[tactic(auto, using(crate::proofs::Kept::text_of_items))]
+#[tactic(auto, using(crate::proofs::ItemLemmas::text_of_items))]
 pub fn result_text(alloc: Global, items: &[Item]) -> Result<Vec<u8>, AllocError>
-    ensures { IfOk result (λ text. text.items ≡ text_in (events_of (marks_of items.now))) }
+    ensures { IfOk result (λ text. text.items ≡ text_in (events_of {H = ℕ} (marks_of items.now))) }
 {
     let mut text = Vec::new(alloc);
     for item in items {
@@ -24,6 +24,7 @@ pub fn result_text(alloc: Global, items: &[Item]) -> Result<Vec<u8>, AllocError>
     Ok(text)
 }
 
+// The text of a text node; nothing else has text.
 fn append_text(text: &mut Vec<u8>, item: &Item) -> Result<(), AllocError>
     ensures { OnOk result (text.new.items ≡ text.old.items ++ item_text item.now) }
 {
@@ -34,9 +35,10 @@ fn append_text(text: &mut Vec<u8>, item: &Item) -> Result<(), AllocError>
 }
 
 /// The lines of the messages among the items.
-#[tactic(auto, using(crate::proofs::Kept::lines_of_items))]
+#[tactic(auto, using(crate::proofs::ItemLemmas::lines_of_items))]
 pub fn message_lines(alloc: Global, items: &[Item]) -> Result<Vec<u8>, AllocError>
-    ensures { IfOk result (λ lines. lines.items ≡ message_lines (messages_of (marks_of items.now))) }
+    ensures { IfOk result (λ lines.
+        lines.items ≡ message_lines (messages_of {H = ℕ} (marks_of items.now))) }
 {
     let mut lines = Vec::new(alloc);
     for item in items {
@@ -45,6 +47,7 @@ pub fn message_lines(alloc: Global, items: &[Item]) -> Result<Vec<u8>, AllocErro
     Ok(lines)
 }
 
+// The line of a message; nothing else has one.
 fn append_line(lines: &mut Vec<u8>, item: &Item) -> Result<(), AllocError>
     ensures { OnOk result (lines.new.items ≡ lines.old.items ++ item_line item.now) }
 {

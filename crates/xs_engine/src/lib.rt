@@ -3,10 +3,11 @@
 
 mod answer;
 mod deliver;
+mod faults;
 mod items;
 mod reading;
-mod refusal;
 mod reply;
+pub mod status;
 mod top;
 mod words;
 

@@ -5,9 +5,8 @@ ghost use Rattle.xs_outside.specs.Edge.{failed_after};
 ghost use Rattle.xs_engine.specs.Read.{read_as, read_if};
 ghost use Rattle.xs_engine.specs.Run.{source_of};
 ghost use Rattle.xs_engine.specs.Sheet.{sheet_of, template_in};
-ghost use Rattle.xs_engine.specs.Reply.{FileGives, template};
+ghost use Rattle.xs_engine.specs.Reply.{AsksFor, FileGives, template};
 
-use crate::refusal::Refusal;
 use std::alloc::{AllocError, Global};
 use xs_body::read::{read_body, root_line};
 use xs_body::syntax::Body;
@@ -20,6 +19,20 @@ pub const MODULE_LIMIT: u64 = 4_194_304;
 
 /// The most bytes of a source.
 pub const SOURCE_LIMIT: u64 = 268_435_456;
+
+/// Why a file that was fetched is refused.
+#[derive(Clone, Copy, Debug)]
+pub enum Refusal {
+    /// It is a document, and no stylesheet that is built.
+    NotBuilt,
+    /// It is no document.
+    Fault {
+        /// The number of the fault, 1 to 12.
+        number: u8,
+        /// The line that has it; 0 is the file as a whole.
+        line: u32,
+    },
+}
 
 /// A stylesheet that was read.
 #[derive(Drop)]
@@ -37,8 +50,10 @@ pub fn read_sheet<L: Library>(
     library: &mut L,
 ) -> Result<Result<Sheet, Refusal>, FetchEnd>
     ensures files { L.files library.new ≡ L.files library.old }
+    ensures asked { AsksFor result name.now (L.asked library.old) (L.asked library.new) }
     ensures failed { L.failed library.new ≡ failed_after result name.now (L.failed library.old) }
-    ensures sheet { IfOk result (λ sheet. FileGives sheet_of (L.files library.old) name.now (read_as template sheet)) }
+    ensures sheet { IfOk result (λ sheet.
+        FileGives sheet_of (L.files library.old) name.now (read_as template sheet)) }
 {
     let bytes = library.fetch(alloc, name, MODULE_LIMIT)?;
     let sheet = sheet_in(alloc, &bytes)?;
@@ -52,8 +67,10 @@ pub fn read_source<L: Library>(
     library: &mut L,
 ) -> Result<Result<Tree, Refusal>, FetchEnd>
     ensures files { L.files library.new ≡ L.files library.old }
+    ensures asked { AsksFor result name.now (L.asked library.old) (L.asked library.new) }
     ensures failed { L.failed library.new ≡ failed_after result name.now (L.failed library.old) }
-    ensures tree { IfOk result (λ source. FileGives source_of (L.files library.old) name.now (read_as (λ tree. tree) source)) }
+    ensures tree { IfOk result (λ source.
+        FileGives source_of (L.files library.old) name.now (read_as (λ tree. tree) source)) }
 {
     let bytes = library.fetch(alloc, name, SOURCE_LIMIT)?;
     let source = source_in(alloc, &bytes)?;
@@ -75,7 +92,8 @@ fn sheet_in(alloc: Global, bytes: &[u8]) -> Result<Result<Sheet, Refusal>, Alloc
 // The stylesheet that a document is, if it is built.
 fn template_in(alloc: Global, built: &Built) -> Result<Result<Sheet, Refusal>, AllocError>
     requires { length built.now.lines.items ≡ length built.now.tree }
-    ensures { IfOk result (λ sheet. read_as template sheet ≡ read_if (template_in built.now.tree built.now.lines.items)) }
+    ensures { IfOk result (λ sheet.
+        read_as template sheet ≡ read_if (template_in built.now.tree built.now.lines.items)) }
 {
     match read_body(alloc, &built.tree, &built.lines)? {
         Some(body) => Ok(Ok(Sheet {

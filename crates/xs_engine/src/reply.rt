@@ -1,21 +1,24 @@
 //! Replies: a status, and all that is to be written with it.
 
-ghost use Rattle.std.specs.Prelude.{◌≡◌, ◌++◌, IfOk, codes};
+ghost use Rattle.std.specs.Prelude.{◌≡◌, ℕ, ◌++◌, IfOk, OnOk};
 ghost use Rattle.std.specs.Fmt.{decimal};
 ghost use Rattle.xs_trace.specs.Kept.{marks_of};
 ghost use Rattle.xs_trace.specs.Mark.{messages_of, tick_count};
-ghost use Rattle.xs_engine.specs.Answer.{document_fault, fault_line, faulted, message_lines, read_fault, refused_file, run_fault, usage, whole};
+ghost use Rattle.xs_engine.specs.Answer.{fault_line, faulted, read_fault, refused_file, usage};
+ghost use Rattle.xs_engine.specs.Answer.{whole};
 ghost use Rattle.xs_engine.specs.Reply.{answer_to, reply_of};
 
+use crate::faults::{NOT_BUILT, UNREADABLE, fault_name};
 use crate::items::{message_lines, result_text};
-use crate::refusal::Refusal;
+use crate::reading::Refusal;
+use crate::status::{OK, READ_FAULT, REFUSED, RUN_FAULT, USAGE};
 use itoa::Buffer;
 use std::alloc::{AllocError, Global};
 use xs_text::escape_into;
 use xs_trace::item::Spot;
 use xs_trace::whole::Kept;
 
-const USAGE: &str =
+const USAGE_LINE: &str =
     "usage: xslt [--budget N] [--workers N] [--grain N] [--stats] [--check] [--load N] SHEET SOURCE [name=text]...\n";
 
 /// A status, and all that is to be written with it.
@@ -23,7 +26,7 @@ const USAGE: &str =
 pub struct Reply {
     /// The status, as in a report.
     pub status: u8,
-    /// The bytes of the result; none on a status other than 0.
+    /// The bytes of the result; none on a status other than `OK`.
     pub result: Vec<u8>,
     /// The bytes of the lines for the user, each line ended by a line feed.
     pub lines: Vec<u8>,
@@ -36,9 +39,9 @@ pub fn usage_reply(alloc: Global) -> Result<Reply, AllocError>
     ensures { IfOk result (λ reply. reply_of reply ≡ usage) }
 {
     let mut lines = Vec::new(alloc);
-    lines.extend_from_slice(USAGE.as_bytes())?;
+    lines.extend_from_slice(USAGE_LINE.as_bytes())?;
     Ok(Reply {
-        status: 1,
+        status: USAGE,
         result: Vec::new(alloc),
         lines,
         ticks: 0,
@@ -49,9 +52,9 @@ pub fn usage_reply(alloc: Global) -> Result<Reply, AllocError>
 pub fn read_fault_reply(alloc: Global, name: &str) -> Result<Reply, AllocError>
     ensures { IfOk result (λ reply. reply_of reply ≡ read_fault name.now) }
 {
-    let lines = append_fault(Vec::new(alloc), "70 ReadFault", name, 0)?;
+    let lines = append_fault(Vec::new(alloc), UNREADABLE, name, 0)?;
     Ok(Reply {
-        status: 2,
+        status: READ_FAULT,
         result: Vec::new(alloc),
         lines,
         ticks: 0,
@@ -63,18 +66,18 @@ pub fn refused_reply(alloc: Global, name: &str, refusal: Refusal) -> Result<Repl
     ensures { IfOk result (λ reply. reply_of reply ≡ answer_to refusal name.now) }
 {
     match refusal {
-        Refusal::NotBuilt => refused_at(alloc, "49 NotBuilt", name, 0),
-        Refusal::Fault { number, line } => refused_at(alloc, document_fault(number), name, line),
+        Refusal::NotBuilt => refused_at(alloc, NOT_BUILT, name, 0),
+        Refusal::Fault { number, line } => refused_at(alloc, number, name, line),
     }
 }
 
 // A file that has this fault at this line.
-fn refused_at(alloc: Global, fault: &str, name: &str, line: u32) -> Result<Reply, AllocError>
-    ensures { IfOk result (λ reply. reply_of reply ≡ refused_file fault.now name.now line) }
+fn refused_at(alloc: Global, fault: u8, name: &str, line: u32) -> Result<Reply, AllocError>
+    ensures { IfOk result (λ reply. reply_of reply ≡ refused_file fault name.now line) }
 {
     let lines = append_fault(Vec::new(alloc), fault, name, line)?;
     Ok(Reply {
-        status: 3,
+        status: REFUSED,
         result: Vec::new(alloc),
         lines,
         ticks: 0,
@@ -83,13 +86,13 @@ fn refused_at(alloc: Global, fault: &str, name: &str, line: u32) -> Result<Reply
 
 /// An evaluation that ended whole.
 pub fn whole_reply(alloc: Global, kept: &Kept) -> Result<Reply, AllocError>
-    requires { kept.now.ticks ≡ tick_count (marks_of kept.now.items.items) }
+    requires { kept.now.ticks ≡ tick_count {H = ℕ} (marks_of kept.now.items.items) }
     ensures { IfOk result (λ reply. reply_of reply ≡ whole (marks_of kept.now.items.items)) }
 {
     let result = result_text(alloc, &kept.items)?;
     let lines = message_lines(alloc, &kept.items)?;
     Ok(Reply {
-        status: 0,
+        status: OK,
         result,
         lines,
         ticks: kept.ticks,
@@ -103,73 +106,42 @@ pub fn faulted_reply(
     spot: Spot,
     kept: &Kept,
 ) -> Result<Reply, AllocError>
-    requires { kept.now.ticks ≡ tick_count (marks_of kept.now.items.items) }
-    ensures { IfOk result (λ reply. reply_of reply ≡ faulted spot.fault name.now spot.line (marks_of kept.now.items.items)) }
+    requires { kept.now.ticks ≡ tick_count {H = ℕ} (marks_of kept.now.items.items) }
+    ensures { IfOk result (λ reply. reply_of reply
+        ≡ faulted spot.fault name.now spot.line (marks_of kept.now.items.items)) }
 {
+    let result = Vec::new(alloc);
     let messages = message_lines(alloc, &kept.items)?;
-    let lines = append_fault(messages, run_fault(spot.fault), name, spot.line)?;
+    let lines = append_fault(messages, spot.fault, name, spot.line)?;
     Ok(Reply {
-        status: 4,
-        result: Vec::new(alloc),
+        status: RUN_FAULT,
+        result,
         lines,
         ticks: kept.ticks,
     })
 }
 
 // Appends the line of a fault to other lines.
-fn append_fault(lines: Vec<u8>, fault: &str, name: &str, line: u32) -> Result<Vec<u8>, AllocError>
-    ensures { IfOk result (λ all. all.items ≡ lines.items ++ fault_line fault.now name.now (decimal line)) }
+fn append_fault(lines: Vec<u8>, fault: u8, name: &str, line: u32) -> Result<Vec<u8>, AllocError>
+    ensures { IfOk result (λ all. all.items ≡ lines.items ++ fault_line fault name.now line) }
 {
     let mut all = lines;
     all.extend_from_slice(b"fault ")?;
-    all.extend_from_slice(fault.as_bytes())?;
+    append_number(&mut all, u32::from(fault))?;
+    all.extend_from_slice(b" ")?;
+    all.extend_from_slice(fault_name(fault).as_bytes())?;
     all.extend_from_slice(b" ")?;
     escape_into(&mut all, name)?;
     all.extend_from_slice(b" ")?;
-    let mut digits = Buffer::new();
-    all.extend_from_slice(digits.format(line).as_bytes())?;
+    append_number(&mut all, line)?;
     all.extend_from_slice(b"\n")?;
     Ok(all)
 }
 
-// The number and name of a fault of a document.
-fn document_fault(fault: u8) -> &'static str
-    ensures { result.now ≡ document_fault fault }
+// Appends a number in decimal.
+fn append_number(out: &mut Vec<u8>, number: u32) -> Result<(), AllocError>
+    ensures { OnOk result (out.new.items ≡ out.old.items ++ decimal number) }
 {
-    match fault {
-        1 => "1 BadLine",
-        2 => "2 BadEscape",
-        3 => "3 BadUtf8",
-        4 => "4 NoFinalLineFeed",
-        5 => "5 Unbalanced",
-        6 => "6 NoRoot",
-        7 => "7 BadName",
-        8 => "8 UnboundPrefix",
-        9 => "9 DoubleAttribute",
-        10 => "10 BadNamespace",
-        11 => "11 TooLarge",
-        _ => "12 Truncated",
-    }
-}
-
-// The number and name of a fault of a run.
-fn run_fault(fault: u8) -> &'static str
-    ensures { result.now ≡ run_fault fault }
-{
-    match fault {
-        50 => "50 Budget",
-        51 => "51 Fraction",
-        52 => "52 Range",
-        53 => "53 NotNodes",
-        54 => "54 NoKey",
-        55 => "55 TooDeep",
-        56 => "56 NoRule",
-        57 => "57 Terminated",
-        58 => "58 NoExtension",
-        59 => "59 Circular",
-        60 => "60 BadResultName",
-        61 => "61 UnboundResultPrefix",
-        62 => "62 BadValue",
-        _ => "63 TooManyEvents",
-    }
+    let mut digits = Buffer::new();
+    out.extend_from_slice(digits.format(number).as_bytes())
 }

@@ -2,27 +2,29 @@
 
 ghost use Rattle.std.specs.Prelude.{◌≤◌};
 
-use crate::transform;
+use crate::{Report, transform};
 use std::alloc::{AllocError, Global};
 use std::thread::Threads;
 use xs_outside::{MemLibrary, MemSink, OpenGate};
 
 /// A stylesheet that puts the first total of an invoice.
-pub(crate) const TOTAL: &[u8] =
-    b"(xsl:stylesheet\nAxmlns:xsl http://www.w3.org/1999/XSL/Transform\nAversion 1.0\n(xsl:output\nAmethod text\n)xsl:output\n(xsl:template\nAmatch /\n-Total: \n(b\n(xsl:value-of\nAselect inv/total\n)xsl:value-of\n)b\n-.\n)xsl:template\n)xsl:stylesheet\n";
+pub(crate) const TOTAL: &[u8] = b"\
+    (xsl:stylesheet\nAxmlns:xsl http://www.w3.org/1999/XSL/Transform\nAversion 1.0\n\
+    (xsl:output\nAmethod text\n)xsl:output\n(xsl:template\nAmatch /\n-Total: \n(b\n\
+    (xsl:value-of\nAselect inv/total\n)xsl:value-of\n)b\n-.\n)xsl:template\n\
+    )xsl:stylesheet\n";
 
 /// An invoice with two totals.
 pub(crate) const INVOICE: &[u8] = b"(inv\n(total\n-350\n)total\n(total\n-9\n)total\n)inv\n";
 
 /// The line that refuses the words.
-pub(crate) const USAGE: &[u8] =
-    b"usage: xslt [--budget N] [--workers N] [--grain N] [--stats] [--check] [--load N] SHEET SOURCE [name=text]...\n";
+pub(crate) const USAGE: &[u8] = b"\
+    usage: xslt [--budget N] [--workers N] [--grain N] [--stats] [--check] [--load N] SHEET SOURCE [name=text]...\n";
 
 /// What a run left behind.
 #[derive(Debug, Drop)]
 pub(crate) struct Seen {
-    pub(crate) status: u8,
-    pub(crate) ticks: u64,
+    pub(crate) report: Report,
     pub(crate) out: Vec<u8>,
     pub(crate) err: Vec<u8>,
 }
@@ -49,6 +51,7 @@ pub(crate) fn sheet_alone(alloc: Global, sheet: &[u8]) -> Result<MemLibrary, All
     Ok(MemLibrary::new(alloc, files, Vec::new(alloc)))
 }
 
+/// A run on these words, whose sinks take at most so many bytes at once and fail the listed writes.
 pub(crate) fn run_with<R: Threads + Sync>(
     rt: &R,
     alloc: Global,
@@ -71,13 +74,13 @@ pub(crate) fn run_with<R: Threads + Sync>(
     err.reserve(4096)?;
     let report = transform(rt, alloc, &all, &mut library, &mut out, &mut err, &OpenGate);
     Ok(Seen {
-        status: report.status,
-        ticks: report.ticks,
+        report,
         out: Vec::from_slice(alloc, out.held())?,
         err: Vec::from_slice(alloc, err.held())?,
     })
 }
 
+/// A run on the stylesheet and the source of a library, whose sinks never fail.
 pub(crate) fn run<R: Threads + Sync>(
     rt: &R,
     alloc: Global,
@@ -117,11 +120,19 @@ pub(crate) fn gives<R: Threads + Sync>(
         Vec::new(alloc),
     )?;
     Ok(
-        seen.status == status
-            && seen.ticks == ticks
+        is_report(&seen.report, status, ticks)
             && seen.out.as_slice() == out
             && seen.err.as_slice() == err,
     )
+}
+
+/// Whether a report has this status, these ticks and no pieces.
+pub(crate) fn is_report(report: &Report, status: u8, ticks: u64) -> bool {
+    report.status == status
+        && report.ticks == ticks
+        && report.pieces == 0
+        && report.inline == 0
+        && report.claims.is_empty()
 }
 
 /// A source whose top element holds so many letters.

@@ -8,24 +8,39 @@ use std::test::Fail;
 use std::thread::Threads;
 
 // A message and a text for each of three nodes.
-const EACH: &[u8] =
-    b"(xsl:stylesheet\nAxmlns:xsl http://www.w3.org/1999/XSL/Transform\nAversion 1.0\n(xsl:output\nAmethod text\n)xsl:output\n(xsl:template\nAmatch /\n(xsl:for-each\nAselect r/i\n(xsl:message\n(xsl:value-of\nAselect .\n)xsl:value-of\n)xsl:message\n-x\n)xsl:for-each\n)xsl:template\n)xsl:stylesheet\n";
+const EACH: &[u8] = b"\
+    (xsl:stylesheet\nAxmlns:xsl http://www.w3.org/1999/XSL/Transform\nAversion 1.0\n\
+    (xsl:output\nAmethod text\n)xsl:output\n(xsl:template\nAmatch /\n(xsl:for-each\n\
+    Aselect r/i\n(xsl:message\n(xsl:value-of\nAselect .\n)xsl:value-of\n)xsl:message\n-x\n\
+    )xsl:for-each\n)xsl:template\n)xsl:stylesheet\n";
 
 // The text of the second of three nodes.
-const SECOND: &[u8] =
-    b"(xsl:stylesheet\nAxmlns:xsl http://www.w3.org/1999/XSL/Transform\nAversion 1.0\n(xsl:output\nAmethod text\n)xsl:output\n(xsl:template\nAmatch /\n(xsl:for-each\nAselect r/i\n(xsl:if\nAtest . = '2'\n(xsl:value-of\nAselect .\n)xsl:value-of\n)xsl:if\n)xsl:for-each\n)xsl:template\n)xsl:stylesheet\n";
+const SECOND: &[u8] = b"\
+    (xsl:stylesheet\nAxmlns:xsl http://www.w3.org/1999/XSL/Transform\nAversion 1.0\n\
+    (xsl:output\nAmethod text\n)xsl:output\n(xsl:template\nAmatch /\n(xsl:for-each\n\
+    Aselect r/i\n(xsl:if\nAtest . = '2'\n(xsl:value-of\nAselect .\n)xsl:value-of\n)xsl:if\n\
+    )xsl:for-each\n)xsl:template\n)xsl:stylesheet\n";
 
 // The text of the top element.
-const TOP: &[u8] =
-    b"(xsl:stylesheet\nAxmlns:xsl http://www.w3.org/1999/XSL/Transform\nAversion 1.0\n(xsl:output\nAmethod text\n)xsl:output\n(xsl:template\nAmatch /\n(xsl:value-of\nAselect r\n)xsl:value-of\n)xsl:template\n)xsl:stylesheet\n";
+const TOP: &[u8] = b"\
+    (xsl:stylesheet\nAxmlns:xsl http://www.w3.org/1999/XSL/Transform\nAversion 1.0\n\
+    (xsl:output\nAmethod text\n)xsl:output\n(xsl:template\nAmatch /\n(xsl:value-of\n\
+    Aselect r\n)xsl:value-of\n)xsl:template\n)xsl:stylesheet\n";
 
 // A message inside a message.
-const NESTED_MESSAGES: &[u8] =
-    b"(xsl:stylesheet\nAxmlns:xsl http://www.w3.org/1999/XSL/Transform\nAversion 1.0\n(xsl:output\nAmethod text\n)xsl:output\n(xsl:template\nAmatch /\n(xsl:message\n-a\n(xsl:message\n-b\n)xsl:message\n(e\n-c\n)e\n)xsl:message\n-d\n)xsl:template\n)xsl:stylesheet\n";
+const NESTED_MESSAGES: &[u8] = b"\
+    (xsl:stylesheet\nAxmlns:xsl http://www.w3.org/1999/XSL/Transform\nAversion 1.0\n\
+    (xsl:output\nAmethod text\n)xsl:output\n(xsl:template\nAmatch /\n(xsl:message\n-a\n\
+    (xsl:message\n-b\n)xsl:message\n(e\n-c\n)e\n)xsl:message\n-d\n)xsl:template\n\
+    )xsl:stylesheet\n";
 
 // A text for each node of each node.
-const NESTED_EACH: &[u8] =
-    b"(xsl:stylesheet\nAxmlns:xsl http://www.w3.org/1999/XSL/Transform\nAversion 1.0\n(xsl:output\nAmethod text\n)xsl:output\n(xsl:template\nAmatch /\n(xsl:for-each\nAselect r/g\n(xsl:for-each\nAselect i\n(xsl:value-of\nAselect .\n)xsl:value-of\n-,\n)xsl:for-each\n-;\n)xsl:for-each\n(xsl:if\nAtest r/none\n-no\n)xsl:if\n)xsl:template\n)xsl:stylesheet\n";
+const NESTED_EACH: &[u8] = b"\
+    (xsl:stylesheet\nAxmlns:xsl http://www.w3.org/1999/XSL/Transform\nAversion 1.0\n\
+    (xsl:output\nAmethod text\n)xsl:output\n(xsl:template\nAmatch /\n(xsl:for-each\n\
+    Aselect r/g\n(xsl:for-each\nAselect i\n(xsl:value-of\nAselect .\n)xsl:value-of\n-,\n\
+    )xsl:for-each\n-;\n)xsl:for-each\n(xsl:if\nAtest r/none\n-no\n)xsl:if\n)xsl:template\n\
+    )xsl:stylesheet\n";
 
 const THREE: &[u8] = b"(r\n(i\n-1\n)i\n(i\n-2\n)i\n(i\n-3\n)i\n)r\n";
 
@@ -164,7 +179,9 @@ fn takes<R: Threads + Sync>(
     let source = letters(alloc, count)?;
     let library = two_files(alloc, TOP, &source, Vec::new(alloc))?;
     let seen = run(rt, alloc, library)?;
-    let whole = seen.status == 0 && seen.ticks == ticks && seen.out.len() == count as usize;
+    let whole = seen.report.status == 0
+        && seen.report.ticks == ticks
+        && seen.out.len() == count as usize;
     let number = (ticks - 1).to_string(alloc)?;
     let words = ["--budget", number.as_str(), "s.pyx", "src.pyx"];
     let err = b"fault 50 Budget s.pyx 9\n";

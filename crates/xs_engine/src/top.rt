@@ -1,27 +1,28 @@
 //! The top call.
 
-ghost use Rattle.std.specs.Prelude.{◌≡◌, ◌≢◌, ◌<◌, ◌⊎◌, [], length, IfSome, None};
-ghost use Rattle.xs_outside.specs.Edge.{Rose};
+ghost use Rattle.std.specs.Prelude.{◌≡◌, ◌≢◌, ◌<◌, ◌≤◌, ◌⊎◌, [], length, None};
+ghost use Rattle.xs_engine.specs.declared.status.TheConstants.{NO_MEMORY, OK, READ_FAULT, USAGE};
+ghost use Rattle.xs_engine.specs.declared.status.TheConstants.{WRITE_FAULT};
 ghost use Rattle.xs_engine.specs.Words.{job_of};
 ghost use Rattle.xs_engine.specs.Asked.{texts};
-ghost use Rattle.xs_engine.specs.Headline.{due, AsksFor, FailsAtMostOnce, IsStatus, Gained, IsWritten, LinesFirst};
+ghost use Rattle.xs_engine.specs.Fetches.{Fetches, OverFiles, ReadsOnce};
+ghost use Rattle.xs_engine.specs.Headline.{Gained, Gives, HasTicks, OneFault, due};
 
 use crate::answer::reply_to;
 use crate::deliver::deliver;
+use crate::status::NO_MEMORY;
 use std::alloc::Global;
 use std::thread::Threads;
 use xs_outside::{Gate, Library, Sink};
 use xs_trace::place::Claim;
 
-/// The status of a run that memory did not suffice for.
-pub const NO_MEMORY: u8 = 6;
-
 /// What a run reports besides what it wrote.
 #[derive(Debug, Drop)]
 pub struct Report {
-    /// 0 Ok, 1 Usage, 2 ReadFault, 3 Refused, 4 RunFault, 5 WriteFault, 6 NoMemory.
+    /// How the run ended, as `status` names it.
     pub status: u8,
-    /// How many ticks passed the budget's cut; 0 on status 1, 2, 3 and 6, and on 5 what it was for the status that was due.
+    /// How many ticks passed the budget's cut; 0 but on `OK`, `RUN_FAULT`, and `WRITE_FAULT`, where
+    /// it is what it was for the status that was due.
     pub ticks: u64,
     /// How many pieces the workers claimed.
     pub pieces: u64,
@@ -33,7 +34,8 @@ pub struct Report {
 
 /// Runs the processor on the words after its name.
 ///
-/// Files come from `library`, the result goes to `out`, and lines for the user go to `err`. The report has the status.
+/// Files come from `library`, the result goes to `out`, and lines for the user go to `err`. The
+/// report has the status.
 pub fn transform<R: Threads + Sync, L: Library, O: Sink, E: Sink, G: Gate>(
     rt: &R,
     alloc: Global,
@@ -43,34 +45,37 @@ pub fn transform<R: Threads + Sync, L: Library, O: Sink, E: Sink, G: Gate>(
     err: &mut E,
     gate: &G,
 ) -> Report
-    // Which names may fail to be read, and what is due in the end.
+    // Which names are asked for, and which of them may fail.
     ensures files { L.files library.new ≡ L.files library.old }
-    ensures failed { FailsAtMostOnce (AsksFor (texts words.now) (L.files library.old)) (L.failed library.old) (L.failed library.new) }
+    ensures fetches { Fetches (job_of (texts words.now)) (L.files library.old)
+        (L.asked library.old) (L.asked library.new) (L.failed library.old) (L.failed library.new) }
 
-    // The status is the one that is due, but for a fault of writing and for want of memory.
-    ensures status { IfSome (due (texts words.now) (L.files library.old) (L.failed library.old) (L.failed library.new))
-        (λ due. IsStatus due.status result.status) }
-    ensures usage_only { result.status ≡ 1 → job_of (texts words.now) ≡ None }
-    ensures read_fault_only { result.status ≡ 2 → length (L.failed library.old) < length (L.failed library.new) }
-    ensures write_fault_only { result.status ≡ 5 → Rose (O.faults out.old) (O.faults out.new) ⊎ Rose (E.faults err.old) (E.faults err.new) }
+    // What the words and the files define is what the report and the sinks get.
+    ensures gives { OverFiles (L.files library.old)
+        (ReadsOnce (job_of (texts words.now)) (L.failed library.old) (L.failed library.new))
+        (λ files. Gives
+        (due (job_of (texts words.now)) files (L.failed library.old) (L.failed library.new))
+        result.status result.ticks
+        (O.held out.old) (O.held out.new) (E.held err.old) (E.held err.new)) }
 
-    // Each sink gains a beginning of what it is due, and all of it with the status that is due.
-    ensures result_bytes { IfSome (due (texts words.now) (L.files library.old) (L.failed library.old) (L.failed library.new))
-        (λ due. Gained (O.held out.old) (O.held out.new) (IsWritten due.result due.status result.status)) }
-    ensures lines { IfSome (due (texts words.now) (L.files library.old) (L.failed library.old) (L.failed library.new))
-        (λ due. Gained (E.held err.old) (E.held err.new) (IsWritten due.lines due.status result.status)) }
-    ensures lines_first { IfSome (due (texts words.now) (L.files library.old) (L.failed library.old) (L.failed library.new))
-        (λ due. LinesFirst (O.held out.old) (O.held out.new) (E.held err.old) (E.held err.new) due.lines) }
-    ensures untouched { result.status ≢ 0 → result.status ≢ 5 → O.held out.new ≡ O.held out.old }
+    // What a status says, whatever the files.
+    ensures status { result.status ≤ NO_MEMORY }
+    ensures usage_only { result.status ≡ USAGE → job_of (texts words.now) ≡ None }
+    ensures read_fault_only { result.status ≡ READ_FAULT
+        → length (L.failed library.old) < length (L.failed library.new) }
+    ensures write_fault { result.status ≡ WRITE_FAULT → OneFault
+        (O.faults out.old) (O.faults out.new) (E.faults err.old) (E.faults err.new) }
+    ensures no_fault { result.status ≢ WRITE_FAULT →
+        (O.faults out.new ≡ O.faults out.old) × (E.faults err.new ≡ E.faults err.old) }
+    ensures ticks { HasTicks result.status ⊎ (result.ticks ≡ 0) }
+    ensures pieces { (result.pieces ≡ 0) × (result.inline ≡ 0) × (result.claims.items ≡ []) }
+
+    // The sinks keep what they hold, and gain nothing with most statuses.
     ensures out_extends { Gained (O.held out.old) (O.held out.new) (λ _. Unit {0}) }
     ensures err_extends { Gained (E.held err.old) (E.held err.new) (λ _. Unit {0}) }
-    ensures no_memory { result.status ≡ 6 → E.held err.new ≡ E.held err.old }
-
-    // The other fields of the report.
-    ensures ticks { IfSome (due (texts words.now) (L.files library.old) (L.failed library.old) (L.failed library.new))
-        (λ due. result.status ≢ 6 → result.ticks ≡ due.ticks) }
-    ensures refused_ticks { result.status ≡ 6 → result.ticks ≡ 0 }
-    ensures pieces { (result.pieces ≡ 0) × (result.inline ≡ 0) × (result.claims.items ≡ []) }
+    ensures untouched { result.status ≢ OK → result.status ≢ WRITE_FAULT
+        → O.held out.new ≡ O.held out.old }
+    ensures no_memory { result.status ≡ NO_MEMORY → E.held err.new ≡ E.held err.old }
 {
     let _workers = rt;
     let _gate = gate;

@@ -3,7 +3,8 @@
 ghost use Rattle.std.specs.Prelude.{◌≡◌, true, option_map};
 ghost use Rattle.std.specs.Char.{is_ascii_digit};
 ghost use Rattle.std.specs.List.{list_all};
-ghost use Rattle.xs_engine.specs.Words.{budget_of, files_job, is_number, job_of, value_from, within_limits};
+ghost use Rattle.xs_engine.specs.Words.{budget_of, files_job, is_number, job_of, value_from};
+ghost use Rattle.xs_engine.specs.Words.{within_limits};
 ghost use Rattle.xs_engine.specs.Asked.{asked, texts};
 
 /// What the words of a run say.

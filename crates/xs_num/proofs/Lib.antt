@@ -1,3 +1,3 @@
-pub mod Digits
-pub mod Spaces
-pub mod ReadBack
+pub mod DigitLemmas
+pub mod ReadBackLemmas
+pub mod SpaceLemmas

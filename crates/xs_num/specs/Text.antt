@@ -1,24 +1,22 @@
 -- How a text spells a number (XPath 1.0, 4.4, `number` and `string`), over the text's bytes: each character of a spelling is one byte.
-use Rattle.std.specs.Prelude.{ℕ, ◌+◌, ◌-◌, Bool, true, false, not, ◌&&◌, ◌||◌, ◌==◌, nat_lt, if◌then◌else◌, List, length, take, drop, Result, Ok, Err, ℤ, pos, neg_ℤ, codes}
+use Rattle.std.specs.Prelude.{ℕ, ◌+◌, ◌-◌, Bool, true, false, not, ◌&&◌, ◌==◌, nat_lt, if◌then◌else◌, List, length, take, drop, Result, Ok, Err, ℤ, pos, neg_ℤ, codes}
 use Rattle.std.specs.List.{prefix_len, suffix_len, before_first, after_first, list_all, list_any}
 use Rattle.std.specs.Char.{is_ascii_digit}
 use Rattle.std.specs.Str.Parse.{digits_value, starts_with_minus}
 use Rattle.std.specs.Fmt.{signed_decimal}
+use Rattle.xs_text.specs.WhiteSpace.{is_white_space}
 use Rattle.xs_num.specs.Number.{bounded}
 use Rattle.xs_num.specs.declared.number.Number.{Number}
 use Rattle.xs_num.specs.declared.number.Number.TheVariants.{Whole, NaN}
 use Rattle.xs_num.specs.declared.number.NumFault.{NumFault}
 use Rattle.xs_num.specs.declared.number.NumFault.TheVariants.{Fraction}
 
--- white space is space, tab, line feed and carriage return (XPath 1.0, 3.7 [39])
-abbrev pub is_space : ℕ → Bool
-is_space c = c == 32 || c == 9 || c == 10 || c == 13
-
+-- without the white space (XML 1.0, 2.3) at its front, and at its end
 abbrev pub without_leading_space : List ℕ → List ℕ
-without_leading_space s = drop (prefix_len is_space s) s
+without_leading_space s = drop (prefix_len is_white_space s) s
 
 abbrev pub without_trailing_space : List ℕ → List ℕ
-without_trailing_space s = take (length s - suffix_len is_space s) s
+without_trailing_space s = take (length s - suffix_len is_white_space s) s
 
 abbrev pub is_point : ℕ → Bool
 is_point c = c == 46

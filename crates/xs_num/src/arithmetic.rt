@@ -1,8 +1,9 @@
-// The operators of XPath 1.0, 3.5, and the comparison of numbers.
+//! The operators of XPath 1.0, 3.5, and the comparison of numbers.
 
 ghost use Rattle.std.specs.Prelude.{◌≡◌};
 ghost use Rattle.xs_num.specs.Range.{IsInRange};
-ghost use Rattle.xs_num.specs.Number.{sum_of, difference_of, product_of, quotient_of, remainder_of, negated, comparison_of};
+ghost use Rattle.xs_num.specs.Number.{sum_of, difference_of, product_of, quotient_of, remainder_of};
+ghost use Rattle.xs_num.specs.Number.{negated, comparison_of};
 
 use crate::number::{Num, NumFault, Number};
 use std::cmp::Ordering;
@@ -51,6 +52,7 @@ pub fn div(a: Num, b: Num) -> Result<Num, NumFault>
     }
 }
 
+/// The exact quotient of two whole numbers.
 fn quotient(x: i64, y: i64) -> Result<Num, NumFault>
     requires { IsInRange x }
     ensures { result ≡ quotient_of (Number.Whole x) (Number.Whole y) }

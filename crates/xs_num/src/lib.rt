@@ -1,4 +1,4 @@
-// The whole numbers of XPath 1.0: their arithmetic, and how they are read and written.
+//! The whole numbers of XPath 1.0: their arithmetic, and how they are read and written.
 #![tactic(auto)]
 
 pub mod arithmetic;

@@ -1,4 +1,4 @@
-// A number of XPath, and the faults of arithmetic.
+//! A number of XPath, and the faults of arithmetic.
 
 ghost use Rattle.std.specs.Prelude.{◌≡◌};
 
@@ -56,7 +56,8 @@ impl Num {
         }
     }
 
-    /// The whole number of that value, or `NumFault::Range` where its magnitude is above `GREATEST`.
+    /// The whole number of that value, or `NumFault::Range` where its magnitude is above
+    /// `GREATEST`.
     pub fn bounded(value: i64) -> Result<Self, NumFault>
         ensures { result ≡ bounded value }
     {

@@ -1,12 +1,15 @@
-// The number that a text spells (XPath 1.0, 4.4).
+//! The number that a text spells (XPath 1.0, 4.4).
 
 ghost use Rattle.std.specs.Prelude.{◌≡◌, ℕ, ◌≤◌, IsTrue, SomeIff, drop, take};
 ghost use Rattle.std.specs.List.{before_first, after_first, list_any};
 ghost use Rattle.std.specs.Str.Parse.{digits_value};
 ghost use Rattle.xs_num.specs.Range.{greatest};
-ghost use Rattle.xs_num.specs.Text.{is_space, is_point, are_digits, is_nonzero_digit, is_numeral, signed, without_leading_space, without_trailing_space, number_from, number_after_sign, number_within_space, number_in};
+ghost use Rattle.xs_num.specs.Text.{is_point, are_digits, is_nonzero_digit, is_numeral, signed};
+ghost use Rattle.xs_num.specs.Text.{without_leading_space, without_trailing_space, number_from};
+ghost use Rattle.xs_num.specs.Text.{number_after_sign, number_within_space, number_in};
 
 use crate::number::{GREATEST, Num, NumFault};
+use xs_text::is_space_byte;
 
 /// The number that a text spells: white space, an optional minus sign, digits with an optional
 /// point, and white space. Any other text spells NaN. A digit other than 0 after the point is
@@ -18,6 +21,7 @@ pub fn read_num(s: &str) -> Result<Num, NumFault>
     read_within_space(trim_end(trim_start(s.as_bytes())))
 }
 
+/// The number of a text without white space at its ends.
 #[tactic(auto, unfolding(crate::specs::Text::number_within_space))]
 fn read_within_space(text: &[u8]) -> Result<Num, NumFault>
     ensures { result ≡ number_within_space text.now }
@@ -28,33 +32,30 @@ fn read_within_space(text: &[u8]) -> Result<Num, NumFault>
     }
 }
 
-fn is_space(byte: u8) -> bool
-    ensures { result ≡ is_space byte }
-{
-    matches!(byte, b' ' | b'\t' | b'\n' | b'\r')
-}
-
+/// The text without the white space at its front.
 fn trim_start(text: &[u8]) -> &[u8]
     ensures { result.now ≡ without_leading_space text.now }
 {
     for (i, byte) in text.iter().enumerate() {
-        if !is_space(*byte) {
+        if !is_space_byte(*byte) {
             return &text[i..];
         }
     }
     &text[text.len()..]
 }
 
+/// The text without the white space at its end.
 fn trim_end(text: &[u8]) -> &[u8]
     ensures { result.now ≡ without_trailing_space text.now }
 {
     let mut end = text.len();
-    while end > 0 && is_space(text[end - 1]) {
+    while end > 0 && is_space_byte(text[end - 1]) {
         end -= 1;
     }
     &text[..end]
 }
 
+/// The number that the text behind the sign spells.
 #[tactic(auto, unfolding(crate::specs::Text::number_after_sign))]
 fn read_numeral(negative: bool, numeral: &[u8]) -> Result<Num, NumFault>
     ensures { result ≡ number_after_sign negative numeral.now }
@@ -63,6 +64,7 @@ fn read_numeral(negative: bool, numeral: &[u8]) -> Result<Num, NumFault>
     read_parts(negative, whole, fraction)
 }
 
+/// The number of what stands before the point and behind it.
 #[tactic(auto, unfolding(crate::specs::Text::number_from))]
 fn read_parts(negative: bool, whole: &[u8], fraction: &[u8]) -> Result<Num, NumFault>
     ensures { result ≡ number_from negative whole.now fraction.now }
@@ -79,12 +81,14 @@ fn read_parts(negative: bool, whole: &[u8], fraction: &[u8]) -> Result<Num, NumF
     }
 }
 
+/// Whether some digit is not 0.
 fn has_nonzero_digit(digits: &[u8]) -> bool
     ensures { result ≡ list_any is_nonzero_digit digits.now }
 {
     digits.iter().any(|digit| *digit != b'0')
 }
 
+/// The whole number of this sign and magnitude.
 fn signed(negative: bool, magnitude: u64) -> i64
     requires { magnitude ≤ greatest }
     ensures { result ≡ signed negative magnitude }
@@ -96,6 +100,8 @@ fn signed(negative: bool, magnitude: u64) -> i64
     }
 }
 
+/// What stands before the first point, and what stands behind it; all and nothing where there is
+/// none.
 fn split_at_point(numeral: &[u8]) -> (&[u8], &[u8])
     ensures whole { result.0.now ≡ before_first is_point numeral.now }
     ensures fraction { result.1.now ≡ after_first is_point numeral.now }
@@ -108,19 +114,21 @@ fn split_at_point(numeral: &[u8]) -> (&[u8], &[u8])
     (numeral, &numeral[numeral.len()..])
 }
 
+/// Whether both parts are digits, and not both empty.
 fn is_numeral(whole: &[u8], fraction: &[u8]) -> bool
     ensures { result ≡ is_numeral whole.now fraction.now }
 {
     are_digits(whole) && are_digits(fraction) && !(whole.is_empty() && fraction.is_empty())
 }
 
+/// Whether each byte of a text is a decimal digit.
 fn are_digits(text: &[u8]) -> bool
     ensures { result ≡ are_digits text.now }
 {
     text.iter().all(|byte| byte.is_ascii_digit())
 }
 
-// The value of the digits where it is at most the greatest magnitude.
+/// The value of the digits where it is at most the greatest magnitude.
 fn magnitude(digits: &[u8]) -> Option<u64>
     requires { IsTrue (are_digits digits.now) }
     ensures { SomeIff result (digits_value 10 digits.now ≤ greatest) (digits_value 10 digits.now) }

@@ -1,4 +1,4 @@
-// The worked examples of numbers.
+//! The worked examples of numbers.
 
 use crate::arithmetic::{add, compare, div, mul, neg, rem, sub};
 use crate::number::{GREATEST, Num, NumFault, Number};

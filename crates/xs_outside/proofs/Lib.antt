@@ -1,2 +1,3 @@
-pub mod Fetched
-pub mod Written
+pub mod FetchLemmas
+pub mod FileLemmas
+pub mod WriteLemmas

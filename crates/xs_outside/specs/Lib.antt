@@ -1,3 +1,4 @@
 pub mod Edge
+pub mod Fetches
 pub mod Memory
 pub mod Reads

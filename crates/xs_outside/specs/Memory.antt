@@ -1,16 +1,14 @@
 -- A library and a sink that live in memory, as contracts see them, and what one call makes of each.
-use Rattle.std.specs.Prelude.{ℕ, ◌+◌, ◌-◌, List, ◌++◌, ◌==◌, Bool, ◌||◌, ◌&&◌, not, min, length, find, Result, Ok, Err, is_none, ⊤, Vec, String, string_bytes}
+use Rattle.std.specs.Prelude.{ℕ, ◌-◌, List, ◌++◌, ◌==◌, Bool, ◌||◌, ◌&&◌, not, min, length, find, Result, Ok, Err, is_none, ⊤, Vec, String, string_bytes}
 use Rattle.std.specs.declared.alloc.Global.{Global}
 use Rattle.std.specs.Option.{option_map}
 use Rattle.std.specs.List.{list_any}
 use Rattle.std.specs.Str.{bytes_eq}
-use Rattle.xs_outside.specs.Edge.{Files, failed_after}
+use Rattle.xs_outside.specs.Edge.{Files, raised}
+use Rattle.xs_outside.specs.Fetches.{fetches_after}
+use Rattle.xs_outside.specs.declared.fetches.Fetch.{Fetch}
 use Rattle.xs_outside.specs.declared.edge.FetchEnd.{FetchEnd}
 use Rattle.xs_outside.specs.declared.edge.FetchEnd.TheVariants.{Failed, NoMemory}
-
--- a count in 64 bits, one higher; it stays where it is at its end
-abbrev pub raised : ℕ → ℕ
-raised count = min (count + 1) 18446744073709551615
 
 -- the calls that are to fail, by their numbers from 1
 abbrev pub is_listed : ℕ → List ℕ → Bool
@@ -33,8 +31,8 @@ pub record MemFiles : Type 0 where
   pub failing : List ℕ
   -- the calls so far
   pub calls : ℕ
-  -- the names whose fetch failed, oldest first
-  pub failed : List (List ℕ)
+  -- the fetches that it answered, oldest first
+  pub fetches : List Fetch
 
 -- whether the next fetch fails: its number is listed, or the name has no file
 abbrev pub fetch_fails : MemFiles → List ℕ → Bool
@@ -48,7 +46,8 @@ IfFailed (Err NoMemory) P = ⊤
 
 -- the next state of a library in memory, after an answer
 abbrev pub fetched : {A : Type 0} → Result A FetchEnd → List ℕ → MemFiles → MemFiles
-fetched answer name m = record { files = m.files; failing = m.failing; calls = raised m.calls; failed = failed_after answer name m.failed }
+fetched answer name m =
+    record { files = m.files; failing = m.failing; calls = raised m.calls; fetches = fetches_after answer name m.fetches }
 
 pub record MemBytes : Type 0 where
   pub held : List ℕ
@@ -72,8 +71,16 @@ taken_of m bytes = min (min (length bytes) m.most) m.room
 
 -- the next state of a sink in memory, after a write that took these bytes
 abbrev pub after_taking : List ℕ → MemBytes → MemBytes
-after_taking part m = record { held = m.held ++ part; room = m.room - length part; most = m.most; failing = m.failing; calls = raised m.calls; faults = m.faults }
+after_taking part m = record {
+  held = m.held ++ part;
+  room = m.room - length part;
+  most = m.most;
+  failing = m.failing;
+  calls = raised m.calls;
+  faults = m.faults;
+}
 
 -- and after one that failed
 abbrev pub after_fault : MemBytes → MemBytes
-after_fault m = record { held = m.held; room = m.room; most = m.most; failing = m.failing; calls = raised m.calls; faults = raised m.faults }
+after_fault m =
+    record { held = m.held; room = m.room; most = m.most; failing = m.failing; calls = raised m.calls; faults = raised m.faults }

@@ -1,11 +1,13 @@
 //! A library of the files that the system has.
-#![tactic(auto)]
 
-ghost use Rattle.std.specs.Prelude.{◌≡◌, ◌+◌, ◌<◌, ◌≤◌, [], length, take, IfOk, IfSome, None, vec_len};
-ghost use Rattle.xs_outside.specs.Edge.{failed_after};
+ghost use Rattle.std.specs.Prelude.{◌≡◌, ◌+◌, ◌<◌, ◌≤◌, [], length, take, IfOk, IfSome, None};
+ghost use Rattle.std.specs.Prelude.{vec_len};
+ghost use Rattle.xs_outside.specs.Edge.{asked_after, failed_after};
+ghost use Rattle.xs_outside.specs.Fetches.{failed_names, names};
 ghost use Rattle.xs_outside.specs.Reads.{GainsPiece};
 
 use super::edge::{FetchEnd, Library};
+use super::fetches::Fetch;
 use std::alloc::{AllocError, Global};
 use std::fs;
 use std::io::Read;
@@ -22,46 +24,63 @@ const PIECE: usize = 65536;
 #[derive(Drop)]
 pub struct FileLibrary<R> {
     system: R,
-    failed: Vec<TextBuf>,
+    fetches: Vec<Fetch>,
 }
 
 impl<R> Model for FileLibrary<R> {
-    ghost use Rattle.std.specs.Prelude.{ℕ, List};
+    ghost use Rattle.std.specs.Prelude.{List};
+    ghost use Rattle.xs_outside.specs.declared.fetches.Fetch.{Fetch};
 
-    ghost Value = { List (List ℕ) };
+    ghost Value = { List Fetch };
 
-    ghost view = { λ l. l.failed.items };
+    ghost view = { λ l. l.fetches.items };
 }
 
 impl<R: Files> FileLibrary<R> {
-    /// A library over the system's files, of which no fetch has failed so far.
+    /// A library over the system's files, which was asked for none so far.
     pub fn new(alloc: Global, system: R) -> FileLibrary<R>
         ensures { result ≡ [] }
     {
         FileLibrary {
             system,
-            failed: Vec::new(alloc),
+            fetches: Vec::new(alloc),
         }
     }
 }
 
 impl<R: Files> Library for FileLibrary<R> {
-    ghost failed = { λ names. names };
+    ghost asked = { λ fetches. names fetches };
+
+    ghost failed = { λ fetches. failed_names fetches };
 
     ghost files = { λ _. None };
 
+    // The room for the name is taken before the file is read.
+    #[tactic(auto, using(crate::proofs::FetchLemmas::given, crate::proofs::FetchLemmas::failed))]
     fn fetch(&mut self, alloc: Global, name: &str, limit: u64) -> Result<Vec<u8>, FetchEnd>
-        ensures failed { self.new ≡ failed_after result name.now self.old }
+        ensures asked { names self.new ≡ asked_after result name.now (names self.old) }
+        ensures failed { failed_names self.new
+            ≡ failed_after result name.now (failed_names self.old) }
         ensures cut { IfOk result (λ v. vec_len v ≤ limit + 1) }
     {
-        let recorded = TextBuf::of(alloc, name)?;
-        self.failed.reserve(1)?;
+        let name_kept = TextBuf::of(alloc, name)?;
+        self.fetches.reserve(1)?;
         match read_file(&self.system, alloc, name, limit) {
+            Ok(bytes) => {
+                self.fetches.push_reserved(Fetch {
+                    name: name_kept,
+                    failed: false,
+                });
+                Ok(bytes)
+            }
             Err(FetchEnd::Failed) => {
-                self.failed.push_reserved(recorded);
+                self.fetches.push_reserved(Fetch {
+                    name: name_kept,
+                    failed: true,
+                });
                 Err(FetchEnd::Failed)
             }
-            answer => answer,
+            Err(FetchEnd::NoMemory) => Err(FetchEnd::NoMemory),
         }
     }
 }
@@ -84,7 +103,8 @@ fn read_file<R: Files>(
 /// What a reader has left, cut after `limit + 1` bytes.
 fn read_all<F: Read>(alloc: Global, reader: &mut F, limit: u64) -> Result<Vec<u8>, FetchEnd>
     ensures cut { IfOk result (λ v. vec_len v ≤ limit + 1) }
-    ensures bytes { IfOk result (λ v. IfSome (F.remaining reader.old) (λ left. v.items ≡ take (limit + 1) left)) }
+    ensures bytes { IfOk result (λ v. IfSome (F.remaining reader.old)
+        (λ left. v.items ≡ take (limit + 1) left)) }
 {
     let mut buffer = zeros(alloc, PIECE)?;
     let piece: &mut [u8] = &mut buffer;
@@ -102,21 +122,24 @@ fn read_all<F: Read>(alloc: Global, reader: &mut F, limit: u64) -> Result<Vec<u8
     Err(FetchEnd::Failed)
 }
 
+/// So many bytes, all 0.
 fn zeros(alloc: Global, length: usize) -> Result<Vec<u8>, AllocError>
     ensures { IfOk result (λ v. vec_len v ≡ length) }
 {
     vec![in alloc; 0; length]
 }
 
-/// Reads once into `piece`, and puts what came at the end of `bytes`. The answer is how many bytes came:
-/// none only at the reader's end.
+/// Reads once into `piece`, and puts what came at the end of `bytes`. The answer is how many bytes
+/// came: none only at the reader's end.
 fn read_piece<F: Read>(
     reader: &mut F,
     piece: &mut [u8],
     bytes: &mut Vec<u8>,
 ) -> Result<usize, FetchEnd>
     requires { 0 < length piece.old }
-    ensures { IfOk result (λ n. (n ≤ length piece.old) × GainsPiece (F.remaining reader.old) (F.remaining reader.new) bytes.old.items bytes.new.items n) }
+    ensures { IfOk result (λ n. (n ≤ length piece.old)
+        × GainsPiece (F.remaining reader.old) (F.remaining reader.new)
+        bytes.old.items bytes.new.items n) }
 {
     match reader.read(piece) {
         Ok(taken) => {

@@ -1,8 +1,8 @@
 //! A sink that lives in memory.
-#![tactic(auto)]
 
-ghost use Rattle.std.specs.Prelude.{◌≡◌, ◌+◌, ◌<◌, ◌≤◌, ◌↔◌, [], ◌++◌, length, max, take, IfOk, OnOk, OnErr, IsErr, IsTrue, Some};
-ghost use Rattle.xs_outside.specs.Edge.{Rose};
+ghost use Rattle.std.specs.Prelude.{◌≡◌, ◌+◌, ◌<◌, ◌≤◌, ◌↔◌, [], ◌++◌, length, max, take, IfOk};
+ghost use Rattle.std.specs.Prelude.{OnOk, OnErr, IsErr, IsTrue, Some};
+ghost use Rattle.xs_outside.specs.Edge.{raised};
 ghost use Rattle.xs_outside.specs.Memory.{write_fails, taken_of, after_taking, after_fault};
 
 use super::edge::{Failed, Sink};
@@ -28,17 +28,31 @@ impl Model for MemSink {
 
     ghost Value = { MemBytes };
 
-    ghost view = { λ s. record { held = s.held.items; room = s.room; most = s.most; failing = s.failing.items; calls = s.calls; faults = s.faults } };
+    ghost view = { λ s. record {
+      held = s.held.items;
+      room = s.room;
+      most = s.most;
+      failing = s.failing.items;
+      calls = s.calls;
+      faults = s.faults;
+    } };
 
     ghost invariant = { λ s. (1 ≤ s.most) × (vec_len s.held + s.room ≤ vec_capacity s.held) };
 }
 
 impl MemSink {
-    /// An empty sink without room, which takes at most `most` bytes per write and fails the writes whose
-    /// numbers, from 1, are in `failing`.
+    /// An empty sink without room, which takes at most `most` bytes per write and fails the writes
+    /// whose numbers, from 1, are in `failing`.
     pub fn new(alloc: Global, most: usize, failing: Vec<u64>) -> MemSink
         requires { 1 ≤ most }
-        ensures { result ≡ record { held = []; room = 0; most = most; failing = failing.items; calls = 0; faults = 0 } }
+        ensures { result ≡ record {
+          held = [];
+          room = 0;
+          most = most;
+          failing = failing.items;
+          calls = 0;
+          faults = 0;
+        } }
     {
         MemSink {
             held: Vec::new(alloc),
@@ -73,10 +87,12 @@ impl Sink for MemSink {
 
     ghost held = { λ s. Some s.held };
 
+    // A listed write fails, and one of bytes that finds no room.
     fn write(&mut self, bytes: &[u8]) -> Result<usize, Failed>
         ensures count { self.old.faults ≤ self.new.faults }
+        ensures count_stays { IfOk result (λ _. self.new.faults ≡ self.old.faults) }
         ensures taken { IfOk result (λ n. (n ≤ length bytes.now) × (0 < length bytes.now → 0 < n)) }
-        ensures failed { OnErr result (Rose self.old.faults self.new.faults) }
+        ensures count_raised { OnErr result (self.new.faults ≡ raised self.old.faults) }
         ensures held_ok { IfOk result (λ n. self.new.held ≡ self.old.held ++ take n bytes.now) }
         ensures held_err { OnErr result (self.new.held ≡ self.old.held) }
         ensures when { IsErr result ↔ IsTrue (write_fails self.old bytes.now) }

@@ -1,9 +1,8 @@
 //! Sinks over the standard streams.
-#![tactic(auto)]
 
-ghost use Rattle.std.specs.Prelude.{◌≡◌, ℕ, ◌<◌, ◌≤◌, length, is_ok, IfOk, None, OnErr, if◌then◌else◌};
-ghost use Rattle.xs_outside.specs.Edge.{Rose};
-ghost use Rattle.xs_outside.specs.Memory.{raised};
+ghost use Rattle.std.specs.Prelude.{◌≡◌, ℕ, ◌<◌, ◌≤◌, length, is_ok, IfOk, None, OnErr};
+ghost use Rattle.std.specs.Prelude.{if◌then◌else◌};
+ghost use Rattle.xs_outside.specs.Edge.{raised};
 
 use super::edge::{Failed, Sink};
 use std::io::{Stderr, Stdout};
@@ -49,9 +48,9 @@ impl<P: Print> Sink for StreamSink<P> {
     // A stream that takes no byte of a piece with bytes has failed.
     fn write(&mut self, bytes: &[u8]) -> Result<usize, Failed>
         ensures count { self.old ≤ self.new }
+        ensures count_stays { IfOk result (λ _. self.new ≡ self.old) }
         ensures taken { IfOk result (λ n. (n ≤ length bytes.now) × (0 < length bytes.now → 0 < n)) }
-        ensures failed { OnErr result (Rose self.old self.new) }
-        ensures raised { self.new ≡ (if is_ok result then self.old else raised self.old) }
+        ensures count_raised { OnErr result (self.new ≡ raised self.old) }
     {
         match self.stream.write_some(bytes) {
             Ok(taken) if taken > 0 || bytes.is_empty() => Ok(taken),

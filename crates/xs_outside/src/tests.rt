@@ -1,4 +1,5 @@
 //! Each kind of library and sink once, and a sink that fails in mid-piece.
+
 use super::*;
 use std::alloc::{AllocError, Global};
 use std::fmt::Display;
@@ -85,8 +86,11 @@ fn reads_a_file_of_the_system(rt: HostRuntime) -> Result<(), Fail> {
 
 #[test]
 fn writes_to_the_standard_streams(rt: HostRuntime) -> Result<(), Fail> {
-    write_whole(&mut OutSink::new(rt.stdout()), b"result\n")?;
-    write_whole(&mut ErrSink::new(rt.stderr()), b"line\n")?;
+    let mut out = OutSink::new(rt.stdout());
+    let mut err = ErrSink::new(rt.stderr());
+    assert_eq!(rt; out.write(b"result\n")?, 7);
+    assert_eq!(rt; err.write(b"line\n")?, 5);
+    write_whole(&mut out, b"")?;
     Ok(())
 }
 
@@ -115,16 +119,21 @@ impl Print for Stuck {
 #[test]
 fn fails_where_a_stream_takes_nothing(rt: HostRuntime) {
     let mut sink = StreamSink::new(Stuck);
-    assert!(rt; sink.write(b"").is_ok());
+    assert!(rt; matches!(sink.write(b""), Ok(0)));
     assert!(rt; sink.write(b"text").is_err());
 }
 
-fn pass_twice<G: Gate>(gate: &G) {
-    gate.pass(0, 1);
-    gate.pass(1, 1);
+// How many of so many passes return.
+fn passes<G: Gate>(gate: &G, count: u64) -> u64 {
+    let mut returned = 0;
+    for taken in 0..count {
+        gate.pass(0, taken);
+        returned = taken + 1;
+    }
+    returned
 }
 
 #[test]
-fn an_open_gate_holds_no_one() {
-    pass_twice(&OpenGate);
+fn an_open_gate_holds_no_one(rt: HostRuntime) {
+    assert_eq!(rt; passes(&OpenGate, 3), 3);
 }

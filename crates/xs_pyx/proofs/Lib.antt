@@ -1,6 +1,6 @@
-pub mod Firsts
-pub mod Rows
-pub mod Readings
-pub mod Pairs
-pub mod Writings
-pub mod Sayings
+pub mod SearchLemmas
+pub mod RowLemmas
+pub mod ReadLemmas
+pub mod EscapeLemmas
+pub mod WriteLemmas
+pub mod LineLemmas

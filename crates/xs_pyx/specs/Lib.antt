@@ -1,6 +1,9 @@
+pub mod Faults
+pub mod FirstBytes
 pub mod Row
 pub mod Reading
 pub mod Lines
 pub mod LineLaws
 pub mod Results
+pub mod Views
 pub mod Writing

@@ -8,6 +8,9 @@ use Rattle.std.specs.Str.{IsUtf8}
 use Rattle.xs_text.specs.Escapes.{StandsFor}
 use Rattle.xs_pyx.specs.declared.line.Line.{Line}
 use Rattle.xs_pyx.specs.declared.line.Line.TheVariants.{Start, Attr, Chars, End, Pi, Comment}
+use Rattle.xs_pyx.specs.declared.fault.Fault.TheVariants.{BadLine, BadEscape, BadUtf8, NoFinalLineFeed}
+use Rattle.xs_pyx.specs.Faults.{number_of}
+use Rattle.xs_pyx.specs.FirstBytes.{start_byte, attribute_byte, text_byte, end_byte, instruction_byte, comment_byte, space, line_feed}
 use Rattle.xs_pyx.specs.Row.{Row}
 use Rattle.xs_pyx.specs.Reading.{Reading, says, faulty}
 
@@ -23,38 +26,44 @@ IsWellEscaped written = (text : List ℕ) × StandsFor written text
 -- though its backslashes have to begin pairs too. The first space ends the name of an attribute and a target, and without a
 -- space the value is empty.
 pub data IsLine : List ℕ → Line → Type 0 where
-  start : (name : List ℕ) → IsWellEscaped name → IsLine (40 ∷ name) (Start name)
-  attribute : (name written value : List ℕ) → HasNo 32 name → IsWellEscaped name → StandsFor written value → IsLine (65 ∷ name ++ 32 ∷ written) (Attr name value)
-  attribute_alone : (name : List ℕ) → HasNo 32 name → IsWellEscaped name → IsLine (65 ∷ name) (Attr name [])
-  chars : (written text : List ℕ) → StandsFor written text → IsLine (45 ∷ written) (Chars text)
-  end : (name : List ℕ) → IsWellEscaped name → IsLine (41 ∷ name) (End name)
-  instruction : (target written value : List ℕ) → HasNo 32 target → IsWellEscaped target → StandsFor written value → IsLine (63 ∷ target ++ 32 ∷ written) (Pi target value)
-  instruction_alone : (target : List ℕ) → HasNo 32 target → IsWellEscaped target → IsLine (63 ∷ target) (Pi target [])
-  comment : (written text : List ℕ) → StandsFor written text → IsLine (67 ∷ written) (Comment text)
+  start : (name : List ℕ) → IsWellEscaped name → IsLine (start_byte ∷ name) (Start name)
+  attribute : (name written value : List ℕ) → HasNo space name → IsWellEscaped name → StandsFor written value
+      → IsLine (attribute_byte ∷ name ++ space ∷ written) (Attr name value)
+  attribute_alone : (name : List ℕ) → HasNo space name → IsWellEscaped name → IsLine (attribute_byte ∷ name) (Attr name [])
+  chars : (written text : List ℕ) → StandsFor written text → IsLine (text_byte ∷ written) (Chars text)
+  end : (name : List ℕ) → IsWellEscaped name → IsLine (end_byte ∷ name) (End name)
+  instruction : (target written value : List ℕ) → HasNo space target → IsWellEscaped target → StandsFor written value
+      → IsLine (instruction_byte ∷ target ++ space ∷ written) (Pi target value)
+  instruction_alone : (target : List ℕ) → HasNo space target → IsWellEscaped target → IsLine (instruction_byte ∷ target) (Pi target [])
+  comment : (written text : List ℕ) → StandsFor written text → IsLine (comment_byte ∷ written) (Comment text)
 
 -- bytes that are lines to their end
 pub data AreLines : List ℕ → List Line → Type 0 where
   no_lines : AreLines [] []
-  first_line : (bytes behind : List ℕ) (line : Line) (lines : List Line) → HasNo 10 bytes → IsUtf8 bytes → IsLine bytes line → AreLines behind lines → AreLines (bytes ++ 10 ∷ behind) (line ∷ lines)
+  first_line : (bytes behind : List ℕ) (line : Line) (lines : List Line) → HasNo line_feed bytes → IsUtf8 bytes → IsLine bytes line → AreLines behind lines
+      → AreLines (bytes ++ line_feed ∷ behind) (line ∷ lines)
 
 -- bytes between line feeds, whether they are lines or not; behind the last line feed stands one more row, unless it is nothing
 pub data AreRows : List ℕ → List Row → Type 0 where
   no_rows : AreRows [] []
-  last_row : (b : ℕ) (bytes : List ℕ) → HasNo 10 (b ∷ bytes) → AreRows (b ∷ bytes) (record { bytes = b ∷ bytes; ended = false } ∷ [])
-  ended_row : (bytes behind : List ℕ) (rows : List Row) → HasNo 10 bytes → AreRows behind rows → AreRows (bytes ++ 10 ∷ behind) (record { bytes = bytes; ended = true } ∷ rows)
+  last_row : (b : ℕ) (bytes : List ℕ) → HasNo line_feed (b ∷ bytes) → AreRows (b ∷ bytes) (record { bytes = b ∷ bytes; ended = false } ∷ [])
+  ended_row : (bytes behind : List ℕ) (rows : List Row) → HasNo line_feed bytes → AreRows behind rows
+      → AreRows (bytes ++ line_feed ∷ behind) (record { bytes = bytes; ended = true } ∷ rows)
 
 -- a byte that a line may begin with
 abbrev pub is_line_kind : ℕ → Bool
 is_line_kind kind = list_any (λ known. kind == known) (codes "(A-)?C")
 
--- The fault of a row that is no line. Of several faults the first one in the order 3, 1, 2, 4 counts, so each rule says that the
+-- The fault of a row that is no line. Of several faults the first one in the order BadUtf8, BadLine, BadEscape, NoFinalLineFeed counts, so each rule says that
+-- the
 -- ones before it are not there.
 pub data HasFault (given : Row) : ℕ → Type 0 where
-  not_utf8 : ¬ IsUtf8 given.bytes → HasFault given 3
-  empty : given.bytes ≡ [] → HasFault given 1
-  unknown : (kind : ℕ) (rest : List ℕ) → given.bytes ≡ kind ∷ rest → IsUtf8 given.bytes → is_line_kind kind ≡ false → HasFault given 1
-  bad_escape : (kind : ℕ) (rest : List ℕ) → given.bytes ≡ kind ∷ rest → IsUtf8 given.bytes → is_line_kind kind ≡ true → ¬ IsWellEscaped rest → HasFault given 2
-  no_line_feed : (line : Line) → given.ended ≡ false → IsUtf8 given.bytes → IsLine given.bytes line → HasFault given 4
+  not_utf8 : ¬ IsUtf8 given.bytes → HasFault given (number_of BadUtf8)
+  empty : given.bytes ≡ [] → HasFault given (number_of BadLine)
+  unknown : (kind : ℕ) (rest : List ℕ) → given.bytes ≡ kind ∷ rest → IsUtf8 given.bytes → is_line_kind kind ≡ false → HasFault given (number_of BadLine)
+  bad_escape : (kind : ℕ) (rest : List ℕ) → given.bytes ≡ kind ∷ rest → IsUtf8 given.bytes → is_line_kind kind ≡ true → ¬ IsWellEscaped rest
+      → HasFault given (number_of BadEscape)
+  no_line_feed : (line : Line) → given.ended ≡ false → IsUtf8 given.bytes → IsLine given.bytes line → HasFault given (number_of NoFinalLineFeed)
 
 -- what a row says: a line, where a line feed ends it, or a fault
 abbrev pub Says : Row → Reading → Type 0

@@ -4,6 +4,7 @@ use Rattle.std.specs.Str.{IsUtf8}
 use Rattle.xs_pyx.specs.declared.line.Line.{Line}
 use Rattle.xs_pyx.specs.declared.line.LineFault.{LineFault}
 use Rattle.xs_pyx.specs.declared.line.LineFault.TheVariants.{Bad, NoMemory}
+use Rattle.xs_pyx.specs.FirstBytes.{line_feed}
 use Rattle.xs_pyx.specs.Row.{Row, first_row, behind_row}
 use Rattle.xs_pyx.specs.Reading.{Reading, says, faulty, reading}
 use Rattle.xs_pyx.specs.Lines.{HasNo, IsLine, AreRows, HasFault}
@@ -32,8 +33,8 @@ Reads (Err NoMemory) bytes = Unit {0}
 pub record FindsLine (bytes : List ℕ) (line : Line) (taken : ℕ) : Type 0 where
   pub row : List ℕ
   pub behind : List ℕ
-  pub whole : bytes ≡ row ++ 10 ∷ behind
-  pub one_line : HasNo 10 row
+  pub whole : bytes ≡ row ++ line_feed ∷ behind
+  pub one_line : HasNo line_feed row
   pub utf8 : IsUtf8 row
   pub is_line : IsLine row line
   pub count : taken ≡ length row + 1
@@ -55,9 +56,3 @@ Finds (Err NoMemory) bytes = (line : Line) × (taken : ℕ) × FindsLine bytes l
 -- the line has no fault
 abbrev pub SaysLine : Reading → Type 0
 SaysLine said = (line : Line) × (said ≡ says line)
-
--- What the reading of one line by itself answers. Memory may run out for a line that has no fault.
-abbrev pub IsReading : Result Line LineFault → Reading → Type 0
-IsReading (Ok line) said = said ≡ says line
-IsReading (Err (Bad number)) said = said ≡ faulty number
-IsReading (Err NoMemory) said = SaysLine said

@@ -5,22 +5,24 @@ use Rattle.std.specs.Str.{IsUtf8}
 use Rattle.xs_text.specs.Escapes.{escaped}
 use Rattle.xs_pyx.specs.declared.line.Line.{Line}
 use Rattle.xs_pyx.specs.declared.line.Line.TheVariants.{Start, Attr, Chars, End, Pi, Comment}
+use Rattle.xs_pyx.specs.FirstBytes.{start_byte, attribute_byte, text_byte, end_byte, instruction_byte, comment_byte, space, line_feed}
 use Rattle.xs_pyx.specs.Row.{first_row, behind_row}
 use Rattle.xs_pyx.specs.Reading.{says, reading}
+use Rattle.xs_pyx.specs.Lines.{AreLines}
 
 -- The bytes of a line: its first byte, a name as it is, a space after the name of an attribute and after a target, values and
 -- texts with their escapes, and a line feed.
 unfoldable pub written : Line → List ℕ
-written (Start name) = 40 ∷ name ++ 10 ∷ []
-written (Attr name value) = 65 ∷ name ++ 32 ∷ escaped value ++ 10 ∷ []
-written (Chars text) = 45 ∷ escaped text ++ 10 ∷ []
-written (End name) = 41 ∷ name ++ 10 ∷ []
-written (Pi target value) = 63 ∷ target ++ 32 ∷ escaped value ++ 10 ∷ []
-written (Comment text) = 67 ∷ escaped text ++ 10 ∷ []
+written (Start name) = start_byte ∷ name ++ line_feed ∷ []
+written (Attr name value) = attribute_byte ∷ name ++ space ∷ escaped value ++ line_feed ∷ []
+written (Chars text) = text_byte ∷ escaped text ++ line_feed ∷ []
+written (End name) = end_byte ∷ name ++ line_feed ∷ []
+written (Pi target value) = instruction_byte ∷ target ++ space ∷ escaped value ++ line_feed ∷ []
+written (Comment text) = comment_byte ∷ escaped text ++ line_feed ∷ []
 
 -- a space, a line feed or a backslash
 abbrev pub breaks_name : ℕ → Bool
-breaks_name b = b == 32 || b == 10 || b == 92
+breaks_name b = b == space || b == line_feed || b == 92
 
 -- a name without any of these
 abbrev pub IsPlainName : List ℕ → Type 0
@@ -47,3 +49,7 @@ HasTexts (Comment text) = IsUtf8 text
 pub record IsReadBack (line : Line) (more : List ℕ) : Type 0 where
   pub reads : reading (first_row (written line ++ more)) ≡ says line
   pub behind : behind_row (written line ++ more) ≡ more
+
+-- before the bytes of lines, the written line makes the bytes of one line more
+abbrev pub IsLineBefore : Line → Type 0
+IsLineBefore line = (more : List ℕ) (lines : List Line) → AreLines more lines → AreLines (written line ++ more) (line ∷ lines)

@@ -7,7 +7,8 @@ pub fn bytes_are_cut()
     ensures { BytesAreCut }
 {}
 
-/// What a row says by the relation, a line or a fault, is what the function `reading` gives of it, and nothing else.
+/// What a row says by the relation, a line or a fault, is what the function `reading` gives of it,
+/// and nothing else.
 pub fn rows_are_read()
     ensures { RowsAreRead }
 {}

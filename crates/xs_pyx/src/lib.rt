@@ -1,14 +1,19 @@
 //! Documents in PYX form, line by line.
 #![tactic(auto)]
 
+pub mod fault;
+mod first_bytes;
 pub mod laws;
 pub mod line;
 mod read;
 #[cfg(test)]
 mod tests;
+mod view;
 mod write;
 
+pub use fault::Fault;
 pub use line::{Line, LineFault};
-pub use read::{next_line, skip_line};
+pub use read::{next_line, skip_line, view_line};
+pub use view::{Data, LineView};
 pub use write::write_line;
 pub use xs_trace::text::TextBuf;

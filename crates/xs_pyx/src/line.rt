@@ -7,7 +7,8 @@ use std::alloc::AllocError;
 use thiserror::Error;
 use xs_trace::text::TextBuf;
 
-/// A line of a document. Names are as they are written, values and texts are the data that stands behind their escapes.
+/// A line of a document. Names are as they are written, values and texts are the data that stands
+/// behind their escapes.
 #[derive(Debug, Drop)]
 pub enum Line {
     /// The start of an element of this name.
@@ -27,8 +28,8 @@ pub enum Line {
 /// Why there is no line.
 #[derive(Debug, Drop, Error)]
 pub enum LineFault {
-    /// The first line has a fault: 3 it is not UTF-8, 1 it is empty or its first byte is unknown, 2 a backslash begins no
-    /// pair, 4 no line feed ends it. Of several it is the first in this order.
+    /// The first line has a `Fault`. Of several it is the first in the order `BadUtf8`, `BadLine`,
+    /// `BadEscape`, `NoFinalLineFeed`.
     #[error("fault {number} on the line")]
     Bad {
         /// The number of the fault.

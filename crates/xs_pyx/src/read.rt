@@ -1,20 +1,27 @@
 //! Reads the first line of a document.
 
-ghost use Rattle.std.specs.Prelude.{◌≡◌, ℕ, ◌<◌, ◌≤◌, ◌-◌, ◌∷◌, ◌↔◌, IfOk, IsErrOf, IsTrue, IsSome, ◌==◌, drop, length};
+ghost use Rattle.std.specs.Prelude.{◌≡◌, ℕ, ◌<◌, ◌≤◌, ◌-◌, ◌∷◌, ◌↔◌, IfOk, IsErrOf, IsTrue, IsSome};
+ghost use Rattle.std.specs.Prelude.{◌==◌, drop, length};
 ghost use Rattle.std.specs.List.{list_any};
 ghost use Rattle.xs_text.specs.Escapes.{unescaped};
 ghost use Rattle.xs_pyx.specs.Row.{first_row, behind_row, rows_of, is_line_feed};
-ghost use Rattle.xs_pyx.specs.Reading.{reading, kind_reading, rest_reading, begins_line, line_of, name_in, value_in, data_of};
-ghost use Rattle.xs_pyx.specs.Results.{Reads, Finds, IsReading, SaysLine};
+ghost use Rattle.xs_pyx.specs.Reading.{reading, kind_reading, rest_reading, begins_line, line_of};
+ghost use Rattle.xs_pyx.specs.Reading.{name_in, value_in, data_of};
+ghost use Rattle.xs_pyx.specs.Results.{Reads, Finds, SaysLine};
+ghost use Rattle.xs_pyx.specs.Views.{data_shown, line_shown, told, HasReadable, IsReadable};
+ghost use Rattle.xs_pyx.specs.Views.{IsReadableData, IsViewing};
 
+use crate::fault::Fault;
+use crate::first_bytes::{ATTRIBUTE, COMMENT, END, INSTRUCTION, START, TEXT, begins_line};
 use crate::line::{Line, LineFault};
+use crate::view::{Data, LineView};
 use memchr::memchr;
-use std::alloc::{AllocError, Global};
+use std::alloc::Global;
 use std::str::from_utf8;
-use xs_text::{TextFault, is_well_escaped, unescape_into};
-use xs_trace::text::TextBuf;
+use xs_text::is_well_escaped;
 
-/// The bytes of the first line without its line feed, whether a line feed ends it, and the bytes behind it.
+/// The bytes of the first line without its line feed, whether a line feed ends it, and the bytes
+/// behind it.
 fn split_row(bytes: &[u8]) -> (&[u8], bool, &[u8])
     ensures first { record { bytes = result.0.now; ended = result.1 } ≡ first_row bytes.now }
     ensures behind { result.2.now ≡ behind_row bytes.now }
@@ -34,28 +41,22 @@ fn has_backslash(text: &str) -> bool
     memchr(b'\\', text.as_bytes()).is_some()
 }
 
-/// The data that a well escaped text stands for. One without a backslash stands for itself.
-#[tactic(auto, using(crate::proofs::Readings::unescaped_itself))]
-fn read_data(alloc: Global, written: &str) -> Result<TextBuf, AllocError>
+/// A well escaped text as the data that it shows.
+#[tactic(auto, using(crate::proofs::ReadLemmas::unescaped_itself))]
+fn view_data(written: &str) -> Data<'_>
     requires { IsSome (unescaped written.now) }
-    ensures { IfOk result (λ text. text ≡ data_of written.now) }
+    ensures shown { data_shown result ≡ data_of written.now }
+    ensures readable { IsReadableData result }
 {
-    if !has_backslash(written) {
-        return TextBuf::of(alloc, written);
-    }
-    let mut read = Vec::with_capacity(alloc, written.len())?;
-    match unescape_into(&mut read, written) {
-        Ok(()) => (),
-        Err(TextFault::NoMemory) => return Err(AllocError),
-        Err(TextFault::BadEscape) => unreachable!(),
-    }
-    match String::from_utf8(read) {
-        Ok(text) => Ok(TextBuf::from_string(text)),
-        Err(_) => unreachable!(),
+    if has_backslash(written) {
+        Data::Escaped(written)
+    } else {
+        Data::Plain(written)
     }
 }
 
-/// What stands before the first space, and what stands behind it; all and nothing where there is none.
+/// What stands before the first space, and what stands behind it; all and nothing where there is
+/// none.
 fn split_name(rest: &str) -> (&str, &str)
     ensures name { result.0.now ≡ name_in rest.now }
     ensures value { result.1.now ≡ value_in rest.now }
@@ -66,53 +67,56 @@ fn split_name(rest: &str) -> (&str, &str)
     }
 }
 
-#[tactic(auto, using(crate::proofs::Sayings::value_escaped))]
-fn read_attribute(alloc: Global, rest: &str) -> Result<Line, AllocError>
+/// The attribute of a line behind its first byte.
+#[tactic(auto, using(crate::proofs::LineLemmas::value_escaped))]
+fn view_attribute(rest: &str) -> LineView<'_>
     requires { IsSome (unescaped rest.now) }
-    ensures { IfOk result (λ line. line ≡ Line.Attr (name_in rest.now) (data_of (value_in rest.now))) }
+    ensures shown { line_shown result
+        ≡ Line.Attr (name_in rest.now) (data_of (value_in rest.now)) }
+    ensures readable { IsReadable result }
 {
     let (name, value) = split_name(rest);
-    Ok(Line::Attr {
-        name: TextBuf::of(alloc, name)?,
-        value: read_data(alloc, value)?,
-    })
-}
-
-#[tactic(auto, using(crate::proofs::Sayings::value_escaped))]
-fn read_instruction(alloc: Global, rest: &str) -> Result<Line, AllocError>
-    requires { IsSome (unescaped rest.now) }
-    ensures { IfOk result (λ line. line ≡ Line.Pi (name_in rest.now) (data_of (value_in rest.now))) }
-{
-    let (target, value) = split_name(rest);
-    Ok(Line::Pi {
-        target: TextBuf::of(alloc, target)?,
-        value: read_data(alloc, value)?,
-    })
-}
-
-/// The line with this first byte and this rest, which is well escaped.
-fn read_kind(alloc: Global, kind: u8, rest: &str) -> Result<Line, AllocError>
-    requires { IsSome (unescaped rest.now) }
-    ensures { IfOk result (λ line. line ≡ line_of kind rest.now) }
-{
-    match kind {
-        b'(' => Ok(Line::Start(TextBuf::of(alloc, rest)?)),
-        b'A' => read_attribute(alloc, rest),
-        b'-' => Ok(Line::Chars(read_data(alloc, rest)?)),
-        b')' => Ok(Line::End(TextBuf::of(alloc, rest)?)),
-        b'?' => read_instruction(alloc, rest),
-        _ => Ok(Line::Comment(read_data(alloc, rest)?)),
+    LineView::Attr {
+        name,
+        value: view_data(value),
     }
 }
 
-fn begins_line(kind: u8) -> bool
-    ensures { result ≡ begins_line kind }
+/// The processing instruction of a line behind its first byte.
+#[tactic(auto, using(crate::proofs::LineLemmas::value_escaped))]
+fn view_instruction(rest: &str) -> LineView<'_>
+    requires { IsSome (unescaped rest.now) }
+    ensures shown { line_shown result
+        ≡ Line.Pi (name_in rest.now) (data_of (value_in rest.now)) }
+    ensures readable { IsReadable result }
 {
-    matches!(kind, b'(' | b'A' | b'-' | b')' | b'?' | b'C')
+    let (target, value) = split_name(rest);
+    LineView::Pi {
+        target,
+        value: view_data(value),
+    }
+}
+
+/// The line with this first byte and this rest, which is well escaped.
+fn view_kind(kind: u8, rest: &str) -> LineView<'_>
+    requires begins { IsTrue (begins_line kind) }
+    requires escaped { IsSome (unescaped rest.now) }
+    ensures shown { line_shown result ≡ line_of kind rest.now }
+    ensures readable { IsReadable result }
+{
+    match kind {
+        START => LineView::Start(rest),
+        ATTRIBUTE => view_attribute(rest),
+        TEXT => LineView::Chars(view_data(rest)),
+        END => LineView::End(rest),
+        INSTRUCTION => view_instruction(rest),
+        COMMENT => LineView::Comment(view_data(rest)),
+        _ => unreachable!(),
+    }
 }
 
 /// Whether each backslash of the text begins a pair, as where there is none.
-#[tactic(auto, using(crate::proofs::Readings::unescaped_itself))]
+#[tactic(auto, using(crate::proofs::ReadLemmas::unescaped_itself))]
 fn is_readable(text: &str) -> bool
     ensures { IsTrue result ↔ IsSome (unescaped text.now) }
 {
@@ -120,64 +124,85 @@ fn is_readable(text: &str) -> bool
 }
 
 /// What a line with this first byte says.
-fn read_rest(alloc: Global, kind: u8, rest: &str, ended: bool) -> Result<Line, LineFault>
-    ensures { IsReading result (rest_reading kind rest.now ended) }
+fn view_rest(kind: u8, rest: &str, ended: bool) -> Result<LineView<'_>, Fault>
+    requires { IsTrue (begins_line kind) }
+    ensures { IsViewing result (rest_reading kind rest.now ended) }
 {
     if !is_readable(rest) {
-        return Err(LineFault::Bad { number: 2 });
+        return Err(Fault::BadEscape);
     }
     if !ended {
-        return Err(LineFault::Bad { number: 4 });
+        return Err(Fault::NoFinalLineFeed);
     }
-    Ok(read_kind(alloc, kind, rest)?)
+    Ok(view_kind(kind, rest))
 }
 
 /// What a line that is text says.
-fn read_text(alloc: Global, text: &str, ended: bool) -> Result<Line, LineFault>
-    ensures { IsReading result (kind_reading text.now ended) }
+fn view_text(text: &str, ended: bool) -> Result<LineView<'_>, Fault>
+    ensures { IsViewing result (kind_reading text.now ended) }
 {
     match text.as_bytes() {
-        [kind, ..] if begins_line(*kind) => read_rest(alloc, *kind, &text[1..], ended),
-        _ => Err(LineFault::Bad { number: 1 }),
+        [kind, ..] if begins_line(*kind) => view_rest(*kind, &text[1..], ended),
+        _ => Err(Fault::BadLine),
     }
 }
 
 /// What a line by itself says.
-fn read_row(alloc: Global, bytes: &[u8], ended: bool) -> Result<Line, LineFault>
-    ensures { IsReading result (reading (record { bytes = bytes.now; ended = ended })) }
+fn view_row(bytes: &[u8], ended: bool) -> Result<LineView<'_>, Fault>
+    ensures { IsViewing result (reading (record { bytes = bytes.now; ended = ended })) }
 {
     match from_utf8(bytes) {
-        Ok(text) => read_text(alloc, text, ended),
-        Err(_) => Err(LineFault::Bad { number: 3 }),
+        Ok(text) => view_text(text, ended),
+        Err(_) => Err(Fault::BadUtf8),
     }
 }
 
-/// The first line of a document, and how many bytes it takes, the line feed at its end among them.
+/// The first line of a document as it stands in its bytes, and how many of them it takes, the line
+/// feed at its end among them. No memory.
 ///
-/// There is no line exactly where `bytes` is empty. `Bad` has the fault of the first line by itself; `NoMemory` says that
-/// memory ran out for a line that has no fault. `lines` says so by the relation between bytes and whole lines, `first` by the
-/// function `reading`.
-pub fn next_line(alloc: Global, bytes: &[u8]) -> Result<Option<(Line, usize)>, LineFault>
-    ensures first { Reads result bytes.now }
-    ensures lines { Finds result bytes.now }
-    ensures rows { 0 < length bytes.now → rows_of bytes.now ≡ first_row bytes.now ∷ rows_of (behind_row bytes.now) }
-
-    // A fault is told even where there is no memory.
-    ensures memory { IsErrOf result LineFault.NoMemory → SaysLine (reading (first_row bytes.now)) }
+/// There is no line exactly where `bytes` is empty, and an error is the fault of the first line by
+/// itself: the answer is that of `next_line`, which never runs out of memory here.
+pub fn view_line(bytes: &[u8]) -> Result<Option<(LineView<'_>, usize)>, Fault>
+    ensures first { Reads (told result) bytes.now }
+    ensures lines { Finds (told result) bytes.now }
+    ensures readable { HasReadable result }
+    ensures rows { 0 < length bytes.now
+        → rows_of bytes.now ≡ first_row bytes.now ∷ rows_of (behind_row bytes.now) }
 {
     if bytes.is_empty() {
         return Ok(None);
     }
     let (row, ended, behind) = split_row(bytes);
-    let line = read_row(alloc, row, ended)?;
-    Ok(Some((line, bytes.len() - behind.len())))
+    let view = view_row(row, ended)?;
+    Ok(Some((view, bytes.len() - behind.len())))
+}
+
+/// The first line of a document, and how many bytes it takes, the line feed at its end among them.
+///
+/// There is no line exactly where `bytes` is empty. `Bad` has the fault of the first line by
+/// itself; `NoMemory` says that memory ran out for a line that has no fault. `lines` says so by the
+/// relation between bytes and whole lines, `first` by the function `reading`.
+pub fn next_line(alloc: Global, bytes: &[u8]) -> Result<Option<(Line, usize)>, LineFault>
+    ensures first { Reads result bytes.now }
+    ensures lines { Finds result bytes.now }
+    ensures rows { 0 < length bytes.now
+        → rows_of bytes.now ≡ first_row bytes.now ∷ rows_of (behind_row bytes.now) }
+
+    // A fault is told even where there is no memory.
+    ensures memory { IsErrOf result LineFault.NoMemory → SaysLine (reading (first_row bytes.now)) }
+{
+    match view_line(bytes)? {
+        Some((view, taken)) => Ok(Some((view.to_line(alloc)?, taken))),
+        None => Ok(None),
+    }
 }
 
 /// The bytes behind the first line. No memory.
 pub fn skip_line(bytes: &[u8]) -> &[u8]
     ensures behind { result.now ≡ behind_row bytes.now }
     ensures shorter { 0 < length bytes.now → length result.now < length bytes.now }
-    ensures rows { 0 < length bytes.now → rows_of bytes.now ≡ first_row bytes.now ∷ rows_of (behind_row bytes.now) }
+    ensures rows { 0 < length bytes.now
+        → rows_of bytes.now ≡ first_row bytes.now ∷ rows_of (behind_row bytes.now) }
 {
     split_row(bytes).2
 }

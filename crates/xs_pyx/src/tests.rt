@@ -69,20 +69,29 @@ fn takes(rt: &HostRuntime, bytes: &[u8], want: usize) -> bool {
 
 /// What single rows say by the relation between bytes and lines.
 fn worked_lines()
-    ensures name { Says (record { bytes = codes "(a:b"; ended = true }) (says (Line.Start (codes "a:b"))) }
-    ensures pair_in_name { Says (record { bytes = codes "(a\\n"; ended = true }) (says (Line.Start (codes "a\\n"))) }
-    ensures no_space { Says (record { bytes = codes "Ax"; ended = true }) (says (Line.Attr (codes "x") [])) }
-    ensures space_at_end { Says (record { bytes = codes "Ax "; ended = true }) (says (Line.Attr (codes "x") [])) }
-    ensures two_spaces { Says (record { bytes = codes "?a b c"; ended = true }) (says (Line.Pi (codes "a") (codes "b c"))) }
-    ensures space_first { Says (record { bytes = codes "A  x"; ended = true }) (says (Line.Attr [] (codes " x"))) }
-    ensures pairs { Says (record { bytes = codes "Aa\\n \\n"; ended = true }) (says (Line.Attr (codes "a\\n") (10 ∷ []))) }
+    ensures name { Says (record { bytes = codes "(a:b"; ended = true })
+        (says (Line.Start (codes "a:b"))) }
+    ensures pair_in_name { Says (record { bytes = codes "(a\\n"; ended = true })
+        (says (Line.Start (codes "a\\n"))) }
+    ensures no_space { Says (record { bytes = codes "Ax"; ended = true })
+        (says (Line.Attr (codes "x") [])) }
+    ensures space_at_end { Says (record { bytes = codes "Ax "; ended = true })
+        (says (Line.Attr (codes "x") [])) }
+    ensures two_spaces { Says (record { bytes = codes "?a b c"; ended = true })
+        (says (Line.Pi (codes "a") (codes "b c"))) }
+    ensures space_first { Says (record { bytes = codes "A  x"; ended = true })
+        (says (Line.Attr [] (codes " x"))) }
+    ensures pairs { Says (record { bytes = codes "Aa\\n \\n"; ended = true })
+        (says (Line.Attr (codes "a\\n") (10 ∷ []))) }
     ensures empty_text { Says (record { bytes = codes "-"; ended = true }) (says (Line.Chars [])) }
-    ensures carriage_return { Says (record { bytes = 45 ∷ 97 ∷ 13 ∷ []; ended = true }) (says (Line.Chars (97 ∷ 13 ∷ []))) }
+    ensures carriage_return { Says (record { bytes = 45 ∷ 97 ∷ 13 ∷ []; ended = true })
+        (says (Line.Chars (97 ∷ 13 ∷ []))) }
 {}
 
 /// The faults of single rows by the relation, where several might be meant.
 fn worked_faults()
-    ensures not_utf8 { Says (record { bytes = 45 ∷ 92 ∷ 113 ∷ 255 ∷ []; ended = false }) (faulty 3) }
+    ensures not_utf8 { Says (record { bytes = 45 ∷ 92 ∷ 113 ∷ 255 ∷ []; ended = false })
+        (faulty 3) }
     ensures empty { Says (record { bytes = []; ended = true }) (faulty 1) }
     ensures unknown { Says (record { bytes = codes "x\\q"; ended = false }) (faulty 1) }
     ensures pair_over_space { Says (record { bytes = codes "A\\ b"; ended = true }) (faulty 2) }
@@ -93,7 +102,8 @@ fn worked_faults()
 
 /// A document of two lines, and one of none.
 fn worked_documents()
-    ensures two { AreLines (40 ∷ 114 ∷ 10 ∷ 41 ∷ 114 ∷ 10 ∷ []) (Line.Start (codes "r") ∷ Line.End (codes "r") ∷ []) }
+    ensures two { AreLines (40 ∷ 114 ∷ 10 ∷ 41 ∷ 114 ∷ 10 ∷ [])
+        (Line.Start (codes "r") ∷ Line.End (codes "r") ∷ []) }
     ensures none { AreLines [] [] }
 {}
 

@@ -1,4 +1,4 @@
-pub mod Occurrences
-pub mod Windows
-pub mod Words
-pub mod Utf8
+pub mod OccurrenceLemmas
+pub mod Utf8Lemmas
+pub mod WindowLemmas
+pub mod WordLemmas

@@ -1,4 +1,4 @@
 pub mod Positions
 pub mod Searching
-pub mod Spaces
+pub mod Normalization
 pub mod Translation

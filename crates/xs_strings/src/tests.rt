@@ -1,8 +1,8 @@
-// The worked examples of the string functions.
+//! The worked examples of the string functions.
 
+use crate::normalization::normalize_space;
 use crate::positions::{char_count, substring};
 use crate::searching::{substring_after, substring_before};
-use crate::spaces::normalize_space;
 use crate::translation::translate;
 use std::test::Fail;
 use xs_num::number::Num;

@@ -1,17 +1,37 @@
-// Characters replaced by others.
+//! Characters replaced by others.
 
-ghost use Rattle.std.specs.Prelude.{◌≡◌, [], ◌∷◌, ◌++◌, OnOk, OnErr};
+ghost use Rattle.std.specs.Prelude.{◌≡◌, [], ◌∷◌, ◌++◌, OnOk, OnErr, take, vec_len};
 ghost use Rattle.std.specs.Char.{encode_utf8};
-ghost use Rattle.std.specs.Str.{chars, encode_utf8_all};
+ghost use Rattle.std.specs.Str.{chars, encode_utf8_all, IsUtf8};
 ghost use Rattle.xs_strings.specs.Translation.{replacement, translated};
 
 use std::alloc::AllocError;
 
 /// Appends `s` with each character that `from` holds replaced by the character of `to` at the
 /// place of its first occurrence in `from`, and removed where `to` has no such place
-/// (XPath 1.0, 4.2). On an error `out` may hold a part of it.
+/// (XPath 1.0, 4.2). After a refusal `out` is as it was.
 pub fn translate(out: &mut Vec<u8>, s: &str, from: &str, to: &str) -> Result<(), AllocError>
-    ensures { OnOk result (out.new.items ≡ out.old.items ++ encode_utf8_all (translated (chars s.now) (chars from.now) (chars to.now))) }
+    ensures ok { OnOk result
+        (out.new.items ≡ out.old.items
+        ++ encode_utf8_all (translated (chars s.now) (chars from.now) (chars to.now))) }
+    ensures err { OnErr result (out.new.items ≡ out.old.items) }
+    ensures utf8 { IsUtf8 out.old.items → IsUtf8 out.new.items }
+{
+    let start = out.len();
+    let outcome = append_translated(out, s, from, to);
+    if outcome.is_err() {
+        out.truncate(start);
+    }
+    outcome
+}
+
+/// Appends `s` with its characters replaced. After a refusal more than `out` had may stand behind
+/// it.
+fn append_translated(out: &mut Vec<u8>, s: &str, from: &str, to: &str) -> Result<(), AllocError>
+    ensures ok { OnOk result
+        (out.new.items ≡ out.old.items
+        ++ encode_utf8_all (translated (chars s.now) (chars from.now) (chars to.now))) }
+    ensures kept { take (vec_len out.old) out.new.items ≡ out.old.items }
 {
     for character in s.chars() {
         push_replacement(out, character, from, to)?;
@@ -19,13 +39,17 @@ pub fn translate(out: &mut Vec<u8>, s: &str, from: &str, to: &str) -> Result<(),
     Ok(())
 }
 
+/// Appends what stands for a character, if anything does.
 fn push_replacement(
     out: &mut Vec<u8>,
     character: char,
     from: &str,
     to: &str,
 ) -> Result<(), AllocError>
-    ensures { OnOk result (out.new.items ≡ out.old.items ++ encode_utf8_all (translated (character ∷ []) (chars from.now) (chars to.now))) }
+    ensures ok { OnOk result
+        (out.new.items ≡ out.old.items
+        ++ encode_utf8_all (translated (character ∷ []) (chars from.now) (chars to.now))) }
+    ensures err { OnErr result (out.new.items ≡ out.old.items) }
 {
     match replacement(character, from, to) {
         Some(replaced) => push_char(out, replaced),
@@ -33,6 +57,8 @@ fn push_replacement(
     }
 }
 
+/// What stands for a character: itself where `from` does not hold it, else the character of `to` at
+/// its first place there, if any.
 fn replacement(character: char, from: &str, to: &str) -> Option<char>
     ensures { result ≡ replacement (chars from.now) (chars to.now) character }
 {
@@ -42,10 +68,11 @@ fn replacement(character: char, from: &str, to: &str) -> Option<char>
     }
 }
 
-/// Appends a character. On an error `out` is as it was.
+/// Appends a character. After a refusal `out` is as it was.
 pub fn push_char(out: &mut Vec<u8>, character: char) -> Result<(), AllocError>
     ensures ok { OnOk result (out.new.items ≡ out.old.items ++ encode_utf8 character) }
     ensures err { OnErr result (out.new.items ≡ out.old.items) }
+    ensures utf8 { IsUtf8 out.old.items → IsUtf8 out.new.items }
 {
     let mut bytes = [0; 4];
     out.extend_from_slice(character.encode_utf8(&mut bytes).as_bytes())

@@ -1,4 +1,5 @@
-pub mod Escaping
-pub mod Naming
-pub mod Unescaping
-pub mod Utf8
+pub mod EscapeLemmas
+pub mod FirstByteLemmas
+pub mod NameLemmas
+pub mod UnescapeLemmas
+pub mod Utf8Lemmas

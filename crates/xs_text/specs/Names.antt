@@ -1,6 +1,7 @@
 -- Names: the NCName and the QName of Namespaces in XML 1.0 over the characters of XML 1.0, fifth edition.
-use Rattle.std.specs.Prelude.{ℕ, ◌≡◌, Bool, false, ◌&&◌, ◌||◌, ◌==◌, nat_le, IsTrue, List, [], ◌∷◌, ◌++◌, ◌⊎◌}
-use Rattle.std.specs.List.{list_all}
+use Rattle.std.specs.Prelude.{ℕ, ◌≡◌, Bool, false, ◌&&◌, ◌||◌, ◌==◌, nat_le, IsTrue, List, [], ◌∷◌, ◌++◌, ◌⊎◌, Option, Some, None, if◌then◌else◌}
+use Rattle.std.specs.Borrow.{Bor}
+use Rattle.std.specs.List.{list_all, list_any, before_first, after_first}
 use Rattle.std.specs.Str.{chars}
 
 -- the code points from the first to the last, both among them
@@ -56,8 +57,11 @@ spells_ncname [] = false
 spells_ncname (c ∷ cs) = starts_name c && list_all continues_name cs
 
 -- a text, by its bytes, is an NCName: Namespaces in XML 1.0, 3, production 4
+abbrev pub is_ncname : List ℕ → Bool
+is_ncname text = spells_ncname (chars text)
+
 abbrev pub IsNcName : List ℕ → Type 0
-IsNcName text = IsTrue (spells_ncname (chars text))
+IsNcName text = IsTrue (is_ncname text)
 
 -- A text is a QName with this prefix and this local part: Namespaces in XML 1.0, 4, productions 7 to 11. A name
 -- without a colon has the empty prefix.
@@ -66,6 +70,24 @@ IsQName text prefix local =
     ((prefix ≡ []) × (local ≡ text) × IsNcName text)
     ⊎ ((text ≡ prefix ++ 58 ∷ local) × IsNcName prefix × IsNcName local)
 
--- white space: XML 1.0, 2.3, production 3
-abbrev pub is_space : ℕ → Bool
-is_space c = c == 0x20 || c == 0x9 || c == 0xD || c == 0xA
+-- the parts of a QName; the prefix is empty where there is none
+pub record QName : Type 0 where
+  pub prefix : List ℕ
+  pub local : List ℕ
+
+abbrev pub is_colon : ℕ → Bool
+is_colon b = b == 58
+
+abbrev pub prefixed : List ℕ → List ℕ → Option QName
+prefixed prefix local = if is_ncname prefix && is_ncname local then Some (record { prefix = prefix; local = local }) else None
+
+abbrev pub unprefixed : List ℕ → Option QName
+unprefixed text = if is_ncname text then Some (record { prefix = []; local = text }) else None
+
+-- The same as a function: the parts of a text, cut at its first colon; None where the text is no QName.
+unfoldable pub qname_of : List ℕ → Option QName
+qname_of text = if list_any is_colon text then prefixed (before_first is_colon text) (after_first is_colon text) else unprefixed text
+
+-- a prefix and a local part as the code has them
+abbrev pub qname_parts : Bor (List ℕ) × Bor (List ℕ) → QName
+qname_parts parts = record { prefix = parts.0.now; local = parts.1.now }

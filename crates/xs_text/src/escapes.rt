@@ -1,6 +1,8 @@
 //! The escapes of PYX data: `\n`, `\t`, `\r` and `\\`.
 
-ghost use Rattle.std.specs.Prelude.{◌≡◌, ℕ, ◌+◌, ◌<◌, ◌↔◌, [], ◌∷◌, ◌++◌, List, length, take, drop, vec_len, IsTrue, IsSome, IsSomeAnd, IsErrOf, OnOk, OnErr, MatchOption, MatchResult};
+ghost use Rattle.std.specs.Prelude.{◌≡◌, ℕ, ◌+◌, ◌<◌, ◌↔◌, [], ◌∷◌, ◌++◌, List, length, take, drop};
+ghost use Rattle.std.specs.Prelude.{vec_len, IsTrue, IsSome, IsSomeAnd, IsErrOf, OnOk, OnErr};
+ghost use Rattle.std.specs.Prelude.{MatchOption, MatchResult};
 ghost use Rattle.std.specs.Str.{IsUtf8};
 ghost use Rattle.xs_text.specs.Escapes.{letter_of, byte_of, escaped, unescaped, behind, StandsFor};
 
@@ -31,7 +33,8 @@ fn escape_letter(byte: u8) -> Option<u8>
     }
 }
 
-/// What stands before the first byte that is written as a pair, the letter of that pair, and what follows.
+/// What stands before the first byte that is written as a pair, the letter of that pair, and what
+/// follows.
 fn first_escape(text: &[u8]) -> Option<(&[u8], u8, &[u8])>
     ensures { MatchOption result
         (escaped text.now ≡ text.now)
@@ -61,8 +64,8 @@ fn append_escaped(out: &mut Vec<u8>, text: &[u8]) -> Result<(), AllocError>
     out.extend_from_slice(rest)
 }
 
-/// Appends `s` to `out` as PYX data: line feed, tab, carriage return and backslash as pairs, and every
-/// other byte as itself. After a refusal `out` is as it was.
+/// Appends `s` to `out` as PYX data: line feed, tab, carriage return and backslash as pairs, and
+/// every other byte as itself. After a refusal `out` is as it was.
 pub fn escape_into(out: &mut Vec<u8>, s: &str) -> Result<(), AllocError>
     ensures ok { OnOk result (out.new.items ≡ out.old.items ++ escaped s.now) }
     ensures err { OnErr result (out.new.items ≡ out.old.items) }
@@ -92,8 +95,8 @@ fn escaped_byte(letter: u8) -> Option<u8>
     }
 }
 
-/// What stands before the first pair, the byte that the pair stands for, and what follows; an error where the
-/// first backslash begins no pair.
+/// What stands before the first pair, the byte that the pair stands for, and what follows; an error
+/// where the first backslash begins no pair.
 fn first_pair(text: &[u8]) -> Result<Option<(&[u8], u8, &[u8])>, TextFault>
     ensures { MatchResult result
         (λ found. MatchOption found
@@ -146,8 +149,8 @@ fn append_unescaped(out: &mut Vec<u8>, text: &[u8]) -> Result<(), TextFault>
     out.extend_from_slice(rest).map_err(|_| TextFault::NoMemory)
 }
 
-/// Appends to `out` the data that `s` stands for, a pair for its byte and every other byte for itself. After
-/// an error `out` is as it was.
+/// Appends to `out` the data that `s` stands for, a pair for its byte and every other byte for
+/// itself. After an error `out` is as it was.
 pub fn unescape_into(out: &mut Vec<u8>, s: &str) -> Result<(), TextFault>
     ensures ok { OnOk result
         (IsSomeAnd (unescaped s.now) (λ read. out.new.items ≡ out.old.items ++ read)) }

@@ -1,8 +1,10 @@
-//! Names of XML and the escapes of PYX data.
+//! The small words of XML texts: names, white space, and the escapes of PYX data.
 #![tactic(auto)]
 
 mod escapes;
 mod names;
+mod white_space;
 
 pub use escapes::{TextFault, escape_into, is_well_escaped, unescape_into};
-pub use names::{is_name_char, is_name_start, is_ncname, is_space, split_qname};
+pub use names::{is_name_char, is_name_start, is_ncname, split_qname};
+pub use white_space::{is_blank, is_space, is_space_byte};

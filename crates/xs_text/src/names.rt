@@ -1,14 +1,8 @@
-//! NCNames and QNames of Namespaces in XML 1.0, and white space.
+//! NCNames and QNames of Namespaces in XML 1.0.
 
-ghost use Rattle.std.specs.Prelude.{◌≡◌, ℕ, ◌↔◌, List, IsTrue, IfSome, IfNone};
-ghost use Rattle.xs_text.specs.Names.{starts_name, continues_name, IsNcName, IsQName, is_space};
-
-/// Whether a character is white space: XML 1.0, 2.3, production 3.
-pub fn is_space(c: char) -> bool
-    ensures { result ≡ is_space c }
-{
-    matches!(c, ' ' | '\t' | '\r' | '\n')
-}
+ghost use Rattle.std.specs.Prelude.{◌≡◌, ℕ, ◌↔◌, List, IsTrue, IfSome, IfNone, option_map};
+ghost use Rattle.xs_text.specs.Names.{starts_name, continues_name, is_ncname, IsNcName, IsQName};
+ghost use Rattle.xs_text.specs.Names.{prefixed, unprefixed, qname_of, qname_parts};
 
 /// Whether a character may begin a name: XML 1.0, 2.3, production 4, without the colon.
 pub fn is_name_start(c: char) -> bool
@@ -34,17 +28,21 @@ pub fn is_name_start(c: char) -> bool
     )
 }
 
-/// Whether a character may stand in a name behind its first: XML 1.0, 2.3, production 4a, without the colon.
+/// Whether a character may stand in a name behind its first: XML 1.0, 2.3, production 4a, without
+/// the colon.
 pub fn is_name_char(c: char) -> bool
     ensures { result ≡ continues_name c }
 {
     is_name_start(c)
-        || matches!(c, '-' | '.' | '0'..='9' | '\u{B7}' | '\u{300}'..='\u{36F}' | '\u{203F}'..='\u{2040}')
+        || matches!(
+            c,
+            '-' | '.' | '0'..='9' | '\u{B7}' | '\u{300}'..='\u{36F}' | '\u{203F}'..='\u{2040}'
+        )
 }
 
 /// Whether a text is an NCName: a name of XML 1.0, fifth edition, without a colon.
 pub fn is_ncname(s: &str) -> bool
-    ensures { IsTrue result ↔ IsNcName s.now }
+    ensures { result ≡ is_ncname s.now }
 {
     let mut chars = s.chars();
     let Some(first) = chars.next() else {
@@ -53,18 +51,36 @@ pub fn is_ncname(s: &str) -> bool
     is_name_start(first) && chars.all(is_name_char)
 }
 
-/// The prefix, which may be empty, and the local part of a QName; `None` where the text is no QName.
-pub fn split_qname(s: &str) -> Option<(&str, &str)>
-    ensures parts { IfSome result (λ name. IsQName s.now name.0.now name.1.now) }
-    ensures none { IfNone result ((prefix local : List ℕ) → ¬ IsQName s.now prefix local) }
+/// The parts of a name with a colon.
+fn prefixed<'a>(prefix: &'a str, local: &'a str) -> Option<(&'a str, &'a str)>
+    ensures { option_map qname_parts result ≡ prefixed prefix.now local.now }
 {
-    let Some((prefix, local)) = s.split_once(':') else {
-        return if is_ncname(s) { Some(("", s)) } else { None };
-    };
     if is_ncname(prefix) && is_ncname(local) {
         Some((prefix, local))
     } else {
         None
+    }
+}
+
+/// The parts of a name without a colon.
+fn unprefixed(s: &str) -> Option<(&str, &str)>
+    ensures { option_map qname_parts result ≡ unprefixed s.now }
+{
+    if is_ncname(s) { Some(("", s)) } else { None }
+}
+
+/// The prefix, which may be empty, and the local part of a QName; `None` where the text is none.
+#[tactic(auto, unfolding(crate::specs::Names::qname_of))]
+pub fn split_qname(s: &str) -> Option<(&str, &str)>
+    ensures named { option_map qname_parts result ≡ qname_of s.now }
+
+    // The function says what the productions say.
+    ensures parts { IfSome result (λ name. IsQName s.now name.0.now name.1.now) }
+    ensures none { IfNone result ((prefix local : List ℕ) → ¬ IsQName s.now prefix local) }
+{
+    match s.split_once(':') {
+        Some((prefix, local)) => prefixed(prefix, local),
+        None => unprefixed(s),
     }
 }
 

@@ -1,5 +1,11 @@
-pub mod CutLaws
-pub mod Grows
-pub mod PlayLaws
-pub mod Kept
-pub mod RunLaws
+pub mod CutLemmas
+pub mod GrowthLemmas
+pub mod PlayLemmas
+pub mod KeptLemmas
+pub mod StoreLemmas
+pub mod SectionLemmas
+pub mod PieceLemmas
+pub mod RunLemmas
+pub mod MeterLemmas
+pub mod FillLemmas
+pub mod ProbeLemmas

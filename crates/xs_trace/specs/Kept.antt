@@ -1,9 +1,8 @@
 -- The marks that kept items stand for.
-use Rattle.std.specs.Prelude.{◌≡◌, ℕ, List, [], ◌∷◌, ◌++◌, reverse, map, Result, Ok, Err}
+use Rattle.std.specs.Prelude.{◌≡◌, ◌<◌, ℕ, List, [], ◌∷◌, ◌++◌, Option, Some, None, Result, Ok, Err}
 use Rattle.xs_trace.specs.Mark.{Put, Say, Trace, ticks, tick_count}
-use Rattle.xs_trace.specs.Cut.{End, Finished, Stopped, Needs, Budget, TooMany, Cut}
+use Rattle.xs_trace.specs.Cut.{End, Whole, Fault, Needs, Spent, Full, Cut}
 use Rattle.xs_trace.specs.declared.event.Event.{Event}
-use Rattle.xs_trace.specs.declared.event.Fragment.{Fragment}
 use Rattle.xs_trace.specs.declared.item.Item.{Item}
 use Rattle.xs_trace.specs.declared.item.Item.TheVariants as item
 use Rattle.xs_trace.specs.declared.item.Site.{Site}
@@ -11,50 +10,68 @@ use Rattle.xs_trace.specs.declared.recorder.Halt.{Halt}
 use Rattle.xs_trace.specs.declared.recorder.Halt.TheVariants as halt
 use Rattle.xs_trace.specs.declared.item.Spot.{Spot}
 use Rattle.xs_trace.specs.declared.item.Ended.{Ended}
-use Rattle.xs_trace.specs.declared.item.Ended.TheVariants.{Whole, Fault, Spent, Full}
+use Rattle.xs_trace.specs.declared.item.Ended.TheVariants as ended
 use Rattle.xs_trace.specs.declared.whole.Kept.{Kept}
 
 -- a run is that many ticks at one place
-abbrev pub item_marks : Item → Trace
+abbrev pub item_marks : {H : Type 0} → Item → Trace H
 item_marks (item.Run m l n) = ticks (record { «module» = m; line = l }) n []
 item_marks (item.Put e) = Put e ∷ []
 item_marks (item.Say t) = Say t ∷ []
 
-abbrev pub marks_of : List Item → Trace
+abbrev pub marks_of : {H : Type 0} → List Item → Trace H
 marks_of [] = []
 marks_of (i ∷ is) = item_marks i ++ marks_of is
 
-abbrev pub events_in : Fragment → List Event
-events_in f = f.events.items
+-- the place of the run that comes first, if one does
+abbrev pub first_run : List Item → Option Site
+first_run [] = None
+first_run (item.Run m l n ∷ is) = Some (record { «module» = m; line = l })
+first_run (item.Put e ∷ is) = None
+first_run (item.Say t ∷ is) = None
 
--- the innermost capture, which was opened last, first
-abbrev pub inmost_first : List Fragment → List (List Event)
-inmost_first cs = reverse (map events_in cs)
+-- no run is empty, and none stands beside one at the same place
+abbrev pub IsPacked : List Item → Type 0
+IsPacked [] = Unit {0}
+IsPacked (item.Run m l n ∷ is) = (0 < n) × ((first_run is ≡ Some (record { «module» = m; line = l }) → ⊥) × IsPacked is)
+IsPacked (item.Put e ∷ is) = IsPacked is
+IsPacked (item.Say t ∷ is) = IsPacked is
 
 abbrev pub spot : ℕ → Site → Spot
 spot f p = record { fault = f; «module» = p.«module»; line = p.line }
 
--- How a run ended, by the end of its cut: 50 is Budget, 63 is TooManyEvents. A global that has no value by then is
--- circular, which is 59.
-abbrev pub ended_by : End → Ended
-ended_by Finished = Whole
-ended_by (Stopped f p) = Fault (spot f p)
-ended_by (Needs g p) = Fault (spot 59 p)
-ended_by (Budget p) = Spent (spot 50 p)
-ended_by (TooMany p) = Full (spot 63 p)
+-- How a run ended, by the end of its cut; a limit on ticks that is passed is the fault 50, one on events the fault 63. To need
+-- a global is no end of a run: what follows is for those who settle globals to say.
+abbrev pub ended_by : End → Option Ended
+ended_by Whole = Some ended.Whole
+ended_by (Fault f p) = Some (ended.Fault (spot f p))
+ended_by (Needs g p) = None
+ended_by (Spent p) = Some (ended.Spent (spot 50 p))
+ended_by (Full p) = Some (ended.Full (spot 63 p))
 
--- how a run ended, by what its last call gave; of a run that its recorder ended, or that lacked memory, nothing is said
+-- what was told is no need of a global
+abbrev pub NeedsNone : Result (Unit {0}) Halt → Type 0
+NeedsNone (Ok u) = Unit {0}
+NeedsNone (Err (halt.Fault f p)) = Unit {0}
+NeedsNone (Err (halt.Needs g p)) = ⊥
+NeedsNone (Err (halt.Spent p)) = Unit {0}
+NeedsNone (Err (halt.Full p)) = Unit {0}
+NeedsNone (Err (halt.Over t)) = Unit {0}
+NeedsNone (Err halt.NoMemory) = Unit {0}
+
+-- how a run ended, by what its last call gave; of a run that lacked memory nothing is said
 abbrev pub IsEnded : Result (Unit {0}) Halt → Ended → Type 0
-IsEnded (Ok u) e = e ≡ ended_by Finished
-IsEnded (Err (halt.Stopped f p)) e = e ≡ ended_by (Stopped f p)
-IsEnded (Err (halt.Needs g p)) e = e ≡ ended_by (Needs g p)
-IsEnded (Err (halt.Spent p)) e = e ≡ ended_by (Budget p)
-IsEnded (Err (halt.Full p)) e = e ≡ ended_by (TooMany p)
-IsEnded (Err halt.Over) e = Unit {0}
+IsEnded (Ok u) e = ended_by Whole ≡ Some e
+IsEnded (Err (halt.Fault f p)) e = ended_by (Fault f p) ≡ Some e
+IsEnded (Err (halt.Needs g p)) e = ⊥
+IsEnded (Err (halt.Spent p)) e = ended_by (Spent p) ≡ Some e
+IsEnded (Err (halt.Full p)) e = ended_by (Full p) ≡ Some e
+IsEnded (Err (halt.Over t)) e = e ≡ ended.Over t
 IsEnded (Err halt.NoMemory) e = ⊥
 
--- all that passed a cut, its end, and how many ticks passed
-pub record Keeps (c : Cut) (k : Kept) : Type 0 where
+-- all that passed a cut, in the fewest items, its end, and how many ticks passed
+pub record Keeps {H : Type 0} (c : Cut H) (k : Kept) : Type 0 where
   pub marks : marks_of k.items.items ≡ c.passed
-  pub ended : k.ended ≡ ended_by c.end
+  pub packed : IsPacked k.items.items
+  pub ended : ended_by c.end ≡ Some k.ended
   pub ticks : k.ticks ≡ tick_count c.passed

@@ -2,8 +2,16 @@ pub mod Event
 pub mod Mark
 pub mod Cut
 pub mod Laws
+pub mod Fill
 pub mod State
 pub mod Play
 pub mod PlayLaws
 pub mod Kept
+pub mod Keeping
+pub mod Store
 pub mod Run
+pub mod Meter
+pub mod Total
+pub mod Sections
+pub mod Piece
+pub mod Probe

@@ -1,101 +1,113 @@
 -- A trace that is told to a recorder, mark by mark, under its limits.
-use Rattle.std.specs.Prelude.{◌≡◌, ℕ, ◌/◌, length, List, [], ◌∷◌, ◌++◌, Option, Some, None, Result, Ok, Err, Bool, true, if◌then◌else◌}
+use Rattle.std.specs.Prelude.{◌≡◌, ℕ, ◌+◌, ◌/◌, length, List, [], ◌∷◌, ◌++◌, Option, Some, None, Result, Ok, Err, if◌then◌else◌}
 use Rattle.xs_trace.specs.Event.{text_of}
-use Rattle.xs_trace.specs.Mark.{Tick, Put, Say, Stop, Need, Hole, Trace, ticks}
-use Rattle.xs_trace.specs.Cut.{End, Finished, Stopped, Needs, Budget, TooMany}
-use Rattle.xs_trace.specs.State.{State, allows, adds, after_tick, after_ticks, after_put, captures_are, said, shown}
+use Rattle.xs_trace.specs.Mark.{Tick, Put, Say, Stop, Need, Hole, Trace, ticks, tick_count}
+use Rattle.xs_trace.specs.Cut.{End, Whole, Fault, Needs, Spent, Full}
+use Rattle.xs_trace.specs.State.{State, Shared, passed, IsAbove, place, allows, adds, after_tick, after_ticks, after_put, captures_are, said, shown}
 use Rattle.xs_trace.specs.declared.event.Event.{Event}
 use Rattle.xs_trace.specs.declared.item.Site.{Site}
 use Rattle.xs_trace.specs.declared.recorder.Halt.{Halt}
 use Rattle.xs_trace.specs.declared.recorder.Halt.TheVariants as halt
 
--- It goes on with a value, from a state; or it has ended, with what was told and what is left of the ticks.
-pub data Step (A : Type 0) : Type 0 where
-  Goes : (value : A) (state : State) → Step A
-  Ends : (end : End) (told : Option Trace) (left : Option ℕ) → Step A
+-- It goes on with a value, from a state; or it has ended, with what was told, what is left of the ticks, and what is shared.
+pub data Step (H A : Type 0) : Type 0 where
+  Goes : (value : A) (state : State H) → Step H A
+  Ends : (end : End) (told : Option (Trace H)) (left : Option ℕ) (shared : Shared) → Step H A
 
-abbrev pub and_then : {A B : Type 0} → Step A → (A → State → Step B) → Step B
+abbrev pub and_then : {H : Type 0} → {A B : Type 0} → Step H A → (A → State H → Step H B) → Step H B
 and_then (Goes x s) f = f x s
-and_then (Ends e told left) f = Ends e told left
+and_then (Ends e told left h) f = Ends e told left h
 
-abbrev pub Told : Type 0
-Told = Step (Unit {0})
+abbrev pub Told : Type 0 → Type 0
+Told H = Step H (Unit {0})
 
-abbrev pub goes : State → Told
+abbrev pub goes : {H : Type 0} → State H → Told H
 goes s = Goes tt s
 
 -- an end where one stands
-abbrev pub stops : {A : Type 0} → End → State → Step A
-stops e s = Ends e s.told s.left
+abbrev pub stops : {H : Type 0} → {A : Type 0} → End → State H → Step H A
+stops e s = Ends e s.told s.left s.shared
 
 -- a tick
-abbrev pub ticked : Site → State → Told
-ticked p s = if allows s.left 1 then goes (after_tick p s) else Ends (Budget p) s.told (Some 0)
+abbrev pub ticked : {H : Type 0} → Site → State H → Told H
+ticked p s = if allows s.left 1 then goes (after_tick p s) else Ends (Spent p) s.told (Some 0) s.shared
 
 abbrev pub number : Option ℕ → ℕ
 number None = 0
 number (Some n) = n
 
 -- n ticks at one place; where there are fewer left, those
-abbrev pub ticked_by : ℕ → Site → State → Told
-ticked_by n p s = if allows s.left n then goes (after_ticks n p s) else Ends (Budget p) (adds s.told (ticks p (number s.left) [])) (Some 0)
+abbrev pub ticked_by : {H : Type 0} → ℕ → Site → State H → Told H
+ticked_by n p s = if allows s.left n then goes (after_ticks n p s) else Ends (Spent p) (adds s.told (ticks p (number s.left) [])) (Some 0) s.shared
 
-abbrev pub put_in : List (List Event) → Event → State → Told
-put_in [] e s = if allows s.room 1 then goes (after_put e s) else stops (TooMany s.at) s
+abbrev pub put_in : {H : Type 0} → List (List Event) → Event → State H → Told H
+put_in [] e s = if allows s.room 1 then goes (after_put e s) else stops (Full (place s.at)) s
 put_in (c ∷ cs) e s = goes (captures_are ((c ++ e ∷ []) ∷ cs) s)
 
 -- an event, to the innermost capture that is open, or to the result
-abbrev pub put : Event → State → Told
+abbrev pub put : {H : Type 0} → Event → State H → Told H
 put e s = put_in s.captures e s
 
 -- an event at an instruction: first a tick for each full 256 bytes of its text
-abbrev pub put_at : Site → Event → State → Told
+abbrev pub put_at : {H : Type 0} → Site → Event → State H → Told H
 put_at p e s = and_then (ticked_by (length (text_of e) / 256) p s) (λ u m. put e m)
 
 -- a message at an instruction: first a tick for each full 256 bytes
-abbrev pub said_at : Site → List ℕ → State → Told
+abbrev pub said_at : {H : Type 0} → Site → List ℕ → State H → Told H
 said_at p t s = and_then (ticked_by (length t / 256) p s) (λ u m. goes (said t m))
 
 -- a trace
-abbrev pub play : Trace → State → Told
+abbrev pub play : {H : Type 0} → Trace H → State H → Told H
 play [] s = goes s
 play (Tick p ∷ x) s = and_then (ticked p s) (λ u m. play x m)
 play (Put e ∷ x) s = and_then (put e s) (λ u m. play x m)
 play (Say t ∷ x) s = play x (said t s)
-play (Stop f p ∷ x) s = stops (Stopped f p) s
+play (Stop f p ∷ x) s = stops (Fault f p) s
 play (Need g p ∷ x) s = stops (Needs g p) s
 play (Hole k ∷ x) s = play x (shown (Hole k) s)
 
-abbrev pub told_of : {A : Type 0} → Step A → Option Trace
+abbrev pub told_of : {H : Type 0} → {A : Type 0} → Step H A → Option (Trace H)
 told_of (Goes x s) = s.told
-told_of (Ends e told left) = told
+told_of (Ends e told left h) = told
 
-abbrev pub left_of : {A : Type 0} → Step A → Option ℕ
+abbrev pub left_of : {H : Type 0} → {A : Type 0} → Step H A → Option ℕ
 left_of (Goes x s) = s.left
-left_of (Ends e told left) = left
+left_of (Ends e told left h) = left
 
-abbrev pub end_of : {A : Type 0} → Step A → End
-end_of (Goes x s) = Finished
-end_of (Ends e told left) = e
+abbrev pub end_of : {H : Type 0} → {A : Type 0} → Step H A → End
+end_of (Goes x s) = Whole
+end_of (Ends e told left h) = e
 
--- what was told so far is a beginning of what is told in all
-pub record Begins (xs ys : Option Trace) : Type 0 where
-  pub rest : Trace
-  pub is : ys ≡ adds xs rest
+abbrev pub shared_of : {H : Type 0} → {A : Type 0} → Step H A → Shared
+shared_of (Goes x s) = s.shared
+shared_of (Ends e told left h) = h
 
-abbrev pub Before : {A : Type 0} → Option Trace → Step A → Type 0
-Before xs g = Begins xs (told_of g)
+-- n more
+abbrev pub raised : Option ℕ → ℕ → Option ℕ
+raised None n = None
+raised (Some m) n = Some (m + n)
 
--- What a call gave, and the state that it left. A lack of memory is free. A recorder that may end a run of its own accord
--- has been told a beginning where it does.
-abbrev pub IsStepBy : {A B : Type 0} → (B → A) → Bool → Step A → Result B Halt → State → Type 0
-IsStepBy view may g (Ok x) s = g ≡ Goes (view x) s
-IsStepBy view may g (Err (halt.Stopped f p)) s = g ≡ Ends (Stopped f p) s.told s.left
-IsStepBy view may g (Err (halt.Needs v p)) s = g ≡ Ends (Needs v p) s.told s.left
-IsStepBy view may g (Err (halt.Spent p)) s = g ≡ Ends (Budget p) s.told s.left
-IsStepBy view may g (Err (halt.Full p)) s = g ≡ Ends (TooMany p) s.told s.left
-IsStepBy view may g (Err halt.Over) s = (may ≡ true) × Before s.told g
-IsStepBy view may g (Err halt.NoMemory) s = Unit {0}
+-- What was told in a state is a beginning of what is told in all, and what is left there is more by the ticks of the rest.
+pub record Before {H : Type 0} {A : Type 0} (s : State H) (g : Step H A) : Type 0 where
+  pub rest : Trace H
+  pub told : told_of g ≡ adds s.told rest
+  pub left : s.left ≡ raised (left_of g) (tick_count rest)
 
-abbrev pub IsStep : {A : Type 0} → Bool → Step A → Result A Halt → State → Type 0
+-- A recorder was told a total above the most, and nothing after that.
+pub record IsOver {H : Type 0} {A : Type 0} (g : Step H A) (t : ℕ) (s : State H) : Type 0 where
+  pub above : IsAbove s.shared.most t
+  pub shared : s.shared ≡ passed t (shared_of g)
+  pub before : Before s g
+
+-- What a call gave, and the state that it left. A lack of memory is free.
+abbrev pub IsStepBy : {H : Type 0} → {A B : Type 0} → (B → A) → Step H A → Result B Halt → State H → Type 0
+IsStepBy view g (Ok x) s = g ≡ Goes (view x) s
+IsStepBy view g (Err (halt.Fault f p)) s = g ≡ stops (Fault f p) s
+IsStepBy view g (Err (halt.Needs v p)) s = g ≡ stops (Needs v p) s
+IsStepBy view g (Err (halt.Spent p)) s = g ≡ stops (Spent p) s
+IsStepBy view g (Err (halt.Full p)) s = g ≡ stops (Full p) s
+IsStepBy view g (Err (halt.Over t)) s = IsOver g t s
+IsStepBy view g (Err halt.NoMemory) s = Unit {0}
+
+abbrev pub IsStep : {H : Type 0} → {A : Type 0} → Step H A → Result A Halt → State H → Type 0
 IsStep = IsStepBy (λ x. x)

@@ -1,7 +1,7 @@
 -- Evaluations that know no limit: how many ticks they take, and how they end.
-use Rattle.std.specs.Prelude.{◌≡◌, ℕ, ◌+◌, [], ◌∷◌}
+use Rattle.std.specs.Prelude.{◌≡◌, ℕ, ◌+◌, List, [], ◌∷◌, ◌++◌}
 use Rattle.xs_trace.specs.Mark.{Trace, Stop, Need, ticks}
-use Rattle.xs_trace.specs.Cut.{Stopped, Needs}
+use Rattle.xs_trace.specs.Cut.{Fault, Needs}
 use Rattle.xs_trace.specs.State.{State}
 use Rattle.xs_trace.specs.Play.{Step, Goes, stops, and_then, ticked, ticked_by, play}
 use Rattle.xs_trace.specs.declared.item.Site.{Site}
@@ -43,33 +43,46 @@ infixl 10 ◌>>=◌
 abbrev pub ◌>>=◌ : {A B : Type 0} → Run A → (A → Run B) → Run B
 r >>= f = go_on r.cost r.end f
 
+-- A run for each item of a list, in order, each from what the one before it gave. What comes last is the value; the first that
+-- has another end ends it.
+abbrev pub fold : {A B : Type 0} → (B → A → Run B) → B → List A → Run B
+fold f b [] = give b
+fold f b (a ∷ rest) = f b a >>= (λ c. fold f c rest)
+
 -- an answer at an instruction
-abbrev pub answered : {A : Type 0} → Site → Answer A → State → Step A
+abbrev pub answered : {H : Type 0} → {A : Type 0} → Site → Answer A → State H → Step H A
 answered p (Gives x) s = Goes x s
-answered p (Faults f) s = stops (Stopped f p) s
+answered p (Faults f) s = stops (Fault f p) s
 answered p (Lacks g) s = stops (Needs g p) s
 
 -- a run at an instruction, told to a recorder under its limits
-abbrev pub limited : {A : Type 0} → Site → Run A → State → Step A
+abbrev pub limited : {H : Type 0} → {A : Type 0} → Site → Run A → State H → Step H A
 limited p r s = and_then (ticked_by r.cost p s) (λ u m. answered p r.end m)
 
 -- what follows an answer
-abbrev pub on_answer : {A : Type 0} → Site → Answer A → (A → Trace) → Trace
+abbrev pub on_answer : {H : Type 0} → {A : Type 0} → Site → Answer A → (A → Trace H) → Trace H
 on_answer p (Gives x) f = f x
 on_answer p (Faults n) f = Stop n p ∷ []
 on_answer p (Lacks g) f = Need g p ∷ []
 
 -- the trace of a run at an instruction, and of what follows its value
-abbrev pub evaluated : {A : Type 0} → Site → Run A → (A → Trace) → Trace
+abbrev pub evaluated : {H : Type 0} → {A : Type 0} → Site → Run A → (A → Trace H) → Trace H
 evaluated p r f = ticks p r.cost (on_answer p r.end f)
 
 -- A run under limits: what gives a value takes no ticks, one tick comes before the rest, and what is bound goes on from
 -- the state that its first part left.
-pub record LimitedLaws (A B : Type 0) : Type 0 where
-  pub gives : (p : Site) (x : A) (s : State) → limited p (give x) s ≡ Goes x s
-  pub fails : (p : Site) (f : ℕ) (s : State) → limited {A = A} p (fail f) s ≡ stops (Stopped f p) s
-  pub lacks : (p : Site) (g : ℕ) (s : State) → limited {A = A} p (lack g) s ≡ stops (Needs g p) s
-  pub ticks : (p : Site) (r : Run A) (s : State) → limited p (tick r) s ≡ and_then (ticked p s) (λ u m. limited p r m)
-  pub more : (p : Site) (n : ℕ) (r : Run A) (s : State) → limited p (costs n r) s ≡ and_then (ticked_by n p s) (λ u m. limited p r m)
-  pub binds : (p : Site) (r : Run A) (f : A → Run B) (s : State) → limited p (r >>= f) s ≡ and_then (limited p r s) (λ x m. limited p (f x) m)
-  pub tells : (p : Site) (r : Run A) (f : A → Trace) (s : State) → play (evaluated p r f) s ≡ and_then (limited p r s) (λ x m. play (f x) m)
+pub record LimitedLaws (H A B : Type 0) : Type 0 where
+  pub gives : (p : Site) (x : A) (s : State H) → limited p (give x) s ≡ Goes x s
+  pub fails : (p : Site) (f : ℕ) (s : State H) → limited {A = A} p (fail f) s ≡ stops (Fault f p) s
+  pub lacks : (p : Site) (g : ℕ) (s : State H) → limited {A = A} p (lack g) s ≡ stops (Needs g p) s
+  pub ticks : (p : Site) (r : Run A) (s : State H) → limited p (tick r) s ≡ and_then (ticked p s) (λ u m. limited p r m)
+  pub more : (p : Site) (n : ℕ) (r : Run A) (s : State H) → limited p (costs n r) s ≡ and_then (ticked_by n p s) (λ u m. limited p r m)
+  pub binds : (p : Site) (r : Run A) (f : A → Run B) (s : State H) → limited p (r >>= f) s ≡ and_then (limited p r s) (λ x m. limited p (f x) m)
+  pub tells : (p : Site) (r : Run A) (f : A → Trace H) (s : State H) → play (evaluated p r f) s ≡ and_then (limited p r s) (λ x m. play (f x) m)
+
+-- A fold under limits, item by item; of two lists in turn, the second goes on from what the first gave.
+pub record FoldLaws (H A B : Type 0) : Type 0 where
+  pub empty : (p : Site) (f : B → A → Run B) (b : B) (s : State H) → limited p (fold f b []) s ≡ Goes b s
+  pub next : (p : Site) (f : B → A → Run B) (b : B) (a : A) (rest : List A) (s : State H) →
+      limited p (fold f b (a ∷ rest)) s ≡ and_then (limited p (f b a) s) (λ c m. limited p (fold f c rest) m)
+  pub joins : (f : B → A → Run B) (b : B) (rest cs : List A) → fold f b (rest ++ cs) ≡ (fold f b rest >>= (λ c. fold f c cs))

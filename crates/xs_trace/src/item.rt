@@ -38,7 +38,8 @@ pub enum Ended {
     Fault(Spot),
     /// It would have taken more ticks than its limit; the spot is that of the first tick too many.
     Spent(Spot),
-    /// It would have put more events than its limit; the spot is that of the last tick before the first event too many.
+    /// It would have put more events than its limit; the spot is that of the last tick before the
+    /// first event too many.
     Full(Spot),
     /// A total that it shares with other runs went above the limit; `total` is what it came to.
     Over { total: u64 },

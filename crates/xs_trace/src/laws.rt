@@ -1,73 +1,105 @@
 //! What is true of traces and their cuts. The functions do nothing: their contracts are the laws.
-ghost use Rattle.xs_trace.specs.Laws.{ThenIsAssociative, ThenHasAUnit, CutIsLongest, CutOfThen, CutOfCut, CutWithoutPuts, PartsOfJoined};
-ghost use Rattle.xs_trace.specs.PlayLaws.{PlayOfThen, PlayOfTicks, PlayOfPut, PlayOfSay, PlayOfCaptured, PlayGrows, PlayIsCut};
-ghost use Rattle.xs_trace.specs.Run.{LimitedLaws};
+ghost use Rattle.xs_trace.specs.Laws.{ThenIsAssociative, ThenHasAUnit, CutIsLongest};
+ghost use Rattle.xs_trace.specs.Laws.{CutOfThen, CutOfCut, CutWithoutPuts, PartsOfJoined};
+ghost use Rattle.xs_trace.specs.PlayLaws.{PlayOfThen, PlayOfTicks, PlayOfPut, PlayOfSay};
+ghost use Rattle.xs_trace.specs.PlayLaws.{PlayOfCaptured, CapturesFrom, PlayGrows, PlayIsCut};
+ghost use Rattle.xs_trace.specs.Run.{LimitedLaws, FoldLaws};
+ghost use Rattle.xs_trace.specs.Keeping.{ToldIsCut, NeedComesFromNeed};
+ghost use Rattle.xs_trace.specs.Fill.{FillLaws};
 
 /// Parts joined by `then` may be grouped in any way, and the empty trace changes nothing.
-pub fn then_joins()
-    ensures associative { ThenIsAssociative }
-    ensures unit { ThenHasAUnit }
+pub fn then_joins<H>()
+    ensures associative { ThenIsAssociative H }
+    ensures unit { ThenHasAUnit H }
 {}
 
 /// A cut passes the longest beginning within both limits, and the next mark decides its end.
-pub fn cut_is_longest()
-    ensures { CutIsLongest }
+pub fn cut_is_longest<H>()
+    ensures { CutIsLongest H }
 {}
 
-/// The cut of two traces, one after the other, is the cut of the first and, where that finishes, the cut of the second at
-/// what is left of the limits.
-pub fn cut_of_then()
-    ensures { CutOfThen }
+/// The cut of two traces, one after the other, is the cut of the first and, where that is whole,
+/// the cut of the second at what is left of the limits.
+pub fn cut_of_then<H>()
+    ensures { CutOfThen H }
 {}
 
 /// The cut at some limits determines the cut at all lower ones.
-pub fn cut_of_cut()
-    ensures { CutOfCut }
+pub fn cut_of_cut<H>()
+    ensures { CutOfCut H }
 {}
 
 /// Taking the puts away, as captured content does, commutes with the cut at a number of ticks.
-pub fn cut_without_puts()
-    ensures { CutWithoutPuts }
+pub fn cut_without_puts<H>()
+    ensures { CutWithoutPuts H }
 {}
 
 /// The ticks, events and messages of joined marks are those of the parts, joined.
-pub fn parts_of_joined()
-    ensures { PartsOfJoined }
+pub fn parts_of_joined<H>()
+    ensures { PartsOfJoined H }
 {}
 
 /// Two traces are told one after the other.
-pub fn play_of_then()
-    ensures { PlayOfThen }
+pub fn play_of_then<H>()
+    ensures { PlayOfThen H }
 {}
 
 /// Many ticks at one place may be told at once.
-pub fn play_of_ticks()
-    ensures { PlayOfTicks }
+pub fn play_of_ticks<H>()
+    ensures { PlayOfTicks H }
 {}
 
 /// What puts an event, and says a message, tells the ticks for its text and then the mark.
-pub fn play_of_texts()
-    ensures event { PlayOfPut }
-    ensures message { PlayOfSay }
+pub fn play_of_texts<H>()
+    ensures event { PlayOfPut H }
+    ensures message { PlayOfSay H }
 {}
 
-/// To open a capture, tell the content, close the capture and go on with its events is to tell the captured content.
-pub fn play_of_captured()
-    ensures { PlayOfCaptured }
+/// To open a capture, tell the content, close the capture and go on with its events is to tell the
+/// captured content.
+pub fn play_of_captured<H>()
+    ensures { PlayOfCaptured H }
+{}
+
+/// What is captured from some events on gives those and the content's events, and tells all else of
+/// the content.
+pub fn captures_from<H>()
+    ensures { CapturesFrom H }
 {}
 
 /// What was told stays at the beginning of what is told.
-pub fn play_grows()
-    ensures { PlayGrows }
+pub fn play_grows<H>()
+    ensures { PlayGrows H }
 {}
 
 /// What is told of a trace, and how that ends, is the cut of the trace at the limits.
-pub fn play_is_cut()
-    ensures { PlayIsCut }
+pub fn play_is_cut<H>()
+    ensures { PlayIsCut H }
 {}
 
-/// An evaluation under limits is the cut of its ticks and its end; of two in turn, the second goes on from what the first
-/// left.
-pub fn limited_laws<A, B>()
-    ensures { LimitedLaws A B }
+/// An evaluation under limits is the cut of its ticks and its end; of two in turn, the second goes
+/// on from what the first left.
+pub fn limited_laws<H, A, B>()
+    ensures { LimitedLaws H A B }
+{}
+
+/// A trace without a need ends in none.
+pub fn need_comes_from_need<H>()
+    ensures { NeedComesFromNeed H }
+{}
+
+/// A fold under limits goes item by item, and over two lists in turn.
+pub fn fold_laws<H, A, B>()
+    ensures { FoldLaws H A B }
+{}
+
+/// What a recorder of a whole run was told, and how that ended, is the cut of the trace at its
+/// limits.
+pub fn told_is_cut<H>()
+    ensures { ToldIsCut H }
+{}
+
+/// Holes are filled part by part.
+pub fn fill_laws<H, K>()
+    ensures { FillLaws H K }
 {}

@@ -1,12 +1,19 @@
 //! What a run of a stylesheet leaves behind, and the texts and places that it speaks of.
 #![tactic(auto)]
 
+mod ending;
 pub mod event;
 pub mod item;
 pub mod laws;
+mod marks;
+pub mod meter;
+pub mod piece;
 pub mod place;
+pub mod probe;
 pub mod recorder;
+pub mod sections;
 #[cfg(test)]
 mod tests;
 pub mod text;
+pub mod total;
 pub mod whole;

@@ -36,7 +36,8 @@ pub get-last : {X : Type 0} (xs : List X) (x y : X) → slice_get (xs ++ x ∷ [
 get-last xs x y e = sym (get_or_from_slice_get (xs ++ x ∷ []) (length xs) y x e) ∙ get_or-append_seam xs x [] x
 
 -- an end changes no parent
-pub ParentsBefore-ended : (es : List Entry) (p w end : ℕ) (e : Entry) → slice_get es w ≡ Some e → ParentsBefore es p → ParentsBefore (set es w (record e { end = end })) p
+pub ParentsBefore-ended : (es : List Entry) (p w end : ℕ) (e : Entry) → slice_get es w ≡ Some e → ParentsBefore es p
+    → ParentsBefore (set es w (record e { end = end })) p
 ParentsBefore-ended es p w end e is b = λ k f a h. by_place k f a h (same_or_other k w)
   where
     by_place : (k : ℕ) (f : Entry) → p < k → slice_get (set es w (record e { end = end })) k ≡ Some f → (k ≡ w) ⊎ (k ≢ w) → f.parent < k
@@ -66,7 +67,8 @@ abbrev pub IsWalk : ℕ → ℕ → List Entry → ℕ → List Entry → ℕ �
 IsWalk p end old last es w =
     (w < length es) × ParentsBefore es p × ((new : List Entry) → Closes p end es w new → Closes p end old last new)
 
-pub IsWalk-step : (p end : ℕ) (old : List Entry) (last : ℕ) (es : List Entry) (w : ℕ) (e : Entry) → slice_get es w ≡ Some e → p < w → IsWalk p end old last es w → IsWalk p end old last (set es w (record e { end = end })) e.parent
+pub IsWalk-step : (p end : ℕ) (old : List Entry) (last : ℕ) (es : List Entry) (w : ℕ) (e : Entry) → slice_get es w ≡ Some e → p < w
+    → IsWalk p end old last es w → IsWalk p end old last (set es w (record e { end = end })) e.parent
 IsWalk-step p end old last es w e is a walk = (
   let before : e.parent < w = walk.1 w e a is in omega (arith, before, walk.0, length-set es w (record e { end = end })),
   ParentsBefore-ended es p w end e is walk.1,

@@ -1,5 +1,6 @@
 -- Where subtrees end, while a node is added and afterwards.
-use Rattle.std.proofs.Common.{◌≡◌, ◌≢◌, ℕ, ◌-◌, ◌<◌, ◌≤◌, List, [], ◌∷◌, ◌++◌, Some, All, IsSomeAnd, map, length, refl, sym, ◌∙◌, ap, subst, arith, set, get_or, slice_get, length-append, ◌⊎◌, inl, inr}
+use Rattle.std.proofs.Common.{◌≡◌, ◌≢◌, ℕ, ◌-◌, ◌<◌, ◌≤◌, List, [], ◌∷◌, ◌++◌, Some, All, IsSomeAnd, map, length, refl, sym, ◌∙◌, ap, subst, arith, set, get_or}
+use Rattle.std.proofs.Common.{slice_get, length-append, ◌↔◌, ◌⊎◌, inl, inr}
 use Rattle.std.proofs.Math.Nat.{eq-or-lt_of_le}
 use Rattle.std.proofs.Math.Seq.{map-set_same}
 use Rattle.std.proofs.lemmas.List.{map-append, length-map}
@@ -29,9 +30,11 @@ EndsAt-append rs xs n e h ends =
     }
 
 -- the record of an entry
-pub record_at : (s : Store) (es : List Entry) (rs : List Record) (k : ℕ) (e : Entry) → map (record_of s) es ≡ rs → slice_get es k ≡ Some e → at rs k ≡ record_of s e
+pub record_at : (s : Store) (es : List Entry) (rs : List Record) (k : ℕ) (e : Entry) → map (record_of s) es ≡ rs → slice_get es k ≡ Some e
+    → at rs k ≡ record_of s e
 record_at s es rs k e same is =
-    get_or_from_slice_get rs k (record_of s e) root_record (ap (λ xs. slice_get xs k) (sym same) ∙ slice_get-map (record_of s) es k ∙ ap (option_map (record_of s)) is)
+    get_or_from_slice_get rs k (record_of s e) root_record (ap (λ xs. slice_get xs k) (sym same) ∙ slice_get-map (record_of s) es k
+    ∙ ap (option_map (record_of s)) is)
 
 pub held_parent : (kind : Kind) (q p : ℕ) → IsSomeAnd (parent_of kind q) (λ x. p ≤ x) → (parent_of kind q ≡ Some q) × (p ≤ q)
 held_parent Root q p h = absurd h
@@ -52,6 +55,12 @@ pub EndsAt-closed : (rs : List Record) (n e : ℕ) → IsEnd rs n e → (e ≡ 0
 EndsAt-closed rs n e (inl o) not_zero = absurd (not_zero o.0)
 EndsAt-closed rs n e (inr ends) not_zero = ends.1
 
+-- an end says whether a node is open
+pub IsOpen-end : (rs : List Record) (n e : ℕ) → IsEnd rs n e → (e ≡ 0) ↔ IsOpen rs n
+IsOpen-end rs n e (inl o) = (λ _. o.1, λ _. o.0)
+IsOpen-end rs n e (inr ends) =
+    (λ zero_is. absurd (omega (arith, ends.1.after, zero_is)), λ o. absurd (ends.1.outside ends.0 (o e ends.1.after ends.0)))
+
 -- what holds while the walk is at the node at w: the subtrees that end were ended after it, and not yet up to it
 pub record IsEnding (s : Store) (rs : List Record) (r : Record) (p : ℕ) (es : List Entry) (w : ℕ) : Type 0 where
   pub stored : (k : ℕ) (e : Entry) → slice_get es k ≡ Some e → IsStored s e
@@ -68,7 +77,8 @@ pub record IsEnded (s : Store) (rs : List Record) (es : List Entry) : Type 0 whe
   pub same : map (record_of s) es ≡ rs
   pub ends : HaveEnds rs es
 
-module _ (s : Store) (rs : List Record) (r : Record) (p end : ℕ) (tree : IsTree rs) (above : r.parent ≡ Some p) (p_within : p < length rs) (p_open : IsOpen rs p) (end_is : end ≡ length rs) where
+module _ (s : Store) (rs : List Record) (r : Record) (p end : ℕ) (tree : IsTree rs) (above : r.parent ≡ Some p) (p_within : p < length rs)
+    (p_open : IsOpen rs p) (end_is : end ≡ length rs) where
   -- an end that was right stays right
   closed_stays : (k x : ℕ) → x < length rs → EndsAt rs k x → IsEnd (rs ++ r ∷ []) k x
   closed_stays k x h ends = inr (omega (arith, h, length-added rs r), EndsAt-append rs (r ∷ []) k x h ends)
@@ -195,7 +205,8 @@ module _ (s : Store) (rs : List Record) (r : Record) (p end : ℕ) (tree : IsTre
   IsEnded-closes {es} {new} {w} (ended e a is rest) h = IsEnded-closes rest (IsEnding-step es w e is a h)
 
 -- where the walk begins: nothing was ended yet
-pub IsEnding-start : (s : Store) (rs : List Record) (p : ℕ) (es : List Entry) (e : Entry) → All (IsStored s) es → IsStored s e → map (record_of s) es ≡ rs → p < length rs → HaveEnds rs es → e.end ≡ 0 → IsEnding s rs (record_of s e) p (es ++ e ∷ []) (length rs - 1)
+pub IsEnding-start : (s : Store) (rs : List Record) (p : ℕ) (es : List Entry) (e : Entry) → All (IsStored s) es → IsStored s e → map (record_of s) es ≡ rs
+    → p < length rs → HaveEnds rs es → e.end ≡ 0 → IsEnding s rs (record_of s e) p (es ++ e ∷ []) (length rs - 1)
 IsEnding-start s rs p es e stored last same p_within ends zero_is =
     record {
       stored = stored_now;
@@ -219,7 +230,8 @@ IsEnding-start s rs p es e stored last same p_within ends zero_is =
     stored_now k f g =
         elim (le_or_gt (length es) k) [
           | inl late ↦ subst (λ x. IsStored s x) (sym (is_last k f late g)) last
-          | inr early ↦ (let there : slice_get es k ≡ Some f = get-before es e f k early g in subst (λ x. IsStored s x) (get_or_from_slice_get es k f f there) (stored k f early))
+          | inr early ↦ (let there : slice_get es k ≡ Some f = get-before es e f k early g in
+              subst (λ x. IsStored s x) (get_or_from_slice_get es k f f there) (stored k f early))
         ]
 
     high_now : (k : ℕ) (f : Entry) → length rs - 1 < k → slice_get (es ++ e ∷ []) k ≡ Some f → IsEnd (rs ++ record_of s e ∷ []) k f.end

@@ -13,7 +13,11 @@ use Rattle.xs_tree.proofs.StoreLemmas.{IsTextIn-grown, text_at-grown, name-longe
 
 pub IsStored-grown : (old new : Store) (e : Entry) → Grows old new → IsStored old e → IsStored new e
 IsStored-grown old new e g s =
-    record { placed = IsTextIn-grown old new e.text g s.placed; named = IsNumberBelow-longer (length old.names) (length new.names) e.name g.names.longer s.named }
+    record {
+      placed = IsTextIn-grown old new e.text g s.placed;
+      named =
+          IsNumberBelow-longer (length old.names) (length new.names) e.name g.names.longer s.named;
+    }
 
 pub record_of-grown : (old new : Store) (e : Entry) → Grows old new → IsStored old e → record_of new e ≡ record_of old e
 record_of-grown old new e g s =
@@ -37,6 +41,7 @@ IsWell-same t u e g w =
     record {
       stored = rw e (stored-grown t.store u.store t.nodes.items g w.stored);
       shape = rw (records-same t u e g w) w.shape;
+      utf8 = rw (records-same t u e g w) w.utf8;
       few = rw e w.few;
       ends = subst (λ rs. HaveEnds rs u.nodes.items) (sym (records-same t u e g w)) (subst (λ es. HaveEnds (records t) es) (sym e) w.ends);
     }

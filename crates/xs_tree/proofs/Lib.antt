@@ -2,6 +2,9 @@ pub mod AddLemmas
 pub mod ClosingLemmas
 pub mod EndLemmas
 pub mod EntryLemmas
+pub mod NamespaceLemmas
+pub mod RootLemmas
 pub mod ShapeLemmas
 pub mod StoreLemmas
+pub mod Utf8Lemmas
 pub mod WalkLemmas

@@ -1,12 +1,13 @@
 -- Adding a node keeps a tree a tree, and which nodes are open afterwards.
-use Rattle.std.proofs.Common.{◌≡◌, ℕ, ◌+◌, ◌<◌, ◌≤◌, List, [], ◌∷◌, ◌++◌, Option, None, Some, length, ◌∙◌, ap, arith, length-append, below_more, is_some, MatchOption, IsTrue}
+use Rattle.std.proofs.Common.{◌≡◌, ℕ, ◌+◌, ◌<◌, ◌≤◌, List, [], ◌∷◌, ◌++◌, Option, None, Some, length, sym, ◌∙◌, ap, subst, arith, length-append, below_more}
+use Rattle.std.proofs.Common.{MatchOption, IsTrue}
 use Rattle.std.proofs.Math.ListN.{get_or-append}
 use Rattle.std.proofs.Math.Seq.{get_or-append_seam}
 use Rattle.xs_tree.specs.declared.kinds.Kind.{Kind}
 use Rattle.xs_tree.specs.declared.kinds.Kind.TheVariants.{Root, Element, Attribute, Space, Text, Comment, Pi}
-use Rattle.xs_tree.specs.Kinds.{bears_name, can_hold, rank}
+use Rattle.xs_tree.specs.Kinds.{can_hold, rank}
 use Rattle.xs_tree.specs.Record.{Record, root_record, at}
-use Rattle.xs_tree.specs.Shape.{HasParentFrom, IsOpen, KeepsOrder, IsPlaced, IsRootOrPlaced, IsTree}
+use Rattle.xs_tree.specs.Shape.{CanBear, HasParentFrom, IsOpen, KeepsOrder, IsPlaced, IsRootOrPlaced, IsTree}
 
 -- a node stays where it is when more follow
 pub at-append : (rs xs : List Record) (k : ℕ) → k < length rs → at (rs ++ xs) k ≡ at rs k
@@ -28,10 +29,10 @@ IsPlaced-append rs xs k p h q =
       held = rw (k_is, p_is) q.held;
       inside = λ j a b. rw (at-append rs xs j (omega arith)) (q.inside j a b);
       order = λ j a b. rw (k_is, at-append rs xs j (omega arith)) (q.order j a b);
-      named = rw k_is q.named;
     }
 
-lifted : (rs xs : List Record) (k : ℕ) (o : Option ℕ) → k < length rs → MatchOption o ((at rs k).kind ≡ Root) (λ p. IsPlaced rs k p) → MatchOption o ((at (rs ++ xs) k).kind ≡ Root) (λ p. IsPlaced (rs ++ xs) k p)
+lifted : (rs xs : List Record) (k : ℕ) (o : Option ℕ) → k < length rs → MatchOption o ((at rs k).kind ≡ Root) (λ p. IsPlaced rs k p)
+    → MatchOption o ((at (rs ++ xs) k).kind ≡ Root) (λ p. IsPlaced (rs ++ xs) k p)
 lifted rs xs k None h q = rw (at-append rs xs k h) q
 lifted rs xs k (Some p) h q = IsPlaced-append rs xs k p h q
 
@@ -40,9 +41,14 @@ IsRootOrPlaced-append rs xs k h q =
     let e : (at (rs ++ xs) k).parent ≡ (at rs k).parent = ap (λ r. r.parent) (at-append rs xs k h) in
     rw e (lifted rs xs k (at rs k).parent h q)
 
+-- a node bears what its kind can bear
+abbrev pub Bears : Record → Type 0
+Bears r = CanBear r.kind r.name r.text
+
 -- a tree with a node added inside an open one is a tree
-pub IsTree-added : (rs : List Record) (r : Record) (p : ℕ) → IsTree rs → r.parent ≡ Some p → p < length rs → IsTrue (can_hold (at rs p).kind r.kind) → is_some r.name ≡ bears_name r.kind → IsOpen rs p → KeepsOrder rs p r.kind → IsTree (rs ++ r ∷ [])
-IsTree-added rs r p t e w held named o ordered =
+pub IsTree-added : (rs : List Record) (r : Record) (p : ℕ) → IsTree rs → r.parent ≡ Some p → p < length rs → IsTrue (can_hold (at rs p).kind r.kind) →
+    CanBear r.kind r.name r.text → IsOpen rs p → KeepsOrder rs p r.kind → IsTree (rs ++ r ∷ [])
+IsTree-added rs r p t e w held bears o ordered =
     let last_is : at (rs ++ r ∷ []) (length rs) ≡ r = at-added rs r in
     let last : IsPlaced (rs ++ r ∷ []) (length rs) p =
     record {
@@ -50,14 +56,16 @@ IsTree-added rs r p t e w held named o ordered =
       held = rw (last_is, at-append rs (r ∷ []) p w) held;
       inside = λ j a b. rw (at-append rs (r ∷ []) j b) (o j a b);
       order = λ j a b. rw (last_is, at-append rs (r ∷ []) j b) (ordered j a b);
-      named = rw last_is named;
     } in
     let parent_is : (at (rs ++ r ∷ []) (length rs)).parent ≡ Some p = ap (λ q. q.parent) last_is ∙ e in
     let last_placed : IsRootOrPlaced (rs ++ r ∷ []) (length rs) = rw parent_is last in
     record {
       some = omega (arith, length-added rs r);
       first = at-append rs (r ∷ []) 0 t.some ∙ t.first;
-      placed = λ k h. below_more (λ j. IsRootOrPlaced (rs ++ r ∷ []) j) (length rs) (λ j b. IsRootOrPlaced-append rs (r ∷ []) j b (t.placed j b)) last_placed k (omega (arith, h, length-added rs r));
+      placed = λ k h. below_more (λ j. IsRootOrPlaced (rs ++ r ∷ []) j) (length rs) (λ j b. IsRootOrPlaced-append rs (r ∷ []) j b (t.placed j b)) last_placed k
+          (omega (arith, h, length-added rs r));
+      borne = λ k h. below_more (λ j. Bears (at (rs ++ r ∷ []) j)) (length rs) (λ j b. subst Bears (sym (at-append rs (r ∷ []) j b)) (t.borne j b))
+          (subst Bears (sym last_is) bears) k (omega (arith, h, length-added rs r));
     }
 
 -- what is open for a builder: the added node, and each open node that is its parent or before it

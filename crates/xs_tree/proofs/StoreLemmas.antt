@@ -1,10 +1,12 @@
 -- What a store has stays what it is while the store grows.
-use Rattle.std.proofs.Common.{◌≡◌, ℕ, ◌+◌, ◌-◌, ◌≤◌, List, [], ◌++◌, Option, None, Some, length, drop, refl, sym, ◌∙◌, ap, slice_get, arith, string_bytes, length-append, append_assoc, length-drop}
+use Rattle.std.proofs.Common.{◌≡◌, ℕ, ◌+◌, ◌-◌, ◌≤◌, List, [], ◌++◌, Option, None, Some, length, drop, refl, sym, ◌∙◌, ap, slice_get, arith, string_bytes}
+use Rattle.std.proofs.Common.{length-append, append_assoc, length-drop}
 use Rattle.std.specs.Str.{IsUtf8, IsCharBoundary}
 use Rattle.std.specs.List.{slice_range}
 use Rattle.std.specs.Option.{option_and_then, unwrap_or}
 use Rattle.std.proofs.lemmas.List.{append-nil, drop-append-le, take-append-le}
-use Rattle.std.proofs.lemmas.Str.{IsUtf8-append, IsUtf8-take, IsUtf8-nil, IsUtf8-string_bytes, IsCharBoundary-from_take, IsCharBoundary-at_seam, IsCharBoundary-end}
+use Rattle.std.proofs.lemmas.Str.{IsUtf8-append, IsUtf8-take, IsUtf8-nil, IsUtf8-string_bytes, IsCharBoundary-from_take, IsCharBoundary-at_seam}
+use Rattle.std.proofs.lemmas.Str.{IsCharBoundary-end}
 use Rattle.xs_tree.specs.declared.names.Name.{Name}
 use Rattle.xs_tree.specs.declared.entries.TextPlace.{TextPlace}
 use Rattle.xs_tree.specs.declared.entries.TextPlace.TheVariants.{Range, Uri}
@@ -24,7 +26,12 @@ lengthened old new extra u v e = record { extra = extra; is = e; utf8 = u; extra
 
 pub Grows-same : (s : Store) → Grows s s
 Grows-same s =
-    record { names = Keeps-same s.names; uris = Keeps-same s.uris; text = as_it_was (string_bytes s.text) (string_bytes s.text) (IsUtf8-string_bytes s.text) refl }
+    record {
+      names = Keeps-same s.names;
+      uris = Keeps-same s.uris;
+      text =
+          as_it_was (string_bytes s.text) (string_bytes s.text) (IsUtf8-string_bytes s.text) refl;
+    }
 
 Keeps-twice : {X : Type 0} (a b d : List X) → Keeps a b → Keeps b d → Keeps a d
 Keeps-twice a b d g h =
@@ -77,7 +84,8 @@ text_at-grown old new (Range start end) g h =
 text_at-grown old new (Uri number) g h = ap (λ o. unwrap_or o []) (g.uris.same number h)
 
 -- a name's number has the same name in a longer table
-pub name-longer : (old new : List Name) (o : Option ℕ) → Keeps old new → IsNumberBelow (length old) o → option_and_then (slice_get new) o ≡ option_and_then (slice_get old) o
+pub name-longer : (old new : List Name) (o : Option ℕ) → Keeps old new → IsNumberBelow (length old) o
+    → option_and_then (slice_get new) o ≡ option_and_then (slice_get old) o
 name-longer old new None g b = refl
 name-longer old new (Some i) g b = g.same i b
 
@@ -86,7 +94,8 @@ IsNumberBelow-longer m n None h b = tt
 IsNumberBelow-longer m n (Some i) h b = omega arith
 
 -- the range of a text that was added to a buffer
-pub IsRange-added : (old added new : List ℕ) (start end : ℕ) → new ≡ old ++ added → IsUtf8 added → start ≡ length old → end ≡ length old + length added → IsRange new start end
+pub IsRange-added : (old added new : List ℕ) (start end : ℕ) → new ≡ old ++ added → IsUtf8 added → start ≡ length old → end ≡ length old + length added
+    → IsRange new start end
 IsRange-added old added new start end is utf8 from to =
     let whole : end ≡ length new = rw is (omega (arith, to, length-append old added)) in
     record {

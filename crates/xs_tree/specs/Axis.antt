@@ -2,10 +2,10 @@
 use Rattle.std.specs.Prelude.{ℕ, zero, suc, ◌==◌, ◌||◌, ◌&&◌, not, Bool, true, false, List, filter, reverse, if◌then◌else◌, nat_lt}
 use Rattle.std.specs.Option.{option_map_or}
 use Rattle.xs_tree.specs.declared.axes.Axis.{Axis}
-use Rattle.xs_tree.specs.declared.axes.Axis.TheVariants.{Child, Descendant, Parent, Ancestor, FollowingSibling, PrecedingSibling, Following, Preceding, SelfNode, DescendantOrSelf, AncestorOrSelf, Namespace}
-use Rattle.xs_tree.specs.declared.axes.Axis.TheVariants.{Attribute as AttributeAxis}
-use Rattle.xs_tree.specs.Kinds.{is_child_kind, is_root_kind, is_space_kind}
-use Rattle.xs_tree.specs.Record.{Record, at, places, is_place, is_child, is_attribute, is_inside}
+use Rattle.xs_tree.specs.declared.axes.Axis.TheVariants.{Child, Descendant, Parent, Ancestor, FollowingSibling, PrecedingSibling, Following, Preceding}
+use Rattle.xs_tree.specs.declared.axes.Axis.TheVariants.{SelfNode, DescendantOrSelf, AncestorOrSelf, Namespace, Attribute as AttributeAxis}
+use Rattle.xs_tree.specs.Kinds.{is_child_kind, is_root_kind}
+use Rattle.xs_tree.specs.Record.{Record, at, places, is_place, is_child, is_attribute, is_namespace, is_inside}
 
 -- the root of the document that the node at a place is in: the last root that is not after it (XPath 1.0, 5.1)
 abbrev pub root_of : List Record → ℕ → ℕ
@@ -28,10 +28,6 @@ is_ancestor rs n k = is_inside rs k n
 abbrev pub is_sibling : List Record → ℕ → ℕ → Bool
 is_sibling rs n k = is_child_kind (at rs n).kind && option_map_or (λ p. is_child rs p k) (at rs n).parent false
 
--- whether the node at k is a namespace node of the node at n (XPath 1.0, 5.4)
-abbrev pub is_space : List Record → ℕ → ℕ → Bool
-is_space rs n k = is_place n (at rs k).parent && is_space_kind (at rs k).kind
-
 -- whether the node at k is after the node at n in its document, and neither a descendant of it nor an attribute or namespace
 -- node
 abbrev pub is_following : List Record → ℕ → ℕ → Bool
@@ -53,7 +49,7 @@ is_on PrecedingSibling rs n k = is_sibling rs n k && nat_lt k n
 is_on Following rs n k = is_following rs n k
 is_on Preceding rs n k = is_preceding rs n k
 is_on AttributeAxis rs n k = is_attribute rs n k
-is_on Namespace rs n k = is_space rs n k
+is_on Namespace rs n k = is_namespace rs n k
 is_on SelfNode rs n k = k == n
 is_on DescendantOrSelf rs n k = k == n || is_descendant rs n k
 is_on AncestorOrSelf rs n k = k == n || is_ancestor rs n k

@@ -13,6 +13,17 @@ bears_name Text = false
 bears_name Comment = false
 bears_name Pi = true
 
+-- whether what names a node of this kind is a local part alone, in no namespace and without a prefix: the prefix that a
+-- namespace node stands for, the target of a processing instruction (XPath 1.0, 5.4 and 5.5)
+abbrev pub has_local_name : Kind → Bool
+has_local_name Root = false
+has_local_name Element = false
+has_local_name Attribute = false
+has_local_name Space = true
+has_local_name Text = false
+has_local_name Comment = false
+has_local_name Pi = true
+
 -- whether a node of this kind can be a child (XPath 1.0, 5.1 and 5.2): an element, a text, a comment or
 -- a processing instruction
 abbrev pub is_child_kind : Kind → Bool
@@ -50,6 +61,16 @@ rank Space = 0
 rank Text = 2
 rank Comment = 2
 rank Pi = 2
+
+-- whether a node of this kind is an element (XPath 1.0, 5.2)
+abbrev pub is_element_kind : Kind → Bool
+is_element_kind Root = false
+is_element_kind Element = true
+is_element_kind Attribute = false
+is_element_kind Space = false
+is_element_kind Text = false
+is_element_kind Comment = false
+is_element_kind Pi = false
 
 -- whether a node of this kind is an attribute (XPath 1.0, 5.3)
 abbrev pub is_attribute_kind : Kind → Bool
@@ -92,11 +113,11 @@ is_root_kind Comment = false
 is_root_kind Pi = false
 
 -- whether a node of this kind is a namespace node (XPath 1.0, 5.4)
-abbrev pub is_space_kind : Kind → Bool
-is_space_kind Root = false
-is_space_kind Element = false
-is_space_kind Attribute = false
-is_space_kind Space = true
-is_space_kind Text = false
-is_space_kind Comment = false
-is_space_kind Pi = false
+abbrev pub is_namespace_kind : Kind → Bool
+is_namespace_kind Root = false
+is_namespace_kind Element = false
+is_namespace_kind Attribute = false
+is_namespace_kind Space = true
+is_namespace_kind Text = false
+is_namespace_kind Comment = false
+is_namespace_kind Pi = false

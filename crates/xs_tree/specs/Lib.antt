@@ -2,9 +2,11 @@ pub mod Axis
 pub mod Closing
 pub mod Growth
 pub mod Kinds
+pub mod Limits
 pub mod Names
 pub mod Record
 pub mod Shape
 pub mod Store
+pub mod Utf8
 pub mod View
 pub mod Walk

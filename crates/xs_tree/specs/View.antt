@@ -7,9 +7,11 @@ use Rattle.xs_tree.specs.declared.entries.Entry.{Entry}
 use Rattle.xs_tree.specs.declared.store.Store.{Store}
 use Rattle.xs_tree.specs.declared.trees.Tree.TheInside.{Inside}
 use Rattle.xs_tree.specs.Growth.{IsNumberBelow}
+use Rattle.xs_tree.specs.Limits.{most_nodes}
 use Rattle.xs_tree.specs.Record.{Record}
 use Rattle.xs_tree.specs.Shape.{IsOpen, IsTree, EndsAt}
 use Rattle.xs_tree.specs.Store.{text_at, IsTextIn}
+use Rattle.xs_tree.specs.Utf8.{AreUtf8}
 
 -- a root has no parent
 abbrev pub parent_of : Kind → ℕ → Option ℕ
@@ -25,6 +27,7 @@ parent_of Pi p = Some p
 abbrev pub record_of : Store → Entry → Record
 record_of s e = record { kind = e.kind; name = option_and_then (slice_get s.names) e.name; text = text_at s e.text; parent = parent_of e.kind e.parent }
 
+-- the nodes of a tree, in document order
 abbrev pub records : Inside → List Record
 records t = map (record_of t.store) t.nodes.items
 
@@ -42,8 +45,10 @@ IsEnd rs n e = ((e ≡ 0) × IsOpen rs n) ⊎ ((e < length rs) × EndsAt rs n e)
 abbrev pub HaveEnds : List Record → List Entry → Type 0
 HaveEnds rs es = (k : ℕ) (e : Entry) → slice_get es k ≡ Some e → IsEnd rs k e.end
 
+-- what always holds of a tree
 pub record IsWell (t : Inside) : Type 0 where
   pub stored : All (IsStored t.store) t.nodes.items
   pub shape : IsTree (records t)
-  pub few : length t.nodes.items ≤ 8000000
+  pub utf8 : AreUtf8 (records t)
+  pub few : length t.nodes.items ≤ most_nodes
   pub ends : HaveEnds (records t) t.nodes.items

@@ -1,6 +1,4 @@
-// The axes of XPath.
-#![tactic(auto)]
-
+//! The axes of XPath.
 /// An axis: which nodes stand to a node in a certain way (XPath 1.0, 2.2).
 #[derive(Clone, Copy, PartialEq, Eq, Debug)]
 pub enum Axis {
@@ -16,9 +14,11 @@ pub enum Axis {
     FollowingSibling,
     /// The children of the node's parent before the node. Goes backwards.
     PrecedingSibling,
-    /// All after the node in document order, but for its descendants, attributes and namespace nodes.
+    /// All after the node in document order, but for its descendants, attributes and namespace
+    /// nodes.
     Following,
-    /// All before the node in document order, but for its ancestors, attributes and namespace nodes. Goes backwards.
+    /// All before the node in document order, but for its ancestors, attributes and namespace
+    /// nodes. Goes backwards.
     Preceding,
     /// The attributes of the node.
     Attribute,

@@ -1,8 +1,8 @@
-// Adding an entry, which ends the subtrees that it is not in.
-#![tactic(auto)]
+//! Adding an entry, which ends the subtrees that it is not in.
 
 ghost use Rattle.std.specs.Prelude.{◌≡◌, ◌-◌, ◌<◌, [], ◌∷◌, ◌++◌, length, IfOk, OnErr, OnOk};
 ghost use Rattle.xs_tree.specs.Closing.{ParentsBefore, Closes};
+ghost use Rattle.xs_tree.specs.Limits.{most_nodes};
 
 use crate::entries::Entry;
 use crate::nodes::Node;
@@ -12,11 +12,13 @@ use std::alloc::AllocError;
 ///
 /// Each node is ended once, so adding takes constant time for each node on average.
 pub fn keep(nodes: &mut Vec<Entry>, entry: Entry) -> Result<Node, AllocError>
-    requires room { length nodes.old.items < 8000000 }
+    requires room { length nodes.old.items < most_nodes }
     requires within { entry.parent < length nodes.old.items }
     requires before { ParentsBefore nodes.old.items entry.parent }
     ensures node { IfOk result (λ node. node ≡ length nodes.old.items) }
-    ensures kept { OnOk result (Closes entry.parent (length nodes.old.items) (nodes.old.items ++ entry ∷ []) (length nodes.old.items - 1) nodes.new.items) }
+    ensures kept { OnOk result
+        (Closes entry.parent (length nodes.old.items)
+        (nodes.old.items ++ entry ∷ []) (length nodes.old.items - 1) nodes.new.items) }
     ensures refused { OnErr result (nodes.new.items ≡ nodes.old.items) }
 {
     let place = nodes.len() as u32;
@@ -25,7 +27,8 @@ pub fn keep(nodes: &mut Vec<Entry>, entry: Entry) -> Result<Node, AllocError>
     Ok(Node::at(place))
 }
 
-// Ends the subtrees of the node before a place, of its parent, and so on, but not of a given ancestor.
+// Ends the subtrees of the node before a place, of its parent, and so on, but not of a given
+// ancestor.
 fn end_subtrees(nodes: &mut [Entry], ancestor: u32, place: u32)
     requires some { 0 < place }
     requires within { place < length nodes.old }

@@ -1,5 +1,4 @@
-// What a tree keeps of each node.
-#![tactic(auto)]
+//! What a tree keeps of each node.
 
 use crate::kinds::Kind;
 
@@ -14,8 +13,8 @@ pub enum TextPlace {
 
 /// A node: its text, the number of its name, its parent and the end of its subtree.
 ///
-/// A root's parent is 0. The end is the place of the first node after the subtree, and 0 while the node is open: while it
-/// is the last node or one of its ancestors.
+/// A root's parent is 0. The end is the place of the first node after the subtree, and 0 while the
+/// node is open: while it is the last node or one of its ancestors.
 #[derive(Clone, Copy)]
 pub struct Entry {
     pub text: TextPlace,

@@ -1,4 +1,4 @@
-// An XML document, or several, as a tree of nodes in document order (XPath 1.0, 5).
+//! An XML document, or several, as a tree of nodes in document order (XPath 1.0, 5).
 #![tactic(auto)]
 
 mod axes;
@@ -15,7 +15,7 @@ pub use axes::Axis;
 pub use kinds::Kind;
 pub use names::{Name, NameText};
 pub use nodes::Node;
-pub use trees::{Attributes, Children, MOST_NODES, Tree, TreeFault};
+pub use trees::{Attributes, Children, MOST_NODES, Namespaces, Texts, Tree, TreeFault};
 
 #[cfg(test)]
 mod tests;

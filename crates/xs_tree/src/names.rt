@@ -1,14 +1,15 @@
-// Expanded names and the texts that they are made of.
-#![tactic(auto)]
+//! Expanded names and the texts that they are made of.
 
-ghost use Rattle.std.specs.Prelude.{◌≡◌, IfOk, Some};
+ghost use Rattle.std.specs.Prelude.{◌≡◌, ◌↔◌, IfOk, IsTrue, Some};
 ghost use Rattle.std.specs.Cmp;
 ghost use Rattle.std.specs.Cmp.{on_equiv, on_per};
-ghost use Rattle.std.specs.Cmp.Lexicographic.{nat_list_eq_equiv, nat_list_cmp_total, texts_ties, texts_po};
+ghost use Rattle.std.specs.Cmp.Lexicographic.{nat_list_eq_equiv, nat_list_cmp_total, texts_ties};
+ghost use Rattle.std.specs.Cmp.Lexicographic.{texts_po};
 ghost use Rattle.std.specs.Hash as fed;
 ghost use Rattle.std.specs.Cmp.Rules.{hashing};
 ghost use Rattle.std.proofs.Common.{rules, refl};
 ghost use Rattle.xs_tree.specs.Names.{same_text, order_of_texts};
+ghost use Rattle.xs_tree.specs.Shape.{IsLocalName};
 
 use std::alloc::{AllocError, Global};
 use std::cmp::Ordering;
@@ -120,4 +121,13 @@ pub struct Name {
     pub local: NameText,
     /// The prefix, empty for none.
     pub prefix: NameText,
+}
+
+impl Name {
+    /// Whether the name is a local part alone, in no namespace and without a prefix.
+    pub fn is_local(&self) -> bool
+        ensures { IsTrue result ↔ IsLocalName self.now }
+    {
+        self.uri.as_str().is_empty() && self.prefix.as_str().is_empty()
+    }
 }

@@ -1,5 +1,4 @@
-// The place of a node.
-#![tactic(auto)]
+//! The place of a node.
 
 ghost use Rattle.std.specs.Prelude.{◌≡◌};
 

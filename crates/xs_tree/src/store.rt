@@ -1,5 +1,4 @@
-// The names and the texts of a tree's nodes.
-#![tactic(auto)]
+//! The names and the texts of a tree's nodes.
 
 ghost use Rattle.std.specs.Prelude.{◌≡◌, [], length, slice_get, string_bytes, IfOk};
 ghost use Rattle.std.specs.Option.{option_and_then, option_copied};
@@ -34,14 +33,16 @@ impl Store {
 
     /// Keeps a name if there is one.
     pub fn keep_name(&mut self, name: Option<Name>) -> Result<Option<u32>, AllocError>
-        ensures stored { IfOk result (λ number. option_and_then (slice_get self.new.names) number ≡ name) }
+        ensures stored { IfOk result
+            (λ number. option_and_then (slice_get self.new.names) number ≡ name) }
         ensures numbered { IfOk result (λ number. IsNumberBelow (length self.new.names) number) }
         ensures grown { Grows self.old self.new }
     {
         self.names.intern_any(name)
     }
 
-    /// Keeps the text of a node: of a namespace node in the table of URIs, of any other in the buffer.
+    /// Keeps the text of a node: of a namespace node in the table of URIs, of any other in the
+    /// buffer.
     pub fn keep_text(&mut self, kind: Kind, text: &str) -> Result<TextPlace, AllocError>
         ensures stored { IfOk result (λ place. text_at self.new place ≡ text.now) }
         ensures within { IfOk result (λ place. IsTextIn self.new place) }

@@ -1,5 +1,4 @@
-// The tables of a tree's names and of its namespace URIs, each kept once.
-#![tactic(auto)]
+//! The tables of a tree's names and of its namespace URIs, each kept once.
 
 ghost use Rattle.std.specs.Prelude.{◌≡◌, ◌<◌, ◌≤◌, [], Some, slice_get, length, IfOk, OnErr, OnOk};
 ghost use Rattle.std.specs.Option.{option_and_then, option_copied};
@@ -47,7 +46,8 @@ impl NameTable {
 
     /// The number of a name, if there is one.
     pub fn intern_any(&mut self, name: Option<Name>) -> Result<Option<u32>, AllocError>
-        ensures stored { IfOk result (λ number. option_and_then (slice_get self.new) number ≡ name) }
+        ensures stored { IfOk result
+            (λ number. option_and_then (slice_get self.new) number ≡ name) }
         ensures numbered { IfOk result (λ number. IsNumberBelow (length self.new) number) }
         ensures kept { Keeps self.old self.new }
     {

@@ -1,13 +1,18 @@
-// The tree: making one, and adding nodes.
-#![tactic(auto)]
+//! The tree: making one, and adding nodes.
 
-ghost use Rattle.std.specs.Prelude.{◌≡◌, ◌<◌, ◌≤◌, ◌↔◌, [], ◌∷◌, ◌++◌, Some, Err, length, is_some, IfOk, OnOk, OnErr, IsTrue};
-ghost use Rattle.xs_tree.specs.Kinds.{bears_name, can_hold};
-ghost use Rattle.xs_tree.specs.Record.{Record, root_record, at};
-ghost use Rattle.xs_tree.specs.Shape.{IsOpen, KeepsOrder, IsTree};
+ghost use Rattle.std.specs.Prelude.{◌≡◌, ◌<◌, ◌≤◌, ◌↔◌, [], ◌∷◌, ◌++◌, Some, Err, length, is_some};
+ghost use Rattle.std.specs.Prelude.{IfOk, IfSome, true, OnOk, OnErr, IsTrue};
+ghost use Rattle.xs_tree.specs.Kinds.{bears_name, can_hold, has_local_name};
+ghost use Rattle.xs_tree.specs.Record.{Record, at, root_record, with_node, with_same};
+ghost use Rattle.xs_tree.specs.Shape.{CanBear, IsLocalName, IsOpen, KeepsOrder, IsTree};
+ghost use Rattle.xs_tree.specs.Utf8.{IsUtf8Name};
 
+mod conditions;
+mod documents;
+mod namespace_nodes;
 mod readers;
 mod string_value;
+mod text_nodes;
 mod walks;
 
 use crate::closing::keep;
@@ -16,8 +21,10 @@ use crate::kinds::Kind;
 use crate::names::Name;
 use crate::nodes::Node;
 use crate::store::Store;
+pub use namespace_nodes::Namespaces;
 use std::alloc::{AllocError, Global};
 use std::marker::Model;
+pub use text_nodes::Texts;
 use thiserror::Error;
 pub use walks::{Attributes, Children};
 
@@ -27,8 +34,8 @@ pub const MOST_NODES: usize = 8_000_000;
 /// Why a node was not added.
 #[derive(Debug, Drop, PartialEq, Eq, Error)]
 pub enum TreeFault {
-    /// The tree has 8,000,000 nodes.
-    #[error("more than 8,000,000 nodes")]
+    /// The tree has as many nodes as a tree can have.
+    #[error("the tree has no room for another node")]
     TooLarge,
     /// Memory ran out.
     #[error("out of memory")]
@@ -37,8 +44,9 @@ pub enum TreeFault {
 
 /// One or more documents as nodes in document order (XPath 1.0, 5).
 ///
-/// Each name and each namespace URI is kept once, the other texts lie one after another in one buffer, and a node takes 32
-/// bytes beside its text. Adding a node takes constant time on average, and so does finding where its subtree ends.
+/// Each name and each namespace URI is kept once, the other texts lie one after another in one
+/// buffer, and a node takes 32 bytes beside its text. Adding a node takes constant time on average,
+/// and so does finding where its subtree ends.
 #[derive(Drop)]
 pub struct Tree {
     nodes: Vec<Entry>,
@@ -88,11 +96,12 @@ impl Tree {
         requires within { parent < length self.old }
         requires held { IsTrue (can_hold (at self.old parent).kind kind) }
         requires named { is_some name ≡ bears_name kind }
+        requires spelled { has_local_name kind ≡ true → IfSome name IsLocalName }
         requires plain { kind ≡ Kind.Element → text.now ≡ [] }
         requires open { IsOpen self.old parent }
         requires order { KeepsOrder self.old parent kind }
         ensures node { IfOk result (λ node. node ≡ length self.old) }
-        ensures added { OnOk result (self.new ≡ self.old ++ record { kind = kind; name = name; text = text.now; parent = Some parent } ∷ []) }
+        ensures added { OnOk result (self.new ≡ with_node self.old kind name text.now parent) }
         ensures too_large { (result ≡ Err TreeFault.TooLarge) ↔ (length self.old ≡ MOST_NODES) }
         ensures refused { OnErr result (self.new ≡ self.old) }
     {
@@ -103,7 +112,8 @@ impl Tree {
             .map_err(|_| TreeFault::NoMemory)
     }
 
-    /// Adds a namespace node inside an open element, with the name and the URI of one that is in the tree.
+    /// Adds a namespace node inside an open element, with the name and the URI of one that is in
+    /// the tree.
     ///
     /// Takes memory for the node alone.
     pub fn add_same(&mut self, like: Node, parent: Node) -> Result<Node, TreeFault>
@@ -114,7 +124,7 @@ impl Tree {
         requires open { IsOpen self.old parent }
         requires order { KeepsOrder self.old parent Kind.Space }
         ensures node { IfOk result (λ node. node ≡ length self.old) }
-        ensures added { OnOk result (self.new ≡ self.old ++ record { kind = Kind.Space; name = (at self.old like).name; text = (at self.old like).text; parent = Some parent } ∷ []) }
+        ensures added { OnOk result (self.new ≡ with_same self.old like parent) }
         ensures too_large { (result ≡ Err TreeFault.TooLarge) ↔ (length self.old ≡ MOST_NODES) }
         ensures refused { OnErr result (self.new ≡ self.old) }
     {
@@ -144,13 +154,14 @@ impl Tree {
         requires room { length self.old < MOST_NODES }
         requires within { parent < length self.old }
         requires held { IsTrue (can_hold (at self.old parent).kind kind) }
-        requires named { is_some name ≡ bears_name kind }
+        requires borne { CanBear kind name text.now }
         requires open { IsOpen self.old parent }
         requires order { KeepsOrder self.old parent kind }
         ensures node { IfOk result (λ node. node ≡ length self.old) }
-        ensures added { OnOk result (self.new ≡ self.old ++ record { kind = kind; name = name; text = text.now; parent = Some parent } ∷ []) }
+        ensures added { OnOk result (self.new ≡ with_node self.old kind name text.now parent) }
         ensures refused { OnErr result (self.new ≡ self.old) }
     {
+        name_is_utf8(&name);
         let name = self.store.keep_name(name)?;
         let text = self.store.keep_text(kind, text)?;
         let entry = Entry {
@@ -174,7 +185,7 @@ impl Tree {
         requires open { IsOpen self.old parent }
         requires order { KeepsOrder self.old parent Kind.Space }
         ensures node { IfOk result (λ node. node ≡ length self.old) }
-        ensures added { OnOk result (self.new ≡ self.old ++ record { kind = Kind.Space; name = (at self.old like).name; text = (at self.old like).text; parent = Some parent } ∷ []) }
+        ensures added { OnOk result (self.new ≡ with_same self.old like parent) }
         ensures refused { OnErr result (self.new ≡ self.old) }
     {
         let entry = Entry {
@@ -184,5 +195,16 @@ impl Tree {
         };
         let node = keep(&mut self.nodes, entry)?;
         Ok(node)
+    }
+}
+
+// That the parts of a name are UTF-8.
+fn name_is_utf8(name: &Option<Name>)
+    ensures { IfSome name.now IsUtf8Name }
+{
+    if let Some(name) = name {
+        let _uri = name.uri.as_str();
+        let _local = name.local.as_str();
+        let _prefix = name.prefix.as_str();
     }
 }

@@ -5,13 +5,12 @@ use std::alloc::AllocError;
 use std::process::ExitCode;
 use std::rt::Env;
 use std::{env, io};
+use xs_engine::status::NO_MEMORY;
 use xs_engine::transform;
 use xs_outside::{ErrSink, FileLibrary, OpenGate, OutSink};
 
-/// The status of a run that memory did not suffice for.
-const NO_MEMORY: u8 = 6;
-
-// The words after the program's name. Where one is not UTF-8 there are none, which the processor refuses.
+// The words after the program's name. Where one is not UTF-8 there are none, which the processor
+// refuses.
 fn words(rt: &(impl Env + AllocGlobal)) -> Result<Vec<String>, AllocError> {
     let mut words = Vec::new(rt.alloc());
     match env::args(rt) {
@@ -26,6 +25,7 @@ fn words(rt: &(impl Env + AllocGlobal)) -> Result<Vec<String>, AllocError> {
     Ok(words)
 }
 
+// Makes the library and the sinks, runs the processor, and ends with its status.
 fn main(rt: HostRuntime) -> ExitCode {
     let alloc = rt.alloc();
     let Ok(words) = words(&rt) else {

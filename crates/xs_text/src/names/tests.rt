@@ -62,23 +62,6 @@ fn other_characters(rt: HostRuntime) -> Result<(), Fail> {
 }
 
 #[test]
-fn white_space(rt: HostRuntime) {
-    for (c, space) in [
-        (' ', true),
-        ('\t', true),
-        ('\n', true),
-        ('\r', true),
-        ('\u{B}', false),
-        ('\u{C}', false),
-        ('\u{85}', false),
-        ('\u{A0}', false),
-        ('a', false),
-    ] {
-        assert_eq!(rt; is_space(c), space);
-    }
-}
-
-#[test]
 fn whole_names(rt: HostRuntime) {
     assert_eq!(rt; split_qname("item"), Some(("", "item")));
     assert_eq!(rt; split_qname("xsl:for-each"), Some(("xsl", "for-each")));

@@ -1,10 +1,12 @@
-// What a tree says of one node.
-#![tactic(auto)]
+//! What a tree says of one node.
 
-ghost use Rattle.std.specs.Prelude.{◌≡◌, ◌+◌, ◌<◌, ◌≤◌, length, nat_lt, if◌then◌else◌, Some, None, IsTrue, ◌↔◌};
+ghost use Rattle.std.specs.Prelude.{◌≡◌, ◌+◌, ◌<◌, ◌≤◌, length, nat_lt, if◌then◌else◌, Some, None};
+ghost use Rattle.std.specs.Prelude.{IsTrue, ◌↔◌};
 ghost use Rattle.std.specs.Option.{option_copied};
-ghost use Rattle.xs_tree.specs.Record.{at};
+ghost use Rattle.xs_tree.specs.Limits.{most_nodes};
+ghost use Rattle.xs_tree.specs.Record.{at, local_at, prefix_at, uri_at};
 ghost use Rattle.xs_tree.specs.Shape.{EndsAt, HasParentFrom, IsTree};
+ghost use Rattle.xs_tree.specs.Utf8.{AreUtf8};
 
 use super::Tree;
 use crate::kinds::Kind;
@@ -15,10 +17,17 @@ impl Tree {
     /// The number of nodes.
     pub fn len(&self) -> usize
         ensures count { result ≡ length self.now }
-        ensures few { result ≤ 8000000 }
+        ensures few { result ≤ most_nodes }
         ensures tree { IsTree self.now }
     {
         self.nodes.len()
+    }
+
+    /// That the texts of a tree and the parts of its names are UTF-8.
+    pub fn texts_are_utf8(&self)
+        ensures { AreUtf8 self.now }
+    {
+        let _nodes = &self.nodes;
     }
 
     /// The kind of a node.
@@ -38,8 +47,45 @@ impl Tree {
         self.store.name(number)
     }
 
-    /// The text of a text node, a comment or a processing instruction, the value of an attribute or the URI of a
-    /// namespace node; empty for roots and elements.
+    /// The namespace URI of a node's name, empty where it is in none or bears no name (Namespaces
+    /// in XML 1.0, 2.1).
+    pub fn uri(&self, n: Node) -> &str
+        requires { n < length self.now }
+        ensures uri { result.now ≡ uri_at self.now n }
+    {
+        match self.name(n) {
+            Some(name) => name.uri.as_str(),
+            None => "",
+        }
+    }
+
+    /// The local part of a node's name, empty where it bears none. Of a namespace node it is the
+    /// prefix, of a processing instruction the target (XPath 1.0, 5.4 and 5.5).
+    pub fn local(&self, n: Node) -> &str
+        requires { n < length self.now }
+        ensures local { result.now ≡ local_at self.now n }
+    {
+        match self.name(n) {
+            Some(name) => name.local.as_str(),
+            None => "",
+        }
+    }
+
+    /// The prefix that a node's name was written with, empty where there is none (Namespaces in XML
+    /// 1.0, 4).
+    pub fn prefix(&self, n: Node) -> &str
+        requires { n < length self.now }
+        ensures prefix { result.now ≡ prefix_at self.now n }
+    {
+        match self.name(n) {
+            Some(name) => name.prefix.as_str(),
+            None => "",
+        }
+    }
+
+    /// The text of a text node, a comment or a processing instruction, the value of an attribute,
+    /// the URI of a namespace node or, of a root, the name of its document; empty for elements and
+    /// for the root of the first document.
     pub fn text(&self, n: Node) -> &str
         requires { n < length self.now }
         ensures text { result.now ≡ (at self.now n).text }
@@ -75,7 +121,8 @@ impl Tree {
         }
     }
 
-    /// The place after a node and all that is inside it: that of the next node outside it, or the number of nodes.
+    /// The place after a node and all that is inside it: that of the next node outside it, or the
+    /// number of nodes.
     pub fn subtree_end(&self, n: Node) -> u32
         requires { n < length self.now }
         ensures end { EndsAt self.now n result }

@@ -1,11 +1,11 @@
-// The children and the attributes of a node.
-#![tactic(auto)]
+//! The children and the attributes of a node.
 
-ghost use Rattle.std.specs.Prelude.{◌≡◌, ◌+◌, ◌<◌, [], ◌∷◌, length, IfSome, MatchOption};
+ghost use Rattle.std.specs.Prelude.{◌≡◌, ◌<◌, length, IfSome};
 ghost use Rattle.std.specs.Iterator.{YieldsFirst, item_count};
+ghost use Rattle.xs_tree.specs.Limits.{most_nodes};
 ghost use Rattle.xs_tree.specs.Record.{attributes, children, is_attribute, is_child};
 ghost use Rattle.xs_tree.specs.Shape.{HasParentFrom};
-ghost use Rattle.xs_tree.specs.Walk.{children_from, attributes_from};
+ghost use Rattle.xs_tree.specs.Walk.{IsFirstFrom, attributes_from, children_from};
 
 use super::Tree;
 use crate::kinds::Kind;
@@ -32,10 +32,10 @@ impl Tree {
     /// The first child of a node from a place on.
     pub fn child_from(&self, parent: Node, from: Node) -> Option<Node>
         requires { parent < from }
-        ensures value { MatchOption result (children_from self.now parent from ≡ []) (λ child. children_from self.now parent from ≡ child ∷ children_from self.now parent (child + 1)) }
+        ensures value { IsFirstFrom (children_from self.now parent) from result }
         ensures within { IfSome result (λ child. child < length self.now) }
         ensures after { IfSome result (λ child. parent < child) }
-        ensures few { IfSome result (λ child. child < 8000000) }
+        ensures few { IfSome result (λ child. child < most_nodes) }
     {
         for place in from.place()..self.len() as u32 {
             let node = Node::at(place);
@@ -52,10 +52,10 @@ impl Tree {
     /// The first attribute of a node from a place on.
     pub fn attribute_from(&self, parent: Node, from: Node) -> Option<Node>
         requires { parent < from }
-        ensures value { MatchOption result (attributes_from self.now parent from ≡ []) (λ child. attributes_from self.now parent from ≡ child ∷ attributes_from self.now parent (child + 1)) }
+        ensures value { IsFirstFrom (attributes_from self.now parent) from result }
         ensures within { IfSome result (λ child. child < length self.now) }
         ensures after { IfSome result (λ child. parent < child) }
-        ensures few { IfSome result (λ child. child < 8000000) }
+        ensures few { IfSome result (λ child. child < most_nodes) }
     {
         for place in from.place()..self.len() as u32 {
             let node = Node::at(place);

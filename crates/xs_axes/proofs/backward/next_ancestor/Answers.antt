@@ -1,5 +1,5 @@
 use Rattle.std.proofs.Common.{sym}
-use Rattle.xs_axes.proofs.BackwardAxes.{ancestors-step, ancestors-none}
+use Rattle.xs_axes.proofs.BackwardAxisLemmas.{ancestors-step, ancestors-none}
 use Rattle.xs_axes.proofs.backward.next_ancestor.Goals as goal
 
 pub returns-in_err-parent-clause-step : goal.returns-in_err-parent-clause-step

@@ -1,7 +1,7 @@
 -- The walk passes what is no content.
 use Rattle.std.proofs.Common.{◌≡◌, ◌∙◌, sym, true, false}
 use Rattle.xs_axes.specs.Walks.{is_content}
-use Rattle.xs_axes.proofs.Ranges.{between-true, between-false}
+use Rattle.xs_axes.proofs.RangeLemmas.{between-true, between-false}
 use Rattle.xs_axes.proofs.forward.next_content.Goals as goal
 
 pub returns-then-is_child-clause-step : goal.returns-then-is_child-clause-step

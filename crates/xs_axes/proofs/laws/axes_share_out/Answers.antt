@@ -1,4 +1,4 @@
-use Rattle.xs_axes.proofs.LawLemmas.{axes-share_out}
+use Rattle.xs_axes.proofs.AxisLawLemmas.{axes-share_out}
 use Rattle.xs_axes.proofs.laws.axes_share_out.Goals as goal
 
 pub returns : goal.returns

@@ -1,4 +1,4 @@
-use Rattle.xs_axes.proofs.LawLemmas.{axes-stay_inside}
+use Rattle.xs_axes.proofs.AxisLawLemmas.{axes-stay_inside}
 use Rattle.xs_axes.proofs.laws.axes_stay_inside.Goals as goal
 
 pub returns : goal.returns

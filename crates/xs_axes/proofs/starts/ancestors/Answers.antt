@@ -1,4 +1,4 @@
-use Rattle.xs_axes.proofs.BackwardAxes.{axis-ancestors}
+use Rattle.xs_axes.proofs.BackwardAxisLemmas.{axis-ancestors}
 use Rattle.xs_axes.proofs.starts.ancestors.Goals as goal
 
 pub returns-clause-left : goal.returns-clause-left

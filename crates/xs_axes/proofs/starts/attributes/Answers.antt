@@ -1,7 +1,7 @@
 use Rattle.std.proofs.Common.{◌≡◌, ◌∙◌}
 use Rattle.xs_tree.specs.declared.kinds.Kind.TheVariants.{Element}
 use Rattle.xs_tree.specs.Record.{at}
-use Rattle.xs_axes.proofs.ForwardAxes.{axis-attributes, axis-no_attributes}
+use Rattle.xs_axes.proofs.ForwardAxisLemmas.{axis-attributes, axis-no_attributes}
 use Rattle.xs_axes.proofs.starts.attributes.Goals as goal
 
 pub returns-in-Element-clause-left : goal.returns-in-Element-clause-left

@@ -1,4 +1,4 @@
-use Rattle.xs_axes.proofs.ForwardAxes.{axis-children}
+use Rattle.xs_axes.proofs.ForwardAxisLemmas.{axis-children}
 use Rattle.xs_axes.proofs.starts.children.Goals as goal
 
 pub returns-clause-left : goal.returns-clause-left

@@ -1,5 +1,5 @@
 use Rattle.std.proofs.Common.{sym}
-use Rattle.xs_axes.proofs.ForwardAxes.{axis-parent, axis-no_parent}
+use Rattle.xs_axes.proofs.ForwardAxisLemmas.{axis-parent, axis-no_parent}
 use Rattle.xs_axes.proofs.starts.parent_alone.Goals as goal
 
 pub returns-in-Some-clause-left : goal.returns-in-Some-clause-left

@@ -1,4 +1,4 @@
-use Rattle.xs_axes.proofs.BackwardAxes.{axis-preceding}
+use Rattle.xs_axes.proofs.BackwardAxisLemmas.{axis-preceding}
 use Rattle.xs_axes.proofs.starts.preceding.Goals as goal
 
 pub returns-clause-left : goal.returns-clause-left

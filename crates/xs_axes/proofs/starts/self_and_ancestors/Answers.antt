@@ -1,4 +1,4 @@
-use Rattle.xs_axes.proofs.BackwardAxes.{axis-self_and_ancestors}
+use Rattle.xs_axes.proofs.BackwardAxisLemmas.{axis-self_and_ancestors}
 use Rattle.xs_axes.proofs.starts.self_and_ancestors.Goals as goal
 
 pub returns-clause-left : goal.returns-clause-left

@@ -1,4 +1,4 @@
-use Rattle.xs_axes.proofs.ForwardAxes.{axis-self_and_descendants}
+use Rattle.xs_axes.proofs.ForwardAxisLemmas.{axis-self_and_descendants}
 use Rattle.xs_axes.proofs.starts.self_and_descendants.Goals as goal
 
 pub returns-clause-left : goal.returns-clause-left

@@ -1,4 +1,4 @@
-use Rattle.xs_axes.proofs.ForwardAxes.{axis-self}
+use Rattle.xs_axes.proofs.ForwardAxisLemmas.{axis-self}
 use Rattle.xs_axes.proofs.starts.start.Goals as goal
 
 pub returns-in-SelfNode-clause-left : goal.returns-in-SelfNode-clause-left

@@ -1,8 +1,8 @@
 use Rattle.std.proofs.Common.{◌≡◌, ◌+◌, ◌-◌, ◌<◌, not, filter, length, IfSome}
 use Rattle.std.specs.Option.{option_map_or}
 use Rattle.xs_body.specs.Sheet.{first, is_ignored}
-use Rattle.xs_body.specs.Walk.{content_from}
-use Rattle.xs_body.proofs.Siblings.{onward}
+use Rattle.xs_body.specs.steps.Children.{content_from}
+use Rattle.xs_body.proofs.ChildLemmas.{onward}
 use Rattle.xs_body.proofs.children.kept_after.Given as goal
 
 abbrev pub invariant-loop-next : goal.invariant-loop-next

@@ -1,4 +1,4 @@
-use Rattle.xs_body.proofs.Endings.{stripped}
+use Rattle.xs_body.proofs.SuffixLemmas.{stripped}
 use Rattle.xs_body.proofs.expressions.before_end.Goals as goal
 
 pub returns : goal.returns

@@ -1,4 +1,4 @@
-use Rattle.xs_body.proofs.Endings.{split}
+use Rattle.xs_body.proofs.SuffixLemmas.{split}
 use Rattle.xs_body.proofs.expressions.parts_at_quote.Goals as goal
 
 pub returns : goal.returns

@@ -1,28 +1,25 @@
--- The walk stops at the first node that is no namespace node of the element, since none follows.
-use Rattle.std.proofs.Common.{◌≡◌, ◌+◌, ◌<◌, ◌++◌, ◌∙◌, [], ◌∷◌, cond, length, sym, ap, arith, false, true}
-use Rattle.xs_tree.specs.Axis.{is_space}
+use Rattle.std.proofs.Common.{ap, sym, ◌∙◌, ◌++◌, [], ◌∷◌, append_assoc, filter, map}
+use Rattle.xs_tree.proofs.NamespaceLemmas.{namespace-within}
 use Rattle.xs_body.specs.Sheet.{is_copied, space_at}
-use Rattle.xs_body.proofs.Spaces.{copied-start, copied-next, copied-stop, copied-end}
+use Rattle.xs_body.proofs.NamespaceNodeLemmas.{copied-next}
 use Rattle.xs_body.proofs.literal.copied_spaces.Goals as goal
 
-pub loop-place-init : goal.loop-place-init
-loop-place-init c =
-    copied-start c.args.tree.now c.args.n _ c.new-spaces.result.items c.len-count.ensures.tree c.requires (ap (λ i. i + 1) c.place-place.ensures) c.new-spaces.ensures.items
+-- the node that comes next is in the tree
+pub copy_space-requires : goal.copy_space-requires
+copy_space-requires c =
+    namespace-within c.args.tree.now c.args.n c.loop-space.yielded _ c.in-Some.space
+    (sym c.loop-space.invariant.2 ∙ ap (λ xs. c.loop-space.yielded ++ xs) c.in-Some.ensures.steps)
 
-pub loop-place-preserved : goal.loop-place-preserved
-loop-place-preserved c =
-    let node_is : c.at-node.result ≡ c.loop-place.place = c.at-node.ensures in
-    let within : c.loop-place.place < length c.args.tree.now = omega (arith, c.loop-place-test.true, c.len-count.ensures.count) in
-    let here : is_space c.args.tree.now c.args.n c.loop-place.place ≡ true = ap (is_space c.args.tree.now c.args.n) (sym node_is) ∙ sym c.is_space_of.ensures ∙ c.if-not-is_space_of.false in
-    copied-next c.args.tree.now c.args.n c.loop-place.place c.loop-place.spaces.items c.copy_space.new.spaces.items within here c.loop-place.invariant
-    (c.in_ok-copy_space.ensures ∙ ap (λ k. cond (is_copied c.args.tree.now k) (c.loop-place.spaces.items ++ space_at c.args.tree.now k ∷ []) c.loop-place.spaces.items) node_is)
-
-pub returns-then-not-is_space_of : goal.returns-then-not-is_space_of
-returns-then-not-is_space_of c =
-    let node_is : c.at-node.result ≡ c.loop-place.place = c.at-node.ensures in
-    let after : c.args.n < c.loop-place.place = omega (arith, c.loop-place.auto.place, c.place-place.ensures) in
-    let other : is_space c.args.tree.now c.args.n c.loop-place.place ≡ false = ap (is_space c.args.tree.now c.args.n) (sym node_is) ∙ sym c.is_space_of.ensures ∙ c.if-not-is_space_of.true in
-    copied-stop c.args.tree.now c.args.n c.loop-place.place c.loop-place.spaces.items c.len-count.ensures.tree after other c.loop-place.invariant
-
-pub returns : goal.returns
-returns c = copied-end c.args.tree.now c.args.n c.loop-place.place c.loop-place.spaces.items (omega (arith, c.loop-place-test.false, c.len-count.ensures.count)) c.loop-place.invariant
+-- it is copied or passed over
+pub loop-space-preserved : goal.loop-space-preserved
+loop-space-preserved c =
+    let test = is_copied c.args.tree.now in
+    let here = space_at c.args.tree.now in (
+      tt,
+      tt,
+      append_assoc c.loop-space.yielded (c.in-Some.space ∷ []) c.next.new.self
+          ∙ ap (λ xs. c.loop-space.yielded ++ xs) (sym c.in-Some.ensures.steps) ∙ c.loop-space.invariant.2,
+      ap (λ xs. xs ++ map here (filter test c.next.new.self)) c.in_ok-copy_space.ensures
+          ∙ copied-next test here c.in-Some.space c.next.new.self c.loop-space.spaces.items
+          ∙ ap (λ ks. c.loop-space.spaces.items ++ map here (filter test ks)) (sym c.in-Some.ensures.steps) ∙ c.loop-space.invariant.3,
+    )

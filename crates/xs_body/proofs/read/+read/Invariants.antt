@@ -1,7 +1,7 @@
 use Rattle.std.proofs.Common.{◌≡◌, ◌+◌, ◌-◌, ◌*◌, ◌<◌, length, IfSome}
 use Rattle.std.specs.Option.{option_map_or}
-use Rattle.xs_body.specs.Sheet.{parts_at}
-use Rattle.xs_body.proofs.Reading.{parts_onward, with_before}
+use Rattle.xs_body.specs.Sheet.{body_at}
+use Rattle.xs_body.proofs.ReadLemmas.{instrs_onward, with_before}
 use Rattle.xs_body.proofs.read.+read.Given as goal
 
 abbrev pub decreases-read_content : goal.decreases-read_content
@@ -15,7 +15,7 @@ decreases-read_element l = 4 * l.depth + 4
 
 abbrev pub invariant-read_content-loop-next : goal.invariant-read_content-loop-next
 invariant-read_content-loop-next l = record {
-  same : parts_at l.depth l.tree l.lines l.n ≡ with_before l.instrs.items (parts_onward l.depth l.tree l.lines l.n l.next);
+  same : body_at l.depth l.tree l.lines l.n ≡ with_before l.instrs.items (instrs_onward l.depth l.tree l.lines l.n l.next);
   later : IfSome l.next (λ k. (l.n < k) × (k < length l.tree));
 }
 

@@ -1,16 +1,15 @@
 use Rattle.std.proofs.Common.{◌≡◌, ◌+◌, ◌*◌, ◌<◌, All, drop, length}
 use Rattle.xs_body.specs.declared.syntax.Body.{size-Body}
 use Rattle.xs_body.specs.declared.syntax.InstrKind.{size-InstrKind}
-use Rattle.xs_body.specs.Parts.{parts_of, parts_of_all}
-use Rattle.xs_body.specs.Paths.{way_of}
-use Rattle.xs_body.specs.Steps.{each_node, each_steps, steps}
+use Rattle.xs_body.specs.Body.{body_data, instrs_data}
+use Rattle.xs_body.specs.steps.Evaluation.{each_node, each_steps, steps}
 use Rattle.xs_body.proofs.run.+run.Given as goal
 
 abbrev pub decreases-evaluate_body : goal.decreases-evaluate_body
 decreases-evaluate_body g l = 2 * size-Body l.body.now
 
-abbrev pub decreases-evaluate_part : goal.decreases-evaluate_part
-decreases-evaluate_part g l = 2 * size-InstrKind l.kind.now + 1
+abbrev pub decreases-evaluate_instr : goal.decreases-evaluate_instr
+decreases-evaluate_instr g l = 2 * size-InstrKind l.kind.now + 1
 
 abbrev pub decreases-evaluate_each : goal.decreases-evaluate_each
 decreases-evaluate_each g l = 2 * size-Body l.body.now + 1
@@ -23,12 +22,16 @@ decreases-evaluate_message g l = 2 * size-Body l.body.now + 1
 
 abbrev pub invariant-evaluate_body-loop-instr : goal.invariant-evaluate_body-loop-instr
 invariant-evaluate_body-loop-instr g l =
-    steps (parts_of l.body) l.tree l.context (g.R.Tally.state l.fn.recorder) ≡ steps (parts_of_all (drop l.instr-index l.instr-items)) l.tree l.context (g.R.Tally.state l.recorder)
+    (steps (body_data l.body) l.tree l.context (g.R.Tally.state l.fn.recorder) ≡ steps (instrs_data (drop l.instr-index l.instr-items)) l.tree l.context
+    (g.R.Tally.state l.recorder)) ×
+    (g.R.Tally.kept l.recorder ≡ g.R.Tally.kept l.fn.recorder)
 
 abbrev pub decreases-evaluate_if : goal.decreases-evaluate_if
 decreases-evaluate_if g l = 2 * size-Body l.body.now + 1
 
 abbrev pub invariant-evaluate_each-loop-place : goal.invariant-evaluate_each-loop-place
 invariant-evaluate_each-loop-place g l =
-    (each_node (way_of l.path) l.site (steps (parts_of l.body) l.tree) l.tree l.fn.from (g.R.Tally.state l.fn.recorder) ≡ each_steps l.site (steps (parts_of l.body) l.tree) (drop l.place-index l.place-items) (g.R.Tally.state l.recorder)) ×
-    All (λ k. k < length l.tree) l.place-items
+    (each_node l.path l.site (steps (body_data l.body) l.tree) l.tree l.fn.from (g.R.Tally.state l.fn.recorder) ≡ each_steps l.site
+    (steps (body_data l.body) l.tree) (drop l.place-index l.place-items) (g.R.Tally.state l.recorder)) ×
+    All (λ k. k < length l.tree) l.place-items ×
+    (g.R.Tally.kept l.recorder ≡ g.R.Tally.kept l.fn.recorder)

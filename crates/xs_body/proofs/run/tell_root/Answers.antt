@@ -1,12 +1,8 @@
-use Rattle.std.proofs.Common.{refl}
-use Rattle.std.proofs.lemmas.Result.{err_from_is_err_and}
-use Rattle.xs_trace.specs.Play.{play}
-use Rattle.xs_trace.proofs.Grows.{passes as passed_on, play-grows}
-use Rattle.xs_body.specs.Parts.{parts_of}
-use Rattle.xs_body.specs.Trace.{trace, with_node}
+use Rattle.xs_body.specs.Body.{body_data}
+use Rattle.xs_body.proofs.NeedLemmas.{root_needs_none}
 use Rattle.xs_body.proofs.run.tell_root.Goals as goal
 
-pub returns-in_err-tick : goal.returns-in_err-tick
-returns-in_err-tick g c =
-    let p = err_from_is_err_and c.from_residual.result c.from_residual.ensures.1 in
-    record { told = passed_on (λ x. x) (λ x. x) g.R.Tally.may_end _ _ (λ u m. play (trace (parts_of c.args.body.now) c.args.tree.now (with_node 0)) m) (g.R.Tally.state c.tick.new.self) c.from_residual.result _ _ refl (λ u. play-grows (trace (parts_of c.args.body.now) c.args.tree.now (with_node 0))) p.1 p.2 c.in_err-tick.ensures.told }
+pub returns-clause-settled : goal.returns-clause-settled
+returns-clause-settled g c =
+    root_needs_none c.args.root_line (body_data c.args.body.now) c.args.tree.now c.evaluate_root.result
+    (g.R.Tally.state c.args.recorder.now) (g.R.Tally.state c.evaluate_root.new.recorder) c.evaluate_root.ensures.told

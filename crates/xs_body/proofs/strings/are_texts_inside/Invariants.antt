@@ -1,12 +1,13 @@
-use Rattle.std.proofs.Common.{◌≡◌, ℕ, ◌+◌, ◌<◌}
+use Rattle.std.proofs.Common.{◌≡◌, ◌++◌}
 use Rattle.std.specs.Str.{bytes_eq}
-use Rattle.xs_tree.specs.Record.{at}
-use Rattle.xs_tree.specs.Shape.{HasParentFrom}
-use Rattle.xs_tree.specs.Walk.{texts_from}
+use Rattle.xs_tree.specs.Record.{texts}
+use Rattle.xs_body.specs.steps.Children.{texts_of}
 use Rattle.xs_body.proofs.strings.are_texts_inside.Given as goal
 
--- all that was passed is inside the node, and what is left of its texts is to be what is left of the bytes
-abbrev pub invariant-loop-place : goal.invariant-loop-place
-invariant-loop-place l =
-    ((j : ℕ) → l.outer < j → j < l.place → HasParentFrom l.outer (at l.tree j)) ×
-    (bytes_eq (texts_from l.tree l.outer (l.outer + 1)) l.text ≡ bytes_eq (texts_from l.tree l.outer l.place) l.rest)
+-- what is left of the texts is to be what is left of the bytes
+abbrev pub invariant-loop-node : goal.invariant-loop-node
+invariant-loop-node l =
+    goal.iterator-loop-node.can_next l.node-iterator ×
+    goal.iterator-loop-node.is_finite l.node-iterator ×
+    (l.yielded ++ l.node-iterator ≡ texts l.tree l.fn.outer) ×
+    (bytes_eq (texts_of l.tree l.node-iterator) l.rest ≡ bytes_eq (texts_of l.tree (texts l.tree l.fn.outer)) l.text)

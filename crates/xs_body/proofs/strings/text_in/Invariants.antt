@@ -4,4 +4,4 @@ use Rattle.xs_body.specs.Trace.{text_in}
 use Rattle.xs_body.proofs.strings.text_in.Given as goal
 
 abbrev pub invariant-loop-event : goal.invariant-loop-event
-invariant-loop-event l = string_bytes l.text ++ text_in (drop l.event-index l.event-items) ≡ text_in l.fragment.events.items
+invariant-loop-event l = string_bytes l.text ++ text_in (drop l.event-index l.event-items) ≡ text_in l.fragment

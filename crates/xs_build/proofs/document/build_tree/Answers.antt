@@ -1,7 +1,7 @@
 use Rattle.std.proofs.Common.{sym, arith, subst}
 use Rattle.xs_build.specs.Results.{Builds}
-use Rattle.xs_build.proofs.DocumentTrees.{built_document}
-use Rattle.xs_build.proofs.Lefts.{within_limit, beyond_limit}
+use Rattle.xs_build.proofs.wellformed.DocumentLemmas.{built_document}
+use Rattle.xs_build.proofs.RestLemmas.{within_limit, beyond_limit}
 use Rattle.xs_build.proofs.document.build_tree.Goals as goal
 
 pub returns-then-bytes-limit-clause-document : goal.returns-then-bytes-limit-clause-document
@@ -11,4 +11,5 @@ pub returns-clause-document : goal.returns-clause-document
 returns-clause-document c = subst (Builds c.read_lines.result) (sym (within_limit c.args.limit c.args.bytes.now (omega arith))) c.read_lines.ensures.document
 
 pub returns-clause-tree : goal.returns-clause-tree
-returns-clause-tree c = built_document c.args.limit c.args.bytes.now c.read_lines.result (subst (Builds c.read_lines.result) (sym (within_limit c.args.limit c.args.bytes.now (omega arith))) c.read_lines.ensures.document)
+returns-clause-tree c = built_document c.args.limit c.args.bytes.now c.read_lines.result
+    (subst (Builds c.read_lines.result) (sym (within_limit c.args.limit c.args.bytes.now (omega arith))) c.read_lines.ensures.document)

@@ -1,5 +1,5 @@
 use Rattle.std.proofs.Common.{◌≡◌, ◌∙◌, length, arith}
-use Rattle.xs_build.proofs.Scopes.{with_popped, with_none}
+use Rattle.xs_build.proofs.BindingLemmas.{with_popped, with_none}
 use Rattle.xs_build.proofs.scope.bind_all.Goals as goal
 
 pub loop-prefix-preserved : goal.loop-prefix-preserved

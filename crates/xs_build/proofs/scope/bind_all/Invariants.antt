@@ -1,6 +1,6 @@
 use Rattle.std.proofs.Common.{◌≡◌, vec_len}
 use Rattle.xs_build.specs.Namespaces.{scope_with}
-use Rattle.xs_build.specs.Tag.{bindings_of}
+use Rattle.xs_build.specs.steps.Views.{bindings_of}
 use Rattle.xs_build.proofs.scope.bind_all.Given as goal
 
 -- what is bound so far, with what is left to bind around it, is the whole

@@ -1,6 +1,6 @@
 use Rattle.std.proofs.Common.{◌++◌, ◌+◌, length}
 use Rattle.xs_build.specs.Nodes.{spaces}
-use Rattle.xs_build.proofs.Copies.{IsCopied}
+use Rattle.xs_build.proofs.NamespaceNodeLemmas.{IsCopied}
 use Rattle.xs_build.proofs.spaces.copy_spaces.Given as goal
 
 abbrev pub invariant-loop-like : goal.invariant-loop-like

@@ -2,7 +2,7 @@ use Rattle.std.proofs.Common.{List, ◌++◌, sym, subst}
 use Rattle.xs_tree.specs.Record.{Record}
 use Rattle.xs_build.specs.Namespaces.{Bindings}
 use Rattle.xs_build.specs.Nodes.{spaces}
-use Rattle.xs_build.proofs.SpaceNodes.{IsSpaced, spaced_step}
+use Rattle.xs_build.proofs.NamespaceNodeLemmas.{IsSpaced, spaced_step}
 use Rattle.xs_build.proofs.spaces.put_spaces.Goals as goal
 
 pub loop-prefix-preserved : goal.loop-prefix-preserved

@@ -1,6 +1,6 @@
 use Rattle.std.proofs.Common.{◌++◌}
 use Rattle.xs_build.specs.Nodes.{spaces}
-use Rattle.xs_build.proofs.SpaceNodes.{IsSpaced}
+use Rattle.xs_build.proofs.NamespaceNodeLemmas.{IsSpaced}
 use Rattle.xs_build.proofs.spaces.put_spaces.Given as goal
 
 abbrev pub invariant-loop-prefix : goal.invariant-loop-prefix

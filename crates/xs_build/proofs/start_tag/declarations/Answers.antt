@@ -1,5 +1,5 @@
 use Rattle.std.proofs.Common.{◌∙◌, sym}
-use Rattle.xs_build.proofs.Declaring.{declared_more, declared_all}
+use Rattle.xs_build.proofs.DeclarationLemmas.{declared_more, declared_all}
 use Rattle.xs_build.proofs.start_tag.declarations.Goals as goal
 
 pub loop-rest-preserved : goal.loop-rest-preserved

@@ -1,7 +1,7 @@
 use Rattle.std.proofs.Common.{◌≡◌, ◌++◌, length}
 use Rattle.xs_pyx.specs.Row.{rows_of}
 use Rattle.xs_build.specs.Start.{declarations}
-use Rattle.xs_build.specs.Tag.{bindings_of}
+use Rattle.xs_build.specs.steps.Views.{bindings_of}
 use Rattle.xs_build.proofs.start_tag.declarations.Given as goal
 
 -- what was declared so far, and what the lines that are left declare

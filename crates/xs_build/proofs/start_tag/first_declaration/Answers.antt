@@ -1,5 +1,5 @@
 use Rattle.std.proofs.Common.{◌∙◌, sym}
-use Rattle.xs_build.proofs.Declaring.{quiet_row}
+use Rattle.xs_build.proofs.DeclarationLemmas.{quiet_row}
 use Rattle.xs_build.proofs.start_tag.first_declaration.Goals as goal
 
 pub returns-then-not-starts_with : goal.returns-then-not-starts_with

@@ -1,4 +1,4 @@
-use Rattle.xs_engine.proofs.Digits.{value_read, not_refused}
+use Rattle.xs_engine.proofs.DigitLemmas.{value_read, not_refused}
 use Rattle.xs_engine.proofs.words.number_in.Goals as goal
 
 pub returns : goal.returns

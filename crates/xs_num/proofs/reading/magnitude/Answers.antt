@@ -1,6 +1,6 @@
 use Rattle.std.proofs.Common.{◌+◌, arith}
 use Rattle.std.proofs.lemmas.Int.Digits.{digits_value_more}
-use Rattle.xs_num.proofs.Digits.{digit_within, digit_value-is, digits_value-take-le}
+use Rattle.xs_num.proofs.DigitLemmas.{digit_within, digit_value-is, digits_value-take-le}
 use Rattle.xs_num.proofs.reading.magnitude.Goals as goal
 
 pub overflow_sub-digit : goal.overflow_sub-digit

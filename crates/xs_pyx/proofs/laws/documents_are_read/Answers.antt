@@ -1,4 +1,4 @@
-use Rattle.xs_pyx.proofs.Sayings as law
+use Rattle.xs_pyx.proofs.LineLemmas as law
 use Rattle.xs_pyx.proofs.laws.documents_are_read.Goals as goal
 
 pub returns : goal.returns

@@ -1,7 +1,7 @@
 use Rattle.std.proofs.Common.{◌∙◌, ap}
 use Rattle.std.specs.List.{list_any}
-use Rattle.xs_pyx.proofs.Firsts.{is_some-searched}
-use Rattle.xs_pyx.proofs.Readings.{is_backslash}
+use Rattle.xs_pyx.proofs.SearchLemmas.{is_some-searched}
+use Rattle.xs_pyx.proofs.ReadLemmas.{is_backslash}
 use Rattle.xs_pyx.proofs.read.has_backslash.Goals as goal
 
 pub returns : goal.returns

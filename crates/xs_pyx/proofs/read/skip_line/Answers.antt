@@ -1,4 +1,4 @@
-use Rattle.xs_pyx.proofs.Rows.{rows_first}
+use Rattle.xs_pyx.proofs.RowLemmas.{rows_first}
 use Rattle.xs_pyx.proofs.read.skip_line.Goals as goal
 
 pub returns-clause-rows : goal.returns-clause-rows

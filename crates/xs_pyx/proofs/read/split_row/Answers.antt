@@ -1,4 +1,4 @@
-use Rattle.xs_pyx.proofs.Rows.{row-found, behind-found, taken-found, row-nowhere, behind-nowhere, taken-nowhere}
+use Rattle.xs_pyx.proofs.RowLemmas.{row-found, behind-found, taken-found, row-nowhere, behind-nowhere, taken-nowhere}
 use Rattle.xs_pyx.proofs.read.split_row.Goals as goal
 
 pub returns-in-Some-clause-first : goal.returns-in-Some-clause-first

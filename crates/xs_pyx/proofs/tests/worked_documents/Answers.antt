@@ -6,7 +6,7 @@ use Rattle.xs_text.specs.Escapes.{unescaped}
 use Rattle.xs_pyx.specs.declared.line.Line.TheVariants.{Start, End}
 use Rattle.xs_pyx.specs.Row.{rows_behind}
 use Rattle.xs_pyx.specs.Reading.{reading}
-use Rattle.xs_pyx.proofs.Sayings.{lines_by_reading}
+use Rattle.xs_pyx.proofs.LineLemmas.{lines_by_reading}
 use Rattle.xs_pyx.proofs.tests.worked_documents.Goals as goal
 
 pub returns-clause-two : goal.returns-clause-two

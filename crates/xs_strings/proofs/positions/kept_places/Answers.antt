@@ -1,7 +1,7 @@
 use Rattle.std.proofs.Common.{◌≡◌, sym, ap, ◌∙◌}
 use Rattle.xs_num.specs.declared.number.Number.TheVariants.{NaN}
 use Rattle.xs_strings.specs.Positions.{substring_of}
-use Rattle.xs_strings.proofs.Windows.{substring-nan_first}
+use Rattle.xs_strings.proofs.WindowLemmas.{substring-nan_first}
 use Rattle.xs_strings.proofs.positions.kept_places.Goals as goal
 
 pub returns-in-NaN : goal.returns-in-NaN

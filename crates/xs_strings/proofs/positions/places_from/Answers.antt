@@ -2,7 +2,7 @@ use Rattle.std.proofs.Common.{◌≡◌, sym, ap, ◌∙◌, take, drop, Some, �
 use Rattle.std.proofs.lemmas.Int.{ints}
 use Rattle.xs_num.specs.declared.number.Number.TheVariants.{Whole, NaN}
 use Rattle.xs_strings.specs.Positions.{substring_of, places_below}
-use Rattle.xs_strings.proofs.Windows.{substring-from, substring-between, substring-nan_count}
+use Rattle.xs_strings.proofs.WindowLemmas.{substring-from, substring-between, substring-nan_count}
 use Rattle.xs_strings.proofs.positions.places_from.Goals as goal
 
 pub returns-in-None : goal.returns-in-None
@@ -15,7 +15,8 @@ pub returns-in-Whole : goal.returns-in-Whole
 returns-in-Whole c =
     let is : c.args.count ≡ Some (Whole c.in-Whole.count) = c.in-Some.is ∙ ap Some (sym c.get.ensures.value ∙ c.in-Whole.is) in
     let start : c.places_below-start.result ≡ places_below c.args.first = c.places_below-start.ensures ∙ ap places_below (omega (arith, ints)) in
-    let end : c.places_below.result ≡ places_below (c.args.first +ℤ c.in-Whole.count) = c.places_below.ensures ∙ ap places_below (omega (arith, ints, c.in-Whole.ensures.in_range)) in
+    let end : c.places_below.result ≡ places_below (c.args.first +ℤ c.in-Whole.count) = c.places_below.ensures
+    ∙ ap places_below (omega (arith, ints, c.in-Whole.ensures.in_range)) in
     λ cs short. ap (λ k. drop k (take c.places_below.result cs)) start
     ∙ ap (λ k. drop (places_below c.args.first) (take k cs)) end
     ∙ substring-between c.args.first c.in-Whole.count cs

@@ -1,19 +1,9 @@
-use Rattle.std.proofs.Common.{arith, ◌++◌, ap, ◌∙◌, sym}
-use Rattle.std.proofs.lemmas.Grind.{common_steps}
-use Rattle.std.proofs.lemmas.List.{map-id}
-use Rattle.std.proofs.lemmas.Str.{encodes-append}
-use Rattle.std.proofs.lemmas.List.Elements.{filter_map-append}
-use Rattle.std.proofs.lemmas.Iterator.{YieldsList-from_chars}
-use Rattle.std.proofs.lemmas.Iterator.Consumers.{YieldsList-end}
-use Rattle.std.specs.Str.{chars, encode_utf8_all}
-use Rattle.xs_strings.specs.Translation.{translated}
+use Rattle.std.proofs.Common.{sym, ◌∙◌}
+use Rattle.xs_text.proofs.Utf8Lemmas.{IsUtf8-appended_ok}
+use Rattle.xs_strings.proofs.Utf8Lemmas.{IsUtf8-translated}
 use Rattle.xs_strings.proofs.translation.translate.Goals as goal
 
-pub loop-character-preserved : goal.loop-character-preserved
-loop-character-preserved c = grind (arith, common_steps, encodes-append, filter_map-append)
-
-pub returns : goal.returns
-returns c =
-    let ended = YieldsList-end (YieldsList-from_chars c.args.s.now c.utf8.s cc) c.loop-character.yielded _ c.loop-character.yielded_by _ _ c.in-None.is c.next.ensures.steps in
-    c.loop-character.invariant
-    ∙ ap (λ cs. c.args.out.now.items ++ encode_utf8_all (translated cs (chars c.args.from.now) (chars c.args.to.now))) (sym (map-id c.loop-character.yielded) ∙ ended.0)
+pub returns-else-is_err-clause-utf8 : goal.returns-else-is_err-clause-utf8
+returns-else-is_err-clause-utf8 c =
+    IsUtf8-appended_ok c.append_translated-outcome.result _ _ _ (sym c.is_err.ensures.value ∙ c.if-is_err.false)
+    c.append_translated-outcome.ensures.ok (IsUtf8-translated c.args.s.now c.args.from.now c.args.to.now c.utf8.s c.utf8.to)

@@ -1,6 +1,6 @@
 use Rattle.std.proofs.Common.{ℕ, ◌+◌, ◌<◌, length, arith, sym, ◌∙◌}
 use Rattle.std.proofs.lemmas.List.{take_rest, length-drop}
-use Rattle.xs_text.proofs.Unescaping.{IsPlain-more, unescaped-IsPlain, unescaped-at_pair, unescaped-at_other, unescaped-at_last}
+use Rattle.xs_text.proofs.UnescapeLemmas.{IsPlain-more, unescaped-IsPlain, unescaped-at_pair, unescaped-at_other, unescaped-at_last}
 use Rattle.xs_text.proofs.escapes.first_pair.Goals as goal
 
 pub loop-i-preserved : goal.loop-i-preserved
@@ -13,7 +13,11 @@ returns-then-i-text c =
 pub returns-in-Some : goal.returns-in-Some
 returns-in-Some c =
     let letter_in : c.loop-i.i + 1 < length c.args.text.now = omega arith in
-    rw take_rest (omega (arith, length-drop {A = ℕ}), unescaped-at_pair c.args.text.now c.loop-i.i 0 0 c.in-Some.read letter_in c.if-byte-ne92.false (sym c.escaped_byte.ensures ∙ c.in-Some.is) c.loop-i.invariant)
+    rw take_rest (
+      omega (arith, length-drop {A = ℕ}),
+      unescaped-at_pair c.args.text.now c.loop-i.i 0 0 c.in-Some.read letter_in c.if-byte-ne92.false
+          (sym c.escaped_byte.ensures ∙ c.in-Some.is) c.loop-i.invariant,
+    )
 
 pub returns-in-None : goal.returns-in-None
 returns-in-None c =

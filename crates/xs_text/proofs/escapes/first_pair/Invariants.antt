@@ -1,5 +1,5 @@
 use Rattle.std.proofs.Common.{take}
-use Rattle.xs_text.proofs.Unescaping.{IsPlain}
+use Rattle.xs_text.proofs.UnescapeLemmas.{IsPlain}
 use Rattle.xs_text.proofs.escapes.first_pair.Given as goal
 
 -- there is no backslash so far

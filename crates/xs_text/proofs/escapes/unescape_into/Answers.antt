@@ -1,6 +1,6 @@
 use Rattle.std.proofs.Common.{sym, ◌∙◌}
-use Rattle.xs_text.proofs.Utf8.{IsUtf8-append_unescaped}
-use Rattle.xs_text.proofs.Unescaping.{unescaped_by_rules}
+use Rattle.xs_text.proofs.Utf8Lemmas.{IsUtf8-append_unescaped}
+use Rattle.xs_text.proofs.UnescapeLemmas.{unescaped_by_rules}
 use Rattle.xs_text.proofs.escapes.unescape_into.Goals as goal
 
 pub returns-then-is_ok-clause-rules : goal.returns-then-is_ok-clause-rules

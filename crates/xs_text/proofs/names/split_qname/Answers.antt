@@ -1,18 +1,24 @@
-use Rattle.xs_text.specs.Names.{IsNcName}
-use Rattle.xs_text.proofs.Naming.{no_QName-whole, no_QName-cut, refuted}
+use Rattle.std.proofs.Common.{◌∙◌, lit<}
+use Rattle.xs_text.proofs.NameLemmas.{qname-whole, qname-cut, parts-said, none-said}
 use Rattle.xs_text.proofs.names.split_qname.Goals as goal
-use Rattle.xs_text.proofs.names.split_qname.Goals.{else-is_ncname-2-via-then-is_ncname-2+else-is_ncname-3, else-is_ncname-2-via-else-is_ncname-2}
 
-pub returns-else-is_ncname-clause-none : goal.returns-else-is_ncname-clause-none
-returns-else-is_ncname-clause-none c =
-    no_QName-whole c.args.s.now c.in_default.ensures.cases (refuted _ (IsNcName c.args.s.now) c.is_ncname.ensures c.if-is_ncname.false)
+pub returns-in-Some-clause-named : goal.returns-in-Some-clause-named
+returns-in-Some-clause-named c =
+    let cut = c.in-Some.ensures.byte (lit< tt) (λ w o h. h) in
+    c.prefixed.ensures ∙ qname-cut c.args.s.now c.in-Some.prefix.now c.in-Some.local.now cut.0 cut.1 cut.2
 
-pub returns-else-is_ncname-2-clause-none : goal.returns-else-is_ncname-2-clause-none
-returns-else-is_ncname-2-clause-none c =
-    let prefix = c.in-Some.prefix in
-    let local = c.in-Some.local in
-    no_QName-cut c.args.s.now prefix local c.utf8.s c.in-Some.ensures.cases (
-    elim c.else-is_ncname-2.branch [
-      | else-is_ncname-2-via-then-is_ncname-2+else-is_ncname-3 w ↦ λ both. refuted _ (IsNcName local.now) w.is_ncname-then-is_ncname-2.ensures w.if-is_ncname-3.false both.1
-      | else-is_ncname-2-via-else-is_ncname-2 w ↦ λ both. refuted _ (IsNcName prefix.now) c.is_ncname-2.ensures w.if-is_ncname-2.false both.0
-    ])
+pub returns-in-None-clause-named : goal.returns-in-None-clause-named
+returns-in-None-clause-named c =
+    c.unprefixed.ensures ∙ qname-whole c.args.s.now (c.in-None.ensures.byte (lit< tt) (λ w o h. h))
+
+pub returns-in-Some-clause-parts : goal.returns-in-Some-clause-parts
+returns-in-Some-clause-parts c = parts-said c.args.s.now c.prefixed.result (returns-in-Some-clause-named c)
+
+pub returns-in-None-clause-parts : goal.returns-in-None-clause-parts
+returns-in-None-clause-parts c = parts-said c.args.s.now c.unprefixed.result (returns-in-None-clause-named c)
+
+pub returns-in-Some-clause-none : goal.returns-in-Some-clause-none
+returns-in-Some-clause-none c = none-said c.args.s.now c.prefixed.result c.utf8.s (returns-in-Some-clause-named c)
+
+pub returns-in-None-clause-none : goal.returns-in-None-clause-none
+returns-in-None-clause-none c = none-said c.args.s.now c.unprefixed.result c.utf8.s (returns-in-None-clause-named c)

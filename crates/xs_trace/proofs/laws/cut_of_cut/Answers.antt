@@ -1,5 +1,5 @@
-use Rattle.xs_trace.proofs.CutLaws.{cut-cut}
+use Rattle.xs_trace.proofs.CutLemmas.{cut-cut}
 use Rattle.xs_trace.proofs.laws.cut_of_cut.Goals as goal
 
 pub returns : goal.returns
-returns c = cut-cut
+returns g c = cut-cut

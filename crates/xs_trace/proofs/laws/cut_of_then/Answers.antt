@@ -1,5 +1,5 @@
-use Rattle.xs_trace.proofs.CutLaws.{cut-then}
+use Rattle.xs_trace.proofs.CutLemmas.{cut-then}
 use Rattle.xs_trace.proofs.laws.cut_of_then.Goals as goal
 
 pub returns : goal.returns
-returns c = cut-then
+returns g c = cut-then

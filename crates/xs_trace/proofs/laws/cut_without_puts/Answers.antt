@@ -1,5 +1,5 @@
-use Rattle.xs_trace.proofs.CutLaws.{cut-without-puts}
+use Rattle.xs_trace.proofs.CutLemmas.{cut-without-puts}
 use Rattle.xs_trace.proofs.laws.cut_without_puts.Goals as goal
 
 pub returns : goal.returns
-returns c = cut-without-puts
+returns g c = cut-without-puts

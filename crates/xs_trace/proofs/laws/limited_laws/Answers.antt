@@ -1,5 +1,5 @@
-use Rattle.xs_trace.proofs.RunLaws.{limited-laws}
+use Rattle.xs_trace.proofs.RunLemmas.{limited-laws}
 use Rattle.xs_trace.proofs.laws.limited_laws.Goals as goal
 
 pub returns : goal.returns
-returns g c = limited-laws _ _
+returns g c = limited-laws _ _ _

@@ -1,5 +1,5 @@
-use Rattle.xs_trace.proofs.Grows.{play-grows}
+use Rattle.xs_trace.proofs.GrowthLemmas.{play-grows}
 use Rattle.xs_trace.proofs.laws.play_grows.Goals as goal
 
 pub returns : goal.returns
-returns c = play-grows
+returns g c = play-grows

@@ -1,5 +1,5 @@
-use Rattle.xs_trace.proofs.PlayLaws.{play-cut}
+use Rattle.xs_trace.proofs.PlayLemmas.{play-cut}
 use Rattle.xs_trace.proofs.laws.play_is_cut.Goals as goal
 
 pub returns : goal.returns
-returns c = play-cut
+returns g c = play-cut

@@ -12,11 +12,13 @@ pub bounds-nodes-node : goal.bounds-nodes-node
 bounds-nodes-node c = c.loop-node.invariant.0
 
 pub loop-node-smaller : goal.loop-node-smaller
-loop-node-smaller c = c.loop-node.invariant.1 c.loop-node.node _ c.loop-node-test.true (slice_get-get_or c.loop-node.nodes c.loop-node.node _ c.loop-node.invariant.0)
+loop-node-smaller c = c.loop-node.invariant.1 c.loop-node.node _ c.loop-node-test.true
+    (slice_get-get_or c.loop-node.nodes c.loop-node.node _ c.loop-node.invariant.0)
 
 pub loop-node-preserved : goal.loop-node-preserved
 loop-node-preserved c =
-    IsWalk-step c.args.ancestor c.args.place c.args.nodes.now (c.args.place - 1) c.loop-node.nodes c.loop-node.node _ (slice_get-get_or c.loop-node.nodes c.loop-node.node _ c.loop-node.invariant.0) c.loop-node-test.true c.loop-node.invariant
+    IsWalk-step c.args.ancestor c.args.place c.args.nodes.now (c.args.place - 1) c.loop-node.nodes c.loop-node.node _
+    (slice_get-get_or c.loop-node.nodes c.loop-node.node _ c.loop-node.invariant.0) c.loop-node-test.true c.loop-node.invariant
 
 pub returns : goal.returns
 returns c = record { closed = c.loop-node.invariant.2 c.loop-node.nodes (nothing_left c.loop-node-test.false) }

@@ -2,7 +2,7 @@ use Rattle.std.proofs.Common.{◌≡◌, ◌∙◌, sym, ap, subst, [], Option, 
 use Rattle.std.specs.Result.{IfOk}
 use Rattle.xs_tree.specs.declared.names.Name.{Name}
 use Rattle.xs_build.specs.Namespaces.{named}
-use Rattle.xs_build.proofs.Scopes.{attribute_prefixed, attribute_plain}
+use Rattle.xs_build.proofs.BindingLemmas.{attribute_prefixed, attribute_plain}
 use Rattle.xs_build.proofs.scope.Scope.attribute_name.Goals as goal
 
 pub returns-then-not-is_empty : goal.returns-then-not-is_empty

@@ -1,7 +1,7 @@
 use Rattle.std.proofs.Common.{◌≡◌, ◌∙◌, sym, ap, subst, Option, Some}
 use Rattle.std.specs.Result.{IfOk}
 use Rattle.xs_tree.specs.declared.names.Name.{Name}
-use Rattle.xs_build.proofs.Scopes.{element_prefixed, element_plain}
+use Rattle.xs_build.proofs.BindingLemmas.{element_prefixed, element_plain}
 use Rattle.xs_build.proofs.scope.Scope.element_name.Goals as goal
 
 pub returns-then-not-is_empty : goal.returns-then-not-is_empty
@@ -13,4 +13,5 @@ returns-then-not-is_empty c =
 pub returns : goal.returns
 returns c =
     ap Some c.in_ok-plain_name.ensures
-    ∙ element_plain c.args.self.now c.args.prefix.now c.args.local.now c.in_ok-default_uri.field-0 (sym c.is_empty.ensures ∙ c.if-not-is_empty.false) c.in_ok-default_uri.ensures
+    ∙ element_plain c.args.self.now c.args.prefix.now c.args.local.now c.in_ok-default_uri.field-0 (sym c.is_empty.ensures
+    ∙ c.if-not-is_empty.false) c.in_ok-default_uri.ensures

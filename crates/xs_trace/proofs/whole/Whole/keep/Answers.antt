@@ -1,5 +1,9 @@
-use Rattle.xs_trace.proofs.Kept.{keeps}
+use Rattle.xs_trace.proofs.KeptLemmas.{keeps}
 use Rattle.xs_trace.proofs.whole.Whole.keep.Goals as goal
 
 pub returns : goal.returns
-returns c = record { cut = λ x q. keeps x c.args.limits.ticks c.args.limits.events c.args.told _ _ c.in_ok-ended.ensures.ended c.in_ok-items.ensures.items c.saturating_sub-ticks.ensures q }
+returns g c =
+    record {
+      cut = λ x q. keeps x c.args.self.limits.ticks c.args.self.limits.events c.args.told _ _ c.in_ok-ended.ensures.ended c.in_ok-items.ensures.items
+          c.in_ok-items.ensures.packed c.saturating_sub-ticks.ensures q;
+    }

@@ -9,14 +9,16 @@ pub returns-then-is_attribute-clause-value : goal.returns-then-is_attribute-clau
 returns-then-is_attribute-clause-value c =
     let node_is : c.at-node.result ≡ c.loop-place.place = c.at-node.ensures in
     let within : c.loop-place.place < length c.args.self.now = omega (arith, c.loop-place-test.true, c.len-place-end.ensures.count) in
-    let passes : is_attribute c.args.self.now c.args.parent c.loop-place.place ≡ true = rw (← node_is) (sym c.is_attribute.ensures.value ∙ c.if-is_attribute.true) in
+    let passes : is_attribute c.args.self.now c.args.parent c.loop-place.place ≡ true =
+    rw (← node_is) (sym c.is_attribute.ensures.value ∙ c.if-is_attribute.true) in
     c.loop-place.invariant ∙ rw node_is (passing-true (is_attribute c.args.self.now c.args.parent) c.args.self.now c.loop-place.place within passes)
 
 pub loop-place-preserved : goal.loop-place-preserved
 loop-place-preserved c =
     let node_is : c.at-node.result ≡ c.loop-place.place = c.at-node.ensures in
     let within : c.loop-place.place < length c.args.self.now = omega (arith, c.loop-place-test.true, c.len-place-end.ensures.count) in
-    let fails : is_attribute c.args.self.now c.args.parent c.loop-place.place ≡ false = rw (← node_is) (sym c.is_attribute.ensures.value ∙ c.if-is_attribute.false) in
+    let fails : is_attribute c.args.self.now c.args.parent c.loop-place.place ≡ false =
+    rw (← node_is) (sym c.is_attribute.ensures.value ∙ c.if-is_attribute.false) in
     c.loop-place.invariant ∙ passing-false (is_attribute c.args.self.now c.args.parent) c.args.self.now c.loop-place.place within fails
 
 pub returns-then-rank-eq2-clause-value : goal.returns-then-rank-eq2-clause-value

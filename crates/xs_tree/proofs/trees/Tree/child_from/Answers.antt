@@ -16,7 +16,8 @@ returns-then-not-begins_inside-clause-value c =
     let node_is : c.at-node.result ≡ c.loop-place.place = c.at-node.ensures in
     let within : c.loop-place.place < length c.args.self.now = omega (arith, c.loop-place-test.true, c.len-place-end.ensures.count) in
     let after : c.args.parent < c.loop-place.place = omega (arith, c.requires, c.loop-place.auto.place, c.place-place.ensures) in
-    c.loop-place.invariant ∙ not_child-past c.args.self.now c.args.parent c.loop-place.place c.len-place-end.ensures.tree after within (rw (← node_is) (refuted c.begins_inside.result _ c.begins_inside.ensures.value c.if-not-begins_inside.true))
+    c.loop-place.invariant ∙ not_child-past c.args.self.now c.args.parent c.loop-place.place c.len-place-end.ensures.tree after within
+    (rw (← node_is) (refuted c.begins_inside.result _ c.begins_inside.ensures.value c.if-not-begins_inside.true))
 
 pub loop-place-preserved : goal.loop-place-preserved
 loop-place-preserved c =

@@ -4,6 +4,7 @@ use Rattle.std.specs.Prelude.{Result}
 use Rattle.std.specs.Option.{option_and_then}
 use Rattle.xs_tree.specs.declared.trees.Tree.TheInside.{Inside}
 use Rattle.xs_tree.specs.declared.entries.Entry.{Entry}
+use Rattle.xs_tree.specs.Limits.{most_nodes}
 use Rattle.xs_tree.specs.Record.{Record}
 use Rattle.xs_tree.specs.Shape.{IsOpen, IsTree}
 use Rattle.xs_tree.specs.View.{parent_of, record_of, records}
@@ -51,7 +52,8 @@ invariant_of-self-in_err-node c =
 pub returns-in_err-node-clause-refused : goal.returns-in_err-node-clause-refused
 returns-in_err-node-clause-refused c =
     let after : Inside = record { nodes = c.keep.new.nodes; store = c.keep_text.new.self } in
-    on_err _ _ (records-same c.self.inside after c.in_err-node.ensures.refused (Grows-twice _ _ _ c.keep_name.ensures.grown c.keep_text.ensures.grown) c.self.invariant ∙ c.self.view_is)
+    on_err _ _ (records-same c.self.inside after c.in_err-node.ensures.refused
+    (Grows-twice _ _ _ c.keep_name.ensures.grown c.keep_text.ensures.grown) c.self.invariant ∙ c.self.view_is)
 
 abbrev after : In_ok-node → Inside
 after c = record { nodes = c.keep.new.nodes; store = c.keep_text.new.self }
@@ -68,7 +70,8 @@ kept c =
       grown = Grows-twice _ _ _ c.keep_name.ensures.grown c.keep_text.ensures.grown;
       stored = record {
         placed = c.in_ok-text.ensures.within;
-        named = IsNumberBelow-longer (length c.keep_name.new.self.names) (length c.keep_text.new.self.names) c.in_ok-name.name c.keep_text.ensures.grown.names.longer c.in_ok-name.ensures.numbered;
+        named = IsNumberBelow-longer (length c.keep_name.new.self.names)
+            (length c.keep_text.new.self.names) c.in_ok-name.name c.keep_text.ensures.grown.names.longer c.in_ok-name.ensures.numbered;
       };
       is_last = refl;
       closes = c.in_ok-node.ensures.kept;
@@ -80,8 +83,11 @@ kept c =
 -- the entry stands for the record
 entry_is : (c : In_ok-node) → record_of c.keep_text.new.self (entry c) ≡ added c
 entry_is c =
-    let name_is : option_and_then (slice_get c.keep_text.new.self.names) c.in_ok-name.name ≡ c.args.name = name-longer c.keep_name.new.self.names c.keep_text.new.self.names c.in_ok-name.name c.keep_text.ensures.grown.names c.in_ok-name.ensures.numbered ∙ c.in_ok-name.ensures.stored in
-    let parent_is : parent_of c.args.kind c.place.result ≡ Some c.args.parent = parent_of-held _ c.args.kind c.place.result c.requires.held ∙ ap Some c.place.ensures in
+    let name_is : option_and_then (slice_get c.keep_text.new.self.names) c.in_ok-name.name ≡ c.args.name =
+    name-longer c.keep_name.new.self.names c.keep_text.new.self.names c.in_ok-name.name c.keep_text.ensures.grown.names c.in_ok-name.ensures.numbered
+    ∙ c.in_ok-name.ensures.stored in
+    let parent_is : parent_of c.args.kind c.place.result ≡ Some c.args.parent = parent_of-held _ c.args.kind c.place.result c.requires.held
+    ∙ ap Some c.place.ensures in
     rw (name_is, parent_is, c.in_ok-text.ensures.stored) refl
 
 pub returns-clause-added : goal.returns-clause-added
@@ -92,6 +98,8 @@ returns-clause-added c =
 pub invariant_of-self-2 : goal.invariant_of-self-2
 invariant_of-self-2 c =
     let shape : IsTree c.args.self.now = rw (← c.self.view_is) c.self.invariant.shape in
-    let room : length c.self.inside.nodes.items < 8000000 = omega (arith, c.requires.room, length-records c.self.inside, ap length c.self.view_is) in
+    let room : length c.self.inside.nodes.items < most_nodes = omega (arith, c.requires.room, length-records c.self.inside, ap length c.self.view_is) in
     IsWell-kept c.self.inside (after c) (entry c) c.self.invariant (kept c) room
-    (rw (entry_is c, c.self.view_is) (IsTree-added c.args.self.now (added c) c.args.parent shape refl c.requires.within c.requires.held c.requires.named c.requires.open c.requires.order))
+    (rw (entry_is c, c.self.view_is) (IsTree-added c.args.self.now
+    (added c) c.args.parent shape refl c.requires.within c.requires.held c.requires.borne c.requires.open c.requires.order))
+    (rw (entry_is c) (record { text = c.utf8.text; name = c.name_is_utf8.ensures }))

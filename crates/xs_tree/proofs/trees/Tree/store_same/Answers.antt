@@ -4,10 +4,12 @@ use Rattle.std.proofs.lemmas.Option.{slice_get_read}
 use Rattle.xs_tree.specs.declared.kinds.Kind.TheVariants.{Space}
 use Rattle.xs_tree.specs.declared.trees.Tree.TheInside.{Inside}
 use Rattle.xs_tree.specs.declared.entries.Entry.{Entry}
-use Rattle.xs_tree.specs.Record.{Record, at}
+use Rattle.xs_tree.specs.Limits.{most_nodes}
+use Rattle.xs_tree.specs.Record.{Record, root_record, at}
 use Rattle.xs_tree.specs.Shape.{IsOpen, IsTree}
+use Rattle.xs_tree.specs.Utf8.{AreUtf8, IsUtf8Record}
 use Rattle.xs_tree.specs.View.{record_of, records, IsStored}
-use Rattle.xs_tree.proofs.AddLemmas.{parents-before, IsKept, records-kept, IsWell-kept, space-named}
+use Rattle.xs_tree.proofs.AddLemmas.{parents-before, IsKept, records-kept, IsWell-kept, CanBear-same}
 use Rattle.xs_tree.proofs.EndLemmas.{record_at}
 use Rattle.xs_tree.proofs.EntryLemmas.{IsWell-same, length-records}
 use Rattle.xs_tree.proofs.ShapeLemmas.{IsTree-added}
@@ -41,7 +43,8 @@ within c = omega (arith, c.requires.found, c.place-2.ensures, length-records c.s
 like_is : (c : In_ok-node) → at c.args.self.now c.args.like ≡ record_of c.self.inside.store c.index.result.now
 like_is c =
     rw (← c.place-2.ensures)
-    (record_at c.self.inside.store c.self.inside.nodes.items c.args.self.now c.place-2.result c.index.result.now c.self.view_is (slice_get_read c.self.inside.nodes.items _ c.place-2.result c.index.result.now refl (within c) c.index.ensures))
+    (record_at c.self.inside.store c.self.inside.nodes.items c.args.self.now c.place-2.result c.index.result.now c.self.view_is
+    (slice_get_read c.self.inside.nodes.items _ c.place-2.result c.index.result.now refl (within c) c.index.ensures))
 
 kind_is : (c : In_ok-node) → c.index.result.now.kind ≡ Space
 kind_is c = sym (ap (λ r. r.kind) (like_is c)) ∙ c.requires.space
@@ -63,6 +66,11 @@ kept c =
       is_open = rw (c.self.view_is, c.place.ensures) c.requires.open;
     }
 
+like_utf8 : (c : In_ok-node) → IsUtf8Record (at c.args.self.now c.args.like)
+like_utf8 c =
+    let all : AreUtf8 c.args.self.now = rw (← c.self.view_is) c.self.invariant.utf8 in
+    all c.args.like root_record c.requires.found
+
 -- the entry stands for the record
 entry_is : (c : In_ok-node) → record_of c.self.inside.store (entry c) ≡ added c
 entry_is c = rw (like_is c, kind_is c, c.place.ensures) refl
@@ -75,6 +83,8 @@ returns-clause-added c =
 pub invariant_of-self-2 : goal.invariant_of-self-2
 invariant_of-self-2 c =
     let shape : IsTree c.args.self.now = rw (← c.self.view_is) c.self.invariant.shape in
-    let room : length c.self.inside.nodes.items < 8000000 = omega (arith, c.requires.room, length-records c.self.inside, ap length c.self.view_is) in
+    let room : length c.self.inside.nodes.items < most_nodes = omega (arith, c.requires.room, length-records c.self.inside, ap length c.self.view_is) in
     IsWell-kept c.self.inside (after c) (entry c) c.self.invariant (kept c) room
-    (rw (entry_is c, c.self.view_is) (IsTree-added c.args.self.now (added c) c.args.parent shape refl c.requires.within c.requires.held (space-named c.args.self.now c.args.like shape c.requires.found c.requires.space) c.requires.open c.requires.order))
+    (rw (entry_is c, c.self.view_is) (IsTree-added c.args.self.now (added c) c.args.parent shape refl c.requires.within c.requires.held
+    (CanBear-same c.args.self.now c.args.like shape c.requires.found c.requires.space) c.requires.open c.requires.order))
+    (rw (entry_is c) (record { text = (like_utf8 c).text; name = (like_utf8 c).name }))

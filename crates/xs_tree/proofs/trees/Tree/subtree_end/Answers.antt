@@ -10,7 +10,8 @@ pub returns-then-end-eq0-clause-end : goal.returns-then-end-eq0-clause-end
 returns-then-end-eq0-clause-end c =
     let long : length (records c.self.inside) ≡ length c.self.inside.nodes.items = length-records c.self.inside in
     let within : c.place.result < length c.self.inside.nodes.items = omega (arith, c.requires, c.place.ensures, long, ap length c.self.view_is) in
-    let here : slice_get c.self.inside.nodes.items c.place.result ≡ Some c.index.result.now = slice_get_read c.self.inside.nodes.items _ c.place.result c.index.result.now refl within c.index.ensures in
+    let here : slice_get c.self.inside.nodes.items c.place.result ≡ Some c.index.result.now =
+    slice_get_read c.self.inside.nodes.items _ c.place.result c.index.result.now refl within c.index.ensures in
     let end_is : IsEnd (records c.self.inside) c.place.result c.index.result.now.end = c.self.invariant.ends c.place.result c.index.result.now here in
     let count_is : c.len.result ≡ length (records c.self.inside) = c.len.ensures ∙ c.self.inside.nodes.ok.0 ∙ sym long in
     rw (← c.self.view_is, ← c.place.ensures, count_is)
@@ -20,7 +21,8 @@ pub returns-else-end-eq0-clause-end : goal.returns-else-end-eq0-clause-end
 returns-else-end-eq0-clause-end c =
     let long : length (records c.self.inside) ≡ length c.self.inside.nodes.items = length-records c.self.inside in
     let within : c.place.result < length c.self.inside.nodes.items = omega (arith, c.requires, c.place.ensures, long, ap length c.self.view_is) in
-    let here : slice_get c.self.inside.nodes.items c.place.result ≡ Some c.index.result.now = slice_get_read c.self.inside.nodes.items _ c.place.result c.index.result.now refl within c.index.ensures in
+    let here : slice_get c.self.inside.nodes.items c.place.result ≡ Some c.index.result.now =
+    slice_get_read c.self.inside.nodes.items _ c.place.result c.index.result.now refl within c.index.ensures in
     let end_is : IsEnd (records c.self.inside) c.place.result c.index.result.now.end = c.self.invariant.ends c.place.result c.index.result.now here in
     rw (← c.self.view_is, ← c.place.ensures)
     (EndsAt-closed (records c.self.inside) c.place.result c.index.result.now.end end_is c.if-end-eq0.false)

@@ -16,12 +16,15 @@ pub loop-place-preserved : goal.loop-place-preserved
 loop-place-preserved c =
     let within : c.loop-place.place < length c.args.self.now = omega (arith, c.loop-place-test.true, c.subtree_end-end.ensures.end.within) in
     let after : c.args.n < c.loop-place.place = omega (arith, c.loop-place.auto.place, c.place-place.ensures) in
-    let appended : c.own_text_into.new.out.items ≡ c.loop-place.out.items ++ own_text (at c.args.self.now c.loop-place.place) = rw (← c.at.ensures) (on_ok c.own_text_into.result _ (sym c.is_err.ensures.value ∙ c.if-is_err.false) c.own_text_into.ensures.appended) in
+    let appended : c.own_text_into.new.out.items ≡ c.loop-place.out.items ++ own_text (at c.args.self.now c.loop-place.place) =
+    rw (← c.at.ensures) (on_ok c.own_text_into.result _ (sym c.is_err.ensures.value ∙ c.if-is_err.false) c.own_text_into.ensures.appended) in
     appended-step c.args.self.now c.args.n _ _ _ _ c.loop-place.place c.loop-place.invariant appended
-    (texts-step c.args.self.now c.args.n c.loop-place.place c.subtree_end-end.ensures.tree after within (λ j a b. c.subtree_end-end.ensures.end.inside j a (omega (arith, b, c.loop-place-test.true))))
+    (texts-step c.args.self.now c.args.n c.loop-place.place c.subtree_end-end.ensures.tree after within
+    (λ j a b. c.subtree_end-end.ensures.end.inside j a (omega (arith, b, c.loop-place-test.true))))
 
 pub returns-clause-appended : goal.returns-clause-appended
 returns-clause-appended c =
-    let at_end : c.loop-place.place ≡ c.subtree_end-end.result = omega (arith, c.loop-place-test.false, c.loop-place.auto.place-end, c.place-place.ensures, c.subtree_end-end.ensures.end.after) in
+    let at_end : c.loop-place.place ≡ c.subtree_end-end.result =
+    omega (arith, c.loop-place-test.false, c.loop-place.auto.place-end, c.place-place.ensures, c.subtree_end-end.ensures.end.after) in
     appended-end c.args.self.now c.args.n c.args.out.now.items c.loop-place.out.items c.loop-place.place c.loop-place.invariant
     (rw at_end (texts-over c.args.self.now c.args.n c.subtree_end-end.result c.subtree_end-end.ensures.tree c.subtree_end-end.ensures.end))

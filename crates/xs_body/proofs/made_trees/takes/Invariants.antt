@@ -1,7 +1,0 @@
-use Rattle.std.proofs.Common.{ℕ, ◌<◌, ◌≤◌}
-use Rattle.xs_tree.specs.Record.{at}
-use Rattle.xs_tree.specs.Kinds.{rank}
-use Rattle.xs_body.proofs.made_trees.takes.Given as goal
-
-abbrev pub invariant-loop-place : goal.invariant-loop-place
-invariant-loop-place l = (k : ℕ) → l.fn.parent < k → k < l.place → rank (at l.tree k).kind ≤ rank l.kind

@@ -1,0 +1,13 @@
+-- Texts that are empty or the same.
+use Rattle.std.proofs.Common.{◌≡◌, ℕ, List, [], ◌∷◌, Bool, true, false, IsTrue, ◌↔◌, length, eqb, refl, sym, arith}
+use Rattle.std.proofs.lemmas.Bool.Decides.{nat_tests, same_from_decides}
+use Rattle.std.proofs.lemmas.Slice.Eq.{bytes_eq-Decides}
+use Rattle.std.specs.Str.{bytes_eq}
+use Rattle.xs_build.specs.Namespaces.{is_empty}
+
+pub empty_by_length : (xs : List ℕ) → is_empty xs ≡ eqb (length xs) 0
+empty_by_length [] = refl
+empty_by_length (x ∷ xs) = grind (arith, nat_tests)
+
+pub same_bytes : (r : Bool) (a b : List ℕ) → IsTrue r ↔ (a ≡ b) → r ≡ bytes_eq a b
+same_bytes r a b h = same_from_decides r (bytes_eq a b) h (bytes_eq-Decides a b)

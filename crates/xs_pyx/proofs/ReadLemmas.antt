@@ -1,0 +1,59 @@
+-- Texts without a backslash, what the first byte of a line has to be, and rows that are text.
+use Rattle.std.proofs.Common.{◌≡◌, ◌≢◌, ℕ, ◌<◌, ◌≤◌, Bool, true, false, List, [], ◌∷◌, ◌++◌, length, get_or, Some, Result, refl, sym, ◌∙◌, ap, subst, arith, append-nil}
+use Rattle.std.specs.Prelude.{◌==◌}
+use Rattle.std.specs.List.{list_any}
+use Rattle.std.specs.Str.{IsUtf8, is_utf8, IsCharBoundary}
+use Rattle.std.proofs.lemmas.Bool.{or_parts, false_from_ne_true}
+use Rattle.std.proofs.lemmas.Bool.Decides.{nat_tests}
+use Rattle.std.proofs.lemmas.Str.{IsCharBoundary-after_ascii, is_utf8-from_IsUtf8, IsUtf8-from_is_utf8}
+use Rattle.xs_text.specs.Escapes.{unescaped, first_and_rest}
+use Rattle.xs_text.proofs.UnescapeLemmas.{unescaped-nil, unescaped-plain}
+use Rattle.xs_pyx.specs.declared.view.LineView.{LineView}
+use Rattle.xs_pyx.specs.declared.fault.Fault.{Fault}
+use Rattle.xs_pyx.specs.Reading.{Reading, faulty, reading, kind_reading, begins_line}
+use Rattle.xs_pyx.specs.Views.{IsViewing}
+
+abbrev pub is_backslash : ℕ → Bool
+is_backslash b = b == 92
+
+other : (b : ℕ) → is_backslash b ≡ false → b ≢ 92
+other b h = grind (arith, nat_tests)
+
+-- a front without a backslash stands for itself
+pub unescaped-front : (xs ys read : List ℕ) → list_any is_backslash xs ≡ false → unescaped ys ≡ Some read → unescaped (xs ++ ys) ≡ Some (xs ++ read)
+unescaped-front [] ys read none is = is
+unescaped-front (x ∷ xs) ys read none is =
+    let parts = or_parts (is_backslash x) (list_any is_backslash xs) none in
+    unescaped-plain x (xs ++ ys) (other x parts.0) ∙ ap (λ o. first_and_rest (Some x) o) (unescaped-front xs ys read parts.1 is)
+
+pub unescaped_itself : (xs : List ℕ) → list_any is_backslash xs ≡ false → unescaped xs ≡ Some xs
+unescaped_itself xs none =
+    ap unescaped (sym (append-nil xs)) ∙ unescaped-front xs [] [] none unescaped-nil ∙ ap (λ t. Some t) (append-nil xs)
+
+-- the first byte of a line is ASCII
+kind_below : (kind : ℕ) → begins_line kind ≡ true → kind < 128
+kind_below kind h = grind (arith, nat_tests)
+
+-- a line may be cut behind its first byte
+pub cut_behind_kind : (bytes view : List ℕ) (begins : Bool) → view ≡ bytes → 1 ≤ length view → begins ≡ begins_line (get_or view 0 0) → begins ≡ true
+    → IsUtf8 bytes → IsCharBoundary bytes 1
+cut_behind_kind bytes view begins same some is met text =
+    let first : begins_line (get_or bytes 0 0) ≡ true = ap (λ bs. begins_line (get_or bs 0 0)) (sym same) ∙ sym is ∙ met in
+    let long : 0 < length bytes = omega (arith, ap length same) in
+    IsCharBoundary-after_ascii bytes 0 text long (kind_below (get_or bytes 0 0) first)
+
+-- a row is read as what its text says, or is no text
+pub reading_text : (bytes : List ℕ) (ended : Bool) → IsUtf8 bytes → reading (record { bytes = bytes; ended = ended }) ≡ kind_reading bytes ended
+unfolding reading
+reading_text bytes ended text = rw (is_utf8-from_IsUtf8 bytes text) refl
+
+pub row_of_text : (r : Result LineView Fault) (text bytes : List ℕ) (ended : Bool) → text ≡ bytes → IsUtf8 bytes → IsViewing r (kind_reading text ended)
+    → IsViewing r (reading (record { bytes = bytes; ended = ended }))
+row_of_text r text bytes ended same utf8 said =
+    subst (λ (what : Reading). IsViewing r what) (ap (λ bs. kind_reading bs ended) same ∙ sym (reading_text bytes ended utf8)) said
+
+pub row_of_no_text : (bytes : List ℕ) (ended : Bool) → (IsUtf8 bytes → ⊥) → reading (record { bytes = bytes; ended = ended }) ≡ faulty 3
+unfolding reading
+row_of_no_text bytes ended none =
+    let no_text : is_utf8 bytes ≡ false = false_from_ne_true (is_utf8 bytes) (λ h. none (IsUtf8-from_is_utf8 bytes h)) in
+    rw no_text refl

@@ -1,0 +1,58 @@
+-- Lines that borrow their texts, and the lines that they are.
+use Rattle.std.specs.Prelude.{◌≡◌, ℕ, List, Option, None, Some, Result, Ok, Err, IsSome}
+use Rattle.xs_text.specs.Escapes.{unescaped}
+use Rattle.xs_pyx.specs.declared.line.Line.{Line}
+use Rattle.xs_pyx.specs.declared.line.Line.TheVariants as line
+use Rattle.xs_pyx.specs.declared.line.LineFault.{LineFault}
+use Rattle.xs_pyx.specs.declared.line.LineFault.TheVariants.{Bad}
+use Rattle.xs_pyx.specs.declared.fault.Fault.{Fault}
+use Rattle.xs_pyx.specs.declared.view.Data.{Data}
+use Rattle.xs_pyx.specs.declared.view.Data.TheVariants.{Plain, Escaped}
+use Rattle.xs_pyx.specs.declared.view.LineView.{LineView}
+use Rattle.xs_pyx.specs.declared.view.LineView.TheVariants.{Start, Attr, Chars, End, Pi, Comment}
+use Rattle.xs_pyx.specs.Faults.{number_of}
+use Rattle.xs_pyx.specs.Reading.{Reading, says, faulty, data_of}
+
+-- the data that is shown
+abbrev pub data_shown : Data → List ℕ
+data_shown (Plain text) = text.now
+data_shown (Escaped written) = data_of written.now
+
+-- the line that is shown
+abbrev pub line_shown : LineView → Line
+line_shown (Start name) = line.Start name.now
+line_shown (Attr name value) = line.Attr name.now (data_shown value)
+line_shown (Chars text) = line.Chars (data_shown text)
+line_shown (End name) = line.End name.now
+line_shown (Pi target value) = line.Pi target.now (data_shown value)
+line_shown (Comment text) = line.Comment (data_shown text)
+
+-- each backslash of what is written begins a pair
+abbrev pub IsReadableData : Data → Type 0
+IsReadableData (Plain text) = Unit {0}
+IsReadableData (Escaped written) = IsSome (unescaped written.now)
+
+abbrev pub IsReadable : LineView → Type 0
+IsReadable (Start name) = Unit {0}
+IsReadable (Attr name value) = IsReadableData value
+IsReadable (Chars text) = IsReadableData text
+IsReadable (End name) = Unit {0}
+IsReadable (Pi target value) = IsReadableData value
+IsReadable (Comment text) = IsReadableData text
+
+-- an answer that borrows as the answer that it is
+abbrev pub told : Result (Option (LineView × ℕ)) Fault → Result (Option (Line × ℕ)) LineFault
+told (Ok None) = Ok None
+told (Ok (Some found)) = Ok (Some (line_shown found.0, found.1))
+told (Err fault) = Err (Bad (number_of fault))
+
+-- the line, if there is one, can be read in full
+abbrev pub HasReadable : Result (Option (LineView × ℕ)) Fault → Type 0
+HasReadable (Ok None) = Unit {0}
+HasReadable (Ok (Some found)) = IsReadable found.0
+HasReadable (Err fault) = Unit {0}
+
+-- what the viewing of one line by itself answers
+abbrev pub IsViewing : Result LineView Fault → Reading → Type 0
+IsViewing (Ok view) said = (said ≡ says (line_shown view)) × IsReadable view
+IsViewing (Err fault) said = said ≡ faulty (number_of fault)

@@ -1,0 +1,138 @@
+-- What is kept of a run is the cut of its trace.
+use Rattle.std.proofs.Common.{◌≡◌, ℕ, zero, suc, ◌-◌, ◌≤◌, List, [], ◌∷◌, Option, Some, None, Result, Ok, Err, Bool, true, false, cond, sym, ap}
+use Rattle.std.proofs.Common.{subst, ◌∙◌, arith}
+use Rattle.xs_trace.specs.Mark.{Tick, Put, Say, Stop, Need, Hole, Trace, ◌⨾◌, NeedsNothing, ticks, tick_count, events_of, without_puts, captured}
+use Rattle.xs_trace.specs.State.{State, alone, allows, said, shown, passed, IsAbove}
+use Rattle.xs_trace.specs.Cut.{End, Whole, Fault, Needs, Spent, Full, Cut, cut, nowhere}
+use Rattle.xs_trace.specs.Play.{Step, Goes, Ends, Told, stops, and_then, ticked, put, put_in, play, told_of, left_of, end_of, number, IsStep}
+use Rattle.xs_trace.specs.PlayLaws.{TellsCut, begin}
+use Rattle.xs_trace.specs.Kept.{marks_of, IsPacked, ended_by, IsEnded, NeedsNone, Keeps}
+use Rattle.xs_trace.specs.Keeping.{IsCutAt, IsCutOf, ToldIsCut, NeedComesFromNeed}
+use Rattle.xs_trace.specs.declared.event.Event.{Event}
+use Rattle.xs_trace.specs.declared.item.Site.{Site}
+use Rattle.xs_trace.specs.declared.recorder.Halt.{Halt}
+use Rattle.xs_trace.specs.declared.recorder.Halt.TheVariants as halt
+use Rattle.xs_trace.specs.declared.whole.Kept.{Kept}
+use Rattle.xs_trace.proofs.CutLemmas.{cut-longest}
+use Rattle.xs_trace.proofs.PlayLemmas.{play-cut}
+use Rattle.xs_trace.proofs.GrowthLemmas.{play-grows}
+
+or_that : {A : Type 0} → A → Option A → A
+or_that a None = a
+or_that a (Some x) = x
+
+pub some_same : {A : Type 0} {a b : A} → Some a ≡ Some b → a ≡ b
+unfolding or_that
+some_same {a = a} p = ap (or_that a) p
+
+-- steps that end in no need
+abbrev WantsNone : {H A : Type 0} → Step H A → Type 0
+WantsNone (Goes x s) = Unit {0}
+WantsNone (Ends Whole t l h) = Unit {0}
+WantsNone (Ends (Fault f p) t l h) = Unit {0}
+WantsNone (Ends (Needs g p) t l h) = ⊥
+WantsNone (Ends (Spent p) t l h) = Unit {0}
+WantsNone (Ends (Full p) t l h) = Unit {0}
+
+wants-then : {H : Type 0} (g : Told H) (f : State H → Told H) → WantsNone g → ((m : State H) → WantsNone (f m)) → WantsNone (and_then g (λ u m. f m))
+wants-then (Goes x m) f h k = k m
+wants-then (Ends Whole t l o) f h k = tt
+wants-then (Ends (Fault n p) t l o) f h k = tt
+wants-then (Ends (Needs g p) t l o) f h k = h
+wants-then (Ends (Spent p) t l o) f h k = tt
+wants-then (Ends (Full p) t l o) f h k = tt
+
+wants-if : {H : Type 0} (b : Bool) (x y : Told H) → WantsNone x → WantsNone y → WantsNone (cond b x y)
+wants-if true x y h k = h
+wants-if false x y h k = k
+
+put-wants : {H : Type 0} (cs : List (List Event)) (e : Event) (s : State H) → WantsNone (put_in cs e s)
+put-wants [] e s = wants-if (allows s.room 1) _ _ tt tt
+put-wants (c ∷ cs) e s = tt
+
+-- what a run told, and how it ended, is a cut
+cut-at : {H : Type 0} (x : Trace H) (b : ℕ) (m : Option ℕ) (e : End) (s : State H) → play x (begin b m) ≡ stops e s → IsCutAt e b (cut x b m) s
+cut-at x b m e s q =
+    let h : TellsCut [] b (cut x b m) (play x (begin b m)) = play-cut x [] nowhere b m alone in
+    record { told = sym (ap told_of q) ∙ h.told; end = sym h.end ∙ ap end_of q; left = sym (ap left_of q) ∙ h.left }
+
+cut-whole : {H : Type 0} (x : Trace H) (b : ℕ) (m : Option ℕ) (s : State H) → play x (begin b m) ≡ Goes tt s → IsCutAt Whole b (cut x b m) s
+cut-whole x b m s q =
+    let h : TellsCut [] b (cut x b m) (play x (begin b m)) = play-cut x [] nowhere b m alone in
+    record { told = sym (ap told_of q) ∙ h.told; end = sym h.end ∙ ap end_of q; left = sym (ap left_of q) ∙ h.left }
+
+pub told-is-cut : (H : Type 0) → ToldIsCut H
+told-is-cut H x b m (Ok u) s q = cut-whole x b m s q
+told-is-cut H x b m (Err (halt.Fault f p)) s q = cut-at x b m (Fault f p) s q
+told-is-cut H x b m (Err (halt.Needs g p)) s q = cut-at x b m (Needs g p) s q
+told-is-cut H x b m (Err (halt.Spent p)) s q = cut-at x b m (Spent p) s q
+told-is-cut H x b m (Err (halt.Full p)) s q = cut-at x b m (Full p) s q
+told-is-cut H x b m (Err (halt.Over n)) s q = subst (λ h. IsAbove h.most n) (q.shared ∙ ap (passed n) (play-grows x (begin b m)).shared) q.above
+told-is-cut H x b m (Err halt.NoMemory) s q = tt
+
+-- what is kept
+keeps-at : {H : Type 0} (b : ℕ) (c : Cut H) (e : End) (s : State H) (k : Kept) → tick_count c.passed ≤ b → IsCutAt e b c s → ended_by e ≡ Some k.ended →
+    s.told ≡ Some (marks_of k.items.items) → IsPacked k.items.items → k.ticks ≡ b - number s.left → Keeps c k
+keeps-at b c e s k le h en t pk ti =
+    let d : b - (b - tick_count c.passed) ≡ tick_count c.passed = omega (arith, le) in
+    record { marks = some_same (sym t ∙ h.told); packed = pk; ended = ap ended_by h.end ∙ en; ticks = ti ∙ ap (λ o. b - number o) h.left ∙ d }
+
+keeps-by : {H : Type 0} (b : ℕ) (c : Cut H) (result : Result (Unit {0}) Halt) (s : State H) (k : Kept) → tick_count c.passed ≤ b → IsCutOf result b c s →
+    IsEnded result k.ended → s.told ≡ Some (marks_of k.items.items) → IsPacked k.items.items → k.ticks ≡ b - number s.left → Keeps c k
+keeps-by b c (Ok u) s k le h en t pk ti = keeps-at b c Whole s k le h en t pk ti
+keeps-by b c (Err (halt.Fault f p)) s k le h en t pk ti = keeps-at b c (Fault f p) s k le h en t pk ti
+keeps-by b c (Err (halt.Needs g p)) s k le h en t pk ti = absurd en
+keeps-by b c (Err (halt.Spent p)) s k le h en t pk ti = keeps-at b c (Spent p) s k le h en t pk ti
+keeps-by b c (Err (halt.Full p)) s k le h en t pk ti = keeps-at b c (Full p) s k le h en t pk ti
+keeps-by b c (Err (halt.Over n)) s k le h en t pk ti = absurd h
+keeps-by b c (Err halt.NoMemory) s k le h en t pk ti = absurd en
+
+pub keeps : {H : Type 0} (x : Trace H) (b : ℕ) (m : Option ℕ) (result : Result (Unit {0}) Halt) (s : State H) (k : Kept) → IsEnded result k.ended →
+    s.told ≡ Some (marks_of k.items.items) → IsPacked k.items.items → k.ticks ≡ b - number s.left → IsStep (play x (begin b m)) result s → Keeps (cut x b m) k
+keeps {H} x b m result s k en t pk ti q = keeps-by b (cut x b m) result s k (cut-longest x nowhere b m).within (told-is-cut H x b m result s q) en t pk ti
+
+-- a trace without a need
+no-need : {H : Type 0} (x : Trace H) (s : State H) → NeedsNothing x → WantsNone (play x s)
+no-need [] s h = tt
+no-need (Tick p ∷ x) s h = wants-then (ticked p s) (λ m. play x m) (wants-if (allows s.left 1) _ _ tt tt) (λ m. no-need x m h)
+no-need (Put e ∷ x) s h = wants-then (put e s) (λ m. play x m) (put-wants s.captures e s) (λ m. no-need x m h)
+no-need (Say t ∷ x) s h = no-need x (said t s) h
+no-need (Stop f p ∷ x) s h = tt
+no-need (Need g p ∷ x) s h = absurd h
+no-need (Hole k ∷ x) s h = no-need x (shown (Hole k) s) h
+
+pub need-comes-from-need : (H : Type 0) → NeedComesFromNeed H
+need-comes-from-need H x s m (Ok u) h q = tt
+need-comes-from-need H x s m (Err (halt.Fault f p)) h q = tt
+need-comes-from-need H x s m (Err (halt.Needs g p)) h q = subst WantsNone q (no-need x s h)
+need-comes-from-need H x s m (Err (halt.Spent p)) h q = tt
+need-comes-from-need H x s m (Err (halt.Full p)) h q = tt
+need-comes-from-need H x s m (Err (halt.Over n)) h q = tt
+need-comes-from-need H x s m (Err halt.NoMemory) h q = tt
+
+-- parts without a need
+pub needs-ticks : {H : Type 0} (p : Site) (n : ℕ) (x : Trace H) → NeedsNothing x → NeedsNothing (ticks p n x)
+needs-ticks p zero x h = h
+needs-ticks p (suc n) x h = needs-ticks p n x h
+
+pub needs-then : {H : Type 0} (x y : Trace H) → NeedsNothing x → NeedsNothing y → NeedsNothing (x ⨾ y)
+needs-then [] y h k = k
+needs-then (Tick p ∷ x) y h k = needs-then x y h k
+needs-then (Put e ∷ x) y h k = needs-then x y h k
+needs-then (Say t ∷ x) y h k = needs-then x y h k
+needs-then (Stop f p ∷ x) y h k = h
+needs-then (Need g p ∷ x) y h k = absurd h
+needs-then (Hole t ∷ x) y h k = needs-then x y h k
+
+needs-puts : {H : Type 0} (x : Trace H) → NeedsNothing x → NeedsNothing (without_puts x)
+needs-puts [] h = tt
+needs-puts (Tick p ∷ x) h = needs-puts x h
+needs-puts (Put e ∷ x) h = needs-puts x h
+needs-puts (Say t ∷ x) h = needs-puts x h
+needs-puts (Stop f p ∷ x) h = needs-puts x h
+needs-puts (Need g p ∷ x) h = absurd h
+needs-puts (Hole t ∷ x) h = needs-puts x h
+
+pub needs-captured : {H : Type 0} (x : Trace H) (f : List Event → Trace H) → NeedsNothing x → ((es : List Event) → NeedsNothing (f es)) →
+    NeedsNothing (captured x f)
+needs-captured x f h k = needs-then (without_puts x) (f (events_of x)) (needs-puts x h) (k (events_of x))

@@ -1,0 +1,12 @@
+use Rattle.std.proofs.Common.{ap, sym, subst, ◌∙◌}
+use Rattle.xs_trace.specs.Kept.{marks_of, IsPacked}
+use Rattle.xs_trace.proofs.StoreLemmas.{marks-pending, packed-pending}
+use Rattle.xs_trace.proofs.marks.Marks.finish.Goals as goal
+
+pub returns-clause-items : goal.returns-clause-items
+returns-clause-items g c =
+    ap marks_of c.in_ok-push_run.ensures.pushed ∙ marks-pending c.self.inside.items.items c.self.inside.at c.self.inside.run ∙ ap (λ s. s.told) c.self.view_is
+
+pub returns-clause-packed : goal.returns-clause-packed
+returns-clause-packed g c =
+    subst IsPacked (sym c.in_ok-push_run.ensures.pushed) (packed-pending c.self.inside.items.items c.self.inside.at c.self.inside.run c.self.invariant)

@@ -1,0 +1,17 @@
+use Rattle.std.proofs.Common.{subst, sym, ◌++◌}
+use Rattle.xs_trace.specs.Kept.{IsPacked}
+use Rattle.xs_trace.specs.Store.{pending}
+use Rattle.xs_trace.proofs.StoreLemmas.{takes-any, push-marked}
+use Rattle.xs_trace.proofs.marks.Marks.push.Goals as goal
+
+pub invariant_of-self-2 : goal.invariant_of-self-2
+invariant_of-self-2 g c =
+    λ q. subst (λ js. IsPacked (js ++ pending q 1)) (sym c.in_ok-push_after.ensures.pushed)
+    (takes-any c.self.inside.items.items c.self.inside.at c.self.inside.run c.args.item c.requires.single c.self.invariant q)
+
+pub returns : goal.returns
+returns g c =
+    record {
+      told = push-marked c.self.inside.items.items _ _ c.self.inside.at c.self.inside.run c.args.item c.args.self.now c.self.view_is
+          c.in_ok-push_after.ensures.pushed;
+    }

@@ -1,0 +1,28 @@
+use Rattle.std.proofs.Common.{refl, sym, ap, ◌∙◌, ◌+◌, ◌-◌, arith, rules}
+use Rattle.std.proofs.lemmas.Result.{err_from_is_err_and}
+use Rattle.xs_trace.specs.Play.{and_then, ticked_by}
+use Rattle.xs_trace.proofs.GrowthLemmas.{passes, by-grows}
+use Rattle.xs_trace.proofs.RunLemmas.{by-start, by-next, by-end}
+use Rattle.xs_trace.proofs.recorder.tick_several.Goals as goal
+
+pub loop-init : goal.loop-init
+loop-init g c = (by-start c.args.site c.args.count (g.T.Tally.state c.args.tally.now), refl)
+
+pub returns-in_err-tick-clause-told : goal.returns-in_err-tick-clause-told
+returns-in_err-tick-clause-told g c =
+    let p = err_from_is_err_and c.from_residual.result c.from_residual.ensures.1 in
+    passes (λ x. x) (λ x. x) _ _ (λ u m. ticked_by (c.args.count - (c.loop.counter + 1)) c.args.site m)
+    (g.T.Tally.state c.tick.new.self) c.from_residual.result _ _
+    (c.loop.invariant.0 ∙ by-next c.args.site c.args.count c.loop.counter (g.T.Tally.state c.loop.tally) (omega arith))
+    (λ u. by-grows _ c.args.site) p.1 p.2 c.in_err-tick.ensures.told
+
+pub loop-preserved : goal.loop-preserved
+loop-preserved g c = (
+  c.loop.invariant.0 ∙ by-next c.args.site c.args.count c.loop.counter (g.T.Tally.state c.loop.tally) (omega arith) ∙ ap
+      (λ j. and_then j (λ u m. ticked_by (c.args.count - (c.loop.counter + 1)) c.args.site m))
+      c.in_ok-tick.ensures.told,
+  c.in_ok-tick.ensures.kept ∙ c.loop.invariant.1,
+)
+
+pub returns-clause-told : goal.returns-clause-told
+returns-clause-told g c = c.loop.invariant.0 ∙ by-end c.args.site c.args.count c.loop.counter (g.T.Tally.state c.loop.tally) (omega arith)

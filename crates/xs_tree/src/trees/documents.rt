@@ -1,0 +1,22 @@
+//! The document that a node is in.
+
+ghost use Rattle.std.specs.Prelude.{◌≡◌, ◌<◌, ◌≤◌, length};
+ghost use Rattle.xs_tree.specs.Axis.{root_of};
+
+use super::Tree;
+use crate::nodes::Node;
+
+impl Tree {
+    /// The root of the document that a node is in (XPath 1.0, 5.1).
+    pub fn root_of(&self, n: Node) -> Node
+        requires { n < length self.now }
+        ensures root { result ≡ root_of self.now n }
+        ensures before { result ≤ n }
+    {
+        let mut root = n;
+        while let Some(parent) = self.parent(root) {
+            root = parent;
+        }
+        root
+    }
+}
