@@ -4,6 +4,8 @@
 mod attributes;
 mod children;
 pub mod context;
+#[cfg(test)]
+mod expression_tests;
 mod expressions;
 pub mod laws;
 mod literal;

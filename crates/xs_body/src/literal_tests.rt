@@ -1,9 +1,9 @@
 //! Literal result elements, read from a stylesheet and run.
 #![tactic(auto)]
 
-use crate::made_trees::{NONE, Row, XSL, other, plain, xsl};
+use crate::made_trees::{Row, XSL};
 use crate::run::run_body;
-use crate::sheet_tests::body_of;
+use crate::sheet_tests::small_body;
 use std::alloc::Global;
 use std::test::Fail;
 use xs_trace::event::Event;
@@ -11,9 +11,38 @@ use xs_trace::item::{Item, Limits};
 use xs_trace::whole::Kept;
 use xs_tree::{Kind, Tree};
 
+// `<o:e xmlns="urn:d" xmlns:o="urn:o" xmlns:t="http://www.w3.org/1999/XSL/Transform">x</o:e>` in a
+// template.
+const BOUND: [Row; 9] = [
+    (Kind::Element, "xsl", "template", "", 1),
+    (Kind::Attribute, "", "match", "/", 6),
+    (Kind::Element, "o", "e", "", 6),
+    (Kind::Space, "", "", "urn:d", 8),
+    (Kind::Space, "", "o", "urn:o", 8),
+    (Kind::Space, "", "t", XSL, 8),
+    (
+        Kind::Space,
+        "",
+        "xml",
+        "http://www.w3.org/XML/1998/namespace",
+        8,
+    ),
+    (Kind::Space, "", "xsl", XSL, 8),
+    (Kind::Text, "", "", "x", 8),
+];
+
+// `<a><o:e xmlns:o="urn:o"/></a>` in a template.
+const INNER: [Row; 5] = [
+    (Kind::Element, "xsl", "template", "", 1),
+    (Kind::Attribute, "", "match", "/", 6),
+    (Kind::Element, "", "a", "", 6),
+    (Kind::Element, "o", "e", "", 8),
+    (Kind::Space, "", "o", "urn:o", 9),
+];
+
 // What a stylesheet with this template does, without a source.
 fn kept_of(alloc: Global, template: &[Row]) -> Result<Kept, Fail> {
-    let body = body_of(alloc, template)?.ok_or("a small stylesheet")?;
+    let body = small_body(alloc, template)?;
     let source = Tree::new(alloc)?;
     let limits = Limits {
         ticks: 100,
@@ -57,37 +86,33 @@ fn ends(item: Option<&Item>) -> bool {
     matches!(item, Some(Item::Put(Event::End)))
 }
 
-// Of `<o:e xmlns="urn:d" xmlns:o="urn:o" xmlns:t="http://www.w3.org/1999/XSL/Transform">x</o:e>` in
-// a template the result has
-// an element of the same expanded name, with a copy of each namespace node that is not XSLT's (XSLT
-// 1.0, 7.1.1).
-// Before them come the ticks of the root and of the element, and before the text its own.
+// Whether the element of `BOUND` is put: after the ticks of the root and of the element come its
+// name and its namespace nodes, and then the tick of the text before the text.
+fn is_bound(items: &[Item]) -> bool {
+    items.len() == 8
+        && begins(items.get(2), "urn:o", "o", "e")
+        && binds(items.get(3), "", "urn:d")
+        && binds(items.get(4), "o", "urn:o")
+        && is_text(items.get(6), "x")
+        && ends(items.get(7))
+}
+
+// Whether the elements of `INNER` are put.
+fn is_inner(items: &[Item]) -> bool {
+    items.len() == 8
+        && begins(items.get(2), "", "", "a")
+        && begins(items.get(4), "urn:o", "o", "e")
+        && binds(items.get(5), "o", "urn:o")
+        && ends(items.get(6))
+        && ends(items.get(7))
+}
+
+// A literal result element gives an element of the same expanded name, with a copy of each
+// namespace node that is not XSLT's (XSLT 1.0, 7.1.1).
 #[test]
 fn tells_the_whole_name_and_the_namespaces(rt: HostRuntime) -> Result<(), Fail> {
-    let template = [
-        (Kind::Element, xsl("template"), "", 1),
-        (Kind::Attribute, plain("match"), "/", 6),
-        (Kind::Element, other("e"), "", 6),
-        (Kind::Space, plain(""), "urn:d", 8),
-        (Kind::Space, plain("o"), "urn:o", 8),
-        (Kind::Space, plain("t"), XSL, 8),
-        (
-            Kind::Space,
-            plain("xml"),
-            "http://www.w3.org/XML/1998/namespace",
-            8,
-        ),
-        (Kind::Space, plain("xsl"), XSL, 8),
-        (Kind::Text, NONE, "x", 8),
-    ];
-    let kept = kept_of(rt.alloc(), &template)?;
-    let items = kept.items.as_slice();
-    assert_eq!(rt; items.len(), 8);
-    assert!(rt; begins(items.get(2), "urn:o", "o", "e"));
-    assert!(rt; binds(items.get(3), "", "urn:d"));
-    assert!(rt; binds(items.get(4), "o", "urn:o"));
-    assert!(rt; is_text(items.get(6), "x"));
-    assert!(rt; ends(items.get(7)));
+    let kept = kept_of(rt.alloc(), &BOUND)?;
+    assert!(rt; is_bound(kept.items.as_slice()));
     Ok(())
 }
 
@@ -95,20 +120,7 @@ fn tells_the_whole_name_and_the_namespaces(rt: HostRuntime) -> Result<(), Fail> 
 // with that element.
 #[test]
 fn tells_the_namespaces_of_an_inner_element(rt: HostRuntime) -> Result<(), Fail> {
-    let template = [
-        (Kind::Element, xsl("template"), "", 1),
-        (Kind::Attribute, plain("match"), "/", 6),
-        (Kind::Element, plain("a"), "", 6),
-        (Kind::Element, other("e"), "", 8),
-        (Kind::Space, plain("o"), "urn:o", 9),
-    ];
-    let kept = kept_of(rt.alloc(), &template)?;
-    let items = kept.items.as_slice();
-    assert_eq!(rt; items.len(), 8);
-    assert!(rt; begins(items.get(2), "", "", "a"));
-    assert!(rt; begins(items.get(4), "urn:o", "o", "e"));
-    assert!(rt; binds(items.get(5), "o", "urn:o"));
-    assert!(rt; ends(items.get(6)));
-    assert!(rt; ends(items.get(7)));
+    let kept = kept_of(rt.alloc(), &INNER)?;
+    assert!(rt; is_inner(kept.items.as_slice()));
     Ok(())
 }

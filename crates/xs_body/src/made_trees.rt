@@ -5,36 +5,35 @@ use std::alloc::{AllocError, Global};
 use std::test::Fail;
 use xs_tree::{Kind, Name, NameText, Node, Tree};
 
-/// A name: its namespace URI, its prefix and its local part.
-pub(crate) type Written = (&'static str, &'static str, &'static str);
-
-/// A node: its kind, its name, its text and the place of its parent.
-pub(crate) type Row = (Kind, Written, &'static str, u32);
+/// A node: its kind, the prefix and the local part of its name, its text and the place of its
+/// parent.
+pub(crate) type Row = (Kind, &'static str, &'static str, &'static str, u32);
 
 /// The namespace of XSLT.
 pub(crate) const XSL: &str = "http://www.w3.org/1999/XSL/Transform";
 
-/// The name of a node that bears none.
-pub(crate) const NONE: Written = ("", "", "");
+// The prefixes of names in a namespace, with its URI.
+const BINDINGS: [(&str, &str); 2] = [("xsl", XSL), ("o", "urn:o")];
 
-/// A name in XSLT's namespace.
-pub(crate) fn xsl(local: &'static str) -> Written {
-    (XSL, "xsl", local)
-}
-
-/// A name in no namespace.
-pub(crate) fn plain(local: &'static str) -> Written {
-    ("", "", local)
-}
-
-/// A name in another namespace.
-pub(crate) fn other(local: &'static str) -> Written {
-    ("urn:o", "o", local)
+// The namespace URI of a node's name, by its prefix.
+fn uri_of(prefix: &str) -> &'static str {
+    for binding in BINDINGS.as_slice() {
+        let (bound, uri) = *binding;
+        if bound == prefix {
+            return uri;
+        }
+    }
+    ""
 }
 
 // The name of a node of a kind, if nodes of that kind bear one.
-fn name_of(alloc: Global, kind: Kind, name: Written) -> Result<Option<Name>, AllocError> {
-    let (uri, prefix, local) = name;
+fn name_of(
+    alloc: Global,
+    kind: Kind,
+    uri: &str,
+    prefix: &str,
+    local: &str,
+) -> Result<Option<Name>, AllocError> {
     match kind {
         Kind::Root | Kind::Text | Kind::Comment => Ok(None),
         _ => Ok(Some(Name {
@@ -45,11 +44,11 @@ fn name_of(alloc: Global, kind: Kind, name: Written) -> Result<Option<Name>, All
     }
 }
 
-/// Adds a node to a tree, where it can be added.
-pub(crate) fn grow(alloc: Global, tree: &mut Tree, row: &Row) -> Result<(), Fail> {
-    let (kind, written, text, place) = *row;
+/// Adds a node whose name has this URI to a tree, where it can be added.
+pub(crate) fn grow_in(alloc: Global, tree: &mut Tree, uri: &str, row: &Row) -> Result<(), Fail> {
+    let (kind, prefix, local, text, place) = *row;
     let parent = Node::at(place);
-    let name = name_of(alloc, kind, written)?;
+    let name = name_of(alloc, kind, uri, prefix, local)?;
     if !tree.can_add(kind, &name, text, parent) {
         return Err(Fail::new("no tree has such a node there"));
     }
@@ -57,11 +56,23 @@ pub(crate) fn grow(alloc: Global, tree: &mut Tree, row: &Row) -> Result<(), Fail
     Ok(())
 }
 
+/// Adds a node to a tree, where it can be added.
+pub(crate) fn grow(alloc: Global, tree: &mut Tree, row: &Row) -> Result<(), Fail> {
+    let (_, prefix, _, _, _) = *row;
+    grow_in(alloc, tree, uri_of(prefix), row)
+}
+
+/// Adds nodes to a tree, in document order.
+pub(crate) fn grow_all(alloc: Global, tree: &mut Tree, rows: &[Row]) -> Result<(), Fail> {
+    for row in rows {
+        grow(alloc, tree, row)?;
+    }
+    Ok(())
+}
+
 /// The tree of these nodes, in document order.
 pub(crate) fn tree_of(alloc: Global, rows: &[Row]) -> Result<Tree, Fail> {
     let mut tree = Tree::new(alloc)?;
-    for row in rows {
-        grow(alloc, &mut tree, row)?;
-    }
+    grow_all(alloc, &mut tree, rows)?;
     Ok(tree)
 }

@@ -23,10 +23,10 @@ use xs_tree::{Kind, Node, Tree};
 const MOST_DEPTH: u32 = 256 - 2;
 
 /// What the template of a small stylesheet holds, each part with its line: `lines` gives the line
-/// of each node of the
-/// tree, in document order. None for a tree that is no small stylesheet.
+/// of each node of the tree, in document order. None for a tree that is no small stylesheet.
 ///
-/// Nothing is copied before the stylesheet's own elements and attributes are found as they must be.
+/// Nothing is copied before the stylesheet's own elements and attributes are found as they have to
+/// be.
 pub fn read_body(alloc: Global, tree: &Tree, lines: &[u32]) -> Result<Option<Body>, AllocError>
     requires { length lines.now ≡ length tree.now }
     ensures body { IfOk result (λ body. option_map body_data body ≡ body_of tree.now lines.now) }

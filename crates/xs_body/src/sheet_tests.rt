@@ -1,9 +1,8 @@
 //! Small stylesheets, read from trees that are made node by node.
 #![tactic(auto)]
 
-use crate::expressions::{read_path, read_test};
-use crate::made_trees::{NONE, Row, XSL, grow, other, plain, tree_of, xsl};
-use crate::paths::{Path, Test};
+use crate::made_trees::{Row, XSL, grow, grow_all, grow_in, tree_of};
+use crate::paths::Test;
 use crate::read::{read_body, root_line};
 use crate::syntax::{Body, Instr, InstrKind};
 use std::alloc::{AllocError, Global};
@@ -11,35 +10,163 @@ use std::test::Fail;
 use xs_trace::item::Site;
 use xs_tree::{Kind, Tree};
 
-// The body of a stylesheet of which each node stands in the line of its place.
-fn body_in(alloc: Global, sheet: &Tree) -> Result<Option<Body>, Fail> {
+// A stylesheet up to its template.
+const SHEET: [Row; 5] = [
+    (Kind::Element, "xsl", "stylesheet", "", 0),
+    (Kind::Space, "", "xsl", XSL, 1),
+    (Kind::Attribute, "", "version", "1.0", 1),
+    (Kind::Element, "xsl", "output", "", 1),
+    (Kind::Attribute, "", "method", "text", 4),
+];
+
+// A stylesheet with a template that holds nothing.
+const SMALLEST: [Row; 7] = [
+    (Kind::Element, "xsl", "stylesheet", "", 0),
+    (Kind::Space, "", "xsl", XSL, 1),
+    (Kind::Attribute, "", "version", "1.0", 1),
+    (Kind::Element, "xsl", "output", "", 1),
+    (Kind::Attribute, "", "method", "text", 4),
+    (Kind::Element, "xsl", "template", "", 1),
+    (Kind::Attribute, "", "match", "/", 6),
+];
+
+// A loop that holds a test.
+const LOOP: [Row; 7] = [
+    (Kind::Element, "xsl", "template", "", 1),
+    (Kind::Attribute, "", "match", "/", 6),
+    (Kind::Element, "xsl", "for-each", "", 6),
+    (Kind::Attribute, "", "select", "r/i", 8),
+    (Kind::Element, "xsl", "if", "", 8),
+    (Kind::Attribute, "", "test", ". = '2'", 10),
+    (Kind::Element, "xsl", "message", "", 10),
+];
+
+// A loop with an attribute that it does not have.
+const SECOND_ATTRIBUTE: [Row; 7] = [
+    (Kind::Element, "xsl", "template", "", 1),
+    (Kind::Attribute, "", "match", "/", 6),
+    (Kind::Element, "xsl", "for-each", "", 6),
+    (Kind::Attribute, "", "select", "r/i", 8),
+    (Kind::Attribute, "", "test", ".", 8),
+    (Kind::Text, "", "", "x", 8),
+    (Kind::Text, "", "", "y", 6),
+];
+
+// A stylesheet behind a comment.
+const COMMENTED: [Row; 2] = [
+    (Kind::Comment, "", "", "c", 0),
+    (Kind::Element, "xsl", "stylesheet", "", 0),
+];
+
+// A stylesheet with comments and processing instructions.
+const ANNOTATED: [Row; 16] = [
+    (Kind::Pi, "", "p", "x", 0),
+    (Kind::Element, "xsl", "stylesheet", "", 0),
+    (Kind::Attribute, "", "version", "1.0", 2),
+    (Kind::Comment, "", "", "c", 2),
+    (Kind::Element, "xsl", "output", "", 2),
+    (Kind::Attribute, "", "method", "text", 5),
+    (Kind::Comment, "", "", "c", 5),
+    (Kind::Pi, "", "p", "", 2),
+    (Kind::Element, "xsl", "template", "", 2),
+    (Kind::Attribute, "", "match", "/", 9),
+    (Kind::Text, "", "", "x", 9),
+    (Kind::Comment, "", "", "c", 9),
+    (Kind::Text, "", "", " ", 9),
+    (Kind::Pi, "", "p", "", 9),
+    (Kind::Text, "", "", "y", 9),
+    (Kind::Comment, "", "", "c", 0),
+];
+
+// An element of another namespace.
+const LITERAL: [Row; 5] = [
+    (Kind::Element, "xsl", "template", "", 1),
+    (Kind::Attribute, "", "match", "/", 6),
+    (Kind::Element, "o", "e", "", 6),
+    (Kind::Space, "", "o", "urn:o", 8),
+    (Kind::Comment, "", "", "c", 8),
+];
+
+// An element of XSLT's namespace that is not built.
+const UNKNOWN: [Row; 3] = [
+    (Kind::Element, "xsl", "template", "", 1),
+    (Kind::Attribute, "", "match", "/", 6),
+    (Kind::Element, "xsl", "text", "", 6),
+];
+
+// A template with an attribute of another namespace in place of its own.
+const OTHER_MATCH: [Row; 2] = [
+    (Kind::Element, "xsl", "template", "", 1),
+    (Kind::Attribute, "o", "match", "/", 6),
+];
+
+// A template with an attribute of another namespace beside its own.
+const BOTH_MATCHES: [Row; 3] = [
+    (Kind::Element, "xsl", "template", "", 1),
+    (Kind::Attribute, "", "match", "/", 6),
+    (Kind::Attribute, "o", "match", "/", 6),
+];
+
+// The URI and the prefix of a stylesheet's elements, and whether those are XSLT's.
+type Named = (&'static str, &'static str, bool);
+
+// URIs with prefixes: the URI alone tells.
+const NAMESPACES: [Named; 5] = [
+    (XSL, "xsl", true),
+    (XSL, "t", true),
+    (XSL, "", true),
+    ("urn:o", "xsl", false),
+    ("", "", false),
+];
+
+// The places of a tree's nodes, as their lines.
+fn places_of(alloc: Global, sheet: &Tree) -> Result<Vec<u32>, AllocError> {
     let mut lines = Vec::new(alloc);
     for place in 0..sheet.len() as u32 {
         lines.push(place)?;
     }
+    Ok(lines)
+}
+
+// The body of a stylesheet of which each node stands in the line of its place.
+fn body_in(alloc: Global, sheet: &Tree) -> Result<Option<Body>, Fail> {
+    let lines = places_of(alloc, sheet)?;
     if lines.len() != sheet.len() {
         return Err(Fail::new("another number of nodes"));
     }
     Ok(read_body(alloc, sheet, &lines)?)
 }
 
-/// The body of a stylesheet that has this template, from place 6 on; each node stands in the line
-/// of its place.
-pub(crate) fn body_of(alloc: Global, template: &[Row]) -> Result<Option<Body>, Fail> {
-    let mut sheet = tree_of(
-        alloc,
-        &[
-            (Kind::Element, xsl("stylesheet"), "", 0),
-            (Kind::Space, plain("xsl"), XSL, 1),
-            (Kind::Attribute, plain("version"), "1.0", 1),
-            (Kind::Element, xsl("output"), "", 1),
-            (Kind::Attribute, plain("method"), "text", 4),
-        ],
-    )?;
-    for row in template {
-        grow(alloc, &mut sheet, row)?;
-    }
+// The body of a stylesheet that has this template, from place 6 on, if it is one; each node stands
+// in the line of its place.
+fn body_of(alloc: Global, template: &[Row]) -> Result<Option<Body>, Fail> {
+    let mut sheet = tree_of(alloc, &SHEET)?;
+    grow_all(alloc, &mut sheet, template)?;
     body_in(alloc, &sheet)
+}
+
+// Whether a stylesheet that has this template is read.
+fn is_read(alloc: Global, template: &[Row]) -> Result<bool, Fail> {
+    Ok(body_of(alloc, template)?.is_some())
+}
+
+// The body that is there.
+fn found(body: Option<Body>) -> Result<Body, Fail> {
+    match body {
+        Some(body) => Ok(body),
+        None => Err(Fail::new("it is no small stylesheet")),
+    }
+}
+
+/// The body of a small stylesheet that has this template.
+pub(crate) fn small_body(alloc: Global, template: &[Row]) -> Result<Body, Fail> {
+    found(body_of(alloc, template)?)
+}
+
+// The body of the stylesheet with comments and processing instructions.
+fn annotated_body(alloc: Global) -> Result<Body, Fail> {
+    let sheet = tree_of(alloc, &ANNOTATED)?;
+    found(body_in(alloc, &sheet)?)
 }
 
 // Whether a body is one instruction in line 8, for each `i`, that holds one in line 10 with a test.
@@ -76,16 +203,7 @@ fn in_line(line: u32) -> Site {
 // A loop that holds a test is read, each at its line.
 #[test]
 fn reads_a_loop_with_a_test(rt: HostRuntime) -> Result<(), Fail> {
-    let template = [
-        (Kind::Element, xsl("template"), "", 1),
-        (Kind::Attribute, plain("match"), "/", 6),
-        (Kind::Element, xsl("for-each"), "", 6),
-        (Kind::Attribute, plain("select"), "r/i", 8),
-        (Kind::Element, xsl("if"), "", 8),
-        (Kind::Attribute, plain("test"), ". = '2'", 10),
-        (Kind::Element, xsl("message"), "", 10),
-    ];
-    let body = body_of(rt.alloc(), &template)?.ok_or("a small stylesheet")?;
+    let body = small_body(rt.alloc(), &LOOP)?;
     assert!(rt; is_loop_with_test(&body));
     Ok(())
 }
@@ -93,59 +211,74 @@ fn reads_a_loop_with_a_test(rt: HostRuntime) -> Result<(), Fail> {
 // An instruction with an attribute that it does not have is not built.
 #[test]
 fn refuses_a_second_attribute(rt: HostRuntime) -> Result<(), Fail> {
-    let template = [
-        (Kind::Element, xsl("template"), "", 1),
-        (Kind::Attribute, plain("match"), "/", 6),
-        (Kind::Element, xsl("for-each"), "", 6),
-        (Kind::Attribute, plain("select"), "r/i", 8),
-        (Kind::Attribute, plain("test"), ".", 8),
-        (Kind::Text, NONE, "x", 8),
-        (Kind::Text, NONE, "y", 6),
-    ];
-    assert!(rt; body_of(rt.alloc(), &template)?.is_none());
+    assert!(rt; !is_read(rt.alloc(), &SECOND_ATTRIBUTE)?);
     Ok(())
+}
+
+// The line of the root element of the stylesheet behind a comment, whose nodes stand in these.
+fn line_behind_comment(alloc: Global, lines: &[u32]) -> Result<u32, Fail> {
+    let sheet = tree_of(alloc, &COMMENTED)?;
+    if lines.len() != sheet.len() {
+        return Err(Fail::new("another number of nodes"));
+    }
+    Ok(root_line(&sheet, lines))
 }
 
 // The root element is found behind a comment.
 #[test]
 fn finds_the_line_of_the_root_element(rt: HostRuntime) -> Result<(), Fail> {
-    let rows = [
-        (Kind::Comment, NONE, "c", 0),
-        (Kind::Element, xsl("stylesheet"), "", 0),
-    ];
-    let sheet = tree_of(rt.alloc(), &rows)?;
-    let lines = [0, 7, 9];
-    if lines.len() != sheet.len() {
-        return Err(Fail::new("another number of nodes"));
-    }
-    assert_eq!(rt; root_line(&sheet, &lines), 9);
+    assert_eq!(rt; line_behind_comment(rt.alloc(), &[0, 7, 9])?, 9);
     Ok(())
 }
 
-// Whether a stylesheet with an empty template is read, where the names of its elements have this
-// URI and this prefix.
+// Adds a node of a stylesheet whose elements have names of this URI and this prefix.
+fn grow_under(
+    alloc: Global,
+    sheet: &mut Tree,
+    uri: &'static str,
+    prefix: &'static str,
+    row: &Row,
+) -> Result<(), Fail> {
+    let (kind, _, local, text, place) = *row;
+    match kind {
+        Kind::Element => grow_in(alloc, sheet, uri, &(kind, prefix, local, text, place)),
+        Kind::Space => grow(alloc, sheet, &(kind, "", prefix, uri, place)),
+        _ => grow(alloc, sheet, row),
+    }
+}
+
+// The smallest stylesheet, where the names of its elements have this URI and this prefix.
+fn smallest_under(alloc: Global, uri: &'static str, prefix: &'static str) -> Result<Tree, Fail> {
+    let mut sheet = Tree::new(alloc)?;
+    for row in SMALLEST.as_slice() {
+        grow_under(alloc, &mut sheet, uri, prefix, row)?;
+    }
+    Ok(sheet)
+}
+
+// Whether the smallest stylesheet is read, where the names of its elements have this URI and this
+// prefix.
 fn is_read_under(alloc: Global, uri: &'static str, prefix: &'static str) -> Result<bool, Fail> {
-    let rows = [
-        (Kind::Element, (uri, prefix, "stylesheet"), "", 0),
-        (Kind::Space, plain(prefix), uri, 1),
-        (Kind::Attribute, plain("version"), "1.0", 1),
-        (Kind::Element, (uri, prefix, "output"), "", 1),
-        (Kind::Attribute, plain("method"), "text", 4),
-        (Kind::Element, (uri, prefix, "template"), "", 1),
-        (Kind::Attribute, plain("match"), "/", 6),
-    ];
-    let sheet = tree_of(alloc, &rows)?;
+    let sheet = smallest_under(alloc, uri, prefix)?;
     Ok(body_in(alloc, &sheet)?.is_some())
+}
+
+// How many namespaces are taken for what they are not.
+fn count_mistaken(alloc: Global, rows: &[Named]) -> Result<usize, Fail> {
+    let mut count: usize = 0;
+    for row in rows {
+        let (uri, prefix, is_xslt) = *row;
+        if is_read_under(alloc, uri, prefix)? != is_xslt {
+            count = count.saturating_add(1);
+        }
+    }
+    Ok(count)
 }
 
 // The namespace makes an element one of XSLT, whatever its prefix.
 #[test]
 fn knows_elements_by_their_namespace(rt: HostRuntime) -> Result<(), Fail> {
-    assert!(rt; is_read_under(rt.alloc(), XSL, "xsl")?);
-    assert!(rt; is_read_under(rt.alloc(), XSL, "t")?);
-    assert!(rt; is_read_under(rt.alloc(), XSL, "")?);
-    assert!(rt; !is_read_under(rt.alloc(), "urn:o", "xsl")?);
-    assert!(rt; !is_read_under(rt.alloc(), "", "")?);
+    assert_eq!(rt; count_mistaken(rt.alloc(), &NAMESPACES)?, 0);
     Ok(())
 }
 
@@ -162,32 +295,18 @@ fn is_text_in(instr: Option<&Instr>, text: &str, line: u32) -> bool {
     }
 }
 
+// Whether a body is the two texts between comments and processing instructions.
+fn is_two_texts(body: &Body) -> bool {
+    body.instrs.len() == 2
+        && is_text_in(body.instrs.first(), "x", 11)
+        && is_text_in(body.instrs.last(), "y", 15)
+}
+
 // Comments and processing instructions of a stylesheet stand for nothing.
 #[test]
 fn ignores_comments_and_processing_instructions(rt: HostRuntime) -> Result<(), Fail> {
-    let rows = [
-        (Kind::Pi, plain("p"), "x", 0),
-        (Kind::Element, xsl("stylesheet"), "", 0),
-        (Kind::Attribute, plain("version"), "1.0", 2),
-        (Kind::Comment, NONE, "c", 2),
-        (Kind::Element, xsl("output"), "", 2),
-        (Kind::Attribute, plain("method"), "text", 5),
-        (Kind::Comment, NONE, "c", 5),
-        (Kind::Pi, plain("p"), "", 2),
-        (Kind::Element, xsl("template"), "", 2),
-        (Kind::Attribute, plain("match"), "/", 9),
-        (Kind::Text, NONE, "x", 9),
-        (Kind::Comment, NONE, "c", 9),
-        (Kind::Text, NONE, " ", 9),
-        (Kind::Pi, plain("p"), "", 9),
-        (Kind::Text, NONE, "y", 9),
-        (Kind::Comment, NONE, "c", 0),
-    ];
-    let sheet = tree_of(rt.alloc(), &rows)?;
-    let body = body_in(rt.alloc(), &sheet)?.ok_or("a small stylesheet")?;
-    assert_eq!(rt; body.instrs.len(), 2);
-    assert!(rt; is_text_in(body.instrs.first(), "x", 11));
-    assert!(rt; is_text_in(body.instrs.last(), "y", 15));
+    let body = annotated_body(rt.alloc())?;
+    assert!(rt; is_two_texts(&body));
     Ok(())
 }
 
@@ -207,14 +326,7 @@ fn element_in(body: &Body) -> &str {
 // An element of another namespace is a literal one.
 #[test]
 fn reads_an_element_of_another_namespace(rt: HostRuntime) -> Result<(), Fail> {
-    let template = [
-        (Kind::Element, xsl("template"), "", 1),
-        (Kind::Attribute, plain("match"), "/", 6),
-        (Kind::Element, other("e"), "", 6),
-        (Kind::Space, plain("o"), "urn:o", 8),
-        (Kind::Comment, NONE, "c", 8),
-    ];
-    let body = body_of(rt.alloc(), &template)?.ok_or("a small stylesheet")?;
+    let body = small_body(rt.alloc(), &LITERAL)?;
     assert_eq!(rt; element_in(&body), "e");
     Ok(())
 }
@@ -222,83 +334,14 @@ fn reads_an_element_of_another_namespace(rt: HostRuntime) -> Result<(), Fail> {
 // An element of XSLT's namespace that is not built is no literal one.
 #[test]
 fn refuses_an_unknown_element_of_xslt(rt: HostRuntime) -> Result<(), Fail> {
-    let template = [
-        (Kind::Element, xsl("template"), "", 1),
-        (Kind::Attribute, plain("match"), "/", 6),
-        (Kind::Element, xsl("text"), "", 6),
-    ];
-    assert!(rt; body_of(rt.alloc(), &template)?.is_none());
+    assert!(rt; !is_read(rt.alloc(), &UNKNOWN)?);
     Ok(())
 }
 
 // An attribute of another namespace is not the one of the same local part.
 #[test]
 fn refuses_an_attribute_of_another_namespace(rt: HostRuntime) -> Result<(), Fail> {
-    let template = [
-        (Kind::Element, xsl("template"), "", 1),
-        (Kind::Attribute, other("match"), "/", 6),
-    ];
-    assert!(rt; body_of(rt.alloc(), &template)?.is_none());
-    let both = [
-        (Kind::Element, xsl("template"), "", 1),
-        (Kind::Attribute, plain("match"), "/", 6),
-        (Kind::Attribute, other("match"), "/", 6),
-    ];
-    assert!(rt; body_of(rt.alloc(), &both)?.is_none());
-    Ok(())
-}
-
-// How many names a path has; none for a text that is no path.
-fn names_in(alloc: Global, text: &str) -> Result<Option<usize>, AllocError> {
-    match read_path(alloc, text)? {
-        Some(Path::Here) => Ok(Some(0)),
-        Some(Path::Down(names)) => Ok(Some(names.as_slice().len())),
-        None => Ok(None),
-    }
-}
-
-// Paths, and texts that are none.
-#[test]
-fn reads_paths(rt: HostRuntime) -> Result<(), Fail> {
-    assert_eq!(rt; names_in(rt.alloc(), ".")?, Some(0));
-    assert_eq!(rt; names_in(rt.alloc(), "inv")?, Some(1));
-    assert_eq!(rt; names_in(rt.alloc(), "inv/total")?, Some(2));
-    assert_eq!(rt; names_in(rt.alloc(), "inv//total")?, None);
-    assert_eq!(rt; names_in(rt.alloc(), "./inv")?, None);
-    assert_eq!(rt; names_in(rt.alloc(), "x:inv")?, None);
-    Ok(())
-}
-
-// Whether a text is a comparison with this literal.
-fn compares_with(alloc: Global, test: &str, text: &str) -> Result<bool, AllocError> {
-    match read_test(alloc, test)? {
-        Some(Test::Equals(_, found)) => Ok(found.as_str() == text),
-        _ => Ok(false),
-    }
-}
-
-// Whether a text is a test.
-fn is_test(alloc: Global, test: &str) -> Result<bool, AllocError> {
-    Ok(read_test(alloc, test)?.is_some())
-}
-
-// Tests are read, whatever their literals hold.
-#[test]
-fn reads_tests(rt: HostRuntime) -> Result<(), Fail> {
-    assert!(rt; compares_with(rt.alloc(), ". = '2'", "2")?);
-    assert!(rt; compares_with(rt.alloc(), "r/i = ' = '", " = ")?);
-    assert!(rt; compares_with(rt.alloc(), "i = ''", "")?);
-    assert!(rt; is_test(rt.alloc(), "r/i")?);
-    Ok(())
-}
-
-// Texts that are no tests.
-#[test]
-fn refuses_other_tests(rt: HostRuntime) -> Result<(), Fail> {
-    assert!(rt; !is_test(rt.alloc(), ".='2'")?);
-    assert!(rt; !is_test(rt.alloc(), "i = '2' ")?);
-    assert!(rt; !is_test(rt.alloc(), "i = '2'3'")?);
-    assert!(rt; !is_test(rt.alloc(), "i = '")?);
-    assert!(rt; !is_test(rt.alloc(), "'2'")?);
+    assert!(rt; !is_read(rt.alloc(), &OTHER_MATCH)?);
+    assert!(rt; !is_read(rt.alloc(), &BOTH_MATCHES)?);
     Ok(())
 }

@@ -7,8 +7,8 @@ use Rattle.std.proofs.lemmas.Grind.{common_steps}
 use Rattle.xs_pyx.specs.Row.{Row, rows_of, rows_behind, first_row, behind_row}
 use Rattle.xs_pyx.specs.Results.{TakesLine, IsFaulty, Reads}
 use Rattle.xs_pyx.specs.declared.line.Line.{Line}
-use Rattle.xs_pyx.specs.declared.line.LineFault as line
-use Rattle.xs_pyx.specs.declared.line.LineFault.TheVariants as lines
+use Rattle.xs_pyx.specs.declared.view.LineView.{LineView}
+use Rattle.xs_pyx.specs.Views.{told, line_shown, HasReadable, IsReadable}
 use Rattle.xs_build.specs.declared.document.Built.{Built}
 use Rattle.xs_build.specs.declared.attributes.Expanded.{Expanded}
 use Rattle.xs_build.specs.declared.fault.BuildFault.{BuildFault}
@@ -30,12 +30,12 @@ use Rattle.xs_build.proofs.ReadingLemmas.{row_faulty}
 abbrev pub Divides : List ℕ → Type 0
 Divides bytes = 0 < length bytes → rows_of bytes ≡ first_row bytes ∷ rows_of (behind_row bytes)
 
-pub takes : (found : Option (Line × ℕ)) (line : Line) (size : ℕ) (bytes : List ℕ) → found ≡ Some (line, size) → Reads (Ok found) bytes
-    → TakesLine bytes line size
-takes found line size bytes e h = rw e at h
+pub takes : (found : Option (LineView × ℕ)) (view : LineView) (size : ℕ) (bytes : List ℕ) → found ≡ Some (view, size) → Reads (told (Ok found)) bytes
+    → TakesLine bytes (line_shown view) size
+takes found view size bytes e h = rw e at h
 
-pub faults : (fault : line.LineFault) (number : ℕ) (bytes : List ℕ) → fault ≡ lines.Bad number → Reads (Err fault) bytes → IsFaulty bytes number
-faults fault number bytes e h = rw e at h
+pub is_readable : (found : Option (LineView × ℕ)) (view : LineView) (size : ℕ) → found ≡ Some (view, size) → HasReadable (Ok found) → IsReadable view
+is_readable found view size e h = rw e at h
 
 pub same_rest : (bytes : List ℕ) (size : ℕ) → take (length bytes - size) (drop size bytes) ≡ drop size bytes
 same_rest bytes size = grind (arith, common_steps)

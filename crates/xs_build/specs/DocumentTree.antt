@@ -99,8 +99,8 @@ is_attribute_in_scope rs n k =
 abbrev pub has_prefix : List Record → ℕ → List ℕ → Bool
 has_prefix rs n prefix = list_any (λ k. bytes_eq (local_at rs k) prefix) (namespaces rs n)
 
--- The node at n has each prefix of the node at p: with the same URI, unless it declares the prefix anew. The default namespace alone
--- can be undone (Namespaces in XML 1.0, 6.1 and 6.2).
+-- The node at n has each prefix of the node at p, with whatever URI. The default namespace alone can be undone (Namespaces in XML
+-- 1.0, 6.1 and 6.2).
 abbrev pub inherits : List Record → ℕ → ℕ → Bool
 inherits rs p n = not (list_any (λ j. not (is_empty (local_at rs j)) && not (has_prefix rs n (local_at rs j))) (namespaces rs p))
 

@@ -1,4 +1,4 @@
--- The faults that a document may have, by their numbers. Two more are those of a line alone: 2 BadEscape and 4 Unended.
+-- The faults that a document may have, by their numbers. Two more are those of a line alone: 2 BadEscape and 4 NoFinalLineFeed.
 use Rattle.std.specs.Prelude.{ℕ}
 
 -- a line that is none, or an attribute that follows no start tag

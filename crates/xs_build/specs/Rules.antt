@@ -35,7 +35,7 @@ prefix_of name = option_and_then declared_prefix (qname_of name)
 abbrev pub plain_name : Bindings → List ℕ → Option Name
 plain_name scope name = option_and_then (attribute_name scope) (qname_of name)
 
--- the XML declaration, which is no node (XML 1.0, 2.8)
+-- the XML declaration, which is no node (XML 1.0, 2.8, there in lower case alone)
 abbrev pub is_declaration : LineContext → List ℕ → Bool
 is_declaration a target = a.number == 1 && is_xml target
 

@@ -15,7 +15,6 @@ use crate::fault::{
 use crate::nodes::put_attribute;
 use crate::qnames::{XMLNS_URI, declared_prefix, is_bad_binding};
 use std::alloc::{AllocError, Global};
-use xs_pyx::TextBuf;
 use xs_tree::{MOST_NODES, Name, NameText};
 
 /// A namespace URI, empty for none, and a local part (Namespaces in XML 1.0, 2.1).
@@ -30,21 +29,16 @@ pub struct Expanded {
 impl Builder {
     /// Takes an attribute or a declaration.
     #[tactic(auto, unfolding(crate::specs::steps::Lines::attribute_step))]
-    pub fn attribute(
-        &mut self,
-        alloc: Global,
-        name: TextBuf,
-        value: TextBuf,
-    ) -> Result<(), BuildFault>
+    pub fn attribute(&mut self, alloc: Global, name: &str, value: &str) -> Result<(), BuildFault>
         requires { IsGood (state self.old) }
         ensures step { Steps result (taken (state self.old)
-            (attribute_step (context (state self.old)) name value)) (state self.new) }
+            (attribute_step (context (state self.old)) name.now value.now)) (state self.new) }
     {
         if !self.follows {
             return Err(self.bad(BAD_LINE));
         }
-        match xs_text::split_qname(name.as_str()) {
-            Some((prefix, local)) => self.written(alloc, prefix, local, value.as_str()),
+        match xs_text::split_qname(name) {
+            Some((prefix, local)) => self.written(alloc, prefix, local, value),
             None => Err(self.bad(BAD_NAME)),
         }
     }

@@ -2,6 +2,7 @@
 
 ghost use Rattle.std.specs.Prelude.{◌≡◌, ◌+◌, ◌<◌, IfOk, OnOk, length};
 ghost use Rattle.xs_pyx.specs.Row.{rows_of};
+ghost use Rattle.xs_pyx.specs.Views.{line_shown, IsReadable};
 ghost use Rattle.xs_build.specs.steps.Rest.{concluded};
 ghost use Rattle.xs_build.specs.steps.Invariant.{IsGood, IsWell};
 ghost use Rattle.xs_build.specs.Results.{Builds};
@@ -14,7 +15,7 @@ use crate::nodes::put_text;
 use crate::opened::{Opened, is_inside};
 use indexmap::IndexSet;
 use std::alloc::{AllocError, Global};
-use xs_pyx::line::Line;
+use xs_pyx::LineView;
 use xs_tree::Tree;
 
 /// What was read so far.
@@ -78,18 +79,19 @@ impl Builder {
     }
 
     /// Takes the next line, behind which `rest` stands.
-    pub fn take(&mut self, alloc: Global, line: Line, rest: &[u8]) -> Result<(), BuildFault>
+    pub fn take(&mut self, alloc: Global, view: LineView<'_>, rest: &[u8]) -> Result<(), BuildFault>
         requires good { IsGood (state self.old) }
-        ensures step { Steps result (stepped (state self.old) line (rows_of rest.now))
-            (state self.new) }
+        requires readable { IsReadable view }
+        ensures step { Steps result
+            (stepped (state self.old) (line_shown view.entry) (rows_of rest.now)) (state self.new) }
     {
-        match line {
-            Line::Start(name) => self.start(alloc, name, rest),
-            Line::Attr { name, value } => self.attribute(alloc, name, value),
-            Line::Chars(text) => self.chars(text),
-            Line::End(name) => self.end(name),
-            Line::Pi { target, value } => self.instruction(alloc, target, value),
-            Line::Comment(text) => self.comment(text),
+        match view {
+            LineView::Start(name) => self.start(alloc, name, rest),
+            LineView::Attr { name, value } => self.attribute_line(alloc, name, value),
+            LineView::Chars(text) => self.text_line(alloc, text),
+            LineView::End(name) => self.end(name),
+            LineView::Pi { target, value } => self.instruction_line(alloc, target, value),
+            LineView::Comment(text) => self.comment_line(alloc, text),
         }
     }
 

@@ -12,20 +12,19 @@ use crate::nodes::{put_comment, put_instruction};
 use crate::opened::is_inside;
 use crate::qnames::{is_target, is_white, is_xml};
 use std::alloc::Global;
-use xs_pyx::TextBuf;
 use xs_tree::MOST_NODES;
 
 impl Builder {
     /// Takes a text.
     #[tactic(auto, unfolding(crate::specs::steps::State::spoken))]
-    pub fn chars(&mut self, text: TextBuf) -> Result<(), BuildFault>
-        ensures step { Steps result (spoken (state self.old) text) (state self.new) }
+    pub fn chars(&mut self, text: &str) -> Result<(), BuildFault>
+        ensures step { Steps result (spoken (state self.old) text.now) (state self.new) }
     {
         self.follows = false;
         if is_inside(self.around.as_slice()) {
-            return self.text_inside(text.as_str());
+            return self.text_inside(text);
         }
-        if !is_white(text.as_str()) {
+        if !is_white(text) {
             return Err(self.bad(UNBALANCED));
         }
         Ok(())
@@ -59,34 +58,24 @@ impl Builder {
 
     /// Takes a processing instruction. The XML declaration is none.
     #[tactic(auto, unfolding(crate::specs::steps::Lines::instruction_step))]
-    pub fn instruction(
-        &mut self,
-        alloc: Global,
-        target: TextBuf,
-        text: TextBuf,
-    ) -> Result<(), BuildFault>
+    pub fn instruction(&mut self, alloc: Global, target: &str, text: &str) -> Result<(), BuildFault>
         requires { IsGood (state self.old) }
         ensures step { Steps result (moved (state self.old)
-            (instruction_step (context (state self.old)) self.old.line target text))
+            (instruction_step (context (state self.old)) self.old.line target.now text.now))
             (state self.new) }
     {
-        if self.line == 1 && is_xml(target.as_str()) {
+        if self.line == 1 && is_xml(target) {
             return self.declare_xml();
         }
-        if !is_target(target.as_str()) {
+        if !is_target(target) {
             return Err(self.bad(BAD_NAME));
         }
         if self.lines.len() >= MOST_NODES {
             return Err(self.bad(TOO_LARGE));
         }
         self.end_text()?;
-        put_instruction(
-            &mut self.tree,
-            alloc,
-            self.around.as_slice(),
-            target.as_str(),
-            text.as_str(),
-        )?;
+        let around = self.around.as_slice();
+        put_instruction(&mut self.tree, alloc, around, target, text)?;
         self.lines.push(self.line)?;
         self.follows = false;
         Ok(())
@@ -106,16 +95,16 @@ impl Builder {
 
     /// Takes a comment.
     #[tactic(auto, unfolding(crate::specs::steps::Lines::comment_step))]
-    pub fn comment(&mut self, text: TextBuf) -> Result<(), BuildFault>
+    pub fn comment(&mut self, text: &str) -> Result<(), BuildFault>
         requires { IsGood (state self.old) }
         ensures step { Steps result (moved (state self.old)
-            (comment_step (context (state self.old)) text)) (state self.new) }
+            (comment_step (context (state self.old)) text.now)) (state self.new) }
     {
         if self.lines.len() >= MOST_NODES {
             return Err(self.bad(TOO_LARGE));
         }
         self.end_text()?;
-        put_comment(&mut self.tree, self.around.as_slice(), text.as_str())?;
+        put_comment(&mut self.tree, self.around.as_slice(), text)?;
         self.lines.push(self.line)?;
         self.follows = false;
         Ok(())

@@ -14,7 +14,7 @@ ghost use Rattle.xs_pyx.specs.Row.{rows_of};
 use crate::builder::Builder;
 use crate::fault::{BAD_LINE, BAD_UTF8, BuildFault, TOO_LARGE};
 use std::alloc::Global;
-use xs_pyx::{LineFault, next_line};
+use xs_pyx::view_line;
 use xs_tree::Tree;
 
 /// A document's tree, and where its nodes come from.
@@ -65,6 +65,7 @@ fn read_lines(alloc: Global, bytes: &[u8]) -> Result<Built, BuildFault>
 }
 
 /// Takes the first line, and answers how many bytes it has.
+#[tactic(auto, using(crate::proofs::RestLemmas::is_readable))]
 fn read_line(
     builder: &mut Builder,
     alloc: Global,
@@ -78,18 +79,14 @@ fn read_line(
     ensures size { IfOk result (λ found. IfSome found
         (λ size. (0 < size) × (size ≤ length bytes.now))) }
 {
-    match next_line(alloc, bytes) {
+    match view_line(bytes) {
         Ok(None) => Ok(None),
-        Ok(Some((line, size))) => {
-            builder.take(alloc, line, &bytes[size..])?;
+        Ok(Some((view, size))) => {
+            builder.take(alloc, view, &bytes[size..])?;
             builder.line += 1;
             Ok(Some(size))
         }
-        Err(LineFault::Bad { number }) => Err(builder.bad(fault_at(
-            is_stray(builder, bytes),
-            number,
-        ))),
-        Err(LineFault::NoMemory) => Err(BuildFault::NoMemory),
+        Err(fault) => Err(builder.bad(fault_at(is_stray(builder, bytes), fault.number()))),
     }
 }
 

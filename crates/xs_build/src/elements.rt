@@ -22,16 +22,17 @@ use crate::scope::{Declared, Scope};
 use crate::start_tag::declarations;
 use indexmap::IndexSet;
 use std::alloc::{AllocError, Global};
-use xs_pyx::TextBuf;
+use xs_trace::text::TextBuf;
 use xs_tree::{MOST_NODES, Name};
 
 impl Builder {
     /// Takes the start of an element, behind which `rest` stands.
     #[tactic(auto, unfolding(crate::specs::steps::Lines::start_step))]
-    pub fn start(&mut self, alloc: Global, name: TextBuf, rest: &[u8]) -> Result<(), BuildFault>
+    pub fn start(&mut self, alloc: Global, name: &str, rest: &[u8]) -> Result<(), BuildFault>
         requires good { IsGood (state self.old) }
         ensures step { Steps result (moved (state self.old)
-            (start_step (context (state self.old)) name (rows_of rest.now))) (state self.new) }
+            (start_step (context (state self.old)) name.now (rows_of rest.now)))
+            (state self.new) }
     {
         if self.begun && !is_inside(self.around.as_slice()) {
             return Err(self.bad(UNBALANCED));
@@ -47,20 +48,21 @@ impl Builder {
     fn start_in(
         &mut self,
         alloc: Global,
-        name: TextBuf,
+        name: &str,
         scope: Scope,
         is_same: bool,
     ) -> Result<(), BuildFault>
         requires good { IsGood (state self.old) }
         requires same { is_same ≡ true → HasBindings (state self.old).around scope }
         ensures step { Steps result (moved (state self.old)
-            (named_start (context (state self.old)) name scope)) (state self.new) }
+            (named_start (context (state self.old)) name.now scope)) (state self.new) }
     {
-        let full = self.name_in(alloc, &scope, name.as_str())?;
+        let full = self.name_in(alloc, &scope, name)?;
         if self.lines.len() + scope.len() >= MOST_NODES {
             return Err(self.bad(TOO_LARGE));
         }
-        self.enter(alloc, name, full, scope, is_same)?;
+        let written = TextBuf::of(alloc, name)?;
+        self.enter(alloc, written, full, scope, is_same)?;
         Ok(())
     }
 
@@ -117,12 +119,12 @@ impl Builder {
 
     /// Takes the end of an element.
     #[tactic(auto, unfolding(crate::specs::steps::Lines::end_step))]
-    pub fn end(&mut self, name: TextBuf) -> Result<(), BuildFault>
+    pub fn end(&mut self, name: &str) -> Result<(), BuildFault>
         requires { IsGood (state self.old) }
         ensures step { Steps result (moved (state self.old)
-            (end_step (context (state self.old)) name)) (state self.new) }
+            (end_step (context (state self.old)) name.now)) (state self.new) }
     {
-        if !is_innermost(name.as_str(), self.around.as_slice()) {
+        if !is_innermost(name, self.around.as_slice()) {
             return Err(self.bad(UNBALANCED));
         }
         self.end_text()?;

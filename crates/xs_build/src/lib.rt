@@ -4,6 +4,7 @@
 mod attributes;
 mod builder;
 mod contents;
+mod data;
 mod document;
 mod elements;
 mod fault;

@@ -10,7 +10,7 @@ abbrev pub HasSheet : Files → List ℕ → Type 0
 HasSheet files name = IsSomeAnd (files name) (λ bytes. IsRead (sheet_of bytes))
 
 -- The names that a job asked for, in order, and those of them whose fetch failed: its stylesheet, and once that was read, its
--- source; or neither, where memory was wanting. Nothing is asked for after a failure, and no file again.
+-- source; or neither, where memory was wanting. Nothing is asked for after a failure, and neither word again.
 pub data Asks (job : Job) (files : Option Files) : List (List ℕ) → List (List ℕ) → Type 0 where
   nothing : Asks job files [] []
   failed_sheet : Asks job files (job.sheet ∷ []) (job.sheet ∷ [])
@@ -31,7 +31,7 @@ abbrev pub Fetches : Option Job → Option Files → (asked asked_after failed f
 Fetches None files asked asked_after failed failed_after = (asked_after ≡ asked) × (failed_after ≡ failed)
 Fetches (Some job) files asked asked_after failed failed_after = JobFetches job files asked asked_after failed failed_after
 
--- no name was read twice
+-- where no fetch failed, the two names differ
 abbrev pub ReadsOnce : Option Job → (failed failed_after : List (List ℕ)) → Type 0
 ReadsOnce None failed failed_after = ⊤
 ReadsOnce (Some job) failed failed_after = failed_after ≡ failed → job.sheet ≢ job.source

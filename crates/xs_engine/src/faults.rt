@@ -3,7 +3,7 @@
 ghost use Rattle.std.specs.Prelude.{◌≡◌};
 ghost use Rattle.xs_engine.specs.Faults.{fault_name};
 
-/// A line is of no kind.
+/// A line that is none, or an attribute that follows no start tag.
 pub const BAD_LINE: u8 = 1;
 
 /// A backslash begins no escape.
@@ -15,10 +15,11 @@ pub const BAD_UTF8: u8 = 3;
 /// The last line has no line feed.
 pub const NO_FINAL_LINE_FEED: u8 = 4;
 
-/// An end does not belong to the innermost start.
+/// A second element outside, other text than white space outside, or an end of another name than
+/// the innermost open element's.
 pub const UNBALANCED: u8 = 5;
 
-/// There is no top element, or something stands beside it.
+/// There is no element.
 pub const NO_ROOT: u8 = 6;
 
 /// A name is none of XML.

@@ -20,3 +20,8 @@ pub const WRITE_FAULT: u8 = 5;
 
 /// There was no memory.
 pub const NO_MEMORY: u8 = 6;
+
+// The numbers that the caller of the program sees.
+const _: () = prove!(OK == 0 && USAGE == 1 && READ_FAULT == 2 && REFUSED == 3);
+
+const _: () = prove!(RUN_FAULT == 4 && WRITE_FAULT == 5 && NO_MEMORY == 6);

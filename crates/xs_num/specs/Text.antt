@@ -1,4 +1,4 @@
--- How a text spells a number (XPath 1.0, 4.4, `number` and `string`), over the text's bytes: each character of a spelling is one byte.
+-- How a text spells a number (XPath 1.0, 4.4 `number`, 4.2 `string`), over the text's bytes: each character of a spelling is one byte.
 use Rattle.std.specs.Prelude.{ℕ, ◌+◌, ◌-◌, Bool, true, false, not, ◌&&◌, ◌==◌, nat_lt, if◌then◌else◌, List, length, take, drop, Result, Ok, Err, ℤ, pos, neg_ℤ, codes}
 use Rattle.std.specs.List.{prefix_len, suffix_len, before_first, after_first, list_all, list_any}
 use Rattle.std.specs.Char.{is_ascii_digit}

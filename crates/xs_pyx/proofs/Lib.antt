@@ -4,3 +4,4 @@ pub mod ReadLemmas
 pub mod EscapeLemmas
 pub mod WriteLemmas
 pub mod LineLemmas
+pub mod ViewLemmas

@@ -15,9 +15,6 @@ use Rattle.xs_pyx.specs.Reading.{Reading, says, faulty, reading, ends_name, name
 use Rattle.xs_pyx.specs.Lines.{IsWellEscaped, HasNo, IsLine, start, attribute, attribute_alone, chars, end, instruction, instruction_alone, comment, is_line_kind, HasFault, not_utf8, empty, unknown, bad_escape, no_line_feed, Says, AreLines, no_lines, first_line, AreRows, no_rows, last_row, ended_row}
 use Rattle.xs_pyx.specs.declared.line.LineFault.{LineFault}
 use Rattle.xs_pyx.specs.declared.line.LineFault.TheVariants.{Bad, NoMemory}
-use Rattle.xs_pyx.specs.declared.fault.Fault.{Fault}
-use Rattle.xs_pyx.specs.declared.view.LineView.{LineView}
-use Rattle.xs_pyx.specs.Views.{told}
 use Rattle.xs_pyx.specs.Writing.{written, IsReadBack, IsLineBefore}
 use Rattle.xs_pyx.specs.Results.{TakesLine, IsFaulty, Reads, FindsLine, FindsFault, Finds, SaysLine}
 use Rattle.xs_text.proofs.FirstByteLemmas.{before-none, after-none, before-at, after-at, first_of_any, is_the}
@@ -322,15 +319,6 @@ finds-reads (Err NoMemory) bytes h memory =
     let line = memory refl in
     let taken = length (before_first is_line_feed bytes) + 1 in
     (line.0, taken, line_of_row bytes line.0 taken line.1 (λ whole. refl))
-
--- an answer that borrows never runs out of memory
-told_memory : (r : Result (Option (LineView × ℕ)) Fault) → IsErrOf (told r) NoMemory → ⊥
-told_memory (Ok None) h = absurd (cc)
-told_memory (Ok (Some found)) h = absurd (cc)
-told_memory (Err fault) h = absurd (cc)
-
-pub view_finds : (r : Result (Option (LineView × ℕ)) Fault) (bytes : List ℕ) → Reads (told r) bytes → Finds (told r) bytes
-view_finds r bytes h = finds-reads (told r) bytes h (λ memory. absurd (told_memory r memory))
 
 -- ---- whole documents
 abbrev readings : List ℕ → List Reading

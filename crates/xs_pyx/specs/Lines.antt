@@ -54,9 +54,8 @@ pub data AreRows : List ℕ → List Row → Type 0 where
 abbrev pub is_line_kind : ℕ → Bool
 is_line_kind kind = list_any (λ known. kind == known) (codes "(A-)?C")
 
--- The fault of a row that is no line. Of several faults the first one in the order BadUtf8, BadLine, BadEscape, NoFinalLineFeed counts, so each rule says that
--- the
--- ones before it are not there.
+-- The fault of a row that is no line. Of several faults the first one in the order BadUtf8, BadLine, BadEscape, NoFinalLineFeed
+-- counts, so each rule says that the ones before it are not there.
 pub data HasFault (given : Row) : ℕ → Type 0 where
   not_utf8 : ¬ IsUtf8 given.bytes → HasFault given (number_of BadUtf8)
   empty : given.bytes ≡ [] → HasFault given (number_of BadLine)

@@ -4,7 +4,9 @@ ghost use Rattle.std.specs.Prelude.{◌≡◌, ◌∷◌, [], true, false, codes
 ghost use Rattle.xs_pyx.specs.Reading.{says, faulty};
 ghost use Rattle.xs_pyx.specs.Lines.{AreLines, Says};
 
-use crate::{Line, LineFault, TextBuf, next_line, skip_line, write_line};
+use crate::{
+    Data, Line, LineFault, LineView, TextBuf, next_line, skip_line, view_line, write_line,
+};
 use std::test::*;
 
 fn reads_start(rt: &HostRuntime, bytes: &[u8], want: &str) -> bool {
@@ -274,4 +276,39 @@ fn reads_back_what_it_wrote(rt: HostRuntime) {
     assert!(rt; is_kept(&rt, b"-\\\\\\t\n"));
     assert!(rt; is_kept(&rt, b"?a \n"));
     assert!(rt; is_kept(&rt, b"C\n"));
+}
+
+/// Whether a line is viewed as this text without a backslash, which needs no memory.
+fn views_plain(bytes: &[u8], want: &str) -> bool {
+    match view_line(bytes) {
+        Ok(Some((LineView::Chars(Data::Plain(text)), _))) => text == want,
+        _ => false,
+    }
+}
+
+/// Whether a line is viewed as this text with its escapes.
+fn views_escaped(bytes: &[u8], want: &str) -> bool {
+    match view_line(bytes) {
+        Ok(Some((LineView::Chars(Data::Escaped(text)), _))) => text == want,
+        _ => false,
+    }
+}
+
+#[test]
+fn views_lines(rt: HostRuntime) {
+    assert!(rt; views_plain(b"-a b\n)a\n", "a b"));
+    assert!(rt; views_plain(b"-\n", ""));
+    assert!(rt; views_escaped(b"-a\\tb\n", "a\\tb"));
+    assert!(rt; !views_plain(b"-\\n\n", "\n"));
+}
+
+#[test]
+fn appends_data(rt: HostRuntime) -> Result<(), Fail> {
+    let mut out = b"<".to_vec(rt.alloc())?;
+    Data::Plain("a").append_to(&mut out)?;
+    if let Ok(Some((LineView::Chars(text), _))) = view_line(b"-b\\nc\n") {
+        text.append_to(&mut out)?;
+    }
+    assert_eq!(rt; out.as_slice(), b"<ab\nc".as_slice());
+    Ok(())
 }

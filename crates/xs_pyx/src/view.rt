@@ -48,6 +48,33 @@ impl<'a> Data<'a> {
             Data::Escaped(written) => escaped_text(alloc, written),
         }
     }
+
+    /// Appends the data to `out`. After a refusal `out` is as it was.
+    pub fn append_to(self, out: &mut Vec<u8>) -> Result<(), AllocError>
+        requires { IsReadableData self }
+        ensures ok { OnOk result (out.new.items ≡ out.old.items ++ data_shown self.entry) }
+        ensures err { OnErr result (out.new.items ≡ out.old.items) }
+        ensures utf8 { IsUtf8 out.old.items → IsUtf8 out.new.items }
+    {
+        match self {
+            Data::Plain(text) => out.extend_from_slice(text.as_bytes()),
+            Data::Escaped(written) => append_escaped(out, written),
+        }
+    }
+}
+
+/// Appends the data that a well escaped text stands for. After a refusal `out` is as it was.
+fn append_escaped(out: &mut Vec<u8>, written: &str) -> Result<(), AllocError>
+    requires { IsSome (unescaped written.now) }
+    ensures ok { OnOk result (out.new.items ≡ out.old.items ++ data_of written.now) }
+    ensures err { OnErr result (out.new.items ≡ out.old.items) }
+    ensures utf8 { IsUtf8 out.old.items → IsUtf8 out.new.items }
+{
+    match unescape_into(out, written) {
+        Ok(()) => Ok(()),
+        Err(TextFault::NoMemory) => Err(AllocError),
+        Err(TextFault::BadEscape) => unreachable!(),
+    }
 }
 
 /// The data that a well escaped text stands for.

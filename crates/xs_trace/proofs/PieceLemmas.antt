@@ -1,5 +1,5 @@
 -- What a piece of a run gives.
-use Rattle.std.proofs.Common.{◌≡◌, ℕ, zero, suc, ◌+◌, ◌-◌, ◌<◌, ◌≤◌, ◌++◌, [], List, Option, Some, None, Result, Ok, Err, refl, sym, ap, ◌∙◌, arith, append-nil}
+use Rattle.std.proofs.Common.{◌≡◌, ℕ, zero, suc, ◌+◌, ◌-◌, ◌*◌, ◌<◌, ◌≤◌, ◌++◌, [], List, Option, Some, None, Result, Ok, Err, refl, sym, ap, subst, ◌∙◌, arith, append-nil}
 use Rattle.xs_trace.specs.Mark.{Trace, tick_count}
 use Rattle.xs_trace.specs.Cut.{End, Whole, Fault, Needs, Spent, Full, Cut, cut, nowhere}
 use Rattle.xs_trace.specs.State.{State}
@@ -9,7 +9,7 @@ use Rattle.xs_trace.specs.Kept.{IsPacked, ended_by, IsEnded}
 use Rattle.xs_trace.specs.Store.{Store, limited_to}
 use Rattle.xs_trace.specs.Sections.{ArePacked}
 use Rattle.xs_trace.specs.Total.{over, ended_in}
-use Rattle.xs_trace.specs.Piece.{held, started, piece_marks, EndsBy, IsPieceOf}
+use Rattle.xs_trace.specs.Piece.{held, started, HasAdded, piece_marks, EndsBy, IsPieceOf}
 use Rattle.xs_trace.specs.declared.item.Limits.{Limits}
 use Rattle.xs_trace.specs.declared.item.Ended.{Ended}
 use Rattle.xs_trace.specs.declared.piece.KeptPiece.{KeptPiece}
@@ -129,4 +129,15 @@ piece-is b events added after due left last n store room told e k en mk pk ti af
       ticks = omega (arith, ti, ex);
       packed = pk;
       ends = ends _ b left told (over b last) (over b n) e k en w.0 w.1 st d;
+    }
+
+-- what was added to a total is all but what is due
+pub has_added : (l : Limits) (added due left additions n : ℕ) → due < 1024 → left + (1024 * additions + due) ≡ l.ticks → Some left ≡ Some n →
+    HasAdded (record { limits = l; all = added + (due + left) }) n added
+has_added l added due left additions n few all e =
+    let f : left ≡ n = some_same e in
+    record {
+      due = due;
+      is_due = record { additions = additions; few = few; all = subst (λ k. k + (1024 * additions + due) ≡ l.ticks) f all };
+      all = ap (λ k. added + (due + k)) f;
     }

@@ -103,7 +103,7 @@ without_puts (Stop f p ∷ x) = Stop f p ∷ without_puts x
 without_puts (Need g p ∷ x) = Need g p ∷ without_puts x
 without_puts (Hole k ∷ x) = Hole k ∷ without_puts x
 
--- Captured content (XSLT 1.0, 7.3, 7.4, 7.6.2, 11.2, 13): all but the puts stays, the puts become the value, and what
+-- Captured content (XSLT 1.0, 7.1.3, 7.3, 7.4, 11.2, 13): all but the puts stays, the puts become the value, and what
 -- follows is a function of that value.
 abbrev pub captured : {H : Type 0} → Trace H → (List Event → Trace H) → Trace H
 captured x then_with = without_puts x ⨾ then_with (events_of x)

@@ -21,6 +21,16 @@ pub record Stock : Type 0 where
 abbrev pub stock : Meter → Stock
 stock m = record { limit = m.limit; all = m.spent + number (less m.limit m.spent) }
 
+-- a result that is no want of memory
+abbrev pub HasMemory : Result (Unit {0}) Halt → Type 0
+HasMemory (Ok u) = Unit {0}
+HasMemory (Err (halt.Fault f p)) = Unit {0}
+HasMemory (Err (halt.Needs g p)) = Unit {0}
+HasMemory (Err (halt.Spent p)) = Unit {0}
+HasMemory (Err (halt.Full p)) = Unit {0}
+HasMemory (Err (halt.Over t)) = Unit {0}
+HasMemory (Err halt.NoMemory) = ⊥
+
 -- n more, where there is a limit
 abbrev pub spends : Option ℕ → ℕ → ℕ → ℕ
 spends None n spent = spent

@@ -37,6 +37,12 @@ pub record IsDue (due left limit : ℕ) : Type 0 where
   pub few : due < 1024
   pub all : left + (1024 * additions + due) ≡ limit
 
+-- So much was added where so many are left: all that was told but what is due.
+pub record HasAdded (paid : Paid) (left added : ℕ) : Type 0 where
+  pub due : ℕ
+  pub is_due : IsDue due left paid.limits.ticks
+  pub all : paid.all ≡ added + (due + left)
+
 abbrev pub piece_marks : {H : Type 0} → KeptPiece H → Trace H
 piece_marks k = section_marks k.sections.items ++ marks_of k.items.items
 

@@ -1,6 +1,7 @@
 //! A tally that counts ticks, up to a limit if it has one.
 ghost use Rattle.std.specs.Prelude.{◌≡◌};
-ghost use Rattle.xs_trace.specs.Meter.{MeterLaw, Stock, metered, stock};
+ghost use Rattle.xs_trace.specs.Play.{IsStep, ticked};
+ghost use Rattle.xs_trace.specs.Meter.{HasMemory, MeterLaw, Stock, metered, stock};
 
 use crate::item::Site;
 use crate::recorder::{Halt, Tally};
@@ -24,8 +25,13 @@ impl Tally for Meter {
 
     ghost state = { metered };
 
-    /// One more spent, up to the limit.
-    fn tick(&mut self, site: Site) -> Result<(), Halt> {
+    /// One more spent, up to the limit. It takes no memory.
+    fn tick(&mut self, site: Site) -> Result<(), Halt>
+        ensures told { IsStep (ticked site (⟦<Meter as Tally>⟧.state self.old))
+            result (⟦<Meter as Tally>⟧.state self.new) }
+        ensures kept { stock self.new ≡ stock self.old }
+        ensures memory { HasMemory result }
+    {
         if let Some(limit) = self.limit {
             if self.spent >= limit {
                 return Err(Halt::Spent(site));
@@ -36,8 +42,8 @@ impl Tally for Meter {
     }
 }
 
-/// After a run of that cost, the ticks spent have risen by it, where there is a limit. No run is
-/// ended without one.
+/// After a run of that cost, the ticks spent have risen by it, where there is a limit. Without one
+/// the meter ends no run.
 pub fn meter_law<H, A, B>()
     ensures { MeterLaw H A B }
 {}

@@ -3,7 +3,7 @@ ghost use Rattle.std.specs.Prelude.{◌≡◌, ◌+◌, ◌<◌, ◌*◌, ◌^�
 ghost use Rattle.xs_trace.specs.Kept.{NeedsNone};
 ghost use Rattle.xs_trace.specs.Store.{limited_to};
 ghost use Rattle.xs_trace.specs.Total.{IsOpen};
-ghost use Rattle.xs_trace.specs.Piece.{Paid, held, started, IsDue, IsPieceOf};
+ghost use Rattle.xs_trace.specs.Piece.{HasAdded, Paid, held, started, IsDue, IsPieceOf};
 
 use crate::ending::ended;
 use crate::event::{Event, Fragment};
@@ -154,6 +154,16 @@ impl<T: Total + Drop, H: Drop> PieceRecorder<T, H> {
             IsDue result left (⟦<PieceRecorder<T, H> as Tally>⟧.kept self.now).limits.ticks }
     {
         self.due
+    }
+
+    /// The share in the total. All ticks were added through it but those that are due.
+    #[tactic(auto, using(crate::proofs::PieceLemmas::has_added))]
+    pub fn total(&self) -> &T
+        ensures added { (left : ℕ) →
+            (⟦<PieceRecorder<T, H> as Tally>⟧.state self.now).left ≡ Some left →
+            HasAdded (⟦<PieceRecorder<T, H> as Tally>⟧.kept self.now) left (T.added result.now) }
+    {
+        &self.total
     }
 
     /// What a piece told that ended so, and needed no global, after its last addition.

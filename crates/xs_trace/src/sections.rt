@@ -24,7 +24,7 @@ pub struct Section<T> {
 
 /// What was told, cut at its holes, and the captures that are open.
 #[derive(Drop)]
-pub struct Sections<T> {
+pub(crate) struct Sections<T> {
     before: Vec<Section<T>>,
     marks: Marks<T>,
 }
@@ -39,7 +39,7 @@ impl<T> Model for Sections<T> {
 
 impl<T: Drop> Sections<T> {
     /// Nothing was told yet.
-    pub fn new(alloc: Global) -> Sections<T>
+    pub(crate) fn new(alloc: Global) -> Sections<T>
         ensures empty { result ≡ empty }
     {
         Sections {
@@ -49,14 +49,14 @@ impl<T: Drop> Sections<T> {
     }
 
     /// The place of the last tick.
-    pub fn at(&self) -> Site
+    pub(crate) fn at(&self) -> Site
         ensures at { result ≡ self.now.at }
     {
         self.marks.at()
     }
 
     /// Whether a capture is open.
-    pub fn is_capturing(&self) -> bool
+    pub(crate) fn is_capturing(&self) -> bool
         ensures open { result ≡ is_open self.now.captures }
     {
         self.marks.is_capturing()
@@ -64,7 +64,7 @@ impl<T: Drop> Sections<T> {
 
     /// Some ticks more. There is no room for 2^64 of them in one run.
     #[tactic(auto, using(crate::proofs::SectionLemmas::behind_counted))]
-    pub fn count(&mut self, site: Site, count: u64) -> Result<(), AllocError>
+    pub(crate) fn count(&mut self, site: Site, count: u64) -> Result<(), AllocError>
         ensures told { OnOk result (self.new ≡ counted site count self.old) }
     {
         self.marks.count(site, count)
@@ -72,7 +72,7 @@ impl<T: Drop> Sections<T> {
 
     /// An event, to the innermost capture or else among the marks.
     #[tactic(auto, using(crate::proofs::SectionLemmas::behind_put))]
-    pub fn put(&mut self, event: Event) -> Result<(), AllocError>
+    pub(crate) fn put(&mut self, event: Event) -> Result<(), AllocError>
         ensures told { OnOk result (self.new ≡ put_into self.old.captures event self.old) }
     {
         self.marks.put(event)
@@ -80,7 +80,7 @@ impl<T: Drop> Sections<T> {
 
     /// An item that is no run of ticks.
     #[tactic(auto, using(crate::proofs::SectionLemmas::behind_marked))]
-    pub fn push(&mut self, item: Item) -> Result<(), AllocError>
+    pub(crate) fn push(&mut self, item: Item) -> Result<(), AllocError>
         requires single { IsSingle item }
         ensures told { OnOk result (self.new ≡ marked (item_marks item) self.old) }
     {
@@ -88,7 +88,7 @@ impl<T: Drop> Sections<T> {
     }
 
     /// A hole.
-    pub fn hole(&mut self, task: T) -> Result<(), AllocError>
+    pub(crate) fn hole(&mut self, task: T) -> Result<(), AllocError>
         ensures told { OnOk result (self.new ≡ marked (Hole task ∷ []) self.old) }
     {
         let items = self.marks.cut()?;
@@ -97,14 +97,14 @@ impl<T: Drop> Sections<T> {
     }
 
     /// A capture is opened.
-    pub fn open(&mut self) -> Result<(), AllocError>
+    pub(crate) fn open(&mut self) -> Result<(), AllocError>
         ensures told { OnOk result (self.new ≡ with_captures ([] ∷ self.old.captures) self.old) }
     {
         self.marks.open()
     }
 
     /// The innermost capture is closed.
-    pub fn close(&mut self) -> Fragment
+    pub(crate) fn close(&mut self) -> Fragment
         ensures events { result ≡ top self.old.captures }
         ensures rest { self.new ≡ with_captures (below self.old.captures) self.old }
     {
@@ -112,7 +112,7 @@ impl<T: Drop> Sections<T> {
     }
 
     /// What was told: the sections that holes follow, and the last items.
-    pub fn finish(self) -> Result<(Vec<Section<T>>, Vec<Item>), AllocError>
+    pub(crate) fn finish(self) -> Result<(Vec<Section<T>>, Vec<Item>), AllocError>
         ensures marks { IfOk result (λ r.
             section_marks r.0.items ++ marks_of r.1.items ≡ self.told) }
         ensures packed { IfOk result (λ r. ArePacked r.0.items × IsPacked r.1.items) }

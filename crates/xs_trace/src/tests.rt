@@ -4,13 +4,15 @@ use crate::event::{Event, Fragment, Label, text_ticks};
 use crate::item::{Ended, Item, Limits, Site};
 use crate::laws;
 use crate::meter::Meter;
+use crate::piece::{KeptPiece, PieceRecorder};
 use crate::place::{Claim, Place, compare_places};
 use crate::probe::{Pooled, add_up_metered, add_up_pooled, attempt, run_piece, run_whole};
 use crate::recorder::{Halt, Recorder, Tally, put_event, say_message, tick_several};
 use crate::sections::Section;
 use crate::text::TextBuf;
 use crate::total::{LocalTotal, Total};
-use crate::whole::Whole;
+use crate::whole::{Kept, Whole};
+use std::alloc::{AllocError, Global};
 use std::cmp::Ordering;
 use std::test::Fail;
 
@@ -25,36 +27,82 @@ fn texts(rt: HostRuntime) -> Result<(), Fail> {
     Ok(())
 }
 
+// The place with these numbers.
+fn place_of(alloc: Global, numbers: &[u64]) -> Result<Place, AllocError> {
+    let mut place = Place::root(alloc);
+    for number in numbers {
+        place = place.child(*number)?;
+    }
+    Ok(place)
+}
+
+// How the copy of one place compares with another.
+fn compared(alloc: Global, numbers: &[u64], others: &[u64]) -> Result<Ordering, AllocError> {
+    let place = place_of(alloc, numbers)?;
+    let other = place_of(alloc, others)?;
+    let copy = place.copy()?;
+    Ok(compare_places(&copy, &other))
+}
+
 #[test]
 fn places(rt: HostRuntime) -> Result<(), Fail> {
-    let root = Place::root(rt.alloc());
-    let place = root.child(3)?.child(1)?;
+    let place = place_of(rt.alloc(), &[3, 1])?;
     assert_eq!(rt; place.numbers(), [3, 1].as_slice());
-    assert_eq!(rt; compare_places(&root, &place), Ordering::Less);
-    assert_eq!(rt;
-        compare_places(&place.copy()?, &root.child(2)?),
-        Ordering::Greater
-    );
     crosses_threads(&Claim { worker: 0, place });
     Ok(())
 }
 
 #[test]
-fn events(rt: HostRuntime) -> Result<(), Fail> {
-    let alloc = rt.alloc();
-    let name = Label {
+fn places_in_order(rt: HostRuntime) -> Result<(), Fail> {
+    assert_eq!(rt; compared(rt.alloc(), &[], &[3, 1])?, Ordering::Less);
+    assert_eq!(rt; compared(rt.alloc(), &[3, 1], &[2])?, Ordering::Greater);
+    Ok(())
+}
+
+// A name in no namespace.
+fn label(alloc: Global) -> Result<Label, AllocError> {
+    Ok(Label {
         uri: TextBuf::of(alloc, "")?,
         local: TextBuf::of(alloc, "a")?,
         prefix: TextBuf::of(alloc, "")?,
-    };
-    let value = TextBuf::of(alloc, "1")?;
-    let attribute = Event::Attr {
+    })
+}
+
+// An attribute with the copy of a name.
+fn attribute(alloc: Global) -> Result<Event, AllocError> {
+    let name = label(alloc)?;
+    Ok(Event::Attr {
         name: name.copy()?,
-        value,
-    };
-    assert_eq!(rt; text_ticks(&attribute.copy()?), 0);
-    let mut fragment = Fragment::of(vec![in alloc; Event::Start(name), attribute]?);
+        value: TextBuf::of(alloc, "1")?,
+    })
+}
+
+// A start tag, as a fragment.
+fn start(alloc: Global) -> Result<Fragment, AllocError> {
+    let mut events = Vec::new(alloc);
+    events.push(Event::Start(label(alloc)?))?;
+    Ok(Fragment::of(events))
+}
+
+// An element with an attribute.
+fn element(alloc: Global) -> Result<Fragment, AllocError> {
+    let mut fragment = start(alloc)?;
+    fragment.push(attribute(alloc)?)?;
     fragment.push(Event::End)?;
+    Ok(fragment)
+}
+
+#[test]
+fn short_texts(rt: HostRuntime) -> Result<(), Fail> {
+    let attribute = attribute(rt.alloc())?;
+    let copy = attribute.copy()?;
+    assert_eq!(rt; text_ticks(&copy), 0);
+    Ok(())
+}
+
+#[test]
+fn events(rt: HostRuntime) -> Result<(), Fail> {
+    let fragment = element(rt.alloc())?;
     let copy = fragment.copy()?;
     assert_eq!(rt; copy.events().len(), 3);
     crosses_threads(&copy);
@@ -63,31 +111,45 @@ fn events(rt: HostRuntime) -> Result<(), Fail> {
 
 const SITE: Site = Site { module: 0, line: 7 };
 
+// Three ticks, by both calls.
+fn tick_thrice(whole: &mut Whole<u64>) -> Result<(), Halt> {
+    whole.tick(SITE)?;
+    whole.ticks(SITE, 2)
+}
+
+// How many events were captured of one.
+fn capture_one(whole: &mut Whole<u64>) -> Result<usize, Halt> {
+    whole.open_capture()?;
+    put_event(whole, SITE, Event::End)?;
+    let fragment = whole.close_capture();
+    Ok(fragment.events().len())
+}
+
+// An event and a message.
+fn show_both(alloc: Global, whole: &mut Whole<u64>) -> Result<(), Halt> {
+    put_event(whole, SITE, Event::End)?;
+    say_message(whole, SITE, TextBuf::of(alloc, "hi")?)
+}
+
+// Whether a run has three ticks, an event and a message, and ended at a second event.
+fn is_full_run(kept: &Kept) -> bool {
+    kept.items.len() == 3 && kept.ticks == 3 && matches!(&kept.ended, Ended::Full(_))
+}
+
 #[test]
 fn keeps_a_run(rt: HostRuntime) -> Result<(), Fail> {
-    let alloc = rt.alloc();
     let limits = Limits {
         ticks: 9,
         events: Some(1),
     };
-    let mut whole: Whole<u64> = Whole::new(alloc, limits);
-    whole.tick(SITE).ok().ok_or("tick")?;
-    whole.ticks(SITE, 2).ok().ok_or("ticks")?;
-    whole.open_capture().ok().ok_or("open")?;
-    put_event(&mut whole, SITE, Event::End)
-        .ok()
-        .ok_or("captured")?;
-    assert_eq!(rt; whole.close_capture().events().len(), 1);
-    put_event(&mut whole, SITE, Event::End).ok().ok_or("put")?;
-    say_message(&mut whole, SITE, TextBuf::of(alloc, "hi")?)
-        .ok()
-        .ok_or("say")?;
+    let mut whole: Whole<u64> = Whole::new(rt.alloc(), limits);
+    assert_eq!(rt; tick_thrice(&mut whole), Ok(()));
+    assert_eq!(rt; capture_one(&mut whole), Ok(1));
+    assert_eq!(rt; show_both(rt.alloc(), &mut whole), Ok(()));
     assert_eq!(rt; whole.left(), 6);
     assert_eq!(rt; whole.put(Event::End), Err(Halt::Full(SITE)));
     let kept = whole.keep(Err(Halt::Full(SITE)))?;
-    assert_eq!(rt; kept.items.len(), 3);
-    assert_eq!(rt; kept.ticks, 3);
-    assert!(rt; matches!(&kept.ended, Ended::Full(_)));
+    assert!(rt; is_full_run(&kept));
     Ok(())
 }
 
@@ -120,15 +182,25 @@ fn counts_ticks(rt: HostRuntime) -> Result<(), Fail> {
     Ok(())
 }
 
+// Whether a piece has five ticks and all that it did stands before one hole.
+fn is_whole_piece(kept: &KeptPiece<u64>) -> bool {
+    kept.sections.len() == 1
+        && matches!(kept.sections.first(), Some(Section { task: 7, .. }))
+        && kept.items.len() == 0
+        && kept.ticks == 5
+        && matches!(&kept.ended, Ended::Whole)
+}
+
+// Whether a piece ended in a total above the most, at its first addition.
+fn is_over(kept: &KeptPiece<u64>) -> bool {
+    kept.ticks == 1024 && matches!(&kept.ended, Ended::Over { total: 2524 })
+}
+
 #[test]
 fn keeps_a_piece(rt: HostRuntime) -> Result<(), Fail> {
     let total = LocalTotal::new(2000, 0);
     let (kept, total) = run_piece(rt.alloc(), total, None, SITE, 3, Event::End, Event::End, 7)?;
-    assert_eq!(rt; kept.sections.len(), 1);
-    assert!(rt; matches!(kept.sections.first(), Some(Section { task: 7, .. })));
-    assert_eq!(rt; kept.items.len(), 0);
-    assert_eq!(rt; kept.ticks, 5);
-    assert!(rt; matches!(&kept.ended, Ended::Whole));
+    assert!(rt; is_whole_piece(&kept));
     assert_eq!(rt; total.above(), None);
     Ok(())
 }
@@ -146,10 +218,19 @@ fn ends_over_a_total(rt: HostRuntime) -> Result<(), Fail> {
         Event::End,
         7,
     )?;
-    assert_eq!(rt; kept.ticks, 1024);
-    assert!(rt; matches!(&kept.ended, Ended::Over { total: 2524 }));
+    assert!(rt; is_over(&kept));
     assert_eq!(rt; total.above(), Some(2524));
     assert_eq!(rt; total.limit(), 2000);
+    Ok(())
+}
+
+#[test]
+fn adds_its_ticks(rt: HostRuntime) -> Result<(), Fail> {
+    let total = LocalTotal::new(2000, 0);
+    let mut piece: PieceRecorder<LocalTotal, u64> = PieceRecorder::new(rt.alloc(), None, total);
+    assert_eq!(rt; piece.ticks(SITE, 1025), Ok(()));
+    assert_eq!(rt; piece.due(), 1);
+    assert_eq!(rt; piece.total().above(), None);
     Ok(())
 }
 
@@ -180,7 +261,7 @@ fn attempts_a_global(rt: HostRuntime) -> Result<(), Fail> {
 }
 
 #[test]
-fn adds_up(rt: HostRuntime) -> Result<(), Fail> {
+fn adds_up_under_a_meter(rt: HostRuntime) -> Result<(), Fail> {
     let numbers = [1, 2, u64::MAX, 4];
     let mut meter = Meter {
         limit: Some(9),
@@ -192,12 +273,17 @@ fn adds_up(rt: HostRuntime) -> Result<(), Fail> {
         Err(Halt::Fault(52, SITE))
     );
     assert_eq!(rt; meter.spent, 5);
+    Ok(())
+}
+
+#[test]
+fn adds_up_with_a_pool(rt: HostRuntime) -> Result<(), Fail> {
     let mut pool = Pooled {
         free: 1,
         taken: 0,
         slots: 1,
     };
-    assert_eq!(rt; add_up_pooled(&mut pool, SITE, &numbers[..2]), Ok(3));
+    assert_eq!(rt; add_up_pooled(&mut pool, SITE, &[1, 2]), Ok(3));
     assert_eq!(rt; pool.taken, 1);
     Ok(())
 }

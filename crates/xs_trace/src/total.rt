@@ -11,6 +11,9 @@ pub trait Total {
     /// The most that the total may come to.
     ghost most: { Self → ℕ };
 
+    /// What others had added when this share was made.
+    ghost others: { Self → ℕ };
+
     /// What was added through this share.
     ghost added: { Self → ℕ };
 
@@ -30,10 +33,11 @@ pub trait Total {
         requires few { count ≤ 1024 }
         requires open { over (most self.old) (last self.old) ≡ None }
         ensures most { most self.new ≡ most self.old }
+        ensures others { others self.new ≡ others self.old }
         ensures added { added self.new ≡ added self.old + count }
         ensures last { last self.new ≡ Some result }
         ensures grows { number (last self.old) + count ≤ result }
-        ensures covers { added self.new ≤ result };
+        ensures covers { others self.new + added self.new ≤ result };
 }
 
 /// Adds ticks, and ends the run where the total is above the most.
@@ -41,6 +45,7 @@ pub fn pay<T: Total>(total: &mut T, count: u64) -> Result<(), Halt>
     requires few { count ≤ 1024 }
     requires open { over (T.most total.old) (T.last total.old) ≡ None }
     ensures most { T.most total.new ≡ T.most total.old }
+    ensures others { T.others total.new ≡ T.others total.old }
     ensures added { T.added total.new ≡ T.added total.old + count }
     ensures paid { IsPaid (T.most total.old) (T.last total.old) result (T.last total.new) }
 {
@@ -57,6 +62,7 @@ pub fn settle<T: Total>(total: &mut T, due: u64, ended: Ended) -> Ended
     requires few { due ≤ 1024 }
     requires open { IsOpen (T.most total.old) (T.last total.old) due }
     ensures most { T.most total.new ≡ T.most total.old }
+    ensures others { T.others total.new ≡ T.others total.old }
     ensures added { T.added total.new ≡ T.added total.old + due }
     ensures stays { (t : ℕ) →
         over (T.most total.old) (T.last total.old) ≡ Some t →
@@ -90,6 +96,7 @@ impl LocalTotal {
         requires most { most ≤ 2 ^ 40 }
         requires others { others ≤ 2 ^ 40 }
         ensures most { ⟦<LocalTotal as Total>⟧.most result ≡ most }
+        ensures others { ⟦<LocalTotal as Total>⟧.others result ≡ others }
         ensures added { ⟦<LocalTotal as Total>⟧.added result ≡ 0 }
         ensures last { ⟦<LocalTotal as Total>⟧.last result ≡ None }
     {
@@ -103,6 +110,8 @@ impl LocalTotal {
 
 impl Total for LocalTotal {
     ghost most = { λ t. t.most };
+
+    ghost others = { λ t. t.others };
 
     ghost added = { λ t. number t.added };
 

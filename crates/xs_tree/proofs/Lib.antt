@@ -1,10 +1,14 @@
 pub mod AddLemmas
 pub mod ClosingLemmas
+pub mod CompactionLemmas
 pub mod EndLemmas
 pub mod EntryLemmas
 pub mod NamespaceLemmas
+pub mod PlaceLemmas
 pub mod RootLemmas
 pub mod ShapeLemmas
 pub mod StoreLemmas
+pub mod StrippedEntryLemmas
+pub mod StrippingLemmas
 pub mod Utf8Lemmas
 pub mod WalkLemmas

@@ -1,5 +1,6 @@
 pub mod Axis
 pub mod Closing
+pub mod Compaction
 pub mod Growth
 pub mod Kinds
 pub mod Limits
@@ -7,6 +8,7 @@ pub mod Names
 pub mod Record
 pub mod Shape
 pub mod Store
+pub mod Stripping
 pub mod Utf8
 pub mod View
 pub mod Walk

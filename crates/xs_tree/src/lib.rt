@@ -3,6 +3,7 @@
 
 mod axes;
 mod closing;
+mod compaction;
 mod entries;
 mod kinds;
 mod names;

@@ -20,6 +20,27 @@ const ROWS: [Row; 5] = [
     (Kind::Comment, "", "not this", 1),
 ];
 
+// `<a> <b>x</b> <!--c--> <d/> </a>`, with white space before and behind each child of the element.
+const SPACED: [Row; 9] = [
+    (Kind::Element, "a", "", 0),
+    (Kind::Text, "", " ", 1),
+    (Kind::Element, "b", "", 1),
+    (Kind::Text, "", "x", 3),
+    (Kind::Text, "", " ", 1),
+    (Kind::Comment, "", "c", 1),
+    (Kind::Text, "", " ", 1),
+    (Kind::Element, "d", "", 1),
+    (Kind::Text, "", " ", 1),
+];
+
+// Marks of the white space, and of the comment, which stays.
+const MARKS: [bool; 10] = [
+    false, false, true, false, false, true, true, true, false, true,
+];
+
+// A line for each node.
+const LINES: [u32; 10] = [1, 1, 1, 2, 2, 2, 3, 3, 4, 4];
+
 // A name in no namespace.
 fn local_name(alloc: Global, local: &str) -> Result<Name, AllocError> {
     Ok(Name {
@@ -120,6 +141,28 @@ fn is_added_again(alloc: Global, tree: &mut Tree, like: Node, parent: Node) -> R
     Ok(tree.text(again) == "urn:p")
 }
 
+// Whether the white space is gone, and the other nodes are as they were.
+fn is_stripped(tree: &Tree) -> bool {
+    if tree.len() != 6 {
+        return false;
+    }
+    tree.local(Node::at(2)) == "b"
+        && tree.text(Node::at(3)) == "x"
+        && tree.parent(Node::at(3)) == Some(Node::at(2))
+        && tree.text(Node::at(4)) == "c"
+        && tree.parent(Node::at(5)) == Some(Node::at(1))
+}
+
+// Whether subtrees end where the nodes that stay end, and the last node is open.
+fn has_ends(tree: &Tree) -> bool {
+    if tree.len() != 6 {
+        return false;
+    }
+    tree.subtree_end(Node::at(1)) == 6
+        && tree.subtree_end(Node::at(2)) == 4
+        && tree.can_add(Kind::Text, &None, "y", Node::at(5))
+}
+
 #[test]
 fn root_alone(rt: HostRuntime) -> Result<(), Fail> {
     let tree = Tree::new(rt.alloc())?;
@@ -186,5 +229,35 @@ fn namespace_node_again(rt: HostRuntime) -> Result<(), Fail> {
 #[test]
 fn entries_are_small(rt: HostRuntime) -> Result<(), Fail> {
     assert_eq!(rt; size_of::<Entry>(), 32);
+    Ok(())
+}
+
+#[test]
+fn white_space_stripped(rt: HostRuntime) -> Result<(), Fail> {
+    let mut tree = small_tree(rt.alloc(), &SPACED)?;
+    tree.strip(&MARKS)?;
+    assert!(rt; is_stripped(&tree));
+    assert!(rt; has_ends(&tree));
+    Ok(())
+}
+
+#[test]
+fn nodes_behind_the_marks_stay(rt: HostRuntime) -> Result<(), Fail> {
+    let mut tree = small_tree(rt.alloc(), &SPACED)?;
+    tree.strip(&[true, true, true])?;
+    assert_eq!(rt; tree.len(), 9);
+    Ok(())
+}
+
+#[test]
+fn lines_stripped(rt: HostRuntime) -> Result<(), Fail> {
+    let tree = small_tree(rt.alloc(), &SPACED)?;
+    let mut lines = Vec::new(rt.alloc());
+    lines.extend_from_slice(&LINES)?;
+    if lines.len() != tree.len() {
+        return Err(Fail::new("each node has a line"));
+    }
+    tree.strip_numbers(&MARKS, &mut lines)?;
+    assert_eq!(rt; lines.as_slice(), [1, 1, 2, 2, 3, 4].as_slice());
     Ok(())
 }

@@ -12,6 +12,7 @@ mod documents;
 mod namespace_nodes;
 mod readers;
 mod string_value;
+mod stripping;
 mod text_nodes;
 mod walks;
 

@@ -14,7 +14,7 @@ use std::marker::Model;
 
 impl Tree {
     // Whether a node is a text node.
-    fn is_text(&self, node: Node) -> bool
+    pub(super) fn is_text(&self, node: Node) -> bool
         requires { node < length self.now }
         ensures { result ≡ is_text_kind (at self.now node).kind }
     {

@@ -1,7 +1,8 @@
 use Rattle.std.proofs.Common.{rules}
 use Rattle.xs_pyx.specs.Views.{line_shown}
 use Rattle.xs_pyx.proofs.RowLemmas.{rows_first}
-use Rattle.xs_pyx.proofs.LineLemmas.{finds-line, view_finds}
+use Rattle.xs_pyx.proofs.LineLemmas.{finds-line}
+use Rattle.xs_pyx.proofs.ViewLemmas.{view_finds}
 use Rattle.xs_pyx.proofs.read.view_line.Goals as goal
 
 pub returns-in_err-view-clause-rows : goal.returns-in_err-view-clause-rows

@@ -1,0 +1,5 @@
+use Rattle.xs_tree.proofs.StrippedEntryLemmas.{ArePlacesBefore}
+use Rattle.xs_tree.proofs.trees.Tree.new_places.Given as goal
+
+abbrev pub invariant-loop-place : goal.invariant-loop-place
+invariant-loop-place l = ArePlacesBefore l.marked l.self l.places.items l.next l.place

@@ -1,0 +1,90 @@
+//! Stripping text nodes.
+
+ghost use Rattle.std.specs.Prelude.{◌≡◌, ◌+◌, ◌<◌, ◌≤◌, IfOk, OnErr, OnOk};
+ghost use Rattle.std.specs.Prelude.{false, get_or, length, map};
+ghost use Rattle.std.specs.List.{range_with_len};
+ghost use Rattle.xs_tree.specs.Limits.{most_nodes};
+ghost use Rattle.xs_tree.specs.Stripping.{new_place, numbers_without, stays, without};
+
+use super::Tree;
+use crate::compaction::{compact_entries, compact_numbers};
+use crate::nodes::Node;
+use std::alloc::AllocError;
+
+impl Tree {
+    /// Removes the marked text nodes, in time linear in the tree (XSLT 1.0, 3.4).
+    ///
+    /// The nodes that stay are moved together in place, and their parents are renumbered. Other
+    /// nodes stay even where they are marked.
+    pub fn strip(&mut self, marked: &[bool]) -> Result<(), AllocError>
+        ensures stripped { OnOk result (self.new ≡ without marked.now self.old) }
+        ensures refused { OnErr result (self.new ≡ self.old) }
+    {
+        let places = self.new_places(marked)?;
+        compact_entries(&mut self.nodes, &places);
+        Ok(())
+    }
+
+    /// Leaves out of a list with a number for each node, as its line, those of the nodes that
+    /// `strip` removes.
+    pub fn strip_numbers(&self, marked: &[bool], numbers: &mut Vec<u32>) -> Result<(), AllocError>
+        requires each { length numbers.old.items ≡ length self.now }
+        ensures stripped { OnOk result
+            (numbers.new.items ≡ numbers_without marked.now self.now numbers.old.items) }
+        ensures refused { OnErr result (numbers.new.items ≡ numbers.old.items) }
+    {
+        let places = self.new_places(marked)?;
+        compact_numbers(numbers, &places);
+        Ok(())
+    }
+
+    // The new places of all nodes, and after them the number of nodes that stay.
+    fn new_places(&self, marked: &[bool]) -> Result<Vec<u32>, AllocError>
+        ensures places { IfOk result (λ places. places.items
+            ≡ map (new_place marked.now self.now) (range_with_len 0 (length self.now + 1))) }
+    {
+        let mut places = Vec::new(*self.nodes.allocator());
+        let mut next = 0;
+        for place in 0..self.len() as u32 {
+            places.push(next)?;
+            next = self.place_after(marked, Node::at(place), next);
+        }
+        places.push(next)?;
+        Ok(places)
+    }
+
+    // The new place of what follows a node that has a new place itself.
+    fn place_after(&self, marked: &[bool], node: Node, place: u32) -> u32
+        requires within { node < length self.now }
+        requires place { place ≡ new_place marked.now self.now node }
+        requires few { place ≤ node }
+        requires small { node < most_nodes }
+        ensures next { result ≡ new_place marked.now self.now (node + 1) }
+        ensures few { result ≤ node + 1 }
+    {
+        if self.stays(marked, node) {
+            place + 1
+        } else {
+            place
+        }
+    }
+
+    // Whether a node stays: whether it is not marked, or no text node.
+    fn stays(&self, marked: &[bool], node: Node) -> bool
+        requires { node < length self.now }
+        ensures { result ≡ stays marked.now self.now node }
+    {
+        !(is_marked(marked, node.place() as usize) && self.is_text(node))
+    }
+}
+
+// Whether a place is marked, which none is behind the last mark.
+fn is_marked(marked: &[bool], place: usize) -> bool
+    ensures { result ≡ get_or marked.now place false }
+{
+    if place < marked.len() {
+        marked[place]
+    } else {
+        false
+    }
+}
