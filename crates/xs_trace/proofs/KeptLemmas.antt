@@ -6,7 +6,7 @@ use Rattle.xs_trace.specs.State.{State, alone, allows, said, shown, passed, IsAb
 use Rattle.xs_trace.specs.Cut.{End, Whole, Fault, Needs, Spent, Full, Cut, cut, nowhere}
 use Rattle.xs_trace.specs.Play.{Step, Goes, Ends, Told, stops, and_then, ticked, put, put_in, play, told_of, left_of, end_of, number, IsStep}
 use Rattle.xs_trace.specs.PlayLaws.{TellsCut, begin}
-use Rattle.xs_trace.specs.Kept.{marks_of, IsPacked, ended_by, IsEnded, NeedsNone, Keeps}
+use Rattle.xs_trace.specs.Kept.{marks_of, IsPacked, ended_by, IsEnded, Keeps}
 use Rattle.xs_trace.specs.Keeping.{IsCutAt, IsCutOf, ToldIsCut, NeedComesFromNeed}
 use Rattle.xs_trace.specs.declared.event.Event.{Event}
 use Rattle.xs_trace.specs.declared.item.Site.{Site}

@@ -1,12 +1,12 @@
 -- The law of meters.
-use Rattle.std.proofs.Common.{◌≡◌, ℕ, zero, suc, ◌+◌, ◌-◌, ◌≤◌, Option, Some, None, Result, Ok, Err, Bool, true, false, cond, nat_le, refl, sym, ap, ◌∙◌, arith}
+use Rattle.std.proofs.Common.{◌≡◌, ℕ, ◌+◌, ◌-◌, ◌≤◌, Option, Some, None, Result, Ok, Err, Bool, true, false, cond, nat_le, refl, sym, ap, ◌∙◌, arith}
 use Rattle.std.proofs.lemmas.Bool.{true≢false}
 use Rattle.std.proofs.lemmas.Bool.Decides.{nat_tests}
-use Rattle.xs_trace.specs.Cut.{End, Whole, Fault, Needs, Spent, Full, less, Allows}
+use Rattle.xs_trace.specs.Cut.{Whole, Fault, Needs, Spent, Full, less, Allows}
 use Rattle.xs_trace.specs.State.{State, allows, alone, after_ticks}
 use Rattle.xs_trace.specs.Play.{Step, Goes, Ends, goes, and_then, number, left_of, IsStepBy}
 use Rattle.xs_trace.specs.Run.{Answer, Gives, Faults, Lacks, answered}
-use Rattle.xs_trace.specs.Meter.{metered, stock, Stock, spends, IsMetered, MeterLaw}
+use Rattle.xs_trace.specs.Meter.{metered, stock, spends, IsMetered, MeterLaw}
 use Rattle.xs_trace.specs.declared.item.Site.{Site}
 use Rattle.xs_trace.specs.declared.meter.Meter.{Meter}
 use Rattle.xs_trace.specs.declared.recorder.Halt.{Halt}

@@ -1,9 +1,9 @@
 -- Lemmas of the small evaluation.
 use Rattle.std.proofs.Common.{◌≡◌, ℕ, ◌+◌, ◌/◌, length, List, [], ◌∷◌, Option, Some, None, Result, Ok, Err, IfOk, refl, sym, ap, subst, ◌∙◌}
 use Rattle.xs_trace.specs.Event.{text_of}
-use Rattle.xs_trace.specs.Mark.{Tick, Put, Hole, Trace, ◌⨾◌, NeedsNothing, ticks, captured}
-use Rattle.xs_trace.specs.State.{State, shown, opened, popped, top}
-use Rattle.xs_trace.specs.Play.{Goes, goes, and_then, ticked, ticked_by, put, put_at, play, IsStep}
+use Rattle.xs_trace.specs.Mark.{Tick, Put, Hole, Trace, NeedsNothing, ticks, captured}
+use Rattle.xs_trace.specs.State.{State, opened, popped, top}
+use Rattle.xs_trace.specs.Play.{goes, and_then, ticked, ticked_by, put, put_at, play, IsStep}
 use Rattle.xs_trace.specs.Probe.{tiny, replayed, hole_for, hole_steps, replay_steps, content_steps, taken_steps, tiny_steps}
 use Rattle.xs_trace.specs.declared.event.Event.{Event}
 use Rattle.xs_trace.specs.declared.event.Event.TheVariants.{End}

@@ -5,7 +5,7 @@ use Rattle.xs_trace.specs.Mark.{Tick, Trace, ticks}
 use Rattle.xs_trace.specs.Cut.{Fault, Needs}
 use Rattle.xs_trace.specs.State.{State}
 use Rattle.xs_trace.specs.Play.{goes, and_then, ticked, ticked_by, play}
-use Rattle.xs_trace.specs.Run.{Answer, Gives, Faults, Lacks, Run, costs, give, tick, go_on, fold, FoldLaws, ◌>>=◌, answered, limited, on_answer}
+use Rattle.xs_trace.specs.Run.{Answer, Gives, Faults, Lacks, Run, costs, tick, go_on, fold, FoldLaws, ◌>>=◌, answered, limited, on_answer}
 use Rattle.xs_trace.specs.Run.{evaluated, LimitedLaws}
 use Rattle.xs_trace.specs.declared.item.Site.{Site}
 use Rattle.xs_trace.proofs.GrowthLemmas.{goes-grows, stops-grow, grows-then, by-grows, Grows}

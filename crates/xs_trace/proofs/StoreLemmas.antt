@@ -1,11 +1,11 @@
 -- Items that are added to a store, and the marks that they stand for.
-use Rattle.std.proofs.Common.{◌≡◌, ℕ, zero, suc, ◌+◌, ◌<◌, List, [], ◌∷◌, ◌++◌, Option, Some, None, Bool, true, false, ◌&&◌, nat_eq, cond, refl, sym}
+use Rattle.std.proofs.Common.{◌≡◌, ℕ, zero, suc, ◌+◌, List, [], ◌∷◌, ◌++◌, Option, Some, None, Bool, true, false, ◌&&◌, nat_eq, cond, refl, sym}
 use Rattle.std.proofs.Common.{ap, subst, ◌∙◌, append_assoc, append-nil, arith}
 use Rattle.std.proofs.lemmas.Bool.{true≢false}
 use Rattle.std.proofs.lemmas.Bool.Decides.{nat_tests}
-use Rattle.xs_trace.specs.Mark.{Tick, Trace, ticks, tick_count}
+use Rattle.xs_trace.specs.Mark.{Tick, Trace, ticks}
 use Rattle.xs_trace.specs.Kept.{item_marks, marks_of, first_run, IsPacked}
-use Rattle.xs_trace.specs.State.{State, Shared, alone, allows}
+use Rattle.xs_trace.specs.State.{Shared, allows}
 use Rattle.xs_trace.specs.Cut.{Full, less}
 use Rattle.xs_trace.specs.Play.{Told, goes, stops, put, put_in}
 use Rattle.xs_trace.specs.Store.{Store, IsSingle, at_ticks, counted, marked, is_open, put_into, limited_to, pending, TakesRun}

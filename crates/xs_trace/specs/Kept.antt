@@ -2,7 +2,6 @@
 use Rattle.std.specs.Prelude.{◌≡◌, ◌<◌, ℕ, List, [], ◌∷◌, ◌++◌, Option, Some, None, Result, Ok, Err}
 use Rattle.xs_trace.specs.Mark.{Put, Say, Trace, ticks, tick_count}
 use Rattle.xs_trace.specs.Cut.{End, Whole, Fault, Needs, Spent, Full, Cut}
-use Rattle.xs_trace.specs.declared.event.Event.{Event}
 use Rattle.xs_trace.specs.declared.item.Item.{Item}
 use Rattle.xs_trace.specs.declared.item.Item.TheVariants as item
 use Rattle.xs_trace.specs.declared.item.Site.{Site}

@@ -1,7 +1,7 @@
 -- Meters as tallies.
-use Rattle.std.specs.Prelude.{◌≡◌, ℕ, ◌+◌, ◌-◌, ◌≤◌, [], Option, Some, None, Result, Ok, Err}
+use Rattle.std.specs.Prelude.{◌≡◌, ℕ, ◌+◌, [], Option, Some, None, Result, Ok, Err}
 use Rattle.xs_trace.specs.State.{State, alone}
-use Rattle.xs_trace.specs.Play.{Step, Ends, number, IsStepBy, raised}
+use Rattle.xs_trace.specs.Play.{number, IsStepBy}
 use Rattle.xs_trace.specs.Run.{Run, Gives, Faults, Lacks, limited}
 use Rattle.xs_trace.specs.Cut.{less, Allows}
 use Rattle.xs_trace.specs.declared.item.Site.{Site}

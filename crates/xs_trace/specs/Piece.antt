@@ -1,18 +1,13 @@
 -- A piece of a run, with holes, that adds its ticks to a shared total.
-use Rattle.std.specs.Prelude.{◌≡◌, ℕ, ◌+◌, ◌-◌, ◌*◌, ◌<◌, nat_lt, List, [], ◌∷◌, ◌++◌, Option, Some, None, Result, Ok, Err, if◌then◌else◌}
-use Rattle.xs_trace.specs.Mark.{Hole, Trace, tick_count}
+use Rattle.std.specs.Prelude.{◌≡◌, ℕ, ◌+◌, ◌*◌, ◌<◌, [], ◌++◌, Option, Some, None, Result}
+use Rattle.xs_trace.specs.Mark.{Trace, tick_count}
 use Rattle.xs_trace.specs.Cut.{Cut, cut}
 use Rattle.xs_trace.specs.State.{State, Shared}
 use Rattle.xs_trace.specs.Play.{IsStep, play}
-use Rattle.xs_trace.specs.PlayLaws.{begin}
 use Rattle.xs_trace.specs.Kept.{marks_of, IsPacked, ended_by}
-use Rattle.xs_trace.specs.Store.{Store}
-use Rattle.xs_trace.specs.declared.item.Ended.{Ended}
 use Rattle.xs_trace.specs.declared.item.Ended.TheVariants as ended
 use Rattle.xs_trace.specs.declared.item.Limits.{Limits}
 use Rattle.xs_trace.specs.declared.recorder.Halt.{Halt}
-use Rattle.xs_trace.specs.declared.recorder.Halt.TheVariants as halt
-use Rattle.xs_trace.specs.declared.sections.Section.{Section}
 use Rattle.xs_trace.specs.declared.piece.KeptPiece.{KeptPiece}
 use Rattle.xs_trace.specs.Sections.{section_marks, ArePacked}
 use Rattle.xs_trace.specs.Total.{over}

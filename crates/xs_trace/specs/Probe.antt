@@ -2,7 +2,7 @@
 use Rattle.std.specs.Prelude.{◌≡◌, ℕ, ◌+◌, ◌-◌, ◌^◌, ◌/◌, nat_lt, length, List, [], ◌∷◌, Option, Some, None, Result, if◌then◌else◌}
 use Rattle.xs_trace.specs.Event.{text_of}
 use Rattle.xs_trace.specs.Mark.{Tick, Put, Need, Hole, Trace, ◌⨾◌, ticks, tick_count, captured}
-use Rattle.xs_trace.specs.Cut.{Cut, cut}
+use Rattle.xs_trace.specs.Cut.{cut}
 use Rattle.xs_trace.specs.State.{State, alone, opened, popped, top, shown}
 use Rattle.xs_trace.specs.Play.{Told, goes, and_then, ticked, ticked_by, put_at, put}
 use Rattle.xs_trace.specs.Run.{Run, tick, give, fail}

@@ -1,5 +1,5 @@
 -- What was told between holes.
-use Rattle.std.specs.Prelude.{◌≡◌, ℕ, List, [], ◌∷◌, ◌++◌}
+use Rattle.std.specs.Prelude.{List, [], ◌∷◌, ◌++◌}
 use Rattle.xs_trace.specs.Mark.{Hole, Trace}
 use Rattle.xs_trace.specs.Kept.{marks_of, IsPacked}
 use Rattle.xs_trace.specs.Store.{Store}

@@ -1,9 +1,9 @@
 -- What a store of marks holds, whatever limits there are.
-use Rattle.std.specs.Prelude.{◌≡◌, ℕ, zero, suc, List, [], ◌∷◌, ◌++◌, Option, Some, Bool, true, false}
-use Rattle.xs_trace.specs.Mark.{Mark, Put, Trace, ticks}
+use Rattle.std.specs.Prelude.{ℕ, zero, suc, List, [], ◌∷◌, ◌++◌, Option, Some, Bool, true, false}
+use Rattle.xs_trace.specs.Mark.{Put, Trace, ticks}
 use Rattle.xs_trace.specs.Cut.{nowhere}
 use Rattle.xs_trace.specs.Kept.{IsPacked}
-use Rattle.xs_trace.specs.State.{State, Shared, below}
+use Rattle.xs_trace.specs.State.{State, Shared}
 use Rattle.xs_trace.specs.declared.event.Event.{Event}
 use Rattle.xs_trace.specs.declared.item.Item.{Item}
 use Rattle.xs_trace.specs.declared.item.Item.TheVariants as item

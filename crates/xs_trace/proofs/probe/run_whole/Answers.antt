@@ -1,4 +1,4 @@
-use Rattle.std.proofs.Common.{None, ap, ◌∙◌}
+use Rattle.std.proofs.Common.{None, ◌∙◌}
 use Rattle.xs_trace.specs.State.{alone}
 use Rattle.xs_trace.specs.Store.{limited_to}
 use Rattle.xs_trace.specs.Probe.{tiny}

@@ -1,4 +1,4 @@
-use Rattle.std.proofs.Common.{refl, sym, ap, ◌∙◌, ◌+◌, ◌-◌, arith, rules}
+use Rattle.std.proofs.Common.{refl, ap, ◌∙◌, ◌+◌, ◌-◌, arith}
 use Rattle.std.proofs.lemmas.Result.{err_from_is_err_and}
 use Rattle.xs_trace.specs.Play.{and_then, ticked_by}
 use Rattle.xs_trace.proofs.GrowthLemmas.{passes, by-grows}

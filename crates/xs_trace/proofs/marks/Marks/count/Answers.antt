@@ -1,5 +1,5 @@
-use Rattle.std.proofs.Common.{subst, sym, ◌++◌}
-use Rattle.xs_trace.specs.Store.{pending, TakesRun}
+use Rattle.std.proofs.Common.{subst, sym}
+use Rattle.xs_trace.specs.Store.{TakesRun}
 use Rattle.xs_trace.proofs.StoreLemmas.{takes-sum, takes-next, count-same, count-other, same-site, other-site}
 use Rattle.xs_trace.proofs.marks.Marks.count.Goals as goal
 
