@@ -48,7 +48,7 @@ pub(crate) fn text_in(alloc: Global, fragment: &Fragment) -> Result<TextBuf, All
     for event in fragment.events() {
         text.push_str(own_chars(event))?;
     }
-    Ok(TextBuf::from_string(text))
+    TextBuf::from_string(text)
 }
 
 // The text that an event puts.
@@ -69,7 +69,7 @@ fn string_of(alloc: Global, tree: &Tree, node: Node) -> Result<TextBuf, AllocErr
     let mut bytes = Vec::new(alloc);
     tree.string_value_into(node, &mut bytes)?;
     match String::from_utf8(bytes) {
-        Ok(text) => Ok(TextBuf::from_string(text)),
+        Ok(text) => TextBuf::from_string(text),
         Err(_) => unreachable!(),
     }
 }

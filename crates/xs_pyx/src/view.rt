@@ -89,7 +89,7 @@ fn escaped_text(alloc: Global, written: &str) -> Result<TextBuf, AllocError>
         Err(TextFault::BadEscape) => unreachable!(),
     }
     match String::from_utf8(read) {
-        Ok(text) => Ok(TextBuf::from_string(text)),
+        Ok(text) => TextBuf::from_string(text),
         Err(_) => unreachable!(),
     }
 }

@@ -1,4 +1,5 @@
 pub mod Event
+pub mod Text
 pub mod Mark
 pub mod Cut
 pub mod Laws

@@ -2,6 +2,7 @@
 
 use crate::event::Event;
 use crate::text::TextBuf;
+use std::mem::size_of;
 
 /// Where an instruction stands: the number of its module, and its line there.
 #[derive(Clone, Copy, PartialEq, Eq, Debug)]
@@ -28,6 +29,9 @@ pub enum Item {
     /// A message for the user.
     Say(TextBuf),
 }
+
+// A loop keeps two items for each of its nodes, so what a large run keeps is what these take.
+const _: () = prove!(size_of::<Item>() <= 48);
 
 /// How a run ended.
 #[derive(Clone, Copy, Debug)]
