@@ -12,8 +12,6 @@ pub mod place;
 pub mod probe;
 pub mod recorder;
 pub mod sections;
-#[cfg(test)]
-mod tests;
 pub mod text;
 pub mod total;
 pub mod whole;

@@ -1,20 +1,20 @@
 //! Each public call once.
 
-use crate::event::{Event, Fragment, Label, text_ticks};
-use crate::item::{Ended, Item, Limits, Site};
-use crate::laws;
-use crate::meter::Meter;
-use crate::piece::{KeptPiece, PieceRecorder};
-use crate::place::{Claim, Place, compare_places};
-use crate::probe::{Pooled, add_up_metered, add_up_pooled, attempt, run_piece, run_whole};
-use crate::recorder::{Halt, Recorder, Tally, put_event, say_message, tick_several};
-use crate::sections::Section;
-use crate::text::TextBuf;
-use crate::total::{LocalTotal, Total};
-use crate::whole::{Kept, Whole};
 use std::alloc::{AllocError, Global};
 use std::cmp::Ordering;
 use std::test::Fail;
+use xs_trace::event::{Event, Fragment, Label, text_ticks};
+use xs_trace::item::{Ended, Item, Limits, Site};
+use xs_trace::laws;
+use xs_trace::meter::Meter;
+use xs_trace::piece::{KeptPiece, PieceRecorder};
+use xs_trace::place::{Claim, Place, compare_places};
+use xs_trace::probe::{Pooled, add_up_metered, add_up_pooled, attempt, run_piece, run_whole};
+use xs_trace::recorder::{Halt, Recorder, Tally, put_event, say_message, tick_several};
+use xs_trace::sections::Section;
+use xs_trace::text::TextBuf;
+use xs_trace::total::{LocalTotal, Total};
+use xs_trace::whole::{Kept, Whole};
 
 fn crosses_threads<T: Send + Sync>(_value: &T) {}
 
@@ -24,6 +24,17 @@ fn texts(rt: HostRuntime) -> Result<(), Fail> {
     let copy = text.copy()?;
     assert_eq!(rt; copy.as_str(), "pi");
     crosses_threads(&copy);
+    Ok(())
+}
+
+// A text with no room in its block.
+const LONG: &str = "the whole of this text is longer than thirty-two bytes";
+
+#[test]
+fn long_texts(rt: HostRuntime) -> Result<(), Fail> {
+    let text = TextBuf::from_string(String::from_str(rt.alloc(), LONG)?)?;
+    let copy = text.copy()?;
+    assert_eq!(rt; copy.as_str(), LONG);
     Ok(())
 }
 
