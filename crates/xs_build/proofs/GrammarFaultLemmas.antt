@@ -1,7 +1,7 @@
 -- Lines that are by the grammar have none of the faults that it speaks of.
 use Rattle.std.proofs.Common.{◌≡◌, ℕ, ◌+◌, ◌-◌, List, [], ◌∷◌, ◌++◌, Option, None, Some, Bool, true, false, refl, sym, ◌∙◌, ap, subst, length}
 use Rattle.std.specs.Prelude.{not, ◌&&◌, ◌||◌, ◌==◌, nat_le, if◌then◌else◌}
-use Rattle.std.specs.List.{list_all, list_any}
+use Rattle.std.specs.List.{list_any}
 use Rattle.std.specs.Str.{bytes_eq}
 use Rattle.std.proofs.lemmas.Slice.Eq.{bytes_eq-Decides}
 use Rattle.xs_text.specs.WhiteSpace.{is_blank}
@@ -28,7 +28,7 @@ use Rattle.xs_build.specs.steps.Lines.{attribute_step, outer_text_step, inner_te
 use Rattle.xs_build.specs.steps.Lines.{put_before, and_then, at_end, meaning}
 use Rattle.xs_build.proofs.GrammarLemmas.{AreSaid}
 use Rattle.xs_build.proofs.ReadingLemmas.{row_says}
-use Rattle.xs_build.proofs.StepsAgree.{agreement}
+use Rattle.xs_build.proofs.StepAgreementLemmas.{agreement}
 
 -- a tree, or a fault that the grammar does not speak of
 abbrev Fair : Outcome → Type 0

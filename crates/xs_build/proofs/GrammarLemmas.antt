@@ -1,7 +1,7 @@
 -- The lines of a document that is not refused are by the grammar.
 use Rattle.std.proofs.Common.{◌≡◌, ℕ, ◌+◌, ◌-◌, List, [], ◌∷◌, ◌++◌, Option, None, Some, Bool, true, false, refl, sym, ◌∙◌, ap, subst, length, map}
 use Rattle.std.specs.Prelude.{not, ◌&&◌, ◌||◌, ◌==◌, nat_le, if◌then◌else◌}
-use Rattle.std.specs.List.{list_all, list_any}
+use Rattle.std.specs.List.{list_any}
 use Rattle.std.specs.Str.{bytes_eq}
 use Rattle.std.proofs.lemmas.Slice.Eq.{bytes_eq-Decides}
 use Rattle.xs_text.specs.WhiteSpace.{is_blank}
@@ -27,7 +27,7 @@ use Rattle.xs_build.specs.steps.Lines.{declaration_name, with_element, named_sta
 use Rattle.xs_build.specs.steps.Lines.{attribute_step, outer_text_step, inner_text_step, text_step, close, end_step, instruction_step, comment_step, line_step}
 use Rattle.xs_build.specs.steps.Lines.{row_step, put_before, and_then, meaning}
 use Rattle.xs_build.proofs.ReadingLemmas.{row_says, row_faulty}
-use Rattle.xs_build.proofs.StepsAgree.{agreement}
+use Rattle.xs_build.proofs.StepAgreementLemmas.{agreement}
 
 -- what the lines from a place on are, where these elements are open and no attribute may follow
 abbrev pub Closes : List Opened → List Line → Type 0

@@ -1,11 +1,12 @@
 pub mod BindingLemmas
-pub mod ContextAgrees
+pub mod ContextAgreementLemmas
 pub mod DeclarationLemmas
 pub mod ElementLemmas
 pub mod GrammarFaultLemmas
 pub mod GrammarLemmas
 pub mod InvariantLemmas
-pub mod LineAgrees
+pub mod LineAgreementLemmas
+pub mod NameLemmas
 pub mod NamespaceNodeLemmas
 pub mod NodeRunLemmas
 pub mod OpenElementLemmas
@@ -13,6 +14,6 @@ pub mod ReadingLemmas
 pub mod ResolvingLemmas
 pub mod RestLemmas
 pub mod RestStepLemmas
-pub mod StepsAgree
+pub mod StepAgreementLemmas
 pub mod TextLemmas
-pub mod wellformed
+pub mod WellFormedLemmas

@@ -17,7 +17,7 @@ use Rattle.xs_build.specs.DocumentTree.{may_be_bound}
 use Rattle.xs_build.specs.LineContext.{Nesting, starts, ends, neither, nesting, going_back, scope_in}
 use Rattle.xs_build.specs.Namespaces.{Binding, Bindings, is_empty, uri_in, bound, scope_with}
 use Rattle.xs_build.specs.Start.{declarations}
-use Rattle.xs_build.proofs.wellformed.ScopeLemmas.{IsAllowed, IsScope, Rising, same_at, scope_kept, outermost_scope, declarations_allowed}
+use Rattle.xs_build.proofs.WellFormedLemmas.ScopeLemmas.{IsAllowed, IsScope, Rising, same_at, scope_kept, outermost_scope, declarations_allowed}
 
 -- the order of texts and their bytes
 self_equal : (o : Ordering) → o ≡ ordering_reverse o → is_eq o ≡ true

@@ -20,7 +20,7 @@ use Rattle.xs_build.specs.steps.Rest.{left, concluded, fault_at, Goes}
 use Rattle.xs_build.specs.steps.Invariant.{IsGood}
 use Rattle.xs_build.specs.Results.{Builds}
 use Rattle.xs_build.specs.steps.State.{State, stops, goes, initial, context, stepped, next_line, Steps}
-use Rattle.xs_build.proofs.StepsAgree.{agreement}
+use Rattle.xs_build.proofs.StepAgreementLemmas.{agreement}
 use Rattle.xs_build.proofs.DeclarationLemmas.{attribute_first}
 use Rattle.xs_build.proofs.InvariantLemmas.{GoodNext, good_line, good_next}
 use Rattle.xs_build.proofs.RestStepLemmas.{after, after_line, after_bad, after_all, from_start}

@@ -1,7 +1,6 @@
 -- A document as a grammar over what its lines say (XML 1.0, 2.1, 2.8, 3 and 3.1). Each rule speaks of the lines from a place on, and
 -- of the rest of them, behind what the rule names.
 use Rattle.std.specs.Prelude.{◌≡◌, ℕ, List, [], ◌∷◌, true}
-use Rattle.std.specs.List.{list_all}
 use Rattle.xs_text.specs.WhiteSpace.{is_blank}
 use Rattle.xs_pyx.specs.declared.line.Line.{Line}
 use Rattle.xs_pyx.specs.declared.line.Line.TheVariants.{Start, Attr, Chars, End, Pi, Comment}

@@ -1,7 +1,7 @@
 -- What a line gives to the tree, and which faults it has, by what is around it.
 use Rattle.std.specs.Prelude.{ℕ, List, [], ◌∷◌, ◌++◌, Bool, true, false, not, ◌&&◌, ◌==◌, nat_le, Option, None, Some, if◌then◌else◌, is_none, is_some}
 use Rattle.std.specs.Prelude.{option_and_then}
-use Rattle.std.specs.List.{list_all, list_any}
+use Rattle.std.specs.List.{list_any}
 use Rattle.std.specs.Option.{option_map_or}
 use Rattle.std.specs.Str.{bytes_eq}
 use Rattle.xs_text.specs.WhiteSpace.{is_blank}

@@ -2,6 +2,7 @@
 -- but that of the law that the lines step by step stand for what Document says.
 pub mod Invariant
 pub mod Lines
+pub mod Names
 pub mod Rest
 pub mod State
 pub mod Views

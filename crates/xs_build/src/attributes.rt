@@ -1,21 +1,25 @@
 //! Lines that are attributes and declarations.
 
-ghost use Rattle.std.specs.Prelude.{◌≡◌, ◌<◌, true, length, reverse, IfOk, OnOk};
+ghost use Rattle.std.specs.Prelude.{◌≡◌, ◌<◌, [], true, length, reverse, IfOk, OnOk};
 ghost use Rattle.xs_build.specs.steps.Lines.{named_step, scope_of, attribute_step};
 ghost use Rattle.xs_build.specs.steps.Lines.{declaration_step, plain_step, written_step};
 ghost use Rattle.xs_build.specs.steps.Lines.{declaration_name, expanded};
 ghost use Rattle.xs_build.specs.Namespaces.{attribute_name, declared_prefix};
 ghost use Rattle.xs_build.specs.steps.Invariant.{IsGood};
+ghost use Rattle.xs_build.specs.steps.Names.{IsNamed, NamesAttribute, full_name};
 ghost use Rattle.xs_build.specs.steps.State.{state, context, taken, Steps};
 
 use crate::builder::Builder;
 use crate::fault::{
     BAD_LINE, BAD_NAME, BAD_NAMESPACE, BuildFault, DOUBLE_ATTRIBUTE, TOO_LARGE, UNBOUND_PREFIX,
 };
+use crate::known::NodeName;
 use crate::nodes::put_attribute;
 use crate::qnames::{XMLNS_URI, declared_prefix, is_bad_binding};
+use crate::scope::Scope;
+use indexmap::IndexSet;
 use std::alloc::{AllocError, Global};
-use xs_tree::{MOST_NODES, Name, NameText};
+use xs_tree::{MOST_NODES, Name, NameText, Tree};
 
 /// A namespace URI, empty for none, and a local part (Namespaces in XML 1.0, 2.1).
 #[derive(Drop, Debug, PartialEq, Eq, Hash)]
@@ -26,7 +30,7 @@ pub struct Expanded {
     pub local: NameText,
 }
 
-impl Builder {
+impl<'a> Builder<'a> {
     /// Takes an attribute or a declaration.
     #[tactic(auto, unfolding(crate::specs::steps::Lines::attribute_step))]
     pub fn attribute(&mut self, alloc: Global, name: &str, value: &str) -> Result<(), BuildFault>
@@ -99,47 +103,85 @@ impl Builder {
             (state self.new) }
     {
         match self.attribute_name(alloc, prefix, local)? {
-            Some(name) => self.named(name, value),
+            Some(name) => self.named(name, local, value),
             None => Err(self.bad(UNBOUND_PREFIX)),
         }
     }
 
-    /// The name of an attribute in the innermost open element.
+    /// The name of an attribute in the innermost open element; none where its prefix is not bound.
     fn attribute_name(
         &self,
         alloc: Global,
         prefix: &str,
         local: &str,
-    ) -> Result<Option<Name>, AllocError>
+    ) -> Result<Option<NodeName>, AllocError>
         requires { 0 < length self.now.around.items }
-        ensures { IfOk result (λ name. name ≡ attribute_name
-            (scope_of (reverse self.now.around.items))
-            (record { prefix = prefix.now; local = local.now })) }
+        ensures { IfOk result (λ found. NamesAttribute found self.now.tree
+            (attribute_name (scope_of (reverse self.now.around.items))
+            (record { prefix = prefix.now; local = local.now }))) }
     {
         match self.around.as_slice().split_last() {
-            Some((element, _)) => element.scope.attribute_name(alloc, prefix, local),
+            Some((element, _)) => self.attribute_name_in(alloc, &element.scope, prefix, local),
             None => unreachable!(),
         }
     }
 
+    /// The name of an attribute where these bindings are in force: that of a node that has it,
+    /// where one is known.
+    fn attribute_name_in(
+        &self,
+        alloc: Global,
+        scope: &Scope,
+        prefix: &str,
+        local: &str,
+    ) -> Result<Option<NodeName>, AllocError>
+        ensures { IfOk result (λ found. NamesAttribute found self.now.tree
+            (attribute_name scope.now (record { prefix = prefix.now; local = local.now }))) }
+    {
+        if let Some(like) = self.known.find_attribute(&self.tree, scope, prefix, local) {
+            return Ok(Some(NodeName::Known(like)));
+        }
+        match scope.attribute_name(alloc, prefix, local)? {
+            Some(name) => Ok(Some(NodeName::New(name))),
+            None => Ok(None),
+        }
+    }
+
     /// Takes an attribute of this name.
-    fn named(&mut self, name: Name, value: &str) -> Result<(), BuildFault>
+    fn named(&mut self, name: NodeName, local: &str, value: &str) -> Result<(), BuildFault>
         requires good { IsGood (state self.old) }
         requires follows { self.old.follows ≡ true }
+        requires named { IsNamed self.old.tree name }
         ensures step { Steps result (taken (state self.old)
-            (named_step (context (state self.old)) self.old.seen.keys value.now name))
-            (state self.new) }
+            (named_step (context (state self.old)) self.old.seen.keys value.now
+            (full_name self.old.tree name))) (state self.new) }
     {
-        if !self.seen.insert(expanded_name(&name)?)? {
+        if !self.seen.insert(expanded_of(&self.tree, &name)?)? {
             return Err(self.bad(DOUBLE_ATTRIBUTE));
         }
         if self.lines.len() >= MOST_NODES {
             return Err(self.bad(TOO_LARGE));
         }
-        put_attribute(&mut self.tree, self.around.as_slice(), name, value)?;
+        let node = put_attribute(&mut self.tree, self.around.as_slice(), name, value)?;
         self.lines.push(self.line)?;
+        self.known.remember(local, node);
         Ok(())
     }
+}
+
+/// The most names of a start tag whose memory is kept for the next one.
+const FEW: usize = 16;
+
+/// Empties the names of a start tag. The memory of a few is kept, so that a start tag of many names
+/// costs no other one time.
+pub fn forget(seen: &mut IndexSet<Expanded>, alloc: Global)
+    ensures { seen.new.keys ≡ [] }
+{
+    if seen.len() <= FEW {
+        seen.clear();
+        return;
+    }
+    *seen = IndexSet::new(alloc);
 }
 
 /// The expanded name of a declaration.
@@ -150,6 +192,20 @@ fn declaration_name(alloc: Global, prefix: &str) -> Result<Expanded, AllocError>
         uri: NameText::of(alloc, XMLNS_URI)?,
         local: NameText::of(alloc, prefix)?,
     })
+}
+
+/// The name that is meant, without the prefix that it is written with.
+fn expanded_of(tree: &Tree, name: &NodeName) -> Result<Expanded, AllocError>
+    requires { IsNamed tree.now name.now }
+    ensures { IfOk result (λ found. found ≡ expanded (full_name tree.now name.now)) }
+{
+    match name {
+        NodeName::Known(node) => match tree.name(*node) {
+            Some(name) => expanded_name(name),
+            None => unreachable!(),
+        },
+        NodeName::New(name) => expanded_name(name),
+    }
 }
 
 /// A name without the prefix that it is written with.

@@ -3,7 +3,7 @@
 ghost use Rattle.std.specs.Prelude.{◌≡◌, ◌+◌, ◌<◌, IfOk, OnOk, length};
 ghost use Rattle.xs_pyx.specs.Row.{rows_of};
 ghost use Rattle.xs_pyx.specs.Views.{line_shown, IsReadable};
-ghost use Rattle.xs_build.specs.steps.Rest.{concluded};
+ghost use Rattle.xs_build.specs.steps.Rest.{concluded, Concludes};
 ghost use Rattle.xs_build.specs.steps.Invariant.{IsGood, IsWell};
 ghost use Rattle.xs_build.specs.Results.{Builds};
 ghost use Rattle.xs_build.specs.steps.State.{state, initial, stepped, ended, next_line, Steps};
@@ -11,6 +11,7 @@ ghost use Rattle.xs_build.specs.steps.State.{state, initial, stepped, ended, nex
 use crate::attributes::Expanded;
 use crate::document::Built;
 use crate::fault::{BuildFault, NO_ROOT, TRUNCATED};
+use crate::known::KnownNames;
 use crate::nodes::put_text;
 use crate::opened::{Opened, is_inside};
 use indexmap::IndexSet;
@@ -20,7 +21,7 @@ use xs_tree::Tree;
 
 /// What was read so far.
 #[derive(Drop)]
-pub struct Builder {
+pub struct Builder<'a> {
     /// The nodes, but for the text before the next line.
     pub tree: Tree,
     /// The line of each node, also of the text before the next line.
@@ -28,7 +29,9 @@ pub struct Builder {
     /// The text before the next line, which is no node yet; empty where there is none.
     pub text: String,
     /// The elements that are open, the innermost last.
-    pub around: Vec<Opened>,
+    pub around: Vec<Opened<'a>>,
+    /// Elements by their names, to find a name that was read before.
+    pub known: KnownNames,
     /// The names of the attributes of the element that began last.
     pub seen: IndexSet<Expanded>,
     /// Whether an attribute may follow.
@@ -39,9 +42,9 @@ pub struct Builder {
     pub line: u32,
 }
 
-impl Builder {
+impl<'a> Builder<'a> {
     /// Before the first line.
-    pub fn new(alloc: Global) -> Result<Builder, AllocError>
+    pub fn new(alloc: Global) -> Result<Builder<'a>, AllocError>
         ensures start { IfOk result (λ builder. state builder ≡ initial) }
     {
         Ok(Builder {
@@ -49,6 +52,7 @@ impl Builder {
             lines: vec![in alloc; 0]?,
             text: String::new(alloc),
             around: Vec::new(alloc),
+            known: KnownNames::new(alloc)?,
             seen: IndexSet::new(alloc),
             follows: false,
             begun: false,
@@ -79,7 +83,7 @@ impl Builder {
     }
 
     /// Takes the next line, behind which `rest` stands.
-    pub fn take(&mut self, alloc: Global, view: LineView<'_>, rest: &[u8]) -> Result<(), BuildFault>
+    pub fn take(&mut self, alloc: Global, view: LineView<'a>, rest: &[u8]) -> Result<(), BuildFault>
         requires good { IsGood (state self.old) }
         requires readable { IsReadable view }
         ensures step { Steps result
@@ -96,11 +100,24 @@ impl Builder {
     }
 
     /// The tree at the end of the lines.
-    #[tactic(auto, unfolding(crate::specs::steps::Rest::concluded))]
     pub fn finish(mut self) -> Result<Built, BuildFault>
         requires { IsGood (state self) }
-        ensures document { Builds result (concluded (state self)) }
+        ensures document { Builds result (concluded (state self.entry)) }
         ensures each { IfOk result (λ built. length built.lines.items ≡ length built.tree) }
+    {
+        self.conclude()?;
+        Ok(Built {
+            tree: self.tree,
+            lines: self.lines,
+        })
+    }
+
+    /// Makes a node of the text before the end of the lines, where they may end.
+    #[tactic(auto, unfolding(crate::specs::steps::Rest::concluded))]
+    fn conclude(&mut self) -> Result<(), BuildFault>
+        requires { IsGood (state self.old) }
+        ensures document { Concludes result (concluded (state self.old)) (state self.new) }
+        ensures each { OnOk result (length self.new.lines.items ≡ length self.new.tree) }
     {
         let last = self.line - 1;
         if !self.begun {
@@ -116,9 +133,6 @@ impl Builder {
             });
         }
         put_text(&mut self.tree, self.around.as_slice(), self.text.as_str())?;
-        Ok(Built {
-            tree: self.tree,
-            lines: self.lines,
-        })
+        Ok(())
     }
 }

@@ -14,7 +14,7 @@ use crate::qnames::{is_target, is_white, is_xml};
 use std::alloc::Global;
 use xs_tree::MOST_NODES;
 
-impl Builder {
+impl<'a> Builder<'a> {
     /// Takes a text.
     #[tactic(auto, unfolding(crate::specs::steps::State::spoken))]
     pub fn chars(&mut self, text: &str) -> Result<(), BuildFault>

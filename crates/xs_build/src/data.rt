@@ -10,7 +10,7 @@ use crate::fault::BuildFault;
 use std::alloc::Global;
 use xs_pyx::Data;
 
-impl Builder {
+impl<'a> Builder<'a> {
     /// Takes an attribute or a declaration.
     pub fn attribute_line(
         &mut self,

@@ -66,10 +66,10 @@ fn read_lines(alloc: Global, bytes: &[u8]) -> Result<Built, BuildFault>
 
 /// Takes the first line, and answers how many bytes it has.
 #[tactic(auto, using(crate::proofs::RestLemmas::is_readable))]
-fn read_line(
-    builder: &mut Builder,
+fn read_line<'a>(
+    builder: &mut Builder<'a>,
     alloc: Global,
-    bytes: &[u8],
+    bytes: &'a [u8],
 ) -> Result<Option<usize>, BuildFault>
     requires good { IsGood (state builder.old) }
     requires few { builder.old.line + length bytes.now < 4294967296 }
@@ -91,7 +91,7 @@ fn read_line(
 }
 
 /// Whether the first line is an attribute that follows no start tag.
-fn is_stray(builder: &Builder, bytes: &[u8]) -> bool
+fn is_stray(builder: &Builder<'_>, bytes: &[u8]) -> bool
     ensures { result ≡ (begins_with 65 bytes.now && not builder.now.follows) }
 {
     matches!(bytes, [b'A', ..]) && !builder.follows

@@ -7,28 +7,29 @@ ghost use Rattle.xs_pyx.specs.Row.{rows_of};
 ghost use Rattle.xs_build.specs.steps.Lines.{scope_of, innermost, start_step, end_step};
 ghost use Rattle.xs_build.specs.steps.Lines.{named_start};
 ghost use Rattle.xs_build.specs.Nodes.{element, spaces};
-ghost use Rattle.xs_build.specs.steps.State.{Names, entered, state, context, moved, Steps};
+ghost use Rattle.xs_build.specs.steps.Names.{Finds, IsNamed, Resolves, full_name};
+ghost use Rattle.xs_build.specs.steps.State.{entered, state, context, moved, Steps};
 ghost use Rattle.xs_tree.specs.Limits.{most_nodes};
-ghost use Rattle.xs_build.specs.Namespaces.{scope_with};
+ghost use Rattle.xs_build.specs.Namespaces.{element_name, scope_with};
 ghost use Rattle.xs_build.specs.steps.Invariant.{IsGood, IsWell, HasBindings};
 ghost use Rattle.xs_build.specs.Start.{declarations};
 ghost use Rattle.xs_build.specs.steps.Views.{bindings_of};
 
+use crate::attributes::forget;
 use crate::builder::Builder;
 use crate::fault::{BAD_NAME, BuildFault, TOO_LARGE, UNBALANCED, UNBOUND_PREFIX};
+use crate::known::NodeName;
 use crate::nodes::put_element;
-use crate::opened::{Opened, is_innermost, is_inside};
+use crate::opened::{Opened, WrittenName, is_innermost, is_inside};
 use crate::scope::{Declared, Scope};
 use crate::start_tag::declarations;
-use indexmap::IndexSet;
 use std::alloc::{AllocError, Global};
-use xs_trace::text::TextBuf;
-use xs_tree::{MOST_NODES, Name};
+use xs_tree::MOST_NODES;
 
-impl Builder {
+impl<'a> Builder<'a> {
     /// Takes the start of an element, behind which `rest` stands.
     #[tactic(auto, unfolding(crate::specs::steps::Lines::start_step))]
-    pub fn start(&mut self, alloc: Global, name: &str, rest: &[u8]) -> Result<(), BuildFault>
+    pub fn start(&mut self, alloc: Global, name: &'a str, rest: &[u8]) -> Result<(), BuildFault>
         requires good { IsGood (state self.old) }
         ensures step { Steps result (moved (state self.old)
             (start_step (context (state self.old)) name.now (rows_of rest.now)))
@@ -48,7 +49,7 @@ impl Builder {
     fn start_in(
         &mut self,
         alloc: Global,
-        name: &str,
+        name: &'a str,
         scope: Scope,
         is_same: bool,
     ) -> Result<(), BuildFault>
@@ -61,7 +62,7 @@ impl Builder {
         if self.lines.len() + scope.len() >= MOST_NODES {
             return Err(self.bad(TOO_LARGE));
         }
-        let written = TextBuf::of(alloc, name)?;
+        let written = WrittenName::of(name);
         self.enter(alloc, written, full, scope, is_same)?;
         Ok(())
     }
@@ -78,15 +79,37 @@ impl Builder {
     }
 
     /// The name of an element that is written so.
-    fn name_in(&self, alloc: Global, scope: &Scope, written: &str) -> Result<Name, BuildFault>
-        ensures { Names result scope.now written.now self.now.line }
+    fn name_in(&self, alloc: Global, scope: &Scope, written: &str) -> Result<NodeName, BuildFault>
+        ensures { Finds result self.now.tree scope.now written.now self.now.line }
     {
         match xs_text::split_qname(written) {
-            Some((prefix, local)) => match scope.element_name(alloc, prefix, local)? {
-                Some(name) => Ok(name),
-                None => Err(self.bad(UNBOUND_PREFIX)),
-            },
+            Some((prefix, local)) => self.resolved(alloc, scope, written, prefix, local),
             None => Err(self.bad(BAD_NAME)),
+        }
+    }
+
+    /// The name of an element with this prefix and local part, written so: that of a node that has
+    /// it, where one is known.
+    fn resolved(
+        &self,
+        alloc: Global,
+        scope: &Scope,
+        written: &str,
+        prefix: &str,
+        local: &str,
+    ) -> Result<NodeName, BuildFault>
+        ensures { Resolves result self.now.tree (element_name scope.now
+            (record { prefix = prefix.now; local = local.now })) self.now.line }
+    {
+        if let Some(like) = self
+            .known
+            .find_element(&self.tree, scope, written, prefix, local)
+        {
+            return Ok(NodeName::Known(like));
+        }
+        match scope.element_name(alloc, prefix, local)? {
+            Some(name) => Ok(NodeName::New(name)),
+            None => Err(self.bad(UNBOUND_PREFIX)),
         }
     }
 
@@ -95,23 +118,26 @@ impl Builder {
     fn enter(
         &mut self,
         alloc: Global,
-        name: TextBuf,
-        full: Name,
+        name: WrittenName<'a>,
+        full: NodeName,
         scope: Scope,
         is_same: bool,
     ) -> Result<(), AllocError>
         requires good { IsGood (state self.old) }
         requires same { is_same ≡ true → HasBindings (state self.old).around scope }
+        requires named { IsNamed self.old.tree full }
         requires room { length self.old.lines.items + 1 + length scope ≤ most_nodes }
-        ensures entered { OnOk result (state self.new ≡ entered (state self.old) name full scope) }
+        ensures entered { OnOk result (state self.new
+            ≡ entered (state self.old) name.entry (full_name self.old.tree full) scope) }
     {
         self.end_text()?;
         let around = self.around.as_slice();
         let node = put_element(&mut self.tree, alloc, around, full, &scope, is_same)?;
+        self.known.remember(name.as_str(), node);
         self.lines.push(self.line)?;
         push_lines(&mut self.lines, self.line, scope.len())?;
         self.around.push(Opened { name, node, scope })?;
-        self.seen = IndexSet::new(alloc);
+        forget(&mut self.seen, alloc);
         self.follows = true;
         self.begun = true;
         Ok(())

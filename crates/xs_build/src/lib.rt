@@ -8,6 +8,7 @@ mod data;
 mod document;
 mod elements;
 mod fault;
+mod known;
 pub mod laws;
 mod nodes;
 mod opened;

@@ -3,17 +3,19 @@
 //! There is room for each of them, as nodes are counted before they are added.
 
 ghost use Rattle.std.specs.Prelude.{◌≡◌, ◌+◌, ◌<◌, ◌≤◌, IsTrue, true, Some, [], ◌∷◌, ◌++◌, length};
-ghost use Rattle.std.specs.Prelude.{is_some, reverse, IfOk, IfSome, OnOk};
+ghost use Rattle.std.specs.Prelude.{false, is_some, reverse, IfOk, IfSome, OnOk};
 ghost use Rattle.xs_tree.specs.Kinds.{bears_name, can_hold, has_local_name};
 ghost use Rattle.xs_tree.specs.Record.{at};
-ghost use Rattle.xs_tree.specs.Shape.{IsLocalName, IsOpen, KeepsOrder};
+ghost use Rattle.xs_tree.specs.Shape.{CanBear, IsLocalName, IsOpen, KeepsOrder};
 ghost use Rattle.xs_build.specs.steps.Lines.{innermost};
 ghost use Rattle.xs_build.specs.Nodes.{element, attribute, spaces, comment, instruction};
 ghost use Rattle.xs_build.specs.Nodes.{local_name};
 ghost use Rattle.xs_tree.specs.Limits.{most_nodes};
 ghost use Rattle.xs_build.specs.steps.Invariant.{IsWell, HasBindings};
+ghost use Rattle.xs_build.specs.steps.Names.{IsNamed, full_name};
 ghost use Rattle.xs_build.specs.steps.State.{with_text_node};
 
+use crate::known::NodeName;
 use crate::opened::{Opened, innermost};
 use crate::scope::Scope;
 use crate::spaces::{copy_spaces, put_spaces};
@@ -47,8 +49,69 @@ fn put(
     }
 }
 
+/// Adds an element or an attribute for which there is room, of the name that is meant.
+fn put_named(
+    tree: &mut Tree,
+    kind: Kind,
+    name: NodeName,
+    text: &str,
+    parent: Node,
+) -> Result<Node, AllocError>
+    requires within { parent < length tree.old }
+    requires held { IsTrue (can_hold (at tree.old parent).kind kind) }
+    requires named { IsNamed tree.old name }
+    requires bears { bears_name kind ≡ true }
+    requires spelled { has_local_name kind ≡ false }
+    requires plain { kind ≡ Kind.Element → text.now ≡ [] }
+    requires open { IsOpen tree.old parent }
+    requires order { KeepsOrder tree.old parent kind }
+    requires room { length tree.old < most_nodes }
+    ensures put { OnOk result (tree.new ≡ tree.old ++ record {
+      kind = kind;
+      name = Some (full_name tree.old name);
+      text = text.now;
+      parent = Some parent;
+    } ∷ []) }
+    ensures node { IfOk result (λ node. node ≡ length tree.old) }
+{
+    match name {
+        NodeName::Known(like) => put_like(tree, kind, like, text, parent),
+        NodeName::New(name) => put(tree, kind, Some(name), text, parent),
+    }
+}
+
+/// Adds a node for which there is room, with the name of another one.
+fn put_like(
+    tree: &mut Tree,
+    kind: Kind,
+    like: Node,
+    text: &str,
+    parent: Node,
+) -> Result<Node, AllocError>
+    requires found { like < length tree.old }
+    requires within { parent < length tree.old }
+    requires held { IsTrue (can_hold (at tree.old parent).kind kind) }
+    requires borne { CanBear kind (at tree.old like).name text.now }
+    requires open { IsOpen tree.old parent }
+    requires order { KeepsOrder tree.old parent kind }
+    requires room { length tree.old < most_nodes }
+    ensures put { OnOk result (tree.new ≡ tree.old ++ record {
+      kind = kind;
+      name = (at tree.old like).name;
+      text = text.now;
+      parent = Some parent;
+    } ∷ []) }
+    ensures node { IfOk result (λ node. node ≡ length tree.old) }
+{
+    match tree.add_like(kind, like, text, parent) {
+        Ok(node) => Ok(node),
+        Err(TreeFault::NoMemory) => Err(AllocError),
+        Err(TreeFault::TooLarge) => unreachable!(),
+    }
+}
+
 /// Adds the text, unless it is empty.
-pub fn put_text(tree: &mut Tree, around: &[Opened], text: &str) -> Result<(), AllocError>
+pub fn put_text(tree: &mut Tree, around: &[Opened<'_>], text: &str) -> Result<(), AllocError>
     requires well { IsWell tree.old (reverse around.now) }
     requires room { length (with_text_node tree.old
         (innermost (reverse around.now)) text.now) ≤ most_nodes }
@@ -68,20 +131,22 @@ pub fn put_text(tree: &mut Tree, around: &[Opened], text: &str) -> Result<(), Al
 pub fn put_element(
     tree: &mut Tree,
     alloc: Global,
-    around: &[Opened],
-    name: Name,
+    around: &[Opened<'_>],
+    name: NodeName,
     scope: &Scope,
     is_same: bool,
 ) -> Result<Node, AllocError>
+    requires named { IsNamed tree.old name }
     requires well { IsWell tree.old (reverse around.now) }
     requires same { is_same ≡ true → HasBindings (reverse around.now) scope.now }
     requires room { length tree.old + 1 + length scope.now ≤ most_nodes }
-    ensures put { OnOk result (tree.new ≡ tree.old ++ element name (innermost (reverse around.now))
+    ensures put { OnOk result (tree.new ≡ tree.old
+        ++ element (full_name tree.old name) (innermost (reverse around.now))
         ∷ spaces (length tree.old) scope.now) }
     ensures node { IfOk result (λ node. node ≡ length tree.old) }
 {
     let parent = innermost(around);
-    let node = put(tree, Kind::Element, Some(name), "", parent)?;
+    let node = put_named(tree, Kind::Element, name, "", parent)?;
     if is_same {
         copy_spaces(tree, node, scope, parent)?;
         return Ok(node);
@@ -93,23 +158,23 @@ pub fn put_element(
 /// Adds an attribute.
 pub fn put_attribute(
     tree: &mut Tree,
-    around: &[Opened],
-    name: Name,
+    around: &[Opened<'_>],
+    name: NodeName,
     value: &str,
-) -> Result<(), AllocError>
+) -> Result<Node, AllocError>
     requires well { IsWell tree.old (reverse around.now) }
     requires within { 0 < length around.now }
+    requires named { IsNamed tree.old name }
     requires order { KeepsOrder tree.old (innermost (reverse around.now)) Kind.Attribute }
     requires room { length tree.old < most_nodes }
-    ensures put { OnOk result (tree.new ≡ tree.old ++ attribute name value.now
+    ensures put { OnOk result (tree.new ≡ tree.old ++ attribute (full_name tree.old name) value.now
         (innermost (reverse around.now)) ∷ []) }
 {
-    put(tree, Kind::Attribute, Some(name), value, innermost(around))?;
-    Ok(())
+    put_named(tree, Kind::Attribute, name, value, innermost(around))
 }
 
 /// Adds a comment.
-pub fn put_comment(tree: &mut Tree, around: &[Opened], text: &str) -> Result<(), AllocError>
+pub fn put_comment(tree: &mut Tree, around: &[Opened<'_>], text: &str) -> Result<(), AllocError>
     requires well { IsWell tree.old (reverse around.now) }
     requires room { length tree.old < most_nodes }
     ensures put { OnOk result (tree.new ≡ tree.old ++ comment text.now
@@ -123,7 +188,7 @@ pub fn put_comment(tree: &mut Tree, around: &[Opened], text: &str) -> Result<(),
 pub fn put_instruction(
     tree: &mut Tree,
     alloc: Global,
-    around: &[Opened],
+    around: &[Opened<'_>],
     target: &str,
     text: &str,
 ) -> Result<(), AllocError>

@@ -1,7 +1,7 @@
 //! The bindings of prefixes that are in force in an element.
 
 ghost use Rattle.std.specs.Prelude.{◌≡◌, [], ◌^◌, ◌<◌, List, IfOk, OnOk, length, map, option_map};
-ghost use Rattle.std.specs.Prelude.{option_copied, unwrap_or};
+ghost use Rattle.std.specs.Prelude.{Some, option_copied, true, unwrap_or};
 ghost use Rattle.xs_build.specs.Namespaces.{Bindings, outermost, bound, scope_with, uri_in, named};
 ghost use Rattle.xs_build.specs.Namespaces.{element_name, attribute_name};
 ghost use Rattle.xs_build.specs.steps.Views.{bindings_of};
@@ -187,6 +187,25 @@ impl Scope {
         Ok(Some(plain_name(alloc, self.default_uri(alloc)?, local)?))
     }
 
+    /// Whether this is the name of an element with this prefix and local part.
+    pub fn is_element_name(&self, name: &Name, prefix: &str, local: &str) -> bool
+        ensures { result ≡ true → element_name self.now
+            (record { prefix = prefix.now; local = local.now }) ≡ Some name.now }
+    {
+        name.prefix.as_str() == prefix && name.local.as_str() == local && self.has_uri_of(name)
+    }
+
+    /// Whether the URI of an element's name is the one that its prefix stands for.
+    fn has_uri_of(&self, name: &Name) -> bool
+        ensures { result ≡ true → element_name self.now
+            (record { prefix = name.now.prefix; local = name.now.local }) ≡ Some name.now }
+    {
+        match self.uri_of(&name.prefix) {
+            Some(uri) => uri.as_str() == name.uri.as_str(),
+            None => name.prefix.as_str().is_empty() && name.uri.as_str().is_empty(),
+        }
+    }
+
     /// The name of an attribute with this prefix and local part; none where the prefix is not
     /// bound.
     pub fn attribute_name(
@@ -203,5 +222,27 @@ impl Scope {
         }
         let uri = NameText::of(alloc, "")?;
         Ok(Some(plain_name(alloc, uri, local)?))
+    }
+    /// Whether this is the name of an attribute with this prefix and local part.
+    pub fn is_attribute_name(&self, name: &Name, prefix: &str, local: &str) -> bool
+        ensures { result ≡ true → attribute_name self.now
+            (record { prefix = prefix.now; local = local.now }) ≡ Some name.now }
+    {
+        name.prefix.as_str() == prefix && name.local.as_str() == local && self.has_own_uri(name)
+    }
+
+    /// Whether the URI of an attribute's name is the one that its prefix stands for, which is none
+    /// where it has no prefix.
+    fn has_own_uri(&self, name: &Name) -> bool
+        ensures { result ≡ true → attribute_name self.now
+            (record { prefix = name.now.prefix; local = name.now.local }) ≡ Some name.now }
+    {
+        if name.prefix.as_str().is_empty() {
+            return name.uri.as_str().is_empty();
+        }
+        match self.uri_of(&name.prefix) {
+            Some(uri) => uri.as_str() == name.uri.as_str(),
+            None => false,
+        }
     }
 }

@@ -1,9 +1,10 @@
 -- Items that move to their new places one after another overwrite none that has moved or has still to move.
-use Rattle.std.proofs.Common.{◌≡◌, ◌≢◌, ℕ, zero, suc, ◌+◌, ◌-◌, ◌<◌, ◌≤◌, List, ◌++◌, Some, drop, get_or, length, set, take, slice_get, refl, sym, ◌∙◌, ap, subst, arith, length-take, inl, inr}
+use Rattle.std.proofs.Common.{◌≡◌, ◌≢◌, ℕ, zero, suc, ◌+◌, ◌-◌, ◌<◌, ◌≤◌, List, ◌++◌, Some, drop, get_or, length, set, take, slice_get, refl, sym, ◌∙◌, ap}
+use Rattle.std.proofs.Common.{subst, arith, length-take, inl, inr}
 use Rattle.std.proofs.Math.Nat.{eq-or-lt_of_le}
 use Rattle.std.proofs.lemmas.List.{get_or-set_other, get_or-set_same, get_or-take, length-set, take-append-le, take_all}
 use Rattle.std.proofs.lemmas.Option.{get_or_from_slice_get, slice_get-get_or, slice_get_within}
-use Rattle.xs_tree.specs.Compaction.{AreNewPlaces, HaveMoved, IsCompacted}
+use Rattle.xs_tree.specs.steps.Compaction.{AreNewPlaces, HaveMoved, IsCompacted}
 
 module _ (places : List ℕ) (n : ℕ) (are : AreNewPlaces places n) where
   abbrev new : ℕ → ℕ

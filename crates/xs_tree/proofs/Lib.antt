@@ -9,6 +9,7 @@ pub mod RootLemmas
 pub mod ShapeLemmas
 pub mod StoreLemmas
 pub mod StrippedEntryLemmas
+pub mod StrippingLawLemmas
 pub mod StrippingLemmas
 pub mod Utf8Lemmas
 pub mod WalkLemmas

@@ -1,5 +1,6 @@
 -- Where the items of a list stand when some are left out: those that stay count from 0 on.
-use Rattle.std.proofs.Common.{◌≡◌, ℕ, zero, suc, ◌+◌, ◌-◌, ◌<◌, ◌≤◌, Bool, true, false, List, [], ◌∷◌, ◌++◌, filter, length, get_or, refl, sym, ◌∙◌, ap, subst, arith, map}
+use Rattle.std.proofs.Common.{◌≡◌, ℕ, zero, suc, ◌+◌, ◌-◌, ◌<◌, ◌≤◌, Bool, true, false, List, [], ◌∷◌, ◌++◌, filter, length, get_or, refl, sym, ◌∙◌, ap}
+use Rattle.std.proofs.Common.{subst, arith}
 use Rattle.std.proofs.Common.{length-append, ◌⊎◌, inl, inr}
 use Rattle.std.proofs.Math.ListN.{get_or-append}
 use Rattle.std.proofs.Math.Seq.{get_or-append_seam}
@@ -17,14 +18,14 @@ before stay n = filter stay (range_with_len 0 n)
 abbrev pub place : (ℕ → Bool) → ℕ → ℕ
 place stay n = length (before stay n)
 
-range-more : (n : ℕ) → range_with_len 0 (n + 1) ≡ range_with_len 0 n ++ n ∷ []
+pub range-more : (n : ℕ) → range_with_len 0 (n + 1) ≡ range_with_len 0 n ++ n ∷ []
 range-more n = sym (map-id (range_with_len 0 (n + 1))) ∙ map-range_with_len_more (λ k. k) 0 n n (omega arith)
     ∙ ap (λ ks. ks ++ n ∷ []) (map-id (range_with_len 0 n))
 
-before-true : (stay : ℕ → Bool) (n : ℕ) → stay n ≡ true → before stay (n + 1) ≡ before stay n ++ n ∷ []
+pub before-true : (stay : ℕ → Bool) (n : ℕ) → stay n ≡ true → before stay (n + 1) ≡ before stay n ++ n ∷ []
 before-true stay n e = rw (range-more n, filter-append stay (range_with_len 0 n) (n ∷ []), e) refl
 
-before-false : (stay : ℕ → Bool) (n : ℕ) → stay n ≡ false → before stay (n + 1) ≡ before stay n
+pub before-false : (stay : ℕ → Bool) (n : ℕ) → stay n ≡ false → before stay (n + 1) ≡ before stay n
 before-false stay n e = rw (range-more n, filter-append stay (range_with_len 0 n) (n ∷ []), e) (append-nil (before stay n))
 
 pub place-true : (stay : ℕ → Bool) (n : ℕ) → stay n ≡ true → place stay (n + 1) ≡ place stay n + 1

@@ -1,5 +1,5 @@
 -- What is kept of the nodes that stay, when it stands at their new places and is renumbered.
-use Rattle.std.proofs.Common.{◌≡◌, ℕ, ◌+◌, ◌<◌, ◌≤◌, Bool, true, List, [], ◌∷◌, ◌++◌, Option, None, Some, All, length, map, get_or, refl, sym, ◌∙◌, ap, subst, arith, slice_get, ◌⊎◌, inl, inr}
+use Rattle.std.proofs.Common.{◌≡◌, ℕ, ◌+◌, ◌<◌, ◌≤◌, Bool, true, List, [], ◌∷◌, ◌++◌, None, Some, All, length, map, get_or, refl, sym, ◌∙◌, ap, subst, arith, slice_get, ◌⊎◌, inl, inr}
 use Rattle.std.proofs.lemmas.List.{ext_get_or, get_or-map, length-map}
 use Rattle.std.proofs.lemmas.List.Elements.{All-from_get_or}
 use Rattle.std.proofs.lemmas.List.FromFn.{get_or-map-range_with_len, length-map-range_with_len, map-range_with_len_more}
@@ -10,9 +10,8 @@ use Rattle.xs_tree.specs.declared.kinds.Kind.{Kind}
 use Rattle.xs_tree.specs.declared.kinds.Kind.TheVariants.{Root, Element, Attribute, Space, Text, Comment, Pi}
 use Rattle.xs_tree.specs.declared.entries.Entry.{Entry}
 use Rattle.xs_tree.specs.declared.entries.TextPlace.TheVariants.{Range}
-use Rattle.xs_tree.specs.declared.store.Store.{Store}
 use Rattle.xs_tree.specs.declared.trees.Tree.TheInside.{Inside}
-use Rattle.xs_tree.specs.Compaction.{AreNewPlaces, IsCompacted, end_after, entry_after, same}
+use Rattle.xs_tree.specs.steps.Compaction.{AreNewPlaces, IsCompacted, end_after, entry_after, same}
 use Rattle.xs_tree.specs.Record.{Record, root_record, at}
 use Rattle.xs_tree.specs.Stripping.{stays, staying, new_place, numbers_without, renumbered, without}
 use Rattle.xs_tree.specs.View.{parent_of, record_of, records, IsEnd, IsStored, HaveEnds, IsWell}

@@ -1,18 +1,18 @@
 -- A tree stays a tree when text nodes are left out, since these hold nothing.
-use Rattle.std.proofs.Common.{◌≡◌, ℕ, ◌<◌, ◌≤◌, ◌==◌, Bool, true, false, List, Option, None, Some, All, length, map, get_or, refl, sym, ◌∙◌, ap, subst, arith}
-use Rattle.std.proofs.Common.{IsTrue, IsSomeAnd, MatchOption, not, ◌&&◌, ◌⊎◌, inl, inr}
+use Rattle.std.proofs.Common.{◌≡◌, ℕ, ◌<◌, ◌≤◌, ◌==◌, Bool, true, false, List, Option, None, Some, length, get_or, refl, sym, ◌∙◌, ap, subst, arith}
+use Rattle.std.proofs.Common.{IsTrue, IsSomeAnd, MatchOption, inl, inr}
 use Rattle.std.proofs.Math.Bool.{and-false}
 use Rattle.std.proofs.Math.Nat.{eq-or-lt_of_le}
-use Rattle.std.proofs.lemmas.Bool.{eq-eqb, eqb-true, ne_eqb}
+use Rattle.std.proofs.lemmas.Bool.{eq-eqb, eqb-true}
 use Rattle.std.proofs.lemmas.List.{get_or-map, length-map}
 use Rattle.std.proofs.lemmas.List.Elements.{All-from_get_or}
 use Rattle.std.specs.Option.{option_map}
 use Rattle.xs_tree.specs.declared.kinds.Kind.{Kind}
 use Rattle.xs_tree.specs.declared.kinds.Kind.TheVariants.{Root, Element, Attribute, Space, Text, Comment, Pi}
-use Rattle.xs_tree.specs.Compaction.{end_after}
+use Rattle.xs_tree.specs.steps.Compaction.{end_after}
 use Rattle.xs_tree.specs.Kinds.{can_hold, is_text_kind, rank}
 use Rattle.xs_tree.specs.Record.{Record, root_record, at}
-use Rattle.xs_tree.specs.Shape.{CanBear, EndsAt, HasParentFrom, IsOpen, IsPlaced, IsRootOrPlaced, IsTree}
+use Rattle.xs_tree.specs.Shape.{EndsAt, HasParentFrom, IsOpen, IsPlaced, IsRootOrPlaced, IsTree}
 use Rattle.xs_tree.specs.Stripping.{stays, staying, new_place, renumbered, without}
 use Rattle.xs_tree.specs.Utf8.{AreUtf8, IsUtf8Record}
 use Rattle.xs_tree.specs.View.{IsEnd}

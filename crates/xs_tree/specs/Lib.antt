@@ -1,6 +1,5 @@
 pub mod Axis
 pub mod Closing
-pub mod Compaction
 pub mod Growth
 pub mod Kinds
 pub mod Limits
@@ -9,6 +8,8 @@ pub mod Record
 pub mod Shape
 pub mod Store
 pub mod Stripping
+pub mod StrippingLaws
 pub mod Utf8
 pub mod View
 pub mod Walk
+pub mod steps

@@ -1,8 +1,8 @@
 //! Leaving items out of a list, in place.
 
 ghost use Rattle.std.specs.Prelude.{◌≡◌, get_or, length};
-ghost use Rattle.xs_tree.specs.Compaction.{AreNewPlaces, HaveMoved, IsCompacted, end_after};
-ghost use Rattle.xs_tree.specs.Compaction.{entry_after, same};
+ghost use Rattle.xs_tree.specs.steps.Compaction.{AreNewPlaces, HaveMoved, IsCompacted, end_after};
+ghost use Rattle.xs_tree.specs.steps.Compaction.{entry_after, same};
 
 use crate::entries::Entry;
 

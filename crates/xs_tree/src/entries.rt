@@ -1,6 +1,7 @@
 //! What a tree keeps of each node.
 
 use crate::kinds::Kind;
+use std::mem::size_of;
 
 /// Where the text of a node lies.
 #[derive(Clone, Copy)]
@@ -23,3 +24,6 @@ pub struct Entry {
     pub end: u32,
     pub kind: Kind,
 }
+
+// A node takes 32 bytes beside its text.
+const _: () = prove!(size_of::<Entry>() == 32);

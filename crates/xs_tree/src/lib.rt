@@ -6,6 +6,7 @@ mod closing;
 mod compaction;
 mod entries;
 mod kinds;
+pub mod laws;
 mod names;
 mod nodes;
 mod store;
@@ -17,6 +18,3 @@ pub use kinds::Kind;
 pub use names::{Name, NameText};
 pub use nodes::Node;
 pub use trees::{Attributes, Children, MOST_NODES, Namespaces, Texts, Tree, TreeFault};
-
-#[cfg(test)]
-mod tests;

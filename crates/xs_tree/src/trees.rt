@@ -136,6 +136,36 @@ impl Tree {
             .map_err(|_| TreeFault::NoMemory)
     }
 
+    /// Adds a node at the end, inside an open element or root, with the name of one that is in the
+    /// tree.
+    ///
+    /// Takes no memory for the name.
+    pub fn add_like(
+        &mut self,
+        kind: Kind,
+        like: Node,
+        text: &str,
+        parent: Node,
+    ) -> Result<Node, TreeFault>
+        requires found { like < length self.old }
+        requires within { parent < length self.old }
+        requires held { IsTrue (can_hold (at self.old parent).kind kind) }
+        requires borne { CanBear kind (at self.old like).name text.now }
+        requires open { IsOpen self.old parent }
+        requires order { KeepsOrder self.old parent kind }
+        ensures node { IfOk result (λ node. node ≡ length self.old) }
+        ensures added { OnOk result
+            (self.new ≡ with_node self.old kind (at self.old like).name text.now parent) }
+        ensures too_large { (result ≡ Err TreeFault.TooLarge) ↔ (length self.old ≡ MOST_NODES) }
+        ensures refused { OnErr result (self.new ≡ self.old) }
+    {
+        if self.is_full() {
+            return Err(TreeFault::TooLarge);
+        }
+        self.store_like(kind, like, text, parent)
+            .map_err(|_| TreeFault::NoMemory)
+    }
+
     // Whether there is no room for another node.
     fn is_full(&self) -> bool
         ensures value { IsTrue result ↔ (length self.now ≡ MOST_NODES) }
@@ -164,6 +194,39 @@ impl Tree {
     {
         name_is_utf8(&name);
         let name = self.store.keep_name(name)?;
+        let text = self.store.keep_text(kind, text)?;
+        let entry = Entry {
+            text,
+            name,
+            parent: parent.place(),
+            end: 0,
+            kind,
+        };
+        let node = keep(&mut self.nodes, entry)?;
+        Ok(node)
+    }
+
+    // Adds a node with the name of another where there is room for one.
+    fn store_like(
+        &mut self,
+        kind: Kind,
+        like: Node,
+        text: &str,
+        parent: Node,
+    ) -> Result<Node, AllocError>
+        requires room { length self.old < MOST_NODES }
+        requires found { like < length self.old }
+        requires within { parent < length self.old }
+        requires held { IsTrue (can_hold (at self.old parent).kind kind) }
+        requires borne { CanBear kind (at self.old like).name text.now }
+        requires open { IsOpen self.old parent }
+        requires order { KeepsOrder self.old parent kind }
+        ensures node { IfOk result (λ node. node ≡ length self.old) }
+        ensures added { OnOk result
+            (self.new ≡ with_node self.old kind (at self.old like).name text.now parent) }
+        ensures refused { OnErr result (self.new ≡ self.old) }
+    {
+        let name = self.nodes[like.place() as usize].name;
         let text = self.store.keep_text(kind, text)?;
         let entry = Entry {
             text,

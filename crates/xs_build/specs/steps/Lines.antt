@@ -2,7 +2,7 @@
 -- what Document says is a law (src/laws.rt).
 use Rattle.std.specs.Prelude.{ℕ, ◌+◌, ◌-◌, List, [], ◌∷◌, ◌++◌, Bool, true, false, not, ◌&&◌, ◌||◌, ◌==◌, nat_le, Option, None, Some, if◌then◌else◌, length}
 use Rattle.std.specs.Prelude.{map, is_none}
-use Rattle.std.specs.List.{list_all, list_any}
+use Rattle.std.specs.List.{list_any}
 use Rattle.std.specs.Str.{bytes_eq}
 use Rattle.xs_text.specs.WhiteSpace.{is_blank}
 use Rattle.xs_pyx.specs.Row.{Row}

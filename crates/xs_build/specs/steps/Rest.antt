@@ -38,3 +38,9 @@ Goes (Ok None) old new bytes = left old (rows_of bytes) ≡ concluded new
 Goes (Ok (Some size)) old new bytes = left old (rows_of bytes) ≡ left new (rows_of (drop size bytes))
 Goes (Err (Bad number line)) old new bytes = left old (rows_of bytes) ≡ refused number line
 Goes (Err NoMemory) old new bytes = Unit {0}
+
+-- The end of the lines was read: what was read by itself is these records and lines, or is refused. Memory may run out.
+abbrev pub Concludes : {X : Type 0} → Result X BuildFault → Outcome → State → Type 0
+Concludes (Ok x) outcome now = outcome ≡ tree now.records now.lines
+Concludes (Err (Bad number line)) outcome now = outcome ≡ refused number line
+Concludes (Err NoMemory) outcome now = Unit {0}

@@ -1,7 +1,6 @@
 -- What the builder has read so far, and what one more line makes of it.
 use Rattle.std.specs.Prelude.{◌≡◌, ℕ, ◌+◌, List, [], ◌∷◌, ◌++◌, Option, None, Some, Result, Ok, Err, Bool, true, false, not, ◌&&◌, nat_le, if◌then◌else◌}
 use Rattle.std.specs.Prelude.{length, map, reverse, string_bytes}
-use Rattle.std.specs.List.{list_all}
 use Rattle.xs_pyx.specs.Row.{Row}
 use Rattle.xs_pyx.specs.declared.line.Line.{Line}
 use Rattle.xs_pyx.specs.declared.line.Line.TheVariants.{Start, Attr, Chars, End, Pi, Comment}

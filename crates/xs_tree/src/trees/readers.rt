@@ -136,7 +136,7 @@ impl Tree {
         }
     }
 
-    // Whether the parent of a node is a given node or comes after it.
+    /// Whether the parent of a node is a given node or comes after it.
     pub(crate) fn begins_inside(&self, n: Node, node: Node) -> bool
         requires { node < length self.now }
         ensures value { IsTrue result ↔ HasParentFrom n (at self.now node) }

@@ -13,7 +13,7 @@ use crate::nodes::Node;
 use std::marker::Model;
 
 impl Tree {
-    // Whether a node is a text node.
+    /// Whether a node is a text node.
     pub(super) fn is_text(&self, node: Node) -> bool
         requires { node < length self.now }
         ensures { result ≡ is_text_kind (at self.now node).kind }

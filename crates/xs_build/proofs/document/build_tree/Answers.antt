@@ -1,6 +1,6 @@
 use Rattle.std.proofs.Common.{sym, arith, subst}
 use Rattle.xs_build.specs.Results.{Builds}
-use Rattle.xs_build.proofs.wellformed.DocumentLemmas.{built_document}
+use Rattle.xs_build.proofs.WellFormedLemmas.DocumentLemmas.{built_document}
 use Rattle.xs_build.proofs.RestLemmas.{within_limit, beyond_limit}
 use Rattle.xs_build.proofs.document.build_tree.Goals as goal
 

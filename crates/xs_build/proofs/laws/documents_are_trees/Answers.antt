@@ -1,4 +1,4 @@
-use Rattle.xs_build.proofs.wellformed.DocumentLemmas as law
+use Rattle.xs_build.proofs.WellFormedLemmas.DocumentLemmas as law
 use Rattle.xs_build.proofs.laws.documents_are_trees.Goals as goal
 
 pub returns : goal.returns

@@ -1,6 +1,6 @@
 -- What is behind the last that has moved goes.
-use Rattle.std.proofs.Common.{◌≡◌, ◌∙◌, arith, ap, get_or, length, subst, sym, take}
-use Rattle.xs_tree.specs.Compaction.{HaveMoved, same}
+use Rattle.std.proofs.Common.{◌≡◌, ◌∙◌, ap, get_or, length, subst, sym, take}
+use Rattle.xs_tree.specs.steps.Compaction.{HaveMoved, same}
 use Rattle.xs_tree.proofs.CompactionLemmas.{moved-end, written_back}
 use Rattle.xs_tree.proofs.compaction.compact_numbers.Goals as goal
 

@@ -1,8 +1,8 @@
 -- What moves is written where nothing stands that has moved or has still to move.
-use Rattle.std.proofs.Common.{◌≡◌, ◌<◌, ◌≤◌, ℕ, List, arith, get_or, length, slice_get}
+use Rattle.std.proofs.Common.{ℕ, List, arith, get_or, length}
 use Rattle.std.proofs.lemmas.Option.{slice_get-get_or}
 use Rattle.xs_tree.specs.declared.entries.Entry.{Entry}
-use Rattle.xs_tree.specs.Compaction.{entry_after}
+use Rattle.xs_tree.specs.steps.Compaction.{entry_after}
 use Rattle.xs_tree.proofs.CompactionLemmas.{moved-start, moved-step, new-le}
 use Rattle.xs_tree.proofs.compaction.move_entries.Goals as goal
 

@@ -1,5 +1,5 @@
 use Rattle.std.proofs.Common.{get_or, length}
-use Rattle.xs_tree.specs.Compaction.{HaveMoved, entry_after}
+use Rattle.xs_tree.specs.steps.Compaction.{HaveMoved, entry_after}
 use Rattle.xs_tree.proofs.compaction.move_entries.Given as goal
 
 abbrev pub invariant-loop-place : goal.invariant-loop-place

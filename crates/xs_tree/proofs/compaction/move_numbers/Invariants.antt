@@ -1,4 +1,4 @@
-use Rattle.xs_tree.specs.Compaction.{HaveMoved, same}
+use Rattle.xs_tree.specs.steps.Compaction.{HaveMoved, same}
 use Rattle.xs_tree.proofs.compaction.move_numbers.Given as goal
 
 abbrev pub invariant-loop-place : goal.invariant-loop-place

@@ -1,5 +1,6 @@
 use Rattle.std.proofs.Common.{◌∙◌, ap, sym, Err, arith}
 use Rattle.std.proofs.lemmas.Result.{err_from_is_err_and}
+use Rattle.xs_build.specs.steps.Names.{full_name}
 use Rattle.xs_build.specs.steps.State.{state, goes, entered}
 use Rattle.xs_build.proofs.ElementLemmas.{exit_name, start_too_large, start_enters}
 use Rattle.xs_build.proofs.builder.Builder.start_in.Goals as goal
@@ -15,14 +16,16 @@ returns-in_err-full c =
 pub returns-then-len-ge-MOST_NODES : goal.returns-then-len-ge-MOST_NODES
 returns-then-len-ge-MOST_NODES c =
     rw c.bad.ensures (record {
-      step = start_too_large (state c.args.self.now) c.args.name.now c.args.scope c.in_ok-full.full c.in_ok-full.ensures
+      step = start_too_large (state c.args.self.now) c.args.name.now c.args.scope (full_name c.args.self.now.tree c.in_ok-full.full)
+          c.in_ok-full.ensures.1
           (omega (arith, c.if-len-ge-MOST_NODES.true, c.len.ensures, c.len-2.ensures.count, c.args.self.now.lines.ok.0));
     })
 
 pub returns : goal.returns
 returns c = record {
-  step = start_enters (state c.args.self.now) c.args.name.now c.args.scope c.in_ok-full.full c.in_ok-full.ensures
+  step = start_enters (state c.args.self.now) c.args.name.now c.args.scope (full_name c.args.self.now.tree c.in_ok-full.full)
+      c.in_ok-full.ensures.1
       (omega (arith, c.if-len-ge-MOST_NODES.false, c.len.ensures, c.len-2.ensures.count, c.args.self.now.lines.ok.0))
       ∙ ap goes (sym (c.in_ok-enter.ensures.entered
-      ∙ ap (λ n. entered (state c.args.self.now) n c.in_ok-full.full c.args.scope) c.in_ok-written.ensures.text));
+      ∙ ap (λ n. entered (state c.args.self.now) n (full_name c.args.self.now.tree c.in_ok-full.full) c.args.scope) c.of-written.ensures));
 }

@@ -2,7 +2,7 @@
 use Rattle.std.proofs.Common.{◌≡◌, ◌+◌, arith, length, map, refl, subst}
 use Rattle.std.specs.List.{range_with_len}
 use Rattle.xs_tree.specs.Stripping.{new_place}
-use Rattle.xs_tree.proofs.StrippedEntryLemmas.{ArePlacesBefore, places-more}
+use Rattle.xs_tree.proofs.StrippedEntryLemmas.{places-more}
 use Rattle.xs_tree.proofs.trees.Tree.new_places.Goals as goal
 
 pub loop-place-preserved : goal.loop-place-preserved

@@ -2,7 +2,7 @@
 use Rattle.std.proofs.Common.{◌≡◌, ◌∙◌, Bool, List, ℕ, ap, get_or, length, refl, subst, sym}
 use Rattle.xs_tree.specs.declared.entries.Entry.{Entry}
 use Rattle.xs_tree.specs.declared.trees.Tree.TheInside.{Inside}
-use Rattle.xs_tree.specs.Compaction.{AreNewPlaces, IsCompacted, entry_after}
+use Rattle.xs_tree.specs.steps.Compaction.{AreNewPlaces, IsCompacted, entry_after}
 use Rattle.xs_tree.specs.Record.{Record}
 use Rattle.xs_tree.specs.Stripping.{without}
 use Rattle.xs_tree.specs.View.{records}

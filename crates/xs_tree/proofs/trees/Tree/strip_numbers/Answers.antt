@@ -1,6 +1,6 @@
 -- The numbers move with their nodes.
 use Rattle.std.proofs.Common.{◌≡◌, ◌∙◌, length, subst, sym}
-use Rattle.xs_tree.specs.Compaction.{AreNewPlaces, IsCompacted, same}
+use Rattle.xs_tree.specs.steps.Compaction.{AreNewPlaces, IsCompacted, same}
 use Rattle.xs_tree.proofs.StrippedEntryLemmas.{are_new_places, kept_places, numbers-compacted}
 use Rattle.xs_tree.proofs.trees.Tree.strip_numbers.Goals as goal
 

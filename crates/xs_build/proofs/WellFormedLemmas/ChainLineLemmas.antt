@@ -2,7 +2,7 @@
 use Rattle.std.proofs.Common.{◌≡◌, ℕ, ◌+◌, ◌-◌, List, [], ◌∷◌, ◌++◌, Option, None, Some, Bool, true, false, refl, sym, ◌∙◌, ap, subst}
 use Rattle.std.proofs.Common.{length, inl, inr, arith}
 use Rattle.std.specs.Prelude.{not, ◌&&◌, ◌||◌, ◌==◌, nat_le, if◌then◌else◌, is_none}
-use Rattle.std.specs.List.{count_by, list_all, list_any}
+use Rattle.std.specs.List.{count_by, list_any}
 use Rattle.std.specs.Str.{bytes_eq}
 use Rattle.std.proofs.lemmas.Bool.{cases_Bool}
 use Rattle.std.proofs.lemmas.Bool.Decides.{nat_tests}
@@ -25,9 +25,9 @@ use Rattle.xs_build.specs.steps.Lines.{declaration_name, start_step, declaration
 use Rattle.xs_build.specs.steps.Lines.{inner_text_step, text_step, close, end_step, instruction_step, comment_step, line_step, reading_step, stray_step}
 use Rattle.xs_build.specs.steps.Lines.{row_step, put_before, and_then, meaning}
 use Rattle.xs_build.specs.Document.{Outcome, tree, refused, document}
-use Rattle.xs_build.proofs.StepsAgree.{agreement}
-use Rattle.xs_build.proofs.wellformed.ChainLemmas.{count_append, is_top, Chain, last_of, chain_append, Stands, tops_left, Keeps, Good, good_rule, good_needs}
-use Rattle.xs_build.proofs.wellformed.ChainLemmas.{good_if, good_adds, none_given, one_given, declared_given, end_given, outer_given, text_given, start_given}
+use Rattle.xs_build.proofs.StepAgreementLemmas.{agreement}
+use Rattle.xs_build.proofs.WellFormedLemmas.ChainLemmas.{count_append, is_top, Chain, last_of, chain_append, Stands, tops_left, Keeps, Good, good_rule, good_needs}
+use Rattle.xs_build.proofs.WellFormedLemmas.ChainLemmas.{good_if, good_adds, none_given, one_given, declared_given, end_given, outer_given, text_given, start_given}
 
 -- each kind of line
 pub good_start : (line : ℕ) (r : Record) (c : Context) (name : List ℕ) (rows : List Row) → Stands line r c → Good line r c.begun (start_step c name rows)

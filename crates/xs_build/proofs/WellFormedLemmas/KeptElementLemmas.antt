@@ -19,11 +19,11 @@ use Rattle.xs_build.specs.declared.opened.Opened.{Opened}
 use Rattle.xs_build.specs.Namespaces.{Bindings, QName, is_empty, element_name}
 use Rattle.xs_build.specs.steps.Lines.{innermost, scope_of, expanded, same_name}
 use Rattle.xs_build.specs.Nodes.{element, attribute, space, spaces}
-use Rattle.xs_build.proofs.wellformed.ScopeLemmas.{IsScope, IsWritten, has_key}
-use Rattle.xs_build.proofs.wellformed.OwnNodeLemmas.{hands_on, own_spaces, own_attributes, owns_space, owns_attribute, is_scoped, IsWhole}
-use Rattle.xs_build.proofs.wellformed.NewElementLemmas.{IsNamed, spaces_named, element_qname, spaces_handed, Tagged, tagged_none, tagged_more, tagged_added}
-use Rattle.xs_build.proofs.wellformed.NewElementLemmas.{all_flipped, Quiet, quiet_kind, quiet_attribute, attribute_no_space, own_attribute, quiet_element}
-use Rattle.xs_build.proofs.wellformed.NewElementLemmas.{own_element, new_whole, whole_added}
+use Rattle.xs_build.proofs.WellFormedLemmas.ScopeLemmas.{IsScope, IsWritten, has_key}
+use Rattle.xs_build.proofs.WellFormedLemmas.OwnNodeLemmas.{hands_on, own_spaces, own_attributes, owns_space, owns_attribute, is_scoped, IsWhole}
+use Rattle.xs_build.proofs.WellFormedLemmas.NewElementLemmas.{IsNamed, spaces_named, element_qname, spaces_handed, Tagged, tagged_none, tagged_more, tagged_added}
+use Rattle.xs_build.proofs.WellFormedLemmas.NewElementLemmas.{all_flipped, Quiet, quiet_kind, quiet_attribute, attribute_no_space, own_attribute, quiet_element}
+use Rattle.xs_build.proofs.WellFormedLemmas.NewElementLemmas.{own_element, new_whole, whole_added}
 
 -- the open elements have the namespace nodes of their bindings
 abbrev pub Opens : List Record → List Opened → Type 0

@@ -24,10 +24,10 @@ use Rattle.xs_build.specs.steps.Lines.{Context, at_start, innermost, scope_of, e
 use Rattle.xs_build.specs.steps.Lines.{declaration_name, put_before, and_then, at_end, meaning}
 use Rattle.xs_build.specs.steps.Rest as left
 use Rattle.xs_build.proofs.ReadingLemmas.{begins, no_text, no_attribute, row_says, row_faulty}
-use Rattle.xs_build.proofs.LineAgrees.{no_more, Judged, LineJudged, name_of, seen_in, Attributed, Named, start_judged, attribute_judged, text_judged}
-use Rattle.xs_build.proofs.LineAgrees.{end_judged, instruction_judged, comment_judged}
-use Rattle.xs_build.proofs.ContextAgrees.{and_false, SameTag, Opens, Fits, opens_none, opens_neither, opens_ends, context_is, fits_past, fits_quiet, fits_text}
-use Rattle.xs_build.proofs.ContextAgrees.{fits_named, fits_start, no_start_line}
+use Rattle.xs_build.proofs.LineAgreementLemmas.{no_more, Judged, LineJudged, name_of, seen_in, Attributed, Named, start_judged, attribute_judged, text_judged}
+use Rattle.xs_build.proofs.LineAgreementLemmas.{end_judged, instruction_judged, comment_judged}
+use Rattle.xs_build.proofs.ContextAgreementLemmas.{and_false, SameTag, Opens, Fits, opens_none, opens_neither, opens_ends, context_is, fits_past, fits_quiet, fits_text}
+use Rattle.xs_build.proofs.ContextAgreementLemmas.{fits_named, fits_start, no_start_line}
 
 -- what is around the line, in a context that fits
 abbrev pub seen_at : Context → List Row → LineContext
@@ -79,8 +79,8 @@ named c seen before row behind name value None f h tagged q = tt
 named c seen before row behind name value (Some w) f h tagged q = attributed c seen before row behind name value w (declared_prefix w) f h tagged q refl
 
 -- the judgement of a line that says something, with the first of its faults
-abbrev pub LineAgrees : Context → List Row → Row → List Row → Line → Type 0
-LineAgrees c before row behind line =
+abbrev pub LineAgreementLemmas : Context → List Row → Row → List Row → Line → Type 0
+LineAgreementLemmas c before row behind line =
     Judged (line_step c (length before + 1) line behind)
     (first_fault ((bad_line, is_stray (seen_at c before) row) ∷ line_faults (seen_at c before) behind
     (c.nodes + length (line_nodes (seen_at c before) behind 0 0 line)) line))
@@ -88,7 +88,7 @@ LineAgrees c before row behind line =
 
 unstray : (c : Context) (before : List Row) (row : Row) (behind : List Row) (line : Line) → is_stray (seen_at c before) row ≡ false
     → LineJudged c (seen_at c before) (length before + 1) line behind (λ d. Fits d (row ∷ before) behind) →
-    LineAgrees c before row behind line
+    LineAgreementLemmas c before row behind line
 unstray c before row behind line h j =
     judged_same (line_step c (length before + 1) line behind)
     (first_fault ((bad_line, is_stray (seen_at c before) row) ∷ line_faults (seen_at c before) behind
@@ -104,7 +104,7 @@ no_stray c before row h = rw h refl
 
 -- each kind of line
 start_agrees : (c : Context) (before : List Row) (row : Row) (behind : List Row) (name : List ℕ) → Fits c before (row ∷ behind)
-    → reading row ≡ says (Start name) → LineAgrees c before row behind (Start name)
+    → reading row ≡ says (Start name) → LineAgreementLemmas c before row behind (Start name)
 start_agrees c before row behind name f h =
     unstray c before row behind (Start name) (no_stray c before row (no_attribute row (Start name) refl h))
     (start_judged c.around c.begun c.tag c.in_text c.nodes (length before + 1) (follows_tag before) (names_at (scope_of c.around) before)
@@ -122,7 +122,7 @@ tag_attribute row before h = rw h (and_false (is_attribute_row row))
 attribute_agrees : (os : List Opened) (begun : Bool) (tag : Option (List Expanded)) (quiet : Bool) (n : ℕ) (before : List Row) (row : Row) (behind : List Row)
     (name value : List ℕ) →
     let c : Context = record { around = os; begun = begun; tag = tag; in_text = quiet; nodes = n } in
-    Fits c before (row ∷ behind) → reading row ≡ says (Attr name value) → LineAgrees c before row behind (Attr name value)
+    Fits c before (row ∷ behind) → reading row ≡ says (Attr name value) → LineAgreementLemmas c before row behind (Attr name value)
 unfolding attribute_step
 attribute_agrees os begun None quiet n before row behind name value f h = rw (stray_attribute row before (begins row (Attr name value) h) f.tag) refl
 attribute_agrees os begun (Some seen) quiet n before row behind name value f h =
@@ -133,7 +133,7 @@ attribute_agrees os begun (Some seen) quiet n before row behind name value f h =
     (named c seen before row behind name value (qname_of name) f h refl refl))
 
 text_agrees : (c : Context) (before : List Row) (row : Row) (behind : List Row) (text : List ℕ) → Fits c before (row ∷ behind)
-    → reading row ≡ says (Chars text) → LineAgrees c before row behind (Chars text)
+    → reading row ≡ says (Chars text) → LineAgreementLemmas c before row behind (Chars text)
 text_agrees c before row behind text f h =
     let is : nesting row ≡ neither = rw h refl in
     let attribute : is_attribute_row row ≡ false = no_attribute row (Chars text) refl h in
@@ -146,7 +146,7 @@ text_agrees c before row behind text f h =
     (λ some full quiet few. fits_text c before row behind text f h some full quiet few))
 
 end_agrees : (c : Context) (before : List Row) (row : Row) (behind : List Row) (name : List ℕ) → Fits c before (row ∷ behind) → reading row ≡ says (End name)
-    → LineAgrees c before row behind (End name)
+    → LineAgreementLemmas c before row behind (End name)
 end_agrees c before row behind name f h =
     let is : nesting row ≡ ends = rw h refl in
     let attribute : is_attribute_row row ≡ false = no_attribute row (End name) refl h in
@@ -158,7 +158,7 @@ end_agrees c before row behind name f h =
     (opens_ends o more row before behind is (subst (λ os. Opens os before (row ∷ behind)) e f.opens)) refl (no_more c.nodes f.few)))
 
 instruction_agrees : (c : Context) (before : List Row) (row : Row) (behind : List Row) (target text : List ℕ) → Fits c before (row ∷ behind)
-    → reading row ≡ says (Pi target text) → LineAgrees c before row behind (Pi target text)
+    → reading row ≡ says (Pi target text) → LineAgreementLemmas c before row behind (Pi target text)
 instruction_agrees c before row behind target text f h =
     let is : nesting row ≡ neither = rw h refl in
     let attribute : is_attribute_row row ≡ false = no_attribute row (Pi target text) refl h in
@@ -172,7 +172,7 @@ instruction_agrees c before row behind target text f h =
     (λ not_so few. fits_past c c.around 1 before row behind (Pi target text) f h (rw is refl) start attribute (inr quiet) opens (rw not_so refl) few))
 
 comment_agrees : (c : Context) (before : List Row) (row : Row) (behind : List Row) (text : List ℕ) → Fits c before (row ∷ behind)
-    → reading row ≡ says (Comment text) → LineAgrees c before row behind (Comment text)
+    → reading row ≡ says (Comment text) → LineAgreementLemmas c before row behind (Comment text)
 comment_agrees c before row behind text f h =
     let is : nesting row ≡ neither = rw h refl in
     let attribute : is_attribute_row row ≡ false = no_attribute row (Comment text) refl h in
@@ -183,7 +183,7 @@ comment_agrees c before row behind text f h =
     (inr (no_text row (Comment text) refl h)) (opens_neither c.around row before behind is f.opens) refl few))
 
 line_agrees : (c : Context) (before : List Row) (row : Row) (behind : List Row) (line : Line) → Fits c before (row ∷ behind) → reading row ≡ says line
-    → LineAgrees c before row behind line
+    → LineAgreementLemmas c before row behind line
 line_agrees c before row behind (Start name) f h = start_agrees c before row behind name f h
 line_agrees c before row behind (Attr name value) f h = attribute_agrees c.around c.begun c.tag c.in_text c.nodes before row behind name value f h
 line_agrees c before row behind (Chars text) f h = text_agrees c before row behind text f h

@@ -7,8 +7,8 @@ use Rattle.xs_build.specs.Document.{document}
 use Rattle.xs_build.specs.DocumentLaws.{DocumentsAreTrees}
 use Rattle.xs_build.specs.DocumentTree.{IsOneDocument}
 use Rattle.xs_build.specs.Results.{Builds}
-use Rattle.xs_build.proofs.wellformed.ElementLemmas.{document_elements, document_names}
-use Rattle.xs_build.proofs.wellformed.TopLemmas.{begins_document, has_one_root, has_top_element, has_whole_texts}
+use Rattle.xs_build.proofs.WellFormedLemmas.ElementLemmas.{document_elements, document_names}
+use Rattle.xs_build.proofs.WellFormedLemmas.TopLemmas.{begins_document, has_one_root, has_top_element, has_whole_texts}
 
 pub documents_are_trees : DocumentsAreTrees
 documents_are_trees limit bytes rs lines e = record {

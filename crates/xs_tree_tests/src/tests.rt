@@ -2,11 +2,9 @@
 
 ghost use Rattle.std.specs.Prelude.{◌<◌, length};
 
-use super::*;
-use crate::entries::Entry;
 use std::alloc::{AllocError, Global};
-use std::mem::size_of;
 use std::test::Fail;
+use xs_tree::{Kind, Name, NameText, Node, Tree};
 
 // A node: its kind, the local part of its name, its text and the place of its parent.
 type Row = (Kind, &'static str, &'static str, u32);
@@ -223,12 +221,6 @@ fn names_in_order_and_copied(rt: HostRuntime) -> Result<(), Fail> {
 fn namespace_node_again(rt: HostRuntime) -> Result<(), Fail> {
     let mut tree = small_tree(rt.alloc(), &ROWS[..2])?;
     assert!(rt; is_added_again(rt.alloc(), &mut tree, Node::at(2), Node::at(1))?);
-    Ok(())
-}
-
-#[test]
-fn entries_are_small(rt: HostRuntime) -> Result<(), Fail> {
-    assert_eq!(rt; size_of::<Entry>(), 32);
     Ok(())
 }
 

@@ -1,6 +1,6 @@
 use Rattle.std.proofs.Common.{◌≡◌, ◌++◌}
 use Rattle.xs_tree.specs.Record.{children}
-use Rattle.xs_tree.proofs.tests.count_of_kind.Given as goal
+use Rattle.xs_tree_tests.proofs.tests.count_of_kind.Given as goal
 
 -- what was yielded and what is left are the children
 abbrev pub invariant-loop-child : goal.invariant-loop-child

@@ -20,9 +20,9 @@ use Rattle.xs_build.specs.DocumentTree.{is_prefix, is_well_named}
 use Rattle.xs_build.specs.Namespaces.{Bindings, is_empty, is_ncname, named, uri_of, QName, uri_in, element_name, attribute_name, declared_prefix, xml_uri}
 use Rattle.xs_build.specs.steps.Lines.{same_name}
 use Rattle.xs_build.specs.Nodes.{element, attribute, space, spaces}
-use Rattle.xs_build.proofs.wellformed.OwnNodeLemmas.{has_local, own_spaces, own_attributes, stands_for, is_default, is_unnamed, same_names, is_scoped}
-use Rattle.xs_build.proofs.wellformed.OwnNodeLemmas.{is_named, IsWhole}
-use Rattle.xs_build.proofs.wellformed.ScopeLemmas.{IsAllowed, IsScope, IsWritten, has_key, key_later, keys_sorted, found_among, none_default, none_empty}
+use Rattle.xs_build.proofs.WellFormedLemmas.OwnNodeLemmas.{has_local, own_spaces, own_attributes, stands_for, is_default, is_unnamed, same_names, is_scoped}
+use Rattle.xs_build.proofs.WellFormedLemmas.OwnNodeLemmas.{is_named, IsWhole}
+use Rattle.xs_build.proofs.WellFormedLemmas.ScopeLemmas.{IsAllowed, IsScope, IsWritten, has_key, key_later, keys_sorted, found_among, none_default, none_empty}
 
 -- the namespace nodes stand for the bindings
 locals_spaces : (p : ℕ) (scope : Bindings) → map name_local (spaces p scope) ≡ keys_of scope

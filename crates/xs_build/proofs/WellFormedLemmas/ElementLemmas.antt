@@ -2,7 +2,7 @@
 use Rattle.std.proofs.Common.{◌≡◌, ℕ, ◌+◌, ◌-◌, ◌<◌, zero, suc, List, [], ◌∷◌, ◌++◌, Option, None, Some, Bool, true, false, refl, sym, ◌∙◌, ap, subst, length}
 use Rattle.std.proofs.Common.{append_assoc, append-nil, arith}
 use Rattle.std.specs.Prelude.{not, ◌&&◌, ◌||◌, ◌==◌, nat_le, if◌then◌else◌, is_none}
-use Rattle.std.specs.List.{AllByRecursion, list_all, list_any}
+use Rattle.std.specs.List.{AllByRecursion, list_any}
 use Rattle.std.specs.Str.{bytes_eq}
 use Rattle.xs_text.specs.WhiteSpace.{is_blank}
 use Rattle.xs_pyx.specs.Row.{Row, rows_of}
@@ -25,11 +25,11 @@ use Rattle.xs_build.specs.steps.Lines.{row_step, put_before, and_then, meaning}
 use Rattle.xs_build.specs.Nodes.{element, attribute, spaces, text_node, comment, instruction}
 use Rattle.xs_build.specs.Document.{Outcome, tree, refused, outcome, document}
 use Rattle.xs_build.specs.DocumentTree.{is_well_named, IsElement}
-use Rattle.xs_build.proofs.StepsAgree.{agreement}
-use Rattle.xs_build.proofs.wellformed.ScopeLemmas.{IsScope, IsWritten, qname_parts, outermost_scope, declared_scope, declared_key}
-use Rattle.xs_build.proofs.wellformed.OwnNodeLemmas.{element_whole}
-use Rattle.xs_build.proofs.wellformed.NewElementLemmas.{IsNamed, attribute_scoped, attribute_qname}
-use Rattle.xs_build.proofs.wellformed.KeptElementLemmas.{Opens, Whole, Based, Holds, one_added, none_added, tag_added, attribute_added, element_added}
+use Rattle.xs_build.proofs.StepAgreementLemmas.{agreement}
+use Rattle.xs_build.proofs.WellFormedLemmas.ScopeLemmas.{IsScope, IsWritten, qname_parts, outermost_scope, declared_scope, declared_key}
+use Rattle.xs_build.proofs.WellFormedLemmas.OwnNodeLemmas.{element_whole}
+use Rattle.xs_build.proofs.WellFormedLemmas.NewElementLemmas.{IsNamed, attribute_scoped, attribute_qname}
+use Rattle.xs_build.proofs.WellFormedLemmas.KeptElementLemmas.{Opens, Whole, Based, Holds, one_added, none_added, tag_added, attribute_added, element_added}
 
 -- the nodes so far, and where the next line stands
 abbrev HoldsIn : List Record → Context → Type 0

@@ -13,8 +13,8 @@ use Rattle.xs_build.specs.Namespaces.{is_empty}
 use Rattle.xs_build.specs.Document.{tree, document}
 use Rattle.xs_tree.specs.Kinds.{is_element_kind}
 use Rattle.xs_build.specs.DocumentTree.{HasOneRoot, HasTopElement, IsWholeText}
-use Rattle.xs_build.proofs.wellformed.ChainLemmas.{count_cons, is_top, is_top_text, Follows, Chain}
-use Rattle.xs_build.proofs.wellformed.ChainLineLemmas.{Formed, formed}
+use Rattle.xs_build.proofs.WellFormedLemmas.ChainLemmas.{count_cons, is_top, is_top_text, Follows, Chain}
+use Rattle.xs_build.proofs.WellFormedLemmas.ChainLineLemmas.{Formed, formed}
 
 -- the nodes by their places
 chain_at : (r : Record) (rs : List Record) → Chain r rs → (k : ℕ) → k < length rs → Follows (at (r ∷ rs) k) (at rs k)

@@ -1,6 +1,6 @@
 use Rattle.std.proofs.Common.{ap, sym, ◌∙◌, ◌++◌}
 use Rattle.xs_tree.proofs.WalkLemmas.{child-within}
-use Rattle.xs_tree.proofs.tests.count_of_kind.Goals as goal
+use Rattle.xs_tree_tests.proofs.tests.count_of_kind.Goals as goal
 
 -- the child that comes next is in the tree
 pub kind-requires : goal.kind-requires

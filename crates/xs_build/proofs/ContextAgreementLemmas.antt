@@ -23,7 +23,7 @@ use Rattle.xs_build.specs.Nodes.{element, space, spaces}
 use Rattle.xs_build.specs.Rules.{start_name, reading_nodes, line_nodes}
 use Rattle.xs_build.specs.Document.{nodes_before, open_node}
 use Rattle.xs_build.specs.steps.Lines.{Context, innermost, scope_of, past, same_name}
-use Rattle.xs_build.proofs.LineAgrees.{name_of, told, SameNames, seen_in, inside_of, quiet_of, text_of}
+use Rattle.xs_build.proofs.LineAgreementLemmas.{name_of, told, SameNames, seen_in, inside_of, quiet_of, text_of}
 use Rattle.xs_build.proofs.RestStepLemmas.{text_ahead_none, text_ahead_more}
 use Rattle.xs_build.proofs.ReadingLemmas.{kind_of, begins, begins_other, no_text, no_attribute, is_text}
 

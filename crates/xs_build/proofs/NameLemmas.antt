@@ -1,0 +1,123 @@
+-- The name of an element or an attribute, by that of another node.
+use Rattle.std.proofs.Common.{◌≡◌, ℕ, ◌<◌, List, [], ◌∷◌, ◌++◌, Option, None, Some, Result, Ok, Err, Bool, true, false, length, eqb, refl, sym, ◌∙◌, ap, arith, unwrap_or}
+use Rattle.std.proofs.lemmas.Bool.Decides.{nat_tests}
+use Rattle.std.proofs.lemmas.Slice.Eq.{bytes_eq-Decides}
+use Rattle.std.specs.Str.{bytes_eq}
+use Rattle.xs_tree.specs.declared.names.Name.{Name}
+use Rattle.xs_tree.specs.Record.{Record, at}
+use Rattle.xs_tree.proofs.ShapeLemmas.{at-append, length-added}
+use Rattle.xs_build.specs.declared.fault.BuildFault.{BuildFault}
+use Rattle.xs_build.specs.declared.fault.BuildFault.TheVariants.{Bad, NoMemory}
+use Rattle.xs_build.specs.declared.known.NodeName.{NodeName}
+use Rattle.xs_build.specs.declared.known.NodeName.TheVariants.{Known, New}
+use Rattle.xs_build.specs.Faults.{bad_name, unbound_prefix}
+use Rattle.xs_build.specs.Namespaces.{Bindings, QName, uri_in, element_name, attribute_name, qname_of}
+use Rattle.xs_build.specs.Nodes.{local_name, text_node}
+use Rattle.xs_build.specs.steps.Lines.{Step, bad, needs}
+use Rattle.xs_build.specs.steps.Names.{Finds, IsNamed, Resolves, full_name}
+use Rattle.xs_build.specs.steps.State.{with_text_node}
+
+-- the URI that is bound, or none, is that of the name
+name_of_bound : (scope : Bindings) (prefix local uri : List ℕ) → uri_in scope prefix ≡ Some uri
+    → element_name scope (record { prefix = prefix; local = local }) ≡ Some (record { uri = uri; local = local; prefix = prefix })
+unfolding element_name
+name_of_bound scope [] local uri e = rw e refl
+name_of_bound scope (p ∷ prefix) local uri e = rw e refl
+
+name_of_unbound : (scope : Bindings) (local : List ℕ) → uri_in scope [] ≡ None
+    → element_name scope (record { prefix = []; local = local }) ≡ Some (record { uri = []; local = local; prefix = [] })
+unfolding element_name
+name_of_unbound scope local e = rw e refl
+
+name_of_none : (scope : Bindings) (prefix local uri : List ℕ) → uri_in scope prefix ≡ None → eqb (length prefix) 0 ≡ true → eqb (length uri) 0 ≡ true
+    → element_name scope (record { prefix = prefix; local = local }) ≡ Some (record { uri = uri; local = local; prefix = prefix })
+name_of_none scope [] local [] e p q = name_of_unbound scope local e
+name_of_none scope [] local (u ∷ uri) e p q = absurd (grind (arith, nat_tests))
+name_of_none scope (b ∷ prefix) local uri e p q = absurd (grind (arith, nat_tests))
+
+attribute_of_bound : (scope : Bindings) (prefix local uri : List ℕ) → eqb (length prefix) 0 ≡ false → uri_in scope prefix ≡ Some uri
+    → attribute_name scope (record { prefix = prefix; local = local }) ≡ Some (record { uri = uri; local = local; prefix = prefix })
+unfolding attribute_name
+attribute_of_bound scope [] local uri p e = absurd (cc)
+attribute_of_bound scope (b ∷ prefix) local uri p e = rw e refl
+
+attribute_of_none : (scope : Bindings) (prefix local uri : List ℕ) → eqb (length prefix) 0 ≡ true → eqb (length uri) 0 ≡ true
+    → attribute_name scope (record { prefix = prefix; local = local }) ≡ Some (record { uri = uri; local = local; prefix = prefix })
+unfolding attribute_name
+attribute_of_none scope [] local [] p q = refl
+attribute_of_none scope [] local (u ∷ uri) p q = absurd (grind (arith, nat_tests))
+attribute_of_none scope (b ∷ prefix) local uri p q = absurd (grind (arith, nat_tests))
+
+-- two texts that the code found to be the same
+same_bytes : (a b : List ℕ) → bytes_eq a b ≡ true → a ≡ b
+same_bytes a b e = (bytes_eq-Decides a b).0 e
+
+same_uri : (a b found uri : List ℕ) (t : Bool) → a ≡ found → b ≡ uri → t ≡ bytes_eq a b → t ≡ true → found ≡ uri
+same_uri a b found uri t a_is b_is is holds = sym a_is ∙ same_bytes a b (sym is ∙ holds) ∙ b_is
+
+-- a text that the code found to be empty
+is_bare : (a text : List ℕ) (t : Bool) → a ≡ text → t ≡ eqb (length a) 0 → t ≡ true → eqb (length text) 0 ≡ true
+is_bare a text t a_is is holds = ap (λ xs. eqb (length xs) 0) (sym a_is) ∙ sym is ∙ holds
+
+-- what the code looks at, of an element's name and of an attribute's
+pub element_bound : (scope : Bindings) (prefix local found uri a b : List ℕ) (t : Bool) → Some found ≡ uri_in scope prefix
+    → a ≡ found → b ≡ uri → t ≡ bytes_eq a b → t ≡ true
+    → element_name scope (record { prefix = prefix; local = local }) ≡ Some (record { uri = uri; local = local; prefix = prefix })
+element_bound scope prefix local found uri a b t e a_is b_is is holds =
+    name_of_bound scope prefix local uri (sym e ∙ ap Some (same_uri a b found uri t a_is b_is is holds))
+
+pub element_unbound : (scope : Bindings) (prefix local uri a b : List ℕ) (s t : Bool) → None ≡ uri_in scope prefix
+    → a ≡ prefix → s ≡ eqb (length a) 0 → s ≡ true → b ≡ uri → t ≡ eqb (length b) 0 → t ≡ true
+    → element_name scope (record { prefix = prefix; local = local }) ≡ Some (record { uri = uri; local = local; prefix = prefix })
+element_unbound scope prefix local uri a b s t e a_is s_is holds b_is t_is bare =
+    name_of_none scope prefix local uri (sym e) (is_bare a prefix s a_is s_is holds) (is_bare b uri t b_is t_is bare)
+
+pub attribute_bound : (scope : Bindings) (prefix local found uri a b d : List ℕ) (s t : Bool) → d ≡ prefix → s ≡ eqb (length d) 0 → s ≡ false
+    → Some found ≡ uri_in scope prefix → a ≡ found → b ≡ uri → t ≡ bytes_eq a b → t ≡ true
+    → attribute_name scope (record { prefix = prefix; local = local }) ≡ Some (record { uri = uri; local = local; prefix = prefix })
+attribute_bound scope prefix local found uri a b d s t d_is s_is some e a_is b_is is holds =
+    attribute_of_bound scope prefix local uri (ap (λ xs. eqb (length xs) 0) (sym d_is) ∙ sym s_is ∙ some)
+    (sym e ∙ ap Some (same_uri a b found uri t a_is b_is is holds))
+
+pub attribute_unbound : (scope : Bindings) (prefix local uri a b : List ℕ) (s t : Bool)
+    → a ≡ prefix → s ≡ eqb (length a) 0 → s ≡ true → b ≡ uri → t ≡ eqb (length b) 0 → t ≡ true
+    → attribute_name scope (record { prefix = prefix; local = local }) ≡ Some (record { uri = uri; local = local; prefix = prefix })
+attribute_unbound scope prefix local uri a b s t a_is s_is holds b_is t_is bare =
+    attribute_of_none scope prefix local uri (is_bare a prefix s a_is s_is holds) (is_bare b uri t b_is t_is bare)
+
+-- a text node more leaves the names
+pub named_behind : (rs : List Record) (p : ℕ) (text : List ℕ) (e : NodeName) → IsNamed rs e → IsNamed (with_text_node rs p text) e
+named_behind rs p text (New name) h = tt
+named_behind rs p [] (Known node) h = h
+named_behind rs p (b ∷ text) (Known node) h =
+    let same : at (rs ++ text_node (b ∷ text) p ∷ []) node ≡ at rs node = at-append rs (text_node (b ∷ text) p ∷ []) node h.0 in
+    (omega (arith, h.0, length-added rs (text_node (b ∷ text) p)), rw same h.1)
+
+pub full_behind : (rs : List Record) (p : ℕ) (text : List ℕ) (e : NodeName) → IsNamed rs e → full_name (with_text_node rs p text) e ≡ full_name rs e
+full_behind rs p text (New name) h = refl
+full_behind rs p [] (Known node) h = refl
+full_behind rs p (b ∷ text) (Known node) h =
+    ap (λ r. unwrap_or r.name (local_name [])) (at-append rs (text_node (b ∷ text) p ∷ []) node h.0)
+
+-- a node of this name names an element
+pub is_named : (rs : List Record) (node : ℕ) (name : Option Name) (full : Name) → node < length rs → name ≡ (at rs node).name → name ≡ Some full
+    → IsNamed rs (Known node)
+is_named rs node name full within same is =
+    let found : (at rs node).name ≡ Some full = sym same ∙ is in
+    (within, found ∙ sym (ap (λ o. Some (unwrap_or o (local_name []))) found))
+
+-- what was found for the prefix and the local part of a written name is found for that name
+pub finds : (r : Result NodeName BuildFault) (rs : List Record) (scope : Bindings) (written : List ℕ) (line : ℕ) (w : QName)
+    → qname_of written ≡ Some w → Resolves r rs (element_name scope w) line → Finds r rs scope written line
+finds (Ok found) rs scope written line w is h = (
+  h.0,
+  λ (next : Name → Step).
+      ap (λ o. needs o bad_name (λ w. needs (element_name scope w) unbound_prefix next)) is ∙ ap (λ o. needs o unbound_prefix next) h.1,
+)
+finds (Err (Bad number at)) rs scope written line w is h = (
+  λ (next : Name → Step).
+      ap (λ o. needs o bad_name (λ w. needs (element_name scope w) unbound_prefix next)) is
+      ∙ ap (λ o. needs o unbound_prefix next) h.0 ∙ sym (ap (λ n. bad n) h.1),
+  h.2,
+)
+finds (Err NoMemory) rs scope written line w is h = tt

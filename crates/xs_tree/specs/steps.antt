@@ -1,0 +1,2 @@
+-- What the code mirrors, which no public contract cites.
+pub mod Compaction
