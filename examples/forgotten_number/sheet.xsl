@@ -1,0 +1,4 @@
+<xsl:stylesheet xmlns:xsl="http://www.w3.org/1999/XSL/Transform" version="1.0"
+><xsl:output method="text"/><xsl:template match="/"
+>Seats taken: <xsl:value-of select="hall/taken"/>.</xsl:template
+></xsl:stylesheet>

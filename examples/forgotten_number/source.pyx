@@ -1,0 +1,5 @@
+(hall
+(taken
+-112
+)taken
+)hall
