@@ -14,12 +14,3 @@ mod words;
 pub use top::{Report, transform};
 pub use xs_outside as outside;
 pub use xs_trace::place::{Claim, Place};
-
-#[cfg(test)]
-mod fault_tests;
-#[cfg(test)]
-mod runs;
-#[cfg(test)]
-mod tests;
-#[cfg(test)]
-mod tick_tests;

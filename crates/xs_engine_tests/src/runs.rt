@@ -2,9 +2,9 @@
 
 ghost use Rattle.std.specs.Prelude.{◌≤◌};
 
-use crate::{Report, transform};
 use std::alloc::{AllocError, Global};
 use std::thread::Threads;
+use xs_engine::{Report, transform};
 use xs_outside::{MemLibrary, MemSink, OpenGate};
 
 /// A stylesheet that puts the first total of an invoice.

@@ -1,11 +1,10 @@
 //! Literal result elements, read from a stylesheet and run.
-#![tactic(auto)]
 
 use crate::made_trees::{Row, XSL};
-use crate::run::run_body;
 use crate::sheet_tests::small_body;
 use std::alloc::Global;
 use std::test::Fail;
+use xs_body::run::run_body;
 use xs_trace::event::Event;
 use xs_trace::item::{Item, Limits};
 use xs_trace::whole::Kept;

@@ -1,12 +1,11 @@
 //! Small stylesheets, read from trees that are made node by node.
-#![tactic(auto)]
 
 use crate::made_trees::{Row, XSL, grow, grow_all, grow_in, tree_of};
-use crate::paths::Test;
-use crate::read::{read_body, root_line};
-use crate::syntax::{Body, Instr, InstrKind};
 use std::alloc::{AllocError, Global};
 use std::test::Fail;
+use xs_body::paths::Test;
+use xs_body::read::{read_body, root_line};
+use xs_body::syntax::{Body, Instr, InstrKind};
 use xs_trace::item::Site;
 use xs_tree::{Kind, Tree};
 
@@ -137,9 +136,9 @@ fn body_in(alloc: Global, sheet: &Tree) -> Result<Option<Body>, Fail> {
     Ok(read_body(alloc, sheet, &lines)?)
 }
 
-// The body of a stylesheet that has this template, from place 6 on, if it is one; each node stands
-// in the line of its place.
-fn body_of(alloc: Global, template: &[Row]) -> Result<Option<Body>, Fail> {
+/// The body of a stylesheet that has this template, from place 6 on, if it is one; each node stands
+/// in the line of its place.
+pub(crate) fn body_of(alloc: Global, template: &[Row]) -> Result<Option<Body>, Fail> {
     let mut sheet = tree_of(alloc, &SHEET)?;
     grow_all(alloc, &mut sheet, template)?;
     body_in(alloc, &sheet)

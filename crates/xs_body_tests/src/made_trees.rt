@@ -1,5 +1,4 @@
 //! Trees made node by node.
-#![tactic(auto)]
 
 use std::alloc::{AllocError, Global};
 use std::test::Fail;

@@ -1,12 +1,11 @@
 //! Small bodies, run.
-#![tactic(auto)]
 
 use crate::made_trees::{Row, tree_of};
-use crate::paths::{Names, Path, Test};
-use crate::run::run_body;
-use crate::syntax::{Body, Instr, InstrKind};
 use std::alloc::{AllocError, Global};
 use std::test::Fail;
+use xs_body::paths::{Names, Path, Test};
+use xs_body::run::run_body;
+use xs_body::syntax::{Body, Instr, InstrKind};
 use xs_trace::event::{Event, Label};
 use xs_trace::item::{Ended, Item, Limits, Site};
 use xs_trace::text::TextBuf;

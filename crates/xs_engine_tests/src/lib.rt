@@ -1,0 +1,11 @@
+//! Tests of whole runs in memory, through the public calls of `xs_engine` alone.
+#![tactic(auto)]
+
+#[cfg(test)]
+mod fault_tests;
+#[cfg(test)]
+mod run_tests;
+#[cfg(test)]
+mod runs;
+#[cfg(test)]
+mod tick_tests;
