@@ -1,8 +1,6 @@
 -- The answer that is due, by what was read of the two files of a run.
-use Rattle.std.proofs.Common.{◌≡◌, ◌≢◌, ◌∙◌, refl, ap, ℕ, List, [], ◌∷◌, ◌++◌, Option, Some, None, Bool, true, false, cond, Result, Ok, Err, IfOk, length, drop, sym, subst}
-use Rattle.std.specs.Str.{bytes_eq}
+use Rattle.std.proofs.Common.{◌≡◌, ◌∙◌, refl, ap, ℕ, List, [], ◌∷◌, ◌++◌, Option, Some, None, Result, Ok, Err, IfOk, length, drop, sym, subst}
 use Rattle.std.proofs.Math.Seq.{drop-length, drop-append_seam}
-use Rattle.std.proofs.lemmas.Slice.Eq.{bytes_eq-Decides}
 use Rattle.xs_outside.specs.Edge.{Files}
 use Rattle.xs_tree.specs.Record.{Record}
 use Rattle.xs_engine.specs.declared.reply.Reply.{Reply}
@@ -12,47 +10,37 @@ use Rattle.xs_engine.specs.Answer.{Answer, usage, read_fault}
 use Rattle.xs_engine.specs.Words.{Job}
 use Rattle.xs_engine.specs.Read.{Read, read, read_as}
 use Rattle.xs_engine.specs.Sheet.{Template, sheet_of}
-use Rattle.xs_engine.specs.Run.{source_of, fetched, built, root_answer, run_answer}
-use Rattle.xs_engine.specs.Fetches.{OverFiles, ReadsOnce}
+use Rattle.xs_engine.specs.Run.{source_of, built, root_answer, run_answer}
+use Rattle.xs_engine.specs.Fetches.{OverFiles}
 use Rattle.xs_engine.specs.Headline.{due_after, due}
 use Rattle.xs_engine.specs.Reply.{Holds, FileGives, answer_to, reply_of, template}
 
--- what holds of any files
-pub over_any : (told : Option Files) (once : Type 0) (P : Files → Type 0) → ((files : Files) → P files) → OverFiles told once P
-over_any None once P h = λ _. ((λ _. None), h (λ _. None))
-over_any (Some files) once P h = h files
+-- what holds of any two files
+pub over_any : (told : Option Files) (job : Option Job) (P : Option (List ℕ) → Option (List ℕ) → Type 0)
+    → ((sheet source : Option (List ℕ)) → P sheet source) → OverFiles told job P
+over_any None job P h = (None, None, h None None)
+over_any (Some files) None P h = h None None
+over_any (Some files) (Some job) P h = h (files job.sheet) (files job.source)
 
--- what follows of the same files
-pub over_same : (told : Option Files) (once : Type 0) (P Q : Files → Type 0) → ((files : Files) → P files → Q files) → OverFiles told once P
-    → OverFiles told once Q
-over_same None once P Q h over = λ o. let some = over o in (some.0, h some.0 some.1)
-over_same (Some files) once P Q h over = h files over
+-- what follows of the same two files
+pub over_same : (told : Option Files) (job : Option Job) (P Q : Option (List ℕ) → Option (List ℕ) → Type 0)
+    → ((sheet source : Option (List ℕ)) → P sheet source → Q sheet source) → OverFiles told job P → OverFiles told job Q
+over_same None job P Q h over = (over.0, over.1, h over.0 over.1 over.2)
+over_same (Some files) None P Q h over = h None None over
+over_same (Some files) (Some job) P Q h over = h (files job.sheet) (files job.source) over
 
--- what holds of the files that have these bytes under a name
-over_one : (told : Option Files) (once : Type 0) (name bytes : List ℕ) (P : Files → Type 0) → Holds told name bytes
-    → ((files : Files) → files name ≡ Some bytes → P files) → OverFiles told once P
-over_one None once name bytes P holds h = λ _. ((λ _. Some bytes), h (λ _. Some bytes) refl)
-over_one (Some files) once name bytes P holds h = h files holds
+-- what holds of a stylesheet of these bytes, whatever the source
+over_one : (told : Option Files) (job : Job) (bytes : List ℕ) (P : Option (List ℕ) → Option (List ℕ) → Type 0) → Holds told job.sheet bytes
+    → ((source : Option (List ℕ)) → P (Some bytes) source) → OverFiles told (Some job) P
+over_one None job bytes P holds h = (Some bytes, None, h None)
+over_one (Some files) job bytes P holds h = subst (λ sheet. P sheet (files job.source)) (sym holds) (h (files job.source))
 
--- the files of two names
-abbrev two_files : List ℕ → List ℕ → List ℕ → Files
-two_files name bytes others wanted = cond (bytes_eq wanted name) (Some bytes) (Some others)
-
-chosen : (b : Bool) (bytes others : List ℕ) → b ≡ true → cond b (Some bytes) (Some others) ≡ Some bytes
-chosen b bytes others e = rw e refl
-
-other : (b : Bool) (wanted name bytes others : List ℕ) → (b ≡ true → wanted ≡ name) → name ≢ wanted → cond b (Some bytes) (Some others) ≡ Some others
-other true wanted name bytes others same differ = absurd (differ (sym (same refl)))
-other false wanted name bytes others same differ = refl
-
-over_two : (told : Option Files) (once : Type 0) (s t b c : List ℕ) (P : Files → Type 0) → Holds told s b → Holds told t c → (once → s ≢ t)
-    → ((files : Files) → files s ≡ Some b → files t ≡ Some c → P files) → OverFiles told once P
-over_two None once s t b c P first second differ h =
-    λ o. (
-      two_files s b c,
-      h (two_files s b c) (chosen (bytes_eq s s) b c ((bytes_eq-Decides s s).1 refl)) (other (bytes_eq t s) t s b c (bytes_eq-Decides t s).0 (differ o)),
-    )
-over_two (Some files) once s t b c P first second differ h = h files first second
+-- and of a stylesheet and a source
+over_two : (told : Option Files) (job : Job) (s t : List ℕ) (P : Option (List ℕ) → Option (List ℕ) → Type 0)
+    → Holds told job.sheet s → Holds told job.source t → P (Some s) (Some t) → OverFiles told (Some job) P
+over_two None job s t P first second h = (Some s, Some t, h)
+over_two (Some files) job s t P first second h =
+    subst (λ sheet. P sheet (files job.source)) (sym first) (subst (P (Some s)) (sym second) h)
 
 -- the answer that is due where no fetch failed
 no_fault : (failed failed' : List (List ℕ)) (answer : Answer) → failed' ≡ failed → due_after (drop (length failed) failed') answer ≡ answer
@@ -63,10 +51,10 @@ fault : (failed failed' : List (List ℕ)) (name : List ℕ) (answer : Answer) �
     → due_after (drop (length failed) failed') answer ≡ read_fault name
 fault failed failed' name answer e = rw (e, drop-append_seam failed (name ∷ [])) refl
 
--- a file that is there, and what was read of it
-file_read : {A : Type 0} (reading : List ℕ → Read A) (file : Option (List ℕ)) (name bytes : List ℕ) (found : Read A) (f : A → Answer)
-    → file ≡ Some bytes → found ≡ reading bytes → fetched file name (λ b. built (reading b) name f) ≡ built found name f
-file_read reading file name bytes found f e g = rw e (ap (λ r. built r name f) (sym g))
+-- what was read of a file
+file_read : {A : Type 0} (reading : List ℕ → Read A) (name bytes : List ℕ) (found : Read A) (f : A → Answer)
+    → found ≡ reading bytes → built (reading bytes) name f ≡ built found name f
+file_read reading name bytes found f e = ap (λ r. built r name f) (sym e)
 
 -- a file that is refused
 pub built_refused : {A B : Type 0} (reading : A → B) (r : Refusal) (name : List ℕ) (f : B → Answer) → built (read_as reading (Err r)) name f ≡ answer_to r name
@@ -75,23 +63,23 @@ built_refused reading (Fault number line) name f = refl
 
 -- what a run owes its caller with the reply that it found
 abbrev pub Owes : Option Files → Job → (failed failed' : List (List ℕ)) → Answer → Type 0
-Owes told job failed failed' answer = OverFiles told (ReadsOnce (Some job) failed failed') (λ files. answer ≡ due (Some job) files failed failed')
+Owes told job failed failed' answer = OverFiles told (Some job) (λ sheet source. answer ≡ due (Some job) sheet source failed failed')
 
 reply_owed : {E : Type 0} (r : Result Reply E) (told : Option Files) (job : Job) (failed failed' : List (List ℕ)) (answer : Answer)
     → IfOk r (λ reply. reply_of reply ≡ answer) → Owes told job failed failed' answer → IfOk r (λ reply. Owes told job failed failed' (reply_of reply))
 reply_owed (Err e) told job failed failed' answer is owed = tt
 reply_owed (Ok reply) told job failed failed' answer is owed =
-    over_same told (ReadsOnce (Some job) failed failed') (λ files. answer ≡ due (Some job) files failed failed')
-    (λ files. reply_of reply ≡ due (Some job) files failed failed') (λ files d. is ∙ d) owed
+    over_same told (Some job) (λ sheet source. answer ≡ due (Some job) sheet source failed failed')
+    (λ sheet source. reply_of reply ≡ due (Some job) sheet source failed failed') (λ sheet source d. is ∙ d) owed
 
 -- the words are refused, and no fetch failed
 pub usage_owed : {E : Type 0} (r : Result Reply E) (told : Option Files) (job : Option Job) (failed : List (List ℕ)) → None ≡ job
-    → IfOk r (λ reply. reply_of reply ≡ usage) → IfOk r
-    (λ reply. OverFiles told (ReadsOnce job failed failed) (λ files. reply_of reply ≡ due job files failed failed))
+    → IfOk r (λ reply. reply_of reply ≡ usage)
+    → IfOk r (λ reply. OverFiles told job (λ sheet source. reply_of reply ≡ due job sheet source failed failed))
 usage_owed (Err e) told job failed none is = tt
 usage_owed (Ok reply) told job failed none is =
-    subst (λ j. OverFiles told (ReadsOnce j failed failed) (λ files. reply_of reply ≡ due j files failed failed)) none
-    (over_any told (ReadsOnce None failed failed) (λ files. reply_of reply ≡ due None files failed failed) (λ files. is
+    subst (λ j. OverFiles told j (λ sheet source. reply_of reply ≡ due j sheet source failed failed)) none
+    (over_any told None (λ sheet source. reply_of reply ≡ due None sheet source failed failed) (λ sheet source. is
     ∙ sym (no_fault failed failed usage refl)))
 
 -- a fetch failed
@@ -99,33 +87,30 @@ pub fault_owed : {E : Type 0} (r : Result Reply E) (told : Option Files) (job : 
     → failed' ≡ failed ++ name ∷ [] → IfOk r (λ reply. reply_of reply ≡ read_fault name) → IfOk r (λ reply. Owes told job failed failed' (reply_of reply))
 fault_owed r told job failed failed' name e is =
     reply_owed r told job failed failed' (read_fault name) is
-    (over_any told (ReadsOnce (Some job) failed failed') (λ files. read_fault name ≡ due (Some job) files failed failed')
-    (λ files. sym (fault failed failed' name (run_answer job files) e)))
+    (over_any told (Some job) (λ sheet source. read_fault name ≡ due (Some job) sheet source failed failed')
+    (λ sheet source. sym (fault failed failed' name (run_answer job sheet source) e)))
 
 -- the stylesheet is refused
 pub sheet_owed : {E : Type 0} (r : Result Reply E) (told : Option Files) (job : Job) (failed failed' : List (List ℕ)) (refusal : Refusal)
     → failed' ≡ failed → FileGives sheet_of told job.sheet (read_as template (Err refusal))
     → IfOk r (λ reply. reply_of reply ≡ answer_to refusal job.sheet) → IfOk r (λ reply. Owes told job failed failed' (reply_of reply))
 sheet_owed r told job failed failed' refusal e found is =
-    let P : Files → Type 0 = λ files. answer_to refusal job.sheet ≡ due (Some job) files failed failed' in
-    let then_due : (files : Files) → files job.sheet ≡ Some found.bytes → P files = (λ files h.
-    sym (no_fault failed failed' (run_answer job files) e
-    ∙ file_read sheet_of (files job.sheet) job.sheet found.bytes (read_as template (Err refusal)) _ h found.gives
-    ∙ built_refused template refusal job.sheet _)) in
     reply_owed r told job failed failed' (answer_to refusal job.sheet) is
-    (over_one told (ReadsOnce (Some job) failed failed') job.sheet found.bytes P found.holds then_due)
+    (over_one told job found.bytes (λ sheet source. answer_to refusal job.sheet ≡ due (Some job) sheet source failed failed') found.holds (λ source.
+    sym (no_fault failed failed' (run_answer job (Some found.bytes) source) e
+    ∙ file_read sheet_of job.sheet found.bytes (read_as template (Err refusal)) _ found.gives
+    ∙ built_refused template refusal job.sheet _)))
 
 -- both files were read
 source_found : (told : Option Files) (job : Job) (failed failed' : List (List ℕ)) (sheet : Template) (source : Read (List Record))
     → failed' ≡ failed → FileGives sheet_of told job.sheet (read sheet) → FileGives source_of told job.source source
     → Owes told job failed failed' (built source job.source (root_answer job sheet))
 source_found told job failed failed' sheet source e s t =
-    let P : Files → Type 0 = λ files. built source job.source (root_answer job sheet) ≡ due (Some job) files failed failed' in
-    let then_due : (files : Files) → files job.sheet ≡ Some s.bytes → files job.source ≡ Some t.bytes → P files = (λ files h i.
-    sym (no_fault failed failed' (run_answer job files) e
-    ∙ file_read sheet_of (files job.sheet) job.sheet s.bytes (read sheet) _ h s.gives
-    ∙ file_read source_of (files job.source) job.source t.bytes source (root_answer job sheet) i t.gives)) in
-    over_two told (ReadsOnce (Some job) failed failed') job.sheet job.source s.bytes t.bytes P s.holds t.holds (λ once. once e) then_due
+    over_two told job s.bytes t.bytes
+    (λ one two. built source job.source (root_answer job sheet) ≡ due (Some job) one two failed failed') s.holds t.holds
+    (sym (no_fault failed failed' (run_answer job (Some s.bytes) (Some t.bytes)) e
+    ∙ file_read sheet_of job.sheet s.bytes (read sheet) _ s.gives
+    ∙ file_read source_of job.source t.bytes source (root_answer job sheet) t.gives))
 
 -- the source is refused
 pub source_owed : {E : Type 0} (r : Result Reply E) (told told' : Option Files) (job : Job) (failed middle failed' : List (List ℕ)) (sheet : Template)

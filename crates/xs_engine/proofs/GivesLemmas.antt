@@ -3,6 +3,7 @@ use Rattle.std.proofs.Common.{◌≡◌, ℕ, List, [], Option, Some, None, refl
 use Rattle.xs_outside.specs.Edge.{Files}
 use Rattle.xs_engine.specs.declared.status.TheConstants.{NO_MEMORY}
 use Rattle.xs_engine.specs.Answer.{Answer}
+use Rattle.xs_engine.specs.Words.{Job}
 use Rattle.xs_engine.specs.Fetches.{OverFiles}
 use Rattle.xs_engine.specs.Headline.{Gained, IsWritten, Gives}
 use Rattle.xs_engine.proofs.DueLemmas.{over_any, over_same}
@@ -28,14 +29,15 @@ nothing_given answer status ticks out err e = record {
 }
 
 -- and so it is whatever the files
-pub gives_nothing : (told : Option Files) (once : Type 0) (answer : Files → Answer) (status ticks : ℕ) (out err : Option (List ℕ)) → status ≡ NO_MEMORY
-    → OverFiles told once (λ files. Gives (answer files) status ticks out out err err)
-gives_nothing told once answer status ticks out err e = over_any told once _ (λ files. nothing_given (answer files) status ticks out err e)
+pub gives_nothing : (told : Option Files) (job : Option Job) (due : Option (List ℕ) → Option (List ℕ) → Answer) (status ticks : ℕ)
+    (out err : Option (List ℕ)) → status ≡ NO_MEMORY → OverFiles told job (λ sheet source. Gives (due sheet source) status ticks out out err err)
+gives_nothing told job due status ticks out err e =
+    over_any told job _ (λ sheet source. nothing_given (due sheet source) status ticks out err e)
 
 -- an answer that was written is the one that is due
-pub gives_due : (told : Option Files) (once : Type 0) (due : Files → Answer) (answer : Answer) (status ticks : ℕ) (out out' err err' : Option (List ℕ))
-    → OverFiles told once (λ files. answer ≡ due files) → Gives answer status ticks out out' err err'
-    → OverFiles told once (λ files. Gives (due files) status ticks out out' err err')
-gives_due told once due answer status ticks out out' err err' owed given =
-    over_same told once (λ files. answer ≡ due files) (λ files. Gives (due files) status ticks out out' err err')
-    (λ files e. subst (λ a. Gives a status ticks out out' err err') e given) owed
+pub gives_due : (told : Option Files) (job : Option Job) (due : Option (List ℕ) → Option (List ℕ) → Answer) (answer : Answer) (status ticks : ℕ)
+    (out out' err err' : Option (List ℕ)) → OverFiles told job (λ sheet source. answer ≡ due sheet source) → Gives answer status ticks out out' err err'
+    → OverFiles told job (λ sheet source. Gives (due sheet source) status ticks out out' err err')
+gives_due told job due answer status ticks out out' err err' owed given =
+    over_same told job (λ sheet source. answer ≡ due sheet source) (λ sheet source. Gives (due sheet source) status ticks out out' err err')
+    (λ sheet source e. subst (λ a. Gives a status ticks out out' err err') e given) owed

@@ -1,5 +1,5 @@
 -- What a run asks its library for, and the files that it is judged by.
-use Rattle.std.specs.Prelude.{◌≡◌, ◌≢◌, ℕ, List, [], ◌∷◌, ◌++◌, Option, Some, None, IfSome, IsSomeAnd, ⊤}
+use Rattle.std.specs.Prelude.{◌≡◌, ℕ, List, [], ◌∷◌, ◌++◌, Option, Some, None, IfSome, IsSomeAnd}
 use Rattle.xs_outside.specs.Edge.{Files}
 use Rattle.xs_engine.specs.Words.{Job}
 use Rattle.xs_engine.specs.Read.{IsRead}
@@ -31,13 +31,9 @@ abbrev pub Fetches : Option Job → Option Files → (asked asked_after failed f
 Fetches None files asked asked_after failed failed_after = (asked_after ≡ asked) × (failed_after ≡ failed)
 Fetches (Some job) files asked asked_after failed failed_after = JobFetches job files asked asked_after failed failed_after
 
--- where no fetch failed, the two names differ
-abbrev pub ReadsOnce : Option Job → (failed failed_after : List (List ℕ)) → Type 0
-ReadsOnce None failed failed_after = ⊤
-ReadsOnce (Some job) failed failed_after = failed_after ≡ failed → job.sheet ≢ job.source
-
--- P of the files that the library tells. Where it tells none, P of some files: those that it had, each as it was read. A file
--- that was read twice may have changed between.
-abbrev pub OverFiles : Option Files → Type 0 → (Files → Type 0) → Type 0
-OverFiles None once P = once → (files : Files) × P files
-OverFiles (Some files) once P = P files
+-- P of the two files of a job, as its stylesheet and its source were read; None is a name that has no file. They are those that
+-- the library tells. Where it tells none, there are such two. Refused words have none.
+abbrev pub OverFiles : Option Files → Option Job → (Option (List ℕ) → Option (List ℕ) → Type 0) → Type 0
+OverFiles None job P = (sheet : Option (List ℕ)) × (source : Option (List ℕ)) × P sheet source
+OverFiles (Some files) None P = P None None
+OverFiles (Some files) (Some job) P = P (files job.sheet) (files job.source)

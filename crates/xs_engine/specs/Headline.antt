@@ -1,24 +1,24 @@
 -- What holds after a run, whatever its words, files, sinks, workers and schedule.
 use Rattle.std.specs.Prelude.{◌≡◌, ◌≢◌, ℕ, ◌⊎◌, List, [], ◌∷◌, ◌++◌, Option, Some, None, IfSome, drop, length}
-use Rattle.xs_outside.specs.Edge.{Files, IsBeginning, raised}
+use Rattle.xs_outside.specs.Edge.{IsBeginning, raised}
 use Rattle.xs_engine.specs.declared.status.TheConstants.{OK, RUN_FAULT, WRITE_FAULT, NO_MEMORY}
 use Rattle.xs_engine.specs.Answer.{Answer, usage, read_fault}
 use Rattle.xs_engine.specs.Words.{Job}
 use Rattle.xs_engine.specs.Run.{run_answer}
 
 -- Refused words have their answer whatever the files.
-abbrev pub answers : Option Job → Files → Answer
-answers None files = usage
-answers (Some job) files = run_answer job files
+abbrev pub answers : Option Job → (sheet source : Option (List ℕ)) → Answer
+answers None sheet source = usage
+answers (Some job) sheet source = run_answer job sheet source
 
 abbrev pub due_after : List (List ℕ) → Answer → Answer
 due_after [] answer = answer
 due_after (name ∷ names) answer = read_fault name
 
--- The answer that a run owes over these files: what the words and the files define; or, where the library's list of failed
+-- The answer that a run owes over these two files: what the words and the files define; or, where the library's list of failed
 -- names grew in this run, the fault on the name that was added.
-abbrev pub due : Option Job → Files → (failed failed_after : List (List ℕ)) → Answer
-due job files failed failed_after = due_after (drop (length failed) failed_after) (answers job files)
+abbrev pub due : Option Job → (sheet source : Option (List ℕ)) → (failed failed_after : List (List ℕ)) → Answer
+due job sheet source failed failed_after = due_after (drop (length failed) failed_after) (answers job sheet source)
 
 -- A sink that tells its bytes holds what it held and then this many more.
 abbrev pub Gained : Option (List ℕ) → Option (List ℕ) → (List ℕ → Type 0) → Type 0

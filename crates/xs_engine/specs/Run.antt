@@ -1,6 +1,5 @@
--- The answer of a run: a function of its words and of the files that the library has, and of nothing else.
+-- The answer of a run: a function of its words and of the bytes of its two files, and of nothing else.
 use Rattle.std.specs.Prelude.{ℕ, List, Option, Some, None}
-use Rattle.xs_outside.specs.Edge.{Files}
 use Rattle.xs_tree.specs.Record.{Record}
 use Rattle.xs_build.specs.Document.{document, Outcome, tree, refused}
 use Rattle.xs_trace.specs.Cut.{cut}
@@ -14,7 +13,7 @@ use Rattle.xs_engine.specs.Answer.{Answer, read_fault, not_built, refused_file, 
 abbrev pub source_limit : ℕ
 source_limit = 268435456
 
--- a file of the library, or the fault that it has none of that name
+-- the bytes of a file, or the fault that there is none of that name
 abbrev pub fetched : Option (List ℕ) → List ℕ → (List ℕ → Answer) → Answer
 fetched None name f = read_fault name
 fetched (Some bytes) name f = f bytes
@@ -38,11 +37,11 @@ source_of bytes = source_read (document source_limit bytes)
 unfoldable pub root_answer : Job → Template → List Record → Answer
 root_answer job sheet records = cut_answer job.sheet (cut (root_trace sheet.root_line sheet.body records) job.budget None)
 
--- the stylesheet is read before the source
-abbrev pub run_answer : Job → Files → Answer
-run_answer job files =
-    fetched (files job.sheet) job.sheet (λ bytes.
-    built (sheet_of bytes) job.sheet (λ sheet.
-    fetched (files job.source) job.source (λ source.
-    built (source_of source) job.source (λ records.
-    root_answer job sheet records))))
+-- the bytes of the stylesheet and of the source, None where there is no such file; the stylesheet is read before the source
+abbrev pub run_answer : Job → (sheet source : Option (List ℕ)) → Answer
+run_answer job sheet source =
+    fetched sheet job.sheet (λ sheet_bytes.
+    built (sheet_of sheet_bytes) job.sheet (λ template.
+    fetched source job.source (λ source_bytes.
+    built (source_of source_bytes) job.source (λ records.
+    root_answer job template records))))

@@ -6,7 +6,7 @@ ghost use Rattle.xs_engine.specs.declared.status.TheConstants.{WRITE_FAULT};
 ghost use Rattle.xs_engine.specs.Asked.{asked, texts};
 ghost use Rattle.xs_engine.specs.Words.{job_of};
 ghost use Rattle.xs_engine.specs.Run.{root_answer};
-ghost use Rattle.xs_engine.specs.Fetches.{Fetches, OverFiles, ReadsOnce};
+ghost use Rattle.xs_engine.specs.Fetches.{Fetches, OverFiles};
 ghost use Rattle.xs_engine.specs.Headline.{HasTicks, due};
 ghost use Rattle.xs_engine.specs.Reply.{IsWholeOrEmpty, reply_of, template};
 
@@ -21,7 +21,7 @@ use xs_outside::{FetchEnd, Library};
 use xs_trace::item::{Ended, Limits};
 use xs_tree::Tree;
 
-/// The answer of a run: a function of the words and of the files in the library.
+/// The answer of a run: a function of the words and of the two files that they name.
 pub fn reply_to<L: Library>(
     alloc: Global,
     words: &[String],
@@ -30,10 +30,10 @@ pub fn reply_to<L: Library>(
     ensures files { L.files library.new ≡ L.files library.old }
     ensures fetches { Fetches (job_of (texts words.now)) (L.files library.old)
         (L.asked library.old) (L.asked library.new) (L.failed library.old) (L.failed library.new) }
-    ensures answer { IfOk result (λ reply. OverFiles (L.files library.old)
-        (ReadsOnce (job_of (texts words.now)) (L.failed library.old) (L.failed library.new))
-        (λ files. reply_of reply
-        ≡ due (job_of (texts words.now)) files (L.failed library.old) (L.failed library.new))) }
+    ensures answer { IfOk result (λ reply.
+        OverFiles (L.files library.old) (job_of (texts words.now)) (λ sheet source. reply_of reply
+        ≡ due (job_of (texts words.now)) sheet source
+        (L.failed library.old) (L.failed library.new))) }
     ensures usage_only { IfOk result (λ reply.
         reply.status ≡ USAGE → job_of (texts words.now) ≡ None) }
     ensures read_fault_only { IfOk result (λ reply. reply.status ≡ READ_FAULT
@@ -57,10 +57,10 @@ fn run_reply<L: Library>(
     ensures files { L.files library.new ≡ L.files library.old }
     ensures fetches { Fetches (Some (asked words.now)) (L.files library.old)
         (L.asked library.old) (L.asked library.new) (L.failed library.old) (L.failed library.new) }
-    ensures answer { IfOk result (λ reply. OverFiles (L.files library.old)
-        (ReadsOnce (Some (asked words.now)) (L.failed library.old) (L.failed library.new))
-        (λ files. reply_of reply
-        ≡ due (Some (asked words.now)) files (L.failed library.old) (L.failed library.new))) }
+    ensures answer { IfOk result (λ reply.
+        OverFiles (L.files library.old) (Some (asked words.now)) (λ sheet source. reply_of reply
+        ≡ due (Some (asked words.now)) sheet source
+        (L.failed library.old) (L.failed library.new))) }
     ensures read_fault_only { IfOk result (λ reply. reply.status ≡ READ_FAULT
         → length (L.failed library.old) < length (L.failed library.new)) }
     ensures status { IfOk result (λ reply.

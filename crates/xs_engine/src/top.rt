@@ -5,7 +5,7 @@ ghost use Rattle.xs_engine.specs.declared.status.TheConstants.{NO_MEMORY, OK, RE
 ghost use Rattle.xs_engine.specs.declared.status.TheConstants.{WRITE_FAULT};
 ghost use Rattle.xs_engine.specs.Words.{job_of};
 ghost use Rattle.xs_engine.specs.Asked.{texts};
-ghost use Rattle.xs_engine.specs.Fetches.{Fetches, OverFiles, ReadsOnce};
+ghost use Rattle.xs_engine.specs.Fetches.{Fetches, OverFiles};
 ghost use Rattle.xs_engine.specs.Headline.{Gained, Gives, HasTicks, OneFault, due};
 
 use crate::answer::reply_to;
@@ -51,10 +51,10 @@ pub fn transform<R: Threads + Sync, L: Library, O: Sink, E: Sink, G: Gate>(
         (L.asked library.old) (L.asked library.new) (L.failed library.old) (L.failed library.new) }
 
     // What the words and the files define is what the report and the sinks get.
-    ensures gives { OverFiles (L.files library.old)
-        (ReadsOnce (job_of (texts words.now)) (L.failed library.old) (L.failed library.new))
-        (λ files. Gives
-        (due (job_of (texts words.now)) files (L.failed library.old) (L.failed library.new))
+    ensures gives { OverFiles (L.files library.old) (job_of (texts words.now))
+        (λ sheet source. Gives
+        (due (job_of (texts words.now)) sheet source
+        (L.failed library.old) (L.failed library.new))
         result.status result.ticks
         (O.held out.old) (O.held out.new) (E.held err.old) (E.held err.new)) }
 
