@@ -1,0 +1,34 @@
+//! What is true of the grammar. The functions do nothing: their contracts are the laws.
+
+ghost use Rattle.xs_xpath.specs.Laws.{OneTree, OneTreeOfText, OutcomeIsTold, SyntaxIsTold};
+ghost use Rattle.xs_xpath.specs.Laws.{TextsHaveTokens, TokensAreRead};
+
+/// Tokens spell by the rules the tree that the function `tree_of` gives, and no other.
+pub fn tokens_are_read()
+    ensures { TokensAreRead }
+{}
+
+/// Tokens spell at most one tree.
+pub fn one_tree()
+    ensures { OneTree }
+{}
+
+/// A text has by the rules the tokens that the function `lexemes_in` gives, and no others.
+pub fn texts_have_tokens()
+    ensures { TextsHaveTokens }
+{}
+
+/// A text stands for at most one tree in a scope.
+pub fn one_tree_of_text()
+    ensures { OneTreeOfText }
+{}
+
+/// Which texts are told to be in no spelling of the grammar.
+pub fn syntax_is_told()
+    ensures { SyntaxIsTold }
+{}
+
+/// What is told of the others.
+pub fn outcome_is_told()
+    ensures { OutcomeIsTold }
+{}

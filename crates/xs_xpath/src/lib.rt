@@ -1,0 +1,21 @@
+//! Expressions of XPath 1.0: their parser.
+#![tactic(auto)]
+
+mod arity;
+mod bytes;
+pub mod expr;
+pub mod fault;
+pub mod laws;
+mod lexer;
+pub mod name;
+mod names;
+mod nesting;
+pub mod parse;
+mod part;
+mod path;
+pub mod pattern;
+mod read;
+mod scan;
+pub mod scope;
+mod signs;
+pub mod token;

@@ -1,0 +1,79 @@
+//! What names stand for: functions, node tests and variables.
+
+use xs_trace::text::TextBuf;
+
+/// A function of the core library (XPath 1.0, 4), or of XSLT 1.0 (12 and 15).
+#[derive(Clone, Copy)]
+pub enum Function {
+    Last,
+    Position,
+    Count,
+    Id,
+    LocalName,
+    NamespaceUri,
+    Name,
+    String,
+    Concat,
+    StartsWith,
+    Contains,
+    SubstringBefore,
+    SubstringAfter,
+    Substring,
+    StringLength,
+    NormalizeSpace,
+    Translate,
+    Boolean,
+    Not,
+    True,
+    False,
+    Lang,
+    Number,
+    Sum,
+    Floor,
+    Ceiling,
+    Round,
+    Key,
+    Current,
+    GenerateId,
+    SystemProperty,
+    ElementAvailable,
+    FunctionAvailable,
+    UnparsedEntityUri,
+}
+
+/// Which nodes of an axis a step takes (XPath 1.0, 2.3).
+#[derive(Drop)]
+pub enum NodeTest {
+    /// `*`: each node of the axis' principal kind.
+    Any,
+    /// `p:*`: those whose name is in this namespace.
+    Uri(TextBuf),
+    /// A name: those with this URI, empty for none, and this local part.
+    Name(TextBuf, TextBuf),
+    /// `node()`: each node.
+    Node,
+    /// `text()`
+    Text,
+    /// `comment()`
+    Comment,
+    /// `processing-instruction()`
+    Pi,
+    /// `processing-instruction('x')`: those with this target.
+    Target(TextBuf),
+}
+
+/// A name as it is written: its prefix, which may be empty, and its local part.
+#[derive(Drop)]
+pub struct QName {
+    pub prefix: TextBuf,
+    pub local: TextBuf,
+}
+
+/// Where the value of a variable is kept.
+#[derive(Clone, Copy)]
+pub enum Slot {
+    /// The number of a local binding.
+    Local(u32),
+    /// The number of a global binding.
+    Global(u32),
+}

@@ -1,0 +1,297 @@
+//! Paths, which are read from the right.
+ghost use Rattle.std.specs.Prelude.{◌≡◌, ◌∷◌, IfOk, None, option_map, reverse};
+ghost use Rattle.xs_xpath.specs.Exprs.{tree_from, trees_from};
+ghost use Rattle.xs_xpath.specs.steps.Parts.{ahead_of, part_of, parts_of};
+ghost use Rattle.xs_xpath.specs.Reading.{behind_slash, front, path_from, path_of, plain, steps_in};
+ghost use Rattle.xs_xpath.specs.Reading.{tail, with_axis, with_dots, with_predicate, with_slash};
+ghost use Rattle.xs_xpath.specs.Reading.{with_slashes, with_test, with_whole};
+ghost use Rattle.xs_xpath.specs.Tree.{filtered, followed, here, path, step, trees};
+
+use crate::expr::{self, Expr};
+use crate::name::NodeTest;
+use crate::part::Part;
+use crate::token::Token;
+use std::alloc::{AllocError, Global};
+use xs_tree::Axis;
+
+/// What stands at the right of a path: predicates and steps; a node test with such; a step and
+/// steps behind it; a whole path.
+/// The last of a list stands first in the path.
+#[derive(Drop)]
+pub enum Ahead {
+    Tail(Vec<Expr>, Vec<Expr>),
+    Tested(NodeTest, Vec<Expr>, Vec<Expr>),
+    Stepped(Expr, Vec<Expr>),
+    Complete(Expr),
+}
+
+/// A step whose predicates stand the other way round.
+fn step_from(axis: Axis, test: NodeTest, mut predicates: Vec<Expr>) -> Expr
+    ensures tree { tree_from result
+        ≡ step axis test (trees (trees_from (reverse predicates.items))) }
+{
+    predicates.reverse();
+    expr::step(axis, test, predicates)
+}
+
+/// The steps that stand there, of which the first has the child axis where it has none yet.
+fn steps_in(ahead: Ahead) -> Result<Option<Vec<Expr>>, AllocError>
+    ensures steps { IfOk result (λ r. option_map (λ v. trees_from (reverse v.items)) r
+        ≡ steps_in (ahead_of ahead)) }
+{
+    match ahead {
+        Ahead::Tail(_, _) => Ok(None),
+        Ahead::Tested(test, predicates, mut steps) => {
+            steps.push(step_from(Axis::Child, test, predicates))?;
+            Ok(Some(steps))
+        }
+        Ahead::Stepped(first, mut steps) => {
+            steps.push(first)?;
+            Ok(Some(steps))
+        }
+        Ahead::Complete(_) => Ok(None),
+    }
+}
+
+/// With a predicate more in front.
+fn with_predicate(e: Expr, ahead: Ahead) -> Result<Option<Ahead>, AllocError>
+    ensures ahead { IfOk result (λ r. option_map ahead_of r
+        ≡ with_predicate (tree_from e) (ahead_of ahead)) }
+{
+    match ahead {
+        Ahead::Tail(mut predicates, steps) => {
+            predicates.push(e)?;
+            Ok(Some(Ahead::Tail(predicates, steps)))
+        }
+        Ahead::Tested(_, _, _) => Ok(None),
+        Ahead::Stepped(_, _) => Ok(None),
+        Ahead::Complete(_) => Ok(None),
+    }
+}
+
+/// An expression with predicates and steps that stand the other way round.
+fn whole_from(
+    alloc: Global,
+    e: Expr,
+    mut predicates: Vec<Expr>,
+    mut steps: Vec<Expr>,
+) -> Result<Expr, AllocError>
+    ensures tree { IfOk result (λ r. tree_from r
+        ≡ followed (filtered (tree_from e) (trees_from (reverse predicates.items)))
+        (trees_from (reverse steps.items))) }
+{
+    predicates.reverse();
+    steps.reverse();
+    let start = expr::filtered(alloc, e, predicates)?;
+    expr::followed(alloc, start, steps)
+}
+
+/// With a primary expression in front.
+fn with_whole(alloc: Global, e: Expr, ahead: Ahead) -> Result<Option<Ahead>, AllocError>
+    ensures ahead { IfOk result (λ r. option_map ahead_of r
+        ≡ with_whole (tree_from e) (ahead_of ahead)) }
+{
+    match ahead {
+        Ahead::Tail(predicates, steps) => {
+            let whole = whole_from(alloc, e, predicates, steps)?;
+            Ok(Some(Ahead::Complete(whole)))
+        }
+        Ahead::Tested(_, _, _) => Ok(None),
+        Ahead::Stepped(_, _) => Ok(None),
+        Ahead::Complete(_) => Ok(None),
+    }
+}
+
+/// With a node test in front.
+fn with_test(test: NodeTest, ahead: Ahead) -> Option<Ahead>
+    ensures ahead { option_map ahead_of result ≡ with_test test (ahead_of ahead) }
+{
+    match ahead {
+        Ahead::Tail(predicates, steps) => Some(Ahead::Tested(test, predicates, steps)),
+        Ahead::Tested(_, _, _) => None,
+        Ahead::Stepped(_, _) => None,
+        Ahead::Complete(_) => None,
+    }
+}
+
+/// With an axis in front.
+fn with_axis(axis: Axis, ahead: Ahead) -> Option<Ahead>
+    ensures ahead { option_map ahead_of result ≡ with_axis axis (ahead_of ahead) }
+{
+    match ahead {
+        Ahead::Tail(_, _) => None,
+        Ahead::Tested(test, predicates, steps) => {
+            Some(Ahead::Stepped(step_from(axis, test, predicates), steps))
+        }
+        Ahead::Stepped(_, _) => None,
+        Ahead::Complete(_) => None,
+    }
+}
+
+/// With `.` or `..` in front, behind which no predicate stands.
+fn with_dots(alloc: Global, axis: Axis, ahead: Ahead) -> Option<Ahead>
+    ensures ahead { option_map ahead_of result ≡ with_dots axis (ahead_of ahead) }
+{
+    match ahead {
+        Ahead::Tail(predicates, steps) => {
+            if !predicates.is_empty() {
+                return None;
+            }
+            let first = expr::step(axis, NodeTest::Node, Vec::new(alloc));
+            Some(Ahead::Stepped(first, steps))
+        }
+        Ahead::Tested(_, _, _) => None,
+        Ahead::Stepped(_, _) => None,
+        Ahead::Complete(_) => None,
+    }
+}
+
+/// With a slash in front of steps.
+fn behind_slash(alloc: Global, ahead: Ahead) -> Result<Option<Ahead>, AllocError>
+    ensures ahead { IfOk result (λ r. option_map ahead_of r ≡ behind_slash (ahead_of ahead)) }
+{
+    match steps_in(ahead)? {
+        None => Ok(None),
+        Some(steps) => Ok(Some(Ahead::Tail(Vec::new(alloc), steps))),
+    }
+}
+
+/// With a slash in front, which is the root where nothing is behind it.
+fn with_slash(alloc: Global, ahead: Ahead) -> Result<Option<Ahead>, AllocError>
+    ensures ahead { IfOk result (λ r. option_map ahead_of r ≡ with_slash (ahead_of ahead)) }
+{
+    match ahead {
+        Ahead::Tail(predicates, steps) => {
+            if !predicates.is_empty() {
+                return Ok(None);
+            }
+            if !steps.is_empty() {
+                return Ok(None);
+            }
+            Ok(Some(Ahead::Complete(expr::root())))
+        }
+        Ahead::Tested(test, predicates, steps) => {
+            behind_slash(alloc, Ahead::Tested(test, predicates, steps))
+        }
+        Ahead::Stepped(first, steps) => behind_slash(alloc, Ahead::Stepped(first, steps)),
+        Ahead::Complete(_) => Ok(None),
+    }
+}
+
+/// With a double slash in front.
+fn with_slashes(alloc: Global, ahead: Ahead) -> Result<Option<Ahead>, AllocError>
+    ensures ahead { IfOk result (λ r. option_map ahead_of r ≡ with_slashes (ahead_of ahead)) }
+{
+    match steps_in(ahead)? {
+        None => Ok(None),
+        Some(mut steps) => {
+            steps.push(expr::descend())?;
+            Ok(Some(Ahead::Tail(Vec::new(alloc), steps)))
+        }
+    }
+}
+
+/// Nothing, where a token stands in no path.
+fn no_path(ahead: Ahead) -> Option<Ahead>
+    ensures none { result ≡ None }
+{
+    let _ahead = ahead;
+    None
+}
+
+/// With a token in front.
+fn with_token(alloc: Global, token: Token, ahead: Ahead) -> Result<Option<Ahead>, AllocError>
+    ensures ahead { IfOk result (λ r. option_map ahead_of r
+        ≡ front (plain token) (ahead_of ahead)) }
+{
+    match token {
+        Token::Test(test) => Ok(with_test(test, ahead)),
+        Token::OnAxis(axis) => Ok(with_axis(axis, ahead)),
+        Token::Dots(axis) => Ok(with_dots(alloc, axis, ahead)),
+        Token::Slash => with_slash(alloc, ahead),
+        Token::Slashes => with_slashes(alloc, ahead),
+        Token::Round => Ok(no_path(ahead)),
+        Token::Call(_) => Ok(no_path(ahead)),
+        Token::EndRound => Ok(no_path(ahead)),
+        Token::Square => Ok(no_path(ahead)),
+        Token::EndSquare => Ok(no_path(ahead)),
+        Token::Comma => Ok(no_path(ahead)),
+        Token::Negate => Ok(no_path(ahead)),
+        Token::Infix(_) => Ok(no_path(ahead)),
+        Token::Atom(_) => Ok(no_path(ahead)),
+    }
+}
+
+/// With a part in front.
+fn front(alloc: Global, part: Part, ahead: Ahead) -> Result<Option<Ahead>, AllocError>
+    ensures ahead { IfOk result (λ r. option_map ahead_of r
+        ≡ front (part_of part) (ahead_of ahead)) }
+{
+    match part {
+        Part::Plain(token) => with_token(alloc, token, ahead),
+        Part::Whole(e) => with_whole(alloc, e, ahead),
+        Part::Predicate(e) => with_predicate(e, ahead),
+    }
+}
+
+/// The path from the root, where no predicate stands in front.
+fn root_path(
+    alloc: Global,
+    predicates: Vec<Expr>,
+    steps: Vec<Expr>,
+) -> Result<Option<Expr>, AllocError>
+    ensures tree { IfOk result (λ r. option_map tree_from r
+        ≡ path_from (tail (trees_from predicates.items) (trees_from steps.items))) }
+{
+    if !predicates.is_empty() {
+        return Ok(None);
+    }
+    if steps.is_empty() {
+        return Ok(None);
+    }
+    Ok(Some(expr::path(alloc, expr::root(), steps)?))
+}
+
+/// A relative path whose steps stand the other way round.
+fn relative_path(alloc: Global, first: Expr, mut steps: Vec<Expr>) -> Result<Expr, AllocError>
+    ensures tree { IfOk result (λ e. tree_from e
+        ≡ path here (trees (tree_from first ∷ trees_from (reverse steps.items)))) }
+{
+    steps.push(first)?;
+    steps.reverse();
+    expr::path(alloc, expr::here(), steps)
+}
+
+/// The path, once nothing is left in front.
+fn path_from(alloc: Global, ahead: Ahead) -> Result<Option<Expr>, AllocError>
+    ensures tree { IfOk result (λ r. option_map tree_from r ≡ path_from (ahead_of ahead)) }
+{
+    match ahead {
+        Ahead::Tail(mut predicates, mut steps) => {
+            predicates.reverse();
+            steps.reverse();
+            root_path(alloc, predicates, steps)
+        }
+        Ahead::Tested(test, predicates, steps) => {
+            let first = step_from(Axis::Child, test, predicates);
+            Ok(Some(relative_path(alloc, first, steps)?))
+        }
+        Ahead::Stepped(first, steps) => Ok(Some(relative_path(alloc, first, steps)?)),
+        Ahead::Complete(e) => Ok(Some(e)),
+    }
+}
+
+/// The path that the parts are.
+pub fn path(alloc: Global, parts: Vec<Part>) -> Result<Option<Expr>, AllocError>
+    ensures tree { IfOk result (λ e. option_map tree_from e ≡ path_of (parts_of parts.items)) }
+{
+    let mut ahead = Ahead::Tail(Vec::new(alloc), Vec::new(alloc));
+    let mut rest = parts;
+    while let Some(part) = rest.pop() {
+        match front(alloc, part, ahead)? {
+            None => return Ok(None),
+            Some(next) => ahead = next,
+        }
+    }
+    path_from(alloc, ahead)
+}
