@@ -1,0 +1,5 @@
+pub mod CommandLemmas
+pub mod DigitLemmas
+pub mod InputLemmas
+pub mod OptionLemmas
+pub mod RowLemmas
