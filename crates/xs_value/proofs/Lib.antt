@@ -1,0 +1,9 @@
+pub mod ComparisonLemmas
+pub mod FurtherLemmas
+pub mod IndexLemmas
+pub mod KeptNumberLemmas
+pub mod KeptTextLemmas
+pub mod MergeLemmas
+pub mod NodeSetLemmas
+pub mod RowLemmas
+pub mod TextLemmas

@@ -1,0 +1,18 @@
+-- What a call answers of what is due.
+use Rattle.std.specs.Prelude.{◌≡◌, Result, Ok, Err}
+use Rattle.xs_num.specs.declared.number.NumFault.{NumFault}
+use Rattle.xs_num.specs.declared.number.NumFault.TheVariants as due
+use Rattle.xs_value.specs.declared.value.ValueFault.{ValueFault}
+use Rattle.xs_value.specs.declared.value.ValueFault.TheVariants.{Fraction, Range, NoMemory}
+
+-- the fault of a number as one of a value
+abbrev pub as_value_fault : NumFault → ValueFault
+as_value_fault due.Fraction = Fraction
+as_value_fault due.Range = Range
+
+-- the result or the fault that is due, or want of memory
+abbrev pub Answers : {A : Type 0} → Result A NumFault → Result A ValueFault → Type 0
+Answers of (Ok x) = of ≡ Ok x
+Answers of (Err Fraction) = of ≡ Err due.Fraction
+Answers of (Err Range) = of ≡ Err due.Range
+Answers of (Err NoMemory) = Unit {0}
