@@ -79,6 +79,7 @@ impl KeyFinder for NoKeys {
       few = Prim.search rules;
       differ = λ j k before within. Prim.search rules;
       ordered = λ k text. tt;
+      faults = λ k. tt;
     } };
 
     /// No name is a key's.

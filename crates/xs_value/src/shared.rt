@@ -1,4 +1,4 @@
-//! Texts and fragments that are shared.
+//! Fragments that are shared.
 
 ghost use Rattle.std.specs.Prelude.{◌≡◌, IfOk};
 
@@ -6,49 +6,6 @@ use std::alloc::{AllocError, Global};
 use std::marker::Model;
 use std::sync::Arc;
 use xs_trace::event::{Event, Fragment};
-use xs_trace::text::TextBuf;
-
-/// A text that is copied in constant time. Contracts see it as its bytes, in UTF-8.
-#[derive(Debug, Drop)]
-pub struct SharedText {
-    text: Arc<TextBuf>,
-}
-
-impl Model for SharedText {
-    ghost use Rattle.std.specs.Prelude.{List, ℕ};
-    ghost use Rattle.std.specs.Arc.{arc_value};
-
-    ghost Value = { List ℕ };
-
-    ghost view = { λ t. arc_value t.text };
-}
-
-impl SharedText {
-    /// The text of a buffer.
-    pub fn of(alloc: Global, text: TextBuf) -> Result<SharedText, AllocError>
-        ensures text { IfOk result (λ shared. shared ≡ text) }
-    {
-        Ok(SharedText {
-            text: Arc::new(alloc, text)?,
-        })
-    }
-
-    /// The text itself.
-    pub fn as_str(&self) -> &str
-        ensures text { result.now ≡ self.now }
-    {
-        self.text.as_str()
-    }
-
-    /// The same text, in constant time.
-    pub fn copy(&self) -> Result<SharedText, AllocError>
-        ensures text { IfOk result (λ copy. copy ≡ self.now) }
-    {
-        Ok(SharedText {
-            text: Arc::try_clone(&self.text)?,
-        })
-    }
-}
 
 /// A fragment that is copied in constant time (XSLT 1.0, 11.1). Contracts see it as its events, in
 /// order.

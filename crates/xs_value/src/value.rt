@@ -5,10 +5,11 @@ ghost use Rattle.xs_value.specs.Results.{as_value_fault};
 ghost use Rattle.xs_value.specs.declared.value.ValueFault.TheVariants.{NoMemory};
 
 use crate::node_set::NodeSet;
-use crate::shared::{SharedFragment, SharedText};
+use crate::shared::SharedFragment;
 use std::alloc::{AllocError, AllocFailed};
 use thiserror::Error;
 use xs_num::number::{Num, NumFault};
+use xs_trace::text::TextBuf;
 
 /// A value: an object of XPath 1.0, or a fragment of a result tree (XSLT 1.0, 11.1).
 #[derive(Debug, Drop)]
@@ -18,7 +19,7 @@ pub enum Value {
     /// A number.
     Number(Num),
     /// A string.
-    Chars(SharedText),
+    Chars(TextBuf),
     /// A node-set.
     Nodes(NodeSet),
     /// A fragment of a result tree.

@@ -10,12 +10,12 @@ use xs_value::comparison::{CompareOp, compare_values};
 use xs_value::conversion::{is_in, text_into, to_bool, to_number, to_text};
 use xs_value::keys::{KeyFinder, NoKeys};
 use xs_value::node_set::NodeSet;
-use xs_value::shared::{SharedFragment, SharedText};
+use xs_value::shared::SharedFragment;
 use xs_value::value::{Value, ValueFault};
 
 // The tree of the tests: the kind, the parent and the text of each node behind the root. Element 2
-// has the string-value 7, element 4 has a, and element 6 has 10.
-const ROWS: [(Kind, u32, &str); 9] = [
+// has the string-value 7, element 4 has a, element 6 has 10, and element 10 has 1.5.
+const ROWS: [(Kind, u32, &str); 11] = [
     (Kind::Element, 0, ""),
     (Kind::Element, 1, ""),
     (Kind::Text, 2, "7"),
@@ -25,6 +25,8 @@ const ROWS: [(Kind, u32, &str); 9] = [
     (Kind::Text, 6, "1"),
     (Kind::Comment, 6, "x"),
     (Kind::Text, 6, "0"),
+    (Kind::Element, 1, ""),
+    (Kind::Text, 10, "1.5"),
 ];
 
 // An operand of a comparison.
@@ -47,7 +49,7 @@ enum Outcome {
 }
 
 // Comparisons that XPath 1.0, 3.4 decides.
-const COMPARISONS: [(Operand, CompareOp, Operand, Outcome); 12] = [
+const COMPARISONS: [(Operand, CompareOp, Operand, Outcome); 26] = [
     (
         Operand::Nodes(&[]),
         CompareOp::Eq,
@@ -120,6 +122,90 @@ const COMPARISONS: [(Operand, CompareOp, Operand, Outcome); 12] = [
         Operand::Nodes(&[6]),
         Outcome::Fails,
     ),
+    (
+        Operand::Nodes(&[4]),
+        CompareOp::Ne,
+        Operand::Whole(0),
+        Outcome::Holds,
+    ),
+    (
+        Operand::Nodes(&[4]),
+        CompareOp::Eq,
+        Operand::Whole(0),
+        Outcome::Fails,
+    ),
+    (
+        Operand::Nodes(&[]),
+        CompareOp::Lt,
+        Operand::Bool(true),
+        Outcome::Holds,
+    ),
+    (
+        Operand::Bool(true),
+        CompareOp::Eq,
+        Operand::Whole(2),
+        Outcome::Holds,
+    ),
+    (
+        Operand::Bool(true),
+        CompareOp::Lt,
+        Operand::Whole(2),
+        Outcome::Holds,
+    ),
+    (
+        Operand::Piece(""),
+        CompareOp::Eq,
+        Operand::Bool(true),
+        Outcome::Holds,
+    ),
+    (
+        Operand::Piece(""),
+        CompareOp::Eq,
+        Operand::Nodes(&[]),
+        Outcome::Fails,
+    ),
+    (
+        Operand::Piece("10"),
+        CompareOp::Le,
+        Operand::Whole(9),
+        Outcome::Fails,
+    ),
+    (
+        Operand::Nodes(&[]),
+        CompareOp::Lt,
+        Operand::Text("1.5"),
+        Outcome::Fails,
+    ),
+    (
+        Operand::Text("1.5"),
+        CompareOp::Lt,
+        Operand::Text("9007199254740992"),
+        Outcome::Fraction,
+    ),
+    (
+        Operand::Nodes(&[2]),
+        CompareOp::Lt,
+        Operand::Nodes(&[6, 10]),
+        Outcome::Holds,
+    ),
+    (
+        Operand::Nodes(&[6]),
+        CompareOp::Lt,
+        Operand::Nodes(&[2, 10]),
+        Outcome::Fraction,
+    ),
+    (
+        Operand::Nodes(&[2, 6]),
+        CompareOp::Ge,
+        Operand::Nodes(&[6]),
+        Outcome::Holds,
+    ),
+    (
+        Operand::Nodes(&[2]),
+        CompareOp::Ne,
+        Operand::Nodes(&[2]),
+        Outcome::Fails,
+    ),
 ];
 
 // A name, for a node of a kind that bears one.
@@ -177,7 +263,7 @@ fn value(alloc: Global, operand: Operand) -> Result<Value, AllocError> {
     match operand {
         Operand::Bool(boolean) => Ok(Value::Bool(boolean)),
         Operand::Whole(number) => Ok(Value::Number(Num::from(number))),
-        Operand::Text(text) => Ok(Value::Chars(SharedText::of(alloc, TextBuf::of(alloc, text)?)?)),
+        Operand::Text(text) => Ok(Value::Chars(TextBuf::of(alloc, text)?)),
         Operand::Nodes(places) => nodes_at(alloc, places),
         Operand::Piece(text) => piece(alloc, text),
     }
