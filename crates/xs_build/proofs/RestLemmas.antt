@@ -1,12 +1,13 @@
 -- What is left to do, line by line of the bytes.
-use Rattle.std.proofs.Common.{◌≡◌, ℕ, ◌<◌, ◌≤◌, List, [], ◌∷◌, Option, None, Some, Result, Ok, Err, Bool, true, false, refl, sym, ◌∙◌, ap, subst, length, take}
-use Rattle.std.proofs.Common.{drop, ◌-◌, arith}
+use Rattle.std.proofs.Common.{◌≡◌, ℕ, ◌<◌, ◌≤◌, List, [], ◌∷◌, Option, None, Some, Result, Ok, Err, Bool, true, false, refl, sym, ◌∙◌, ap, subst, length}
+use Rattle.std.proofs.Common.{drop, arith}
 use Rattle.std.specs.Prelude.{not, ◌&&◌, is_none, nat_le, if◌then◌else◌}
 use Rattle.std.proofs.lemmas.Bool.Decides.{nat_tests}
-use Rattle.std.proofs.lemmas.Grind.{common_steps}
+use Rattle.std.proofs.lemmas.List.{length-drop}
 use Rattle.xs_pyx.specs.Row.{Row, rows_of, rows_behind, first_row, behind_row}
 use Rattle.xs_pyx.specs.Results.{TakesLine, IsFaulty, Reads}
 use Rattle.xs_pyx.specs.declared.line.Line.{Line}
+use Rattle.xs_pyx.specs.declared.rest.Rest.{Rest}
 use Rattle.xs_pyx.specs.declared.view.LineView.{LineView}
 use Rattle.xs_pyx.specs.Views.{told, line_shown, HasReadable, IsReadable}
 use Rattle.xs_build.specs.declared.document.Built.{Built}
@@ -37,30 +38,35 @@ takes found view size bytes e h = rw e at h
 pub is_readable : (found : Option (LineView × ℕ)) (view : LineView) (size : ℕ) → found ≡ Some (view, size) → HasReadable (Ok found) → IsReadable view
 is_readable found view size e h = rw e at h
 
-pub same_rest : (bytes : List ℕ) (size : ℕ) → take (length bytes - size) (drop size bytes) ≡ drop size bytes
-same_rest bytes size = grind (arith, common_steps)
+-- behind a line that is taken there are fewer bytes
+pub shorter : (bytes behind : List ℕ) (line : Line) (size : ℕ) → TakesLine bytes line size → behind ≡ drop size bytes → length behind < length bytes
+shorter bytes behind line size t same = omega (arith, ap length same, length-drop size bytes, t.some, t.within)
 
 some_bytes : (bytes : List ℕ) (size : ℕ) → 0 < size → size ≤ length bytes → 0 < length bytes
 some_bytes bytes size a b = omega arith
 
-rows_taken : (bytes : List ℕ) (line : Line) (size : ℕ) → TakesLine bytes line size → Divides bytes → rows_of bytes ≡ first_row bytes ∷ rows_of (drop size bytes)
-rows_taken bytes line size t rows = rows (some_bytes bytes size t.some t.within) ∙ ap (λ b. first_row bytes ∷ rows_of b) (sym t.behind)
+rows_taken : (bytes behind : List ℕ) (line : Line) (size : ℕ) → TakesLine bytes line size → Divides bytes → behind ≡ drop size bytes
+    → rows_of bytes ≡ first_row bytes ∷ rows_of behind
+rows_taken bytes behind line size t rows same =
+    rows (some_bytes bytes size t.some t.within) ∙ ap (λ b. first_row bytes ∷ rows_of b) (sym (same ∙ t.behind))
 
-line_leaves : (s : State) (bytes : List ℕ) (line : Line) (size : ℕ) → IsGood s → TakesLine bytes line size → Divides bytes
-    → left s (rows_of bytes) ≡ after (stepped s line (rows_of (drop size bytes))) (rows_of (drop size bytes))
-line_leaves s bytes line size g t rows = ap (left s) (rows_taken bytes line size t rows)
-    ∙ after_line s (first_row bytes) (rows_of (drop size bytes)) line g t.says
+line_leaves : (s : State) (bytes behind : List ℕ) (line : Line) (size : ℕ) → IsGood s → TakesLine bytes line size → Divides bytes → behind ≡ drop size bytes
+    → left s (rows_of bytes) ≡ after (stepped s line (rows_of behind)) (rows_of behind)
+line_leaves s bytes behind line size g t rows same = ap (left s) (rows_taken bytes behind line size t rows same)
+    ∙ after_line s (first_row bytes) (rows_of behind) line g t.says
 
-pub line_goes : (s t : State) (bytes : List ℕ) (line : Line) (size : ℕ) → IsGood s → TakesLine bytes line size → Divides bytes
-    → stepped s line (rows_of (drop size bytes)) ≡ goes t → left s (rows_of bytes) ≡ left (next_line t) (rows_of (drop size bytes))
-line_goes s t bytes line size g takes rows step = line_leaves s bytes line size g takes rows ∙ ap (λ n. after n (rows_of (drop size bytes))) step
+pub line_goes : (s t : State) (bytes behind : List ℕ) (line : Line) (size : ℕ) → IsGood s → TakesLine bytes line size → Divides bytes
+    → behind ≡ drop size bytes → stepped s line (rows_of behind) ≡ goes t → left s (rows_of bytes) ≡ left (next_line t) (rows_of behind)
+line_goes s t bytes behind line size g takes rows same step =
+    line_leaves s bytes behind line size g takes rows same ∙ ap (λ n. after n (rows_of behind)) step
 
 pub line_good : (s t : State) (line : Line) (rows : List Row) → IsGood s → stepped s line rows ≡ goes t → IsGood (next_line t)
 line_good s t line rows g step = good_next t (subst GoodNext step (good_line s line rows g))
 
-pub line_stops : (s : State) (bytes : List ℕ) (line : Line) (size number at : ℕ) → IsGood s → TakesLine bytes line size → Divides bytes
-    → stepped s line (rows_of (drop size bytes)) ≡ stops number at → left s (rows_of bytes) ≡ refused number at
-line_stops s bytes line size number at g takes rows step = line_leaves s bytes line size g takes rows ∙ ap (λ n. after n (rows_of (drop size bytes))) step
+pub line_stops : (s : State) (bytes behind : List ℕ) (line : Line) (size number at : ℕ) → IsGood s → TakesLine bytes line size → Divides bytes
+    → behind ≡ drop size bytes → stepped s line (rows_of behind) ≡ stops number at → left s (rows_of bytes) ≡ refused number at
+line_stops s bytes behind line size number at g takes rows same step =
+    line_leaves s bytes behind line size g takes rows same ∙ ap (λ n. after n (rows_of behind)) step
 
 begins_first : (bytes : List ℕ) → begins_with 65 bytes ≡ is_attribute_row (first_row bytes)
 begins_first [] = refl
@@ -87,10 +93,12 @@ pub line_none : (s : State) (bytes : List ℕ) → bytes ≡ [] → left s (rows
 line_none s bytes e = ap (λ b. left s (rows_of b)) e ∙ ap (left s) rows_none ∙ after_all s
 
 -- the exits at a bad line
-pub exit_take : (e : BuildFault) (r : Result (Option ℕ) BuildFault) (s t u : State) (bytes : List ℕ) (line : Line) (size : ℕ) → IsGood s
-    → TakesLine bytes line size → Divides bytes → Steps {X = Unit {0}} (Err e) (stepped s line (rows_of (drop size bytes))) t → r ≡ Err e → Goes r s u bytes
-exit_take (Bad number at) r s t u bytes line size g takes rows step is = rw is (line_stops s bytes line size number at g takes rows step)
-exit_take NoMemory r s t u bytes line size g takes rows step is = rw is tt
+pub exit_take : (e : BuildFault) (r : Result (Option Rest) BuildFault) (s t u : State) (bytes behind : List ℕ) (line : Line) (size : ℕ) → IsGood s
+    → TakesLine bytes line size → Divides bytes → behind ≡ drop size bytes → Steps {X = Unit {0}} (Err e) (stepped s line (rows_of behind)) t
+    → r ≡ Err e → Goes r s u bytes
+exit_take (Bad number at) r s t u bytes behind line size g takes rows same step is =
+    rw is (line_stops s bytes behind line size number at g takes rows same step)
+exit_take NoMemory r s t u bytes behind line size g takes rows same step is = rw is tt
 
 pub exit_read : (e : BuildFault) (r : Result Built BuildFault) (s t : State) (bytes rest : List ℕ) → Goes (Err e) s t rest
     → left s (rows_of rest) ≡ left initial (rows_of bytes) → r ≡ Err e → Builds r (left initial (rows_of bytes))

@@ -177,6 +177,9 @@ const FEW: usize = 16;
 pub fn forget(seen: &mut IndexSet<Expanded>, alloc: Global)
     ensures { seen.new.keys ≡ [] }
 {
+    if seen.is_empty() {
+        return;
+    }
     if seen.len() <= FEW {
         seen.clear();
         return;

@@ -10,11 +10,12 @@ ghost use Rattle.xs_build.specs.Results.{Builds};
 ghost use Rattle.xs_build.specs.steps.State.{state, initial};
 ghost use Rattle.xs_build.specs.Start.{begins_with};
 ghost use Rattle.xs_pyx.specs.Row.{rows_of};
+ghost use Rattle.xs_pyx.specs.Views.{bytes_left};
 
 use crate::builder::Builder;
 use crate::fault::{BAD_LINE, BAD_UTF8, BuildFault, TOO_LARGE};
 use std::alloc::Global;
-use xs_pyx::view_line;
+use xs_pyx::Rest;
 use xs_tree::Tree;
 
 /// A document's tree, and where its nodes come from.
@@ -57,36 +58,40 @@ fn read_lines(alloc: Global, bytes: &[u8]) -> Result<Built, BuildFault>
     ensures each { IfOk result (λ built. length built.lines.items ≡ length built.tree) }
 {
     let mut builder = Builder::new(alloc)?;
-    let mut rest = bytes;
-    while let Some(size) = read_line(&mut builder, alloc, rest)? {
-        rest = &rest[size..];
+    let mut rest = Rest::of(bytes);
+    while let Some(behind) = read_line(&mut builder, alloc, rest)? {
+        rest = behind;
     }
     builder.finish()
 }
 
-/// Takes the first line, and answers how many bytes it has.
+/// Takes the first line of what is left, and answers what stands behind it.
 #[tactic(auto, using(crate::proofs::RestLemmas::is_readable))]
 fn read_line<'a>(
     builder: &mut Builder<'a>,
     alloc: Global,
-    bytes: &'a [u8],
-) -> Result<Option<usize>, BuildFault>
+    rest: Rest<'a>,
+) -> Result<Option<Rest<'a>>, BuildFault>
     requires good { IsGood (state builder.old) }
-    requires few { builder.old.line + length bytes.now < 4294967296 }
-    ensures goes { Goes result (state builder.old) (state builder.new) bytes.now }
+    requires few { builder.old.line + length (bytes_left rest) < 4294967296 }
+    ensures goes { Goes result (state builder.old) (state builder.new) (bytes_left rest.entry) }
     ensures good { OnOk result (IsGood (state builder.new)) }
     ensures line { OnOk result (builder.new.line ≤ builder.old.line + 1) }
-    ensures size { IfOk result (λ found. IfSome found
-        (λ size. (0 < size) × (size ≤ length bytes.now))) }
+    ensures shorter { IfOk result (λ found. IfSome found
+        (λ behind. length (bytes_left behind) < length (bytes_left rest.entry))) }
 {
-    match view_line(bytes) {
+    match rest.view_line() {
         Ok(None) => Ok(None),
         Ok(Some((view, size))) => {
-            builder.take(alloc, view, &bytes[size..])?;
+            let behind = rest.behind(size);
+            builder.take(alloc, view, behind.bytes())?;
             builder.line += 1;
-            Ok(Some(size))
+            Ok(Some(behind))
         }
-        Err(fault) => Err(builder.bad(fault_at(is_stray(builder, bytes), fault.number()))),
+        Err(fault) => {
+            let is_stray = is_stray(builder, rest.bytes());
+            Err(builder.bad(fault_at(is_stray, fault.number())))
+        }
     }
 }
 

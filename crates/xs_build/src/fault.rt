@@ -1,4 +1,4 @@
-//! Why no tree was built.
+//! Why no tree was built, and the numbers of the faults of a document.
 
 ghost use Rattle.std.specs.Prelude.{◌≡◌};
 ghost use Rattle.xs_build.specs.declared.fault.BuildFault.TheVariants.{NoMemory};
@@ -8,8 +8,12 @@ use thiserror::Error;
 
 /// A line that is none, or an attribute that follows no start tag.
 pub const BAD_LINE: u8 = 1;
+/// A backslash that begins no escape.
+pub const BAD_ESCAPE: u8 = 2;
 /// Bytes that are not UTF-8.
 pub const BAD_UTF8: u8 = 3;
+/// A last line that no line feed ends.
+pub const NO_FINAL_LINE_FEED: u8 = 4;
 /// A second element outside, other text than white space outside, or an end of another name than
 /// the innermost open element's.
 pub const UNBALANCED: u8 = 5;

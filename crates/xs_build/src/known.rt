@@ -104,11 +104,18 @@ impl KnownNames {
     }
 }
 
-/// The slot of these bytes, by the hash function FNV-1a.
+/// The slot of these bytes, by how many they are and by four of them. Names that share a slot are
+/// only made anew, so it does not matter much which of them do.
 fn slot_of(written: &str) -> usize {
-    let mut hash: u32 = 2166136261;
-    for byte in written.as_bytes() {
-        hash = (hash ^ *byte as u32).wrapping_mul(16777619);
+    let bytes = written.as_bytes();
+    match bytes {
+        [first, .., before, last] => {
+            let middle = bytes[bytes.len() / 2];
+            let ends = (*before as usize * 31 + *last as usize) * 7;
+            let starts = (*first as usize * 31 + middle as usize) * 19;
+            (bytes.len() % SLOTS + starts + ends) % SLOTS
+        }
+        [first, ..] => *first as usize,
+        [] => 0,
     }
-    hash as usize % SLOTS
 }

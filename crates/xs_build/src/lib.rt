@@ -7,7 +7,7 @@ mod contents;
 mod data;
 mod document;
 mod elements;
-mod fault;
+pub mod fault;
 mod known;
 pub mod laws;
 mod nodes;
@@ -19,10 +19,3 @@ mod start_tag;
 
 pub use document::{Built, build_tree};
 pub use fault::BuildFault;
-
-#[cfg(test)]
-mod fault_tests;
-#[cfg(test)]
-mod scope_tests;
-#[cfg(test)]
-mod tests;

@@ -3,42 +3,10 @@
 ghost use Rattle.std.specs.Prelude.{◌≡◌};
 ghost use Rattle.xs_engine.specs.Faults.{fault_name};
 
-/// A line that is none, or an attribute that follows no start tag.
-pub const BAD_LINE: u8 = 1;
-
-/// A backslash begins no escape.
-pub const BAD_ESCAPE: u8 = 2;
-
-/// A line is no UTF-8.
-pub const BAD_UTF8: u8 = 3;
-
-/// The last line has no line feed.
-pub const NO_FINAL_LINE_FEED: u8 = 4;
-
-/// A second element outside, other text than white space outside, or an end of another name than
-/// the innermost open element's.
-pub const UNBALANCED: u8 = 5;
-
-/// There is no element.
-pub const NO_ROOT: u8 = 6;
-
-/// A name is none of XML.
-pub const BAD_NAME: u8 = 7;
-
-/// A prefix is bound to no namespace.
-pub const UNBOUND_PREFIX: u8 = 8;
-
-/// An element has two attributes of one name.
-pub const DOUBLE_ATTRIBUTE: u8 = 9;
-
-/// A namespace may not be declared so.
-pub const BAD_NAMESPACE: u8 = 10;
-
-/// There are too many bytes or nodes.
-pub const TOO_LARGE: u8 = 11;
-
-/// The document ends inside an element.
-pub const TRUNCATED: u8 = 12;
+use xs_build::fault::{
+    BAD_ESCAPE, BAD_LINE, BAD_NAME, BAD_NAMESPACE, BAD_UTF8, DOUBLE_ATTRIBUTE, NO_FINAL_LINE_FEED,
+    NO_ROOT, TOO_LARGE, TRUNCATED, UNBALANCED, UNBOUND_PREFIX,
+};
 
 /// A stylesheet holds what is not built.
 pub const NOT_BUILT: u8 = 49;

@@ -1,16 +1,18 @@
 -- Texts without a backslash, what the first byte of a line has to be, and rows that are text.
-use Rattle.std.proofs.Common.{◌≡◌, ◌≢◌, ℕ, ◌<◌, ◌≤◌, Bool, true, false, List, [], ◌∷◌, ◌++◌, length, get_or, Some, Result, refl, sym, ◌∙◌, ap, subst, arith, append-nil}
+use Rattle.std.proofs.Common.{◌≡◌, ◌≢◌, ℕ, ◌<◌, ◌≤◌, Bool, true, false, List, [], ◌∷◌, ◌++◌, length, get_or, take, drop, ◌-◌, ◌+◌, Some, Result, refl, sym, ◌∙◌, ap, subst, arith, append-nil}
 use Rattle.std.specs.Prelude.{◌==◌}
-use Rattle.std.specs.List.{list_any}
+use Rattle.std.specs.List.{list_any, position_or_len}
 use Rattle.std.specs.Str.{IsUtf8, is_utf8, IsCharBoundary}
 use Rattle.std.proofs.lemmas.Bool.{or_parts, false_from_ne_true}
 use Rattle.std.proofs.lemmas.Bool.Decides.{nat_tests}
+use Rattle.std.proofs.lemmas.List.{take_rest, take-append-drop}
+use Rattle.std.proofs.lemmas.List.Folds.{list_any-append}
 use Rattle.std.proofs.lemmas.Str.{IsCharBoundary-after_ascii, is_utf8-from_IsUtf8, IsUtf8-from_is_utf8}
 use Rattle.xs_text.specs.Escapes.{unescaped, first_and_rest}
 use Rattle.xs_text.proofs.UnescapeLemmas.{unescaped-nil, unescaped-plain}
 use Rattle.xs_pyx.specs.declared.view.LineView.{LineView}
 use Rattle.xs_pyx.specs.declared.fault.Fault.{Fault}
-use Rattle.xs_pyx.specs.Reading.{Reading, faulty, reading, kind_reading, begins_line}
+use Rattle.xs_pyx.specs.Reading.{Reading, faulty, reading, kind_reading, begins_line, ends_name, value_in}
 use Rattle.xs_pyx.specs.Views.{IsViewing}
 
 abbrev pub is_backslash : ℕ → Bool
@@ -29,6 +31,20 @@ unescaped-front (x ∷ xs) ys read none is =
 pub unescaped_itself : (xs : List ℕ) → list_any is_backslash xs ≡ false → unescaped xs ≡ Some xs
 unescaped_itself xs none =
     ap unescaped (sym (append-nil xs)) ∙ unescaped-front xs [] [] none unescaped-nil ∙ ap (λ t. Some t) (append-nil xs)
+
+-- what stands behind a place holds no backslash where the whole holds none
+plain_behind : (n : ℕ) (xs : List ℕ) → list_any is_backslash xs ≡ false → list_any is_backslash (drop n xs) ≡ false
+plain_behind n xs none =
+    (or_parts (list_any is_backslash (take n xs)) (list_any is_backslash (drop n xs))
+    (sym (list_any-append is_backslash (take n xs) (drop n xs)) ∙ ap (list_any is_backslash) (take-append-drop n xs) ∙ none)).1
+
+pub value_plain : (rest : List ℕ) → list_any is_backslash rest ≡ false → list_any is_backslash (value_in rest) ≡ false
+value_plain rest none = plain_behind (position_or_len ends_name rest + 1) rest none
+
+pub rest_plain : (text : List ℕ) (is_plain : Bool) → (is_plain ≡ true → list_any is_backslash text ≡ false) → is_plain ≡ true
+    → list_any is_backslash (take (length text - 1) (drop 1 text)) ≡ false
+rest_plain text is_plain none known =
+    ap (list_any is_backslash) (take_rest text 1) ∙ plain_behind 1 text (none known)
 
 -- the first byte of a line is ASCII
 kind_below : (kind : ℕ) → begins_line kind ≡ true → kind < 128

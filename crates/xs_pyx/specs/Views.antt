@@ -1,17 +1,25 @@
 -- Lines that borrow their texts, and the lines that they are.
-use Rattle.std.specs.Prelude.{◌≡◌, ℕ, List, Option, None, Some, Result, Ok, Err, IsSome}
+use Rattle.std.specs.Prelude.{◌≡◌, ℕ, ◌≤◌, ◌==◌, Bool, List, Option, None, Some, Result, Ok, Err, IsSome, length}
+use Rattle.std.specs.List.{list_any}
+use Rattle.std.specs.Str.{IsCharBoundary}
 use Rattle.xs_text.specs.Escapes.{unescaped}
 use Rattle.xs_pyx.specs.declared.line.Line.{Line}
 use Rattle.xs_pyx.specs.declared.line.Line.TheVariants as line
 use Rattle.xs_pyx.specs.declared.line.LineFault.{LineFault}
 use Rattle.xs_pyx.specs.declared.line.LineFault.TheVariants.{Bad}
 use Rattle.xs_pyx.specs.declared.fault.Fault.{Fault}
+use Rattle.xs_pyx.specs.declared.rest.Rest.{Rest}
+use Rattle.xs_pyx.specs.declared.rest.Rest.TheVariants.{Text, Bytes}
 use Rattle.xs_pyx.specs.declared.view.Data.{Data}
 use Rattle.xs_pyx.specs.declared.view.Data.TheVariants.{Plain, Escaped}
 use Rattle.xs_pyx.specs.declared.view.LineView.{LineView}
 use Rattle.xs_pyx.specs.declared.view.LineView.TheVariants.{Start, Attr, Chars, End, Pi, Comment}
 use Rattle.xs_pyx.specs.Faults.{number_of}
 use Rattle.xs_pyx.specs.Reading.{Reading, says, faulty, data_of}
+
+-- whether a backslash stands in a text
+abbrev pub has_backslash : List ℕ → Bool
+has_backslash text = list_any (λ b. b == 92) text
 
 -- the data that is shown
 abbrev pub data_shown : Data → List ℕ
@@ -56,3 +64,13 @@ HasReadable (Err fault) = Unit {0}
 abbrev pub IsViewing : Result LineView Fault → Reading → Type 0
 IsViewing (Ok view) said = (said ≡ says (line_shown view)) × IsReadable view
 IsViewing (Err fault) said = said ≡ faulty (number_of fault)
+
+-- the bytes that are left
+abbrev pub bytes_left : Rest → List ℕ
+bytes_left (Text text) = text.now
+bytes_left (Bytes bytes) = bytes.now
+
+-- so many bytes can be cut off: a text is cut between two characters
+abbrev pub CanCut : Rest → ℕ → Type 0
+CanCut (Text text) taken = IsCharBoundary text.now taken
+CanCut (Bytes bytes) taken = taken ≤ length bytes.now

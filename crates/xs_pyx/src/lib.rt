@@ -6,14 +6,15 @@ mod first_bytes;
 pub mod laws;
 pub mod line;
 mod read;
-#[cfg(test)]
-mod tests;
+mod rest;
+mod rows;
 mod view;
 mod write;
 
 pub use fault::Fault;
 pub use line::{Line, LineFault};
 pub use read::{next_line, skip_line, view_line};
+pub use rest::Rest;
 pub use view::{Data, LineView};
 pub use write::write_line;
 pub use xs_trace::text::TextBuf;

@@ -1,19 +1,20 @@
 //! Reads the first line of a document.
 
-ghost use Rattle.std.specs.Prelude.{◌≡◌, ℕ, ◌<◌, ◌≤◌, ◌-◌, ◌∷◌, ◌↔◌, IfOk, IsErrOf, IsTrue, IsSome};
-ghost use Rattle.std.specs.Prelude.{◌==◌, drop, length};
-ghost use Rattle.std.specs.List.{list_any};
+ghost use Rattle.std.specs.Prelude.{◌≡◌, ◌<◌, ◌-◌, ◌∷◌, ◌↔◌, IfOk, IfSome, IsErrOf, IsTrue, IsSome};
+ghost use Rattle.std.specs.Prelude.{drop, false, length, true};
+ghost use Rattle.std.specs.Str.{IsCharBoundary};
 ghost use Rattle.xs_text.specs.Escapes.{unescaped};
 ghost use Rattle.xs_pyx.specs.Row.{first_row, behind_row, rows_of, is_line_feed};
 ghost use Rattle.xs_pyx.specs.Reading.{reading, kind_reading, rest_reading, begins_line, line_of};
 ghost use Rattle.xs_pyx.specs.Reading.{name_in, value_in, data_of};
 ghost use Rattle.xs_pyx.specs.Results.{Reads, Finds, SaysLine};
 ghost use Rattle.xs_pyx.specs.Views.{data_shown, line_shown, told, HasReadable, IsReadable};
-ghost use Rattle.xs_pyx.specs.Views.{IsReadableData, IsViewing};
+ghost use Rattle.xs_pyx.specs.Views.{IsReadableData, IsViewing, has_backslash};
 
 use crate::fault::Fault;
 use crate::first_bytes::{ATTRIBUTE, COMMENT, END, INSTRUCTION, START, TEXT, begins_line};
 use crate::line::{Line, LineFault};
+use crate::rows::split_text;
 use crate::view::{Data, LineView};
 use memchr::memchr;
 use std::alloc::Global;
@@ -36,22 +37,35 @@ fn split_row(bytes: &[u8]) -> (&[u8], bool, &[u8])
 
 /// Whether some byte of the text is a backslash.
 fn has_backslash(text: &str) -> bool
-    ensures { result ≡ list_any (λ b. b == 92) text.now }
+    ensures { result ≡ has_backslash text.now }
 {
     memchr(b'\\', text.as_bytes()).is_some()
 }
 
-/// A well escaped text as the data that it shows.
+/// Whether no byte of the text is a backslash. `is_plain` only where that is known; then the text
+/// is not searched.
+fn is_itself(text: &str, is_plain: bool) -> bool
+    requires { is_plain ≡ true → has_backslash text.now ≡ false }
+    ensures { result ≡ true → has_backslash text.now ≡ false }
+{
+    if is_plain {
+        return true;
+    }
+    !has_backslash(text)
+}
+
+/// A well escaped text as the data that it shows. `is_plain` only where it holds no backslash.
 #[tactic(auto, using(crate::proofs::ReadLemmas::unescaped_itself))]
-fn view_data(written: &str) -> Data<'_>
-    requires { IsSome (unescaped written.now) }
+fn view_data(written: &str, is_plain: bool) -> Data<'_>
+    requires escaped { IsSome (unescaped written.now) }
+    requires plain { is_plain ≡ true → has_backslash written.now ≡ false }
     ensures shown { data_shown result ≡ data_of written.now }
     ensures readable { IsReadableData result }
 {
-    if has_backslash(written) {
-        Data::Escaped(written)
-    } else {
+    if is_itself(written, is_plain) {
         Data::Plain(written)
+    } else {
+        Data::Escaped(written)
     }
 }
 
@@ -68,9 +82,10 @@ fn split_name(rest: &str) -> (&str, &str)
 }
 
 /// The attribute of a line behind its first byte.
-#[tactic(auto, using(crate::proofs::LineLemmas::value_escaped))]
-fn view_attribute(rest: &str) -> LineView<'_>
-    requires { IsSome (unescaped rest.now) }
+#[tactic(auto, using(crate::proofs::LineLemmas::value_escaped, crate::proofs::ReadLemmas::value_plain))]
+fn view_attribute(rest: &str, is_plain: bool) -> LineView<'_>
+    requires escaped { IsSome (unescaped rest.now) }
+    requires plain { is_plain ≡ true → has_backslash rest.now ≡ false }
     ensures shown { line_shown result
         ≡ Line.Attr (name_in rest.now) (data_of (value_in rest.now)) }
     ensures readable { IsReadable result }
@@ -78,14 +93,15 @@ fn view_attribute(rest: &str) -> LineView<'_>
     let (name, value) = split_name(rest);
     LineView::Attr {
         name,
-        value: view_data(value),
+        value: view_data(value, is_plain),
     }
 }
 
 /// The processing instruction of a line behind its first byte.
-#[tactic(auto, using(crate::proofs::LineLemmas::value_escaped))]
-fn view_instruction(rest: &str) -> LineView<'_>
-    requires { IsSome (unescaped rest.now) }
+#[tactic(auto, using(crate::proofs::LineLemmas::value_escaped, crate::proofs::ReadLemmas::value_plain))]
+fn view_instruction(rest: &str, is_plain: bool) -> LineView<'_>
+    requires escaped { IsSome (unescaped rest.now) }
+    requires plain { is_plain ≡ true → has_backslash rest.now ≡ false }
     ensures shown { line_shown result
         ≡ Line.Pi (name_in rest.now) (data_of (value_in rest.now)) }
     ensures readable { IsReadable result }
@@ -93,56 +109,61 @@ fn view_instruction(rest: &str) -> LineView<'_>
     let (target, value) = split_name(rest);
     LineView::Pi {
         target,
-        value: view_data(value),
+        value: view_data(value, is_plain),
     }
 }
 
-/// The line with this first byte and this rest, which is well escaped.
-fn view_kind(kind: u8, rest: &str) -> LineView<'_>
+/// The line with this first byte and this rest, which is well escaped. `is_plain` only where it
+/// holds no backslash.
+fn view_kind(kind: u8, rest: &str, is_plain: bool) -> LineView<'_>
     requires begins { IsTrue (begins_line kind) }
     requires escaped { IsSome (unescaped rest.now) }
+    requires plain { is_plain ≡ true → has_backslash rest.now ≡ false }
     ensures shown { line_shown result ≡ line_of kind rest.now }
     ensures readable { IsReadable result }
 {
     match kind {
         START => LineView::Start(rest),
-        ATTRIBUTE => view_attribute(rest),
-        TEXT => LineView::Chars(view_data(rest)),
+        ATTRIBUTE => view_attribute(rest, is_plain),
+        TEXT => LineView::Chars(view_data(rest, is_plain)),
         END => LineView::End(rest),
-        INSTRUCTION => view_instruction(rest),
-        COMMENT => LineView::Comment(view_data(rest)),
+        INSTRUCTION => view_instruction(rest, is_plain),
+        COMMENT => LineView::Comment(view_data(rest, is_plain)),
         _ => unreachable!(),
     }
 }
 
 /// Whether each backslash of the text begins a pair, as where there is none.
 #[tactic(auto, using(crate::proofs::ReadLemmas::unescaped_itself))]
-fn is_readable(text: &str) -> bool
+fn is_readable(text: &str, is_plain: bool) -> bool
+    requires { is_plain ≡ true → has_backslash text.now ≡ false }
     ensures { IsTrue result ↔ IsSome (unescaped text.now) }
 {
-    !has_backslash(text) || is_well_escaped(text.as_bytes())
+    is_itself(text, is_plain) || is_well_escaped(text.as_bytes())
 }
 
-/// What a line with this first byte says.
-fn view_rest(kind: u8, rest: &str, ended: bool) -> Result<LineView<'_>, Fault>
-    requires { IsTrue (begins_line kind) }
+/// What a line with this first byte says. `is_plain` only where the rest holds no backslash.
+fn view_rest(kind: u8, rest: &str, ended: bool, is_plain: bool) -> Result<LineView<'_>, Fault>
+    requires begins { IsTrue (begins_line kind) }
+    requires plain { is_plain ≡ true → has_backslash rest.now ≡ false }
     ensures { IsViewing result (rest_reading kind rest.now ended) }
 {
-    if !is_readable(rest) {
+    if !is_readable(rest, is_plain) {
         return Err(Fault::BadEscape);
     }
     if !ended {
         return Err(Fault::NoFinalLineFeed);
     }
-    Ok(view_kind(kind, rest))
+    Ok(view_kind(kind, rest, is_plain))
 }
 
-/// What a line that is text says.
-fn view_text(text: &str, ended: bool) -> Result<LineView<'_>, Fault>
+/// What a line that is text says. `is_plain` only where it holds no backslash.
+fn view_text(text: &str, ended: bool, is_plain: bool) -> Result<LineView<'_>, Fault>
+    requires { is_plain ≡ true → has_backslash text.now ≡ false }
     ensures { IsViewing result (kind_reading text.now ended) }
 {
     match text.as_bytes() {
-        [kind, ..] if begins_line(*kind) => view_rest(*kind, &text[1..], ended),
+        [kind, ..] if begins_line(*kind) => view_rest(*kind, &text[1..], ended, is_plain),
         _ => Err(Fault::BadLine),
     }
 }
@@ -152,7 +173,7 @@ fn view_row(bytes: &[u8], ended: bool) -> Result<LineView<'_>, Fault>
     ensures { IsViewing result (reading (record { bytes = bytes.now; ended = ended })) }
 {
     match from_utf8(bytes) {
-        Ok(text) => view_text(text, ended),
+        Ok(text) => view_text(text, ended, false),
         Err(_) => Err(Fault::BadUtf8),
     }
 }
@@ -175,6 +196,31 @@ pub fn view_line(bytes: &[u8]) -> Result<Option<(LineView<'_>, usize)>, Fault>
     let (row, ended, behind) = split_row(bytes);
     let view = view_row(row, ended)?;
     Ok(Some((view, bytes.len() - behind.len())))
+}
+
+/// What a line of a text says by itself. `is_plain` only where it holds no backslash.
+fn view_text_row(text: &str, ended: bool, is_plain: bool) -> Result<LineView<'_>, Fault>
+    requires { is_plain ≡ true → has_backslash text.now ≡ false }
+    ensures { IsViewing result (reading (record { bytes = text.now; ended = ended })) }
+{
+    view_text(text, ended, is_plain)
+}
+
+/// `view_line` for a text, which is not tried for UTF-8 again.
+pub(crate) fn view_text_line(text: &str) -> Result<Option<(LineView<'_>, usize)>, Fault>
+    ensures first { Reads (told result) text.now }
+    ensures lines { Finds (told result) text.now }
+    ensures readable { HasReadable result }
+    ensures rows { 0 < length text.now
+        → rows_of text.now ≡ first_row text.now ∷ rows_of (behind_row text.now) }
+    ensures cut { IfOk result (λ found. IfSome found (λ found. IsCharBoundary text.now found.1)) }
+{
+    if text.is_empty() {
+        return Ok(None);
+    }
+    let row = split_text(text);
+    let view = view_text_row(row.text, row.ended, row.is_plain)?;
+    Ok(Some((view, row.taken)))
 }
 
 /// The first line of a document, and how many bytes it takes, the line feed at its end among them.

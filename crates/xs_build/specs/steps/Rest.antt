@@ -1,6 +1,8 @@
 -- What is left to do with the lines that follow.
-use Rattle.std.specs.Prelude.{◌≡◌, ℕ, ◌-◌, List, [], ◌∷◌, ◌++◌, Option, None, Some, Result, Ok, Err, Bool, ◌==◌, if◌then◌else◌, drop}
+use Rattle.std.specs.Prelude.{◌≡◌, ℕ, ◌-◌, List, [], ◌∷◌, ◌++◌, Option, None, Some, Result, Ok, Err, Bool, ◌==◌, if◌then◌else◌}
 use Rattle.xs_pyx.specs.Row.{Row, rows_of}
+use Rattle.xs_pyx.specs.declared.rest.Rest.{Rest}
+use Rattle.xs_pyx.specs.Views.{bytes_left}
 use Rattle.xs_tree.specs.Record.{Record}
 use Rattle.xs_build.specs.declared.fault.BuildFault.{BuildFault}
 use Rattle.xs_build.specs.declared.fault.BuildFault.TheVariants.{Bad, NoMemory}
@@ -33,9 +35,9 @@ abbrev pub fault_at : Bool → ℕ → ℕ
 fault_at stray number = if stray then (if number == bad_utf8 then bad_utf8 else bad_line) else number
 
 -- One line was read: what is left to do is what the new state leaves to do with the bytes behind it. Memory may run out.
-abbrev pub Goes : Result (Option ℕ) BuildFault → State → State → List ℕ → Type 0
+abbrev pub Goes : Result (Option Rest) BuildFault → State → State → List ℕ → Type 0
 Goes (Ok None) old new bytes = left old (rows_of bytes) ≡ concluded new
-Goes (Ok (Some size)) old new bytes = left old (rows_of bytes) ≡ left new (rows_of (drop size bytes))
+Goes (Ok (Some rest)) old new bytes = left old (rows_of bytes) ≡ left new (rows_of (bytes_left rest))
 Goes (Err (Bad number line)) old new bytes = left old (rows_of bytes) ≡ refused number line
 Goes (Err NoMemory) old new bytes = Unit {0}
 

@@ -6,7 +6,7 @@ use Rattle.xs_text.specs.Escapes.{unescaped}
 use Rattle.xs_pyx.specs.declared.line.Line.TheVariants.{Start, Attr, Chars, Pi}
 use Rattle.xs_pyx.specs.Reading.{reading}
 use Rattle.xs_pyx.proofs.LineLemmas.{line_by_reading}
-use Rattle.xs_pyx.proofs.tests.worked_lines.Goals as goal
+use Rattle.xs_pyx_tests.proofs.tests.worked_lines.Goals as goal
 
 pub returns-clause-name : goal.returns-clause-name
 unfolding reading unescaped is_utf8 chars encode

@@ -2,9 +2,9 @@
 
 ghost use Rattle.std.specs.Prelude.{◌≤◌};
 
-use crate::{BuildFault, build_tree, laws};
+use crate::documents::{has_name, has_text};
 use std::test::*;
-use xs_tree::{Name, Node};
+use xs_build::{BuildFault, build_tree, laws};
 
 /// The fault of a document, if it has one, and its line.
 fn fault_of(rt: &HostRuntime, bytes: &[u8], limit: u64) -> Option<(u8, u32)>
@@ -21,15 +21,6 @@ fn count(rt: &HostRuntime, bytes: &[u8]) -> Option<usize> {
     match build_tree(rt.alloc(), bytes, 1000) {
         Ok(built) => Some(built.tree.len()),
         Err(_) => None,
-    }
-}
-
-/// Whether the node at this place has this text.
-fn has_text(rt: &HostRuntime, bytes: &[u8], place: u32, text: &str) -> bool {
-    match build_tree(rt.alloc(), bytes, 1000) {
-        Ok(built) => (place as usize) < built.tree.len()
-            && built.tree.text(Node::at(place)) == text,
-        Err(_) => false,
     }
 }
 
@@ -64,34 +55,6 @@ fn lines_of_nodes(rt: HostRuntime) {
 fn too_many_bytes(rt: HostRuntime) {
     assert_eq!(rt; fault_of(&rt, b"(a\n)a\n", 6), None);
     assert_eq!(rt; fault_of(&rt, b"(a\n)a\n", 5), Some((11, 0)));
-}
-
-/// Whether the node at a place has this name, written with this prefix.
-fn has_name(
-    rt: &HostRuntime,
-    bytes: &[u8],
-    place: u32,
-    uri: &str,
-    local: &str,
-    prefix: &str,
-) -> bool {
-    match build_tree(rt.alloc(), bytes, 1000) {
-        Ok(built) => (place as usize) < built.tree.len()
-            && is_name(built.tree.name(Node::at(place)), uri, local, prefix),
-        Err(_) => false,
-    }
-}
-
-/// Whether a name has these parts.
-fn is_name(name: Option<&Name>, uri: &str, local: &str, prefix: &str) -> bool {
-    match name {
-        Some(name) => {
-            name.uri.as_str() == uri
-                && name.local.as_str() == local
-                && name.prefix.as_str() == prefix
-        }
-        None => false,
-    }
 }
 
 #[test]

@@ -1,8 +1,8 @@
 //! The faults of lines and of a document, alone and in pairs, as the rules give them.
 
-use crate::{BuildFault, build_tree};
 use std::alloc::{AllocError, Global};
 use std::test::*;
+use xs_build::{BuildFault, build_tree};
 
 /// Whether a document of at most 1,000 bytes has this fault at this line; number 0 stands for none.
 fn has_fault(rt: &HostRuntime, bytes: &[u8], number: u8, line: u32) -> bool {

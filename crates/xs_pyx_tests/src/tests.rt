@@ -4,10 +4,11 @@ ghost use Rattle.std.specs.Prelude.{◌≡◌, ◌∷◌, [], true, false, codes
 ghost use Rattle.xs_pyx.specs.Reading.{says, faulty};
 ghost use Rattle.xs_pyx.specs.Lines.{AreLines, Says};
 
-use crate::{
-    Data, Line, LineFault, LineView, TextBuf, next_line, skip_line, view_line, write_line,
-};
 use std::test::*;
+use xs_pyx::{
+    Data, Fault, Line, LineFault, LineView, Rest, TextBuf, next_line, skip_line, view_line,
+    write_line,
+};
 
 fn reads_start(rt: &HostRuntime, bytes: &[u8], want: &str) -> bool {
     match next_line(rt.alloc(), bytes) {
@@ -300,6 +301,42 @@ fn views_lines(rt: HostRuntime) {
     assert!(rt; views_plain(b"-\n", ""));
     assert!(rt; views_escaped(b"-a\\tb\n", "a\\tb"));
     assert!(rt; !views_plain(b"-\\n\n", "\n"));
+}
+
+/// Whether the first line of what is left is this text without a backslash, of so many bytes.
+fn is_left(rest: Rest<'_>, want: &str, size: usize) -> bool {
+    match rest.view_line() {
+        Ok(Some((LineView::Chars(Data::Plain(text)), taken))) => text == want && taken == size,
+        _ => false,
+    }
+}
+
+/// Whether the first line but one of what is left is this text, behind a line of so many bytes.
+fn is_left_behind(rest: Rest<'_>, want: &str, size: usize) -> bool {
+    match rest.view_line() {
+        Ok(Some((_, taken))) => is_left(rest.behind(taken), want, size),
+        _ => false,
+    }
+}
+
+#[test]
+fn what_is_left_of_text(rt: HostRuntime) {
+    let bytes = "-é\n-€ b\n-".as_bytes();
+    let rest = Rest::of(bytes);
+    assert!(rt; matches!(rest, Rest::Text(_)));
+    assert_eq!(rt; rest.bytes(), bytes);
+    assert!(rt; is_left(rest, "é", 4));
+    assert!(rt; is_left_behind(rest, "€ b", 7));
+    assert!(rt; matches!(Rest::of(b"").view_line(), Ok(None)));
+}
+
+#[test]
+fn what_is_left_of_other_bytes(rt: HostRuntime) {
+    let rest = Rest::of(b"-a\n-b\n-\xff\n");
+    assert!(rt; matches!(rest, Rest::Bytes(_)));
+    assert!(rt; is_left(rest, "a", 3));
+    assert!(rt; is_left_behind(rest, "b", 3));
+    assert!(rt; matches!(Rest::of(b"-\xff\n").view_line(), Err(Fault::BadUtf8)));
 }
 
 #[test]

@@ -7,7 +7,7 @@ use Rattle.xs_pyx.specs.declared.line.Line.TheVariants.{Start, End}
 use Rattle.xs_pyx.specs.Row.{rows_behind}
 use Rattle.xs_pyx.specs.Reading.{reading}
 use Rattle.xs_pyx.proofs.LineLemmas.{lines_by_reading}
-use Rattle.xs_pyx.proofs.tests.worked_documents.Goals as goal
+use Rattle.xs_pyx_tests.proofs.tests.worked_documents.Goals as goal
 
 pub returns-clause-two : goal.returns-clause-two
 unfolding rows_behind reading unescaped is_utf8 chars encode

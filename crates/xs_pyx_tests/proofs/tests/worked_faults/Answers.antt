@@ -5,7 +5,7 @@ use lib.Utf8.{encode}
 use Rattle.xs_text.specs.Escapes.{unescaped}
 use Rattle.xs_pyx.specs.Reading.{reading}
 use Rattle.xs_pyx.proofs.LineLemmas.{fault_by_reading}
-use Rattle.xs_pyx.proofs.tests.worked_faults.Goals as goal
+use Rattle.xs_pyx_tests.proofs.tests.worked_faults.Goals as goal
 
 pub returns-clause-not_utf8 : goal.returns-clause-not_utf8
 unfolding reading unescaped is_utf8 chars encode
