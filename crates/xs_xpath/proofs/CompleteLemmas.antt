@@ -1,8 +1,7 @@
 -- What the rules spell, the function reads.
-use Rattle.std.proofs.Common.{◌≡◌, ℕ, zero, suc, ◌<◌, Bool, true, false, List, [], ◌∷◌, ◌++◌, Option, Some, None, option_map, refl, sym, ◌∙◌, ap, subst, arith, append_assoc}
-use Rattle.std.specs.Prelude.{◌==◌, if◌then◌else◌, option_and_then}
+use Rattle.std.proofs.Common.{◌≡◌, ℕ, zero, suc, List, [], ◌∷◌, ◌++◌, Option, Some, None, option_map, refl, sym, ◌∙◌, ap, subst, arith, append_assoc}
+use Rattle.std.specs.Prelude.{option_and_then}
 use Rattle.std.proofs.lemmas.List.{append-nil}
-use Rattle.std.proofs.lemmas.Bool.Decides.{nat_tests}
 use Rattle.xs_tree.specs.declared.axes.Axis.{Axis}
 use Rattle.xs_tree.specs.declared.axes.Axis.TheVariants.{Child}
 use Rattle.xs_xpath.specs.declared.name.Function.{Function}
@@ -14,56 +13,8 @@ use Rattle.xs_xpath.specs.declared.token.Token.TheVariants.{Round, Call, EndRoun
 use Rattle.xs_xpath.specs.Tokens.{rank, expr_level}
 use Rattle.xs_xpath.specs.Tree.{Tree, call, negative, group, here, root, step, descend, path, trees, atom_tree, chained, filtered, followed}
 use Rattle.xs_xpath.specs.Grammar.{minus_signs, Spells, operands, signs, relative, only_root, absolute, anywhere, primary, Links, no_links, link, Steps, child_step, axis_step, dotted_step, Behind, nothing, a_predicate, next_step, next_anywhere, Primary, one_token, in_brackets, no_arguments, arguments, Commas, no_commas, argument}
-use Rattle.xs_xpath.specs.Reading.{Part, plain, whole, predicate, Ahead, tail, tested, stepped, complete, steps_in, with_slash, with_slashes, front, backwards, path_from, path_of, cut, both, pieces, links_of, signed, operand, level, round, arguments_of, square, Frame, State, state, frame, taken, expr, read, tree_by, all_arguments}
-
--- tokens that are read become these parts, whatever is around them
-abbrev Reads : (Tree → Tree) → List Token → List Part → Type 0
-Reads k ts parts =
-    (frames : List Frame) (front : List Part) (rest : List Token) → read (expr k) (ts ++ rest) (state frames front) ≡ read (expr k) rest
-    (state frames (front ++ parts))
-
-reads-nil : (k : Tree → Tree) → Reads k [] []
-reads-nil k frames front rest = ap (λ ps. read (expr k) rest (state frames ps)) (sym (append-nil front))
-
-reads-append : (k : Tree → Tree) (ts us : List Token) (ps qs : List Part) → Reads k ts ps → Reads k us qs → Reads k (ts ++ us) (ps ++ qs)
-reads-append k ts us ps qs h l frames front rest =
-    ap (λ all. read (expr k) all (state frames front)) (append_assoc ts us rest) ∙ h frames front (us ++ rest) ∙ l frames (front ++ ps) rest
-    ∙ ap (λ parts. read (expr k) rest (state frames parts)) (append_assoc front ps qs)
-
--- no part is an operator of a higher rank
-abbrev Below : ℕ → List Part → Type 0
-Below n [] = Unit {0}
-Below n (part ∷ parts) = ((r : ℕ) → n < r → cut r part ≡ None) × Below n parts
-
-below-append : (n : ℕ) (ps qs : List Part) → Below n ps → Below n qs → Below n (ps ++ qs)
-below-append n [] qs h k = k
-below-append n (p ∷ ps) qs h k = (h.0, below-append n ps qs h.1 k)
-
-below-more : (n m : ℕ) (ps : List Part) → n < m → Below n ps → Below m ps
-below-more n m [] lt h = tt
-below-more n m (p ∷ ps) lt h = ((λ r k. h.0 r (omega arith)), below-more n m ps lt h.1)
-
-below-operator : (n : ℕ) (op : Operator) → rank op ≡ n → (r : ℕ) → n < r → cut r (plain (Infix op)) ≡ None
-below-operator n op is r lt = go (rank op == r) refl
-  where
-    go : (b : Bool) → (rank op == r) ≡ b → (if b then Some op else None) ≡ None
-    go true e = absurd (grind (arith, nat_tests))
-    go false e = refl
-
-cut-operator : (n : ℕ) (op : Operator) → rank op ≡ n → cut n (plain (Infix op)) ≡ Some op
-cut-operator n op is = go (rank op == n) refl
-  where
-    go : (b : Bool) → (rank op == n) ≡ b → (if b then Some op else None) ≡ Some op
-    go true e = refl
-    go false e = absurd (grind (arith, nat_tests))
-
--- the first piece goes to the first operator of the rank
-pieces-front : (n r : ℕ) (ps rest : List Part) → n < r → Below n ps → pieces r (ps ++ rest) ≡ (ps ++ (pieces r rest).0, (pieces r rest).1)
-pieces-front n r [] rest lt h = refl
-pieces-front n r (p ∷ ps) rest lt h = rw (h.0 r lt, pieces-front n r ps rest lt h.1) refl
-
-pieces-whole : (n r : ℕ) (ps : List Part) → n < r → Below n ps → pieces r ps ≡ (ps, [])
-pieces-whole n r ps lt h = ap (pieces r) (sym (append-nil ps)) ∙ pieces-front n r ps [] lt h ∙ ap (λ qs. (qs, [])) (append-nil ps)
+use Rattle.xs_xpath.specs.Reading.{Part, plain, whole, predicate, Ahead, tail, tested, stepped, complete, steps_in, with_slash, with_slashes, front, backwards, path_from, path_of, both, pieces, links_of, signed, operand, level, round, arguments_of, square, Frame, State, state, frame, taken, expr, read, tree_by, all_arguments}
+use Rattle.xs_xpath.proofs.PartLemmas.{Reads, reads-nil, reads-append, Below, below-append, below-more, below-operator, cut-operator, pieces-front, pieces-whole}
 
 none-some : {A : Type 0} (a : A) (o : Option A) → o ≡ None → o ≡ Some a → ⊥
 none-some a o h k = cc

@@ -1,5 +1,5 @@
 -- The tokens that the function finds are those that the rules spell.
-use Rattle.std.proofs.Common.{◌≡◌, ◌≢◌, ℕ, ◌<◌, Bool, true, false, List, [], ◌∷◌, ◌++◌, Option, Some, None, option_map, refl, sym, ◌∙◌, ap, subst, inl, inr, lit<, arith, append_assoc}
+use Rattle.std.proofs.Common.{◌≡◌, ℕ, ◌<◌, Bool, true, false, List, [], ◌∷◌, ◌++◌, Option, Some, None, option_map, refl, sym, ◌∙◌, ap, subst, inl, inr, lit<, arith, append_assoc}
 use Rattle.std.specs.Prelude.{◌==◌, ◌&&◌, ◌||◌, if◌then◌else◌, option_and_then, ◌⊎◌}
 use Rattle.std.proofs.lemmas.List.{append-nil}
 use Rattle.std.proofs.lemmas.Bool.Decides.{nat_tests}
@@ -11,7 +11,6 @@ use Rattle.xs_xpath.specs.declared.token.Operator.{Operator}
 use Rattle.xs_xpath.specs.declared.token.Atom.TheVariants.{Literal}
 use Rattle.xs_xpath.specs.declared.token.Token.{Token}
 use Rattle.xs_xpath.specs.declared.token.Token.TheVariants.{Infix, OnAxis, Test, Atom}
-use Rattle.xs_xpath.specs.declared.token.Lexeme.{Lexeme}
 use Rattle.xs_xpath.specs.declared.token.Lexeme.TheVariants.{Ready, AnyOf, Named, Called, Variable}
 use Rattle.xs_xpath.specs.declared.bytes.Class.TheVariants.{Space, Digit, Until}
 use Rattle.xs_xpath.specs.declared.bytes.Kind.{Kind}
@@ -19,8 +18,8 @@ use Rattle.xs_xpath.specs.declared.bytes.Kind.TheVariants.{ANumber, AName, ALite
 use Rattle.xs_xpath.specs.declared.signs.Before.{Before}
 use Rattle.xs_xpath.specs.declared.signs.Before.TheVariants.{NoOperand, Operand}
 use Rattle.xs_xpath.specs.Lexing.{is_digit, is_quote, starts_name, first, second, run, behind, strip, kind, is_operand, Found, found, two, one, of_two, sign_found, pointed, number_found, quoted_in, quoted, literal_found, qname, qualified, variable_found, is_nil, unprefixed, operator_named, kind_named, axis_named, is_pi, target_found, closed, bracketed, colons_at, before_colons, before_bracket, star_at, before_star, operator_found, named, name_found, found_by, begun}
-use Rattle.xs_xpath.specs.Spelling.{AllPass, Stops, IsName, IsToken, one_sign, two_signs, whole_number, pointed_number, a_literal, a_variable, an_operator, any_of, a_name, an_axis, a_call, a_kind, a_target}
-use Rattle.xs_xpath.proofs.TokenLemmas.{none-some, some-same, runs, byte-is, strip-some, pair-at, qualified-sound, unprefixed-name, name-some}
+use Rattle.xs_xpath.specs.Spelling.{AllPass, IsName, IsToken, one_sign, two_signs, whole_number, pointed_number, a_literal, a_variable, an_operator, any_of, a_name, an_axis, a_call, a_kind, a_target}
+use Rattle.xs_xpath.proofs.TokenLemmas.{none-some, some-same, runs, byte-is, strip-some, pair-at, qualified-sound, unprefixed-name}
 
 map-some : {A B : Type 0} (f : A → B) (o : Option A) (b : B) → option_map f o ≡ Some b → (a : A) × (o ≡ Some a) × (f a ≡ b)
 map-some f None b h = absurd (none-some b h)
@@ -344,73 +343,3 @@ IsToken-begun before bytes f h = go (kind bytes) refl h
     go ALiteral e g = literal-told before bytes f g
     go AVariable e g = variable-told before bytes f e g
     go ASign e g = sign-told before bytes f e g
-
--- ---- a token has a first byte
-nil-append : (xs ys : List ℕ) → ys ≢ [] → xs ++ ys ≢ []
-nil-append [] ys h = h
-nil-append (x ∷ xs) ys h = λ e. cc
-
-text-append : (xs ys : List ℕ) → xs ≢ [] → xs ++ ys ≢ []
-text-append [] ys h = absurd (h refl)
-text-append (x ∷ xs) ys h = λ e. cc
-
-no-number : (s d q v : Bool) → s ≡ false → d ≡ false
-    → (if s then AName else if d then ANumber else if q then ALiteral else if v then AVariable else ASign) ≡ ANumber → ⊥
-no-number true d q v e g h = cc
-no-number false true q v e g h = cc
-no-number false false true v e g h = cc
-no-number false false false true e g h = cc
-no-number false false false false e g h = cc
-
--- digits that stop at once, with no point behind them, are no number
-whole-some : (rest : List ℕ) → kind rest ≡ ANumber → ((b : ℕ) (bs : List ℕ) → rest ≡ b ∷ bs → is_digit b ≡ false) → strip 46 rest ≡ None → ⊥
-whole-some [] k stops none = cc
-whole-some (b ∷ bs) k stops none = go (b == 46) refl none
-  where
-    go : (t : Bool) → (b == 46) ≡ t → (if t then Some bs else None) ≡ None → ⊥
-    go true e g = cc
-    go false e g = point (is_digit b) (stops b bs refl) refl
-      where
-        point : (d : Bool) → d ≡ false → is_digit b ≡ d → ⊥
-        point true f l = cc
-        point false f l = named-or (starts_name b) refl
-          where
-            named-or : (s : Bool) → starts_name b ≡ s → ⊥
-            named-or s n = last s (k-by s n)
-              where
-                k-by : (s : Bool) → starts_name b ≡ s → (if s then AName else if is_digit b ||
-                    (b == 46 && is_digit (first bs)) then ANumber else if is_quote b then ALiteral else if b == 36 then AVariable else ASign) ≡ ANumber
-                k-by s n =
-                    ap (λ (t : Bool). if t then AName else if is_digit b ||
-                    (b == 46 && is_digit (first bs)) then ANumber else if is_quote b then ALiteral else if b == 36 then AVariable else ASign) (sym n) ∙ k
-
-                last : (s : Bool) → (if s then AName else if is_digit b ||
-                    (b == 46 && is_digit (first bs)) then ANumber else if is_quote b then ALiteral else if b == 36 then AVariable else ASign) ≡ ANumber → ⊥
-                last true g = cc
-                last false g =
-                    let none-left : (is_digit b || (b == 46 && is_digit (first bs))) ≡ false = ap (λ (t : Bool). t || (b == 46 && is_digit (first bs))) l
-                    ∙ ap (λ (t : Bool). t && is_digit (first bs)) e in
-                    no-number false (is_digit b || (b == 46 && is_digit (first bs))) (is_quote b) (b == 36) refl none-left g
-
-first-stops : (rest : List ℕ) → Stops Digit rest → (b : ℕ) (bs : List ℕ) → rest ≡ b ∷ bs → is_digit b ≡ false
-first-stops rest h b bs e = subst (Stops Digit) e h
-
-pub token-some : (before : Before) (text rest : List ℕ) (l : Lexeme) (after : Before) → IsToken before text rest l after → text ≢ []
-token-some _ _ _ _ _ (one_sign before after b rest t k none is) = λ h. cc
-token-some _ _ _ _ _ (two_signs before after b c rest t k is) = λ h. cc
-token-some _ _ _ _ _ (whole_number before whole rest k all stops none) =
-    λ h. whole-some rest (subst (λ w. kind (w ++ rest) ≡ ANumber) h k) (first-stops rest stops) none
-token-some _ _ _ _ _ (pointed_number before whole fraction rest k all more stops) = nil-append whole (46 ∷ fraction) (λ e. cc)
-token-some _ _ _ _ _ (a_literal before quote text rest is all) = λ h. cc
-token-some _ _ _ _ _ (a_variable before text rest q name) = λ h. cc
-token-some _ _ _ _ _ (an_operator before text rest q op k is name h) = name-some text rest q name
-token-some _ _ _ _ _ (any_of before text rest k is name) = nil-append text (58 ∷ 42 ∷ []) (λ e. cc)
-token-some _ _ _ _ _ (a_name before text rest q k is name star bracket colons) = name-some text rest q name
-token-some _ _ _ _ _ (an_axis before text spaces rest q axis k is name blank h) =
-    text-append text (spaces ++ 58 ∷ 58 ∷ []) (name-some text (spaces ++ 58 ∷ 58 ∷ rest) q name)
-token-some _ _ _ _ _ (a_call before text spaces rest q k is name blank h) = text-append text (spaces ++ 40 ∷ []) (name-some text (spaces ++ 40 ∷ rest) q name)
-token-some _ _ _ _ _ (a_kind before text spaces more rest q which k is name blank white h) =
-    text-append text (spaces ++ 40 ∷ (more ++ 41 ∷ [])) (name-some text (spaces ++ 40 ∷ (more ++ 41 ∷ rest)) q name)
-token-some _ _ _ _ _ (a_target before text spaces more target last rest quote q k is name blank white end quotes inside h) =
-    text-append text (spaces ++ 40 ∷ (more ++ quote ∷ (target ++ quote ∷ (last ++ 41 ∷ []))))
-    (name-some text (spaces ++ 40 ∷ (more ++ quote ∷ (target ++ quote ∷ (last ++ 41 ∷ rest)))) q name)

@@ -10,7 +10,8 @@ use Rattle.xs_xpath.specs.Lexing.{is_space, first, Found, found, begun, placed, 
 use Rattle.xs_xpath.specs.Spelling.{IsToken, past, Lexes, end, space, token}
 use Rattle.xs_xpath.proofs.TokenLemmas.{none-some, some-same, true-false, same-byte, byte-is}
 use Rattle.xs_xpath.proofs.SpellLemmas.{begun-IsToken}
-use Rattle.xs_xpath.proofs.FoundLemmas.{IsToken-begun, token-some}
+use Rattle.xs_xpath.proofs.FirstByteLemmas.{token-some}
+use Rattle.xs_xpath.proofs.FoundLemmas.{IsToken-begun}
 
 -- ---- steps of the function
 lexed-skip : (text rest : List ℕ) (at : ℕ) (before : Before) → lexed at (length text) before (text ++ rest) ≡ lexed (past text at) 0 before rest

@@ -1,3 +1,4 @@
+mod PartLemmas
 mod CompleteLemmas
 mod SoundLemmas
 mod ReadSoundLemmas
@@ -9,7 +10,13 @@ pub mod RunLemmas
 mod TokenLemmas
 mod SpellLemmas
 mod FoundLemmas
+mod FirstByteLemmas
 mod LexLemmas
 mod VerdictLemmas
 mod TextLemmas
 mod PatternLemmas
+mod PieceLemmas
+mod PlaceLemmas
+mod AvtLemmas
+mod TemplateLemmas
+mod BindLemmas

@@ -22,7 +22,7 @@ behind-ascii p bs (suc n) ascii utf8 is =
     subst (IsCharBoundary bs) e (IsCharBoundary-after_ascii bs n utf8 inside (ascii (get_or bs n 0) (prefix_len_passes p bs n 0 lt)))
 
 -- so does a run that only an ASCII byte ends
-before-ascii : (p : ℕ → Bool) (bs : List ℕ) → ((b : ℕ) → p b ≡ false → b < 128) → IsCharBoundary bs (prefix_len p bs)
+pub before-ascii : (p : ℕ → Bool) (bs : List ℕ) → ((b : ℕ) → p b ≡ false → b < 128) → IsCharBoundary bs (prefix_len p bs)
 before-ascii p bs ascii = go (prefix_len p bs) refl (prefix_len-le-length p bs)
   where
     go : (n : ℕ) → prefix_len p bs ≡ n → n ≤ length bs → IsCharBoundary bs n

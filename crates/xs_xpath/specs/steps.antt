@@ -2,4 +2,5 @@
 pub mod Cuttings
 pub mod Parts
 pub mod Scan
+pub mod SoFar
 pub mod States

@@ -51,7 +51,7 @@ fn starts_name(b: u8) -> bool
 }
 
 /// Whether a byte is a quote.
-fn is_quote(b: u8) -> bool
+pub fn is_quote(b: u8) -> bool
     ensures quote { result ≡ is_quote b }
 {
     b == b'"' || b == b'\''

@@ -4,7 +4,7 @@ use thiserror::Error;
 
 /// A fault, and its first byte's place.
 #[derive(Clone, Copy)]
-pub enum Fault {
+pub(crate) enum Fault {
     /// The text is in no spelling of the grammar.
     Syntax,
     /// A function has an unknown name.
@@ -23,7 +23,7 @@ pub enum Fault {
 
 /// A fault that one lexeme has.
 #[derive(Clone, Copy)]
-pub enum Check {
+pub(crate) enum Check {
     /// An unknown function.
     Unknown,
     /// A number with a fraction, or past the limit.
@@ -39,9 +39,8 @@ pub enum ParseFault {
     #[error("fault {number} at byte {at}")]
     Bad {
         /// The fault's number: 20 in no spelling of the grammar, 21 an unknown function, 22 a
-        /// wrong number of arguments, 23 a
-        /// number with a fraction or past the limit, 24 nested too deep, 25 no pattern, 38 an
-        /// unbound prefix.
+        /// wrong number of arguments, 23 a number with a fraction or past the limit, 24 nested
+        /// too deep, 25 no pattern, 38 an unbound prefix.
         number: u8,
         /// The place of its first byte.
         at: u32,

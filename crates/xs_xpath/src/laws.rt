@@ -2,6 +2,8 @@
 
 ghost use Rattle.xs_xpath.specs.Laws.{OneTree, OneTreeOfText, OutcomeIsTold, SyntaxIsTold};
 ghost use Rattle.xs_xpath.specs.Laws.{TextsHaveTokens, TokensAreRead};
+ghost use Rattle.xs_xpath.specs.TemplateLaws.{TemplateIsTold, TemplateSyntaxIsTold};
+ghost use Rattle.xs_xpath.specs.TemplateLaws.{TemplatesAreCut};
 
 /// Tokens spell by the rules the tree that the function `tree_of` gives, and no other.
 pub fn tokens_are_read()
@@ -31,4 +33,19 @@ pub fn syntax_is_told()
 /// What is told of the others.
 pub fn outcome_is_told()
     ensures { OutcomeIsTold }
+{}
+
+/// A value template has by the rules the pieces that the function `cut` gives, and no others.
+pub fn templates_are_cut()
+    ensures { TemplatesAreCut }
+{}
+
+/// Which texts are told to be no value templates.
+pub fn template_syntax_is_told()
+    ensures { TemplateSyntaxIsTold }
+{}
+
+/// What is told of the others.
+pub fn template_is_told()
+    ensures { TemplateIsTold }
 {}

@@ -1,7 +1,9 @@
-//! Expressions of XPath 1.0: their parser.
+//! Expressions of XPath 1.0, patterns and value templates of XSLT 1.0: their parser.
 #![tactic(auto)]
 
 mod arity;
+pub mod avt;
+pub mod bind;
 mod bytes;
 pub mod expr;
 pub mod fault;
@@ -19,3 +21,4 @@ mod scan;
 pub mod scope;
 mod signs;
 pub mod token;
+pub mod uses;

@@ -116,7 +116,7 @@ fn verdict(
 
 /// What a text stands for, as an expression or as a pattern, or the least of its faults.
 #[tactic(auto, unfolding(crate::specs::Faults::outcome_in))]
-fn parse(
+pub(crate) fn parse(
     alloc: Global,
     wanted: bool,
     text: &str,
@@ -133,7 +133,7 @@ fn parse(
 }
 
 /// The number of a fault.
-fn number_of_fault(fault: Fault) -> u8
+pub(crate) fn number_of_fault(fault: Fault) -> u8
     ensures number { result ≡ number_of_fault fault }
 {
     match fault {
@@ -163,7 +163,7 @@ fn place_of_fault(fault: Fault) -> u32
 }
 
 /// A fault as it is answered.
-fn told(fault: Fault) -> ParseFault
+pub(crate) fn told(fault: Fault) -> ParseFault
     ensures fault { result ≡ Bad (number_of_fault fault) (place_of_fault fault) }
 {
     ParseFault::Bad {

@@ -140,7 +140,7 @@ fn is_id(name: Function) -> bool
 }
 
 /// Whether a function is `key`.
-fn is_key(name: Function) -> bool
+pub(crate) fn is_key(name: Function) -> bool
     ensures same { result ≡ is_key name }
 {
     match name {

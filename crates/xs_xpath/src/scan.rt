@@ -52,7 +52,7 @@ fn has_fault(check: Check, scope: &Scope, lexeme: &Lexeme) -> bool
 }
 
 /// Where the first lexeme with a fault is.
-pub fn first_fault(check: Check, scope: &Scope, lexemes: &[Placed]) -> Option<u32>
+pub(crate) fn first_fault(check: Check, scope: &Scope, lexemes: &[Placed]) -> Option<u32>
     ensures first { result ≡ first_fault check scope.now.pairs.items lexemes.now }
 {
     let mut rest = lexemes;

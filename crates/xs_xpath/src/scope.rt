@@ -16,8 +16,8 @@ use xs_num::number::Num;
 use xs_num::reading::read_num;
 use xs_trace::text::TextBuf;
 
-/// The pairs of prefix and URI that are in force, each prefix once; the default namespace has the
-/// empty prefix.
+/// The pairs of prefix and URI that are in force, each prefix once, `xml` among them; the default
+/// namespace has the empty prefix.
 #[derive(Drop)]
 pub struct Scope {
     pub pairs: Vec<(TextBuf, TextBuf)>,

@@ -14,4 +14,8 @@ mod pattern_tests;
 #[cfg(test)]
 mod shown;
 #[cfg(test)]
+mod slot_tests;
+#[cfg(test)]
+mod template_tests;
+#[cfg(test)]
 mod token_tests;

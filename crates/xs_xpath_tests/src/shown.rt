@@ -7,6 +7,7 @@ use xs_num::number::Num;
 use xs_num::writing::write_num;
 use xs_trace::text::TextBuf;
 use xs_tree::Axis;
+use xs_xpath::avt::AvtPart;
 use xs_xpath::expr::Expr;
 use xs_xpath::fault::ParseFault;
 use xs_xpath::name::{Function, NodeTest, Slot};
@@ -176,7 +177,7 @@ fn show_arguments(out: &mut Vec<u8>, arguments: &[Expr]) -> Result<(), AllocErro
     Ok(())
 }
 
-// Appends a tree.
+/// Appends a tree.
 #[cycle(show)]
 pub(crate) fn show(out: &mut Vec<u8>, e: &Expr) -> Result<(), AllocError> {
     match e {
@@ -232,7 +233,7 @@ pub(crate) fn show(out: &mut Vec<u8>, e: &Expr) -> Result<(), AllocError> {
     }
 }
 
-// Appends the alternatives of a pattern.
+/// Appends the alternatives of a pattern.
 pub(crate) fn show_pattern(out: &mut Vec<u8>, pattern: &Pattern) -> Result<(), AllocError> {
     let mut is_first = true;
     for e in &pattern.alternatives {
@@ -245,7 +246,26 @@ pub(crate) fn show_pattern(out: &mut Vec<u8>, pattern: &Pattern) -> Result<(), A
     Ok(())
 }
 
-// Appends a fault: `!`, its number, `@` and its place.
+/// Appends the parts of a value template.
+pub(crate) fn show_parts(out: &mut Vec<u8>, parts: &[AvtPart]) -> Result<(), AllocError> {
+    for part in parts {
+        match part {
+            AvtPart::Fixed(text) => {
+                out.push(b'<')?;
+                out.extend_from_slice(text.as_str().as_bytes())?;
+                out.push(b'>')?;
+            }
+            AvtPart::Computed(e) => {
+                out.push(b'[')?;
+                show(out, e)?;
+                out.push(b']')?;
+            }
+        }
+    }
+    Ok(())
+}
+
+/// Appends a fault: `!`, its number, `@` and its place.
 pub(crate) fn show_fault(out: &mut Vec<u8>, fault: ParseFault) -> Result<(), AllocError> {
     match fault {
         ParseFault::NoMemory => out.extend_from_slice(b"no memory"),

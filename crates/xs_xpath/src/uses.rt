@@ -1,0 +1,152 @@
+//! What an expression refers to: variables, `current()` and `key()`.
+ghost use Rattle.std.specs.Prelude.{◌≡◌};
+ghost use Rattle.xs_xpath.specs.Exprs.{tree_from, trees_from};
+ghost use Rattle.xs_xpath.specs.Tree.{trees};
+ghost use Rattle.xs_xpath.specs.Uses.{is_current, is_sought_call, is_sought_variable, use_any};
+ghost use Rattle.xs_xpath.specs.Uses.{has_unbound, uses, uses_current, uses_key, uses_variables};
+
+use crate::expr::Expr;
+use crate::name::{Function, Slot};
+use crate::pattern::is_key;
+
+/// What is sought in an expression.
+#[derive(Clone, Copy)]
+pub(crate) enum Sought {
+    /// A variable.
+    Variable,
+    /// A variable that has no slot.
+    Unbound,
+    /// A call of `current`.
+    Current,
+    /// A call of `key`.
+    Key,
+}
+
+/// Whether a variable is what is sought.
+fn is_sought_variable(sought: Sought, slot: Option<Slot>) -> bool
+    ensures sought { result ≡ is_sought_variable sought slot }
+{
+    match sought {
+        Sought::Variable => true,
+        Sought::Unbound => slot.is_none(),
+        Sought::Current => false,
+        Sought::Key => false,
+    }
+}
+
+/// Whether a function is `current`.
+fn is_current(function: Function) -> bool
+    ensures current { result ≡ is_current function }
+{
+    match function {
+        Function::Last => false,
+        Function::Position => false,
+        Function::Count => false,
+        Function::Id => false,
+        Function::LocalName => false,
+        Function::NamespaceUri => false,
+        Function::Name => false,
+        Function::String => false,
+        Function::Concat => false,
+        Function::StartsWith => false,
+        Function::Contains => false,
+        Function::SubstringBefore => false,
+        Function::SubstringAfter => false,
+        Function::Substring => false,
+        Function::StringLength => false,
+        Function::NormalizeSpace => false,
+        Function::Translate => false,
+        Function::Boolean => false,
+        Function::Not => false,
+        Function::True => false,
+        Function::False => false,
+        Function::Lang => false,
+        Function::Number => false,
+        Function::Sum => false,
+        Function::Floor => false,
+        Function::Ceiling => false,
+        Function::Round => false,
+        Function::Key => false,
+        Function::Current => true,
+        Function::GenerateId => false,
+        Function::SystemProperty => false,
+        Function::ElementAvailable => false,
+        Function::FunctionAvailable => false,
+        Function::UnparsedEntityUri => false,
+    }
+}
+
+/// Whether a call is what is sought.
+fn is_sought_call(sought: Sought, function: Function) -> bool
+    ensures sought { result ≡ is_sought_call sought function }
+{
+    match sought {
+        Sought::Variable => false,
+        Sought::Unbound => false,
+        Sought::Current => is_current(function),
+        Sought::Key => is_key(function),
+    }
+}
+
+/// Whether one of some expressions refers to what is sought.
+#[cycle(uses)]
+fn use_any(sought: Sought, es: &[Expr]) -> bool
+    ensures any { result ≡ use_any sought (trees (trees_from es.now)) }
+{
+    for e in es {
+        if uses(sought, e) {
+            return true;
+        }
+    }
+    false
+}
+
+/// Whether an expression refers to what is sought.
+#[cycle(uses)]
+pub(crate) fn uses(sought: Sought, e: &Expr) -> bool
+    ensures uses { result ≡ uses sought (tree_from e.now) }
+{
+    match e {
+        Expr::Number(_) => false,
+        Expr::Literal(_) => false,
+        Expr::Variable(_, _, slot) => is_sought_variable(sought, *slot),
+        Expr::Call(function, es) => is_sought_call(sought, *function) || use_any(sought, es),
+        Expr::Negative(_, e) => uses(sought, e),
+        Expr::Chain(_, es) => use_any(sought, es),
+        Expr::Group(e) => uses(sought, e),
+        Expr::Here => false,
+        Expr::Root => false,
+        Expr::Step(_, _, es) => use_any(sought, es),
+        Expr::Descend => false,
+        Expr::Filter(e, es) => uses(sought, e) || use_any(sought, es),
+        Expr::Path(e, es) => uses(sought, e) || use_any(sought, es),
+    }
+}
+
+/// Whether an expression has variables.
+pub fn uses_variables(e: &Expr) -> bool
+    ensures uses { result ≡ uses_variables (tree_from e.now) }
+{
+    uses(Sought::Variable, e)
+}
+
+/// Whether an expression has variables without a slot.
+pub fn has_unbound(e: &Expr) -> bool
+    ensures uses { result ≡ has_unbound (tree_from e.now) }
+{
+    uses(Sought::Unbound, e)
+}
+
+/// Whether an expression calls `current`.
+pub fn uses_current(e: &Expr) -> bool
+    ensures uses { result ≡ uses_current (tree_from e.now) }
+{
+    uses(Sought::Current, e)
+}
+
+/// Whether an expression calls `key`.
+pub fn uses_key(e: &Expr) -> bool
+    ensures uses { result ≡ uses_key (tree_from e.now) }
+{
+    uses(Sought::Key, e)
+}
