@@ -1,0 +1,15 @@
+pub mod CheckLemmas
+pub mod DocumentLemmas
+pub mod FetchLemmas
+pub mod GainLemmas
+pub mod MentionLemmas
+pub mod NameLemmas
+pub mod NumberingLemmas
+pub mod OneReadingLemmas
+pub mod OutcomeLemmas
+pub mod PartLemmas
+pub mod RankLemmas
+pub mod ReadingLemmas
+pub mod SoFarLemmas
+pub mod SoundLemmas
+pub mod WholeLemmas

@@ -1,0 +1,10 @@
+pub mod Mentioned
+pub mod Mentions
+pub mod Names
+pub mod Numbering
+pub mod Precedence
+pub mod Reading
+pub mod ReadingLaws
+pub mod Results
+pub mod Sound
+pub mod steps

@@ -1,0 +1,4 @@
+pub mod Fetching
+pub mod Joining
+pub mod Reader
+pub mod Views
