@@ -1,0 +1,566 @@
+use Rattle.std.proofs.Common.{ℕ, ◌<◌, ◌≤◌, List, get_or, ◌≡◌, ◌∙◌, ◌+◌, ◌++◌, ◌∷◌, [], ap, arith, drop, length, map, refl, sym, subst}
+use Rattle.std.proofs.Common.{All, Global, Vec, rules}
+use Rattle.xs_tree.specs.declared.nodes.Node.{Node}
+use Rattle.std.proofs.lemmas.List.Elements.{All-append, All-get_or, All-push}
+use Rattle.std.proofs.lemmas.Result.{err_from_is_err_and}
+use Rattle.std.specs.List.{enumerate_from}
+use Rattle.xs_trace.specs.Play.{Goes}
+use Rattle.xs_trace.specs.Run.{costs, give, limited, ◌>>=◌}
+use Rattle.xs_value.specs.Conversion.{IsIn}
+use Rattle.xs_value.specs.declared.value.Value.TheVariants.{Nodes}
+use Rattle.xs_value.specs.NodeSet.{in_order}
+use Rattle.xs_xpath.specs.declared.expr.Expr.TheVariants as expr
+use Rattle.xs_xpath.specs.declared.token.Operator.TheVariants.{Or}
+use Rattle.xs_eval.specs.Conditions.{IsContext}
+use Rattle.xs_eval.specs.Context.{Context, at_node}
+use Rattle.xs_eval.specs.Evaluation.{and_argument, answered, arguments, called_of, chain, joined, joined_from, run_of, runs_of}
+use Rattle.xs_eval.specs.Operators.{negation, operated}
+use Rattle.xs_eval.specs.steps.Nodes.{AreSome}
+use Rattle.xs_eval.specs.Paths.{and_from, filter_expr, filtered, judged, kept_if, kept_of, path, selected, selects, step, steps_from, through}
+use Rattle.xs_eval.specs.Results.{given, nodes_in}
+use Rattle.xs_eval.proofs.CaseLemmas.{run_call, run_chain}
+use Rattle.xs_eval.proofs.CaseLemmas.{run_step, run_filter, run_path}
+use Rattle.xs_eval.proofs.InsideLemmas.{in_order_all, kept_if_all, kept_if_few, moved, some_in_list}
+use Rattle.xs_eval.proofs.StepLemmas.{by_case, closes, continues, costs_on, exits, exits_at_costs, exits_at_tick, exits_in_items, exits_in_parts}
+use Rattle.xs_eval.proofs.StepLemmas.{gives, goes_on, items_done, items_on, joins_here, joins_no_more}
+use Rattle.xs_eval.proofs.StepLemmas.{Rest, but_first, first_and_rest, first_and_rest_at}
+use Rattle.xs_eval.proofs.StepLemmas.{mapped_at, mapped_below, mapped_end, parts_on, placed_at, placed_below, placed_end, no_items, ticks_on}
+use Rattle.xs_eval.proofs.evaluate.+evaluate.Goals as goal
+
+-- an expression of each kind that holds others in a list
+pub evaluate-returns-in-Call-clause-told : goal.evaluate-returns-in-Call-clause-told
+evaluate-returns-in-Call-clause-told g t c =
+    let keys = g.K.KeyFinder.tables c.args.keys.now in
+    let ctx = c.args.context.now in
+    by_case c.args.site keys c.args.expr.now (expr.Call c.in-Call.function c.in-Call.arguments) ctx
+    (called_of keys c.in-Call.function (runs_of keys c.deref.result.now) ctx)
+    c.evaluate_call.result (g.T.Tally.state c.args.tally.now) (g.T.Tally.state c.evaluate_call.new.tally)
+    c.in-Call.is (run_call keys c.in-Call.function c.in-Call.arguments ctx
+    ∙ ap (λ es. called_of keys c.in-Call.function (runs_of keys es) ctx) (sym c.deref.ensures.value)) c.evaluate_call.ensures.told
+
+pub evaluate-returns-in-Chain-clause-told : goal.evaluate-returns-in-Chain-clause-told
+evaluate-returns-in-Chain-clause-told g t c =
+    let keys = g.K.KeyFinder.tables c.args.keys.now in
+    let ctx = c.args.context.now in
+    by_case c.args.site keys c.args.expr.now (expr.Chain c.in-Chain.operators c.in-Chain.operands) ctx
+    (chain c.deref-in-Chain.result.now (runs_of keys c.deref-in-Chain-2.result.now) ctx)
+    c.evaluate_chain.result (g.T.Tally.state c.args.tally.now) (g.T.Tally.state c.evaluate_chain.new.tally)
+    c.in-Chain.is (run_chain keys c.in-Chain.operators c.in-Chain.operands ctx
+    ∙ ap (λ ops. chain ops (runs_of keys c.in-Chain.operands.items) ctx) (sym c.deref-in-Chain.ensures.value)
+    ∙ ap (λ es. chain c.deref-in-Chain.result.now (runs_of keys es) ctx) (sym c.deref-in-Chain-2.ensures.value)) c.evaluate_chain.ensures.told
+
+pub evaluate-returns-in-Step-clause-told : goal.evaluate-returns-in-Step-clause-told
+evaluate-returns-in-Step-clause-told g t c =
+    let keys = g.K.KeyFinder.tables c.args.keys.now in
+    let ctx = c.args.context.now in
+    by_case c.args.site keys c.args.expr.now (expr.Step c.in-Step.axis c.in-Step.test c.in-Step.predicates) ctx
+    (step c.in-Step.axis c.in-Step.test (runs_of keys c.deref-in-Step.result.now) ctx)
+    c.evaluate_step.result (g.T.Tally.state c.args.tally.now) (g.T.Tally.state c.evaluate_step.new.tally)
+    c.in-Step.is (run_step keys c.in-Step.axis c.in-Step.test c.in-Step.predicates ctx
+    ∙ ap (λ es. step c.in-Step.axis c.in-Step.test (runs_of keys es) ctx) (sym c.deref-in-Step.ensures.value)) c.evaluate_step.ensures.told
+
+pub evaluate-returns-in-Filter-clause-told : goal.evaluate-returns-in-Filter-clause-told
+evaluate-returns-in-Filter-clause-told g t c =
+    let keys = g.K.KeyFinder.tables c.args.keys.now in
+    let ctx = c.args.context.now in
+    by_case c.args.site keys c.args.expr.now (expr.Filter c.in-Filter.inner c.in-Filter.predicates) ctx
+    (filter_expr (run_of keys c.deref-in-Filter.result.now) (runs_of keys c.deref-in-Filter-2.result.now) ctx)
+    c.evaluate_filter.result (g.T.Tally.state c.args.tally.now) (g.T.Tally.state c.evaluate_filter.new.tally)
+    c.in-Filter.is (run_filter keys c.in-Filter.inner c.in-Filter.predicates ctx
+    ∙ ap (λ e. filter_expr (run_of keys e) (runs_of keys c.in-Filter.predicates.items) ctx) (sym c.deref-in-Filter.ensures)
+    ∙ ap (λ es. filter_expr (run_of keys c.deref-in-Filter.result.now) (runs_of keys es) ctx) (sym c.deref-in-Filter-2.ensures.value))
+    c.evaluate_filter.ensures.told
+
+pub evaluate-returns-in-Path-clause-told : goal.evaluate-returns-in-Path-clause-told
+evaluate-returns-in-Path-clause-told g t c =
+    let keys = g.K.KeyFinder.tables c.args.keys.now in
+    let ctx = c.args.context.now in
+    by_case c.args.site keys c.args.expr.now (expr.Path c.in-Path.start c.in-Path.steps) ctx
+    (path (run_of keys c.deref-in-Path.result.now) (runs_of keys c.deref-in-Path-2.result.now) ctx)
+    c.evaluate_path.result (g.T.Tally.state c.args.tally.now) (g.T.Tally.state c.evaluate_path.new.tally)
+    c.in-Path.is (run_path keys c.in-Path.start c.in-Path.steps ctx
+    ∙ ap (λ e. path (run_of keys e) (runs_of keys c.in-Path.steps.items) ctx) (sym c.deref-in-Path.ensures)
+    ∙ ap (λ es. path (run_of keys c.deref-in-Path.result.now) (runs_of keys es) ctx) (sym c.deref-in-Path-2.ensures.value)) c.evaluate_path.ensures.told
+
+-- a call: its tick
+pub evaluate_call-returns-in_err-tick-clause-told : goal.evaluate_call-returns-in_err-tick-clause-told
+evaluate_call-returns-in_err-tick-clause-told g t c =
+    let p = err_from_is_err_and c.from_residual.result c.from_residual.ensures.1 in
+    let keys = g.K.KeyFinder.tables c.args.keys.now in
+    exits_at_tick (λ v. v) c.args.site (arguments c.args.context.now (runs_of keys c.args.arguments.now) >>= answered keys c.args.context.now c.args.function) _
+    (g.T.Tally.state c.args.tally.now) (g.T.Tally.state c.tick.new.self) c.from_residual.result _ _ refl p.1 p.2 c.in_err-tick.ensures.told
+
+-- its arguments
+pub evaluate_call-loop-argument-init : goal.evaluate_call-loop-argument-init
+evaluate_call-loop-argument-init g t c =
+    let keys = g.K.KeyFinder.tables c.args.keys.now in
+    record {
+      told =
+          ticks_on c.args.site (arguments c.args.context.now (runs_of keys c.args.arguments.now) >>= answered keys c.args.context.now c.args.function) _
+          (g.T.Tally.state c.args.tally.now) (g.T.Tally.state c.tick.new.self) c.in_ok-tick.ensures.told
+          ∙ ap (λ vs. Rest c.args.site (and_argument c.args.context.now) (answered keys c.args.context.now c.args.function)
+          (map (run_of keys) c.args.arguments.now) 0 vs (g.T.Tally.state c.tick.new.self)) (sym c.new-values.ensures.items);
+      inside = search rules;
+      kept = c.in_ok-tick.ensures.kept;
+    }
+
+pub evaluate_call-returns-in_err-v-clause-told : goal.evaluate_call-returns-in_err-v-clause-told
+evaluate_call-returns-in_err-v-clause-told g t c =
+    let p = err_from_is_err_and c.from_residual-in_err-v.result c.from_residual-in_err-v.ensures.1 in
+    let keys = g.K.KeyFinder.tables c.args.keys.now in
+    let es = c.args.arguments.now in
+    let k = c.loop-argument.argument-index in
+    let e = c.argument-item.result in
+    exits_in_parts (λ v. v) (λ v. v) c.args.site (and_argument c.args.context.now) (answered keys c.args.context.now c.args.function) (map (run_of keys) es) k
+    (run_of keys e) c.loop-argument.values.items (run_of keys e c.args.context.now) (λ v. c.loop-argument.values.items ++ v ∷ [])
+    (g.T.Tally.state c.loop-argument.tally) (g.T.Tally.state c.evaluate.new.tally) _ c.from_residual-in_err-v.result _ _ c.loop-argument.invariant.told
+    (mapped_below (run_of keys) es k (omega arith)) (mapped_at (run_of keys) es k e (omega arith) c.argument-item.is) refl p.1 p.2 c.in_err-v.ensures.told
+
+pub evaluate_call-loop-argument-preserved : goal.evaluate_call-loop-argument-preserved
+evaluate_call-loop-argument-preserved g t c =
+    let keys = g.K.KeyFinder.tables c.args.keys.now in
+    let es = c.args.arguments.now in
+    let k = c.loop-argument.argument-index in
+    let e = c.argument-item.result in
+    record {
+      told =
+          parts_on c.args.site (and_argument c.args.context.now) (answered keys c.args.context.now c.args.function) (map (run_of keys) es) k
+          (run_of keys e) c.loop-argument.values.items (run_of keys e c.args.context.now) (λ v. c.loop-argument.values.items ++ v ∷ [])
+          c.in_ok-v.v c.push.new.self.items (g.T.Tally.state c.loop-argument.tally) (g.T.Tally.state c.evaluate.new.tally) _
+          c.loop-argument.invariant.told (mapped_below (run_of keys) es k (omega arith)) (mapped_at (run_of keys) es k e (omega arith) c.argument-item.is) refl
+          c.in_ok-v.ensures.told c.in_ok-push.ensures.items;
+      inside =
+          subst (All (IsIn c.args.context.now.tree)) (sym c.in_ok-push.ensures.items)
+          (All-push (IsIn c.args.context.now.tree) c.loop-argument.values.items c.in_ok-v.v c.loop-argument.invariant.inside c.in_ok-v.ensures.inside);
+      kept = c.in_ok-v.ensures.kept ∙ c.loop-argument.invariant.kept;
+    }
+
+-- its function
+pub evaluate_call-returns-clause-told : goal.evaluate_call-returns-clause-told
+evaluate_call-returns-clause-told g t c =
+    let keys = g.K.KeyFinder.tables c.args.keys.now in
+    let es = c.args.arguments.now in
+    let k = c.loop-argument.argument-index in
+    let s = g.T.Tally.state c.loop-argument.tally in
+    continues (λ v. v) _ _ _ _
+    (c.loop-argument.invariant.told
+    ∙ items_done c.args.site (and_argument c.args.context.now) (answered keys c.args.context.now c.args.function) (map (run_of keys) es) k
+    c.loop-argument.values.items s (mapped_end (run_of keys) es k (omega arith))
+    ∙ ap (λ vs. limited c.args.site (answered keys c.args.context.now c.args.function vs) s) (sym c.deref.ensures.value))
+    c.answer.ensures.told
+
+-- minus signs
+pub evaluate_negative-returns-in_err-v-clause-told : goal.evaluate_negative-returns-in_err-v-clause-told
+evaluate_negative-returns-in_err-v-clause-told g t c =
+    let p = err_from_is_err_and c.from_residual.result c.from_residual.ensures.1 in
+    exits (λ v. v) (λ v. v) c.args.site (run_of (g.K.KeyFinder.tables c.args.keys.now) c.args.operand.now c.args.context.now)
+    (λ v. given (negation c.args.signs c.args.context.now.tree v)) _
+    (g.T.Tally.state c.args.tally.now) (g.T.Tally.state c.evaluate.new.tally) c.from_residual.result _ _ refl p.1 p.2 c.in_err-v.ensures.told
+
+pub evaluate_negative-returns-clause-told : goal.evaluate_negative-returns-clause-told
+evaluate_negative-returns-clause-told g t c =
+    let s = g.T.Tally.state c.evaluate.new.tally in
+    closes (λ v. v) c.args.site (negation c.args.signs c.context.inside.tree.now c.in_ok-v.v) c.negate.result _ c.settled.result s
+    (goes_on c.args.site (run_of (g.K.KeyFinder.tables c.args.keys.now) c.args.operand.now c.args.context.now)
+    (λ v. given (negation c.args.signs c.args.context.now.tree v)) c.in_ok-v.v (g.T.Tally.state c.args.tally.now) s c.in_ok-v.ensures.told
+    ∙ ap (λ (a : Context). limited c.args.site (given (negation c.args.signs a.tree c.in_ok-v.v)) s) (sym c.context.view_is))
+    c.settled.ensures c.negate.ensures.value
+
+-- operands joined
+pub evaluate_chain-returns-in_err-left-in-len1-up-clause-told : goal.evaluate_chain-returns-in_err-left-in-len1-up-clause-told
+evaluate_chain-returns-in_err-left-in-len1-up-clause-told g t c =
+    let p = err_from_is_err_and c.from_residual-in_err-left-in-len1-up.result c.from_residual-in_err-left-in-len1-up.ensures.1 in
+    let keys = g.K.KeyFinder.tables c.args.keys.now in
+    let e = c.first-item.result in
+    exits (λ v. v) (λ v. v) c.args.site (run_of keys e c.args.context.now)
+    (λ v. joined_from c.args.context.now v c.args.operators.now (runs_of keys (but_first c.args.operands.now))) _
+    (g.T.Tally.state c.args.tally.now) (g.T.Tally.state c.evaluate.new.tally) c.from_residual-in_err-left-in-len1-up.result _ _
+    (ap (λ es. limited c.args.site (chain c.args.operators.now (runs_of keys es) c.args.context.now) (g.T.Tally.state c.args.tally.now))
+    (first_and_rest c.args.operands.now e (omega arith) c.first-item.is)) p.1 p.2 c.in_err-left-in-len1-up.ensures.told
+
+pub evaluate_chain-returns-in_ok-left-in-len1-up-clause-told : goal.evaluate_chain-returns-in_ok-left-in-len1-up-clause-told
+evaluate_chain-returns-in_ok-left-in-len1-up-clause-told g t c =
+    let keys = g.K.KeyFinder.tables c.args.keys.now in
+    let e = c.first-item.result in
+    continues (λ v. v) _ _ _ _
+    (ap (λ es. limited c.args.site (chain c.args.operators.now (runs_of keys es) c.args.context.now) (g.T.Tally.state c.args.tally.now))
+    (first_and_rest c.args.operands.now e (omega arith) c.first-item.is)
+    ∙ goes_on c.args.site (run_of keys e c.args.context.now)
+    (λ v. joined_from c.args.context.now v c.args.operators.now (runs_of keys (but_first c.args.operands.now))) c.in_ok-left-in-len1-up.left
+    (g.T.Tally.state c.args.tally.now) (g.T.Tally.state c.evaluate.new.tally) c.in_ok-left-in-len1-up.ensures.told)
+    c.join_all.ensures.told
+
+-- two operands
+pub join_right-returns-in_err-v-clause-told : goal.join_right-returns-in_err-v-clause-told
+join_right-returns-in_err-v-clause-told g t c =
+    let p = err_from_is_err_and c.from_residual.result c.from_residual.ensures.1 in
+    exits (λ v. v) (λ v. v) c.args.site (run_of (g.K.KeyFinder.tables c.args.keys.now) c.args.right.now c.args.context.now)
+    (λ v. given (operated c.args.operator c.args.context.now.tree c.args.left v)) _
+    (g.T.Tally.state c.args.tally.now) (g.T.Tally.state c.evaluate.new.tally) c.from_residual.result _ _ refl p.1 p.2 c.in_err-v.ensures.told
+
+pub join_right-returns-clause-told : goal.join_right-returns-clause-told
+join_right-returns-clause-told g t c =
+    let s = g.T.Tally.state c.evaluate.new.tally in
+    closes (λ v. v) c.args.site (operated c.args.operator c.context.inside.tree.now c.args.left c.in_ok-v.v) c.operate.result _ c.settled.result s
+    (goes_on c.args.site (run_of (g.K.KeyFinder.tables c.args.keys.now) c.args.right.now c.args.context.now)
+    (λ v. given (operated c.args.operator c.args.context.now.tree c.args.left v)) c.in_ok-v.v (g.T.Tally.state c.args.tally.now) s c.in_ok-v.ensures.told
+    ∙ ap (λ (a : Context). limited c.args.site (given (operated c.args.operator a.tree c.args.left c.in_ok-v.v)) s) (sym c.context.view_is))
+    c.settled.ensures c.operate.ensures.value
+
+-- all operands
+pub join_all-returns-in-empty-clause-told : goal.join_all-returns-in-empty-clause-told
+join_all-returns-in-empty-clause-told g t c =
+    c.loop-right.invariant.told ∙ joins_no_more c.args.site c.args.context.now c.loop-right.left c.loop-right.operators.now
+    (drop c.loop-right.right-index (map (run_of (g.K.KeyFinder.tables c.args.keys.now)) c.args.operands.now)) (g.T.Tally.state c.loop-right.tally)
+    (no_items c.loop-right.operators.now (omega arith))
+
+pub join_all-returns-in_err-left-in-len1-up-clause-told : goal.join_all-returns-in_err-left-in-len1-up-clause-told
+join_all-returns-in_err-left-in-len1-up-clause-told g t c =
+    let p = err_from_is_err_and c.from_residual.result c.from_residual.ensures.1 in
+    let keys = g.K.KeyFinder.tables c.args.keys.now in
+    let ms = map (run_of keys) c.args.operands.now in
+    let k = c.loop-right.right-index in
+    let e = c.right-item.result in
+    let ops = c.loop-right.operators.now in
+    let s = g.T.Tally.state c.loop-right.tally in
+    exits (λ v. v) (λ v. v) c.args.site (joined (get_or ops 0 Or) c.loop-right.left (run_of keys e) c.args.context.now)
+    (λ v. joined_from c.args.context.now v (but_first ops) (drop (k + 1) ms)) _ s (g.T.Tally.state c.join.new.tally) c.from_residual.result _ _
+    (c.loop-right.invariant.told
+    ∙ ap (λ o. limited c.args.site (joined_from c.args.context.now c.loop-right.left o (drop k ms)) s) (first_and_rest_at ops Or (omega arith))
+    ∙ joins_here c.args.site c.args.context.now c.loop-right.left (get_or ops 0 Or) (but_first ops) ms k (run_of keys e) s
+    (mapped_below (run_of keys) c.args.operands.now k (omega arith)) (mapped_at (run_of keys) c.args.operands.now k e (omega arith) c.right-item.is))
+    p.1 p.2 c.in_err-left-in-len1-up.ensures.told
+
+pub join_all-loop-right-preserved : goal.join_all-loop-right-preserved
+join_all-loop-right-preserved g t c =
+    let keys = g.K.KeyFinder.tables c.args.keys.now in
+    let ms = map (run_of keys) c.args.operands.now in
+    let k = c.loop-right.right-index in
+    let e = c.right-item.result in
+    let ops = c.loop-right.operators.now in
+    let s = g.T.Tally.state c.loop-right.tally in
+    record {
+      told =
+          c.loop-right.invariant.told
+          ∙ ap (λ o. limited c.args.site (joined_from c.args.context.now c.loop-right.left o (drop k ms)) s) (first_and_rest_at ops Or (omega arith))
+          ∙ joins_here c.args.site c.args.context.now c.loop-right.left (get_or ops 0 Or) (but_first ops) ms k (run_of keys e) s
+          (mapped_below (run_of keys) c.args.operands.now k (omega arith)) (mapped_at (run_of keys) c.args.operands.now k e (omega arith) c.right-item.is)
+          ∙ goes_on c.args.site (joined (get_or ops 0 Or) c.loop-right.left (run_of keys e) c.args.context.now)
+          (λ v. joined_from c.args.context.now v (but_first ops) (drop (k + 1) ms)) c.in_ok-left-in-len1-up.left s (g.T.Tally.state c.join.new.tally)
+          c.in_ok-left-in-len1-up.ensures.told;
+      inside = c.in_ok-left-in-len1-up.ensures.inside;
+      kept = c.in_ok-left-in-len1-up.ensures.kept ∙ c.loop-right.invariant.kept;
+    }
+
+-- a step: its ticks
+pub evaluate_step-returns-in_err-tick_several-clause-told : goal.evaluate_step-returns-in_err-tick_several-clause-told
+evaluate_step-returns-in_err-tick_several-clause-told g t c =
+    let p = err_from_is_err_and c.from_residual-in_err-tick_several.result c.from_residual-in_err-tick_several.ensures.1 in
+    let ms = runs_of (g.K.KeyFinder.tables c.args.keys.now) c.args.predicates.now in
+    let ns = c.in_ok-nodes.nodes.items in
+    let s = g.T.Tally.state c.args.tally.now in
+    let n : c.len.result ≡ length ns = omega arith in
+    exits_at_costs (λ v. v) c.args.site c.len.result (kept_of c.args.context.now ms ns) _ s (g.T.Tally.state c.tick_several.new.tally)
+    c.from_residual-in_err-tick_several.result _ _
+    (ap (λ l. limited c.args.site (costs (length l) (kept_of c.args.context.now ms l)) s) (sym c.in_ok-nodes.ensures.nodes)
+    ∙ ap (λ k. limited c.args.site (costs k (kept_of c.args.context.now ms ns)) s) (sym n)) p.1 p.2 c.in_err-tick_several.ensures.told
+
+pub evaluate_step-returns-clause-told : goal.evaluate_step-returns-clause-told
+evaluate_step-returns-clause-told g t c =
+    let ms = runs_of (g.K.KeyFinder.tables c.args.keys.now) c.args.predicates.now in
+    let ns = c.in_ok-nodes.nodes.items in
+    let s = g.T.Tally.state c.args.tally.now in
+    let n : c.len.result ≡ length ns = omega arith in
+    continues (λ v. v) _ _ _ _
+    (ap (λ l. limited c.args.site (costs (length l) (kept_of c.args.context.now ms l)) s) (sym c.in_ok-nodes.ensures.nodes)
+    ∙ ap (λ k. limited c.args.site (costs k (kept_of c.args.context.now ms ns)) s) (sym n)
+    ∙ costs_on c.args.site c.len.result (kept_of c.args.context.now ms ns) _ s (g.T.Tally.state c.tick_several.new.tally) c.in_ok-tick_several.ensures.told)
+    c.keep.ensures.told
+
+-- a filter: its nodes
+pub evaluate_filter-returns-in_err-set-clause-told : goal.evaluate_filter-returns-in_err-set-clause-told
+evaluate_filter-returns-in_err-set-clause-told g t c =
+    let p = err_from_is_err_and c.from_residual.result c.from_residual.ensures.1 in
+    let keys = g.K.KeyFinder.tables c.args.keys.now in
+    exits (λ v. v) (λ v. v) c.args.site (selected (run_of keys c.args.inner.now) c.args.context.now)
+    (λ ns. kept_of c.args.context.now (runs_of keys c.args.predicates.now) ns) _
+    (g.T.Tally.state c.args.tally.now) (g.T.Tally.state c.evaluate_nodes.new.tally) c.from_residual.result _ _ refl p.1 p.2 c.in_err-set.ensures.told
+
+pub evaluate_filter-keep-requires-clause-some : goal.evaluate_filter-keep-requires-clause-some
+evaluate_filter-keep-requires-clause-some g t c =
+    λ κs lives.
+    subst (AreSome c.args.context.now.tree) (sym (c.in_ok-nodes.ensures.items ∙ c.nodes.ensures.nodes))
+    (some_in_list c.args.context.now.tree c.in_ok-set.set c.nodes.ensures.list c.in_ok-set.ensures.inside)
+
+pub evaluate_filter-returns-clause-told : goal.evaluate_filter-returns-clause-told
+evaluate_filter-returns-clause-told g t c =
+    let keys = g.K.KeyFinder.tables c.args.keys.now in
+    let ms = runs_of keys c.args.predicates.now in
+    let s = g.T.Tally.state c.evaluate_nodes.new.tally in
+    continues (λ v. v) _ _ _ _
+    (goes_on c.args.site (selected (run_of keys c.args.inner.now) c.args.context.now) (λ ns. kept_of c.args.context.now ms ns) c.in_ok-set.set
+    (g.T.Tally.state c.args.tally.now) s c.in_ok-set.ensures.told
+    ∙ ap (λ ns. limited c.args.site (kept_of c.args.context.now ms ns) s) (sym (c.in_ok-nodes.ensures.items ∙ c.nodes.ensures.nodes)))
+    c.keep.ensures.told
+
+-- what predicates keep
+pub keep-returns-in_err-nodes-clause-told : goal.keep-returns-in_err-nodes-clause-told
+keep-returns-in_err-nodes-clause-told g t c =
+    let p = err_from_is_err_and c.from_residual.result c.from_residual.ensures.1 in
+    let keys = g.K.KeyFinder.tables c.args.keys.now in
+    let es = c.args.predicates.now in
+    let k = c.loop-predicate.predicate-index in
+    let e = c.predicate-item.result in
+    let s = g.T.Tally.state c.loop-predicate.tally in
+    exits_in_items (λ (ns : Vec Node Global). ns.items) (λ v. v) c.args.site (filtered c.args.context.now) (λ kept. give (Nodes (in_order kept)))
+    (map (run_of keys) es) k
+    (run_of keys e) c.deref.result.now s (g.T.Tally.state c.filter.new.tally) _ c.from_residual.result _ _
+    (c.loop-predicate.invariant.told
+    ∙ ap (λ ns. Rest c.args.site (filtered c.args.context.now) (λ kept. give (Nodes (in_order kept))) (map (run_of keys) es) k ns s) (sym
+    c.deref.ensures.value))
+    (mapped_below (run_of keys) es k (omega arith)) (mapped_at (run_of keys) es k e (omega arith) c.predicate-item.is) p.1 p.2 c.in_err-nodes.ensures.told
+
+pub keep-loop-predicate-preserved : goal.keep-loop-predicate-preserved
+keep-loop-predicate-preserved g t c =
+    let keys = g.K.KeyFinder.tables c.args.keys.now in
+    let es = c.args.predicates.now in
+    let k = c.loop-predicate.predicate-index in
+    let e = c.predicate-item.result in
+    let s = g.T.Tally.state c.loop-predicate.tally in
+    record {
+      told =
+          items_on c.args.site (filtered c.args.context.now) (λ kept. give (Nodes (in_order kept))) (map (run_of keys) es) k
+          (run_of keys e) c.deref.result.now c.in_ok-nodes.nodes.items s (g.T.Tally.state c.filter.new.tally) _
+          (c.loop-predicate.invariant.told
+          ∙ ap (λ ns. Rest c.args.site (filtered c.args.context.now) (λ kept. give (Nodes (in_order kept))) (map (run_of keys) es) k ns s)
+          (sym c.deref.ensures.value))
+          (mapped_below (run_of keys) es k (omega arith)) (mapped_at (run_of keys) es k e (omega arith) c.predicate-item.is) c.in_ok-nodes.ensures.told;
+      some = c.in_ok-nodes.ensures.some;
+      kept = c.in_ok-nodes.ensures.kept ∙ c.loop-predicate.invariant.kept;
+    }
+
+pub keep-returns-clause-told : goal.keep-returns-clause-told
+keep-returns-clause-told g t c =
+    let keys = g.K.KeyFinder.tables c.args.keys.now in
+    let es = c.args.predicates.now in
+    let k = c.loop-predicate.predicate-index in
+    let s = g.T.Tally.state c.loop-predicate.tally in
+    c.loop-predicate.invariant.told
+    ∙ items_done c.args.site (filtered c.args.context.now) (λ kept. give (Nodes (in_order kept))) (map (run_of keys) es) k c.loop-predicate.nodes.items s
+    (mapped_end (run_of keys) es k (omega arith))
+    ∙ gives c.args.site (Nodes (in_order c.loop-predicate.nodes.items)) s
+    ∙ ap (λ ns. Goes (Nodes ns) s) (sym c.in_ok-in_order.ensures.nodes)
+
+pub keep-returns-clause-inside : goal.keep-returns-clause-inside
+keep-returns-clause-inside g t c =
+    subst (All (λ k. k < length c.args.context.now.tree)) (sym c.in_ok-in_order.ensures.nodes)
+    (in_order_all (λ k. k < length c.args.context.now.tree) c.loop-predicate.nodes.items c.loop-predicate.invariant.some.inside)
+
+-- what one predicate keeps
+pub filter-returns-in_err-v-clause-told : goal.filter-returns-in_err-v-clause-told
+filter-returns-in_err-v-clause-told g t c =
+    let p = err_from_is_err_and c.from_residual.result c.from_residual.ensures.1 in
+    let keys = g.K.KeyFinder.tables c.args.keys.now in
+    let ctx = c.args.context.now in
+    let m = run_of keys c.args.predicate.now in
+    let ns = c.args.nodes.now in
+    let k = c.loop-node.node-index in
+    let x = c.node-item.result in
+    let kept = c.loop-node.kept.items in
+    let around : c.at_node-around.result ≡ at_node ctx x (k + 1) (length ns) =
+    c.at_node-around.ensures ∙ ap (λ j. at_node ctx x (j + 1) c.count_of-size.result) c.loop-node.invariant.place
+    ∙ ap (λ j. at_node ctx x (k + 1) j) c.count_of-size.ensures in
+    let here : judged ctx (length ns) m kept (k + 1, x) ≡ (m c.at_node-around.result >>= (λ v. give (kept_if (selects v (k + 1)) kept x))) =
+    ap (λ a. m a >>= (λ v. give (kept_if (selects v (k + 1)) kept x))) (sym around) in
+    exits_in_parts (λ v. v) (λ l. l.items) c.args.site (judged ctx (length ns) m) (λ l. give l) (enumerate_from 1 ns) k (k + 1, x) kept
+    (m c.at_node-around.result) (λ v. kept_if (selects v (k + 1)) kept x) (g.T.Tally.state c.loop-node.tally) (g.T.Tally.state c.evaluate.new.tally) _
+    c.from_residual.result _ _ c.loop-node.invariant.told (placed_below ns k (omega arith)) (placed_at ns k x (omega arith) c.node-item.is) here
+    p.1 p.2 c.in_err-v.ensures.told
+
+pub filter-loop-node-preserved : goal.filter-loop-node-preserved
+filter-loop-node-preserved g t c =
+    let keys = g.K.KeyFinder.tables c.args.keys.now in
+    let ctx = c.args.context.now in
+    let m = run_of keys c.args.predicate.now in
+    let ns = c.args.nodes.now in
+    let k = c.loop-node.node-index in
+    let x = c.node-item.result in
+    let kept = c.loop-node.kept.items in
+    let around : c.at_node-around.result ≡ at_node ctx x (k + 1) (length ns) =
+    c.at_node-around.ensures ∙ ap (λ j. at_node ctx x (j + 1) c.count_of-size.result) c.loop-node.invariant.place
+    ∙ ap (λ j. at_node ctx x (k + 1) j) c.count_of-size.ensures in
+    let here : judged ctx (length ns) m kept (k + 1, x) ≡ (m c.at_node-around.result >>= (λ v. give (kept_if (selects v (k + 1)) kept x))) =
+    ap (λ a. m a >>= (λ v. give (kept_if (selects v (k + 1)) kept x))) (sym around) in
+    let P = λ (n : ℕ). n < length ctx.tree in
+    record {
+      told =
+          parts_on c.args.site (judged ctx (length ns) m) (λ l. give l) (enumerate_from 1 ns) k (k + 1, x) kept
+          (m c.at_node-around.result) (λ v. kept_if (selects v (k + 1)) kept x) c.in_ok-v.v c.in_ok-kept.kept.items
+          (g.T.Tally.state c.loop-node.tally) (g.T.Tally.state c.evaluate.new.tally) _
+          c.loop-node.invariant.told (placed_below ns k (omega arith)) (placed_at ns k x (omega arith) c.node-item.is) here c.in_ok-v.ensures.told
+          (c.in_ok-kept.ensures.nodes ∙ ap (λ b. kept_if b kept x) (c.selects.ensures ∙ ap (λ j. selects c.in_ok-v.v (j + 1)) c.loop-node.invariant.place));
+      place = ap (λ j. j + 1) c.loop-node.invariant.place;
+      inside =
+          subst (All P) (sym c.in_ok-kept.ensures.nodes)
+          (kept_if_all P c.selects.result kept x c.loop-node.invariant.inside
+          (subst P (sym c.node-item.is) (All-get_or P ns k x (omega arith) c.requires.some.inside)));
+      few =
+          subst (λ (l : List ℕ). length l ≤ k + 1) (sym c.in_ok-kept.ensures.nodes) (kept_if_few c.selects.result kept x k c.loop-node.invariant.few);
+      kept = c.in_ok-v.ensures.kept ∙ c.loop-node.invariant.kept;
+    }
+
+pub filter-returns-clause-told : goal.filter-returns-clause-told
+filter-returns-clause-told g t c =
+    let m = run_of (g.K.KeyFinder.tables c.args.keys.now) c.args.predicate.now in
+    let ns = c.args.nodes.now in
+    let k = c.loop-node.node-index in
+    let s = g.T.Tally.state c.loop-node.tally in
+    c.loop-node.invariant.told
+    ∙ items_done c.args.site (judged c.args.context.now (length ns) m) (λ l. give l) (enumerate_from 1 ns) k c.loop-node.kept.items s
+    (placed_end ns k (omega arith))
+    ∙ gives c.args.site c.loop-node.kept.items s
+
+-- a path: where it begins
+pub evaluate_path-returns-in_err-nodes-clause-told : goal.evaluate_path-returns-in_err-nodes-clause-told
+evaluate_path-returns-in_err-nodes-clause-told g t c =
+    let p = err_from_is_err_and c.from_residual.result c.from_residual.ensures.1 in
+    let keys = g.K.KeyFinder.tables c.args.keys.now in
+    exits (λ v. v) (λ v. v) c.args.site (selected (run_of keys c.args.start.now) c.args.context.now)
+    (λ ns. steps_from c.args.context.now (runs_of keys c.args.steps.now) ns) _
+    (g.T.Tally.state c.args.tally.now) (g.T.Tally.state c.evaluate_nodes.new.tally) c.from_residual.result _ _ refl p.1 p.2 c.in_err-nodes.ensures.told
+
+pub evaluate_path-loop-step-init : goal.evaluate_path-loop-step-init
+evaluate_path-loop-step-init g t c =
+    let keys = g.K.KeyFinder.tables c.args.keys.now in
+    record {
+      told =
+          goes_on c.args.site (selected (run_of keys c.args.start.now) c.args.context.now)
+          (λ ns. steps_from c.args.context.now (runs_of keys c.args.steps.now) ns) c.in_ok-nodes.nodes (g.T.Tally.state c.args.tally.now)
+          (g.T.Tally.state c.evaluate_nodes.new.tally) c.in_ok-nodes.ensures.told;
+      inside = c.in_ok-nodes.ensures.inside;
+      kept = c.in_ok-nodes.ensures.kept;
+    }
+
+pub evaluate_path-returns-in_err-nodes-2-clause-told : goal.evaluate_path-returns-in_err-nodes-2-clause-told
+evaluate_path-returns-in_err-nodes-2-clause-told g t c =
+    let p = err_from_is_err_and c.from_residual-in_err-nodes-2.result c.from_residual-in_err-nodes-2.ensures.1 in
+    let keys = g.K.KeyFinder.tables c.args.keys.now in
+    let es = c.args.steps.now in
+    let k = c.loop-step.step-index in
+    let e = c.step-item.result in
+    let s = g.T.Tally.state c.loop-step.tally in
+    let list = c.nodes-in-loop-step.ensures.nodes in
+    exits_in_items (λ ns. ns) (λ v. v) c.args.site (through c.args.context.now) (λ reached. give (Nodes reached)) (map (run_of keys) es) k
+    (run_of keys e) c.nodes-in-loop-step.result.now s (g.T.Tally.state c.follow.new.tally) _ c.from_residual-in_err-nodes-2.result _ _
+    (c.loop-step.invariant.told
+    ∙ ap (λ ns. Rest c.args.site (through c.args.context.now) (λ reached. give (Nodes reached)) (map (run_of keys) es) k ns s) (sym list))
+    (mapped_below (run_of keys) es k (omega arith)) (mapped_at (run_of keys) es k e (omega arith) c.step-item.is) p.1 p.2 c.in_err-nodes-2.ensures.told
+
+pub evaluate_path-loop-step-preserved : goal.evaluate_path-loop-step-preserved
+evaluate_path-loop-step-preserved g t c =
+    let keys = g.K.KeyFinder.tables c.args.keys.now in
+    let es = c.args.steps.now in
+    let k = c.loop-step.step-index in
+    let e = c.step-item.result in
+    let s = g.T.Tally.state c.loop-step.tally in
+    let list = c.nodes-in-loop-step.ensures.nodes in
+    record {
+      told =
+          items_on c.args.site (through c.args.context.now) (λ reached. give (Nodes reached)) (map (run_of keys) es) k
+          (run_of keys e) c.nodes-in-loop-step.result.now c.in_ok-nodes-2.nodes s (g.T.Tally.state c.follow.new.tally) _
+          (c.loop-step.invariant.told
+          ∙ ap (λ ns. Rest c.args.site (through c.args.context.now) (λ reached. give (Nodes reached)) (map (run_of keys) es) k ns s) (sym list))
+          (mapped_below (run_of keys) es k (omega arith)) (mapped_at (run_of keys) es k e (omega arith) c.step-item.is) c.in_ok-nodes-2.ensures.told;
+      inside = c.in_ok-nodes-2.ensures.inside;
+      kept = c.in_ok-nodes-2.ensures.kept ∙ c.loop-step.invariant.kept;
+    }
+
+pub evaluate_path-returns-clause-told : goal.evaluate_path-returns-clause-told
+evaluate_path-returns-clause-told g t c =
+    let keys = g.K.KeyFinder.tables c.args.keys.now in
+    let es = c.args.steps.now in
+    let k = c.loop-step.step-index in
+    let s = g.T.Tally.state c.loop-step.tally in
+    c.loop-step.invariant.told
+    ∙ items_done c.args.site (through c.args.context.now) (λ reached. give (Nodes reached)) (map (run_of keys) es) k c.loop-step.nodes s
+    (mapped_end (run_of keys) es k (omega arith))
+    ∙ gives c.args.site (Nodes c.loop-step.nodes) s
+
+-- a step from each node
+pub follow-evaluate_nodes-requires-clause-context : goal.follow-evaluate_nodes-requires-clause-context
+follow-evaluate_nodes-requires-clause-context g t c =
+    λ κs lives.
+    let P = λ (n : ℕ). n < length c.args.context.now.tree in
+    subst (IsContext (g.K.KeyFinder.tables c.args.keys.now)) (sym c.at_node-around.ensures)
+    (moved (g.K.KeyFinder.tables c.args.keys.now) c.args.context.now c.node-item.result c.context.inside.position c.context.inside.size c.requires.context
+    (subst P (sym c.node-item.is) (All-get_or P c.args.nodes.now c.loop-node.node-index c.node-item.result (omega arith) c.requires.inside)))
+
+pub follow-returns-in_err-set-clause-told : goal.follow-returns-in_err-set-clause-told
+follow-returns-in_err-set-clause-told g t c =
+    let p = err_from_is_err_and c.from_residual.result c.from_residual.ensures.1 in
+    let keys = g.K.KeyFinder.tables c.args.keys.now in
+    let ctx = c.args.context.now in
+    let m = run_of keys c.args.step.now in
+    let ns = c.args.nodes.now in
+    let k = c.loop-node.node-index in
+    let x = c.node-item.result in
+    let found = c.loop-node.found.items in
+    let around : c.at_node-around.result ≡ at_node ctx x ctx.position ctx.size =
+    c.at_node-around.ensures ∙ ap (λ (a : Context). at_node ctx x a.position a.size) c.context.view_is in
+    let here : and_from ctx m found x ≡ (selected m c.at_node-around.result >>= (λ l. give (found ++ l))) =
+    ap (λ a. selected m a >>= (λ l. give (found ++ l))) (sym around) in
+    exits_in_parts (λ l. l) (λ l. l) c.args.site (and_from ctx m) (λ l. give (in_order l)) ns k x found
+    (selected m c.at_node-around.result) (λ l. found ++ l) (g.T.Tally.state c.loop-node.tally) (g.T.Tally.state c.evaluate_nodes.new.tally) _
+    c.from_residual.result _ _ c.loop-node.invariant.told (omega arith) (sym c.node-item.is) here p.1 p.2 c.in_err-set.ensures.told
+
+pub follow-loop-node-preserved : goal.follow-loop-node-preserved
+follow-loop-node-preserved g t c =
+    let keys = g.K.KeyFinder.tables c.args.keys.now in
+    let ctx = c.args.context.now in
+    let m = run_of keys c.args.step.now in
+    let ns = c.args.nodes.now in
+    let k = c.loop-node.node-index in
+    let x = c.node-item.result in
+    let found = c.loop-node.found.items in
+    let around : c.at_node-around.result ≡ at_node ctx x ctx.position ctx.size =
+    c.at_node-around.ensures ∙ ap (λ (a : Context). at_node ctx x a.position a.size) c.context.view_is in
+    let here : and_from ctx m found x ≡ (selected m c.at_node-around.result >>= (λ l. give (found ++ l))) =
+    ap (λ a. selected m a >>= (λ l. give (found ++ l))) (sym around) in
+    let P = λ (n : ℕ). n < length ctx.tree in
+    let items = c.in_ok-extend_from_slice.ensures.items ∙ ap (λ l. found ++ l) c.nodes.ensures.nodes in
+    record {
+      told =
+          parts_on c.args.site (and_from ctx m) (λ l. give (in_order l)) ns k x found
+          (selected m c.at_node-around.result) (λ l. found ++ l) c.in_ok-set.set c.extend_from_slice.new.self.items
+          (g.T.Tally.state c.loop-node.tally) (g.T.Tally.state c.evaluate_nodes.new.tally) _
+          c.loop-node.invariant.told (omega arith) (sym c.node-item.is) here c.in_ok-set.ensures.told items;
+      inside =
+          subst (All P) (sym items)
+          (All-append P found c.in_ok-set.set c.loop-node.invariant.inside
+          (subst (λ (a : Context). All (λ n. n < length a.tree) c.in_ok-set.set) around c.in_ok-set.ensures.inside));
+      kept = c.in_ok-set.ensures.kept ∙ c.loop-node.invariant.kept;
+    }
+
+pub follow-returns-clause-told : goal.follow-returns-clause-told
+follow-returns-clause-told g t c =
+    let m = run_of (g.K.KeyFinder.tables c.args.keys.now) c.args.step.now in
+    let ns = c.args.nodes.now in
+    let k = c.loop-node.node-index in
+    let s = g.T.Tally.state c.loop-node.tally in
+    c.loop-node.invariant.told
+    ∙ items_done c.args.site (and_from c.args.context.now m) (λ l. give (in_order l)) ns k c.loop-node.found.items s (omega arith)
+    ∙ gives c.args.site (in_order c.loop-node.found.items) s
+    ∙ ap (λ l. Goes l s) (sym c.in_ok-in_order.ensures.nodes)
+
+pub follow-returns-clause-inside : goal.follow-returns-clause-inside
+follow-returns-clause-inside g t c =
+    subst (All (λ k. k < length c.args.context.now.tree)) (sym c.in_ok-in_order.ensures.nodes)
+    (in_order_all (λ k. k < length c.args.context.now.tree) c.loop-node.found.items c.loop-node.invariant.inside)
+
+-- nodes
+pub evaluate_nodes-returns-in_err-v-clause-told : goal.evaluate_nodes-returns-in_err-v-clause-told
+evaluate_nodes-returns-in_err-v-clause-told g t c =
+    let p = err_from_is_err_and c.from_residual.result c.from_residual.ensures.1 in
+    exits (λ v. v) (λ v. v) c.args.site (run_of (g.K.KeyFinder.tables c.args.keys.now) c.args.expr.now c.args.context.now)
+    (λ v. given (nodes_in v)) _
+    (g.T.Tally.state c.args.tally.now) (g.T.Tally.state c.evaluate.new.tally) c.from_residual.result _ _ refl p.1 p.2 c.in_err-v.ensures.told

@@ -1,0 +1,5 @@
+pub mod Keys
+pub mod Languages
+pub mod Names
+pub mod Nodes
+pub mod Variables

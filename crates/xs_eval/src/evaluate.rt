@@ -1,0 +1,431 @@
+//! The evaluation of an expression (XPath 1.0, 2 and 3), which tells its ticks to a tally.
+
+ghost use Rattle.std.specs.Prelude.{◌≡◌, ◌<◌, ◌≤◌, IfOk, length};
+ghost use Rattle.std.specs.List.{All};
+ghost use Rattle.xs_trace.specs.Play.{IsStep, IsStepBy};
+ghost use Rattle.xs_trace.specs.Run.{limited};
+ghost use Rattle.xs_value.specs.Conversion.{IsIn};
+ghost use Rattle.xs_eval.specs.Conditions.{IsContext};
+ghost use Rattle.xs_eval.specs.Evaluation.{called_of, chain, joined, joined_from};
+ghost use Rattle.xs_eval.specs.Evaluation.{negative, right_operated, run_of, runs_of};
+ghost use Rattle.xs_eval.specs.Paths.{filter_expr, filtered, kept_of, path, selected, step};
+ghost use Rattle.xs_eval.specs.Paths.{steps_from, through};
+ghost use Rattle.xs_eval.specs.steps.Nodes.{AreSome};
+
+use crate::arguments::{chars, into_set, single};
+use crate::calls::answer;
+use crate::context::Context;
+use crate::fault::settled;
+use crate::node_tests::tested;
+use crate::operators::{decided, negate, operate};
+use crate::predicates::{count_of, kept_if, selects};
+use crate::variables::variable;
+use std::alloc::Global;
+use xs_trace::item::Site;
+use xs_trace::recorder::{Halt, Tally, tick_several};
+use xs_tree::{Axis, Node};
+use xs_value::keys::KeyFinder;
+use xs_value::node_set::NodeSet;
+use xs_value::value::Value;
+use xs_xpath::expr::Expr;
+use xs_xpath::name::{Function, NodeTest};
+use xs_xpath::token::Operator;
+
+/// The value of an expression in a context, at an instruction. The tally is told a tick for each
+/// call of a function, for each node that passes the node test of a step, and for each node that a
+/// key gives; it may end the evaluation.
+#[cycle(evaluate)]
+pub fn evaluate<K: KeyFinder, T: Tally>(
+    alloc: Global,
+    expr: &Expr,
+    context: &Context<'_>,
+    keys: &K,
+    site: Site,
+    tally: &mut T,
+) -> Result<Value, Halt>
+    requires context { IsContext (K.tables keys.now) context.now }
+    ensures told { IsStep (limited site (run_of (K.tables keys.now) expr.now context.now)
+        (T.state tally.old)) result (T.state tally.new) }
+    ensures kept { T.kept tally.new ≡ T.kept tally.old }
+    ensures inside { IfOk result (IsIn context.now.tree) }
+{
+    match expr {
+        Expr::Number(number) => Ok(Value::Number(*number)),
+        Expr::Literal(text) => Ok(Value::Chars(text.copy()?)),
+        Expr::Variable(_, _, slot) => variable(alloc, *slot, context, site),
+        Expr::Call(function, arguments) => {
+            evaluate_call(alloc, *function, arguments, context, keys, site, tally)
+        }
+        Expr::Negative(signs, operand) => {
+            evaluate_negative(alloc, *signs, operand, context, keys, site, tally)
+        }
+        Expr::Chain(operators, operands) => {
+            evaluate_chain(alloc, operators, operands, context, keys, site, tally)
+        }
+        Expr::Group(inner) => evaluate(alloc, inner, context, keys, site, tally),
+        Expr::Here => Ok(single(alloc, context.node)?),
+        Expr::Root => Ok(single(alloc, context.tree.root_of(context.node))?),
+        Expr::Step(axis, test, predicates) => {
+            evaluate_step(alloc, *axis, test, predicates, context, keys, site, tally)
+        }
+        Expr::Descend => evaluate_step(
+            alloc,
+            Axis::DescendantOrSelf,
+            &NodeTest::Node,
+            &[],
+            context,
+            keys,
+            site,
+            tally,
+        ),
+        Expr::Filter(inner, predicates) => {
+            evaluate_filter(alloc, inner, predicates, context, keys, site, tally)
+        }
+        Expr::Path(start, steps) => {
+            evaluate_path(alloc, start, steps, context, keys, site, tally)
+        }
+    }
+}
+
+// A call: its tick, its arguments from left to right, and then its function (XPath 1.0, 3.2).
+#[cycle(evaluate)]
+fn evaluate_call<K: KeyFinder, T: Tally>(
+    alloc: Global,
+    function: Function,
+    arguments: &[Expr],
+    context: &Context<'_>,
+    keys: &K,
+    site: Site,
+    tally: &mut T,
+) -> Result<Value, Halt>
+    requires context { IsContext (K.tables keys.now) context.now }
+    ensures told { IsStep (limited site
+        (called_of (K.tables keys.now) function (runs_of (K.tables keys.now) arguments.now)
+        context.now)
+        (T.state tally.old)) result (T.state tally.new) }
+    ensures kept { T.kept tally.new ≡ T.kept tally.old }
+    ensures inside { IfOk result (IsIn context.now.tree) }
+{
+    tally.tick(site)?;
+    let mut values = Vec::new(alloc);
+    for argument in arguments {
+        let v = evaluate(alloc, argument, context, keys, site, tally)?;
+        values.push(v)?;
+    }
+    answer(alloc, function, &values, context, keys, site, tally)
+}
+
+// Minus signs before an operand (XPath 1.0, 3.5).
+#[cycle(evaluate)]
+fn evaluate_negative<K: KeyFinder, T: Tally>(
+    alloc: Global,
+    signs: usize,
+    operand: &Expr,
+    context: &Context<'_>,
+    keys: &K,
+    site: Site,
+    tally: &mut T,
+) -> Result<Value, Halt>
+    requires context { IsContext (K.tables keys.now) context.now }
+    ensures told { IsStep (limited site
+        (negative signs (run_of (K.tables keys.now) operand.now) context.now)
+        (T.state tally.old)) result (T.state tally.new) }
+    ensures kept { T.kept tally.new ≡ T.kept tally.old }
+    ensures inside { IfOk result (IsIn context.now.tree) }
+{
+    let v = evaluate(alloc, operand, context, keys, site, tally)?;
+    settled(negate(alloc, signs, context.tree, &v), site)
+}
+
+// Operands that operators of one level join, to the left (XPath 1.0, 3.3 to 3.5).
+#[cycle(evaluate)]
+fn evaluate_chain<K: KeyFinder, T: Tally>(
+    alloc: Global,
+    operators: &[Operator],
+    operands: &[Expr],
+    context: &Context<'_>,
+    keys: &K,
+    site: Site,
+    tally: &mut T,
+) -> Result<Value, Halt>
+    requires context { IsContext (K.tables keys.now) context.now }
+    ensures told { IsStep (limited site
+        (chain operators.now (runs_of (K.tables keys.now) operands.now) context.now)
+        (T.state tally.old)) result (T.state tally.new) }
+    ensures kept { T.kept tally.new ≡ T.kept tally.old }
+    ensures inside { IfOk result (IsIn context.now.tree) }
+{
+    match operands {
+        [] => Ok(chars(alloc, "")?),
+        [first, rest @ ..] => {
+            let left = evaluate(alloc, first, context, keys, site, tally)?;
+            join_all(alloc, left, operators, rest, context, keys, site, tally)
+        }
+    }
+}
+
+// A left operand, joined with each operand behind it.
+#[cycle(evaluate)]
+fn join_all<K: KeyFinder, T: Tally>(
+    alloc: Global,
+    left: Value,
+    operators: &[Operator],
+    operands: &[Expr],
+    context: &Context<'_>,
+    keys: &K,
+    site: Site,
+    tally: &mut T,
+) -> Result<Value, Halt>
+    requires context { IsContext (K.tables keys.now) context.now }
+    requires inside { IsIn context.now.tree left }
+    ensures told { IsStep (limited site
+        (joined_from context.now left operators.now (runs_of (K.tables keys.now) operands.now))
+        (T.state tally.old)) result (T.state tally.new) }
+    ensures kept { T.kept tally.new ≡ T.kept tally.old }
+    ensures inside { IfOk result (IsIn context.now.tree) }
+{
+    let mut left = left;
+    let mut operators = operators;
+    for right in operands {
+        match operators {
+            [] => return Ok(left),
+            [operator, rest @ ..] => {
+                left = join(alloc, *operator, left, right, context, keys, site, tally)?;
+                operators = rest;
+            }
+        }
+    }
+    Ok(left)
+}
+
+// Two operands joined. Where the left one decides `or` or `and`, the right one is not evaluated
+// (XPath 1.0, 3.4).
+#[cycle(evaluate)]
+fn join<K: KeyFinder, T: Tally>(
+    alloc: Global,
+    operator: Operator,
+    left: Value,
+    right: &Expr,
+    context: &Context<'_>,
+    keys: &K,
+    site: Site,
+    tally: &mut T,
+) -> Result<Value, Halt>
+    requires context { IsContext (K.tables keys.now) context.now }
+    requires inside { IsIn context.now.tree left }
+    ensures told { IsStep (limited site
+        (joined operator left (run_of (K.tables keys.now) right.now) context.now)
+        (T.state tally.old)) result (T.state tally.new) }
+    ensures kept { T.kept tally.new ≡ T.kept tally.old }
+    ensures inside { IfOk result (IsIn context.now.tree) }
+{
+    match decided(operator, &left) {
+        Some(holds) => Ok(Value::Bool(holds)),
+        None => join_right(alloc, operator, left, right, context, keys, site, tally),
+    }
+}
+
+// The right operand, and then the operator on both.
+#[cycle(evaluate)]
+fn join_right<K: KeyFinder, T: Tally>(
+    alloc: Global,
+    operator: Operator,
+    left: Value,
+    right: &Expr,
+    context: &Context<'_>,
+    keys: &K,
+    site: Site,
+    tally: &mut T,
+) -> Result<Value, Halt>
+    requires context { IsContext (K.tables keys.now) context.now }
+    requires inside { IsIn context.now.tree left }
+    ensures told { IsStep (limited site
+        (right_operated operator left (run_of (K.tables keys.now) right.now) context.now)
+        (T.state tally.old)) result (T.state tally.new) }
+    ensures kept { T.kept tally.new ≡ T.kept tally.old }
+    ensures inside { IfOk result (IsIn context.now.tree) }
+{
+    let v = evaluate(alloc, right, context, keys, site, tally)?;
+    settled(operate(alloc, operator, context.tree, &left, &v), site)
+}
+
+// A step from the context node: a tick for each node that passes the test, then the predicates
+// (XPath 1.0, 2.1).
+#[cycle(evaluate)]
+fn evaluate_step<K: KeyFinder, T: Tally>(
+    alloc: Global,
+    axis: Axis,
+    test: &NodeTest,
+    predicates: &[Expr],
+    context: &Context<'_>,
+    keys: &K,
+    site: Site,
+    tally: &mut T,
+) -> Result<Value, Halt>
+    requires context { IsContext (K.tables keys.now) context.now }
+    ensures told { IsStep (limited site
+        (step axis test.now (runs_of (K.tables keys.now) predicates.now) context.now)
+        (T.state tally.old)) result (T.state tally.new) }
+    ensures kept { T.kept tally.new ≡ T.kept tally.old }
+    ensures inside { IfOk result (IsIn context.now.tree) }
+{
+    let nodes = tested(alloc, axis, test, context)?;
+    tick_several(tally, site, nodes.len() as u64)?;
+    keep(alloc, predicates, nodes, context, keys, site, tally)
+}
+
+// An expression and its predicates (XPath 1.0, 3.3).
+#[cycle(evaluate)]
+fn evaluate_filter<K: KeyFinder, T: Tally>(
+    alloc: Global,
+    inner: &Expr,
+    predicates: &[Expr],
+    context: &Context<'_>,
+    keys: &K,
+    site: Site,
+    tally: &mut T,
+) -> Result<Value, Halt>
+    requires context { IsContext (K.tables keys.now) context.now }
+    ensures told { IsStep (limited site
+        (filter_expr (run_of (K.tables keys.now) inner.now)
+        (runs_of (K.tables keys.now) predicates.now) context.now)
+        (T.state tally.old)) result (T.state tally.new) }
+    ensures kept { T.kept tally.new ≡ T.kept tally.old }
+    ensures inside { IfOk result (IsIn context.now.tree) }
+{
+    let set = evaluate_nodes(alloc, inner, context, keys, site, tally)?;
+    let nodes = Vec::from_slice(alloc, set.nodes())?;
+    keep(alloc, predicates, nodes, context, keys, site, tally)
+}
+
+// The node-set of what predicates keep of some nodes: the first one for each node, then the next.
+#[cycle(evaluate)]
+fn keep<K: KeyFinder, T: Tally>(
+    alloc: Global,
+    predicates: &[Expr],
+    nodes: Vec<Node>,
+    context: &Context<'_>,
+    keys: &K,
+    site: Site,
+    tally: &mut T,
+) -> Result<Value, Halt>
+    requires context { IsContext (K.tables keys.now) context.now }
+    requires some { AreSome context.now.tree nodes.items }
+    ensures told { IsStep (limited site
+        (kept_of context.now (runs_of (K.tables keys.now) predicates.now) nodes.items)
+        (T.state tally.old)) result (T.state tally.new) }
+    ensures kept { T.kept tally.new ≡ T.kept tally.old }
+    ensures inside { IfOk result (IsIn context.now.tree) }
+{
+    let mut nodes = nodes;
+    for predicate in predicates {
+        nodes = filter(alloc, predicate, &nodes, context, keys, site, tally)?;
+    }
+    Ok(Value::Nodes(NodeSet::in_order(nodes)?))
+}
+
+// The nodes that a predicate keeps, their positions from 1 on (XPath 1.0, 2.4).
+#[cycle(evaluate)]
+fn filter<K: KeyFinder, T: Tally>(
+    alloc: Global,
+    predicate: &Expr,
+    nodes: &[Node],
+    context: &Context<'_>,
+    keys: &K,
+    site: Site,
+    tally: &mut T,
+) -> Result<Vec<Node>, Halt>
+    requires context { IsContext (K.tables keys.now) context.now }
+    requires some { AreSome context.now.tree nodes.now }
+    ensures told { IsStepBy (λ ns. ns.items) (limited site
+        (filtered context.now nodes.now (run_of (K.tables keys.now) predicate.now))
+        (T.state tally.old)) result (T.state tally.new) }
+    ensures kept { T.kept tally.new ≡ T.kept tally.old }
+    ensures some { IfOk result (λ ns. AreSome context.now.tree ns.items) }
+{
+    let size = count_of(context.tree, nodes);
+    let mut kept = Vec::new(alloc);
+    let mut position = 0;
+    for node in nodes {
+        position += 1;
+        let around = context.at_node(*node, position, size);
+        let v = evaluate(alloc, predicate, &around, keys, site, tally)?;
+        kept = kept_if(selects(&v, position), kept, *node)?;
+    }
+    Ok(kept)
+}
+
+// Where a path begins, and each step from what the one before it gave (XPath 1.0, 2).
+#[cycle(evaluate)]
+fn evaluate_path<K: KeyFinder, T: Tally>(
+    alloc: Global,
+    start: &Expr,
+    steps: &[Expr],
+    context: &Context<'_>,
+    keys: &K,
+    site: Site,
+    tally: &mut T,
+) -> Result<Value, Halt>
+    requires context { IsContext (K.tables keys.now) context.now }
+    ensures told { IsStep (limited site
+        (path (run_of (K.tables keys.now) start.now) (runs_of (K.tables keys.now) steps.now)
+        context.now)
+        (T.state tally.old)) result (T.state tally.new) }
+    ensures kept { T.kept tally.new ≡ T.kept tally.old }
+    ensures inside { IfOk result (IsIn context.now.tree) }
+{
+    let mut nodes = evaluate_nodes(alloc, start, context, keys, site, tally)?;
+    for step in steps {
+        nodes = follow(alloc, step, nodes.nodes(), context, keys, site, tally)?;
+    }
+    Ok(Value::Nodes(nodes))
+}
+
+// A step from each node of a set, in document order.
+#[cycle(evaluate)]
+fn follow<K: KeyFinder, T: Tally>(
+    alloc: Global,
+    step: &Expr,
+    nodes: &[Node],
+    context: &Context<'_>,
+    keys: &K,
+    site: Site,
+    tally: &mut T,
+) -> Result<NodeSet, Halt>
+    requires context { IsContext (K.tables keys.now) context.now }
+    requires inside { All (λ k. k < length context.now.tree) nodes.now }
+    ensures told { IsStep (limited site
+        (through context.now nodes.now (run_of (K.tables keys.now) step.now))
+        (T.state tally.old)) result (T.state tally.new) }
+    ensures kept { T.kept tally.new ≡ T.kept tally.old }
+    ensures inside { IfOk result (λ ns. All (λ k. k < length context.now.tree) ns) }
+{
+    let mut found = Vec::new(alloc);
+    for node in nodes {
+        let around = context.at_node(*node, context.position, context.size);
+        let set = evaluate_nodes(alloc, step, &around, keys, site, tally)?;
+        found.extend_from_slice(set.nodes())?;
+    }
+    Ok(NodeSet::in_order(found)?)
+}
+
+// The nodes that an expression gives, which has to be a node-set (XPath 1.0, 3.3).
+#[cycle(evaluate)]
+fn evaluate_nodes<K: KeyFinder, T: Tally>(
+    alloc: Global,
+    expr: &Expr,
+    context: &Context<'_>,
+    keys: &K,
+    site: Site,
+    tally: &mut T,
+) -> Result<NodeSet, Halt>
+    requires context { IsContext (K.tables keys.now) context.now }
+    ensures told { IsStep (limited site
+        (selected (run_of (K.tables keys.now) expr.now) context.now)
+        (T.state tally.old)) result (T.state tally.new) }
+    ensures kept { T.kept tally.new ≡ T.kept tally.old }
+    ensures inside { IfOk result (λ ns. All (λ k. k < length context.now.tree) ns) }
+{
+    let v = evaluate(alloc, expr, context, keys, site, tally)?;
+    settled(into_set(v), site)
+}

@@ -1,0 +1,106 @@
+//! Why an evaluation has no value.
+
+ghost use Rattle.std.specs.Prelude.{◌≡◌};
+ghost use Rattle.xs_eval.specs.Results.{Answers, halted, number_of_fault, numeric, settled};
+ghost use Rattle.xs_eval.specs.declared.fault.Trouble.TheVariants.{NoMemory};
+
+use std::alloc::{AllocError, AllocFailed};
+use xs_num::number::{Num, NumFault};
+use xs_trace::item::Site;
+use xs_trace::recorder::Halt;
+
+/// A fault of an expression.
+#[derive(Clone, Copy, PartialEq, Eq, Debug)]
+pub enum Fault {
+    /// A number is no whole number.
+    Fraction,
+    /// A number is too large.
+    Range,
+    /// A value is no node-set where one is needed.
+    NotNodes,
+    /// A name is that of no key.
+    NoKey,
+}
+
+impl Fault {
+    /// Its number among the faults of a run.
+    pub fn number(self) -> u8
+        ensures { result ≡ number_of_fault self }
+    {
+        match self {
+            Fault::Fraction => 51,
+            Fault::Range => 52,
+            Fault::NotNodes => 53,
+            Fault::NoKey => 54,
+        }
+    }
+}
+
+/// Why a function has no value.
+#[derive(Clone, Copy, PartialEq, Eq, Debug)]
+pub(crate) enum Trouble {
+    /// It has a fault.
+    Fault(Fault),
+    /// Memory ran out.
+    NoMemory,
+}
+
+impl From<AllocError> for Trouble {
+    ghost from_gives = { λ _ made. made ≡ NoMemory };
+
+    /// Want of memory.
+    fn from(_refused: AllocError) -> Trouble {
+        Trouble::NoMemory
+    }
+}
+
+impl<T: Drop> From<AllocFailed<T>> for Trouble {
+    ghost from_gives = { λ _ made. made ≡ NoMemory };
+
+    /// Want of memory; what there was no room for is dropped.
+    fn from(_refused: AllocFailed<T>) -> Trouble {
+        Trouble::NoMemory
+    }
+}
+
+/// What an operation on numbers gives.
+pub(crate) fn computed(operation: Result<Num, NumFault>) -> Result<Num, Trouble>
+    ensures number { Answers (numeric operation) result }
+{
+    match operation {
+        Ok(number) => Ok(number),
+        Err(NumFault::Fraction) => Err(Trouble::Fault(Fault::Fraction)),
+        Err(NumFault::Range) => Err(Trouble::Fault(Fault::Range)),
+    }
+}
+
+impl Fault {
+    /// The end of a run in this fault, at an instruction.
+    pub(crate) fn at(self, site: Site) -> Halt
+        ensures { result ≡ Halt.Fault (number_of_fault self) site }
+    {
+        Halt::Fault(self.number(), site)
+    }
+}
+
+impl Trouble {
+    /// The end of a run in this trouble, at an instruction.
+    pub(crate) fn at(self, site: Site) -> Halt
+        ensures { result ≡ halted self site }
+    {
+        match self {
+            Trouble::Fault(fault) => fault.at(site),
+            Trouble::NoMemory => Halt::NoMemory,
+        }
+    }
+}
+
+/// What is answered at an instruction.
+pub(crate) fn settled<A>(answer: Result<A, Trouble>, site: Site) -> Result<A, Halt>
+    ensures { result ≡ settled site answer }
+{
+    match answer {
+        Ok(value) => Ok(value),
+        Err(trouble) => Err(trouble.at(site)),
+    }
+}

@@ -1,0 +1,221 @@
+//! Nodes by key (XSLT 1.0, 12.2).
+
+ghost use Rattle.std.specs.Prelude.{◌≡◌, ◌<◌, ◌++◌, ◌∷◌, [], IfOk, length, filter, map};
+ghost use Rattle.xs_tree.specs.Record.{string_value};
+ghost use Rattle.std.specs.List.{All};
+ghost use Rattle.xs_trace.specs.Play.{IsStep};
+ghost use Rattle.xs_trace.specs.Run.{limited};
+ghost use Rattle.xs_value.specs.Conversion.{IsIn};
+ghost use Rattle.xs_value.specs.Tables.{table_at};
+ghost use Rattle.xs_eval.specs.Functions.{first, second};
+ghost use Rattle.xs_eval.specs.Keys.{from_table, keyed, number_of, sought};
+ghost use Rattle.xs_eval.specs.steps.Keys.{AddsNodes, FindsNodes, IsDocumentOf, holds};
+ghost use Rattle.xs_eval.specs.Names.{expanded_name};
+ghost use Rattle.xs_eval.specs.Conditions.{IsContext};
+
+use crate::arguments::text_at;
+use crate::context::Context;
+use crate::fault::Fault;
+use crate::names::expanded_name;
+use crate::predicates::kept_if;
+use std::alloc::{AllocError, Global};
+use xs_trace::item::Site;
+use xs_trace::recorder::{Halt, Tally, tick_several};
+use xs_tree::{Node, Tree};
+use xs_value::conversion::{lend_text, node_text};
+use xs_value::keys::{KeyEnd, KeyFinder};
+use xs_value::node_set::NodeSet;
+use xs_value::value::Value;
+use xs_xpath::scope::Scope;
+
+/// `key`: a tick for each node of the answer.
+pub(crate) fn find_by_key<K: KeyFinder, T: Tally>(
+    alloc: Global,
+    context: &Context<'_>,
+    keys: &K,
+    values: &[Value],
+    site: Site,
+    tally: &mut T,
+) -> Result<Value, Halt>
+    requires context { IsContext (K.tables keys.now) context.now }
+    requires inside { All (IsIn context.now.tree) values.now }
+    ensures told { IsStep (limited site
+        (keyed (K.tables keys.now) context.now (first values.now) (second values.now))
+        (T.state tally.old)) result (T.state tally.new) }
+    ensures kept { T.kept tally.new ≡ T.kept tally.old }
+    ensures inside { IfOk result (IsIn context.now.tree) }
+{
+    let name = text_at(alloc, context.tree, values, 0)?;
+    match number_of(keys, context.scope, name.as_str()) {
+        Some(key) => look_up(alloc, context, keys, key, values, site, tally),
+        None => Err(Fault::NoKey.at(site)),
+    }
+}
+
+// The number of the key that a text names.
+fn number_of<K: KeyFinder>(keys: &K, scope: &Scope, name: &str) -> Option<u32>
+    ensures number { result
+        ≡ number_of (K.tables keys.now) (expanded_name scope.now.pairs.items name.now) }
+{
+    match expanded_name(scope, name) {
+        Some((uri, local)) => keys.number_of(uri, local),
+        None => None,
+    }
+}
+
+// The nodes that a key gives for what is looked up, a tick for each.
+fn look_up<K: KeyFinder, T: Tally>(
+    alloc: Global,
+    context: &Context<'_>,
+    keys: &K,
+    key: u32,
+    values: &[Value],
+    site: Site,
+    tally: &mut T,
+) -> Result<Value, Halt>
+    requires context { IsContext (K.tables keys.now) context.now }
+    requires inside { All (IsIn context.now.tree) values.now }
+    ensures told { IsStep (limited site
+        (from_table context.now (table_at (K.tables keys.now) key)
+        (table_at (K.tables keys.now) key).fault (sought context.now (second values.now)))
+        (T.state tally.old)) result (T.state tally.new) }
+    ensures kept { T.kept tally.new ≡ T.kept tally.old }
+    ensures inside { IfOk result (IsIn context.now.tree) }
+{
+    match found_of(alloc, context, keys, key, values) {
+        Ok(found) => {
+            tick_several(tally, site, found.nodes().len() as u64)?;
+            Ok(Value::Nodes(found))
+        }
+        Err(KeyEnd::Fault(fault)) => Err(Halt::Fault(fault, site)),
+        Err(KeyEnd::NoMemory) => Err(Halt::NoMemory),
+    }
+}
+
+// The nodes that a key gives for what is looked up, in the document of the context node.
+fn found_of<K: KeyFinder>(
+    alloc: Global,
+    context: &Context<'_>,
+    keys: &K,
+    key: u32,
+    values: &[Value],
+) -> Result<NodeSet, KeyEnd>
+    requires context { IsContext (K.tables keys.now) context.now }
+    requires inside { All (IsIn context.now.tree) values.now }
+    ensures found { FindsNodes context.now (table_at (K.tables keys.now) key)
+        (sought context.now (second values.now)) result }
+    ensures inside { IfOk result (λ ns. All (λ k. k < length context.now.tree) ns) }
+{
+    match values.get(1) {
+        Some(Value::Nodes(sought)) => found_for_nodes(alloc, context, keys, key, sought.nodes()),
+        Some(v) => {
+            let text = lend_text(alloc, context.tree, v)?;
+            found_for_text(alloc, context, keys, key, text.as_str())
+        }
+        None => found_for_text(alloc, context, keys, key, ""),
+    }
+}
+
+// The nodes that a key gives for a text.
+fn found_for_text<K: KeyFinder>(
+    alloc: Global,
+    context: &Context<'_>,
+    keys: &K,
+    key: u32,
+    text: &str,
+) -> Result<NodeSet, KeyEnd>
+    requires context { IsContext (K.tables keys.now) context.now }
+    ensures found { FindsNodes context.now (table_at (K.tables keys.now) key) (text.now ∷ [])
+        result }
+    ensures inside { IfOk result (λ ns. All (λ k. k < length context.now.tree) ns) }
+{
+    let document = Document::of(context.tree, context.node);
+    let nodes = add_found(alloc, context, &document, keys, key, text, Vec::new(alloc))?;
+    Ok(NodeSet::in_order(nodes)?)
+}
+
+// The nodes that a key gives for the string-values of some nodes. Without a node the table may have
+// a fault all the same.
+fn found_for_nodes<K: KeyFinder>(
+    alloc: Global,
+    context: &Context<'_>,
+    keys: &K,
+    key: u32,
+    sought: &[Node],
+) -> Result<NodeSet, KeyEnd>
+    requires context { IsContext (K.tables keys.now) context.now }
+    requires sought { All (λ k. k < length context.now.tree) sought.now }
+    ensures found { FindsNodes context.now (table_at (K.tables keys.now) key)
+        (map (string_value context.now.tree) sought.now) result }
+    ensures inside { IfOk result (λ ns. All (λ k. k < length context.now.tree) ns) }
+{
+    let _found = keys.find(alloc, key, "")?;
+    let document = Document::of(context.tree, context.node);
+    let mut nodes = Vec::new(alloc);
+    for node in sought {
+        let text = node_text(alloc, context.tree, *node)?;
+        nodes = add_found(alloc, context, &document, keys, key, text.as_str(), nodes)?;
+    }
+    Ok(NodeSet::in_order(nodes)?)
+}
+
+// The nodes that a key gives for a text, of those that are in a document, behind others.
+fn add_found<K: KeyFinder>(
+    alloc: Global,
+    context: &Context<'_>,
+    document: &Document,
+    keys: &K,
+    key: u32,
+    text: &str,
+    nodes: Vec<Node>,
+) -> Result<Vec<Node>, KeyEnd>
+    requires context { IsContext (K.tables keys.now) context.now }
+    requires document { IsDocumentOf context.now.tree context.now.node document.now }
+    requires inside { All (λ k. k < length context.now.tree) nodes.items }
+    ensures found { AddsNodes context.now (table_at (K.tables keys.now) key) text.now
+        nodes.items (λ ns. ns.items) result }
+    ensures inside { IfOk result (λ ns. All (λ k. k < length context.now.tree) ns.items) }
+{
+    let found = keys.find(alloc, key, text)?;
+    Ok(add_held(document, found.nodes(), nodes)?)
+}
+
+// Those nodes that are in a document, behind others.
+fn add_held(document: &Document, found: &[Node], nodes: Vec<Node>) -> Result<Vec<Node>, AllocError>
+    ensures nodes { IfOk result (λ ns. ns.items
+        ≡ nodes.items ++ filter (holds document.now) found.now) }
+{
+    let mut nodes = nodes;
+    for node in found {
+        nodes = kept_if(document.holds(*node), nodes, *node)?;
+    }
+    Ok(nodes)
+}
+
+// A document, which is all nodes from its root up to an end.
+#[derive(Drop)]
+struct Document {
+    // The root.
+    root: Node,
+    // The place behind the last node.
+    end: u32,
+}
+
+impl Document {
+    // The document that a node is in.
+    fn of(tree: &Tree, node: Node) -> Document
+        requires { node < length tree.now }
+        ensures { IsDocumentOf tree.now node result }
+    {
+        let root = tree.root_of(node);
+        let end = tree.subtree_end(root);
+        Document { root, end }
+    }
+
+    // Whether a node is in it.
+    fn holds(&self, node: Node) -> bool
+        ensures { result ≡ holds self.now node }
+    {
+        self.root.place() <= node.place() && node.place() < self.end
+    }
+}

@@ -1,0 +1,18 @@
+//! The evaluation of XPath 1.0: expressions over a tree, which tell their ticks to a tally.
+#![tactic(auto)]
+
+mod arguments;
+mod calls;
+pub mod context;
+pub mod evaluate;
+pub mod fault;
+mod keys;
+mod languages;
+mod names;
+mod node_tests;
+mod nodes;
+mod operators;
+mod predicates;
+mod strings;
+pub mod templates;
+mod variables;

@@ -1,0 +1,169 @@
+//! Names that a text spells, in the namespace declarations of the expression, and what they name
+//! (XSLT 1.0, 2.4, 12.4 and 15).
+
+ghost use Rattle.std.specs.Prelude.{◌≡◌, IfOk};
+ghost use Rattle.std.specs.Option.{option_map};
+ghost use Rattle.xs_eval.specs.Names.{expanded_name, is_element_available, is_function_available};
+ghost use Rattle.xs_eval.specs.Names.{is_copying, is_flow, is_instruction, is_making, property};
+ghost use Rattle.xs_eval.specs.Names.{system_property};
+ghost use Rattle.xs_eval.specs.steps.Names.{texts};
+
+use crate::arguments::chars;
+use std::alloc::{AllocError, Global};
+use xs_num::number::Num;
+use xs_text::split_qname;
+use xs_value::value::Value;
+use xs_xpath::scope::{Scope, function_of, uri_in};
+
+/// The namespace of XSLT (XSLT 1.0, 2.1).
+const XSLT: &str = "http://www.w3.org/1999/XSL/Transform";
+
+/// The vendor of this processor.
+const VENDOR: &str = "xslt whole-number profile";
+
+/// The expanded name of a text: its namespace URI, empty for none, and its local part; none where
+/// it is no QName, or its prefix is not in scope.
+#[tactic(auto, unfolding(crate::specs::Names::expanded_name))]
+pub(crate) fn expanded_name<'a>(scope: &'a Scope, text: &'a str) -> Option<(&'a str, &'a str)>
+    ensures name { option_map texts result ≡ expanded_name scope.now.pairs.items text.now }
+{
+    match split_qname(text) {
+        Some((prefix, local)) => {
+            if prefix.is_empty() {
+                return Some(("", local));
+            }
+            match uri_in(&scope.pairs, prefix) {
+                Some(uri) => Some((uri, local)),
+                None => None,
+            }
+        }
+        None => None,
+    }
+}
+
+/// `element-available`: whether a text names an instruction of XSLT.
+pub(crate) fn is_element_available(scope: &Scope, text: &str) -> bool
+    ensures { result ≡ is_element_available scope.now.pairs.items text.now }
+{
+    match expanded_name(scope, text) {
+        Some((uri, local)) => is_instruction(uri, local),
+        None => false,
+    }
+}
+
+// Whether a name is that of an instruction (XSLT 1.0, appendix C.1).
+fn is_instruction(uri: &str, local: &str) -> bool
+    ensures { result ≡ is_instruction (uri.now, local.now) }
+{
+    if uri != XSLT {
+        return false;
+    }
+    if is_flow(local) {
+        return true;
+    }
+    if is_copying(local) {
+        return true;
+    }
+    is_making(local)
+}
+
+// Whether a local part is that of one of the instructions that decide what is instantiated, and how
+// often.
+fn is_flow(local: &str) -> bool
+    ensures { result ≡ is_flow local.now }
+{
+    if local == "apply-templates" {
+        return true;
+    }
+    if local == "call-template" {
+        return true;
+    }
+    if local == "apply-imports" {
+        return true;
+    }
+    if local == "for-each" {
+        return true;
+    }
+    if local == "choose" {
+        return true;
+    }
+    local == "if"
+}
+
+// Whether a local part is that of one of the instructions that copy or compute text.
+fn is_copying(local: &str) -> bool
+    ensures { result ≡ is_copying local.now }
+{
+    if local == "value-of" {
+        return true;
+    }
+    if local == "copy-of" {
+        return true;
+    }
+    if local == "copy" {
+        return true;
+    }
+    if local == "number" {
+        return true;
+    }
+    if local == "text" {
+        return true;
+    }
+    local == "message"
+}
+
+// Whether a local part is that of one of the instructions that make nodes, bind a variable, or
+// stand in for an extension.
+fn is_making(local: &str) -> bool
+    ensures { result ≡ is_making local.now }
+{
+    if local == "element" {
+        return true;
+    }
+    if local == "attribute" {
+        return true;
+    }
+    if local == "comment" {
+        return true;
+    }
+    if local == "processing-instruction" {
+        return true;
+    }
+    if local == "variable" {
+        return true;
+    }
+    local == "fallback"
+}
+
+/// `function-available`: whether a text names a function.
+pub(crate) fn is_function_available(text: &str) -> bool
+    ensures { result ≡ is_function_available text.now }
+{
+    function_of(text.as_bytes()).is_some()
+}
+
+/// `system-property`.
+pub(crate) fn system_property(alloc: Global, scope: &Scope, text: &str) -> Result<Value, AllocError>
+    ensures value { IfOk result (λ v. v ≡ system_property scope.now.pairs.items text.now) }
+{
+    match expanded_name(scope, text) {
+        Some((uri, local)) => property(alloc, uri, local),
+        None => chars(alloc, ""),
+    }
+}
+
+// A property by its name.
+fn property(alloc: Global, uri: &str, local: &str) -> Result<Value, AllocError>
+    ensures value { IfOk result (λ v. v ≡ property (uri.now, local.now)) }
+{
+    if uri != XSLT {
+        return chars(alloc, "");
+    }
+    if local == "version" {
+        return Ok(Value::Number(Num::from(1)));
+    }
+    if local == "vendor" {
+        return chars(alloc, VENDOR);
+    }
+    chars(alloc, "")
+}

@@ -1,0 +1,152 @@
+//! The functions on nodes (XPath 1.0, 4.1; XSLT 1.0, 12.4), and `sum` (XPath 1.0, 4.4), on
+//! evaluated arguments.
+
+ghost use Rattle.std.specs.Prelude.{◌≡◌, ◌<◌, ◌++◌, IfOk, length, codes, pos, drop};
+ghost use Rattle.std.specs.List.{All};
+ghost use Rattle.xs_num.specs.declared.number.Number.TheVariants.{Whole};
+ghost use Rattle.xs_num.specs.Text.{text_of};
+ghost use Rattle.xs_tree.specs.Record.{at, name_local, name_uri};
+ghost use Rattle.xs_value.specs.Conversion.{IsIn};
+ghost use Rattle.xs_value.specs.declared.value.Value.TheVariants.{Chars};
+ghost use Rattle.xs_eval.specs.Functions.{and_number, argument, count, first, first_or_node};
+ghost use Rattle.xs_eval.specs.Functions.{generated_id, id_of, name_part, prefixed, sum, sum_from};
+ghost use Rattle.xs_eval.specs.Functions.{written_name};
+ghost use Rattle.xs_eval.specs.Results.{Answers};
+
+use crate::arguments::{chars, chars_of, natural, node_or_first, nodes_at};
+use crate::context::Context;
+use crate::fault::{Trouble, computed};
+use std::alloc::{AllocError, Global};
+use xs_num::arithmetic::add;
+use xs_num::number::Num;
+use xs_num::reading::read_num;
+use xs_num::writing::write_num;
+use xs_tree::{Node, Tree};
+use xs_value::conversion::node_text;
+use xs_value::value::Value;
+
+/// `count`.
+pub(crate) fn count(values: &[Value]) -> Result<Value, Trouble>
+    ensures value { Answers (count (first values.now)) result }
+{
+    let nodes = nodes_at(values, 0)?;
+    Ok(Value::Number(natural(nodes.len() as u64)?))
+}
+
+/// `local-name`.
+pub(crate) fn local_name(
+    alloc: Global,
+    context: &Context<'_>,
+    values: &[Value],
+) -> Result<Value, Trouble>
+    requires node { context.now.node < length context.now.tree }
+    requires inside { All (IsIn context.now.tree) values.now }
+    ensures value { Answers
+        (name_part name_local context.now.tree (first_or_node context.now values.now)) result }
+{
+    match node_or_first(context, values)? {
+        Some(node) => Ok(chars(alloc, context.tree.local(node))?),
+        None => Ok(chars(alloc, "")?),
+    }
+}
+
+/// `namespace-uri`.
+pub(crate) fn namespace_uri(
+    alloc: Global,
+    context: &Context<'_>,
+    values: &[Value],
+) -> Result<Value, Trouble>
+    requires node { context.now.node < length context.now.tree }
+    requires inside { All (IsIn context.now.tree) values.now }
+    ensures value { Answers
+        (name_part name_uri context.now.tree (first_or_node context.now values.now)) result }
+{
+    match node_or_first(context, values)? {
+        Some(node) => Ok(chars(alloc, context.tree.uri(node))?),
+        None => Ok(chars(alloc, "")?),
+    }
+}
+
+/// `name`.
+pub(crate) fn name(alloc: Global, context: &Context<'_>, values: &[Value]) -> Result<Value, Trouble>
+    requires node { context.now.node < length context.now.tree }
+    requires inside { All (IsIn context.now.tree) values.now }
+    ensures value { Answers
+        (name_part written_name context.now.tree (first_or_node context.now values.now)) result }
+{
+    match node_or_first(context, values)? {
+        Some(node) => Ok(written_name(alloc, context.tree, node)?),
+        None => Ok(chars(alloc, "")?),
+    }
+}
+
+// The QName of a node, with the prefix that it was written with.
+fn written_name(alloc: Global, tree: &Tree, node: Node) -> Result<Value, AllocError>
+    requires { node < length tree.now }
+    ensures value { IfOk result (λ v. v ≡ Chars (written_name (at tree.now node))) }
+{
+    let prefix = tree.prefix(node);
+    if prefix.is_empty() {
+        return chars(alloc, tree.local(node));
+    }
+    let mut text = String::from_str(alloc, prefix)?;
+    text.push(':')?;
+    text.push_str(tree.local(node))?;
+    chars(alloc, text.as_str())
+}
+
+/// `generate-id`.
+pub(crate) fn generate_id(
+    alloc: Global,
+    context: &Context<'_>,
+    values: &[Value],
+) -> Result<Value, Trouble>
+    requires node { context.now.node < length context.now.tree }
+    requires inside { All (IsIn context.now.tree) values.now }
+    ensures value { Answers (generated_id (first_or_node context.now values.now)) result }
+{
+    match node_or_first(context, values)? {
+        Some(node) => Ok(id_of(alloc, node)?),
+        None => Ok(chars(alloc, "")?),
+    }
+}
+
+// A name that no other node has.
+fn id_of(alloc: Global, node: Node) -> Result<Value, AllocError>
+    ensures value { IfOk result (λ v. v ≡ Chars (id_of node)) }
+{
+    let mut bytes = Vec::from_slice(alloc, b"n")?;
+    write_num(&mut bytes, Num::from(node.place()))?;
+    chars_of(bytes)
+}
+
+/// `sum`: node by node, each number added as soon as it is read.
+pub(crate) fn sum(alloc: Global, tree: &Tree, values: &[Value]) -> Result<Value, Trouble>
+    requires { All (IsIn tree.now) values.now }
+    ensures value { Answers (sum tree.now (first values.now)) result }
+{
+    let nodes = nodes_at(values, 0)?;
+    Ok(Value::Number(sum_of_nodes(alloc, tree, nodes)?))
+}
+
+// The sum of the numbers of some nodes.
+fn sum_of_nodes(alloc: Global, tree: &Tree, nodes: &[Node]) -> Result<Num, Trouble>
+    requires { All (λ k. k < length tree.now) nodes.now }
+    ensures value { Answers (sum_from tree.now (Whole (pos 0)) nodes.now) result }
+{
+    let mut total = Num::whole(0);
+    for node in nodes {
+        total = and_number(alloc, tree, total, *node)?;
+    }
+    Ok(total)
+}
+
+// A total and the number of a node more.
+fn and_number(alloc: Global, tree: &Tree, total: Num, node: Node) -> Result<Num, Trouble>
+    requires { node < length tree.now }
+    ensures value { Answers (and_number tree.now total node) result }
+{
+    let text = node_text(alloc, tree, node)?;
+    let number = computed(read_num(text.as_str()))?;
+    computed(add(total, number))
+}

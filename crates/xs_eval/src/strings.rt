@@ -1,0 +1,202 @@
+//! The functions on strings (XPath 1.0, 4.2), on evaluated arguments.
+
+ghost use Rattle.std.specs.Prelude.{◌≡◌, ◌<◌, IfOk, length, slice_get};
+ghost use Rattle.std.specs.List.{All, flat_map};
+ghost use Rattle.std.specs.Str.{chars};
+ghost use Rattle.xs_strings.specs.Normalization.{normalized};
+ghost use Rattle.xs_strings.specs.Searching.{text_after, text_before};
+ghost use Rattle.xs_strings.specs.Translation.{translated};
+ghost use Rattle.xs_value.specs.Conversion.{IsIn, text_value};
+ghost use Rattle.xs_value.specs.declared.value.Value.TheVariants.{Chars};
+ghost use Rattle.xs_eval.specs.Functions.{count_given, does_contain, does_start_with, first};
+ghost use Rattle.xs_eval.specs.Functions.{first_or_node, second, string_length, substring, third};
+ghost use Rattle.xs_eval.specs.Functions.{written};
+ghost use Rattle.xs_eval.specs.Results.{Answers, AnswersBy};
+
+use crate::arguments::{chars_of, natural, number_at, number_of, text_at, text_or_node};
+use crate::context::Context;
+use crate::fault::Trouble;
+use std::alloc::{AllocError, Global};
+use xs_num::number::Num;
+use xs_strings::{normalization, positions, searching, translation};
+use xs_tree::Tree;
+use xs_value::conversion::text_into;
+use xs_value::value::Value;
+
+/// `string`.
+pub(crate) fn string(
+    alloc: Global,
+    context: &Context<'_>,
+    values: &[Value],
+) -> Result<Value, AllocError>
+    requires node { context.now.node < length context.now.tree }
+    requires inside { All (IsIn context.now.tree) values.now }
+    ensures value { IfOk result (λ v. v
+        ≡ Chars (text_value context.now.tree (first_or_node context.now values.now))) }
+{
+    let text = text_or_node(alloc, context, values)?;
+    crate::arguments::chars(alloc, text.as_str())
+}
+
+/// `concat`.
+pub(crate) fn concat(alloc: Global, tree: &Tree, values: &[Value]) -> Result<Value, AllocError>
+    requires { All (IsIn tree.now) values.now }
+    ensures value { IfOk result (λ v. v ≡ Chars (flat_map (text_value tree.now) values.now)) }
+{
+    let mut bytes = Vec::new(alloc);
+    for v in values {
+        text_into(tree, v, &mut bytes)?;
+    }
+    chars_of(bytes)
+}
+
+/// `starts-with`.
+pub(crate) fn starts_with(alloc: Global, tree: &Tree, values: &[Value]) -> Result<bool, AllocError>
+    requires { All (IsIn tree.now) values.now }
+    ensures value { IfOk result (λ b. b ≡ does_start_with
+        (text_value tree.now (first values.now)) (text_value tree.now (second values.now))) }
+{
+    let text = text_at(alloc, tree, values, 0)?;
+    let start = text_at(alloc, tree, values, 1)?;
+    Ok(begins(text.as_str(), start.as_str()))
+}
+
+// Whether a text begins with another.
+fn begins(text: &str, start: &str) -> bool
+    ensures { result ≡ does_start_with text.now start.now }
+{
+    text.as_bytes().starts_with(start.as_bytes())
+}
+
+/// `contains`.
+pub(crate) fn contains(alloc: Global, tree: &Tree, values: &[Value]) -> Result<bool, AllocError>
+    requires { All (IsIn tree.now) values.now }
+    ensures value { IfOk result (λ b. b ≡ does_contain
+        (text_value tree.now (first values.now)) (text_value tree.now (second values.now))) }
+{
+    let text = text_at(alloc, tree, values, 0)?;
+    let sought = text_at(alloc, tree, values, 1)?;
+    Ok(holds(text.as_str(), sought.as_str()))
+}
+
+// Whether a text holds another.
+fn holds(text: &str, sought: &str) -> bool
+    ensures { result ≡ does_contain text.now sought.now }
+{
+    match text.split_once(sought) {
+        Some((before, _)) => {
+            let _bytes = before.as_bytes();
+            true
+        }
+        None => false,
+    }
+}
+
+/// `substring-before`.
+pub(crate) fn substring_before(
+    alloc: Global,
+    tree: &Tree,
+    values: &[Value],
+) -> Result<Value, AllocError>
+    requires { All (IsIn tree.now) values.now }
+    ensures value { IfOk result (λ v. v ≡ written (text_before
+        (chars (text_value tree.now (first values.now)))
+        (chars (text_value tree.now (second values.now))))) }
+{
+    let text = text_at(alloc, tree, values, 0)?;
+    let sought = text_at(alloc, tree, values, 1)?;
+    let mut bytes = Vec::new(alloc);
+    searching::substring_before(&mut bytes, text.as_str(), sought.as_str())?;
+    chars_of(bytes)
+}
+
+/// `substring-after`.
+pub(crate) fn substring_after(
+    alloc: Global,
+    tree: &Tree,
+    values: &[Value],
+) -> Result<Value, AllocError>
+    requires { All (IsIn tree.now) values.now }
+    ensures value { IfOk result (λ v. v ≡ written (text_after
+        (chars (text_value tree.now (first values.now)))
+        (chars (text_value tree.now (second values.now))))) }
+{
+    let text = text_at(alloc, tree, values, 0)?;
+    let sought = text_at(alloc, tree, values, 1)?;
+    let mut bytes = Vec::new(alloc);
+    searching::substring_after(&mut bytes, text.as_str(), sought.as_str())?;
+    chars_of(bytes)
+}
+
+/// `substring`.
+pub(crate) fn substring(alloc: Global, tree: &Tree, values: &[Value]) -> Result<Value, Trouble>
+    requires { All (IsIn tree.now) values.now }
+    ensures value { Answers (substring tree.now values.now) result }
+{
+    let text = text_at(alloc, tree, values, 0)?;
+    let from = number_at(alloc, tree, values, 1)?;
+    let count = count_given(alloc, tree, values)?;
+    let mut bytes = Vec::new(alloc);
+    positions::substring(&mut bytes, text.as_str(), from, count)?;
+    Ok(chars_of(bytes)?)
+}
+
+// How many characters a substring has at most, where that is given.
+fn count_given(alloc: Global, tree: &Tree, values: &[Value]) -> Result<Option<Num>, Trouble>
+    requires { All (IsIn tree.now) values.now }
+    ensures count { AnswersBy (λ n. n)
+        (count_given tree.now (slice_get values.now 2)) result }
+{
+    match values.get(2) {
+        Some(v) => Ok(Some(number_of(alloc, tree, v)?)),
+        None => Ok(None),
+    }
+}
+
+/// `string-length`.
+pub(crate) fn string_length(
+    alloc: Global,
+    context: &Context<'_>,
+    values: &[Value],
+) -> Result<Value, Trouble>
+    requires node { context.now.node < length context.now.tree }
+    requires inside { All (IsIn context.now.tree) values.now }
+    ensures value { Answers (string_length
+        (text_value context.now.tree (first_or_node context.now values.now))) result }
+{
+    let text = text_or_node(alloc, context, values)?;
+    Ok(Value::Number(natural(positions::char_count(text.as_str()))?))
+}
+
+/// `normalize-space`.
+pub(crate) fn normalize_space(
+    alloc: Global,
+    context: &Context<'_>,
+    values: &[Value],
+) -> Result<Value, AllocError>
+    requires node { context.now.node < length context.now.tree }
+    requires inside { All (IsIn context.now.tree) values.now }
+    ensures value { IfOk result (λ v. v ≡ written (normalized
+        (chars (text_value context.now.tree (first_or_node context.now values.now))))) }
+{
+    let text = text_or_node(alloc, context, values)?;
+    let mut bytes = Vec::new(alloc);
+    normalization::normalize_space(&mut bytes, text.as_str())?;
+    chars_of(bytes)
+}
+
+/// `translate`.
+pub(crate) fn translate(alloc: Global, tree: &Tree, values: &[Value]) -> Result<Value, AllocError>
+    requires { All (IsIn tree.now) values.now }
+    ensures value { IfOk result (λ v. v ≡ written (translated
+        (chars (text_value tree.now (first values.now)))
+        (chars (text_value tree.now (second values.now)))
+        (chars (text_value tree.now (third values.now))))) }
+{
+    let text = text_at(alloc, tree, values, 0)?;
+    let from = text_at(alloc, tree, values, 1)?;
+    let to = text_at(alloc, tree, values, 2)?;
+    let mut bytes = Vec::new(alloc);
+    translation::translate(&mut bytes, text.as_str(), from.as_str(), to.as_str())?;
+    chars_of(bytes)
+}

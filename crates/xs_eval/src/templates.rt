@@ -1,0 +1,76 @@
+//! Attribute value templates (XSLT 1.0, 7.6.2).
+
+ghost use Rattle.std.specs.Prelude.{◌≡◌, ◌++◌, IfOk};
+ghost use Rattle.std.specs.String.{string_bytes};
+ghost use Rattle.xs_trace.specs.Play.{IsStepBy};
+ghost use Rattle.xs_trace.specs.Run.{limited};
+ghost use Rattle.xs_eval.specs.Conditions.{IsContext};
+ghost use Rattle.xs_eval.specs.Templates.{and_part, template};
+
+use crate::context::Context;
+use crate::evaluate::evaluate;
+use std::alloc::{AllocError, Global};
+use xs_trace::item::Site;
+use xs_trace::recorder::{Halt, Tally};
+use xs_trace::text::TextBuf;
+use xs_value::conversion::lend_text;
+use xs_value::keys::KeyFinder;
+use xs_xpath::avt::AvtPart;
+
+/// The text of a value template: the texts of its parts, one after another. It ends as the first
+/// part that has another end than a value.
+pub fn evaluate_avt<K: KeyFinder, T: Tally>(
+    alloc: Global,
+    parts: &[AvtPart],
+    context: &Context<'_>,
+    keys: &K,
+    site: Site,
+    tally: &mut T,
+) -> Result<TextBuf, Halt>
+    requires context { IsContext (K.tables keys.now) context.now }
+    ensures told { IsStepBy (λ text. text) (limited site
+        (template (K.tables keys.now) parts.now context.now)
+        (T.state tally.old)) result (T.state tally.new) }
+    ensures kept { T.kept tally.new ≡ T.kept tally.old }
+{
+    let mut text = String::new(alloc);
+    for part in parts {
+        text = add_part(alloc, part, text, context, keys, site, tally)?;
+    }
+    Ok(TextBuf::from_string(text)?)
+}
+
+// The text of a part, behind what is before it.
+fn add_part<K: KeyFinder, T: Tally>(
+    alloc: Global,
+    part: &AvtPart,
+    text: String,
+    context: &Context<'_>,
+    keys: &K,
+    site: Site,
+    tally: &mut T,
+) -> Result<String, Halt>
+    requires context { IsContext (K.tables keys.now) context.now }
+    ensures told { IsStepBy (λ t. string_bytes t) (limited site
+        (and_part (K.tables keys.now) context.now (string_bytes text) part.now)
+        (T.state tally.old)) result (T.state tally.new) }
+    ensures kept { T.kept tally.new ≡ T.kept tally.old }
+{
+    match part {
+        AvtPart::Fixed(fixed) => Ok(with_text(text, fixed.as_str())?),
+        AvtPart::Computed(expr) => {
+            let v = evaluate(alloc, expr, context, keys, site, tally)?;
+            let more = lend_text(alloc, context.tree, &v)?;
+            Ok(with_text(text, more.as_str())?)
+        }
+    }
+}
+
+// A text and more behind it.
+fn with_text(text: String, more: &str) -> Result<String, AllocError>
+    ensures text { IfOk result (λ t. string_bytes t ≡ string_bytes text ++ more.now) }
+{
+    let mut text = text;
+    text.push_str(more)?;
+    Ok(text)
+}
