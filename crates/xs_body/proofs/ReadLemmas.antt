@@ -5,7 +5,7 @@ use Rattle.xs_tree.specs.Record.{Record, at}
 use Rattle.xs_tree.specs.declared.kinds.Kind.{Kind}
 use Rattle.xs_tree.specs.declared.kinds.Kind.TheVariants as kind
 use Rattle.xs_body.specs.Body.{InstrData, BodyData, empty_body, instr, instr_data, instrs_data, text}
-use Rattle.xs_body.specs.Sheet.{all_instrs, content, element_instr, node_instr, instr_at, body_at, site_of, with_instr}
+use Rattle.xs_body.specs.Sheet.{all_instrs, branches, branches_at, content, element_instr, node_instr, instr_at, body_at, site_of, with_instr}
 use Rattle.xs_body.specs.Sheet.{first}
 use Rattle.xs_body.specs.steps.Children.{content_from}
 use Rattle.xs_body.specs.declared.syntax.Instr.{Instr}
@@ -14,14 +14,28 @@ use Rattle.xs_body.proofs.ChildLemmas.{kept_onward, kept-start, kept-next}
 pub instr-text : (depth : ℕ) (rs : List Record) (lines : List ℕ) (n : ℕ) → (at rs n).kind ≡ kind.Text → instr_at depth rs lines n ≡ Some (text (at rs n).text)
 unfolding instr_at
 instr-text zero rs lines n e = ap (λ k. node_instr k (at rs n).text None) e
-instr-text (suc depth) rs lines n e = ap (λ k. node_instr k (at rs n).text (element_instr rs n (body_at depth rs lines n))) e
+instr-text (suc depth) rs lines n e =
+    ap (λ k. node_instr k (at rs n).text (element_instr rs n (body_at depth rs lines n) (branches_at depth rs lines (content rs n)))) e
 
 pub instr-element : (depth : ℕ) (rs : List Record) (lines : List ℕ) (n : ℕ) → (at rs n).kind ≡ kind.Element → 0 < depth
-    → instr_at depth rs lines n ≡ element_instr rs n (body_at (depth - 1) rs lines n)
+    → instr_at depth rs lines n ≡ element_instr rs n (body_at (depth - 1) rs lines n) (branches_at (depth - 1) rs lines (content rs n))
 unfolding instr_at
 instr-element zero rs lines n e lt = absurd (omega arith)
-instr-element (suc depth) rs lines n e lt = ap (λ k. node_instr k (at rs n).text (element_instr rs n (body_at depth rs lines n))) e
-    ∙ ap (λ d. element_instr rs n (body_at d rs lines n)) (omega arith)
+instr-element (suc depth) rs lines n e lt =
+    ap (λ k. node_instr k (at rs n).text (element_instr rs n (body_at depth rs lines n) (branches_at depth rs lines (content rs n)))) e
+    ∙ ap (λ d. element_instr rs n (body_at d rs lines n) (branches_at d rs lines (content rs n))) (omega arith)
+
+-- the branches of a choice, one level further in
+pub branches-within : (depth : ℕ) (rs : List Record) (lines : List ℕ) (ks : List ℕ) → 0 < depth
+    → branches_at depth rs lines ks ≡ branches (body_at (depth - 1) rs lines) rs ks
+unfolding branches_at
+branches-within zero rs lines ks lt = absurd (omega arith)
+branches-within (suc depth) rs lines ks lt = ap (λ d. branches (body_at d rs lines) rs ks) (omega arith)
+
+pub branches-deep : (depth : ℕ) (rs : List Record) (lines : List ℕ) (ks : List ℕ) → depth ≡ 0 → branches_at depth rs lines ks ≡ None
+unfolding branches_at
+branches-deep zero rs lines ks z = refl
+branches-deep (suc depth) rs lines ks z = absurd (omega arith)
 
 pub instr-deep : (depth : ℕ) (rs : List Record) (lines : List ℕ) (n : ℕ) → (at rs n).kind ≡ kind.Element → depth ≡ 0 → instr_at depth rs lines n ≡ None
 unfolding instr_at
@@ -44,9 +58,12 @@ other-instr kind.Pi t o h = refl
 pub instr-other : (depth : ℕ) (rs : List Record) (lines : List ℕ) (n : ℕ) → IsOther (at rs n).kind → instr_at depth rs lines n ≡ None
 unfolding instr_at
 instr-other zero rs lines n h = other-instr (at rs n).kind (at rs n).text None h
-instr-other (suc depth) rs lines n h = other-instr (at rs n).kind (at rs n).text (element_instr rs n (body_at depth rs lines n)) h
+instr-other (suc depth) rs lines n h =
+    other-instr (at rs n).kind (at rs n).text (element_instr rs n (body_at depth rs lines n) (branches_at depth rs lines (content rs n))) h
 
 pub ruleset nodes = (instr-text, instr-element, instr-deep)
+
+pub ruleset choices = (branches-within, branches-deep)
 
 -- instructions that were read, and then the rest of what is read
 abbrev pub with_before : List Instr → Option BodyData → Option BodyData

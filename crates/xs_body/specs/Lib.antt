@@ -1,7 +1,6 @@
 pub mod Body
-pub mod Path
+pub mod Expression
 pub mod Sheet
-pub mod Select
 pub mod Trace
 pub mod Need
 pub mod steps

@@ -2,17 +2,16 @@
 #![tactic(auto)]
 
 mod attributes;
+pub mod bindings;
 mod children;
 pub mod context;
-mod expressions;
+pub mod expressions;
 pub mod laws;
+mod leaves;
 mod literal;
-mod names;
 mod nodes;
-pub mod paths;
 pub mod read;
 pub mod run;
-mod select;
 mod shape;
 mod strings;
 pub mod syntax;

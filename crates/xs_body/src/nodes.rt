@@ -42,8 +42,8 @@ fn is_stripped(tree: &Tree, n: Node) -> bool
     is_text(tree, n) && xs_text::is_blank(tree.text(n).as_bytes())
 }
 
-// Whether a node is an element.
-fn is_element(tree: &Tree, n: Node) -> bool
+/// Whether a node is an element.
+pub(crate) fn is_element(tree: &Tree, n: Node) -> bool
     requires { n < length tree.now }
     ensures { result ≡ is_element_kind (at tree.now n).kind }
 {

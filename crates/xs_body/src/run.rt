@@ -1,29 +1,29 @@
 //! The evaluation of a body, which tells a recorder what it does.
-ghost use Rattle.std.specs.Prelude.{◌≡◌, ◌<◌, ℕ, length, IfOk};
 ghost use Rattle.std.specs.List.{All};
-ghost use Rattle.xs_body.specs.Body.{instr_data, body_data};
-ghost use Rattle.xs_body.specs.Select.{first_string};
-ghost use Rattle.xs_body.specs.steps.Evaluation.{begun, chars_steps, each_node, enclosed, guarded};
-ghost use Rattle.xs_body.specs.steps.Evaluation.{instr_steps, space_steps, steps, taken};
-ghost use Rattle.xs_body.specs.steps.Evaluation.{test_steps, value_steps};
+ghost use Rattle.std.specs.Prelude.{◌≡◌, ◌<◌, ℕ, length, IfOk};
+ghost use Rattle.xs_body.specs.Body.{body_data, choice_data, instr_data};
+ghost use Rattle.xs_body.specs.Expression.{expr_data};
+ghost use Rattle.xs_body.specs.steps.Evaluation.{begun, chars_steps, choice_steps, each_node};
+ghost use Rattle.xs_body.specs.steps.Evaluation.{enclosed, guarded, instr_steps, space_steps};
+ghost use Rattle.xs_body.specs.steps.Evaluation.{steps, taken, value_steps};
 ghost use Rattle.xs_body.specs.Trace.{root_trace, trace};
 ghost use Rattle.xs_trace.specs.Cut.{cut};
 ghost use Rattle.xs_trace.specs.Kept.{Keeps, NeedsNone};
-ghost use Rattle.xs_trace.specs.Play.{IsStep, play, put};
+ghost use Rattle.xs_trace.specs.Play.{IsStep, goes, play, put};
 ghost use Rattle.xs_trace.specs.declared.event.Event.TheVariants.{Space};
 
 use crate::context::Context;
-use crate::paths::{Path, Test};
-use crate::select::select;
-use crate::strings::{any_is, first_string, text_in};
-use crate::syntax::{Body, InstrKind, SpaceLabel};
+use crate::expressions::Expression;
+use crate::strings::text_in;
+use crate::syntax::{Body, Choice, InstrKind, SpaceLabel};
 use std::alloc::{AllocError, Global};
 use xs_trace::event::{Event, Label};
 use xs_trace::item::{Limits, Site};
-use xs_trace::recorder::{Halt, Recorder, Tally, put_event, say_message};
+use xs_trace::recorder::{Halt, Recorder, put_event, say_message};
 use xs_trace::text::TextBuf;
 use xs_trace::whole::{Kept, Whole};
 use xs_tree::{Node, Tree};
+use xs_value::node_set::NodeSet;
 
 /// What the template of the root does: its trace, cut at the limits.
 pub fn run_body(
@@ -79,7 +79,12 @@ fn evaluate_root<R: Recorder>(
         module: 0,
         line: root_line,
     })?;
-    tell_body(alloc, body, tree, &Context { node: Node::root() }, recorder)
+    let context = Context {
+        node: Node::root(),
+        position: 1,
+        size: 1,
+    };
+    tell_body(alloc, body, tree, &context, recorder)
 }
 
 /// Tells a recorder what a body does, in order: all of it, or up to where the recorder ends it.
@@ -142,55 +147,25 @@ fn evaluate_instr<R: Recorder>(
         InstrKind::Literal { name, spaces, body } => {
             evaluate_element(alloc, name, spaces, body, tree, context, recorder)
         }
-        InstrKind::ValueOf { select } => {
-            put_value(alloc, select, site, tree, context.node, recorder)
-        }
+        InstrKind::ValueOf { select } => put_value(alloc, select, site, tree, context, recorder),
         InstrKind::ForEach { select, body } => {
-            evaluate_each(alloc, select, body, site, tree, context.node, recorder)
+            evaluate_each(alloc, select, body, site, tree, context, recorder)
         }
         InstrKind::If { test, body } => {
             evaluate_if(alloc, test, body, site, tree, context, recorder)
         }
+        InstrKind::Choose(choice) => evaluate_choice(alloc, choice, site, tree, context, recorder),
         InstrKind::Message { body } => {
             evaluate_message(alloc, body, site, tree, context, recorder)
         }
     }
 }
 
-// A body for each node that a path gives.
+// A body for each node that an expression gives.
 #[cycle(run)]
 fn evaluate_each<R: Recorder>(
     alloc: Global,
-    path: &Path,
-    body: &Body,
-    site: Site,
-    tree: &Tree,
-    from: Node,
-    recorder: &mut R,
-) -> Result<(), Halt>
-    requires { from < length tree.now }
-    ensures told { IsStep (each_node path.now site (steps (body_data body.now) tree.now)
-        tree.now from
-        (R.state recorder.old))
-        result (R.state recorder.new) }
-    ensures kept { R.kept recorder.new ≡ R.kept recorder.old }
-{
-    let places = select(alloc, path, site, tree, from, recorder)?;
-    for place in places.as_slice() {
-        let context = Context {
-            node: Node::at(*place),
-        };
-        recorder.tick(site)?;
-        evaluate_body(alloc, body, tree, &context, recorder)?;
-    }
-    Ok(())
-}
-
-// A body where a test holds.
-#[cycle(run)]
-fn evaluate_if<R: Recorder>(
-    alloc: Global,
-    test: &Test,
+    select: &Expression,
     body: &Body,
     site: Site,
     tree: &Tree,
@@ -198,16 +173,86 @@ fn evaluate_if<R: Recorder>(
     recorder: &mut R,
 ) -> Result<(), Halt>
     requires { context.now.node < length tree.now }
-    ensures told { IsStep (guarded test.now site (steps (body_data body.now) tree.now context.now)
-        tree.now context.now.node (R.state recorder.old))
+    ensures told { IsStep (each_node (expr_data select.now) site
+        (steps (body_data body.now) tree.now)
+        tree.now context.now (R.state recorder.old))
         result (R.state recorder.new) }
     ensures kept { R.kept recorder.new ≡ R.kept recorder.old }
 {
-    if holds(alloc, test, site, tree, context.node, recorder)? {
+    let selected = select.node_set(alloc, tree, context, site, recorder)?;
+    let size = count_of(tree, &selected);
+    let nodes = selected.nodes();
+    for index in 0..size {
+        let inner = Context {
+            node: nodes[index as usize],
+            position: index + 1,
+            size,
+        };
+        recorder.tick(site)?;
+        evaluate_body(alloc, body, tree, &inner, recorder)?;
+    }
+    Ok(())
+}
+
+// How many nodes of a tree these are.
+fn count_of(tree: &Tree, set: &NodeSet) -> u32
+    requires inside { All (λ k. k < length tree.now) set.now }
+    ensures { result ≡ length set.now }
+{
+    let most = tree.len();
+    let nodes = set.nodes();
+    let is_few = nodes.len() <= most;
+    prove!(is_few);
+    nodes.len() as u32
+}
+
+// A body where a test holds.
+#[cycle(run)]
+fn evaluate_if<R: Recorder>(
+    alloc: Global,
+    test: &Expression,
+    body: &Body,
+    site: Site,
+    tree: &Tree,
+    context: &Context,
+    recorder: &mut R,
+) -> Result<(), Halt>
+    requires { context.now.node < length tree.now }
+    ensures told { IsStep (guarded (expr_data test.now) site
+        (steps (body_data body.now) tree.now context.now)
+        goes tree.now context.now (R.state recorder.old))
+        result (R.state recorder.new) }
+    ensures kept { R.kept recorder.new ≡ R.kept recorder.old }
+{
+    if test.holds(alloc, tree, context, site, recorder)? {
         evaluate_body(alloc, body, tree, context, recorder)
     } else {
         Ok(())
     }
+}
+
+// The body of the first test that holds, or the one for all other cases.
+#[cycle(run)]
+fn evaluate_choice<R: Recorder>(
+    alloc: Global,
+    choice: &Choice,
+    site: Site,
+    tree: &Tree,
+    context: &Context,
+    recorder: &mut R,
+) -> Result<(), Halt>
+    requires { context.now.node < length tree.now }
+    ensures told { IsStep (choice_steps (choice_data choice.now) site tree.now context.now
+        (R.state recorder.old))
+        result (R.state recorder.new) }
+    ensures kept { R.kept recorder.new ≡ R.kept recorder.old }
+{
+    for when in &choice.whens {
+        if when.test.holds(alloc, tree, context, site, recorder)? {
+            return evaluate_body(alloc, &when.body, tree, context, recorder);
+        }
+    }
+    evaluate_body(alloc, &choice.otherwise, tree, context, recorder)
 }
 
 // An element with what is in it.
@@ -255,26 +300,23 @@ fn evaluate_message<R: Recorder>(
     say_message(recorder, site, text_in(alloc, &fragment)?)
 }
 
-// Puts the string of the first node that a path gives.
+// Puts the string of an expression.
 fn put_value<R: Recorder>(
     alloc: Global,
-    path: &Path,
+    select: &Expression,
     site: Site,
     tree: &Tree,
-    node: Node,
+    context: &Context,
     recorder: &mut R,
 ) -> Result<(), Halt>
-    requires { node < length tree.now }
-    ensures told { IsStep (value_steps path.now site tree.now node (R.state recorder.old))
+    requires { context.now.node < length tree.now }
+    ensures told { IsStep (value_steps (expr_data select.now) site tree.now context.now
+        (R.state recorder.old))
         result (R.state recorder.new) }
     ensures kept { R.kept recorder.new ≡ R.kept recorder.old }
 {
-    let places = select(alloc, path, site, tree, node, recorder)?;
-    put_text(
-        site,
-        first_string(alloc, tree, places.as_slice())?,
-        recorder,
-    )
+    let text = select.text(alloc, tree, context, site, recorder)?;
+    put_text(site, text, recorder)
 }
 
 // Puts a text that is not empty.
@@ -288,32 +330,6 @@ fn put_text<R: Recorder>(site: Site, text: TextBuf, recorder: &mut R) -> Result<
         Ok(())
     } else {
         put_event(recorder, site, Event::Chars(text))
-    }
-}
-
-// Whether a test is true at a node.
-fn holds<T: Tally>(
-    alloc: Global,
-    test: &Test,
-    site: Site,
-    tree: &Tree,
-    node: Node,
-    tally: &mut T,
-) -> Result<bool, Halt>
-    requires { node < length tree.now }
-    ensures told { IsStep (test_steps test.now site tree.now node (T.state tally.old))
-        result (T.state tally.new) }
-    ensures kept { T.kept tally.new ≡ T.kept tally.old }
-{
-    match test {
-        Test::Exists(path) => {
-            let places = select(alloc, path, site, tree, node, tally)?;
-            Ok(!places.as_slice().is_empty())
-        }
-        Test::Equals(path, text) => {
-            let places = select(alloc, path, site, tree, node, tally)?;
-            Ok(any_is(tree, places.as_slice(), text.as_str()))
-        }
     }
 }
 

@@ -1,11 +1,13 @@
 //! The shape of a small stylesheet around what its template holds.
-ghost use Rattle.std.specs.Prelude.{◌≡◌, ◌<◌, length, IfSome};
-ghost use Rattle.xs_body.specs.Sheet.{is_empty, is_literal, is_root_template, is_sheet_element};
+ghost use Rattle.std.specs.Option.{option_map_or};
+ghost use Rattle.std.specs.Prelude.{◌≡◌, ◌<◌, ◌&&◌, codes, false, length, IfSome};
+ghost use Rattle.xs_body.specs.Sheet.{content, first, has_none, is_empty, is_literal, is_named};
+ghost use Rattle.xs_body.specs.Sheet.{is_root_template, is_sheet_element, is_text_alone};
 ghost use Rattle.xs_body.specs.Sheet.{is_text_output, template_in, template_of};
 
 use crate::attributes::{has_none, has_only};
 use crate::children::{first_kept, kept_pair, single_kept};
-use crate::nodes::{is_in_xslt, is_named};
+use crate::nodes::{is_element, is_in_xslt, is_named};
 use xs_tree::{Node, Tree};
 
 /// The template of a small stylesheet.
@@ -75,4 +77,29 @@ pub(crate) fn is_literal(tree: &Tree, n: Node) -> bool
     ensures { result ≡ is_literal tree.now n }
 {
     has_none(tree, n) && !is_in_xslt(tree, n)
+}
+
+/// Whether an element without attributes begins with a `when`, as a choice does.
+pub(crate) fn is_choice(tree: &Tree, n: Node) -> bool
+    requires { n < length tree.now }
+    ensures { result ≡ (has_none tree.now n
+        && option_map_or (is_named (codes "when") tree.now) (first (content tree.now n)) false) }
+{
+    match first_kept(tree, n) {
+        Some(child) => has_none(tree, n) && is_named(tree, child, "when"),
+        None => false,
+    }
+}
+
+/// Whether no element is in this one.
+pub(crate) fn is_text_alone(tree: &Tree, n: Node) -> bool
+    requires { n < length tree.now }
+    ensures { result ≡ is_text_alone tree.now n }
+{
+    for child in tree.children(n) {
+        if is_element(tree, child) {
+            return false;
+        }
+    }
+    true
 }

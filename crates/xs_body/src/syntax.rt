@@ -1,6 +1,6 @@
 //! What a template holds.
 
-use crate::paths::{Path, Test};
+use crate::expressions::Expression;
 use xs_trace::event::Label;
 use xs_trace::item::Site;
 use xs_trace::text::TextBuf;
@@ -36,7 +36,7 @@ pub struct SpaceLabel {
 #[cycle(body)]
 #[derive(Drop)]
 pub enum InstrKind {
-    /// Puts a text (XSLT 1.0, 7.2).
+    /// Puts a text, of a text node or of `xsl:text` (XSLT 1.0, 7.2).
     Text(TextBuf),
     /// Puts a literal result element without attributes (XSLT 1.0, 7.1.1).
     Literal {
@@ -47,30 +47,52 @@ pub enum InstrKind {
         /// What the element holds.
         body: Body,
     },
-    /// Puts the string of the first node that a path gives (XSLT 1.0, 7.6.1).
+    /// Puts the string of an expression (XSLT 1.0, 7.6.1).
     ValueOf {
-        /// Where the node is.
-        select: Path,
+        /// What gives the string.
+        select: Expression,
     },
-    /// Does a body for each node that a path gives (XSLT 1.0, 8).
+    /// Does a body for each node that an expression gives (XSLT 1.0, 8).
     ForEach {
-        /// Where the nodes are.
-        select: Path,
+        /// What gives the nodes.
+        select: Expression,
         /// What is done for each.
         body: Body,
     },
     /// Does a body where a test holds (XSLT 1.0, 9.1).
     If {
         /// The test.
-        test: Test,
+        test: Expression,
         /// What is done where it holds.
         body: Body,
     },
+    /// Does the body of the first test that holds, or the one for all other cases (XSLT 1.0, 9.2).
+    Choose(Choice),
     /// Says the text of what a body gives to the user (XSLT 1.0, 13).
     Message {
         /// What gives the text.
         body: Body,
     },
+}
+
+/// Bodies of which one is done (XSLT 1.0, 9.2).
+#[cycle(body)]
+#[derive(Drop)]
+pub struct Choice {
+    /// The tests, in order, each with its body.
+    pub whens: Vec<When>,
+    /// What is done where none of them holds.
+    pub otherwise: Body,
+}
+
+/// A body with its test (XSLT 1.0, 9.2).
+#[cycle(body)]
+#[derive(Drop)]
+pub struct When {
+    /// The test.
+    pub test: Expression,
+    /// What is done where it is the first that holds.
+    pub body: Body,
 }
 
 impl Body {
@@ -82,5 +104,17 @@ impl Body {
         ensures { body_data result ≡ instrs_data instrs.items }
     {
         Body { instrs }
+    }
+}
+
+impl Choice {
+    ghost use Rattle.std.specs.Prelude.{◌≡◌};
+    ghost use Rattle.xs_body.specs.Body.{body_data, choice_data, whens_data};
+
+    /// The choice of these tests with their bodies, and of what is done where none of them holds.
+    pub fn of(whens: Vec<When>, otherwise: Body) -> Choice
+        ensures { choice_data result ≡ whens_data whens.items (body_data otherwise) }
+    {
+        Choice { whens, otherwise }
     }
 }

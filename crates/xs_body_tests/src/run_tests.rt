@@ -1,16 +1,14 @@
-//! Small bodies, run.
+//! Small stylesheets, read and run.
 
 use crate::made_trees::{Row, tree_of};
-use std::alloc::{AllocError, Global};
+use crate::sheet_tests::small_body;
+use std::alloc::Global;
 use std::test::Fail;
-use xs_body::paths::{Names, Path, Test};
 use xs_body::run::run_body;
-use xs_body::syntax::{Body, Instr, InstrKind};
-use xs_trace::event::{Event, Label};
-use xs_trace::item::{Ended, Item, Limits, Site};
-use xs_trace::text::TextBuf;
+use xs_trace::event::Event;
+use xs_trace::item::{Ended, Item, Limits};
 use xs_trace::whole::Kept;
-use xs_tree::{Kind, Tree};
+use xs_tree::Kind;
 
 // An element `r` with three elements `i`, of which each holds a text.
 const THREE_ITEMS: [Row; 7] = [
@@ -23,103 +21,96 @@ const THREE_ITEMS: [Row; 7] = [
     (Kind::Text, "", "", "3", 6),
 ];
 
-// A name in no namespace.
-fn plain_label(alloc: Global, local: &str) -> Result<Label, AllocError> {
-    Ok(Label {
-        uri: TextBuf::of(alloc, "")?,
-        local: TextBuf::of(alloc, local)?,
-        prefix: TextBuf::of(alloc, "")?,
-    })
-}
-
-// A body of one instruction, in a line of the first module.
-fn alone(alloc: Global, line: u32, kind: InstrKind) -> Result<Body, AllocError> {
-    let site = Site { module: 0, line };
-    Ok(Body::of(vec![in alloc; Instr { site, kind }]?))
-}
-
-// A text, in a line.
-fn puts_text(alloc: Global, line: u32, text: &str) -> Result<Body, AllocError> {
-    let text = TextBuf::of(alloc, text)?;
-    alone(alloc, line, InstrKind::Text(text))
-}
-
-// An element around a body, in a line.
-fn puts_element(alloc: Global, line: u32, local: &str, body: Body) -> Result<Body, AllocError> {
-    let name = plain_label(alloc, local)?;
-    let spaces = Vec::new(alloc);
-    alone(alloc, line, InstrKind::Literal { name, spaces, body })
-}
+// For each `r/i`, in line 8, its value if it is `2`, a test in line 10.
+const PICKS_TWO: [Row; 8] = [
+    (Kind::Element, "xsl", "template", "", 1),
+    (Kind::Attribute, "", "match", "/", 6),
+    (Kind::Element, "xsl", "for-each", "", 6),
+    (Kind::Attribute, "", "select", "r/i", 8),
+    (Kind::Element, "xsl", "if", "", 8),
+    (Kind::Attribute, "", "test", ". = '2'", 10),
+    (Kind::Element, "xsl", "value-of", "", 10),
+    (Kind::Attribute, "", "select", ".", 12),
+];
 
 // A message that says `so`, inside an element.
-fn says_so(alloc: Global) -> Result<Body, AllocError> {
-    let text = puts_text(alloc, 3, "so")?;
-    let body = puts_element(alloc, 2, "b", text)?;
-    alone(alloc, 1, InstrKind::Message { body })
-}
+const SAYS_SO: [Row; 5] = [
+    (Kind::Element, "xsl", "template", "", 1),
+    (Kind::Attribute, "", "match", "/", 6),
+    (Kind::Element, "xsl", "message", "", 6),
+    (Kind::Element, "", "b", "", 8),
+    (Kind::Text, "", "", "so", 9),
+];
 
-// The path `r/i`.
-fn items_of_r(alloc: Global) -> Result<Path, AllocError> {
-    let outer = TextBuf::of(alloc, "r")?;
-    let inner = TextBuf::of(alloc, "i")?;
-    Ok(Path::Down(Names::of(vec![in alloc; outer, inner]?)))
-}
+// For each `r/i`, its place among them and their number.
+const PLACES: [Row; 6] = [
+    (Kind::Element, "xsl", "template", "", 1),
+    (Kind::Attribute, "", "match", "/", 6),
+    (Kind::Element, "xsl", "for-each", "", 6),
+    (Kind::Attribute, "", "select", "r/i", 8),
+    (Kind::Element, "xsl", "value-of", "", 8),
+    (
+        Kind::Attribute,
+        "",
+        "select",
+        "10 * position() + last()",
+        10,
+    ),
+];
 
-// If the node is `2`, at line 11, its value, at line 13.
-fn value_of_two(alloc: Global) -> Result<Body, AllocError> {
-    let body = alone(alloc, 13, InstrKind::ValueOf { select: Path::Here })?;
-    let two = TextBuf::of(alloc, "2")?;
-    let test = Test::Equals(Path::Here, two);
-    alone(alloc, 11, InstrKind::If { test, body })
-}
+// A choice, in line 8: of an element that is not there, one that is, and otherwise.
+const CHOICE: [Row; 10] = [
+    (Kind::Element, "xsl", "template", "", 1),
+    (Kind::Attribute, "", "match", "/", 6),
+    (Kind::Element, "xsl", "choose", "", 6),
+    (Kind::Element, "xsl", "when", "", 8),
+    (Kind::Attribute, "", "test", "s", 9),
+    (Kind::Element, "xsl", "when", "", 8),
+    (Kind::Attribute, "", "test", "r", 11),
+    (Kind::Text, "", "", "there", 11),
+    (Kind::Element, "xsl", "otherwise", "", 8),
+    (Kind::Text, "", "", "not there", 14),
+];
 
-// For each `r/i`, at line 9, its value if it is `2`.
-fn picks_two(alloc: Global) -> Result<Body, AllocError> {
-    let body = value_of_two(alloc)?;
-    let select = items_of_r(alloc)?;
-    alone(alloc, 9, InstrKind::ForEach { select, body })
-}
+// What is none of nodes, in line 8, for each of which something is to be done.
+const NO_NODES: [Row; 4] = [
+    (Kind::Element, "xsl", "template", "", 1),
+    (Kind::Attribute, "", "match", "/", 6),
+    (Kind::Element, "xsl", "for-each", "", 6),
+    (Kind::Attribute, "", "select", "count(r)", 8),
+];
 
-// What a body does with a tree, in at most so many ticks.
-fn kept_of(alloc: Global, body: &Body, tree: &Tree, ticks: u64) -> Result<Kept, AllocError> {
+// What a stylesheet with this template does with three items, in at most so many ticks.
+fn kept_of(alloc: Global, template: &[Row], ticks: u64) -> Result<Kept, Fail> {
+    let body = small_body(alloc, template)?;
+    let tree = tree_of(alloc, &THREE_ITEMS)?;
     let limits = Limits {
         ticks,
         events: None,
     };
-    run_body(alloc, body, 1, tree, limits)
+    Ok(run_body(alloc, &body, 1, &tree, limits)?)
 }
 
-// What the loop with its test does, in at most so many ticks.
-fn kept_of_loop(alloc: Global, ticks: u64) -> Result<Kept, Fail> {
-    let tree = tree_of(alloc, &THREE_ITEMS)?;
-    let body = picks_two(alloc)?;
-    Ok(kept_of(alloc, &body, &tree, ticks)?)
-}
-
-// What the message does.
-fn kept_of_message(alloc: Global) -> Result<Kept, Fail> {
-    let tree = Tree::new(alloc)?;
-    let body = says_so(alloc)?;
-    Ok(kept_of(alloc, &body, &tree, 9)?)
-}
-
-// Whether an item puts this text.
-fn is_text(item: &Item, text: &str) -> bool {
-    match item {
-        Item::Put(Event::Chars(found)) => found.as_str() == text,
-        _ => false,
+// The texts that a run put, if it came to its end after so many ticks.
+fn texts_of(alloc: Global, kept: &Kept, ticks: u64) -> Result<String, Fail> {
+    if !matches!(&kept.ended, Ended::Whole) || kept.ticks != ticks {
+        return Err(Fail::new("it ended otherwise"));
     }
+    let mut texts = String::new(alloc);
+    for item in &kept.items {
+        if let Item::Put(Event::Chars(text)) = item {
+            texts.push_str(text.as_str())?;
+        }
+    }
+    Ok(texts)
 }
 
-// Whether a run came to its end, and put this text.
-fn is_whole_with(kept: &Kept, text: &str) -> bool {
-    matches!(&kept.ended, Ended::Whole) && kept.items.iter().any(|item| is_text(item, text))
-}
-
-// Whether a run ended at a line, for want of ticks.
-fn is_spent_at(kept: &Kept, line: u32) -> bool {
+// Whether a run ended in this fault at a line, after so many ticks.
+fn is_ended(kept: &Kept, fault: u8, line: u32, ticks: u64) -> bool {
     match &kept.ended {
-        Ended::Spent(spot) => spot.line == line,
+        Ended::Spent(spot) | Ended::Fault(spot) => {
+            spot.fault == fault && spot.line == line && kept.ticks == ticks
+        }
         _ => false,
     }
 }
@@ -135,26 +126,50 @@ fn says_last(kept: &Kept, text: &str) -> bool {
 // The loop with its test takes 17 ticks, and puts the one text that is `2`.
 #[test]
 fn picks_the_second_item(rt: HostRuntime) -> Result<(), Fail> {
-    let kept = kept_of_loop(rt.alloc(), 17)?;
-    assert_eq!(rt; kept.ticks, 17);
-    assert!(rt; is_whole_with(&kept, "2"));
+    let kept = kept_of(rt.alloc(), &PICKS_TWO, 17)?;
+    assert_eq!(rt; texts_of(rt.alloc(), &kept, 17)?.as_str(), "2");
     Ok(())
 }
 
 // With one tick less it ends at the test of the last node.
 #[test]
 fn stops_at_the_last_test(rt: HostRuntime) -> Result<(), Fail> {
-    let kept = kept_of_loop(rt.alloc(), 16)?;
-    assert_eq!(rt; kept.ticks, 16);
-    assert!(rt; is_spent_at(&kept, 11));
+    let kept = kept_of(rt.alloc(), &PICKS_TWO, 16)?;
+    assert!(rt; is_ended(&kept, 50, 10, 16));
     Ok(())
 }
 
 // A message says the text of what its body puts, and puts none of it.
 #[test]
 fn says_the_text_inside_an_element(rt: HostRuntime) -> Result<(), Fail> {
-    let kept = kept_of_message(rt.alloc())?;
+    let kept = kept_of(rt.alloc(), &SAYS_SO, 9)?;
     assert_eq!(rt; kept.ticks, 4);
     assert!(rt; says_last(&kept, "so"));
+    Ok(())
+}
+
+// Each node of a loop has its place in the list, which has the list's length.
+#[test]
+fn knows_the_place_in_the_list(rt: HostRuntime) -> Result<(), Fail> {
+    let kept = kept_of(rt.alloc(), &PLACES, 100)?;
+    assert_eq!(rt; texts_of(rt.alloc(), &kept, 18)?.as_str(), "132333");
+    Ok(())
+}
+
+// Of a choice the first branch whose test holds is done, and its tests have the line of the choice.
+#[test]
+fn does_the_first_branch_that_holds(rt: HostRuntime) -> Result<(), Fail> {
+    let kept = kept_of(rt.alloc(), &CHOICE, 100)?;
+    assert_eq!(rt; texts_of(rt.alloc(), &kept, 4)?.as_str(), "there");
+    let short = kept_of(rt.alloc(), &CHOICE, 2)?;
+    assert!(rt; is_ended(&short, 50, 8, 2));
+    Ok(())
+}
+
+// A loop wants nodes.
+#[test]
+fn loops_over_nodes_alone(rt: HostRuntime) -> Result<(), Fail> {
+    let kept = kept_of(rt.alloc(), &NO_NODES, 100)?;
+    assert!(rt; is_ended(&kept, 53, 8, 4));
     Ok(())
 }

@@ -28,8 +28,8 @@ const OTHER_XSL: &[u8] = b"\
 // An element of XSLT that is not built.
 const UNKNOWN: &[u8] = b"\
     (xsl:stylesheet\nAxmlns:xsl http://www.w3.org/1999/XSL/Transform\nAversion 1.0\n\
-    (xsl:output\nAmethod text\n)xsl:output\n(xsl:template\nAmatch /\n(xsl:text\n-x\n\
-    )xsl:text\n)xsl:template\n)xsl:stylesheet\n";
+    (xsl:output\nAmethod text\n)xsl:output\n(xsl:template\nAmatch /\n(xsl:copy\n-x\n\
+    )xsl:copy\n)xsl:template\n)xsl:stylesheet\n";
 
 // An invoice with an XML declaration, comments, processing instructions and names in namespaces.
 const MIXED_INVOICE: &[u8] = b"\

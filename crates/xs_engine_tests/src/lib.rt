@@ -2,6 +2,10 @@
 #![tactic(auto)]
 
 #[cfg(test)]
+mod choice_tests;
+#[cfg(test)]
+mod expression_tests;
+#[cfg(test)]
 mod fault_tests;
 #[cfg(test)]
 mod run_tests;

@@ -239,3 +239,29 @@ fn refuses_a_budget_without_files(rt: HostRuntime) -> Result<(), Fail> {
     );
     Ok(())
 }
+
+// For each node a text, the last with its place.
+const LAST: &[u8] = b"\
+    (xsl:stylesheet\nAxmlns:xsl http://www.w3.org/1999/XSL/Transform\nAversion 1.0\n\
+    (xsl:output\nAmethod text\n)xsl:output\n(xsl:template\nAmatch /\n(xsl:for-each\n\
+    Aselect r/i\n(xsl:if\nAtest position() = last()\n(xsl:value-of\nAselect position()\n\
+    )xsl:value-of\n)xsl:if\n)xsl:for-each\n)xsl:template\n)xsl:stylesheet\n";
+
+// A source of so many nodes.
+fn many(alloc: Global, count: u32) -> Result<Vec<u8>, AllocError> {
+    let mut source = Vec::from_slice(alloc, b"(r\n")?;
+    for _ in 0..count {
+        source.extend_from_slice(b"(i\n)i\n")?;
+    }
+    source.extend_from_slice(b")r\n")?;
+    Ok(source)
+}
+
+#[test]
+fn loops_over_many_nodes(rt: HostRuntime) -> Result<(), Fail> {
+    let alloc = rt.alloc();
+    let words = ["s.pyx", "src.pyx"];
+    let some = many(alloc, 300)?;
+    assert!(rt; gives(&rt, alloc, &words, LAST, &some, 0, 1505, b"300", b"")?);
+    Ok(())
+}

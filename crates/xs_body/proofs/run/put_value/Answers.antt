@@ -1,15 +1,13 @@
 use Rattle.std.proofs.Common.{refl}
 use Rattle.std.proofs.lemmas.Result.{err_from_is_err_and}
 use Rattle.xs_trace.proofs.GrowthLemmas.{passes as passed_on}
-use Rattle.xs_body.specs.Select.{first_string}
 use Rattle.xs_body.specs.steps.Evaluation.{chars_steps}
-use Rattle.xs_body.proofs.ExitLemmas.{held}
 use Rattle.xs_body.proofs.GrowthLemmas.{chars-grows}
 use Rattle.xs_body.proofs.run.put_value.Goals as goal
 
-pub returns-in_err-places-clause-told : goal.returns-in_err-places-clause-told
-returns-in_err-places-clause-told g c =
+pub returns-in_err-text-clause-told : goal.returns-in_err-text-clause-told
+returns-in_err-text-clause-told g c =
     let p = err_from_is_err_and c.from_residual.result c.from_residual.ensures.1 in
-    passed_on held (λ x. x) _ _ (λ ns m. chars_steps c.args.site (first_string c.args.tree.now ns) m)
-    (g.R.Tally.state c.select.new.tally) c.from_residual.result _ _ refl
-    (λ ns. chars-grows c.args.site (first_string c.args.tree.now ns)) p.1 p.2 c.in_err-places.ensures.nodes
+    passed_on (λ x. x) (λ x. x) _ _ (λ t m. chars_steps c.args.site t m)
+    (g.R.Tally.state c.text.new.tally) c.from_residual.result _ _ refl
+    (λ t. chars-grows c.args.site t) p.1 p.2 c.in_err-text.ensures.told

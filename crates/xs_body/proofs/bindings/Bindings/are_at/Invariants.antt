@@ -1,0 +1,12 @@
+use Rattle.std.proofs.Common.{◌≡◌, ◌++◌, map}
+use Rattle.xs_tree.specs.Record.{namespaces}
+use Rattle.xs_body.specs.Expression.{binding_at, bindings_at}
+use Rattle.xs_body.proofs.bindings.Bindings.are_at.Given as goal
+
+-- where the pairs that are left are those that are still to come, all pairs are those at the element
+abbrev pub invariant-loop-space : goal.invariant-loop-space
+invariant-loop-space l =
+    goal.iterator-loop-space.can_next l.space-iterator ×
+    goal.iterator-loop-space.is_finite l.space-iterator ×
+    (l.yielded ++ l.space-iterator ≡ namespaces l.tree l.fn.n) ×
+    (l.rest ≡ map (binding_at l.tree) l.space-iterator → l.self ≡ bindings_at l.tree l.fn.n)

@@ -1,0 +1,15 @@
+use Rattle.std.proofs.lemmas.Result.{err_from_is_err_and}
+use Rattle.xs_eval.specs.Results.{given, nodes_in}
+use Rattle.xs_trace.specs.Run.{limited}
+use Rattle.xs_trace.proofs.GrowthLemmas.{passes as passed_on}
+use Rattle.xs_trace.proofs.RunLemmas.{limited-bind, limited-grows}
+use Rattle.xs_body.specs.Expression.{expr_data, run}
+use Rattle.xs_body.proofs.expressions.Expression.node_set.Goals as goal
+
+pub returns-in_err-nodes-clause-told : goal.returns-in_err-nodes-clause-told
+returns-in_err-nodes-clause-told g c =
+    let p = err_from_is_err_and c.from_residual.result c.from_residual.ensures.1 in
+    passed_on (λ v. v) (λ x. x) _ _ (λ v m. limited c.args.site (given (nodes_in v)) m)
+    (g.T.Tally.state c.evaluate.new.tally) c.from_residual.result _ _
+    (limited-bind c.args.site (run (expr_data c.args.self.now) c.args.tree.now c.args.context.now) (λ v. given (nodes_in v))
+    (g.T.Tally.state c.args.tally.now)) (λ v. limited-grows c.args.site (given (nodes_in v))) p.1 p.2 c.in_err-nodes.ensures.told

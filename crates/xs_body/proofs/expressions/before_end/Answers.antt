@@ -1,5 +1,0 @@
-use Rattle.xs_body.proofs.SuffixLemmas.{stripped}
-use Rattle.xs_body.proofs.expressions.before_end.Goals as goal
-
-pub returns : goal.returns
-returns c = stripped c.args.end.now c.args.text.now c.strip_suffix.result c.strip_suffix.ensures.cases
