@@ -8,7 +8,7 @@ pub record Sheet : Type 0 where
   pub number : ℕ
   pub below : ℕ
 
--- The stylesheets that a module imports, directly or not: those of its own imports, and those of the modules that it includes. In
+-- The stylesheets that a module imports, directly or not: by its own imports, and by those of the modules that it includes. In
 -- each list a stylesheet comes after all that it imports, which is post-order of the import tree.
 pub record Imports : Type 0 where
   pub own : List Sheet
@@ -45,7 +45,8 @@ imports number (one m rs lines inside next) =
 abbrev pub sheets : Mentioned → List Sheet
 sheets modules = in_order (imports 0 modules)
 
--- The precedence of a stylesheet is its place in post-order, and those that it imports stand just before it.
+-- The precedence of a stylesheet is its place in post-order, and those that it imports stand just before it, from
+-- `place - below` on.
 pub record Rank : Type 0 where
   pub precedence : ℕ
   pub imports_from : ℕ

@@ -49,7 +49,7 @@ pub record IsAsked (above : List (List ℕ)) (number : ℕ) (m : Mention) : Type
   pub apart : is_above above m.name ≡ false
   pub room : number < most_modules
 
--- The library has this file, where it tells its files. Where it tells none, the bytes are those that it gave.
+-- The library has this file, where it tells its files. Where it tells none, these are some bytes: nothing ties them to what it gave.
 abbrev pub Holds : Option Files → List ℕ → List ℕ → Type 0
 Holds files name bytes = IfSome files (λ map. map name ≡ Some bytes)
 
