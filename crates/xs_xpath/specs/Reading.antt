@@ -34,17 +34,19 @@ steps_in (tested which preds steps) = Some (step Child which (trees preds) ∷ s
 steps_in (stepped first steps) = Some (first ∷ steps)
 steps_in (complete e) = None
 
+-- the predicates and steps that stand there, if nothing stands in front of them
+abbrev pub tail_in : Ahead → Option (List Tree × List Tree)
+tail_in (tail preds steps) = Some (preds, steps)
+tail_in _ = None
+
 abbrev pub with_predicate : Tree → Ahead → Option Ahead
-with_predicate e (tail preds steps) = Some (tail (e ∷ preds) steps)
-with_predicate e _ = None
+with_predicate e ahead = option_map (λ t. tail (e ∷ t.0) t.1) (tail_in ahead)
 
 abbrev pub with_whole : Tree → Ahead → Option Ahead
-with_whole e (tail preds steps) = Some (complete (followed (filtered e preds) steps))
-with_whole e _ = None
+with_whole e ahead = option_map (λ t. complete (followed (filtered e t.0) t.1)) (tail_in ahead)
 
 abbrev pub with_test : NodeTest → Ahead → Option Ahead
-with_test which (tail preds steps) = Some (tested which preds steps)
-with_test which _ = None
+with_test which ahead = option_map (λ t. tested which t.0 t.1) (tail_in ahead)
 
 abbrev pub with_axis : Axis → Ahead → Option Ahead
 with_axis axis (tested which preds steps) = Some (stepped (step axis which (trees preds)) steps)

@@ -4,7 +4,7 @@ use thiserror::Error;
 
 /// A fault, and its first byte's place.
 #[derive(Clone, Copy)]
-pub(crate) enum Fault {
+pub enum Fault {
     /// The text is in no spelling of the grammar.
     Syntax,
     /// A function has an unknown name.

@@ -1,10 +1,10 @@
 //! Paths, which are read from the right.
 ghost use Rattle.std.specs.Prelude.{◌≡◌, ◌∷◌, IfOk, None, option_map, reverse};
 ghost use Rattle.xs_xpath.specs.Exprs.{tree_from, trees_from};
-ghost use Rattle.xs_xpath.specs.steps.Parts.{ahead_of, part_of, parts_of};
+ghost use Rattle.xs_xpath.specs.steps.Parts.{ahead_of, part_of, parts_of, tail_of};
 ghost use Rattle.xs_xpath.specs.Reading.{behind_slash, front, path_from, path_of, plain, steps_in};
-ghost use Rattle.xs_xpath.specs.Reading.{tail, with_axis, with_dots, with_predicate, with_slash};
-ghost use Rattle.xs_xpath.specs.Reading.{with_slashes, with_test, with_whole};
+ghost use Rattle.xs_xpath.specs.Reading.{tail, tail_in, with_axis, with_dots, with_predicate};
+ghost use Rattle.xs_xpath.specs.Reading.{with_slash, with_slashes, with_test, with_whole};
 ghost use Rattle.xs_xpath.specs.Tree.{filtered, followed, here, path, step, trees};
 
 use crate::expr::{self, Expr};
@@ -53,19 +53,29 @@ fn steps_in(ahead: Ahead) -> Result<Option<Vec<Expr>>, AllocError>
     }
 }
 
+/// The predicates and steps that stand there, if nothing stands in front of them.
+fn tail_in(ahead: Ahead) -> Option<(Vec<Expr>, Vec<Expr>)>
+    ensures tail { option_map tail_of result ≡ tail_in (ahead_of ahead) }
+{
+    match ahead {
+        Ahead::Tail(predicates, steps) => Some((predicates, steps)),
+        Ahead::Tested(_, _, _) => None,
+        Ahead::Stepped(_, _) => None,
+        Ahead::Complete(_) => None,
+    }
+}
+
 /// With a predicate more in front.
 fn with_predicate(e: Expr, ahead: Ahead) -> Result<Option<Ahead>, AllocError>
     ensures ahead { IfOk result (λ r. option_map ahead_of r
         ≡ with_predicate (tree_from e) (ahead_of ahead)) }
 {
-    match ahead {
-        Ahead::Tail(mut predicates, steps) => {
+    match tail_in(ahead) {
+        None => Ok(None),
+        Some((mut predicates, steps)) => {
             predicates.push(e)?;
             Ok(Some(Ahead::Tail(predicates, steps)))
         }
-        Ahead::Tested(_, _, _) => Ok(None),
-        Ahead::Stepped(_, _) => Ok(None),
-        Ahead::Complete(_) => Ok(None),
     }
 }
 
@@ -91,14 +101,12 @@ fn with_whole(alloc: Global, e: Expr, ahead: Ahead) -> Result<Option<Ahead>, All
     ensures ahead { IfOk result (λ r. option_map ahead_of r
         ≡ with_whole (tree_from e) (ahead_of ahead)) }
 {
-    match ahead {
-        Ahead::Tail(predicates, steps) => {
+    match tail_in(ahead) {
+        None => Ok(None),
+        Some((predicates, steps)) => {
             let whole = whole_from(alloc, e, predicates, steps)?;
             Ok(Some(Ahead::Complete(whole)))
         }
-        Ahead::Tested(_, _, _) => Ok(None),
-        Ahead::Stepped(_, _) => Ok(None),
-        Ahead::Complete(_) => Ok(None),
     }
 }
 
@@ -106,11 +114,9 @@ fn with_whole(alloc: Global, e: Expr, ahead: Ahead) -> Result<Option<Ahead>, All
 fn with_test(test: NodeTest, ahead: Ahead) -> Option<Ahead>
     ensures ahead { option_map ahead_of result ≡ with_test test (ahead_of ahead) }
 {
-    match ahead {
-        Ahead::Tail(predicates, steps) => Some(Ahead::Tested(test, predicates, steps)),
-        Ahead::Tested(_, _, _) => None,
-        Ahead::Stepped(_, _) => None,
-        Ahead::Complete(_) => None,
+    match tail_in(ahead) {
+        None => None,
+        Some((predicates, steps)) => Some(Ahead::Tested(test, predicates, steps)),
     }
 }
 

@@ -74,21 +74,17 @@ fn with_part(state: State, part: Part) -> Result<State, AllocError>
     Ok(State { frames, parts })
 }
 
-/// The arguments of a call, of which there may be none.
-fn all_arguments(
+/// With one argument more.
+fn with_argument(
     alloc: Global,
     is_deep: bool,
     mut arguments: Vec<Expr>,
     parts: Vec<Part>,
 ) -> Result<Option<Vec<Expr>>, AllocError>
     ensures all { IfOk result (λ all. option_map (λ es. trees_from es.items) all
-        ≡ all_arguments (expr (kept is_deep)) (trees_from arguments.items) (parts_of parts.items)) }
+        ≡ option_map (λ e. trees_from arguments.items ++ e ∷ [])
+        (expr (kept is_deep) (parts_of parts.items))) }
 {
-    if arguments.is_empty() {
-        if parts.is_empty() {
-            return Ok(Some(arguments));
-        }
-    }
     match inner(alloc, is_deep, parts)? {
         None => Ok(None),
         Some(e) => {
@@ -96,6 +92,25 @@ fn all_arguments(
             Ok(Some(arguments))
         }
     }
+}
+
+/// The arguments of a call, of which there may be none.
+fn all_arguments(
+    alloc: Global,
+    is_deep: bool,
+    arguments: Vec<Expr>,
+    parts: Vec<Part>,
+) -> Result<Option<Vec<Expr>>, AllocError>
+    ensures all { IfOk result (λ all. option_map (λ es. trees_from es.items) all
+        ≡ all_arguments (expr (kept is_deep)) (trees_from arguments.items) (parts_of parts.items)) }
+{
+    if !arguments.is_empty() {
+        return with_argument(alloc, is_deep, arguments, parts);
+    }
+    if !parts.is_empty() {
+        return with_argument(alloc, is_deep, arguments, parts);
+    }
+    Ok(Some(arguments))
 }
 
 /// What a round bracket ends.
@@ -153,12 +168,9 @@ fn argued(
 {
     match bracket {
         Bracket::Round => Ok(None),
-        Bracket::Call(name, mut arguments) => match inner(alloc, is_deep, parts)? {
+        Bracket::Call(name, arguments) => match with_argument(alloc, is_deep, arguments, parts)? {
             None => Ok(None),
-            Some(e) => {
-                arguments.push(e)?;
-                Ok(Some(Bracket::Call(name, arguments)))
-            }
+            Some(all) => Ok(Some(Bracket::Call(name, all))),
         },
         Bracket::Square => Ok(None),
     }

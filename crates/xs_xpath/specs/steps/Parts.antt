@@ -1,5 +1,7 @@
 -- What the parts and paths of the code stand for, and what its loops make of the parts that are left.
-use Rattle.std.specs.Prelude.{ℕ, suc, List, [], ◌∷◌, ◌++◌, Option, map, reverse, if◌then◌else◌}
+use Rattle.std.specs.Prelude.{ℕ, suc, List, Vec, [], ◌∷◌, ◌++◌, Option, map, reverse, if◌then◌else◌}
+use Rattle.std.specs.declared.alloc.Global.{Global}
+use Rattle.xs_xpath.specs.declared.expr.Expr.{Expr}
 use Rattle.xs_xpath.specs.declared.part.Part.{Part as Given}
 use Rattle.xs_xpath.specs.declared.part.Part.TheVariants.{Plain, Whole, Predicate}
 use Rattle.xs_xpath.specs.declared.path.Ahead.{Ahead as GivenAhead}
@@ -23,6 +25,9 @@ ahead_of (Tail preds steps) = tail (trees_from (reverse preds.items)) (trees_fro
 ahead_of (Tested test preds steps) = tested test (trees_from (reverse preds.items)) (trees_from (reverse steps.items))
 ahead_of (Stepped first steps) = stepped (tree_from first) (trees_from (reverse steps.items))
 ahead_of (Complete e) = complete (tree_from e)
+
+abbrev pub tail_of : Vec Expr Global × Vec Expr Global → List Tree × List Tree
+tail_of t = (trees_from (reverse t.0.items), trees_from (reverse t.1.items))
 
 -- operands with the operators between them, of which there may be none
 abbrev pub gathered : List Operator → List Tree → Tree

@@ -14,8 +14,8 @@ loop-name-preserved c = λ uri local.
     let new : Option Slot = get_by {K = Bor (List ℕ) × Bor (List ℕ)} (λ k. bytes_eq uri k.0.now && bytes_eq local k.1.now) c.insert.new.self in
     let e : new ≡ (if bytes_eq c.as_str.result.now uri && bytes_eq c.as_str-in-Some.result.now local then Some entry.1 else old) =
     c.in_ok-insert.ensures.updates.0 (record { ref_ptr = (0, 0); now = uri }, record { ref_ptr = (0, 0); now = local }) in
-    let u : c.as_str.result.now ≡ entry.0.uri = cc (c.as_str.ensures.text, c.in-Some.name-is) in
-    let v : c.as_str-in-Some.result.now ≡ entry.0.local = cc (c.as_str-in-Some.ensures.text, c.in-Some.name-is) in
+    let u : c.as_str.result.now ≡ entry.0.uri = cc (c.as_str.ensures.text) in
+    let v : c.as_str-in-Some.result.now ≡ entry.0.local = cc (c.as_str-in-Some.ensures.text) in
     let f : new ≡ (if bytes_eq entry.0.uri uri && bytes_eq entry.0.local local then Some entry.1 else old) =
     e ∙ ap (λ x. if bytes_eq x uri && bytes_eq c.as_str-in-Some.result.now local then Some entry.1 else old) u
     ∙ ap (λ x. if bytes_eq entry.0.uri uri && bytes_eq x local then Some entry.1 else old) v in
