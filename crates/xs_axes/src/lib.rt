@@ -9,8 +9,3 @@ mod starts;
 mod walks;
 
 pub use nodes::{AxisNodes, axis_nodes};
-
-#[cfg(test)]
-mod test_trees;
-#[cfg(test)]
-mod tests;

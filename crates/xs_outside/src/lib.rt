@@ -17,6 +17,3 @@ pub use mem_bytes::MemSink;
 pub use mem_files::MemLibrary;
 pub use streams::{ErrSink, OutSink, StreamSink};
 pub use whole::write_whole;
-
-#[cfg(test)]
-mod tests;

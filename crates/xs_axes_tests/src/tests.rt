@@ -3,9 +3,9 @@
 ghost use Rattle.std.specs.Prelude.{◌<◌, length};
 
 use crate::test_trees::{Row, tree_of};
-use crate::{axis_nodes, laws};
 use std::alloc::Global;
 use std::test::Fail;
+use xs_axes::{axis_nodes, laws};
 use xs_tree::{Axis, Kind, Node, Tree};
 
 // From place 1 on, of all kinds: an element r, its namespace node 2, its attributes 3 and 4, a text

@@ -1,10 +1,13 @@
 //! Each kind of library and sink once, and a sink that fails in mid-piece.
 
-use super::*;
 use std::alloc::{AllocError, Global};
 use std::fmt::Display;
 use std::test::Fail;
 use std::{fs, io};
+use xs_outside::{
+    ErrSink, FetchEnd, FileLibrary, Gate, Library, MemLibrary, MemSink, OpenGate, OutSink, Sink,
+    StreamSink, write_whole,
+};
 
 const SHEET: &[u8] = b"(r\n)r\n";
 
