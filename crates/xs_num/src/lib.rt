@@ -4,6 +4,4 @@
 pub mod arithmetic;
 pub mod number;
 pub mod reading;
-#[cfg(test)]
-mod tests;
 pub mod writing;

@@ -4,6 +4,4 @@
 pub mod normalization;
 pub mod positions;
 pub mod searching;
-#[cfg(test)]
-mod tests;
 pub mod translation;

@@ -172,6 +172,3 @@ pub fn unescape_into(out: &mut Vec<u8>, s: &str) -> Result<(), TextFault>
         Err(TextFault::BadEscape)
     }
 }
-
-#[cfg(test)]
-mod tests;

@@ -83,6 +83,3 @@ pub fn split_qname(s: &str) -> Option<(&str, &str)>
         None => unprefixed(s),
     }
 }
-
-#[cfg(test)]
-mod tests;

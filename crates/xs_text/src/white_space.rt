@@ -23,6 +23,3 @@ pub fn is_blank(text: &[u8]) -> bool
 {
     text.iter().all(|byte| is_space_byte(*byte))
 }
-
-#[cfg(test)]
-mod tests;

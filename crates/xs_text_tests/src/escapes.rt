@@ -1,7 +1,7 @@
 //! Texts as a reader of PYX data would write them by hand.
 
-use super::*;
 use std::test::Fail;
+use xs_text::{TextFault, escape_into, is_well_escaped, unescape_into};
 
 #[test]
 fn writes_pairs(rt: HostRuntime) -> Result<(), Fail> {

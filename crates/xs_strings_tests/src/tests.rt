@@ -1,11 +1,11 @@
 //! The worked examples of the string functions.
 
-use crate::normalization::normalize_space;
-use crate::positions::{char_count, substring};
-use crate::searching::{substring_after, substring_before};
-use crate::translation::translate;
 use std::test::Fail;
 use xs_num::number::Num;
+use xs_strings::normalization::normalize_space;
+use xs_strings::positions::{char_count, substring};
+use xs_strings::searching::{substring_after, substring_before};
+use xs_strings::translation::translate;
 
 #[test]
 fn texts_before(rt: HostRuntime) -> Result<(), Fail> {

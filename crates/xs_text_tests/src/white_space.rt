@@ -1,6 +1,6 @@
 //! White space, and the characters that other standards count as such.
 
-use super::*;
+use xs_text::{is_blank, is_space};
 
 #[test]
 fn white_space(rt: HostRuntime) {

@@ -1,11 +1,11 @@
 //! The worked examples of numbers.
 
-use crate::arithmetic::{add, compare, div, mul, neg, rem, sub};
-use crate::number::{GREATEST, Num, NumFault, Number};
-use crate::reading::read_num;
-use crate::writing::write_num;
 use std::cmp::Ordering;
 use std::test::Fail;
+use xs_num::arithmetic::{add, compare, div, mul, neg, rem, sub};
+use xs_num::number::{GREATEST, Num, NumFault, Number};
+use xs_num::reading::read_num;
+use xs_num::writing::write_num;
 
 #[derive(Clone, Copy, Debug, PartialEq)]
 enum Answer {

@@ -1,8 +1,8 @@
 //! The bounds of the ranges of XML 1.0, fifth edition, and names of Namespaces in XML 1.0.
 
-use super::*;
 use std::alloc::{AllocError, Global};
 use std::test::Fail;
+use xs_text::{is_ncname, split_qname};
 
 /// Whether the character of this code point is a name.
 fn starts(alloc: Global, code: u32) -> Result<bool, AllocError> {
