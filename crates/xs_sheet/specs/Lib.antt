@@ -1,0 +1,5 @@
+pub mod Laws
+pub mod Sets
+pub mod Slots
+pub mod Sound
+pub mod Standing

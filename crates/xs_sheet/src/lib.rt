@@ -1,0 +1,8 @@
+//! A compiled stylesheet.
+#![tactic(auto)]
+
+pub mod body;
+pub mod declarations;
+pub mod laws;
+pub mod scoped;
+pub mod sheet;
