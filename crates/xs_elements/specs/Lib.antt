@@ -1,0 +1,8 @@
+pub mod Attributes
+pub mod Contents
+pub mod Forms
+pub mod Nodes
+pub mod Reading
+pub mod Rows
+pub mod Values
+pub mod WhiteSpace

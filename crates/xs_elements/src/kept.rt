@@ -1,0 +1,34 @@
+//! Which texts of a stylesheet are kept (XSLT 1.0, 3.4).
+
+ghost use Rattle.std.specs.Prelude.{◌≡◌, ◌<◌, ◌||◌, not, length};
+ghost use Rattle.xs_elements.specs.WhiteSpace.{is_text_row, own_space};
+ghost use Rattle.xs_text.specs.WhiteSpace.{is_blank};
+ghost use Rattle.xs_tree.specs.Record.{at};
+
+use crate::rows::Row;
+use crate::scope::value_of;
+use xs_text::is_blank;
+use xs_tree::{Node, Tree};
+
+/// The namespace of `xml:space` (Namespaces in XML 1.0, 3).
+const XML_URI: &str = "http://www.w3.org/XML/1998/namespace";
+
+/// What an element says of white space by `xml:space`, if it has that attribute: whether it is
+/// preserved.
+pub fn own_space(tree: &Tree, n: Node) -> Option<bool>
+    requires { n < length tree.now }
+    ensures { result ≡ own_space tree.now n }
+{
+    match value_of(tree, n, XML_URI, "space") {
+        Some(value) => Some(value == "preserve"),
+        None => None,
+    }
+}
+
+/// Whether a text node is kept, inside a parent where white space is preserved or not.
+pub fn is_kept(tree: &Tree, text: Node, parent: Row, preserves: bool) -> bool
+    requires { text < length tree.now }
+    ensures { result ≡ (preserves || is_text_row parent || not (is_blank (at tree.now text).text)) }
+{
+    preserves || matches!(parent, Row::Text) || !is_blank(tree.text(text).as_bytes())
+}

@@ -1,0 +1,12 @@
+//! The elements of a stylesheet: which there are, what each may have, and what its texts say.
+#![tactic(auto)]
+
+pub mod attributes;
+pub mod contents;
+pub mod forms;
+pub mod kept;
+pub mod reading;
+pub mod rows;
+pub mod scope;
+pub mod value;
+pub mod words;
