@@ -11,7 +11,7 @@ use Rattle.xs_pyx.specs.Row.{Row}
 use Rattle.xs_pyx.specs.Reading.{says, reading}
 use Rattle.xs_pyx.specs.declared.line.Line.{Line}
 use Rattle.xs_pyx.specs.declared.line.Line.TheVariants.{Start, Attr, Chars}
-use Rattle.xs_build.specs.declared.attributes.Expanded.{Expanded}
+use Rattle.xs_build.specs.declared.tag_names.Expanded.{Expanded}
 use Rattle.xs_build.specs.declared.opened.Opened.{Opened}
 use Rattle.xs_tree.specs.Limits.{most_nodes}
 use Rattle.xs_build.specs.Namespaces.{Bindings, ExpandedName, is_empty, scope_with}

@@ -9,7 +9,7 @@ use Rattle.std.proofs.lemmas.Simd.{map-map}
 use Rattle.std.proofs.lemmas.List.FromFn.{map-range_with_len_more}
 use Rattle.xs_tree.specs.Record.{Record}
 use Rattle.xs_tree.specs.declared.names.Name.{Name}
-use Rattle.xs_build.specs.declared.attributes.Expanded.{Expanded}
+use Rattle.xs_build.specs.declared.tag_names.Expanded.{Expanded}
 use Rattle.xs_build.specs.declared.fault.BuildFault.{BuildFault}
 use Rattle.xs_build.specs.declared.fault.BuildFault.TheVariants.{Bad, NoMemory}
 use Rattle.xs_build.specs.declared.opened.Opened.{Opened}

@@ -10,7 +10,7 @@ use Rattle.xs_pyx.specs.Reading.{says, reading}
 use Rattle.xs_pyx.specs.declared.line.Line.{Line}
 use Rattle.xs_pyx.specs.declared.line.Line.TheVariants.{Start, Attr, Chars, End, Pi, Comment}
 use Rattle.xs_tree.specs.Record.{Record, root_record}
-use Rattle.xs_build.specs.declared.attributes.Expanded.{Expanded}
+use Rattle.xs_build.specs.declared.tag_names.Expanded.{Expanded}
 use Rattle.xs_build.specs.declared.opened.Opened.{Opened}
 use Rattle.xs_build.specs.Faults.{bad_line, unbalanced, no_root, bad_name, unbound_prefix, double_attribute, bad_namespace, too_large, truncated}
 use Rattle.xs_build.specs.Document.{Outcome, tree, refused, outcome, document}

@@ -15,5 +15,6 @@ pub mod ResolvingLemmas
 pub mod RestLemmas
 pub mod RestStepLemmas
 pub mod StepAgreementLemmas
+pub mod TagNameLemmas
 pub mod TextLemmas
 pub mod WellFormedLemmas

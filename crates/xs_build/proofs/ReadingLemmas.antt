@@ -10,7 +10,7 @@ use Rattle.xs_pyx.specs.Reading.{says, faulty, reading, begins_line, line_of, en
 use Rattle.xs_pyx.specs.declared.line.Line.{Line}
 use Rattle.xs_pyx.specs.declared.line.Line.TheVariants.{Start, Attr, Chars, End, Pi, Comment}
 use Rattle.xs_build.specs.Start.{begins_with, is_attribute_row, is_text_row}
-use Rattle.xs_build.specs.declared.attributes.Expanded.{Expanded}
+use Rattle.xs_build.specs.declared.tag_names.Expanded.{Expanded}
 use Rattle.xs_build.specs.steps.Lines.{Context, bad, attribute_step, line_step, row_step}
 use Rattle.xs_build.specs.steps.Rest.{fault_at}
 

@@ -11,7 +11,7 @@ use Rattle.xs_pyx.specs.declared.rest.Rest.{Rest}
 use Rattle.xs_pyx.specs.declared.view.LineView.{LineView}
 use Rattle.xs_pyx.specs.Views.{told, line_shown, HasReadable, IsReadable}
 use Rattle.xs_build.specs.declared.document.Built.{Built}
-use Rattle.xs_build.specs.declared.attributes.Expanded.{Expanded}
+use Rattle.xs_build.specs.declared.tag_names.Expanded.{Expanded}
 use Rattle.xs_build.specs.declared.fault.BuildFault.{BuildFault}
 use Rattle.xs_build.specs.declared.fault.BuildFault.TheVariants.{Bad, NoMemory}
 use Rattle.xs_build.specs.Faults.{too_large}

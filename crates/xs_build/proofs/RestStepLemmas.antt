@@ -13,7 +13,7 @@ use Rattle.xs_pyx.specs.declared.line.Line.{Line}
 use Rattle.xs_pyx.specs.declared.line.Line.TheVariants.{Start, Attr, Chars, End, Pi, Comment}
 use Rattle.xs_tree.specs.Record.{Record, root_record}
 use Rattle.xs_tree.specs.declared.names.Name.{Name}
-use Rattle.xs_build.specs.declared.attributes.Expanded.{Expanded}
+use Rattle.xs_build.specs.declared.tag_names.Expanded.{Expanded}
 use Rattle.xs_build.specs.declared.opened.Opened.{Opened}
 use Rattle.xs_build.specs.Faults.{bad_line, unbalanced, bad_name, unbound_prefix, double_attribute, bad_namespace, too_large}
 use Rattle.xs_tree.specs.Limits.{most_nodes}

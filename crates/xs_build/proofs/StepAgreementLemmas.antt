@@ -11,7 +11,7 @@ use Rattle.xs_pyx.specs.Reading.{Reading, says, faulty, reading}
 use Rattle.xs_pyx.specs.declared.line.Line.{Line}
 use Rattle.xs_pyx.specs.declared.line.Line.TheVariants.{Start, Attr, Chars, End, Pi, Comment}
 use Rattle.xs_tree.specs.Record.{Record, root_record}
-use Rattle.xs_build.specs.declared.attributes.Expanded.{Expanded}
+use Rattle.xs_build.specs.declared.tag_names.Expanded.{Expanded}
 use Rattle.xs_build.specs.declared.opened.Opened.{Opened}
 use Rattle.xs_build.specs.Faults.{bad_line, bad_utf8, no_root, truncated}
 use Rattle.xs_build.specs.Namespaces.{QName, ExpandedName, is_empty, qname_of, declared_prefix}

@@ -8,32 +8,24 @@ ghost use Rattle.xs_build.specs.Namespaces.{attribute_name, declared_prefix};
 ghost use Rattle.xs_build.specs.steps.Invariant.{IsGood};
 ghost use Rattle.xs_build.specs.steps.Names.{IsNamed, NamesAttribute, full_name};
 ghost use Rattle.xs_build.specs.steps.State.{state, context, taken, Steps};
+ghost use Rattle.xs_build.specs.steps.Known.{parts_of};
 
 use crate::builder::Builder;
 use crate::fault::{
     BAD_LINE, BAD_NAME, BAD_NAMESPACE, BuildFault, DOUBLE_ATTRIBUTE, TOO_LARGE, UNBOUND_PREFIX,
 };
-use crate::known::NodeName;
+use crate::known::{NodeName, ReadName};
 use crate::nodes::put_attribute;
 use crate::qnames::{XMLNS_URI, declared_prefix, is_bad_binding};
 use crate::scope::Scope;
-use indexmap::IndexSet;
+use crate::tag_names::Expanded;
 use std::alloc::{AllocError, Global};
 use xs_tree::{MOST_NODES, Name, NameText, Tree};
-
-/// A namespace URI, empty for none, and a local part (Namespaces in XML 1.0, 2.1).
-#[derive(Drop, Debug, PartialEq, Eq, Hash)]
-pub struct Expanded {
-    /// The namespace URI, empty for none.
-    pub uri: NameText,
-    /// The local part.
-    pub local: NameText,
-}
 
 impl<'a> Builder<'a> {
     /// Takes an attribute or a declaration.
     #[tactic(auto, unfolding(crate::specs::steps::Lines::attribute_step))]
-    pub fn attribute(&mut self, alloc: Global, name: &str, value: &str) -> Result<(), BuildFault>
+    pub fn attribute(&mut self, alloc: Global, name: &'a str, value: &str) -> Result<(), BuildFault>
         requires { IsGood (state self.old) }
         ensures step { Steps result (taken (state self.old)
             (attribute_step (context (state self.old)) name.now value.now)) (state self.new) }
@@ -41,31 +33,24 @@ impl<'a> Builder<'a> {
         if !self.follows {
             return Err(self.bad(BAD_LINE));
         }
-        match xs_text::split_qname(name) {
-            Some((prefix, local)) => self.written(alloc, prefix, local, value),
+        match self.known.read(name) {
+            Some(read) => self.written(alloc, &read, value),
             None => Err(self.bad(BAD_NAME)),
         }
     }
 
     /// Takes an attribute or a declaration of a name that is a QName.
-    fn written(
-        &mut self,
-        alloc: Global,
-        prefix: &str,
-        local: &str,
-        value: &str,
-    ) -> Result<(), BuildFault>
+    fn written(&mut self, alloc: Global, name: &ReadName<'a>, value: &str) -> Result<(), BuildFault>
         requires good { IsGood (state self.old) }
         requires follows { self.old.follows ≡ true }
         ensures step { Steps result (taken (state self.old)
-            (written_step (context (state self.old)) self.old.seen.keys value.now
-            (record { prefix = prefix.now; local = local.now })
-            (declared_prefix (record { prefix = prefix.now; local = local.now }))))
+            (written_step (context (state self.old)) self.old.seen value.now
+            (parts_of name.now) (declared_prefix (parts_of name.now))))
             (state self.new) }
     {
-        match declared_prefix(prefix, local) {
+        match declared_prefix(name.prefix, name.local) {
             Some(declared) => self.declaration(alloc, declared, value),
-            None => self.plain(alloc, prefix, local, value),
+            None => self.plain(alloc, name, value),
         }
     }
 
@@ -74,7 +59,7 @@ impl<'a> Builder<'a> {
     fn declaration(&mut self, alloc: Global, prefix: &str, uri: &str) -> Result<(), BuildFault>
         requires { self.old.follows ≡ true }
         ensures step { Steps result (taken (state self.old)
-            (declaration_step (context (state self.old)) self.old.seen.keys uri.now prefix.now))
+            (declaration_step (context (state self.old)) self.old.seen uri.now prefix.now))
             (state self.new) }
     {
         if !self.seen.insert(declaration_name(alloc, prefix)?)? {
@@ -88,22 +73,15 @@ impl<'a> Builder<'a> {
 
     /// Takes an attribute that is a node.
     #[tactic(auto, unfolding(crate::specs::steps::Lines::plain_step))]
-    fn plain(
-        &mut self,
-        alloc: Global,
-        prefix: &str,
-        local: &str,
-        value: &str,
-    ) -> Result<(), BuildFault>
+    fn plain(&mut self, alloc: Global, name: &ReadName<'a>, value: &str) -> Result<(), BuildFault>
         requires good { IsGood (state self.old) }
         requires follows { self.old.follows ≡ true }
         ensures step { Steps result (taken (state self.old)
-            (plain_step (context (state self.old)) self.old.seen.keys value.now
-            (record { prefix = prefix.now; local = local.now })))
+            (plain_step (context (state self.old)) self.old.seen value.now (parts_of name.now)))
             (state self.new) }
     {
-        match self.attribute_name(alloc, prefix, local)? {
-            Some(name) => self.named(name, local, value),
+        match self.attribute_name(alloc, name)? {
+            Some(full) => self.named(full, name.written, value),
             None => Err(self.bad(UNBOUND_PREFIX)),
         }
     }
@@ -112,16 +90,14 @@ impl<'a> Builder<'a> {
     fn attribute_name(
         &self,
         alloc: Global,
-        prefix: &str,
-        local: &str,
+        name: &ReadName<'a>,
     ) -> Result<Option<NodeName>, AllocError>
         requires { 0 < length self.now.around.items }
         ensures { IfOk result (λ found. NamesAttribute found self.now.tree
-            (attribute_name (scope_of (reverse self.now.around.items))
-            (record { prefix = prefix.now; local = local.now }))) }
+            (attribute_name (scope_of (reverse self.now.around.items)) (parts_of name.now))) }
     {
         match self.around.as_slice().split_last() {
-            Some((element, _)) => self.attribute_name_in(alloc, &element.scope, prefix, local),
+            Some((element, _)) => self.attribute_name_in(alloc, &element.scope, name),
             None => unreachable!(),
         }
     }
@@ -132,28 +108,27 @@ impl<'a> Builder<'a> {
         &self,
         alloc: Global,
         scope: &Scope,
-        prefix: &str,
-        local: &str,
+        name: &ReadName<'a>,
     ) -> Result<Option<NodeName>, AllocError>
         ensures { IfOk result (λ found. NamesAttribute found self.now.tree
-            (attribute_name scope.now (record { prefix = prefix.now; local = local.now }))) }
+            (attribute_name scope.now (parts_of name.now))) }
     {
-        if let Some(like) = self.known.find_attribute(&self.tree, scope, prefix, local) {
+        if let Some(like) = name.find_attribute(&self.tree, scope) {
             return Ok(Some(NodeName::Known(like)));
         }
-        match scope.attribute_name(alloc, prefix, local)? {
+        match scope.attribute_name(alloc, name.prefix, name.local)? {
             Some(name) => Ok(Some(NodeName::New(name))),
             None => Ok(None),
         }
     }
 
     /// Takes an attribute of this name.
-    fn named(&mut self, name: NodeName, local: &str, value: &str) -> Result<(), BuildFault>
+    fn named(&mut self, name: NodeName, written: &'a str, value: &str) -> Result<(), BuildFault>
         requires good { IsGood (state self.old) }
         requires follows { self.old.follows ≡ true }
         requires named { IsNamed self.old.tree name }
         ensures step { Steps result (taken (state self.old)
-            (named_step (context (state self.old)) self.old.seen.keys value.now
+            (named_step (context (state self.old)) self.old.seen value.now
             (full_name self.old.tree name))) (state self.new) }
     {
         if !self.seen.insert(expanded_of(&self.tree, &name)?)? {
@@ -162,29 +137,12 @@ impl<'a> Builder<'a> {
         if self.lines.len() >= MOST_NODES {
             return Err(self.bad(TOO_LARGE));
         }
+        let is_known = name.is_known();
         let node = put_attribute(&mut self.tree, self.around.as_slice(), name, value)?;
         self.lines.push(self.line)?;
-        self.known.remember(local, node);
+        self.known.remember(written, node, is_known)?;
         Ok(())
     }
-}
-
-/// The most names of a start tag whose memory is kept for the next one.
-const FEW: usize = 16;
-
-/// Empties the names of a start tag. The memory of a few is kept, so that a start tag of many names
-/// costs no other one time.
-pub fn forget(seen: &mut IndexSet<Expanded>, alloc: Global)
-    ensures { seen.new.keys ≡ [] }
-{
-    if seen.is_empty() {
-        return;
-    }
-    if seen.len() <= FEW {
-        seen.clear();
-        return;
-    }
-    *seen = IndexSet::new(alloc);
 }
 
 /// The expanded name of a declaration.

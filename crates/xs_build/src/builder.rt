@@ -8,13 +8,12 @@ ghost use Rattle.xs_build.specs.steps.Invariant.{IsGood, IsWell};
 ghost use Rattle.xs_build.specs.Results.{Builds};
 ghost use Rattle.xs_build.specs.steps.State.{state, initial, stepped, ended, next_line, Steps};
 
-use crate::attributes::Expanded;
 use crate::document::Built;
 use crate::fault::{BuildFault, NO_ROOT, TRUNCATED};
 use crate::known::KnownNames;
 use crate::nodes::put_text;
 use crate::opened::{Opened, is_inside};
-use indexmap::IndexSet;
+use crate::tag_names::TagNames;
 use std::alloc::{AllocError, Global};
 use xs_pyx::LineView;
 use xs_tree::Tree;
@@ -30,10 +29,10 @@ pub struct Builder<'a> {
     pub text: String,
     /// The elements that are open, the innermost last.
     pub around: Vec<Opened<'a>>,
-    /// Elements by their names, to find a name that was read before.
-    pub known: KnownNames,
+    /// The names that were read before.
+    pub known: KnownNames<'a>,
     /// The names of the attributes of the element that began last.
-    pub seen: IndexSet<Expanded>,
+    pub seen: TagNames,
     /// Whether an attribute may follow.
     pub follows: bool,
     /// Whether the top element has begun.
@@ -53,7 +52,7 @@ impl<'a> Builder<'a> {
             text: String::new(alloc),
             around: Vec::new(alloc),
             known: KnownNames::new(alloc)?,
-            seen: IndexSet::new(alloc),
+            seen: TagNames::new(alloc),
             follows: false,
             begun: false,
             line: 1,

@@ -15,7 +15,7 @@ impl<'a> Builder<'a> {
     pub fn attribute_line(
         &mut self,
         alloc: Global,
-        name: &str,
+        name: &'a str,
         value: Data<'_>,
     ) -> Result<(), BuildFault>
         requires good { IsGood (state self.old) }

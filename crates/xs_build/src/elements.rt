@@ -13,12 +13,12 @@ ghost use Rattle.xs_tree.specs.Limits.{most_nodes};
 ghost use Rattle.xs_build.specs.Namespaces.{element_name, scope_with};
 ghost use Rattle.xs_build.specs.steps.Invariant.{IsGood, IsWell, HasBindings};
 ghost use Rattle.xs_build.specs.Start.{declarations};
+ghost use Rattle.xs_build.specs.steps.Known.{parts_of};
 ghost use Rattle.xs_build.specs.steps.Views.{bindings_of};
 
-use crate::attributes::forget;
 use crate::builder::Builder;
 use crate::fault::{BAD_NAME, BuildFault, TOO_LARGE, UNBALANCED, UNBOUND_PREFIX};
-use crate::known::NodeName;
+use crate::known::{NodeName, ReadName};
 use crate::nodes::put_element;
 use crate::opened::{Opened, WrittenName, is_innermost, is_inside};
 use crate::scope::{Declared, Scope};
@@ -79,35 +79,34 @@ impl<'a> Builder<'a> {
     }
 
     /// The name of an element that is written so.
-    fn name_in(&self, alloc: Global, scope: &Scope, written: &str) -> Result<NodeName, BuildFault>
+    fn name_in(
+        &self,
+        alloc: Global,
+        scope: &Scope,
+        written: &'a str,
+    ) -> Result<NodeName, BuildFault>
         ensures { Finds result self.now.tree scope.now written.now self.now.line }
     {
-        match xs_text::split_qname(written) {
-            Some((prefix, local)) => self.resolved(alloc, scope, written, prefix, local),
+        match self.known.read(written) {
+            Some(name) => self.resolved(alloc, scope, &name),
             None => Err(self.bad(BAD_NAME)),
         }
     }
 
-    /// The name of an element with this prefix and local part, written so: that of a node that has
-    /// it, where one is known.
+    /// The name that this is for an element: that of a node that has it, where one is known.
     fn resolved(
         &self,
         alloc: Global,
         scope: &Scope,
-        written: &str,
-        prefix: &str,
-        local: &str,
+        name: &ReadName<'_>,
     ) -> Result<NodeName, BuildFault>
-        ensures { Resolves result self.now.tree (element_name scope.now
-            (record { prefix = prefix.now; local = local.now })) self.now.line }
+        ensures { Resolves result self.now.tree
+            (element_name scope.now (parts_of name.now)) self.now.line }
     {
-        if let Some(like) = self
-            .known
-            .find_element(&self.tree, scope, written, prefix, local)
-        {
+        if let Some(like) = name.find_element(&self.tree, scope) {
             return Ok(NodeName::Known(like));
         }
-        match scope.element_name(alloc, prefix, local)? {
+        match scope.element_name(alloc, name.prefix, name.local)? {
             Some(name) => Ok(NodeName::New(name)),
             None => Err(self.bad(UNBOUND_PREFIX)),
         }
@@ -131,13 +130,14 @@ impl<'a> Builder<'a> {
             ≡ entered (state self.old) name.entry (full_name self.old.tree full) scope) }
     {
         self.end_text()?;
+        let is_known = full.is_known();
         let around = self.around.as_slice();
         let node = put_element(&mut self.tree, alloc, around, full, &scope, is_same)?;
-        self.known.remember(name.as_str(), node);
+        self.known.remember(name.as_str(), node, is_known)?;
         self.lines.push(self.line)?;
         push_lines(&mut self.lines, self.line, scope.len())?;
         self.around.push(Opened { name, node, scope })?;
-        forget(&mut self.seen, alloc);
+        self.seen.clear(alloc);
         self.follows = true;
         self.begun = true;
         Ok(())

@@ -1,12 +1,15 @@
-//! Nodes by the bytes of their names, so that a name that was read before is not made again.
+//! Names that were read before, so that none is tried, taken apart or made again.
 
-ghost use Rattle.std.specs.Prelude.{◌≡◌, ◌<◌, IfSome, length};
-ghost use Rattle.xs_build.specs.Namespaces.{attribute_name, element_name};
+ghost use Rattle.std.specs.Prelude.{◌≡◌, ◌<◌, All, IfSome, Some, length, option_map};
+ghost use Rattle.xs_build.specs.Namespaces.{attribute_name, element_name, qname_of};
 ghost use Rattle.xs_build.specs.steps.Names.{IsNamed};
+ghost use Rattle.xs_build.specs.steps.Known.{parts_of, IsRead};
 ghost use Rattle.xs_tree.specs.Record.{at};
 
 use crate::scope::Scope;
 use std::alloc::{AllocError, Global};
+use std::marker::Model;
+use xs_text::split_qname;
 use xs_tree::{Name, Node, Tree};
 
 /// What names a node that is read.
@@ -18,85 +21,182 @@ pub enum NodeName {
     New(Name),
 }
 
-/// How many nodes the table remembers.
-const SLOTS: usize = 1024;
-
-/// For the bytes of a name a node that may have it: the last one of those whose names come to the
-/// same slot.
-///
-/// The table is a hint. Whoever finds a node by it asks the tree for the node's name, and the
-/// bindings for the namespace; so it is good in all elements, whatever they declare.
-#[derive(Drop)]
-pub struct KnownNames {
-    slots: Vec<Node>,
+impl NodeName {
+    /// Whether it is that of a node that is in the tree.
+    pub fn is_known(&self) -> bool {
+        matches!(self, NodeName::Known(_))
+    }
 }
 
-impl KnownNames {
-    /// A table that knows no name: it holds the root, which has none.
-    pub fn new(alloc: Global) -> Result<KnownNames, AllocError> {
+/// A QName that is read (Namespaces in XML 1.0, 4).
+#[derive(Drop)]
+pub struct ReadName<'a> {
+    /// The name as it is written.
+    pub written: &'a str,
+    /// The prefix, empty where there is none.
+    pub prefix: &'a str,
+    /// The local part.
+    pub local: &'a str,
+    /// The place of a node that may have this name, where one was read before.
+    pub like: Option<u32>,
+}
+
+/// How many names the table remembers.
+const SLOTS: usize = 1024;
+
+/// The names that were read: the last one of those whose bytes come to the same slot.
+///
+/// Of the nodes the table is a hint. Whoever finds one by it asks the tree for the node's name, and
+/// the bindings for the namespace; so it is good in all elements, whatever they declare.
+#[derive(Drop)]
+pub struct KnownNames<'a> {
+    names: Vec<ReadName<'a>>,
+    /// For each slot the place of its name, past all names where it has none.
+    slots: Vec<usize>,
+}
+
+impl<'a> Model for KnownNames<'a> {
+    ghost use Rattle.std.specs.Prelude.{All, List};
+    ghost use Rattle.xs_build.specs.declared.known.ReadName.{ReadName};
+    ghost use Rattle.xs_build.specs.steps.Known.{IsRead};
+
+    ghost Value = { List ReadName };
+
+    ghost view = { λ t. t.names.items };
+
+    ghost invariant = { λ t. All IsRead t.names.items };
+}
+
+impl<'a> KnownNames<'a> {
+    /// A table that knows no name.
+    pub fn new(alloc: Global) -> Result<KnownNames<'a>, AllocError> {
         Ok(KnownNames {
-            slots: vec![in alloc; Node::root(); SLOTS]?,
+            names: Vec::new(alloc),
+            slots: vec![in alloc; SLOTS; SLOTS]?,
         })
     }
 
-    /// Remembers a node: an element by its name as it is written, an attribute by its local part.
-    pub fn remember(&mut self, written: &str, node: Node) {
-        if let Some(slot) = self.slots.get_mut(slot_of(written)) {
-            *slot = node;
+    /// Remembers a node by its name as it is written, unless the name `is_known` from another one.
+    pub fn remember(
+        &mut self,
+        written: &'a str,
+        node: Node,
+        is_known: bool,
+    ) -> Result<(), AllocError> {
+        if is_known {
+            return Ok(());
         }
+        let slot = slot_of(written);
+        if slot >= self.slots.len() {
+            return Ok(());
+        }
+        let Some(name) = new_name(written, Some(node.place())) else {
+            return Ok(());
+        };
+        let place = self.slots[slot];
+        if place < self.names.len() {
+            self.names[place] = name;
+            return Ok(());
+        }
+        self.slots[slot] = self.names.len();
+        self.names.push(name)?;
+        Ok(())
     }
 
-    /// The node that is remembered for these bytes, if the tree has one at its place.
-    fn look_up(&self, tree: &Tree, written: &str) -> Option<Node>
+    /// The name that is written so, where it is remembered.
+    fn look_up(&self, written: &str) -> Option<&ReadName<'a>>
+        ensures { IfSome result (λ name. qname_of written.now ≡ Some (parts_of name.now)) }
+    {
+        let place = *self.slots.get(slot_of(written))?;
+        if place >= self.names.len() {
+            return None;
+        }
+        matching(&self.names[place], written)
+    }
+
+    /// The QName that is written so; none where it is none.
+    pub fn read(&self, written: &'a str) -> Option<ReadName<'a>>
+        ensures { option_map parts_of result ≡ qname_of written.now }
+    {
+        match self.look_up(written) {
+            Some(name) => Some(ReadName {
+                written,
+                prefix: name.prefix,
+                local: name.local,
+                like: name.like,
+            }),
+            None => new_name(written, None),
+        }
+    }
+}
+
+/// The name, if it is written so.
+fn matching<'n, 'a>(name: &'n ReadName<'a>, written: &str) -> Option<&'n ReadName<'a>>
+    ensures same { IfSome result (λ found. found.now ≡ name.now) }
+    ensures written { IfSome result (λ found. name.now.written.now ≡ written.now) }
+{
+    if name.written == written {
+        Some(name)
+    } else {
+        None
+    }
+}
+
+/// The QName that is written so, which the node at a place may have; none where it is none.
+fn new_name(written: &str, like: Option<u32>) -> Option<ReadName<'_>>
+    ensures named { option_map parts_of result ≡ qname_of written.now }
+    ensures read { IfSome result IsRead }
+{
+    match split_qname(written) {
+        Some((prefix, local)) => Some(ReadName {
+            written,
+            prefix,
+            local,
+            like,
+        }),
+        None => None,
+    }
+}
+
+impl ReadName<'_> {
+    /// The node that may have this name, if the tree has one at its place.
+    fn node_in(&self, tree: &Tree) -> Option<Node>
         ensures { IfSome result (λ node. node < length tree.now) }
     {
-        let node = *self.slots.get(slot_of(written))?;
-        if (node.place() as usize) < tree.len() {
+        let place = self.like?;
+        if (place as usize) < tree.len() {
+            Some(Node::at(place))
+        } else {
+            None
+        }
+    }
+
+    /// A node that has the name that this is for an element where these bindings are in force; none
+    /// where none is known.
+    pub fn find_element(&self, tree: &Tree, scope: &Scope) -> Option<Node>
+        ensures named { IfSome result (λ node. IsNamed tree.now (NodeName.Known node)) }
+        ensures same { IfSome result
+            (λ node. element_name scope.now (parts_of self.now) ≡ (at tree.now node).name) }
+    {
+        let node = self.node_in(tree)?;
+        let name = tree.name(node)?;
+        if scope.is_element_name(name, self.prefix, self.local) {
             Some(node)
         } else {
             None
         }
     }
 
-    /// A node whose name is that of an element with this prefix and local part, written so, where
-    /// these bindings are in force; none where none is known.
-    pub fn find_element(
-        &self,
-        tree: &Tree,
-        scope: &Scope,
-        written: &str,
-        prefix: &str,
-        local: &str,
-    ) -> Option<Node>
+    /// A node that has the name that this is for an attribute where these bindings are in force;
+    /// none where none is known.
+    pub fn find_attribute(&self, tree: &Tree, scope: &Scope) -> Option<Node>
         ensures named { IfSome result (λ node. IsNamed tree.now (NodeName.Known node)) }
-        ensures same { IfSome result (λ node. element_name scope.now
-            (record { prefix = prefix.now; local = local.now }) ≡ (at tree.now node).name) }
+        ensures same { IfSome result
+            (λ node. attribute_name scope.now (parts_of self.now) ≡ (at tree.now node).name) }
     {
-        let node = self.look_up(tree, written)?;
+        let node = self.node_in(tree)?;
         let name = tree.name(node)?;
-        if scope.is_element_name(name, prefix, local) {
-            Some(node)
-        } else {
-            None
-        }
-    }
-
-    /// A node whose name is that of an attribute with this prefix and local part where these
-    /// bindings are in force; none where none is known.
-    pub fn find_attribute(
-        &self,
-        tree: &Tree,
-        scope: &Scope,
-        prefix: &str,
-        local: &str,
-    ) -> Option<Node>
-        ensures named { IfSome result (λ node. IsNamed tree.now (NodeName.Known node)) }
-        ensures same { IfSome result (λ node. attribute_name scope.now
-            (record { prefix = prefix.now; local = local.now }) ≡ (at tree.now node).name) }
-    {
-        let node = self.look_up(tree, local)?;
-        let name = tree.name(node)?;
-        if scope.is_attribute_name(name, prefix, local) {
+        if scope.is_attribute_name(name, self.prefix, self.local) {
             Some(node)
         } else {
             None

@@ -16,6 +16,7 @@ mod qnames;
 mod scope;
 mod spaces;
 mod start_tag;
+mod tag_names;
 
 pub use document::{Built, build_tree};
 pub use fault::BuildFault;

@@ -32,7 +32,7 @@ impl<'a> WrittenName<'a> {
     }
 
     /// The name itself.
-    pub fn as_str(&self) -> &str
+    pub fn as_str(&self) -> &'a str
         ensures { result.now ≡ self.now }
     {
         self.text

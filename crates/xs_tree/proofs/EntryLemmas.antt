@@ -9,19 +9,18 @@ use Rattle.xs_tree.specs.declared.trees.Tree.TheInside.{Inside}
 use Rattle.xs_tree.specs.Kinds.{can_hold}
 use Rattle.xs_tree.specs.Store.{Grows}
 use Rattle.xs_tree.specs.View.{record_of, records, parent_of, IsStored, HaveEnds, IsWell}
-use Rattle.xs_tree.proofs.StoreLemmas.{IsTextIn-grown, text_at-grown, name-longer, IsNumberBelow-longer}
+use Rattle.xs_tree.proofs.StoreLemmas.{IsTextIn-grown, text_at-grown, name-longer}
 
 pub IsStored-grown : (old new : Store) (e : Entry) → Grows old new → IsStored old e → IsStored new e
 IsStored-grown old new e g s =
     record {
-      placed = IsTextIn-grown old new e.text g s.placed;
-      named =
-          IsNumberBelow-longer (length old.names) (length new.names) e.name g.names.longer s.named;
+      placed = IsTextIn-grown old new e.kind e.text g s.placed;
+      named = omega (arith, s.named, g.names.longer);
     }
 
 pub record_of-grown : (old new : Store) (e : Entry) → Grows old new → IsStored old e → record_of new e ≡ record_of old e
 record_of-grown old new e g s =
-    rw (name-longer old.names new.names e.name g.names s.named, text_at-grown old new e.text g s.placed) refl
+    rw (name-longer old.names new.names e.name g.names s.named, text_at-grown old new e.kind e.text g s.placed) refl
 
 pub stored-grown : (old new : Store) (es : List Entry) → Grows old new → All (IsStored old) es → All (IsStored new) es
 stored-grown old new es g s = λ k d h. IsStored-grown old new (get_or es k d) g (s k d h)

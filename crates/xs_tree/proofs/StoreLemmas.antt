@@ -1,18 +1,19 @@
 -- What a store has stays what it is while the store grows.
-use Rattle.std.proofs.Common.{◌≡◌, ℕ, ◌+◌, ◌-◌, ◌≤◌, List, [], ◌++◌, Option, None, Some, length, drop, refl, sym, ◌∙◌, ap, slice_get, arith, string_bytes}
+use Rattle.std.proofs.Common.{◌≡◌, ℕ, zero, suc, ◌+◌, ◌-◌, ◌≤◌, ◌<◌, Bool, true, false, List, [], ◌++◌, length, drop, refl, sym, ◌∙◌, ap, slice_get, arith, string_bytes}
 use Rattle.std.proofs.Common.{length-append, append_assoc, length-drop}
 use Rattle.std.specs.Str.{IsUtf8, IsCharBoundary}
 use Rattle.std.specs.List.{slice_range}
-use Rattle.std.specs.Option.{option_and_then, unwrap_or}
+use Rattle.std.specs.Option.{unwrap_or}
 use Rattle.std.proofs.lemmas.List.{append-nil, drop-append-le, take-append-le}
 use Rattle.std.proofs.lemmas.Str.{IsUtf8-append, IsUtf8-take, IsUtf8-nil, IsUtf8-string_bytes, IsCharBoundary-from_take, IsCharBoundary-at_seam}
-use Rattle.std.proofs.lemmas.Str.{IsCharBoundary-end}
+use Rattle.std.proofs.lemmas.Str.{IsCharBoundary-end, IsCharBoundary-start}
 use Rattle.xs_tree.specs.declared.names.Name.{Name}
 use Rattle.xs_tree.specs.declared.entries.TextPlace.{TextPlace}
-use Rattle.xs_tree.specs.declared.entries.TextPlace.TheVariants.{Range, Uri}
+use Rattle.xs_tree.specs.declared.kinds.Kind.{Kind}
 use Rattle.xs_tree.specs.declared.store.Store.{Store}
-use Rattle.xs_tree.specs.Growth.{Keeps, IsNumberBelow, Lengthens}
-use Rattle.xs_tree.specs.Store.{text_at, IsRange, IsTextIn, Grows}
+use Rattle.xs_tree.specs.Growth.{Keeps, Lengthens}
+use Rattle.xs_tree.specs.Kinds.{is_namespace_kind}
+use Rattle.xs_tree.specs.Store.{name_at, text_at, text_in, IsPlaceIn, IsRange, IsTextIn, Grows}
 
 pub Keeps-same : {X : Type 0} (xs : List X) → Keeps xs xs
 Keeps-same xs = record { longer = omega arith; same = λ k h. refl }
@@ -69,29 +70,35 @@ slice_range-longer old new i j l o w =
     rw (l.is, drop-append-le i old l.extra i_within, take-append-le (j - i) (drop i old) l.extra within) refl
 
 -- a text stays at its place
-pub IsTextIn-grown : (old new : Store) (place : TextPlace) → Grows old new → IsTextIn old place → IsTextIn new place
-IsTextIn-grown old new (Range start end) g h =
+IsPlaceIn-grown : (old new : Store) (b : Bool) (place : TextPlace) → Grows old new → IsPlaceIn old b place → IsPlaceIn new b place
+IsPlaceIn-grown old new true place g h = let longer : length old.uris ≤ length new.uris = g.uris.longer in omega (arith, h, longer)
+IsPlaceIn-grown old new false place g h =
     record {
       ordered = h.ordered;
-      from = IsCharBoundary-longer (string_bytes old.text) (string_bytes new.text) start g.text h.from;
-      to = IsCharBoundary-longer (string_bytes old.text) (string_bytes new.text) end g.text h.to;
+      from = IsCharBoundary-longer (string_bytes old.text) (string_bytes new.text) place.start g.text h.from;
+      to = IsCharBoundary-longer (string_bytes old.text) (string_bytes new.text) place.end g.text h.to;
     }
-IsTextIn-grown old new (Uri number) g h = let longer : length old.uris ≤ length new.uris = g.uris.longer in omega (arith, h, longer)
 
-pub text_at-grown : (old new : Store) (place : TextPlace) → Grows old new → IsTextIn old place → text_at new place ≡ text_at old place
-text_at-grown old new (Range start end) g h =
-    slice_range-longer (string_bytes old.text) (string_bytes new.text) start end g.text h.ordered h.to.0
-text_at-grown old new (Uri number) g h = ap (λ o. unwrap_or o []) (g.uris.same number h)
+pub IsTextIn-grown : (old new : Store) (kind : Kind) (place : TextPlace) → Grows old new → IsTextIn old kind place → IsTextIn new kind place
+IsTextIn-grown old new kind place g h = IsPlaceIn-grown old new (is_namespace_kind kind) place g h
 
--- a name's number has the same name in a longer table
-pub name-longer : (old new : List Name) (o : Option ℕ) → Keeps old new → IsNumberBelow (length old) o
-    → option_and_then (slice_get new) o ≡ option_and_then (slice_get old) o
-name-longer old new None g b = refl
-name-longer old new (Some i) g b = g.same i b
+text_in-grown : (old new : Store) (b : Bool) (place : TextPlace) → Grows old new → IsPlaceIn old b place → text_in new b place ≡ text_in old b place
+text_in-grown old new true place g h = ap (λ o. unwrap_or o []) (g.uris.same place.start h)
+text_in-grown old new false place g h =
+    slice_range-longer (string_bytes old.text) (string_bytes new.text) place.start place.end g.text h.ordered h.to.0
 
-pub IsNumberBelow-longer : (m n : ℕ) (o : Option ℕ) → m ≤ n → IsNumberBelow m o → IsNumberBelow n o
-IsNumberBelow-longer m n None h b = tt
-IsNumberBelow-longer m n (Some i) h b = omega arith
+pub text_at-grown : (old new : Store) (kind : Kind) (place : TextPlace) → Grows old new → IsTextIn old kind place
+    → text_at new kind place ≡ text_at old kind place
+text_at-grown old new kind place g h = text_in-grown old new (is_namespace_kind kind) place g h
+
+-- a number has the same name in a longer table
+pub name-longer : (old new : List Name) (n : ℕ) → Keeps old new → n ≤ length old → name_at new n ≡ name_at old n
+name-longer old new zero g b = refl
+name-longer old new (suc place) g b = g.same place (omega (arith, b))
+
+-- no bytes are a part of each text
+pub IsRange-nothing : (text : List ℕ) → IsUtf8 text → IsRange text 0 0
+IsRange-nothing text utf8 = record { ordered = omega arith; from = IsCharBoundary-start text utf8; to = IsCharBoundary-start text utf8 }
 
 -- the range of a text that was added to a buffer
 pub IsRange-added : (old added new : List ℕ) (start end : ℕ) → new ≡ old ++ added → IsUtf8 added → start ≡ length old → end ≡ length old + length added

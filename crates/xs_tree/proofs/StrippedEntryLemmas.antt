@@ -9,7 +9,6 @@ use Rattle.std.specs.Option.{option_map}
 use Rattle.xs_tree.specs.declared.kinds.Kind.{Kind}
 use Rattle.xs_tree.specs.declared.kinds.Kind.TheVariants.{Root, Element, Attribute, Space, Text, Comment, Pi}
 use Rattle.xs_tree.specs.declared.entries.Entry.{Entry}
-use Rattle.xs_tree.specs.declared.entries.TextPlace.TheVariants.{Range}
 use Rattle.xs_tree.specs.declared.trees.Tree.TheInside.{Inside}
 use Rattle.xs_tree.specs.steps.Compaction.{AreNewPlaces, IsCompacted, end_after, entry_after, same}
 use Rattle.xs_tree.specs.Record.{Record, root_record, at}
@@ -78,7 +77,7 @@ numbers-compacted marks rs old new n_is compacted =
 
 -- some entry
 nothing : Entry
-nothing = record { text = Range 0 0; name = None; parent = 0; end = 0; kind = Root }
+nothing = record { text = record { start = 0; end = 0 }; name = 0; parent = 0; end = 0; kind = Root }
 
 -- how many entries are left
 abbrev pub count_after : List Bool → Inside → ℕ

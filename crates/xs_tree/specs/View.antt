@@ -1,16 +1,14 @@
 -- How a tree is kept.
 use Rattle.std.specs.Prelude.{◌≡◌, ℕ, ◌<◌, ◌≤◌, List, Option, None, Some, All, map, length, slice_get, ◌⊎◌}
-use Rattle.std.specs.Option.{option_and_then}
 use Rattle.xs_tree.specs.declared.kinds.Kind.{Kind}
 use Rattle.xs_tree.specs.declared.kinds.Kind.TheVariants.{Root, Element, Attribute, Space, Text, Comment, Pi}
 use Rattle.xs_tree.specs.declared.entries.Entry.{Entry}
 use Rattle.xs_tree.specs.declared.store.Store.{Store}
 use Rattle.xs_tree.specs.declared.trees.Tree.TheInside.{Inside}
-use Rattle.xs_tree.specs.Growth.{IsNumberBelow}
 use Rattle.xs_tree.specs.Limits.{most_nodes}
 use Rattle.xs_tree.specs.Record.{Record}
 use Rattle.xs_tree.specs.Shape.{IsOpen, IsTree, EndsAt}
-use Rattle.xs_tree.specs.Store.{text_at, IsTextIn}
+use Rattle.xs_tree.specs.Store.{name_at, text_at, IsTextIn}
 use Rattle.xs_tree.specs.Utf8.{AreUtf8}
 
 -- a root has no parent
@@ -25,7 +23,7 @@ parent_of Pi p = Some p
 
 -- the node of an entry, over the names and texts that are kept
 abbrev pub record_of : Store → Entry → Record
-record_of s e = record { kind = e.kind; name = option_and_then (slice_get s.names) e.name; text = text_at s e.text; parent = parent_of e.kind e.parent }
+record_of s e = record { kind = e.kind; name = name_at s.names e.name; text = text_at s e.kind e.text; parent = parent_of e.kind e.parent }
 
 -- the nodes of a tree, in document order
 abbrev pub records : Inside → List Record
@@ -33,8 +31,8 @@ records t = map (record_of t.store) t.nodes.items
 
 -- an entry's text is kept, and its name is in the table
 pub record IsStored (s : Store) (e : Entry) : Type 0 where
-  pub placed : IsTextIn s e.text
-  pub named : IsNumberBelow (length s.names) e.name
+  pub placed : IsTextIn s e.kind e.text
+  pub named : e.name ≤ length s.names
 
 -- the end of the node's subtree as an entry keeps it: 0 while the node is open, and else the place of the first node that
 -- is not in the subtree

@@ -1,9 +1,9 @@
 //! The names and the texts of a tree's nodes.
 
-ghost use Rattle.std.specs.Prelude.{◌≡◌, [], length, slice_get, string_bytes, IfOk};
-ghost use Rattle.std.specs.Option.{option_and_then, option_copied};
-ghost use Rattle.xs_tree.specs.Growth.{IsNumberBelow};
-ghost use Rattle.xs_tree.specs.Store.{text_at, IsTextIn, Grows};
+ghost use Rattle.std.specs.Prelude.{◌≡◌, ◌≤◌, [], false, length, slice_get, string_bytes, true};
+ghost use Rattle.std.specs.Prelude.{IfOk};
+ghost use Rattle.std.specs.Option.{option_copied, unwrap_or};
+ghost use Rattle.xs_tree.specs.Store.{name_at, text_at, text_in, IsPlaceIn, IsTextIn, Grows};
 
 use crate::entries::TextPlace;
 use crate::kinds::Kind;
@@ -32,10 +32,9 @@ impl Store {
     }
 
     /// Keeps a name if there is one.
-    pub fn keep_name(&mut self, name: Option<Name>) -> Result<Option<u32>, AllocError>
-        ensures stored { IfOk result
-            (λ number. option_and_then (slice_get self.new.names) number ≡ name) }
-        ensures numbered { IfOk result (λ number. IsNumberBelow (length self.new.names) number) }
+    pub fn keep_name(&mut self, name: Option<Name>) -> Result<u32, AllocError>
+        ensures stored { IfOk result (λ number. name_at self.new.names number ≡ name) }
+        ensures numbered { IfOk result (λ number. number ≤ length self.new.names) }
         ensures grown { Grows self.old self.new }
     {
         self.names.intern_any(name)
@@ -44,8 +43,8 @@ impl Store {
     /// Keeps the text of a node: of a namespace node in the table of URIs, of any other in the
     /// buffer.
     pub fn keep_text(&mut self, kind: Kind, text: &str) -> Result<TextPlace, AllocError>
-        ensures stored { IfOk result (λ place. text_at self.new place ≡ text.now) }
-        ensures within { IfOk result (λ place. IsTextIn self.new place) }
+        ensures stored { IfOk result (λ place. text_at self.new kind place ≡ text.now) }
+        ensures within { IfOk result (λ place. IsTextIn self.new kind place) }
         ensures grown { Grows self.old self.new }
     {
         match kind {
@@ -56,45 +55,58 @@ impl Store {
 
     // Keeps a namespace URI.
     fn keep_uri(&mut self, uri: &str) -> Result<TextPlace, AllocError>
-        ensures stored { IfOk result (λ place. text_at self.new place ≡ uri.now) }
-        ensures within { IfOk result (λ place. IsTextIn self.new place) }
+        ensures stored { IfOk result (λ place. text_in self.new true place ≡ uri.now) }
+        ensures within { IfOk result (λ place. IsPlaceIn self.new true place) }
         ensures grown { Grows self.old self.new }
     {
         let uri = NameText::of(*self.text.allocator(), uri)?;
         let number = self.uris.intern(uri)?;
-        Ok(TextPlace::Uri(number))
+        Ok(TextPlace {
+            start: number,
+            end: 0,
+        })
     }
 
-    // Keeps a text at the end of the buffer.
+    // Keeps a text at the end of the buffer, or nothing of an empty one.
     fn push_text(&mut self, text: &str) -> Result<TextPlace, AllocError>
-        ensures stored { IfOk result (λ place. text_at self.new place ≡ text.now) }
-        ensures within { IfOk result (λ place. IsTextIn self.new place) }
+        ensures stored { IfOk result (λ place. text_in self.new false place ≡ text.now) }
+        ensures within { IfOk result (λ place. IsPlaceIn self.new false place) }
         ensures grown { Grows self.old self.new }
     {
+        if text.is_empty() {
+            return Ok(TextPlace { start: 0, end: 0 });
+        }
         let start = small(self.text.len())?;
         let end = small(self.text.len().saturating_add(text.len()))?;
         self.text.push_str(text)?;
-        Ok(TextPlace::Range(start, end))
+        Ok(TextPlace { start, end })
     }
 
     /// The name with a number.
     pub fn name(&self, number: u32) -> Option<&Name>
-        ensures name { option_copied result ≡ slice_get self.now.names number }
+        ensures name { option_copied result ≡ name_at self.now.names number }
     {
         self.names.get(number)
     }
 
-    /// The text at a place.
-    pub fn text(&self, place: TextPlace) -> &str
-        requires { IsTextIn self.now place }
-        ensures text { result.now ≡ text_at self.now place }
+    /// The text of a node of this kind, at its place.
+    pub fn text(&self, kind: Kind, place: TextPlace) -> &str
+        requires { IsTextIn self.now kind place }
+        ensures text { result.now ≡ text_at self.now kind place }
     {
-        match place {
-            TextPlace::Range(start, end) => &self.text.as_str()[start as usize..end as usize],
-            TextPlace::Uri(number) => match self.uris.get(number) {
-                Some(uri) => uri.as_str(),
-                None => "",
-            },
+        match kind {
+            Kind::Space => self.uri(place.start),
+            _ => &self.text.as_str()[place.start as usize..place.end as usize],
+        }
+    }
+
+    // The namespace URI with a number.
+    fn uri(&self, number: u32) -> &str
+        ensures { result.now ≡ unwrap_or (slice_get self.now.uris number) [] }
+    {
+        match self.uris.get(number) {
+            Some(uri) => uri.as_str(),
+            None => "",
         }
     }
 }

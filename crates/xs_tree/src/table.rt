@@ -1,15 +1,16 @@
 //! The tables of a tree's names and of its namespace URIs, each kept once.
 
-ghost use Rattle.std.specs.Prelude.{◌≡◌, ◌<◌, ◌≤◌, [], Some, slice_get, length, IfOk, OnErr, OnOk};
-ghost use Rattle.std.specs.Option.{option_and_then, option_copied};
-ghost use Rattle.xs_tree.specs.Growth.{IsNumberBelow, Keeps};
+ghost use Rattle.std.specs.Prelude.{◌≡◌, ◌+◌, ◌<◌, ◌≤◌, [], Some, slice_get, length, IfOk};
+ghost use Rattle.std.specs.Option.{option_copied};
+ghost use Rattle.xs_tree.specs.Growth.{Keeps};
+ghost use Rattle.xs_tree.specs.Store.{name_at};
 
 use crate::names::{Name, NameText};
 use indexmap::IndexSet;
 use std::alloc::{AllocError, Global};
 use std::marker::Model;
 
-/// Names by number, no two of them equal.
+/// Names by number, no two of them equal. They count from 1 on, so that 0 stands for none.
 #[derive(Drop)]
 pub struct NameTable {
     names: IndexSet<Name>,
@@ -36,32 +37,44 @@ impl NameTable {
 
     /// The number of a name, which is added if it is new.
     pub fn intern(&mut self, name: Name) -> Result<u32, AllocError>
-        ensures stored { IfOk result (λ number. slice_get self.new number ≡ Some name) }
-        ensures numbered { IfOk result (λ number. number < length self.new) }
+        ensures stored { IfOk result (λ number. name_at self.new number ≡ Some name) }
+        ensures numbered { IfOk result (λ number. number ≤ length self.new) }
         ensures kept { Keeps self.old self.new }
     {
-        let (number, _) = self.names.insert_full(name)?;
-        u32::try_from(number).map_err(|_| AllocError)
+        let (place, _) = self.names.insert_full(name)?;
+        number_at(place)
     }
 
-    /// The number of a name, if there is one.
-    pub fn intern_any(&mut self, name: Option<Name>) -> Result<Option<u32>, AllocError>
-        ensures stored { IfOk result
-            (λ number. option_and_then (slice_get self.new) number ≡ name) }
-        ensures numbered { IfOk result (λ number. IsNumberBelow (length self.new) number) }
+    /// The number of a name, if there is one, and else 0.
+    pub fn intern_any(&mut self, name: Option<Name>) -> Result<u32, AllocError>
+        ensures stored { IfOk result (λ number. name_at self.new number ≡ name) }
+        ensures numbered { IfOk result (λ number. number ≤ length self.new) }
         ensures kept { Keeps self.old self.new }
     {
         match name {
-            Some(name) => Ok(Some(self.intern(name)?)),
-            None => Ok(None),
+            Some(name) => self.intern(name),
+            None => Ok(0),
         }
     }
 
     /// The name with a number.
     pub fn get(&self, number: u32) -> Option<&Name>
-        ensures name { option_copied result ≡ slice_get self.now number }
+        ensures name { option_copied result ≡ name_at self.now number }
     {
-        self.names.get_index(number as usize)
+        if number == 0 {
+            return None;
+        }
+        self.names.get_index(number as usize - 1)
+    }
+}
+
+// The number of the name at a place.
+fn number_at(place: usize) -> Result<u32, AllocError>
+    ensures { IfOk result (λ number. number ≡ place + 1) }
+{
+    match u32::try_from(place) {
+        Ok(place) => place.checked_add(1).ok_or(AllocError),
+        Err(_) => Err(AllocError),
     }
 }
 

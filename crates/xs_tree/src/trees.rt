@@ -46,7 +46,7 @@ pub enum TreeFault {
 /// One or more documents as nodes in document order (XPath 1.0, 5).
 ///
 /// Each name and each namespace URI is kept once, the other texts lie one after another in one
-/// buffer, and a node takes 32 bytes beside its text. Adding a node takes constant time on average,
+/// buffer, and a node takes 24 bytes beside its text. Adding a node takes constant time on average,
 /// and so does finding where its subtree ends.
 #[derive(Drop)]
 pub struct Tree {
@@ -74,8 +74,8 @@ impl Tree {
     {
         let mut nodes = Vec::new(alloc);
         nodes.push(Entry {
-            text: TextPlace::Range(0, 0),
-            name: None,
+            text: TextPlace { start: 0, end: 0 },
+            name: 0,
             parent: 0,
             end: 0,
             kind: Kind::Root,

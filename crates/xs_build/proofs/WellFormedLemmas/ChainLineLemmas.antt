@@ -13,7 +13,7 @@ use Rattle.xs_pyx.specs.declared.line.Line.{Line}
 use Rattle.xs_pyx.specs.declared.line.Line.TheVariants.{Start, Attr, Chars, End, Pi, Comment}
 use Rattle.xs_tree.specs.Record.{Record, root_record, at}
 use Rattle.xs_tree.specs.declared.names.Name.{Name}
-use Rattle.xs_build.specs.declared.attributes.Expanded.{Expanded}
+use Rattle.xs_build.specs.declared.tag_names.Expanded.{Expanded}
 use Rattle.xs_build.specs.declared.opened.Opened.{Opened}
 use Rattle.xs_build.specs.Faults.{bad_line, bad_utf8, unbalanced, no_root, bad_name, unbound_prefix, double_attribute, bad_namespace, too_large, truncated}
 use Rattle.xs_build.specs.Namespaces.{QName, is_empty, is_ncname, is_xml, is_bad_binding, qname_of, element_name, attribute_name, declared_prefix}

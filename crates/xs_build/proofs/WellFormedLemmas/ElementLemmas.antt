@@ -12,7 +12,7 @@ use Rattle.xs_pyx.specs.declared.line.Line.TheVariants.{Start, Attr, Chars, End,
 use Rattle.xs_tree.specs.declared.kinds.Kind.TheVariants as kinds
 use Rattle.xs_tree.specs.declared.names.Name.{Name}
 use Rattle.xs_tree.specs.Record.{Record, root_record, at}
-use Rattle.xs_build.specs.declared.attributes.Expanded.{Expanded}
+use Rattle.xs_build.specs.declared.tag_names.Expanded.{Expanded}
 use Rattle.xs_build.specs.declared.opened.Opened.{Opened}
 use Rattle.xs_build.specs.Faults.{bad_line, bad_utf8, unbalanced, no_root, bad_name, unbound_prefix, double_attribute, bad_namespace, too_large, truncated}
 use Rattle.xs_tree.specs.Limits.{most_nodes}

@@ -14,7 +14,7 @@ use Rattle.xs_tree.specs.Kinds.{is_attribute_kind, is_namespace_kind}
 use Rattle.xs_tree.specs.Record.{Record, root_record, at}
 use Rattle.xs_tree.proofs.ShapeLemmas.{at-append, at-added, length-added}
 use Rattle.xs_tree.proofs.WalkLemmas.{le_or_gt}
-use Rattle.xs_build.specs.declared.attributes.Expanded.{Expanded}
+use Rattle.xs_build.specs.declared.tag_names.Expanded.{Expanded}
 use Rattle.xs_build.specs.declared.opened.Opened.{Opened}
 use Rattle.xs_build.specs.Namespaces.{Bindings, QName, is_empty, element_name}
 use Rattle.xs_build.specs.steps.Lines.{innermost, scope_of, expanded, same_name}

@@ -14,7 +14,7 @@ use Rattle.xs_tree.specs.Kinds.{is_attribute_kind, is_namespace_kind}
 use Rattle.xs_tree.specs.Names.{order_of_texts}
 use Rattle.xs_tree.specs.Record.{Record, is_place}
 use Rattle.xs_tree.specs.declared.names.Name.{Name}
-use Rattle.xs_build.specs.declared.attributes.Expanded.{Expanded}
+use Rattle.xs_build.specs.declared.tag_names.Expanded.{Expanded}
 use Rattle.xs_tree.specs.Record.{name_uri, name_local}
 use Rattle.xs_build.specs.DocumentTree.{is_prefix, is_well_named}
 use Rattle.xs_build.specs.Namespaces.{Bindings, is_empty, is_ncname, named, uri_of, QName, uri_in, element_name, attribute_name, declared_prefix, xml_uri}

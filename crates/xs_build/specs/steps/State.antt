@@ -7,7 +7,7 @@ use Rattle.xs_pyx.specs.declared.line.Line.TheVariants.{Start, Attr, Chars, End,
 use Rattle.xs_tree.specs.Record.{Record, root_record}
 use Rattle.xs_tree.specs.declared.names.Name.{Name}
 use Rattle.xs_build.specs.declared.builder.Builder.{Builder}
-use Rattle.xs_build.specs.declared.attributes.Expanded.{Expanded}
+use Rattle.xs_build.specs.declared.tag_names.Expanded.{Expanded}
 use Rattle.xs_build.specs.declared.fault.BuildFault.{BuildFault}
 use Rattle.xs_build.specs.declared.fault.BuildFault.TheVariants.{Bad, NoMemory}
 use Rattle.xs_build.specs.declared.opened.Opened.{Opened}
@@ -34,7 +34,7 @@ state b = record {
   text = string_bytes b.text;
   around = reverse b.around.items;
   begun = b.begun;
-  tag = if b.follows then Some b.seen.keys else None;
+  tag = if b.follows then Some b.seen else None;
   line = b.line;
 }
 

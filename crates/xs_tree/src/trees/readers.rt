@@ -43,7 +43,7 @@ impl Tree {
         requires { n < length self.now }
         ensures name { option_copied result ≡ (at self.now n).name }
     {
-        let number = self.nodes[n.place() as usize].name?;
+        let number = self.nodes[n.place() as usize].name;
         self.store.name(number)
     }
 
@@ -91,7 +91,7 @@ impl Tree {
         ensures text { result.now ≡ (at self.now n).text }
     {
         let entry = self.nodes[n.place() as usize];
-        self.store.text(entry.text)
+        self.store.text(entry.kind, entry.text)
     }
 
     /// The parent of a node, none for a root.

@@ -62,4 +62,4 @@ returns-in-Err-clause-goes c =
     (line_faulty (state c.args.builder.now) (bytes_left c.args.rest) (number_of c.in-Err.fault) c.is_stray-is_stray.result
     c.in-Err.ensures.first c.in-Err.ensures.rows
     (c.is_stray-is_stray.ensures ∙ ap (λ bs. begins_with 65 bs && not c.args.builder.now.follows) c.bytes-in-Err.ensures
-    ∙ ap (λ b. begins_with 65 (bytes_left c.args.rest) && b) (sym (no_tag c.args.builder.now.follows c.args.builder.now.seen.keys))))
+    ∙ ap (λ b. begins_with 65 (bytes_left c.args.rest) && b) (sym (no_tag c.args.builder.now.follows c.args.builder.now.seen))))

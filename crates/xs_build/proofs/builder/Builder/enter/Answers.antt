@@ -21,7 +21,7 @@ returns c =
     record {
       entered = entered_is (state c.args.self.now) c.args.name (full_name c.args.self.now.tree c.args.full) c.args.scope
           (state c.end_text.new.self) c.in_ok-node.node c.len.result c.put_element.new.tree c.push.new.self.items c.push_lines.new.lines.items
-          (reverse c.push-2.new.self.items) c.forget.new.seen.keys
+          (reverse c.push-2.new.self.items) c.clear.new.self
           c.requires.good c.in_ok-end_text.ensures.ended
           (rw (← full_is) (rw c.as_slice-around.ensures.value at c.in_ok-node.ensures.put)) c.in_ok-node.ensures.node
           c.in_ok-push.ensures.items c.in_ok-push_lines.ensures c.len.ensures.count
@@ -30,5 +30,5 @@ returns c =
             node = c.in_ok-node.node;
             scope = c.args.scope;
           }) c.in_ok-push-2.ensures.items)
-          c.forget.ensures;
+          c.clear.ensures;
     }

@@ -1,8 +1,14 @@
 -- The buffer grows by the text, or stays.
 use Rattle.std.proofs.Common.{arith, string_bytes, ◌≡◌, ◌+◌, length}
 use Rattle.std.proofs.lemmas.Str.{IsUtf8-string_bytes}
-use Rattle.xs_tree.proofs.StoreLemmas.{Keeps-same, Grows-same, IsRange-added, as_it_was, lengthened}
+use Rattle.xs_tree.proofs.StoreLemmas.{Keeps-same, Grows-same, IsRange-added, IsRange-nothing, as_it_was, lengthened}
 use Rattle.xs_tree.proofs.store.Store.push_text.Goals as goal
+
+pub returns-then-is_empty-clause-within : goal.returns-then-is_empty-clause-within
+returns-then-is_empty-clause-within c = IsRange-nothing _ (IsUtf8-string_bytes c.args.self.now.text)
+
+pub returns-then-is_empty-clause-grown : goal.returns-then-is_empty-clause-grown
+returns-then-is_empty-clause-grown c = Grows-same c.args.self.now
 
 pub returns-in_err-start-clause-grown : goal.returns-in_err-start-clause-grown
 returns-in_err-start-clause-grown c = Grows-same c.args.self.now

@@ -1,7 +1,7 @@
 -- The store grows before the entry is kept, which leaves the records as they were.
 use Rattle.std.proofs.Common.{arith, refl, length, ◌≡◌, ◌<◌, ap, ◌∙◌, OnErr, Ok, Err, Some, slice_get}
 use Rattle.std.specs.Prelude.{Result}
-use Rattle.std.specs.Option.{option_and_then}
+use Rattle.xs_tree.specs.Store.{name_at}
 use Rattle.xs_tree.specs.declared.trees.Tree.TheInside.{Inside}
 use Rattle.xs_tree.specs.declared.entries.Entry.{Entry}
 use Rattle.xs_tree.specs.Limits.{most_nodes}
@@ -11,7 +11,7 @@ use Rattle.xs_tree.specs.View.{parent_of, record_of, records}
 use Rattle.xs_tree.proofs.AddLemmas.{parents-before, IsKept, records-kept, IsWell-kept}
 use Rattle.xs_tree.proofs.EntryLemmas.{records-same, IsWell-same, parent_of-held, length-records}
 use Rattle.xs_tree.proofs.ShapeLemmas.{IsTree-added}
-use Rattle.xs_tree.proofs.StoreLemmas.{Grows-twice, name-longer, IsNumberBelow-longer}
+use Rattle.xs_tree.proofs.StoreLemmas.{Grows-twice, name-longer}
 use Rattle.xs_tree.proofs.trees.Tree.store.Goals as goal
 use Rattle.xs_tree.proofs.trees.Tree.store.Goals.{In_ok-node}
 
@@ -70,8 +70,7 @@ kept c =
       grown = Grows-twice _ _ _ c.keep_name.ensures.grown c.keep_text.ensures.grown;
       stored = record {
         placed = c.in_ok-text.ensures.within;
-        named = IsNumberBelow-longer (length c.keep_name.new.self.names)
-            (length c.keep_text.new.self.names) c.in_ok-name.name c.keep_text.ensures.grown.names.longer c.in_ok-name.ensures.numbered;
+        named = omega (arith, c.in_ok-name.ensures.numbered, c.keep_text.ensures.grown.names.longer);
       };
       is_last = refl;
       closes = c.in_ok-node.ensures.kept;
@@ -83,7 +82,7 @@ kept c =
 -- the entry stands for the record
 entry_is : (c : In_ok-node) → record_of c.keep_text.new.self (entry c) ≡ added c
 entry_is c =
-    let name_is : option_and_then (slice_get c.keep_text.new.self.names) c.in_ok-name.name ≡ c.args.name =
+    let name_is : name_at c.keep_text.new.self.names c.in_ok-name.name ≡ c.args.name =
     name-longer c.keep_name.new.self.names c.keep_text.new.self.names c.in_ok-name.name c.keep_text.ensures.grown.names c.in_ok-name.ensures.numbered
     ∙ c.in_ok-name.ensures.stored in
     let parent_is : parent_of c.args.kind c.place.result ≡ Some c.args.parent = parent_of-held _ c.args.kind c.place.result c.requires.held

@@ -2,7 +2,7 @@
 use Rattle.std.proofs.Common.{arith, refl, length, subst, sym, ◌≡◌, ◌<◌, ap, ◌∙◌, OnErr, Ok, Err, Some, slice_get}
 use Rattle.std.proofs.lemmas.Option.{slice_get_read}
 use Rattle.std.specs.Prelude.{Result}
-use Rattle.std.specs.Option.{option_and_then}
+use Rattle.xs_tree.specs.Store.{name_at}
 use Rattle.xs_tree.specs.declared.trees.Tree.TheInside.{Inside}
 use Rattle.xs_tree.specs.declared.entries.Entry.{Entry}
 use Rattle.xs_tree.specs.Limits.{most_nodes}
@@ -14,7 +14,7 @@ use Rattle.xs_tree.proofs.AddLemmas.{parents-before, IsKept, records-kept, IsWel
 use Rattle.xs_tree.proofs.EndLemmas.{record_at}
 use Rattle.xs_tree.proofs.EntryLemmas.{records-same, IsWell-same, parent_of-held, length-records}
 use Rattle.xs_tree.proofs.ShapeLemmas.{IsTree-added}
-use Rattle.xs_tree.proofs.StoreLemmas.{name-longer, IsNumberBelow-longer}
+use Rattle.xs_tree.proofs.StoreLemmas.{name-longer}
 use Rattle.xs_tree.proofs.trees.Tree.store_like.Goals as goal
 use Rattle.xs_tree.proofs.trees.Tree.store_like.Goals.{In_ok-node}
 
@@ -81,8 +81,7 @@ kept c =
       grown = c.keep_text.ensures.grown;
       stored = record {
         placed = c.in_ok-text.ensures.within;
-        named = IsNumberBelow-longer (length c.self.inside.store.names) (length c.keep_text.new.self.names) c.index.result.now.name
-            c.keep_text.ensures.grown.names.longer (like_stored c).named;
+        named = omega (arith, (like_stored c).named, c.keep_text.ensures.grown.names.longer);
       };
       is_last = refl;
       closes = c.in_ok-node.ensures.kept;
@@ -94,7 +93,7 @@ kept c =
 -- the entry stands for the record
 entry_is : (c : In_ok-node) → record_of c.keep_text.new.self (entry c) ≡ added c
 entry_is c =
-    let name_is : option_and_then (slice_get c.keep_text.new.self.names) c.index.result.now.name ≡ (at c.args.self.now c.args.like).name =
+    let name_is : name_at c.keep_text.new.self.names c.index.result.now.name ≡ (at c.args.self.now c.args.like).name =
     name-longer c.self.inside.store.names c.keep_text.new.self.names c.index.result.now.name c.keep_text.ensures.grown.names (like_stored c).named
     ∙ sym (ap (λ r. r.name) (like_is c)) in
     let parent_is : parent_of c.args.kind c.place-2.result ≡ Some c.args.parent = parent_of-held _ c.args.kind c.place-2.result c.requires.held

@@ -1,0 +1,77 @@
+//! The names that a start tag has so far.
+
+ghost use Rattle.std.specs.Prelude.{◌≡◌, [], ◌∷◌, ◌++◌, not, true, IfOk};
+ghost use Rattle.std.specs.List.{list_any};
+ghost use Rattle.xs_build.specs.steps.Lines.{same_name};
+
+use indexmap::IndexSet;
+use std::alloc::{AllocError, Global};
+use std::marker::Model;
+use xs_tree::NameText;
+
+/// A namespace URI, empty for none, and a local part (Namespaces in XML 1.0, 2.1).
+#[derive(Drop, Debug, PartialEq, Eq, Hash)]
+pub struct Expanded {
+    /// The namespace URI, empty for none.
+    pub uri: NameText,
+    /// The local part.
+    pub local: NameText,
+}
+
+/// The most names that are compared one by one.
+const FEW: usize = 8;
+
+/// The expanded names of a start tag's attributes and declarations, no two of them equal: the first
+/// few in a list, and others in a set.
+#[derive(Drop)]
+pub struct TagNames {
+    few: Vec<Expanded>,
+    others: IndexSet<Expanded>,
+}
+
+impl Model for TagNames {
+    ghost use Rattle.std.specs.Prelude.{List, ◌++◌};
+    ghost use Rattle.xs_build.specs.declared.tag_names.Expanded.{Expanded};
+
+    ghost Value = { List Expanded };
+
+    ghost view = { λ t. t.few.items ++ t.others.keys };
+}
+
+impl TagNames {
+    /// No names.
+    pub fn new(alloc: Global) -> TagNames
+        ensures { result ≡ [] }
+    {
+        TagNames {
+            few: Vec::new(alloc),
+            others: IndexSet::new(alloc),
+        }
+    }
+
+    /// Adds a name, and answers whether it was not there.
+    pub fn insert(&mut self, name: Expanded) -> Result<bool, AllocError>
+        ensures new { IfOk result (λ is_new. is_new ≡ not (list_any (same_name name) self.old)) }
+        ensures added { IfOk result (λ is_new. is_new ≡ true → self.new ≡ self.old ++ name ∷ []) }
+    {
+        if self.few.contains(&name) {
+            return Ok(false);
+        }
+        if self.others.is_empty() && self.few.len() < FEW {
+            self.few.push(name)?;
+            return Ok(true);
+        }
+        Ok(self.others.insert(name)?)
+    }
+
+    /// Forgets all names. The memory of a few is kept, so that a start tag of many names costs no
+    /// other one time.
+    pub fn clear(&mut self, alloc: Global)
+        ensures { self.new ≡ [] }
+    {
+        self.few.clear();
+        if !self.others.is_empty() {
+            self.others = IndexSet::new(alloc);
+        }
+    }
+}
