@@ -1,0 +1,15 @@
+use Rattle.std.proofs.Common.{◌≡◌, ◌++◌}
+use Rattle.std.specs.List.{list_any}
+use Rattle.xs_elements.specs.WhiteSpace.{is_kept_text}
+use Rattle.xs_static.specs.steps.Elements.{records_of}
+use Rattle.xs_tree.specs.Record.{children}
+use Rattle.xs_static.proofs.element.Element.has_misplaced_text.Given as goal
+
+-- whether one of those that are left is such a text
+abbrev pub invariant-loop-child : goal.invariant-loop-child
+invariant-loop-child l =
+    goal.iterator-loop-child.can_next l.child-iterator ×
+    goal.iterator-loop-child.is_finite l.child-iterator ×
+    (l.yielded ++ l.child-iterator ≡ children (records_of l.self) l.self.node) ×
+    (list_any (is_kept_text (records_of l.self) l.self.node) l.child-iterator
+    ≡ list_any (is_kept_text (records_of l.self) l.self.node) (children (records_of l.self) l.self.node))

@@ -1,0 +1,45 @@
+-- The names of global variables and of templates.
+use Rattle.std.specs.Prelude.{ℕ, ◌==◌, ◌&&◌, ◌||◌, not, Bool, true, false, List, [], ◌∷◌, Option, Some, None}
+use Rattle.std.specs.List.{list_any}
+use Rattle.std.specs.Option.{option_map_or}
+use Rattle.xs_modules.specs.Numbering.{ModuleData}
+use Rattle.xs_elements.specs.declared.rows.Row.{Row}
+use Rattle.xs_static.specs.Modules.{Place, records_at, precedence_at, all_contents, is_same_place}
+use Rattle.xs_elements.specs.Nodes.{Name, is_named, own_name}
+use Rattle.xs_elements.specs.Rows.{row_of, is_variable, is_template, is_call_template, is_top_level}
+
+-- an element of this kind with this name
+abbrev pub declares : (Row → Bool) → List ModuleData → Name → Place → Bool
+declares kind ms name p = kind (row_of (records_at ms p.0) p.1) && is_named name (own_name (records_at ms p.0) p.1)
+
+-- whether an element of the top level, anywhere in the stylesheet, is one
+abbrev pub is_declared : (Row → Bool) → List ModuleData → Name → Bool
+is_declared kind ms name = list_any (declares kind ms name) (all_contents ms)
+
+-- a global variable or parameter of this name (XSLT 1.0, 11.4), and a template (6)
+abbrev pub is_global : List ModuleData → Name → Bool
+is_global = is_declared is_variable
+
+abbrev pub is_template_name : List ModuleData → Name → Bool
+is_template_name = is_declared is_template
+
+-- a declaration of this kind and name, at the import precedence of the element at p
+abbrev pub declares_again : (Row → Bool) → List ModuleData → Place → Name → Place → Bool
+declares_again kind ms p name q = declares kind ms name q && precedence_at ms q.0 == precedence_at ms p.0
+
+-- the element at p stands behind one that passes a test
+unfoldable pub stands_behind : (Place → Bool) → Place → List Place → Bool
+stands_behind test p [] = false
+stands_behind test p (q ∷ qs) = (test q && list_any (is_same_place p) qs) || stands_behind test p qs
+
+-- An element of the top level of this kind has the name of one that stands before it in the stylesheet, at the same import precedence.
+abbrev pub is_double : (Row → Bool) → List ModuleData → Place → Bool
+is_double kind ms p =
+    kind (row_of (records_at ms p.0) p.1)
+    && option_map_or (λ name. stands_behind (declares_again kind ms p name) p (all_contents ms)) (own_name (records_at ms p.0) p.1) false
+
+-- a template is called that the stylesheet does not have (XSLT 1.0, 6)
+abbrev pub calls_unknown : List ModuleData → Place → Bool
+calls_unknown ms p =
+    is_call_template (row_of (records_at ms p.0) p.1)
+    && option_map_or (λ name. not (is_template_name ms name)) (own_name (records_at ms p.0) p.1) false

@@ -1,0 +1,323 @@
+//! Attribute sets that use themselves (XSLT 1.0, 7.1.4).
+
+ghost use Rattle.std.specs.Prelude.{◌≡◌, ◌<◌, ◌++◌, length, map, option_map, slice_index};
+ghost use Rattle.std.specs.Prelude.{IfOk, OnOk};
+ghost use Rattle.std.specs.List.{All};
+ghost use Rattle.xs_circles.specs.Declarations.{declared};
+ghost use Rattle.xs_elements.specs.Contents.{is_attribute};
+ghost use Rattle.xs_elements.specs.Nodes.{name_data};
+ghost use Rattle.xs_elements.specs.Rows.{is_attribute_set, row_of};
+ghost use Rattle.xs_elements.specs.Reading.{is_seen};
+ghost use Rattle.xs_modules.specs.Results.{modules_data};
+ghost use Rattle.xs_static.specs.Faults.{IsLeastOf, IsStaticFault};
+ghost use Rattle.xs_static.specs.Modules.{Place, all_contents};
+ghost use Rattle.xs_static.specs.Sets.{attribute_sets, listed, named_sets, names_in, own_sets};
+ghost use Rattle.xs_static.specs.Sets.{sets_value, sets_within};
+ghost use Rattle.xs_static.specs.steps.Circles.{circle_at, declaration_at, declaration_from};
+ghost use Rattle.xs_static.specs.steps.Circles.{declarations_of, declared_as, seen_sets};
+ghost use Rattle.xs_static.specs.steps.Standing.{standing_of};
+ghost use Rattle.xs_static.specs.steps.Whole.{AreStandings, HaveLines, IsPlaceOf};
+ghost use Rattle.xs_tree.specs.Record.{places};
+
+use crate::fault::StaticFault;
+use crate::numbers::CIRCULAR_SET;
+use crate::order::Place;
+use crate::standing::Standing;
+use std::alloc::{AllocError, Global};
+use xs_circles::Declaration;
+use xs_elements::rows::{Row, XSLT_URI, row_of};
+use xs_elements::scope::{Expanded, expanded, own_name, value_of};
+use xs_elements::words::first_word;
+use xs_modules::{Module, Modules};
+use xs_tree::{Node, Tree};
+
+/// The value of the attribute that names the sets that an element uses, if it has one.
+fn sets_value(tree: &Tree, n: Node) -> Option<&str>
+    requires { n < length tree.now }
+    ensures { option_map (λ value. value.now) result
+        ≡ sets_value (row_of tree.now n) tree.now n }
+{
+    match row_of(tree, n) {
+        Row::AttributeSet => value_of(tree, n, "", "use-attribute-sets"),
+        Row::Element => value_of(tree, n, "", "use-attribute-sets"),
+        Row::Copy => value_of(tree, n, "", "use-attribute-sets"),
+        Row::Other => value_of(tree, n, XSLT_URI, "use-attribute-sets"),
+        _ => None,
+    }
+}
+
+/// Adds a name, if there is one.
+fn push_name<'m>(name: Option<Expanded<'m>>, out: &mut Vec<Expanded<'m>>) -> Result<(), AllocError>
+    ensures { OnOk result (map name_data out.new.items
+        ≡ map name_data out.old.items ++ listed (option_map name_data name.entry)) }
+{
+    match name {
+        Some(name) => {
+            out.push(name)?;
+            Ok(())
+        }
+        None => Ok(()),
+    }
+}
+
+/// Adds the names that a list of names at an element has.
+fn push_names<'m>(
+    tree: &'m Tree,
+    n: Node,
+    value: &'m str,
+    out: &mut Vec<Expanded<'m>>,
+) -> Result<(), AllocError>
+    requires { n < length tree.now }
+    ensures { OnOk result (map name_data out.new.items
+        ≡ map name_data out.old.items ++ names_in tree.now n value.now) }
+{
+    let mut rest = value;
+    while let Some((word, behind)) = first_word(rest) {
+        push_name(expanded(tree, n, word), out)?;
+        rest = behind;
+    }
+    Ok(())
+}
+
+/// Adds the sets that a node names.
+fn push_named_sets<'m>(
+    tree: &'m Tree,
+    n: Node,
+    out: &mut Vec<Expanded<'m>>,
+) -> Result<(), AllocError>
+    requires { n < length tree.now }
+    ensures { OnOk result (map name_data out.new.items
+        ≡ map name_data out.old.items ++ named_sets tree.now n) }
+{
+    match sets_value(tree, n) {
+        Some(value) => push_names(tree, n, value, out),
+        None => Ok(()),
+    }
+}
+
+/// Whether a node is looked at.
+fn is_seen(tree: &Tree, standings: &[Standing], n: Node) -> bool
+    requires inside { n < length tree.now }
+    requires table { standings.now ≡ map (standing_of tree.now) (places tree.now) }
+    ensures { result ≡ is_seen tree.now n }
+{
+    let _count = tree.len();
+    standings[n.place() as usize].is_seen
+}
+
+/// Adds the sets that a node names, if it is looked at.
+fn push_seen_sets<'m>(
+    tree: &'m Tree,
+    standings: &[Standing],
+    n: Node,
+    out: &mut Vec<Expanded<'m>>,
+) -> Result<(), AllocError>
+    requires inside { n < length tree.now }
+    requires table { standings.now ≡ map (standing_of tree.now) (places tree.now) }
+    ensures { OnOk result (map name_data out.new.items
+        ≡ map name_data out.old.items ++ seen_sets tree.now n) }
+{
+    if is_seen(tree, standings, n) {
+        return push_named_sets(tree, n, out);
+    }
+    Ok(())
+}
+
+/// Adds the sets that an element and those inside it name, as far as they are looked at.
+fn push_sets_within<'m>(
+    tree: &'m Tree,
+    standings: &[Standing],
+    n: Node,
+    out: &mut Vec<Expanded<'m>>,
+) -> Result<(), AllocError>
+    requires inside { n < length tree.now }
+    requires table { standings.now ≡ map (standing_of tree.now) (places tree.now) }
+    ensures { OnOk result (map name_data out.new.items
+        ≡ map name_data out.old.items ++ sets_within tree.now n) }
+{
+    let end = tree.subtree_end(n);
+    for place in n.place()..end {
+        push_seen_sets(tree, standings, Node::at(place), out)?;
+    }
+    Ok(())
+}
+
+/// Whether an element is an `xsl:attribute`.
+fn is_attribute(row: Row) -> bool
+    ensures { result ≡ is_attribute row }
+{
+    matches!(row, Row::Attribute)
+}
+
+/// Adds the sets that a child of a declaration uses, which is to be an `xsl:attribute`.
+fn push_attribute_sets<'m>(
+    tree: &'m Tree,
+    standings: &[Standing],
+    child: Node,
+    out: &mut Vec<Expanded<'m>>,
+) -> Result<(), AllocError>
+    requires inside { child < length tree.now }
+    requires table { standings.now ≡ map (standing_of tree.now) (places tree.now) }
+    ensures { OnOk result (map name_data out.new.items
+        ≡ map name_data out.old.items ++ attribute_sets tree.now child) }
+{
+    if is_attribute(row_of(tree, child)) {
+        return push_sets_within(tree, standings, child, out);
+    }
+    Ok(())
+}
+
+/// The sets that a declaration uses itself.
+fn own_sets<'m>(
+    alloc: Global,
+    tree: &'m Tree,
+    standings: &[Standing],
+    n: Node,
+) -> Result<Vec<Expanded<'m>>, AllocError>
+    requires inside { n < length tree.now }
+    requires table { standings.now ≡ map (standing_of tree.now) (places tree.now) }
+    ensures { IfOk result (λ sets. map name_data sets.items ≡ own_sets tree.now n) }
+{
+    let mut sets = Vec::new(alloc);
+    push_named_sets(tree, n, &mut sets)?;
+    for child in tree.children(n) {
+        push_attribute_sets(tree, standings, child, &mut sets)?;
+    }
+    Ok(sets)
+}
+
+/// Whether an element declares an attribute set.
+fn is_attribute_set(row: Row) -> bool
+    ensures { result ≡ is_attribute_set row }
+{
+    matches!(row, Row::AttributeSet)
+}
+
+/// Adds the declaration that an element of a module is, where it has a name.
+fn push_named<'m>(
+    alloc: Global,
+    module: &'m Module,
+    number: u32,
+    standings: &[Standing],
+    n: Node,
+    name: Option<Expanded<'m>>,
+    out: &mut Vec<Declaration<'m>>,
+) -> Result<(), AllocError>
+    requires inside { n < length module.now.tree }
+    requires lines { length module.now.lines.items ≡ length module.now.tree }
+    requires table { standings.now
+        ≡ map (standing_of module.now.tree) (places module.now.tree) }
+    ensures { OnOk result (map declared out.new.items ≡ map declared out.old.items
+        ++ declared_as module.now.tree (slice_index module.now.lines.items n) («number», n)
+        (option_map name_data name.entry)) }
+{
+    let Some(name) = name else {
+        return Ok(());
+    };
+    let sets = own_sets(alloc, &module.tree, standings, n)?;
+    let place = xs_circles::Place {
+        module: number,
+        line: module.lines[n.place() as usize],
+    };
+    out.push(Declaration { place, name, sets })?;
+    Ok(())
+}
+
+/// Adds the declaration that an element of a module is, if it is one and has a name.
+fn push_in<'m>(
+    alloc: Global,
+    module: &'m Module,
+    number: u32,
+    standings: &[Standing],
+    n: Node,
+    out: &mut Vec<Declaration<'m>>,
+) -> Result<(), AllocError>
+    requires inside { n < length module.now.tree }
+    requires lines { length module.now.lines.items ≡ length module.now.tree }
+    requires table { standings.now
+        ≡ map (standing_of module.now.tree) (places module.now.tree) }
+    ensures { OnOk result (map declared out.new.items ≡ map declared out.old.items
+        ++ declaration_from module.now.tree (slice_index module.now.lines.items n)
+        («number», n)) }
+{
+    if is_attribute_set(row_of(&module.tree, n)) {
+        let name = own_name(&module.tree, n);
+        return push_named(alloc, module, number, standings, n, name, out);
+    }
+    Ok(())
+}
+
+/// Adds the declaration that an element of a stylesheet is, if it is one and has a name.
+fn push_declaration<'m>(
+    alloc: Global,
+    modules: &'m Modules,
+    standings: &[Vec<Standing>],
+    place: Place,
+    out: &mut Vec<Declaration<'m>>,
+) -> Result<(), AllocError>
+    requires inside { IsPlaceOf (modules_data modules.now) place }
+    requires lines { HaveLines (modules_data modules.now) }
+    requires standings { AreStandings (modules_data modules.now) standings.now }
+    ensures { OnOk result (map declared out.new.items ≡ map declared out.old.items
+        ++ declaration_at (modules_data modules.now) place) }
+{
+    let (number, n) = place;
+    let module = &modules.list[number as usize];
+    let table = &standings[number as usize];
+    push_in(alloc, module, number, table, n, out)
+}
+
+/// The declarations of attribute sets that have names.
+fn declarations<'m>(
+    alloc: Global,
+    modules: &'m Modules,
+    contents: &[Place],
+    standings: &[Vec<Standing>],
+) -> Result<Vec<Declaration<'m>>, AllocError>
+    requires inside { All (IsPlaceOf (modules_data modules.now)) contents.now }
+    requires lines { HaveLines (modules_data modules.now) }
+    requires standings { AreStandings (modules_data modules.now) standings.now }
+    ensures { IfOk result (λ found. map declared found.items
+        ≡ declarations_of (modules_data modules.now) contents.now) }
+{
+    let mut found = Vec::new(alloc);
+    for place in contents {
+        push_declaration(alloc, modules, standings, *place, &mut found)?;
+    }
+    Ok(found)
+}
+
+/// The least fault of a declaration of an attribute set whose own sets lead back to its name, by
+/// the elements of the top level in the order of the stylesheet and how the nodes of each module
+/// stand.
+pub(crate) fn first_circle(
+    alloc: Global,
+    modules: &Modules,
+    contents: &[Place],
+    standings: &[Vec<Standing>],
+) -> Result<Option<StaticFault>, AllocError>
+    requires contents { contents.now ≡ all_contents (modules_data modules.now) }
+    requires inside { All (IsPlaceOf (modules_data modules.now)) contents.now }
+    requires lines { HaveLines (modules_data modules.now) }
+    requires standings { AreStandings (modules_data modules.now) standings.now }
+    ensures { IfOk result (λ fault. IsLeastOf
+        (λ f. IsStaticFault (modules_data modules.now) f × (f.number ≡ 44)) fault) }
+{
+    let declarations = declarations(alloc, modules, contents, standings)?;
+    let place = xs_circles::first_circle(alloc, &declarations)?;
+    Ok(circle_at(place))
+}
+
+/// The fault of a circular declaration at a place, if there is one.
+fn circle_at(place: Option<xs_circles::Place>) -> Option<StaticFault>
+    ensures { result ≡ circle_at place }
+{
+    match place {
+        Some(place) => Some(StaticFault {
+            module: place.module,
+            line: place.line,
+            number: CIRCULAR_SET,
+        }),
+        None => None,
+    }
+}
