@@ -6,7 +6,6 @@ use Rattle.xs_outside.specs.Edge.{Files}
 use Rattle.xs_build.specs.Document.{document, refused}
 use Rattle.xs_tree.specs.Record.{Record}
 use Rattle.xs_engine.specs.Read.{Read}
-use Rattle.xs_engine.specs.Sheet.{Template, module_limit, sheet_read, sheet_of}
 use Rattle.xs_engine.specs.Run.{source_of, source_read, source_limit}
 use Rattle.xs_engine.specs.Reply.{FileGives}
 
@@ -44,17 +43,9 @@ cut_gives : {A : Type 0} (reading : List ℕ → Read A) (limit : ℕ) (files : 
 cut_gives reading limit None name bytes found cut h e = record { bytes = bytes; holds = tt; gives = e }
 cut_gives reading limit (Some map) name bytes found cut h e = told_gives reading limit map name bytes found cut (map name) refl h e
 
-sheet_takes : (bytes : List ℕ) → sheet_of (take (module_limit + 1) bytes) ≡ sheet_of bytes
-unfolding sheet_of
-sheet_takes bytes = ap sheet_read (document_takes module_limit bytes)
-
 source_takes : (bytes : List ℕ) → source_of (take (source_limit + 1) bytes) ≡ source_of bytes
 unfolding source_of
 source_takes bytes = ap source_read (document_takes source_limit bytes)
-
-pub sheet_gives : (files : Option Files) (name bytes : List ℕ) (found : Read Template)
-    → IfSome files (λ f. MatchOption (f name) ⊥ (λ b. bytes ≡ take (module_limit + 1) b)) → found ≡ sheet_of bytes → FileGives sheet_of files name found
-sheet_gives files name bytes found h e = cut_gives sheet_of module_limit files name bytes found sheet_takes h e
 
 pub source_gives : (files : Option Files) (name bytes : List ℕ) (found : Read (List Record))
     → IfSome files (λ f. MatchOption (f name) ⊥ (λ b. bytes ≡ take (source_limit + 1) b)) → found ≡ source_of bytes → FileGives source_of files name found

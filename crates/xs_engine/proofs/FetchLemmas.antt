@@ -1,67 +1,107 @@
--- What a run asked for, by the answers of its two readings.
-use Rattle.std.proofs.Common.{◌≡◌, ◌∙◌, ap, sym, ℕ, List, [], ◌∷◌, ◌++◌, Option, Some, None, Result, Ok, Err, IfSome, inl, inr, append-nil, append_assoc, subst}
+-- What a run asked for, by the answers of its readings.
+use Rattle.std.proofs.Common.{◌≡◌, ◌∙◌, ap, sym, ℕ, List, [], ◌∷◌, ◌++◌, Option, Some, None, Result, Ok, Err, inl, inr, append-nil, append_assoc, subst, refl}
 use Rattle.xs_outside.specs.Edge.{Files, failed_after}
 use Rattle.xs_outside.specs.declared.edge.FetchEnd.{FetchEnd}
 use Rattle.xs_outside.specs.declared.edge.FetchEnd.TheVariants.{Failed, NoMemory}
-use Rattle.xs_engine.specs.Words.{Job}
-use Rattle.xs_engine.specs.Read.{Read, read, IsRead}
-use Rattle.xs_engine.specs.Sheet.{Template, sheet_of}
-use Rattle.xs_engine.specs.Fetches.{HasSheet, nothing, failed_sheet, sheet_alone, failed_source, both, JobFetches}
-use Rattle.xs_engine.specs.Reply.{AsksFor, FileGives}
+use Rattle.xs_modules.specs.Mentions.{named_by_words}
+use Rattle.xs_modules.specs.Mentioned.{Mentioned}
+use Rattle.xs_modules.specs.Numbering.{ModuleData, numbered}
+use Rattle.xs_modules.specs.Reading.{End, whole, out_of_memory, out_before, failed_names}
+use Rattle.xs_modules.specs.Results.{ComesTo}
+use Rattle.xs_static.specs.Faults.{IsFirstFault}
+use Rattle.xs_engine.specs.Job.{Job}
+use Rattle.xs_engine.specs.Sheet.{Template, sheet_in}
+use Rattle.xs_engine.specs.Fetches.{ReadsSheet, sheet_asked, source_asked, source_failed, Grew, JobFetches, Fetches, GoesOn}
+use Rattle.xs_engine.specs.Reply.{AsksFor, AsksSource, unasked, fetched, failed}
 
 -- the names of a list that stays
 stays : (xs ys : List (List ℕ)) → ys ≡ xs → ys ≡ xs ++ []
 stays xs ys e = e ∙ sym (append-nil xs)
 
--- two names, one after the other
-two : (xs ms ys : List (List ℕ)) (a b : List ℕ) → ms ≡ xs ++ a ∷ [] → ys ≡ ms ++ b ∷ [] → ys ≡ xs ++ a ∷ b ∷ []
-two xs ms ys a b first second = second ∙ ap (λ m. m ++ b ∷ []) first ∙ append_assoc xs (a ∷ []) (b ∷ [])
+-- nothing was asked for
+pub nothing_asked : (job : Option Job) (files : Option Files) (asked faults : List (List ℕ)) → Fetches job files asked asked faults faults
+nothing_asked None files asked faults = (refl, refl)
+nothing_asked (Some job) files asked faults =
+    record { names = []; faults = []; asked = stays asked asked refl; failed = stays faults faults refl; asks = sheet_asked {end = out_of_memory} out_before }
 
--- the stylesheet was asked for, and nothing else
-pub after_sheet : {A : Type 0} (r : Result A FetchEnd) (job : Job) (files : Option Files) (asked asked' failed failed' : List (List ℕ))
-    → AsksFor r job.sheet asked asked' → failed' ≡ failed_after r job.sheet failed → JobFetches job files asked asked' failed failed'
-after_sheet (Ok x) job files asked asked' failed failed' a f =
-    record { names = job.sheet ∷ []; faults = []; asked = a; failed = stays failed failed' f; asks = sheet_alone }
-after_sheet (Err Failed) job files asked asked' failed failed' a f =
-    record { names = job.sheet ∷ []; faults = job.sheet ∷ []; asked = a; failed = f; asks = failed_sheet }
-after_sheet (Err NoMemory) job files asked asked' failed failed' (inl a) f =
-    record { names = []; faults = []; asked = stays asked asked' a; failed = stays failed failed' f; asks = nothing }
-after_sheet (Err NoMemory) job files asked asked' failed failed' (inr a) f =
-    record { names = job.sheet ∷ []; faults = []; asked = a; failed = stays failed failed' f; asks = sheet_alone }
+-- what a run of a job asked for is what the run asked for whose words ask for that job
+pub job_asked : (job : Option Job) (own : Job) (files : Option Files) (a b f g : List (List ℕ)) → job ≡ Some own → JobFetches own files a b f g
+    → Fetches job files a b f g
+job_asked job own files a b f g is fetches = subst (λ j. Fetches j files a b f g) (sym is) fetches
 
--- and, once it was read, the source
-pub after_source : {A : Type 0} (r : Result A FetchEnd) (job : Job) (files : Option Files) (asked middle asked' failed failing failed' : List (List ℕ))
-    → IfSome files (λ map. HasSheet map job.sheet) → middle ≡ asked ++ job.sheet ∷ [] → failing ≡ failed
-    → AsksFor r job.source middle asked' → failed' ≡ failed_after r job.source failing → JobFetches job files asked asked' failed failed'
-after_source (Ok x) job files asked middle asked' failed failing failed' has m g a f = record {
-  names = job.sheet ∷ job.source ∷ [];
-  faults = [];
-  asked = two asked middle asked' job.sheet job.source m a;
-  failed = stays failed failed' (f ∙ g);
-  asks = both has;
-}
-after_source (Err Failed) job files asked middle asked' failed failing failed' has m g a f = record {
-  names = job.sheet ∷ job.source ∷ [];
-  faults = job.source ∷ [];
-  asked = two asked middle asked' job.sheet job.source m a;
-  failed = f ∙ ap (λ n. n ++ job.source ∷ []) g;
-  asks = failed_source has;
-}
-after_source (Err NoMemory) job files asked middle asked' failed failing failed' has m g (inl a) f =
-    record { names = job.sheet ∷ []; faults = []; asked = a ∙ m; failed = stays failed failed' (f ∙ g); asks = sheet_alone }
-after_source (Err NoMemory) job files asked middle asked' failed failing failed' has m g (inr a) f = record {
-  names = job.sheet ∷ job.source ∷ [];
-  faults = [];
-  asked = two asked middle asked' job.sheet job.source m a;
-  failed = stays failed failed' (f ∙ g);
-  asks = both has;
-}
+-- what comes of a stylesheet, by its name in the job
+pub named : (end : End) (files : Option Files) (name sheet : List ℕ) (a b f g : List (List ℕ)) → name ≡ sheet
+    → ComesTo end files [] 0 (named_by_words name ∷ []) a b f g → ComesTo end files [] 0 (named_by_words sheet ∷ []) a b f g
+named end files name sheet a b f g same comes = subst (λ n. ComesTo end files [] 0 (named_by_words n ∷ []) a b f g) same comes
 
-was_read : (sheet : Template) (found : Read Template) → read sheet ≡ found → IsRead found
-was_read sheet found e = subst IsRead e tt
+-- modules were asked for, and nothing else
+pub modules_asked : (job : Job) (files : Option Files) (end : End) (a b f g : List (List ℕ))
+    → ComesTo end files [] 0 (named_by_words job.sheet ∷ []) a b f g → JobFetches job files a b f g
+modules_asked job files end a b f g comes =
+    record { names = comes.names; faults = failed_names end; asked = comes.asks; failed = comes.fails; asks = sheet_asked comes.reads }
 
--- a stylesheet that was read is one that the library has
-pub sheet_there : (files : Option Files) (name : List ℕ) (sheet : Template) → FileGives sheet_of files name (read sheet)
-    → IfSome files (λ map. HasSheet map name)
-sheet_there None name sheet found = tt
-sheet_there (Some map) name sheet found = rw found.holds (was_read sheet (sheet_of found.bytes) found.gives)
+-- a list grew twice
+joined : (xs ms ys first second : List (List ℕ)) → ms ≡ xs ++ first → ys ≡ ms ++ second → ys ≡ xs ++ (first ++ second)
+joined xs ms ys first second e f = f ∙ ap (λ m. m ++ second) e ∙ append_assoc xs first second
+
+module _ (job : Job) (files : Option Files) (read : Mentioned) (a m b f n g : List (List ℕ)) where
+  -- by the names of the modules, and then by these
+  both_asked : (names later faults : List (List ℕ)) → ReadsSheet files job.sheet names (whole read) → m ≡ a ++ names → n ≡ f ++ []
+      → b ≡ m ++ later → g ≡ n ++ faults → AsksSource job (numbered read) later faults → JobFetches job files a b f g
+  both_asked names later faults reads ma nf bm gn unasked = record {
+    names = names;
+    faults = [];
+    asked = bm ∙ append-nil m ∙ ma;
+    failed = gn ∙ append-nil n ∙ nf;
+    asks = sheet_asked reads;
+  }
+  both_asked names later faults reads ma nf bm gn (fetched is) = record {
+    names = names ++ later;
+    faults = [];
+    asked = joined a m b names later ma bm;
+    failed = gn ∙ append-nil n ∙ nf;
+    asks = source_asked reads is;
+  }
+  both_asked names later faults reads ma nf bm gn (failed is) = record {
+    names = names ++ later;
+    faults = faults;
+    asked = joined a m b names later ma bm;
+    failed = joined f n g [] faults nf gn;
+    asks = source_failed reads is;
+  }
+
+-- the modules were read, and then the source was asked for or not
+pub all_asked : (job : Job) (files : Option Files) (read : Mentioned) (modules : List ModuleData) (a m b f n g : List (List ℕ))
+    → ComesTo (whole read) files [] 0 (named_by_words job.sheet ∷ []) a m f n → modules ≡ numbered read
+    → Grew (AsksSource job modules) m b n g → JobFetches job files a b f g
+all_asked job files read modules a m b f n g comes are grew =
+    both_asked job files read a m b f n g comes.names grew.names grew.faults comes.reads comes.asks comes.fails grew.asked grew.failed
+    (subst (λ ms. AsksSource job ms grew.names grew.faults) are grew.asks)
+
+-- the source was not asked for
+pub source_left : (job : Job) (modules : List ModuleData) (a b f g : List (List ℕ)) → b ≡ a → g ≡ f → Grew (AsksSource job modules) a b f g
+source_left job modules a b f g asked faults =
+    record { names = []; faults = []; asked = stays a b asked; failed = stays f g faults; asks = unasked }
+
+-- a run on a source goes on to it, where the stylesheet has no static fault and is built
+going_on : (job : Job) (modules : List ModuleData) (sheet : Template) (source : List ℕ) → job.source ≡ Some source → IsFirstFault modules None
+    → Some sheet ≡ sheet_in modules → GoesOn job modules source
+going_on job modules sheet source run none some = record { run = run; faultless = none; built = rw (sym some) tt }
+
+asks_as : {A : Type 0} (r : Result A FetchEnd) (name : List ℕ) (job : Job) (modules : List ModuleData) (a b f g : List (List ℕ))
+    → GoesOn job modules name → AsksFor r name a b → g ≡ failed_after r name f → Grew (AsksSource job modules) a b f g
+asks_as (Ok x) name job modules a b f g is asked faults =
+    record { names = name ∷ []; faults = []; asked = asked; failed = stays f g faults; asks = fetched is }
+asks_as (Err Failed) name job modules a b f g is asked faults =
+    record { names = name ∷ []; faults = name ∷ []; asked = asked; failed = faults; asks = failed is }
+asks_as (Err NoMemory) name job modules a b f g is (inl asked) faults =
+    record { names = []; faults = []; asked = stays a b asked; failed = stays f g faults; asks = unasked }
+asks_as (Err NoMemory) name job modules a b f g is (inr asked) faults =
+    record { names = name ∷ []; faults = []; asked = asked; failed = stays f g faults; asks = fetched is }
+
+-- the source was asked for
+pub after_source : {A : Type 0} (r : Result A FetchEnd) (name source : List ℕ) (job : Job) (modules : List ModuleData) (sheet : Template)
+    (a b f g : List (List ℕ)) → name ≡ source → job.source ≡ Some source → IsFirstFault modules None → Some sheet ≡ sheet_in modules
+    → AsksFor r name a b → g ≡ failed_after r name f → Grew (AsksSource job modules) a b f g
+after_source r name source job modules sheet a b f g same run none some asked faults =
+    asks_as r name job modules a b f g (going_on job modules sheet name (run ∙ ap Some (sym same)) none some) asked faults

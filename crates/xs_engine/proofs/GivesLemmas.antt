@@ -3,10 +3,10 @@ use Rattle.std.proofs.Common.{◌≡◌, ℕ, List, [], Option, Some, None, refl
 use Rattle.xs_outside.specs.Edge.{Files}
 use Rattle.xs_engine.specs.declared.status.TheConstants.{NO_MEMORY}
 use Rattle.xs_engine.specs.Answer.{Answer}
-use Rattle.xs_engine.specs.Words.{Job}
-use Rattle.xs_engine.specs.Fetches.{OverFiles}
-use Rattle.xs_engine.specs.Headline.{Gained, IsWritten, Gives}
-use Rattle.xs_engine.proofs.DueLemmas.{over_any, over_same}
+use Rattle.xs_engine.specs.Job.{Job}
+use Rattle.xs_engine.specs.Headline.{Gained, IsWritten, Gives, OnlyDue}
+use Rattle.xs_engine.specs.Due.{IsDue}
+use Rattle.xs_engine.proofs.DueLemmas.{each_due, only_due}
 
 -- a sink that was not written to holds what it held, and nothing more
 pub stays : (held : Option (List ℕ)) (P : List ℕ → Type 0) → P [] → Gained held held P
@@ -28,16 +28,16 @@ nothing_given answer status ticks out err e = record {
   ticks = λ other. absurd (other e);
 }
 
--- and so it is whatever the files
-pub gives_nothing : (told : Option Files) (job : Option Job) (due : Option (List ℕ) → Option (List ℕ) → Answer) (status ticks : ℕ)
-    (out err : Option (List ℕ)) → status ≡ NO_MEMORY → OverFiles told job (λ sheet source. Gives (due sheet source) status ticks out out err err)
-gives_nothing told job due status ticks out err e =
-    over_any told job _ (λ sheet source. nothing_given (due sheet source) status ticks out err e)
+-- and so it is whatever is due
+pub gives_nothing : (files : Option Files) (job : Option Job) (failed failed' : List (List ℕ)) (status ticks : ℕ) (out err : Option (List ℕ))
+    → status ≡ NO_MEMORY → OnlyDue files job failed failed' (λ due. Gives due status ticks out out err err)
+gives_nothing files job failed failed' status ticks out err e =
+    each_due files job failed failed' (λ due. Gives due status ticks out out err err) (λ due. nothing_given due status ticks out err e)
 
--- an answer that was written is the one that is due
-pub gives_due : (told : Option Files) (job : Option Job) (due : Option (List ℕ) → Option (List ℕ) → Answer) (answer : Answer) (status ticks : ℕ)
-    (out out' err err' : Option (List ℕ)) → OverFiles told job (λ sheet source. answer ≡ due sheet source) → Gives answer status ticks out out' err err'
-    → OverFiles told job (λ sheet source. Gives (due sheet source) status ticks out out' err err')
-gives_due told job due answer status ticks out out' err err' owed given =
-    over_same told job (λ sheet source. answer ≡ due sheet source) (λ sheet source. Gives (due sheet source) status ticks out out' err err')
-    (λ sheet source e. subst (λ a. Gives a status ticks out out' err err') e given) owed
+-- what was given is all that is due
+pub gives_only : (files : Option Files) (job : Option Job) (failed failed' : List (List ℕ)) (a : Answer) (status status' ticks ticks' : ℕ)
+    (out out' err err' : Option (List ℕ)) → IsDue files job failed failed' a → status' ≡ status → ticks' ≡ ticks
+    → Gives a status ticks out out' err err' → OnlyDue files job failed failed' (λ due. Gives due status' ticks' out out' err err')
+gives_only files job failed failed' a status status' ticks ticks' out out' err err' due e f gives =
+    only_due files job failed failed' a (λ due. Gives due status' ticks' out out' err err') due
+    (subst (λ s. Gives a s ticks' out out' err err') (sym e) (subst (λ t. Gives a status t out out' err err') (sym f) gives))

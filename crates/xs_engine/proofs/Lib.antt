@@ -1,7 +1,9 @@
 pub mod CutFileLemmas
-pub mod DigitLemmas
 pub mod DueLemmas
 pub mod EndLemmas
 pub mod FetchLemmas
+pub mod FirstFaultLemmas
 pub mod GivesLemmas
 pub mod ItemLemmas
+pub mod JobLemmas
+pub mod SheetLemmas

@@ -19,7 +19,9 @@ pub record Answer : Type 0 where
 
 -- the line that refuses the words
 abbrev pub usage_line : List ℕ
-usage_line = codes "usage: xslt [--budget N] [--workers N] [--grain N] [--stats] [--check] [--load N] SHEET SOURCE [name=text]..." ++ 10 ∷ []
+usage_line =
+    codes "usage: xslt [--budget N] [--max-events N] [--workers N] [--grain N] [--stats] [--profile] [--at N] [--stream] "
+    ++ codes "[--check] [--load N] SHEET SOURCE [name=text]... [@name=path]..." ++ 10 ∷ []
 
 -- the line of a fault: its number and name, the module, written as PYX data, and the line in it; line 0 is the module as a whole
 abbrev pub fault_line : ℕ → List ℕ → ℕ → List ℕ
@@ -41,6 +43,10 @@ read_fault name = record { status = READ_FAULT; result = []; lines = fault_line 
 -- a file is refused: it has this fault at this line
 abbrev pub refused_file : ℕ → List ℕ → ℕ → Answer
 refused_file fault name line = record { status = REFUSED; result = []; lines = fault_line fault name line; ticks = 0 }
+
+-- a stylesheet that was only checked has no fault
+abbrev pub faultless : Answer
+faultless = record { status = OK; result = []; lines = []; ticks = 0 }
 
 -- a file holds what is not built yet
 abbrev pub not_built : List ℕ → Answer

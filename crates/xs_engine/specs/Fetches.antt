@@ -1,39 +1,47 @@
--- What a run asks its library for, and the files that it is judged by.
-use Rattle.std.specs.Prelude.{◌≡◌, ℕ, List, [], ◌∷◌, ◌++◌, Option, Some, None, IfSome, IsSomeAnd}
+-- What a run asks its library for.
+use Rattle.std.specs.Prelude.{◌≡◌, ℕ, List, [], ◌∷◌, ◌++◌, Option, Some, None}
 use Rattle.xs_outside.specs.Edge.{Files}
-use Rattle.xs_engine.specs.Words.{Job}
-use Rattle.xs_engine.specs.Read.{IsRead}
-use Rattle.xs_engine.specs.Sheet.{sheet_of}
+use Rattle.xs_modules.specs.Mentions.{named_by_words}
+use Rattle.xs_modules.specs.Mentioned.{Mentioned}
+use Rattle.xs_modules.specs.Numbering.{ModuleData, numbered}
+use Rattle.xs_modules.specs.Reading.{End, whole, Reads, failed_names}
+use Rattle.xs_static.specs.Faults.{IsFirstFault}
+use Rattle.xs_engine.specs.Job.{Job}
+use Rattle.xs_engine.specs.Sheet.{IsBuilt}
 
--- the stylesheet is in the map, and it stands for a template
-abbrev pub HasSheet : Files → List ℕ → Type 0
-HasSheet files name = IsSomeAnd (files name) (λ bytes. IsRead (sheet_of bytes))
+-- The reading of a stylesheet's modules asks for these names, in order, and comes to this end (XSLT 1.0, 2.6).
+abbrev pub ReadsSheet : Option Files → List ℕ → List (List ℕ) → End → Type 0
+ReadsSheet files sheet names end = Reads files [] 0 (named_by_words sheet ∷ []) names end
 
--- The names that a job asked for, in order, and those of them whose fetch failed: its stylesheet, and once that was read, its
--- source; or neither, where memory was wanting. Nothing is asked for after a failure, and neither word again.
+-- A run on this source goes on to it: the stylesheet has no static fault, and is built.
+pub record GoesOn (job : Job) (modules : List ModuleData) (source : List ℕ) : Type 0 where
+  pub run : job.source ≡ Some source
+  pub faultless : IsFirstFault modules None
+  pub built : IsBuilt modules
+
+-- The names that a job asked for, in order, and those of them whose fetch failed: the modules of its stylesheet, as far as the
+-- reading came; and, once all were read and have no static fault, and the stylesheet is built, the source. So nothing is asked for
+-- after a failure.
 pub data Asks (job : Job) (files : Option Files) : List (List ℕ) → List (List ℕ) → Type 0 where
-  nothing : Asks job files [] []
-  failed_sheet : Asks job files (job.sheet ∷ []) (job.sheet ∷ [])
-  sheet_alone : Asks job files (job.sheet ∷ []) []
-  failed_source : IfSome files (λ map. HasSheet map job.sheet) → Asks job files (job.sheet ∷ job.source ∷ []) (job.source ∷ [])
-  both : IfSome files (λ map. HasSheet map job.sheet) → Asks job files (job.sheet ∷ job.source ∷ []) []
+  sheet_asked : {names : List (List ℕ)} {end : End} → ReadsSheet files job.sheet names end → Asks job files names (failed_names end)
+  source_asked : {names : List (List ℕ)} {read : Mentioned} {source : List ℕ} → ReadsSheet files job.sheet names (whole read)
+      → GoesOn job (numbered read) source → Asks job files (names ++ source ∷ []) []
+  source_failed : {names : List (List ℕ)} {read : Mentioned} {source : List ℕ} → ReadsSheet files job.sheet names (whole read)
+      → GoesOn job (numbered read) source → Asks job files (names ++ source ∷ []) (source ∷ [])
 
--- in a run of this job both lists of a library grew by these names
-pub record JobFetches (job : Job) (files : Option Files) (before after failed_before failed_after : List (List ℕ)) : Type 0 where
+-- both lists of a library grew, by names of which P says what was asked for and what failed
+pub record Grew (P : List (List ℕ) → List (List ℕ) → Type 0) (before after failed_before failed_after : List (List ℕ)) : Type 0 where
   pub names : List (List ℕ)
   pub faults : List (List ℕ)
   pub asked : after ≡ before ++ names
   pub failed : failed_after ≡ failed_before ++ faults
-  pub asks : Asks job files names faults
+  pub asks : P names faults
+
+-- what a run of a job asked for
+abbrev pub JobFetches : Job → Option Files → (asked asked_after failed failed_after : List (List ℕ)) → Type 0
+JobFetches job files asked asked_after failed failed_after = Grew (Asks job files) asked asked_after failed failed_after
 
 -- Refused words ask for nothing.
 abbrev pub Fetches : Option Job → Option Files → (asked asked_after failed failed_after : List (List ℕ)) → Type 0
 Fetches None files asked asked_after failed failed_after = (asked_after ≡ asked) × (failed_after ≡ failed)
 Fetches (Some job) files asked asked_after failed failed_after = JobFetches job files asked asked_after failed failed_after
-
--- P of the two files of a job, as its stylesheet and its source were read; None is a name that has no file. They are those that
--- the library tells. Where it tells none, there are such two. Refused words have none.
-abbrev pub OverFiles : Option Files → Option Job → (Option (List ℕ) → Option (List ℕ) → Type 0) → Type 0
-OverFiles None job P = (sheet : Option (List ℕ)) × (source : Option (List ℕ)) × P sheet source
-OverFiles (Some files) None P = P None None
-OverFiles (Some files) (Some job) P = P (files job.sheet) (files job.source)

@@ -1,24 +1,20 @@
 -- What holds after a run, whatever its words, files, sinks, workers and schedule.
-use Rattle.std.specs.Prelude.{◌≡◌, ◌≢◌, ℕ, ◌⊎◌, List, [], ◌∷◌, ◌++◌, Option, Some, None, IfSome, drop, length}
-use Rattle.xs_outside.specs.Edge.{IsBeginning, raised}
+use Rattle.std.specs.Prelude.{◌≡◌, ◌≢◌, ℕ, ◌⊎◌, List, [], ◌++◌, Option, Some, None, IfSome}
+use Rattle.xs_outside.specs.Edge.{Files, IsBeginning, raised}
 use Rattle.xs_engine.specs.declared.status.TheConstants.{OK, RUN_FAULT, WRITE_FAULT, NO_MEMORY}
-use Rattle.xs_engine.specs.Answer.{Answer, usage, read_fault}
-use Rattle.xs_engine.specs.Words.{Job}
-use Rattle.xs_engine.specs.Run.{run_answer}
+use Rattle.xs_engine.specs.Answer.{Answer}
+use Rattle.xs_engine.specs.Due.{IsDue}
+use Rattle.xs_engine.specs.Job.{Job}
 
--- Refused words have their answer whatever the files.
-abbrev pub answers : Option Job → (sheet source : Option (List ℕ)) → Answer
-answers None sheet source = usage
-answers (Some job) sheet source = run_answer job sheet source
+-- P of an answer that is due. Where the library tells its files there is one alone (`OnlyDue`); where it tells none, these are some
+-- files of which it is due.
+abbrev pub OfDue : Option Files → Option Job → (failed failed_after : List (List ℕ)) → (Answer → Type 0) → Type 0
+OfDue files job failed failed_after P = (answer : Answer) × IsDue files job failed failed_after answer × P answer
 
-abbrev pub due_after : List (List ℕ) → Answer → Answer
-due_after [] answer = answer
-due_after (name ∷ names) answer = read_fault name
-
--- The answer that a run owes over these two files: what the words and the files define; or, where the library's list of failed
--- names grew in this run, the fault on the name that was added.
-abbrev pub due : Option Job → (sheet source : Option (List ℕ)) → (failed failed_after : List (List ℕ)) → Answer
-due job sheet source failed failed_after = due_after (drop (length failed) failed_after) (answers job sheet source)
+-- where the library tells its files, P of whatever answer is due
+abbrev pub OnlyDue : Option Files → Option Job → (failed failed_after : List (List ℕ)) → (Answer → Type 0) → Type 0
+OnlyDue None job failed failed_after P = Unit {0}
+OnlyDue (Some files) job failed failed_after P = (answer : Answer) → IsDue (Some files) job failed failed_after answer → P answer
 
 -- A sink that tells its bytes holds what it held and then this many more.
 abbrev pub Gained : Option (List ℕ) → Option (List ℕ) → (List ℕ → Type 0) → Type 0

@@ -1,11 +1,11 @@
 pub mod Answer
-pub mod Asked
+pub mod Due
 pub mod Faults
 pub mod Fetches
 pub mod Headline
 pub mod Items
+pub mod Job
 pub mod Read
 pub mod Reply
 pub mod Run
 pub mod Sheet
-pub mod Words

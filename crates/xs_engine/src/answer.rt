@@ -1,27 +1,38 @@
 //! The answer of a run, before anything of it is written.
 
 ghost use Rattle.std.specs.Prelude.{◌≡◌, ◌≢◌, ◌<◌, ◌⊎◌, IfOk, None, Some, length};
+ghost use Rattle.xs_modules.specs.Results.{modules_data};
+ghost use Rattle.xs_modules.specs.Sound.{IsSound};
+ghost use Rattle.xs_words.specs.Results.{texts};
 ghost use Rattle.xs_engine.specs.declared.status.TheConstants.{OK, READ_FAULT, RUN_FAULT, USAGE};
-ghost use Rattle.xs_engine.specs.declared.status.TheConstants.{WRITE_FAULT};
-ghost use Rattle.xs_engine.specs.Asked.{asked, texts};
-ghost use Rattle.xs_engine.specs.Words.{job_of};
-ghost use Rattle.xs_engine.specs.Run.{root_answer};
-ghost use Rattle.xs_engine.specs.Fetches.{Fetches, OverFiles};
-ghost use Rattle.xs_engine.specs.Headline.{HasTicks, due};
-ghost use Rattle.xs_engine.specs.Reply.{IsWholeOrEmpty, reply_of, template};
+ghost use Rattle.xs_engine.specs.declared.status.TheConstants.{REFUSED, WRITE_FAULT};
+ghost use Rattle.xs_static.specs.Faults.{IsFirstFault};
+ghost use Rattle.xs_engine.specs.Answer.{refused_file};
+ghost use Rattle.xs_engine.specs.Due.{IsAnswer, IsDue, IsModulesAnswer, Owed};
+ghost use Rattle.xs_engine.specs.Fetches.{Fetches, Grew, JobFetches};
+ghost use Rattle.xs_engine.specs.Headline.{HasTicks};
+ghost use Rattle.xs_engine.specs.Job.{job_of};
+ghost use Rattle.xs_engine.specs.Reply.{AsksSource, IsWholeOrEmpty, job_data, reply_of, template};
+ghost use Rattle.xs_engine.specs.Run.{module_name, root_answer};
 
-use crate::reading::{Sheet, read_sheet, read_source};
+use crate::faults::NOT_BUILT;
+use crate::job::{Job, read_job};
+use crate::reading::{Sheet, read_source, sheet_in};
 use crate::reply::{
-    Reply, faulted_reply, read_fault_reply, refused_reply, usage_reply, whole_reply,
+    Reply, faulted_reply, faultless_reply, read_fault_reply, refused_reply, usage_reply,
+    whole_reply,
 };
-use crate::words::{Words, read_words};
 use std::alloc::{AllocError, Global};
 use xs_body::run::run_body;
+use xs_modules::{Modules, ModulesEnd, read_modules};
 use xs_outside::{FetchEnd, Library};
+use xs_static::{StaticFault, first_fault};
 use xs_trace::item::{Ended, Limits};
+use xs_trace::text::TextBuf;
 use xs_tree::Tree;
+use xs_words::WordsEnd;
 
-/// The answer of a run: a function of the words and of the two files that they name.
+/// The answer of a run: a function of the words and of the files that it comes to.
 pub fn reply_to<L: Library>(
     alloc: Global,
     words: &[String],
@@ -30,10 +41,8 @@ pub fn reply_to<L: Library>(
     ensures files { L.files library.new ≡ L.files library.old }
     ensures fetches { Fetches (job_of (texts words.now)) (L.files library.old)
         (L.asked library.old) (L.asked library.new) (L.failed library.old) (L.failed library.new) }
-    ensures answer { IfOk result (λ reply.
-        OverFiles (L.files library.old) (job_of (texts words.now)) (λ sheet source. reply_of reply
-        ≡ due (job_of (texts words.now)) sheet source
-        (L.failed library.old) (L.failed library.new))) }
+    ensures due { IfOk result (λ reply. IsDue (L.files library.old) (job_of (texts words.now))
+        (L.failed library.old) (L.failed library.new) (reply_of reply)) }
     ensures usage_only { IfOk result (λ reply.
         reply.status ≡ USAGE → job_of (texts words.now) ≡ None) }
     ensures read_fault_only { IfOk result (λ reply. reply.status ≡ READ_FAULT
@@ -42,25 +51,20 @@ pub fn reply_to<L: Library>(
     ensures ticks { IfOk result (λ reply. HasTicks reply.status ⊎ (reply.ticks ≡ 0)) }
     ensures whole_only { IfOk result IsWholeOrEmpty }
 {
-    match read_words(words) {
-        Some(words) => run_reply(alloc, &words, library),
-        None => usage_reply(alloc),
+    match read_job(alloc, words) {
+        Ok(job) => job_reply(alloc, &job, library),
+        Err(WordsEnd::Usage) => usage_reply(alloc),
+        Err(WordsEnd::NoMemory) => Err(AllocError),
     }
 }
 
-// The answer of a run over a stylesheet and a source.
-fn run_reply<L: Library>(
-    alloc: Global,
-    words: &Words<'_>,
-    library: &mut L,
-) -> Result<Reply, AllocError>
+/// The answer of a run over a stylesheet, with all the modules that it mentions, and a source.
+fn job_reply<L: Library>(alloc: Global, job: &Job, library: &mut L) -> Result<Reply, AllocError>
     ensures files { L.files library.new ≡ L.files library.old }
-    ensures fetches { Fetches (Some (asked words.now)) (L.files library.old)
+    ensures fetches { JobFetches (job_data job.now) (L.files library.old)
         (L.asked library.old) (L.asked library.new) (L.failed library.old) (L.failed library.new) }
-    ensures answer { IfOk result (λ reply.
-        OverFiles (L.files library.old) (Some (asked words.now)) (λ sheet source. reply_of reply
-        ≡ due (Some (asked words.now)) sheet source
-        (L.failed library.old) (L.failed library.new))) }
+    ensures due { IfOk result (λ reply. Owed (IsAnswer (L.files library.old) (job_data job.now))
+        (L.failed library.old) (L.failed library.new) (reply_of reply)) }
     ensures read_fault_only { IfOk result (λ reply. reply.status ≡ READ_FAULT
         → length (L.failed library.old) < length (L.failed library.new)) }
     ensures status { IfOk result (λ reply.
@@ -68,44 +72,119 @@ fn run_reply<L: Library>(
     ensures ticks { IfOk result (λ reply. HasTicks reply.status ⊎ (reply.ticks ≡ 0)) }
     ensures whole_only { IfOk result IsWholeOrEmpty }
 {
-    let sheet = match read_sheet(alloc, words.sheet, library) {
-        Ok(Ok(sheet)) => sheet,
-        Ok(Err(refusal)) => return refused_reply(alloc, words.sheet, refusal),
-        Err(FetchEnd::Failed) => return read_fault_reply(alloc, words.sheet),
-        Err(FetchEnd::NoMemory) => return Err(AllocError),
+    match read_modules(alloc, library, job.sheet.as_str()) {
+        Ok(modules) => modules_reply(alloc, job, &modules, library),
+        Err(ModulesEnd::Failed { name }) => read_fault_reply(alloc, &name),
+        Err(
+            ModulesEnd::Refused {
+                number,
+                module,
+                line,
+            },
+        ) => refused_reply(alloc, number, &module, line),
+        Err(ModulesEnd::NoMemory) => Err(AllocError),
+    }
+}
+
+/// The answer of a run over the modules of a stylesheet: their first static fault; else, where the
+/// stylesheet is only checked, nothing; else what the run comes to.
+fn modules_reply<L: Library>(
+    alloc: Global,
+    job: &Job,
+    modules: &Modules,
+    library: &mut L,
+) -> Result<Reply, AllocError>
+    requires { IsSound (modules_data modules.now) }
+    ensures files { L.files library.new ≡ L.files library.old }
+    ensures asks { Grew (AsksSource (job_data job.now) (modules_data modules.now))
+        (L.asked library.old) (L.asked library.new) (L.failed library.old) (L.failed library.new) }
+    ensures due { IfOk result (λ reply. Owed
+        (IsModulesAnswer (L.files library.old) (job_data job.now) (modules_data modules.now))
+        (L.failed library.old) (L.failed library.new) (reply_of reply)) }
+    ensures read_fault_only { IfOk result (λ reply. reply.status ≡ READ_FAULT
+        → length (L.failed library.old) < length (L.failed library.new)) }
+    ensures status { IfOk result (λ reply.
+        (reply.status ≢ USAGE) × (reply.status < WRITE_FAULT)) }
+    ensures ticks { IfOk result (λ reply. HasTicks reply.status ⊎ (reply.ticks ≡ 0)) }
+    ensures whole_only { IfOk result IsWholeOrEmpty }
+{
+    match first_fault(alloc, modules)? {
+        Some(fault) => static_reply(alloc, modules, fault),
+        None => match &job.source {
+            Some(source) => run_reply(alloc, job, source, modules, library),
+            None => Ok(faultless_reply(alloc)),
+        },
+    }
+}
+
+/// A static fault, told by the name of its module.
+fn static_reply(alloc: Global, modules: &Modules, fault: StaticFault) -> Result<Reply, AllocError>
+    requires { fault.«module» < length (modules_data modules.now) }
+    ensures answer { IfOk result (λ reply. reply_of reply ≡ refused_file fault.number
+        (module_name (modules_data modules.now) fault.«module») fault.line) }
+    ensures status { IfOk result (λ reply. reply.status ≡ REFUSED) }
+    ensures ticks { IfOk result (λ reply. reply.ticks ≡ 0) }
+    ensures whole_only { IfOk result IsWholeOrEmpty }
+{
+    let module = &modules.list[fault.module as usize];
+    refused_reply(alloc, fault.number, &module.name, fault.line)
+}
+
+/// What a run on a source comes to, of a stylesheet without a static fault; the source is read
+/// where the stylesheet is built.
+fn run_reply<L: Library>(
+    alloc: Global,
+    job: &Job,
+    source: &TextBuf,
+    modules: &Modules,
+    library: &mut L,
+) -> Result<Reply, AllocError>
+    requires sound { IsSound (modules_data modules.now) }
+    requires run { job.now.source ≡ Some source.now }
+    requires faultless { IsFirstFault (modules_data modules.now) None }
+    ensures files { L.files library.new ≡ L.files library.old }
+    ensures asks { Grew (AsksSource (job_data job.now) (modules_data modules.now))
+        (L.asked library.old) (L.asked library.new) (L.failed library.old) (L.failed library.new) }
+    ensures due { IfOk result (λ reply. Owed
+        (IsModulesAnswer (L.files library.old) (job_data job.now) (modules_data modules.now))
+        (L.failed library.old) (L.failed library.new) (reply_of reply)) }
+    ensures read_fault_only { IfOk result (λ reply. reply.status ≡ READ_FAULT
+        → length (L.failed library.old) < length (L.failed library.new)) }
+    ensures status { IfOk result (λ reply.
+        (reply.status ≢ USAGE) × (reply.status < WRITE_FAULT)) }
+    ensures ticks { IfOk result (λ reply. HasTicks reply.status ⊎ (reply.ticks ≡ 0)) }
+    ensures whole_only { IfOk result IsWholeOrEmpty }
+{
+    let Some(sheet) = sheet_in(alloc, modules)? else {
+        return refused_reply(alloc, NOT_BUILT, &job.sheet, 0);
     };
-    match read_source(alloc, words.source, library) {
-        Ok(Ok(tree)) => root_reply(alloc, words, &sheet, &tree),
-        Ok(Err(refusal)) => refused_reply(alloc, words.source, refusal),
-        Err(FetchEnd::Failed) => read_fault_reply(alloc, words.source),
+    match read_source(alloc, source.as_str(), library) {
+        Ok(Ok(tree)) => root_reply(alloc, job, &sheet, &tree),
+        Ok(Err(fault)) => refused_reply(alloc, fault.number, source, fault.line),
+        Err(FetchEnd::Failed) => read_fault_reply(alloc, source),
         Err(FetchEnd::NoMemory) => Err(AllocError),
     }
 }
 
-// What the root's template comes to, cut at the budget.
+/// What the root's template comes to, cut at the limits.
 #[tactic(auto, unfolding(crate::specs::Run::root_answer))]
-fn root_reply(
-    alloc: Global,
-    words: &Words<'_>,
-    sheet: &Sheet,
-    tree: &Tree,
-) -> Result<Reply, AllocError>
+fn root_reply(alloc: Global, job: &Job, sheet: &Sheet, tree: &Tree) -> Result<Reply, AllocError>
     ensures answer { IfOk result (λ reply.
-        reply_of reply ≡ root_answer (asked words.now) (template sheet.now) tree.now) }
+        reply_of reply ≡ root_answer (job_data job.now) (template sheet.now) tree.now) }
     ensures status { IfOk result (λ reply.
         (reply.status ≡ OK) ⊎ (reply.status ≡ RUN_FAULT)) }
     ensures whole_only { IfOk result IsWholeOrEmpty }
 {
     let limits = Limits {
-        ticks: words.budget,
-        events: None,
+        ticks: job.budget,
+        events: job.most_events,
     };
     let kept = run_body(alloc, &sheet.body, sheet.root_line, tree, limits)?;
     match kept.ended {
         Ended::Whole => whole_reply(alloc, &kept),
-        Ended::Fault(spot) => faulted_reply(alloc, words.sheet, spot, &kept),
-        Ended::Spent(spot) => faulted_reply(alloc, words.sheet, spot, &kept),
-        Ended::Full(spot) => faulted_reply(alloc, words.sheet, spot, &kept),
+        Ended::Fault(spot) => faulted_reply(alloc, &job.sheet, spot, &kept),
+        Ended::Spent(spot) => faulted_reply(alloc, &job.sheet, spot, &kept),
+        Ended::Full(spot) => faulted_reply(alloc, &job.sheet, spot, &kept),
         Ended::Over { .. } => unreachable!(),
     }
 }

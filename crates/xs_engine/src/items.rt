@@ -24,7 +24,7 @@ pub fn result_text(alloc: Global, items: &[Item]) -> Result<Vec<u8>, AllocError>
     Ok(text)
 }
 
-// The text of a text node; nothing else has text.
+/// The text of a text node; nothing else has text.
 fn append_text(text: &mut Vec<u8>, item: &Item) -> Result<(), AllocError>
     ensures { OnOk result (text.new.items ≡ text.old.items ++ item_text item.now) }
 {
@@ -47,7 +47,7 @@ pub fn message_lines(alloc: Global, items: &[Item]) -> Result<Vec<u8>, AllocErro
     Ok(lines)
 }
 
-// The line of a message; nothing else has one.
+/// The line of a message; nothing else has one.
 fn append_line(lines: &mut Vec<u8>, item: &Item) -> Result<(), AllocError>
     ensures { OnOk result (lines.new.items ≡ lines.old.items ++ item_line item.now) }
 {

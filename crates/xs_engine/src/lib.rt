@@ -5,11 +5,11 @@ mod answer;
 mod deliver;
 mod faults;
 mod items;
+mod job;
 mod reading;
 mod reply;
 pub mod status;
 mod top;
-mod words;
 
 pub use top::{Report, transform};
 pub use xs_outside as outside;

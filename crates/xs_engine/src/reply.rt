@@ -4,22 +4,20 @@ ghost use Rattle.std.specs.Prelude.{◌≡◌, ℕ, ◌++◌, IfOk, OnOk};
 ghost use Rattle.std.specs.Fmt.{decimal};
 ghost use Rattle.xs_trace.specs.Kept.{marks_of};
 ghost use Rattle.xs_trace.specs.Mark.{messages_of, tick_count};
-ghost use Rattle.xs_engine.specs.Answer.{fault_line, faulted, read_fault, refused_file, usage};
-ghost use Rattle.xs_engine.specs.Answer.{whole};
-ghost use Rattle.xs_engine.specs.Reply.{answer_to, reply_of};
+ghost use Rattle.xs_engine.specs.Answer.{fault_line, faulted, faultless, read_fault};
+ghost use Rattle.xs_engine.specs.Answer.{refused_file, usage, whole};
+ghost use Rattle.xs_engine.specs.Reply.{reply_of};
 
-use crate::faults::{NOT_BUILT, UNREADABLE, fault_name};
+use crate::faults::{UNREADABLE, fault_name};
 use crate::items::{message_lines, result_text};
-use crate::reading::Refusal;
 use crate::status::{OK, READ_FAULT, REFUSED, RUN_FAULT, USAGE};
 use itoa::Buffer;
 use std::alloc::{AllocError, Global};
 use xs_text::escape_into;
 use xs_trace::item::Spot;
+use xs_trace::text::TextBuf;
 use xs_trace::whole::Kept;
-
-const USAGE_LINE: &str =
-    "usage: xslt [--budget N] [--workers N] [--grain N] [--stats] [--check] [--load N] SHEET SOURCE [name=text]...\n";
+use xs_words::USAGE as USAGE_LINE;
 
 /// A status, and all that is to be written with it.
 #[derive(Debug, Drop)]
@@ -40,6 +38,7 @@ pub fn usage_reply(alloc: Global) -> Result<Reply, AllocError>
 {
     let mut lines = Vec::new(alloc);
     lines.extend_from_slice(USAGE_LINE.as_bytes())?;
+    lines.extend_from_slice(b"\n")?;
     Ok(Reply {
         status: USAGE,
         result: Vec::new(alloc),
@@ -49,10 +48,10 @@ pub fn usage_reply(alloc: Global) -> Result<Reply, AllocError>
 }
 
 /// A file that could not be read.
-pub fn read_fault_reply(alloc: Global, name: &str) -> Result<Reply, AllocError>
+pub fn read_fault_reply(alloc: Global, name: &TextBuf) -> Result<Reply, AllocError>
     ensures { IfOk result (λ reply. reply_of reply ≡ read_fault name.now) }
 {
-    let lines = append_fault(Vec::new(alloc), UNREADABLE, name, 0)?;
+    let lines = append_fault(Vec::new(alloc), UNREADABLE, name.as_str(), 0)?;
     Ok(Reply {
         status: READ_FAULT,
         result: Vec::new(alloc),
@@ -61,27 +60,34 @@ pub fn read_fault_reply(alloc: Global, name: &str) -> Result<Reply, AllocError>
     })
 }
 
-/// A file that is refused.
-pub fn refused_reply(alloc: Global, name: &str, refusal: Refusal) -> Result<Reply, AllocError>
-    ensures { IfOk result (λ reply. reply_of reply ≡ answer_to refusal name.now) }
-{
-    match refusal {
-        Refusal::NotBuilt => refused_at(alloc, NOT_BUILT, name, 0),
-        Refusal::Fault { number, line } => refused_at(alloc, number, name, line),
-    }
-}
-
-// A file that has this fault at this line.
-fn refused_at(alloc: Global, fault: u8, name: &str, line: u32) -> Result<Reply, AllocError>
+/// A file that is refused: it has this fault at this line.
+pub fn refused_reply(
+    alloc: Global,
+    fault: u8,
+    name: &TextBuf,
+    line: u32,
+) -> Result<Reply, AllocError>
     ensures { IfOk result (λ reply. reply_of reply ≡ refused_file fault name.now line) }
 {
-    let lines = append_fault(Vec::new(alloc), fault, name, line)?;
+    let lines = append_fault(Vec::new(alloc), fault, name.as_str(), line)?;
     Ok(Reply {
         status: REFUSED,
         result: Vec::new(alloc),
         lines,
         ticks: 0,
     })
+}
+
+/// A stylesheet that was only checked, and has no fault.
+pub fn faultless_reply(alloc: Global) -> Reply
+    ensures { reply_of result ≡ faultless }
+{
+    Reply {
+        status: OK,
+        result: Vec::new(alloc),
+        lines: Vec::new(alloc),
+        ticks: 0,
+    }
 }
 
 /// An evaluation that ended whole.
@@ -102,7 +108,7 @@ pub fn whole_reply(alloc: Global, kept: &Kept) -> Result<Reply, AllocError>
 /// An evaluation that ended in a fault.
 pub fn faulted_reply(
     alloc: Global,
-    name: &str,
+    name: &TextBuf,
     spot: Spot,
     kept: &Kept,
 ) -> Result<Reply, AllocError>
@@ -112,7 +118,7 @@ pub fn faulted_reply(
 {
     let result = Vec::new(alloc);
     let messages = message_lines(alloc, &kept.items)?;
-    let lines = append_fault(messages, spot.fault, name, spot.line)?;
+    let lines = append_fault(messages, spot.fault, name.as_str(), spot.line)?;
     Ok(Reply {
         status: RUN_FAULT,
         result,
@@ -121,7 +127,7 @@ pub fn faulted_reply(
     })
 }
 
-// Appends the line of a fault to other lines.
+/// Appends the line of a fault to other lines.
 fn append_fault(lines: Vec<u8>, fault: u8, name: &str, line: u32) -> Result<Vec<u8>, AllocError>
     ensures { IfOk result (λ all. all.items ≡ lines.items ++ fault_line fault name.now line) }
 {
@@ -138,7 +144,7 @@ fn append_fault(lines: Vec<u8>, fault: u8, name: &str, line: u32) -> Result<Vec<
     Ok(all)
 }
 
-// Appends a number in decimal.
+/// Appends a number in decimal.
 fn append_number(out: &mut Vec<u8>, number: u32) -> Result<(), AllocError>
     ensures { OnOk result (out.new.items ≡ out.old.items ++ decimal number) }
 {

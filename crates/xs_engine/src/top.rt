@@ -3,10 +3,10 @@
 ghost use Rattle.std.specs.Prelude.{◌≡◌, ◌≢◌, ◌<◌, ◌≤◌, ◌⊎◌, [], length, None};
 ghost use Rattle.xs_engine.specs.declared.status.TheConstants.{NO_MEMORY, OK, READ_FAULT, USAGE};
 ghost use Rattle.xs_engine.specs.declared.status.TheConstants.{WRITE_FAULT};
-ghost use Rattle.xs_engine.specs.Words.{job_of};
-ghost use Rattle.xs_engine.specs.Asked.{texts};
-ghost use Rattle.xs_engine.specs.Fetches.{Fetches, OverFiles};
-ghost use Rattle.xs_engine.specs.Headline.{Gained, Gives, HasTicks, OneFault, due};
+ghost use Rattle.xs_words.specs.Results.{texts};
+ghost use Rattle.xs_engine.specs.Fetches.{Fetches};
+ghost use Rattle.xs_engine.specs.Headline.{Gained, Gives, HasTicks, OfDue, OneFault, OnlyDue};
+ghost use Rattle.xs_engine.specs.Job.{job_of};
 
 use crate::answer::reply_to;
 use crate::deliver::deliver;
@@ -51,11 +51,16 @@ pub fn transform<R: Threads + Sync, L: Library, O: Sink, E: Sink, G: Gate>(
         (L.asked library.old) (L.asked library.new) (L.failed library.old) (L.failed library.new) }
 
     // What the words and the files define is what the report and the sinks get.
-    ensures gives { OverFiles (L.files library.old) (job_of (texts words.now))
-        (λ sheet source. Gives
-        (due (job_of (texts words.now)) sheet source
-        (L.failed library.old) (L.failed library.new))
-        result.status result.ticks
+    ensures gives { result.status ≢ NO_MEMORY
+        → OfDue (L.files library.old) (job_of (texts words.now))
+        (L.failed library.old) (L.failed library.new)
+        (λ due. Gives due result.status result.ticks
+        (O.held out.old) (O.held out.new) (E.held err.old) (E.held err.new)) }
+
+    // Where the library tells its files, the words and these files define one answer alone.
+    ensures only { OnlyDue (L.files library.old) (job_of (texts words.now))
+        (L.failed library.old) (L.failed library.new)
+        (λ due. Gives due result.status result.ticks
         (O.held out.old) (O.held out.new) (E.held err.old) (E.held err.new)) }
 
     // What a status says, whatever the files.
@@ -88,7 +93,7 @@ pub fn transform<R: Threads + Sync, L: Library, O: Sink, E: Sink, G: Gate>(
     }
 }
 
-// A report of a run without pieces.
+/// A report of a run without pieces.
 fn report_of(alloc: Global, status: u8, ticks: u64) -> Report
     ensures status { result.status ≡ status }
     ensures ticks { result.ticks ≡ ticks }

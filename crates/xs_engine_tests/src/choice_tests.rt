@@ -34,17 +34,41 @@ const TEXTS: &[u8] = b"\
     (xsl:value-of\nAdisable-output-escaping no\nAselect r/i\n)xsl:value-of\n(xsl:text\n\
     )xsl:text\n)xsl:template\n)xsl:stylesheet\n";
 
-// Instructions that are not built, in a template.
-const OTHERS: [&[u8]; 8] = [
-    b"(xsl:choose\n)xsl:choose\n",
-    b"(xsl:choose\n(xsl:otherwise\n)xsl:otherwise\n)xsl:choose\n",
-    b"(xsl:choose\n(xsl:when\nAtest 1\n)xsl:when\n-x\n)xsl:choose\n",
-    b"(xsl:choose\n(xsl:when\nAtest 1\n)xsl:when\n(xsl:otherwise\n)xsl:otherwise\n\
-        (xsl:when\nAtest 1\n)xsl:when\n)xsl:choose\n",
-    b"(xsl:when\nAtest 1\n)xsl:when\n",
-    b"(xsl:text\n(b\n)b\n)xsl:text\n",
-    b"(xsl:text\nAdisable-output-escaping maybe\n-x\n)xsl:text\n",
-    b"(xsl:value-of\nAselect 1\nAtest 1\n)xsl:value-of\n",
+// Instructions with a fault, in a template, whose first line is line 9; and the fault's line.
+const OTHERS: [(&[u8], &[u8]); 8] = [
+    (
+        b"(xsl:choose\n)xsl:choose\n",
+        b"fault 37 Misplaced s.pyx 9\n",
+    ),
+    (
+        b"(xsl:choose\n(xsl:otherwise\n)xsl:otherwise\n)xsl:choose\n",
+        b"fault 37 Misplaced s.pyx 9\n",
+    ),
+    (
+        b"(xsl:choose\n(xsl:when\nAtest 1\n)xsl:when\n-x\n)xsl:choose\n",
+        b"fault 37 Misplaced s.pyx 9\n",
+    ),
+    (
+        b"(xsl:choose\n(xsl:when\nAtest 1\n)xsl:when\n(xsl:otherwise\n)xsl:otherwise\n\
+            (xsl:when\nAtest 1\n)xsl:when\n)xsl:choose\n",
+        b"fault 37 Misplaced s.pyx 15\n",
+    ),
+    (
+        b"(xsl:when\nAtest 1\n)xsl:when\n",
+        b"fault 37 Misplaced s.pyx 9\n",
+    ),
+    (
+        b"(xsl:text\n(b\n)b\n)xsl:text\n",
+        b"fault 37 Misplaced s.pyx 10\n",
+    ),
+    (
+        b"(xsl:text\nAdisable-output-escaping maybe\n-x\n)xsl:text\n",
+        b"fault 36 BadAttribute s.pyx 9\n",
+    ),
+    (
+        b"(xsl:value-of\nAselect 1\nAtest 1\n)xsl:value-of\n",
+        b"fault 35 UnknownAttribute s.pyx 9\n",
+    ),
 ];
 
 const THREE: &[u8] = b"(r\n(i\n-1\n)i\n(i\n-2\n)i\n(i\n-3\n)i\n)r\n";
@@ -69,8 +93,8 @@ fn reads_a_test_where_it_stands(rt: HostRuntime) -> Result<(), Fail> {
     let words = ["s.pyx", "src.pyx"];
     let fault = b"fault 51 Fraction s.pyx 9\n";
     assert!(rt; gives(&rt, alloc, &words, SCOPES, THREE, 4, 3, b"", fault)?);
-    let unbuilt = b"fault 49 NotBuilt s.pyx 0\n";
-    assert!(rt; gives(&rt, alloc, &words, UNBOUND, THREE, 3, 0, b"", unbuilt)?);
+    let unbound = b"fault 38 UnboundPrefix s.pyx 15\n";
+    assert!(rt; gives(&rt, alloc, &words, UNBOUND, THREE, 3, 0, b"", unbound)?);
     Ok(())
 }
 
@@ -83,18 +107,17 @@ fn keeps_the_white_space_of_a_text(rt: HostRuntime) -> Result<(), Fail> {
 }
 
 #[test]
-fn builds_no_other_choices_and_texts(rt: HostRuntime) -> Result<(), Fail> {
+fn refuses_other_choices_and_texts(rt: HostRuntime) -> Result<(), Fail> {
     let alloc = rt.alloc();
     let head = b"\
         (xsl:stylesheet\nAxmlns:xsl http://www.w3.org/1999/XSL/Transform\nAversion 1.0\n\
         (xsl:output\nAmethod text\n)xsl:output\n(xsl:template\nAmatch /\n";
     let words = ["s.pyx", "src.pyx"];
-    let unbuilt = b"fault 49 NotBuilt s.pyx 0\n";
-    for instruction in OTHERS {
+    for (instruction, fault) in OTHERS {
         let mut sheet = Vec::from_slice(alloc, head)?;
         sheet.extend_from_slice(instruction)?;
         sheet.extend_from_slice(b")xsl:template\n)xsl:stylesheet\n")?;
-        assert!(rt; gives(&rt, alloc, &words, &sheet, THREE, 3, 0, b"", unbuilt)?);
+        assert!(rt; gives(&rt, alloc, &words, &sheet, THREE, 3, 0, b"", fault)?);
     }
     Ok(())
 }

@@ -75,17 +75,16 @@ const FAULTS: [Faulty; 7] = [
     ("key('k', r)", "54 NoKey", 2),
 ];
 
-// Texts that are no expressions: no grammar, no function, a wrong number of arguments, a fraction,
-// an unbound prefix, a variable.
-const OTHER_TEXTS: [&str; 8] = [
-    "1 +",
-    "",
-    "foo(1)",
-    "not()",
-    "1.5",
-    "q:a",
-    "$x",
-    "concat('a', $x)",
+// Texts that are no expressions, each with its fault.
+const OTHER_TEXTS: [(&str, &str); 8] = [
+    ("1 +", "20 Syntax"),
+    ("", "20 Syntax"),
+    ("foo(1)", "21 UnknownFunction"),
+    ("not()", "22 ArgCount"),
+    ("1.5", "23 BadLiteral"),
+    ("q:a", "38 UnboundPrefix"),
+    ("$x", "39 UnknownVariable"),
+    ("concat('a', $x)", "39 UnknownVariable"),
 ];
 
 // A stylesheet that puts the string of an expression.
@@ -200,13 +199,10 @@ fn ends_in_the_fault_of_an_expression(rt: HostRuntime) -> Result<(), Fail> {
 }
 
 #[test]
-fn builds_nothing_of_other_texts(rt: HostRuntime) -> Result<(), Fail> {
+fn refuses_other_texts(rt: HostRuntime) -> Result<(), Fail> {
     let alloc = rt.alloc();
-    for text in OTHER_TEXTS {
-        assert!(rt;
-            ends(&rt, alloc, text, 3, 0, "49 NotBuilt", 0)?,
-            "at {text}"
-        );
+    for (text, fault) in OTHER_TEXTS {
+        assert!(rt; ends(&rt, alloc, text, 3, 0, fault, 9)?, "at {text}");
     }
     Ok(())
 }
@@ -219,7 +215,7 @@ fn nests_64_brackets_and_no_more(rt: HostRuntime) -> Result<(), Fail> {
     let words = ["s.pyx", "src.pyx"];
     assert!(rt; gives(&rt, alloc, &words, &sheet, SOURCE, 0, 2, b"1", b"")?);
     let deeper = nested(alloc, 65)?;
-    assert!(rt; ends(&rt, alloc, deeper.as_str(), 3, 0, "49 NotBuilt", 0)?);
+    assert!(rt; ends(&rt, alloc, deeper.as_str(), 3, 0, "24 TooNested", 9)?);
     Ok(())
 }
 

@@ -148,8 +148,15 @@ fn refuses_a_stylesheet_that_is_too_large(rt: HostRuntime) -> Result<(), Fail> {
 fn refuses_a_stylesheet_that_is_not_built(rt: HostRuntime) -> Result<(), Fail> {
     let alloc = rt.alloc();
     let err = b"fault 49 NotBuilt s.pyx 0\n";
-    assert!(rt; refuses_sheet(&rt, alloc, OTHER_XSL, err)?);
     assert!(rt; refuses_sheet(&rt, alloc, UNKNOWN, err)?);
+    Ok(())
+}
+
+#[test]
+fn refuses_a_root_that_is_no_stylesheet(rt: HostRuntime) -> Result<(), Fail> {
+    let alloc = rt.alloc();
+    let err = b"fault 32 BadRoot s.pyx 1\n";
+    assert!(rt; refuses_sheet(&rt, alloc, OTHER_XSL, err)?);
     assert!(rt; refuses_sheet(&rt, alloc, INVOICE, err)?);
     Ok(())
 }

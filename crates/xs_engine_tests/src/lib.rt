@@ -8,8 +8,14 @@ mod expression_tests;
 #[cfg(test)]
 mod fault_tests;
 #[cfg(test)]
+mod module_tests;
+#[cfg(test)]
 mod run_tests;
 #[cfg(test)]
 mod runs;
 #[cfg(test)]
+mod static_tests;
+#[cfg(test)]
 mod tick_tests;
+#[cfg(test)]
+mod word_tests;

@@ -19,7 +19,8 @@ pub(crate) const INVOICE: &[u8] = b"(inv\n(total\n-350\n)total\n(total\n-9\n)tot
 
 /// The line that refuses the words.
 pub(crate) const USAGE: &[u8] = b"\
-    usage: xslt [--budget N] [--workers N] [--grain N] [--stats] [--check] [--load N] SHEET SOURCE [name=text]...\n";
+    usage: xslt [--budget N] [--max-events N] [--workers N] [--grain N] [--stats] [--profile] \
+    [--at N] [--stream] [--check] [--load N] SHEET SOURCE [name=text]... [@name=path]...\n";
 
 /// What a run left behind.
 #[derive(Debug, Drop)]

@@ -1,6 +1,10 @@
-use Rattle.xs_engine.proofs.GivesLemmas.{gives_nothing}
+use Rattle.xs_engine.specs.Reply.{reply_of}
+use Rattle.xs_engine.proofs.GivesLemmas.{gives_only}
 use Rattle.xs_engine.proofs.top.transform.Goals as goal
 
-pub returns-in-Err-clause-gives : goal.returns-in-Err-clause-gives
-returns-in-Err-clause-gives g c = gives_nothing (g.L.Library.files c.args.library.now) _ _ _ _ (g.O.Sink.held c.args.out.now)
-    (g.E.Sink.held c.args.err.now) c.report_of-in-Err.ensures.status
+pub returns-in-Ok-clause-only : goal.returns-in-Ok-clause-only
+returns-in-Ok-clause-only g c =
+    gives_only (g.L.Library.files c.args.library.now) _ (g.L.Library.failed c.args.library.now) (g.L.Library.failed c.reply_to.new.library)
+    (reply_of c.in-Ok.reply) c.deliver-status.result c.report_of.result.status c.in-Ok.reply.ticks c.report_of.result.ticks
+    (g.O.Sink.held c.args.out.now) (g.O.Sink.held c.deliver-status.new.out) (g.E.Sink.held c.args.err.now) (g.E.Sink.held c.deliver-status.new.err)
+    c.in-Ok.ensures.due c.report_of.ensures.status c.report_of.ensures.ticks c.deliver-status.ensures.gives

@@ -1,0 +1,5 @@
+(greeting
+(name
+-Ada
+)name
+)greeting
