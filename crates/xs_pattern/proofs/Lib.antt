@@ -1,0 +1,7 @@
+pub mod AncestorLemmas
+pub mod KeptLemmas
+pub mod StepLemmas
+pub mod TreeLemmas
+pub mod ClimbLemmas
+pub mod AlternativeLemmas
+pub mod StartLemmas

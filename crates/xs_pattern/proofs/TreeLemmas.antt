@@ -1,0 +1,41 @@
+-- The trees of steps and paths, and their steps from the last one on.
+use Rattle.std.proofs.Common.{◌≡◌, List, [], ◌∷◌, ◌++◌, map, reverse, Vec, Box, Global, refl, sym, ap, ◌∙◌}
+use Rattle.std.proofs.lemmas.List.{map-append, reverse-append}
+use Rattle.xs_tree.specs.declared.axes.Axis.{Axis}
+use Rattle.xs_value.specs.Tables.{Table}
+use Rattle.xs_xpath.specs.declared.expr.Expr.{Expr}
+use Rattle.xs_xpath.specs.declared.expr.Expr.TheOpen as layer
+use Rattle.xs_xpath.specs.declared.expr.Expr.TheVariants as expr
+use Rattle.xs_xpath.specs.declared.expr.Expr.TheFolds.{fold-roll-Expr}
+use Rattle.xs_xpath.specs.declared.name.NodeTest.{NodeTest}
+use Rattle.xs_xpath.specs.Exprs.{tree_from, tree_step, trees_from}
+use Rattle.xs_xpath.specs.Outcome.{listed}
+use Rattle.xs_xpath.specs.Tree.{Tree, path, step, trees}
+use Rattle.xs_eval.specs.Context.{Context}
+use Rattle.xs_eval.specs.Evaluation.{runs_of}
+use Rattle.xs_eval.specs.Paths.{Meaning}
+use Rattle.xs_eval.proofs.CaseLemmas.{runs_listed}
+use Rattle.xs_pattern.specs.Matching.{selected, step_nodes, steps_of}
+use Rattle.xs_pattern.specs.steps.Climb.{backwards}
+
+listed-trees : (ts : List Tree) → listed (trees ts) ≡ ts
+listed-trees [] = refl
+listed-trees (t ∷ ts) = ap (λ l. t ∷ l) (listed-trees ts)
+
+-- the steps of a path
+pub steps_of-path : (start : Box Expr Global) (steps : Vec Expr Global) → steps_of (tree_from (expr.Path start steps)) ≡ trees_from steps.items
+steps_of-path start steps =
+    ap steps_of (ap tree_from (sym (expr.rolls-Path start steps)) ∙ fold-roll-Expr Tree tree_step (layer.Path start steps))
+    ∙ listed-trees (trees_from steps.items)
+
+-- what a step selects
+pub selected-step : (keys : List Table) (axis : Axis) (which : NodeTest) (predicates : Vec Expr Global) (c : Context)
+    → selected keys (tree_from (expr.Step axis which predicates)) c ≡ step_nodes axis which (runs_of keys predicates.items) c
+selected-step keys axis which predicates c =
+    ap (λ (t : Tree). selected keys t c)
+    (ap tree_from (sym (expr.rolls-Step axis which predicates)) ∙ fold-roll-Expr Tree tree_step (layer.Step axis which predicates))
+    ∙ ap (λ (ms : List Meaning). step_nodes axis which ms c) (runs_listed keys predicates.items)
+
+-- the last step first
+pub backwards-push : (before : List Expr) (s : Expr) → backwards (before ++ s ∷ []) ≡ tree_from s ∷ backwards before
+backwards-push before s = ap reverse (map-append tree_from before (s ∷ [])) ∙ reverse-append (trees_from before) (tree_from s ∷ [])

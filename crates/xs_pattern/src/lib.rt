@@ -1,0 +1,9 @@
+//! Patterns of XSLT 1.0: whether a node matches one (5.2).
+#![tactic(auto)]
+
+pub mod matching;
+mod node_tests;
+pub mod paths;
+mod predicates;
+mod steps;
+mod values;

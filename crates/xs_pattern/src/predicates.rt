@@ -1,0 +1,131 @@
+//! What the predicates of a pattern's step keep (XPath 1.0, 2.4).
+
+ghost use Rattle.std.specs.Prelude.{◌≡◌, ◌<◌, ◌≤◌, ◌∷◌, [], ◌++◌, ◌==◌, ◌&&◌, IfOk, length};
+ghost use Rattle.xs_eval.specs.Conditions.{IsContext};
+ghost use Rattle.xs_eval.specs.Evaluation.{run_of, runs_of};
+ghost use Rattle.xs_eval.specs.Paths.{kept_if};
+ghost use Rattle.xs_eval.specs.steps.Nodes.{AreSome};
+ghost use Rattle.xs_pattern.specs.Predicates.{all_kept, holds, is_among, kept};
+
+use crate::values::holds;
+use std::alloc::{AllocError, Global};
+use xs_eval::context::Context;
+use xs_tree::{Node, Tree};
+use xs_value::keys::KeyFinder;
+use xs_xpath::expr::Expr;
+
+/// The nodes that predicates keep: the first one of all, then the next of those.
+pub(crate) fn all_kept<K: KeyFinder>(
+    alloc: Global,
+    predicates: &[Expr],
+    nodes: Vec<Node>,
+    context: &Context<'_>,
+    keys: &K,
+) -> Result<Vec<Node>, AllocError>
+    requires context { IsContext (K.tables keys.now) context.now }
+    requires some { AreSome context.now.tree nodes.items }
+    ensures nodes { IfOk result (λ ns. ns.items
+        ≡ all_kept context.now nodes.items (runs_of (K.tables keys.now) predicates.now)) }
+    ensures some { IfOk result (λ ns. AreSome context.now.tree ns.items) }
+{
+    let mut nodes = nodes;
+    for predicate in predicates {
+        nodes = kept(alloc, predicate, &nodes, context, keys)?;
+    }
+    Ok(nodes)
+}
+
+// The nodes that a predicate keeps, their positions from 1 on.
+fn kept<K: KeyFinder>(
+    alloc: Global,
+    predicate: &Expr,
+    nodes: &[Node],
+    context: &Context<'_>,
+    keys: &K,
+) -> Result<Vec<Node>, AllocError>
+    requires context { IsContext (K.tables keys.now) context.now }
+    requires some { AreSome context.now.tree nodes.now }
+    ensures nodes { IfOk result (λ ns. ns.items
+        ≡ kept context.now nodes.now (run_of (K.tables keys.now) predicate.now)) }
+    ensures some { IfOk result (λ ns. AreSome context.now.tree ns.items) }
+{
+    let size = count_of(context.tree, nodes);
+    let mut found = Vec::new(alloc);
+    let mut position = 0;
+    for node in nodes {
+        position += 1;
+        let is_kept = holds(alloc, predicate, *node, position, size, context, keys)?;
+        found = kept_if(is_kept, found, *node)?;
+    }
+    Ok(found)
+}
+
+/// Whether a node is among those that a predicate keeps: it is evaluated for that node alone.
+pub(crate) fn is_kept<K: KeyFinder>(
+    alloc: Global,
+    predicate: &Expr,
+    nodes: &[Node],
+    node: Node,
+    context: &Context<'_>,
+    keys: &K,
+) -> Result<bool, AllocError>
+    requires context { IsContext (K.tables keys.now) context.now }
+    requires some { AreSome context.now.tree nodes.now }
+    ensures kept { IfOk result (λ b. b ≡ is_among node
+        (kept context.now nodes.now (run_of (K.tables keys.now) predicate.now))) }
+{
+    let size = count_of(context.tree, nodes);
+    let mut position = 0;
+    for other in nodes {
+        position += 1;
+        if is_kept_at(
+            alloc, predicate, *other, position, size, node, context, keys,
+        )? {
+            return Ok(true);
+        }
+    }
+    Ok(false)
+}
+
+// Whether it is the node that stands at a position, and a predicate holds of it there.
+fn is_kept_at<K: KeyFinder>(
+    alloc: Global,
+    predicate: &Expr,
+    other: Node,
+    position: u32,
+    size: u32,
+    node: Node,
+    context: &Context<'_>,
+    keys: &K,
+) -> Result<bool, AllocError>
+    requires context { IsContext (K.tables keys.now) context.now }
+    requires other { other < length context.now.tree }
+    ensures kept { IfOk result (λ b. b ≡ ((other == node)
+        && holds context.now (run_of (K.tables keys.now) predicate.now) size (position, other))) }
+{
+    if other != node {
+        return Ok(false);
+    }
+    holds(alloc, predicate, other, position, size, context, keys)
+}
+
+// The nodes, with one more where it is kept.
+fn kept_if(is_kept: bool, nodes: Vec<Node>, node: Node) -> Result<Vec<Node>, AllocError>
+    ensures nodes { IfOk result (λ ns. ns.items ≡ kept_if is_kept nodes.items node) }
+{
+    let mut nodes = nodes;
+    if is_kept {
+        nodes.push(node)?;
+    }
+    Ok(nodes)
+}
+
+// How many nodes of a tree these are.
+fn count_of(tree: &Tree, nodes: &[Node]) -> u32
+    requires few { length nodes.now ≤ length tree.now }
+    ensures { result ≡ length nodes.now }
+{
+    let most = tree.len();
+    prove!(nodes.len() <= most);
+    nodes.len() as u32
+}

@@ -1,0 +1,133 @@
+//! Whether a step of a pattern selects a node from the node's parent.
+
+ghost use Rattle.std.specs.Prelude.{◌≡◌, ◌<◌, Some, IfOk, length};
+ghost use Rattle.xs_tree.specs.Record.{at};
+ghost use Rattle.xs_tree.specs.Shape.{IsTree};
+ghost use Rattle.xs_xpath.specs.Exprs.{tree_from};
+ghost use Rattle.xs_eval.specs.Conditions.{IsContext};
+ghost use Rattle.xs_eval.specs.Evaluation.{runs_of};
+ghost use Rattle.xs_pattern.specs.Matching.{is_descend, placed_at, selected, step_nodes};
+ghost use Rattle.xs_pattern.specs.Predicates.{is_among};
+ghost use Rattle.xs_pattern.specs.steps.Climb.{stands_on};
+
+use crate::node_tests::{passes, tested};
+use crate::predicates::{all_kept, is_kept};
+use std::alloc::{AllocError, Global};
+use xs_eval::context::Context;
+use xs_tree::{Axis, Kind, Node};
+use xs_value::keys::KeyFinder;
+use xs_xpath::expr::Expr;
+use xs_xpath::name::NodeTest;
+
+/// Whether a step is the one that `//` stands for.
+pub(crate) fn is_descend(step: &Expr) -> bool
+    ensures { result ≡ is_descend (tree_from step.now) }
+{
+    match step {
+        Expr::Descend => true,
+        Expr::Number(_) => false,
+        Expr::Literal(_) => false,
+        Expr::Variable(_, _, _) => false,
+        Expr::Call(_, _) => false,
+        Expr::Negative(_, _) => false,
+        Expr::Chain(_, _) => false,
+        Expr::Group(_) => false,
+        Expr::Here => false,
+        Expr::Root => false,
+        Expr::Step(_, _, _) => false,
+        Expr::Filter(_, _) => false,
+        Expr::Path(_, _) => false,
+    }
+}
+
+/// Whether a step selects a node from the node's parent.
+pub(crate) fn leads_to<K: KeyFinder>(
+    alloc: Global,
+    step: &Expr,
+    parent: Node,
+    node: Node,
+    context: &Context<'_>,
+    keys: &K,
+) -> Result<bool, AllocError>
+    requires context { IsContext (K.tables keys.now) context.now }
+    requires tree { IsTree context.now.tree }
+    requires node { node < length context.now.tree }
+    requires parent { (at context.now.tree node).parent ≡ Some parent }
+    ensures leads { IfOk result (λ b. b ≡ is_among node
+        (selected (K.tables keys.now) (tree_from step.now) (placed_at context.now parent))) }
+{
+    match step {
+        Expr::Step(axis, test, predicates) => {
+            leads_by(alloc, *axis, test, predicates, parent, node, context, keys)
+        }
+        Expr::Number(_) => Ok(false),
+        Expr::Literal(_) => Ok(false),
+        Expr::Variable(_, _, _) => Ok(false),
+        Expr::Call(_, _) => Ok(false),
+        Expr::Negative(_, _) => Ok(false),
+        Expr::Chain(_, _) => Ok(false),
+        Expr::Group(_) => Ok(false),
+        Expr::Here => Ok(false),
+        Expr::Root => Ok(false),
+        Expr::Descend => Ok(false),
+        Expr::Filter(_, _) => Ok(false),
+        Expr::Path(_, _) => Ok(false),
+    }
+}
+
+// The same of a step by its parts. Without predicates the node alone is looked at; otherwise its
+// position among its siblings counts, and the last predicate is evaluated for the node alone.
+fn leads_by<K: KeyFinder>(
+    alloc: Global,
+    axis: Axis,
+    test: &NodeTest,
+    predicates: &[Expr],
+    parent: Node,
+    node: Node,
+    context: &Context<'_>,
+    keys: &K,
+) -> Result<bool, AllocError>
+    requires context { IsContext (K.tables keys.now) context.now }
+    requires tree { IsTree context.now.tree }
+    requires node { node < length context.now.tree }
+    requires parent { (at context.now.tree node).parent ≡ Some parent }
+    ensures leads { IfOk result (λ b. b ≡ is_among node (step_nodes axis test.now
+        (runs_of (K.tables keys.now) predicates.now) (placed_at context.now parent))) }
+{
+    if !stands_on(axis, context.tree.kind(node)) {
+        return Ok(false);
+    }
+    if !passes(context.tree, axis, test, node) {
+        return Ok(false);
+    }
+    match predicates.split_last() {
+        None => Ok(true),
+        Some((last, before)) => {
+            let around = context.at_node(parent, context.position, context.size);
+            let nodes = tested(alloc, axis, test, &around)?;
+            let nodes = all_kept(alloc, before, nodes, &around, keys)?;
+            is_kept(alloc, last, &nodes, node, &around, keys)
+        }
+    }
+}
+
+// Whether a node of a kind stands on an axis of its parent, of the two that patterns have.
+fn stands_on(axis: Axis, kind: Kind) -> bool
+    ensures { result ≡ stands_on axis kind }
+{
+    match axis {
+        Axis::Child => kind.is_child(),
+        Axis::Attribute => kind == Kind::Attribute,
+        Axis::Descendant => false,
+        Axis::Parent => false,
+        Axis::Ancestor => false,
+        Axis::FollowingSibling => false,
+        Axis::PrecedingSibling => false,
+        Axis::Following => false,
+        Axis::Preceding => false,
+        Axis::Namespace => false,
+        Axis::SelfNode => false,
+        Axis::DescendantOrSelf => false,
+        Axis::AncestorOrSelf => false,
+    }
+}

@@ -1,0 +1,142 @@
+//! Values of expressions whose faults are not told.
+
+ghost use Rattle.std.specs.Prelude.{◌≡◌, ◌<◌, [], false, IfOk, length};
+ghost use Rattle.std.specs.Option.{option_map_or};
+ghost use Rattle.xs_eval.specs.Conditions.{IsContext};
+ghost use Rattle.xs_eval.specs.Context.{at_node};
+ghost use Rattle.xs_eval.specs.Evaluation.{run_of};
+ghost use Rattle.xs_eval.specs.Paths.{is_position, selects};
+ghost use Rattle.xs_pattern.specs.Predicates.{holds, is_among, nodes_given, nodes_of, value_in};
+
+use std::alloc::{AllocError, Global};
+use xs_eval::context::Context;
+use xs_eval::evaluate::evaluate;
+use xs_num::number::{Num, Number};
+use xs_trace::item::Site;
+use xs_trace::meter::Meter;
+use xs_trace::recorder::Halt;
+use xs_tree::Node;
+use xs_value::conversion::to_bool;
+use xs_value::keys::KeyFinder;
+use xs_value::value::Value;
+use xs_xpath::expr::Expr;
+
+// Where a pattern is evaluated: its ticks and faults are told to nobody.
+const NOWHERE: Site = Site { module: 0, line: 0 };
+
+/// The value of an expression in a context; none where it ends in a fault.
+pub(crate) fn value_in<K: KeyFinder>(
+    alloc: Global,
+    expr: &Expr,
+    context: &Context<'_>,
+    keys: &K,
+) -> Result<Option<Value>, AllocError>
+    requires { IsContext (K.tables keys.now) context.now }
+    ensures value { IfOk result (λ v. v
+        ≡ value_in (run_of (K.tables keys.now) expr.now context.now).end) }
+{
+    let mut meter = Meter {
+        limit: None,
+        spent: 0,
+    };
+    match evaluate(alloc, expr, context, keys, NOWHERE, &mut meter) {
+        Ok(v) => Ok(Some(v)),
+        Err(Halt::Fault(_, _)) => Ok(None),
+        Err(Halt::Needs(_, _)) => Ok(None),
+        Err(Halt::NoMemory) => Err(AllocError),
+        Err(Halt::Spent(_)) => unreachable!(),
+        Err(Halt::Full(_)) => unreachable!(),
+        Err(Halt::Over { total: _ }) => unreachable!(),
+    }
+}
+
+/// Whether a predicate holds of a node at a position, among so many.
+pub(crate) fn holds<K: KeyFinder>(
+    alloc: Global,
+    predicate: &Expr,
+    node: Node,
+    position: u32,
+    size: u32,
+    context: &Context<'_>,
+    keys: &K,
+) -> Result<bool, AllocError>
+    requires context { IsContext (K.tables keys.now) context.now }
+    requires node { node < length context.now.tree }
+    ensures holds { IfOk result (λ b. b
+        ≡ holds context.now (run_of (K.tables keys.now) predicate.now) size (position, node)) }
+{
+    let around = context.at_node(node, position, size);
+    let v = value_in(alloc, predicate, &around, keys)?;
+    Ok(is_selecting(&v, position))
+}
+
+// Whether there is a value, and it selects a node at a position.
+fn is_selecting(v: &Option<Value>, position: u32) -> bool
+    ensures { result ≡ option_map_or (λ v. selects v position) v.now false }
+{
+    match v {
+        Some(v) => selects(v, position),
+        None => false,
+    }
+}
+
+// Whether a value selects a node at a position: a number selects the one position that is equal to
+// it (XPath 1.0, 2.4).
+fn selects(v: &Value, position: u32) -> bool
+    ensures { result ≡ selects v.now position }
+{
+    match v {
+        Value::Number(number) => is_position(*number, position),
+        Value::Bool(boolean) => *boolean,
+        Value::Chars(_) => to_bool(v),
+        Value::Nodes(_) => to_bool(v),
+        Value::Piece(_) => to_bool(v),
+    }
+}
+
+// Whether a number is a position.
+fn is_position(number: Num, position: u32) -> bool
+    ensures { result ≡ is_position number position }
+{
+    match number.get() {
+        Number::Whole(value) => value == i64::from(position),
+        Number::NaN => false,
+    }
+}
+
+/// Whether a node is among those that an expression gives in a context.
+pub(crate) fn is_given<K: KeyFinder>(
+    alloc: Global,
+    expr: &Expr,
+    node: Node,
+    context: &Context<'_>,
+    keys: &K,
+) -> Result<bool, AllocError>
+    requires { IsContext (K.tables keys.now) context.now }
+    ensures given { IfOk result (λ b. b
+        ≡ is_among node (nodes_given (run_of (K.tables keys.now) expr.now) context.now)) }
+{
+    let v = value_in(alloc, expr, context, keys)?;
+    Ok(is_in_value(node, &v))
+}
+
+// Whether there is a value, and a node is in it.
+fn is_in_value(node: Node, v: &Option<Value>) -> bool
+    ensures { result ≡ is_among node (option_map_or nodes_of v.now []) }
+{
+    match v {
+        Some(Value::Nodes(nodes)) => is_among(node, nodes.nodes()),
+        Some(Value::Bool(_)) => false,
+        Some(Value::Number(_)) => false,
+        Some(Value::Chars(_)) => false,
+        Some(Value::Piece(_)) => false,
+        None => false,
+    }
+}
+
+// Whether a node is among some.
+fn is_among(node: Node, nodes: &[Node]) -> bool
+    ensures { result ≡ is_among node nodes.now }
+{
+    nodes.iter().any(|other| *other == node)
+}
