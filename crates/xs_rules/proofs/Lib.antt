@@ -1,0 +1,3 @@
+pub mod HighestLemmas
+pub mod RuleLemmas
+pub mod WhiteSpaceLemmas

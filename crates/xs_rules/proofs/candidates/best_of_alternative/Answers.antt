@@ -1,0 +1,44 @@
+use Rattle.std.proofs.Common.{◌≡◌, Bool, true, Option, Some, ap, sym, ◌∙◌}
+use Rattle.std.specs.Option.{option_map_or}
+use Rattle.xs_xpath.specs.declared.scope.Scope.{Scope}
+use Rattle.xs_xpath.specs.Exprs.{tree_from}
+use Rattle.xs_pattern.specs.Matching.{matches_path, pattern_context}
+use Rattle.xs_rules.specs.declared.candidates.Best.{Best}
+use Rattle.xs_rules.specs.declared.ranks.Rank.{Rank}
+use Rattle.xs_rules.specs.Ranks.{outranks}
+use Rattle.xs_rules.specs.Rules.{candidate}
+use Rattle.xs_rules.specs.steps.Candidates.{is_matching}
+use Rattle.xs_rules.proofs.RuleLemmas.{one-below, one-passed, one-taken}
+use Rattle.xs_rules.proofs.candidates.best_of_alternative.Goals as goal
+
+pub returns-then-not-is_above : goal.returns-then-not-is_above
+returns-then-not-is_above g c = record {
+  best =
+      one-below (is_matching (g.K.KeyFinder.tables c.args.keys.now) c.args.tree.now c.args.node)
+      (candidate c.args.number c.args.template.now c.args.pattern.now (tree_from c.args.alternative.now)) c.args.best
+      (ap (λ (r : Rank). option_map_or (λ (b : Best). outranks r b.rank) c.args.best true) (sym c.rank_of-rank.ensures)
+      ∙ sym c.is_above.ensures ∙ c.if-not-is_above.true);
+}
+
+pub returns-then-branch : goal.returns-then-branch
+returns-then-branch g c = record {
+  best =
+      ap (λ (r : Rank). Some (let b : Best = record { template = c.args.number; rank = r } in b)) c.rank_of-rank.ensures
+      ∙ one-taken (is_matching (g.K.KeyFinder.tables c.args.keys.now) c.args.tree.now c.args.node)
+      (candidate c.args.number c.args.template.now c.args.pattern.now (tree_from c.args.alternative.now)) c.args.best
+      (ap (λ (r : Rank). option_map_or (λ (b : Best). outranks r b.rank) c.args.best true) (sym c.rank_of-rank.ensures)
+      ∙ sym c.is_above.ensures ∙ c.if-not-is_above.false)
+      (ap (λ (s : Scope). matches_path (g.K.KeyFinder.tables c.args.keys.now) (pattern_context c.args.tree.now s.pairs.items c.args.node)
+      (tree_from c.args.alternative.now)) (sym c.deref.ensures)
+      ∙ sym c.in_ok-matches_path.ensures.matches ∙ c.if-branch.true);
+}
+
+pub returns : goal.returns
+returns g c = record {
+  best =
+      one-passed (is_matching (g.K.KeyFinder.tables c.args.keys.now) c.args.tree.now c.args.node)
+      (candidate c.args.number c.args.template.now c.args.pattern.now (tree_from c.args.alternative.now)) c.args.best
+      (ap (λ (s : Scope). matches_path (g.K.KeyFinder.tables c.args.keys.now) (pattern_context c.args.tree.now s.pairs.items c.args.node)
+      (tree_from c.args.alternative.now)) (sym c.deref.ensures)
+      ∙ sym c.in_ok-matches_path.ensures.matches ∙ c.if-branch.false);
+}

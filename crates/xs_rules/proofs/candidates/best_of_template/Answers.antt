@@ -1,0 +1,65 @@
+use Rattle.std.proofs.Common.{◌≡◌, ◌==◌, Bool, List, [], IfOk, Option, ap, map, subst, sym, ◌∙◌}
+use Rattle.std.proofs.lemmas.Bool.{eq-eqb, ne_eqb}
+use Rattle.std.specs.Option.{option_map_or}
+use Rattle.xs_sheet.specs.declared.scoped.ScopedPattern.{ScopedPattern}
+use Rattle.xs_xpath.specs.Exprs.{trees_from}
+use Rattle.xs_rules.specs.declared.candidates.Best.{Best}
+use Rattle.xs_rules.specs.Rules.{Candidate, candidate}
+use Rattle.xs_rules.specs.steps.Candidates.{best_before, passes}
+use Rattle.xs_rules.proofs.RuleLemmas.{all-matching, none-before, not_looked-at, other-mode}
+use Rattle.xs_rules.proofs.candidates.best_of_template.Goals as goal
+
+pub returns-then-template-mode : goal.returns-then-template-mode
+returns-then-template-mode g c =
+    let keys = g.K.KeyFinder.tables c.args.keys.now in
+    let t = c.args.template.now in
+    let p = passes c.args.looked keys c.args.tree.now c.args.mode c.args.node in
+    let pat = c.in-Some.pattern in
+    record {
+      best =
+          other-mode c.args.looked keys c.args.tree.now c.args.mode c.args.node c.args.number t pat (trees_from pat.pattern.alternatives.items) c.args.best
+          (ne_eqb t.mode c.args.mode c.if-template-mode.true)
+          ∙ sym (ap (λ (o : Option ScopedPattern). best_before p
+          (option_map_or (λ (q : ScopedPattern). map (candidate c.args.number t q) (trees_from q.pattern.alternatives.items)) o []) c.args.best) c.in-Some.is);
+    }
+
+pub returns-then-not-looks_at : goal.returns-then-not-looks_at
+returns-then-not-looks_at g c =
+    let keys = g.K.KeyFinder.tables c.args.keys.now in
+    let t = c.args.template.now in
+    let p = passes c.args.looked keys c.args.tree.now c.args.mode c.args.node in
+    let pat = c.in-Some.pattern in
+    record {
+      best =
+          not_looked-at c.args.looked keys c.args.tree.now c.args.mode c.args.node c.args.number t pat (trees_from pat.pattern.alternatives.items) c.args.best
+          (sym c.looks_at.ensures ∙ c.if-not-looks_at.true)
+          ∙ sym (ap (λ (o : Option ScopedPattern). best_before p
+          (option_map_or (λ (q : ScopedPattern). map (candidate c.args.number t q) (trees_from q.pattern.alternatives.items)) o []) c.args.best) c.in-Some.is);
+    }
+
+pub returns-in-None : goal.returns-in-None
+returns-in-None g c =
+    let t = c.args.template.now in
+    let p = passes c.args.looked (g.K.KeyFinder.tables c.args.keys.now) c.args.tree.now c.args.mode c.args.node in
+    record {
+      best =
+          sym (none-before p c.args.best)
+          ∙ sym (ap (λ (o : Option ScopedPattern). best_before p
+          (option_map_or (λ (q : ScopedPattern). map (candidate c.args.number t q) (trees_from q.pattern.alternatives.items)) o []) c.args.best) c.in-None.is);
+    }
+
+pub returns-else-not-looks_at : goal.returns-else-not-looks_at
+returns-else-not-looks_at g c =
+    let keys = g.K.KeyFinder.tables c.args.keys.now in
+    let t = c.args.template.now in
+    let p = passes c.args.looked keys c.args.tree.now c.args.mode c.args.node in
+    let pat = c.in-Some.pattern in
+    record {
+      best =
+          subst (λ (o : Option Best). IfOk c.best_of_pattern.result (λ found. found ≡ o))
+          (all-matching c.args.looked keys c.args.tree.now c.args.mode c.args.node c.args.number t pat (trees_from pat.pattern.alternatives.items) c.args.best
+          (eq-eqb t.mode c.args.mode c.if-template-mode.false) (sym c.looks_at.ensures ∙ c.if-not-looks_at.false)
+          ∙ sym (ap (λ (o : Option ScopedPattern). best_before p
+          (option_map_or (λ (q : ScopedPattern). map (candidate c.args.number t q) (trees_from q.pattern.alternatives.items)) o []) c.args.best) c.in-Some.is))
+          c.best_of_pattern.ensures.best;
+    }

@@ -1,0 +1,6 @@
+-- In the order in which they are read: priorities and ranks; which rule a node takes; which white space is stripped. steps says what
+-- the code mirrors.
+pub mod Ranks
+pub mod Rules
+pub mod WhiteSpace
+pub mod steps

@@ -1,0 +1,46 @@
+-- How the rules are gone over, from the last one.
+use Rattle.std.specs.Prelude.{◌≡◌, ℕ, ◌==◌, ◌&&◌, Bool, true, false, nat_le, nat_lt, List, [], ◌∷◌, Option, Some, None, option_map, slice_get, if◌then◌else◌}
+use Rattle.std.specs.Option.{option_map_or}
+use Rattle.xs_sheet.specs.declared.declarations.Template.{Template}
+use Rattle.xs_sheet.specs.declared.scoped.ScopedPattern.{ScopedPattern}
+use Rattle.xs_tree.specs.Record.{Record}
+use Rattle.xs_value.specs.Tables.{Table}
+use Rattle.xs_xpath.specs.Tree.{Tree}
+use Rattle.xs_pattern.specs.Matching.{matches_path, pattern_context}
+use Rattle.xs_rules.specs.declared.candidates.Best.{Best}
+use Rattle.xs_rules.specs.declared.candidates.Looked.{Looked}
+use Rattle.xs_rules.specs.declared.candidates.Looked.TheVariants.{All, Nothing, Within}
+use Rattle.xs_rules.specs.declared.choice.Rule.{Rule}
+use Rattle.xs_rules.specs.declared.choice.Rule.TheVariants.{Template as OfTemplate, BuiltIn}
+use Rattle.xs_rules.specs.Ranks.{or_above}
+use Rattle.xs_rules.specs.Rules.{Candidate, candidate, candidates_of, takes}
+
+-- whether rules of a precedence are looked at
+abbrev pub looks_at : Looked → ℕ → Bool
+looks_at All precedence = true
+looks_at Nothing precedence = false
+looks_at (Within from below) precedence = nat_le from precedence && nat_lt precedence below
+
+-- what is kept of a candidate
+abbrev pub best_of : Candidate → Best
+best_of c = record { template = c.template; rank = c.rank }
+
+abbrev pub or_best : Candidate → Option Best → Option Best
+or_best c o = or_above (λ (b : Best). b.rank) (best_of c) o
+
+-- whether a candidate's pattern matches
+abbrev pub is_matching : List Table → List Record → (n : ℕ) → Candidate → Bool
+is_matching keys rs n c = matches_path keys (pattern_context rs c.scope n) c.alternative
+
+-- whether a candidate is looked at, and is of a mode and matches
+abbrev pub passes : Looked → List Table → List Record → (mode n : ℕ) → Candidate → Bool
+passes looked keys rs mode n c = looks_at looked c.rank.precedence && takes keys rs mode n c
+
+-- the best of candidates that pass, before what stands behind them
+unfoldable pub best_before : (Candidate → Bool) → List Candidate → Option Best → Option Best
+best_before p [] o = o
+best_before p (c ∷ cs) o = if p c then or_best c (best_before p cs o) else best_before p cs o
+
+abbrev pub rule_of_best : Option Best → Rule
+rule_of_best None = BuiltIn
+rule_of_best (Some b) = OfTemplate b.template

@@ -1,0 +1,188 @@
+//! The rules of a template, each an alternative of its pattern (XSLT 1.0, 5.3 and 5.5), and the
+//! best of those that match.
+
+ghost use Rattle.std.specs.Prelude.{◌≡◌, ◌<◌, ◌∷◌, [], true, IfOk, length, map};
+ghost use Rattle.std.specs.Option.{option_map_or};
+ghost use Rattle.xs_value.specs.Tables.{TablesIn};
+ghost use Rattle.xs_xpath.specs.Exprs.{tree_from, trees_from};
+ghost use Rattle.xs_rules.specs.Ranks.{outranks};
+ghost use Rattle.xs_rules.specs.Rules.{candidate, candidates_of, rank_of};
+ghost use Rattle.xs_rules.specs.steps.Candidates.{best_before, is_matching, looks_at, passes};
+ghost use Rattle.xs_rules.specs.steps.Candidates.{rule_of_best};
+
+use crate::choice::Rule;
+use crate::ranks::{Rank, default_priority};
+use std::alloc::{AllocError, Global};
+use xs_pattern::matching::matches_path;
+use xs_sheet::declarations::Template;
+use xs_sheet::scoped::ScopedPattern;
+use xs_tree::{Node, Tree};
+use xs_value::keys::KeyFinder;
+use xs_xpath::expr::Expr;
+
+/// The precedences of the rules that are looked at.
+#[derive(Clone, Copy)]
+pub(crate) enum Looked {
+    /// All of them.
+    All,
+    /// None.
+    Nothing,
+    /// Those from the first up to just below the second.
+    Within(u32, u32),
+}
+
+/// The best rule so far.
+#[derive(Clone, Copy)]
+pub(crate) struct Best {
+    /// The number of its template.
+    pub(crate) template: u32,
+    pub(crate) rank: Rank,
+}
+
+impl Looked {
+    /// Whether rules of a precedence are looked at.
+    pub(crate) fn looks_at(self, precedence: u32) -> bool
+        ensures { result ≡ looks_at self precedence }
+    {
+        match self {
+            Looked::All => true,
+            Looked::Nothing => false,
+            Looked::Within(from, below) => from <= precedence && precedence < below,
+        }
+    }
+}
+
+/// The best rule of a template with a number, before the best one behind it.
+pub(crate) fn best_of_template<K: KeyFinder>(
+    alloc: Global,
+    number: u32,
+    template: &Template,
+    looked: Looked,
+    tree: &Tree,
+    node: Node,
+    mode: u32,
+    keys: &K,
+    best: Option<Best>,
+) -> Result<Option<Best>, AllocError>
+    requires node { node < length tree.now }
+    requires tables { TablesIn tree.now (K.tables keys.now) }
+    ensures best { IfOk result (λ found. found
+        ≡ best_before (passes looked (K.tables keys.now) tree.now mode node)
+        (candidates_of (number, template.now)) best) }
+{
+    match &template.pattern {
+        None => Ok(best),
+        Some(pattern) => {
+            if template.mode != mode {
+                return Ok(best);
+            }
+            if !looked.looks_at(template.precedence) {
+                return Ok(best);
+            }
+            best_of_pattern(alloc, number, template, pattern, tree, node, keys, best)
+        }
+    }
+}
+
+// The best of the alternatives of a pattern that match, before the best rule behind it.
+fn best_of_pattern<K: KeyFinder>(
+    alloc: Global,
+    number: u32,
+    template: &Template,
+    pattern: &ScopedPattern,
+    tree: &Tree,
+    node: Node,
+    keys: &K,
+    best: Option<Best>,
+) -> Result<Option<Best>, AllocError>
+    requires node { node < length tree.now }
+    requires tables { TablesIn tree.now (K.tables keys.now) }
+    ensures best { IfOk result (λ found. found
+        ≡ best_before (is_matching (K.tables keys.now) tree.now node)
+        (map (candidate number template.now pattern.now)
+        (trees_from pattern.now.pattern.alternatives.items)) best) }
+{
+    let mut best = best;
+    let mut rest = pattern.pattern.alternatives.as_slice();
+    while let Some((alternative, before)) = rest.split_last() {
+        best = best_of_alternative(
+            alloc,
+            number,
+            template,
+            pattern,
+            alternative,
+            tree,
+            node,
+            keys,
+            best,
+        )?;
+        rest = before;
+    }
+    Ok(best)
+}
+
+// An alternative where it matches and is above the best rule behind it; otherwise that one.
+fn best_of_alternative<K: KeyFinder>(
+    alloc: Global,
+    number: u32,
+    template: &Template,
+    pattern: &ScopedPattern,
+    alternative: &Expr,
+    tree: &Tree,
+    node: Node,
+    keys: &K,
+    best: Option<Best>,
+) -> Result<Option<Best>, AllocError>
+    requires node { node < length tree.now }
+    requires tables { TablesIn tree.now (K.tables keys.now) }
+    ensures best { IfOk result (λ found. found
+        ≡ best_before (is_matching (K.tables keys.now) tree.now node)
+        (candidate number template.now pattern.now (tree_from alternative.now) ∷ []) best) }
+{
+    let rank = rank_of(template, alternative);
+    if !is_above(rank, best) {
+        return Ok(best);
+    }
+    if matches_path(alloc, alternative, &pattern.scope, tree, node, keys)? {
+        return Ok(Some(Best {
+            template: number,
+            rank,
+        }));
+    }
+    Ok(best)
+}
+
+// Whether there is no rule behind, or one that is outranked.
+fn is_above(rank: Rank, best: Option<Best>) -> bool
+    ensures { result ≡ option_map_or (λ b. outranks rank b.rank) best true }
+{
+    match best {
+        None => true,
+        Some(other) => rank.outranks(other.rank),
+    }
+}
+
+// Where an alternative of a template's pattern stands among others: by the priority that is
+// written, or else the default one.
+fn rank_of(template: &Template, alternative: &Expr) -> Rank
+    ensures { result ≡ rank_of template.now (tree_from alternative.now) }
+{
+    let priority = match template.priority {
+        Some(written) => written,
+        None => default_priority(alternative),
+    };
+    Rank {
+        precedence: template.precedence,
+        priority,
+    }
+}
+
+/// The rule of what was found.
+pub(crate) fn rule_of_best(best: Option<Best>) -> Rule
+    ensures { result ≡ rule_of_best best }
+{
+    match best {
+        Some(best) => Rule::Template(best.template),
+        None => Rule::BuiltIn,
+    }
+}

@@ -1,0 +1,103 @@
+//! Which template rule a node takes (XSLT 1.0, 5.5 and 5.6), found by going over all of them.
+
+ghost use Rattle.std.specs.Prelude.{◌≡◌, ℕ, ◌<◌, ◌^◌, None, IfOk, length};
+ghost use Rattle.xs_sheet.specs.Sound.{IsSound};
+ghost use Rattle.xs_value.specs.Tables.{TablesIn};
+ghost use Rattle.xs_rules.specs.Rules.{candidates, chosen, chosen_import, is_imported};
+ghost use Rattle.xs_rules.specs.steps.Candidates.{best_before, looks_at, passes};
+ghost use Rattle.xs_rules.specs.steps.Candidates.{rule_of_best};
+
+use crate::candidates::{Looked, best_of_template, rule_of_best};
+use std::alloc::{AllocError, Global};
+use xs_sheet::declarations::Template;
+use xs_sheet::sheet::Sheet;
+use xs_tree::{Node, Tree};
+use xs_value::keys::KeyFinder;
+
+/// The rule that a node takes.
+#[derive(Clone, Copy, PartialEq, Eq, Debug)]
+pub enum Rule {
+    /// That of the template with this number.
+    Template(u32),
+    /// The built-in one (XSLT 1.0, 5.8).
+    BuiltIn,
+}
+
+/// The rule that a node takes in a mode: of those that match the highest (XSLT 1.0, 5.5).
+pub fn choose<K: KeyFinder>(
+    alloc: Global,
+    sheet: &Sheet,
+    tree: &Tree,
+    node: Node,
+    mode: u32,
+    keys: &K,
+) -> Result<Rule, AllocError>
+    requires sound { IsSound sheet.now }
+    requires node { node < length tree.now }
+    requires tables { TablesIn tree.now (K.tables keys.now) }
+    ensures chosen { IfOk result (λ rule. rule
+        ≡ chosen (K.tables keys.now) sheet.now.templates.items tree.now mode node) }
+{
+    choose_among(alloc, Looked::All, sheet, tree, node, mode, keys)
+}
+
+/// The rule that a node takes in a mode of those that were imported into the module of the template
+/// with a number (XSLT 1.0, 5.6).
+pub fn choose_import<K: KeyFinder>(
+    alloc: Global,
+    sheet: &Sheet,
+    tree: &Tree,
+    node: Node,
+    mode: u32,
+    keys: &K,
+    under: u32,
+) -> Result<Rule, AllocError>
+    requires sound { IsSound sheet.now }
+    requires node { node < length tree.now }
+    requires tables { TablesIn tree.now (K.tables keys.now) }
+    ensures chosen { IfOk result (λ rule. rule
+        ≡ chosen_import under (K.tables keys.now) sheet.now.templates.items tree.now mode node) }
+{
+    let looked = imported_into(&sheet.templates, under);
+    choose_among(alloc, looked, sheet, tree, node, mode, keys)
+}
+
+/// Which rules are looked at for the module of the template with a number.
+pub(crate) fn imported_into(templates: &[Template], under: u32) -> Looked
+    ensures { (precedence : ℕ)
+        → looks_at result precedence ≡ is_imported templates.now under precedence }
+{
+    match templates.get(under as usize) {
+        Some(template) => Looked::Within(template.imports_from, template.precedence),
+        None => Looked::Nothing,
+    }
+}
+
+// The rule that a node takes of those that are looked at.
+fn choose_among<K: KeyFinder>(
+    alloc: Global,
+    looked: Looked,
+    sheet: &Sheet,
+    tree: &Tree,
+    node: Node,
+    mode: u32,
+    keys: &K,
+) -> Result<Rule, AllocError>
+    requires few { length sheet.now.templates.items < 2 ^ 32 }
+    requires node { node < length tree.now }
+    requires tables { TablesIn tree.now (K.tables keys.now) }
+    ensures chosen { IfOk result (λ rule. rule ≡ rule_of_best (best_before
+        (passes looked (K.tables keys.now) tree.now mode node)
+        (candidates sheet.now.templates.items) None)) }
+{
+    let mut best = None;
+    let mut rest = sheet.templates.as_slice();
+    while let Some((template, before)) = rest.split_last() {
+        let number = before.len() as u32;
+        best = best_of_template(
+            alloc, number, template, looked, tree, node, mode, keys, best,
+        )?;
+        rest = before;
+    }
+    Ok(rule_of_best(best))
+}

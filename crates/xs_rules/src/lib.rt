@@ -1,0 +1,8 @@
+//! Which template rule a node takes (XSLT 1.0, 5.5 and 5.6), and which white space of a source is
+//! stripped (3.4).
+#![tactic(auto)]
+
+mod candidates;
+pub mod choice;
+mod ranks;
+pub mod white_space;

@@ -1,0 +1,133 @@
+//! Import precedence and priority (XSLT 1.0, 2.6.2 and 5.5).
+
+ghost use Rattle.std.specs.Prelude.{◌≡◌};
+ghost use Rattle.std.specs.Option.{option_copied};
+ghost use Rattle.xs_rules.specs.Ranks.{bare_of, bare_test, default_priority, is_here, lone_step};
+ghost use Rattle.xs_rules.specs.Ranks.{lone_test, outranks, test_priority};
+ghost use Rattle.xs_xpath.specs.Exprs.{tree_from, trees_from};
+ghost use Rattle.xs_xpath.specs.Tree.{trees};
+
+use xs_pattern::paths::{start_of, steps_of};
+use xs_xpath::expr::Expr;
+use xs_xpath::name::NodeTest;
+
+/// By what template rules and tests of elements are compared.
+#[derive(Clone, Copy, PartialEq, Eq, Debug)]
+pub struct Rank {
+    /// The import precedence.
+    pub precedence: u32,
+    /// The priority, in ten-thousandths.
+    pub priority: i64,
+}
+
+impl Rank {
+    /// Whether this is above another: by a higher precedence, or at the same one by a higher
+    /// priority.
+    pub(crate) fn outranks(self, other: Rank) -> bool
+        ensures { result ≡ outranks self other }
+    {
+        if other.precedence < self.precedence {
+            return true;
+        }
+        other.precedence == self.precedence && other.priority < self.priority
+    }
+}
+
+/// The priority of an alternative of a pattern without one that is written (XSLT 1.0, 5.5).
+pub(crate) fn default_priority(alternative: &Expr) -> i64
+    ensures { result ≡ default_priority (tree_from alternative.now) }
+{
+    match lone_test(alternative) {
+        Some(test) => test_priority(test),
+        None => 5_000,
+    }
+}
+
+// The priority of a node test alone.
+fn test_priority(test: &NodeTest) -> i64
+    ensures { result ≡ test_priority test.now }
+{
+    match test {
+        NodeTest::Name(_, _) => 0,
+        NodeTest::Target(_) => 0,
+        NodeTest::Uri(_) => -2_500,
+        NodeTest::Any => -5_000,
+        NodeTest::Node => -5_000,
+        NodeTest::Text => -5_000,
+        NodeTest::Comment => -5_000,
+        NodeTest::Pi => -5_000,
+    }
+}
+
+// The node test of a path that is one step without predicates.
+fn lone_test(alternative: &Expr) -> Option<&NodeTest>
+    ensures { option_copied result ≡ lone_test (tree_from alternative.now) }
+{
+    if !is_here(start_of(alternative)) {
+        return None;
+    }
+    lone_step(steps_of(alternative))
+}
+
+// The same of its steps.
+fn lone_step(steps: &[Expr]) -> Option<&NodeTest>
+    ensures { option_copied result ≡ lone_step (trees_from steps.now) }
+{
+    match steps {
+        [step] => bare_test(step),
+        _ => None,
+    }
+}
+
+// The node test of a step without predicates.
+fn bare_test(step: &Expr) -> Option<&NodeTest>
+    ensures { option_copied result ≡ bare_test (tree_from step.now) }
+{
+    match step {
+        Expr::Number(_) => None,
+        Expr::Literal(_) => None,
+        Expr::Variable(_, _, _) => None,
+        Expr::Call(_, _) => None,
+        Expr::Negative(_, _) => None,
+        Expr::Chain(_, _) => None,
+        Expr::Group(_) => None,
+        Expr::Here => None,
+        Expr::Root => None,
+        Expr::Step(_, test, predicates) => bare_of(test, predicates),
+        Expr::Descend => None,
+        Expr::Filter(_, _) => None,
+        Expr::Path(_, _) => None,
+    }
+}
+
+// A node test, where there are no predicates behind it.
+fn bare_of<'a>(test: &'a NodeTest, predicates: &[Expr]) -> Option<&'a NodeTest>
+    ensures { option_copied result ≡ bare_of test.now (trees (trees_from predicates.now)) }
+{
+    if predicates.is_empty() {
+        Some(test)
+    } else {
+        None
+    }
+}
+
+// Whether a relative path begins so.
+fn is_here(start: &Expr) -> bool
+    ensures { result ≡ is_here (tree_from start.now) }
+{
+    match start {
+        Expr::Number(_) => false,
+        Expr::Literal(_) => false,
+        Expr::Variable(_, _, _) => false,
+        Expr::Call(_, _) => false,
+        Expr::Negative(_, _) => false,
+        Expr::Chain(_, _) => false,
+        Expr::Group(_) => false,
+        Expr::Here => true,
+        Expr::Root => false,
+        Expr::Step(_, _, _) => false,
+        Expr::Descend => false,
+        Expr::Filter(_, _) => false,
+        Expr::Path(_, _) => false,
+    }
+}
