@@ -1,0 +1,3 @@
+mod BuiltLemmas
+mod PlaceLemmas
+mod TextLemmas
