@@ -12,7 +12,6 @@ use Rattle.xs_value.specs.Tables.{Table}
 use Rattle.xs_xpath.specs.Tree.{Tree}
 use Rattle.xs_rules.specs.declared.candidates.Best.{Best}
 use Rattle.xs_rules.specs.declared.candidates.Looked.{Looked}
-use Rattle.xs_rules.specs.declared.choice.Rule.{Rule}
 use Rattle.xs_rules.specs.Ranks.{highest, or_above, outranks}
 use Rattle.xs_rules.specs.Rules.{Candidate, candidate, candidates, candidates_of, chosen_among, rule_of, takes}
 use Rattle.xs_rules.specs.steps.Candidates.{best_before, best_of, is_matching, looks_at, or_best, passes, rule_of_best}

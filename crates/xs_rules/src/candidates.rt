@@ -2,13 +2,14 @@
 //! best of those that match.
 
 ghost use Rattle.std.specs.Prelude.{◌≡◌, ◌<◌, ◌∷◌, [], true, IfOk, length, map};
-ghost use Rattle.std.specs.Option.{option_map_or};
+ghost use Rattle.std.specs.Option.{option_and_then, option_map_or};
 ghost use Rattle.xs_value.specs.Tables.{TablesIn};
 ghost use Rattle.xs_xpath.specs.Exprs.{tree_from, trees_from};
 ghost use Rattle.xs_rules.specs.Ranks.{outranks};
 ghost use Rattle.xs_rules.specs.Rules.{candidate, candidates_of, rank_of};
 ghost use Rattle.xs_rules.specs.steps.Candidates.{best_before, is_matching, looks_at, passes};
 ghost use Rattle.xs_rules.specs.steps.Candidates.{rule_of_best};
+ghost use Rattle.xs_rules.specs.steps.Index.{nth_of};
 
 use crate::choice::Rule;
 use crate::ranks::{Rank, default_priority};
@@ -185,4 +186,84 @@ pub(crate) fn rule_of_best(best: Option<Best>) -> Rule
         Some(best) => Rule::Template(best.template),
         None => Rule::BuiltIn,
     }
+}
+
+/// The rule of one of a template's alternatives, by its number, before the best one behind it.
+pub(crate) fn best_of_nth<K: KeyFinder>(
+    alloc: Global,
+    number: u32,
+    template: &Template,
+    place: usize,
+    looked: Looked,
+    tree: &Tree,
+    node: Node,
+    mode: u32,
+    keys: &K,
+    best: Option<Best>,
+) -> Result<Option<Best>, AllocError>
+    requires node { node < length tree.now }
+    requires tables { TablesIn tree.now (K.tables keys.now) }
+    ensures best { IfOk result (λ found. found ≡ option_map_or (λ c. best_before
+        (passes looked (K.tables keys.now) tree.now mode node) (c ∷ []) best)
+        (option_and_then (nth_of number template.now place) template.now.pattern) best) }
+{
+    match &template.pattern {
+        None => Ok(best),
+        Some(pattern) => match pattern.pattern.alternatives.get(place) {
+            None => Ok(best),
+            Some(alternative) => best_of_rule(
+                alloc,
+                number,
+                template,
+                pattern,
+                alternative,
+                looked,
+                tree,
+                node,
+                mode,
+                keys,
+                best,
+            ),
+        },
+    }
+}
+
+// An alternative where it is looked at, is of the mode, matches, and is above the best rule behind
+// it; otherwise that one.
+fn best_of_rule<K: KeyFinder>(
+    alloc: Global,
+    number: u32,
+    template: &Template,
+    pattern: &ScopedPattern,
+    alternative: &Expr,
+    looked: Looked,
+    tree: &Tree,
+    node: Node,
+    mode: u32,
+    keys: &K,
+    best: Option<Best>,
+) -> Result<Option<Best>, AllocError>
+    requires node { node < length tree.now }
+    requires tables { TablesIn tree.now (K.tables keys.now) }
+    ensures best { IfOk result (λ found. found
+        ≡ best_before (passes looked (K.tables keys.now) tree.now mode node)
+        (candidate number template.now pattern.now (tree_from alternative.now) ∷ []) best) }
+{
+    if template.mode != mode {
+        return Ok(best);
+    }
+    if !looked.looks_at(template.precedence) {
+        return Ok(best);
+    }
+    best_of_alternative(
+        alloc,
+        number,
+        template,
+        pattern,
+        alternative,
+        tree,
+        node,
+        keys,
+        best,
+    )
 }

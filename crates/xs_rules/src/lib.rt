@@ -4,5 +4,8 @@
 
 mod candidates;
 pub mod choice;
+pub mod index;
+mod lists;
 mod ranks;
+mod rule_keys;
 pub mod white_space;

@@ -1,10 +1,12 @@
-//! Conflicts of template rules (XSLT 1.0, 5.5), modes (5.7) and imported rules (5.6).
+//! Conflicts of template rules (XSLT 1.0, 5.5), modes (5.7) and imported rules (5.6). Each rule is
+//! chosen from the stylesheet and from its index.
 
 use crate::document::built;
 use crate::sheets::{Row, plain, sheet};
 use std::alloc::Global;
 use std::test::Fail;
 use xs_rules::choice::{Rule, choose, choose_import};
+use xs_rules::index::{RuleIndex, choose_import_with, choose_with};
 use xs_tree::Node;
 use xs_value::keys::NoKeys;
 
@@ -19,14 +21,25 @@ fn shown(alloc: Global, rule: Rule) -> Result<String, Fail> {
     })
 }
 
+// The same of two rules, which have to be the same.
+fn both(alloc: Global, rule: Rule, indexed: Rule) -> Result<String, Fail> {
+    if rule != indexed {
+        return Err(Fail::new("another rule by the index"));
+    }
+    shown(alloc, rule)
+}
+
 // The rules that the node at a place takes in modes 0 and 1.
 fn chosen(alloc: Global, rows: &[Row], place: u32) -> Result<String, Fail> {
     let sheet = sheet(alloc, rows)?;
     let tree = built(alloc, LINES.as_bytes())?.tree;
+    let index = RuleIndex::new(alloc, &sheet)?;
+    let node = Node::at(place);
     let mut out = String::new(alloc);
     for mode in 0..2 {
-        let rule = choose(alloc, &sheet, &tree, Node::at(place), mode, &NoKeys)?;
-        out.push_str(shown(alloc, rule)?.as_str())?;
+        let rule = choose(alloc, &sheet, &tree, node, mode, &NoKeys)?;
+        let indexed = choose_with(alloc, &index, &tree, node, mode, &NoKeys)?;
+        out.push_str(both(alloc, rule, indexed)?.as_str())?;
     }
     Ok(out)
 }
@@ -35,10 +48,13 @@ fn chosen(alloc: Global, rows: &[Row], place: u32) -> Result<String, Fail> {
 fn imported(alloc: Global, rows: &[Row], place: u32) -> Result<String, Fail> {
     let sheet = sheet(alloc, rows)?;
     let tree = built(alloc, LINES.as_bytes())?.tree;
+    let index = RuleIndex::new(alloc, &sheet)?;
+    let node = Node::at(place);
     let mut out = String::new(alloc);
     for under in 0..rows.len() as u32 {
-        let rule = choose_import(alloc, &sheet, &tree, Node::at(place), 0, &NoKeys, under)?;
-        out.push_str(shown(alloc, rule)?.as_str())?;
+        let rule = choose_import(alloc, &sheet, &tree, node, 0, &NoKeys, under)?;
+        let indexed = choose_import_with(alloc, &index, &tree, node, 0, &NoKeys, under)?;
+        out.push_str(both(alloc, rule, indexed)?.as_str())?;
     }
     Ok(out)
 }

@@ -1,11 +1,7 @@
 -- How the rules are gone over, from the last one.
-use Rattle.std.specs.Prelude.{◌≡◌, ℕ, ◌==◌, ◌&&◌, Bool, true, false, nat_le, nat_lt, List, [], ◌∷◌, Option, Some, None, option_map, slice_get, if◌then◌else◌}
-use Rattle.std.specs.Option.{option_map_or}
-use Rattle.xs_sheet.specs.declared.declarations.Template.{Template}
-use Rattle.xs_sheet.specs.declared.scoped.ScopedPattern.{ScopedPattern}
+use Rattle.std.specs.Prelude.{ℕ, ◌&&◌, Bool, true, false, nat_le, nat_lt, List, [], ◌∷◌, Option, Some, None, if◌then◌else◌}
 use Rattle.xs_tree.specs.Record.{Record}
 use Rattle.xs_value.specs.Tables.{Table}
-use Rattle.xs_xpath.specs.Tree.{Tree}
 use Rattle.xs_pattern.specs.Matching.{matches_path, pattern_context}
 use Rattle.xs_rules.specs.declared.candidates.Best.{Best}
 use Rattle.xs_rules.specs.declared.candidates.Looked.{Looked}
@@ -13,7 +9,7 @@ use Rattle.xs_rules.specs.declared.candidates.Looked.TheVariants.{All, Nothing, 
 use Rattle.xs_rules.specs.declared.choice.Rule.{Rule}
 use Rattle.xs_rules.specs.declared.choice.Rule.TheVariants.{Template as OfTemplate, BuiltIn}
 use Rattle.xs_rules.specs.Ranks.{or_above}
-use Rattle.xs_rules.specs.Rules.{Candidate, candidate, candidates_of, takes}
+use Rattle.xs_rules.specs.Rules.{Candidate, takes}
 
 -- whether rules of a precedence are looked at
 abbrev pub looks_at : Looked → ℕ → Bool

@@ -1,4 +1,4 @@
-use Rattle.std.proofs.Common.{◌≡◌, Bool, true, Option, Some, ap, sym, ◌∙◌}
+use Rattle.std.proofs.Common.{true, Some, ap, sym, ◌∙◌}
 use Rattle.std.specs.Option.{option_map_or}
 use Rattle.xs_xpath.specs.declared.scope.Scope.{Scope}
 use Rattle.xs_xpath.specs.Exprs.{tree_from}

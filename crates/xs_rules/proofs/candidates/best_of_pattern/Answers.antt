@@ -1,4 +1,4 @@
-use Rattle.std.proofs.Common.{◌≡◌, ◌++◌, ◌∷◌, [], List, Option, ap, map, sym, ◌∙◌}
+use Rattle.std.proofs.Common.{◌∷◌, [], List, ap, map, sym, ◌∙◌}
 use Rattle.std.proofs.lemmas.List.{map-append}
 use Rattle.xs_rules.proofs.HighestLemmas.{no_items}
 use Rattle.xs_xpath.specs.declared.expr.Expr.{Expr}

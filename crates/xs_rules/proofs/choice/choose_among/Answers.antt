@@ -1,7 +1,6 @@
-use Rattle.std.proofs.Common.{◌≡◌, ◌≤◌, List, Option, arith, ap, length, sym, ◌∙◌}
+use Rattle.std.proofs.Common.{List, arith, ap, sym, ◌∙◌}
 use Rattle.xs_rules.proofs.HighestLemmas.{no_items}
 use Rattle.xs_sheet.specs.declared.declarations.Template.{Template}
-use Rattle.xs_rules.specs.declared.candidates.Best.{Best}
 use Rattle.xs_rules.specs.Rules.{candidates}
 use Rattle.xs_rules.specs.steps.Candidates.{best_before, passes, rule_of_best}
 use Rattle.xs_rules.proofs.RuleLemmas.{none-before, template-on}

@@ -1,4 +1,4 @@
-use Rattle.std.proofs.Common.{◌≡◌, ◌==◌, Bool, true, false, List, [], ◌∷◌, None, length, refl, sym, ◌∙◌}
+use Rattle.std.proofs.Common.{◌≡◌, ◌==◌, false, List, [], ◌∷◌, None, length, refl, sym, ◌∙◌}
 use Rattle.std.proofs.lemmas.Bool.{true≢false}
 use Rattle.xs_xpath.specs.declared.expr.Expr.{Expr}
 use Rattle.xs_xpath.specs.declared.name.NodeTest.{NodeTest}

@@ -1,4 +1,3 @@
-use Rattle.std.proofs.Common.{◌≡◌, Bool}
 use Rattle.std.specs.Option.{option_copied}
 use Rattle.xs_sheet.specs.declared.declarations.StripRule.{StripRule}
 use Rattle.xs_tree.specs.Record.{at}

@@ -1,5 +1,4 @@
-use Rattle.std.proofs.Common.{◌≡◌, sym}
-use Rattle.xs_tree.specs.Record.{at}
+use Rattle.std.proofs.Common.{sym}
 use Rattle.xs_tree.proofs.WalkLemmas.{IsPlaced-at}
 use Rattle.xs_rules.specs.WhiteSpace.{preserves}
 use Rattle.xs_rules.proofs.WhiteSpaceLemmas.{known-at, known-within}

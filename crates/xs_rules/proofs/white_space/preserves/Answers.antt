@@ -1,7 +1,6 @@
-use Rattle.std.proofs.Common.{◌≡◌, ℕ, ◌<◌, Bool, None, Some, false, ap, get_or, length, subst, sym, ◌∙◌}
-use Rattle.xs_tree.specs.Record.{at}
+use Rattle.std.proofs.Common.{ℕ, ◌<◌, false, ap, get_or, length, subst, sym, ◌∙◌}
 use Rattle.xs_tree.proofs.WalkLemmas.{IsPlaced-at}
-use Rattle.xs_rules.specs.WhiteSpace.{preserves, said_by}
+use Rattle.xs_rules.specs.WhiteSpace.{preserves}
 use Rattle.xs_rules.proofs.WhiteSpaceLemmas.{known-at, known-within, said-preserve, unsaid-parent, unsaid-root}
 use Rattle.xs_rules.proofs.white_space.preserves.Goals as goal
 

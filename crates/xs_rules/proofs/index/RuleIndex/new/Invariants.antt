@@ -1,0 +1,9 @@
+use Rattle.std.proofs.Common.{take}
+use Rattle.xs_rules.specs.Rules.{candidates}
+use Rattle.xs_rules.specs.steps.Index.{IsIndexed}
+use Rattle.xs_rules.specs.steps.Lists.{found_in}
+use Rattle.xs_rules.proofs.index.RuleIndex.new.Given as goal
+
+abbrev pub invariant-loop-number : goal.invariant-loop-number
+invariant-loop-number l =
+    IsIndexed l.sheet.templates.items (candidates (take l.number l.sheet.templates.items)) l.lists.entries.items (found_in l.lists.last)
