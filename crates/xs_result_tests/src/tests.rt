@@ -6,33 +6,45 @@ use xs_result::{build, write_text};
 use xs_trace::event::{Event, Label};
 use xs_trace::text::TextBuf;
 
-/// The event that a line says, in the letters of PYX lines; `:` is a namespace node.
-fn event(alloc: Global, line: &str) -> Result<Event, AllocError> {
-    let (first, rest) = line.split_at(1);
-    let (name, value) = rest.split_once(' ').unwrap_or((rest, ""));
-    let label = Label {
+/// A name without a namespace.
+fn label(alloc: Global, name: &str) -> Result<Label, AllocError> {
+    Ok(Label {
         uri: TextBuf::of(alloc, "")?,
         local: TextBuf::of(alloc, name)?,
         prefix: TextBuf::of(alloc, "")?,
-    };
-    Ok(match first {
-        "(" => Event::Start(label),
-        "A" => Event::Attr {
-            name: label,
-            value: TextBuf::of(alloc, value)?,
-        },
-        ":" => Event::Space {
-            prefix: TextBuf::of(alloc, name)?,
-            uri: TextBuf::of(alloc, value)?,
-        },
-        "-" => Event::Chars(TextBuf::of(alloc, rest)?),
-        "C" => Event::Comment(TextBuf::of(alloc, rest)?),
-        "?" => Event::Pi {
-            target: TextBuf::of(alloc, name)?,
-            value: TextBuf::of(alloc, value)?,
-        },
-        _ => Event::End,
     })
+}
+
+/// The event that a line says, in the letters of PYX lines; `:` is a namespace node.
+fn event(alloc: Global, line: &str) -> Result<Event, AllocError> {
+    if let Some(name) = line.strip_prefix('(') {
+        return Ok(Event::Start(label(alloc, name)?));
+    }
+    if let Some(text) = line.strip_prefix('-') {
+        return Ok(Event::Chars(TextBuf::of(alloc, text)?));
+    }
+    if let Some(text) = line.strip_prefix('C') {
+        return Ok(Event::Comment(TextBuf::of(alloc, text)?));
+    }
+    match line.split_once(' ') {
+        Some((name, value)) => named_event(alloc, name, value),
+        None => Ok(Event::End),
+    }
+}
+
+/// The event of a line with a name and a value.
+fn named_event(alloc: Global, name: &str, value: &str) -> Result<Event, AllocError> {
+    let value = TextBuf::of(alloc, value)?;
+    if let Some(name) = name.strip_prefix('A') {
+        let name = label(alloc, name)?;
+        return Ok(Event::Attr { name, value });
+    }
+    if let Some(prefix) = name.strip_prefix(':') {
+        let prefix = TextBuf::of(alloc, prefix)?;
+        return Ok(Event::Space { prefix, uri: value });
+    }
+    let target = TextBuf::of(alloc, name.strip_prefix('?').unwrap_or(""))?;
+    Ok(Event::Pi { target, value })
 }
 
 /// The line that says an event.

@@ -1,7 +1,6 @@
 //! Which template rule a node takes (XSLT 1.0, 5.5 and 5.6), found by going over all of them.
 
 ghost use Rattle.std.specs.Prelude.{◌≡◌, ℕ, ◌<◌, ◌^◌, None, IfOk, length};
-ghost use Rattle.xs_sheet.specs.Sound.{IsSound};
 ghost use Rattle.xs_value.specs.Tables.{TablesIn};
 ghost use Rattle.xs_rules.specs.Rules.{candidates, chosen, chosen_import, is_imported};
 ghost use Rattle.xs_rules.specs.steps.Candidates.{best_before, looks_at, passes};
@@ -32,7 +31,7 @@ pub fn choose<K: KeyFinder>(
     mode: u32,
     keys: &K,
 ) -> Result<Rule, AllocError>
-    requires sound { IsSound sheet.now }
+    requires few { length sheet.now.templates.items < 2 ^ 32 }
     requires node { node < length tree.now }
     requires tables { TablesIn tree.now (K.tables keys.now) }
     ensures chosen { IfOk result (λ rule. rule
@@ -52,7 +51,7 @@ pub fn choose_import<K: KeyFinder>(
     keys: &K,
     under: u32,
 ) -> Result<Rule, AllocError>
-    requires sound { IsSound sheet.now }
+    requires few { length sheet.now.templates.items < 2 ^ 32 }
     requires node { node < length tree.now }
     requires tables { TablesIn tree.now (K.tables keys.now) }
     ensures chosen { IfOk result (λ rule. rule

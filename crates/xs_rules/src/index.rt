@@ -1,8 +1,7 @@
 //! The rules of a stylesheet by mode, kind and name, and the rule that a node takes, found among
 //! those that it may match.
 
-ghost use Rattle.std.specs.Prelude.{◌≡◌, ◌<◌, IfOk, length};
-ghost use Rattle.xs_sheet.specs.Sound.{IsSound};
+ghost use Rattle.std.specs.Prelude.{◌≡◌, ◌<◌, ◌^◌, IfOk, length};
 ghost use Rattle.xs_value.specs.Tables.{TablesIn};
 ghost use Rattle.xs_rules.specs.Indexed.{IsIndex};
 ghost use Rattle.xs_rules.specs.Rules.{chosen, chosen_import};
@@ -27,7 +26,7 @@ pub struct RuleIndex<'a> {
 impl<'a> RuleIndex<'a> {
     /// The rules of a stylesheet, in time linear in it.
     pub fn new(alloc: Global, sheet: &'a Sheet) -> Result<RuleIndex<'a>, AllocError>
-        requires { IsSound sheet.now }
+        requires few { length sheet.now.templates.items < 2 ^ 32 }
         ensures index { IfOk result IsIndex }
         ensures templates { IfOk result (λ index. index.templates.now ≡ sheet.now.templates.items) }
     {
