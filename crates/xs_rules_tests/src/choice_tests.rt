@@ -7,7 +7,8 @@ use std::alloc::Global;
 use std::test::Fail;
 use xs_rules::choice::{Rule, choose, choose_import};
 use xs_rules::index::{RuleIndex, choose_import_with, choose_with};
-use xs_tree::Node;
+use xs_sheet::sheet::Sheet;
+use xs_tree::{Node, Tree};
 use xs_value::keys::NoKeys;
 
 // The places are 0 root, 1 `a`, 4 its `k`, 5 its text, 6 `p:a`, 9 the comment, 10 the instruction.
@@ -29,17 +30,54 @@ fn both(alloc: Global, rule: Rule, indexed: Rule) -> Result<String, Fail> {
     shown(alloc, rule)
 }
 
+// The most templates of a stylesheet here.
+const MOST: usize = 1_000;
+
+// The rule that the node at a place takes in a mode, by the stylesheet and by its index.
+fn taken(alloc: Global, sheet: &Sheet, tree: &Tree, place: u32, mode: u32) -> Result<String, Fail> {
+    if sheet.templates.as_slice().len() >= MOST {
+        return Err(Fail::new("too many templates"));
+    }
+    if place as usize >= tree.len() {
+        return Err(Fail::new("no such node"));
+    }
+    let index = RuleIndex::new(alloc, sheet)?;
+    let node = Node::at(place);
+    let rule = choose(alloc, sheet, tree, node, mode, &NoKeys)?;
+    let indexed = choose_with(alloc, &index, tree, node, mode, &NoKeys)?;
+    both(alloc, rule, indexed)
+}
+
+// The rule that the node at a place takes in mode 0 of those imported under a template, by the
+// stylesheet and by its index.
+fn taken_under(
+    alloc: Global,
+    sheet: &Sheet,
+    tree: &Tree,
+    place: u32,
+    under: u32,
+) -> Result<String, Fail> {
+    if sheet.templates.as_slice().len() >= MOST {
+        return Err(Fail::new("too many templates"));
+    }
+    if place as usize >= tree.len() {
+        return Err(Fail::new("no such node"));
+    }
+    let index = RuleIndex::new(alloc, sheet)?;
+    let node = Node::at(place);
+    let rule = choose_import(alloc, sheet, tree, node, 0, &NoKeys, under)?;
+    let indexed = choose_import_with(alloc, &index, tree, node, 0, &NoKeys, under)?;
+    both(alloc, rule, indexed)
+}
+
 // The rules that the node at a place takes in modes 0 and 1.
 fn chosen(alloc: Global, rows: &[Row], place: u32) -> Result<String, Fail> {
     let sheet = sheet(alloc, rows)?;
     let tree = built(alloc, LINES.as_bytes())?.tree;
-    let index = RuleIndex::new(alloc, &sheet)?;
-    let node = Node::at(place);
     let mut out = String::new(alloc);
     for mode in 0..2 {
-        let rule = choose(alloc, &sheet, &tree, node, mode, &NoKeys)?;
-        let indexed = choose_with(alloc, &index, &tree, node, mode, &NoKeys)?;
-        out.push_str(both(alloc, rule, indexed)?.as_str())?;
+        let rule = taken(alloc, &sheet, &tree, place, mode)?;
+        out.push_str(rule.as_str())?;
     }
     Ok(out)
 }
@@ -48,13 +86,12 @@ fn chosen(alloc: Global, rows: &[Row], place: u32) -> Result<String, Fail> {
 fn imported(alloc: Global, rows: &[Row], place: u32) -> Result<String, Fail> {
     let sheet = sheet(alloc, rows)?;
     let tree = built(alloc, LINES.as_bytes())?.tree;
-    let index = RuleIndex::new(alloc, &sheet)?;
-    let node = Node::at(place);
     let mut out = String::new(alloc);
-    for under in 0..rows.len() as u32 {
-        let rule = choose_import(alloc, &sheet, &tree, node, 0, &NoKeys, under)?;
-        let indexed = choose_import_with(alloc, &index, &tree, node, 0, &NoKeys, under)?;
-        out.push_str(both(alloc, rule, indexed)?.as_str())?;
+    let mut under = 0_u32;
+    for _ in rows {
+        let rule = taken_under(alloc, &sheet, &tree, place, under)?;
+        out.push_str(rule.as_str())?;
+        under = under.wrapping_add(1);
     }
     Ok(out)
 }
@@ -68,10 +105,10 @@ fn try_priority(
     priority: i64,
 ) -> Result<String, Fail> {
     let mut out = String::new(alloc);
-    for step in 0..3 {
+    for written in [priority.wrapping_sub(1), priority, priority.wrapping_add(1)] {
         let rows = [
             (pattern, 0, 0, 0, None),
-            ("@*|node()|/", 0, 0, 0, Some(priority - 1 + step)),
+            ("@*|node()|/", 0, 0, 0, Some(written)),
         ];
         out.push_str(chosen(alloc, &rows, place)?.as_str())?;
     }

@@ -51,7 +51,7 @@ fn rules_of(alloc: Global, rows: &[Row]) -> Result<Vec<StripRule>, Fail> {
 // Which of the texts stay: a digit for each, `x` where it is stripped.
 fn left(alloc: Global, tree: &Tree, marks: &[bool]) -> Result<String, Fail> {
     let mut out = String::new(alloc);
-    let mut number = 0;
+    let mut number = 0_u32;
     for place in 0..tree.len() as u32 {
         if tree.kind(Node::at(place)) == Kind::Text {
             if marks.get(place as usize).copied().unwrap_or(false) {
@@ -59,7 +59,7 @@ fn left(alloc: Global, tree: &Tree, marks: &[bool]) -> Result<String, Fail> {
             } else {
                 write!(out, "{number}")?;
             }
-            number += 1;
+            number = number.wrapping_add(1);
         }
     }
     Ok(out)
@@ -74,7 +74,7 @@ fn tried(alloc: Global, rows: &[Row]) -> Result<String, Fail> {
     let before = tree.len();
     strip_space(alloc, &mut tree, &rules)?;
     let gone = marks.iter().filter(|mark| **mark).count();
-    if tree.len() + gone != before {
+    if tree.len().wrapping_add(gone) != before {
         return Ok(format!(in alloc; "({out})")?);
     }
     Ok(out)
