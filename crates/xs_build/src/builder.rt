@@ -70,6 +70,7 @@ impl<'a> Builder<'a> {
     }
 
     /// Makes a node of the text before the next line.
+    #[inline(always)]
     pub fn end_text(&mut self) -> Result<(), AllocError>
         requires { IsGood (state self.old) }
         ensures ended { OnOk result (state self.new ≡ ended (state self.old)) }
@@ -82,6 +83,7 @@ impl<'a> Builder<'a> {
     }
 
     /// Takes the next line, behind which `rest` stands.
+    #[inline(always)]
     pub fn take(&mut self, alloc: Global, view: LineView<'a>, rest: &[u8]) -> Result<(), BuildFault>
         requires good { IsGood (state self.old) }
         requires readable { IsReadable view }

@@ -16,6 +16,7 @@ use xs_tree::MOST_NODES;
 
 impl<'a> Builder<'a> {
     /// Takes a text.
+    #[inline(always)]
     #[tactic(auto, unfolding(crate::specs::steps::State::spoken))]
     pub fn chars(&mut self, text: &str) -> Result<(), BuildFault>
         ensures step { Steps result (spoken (state self.old) text.now) (state self.new) }
@@ -31,6 +32,7 @@ impl<'a> Builder<'a> {
     }
 
     /// Takes a text in an element.
+    #[inline(always)]
     fn text_inside(&mut self, text: &str) -> Result<(), BuildFault>
         requires { self.old.follows ≡ false }
         ensures step { Steps result (spoken_inside (state self.old) text.now) (state self.new) }
@@ -43,6 +45,7 @@ impl<'a> Builder<'a> {
     }
 
     /// Takes the first text of a node.
+    #[inline(always)]
     fn first_text(&mut self, text: &str) -> Result<(), BuildFault>
         requires follows { self.old.follows ≡ false }
         requires quiet { string_bytes self.old.text ≡ [] }

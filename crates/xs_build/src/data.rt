@@ -34,6 +34,7 @@ impl<'a> Builder<'a> {
     }
 
     /// Takes a text.
+    #[inline(always)]
     pub fn text_line(&mut self, alloc: Global, text: Data<'_>) -> Result<(), BuildFault>
         requires readable { IsReadableData text }
         ensures step { Steps result

@@ -28,6 +28,7 @@ use xs_tree::MOST_NODES;
 
 impl<'a> Builder<'a> {
     /// Takes the start of an element, behind which `rest` stands.
+    #[inline(always)]
     #[tactic(auto, unfolding(crate::specs::steps::Lines::start_step))]
     pub fn start(&mut self, alloc: Global, name: &'a str, rest: &[u8]) -> Result<(), BuildFault>
         requires good { IsGood (state self.old) }
@@ -46,6 +47,7 @@ impl<'a> Builder<'a> {
 
     /// Takes the start of an element in which these bindings are in force. `is_same` only where
     /// they are those of the element around it.
+    #[inline(always)]
     fn start_in(
         &mut self,
         alloc: Global,
@@ -68,6 +70,7 @@ impl<'a> Builder<'a> {
     }
 
     /// The bindings in force in an element that declares this.
+    #[inline(always)]
     fn scope_inside(&self, alloc: Global, declared: Vec<Declared>) -> Result<Scope, AllocError>
         ensures { IfOk result (λ scope. scope ≡ scope_with (bindings_of declared)
             (scope_of (reverse self.now.around.items))) }
@@ -79,6 +82,7 @@ impl<'a> Builder<'a> {
     }
 
     /// The name of an element that is written so.
+    #[inline(always)]
     fn name_in(
         &self,
         alloc: Global,
@@ -94,6 +98,7 @@ impl<'a> Builder<'a> {
     }
 
     /// The name that this is for an element: that of a node that has it, where one is known.
+    #[inline(always)]
     fn resolved(
         &self,
         alloc: Global,
@@ -114,6 +119,7 @@ impl<'a> Builder<'a> {
 
     /// Adds an element, which is the innermost open one from then on. `is_same` only where its
     /// bindings are those of the element around it.
+    #[inline(always)]
     fn enter(
         &mut self,
         alloc: Global,
@@ -144,6 +150,7 @@ impl<'a> Builder<'a> {
     }
 
     /// Takes the end of an element.
+    #[inline(always)]
     #[tactic(auto, unfolding(crate::specs::steps::Lines::end_step))]
     pub fn end(&mut self, name: &str) -> Result<(), BuildFault>
         requires { IsGood (state self.old) }
@@ -161,6 +168,7 @@ impl<'a> Builder<'a> {
 }
 
 /// Adds the line of this many nodes.
+#[inline(always)]
 fn push_lines(lines: &mut Vec<u32>, line: u32, count: usize) -> Result<(), AllocError>
     ensures { OnOk result (lines.new.items ≡ lines.old.items ++ map (λ _. line)
         (range_with_len 0 count)) }

@@ -104,6 +104,7 @@ impl<'a> KnownNames<'a> {
     }
 
     /// The name that is written so, where it is remembered.
+    #[inline(always)]
     fn look_up(&self, written: &str) -> Option<&ReadName<'a>>
         ensures { IfSome result (λ name. qname_of written.now ≡ Some (parts_of name.now)) }
     {
@@ -115,6 +116,7 @@ impl<'a> KnownNames<'a> {
     }
 
     /// The QName that is written so; none where it is none.
+    #[inline(always)]
     pub fn read(&self, written: &'a str) -> Option<ReadName<'a>>
         ensures { option_map parts_of result ≡ qname_of written.now }
     {
@@ -131,6 +133,7 @@ impl<'a> KnownNames<'a> {
 }
 
 /// The name, if it is written so.
+#[inline(always)]
 fn matching<'n, 'a>(name: &'n ReadName<'a>, written: &str) -> Option<&'n ReadName<'a>>
     ensures same { IfSome result (λ found. found.now ≡ name.now) }
     ensures written { IfSome result (λ found. name.now.written.now ≡ written.now) }
@@ -160,6 +163,7 @@ fn new_name(written: &str, like: Option<u32>) -> Option<ReadName<'_>>
 
 impl ReadName<'_> {
     /// The node that may have this name, if the tree has one at its place.
+    #[inline(always)]
     fn node_in(&self, tree: &Tree) -> Option<Node>
         ensures { IfSome result (λ node. node < length tree.now) }
     {
@@ -173,6 +177,7 @@ impl ReadName<'_> {
 
     /// A node that has the name that this is for an element where these bindings are in force; none
     /// where none is known.
+    #[inline(always)]
     pub fn find_element(&self, tree: &Tree, scope: &Scope) -> Option<Node>
         ensures named { IfSome result (λ node. IsNamed tree.now (NodeName.Known node)) }
         ensures same { IfSome result

@@ -23,6 +23,7 @@ use std::alloc::{AllocError, Global};
 use xs_tree::{Kind, Name, NameText, Node, Tree, TreeFault};
 
 /// Adds a node for which there is room.
+#[inline(always)]
 fn put(
     tree: &mut Tree,
     kind: Kind,
@@ -50,6 +51,7 @@ fn put(
 }
 
 /// Adds an element or an attribute for which there is room, of the name that is meant.
+#[inline(always)]
 fn put_named(
     tree: &mut Tree,
     kind: Kind,
@@ -81,6 +83,7 @@ fn put_named(
 }
 
 /// Adds a node for which there is room, with the name of another one.
+#[inline(always)]
 fn put_like(
     tree: &mut Tree,
     kind: Kind,
@@ -111,6 +114,7 @@ fn put_like(
 }
 
 /// Adds the text, unless it is empty.
+#[inline(always)]
 pub fn put_text(tree: &mut Tree, around: &[Opened<'_>], text: &str) -> Result<(), AllocError>
     requires well { IsWell tree.old (reverse around.now) }
     requires room { length (with_text_node tree.old
@@ -128,6 +132,7 @@ pub fn put_text(tree: &mut Tree, around: &[Opened<'_>], text: &str) -> Result<()
 
 /// Adds an element and its namespace nodes, which are copies of its parent's where `is_same`: the
 /// bindings are the same.
+#[inline(always)]
 pub fn put_element(
     tree: &mut Tree,
     alloc: Global,

@@ -39,6 +39,7 @@ impl<'a> WrittenName<'a> {
     }
 
     /// Whether the name is written so.
+    #[inline(always)]
     pub fn is(&self, text: &str) -> bool
         ensures { result ≡ bytes_eq self.now text.now }
     {
@@ -79,6 +80,7 @@ pub fn is_inside(around: &[Opened<'_>]) -> bool
 }
 
 /// Whether the innermost open element has this name.
+#[inline(always)]
 pub fn is_innermost(name: &str, around: &[Opened<'_>]) -> bool
     ensures { result ≡ is_innermost name.now (reverse around.now) }
 {

@@ -86,6 +86,7 @@ fn copy_space(tree: &mut Tree, like: Node, element: Node) -> Result<(), AllocErr
 /// are in force.
 ///
 /// Those of the parent stand right behind it, and each new one takes memory for the node alone.
+#[inline(always)]
 pub fn copy_spaces(
     tree: &mut Tree,
     element: Node,

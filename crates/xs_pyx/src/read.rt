@@ -55,6 +55,7 @@ fn is_itself(text: &str, is_plain: bool) -> bool
 }
 
 /// A well escaped text as the data that it shows. `is_plain` only where it holds no backslash.
+#[inline(always)]
 #[tactic(auto, using(crate::proofs::ReadLemmas::unescaped_itself))]
 fn view_data(written: &str, is_plain: bool) -> Data<'_>
     requires escaped { IsSome (unescaped written.now) }
@@ -115,6 +116,7 @@ fn view_instruction(rest: &str, is_plain: bool) -> LineView<'_>
 
 /// The line with this first byte and this rest, which is well escaped. `is_plain` only where it
 /// holds no backslash.
+#[inline(always)]
 fn view_kind(kind: u8, rest: &str, is_plain: bool) -> LineView<'_>
     requires begins { IsTrue (begins_line kind) }
     requires escaped { IsSome (unescaped rest.now) }
@@ -143,6 +145,7 @@ fn is_readable(text: &str, is_plain: bool) -> bool
 }
 
 /// What a line with this first byte says. `is_plain` only where the rest holds no backslash.
+#[inline(always)]
 fn view_rest(kind: u8, rest: &str, ended: bool, is_plain: bool) -> Result<LineView<'_>, Fault>
     requires begins { IsTrue (begins_line kind) }
     requires plain { is_plain ≡ true → has_backslash rest.now ≡ false }
@@ -158,6 +161,7 @@ fn view_rest(kind: u8, rest: &str, ended: bool, is_plain: bool) -> Result<LineVi
 }
 
 /// What a line that is text says. `is_plain` only where it holds no backslash.
+#[inline(always)]
 fn view_text(text: &str, ended: bool, is_plain: bool) -> Result<LineView<'_>, Fault>
     requires { is_plain ≡ true → has_backslash text.now ≡ false }
     ensures { IsViewing result (kind_reading text.now ended) }
@@ -199,6 +203,7 @@ pub fn view_line(bytes: &[u8]) -> Result<Option<(LineView<'_>, usize)>, Fault>
 }
 
 /// What a line of a text says by itself. `is_plain` only where it holds no backslash.
+#[inline(always)]
 fn view_text_row(text: &str, ended: bool, is_plain: bool) -> Result<LineView<'_>, Fault>
     requires { is_plain ≡ true → has_backslash text.now ≡ false }
     ensures { IsViewing result (reading (record { bytes = text.now; ended = ended })) }

@@ -11,6 +11,7 @@ use std::alloc::AllocError;
 /// Adds an entry at the end, and ends the subtrees of the nodes from the last up to its parent.
 ///
 /// Each node is ended once, so adding takes constant time for each node on average.
+#[inline(always)]
 pub fn keep(nodes: &mut Vec<Entry>, entry: Entry) -> Result<Node, AllocError>
     requires room { length nodes.old.items < most_nodes }
     requires within { entry.parent < length nodes.old.items }
@@ -29,6 +30,7 @@ pub fn keep(nodes: &mut Vec<Entry>, entry: Entry) -> Result<Node, AllocError>
 
 // Ends the subtrees of the node before a place, of its parent, and so on, but not of a given
 // ancestor.
+#[inline(always)]
 fn end_subtrees(nodes: &mut [Entry], ancestor: u32, place: u32)
     requires some { 0 < place }
     requires within { place < length nodes.old }

@@ -42,6 +42,7 @@ impl Store {
 
     /// Keeps the text of a node: of a namespace node in the table of URIs, of any other in the
     /// buffer.
+    #[inline(always)]
     pub fn keep_text(&mut self, kind: Kind, text: &str) -> Result<TextPlace, AllocError>
         ensures stored { IfOk result (λ place. text_at self.new kind place ≡ text.now) }
         ensures within { IfOk result (λ place. IsTextIn self.new kind place) }
@@ -68,6 +69,7 @@ impl Store {
     }
 
     // Keeps a text at the end of the buffer, or nothing of an empty one.
+    #[inline(always)]
     fn push_text(&mut self, text: &str) -> Result<TextPlace, AllocError>
         ensures stored { IfOk result (λ place. text_in self.new false place ≡ text.now) }
         ensures within { IfOk result (λ place. IsPlaceIn self.new false place) }

@@ -87,6 +87,7 @@ impl Tree {
     }
 
     /// Adds a node at the end, inside an open element or root.
+    #[inline(always)]
     pub fn add(
         &mut self,
         kind: Kind,
@@ -140,6 +141,7 @@ impl Tree {
     /// tree.
     ///
     /// Takes no memory for the name.
+    #[inline(always)]
     pub fn add_like(
         &mut self,
         kind: Kind,
@@ -175,6 +177,7 @@ impl Tree {
     }
 
     // Adds a node where there is room for one.
+    #[inline(always)]
     fn store(
         &mut self,
         kind: Kind,
@@ -207,6 +210,7 @@ impl Tree {
     }
 
     // Adds a node with the name of another where there is room for one.
+    #[inline(always)]
     fn store_like(
         &mut self,
         kind: Kind,
