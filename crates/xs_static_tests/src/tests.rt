@@ -11,7 +11,7 @@ pub(crate) const START: &str =
     "(xsl:stylesheet\nAxmlns:xsl http://www.w3.org/1999/XSL/Transform\nAversion 1.0\n";
 
 // The content of a stylesheet, and its first fault: the number and the line.
-const ROWS: [(&str, &str); 30] = [
+const ROWS: [(&str, &str); 31] = [
     ("", "none"),
     (
         "(xsl:template\nAmatch /\n(xsl:value-of\nAselect 1+\n)xsl:value-of\n)xsl:template\n",
@@ -59,6 +59,11 @@ const ROWS: [(&str, &str); 30] = [
     ),
     (
         "(xsl:template\nAmatch /\n(xsl:if\nAtest $a\n)xsl:if\n)xsl:template\n",
+        "39 6",
+    ),
+    // Also in a template that nothing calls.
+    (
+        "(xsl:template\nAname t\n(xsl:if\nAtest $a\n)xsl:if\n)xsl:template\n",
         "39 6",
     ),
     // A binding is visible behind its element, and not in it (11.5).
