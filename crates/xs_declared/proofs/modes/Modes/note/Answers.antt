@@ -1,0 +1,13 @@
+use Rattle.std.proofs.Common.{◌∙◌, ap, Option}
+use Rattle.std.specs.Prelude.{option_map}
+use Rattle.xs_declared.proofs.ModeLemmas.{mode_noted, mode_same}
+use Rattle.xs_declared.specs.Modes.{has_mode}
+use Rattle.xs_elements.specs.Nodes.{Name, is_same_name, name_data}
+use Rattle.xs_declared.proofs.modes.Modes.note.Goals as goal
+
+pub returns-in_ok-insert-clause-noted : goal.returns-in_ok-insert-clause-noted
+returns-in_ok-insert-clause-noted c =
+    let name = name_data c.in-Some.name in
+    ap (λ (o : Option Name). has_mode (record { names = c.insert.new.self }) o) (ap (option_map name_data) c.in-Some.is)
+    ∙ mode_noted name_data (is_same_name name) c.in-Some.name c.args.self.now.names.keys c.insert.new.self.keys (mode_same name)
+    c.in_ok-insert.ensures.keys

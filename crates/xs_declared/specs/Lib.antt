@@ -1,0 +1,12 @@
+pub mod Aliases
+pub mod Counted
+pub mod Labels
+pub mod Modes
+pub mod Order
+pub mod Output
+pub mod Parts
+pub mod Places
+pub mod Priorities
+pub mod Spaces
+pub mod Tables
+pub mod steps

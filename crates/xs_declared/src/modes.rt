@@ -1,0 +1,92 @@
+//! Modes, told by numbers (XSLT 1.0, 5.7).
+
+ghost use Rattle.std.specs.Prelude.{◌≡◌, ◌+◌, ◌<◌, ℕ, true, length, option_map};
+ghost use Rattle.std.specs.Prelude.{List, Option, Some, IfOk, OnOk};
+ghost use Rattle.xs_declared.specs.Labels.{IsMode};
+ghost use Rattle.xs_declared.specs.Modes.{HaveModes, HasModes, has_mode, modes_in, tree_mode};
+ghost use Rattle.xs_elements.specs.Nodes.{Name, name_data};
+ghost use Rattle.xs_modules.specs.Results.{modules_data};
+ghost use Rattle.xs_tree.specs.Record.{Record};
+
+use crate::counted::following;
+use indexmap::IndexSet;
+use std::alloc::{AllocError, Global};
+use xs_elements::scope::{Expanded, expanded, value_of};
+use xs_modules::Modules;
+use xs_tree::{Node, Tree};
+
+/// The modes that a stylesheet names, in order.
+#[derive(Drop)]
+pub struct Modes<'m> {
+    /// Each name once.
+    pub names: IndexSet<Expanded<'m>>,
+}
+
+/// The mode that an element names, if it does.
+pub fn mode_at(tree: &Tree, n: Node) -> Option<Expanded<'_>>
+    requires { n < length tree.now }
+    ensures { option_map name_data result ≡ tree_mode tree.now n }
+{
+    let text = value_of(tree, n, "", "mode")?;
+    expanded(tree, n, text)
+}
+
+impl<'m> Modes<'m> {
+    /// Those of all modules.
+    pub fn of(alloc: Global, modules: &'m Modules) -> Result<Modes<'m>, AllocError>
+        ensures { IfOk result (HaveModes (modules_data modules.now)) }
+    {
+        let mut modes = Modes {
+            names: IndexSet::new(alloc),
+        };
+        for module in &modules.list {
+            modes.note_module(&module.tree)?;
+        }
+        Ok(modes)
+    }
+
+    /// Notes those of a module.
+    fn note_module(&mut self, tree: &'m Tree) -> Result<(), AllocError>
+        ensures modes { OnOk result (HasModes tree.now (length tree.now) self.new) }
+        ensures kept { OnOk result ((rs : List Record) (count : ℕ) → HasModes rs count self.old
+            → HasModes rs count self.new) }
+    {
+        for place in 0..tree.len() as u32 {
+            self.note(mode_at(tree, Node::at(place)))?;
+        }
+        Ok(())
+    }
+
+    /// Notes a mode, if there is one.
+    fn note(&mut self, mode: Option<Expanded<'m>>) -> Result<(), AllocError>
+        ensures noted { OnOk result (has_mode self.new (option_map name_data mode.entry) ≡ true) }
+        ensures kept { OnOk result ((mode : Option Name) → has_mode self.old mode ≡ true
+            → has_mode self.new mode ≡ true) }
+    {
+        if let Some(name) = mode {
+            self.names.insert(name)?;
+        }
+        Ok(())
+    }
+
+    /// The number of a mode, from 1 on.
+    pub fn number(&self, name: Expanded<'m>) -> Result<u32, AllocError>
+        requires { has_mode self.now (Some (name_data name)) ≡ true }
+        ensures { IfOk result (IsMode (modes_in self.now) (Some (name_data name.entry))) }
+    {
+        match self.names.get_index_of(&name) {
+            Some(place) => number_of(place),
+            None => unreachable!(),
+        }
+    }
+}
+
+/// The number of the mode at a place of the list.
+fn number_of(place: usize) -> Result<u32, AllocError>
+    ensures { IfOk result (λ n. n ≡ place + 1) }
+{
+    match u32::try_from(place) {
+        Ok(place) => following(place),
+        Err(_) => Err(AllocError),
+    }
+}
