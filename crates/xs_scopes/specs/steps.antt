@@ -1,0 +1,3 @@
+-- What the code mirrors. No public contract cites these files.
+pub mod Locals
+pub mod Namespaces

@@ -1,0 +1,36 @@
+-- The namespaces that are in force, node by node.
+use Rattle.std.specs.Prelude.{◌≡◌, ℕ, suc, ◌<◌, ◌≤◌, ◌||◌, nat_lt, Bool, false, List, length, Option}
+use Rattle.std.specs.HashMap.{get_by}
+use Rattle.std.specs.List.{list_any}
+use Rattle.std.specs.Option.{option_map_or}
+use Rattle.std.specs.Str.{bytes_eq}
+use Rattle.xs_elements.specs.Reading.{declares_extension, means_uri}
+use Rattle.xs_elements.specs.Rows.{xslt_uri}
+use Rattle.xs_elements.specs.WhiteSpace.{words, xml_uri}
+use Rattle.xs_static.specs.steps.Extensions.{any_around}
+use Rattle.xs_tree.specs.Record.{Record}
+use Rattle.xs_scopes.specs.declared.namespaces.InForce.{InForce}
+use Rattle.xs_scopes.specs.declared.namespaces.Namespaces.{Namespaces}
+use Rattle.xs_scopes.specs.Excluded.{excludes}
+
+-- the place before which a namespace is in force
+abbrev pub end_of : InForce → List ℕ → Option ℕ
+end_of f uri = get_by (λ k. bytes_eq uri k.now) f.ends
+
+abbrev pub in_force_at : InForce → List ℕ → ℕ → Bool
+in_force_at f uri place = option_map_or (nat_lt place) (end_of f uri) false
+
+-- a list of words, if it is there, means a namespace
+abbrev pub is_meant : List (List ℕ × List ℕ) → List ℕ → Option (List ℕ) → Bool
+is_meant pairs uri value = option_map_or (λ v. list_any (means_uri pairs uri) (words v)) value false
+
+-- the namespaces that the first so many nodes declare are in force at the nodes that come
+pub record AreNamespaces (rs : List Record) (count : ℕ) (ns : Namespaces) : Type 0 where
+  pub extensions : (uri : List ℕ) (k : ℕ) → count ≤ suc k → k < length rs
+      → in_force_at ns.extensions uri k ≡ any_around (declares_extension rs uri) rs k count
+  pub excluded : (uri : List ℕ) (k : ℕ) → count ≤ suc k → k < length rs
+      → in_force_at ns.excluded uri k ≡ any_around (excludes rs uri) rs k count
+
+abbrev pub is_left_out_by : Namespaces → ℕ → List ℕ → Bool
+is_left_out_by ns k uri =
+    bytes_eq uri xslt_uri || bytes_eq uri xml_uri || in_force_at ns.extensions uri k || in_force_at ns.excluded uri k
