@@ -1,0 +1,10 @@
+use Rattle.std.proofs.Common.{sym}
+use Rattle.xs_compile.proofs.ValidLemmas.{valid_expr}
+use Rattle.xs_compile.specs.steps.State.{modules_of}
+use Rattle.xs_compile.proofs.compiler.Compiler.expr_if.Goals as goal
+
+pub expr-requires-clause-valid : goal.expr-requires-clause-valid
+expr-requires-clause-valid c =
+    let ready = c.requires.ready in
+    valid_expr (modules_of c.args.self.now) ready.state.accepted (c.args.number, c.args.n) ready.within ready.seen c.args.local.now c.in-Some.text.now
+    c.requires.form (sym c.in-Some.ensures)

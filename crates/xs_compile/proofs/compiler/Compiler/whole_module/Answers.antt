@@ -1,0 +1,37 @@
+use Rattle.std.proofs.Common.{◌∙◌, ◌++◌, ◌∷◌, [], ap, refl, subst, sym}
+use Rattle.std.specs.List.{AllZip}
+use Rattle.std.specs.Prelude.{IsOk}
+use Rattle.xs_compile.proofs.BodyLemmas.{body-is}
+use Rattle.xs_compile.proofs.DeclaredLemmas.{simple-instruction, whole-is}
+use Rattle.xs_compile.proofs.FreeLemmas.{slash}
+use Rattle.xs_compile.specs.Declarations.{IsInstr}
+use Rattle.xs_declared.specs.Parts.{pairs_at}
+use Rattle.xs_compile.specs.steps.State.{modules_of, source_of}
+use Rattle.xs_sheet.specs.declared.body.Body.{out-roll-Body}
+use Rattle.xs_static.specs.Modules.{Place}
+use Rattle.xs_compile.proofs.compiler.Compiler.whole_module.Goals as goal
+
+pub instr-requires : goal.instr-requires
+instr-requires c = simple-instruction c.args.self.now (c.args.number, c.args.n) c.requires.ready c.requires.simplified
+
+pub pattern-requires-clause-valid : goal.pattern-requires-clause-valid
+pattern-requires-clause-valid c =
+    subst (λ o. IsOk o) (sym (slash (pairs_at (modules_of c.args.self.now) (c.args.number, c.args.n)))) search
+
+pub returns : goal.returns
+returns c =
+    let s = source_of c.args.self.now in
+    let p : Place = (c.args.number, c.args.n) in
+    let instrs =
+    subst (λ found. AllZip (IsInstr s) (p ∷ []) found)
+    (sym (c.in_ok-push.ensures.items ∙ ap (λ found. found ++ c.in_ok-instr.field-0 ∷ []) c.new-instrs.ensures.items)) (c.in_ok-instr.ensures, tt) in
+    whole-is s p _ c.requires.simplified c.site_at.ensures c.precedence_at.ensures c.imports_from_at.ensures
+    (record {
+      pattern = c.in_ok-pattern.ensures;
+      name = refl;
+      priority = refl;
+      mode = refl;
+      params = c.new.ensures.items;
+      body = body-is s (p ∷ []) _
+          (subst (λ b. AllZip (IsInstr s) (p ∷ []) b.instrs.items) (sym (out-roll-Body (record { instrs = c.push.new.self }))) instrs);
+    })

@@ -1,0 +1,5 @@
+-- What the code mirrors. No public contract cites these files.
+pub mod Rows
+pub mod State
+pub mod Tables
+pub mod Trees

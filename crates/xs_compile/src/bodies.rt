@@ -1,0 +1,374 @@
+//! Bodies and the instructions in them (XSLT 1.0, 2.1).
+
+ghost use Rattle.std.specs.Prelude.{◌≡◌, false, true, IfOk};
+ghost use Rattle.std.specs.List.{AllZip};
+ghost use Rattle.xs_compile.specs.Bodies.{AreFallbacks, IsBody, IsContent, IsKind, IsPassed};
+ghost use Rattle.xs_compile.specs.Bodies.{IsRow, IsWhen, first_body, has_select, is_otherwise};
+ghost use Rattle.xs_compile.specs.Declarations.{IsBinding, IsInstr};
+ghost use Rattle.xs_declared.specs.Parts.{body_at, children_with, reading_at, row_at};
+ghost use Rattle.xs_compile.specs.steps.Rows.{holds_body, is_binding};
+ghost use Rattle.xs_compile.specs.steps.State.{IsInstruction, IsReady, modules_of, source_of};
+ghost use Rattle.xs_elements.specs.declared.reading.Reading.TheVariants.{Extension, Known, Literal};
+ghost use Rattle.xs_elements.specs.Contents.{is_with_param};
+ghost use Rattle.xs_elements.specs.Reading.{content_at};
+ghost use Rattle.xs_elements.specs.Rows.{is_fallback, is_when};
+ghost use Rattle.xs_static.specs.Modules.{records_at};
+
+use crate::compiler::Compiler;
+use crate::parts::Part;
+use std::alloc::AllocError;
+use xs_declared::places::{row_at, said_at, site_at};
+use xs_elements::reading::Reading;
+use xs_elements::rows::Row;
+use xs_sheet::body::{Binding, Body, Choice, Content, Fallbacks, Instr, InstrKind, Passed, When};
+use xs_tree::Node;
+
+impl<'m> Compiler<'m> {
+    /// The body of an element: its content behind parameters and sort keys.
+    #[cycle(bodies)]
+    pub(crate) fn body(&self, number: u32, n: Node) -> Result<Body, AllocError>
+        requires ready { IsReady self.now («number», n) }
+        requires content { holds_body
+            (content_at (records_at (modules_of self.now) «number») n) ≡ true }
+        ensures { IfOk result (IsBody (source_of self.now)
+            (body_at (modules_of self.now) («number», n))) }
+    {
+        let places = self.body_places(number, n)?;
+        let mut instrs = Vec::new(self.alloc);
+        for place in &places {
+            let instr = self.instr(place.0, place.1)?;
+            instrs.push(instr)?;
+        }
+        Ok(Body { instrs })
+    }
+
+    /// The instruction that a node of a body stands for.
+    #[cycle(bodies)]
+    pub(crate) fn instr(&self, number: u32, n: Node) -> Result<Instr, AllocError>
+        requires { IsInstruction self.now («number», n) }
+        ensures { IfOk result (IsInstr (source_of self.now) («number», n)) }
+    {
+        let site = site_at(self.modules, number, n);
+        let kind = self.kind(number, n)?;
+        Ok(Instr { site, kind })
+    }
+
+    /// What it does.
+    #[cycle(bodies)]
+    fn kind(&self, number: u32, n: Node) -> Result<InstrKind, AllocError>
+        requires { IsInstruction self.now («number», n) }
+        ensures { IfOk result (IsKind (source_of self.now) («number», n)) }
+    {
+        match row_at(self.modules, number, n) {
+            Row::NoElement | Row::Text => self.text(number, n),
+            Row::ApplyTemplates => self.apply_templates(number, n),
+            Row::CallTemplate => self.call_template(number, n),
+            Row::ApplyImports => Ok(InstrKind::ApplyImports),
+            Row::ForEach => self.for_each(number, n),
+            Row::ValueOf => self.value_of(number, n),
+            Row::CopyOf => self.copy_of(number, n),
+            Row::Copy => self.copy(number, n),
+            Row::Number => self.numbered(number, n),
+            Row::Choose => self.choose(number, n),
+            Row::If => self.test(number, n),
+            Row::Variable => self.variable(number, n),
+            Row::Element => self.element(number, n),
+            Row::Attribute => self.attribute(number, n),
+            Row::Comment => self.comment(number, n),
+            Row::ProcessingInstruction => self.pi(number, n),
+            Row::Message => self.message(number, n),
+            Row::Other => self.other(number, n),
+            _ => unreachable!(),
+        }
+    }
+
+    /// Templates are applied to nodes (5.4).
+    #[cycle(bodies)]
+    fn apply_templates(&self, number: u32, n: Node) -> Result<InstrKind, AllocError>
+        requires ready { IsReady self.now («number», n) }
+        requires row { IsRow (source_of self.now) («number», n) Row.ApplyTemplates }
+        ensures { IfOk result (IsKind (source_of self.now) («number», n)) }
+    {
+        let nodes = self.nodes(number, n)?;
+        let passed = self.passed(number, n)?;
+        Ok(InstrKind::ApplyTemplates { nodes, passed })
+    }
+
+    /// A template is called (6).
+    #[cycle(bodies)]
+    fn call_template(&self, number: u32, n: Node) -> Result<InstrKind, AllocError>
+        requires ready { IsReady self.now («number», n) }
+        requires row { IsRow (source_of self.now) («number», n) Row.CallTemplate }
+        ensures { IfOk result (IsKind (source_of self.now) («number», n)) }
+    {
+        let template = self.called(number, n);
+        let passed = self.passed(number, n)?;
+        Ok(InstrKind::CallTemplate { template, passed })
+    }
+
+    /// A body is done for each node (8).
+    #[cycle(bodies)]
+    fn for_each(&self, number: u32, n: Node) -> Result<InstrKind, AllocError>
+        requires ready { IsReady self.now («number», n) }
+        requires row { IsRow (source_of self.now) («number», n) Row.ForEach }
+        ensures { IfOk result (IsKind (source_of self.now) («number», n)) }
+    {
+        let select = self.own_expr(number, n, "select")?;
+        let sorts = self.sorts(number, n)?;
+        let body = self.body(number, n)?;
+        Ok(InstrKind::ForEach {
+            select,
+            sorts,
+            body,
+        })
+    }
+
+    /// A body is done where a test holds (9.1).
+    #[cycle(bodies)]
+    fn test(&self, number: u32, n: Node) -> Result<InstrKind, AllocError>
+        requires ready { IsReady self.now («number», n) }
+        requires row { IsRow (source_of self.now) («number», n) Row.If }
+        ensures { IfOk result (IsKind (source_of self.now) («number», n)) }
+    {
+        let test = self.own_expr(number, n, "test")?;
+        let body = self.body(number, n)?;
+        Ok(InstrKind::If { test, body })
+    }
+
+    /// A variable is bound (11.2).
+    #[cycle(bodies)]
+    fn variable(&self, number: u32, n: Node) -> Result<InstrKind, AllocError>
+        requires ready { IsReady self.now («number», n) }
+        requires row { IsRow (source_of self.now) («number», n) Row.Variable }
+        ensures { IfOk result (IsKind (source_of self.now) («number», n)) }
+    {
+        Ok(InstrKind::Variable(self.binding(number, n)?))
+    }
+
+    /// One of several bodies is done (9.2).
+    #[cycle(bodies)]
+    fn choose(&self, number: u32, n: Node) -> Result<InstrKind, AllocError>
+        requires ready { IsReady self.now («number», n) }
+        requires row { IsRow (source_of self.now) («number», n) Row.Choose }
+        ensures { IfOk result (IsKind (source_of self.now) («number», n)) }
+    {
+        let whens = self.whens(number, n)?;
+        let otherwise = self.otherwise(number, n)?;
+        Ok(InstrKind::Choose(Choice { whens, otherwise }))
+    }
+
+    /// The branches with a test of `xsl:choose` (9.2).
+    #[cycle(bodies)]
+    fn whens(&self, number: u32, n: Node) -> Result<Vec<When>, AllocError>
+        requires ready { IsReady self.now («number», n) }
+        requires row { IsRow (source_of self.now) («number», n) Row.Choose }
+        ensures { IfOk result (λ whens. AllZip (IsWhen (source_of self.now))
+            (children_with is_when (modules_of self.now) («number», n)) whens.items) }
+    {
+        let places = self.parts(number, n, Part::When)?;
+        let mut whens = Vec::new(self.alloc);
+        for place in &places {
+            let when = self.when(place.0, place.1)?;
+            whens.push(when)?;
+        }
+        Ok(whens)
+    }
+
+    /// One of them.
+    #[cycle(bodies)]
+    fn when(&self, number: u32, n: Node) -> Result<When, AllocError>
+        requires ready { IsReady self.now («number», n) }
+        requires row { IsRow (source_of self.now) («number», n) Row.When }
+        ensures { IfOk result (IsWhen (source_of self.now) («number», n)) }
+    {
+        let test = self.own_expr(number, n, "test")?;
+        let body = self.body(number, n)?;
+        Ok(When { test, body })
+    }
+
+    /// The branch without a test, empty where there is none.
+    #[cycle(bodies)]
+    fn otherwise(&self, number: u32, n: Node) -> Result<Body, AllocError>
+        requires ready { IsReady self.now («number», n) }
+        requires row { IsRow (source_of self.now) («number», n) Row.Choose }
+        ensures { IfOk result (IsBody (source_of self.now) (first_body (source_of self.now)
+            (children_with is_otherwise (modules_of self.now) («number», n)))) }
+    {
+        let places = self.parts(number, n, Part::Otherwise)?;
+        match places.first() {
+            Some(place) => self.body(place.0, place.1),
+            None => Ok(Body {
+                instrs: Vec::new(self.alloc),
+            }),
+        }
+    }
+
+    /// A copy of the current node (7.5).
+    #[cycle(bodies)]
+    fn copy(&self, number: u32, n: Node) -> Result<InstrKind, AllocError>
+        requires ready { IsReady self.now («number», n) }
+        requires row { IsRow (source_of self.now) («number», n) Row.Copy }
+        ensures { IfOk result (IsKind (source_of self.now) («number», n)) }
+    {
+        let sets = self.own_sets(number, n)?;
+        let body = self.body(number, n)?;
+        Ok(InstrKind::Copy { sets, body })
+    }
+
+    /// An element (7.1.2).
+    #[cycle(bodies)]
+    fn element(&self, number: u32, n: Node) -> Result<InstrKind, AllocError>
+        requires ready { IsReady self.now («number», n) }
+        requires row { IsRow (source_of self.now) («number», n) Row.Element }
+        ensures { IfOk result (IsKind (source_of self.now) («number», n)) }
+    {
+        let name = self.made_name(number, n)?;
+        let sets = self.own_sets(number, n)?;
+        let body = self.body(number, n)?;
+        Ok(InstrKind::Element { name, sets, body })
+    }
+
+    /// An attribute (7.1.3).
+    #[cycle(bodies)]
+    fn attribute(&self, number: u32, n: Node) -> Result<InstrKind, AllocError>
+        requires ready { IsReady self.now («number», n) }
+        requires row { IsRow (source_of self.now) («number», n) Row.Attribute }
+        ensures { IfOk result (IsKind (source_of self.now) («number», n)) }
+    {
+        let name = self.made_name(number, n)?;
+        let body = self.body(number, n)?;
+        Ok(InstrKind::Attribute { name, body })
+    }
+
+    /// A comment (7.4).
+    #[cycle(bodies)]
+    fn comment(&self, number: u32, n: Node) -> Result<InstrKind, AllocError>
+        requires ready { IsReady self.now («number», n) }
+        requires row { IsRow (source_of self.now) («number», n) Row.Comment }
+        ensures { IfOk result (IsKind (source_of self.now) («number», n)) }
+    {
+        Ok(InstrKind::Comment(self.body(number, n)?))
+    }
+
+    /// A processing instruction (7.3).
+    #[cycle(bodies)]
+    fn pi(&self, number: u32, n: Node) -> Result<InstrKind, AllocError>
+        requires ready { IsReady self.now («number», n) }
+        requires row { IsRow (source_of self.now) («number», n) Row.ProcessingInstruction }
+        ensures { IfOk result (IsKind (source_of self.now) («number», n)) }
+    {
+        let name = self.own_template(number, n, "name")?;
+        let body = self.body(number, n)?;
+        Ok(InstrKind::Pi { name, body })
+    }
+
+    /// A message (13).
+    #[cycle(bodies)]
+    fn message(&self, number: u32, n: Node) -> Result<InstrKind, AllocError>
+        requires ready { IsReady self.now («number», n) }
+        requires row { IsRow (source_of self.now) («number», n) Row.Message }
+        ensures { IfOk result (IsKind (source_of self.now) («number», n)) }
+    {
+        let terminate = said_at(self.modules, number, n, "terminate") == "yes";
+        let body = self.body(number, n)?;
+        Ok(InstrKind::Message { terminate, body })
+    }
+
+    /// An element that is no XSLT: a literal one (7.1.1), or an extension element (14.1).
+    #[cycle(bodies)]
+    fn other(&self, number: u32, n: Node) -> Result<InstrKind, AllocError>
+        requires instruction { IsInstruction self.now («number», n) }
+        requires row { IsRow (source_of self.now) («number», n) Row.Other }
+        ensures { IfOk result (IsKind (source_of self.now) («number», n)) }
+    {
+        match self.setting(number, n).reading {
+            Reading::Literal => {
+                let start = self.literal_start(number, n)?;
+                let body = self.body(number, n)?;
+                Ok(InstrKind::Literal { start, body })
+            }
+            Reading::Extension => Ok(InstrKind::Extension(self.fallbacks(number, n)?)),
+            _ => unreachable!(),
+        }
+    }
+
+    /// The bodies of an extension element's fallbacks (15).
+    #[cycle(bodies)]
+    fn fallbacks(&self, number: u32, n: Node) -> Result<Fallbacks, AllocError>
+        requires ready { IsReady self.now («number», n) }
+        requires extension { reading_at (modules_of self.now) («number», n) ≡ Extension }
+        ensures { IfOk result (AreFallbacks (source_of self.now)
+            (children_with is_fallback (modules_of self.now) («number», n))) }
+    {
+        let places = self.parts(number, n, Part::Fallback)?;
+        let mut bodies = Vec::new(self.alloc);
+        for place in &places {
+            let body = self.body(place.0, place.1)?;
+            bodies.push(body)?;
+        }
+        Ok(Fallbacks { bodies })
+    }
+
+    /// The parameters that an instruction passes (11.6).
+    #[cycle(bodies)]
+    fn passed(&self, number: u32, n: Node) -> Result<Passed, AllocError>
+        requires ready { IsReady self.now («number», n) }
+        requires known { reading_at (modules_of self.now) («number», n) ≡ Known }
+        ensures { IfOk result (IsPassed (source_of self.now)
+            (children_with is_with_param (modules_of self.now) («number», n))) }
+    {
+        let places = self.parts(number, n, Part::WithParam)?;
+        let mut params = Vec::new(self.alloc);
+        for place in &places {
+            let param = self.binding(place.0, place.1)?;
+            params.push(param)?;
+        }
+        Ok(Passed { params })
+    }
+
+    /// A binding of a variable or a parameter (11).
+    #[cycle(bodies)]
+    pub(crate) fn binding(&self, number: u32, n: Node) -> Result<Binding, AllocError>
+        requires ready { IsReady self.now («number», n) }
+        requires row { is_binding (row_at (modules_of self.now) («number», n)) ≡ true }
+        ensures { IfOk result (IsBinding (source_of self.now) («number», n)) }
+    {
+        let site = site_at(self.modules, number, n);
+        let name = self.own_name(number, n)?;
+        let content = self.content(number, n)?;
+        Ok(Binding {
+            site,
+            name,
+            content,
+        })
+    }
+
+    /// What a name is bound to (11.2).
+    #[cycle(bodies)]
+    fn content(&self, number: u32, n: Node) -> Result<Content, AllocError>
+        requires ready { IsReady self.now («number», n) }
+        requires row { is_binding (row_at (modules_of self.now) («number», n)) ≡ true }
+        ensures { IfOk result (IsContent (source_of self.now) («number», n)) }
+    {
+        match self.own_expr_if(number, n, "select")? {
+            Some(select) => Ok(Content::Select(select)),
+            None => self.own_content(number, n),
+        }
+    }
+
+    /// What a name without `select` is bound to: a fragment, or the empty string.
+    #[cycle(bodies)]
+    fn own_content(&self, number: u32, n: Node) -> Result<Content, AllocError>
+        requires ready { IsReady self.now («number», n) }
+        requires row { is_binding (row_at (modules_of self.now) («number», n)) ≡ true }
+        requires none { has_select (source_of self.now) («number», n) ≡ false }
+        ensures { IfOk result (IsContent (source_of self.now) («number», n)) }
+    {
+        let body = self.body(number, n)?;
+        if body.instrs.is_empty() {
+            Ok(Content::Empty)
+        } else {
+            Ok(Content::Body(body))
+        }
+    }
+}

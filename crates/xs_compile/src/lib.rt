@@ -1,0 +1,16 @@
+//! Stylesheets, compiled: the modules of a stylesheet to what a transformation runs.
+#![tactic(auto)]
+
+mod applying;
+mod binding;
+mod bodies;
+mod compiled;
+mod compiler;
+mod making;
+mod own;
+mod parsed;
+mod parts;
+mod reading;
+mod templates;
+
+pub use compiled::{CompileEnd, compile};
