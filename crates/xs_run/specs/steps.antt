@@ -1,0 +1,6 @@
+pub mod Lists
+pub mod Jobs
+pub mod Sharing
+pub mod Frames
+pub mod Attempts
+pub mod Settling

@@ -1,0 +1,26 @@
+//! The evaluation of a compiled stylesheet, which tells a recorder what it does.
+#![tactic(auto)]
+
+mod applying;
+pub mod attempts;
+mod bindings;
+mod calls;
+mod choices;
+pub mod focus;
+pub mod frames;
+mod given;
+mod instructions;
+pub mod laws;
+mod lists;
+pub mod passed;
+mod putting;
+mod rules;
+pub mod run;
+pub mod runner;
+pub mod settling;
+mod slots;
+mod stack;
+pub mod task;
+mod tasks;
+mod templates;
+pub mod world;
