@@ -1,5 +1,5 @@
 -- The answer that is due, by what was read of the files of a run.
-use Rattle.std.proofs.Common.{◌≡◌, ◌∙◌, refl, ap, ℕ, List, [], ◌∷◌, ◌++◌, Option, Some, None, Result, Ok, Err, IfOk, length, drop, sym, subst, arith, append-nil, length-append}
+use Rattle.std.proofs.Common.{◌≡◌, ◌∙◌, refl, ap, ℕ, List, [], ◌∷◌, ◌++◌, Option, Some, None, Result, Ok, Err, IfOk, inl, inr, ◌⊎◌, true, false, length, drop, sym, subst, arith, append-nil, length-append}
 use Rattle.std.proofs.Math.Seq.{drop-append_seam}
 use Rattle.xs_outside.specs.Edge.{Files}
 use Rattle.xs_tree.specs.Record.{Record}
@@ -13,15 +13,20 @@ use Rattle.xs_modules.proofs.OneReadingLemmas.{one_reading}
 use Rattle.xs_static.specs.declared.fault.StaticFault.{StaticFault}
 use Rattle.xs_static.specs.Faults.{IsFirstFault}
 use Rattle.xs_engine.specs.declared.reply.Reply.{Reply}
-use Rattle.xs_engine.specs.Answer.{Answer, usage, faultless, read_fault, not_built, refused_file}
+use Rattle.xs_engine.specs.Answer.{Answer, usage, read_fault, not_built, refused_file}
 use Rattle.xs_engine.specs.Job.{Job}
 use Rattle.xs_engine.specs.Read.{Read, read, bad}
-use Rattle.xs_engine.specs.Sheet.{Template, sheet_in}
-use Rattle.xs_engine.specs.Run.{source_of, where_read, root_answer, modules_answer, module_name}
-use Rattle.xs_engine.specs.Due.{IsFile, IsSource, IsModulesAnswer, IsEndAnswer, IsAnswer, Owed, fault, own, IsDue}
+use Rattle.xs_compile.specs.StandsFor.{StandsFor}
+use Rattle.xs_sheet.specs.declared.sheet.Sheet.{Sheet}
+use Rattle.xs_engine.specs.Built.{is_built}
+use Rattle.xs_engine.specs.Evaluation.{IsEvaluatedFrom}
+use Rattle.xs_engine.specs.Fetches.{ReadsSheet}
+use Rattle.xs_engine.specs.Run.{source_of, module_name}
+use Rattle.xs_engine.specs.Due.{IsFile, IsReadAnswer, IsBytesAnswer, IsSheetAnswer, IsFaultlessAnswer, IsStaticAnswer, IsModulesAnswer, IsEndAnswer}
+use Rattle.xs_engine.specs.Due.{IsAnswer, Owed, fault, own, IsDue, RunsOver, IsReadRun, IsOfRun}
 use Rattle.xs_engine.proofs.FirstFaultLemmas.{one_fault}
 use Rattle.xs_engine.specs.Headline.{OnlyDue}
-use Rattle.xs_engine.specs.Reply.{FileGives, reply_of}
+use Rattle.xs_engine.specs.Reply.{FileGives, IsCheckAnswer, IsChecked, reply_of}
 
 -- what follows of an answer that is owed
 owed_same : (P Q : Answer → Type 0) (failed failed' : List (List ℕ)) (a : Answer) → ((b : Answer) → P b → Q b) → Owed P failed failed' a
@@ -50,76 +55,80 @@ file : (files : Option Files) (name : List ℕ) → (bytes : Option (List ℕ)) 
 file None name = (None, tt)
 file (Some map) name = (map name, refl)
 
--- and of a run's source
-source_bytes : (files : Option Files) (name : Option (List ℕ)) → (bytes : Option (List ℕ)) × IsSource files name bytes
-source_bytes files None = (None, refl)
-source_bytes files (Some name) = file files name
-
 -- and those that it was read by
 read_file : (files : Option Files) (name bytes : List ℕ) → Holds files name bytes → IsFile files name (Some bytes)
 read_file None name bytes holds = tt
 read_file (Some map) name bytes holds = holds
 
-module _ (files : Option Files) (job : Job) (modules : List ModuleData) (failed failed' : List (List ℕ)) where
-  -- a reply whose answer is the one over the modules
-  answered : {E : Type 0} (r : Result Reply E) (a : Answer) → failed' ≡ failed → IsModulesAnswer files job modules a
-      → IfOk r (λ reply. reply_of reply ≡ a) → IfOk r (λ reply. Owed (IsModulesAnswer files job modules) failed failed' (reply_of reply))
-  answered r a stays is same = reply_owed r (IsModulesAnswer files job modules) failed failed' a (own stays is) same
+-- an answer of a compiled stylesheet, whose source was read to this
+read_answer : (files : Option Files) (job : Job) (sheet : Sheet) (source name : List ℕ) (found : Read (List Record)) (a : Answer) → name ≡ source
+    → is_built sheet ≡ true → FileGives source_of files name found → IsReadAnswer job sheet source found a
+    → IsSheetAnswer (is_built sheet) files job sheet source a
+read_answer files job sheet source name found a same built given is =
+    let bytes = given.bytes in
+    let holds : Holds files source bytes = subst (λ n. Holds files n bytes) same given.holds in
+    let over : IsBytesAnswer job sheet source (Some bytes) a = subst (λ f. IsReadAnswer job sheet source f a) given.gives is in
+    subst (λ b. IsSheetAnswer b files job sheet source a) (sym built) (Some bytes, read_file files source bytes holds, over)
 
+module _ (files : Option Files) (job : Job) (sheet : Sheet) (source : List ℕ) (failed failed' : List (List ℕ)) where
+  -- the stylesheet is not built
+  pub unbuilt_owed : {E : Type 0} (r : Result Reply E) → is_built sheet ≡ false → failed' ≡ failed → IfOk r (λ reply. reply_of reply ≡ not_built job.sheet)
+      → IfOk r (λ reply. Owed (IsSheetAnswer (is_built sheet) files job sheet source) failed failed' (reply_of reply))
+  unbuilt_owed r built stays same =
+      reply_owed r (IsSheetAnswer (is_built sheet) files job sheet source) failed failed' (not_built job.sheet)
+      (own stays (subst (λ b. IsSheetAnswer b files job sheet source (not_built job.sheet)) (sym built) refl)) same
+
+  -- the source is no document
+  pub refused_owed : {E : Type 0} (r : Result Reply E) (number line : ℕ) (name : List ℕ) → name ≡ source → is_built sheet ≡ true → failed' ≡ failed
+      → FileGives source_of files name (bad number line) → IfOk r (λ reply. reply_of reply ≡ refused_file number source line)
+      → IfOk r (λ reply. Owed (IsSheetAnswer (is_built sheet) files job sheet source) failed failed' (reply_of reply))
+  refused_owed r number line name same built stays given is =
+      reply_owed r (IsSheetAnswer (is_built sheet) files job sheet source) failed failed' (refused_file number source line)
+      (own stays (read_answer files job sheet source name (bad number line) (refused_file number source line) same built given refl)) is
+
+  -- it is read, and the stylesheet is evaluated from it
+  pub evaluated_owed : {E : Type 0} (r : Result Reply E) (records : List Record) (name : List ℕ) → name ≡ source → is_built sheet ≡ true
+      → failed' ≡ failed → FileGives source_of files name (read records) → IfOk r (λ reply. IsEvaluatedFrom job sheet records (reply_of reply))
+      → IfOk r (λ reply. Owed (IsSheetAnswer (is_built sheet) files job sheet source) failed failed' (reply_of reply))
+  evaluated_owed (Err e) records name same built stays given is = tt
+  evaluated_owed (Ok reply) records name same built stays given is =
+      own stays (read_answer files job sheet source name (read records) (reply_of reply) same built given is)
+
+-- a stylesheet that is only checked
+checked_answer : (files : Option Files) (job : Job) (modules : List ModuleData) (a : Answer) → job.source ≡ None → (f : Option StaticFault)
+    → IsCheckAnswer f modules a → IsStaticAnswer f files job modules a
+checked_answer files job modules a none None is = subst (λ s. IsFaultlessAnswer s files job modules a) (sym none) is
+checked_answer files job modules a none (Some f) is = is
+
+module _ (files : Option Files) (job : Job) (modules : List ModuleData) (failed failed' : List (List ℕ)) where
   -- a static fault
   pub static_owed : {E : Type 0} (r : Result Reply E) (f : StaticFault) → failed' ≡ failed → IsFirstFault modules (Some f)
       → IfOk r (λ reply. reply_of reply ≡ refused_file f.number (module_name modules f.«module») f.line)
       → IfOk r (λ reply. Owed (IsModulesAnswer files job modules) failed failed' (reply_of reply))
   static_owed r f stays first same =
-      let s = source_bytes files job.source in
-      answered r (refused_file f.number (module_name modules f.«module») f.line) stays
-      (record { fault = Some f; first = first; bytes = s.0; source = s.1; gives = refl }) same
+      reply_owed r (IsModulesAnswer files job modules) failed failed' (refused_file f.number (module_name modules f.«module») f.line)
+      (own stays (record { fault = Some f; first = first; answers = refl })) same
 
-  -- the stylesheet is only checked, and has none
-  pub checked_owed : (a : Answer) → a ≡ faultless → job.source ≡ None → failed' ≡ failed → IsFirstFault modules None
-      → Owed (IsModulesAnswer files job modules) failed failed' a
-  checked_owed a same none stays first =
-      own stays (record { fault = None; first = first; bytes = None; source = rw none refl; gives = rw none same })
+  -- the stylesheet is only checked
+  pub checked_owed : {E : Type 0} (r : Result Reply E) → job.source ≡ None → failed' ≡ failed
+      → IfOk r (λ reply. IsChecked modules (reply_of reply))
+      → IfOk r (λ reply. Owed (IsModulesAnswer files job modules) failed failed' (reply_of reply))
+  checked_owed (Err e) none stays is = tt
+  checked_owed (Ok reply) none stays is =
+      own stays (record { fault = is.fault; first = is.first; answers = checked_answer files job modules (reply_of reply) none is.fault is.answers })
 
-  -- a run on a source, of a stylesheet without a static fault
-  module _ (source : List ℕ) (run : job.source ≡ Some source) (stays : failed' ≡ failed) (first : IsFirstFault modules None) where
-    -- the stylesheet is not built
-    pub unbuilt_owed : {E : Type 0} (r : Result Reply E) → None ≡ sheet_in modules → IfOk r (λ reply. reply_of reply ≡ not_built job.sheet)
-        → IfOk r (λ reply. Owed (IsModulesAnswer files job modules) failed failed' (reply_of reply))
-    unbuilt_owed r none same =
-        let f = file files source in
-        answered r (not_built job.sheet) stays
-        (record { fault = None; first = first; bytes = f.0; source = rw run f.1; gives = rw (run, sym none) refl }) same
-
-    -- the source was read to this, and its answer is that
-    source_answer : (sheet : Template) (found : Read (List Record)) (name : List ℕ) → name ≡ source → Some sheet ≡ sheet_in modules
-        → FileGives source_of files name found → IsModulesAnswer files job modules (where_read found source (root_answer job sheet))
-    unfolding root_answer
-    source_answer sheet found name same some given =
-        let gives : FileGives source_of files source found = subst (λ n. FileGives source_of files n found) same given in
-        record {
-          fault = None;
-          first = first;
-          bytes = Some gives.bytes;
-          source = rw run (read_file files source gives.bytes gives.holds);
-          gives = rw (run, sym some) (ap (λ f. where_read f source (root_answer job sheet)) gives.gives);
-        }
-
-    -- it is no document
-    pub refused_owed : {E : Type 0} (r : Result Reply E) (sheet : Template) (number line : ℕ) (name : List ℕ) → name ≡ source
-        → Some sheet ≡ sheet_in modules → FileGives source_of files name (bad number line)
-        → IfOk r (λ reply. reply_of reply ≡ refused_file number source line)
-        → IfOk r (λ reply. Owed (IsModulesAnswer files job modules) failed failed' (reply_of reply))
-    refused_owed r sheet number line name same some gives is =
-        answered r (refused_file number source line) stays (source_answer sheet (bad number line) name same some gives) is
-
-    -- it is read, and the answer is what the root's template comes to
-    pub root_owed : {E : Type 0} (r : Result Reply E) (sheet : Template) (records : List Record) (name : List ℕ) → name ≡ source
-        → Some sheet ≡ sheet_in modules → FileGives source_of files name (read records)
-        → IfOk r (λ reply. reply_of reply ≡ root_answer job sheet records)
-        → IfOk r (λ reply. Owed (IsModulesAnswer files job modules) failed failed' (reply_of reply))
-    root_owed r sheet records name same some gives is =
-        answered r (root_answer job sheet records) stays (source_answer sheet (read records) name same some gives) is
+  -- a run of a compiled stylesheet that stands for them
+  pub run_owed : {E : Type 0} (r : Result Reply E) (sheet : Sheet) (source : List ℕ) → job.source ≡ Some source → IsFirstFault modules None
+      → StandsFor modules sheet → IfOk r (λ reply. Owed (IsSheetAnswer (is_built sheet) files job sheet source) failed failed' (reply_of reply))
+      → IfOk r (λ reply. Owed (IsModulesAnswer files job modules) failed failed' (reply_of reply))
+  run_owed (Err e) sheet source run first stands owed = tt
+  run_owed (Ok reply) sheet source run first stands owed =
+      owed_same (IsSheetAnswer (is_built sheet) files job sheet source) (IsModulesAnswer files job modules) failed failed' (reply_of reply)
+      (λ a is. record {
+        fault = None;
+        first = first;
+        answers = subst (λ s. IsFaultlessAnswer s files job modules a) (sym run) (record { sheet = sheet; stands = stands; answers = is });
+      }) owed
 
 -- a module is refused
 pub module_owed : {E : Type 0} (r : Result Reply E) (files : Option Files) (job : Job) (number line : ℕ) (name : List ℕ)
@@ -168,22 +177,35 @@ unfolding first_name
 one_name xs ys m n e f =
     ap (first_name []) (sym (drop-append_seam xs (m ∷ [])) ∙ ap (drop (length xs)) (sym e ∙ f) ∙ drop-append_seam xs (n ∷ []))
 
--- files give one answer alone
-one_source : (files : Files) (name bytes held : Option (List ℕ)) → IsSource (Some files) name bytes → IsSource (Some files) name held → bytes ≡ held
-one_source files None bytes held p q = p ∙ sym q
-one_source files (Some name) bytes held p q = sym p ∙ q
+-- files give one answer alone, but to runs of a compiled stylesheet on a source
+over_source : (files : Option Files) (job : Job) (modules : List ModuleData) (a b : Answer) → IsFirstFault modules None → (s : Option (List ℕ))
+    → job.source ≡ s → IsFaultlessAnswer s files job modules a → IsFaultlessAnswer s files job modules b → (a ≡ b) ⊎ RunsOver files job modules b
+over_source files job modules a b first None is p q = inl (p ∙ sym q)
+over_source files job modules a b first (Some source) is p q = inr (record { source = source; run = is; faultless = first; answers = q })
 
-one_over : (files : Files) (job : Job) (modules : List ModuleData) (a b : Answer) → IsModulesAnswer (Some files) job modules a
-    → IsModulesAnswer (Some files) job modules b → a ≡ b
+over_fault : (files : Option Files) (job : Job) (modules : List ModuleData) (a b : Answer) (f : Option StaticFault) → IsFirstFault modules f
+    → IsStaticAnswer f files job modules a → IsStaticAnswer f files job modules b → (a ≡ b) ⊎ RunsOver files job modules b
+over_fault files job modules a b None first p q = over_source files job modules a b first job.source refl p q
+over_fault files job modules a b (Some f) first p q = inl (p ∙ sym q)
+
+one_over : (files : Option Files) (job : Job) (modules : List ModuleData) (a b : Answer) → IsModulesAnswer files job modules a
+    → IsModulesAnswer files job modules b → (a ≡ b) ⊎ RunsOver files job modules b
 one_over files job modules a b p q =
-    p.gives ∙ ap (λ f. modules_answer job modules f p.bytes) (one_fault modules p.fault q.fault p.first q.first)
-    ∙ ap (modules_answer job modules q.fault) (one_source files job.source p.bytes q.bytes p.source q.source) ∙ sym q.gives
+    over_fault files job modules a b q.fault q.first
+    (subst (λ f. IsStaticAnswer f files job modules a) (one_fault modules p.fault q.fault p.first q.first) p.answers) q.answers
 
-one_end : (files : Files) (job : Job) (end : End) (a b : Answer) → IsEndAnswer (Some files) job end a → IsEndAnswer (Some files) job end b → a ≡ b
-one_end files job (whole found) a b p q = one_over files job (numbered found) a b p q
-one_end files job (unread name) a b p q = absurd p
-one_end files job (refused number name line) a b p q = p ∙ sym q
-one_end files job out_of_memory a b p q = absurd p
+read_run : (files : Option Files) (job : Job) (names : List (List ℕ)) (found : Mentioned) (a b : Answer) → ReadsSheet files job.sheet names (whole found)
+    → (a ≡ b) ⊎ RunsOver files job (numbered found) b → (a ≡ b) ⊎ IsReadRun files job b
+read_run files job names found a b reads (inl same) = inl same
+read_run files job names found a b reads (inr runs) = inr (record { names = names; found = found; reads = reads; runs = runs })
+
+one_end : (files : Option Files) (job : Job) (names : List (List ℕ)) (end : End) (a b : Answer) → ReadsSheet files job.sheet names end
+    → IsEndAnswer files job end a → IsEndAnswer files job end b → (a ≡ b) ⊎ IsReadRun files job b
+one_end files job names (whole found) a b reads p q =
+    read_run files job names found a b reads (one_over files job (numbered found) a b p q)
+one_end files job names (unread name) a b reads p q = absurd p
+one_end files job names (refused number name line) a b reads p q = inl (p ∙ sym q)
+one_end files job names out_of_memory a b reads p q = absurd p
 
 -- an end that has an answer is one of its own
 own_end : (files : Files) (job : Job) (end : End) (a : Answer) → IsEndAnswer (Some files) job end a → IsOwn end
@@ -192,32 +214,39 @@ own_end files job (unread name) a p = absurd p
 own_end files job (refused number name line) a p = tt
 own_end files job out_of_memory a p = absurd p
 
-one_answer : (files : Files) (job : Job) (a b : Answer) → IsAnswer (Some files) job a → IsAnswer (Some files) job b → a ≡ b
+one_answer : (files : Files) (job : Job) (a b : Answer) → IsAnswer (Some files) job a → IsAnswer (Some files) job b
+    → (a ≡ b) ⊎ IsReadRun (Some files) job b
 one_answer files job a b p q =
     let same = one_reading files [] 0 (named_by_words job.sheet ∷ []) p.names q.names p.end q.end p.reads q.reads (own_end files job p.end a p.answers)
     (own_end files job q.end b q.answers) in
-    one_end files job q.end a b (subst (λ e. IsEndAnswer (Some files) job e a) same.1 p.answers) q.answers
+    one_end (Some files) job q.names q.end a b q.reads (subst (λ e. IsEndAnswer (Some files) job e a) same.1 p.answers) q.answers
 
 one_owed : (files : Files) (job : Job) (failed failed' : List (List ℕ)) (a b : Answer) → Owed (IsAnswer (Some files) job) failed failed' a
-    → Owed (IsAnswer (Some files) job) failed failed' b → a ≡ b
-one_owed files job failed failed' a b (fault m e p) (fault n f q) = p ∙ ap read_fault (one_name failed failed' m n e f) ∙ sym q
+    → Owed (IsAnswer (Some files) job) failed failed' b → (a ≡ b) ⊎ IsReadRun (Some files) job b
+one_owed files job failed failed' a b (fault m e p) (fault n f q) = inl (p ∙ ap read_fault (one_name failed failed' m n e f) ∙ sym q)
 one_owed files job failed failed' a b (fault m e p) (own f q) = absurd (not_both failed failed' m e f)
 one_owed files job failed failed' a b (own e p) (fault n f q) = absurd (not_both failed failed' n f e)
 one_owed files job failed failed' a b (own e p) (own f q) = one_answer files job a b p q
 
 one_due : (files : Files) (job : Option Job) (failed failed' : List (List ℕ)) (a b : Answer) → IsDue (Some files) job failed failed' a
-    → IsDue (Some files) job failed failed' b → a ≡ b
-one_due files None failed failed' a b p q = p.1 ∙ sym q.1
+    → IsDue (Some files) job failed failed' b → (a ≡ b) ⊎ IsOfRun (Some files) job b
+one_due files None failed failed' a b p q = inl (p.1 ∙ sym q.1)
 one_due files (Some job) failed failed' a b p q = one_owed files job failed failed' a b p q
 
--- what holds of an answer that is due holds of each
+or_of_run : (files : Option Files) (job : Option Job) (a b : Answer) (P : Answer → Type 0) → P a → (a ≡ b) ⊎ IsOfRun files job b
+    → P b ⊎ IsOfRun files job b
+or_of_run files job a b P p (inl same) = inl (subst P same p)
+or_of_run files job a b P p (inr runs) = inr runs
+
+-- what holds of an answer that is due holds of each, but for those of runs
 pub only_due : (files : Option Files) (job : Option Job) (failed failed' : List (List ℕ)) (a : Answer) (P : Answer → Type 0)
     → IsDue files job failed failed' a → P a → OnlyDue files job failed failed' P
 only_due None job failed failed' a P due p = tt
-only_due (Some files) job failed failed' a P due p = λ b other. subst P (one_due files job failed failed' a b due other) p
+only_due (Some files) job failed failed' a P due p =
+    λ b other. or_of_run (Some files) job a b P p (one_due files job failed failed' a b due other)
 
 -- and what holds of all answers
 pub each_due : (files : Option Files) (job : Option Job) (failed failed' : List (List ℕ)) (P : Answer → Type 0) → ((a : Answer) → P a)
     → OnlyDue files job failed failed' P
 each_due None job failed failed' P p = tt
-each_due (Some files) job failed failed' P p = λ a due. p a
+each_due (Some files) job failed failed' P p = λ a due. inl (p a)

@@ -1,5 +1,5 @@
 -- What a run asked for, by the answers of its readings.
-use Rattle.std.proofs.Common.{◌≡◌, ◌∙◌, ap, sym, ℕ, List, [], ◌∷◌, ◌++◌, Option, Some, None, Result, Ok, Err, inl, inr, append-nil, append_assoc, subst, refl}
+use Rattle.std.proofs.Common.{◌≡◌, ◌∙◌, ap, sym, ℕ, List, [], ◌∷◌, ◌++◌, Option, Some, None, Result, Ok, Err, true, inl, inr, append-nil, append_assoc, subst, refl}
 use Rattle.xs_outside.specs.Edge.{Files, failed_after}
 use Rattle.xs_outside.specs.declared.edge.FetchEnd.{FetchEnd}
 use Rattle.xs_outside.specs.declared.edge.FetchEnd.TheVariants.{Failed, NoMemory}
@@ -9,10 +9,12 @@ use Rattle.xs_modules.specs.Numbering.{ModuleData, numbered}
 use Rattle.xs_modules.specs.Reading.{End, whole, out_of_memory, out_before, failed_names}
 use Rattle.xs_modules.specs.Results.{ComesTo}
 use Rattle.xs_static.specs.Faults.{IsFirstFault}
+use Rattle.xs_engine.specs.Built.{is_built}
 use Rattle.xs_engine.specs.Job.{Job}
-use Rattle.xs_engine.specs.Sheet.{Template, sheet_in}
+use Rattle.xs_compile.specs.StandsFor.{StandsFor}
+use Rattle.xs_sheet.specs.declared.sheet.Sheet.{Sheet}
 use Rattle.xs_engine.specs.Fetches.{ReadsSheet, sheet_asked, source_asked, source_failed, Grew, JobFetches, Fetches, GoesOn}
-use Rattle.xs_engine.specs.Reply.{AsksFor, AsksSource, unasked, fetched, failed}
+use Rattle.xs_engine.specs.Reply.{AsksFor, AsksSource, GoesTo, unasked, fetched, failed}
 
 -- the names of a list that stays
 stays : (xs ys : List (List ℕ)) → ys ≡ xs → ys ≡ xs ++ []
@@ -47,7 +49,7 @@ joined xs ms ys first second e f = f ∙ ap (λ m. m ++ second) e ∙ append_ass
 module _ (job : Job) (files : Option Files) (read : Mentioned) (a m b f n g : List (List ℕ)) where
   -- by the names of the modules, and then by these
   both_asked : (names later faults : List (List ℕ)) → ReadsSheet files job.sheet names (whole read) → m ≡ a ++ names → n ≡ f ++ []
-      → b ≡ m ++ later → g ≡ n ++ faults → AsksSource job (numbered read) later faults → JobFetches job files a b f g
+      → b ≡ m ++ later → g ≡ n ++ faults → AsksSource (GoesOn job (numbered read)) later faults → JobFetches job files a b f g
   both_asked names later faults reads ma nf bm gn unasked = record {
     names = names;
     faults = [];
@@ -73,35 +75,52 @@ module _ (job : Job) (files : Option Files) (read : Mentioned) (a m b f n g : Li
 -- the modules were read, and then the source was asked for or not
 pub all_asked : (job : Job) (files : Option Files) (read : Mentioned) (modules : List ModuleData) (a m b f n g : List (List ℕ))
     → ComesTo (whole read) files [] 0 (named_by_words job.sheet ∷ []) a m f n → modules ≡ numbered read
-    → Grew (AsksSource job modules) m b n g → JobFetches job files a b f g
+    → Grew (AsksSource (GoesOn job modules)) m b n g → JobFetches job files a b f g
 all_asked job files read modules a m b f n g comes are grew =
     both_asked job files read a m b f n g comes.names grew.names grew.faults comes.reads comes.asks comes.fails grew.asked grew.failed
-    (subst (λ ms. AsksSource job ms grew.names grew.faults) are grew.asks)
+    (subst (λ ms. AsksSource (GoesOn job ms) grew.names grew.faults) are grew.asks)
 
 -- the source was not asked for
-pub source_left : (job : Job) (modules : List ModuleData) (a b f g : List (List ℕ)) → b ≡ a → g ≡ f → Grew (AsksSource job modules) a b f g
-source_left job modules a b f g asked faults =
-    record { names = []; faults = []; asked = stays a b asked; failed = stays f g faults; asks = unasked }
+pub source_left : (P : List ℕ → Type 0) (a b f g : List (List ℕ)) → b ≡ a → g ≡ f → Grew (AsksSource P) a b f g
+source_left P a b f g asked faults = record { names = []; faults = []; asked = stays a b asked; failed = stays f g faults; asks = unasked }
 
--- a run on a source goes on to it, where the stylesheet has no static fault and is built
-going_on : (job : Job) (modules : List ModuleData) (sheet : Template) (source : List ℕ) → job.source ≡ Some source → IsFirstFault modules None
-    → Some sheet ≡ sheet_in modules → GoesOn job modules source
-going_on job modules sheet source run none some = record { run = run; faultless = none; built = rw (sym some) tt }
-
-asks_as : {A : Type 0} (r : Result A FetchEnd) (name : List ℕ) (job : Job) (modules : List ModuleData) (a b f g : List (List ℕ))
-    → GoesOn job modules name → AsksFor r name a b → g ≡ failed_after r name f → Grew (AsksSource job modules) a b f g
-asks_as (Ok x) name job modules a b f g is asked faults =
+asks_as : {A : Type 0} (r : Result A FetchEnd) (name : List ℕ) (P : List ℕ → Type 0) (a b f g : List (List ℕ)) → P name → AsksFor r name a b
+    → g ≡ failed_after r name f → Grew (AsksSource P) a b f g
+asks_as (Ok x) name P a b f g is asked faults =
     record { names = name ∷ []; faults = []; asked = asked; failed = stays f g faults; asks = fetched is }
-asks_as (Err Failed) name job modules a b f g is asked faults =
+asks_as (Err Failed) name P a b f g is asked faults =
     record { names = name ∷ []; faults = name ∷ []; asked = asked; failed = faults; asks = failed is }
-asks_as (Err NoMemory) name job modules a b f g is (inl asked) faults =
+asks_as (Err NoMemory) name P a b f g is (inl asked) faults =
     record { names = []; faults = []; asked = stays a b asked; failed = stays f g faults; asks = unasked }
-asks_as (Err NoMemory) name job modules a b f g is (inr asked) faults =
+asks_as (Err NoMemory) name P a b f g is (inr asked) faults =
     record { names = name ∷ []; faults = []; asked = asked; failed = stays f g faults; asks = fetched is }
 
--- the source was asked for
-pub after_source : {A : Type 0} (r : Result A FetchEnd) (name source : List ℕ) (job : Job) (modules : List ModuleData) (sheet : Template)
-    (a b f g : List (List ℕ)) → name ≡ source → job.source ≡ Some source → IsFirstFault modules None → Some sheet ≡ sheet_in modules
-    → AsksFor r name a b → g ≡ failed_after r name f → Grew (AsksSource job modules) a b f g
-after_source r name source job modules sheet a b f g same run none some asked faults =
-    asks_as r name job modules a b f g (going_on job modules sheet name (run ∙ ap Some (sym same)) none some) asked faults
+-- the source of a stylesheet that is built was asked for
+pub after_source : {A : Type 0} (r : Result A FetchEnd) (name source : List ℕ) (sheet : Sheet) (a b f g : List (List ℕ)) → name ≡ source
+    → is_built sheet ≡ true → AsksFor r name a b → g ≡ failed_after r name f → Grew (AsksSource (GoesTo sheet source)) a b f g
+after_source r name source sheet a b f g same built asked faults = asks_as r name (GoesTo sheet source) a b f g (same, built) asked faults
+
+-- a run on a source goes on to it, where the stylesheet has no static fault and what stands for it is built
+going_on : (job : Job) (modules : List ModuleData) (sheet : Sheet) (source name : List ℕ) → job.source ≡ Some source → IsFirstFault modules None
+    → StandsFor modules sheet → GoesTo sheet source name → GoesOn job modules name
+going_on job modules sheet source name run none stands is =
+    record { run = run ∙ ap Some (sym is.0); faultless = none; sheet = sheet; stands = stands; built = is.1 }
+
+still_asks : (P Q : List ℕ → Type 0) (names faults : List (List ℕ)) → ((name : List ℕ) → P name → Q name) → AsksSource P names faults
+    → AsksSource Q names faults
+still_asks P Q names faults h unasked = unasked
+still_asks P Q names faults h (fetched {source} is) = fetched (h source is)
+still_asks P Q names faults h (failed {source} is) = failed (h source is)
+
+-- what a run of a compiled stylesheet asked for
+pub sheet_asked_for : (job : Job) (modules : List ModuleData) (sheet : Sheet) (source : List ℕ) (a b f g : List (List ℕ))
+    → job.source ≡ Some source → IsFirstFault modules None → StandsFor modules sheet → Grew (AsksSource (GoesTo sheet source)) a b f g
+    → Grew (AsksSource (GoesOn job modules)) a b f g
+sheet_asked_for job modules sheet source a b f g run none stands grew = record {
+  names = grew.names;
+  faults = grew.faults;
+  asked = grew.asked;
+  failed = grew.failed;
+  asks = still_asks (GoesTo sheet source) (GoesOn job modules) grew.names grew.faults (λ name. going_on job modules sheet source name run none stands)
+      grew.asks;
+}

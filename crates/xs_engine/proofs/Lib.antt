@@ -1,6 +1,8 @@
+pub mod BuiltLemmas
 pub mod CutFileLemmas
 pub mod DueLemmas
 pub mod EndLemmas
+pub mod EvaluationLemmas
 pub mod FetchLemmas
 pub mod FirstFaultLemmas
 pub mod GivesLemmas

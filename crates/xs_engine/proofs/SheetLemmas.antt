@@ -1,20 +1,9 @@
 -- The modules of a list, as the code has them.
-use Rattle.std.proofs.Common.{◌≡◌, ◌∙◌, ℕ, zero, suc, ◌<◌, ◌≤◌, List, [], ◌∷◌, map, length, get_or, sym, ap, arith}
-use Rattle.std.specs.List.{All}
+use Rattle.std.proofs.Common.{◌≡◌, ℕ, zero, suc, ◌<◌, List, [], ◌∷◌, map, length, get_or, sym, ap, arith}
 use Rattle.std.proofs.lemmas.List.{length-map}
-use Rattle.std.proofs.lemmas.List.Elements.{All-head}
 use Rattle.xs_modules.specs.declared.modules.Module.{Module}
 use Rattle.xs_modules.specs.Results.{module_data}
-use Rattle.xs_modules.specs.Sound.{HasLines}
 use Rattle.xs_engine.specs.Run.{module_name}
-
--- the first one has a line for each node
-pub first_has_lines : (ms : List Module) (m : Module) (lines : List ℕ) → 1 ≤ length ms → m ≡ get_or ms 0 m
-    → All (λ d. HasLines d.records d.lines) (map module_data ms) → lines ≡ m.lines.items → length lines ≡ length m.tree
-first_has_lines [] m lines some is all same = absurd (omega (arith, some))
-first_has_lines (x ∷ xs) m lines some is all same =
-    let has = All-head (λ d. HasLines d.records d.lines) (module_data x) (map module_data xs) all in
-    ap length (same ∙ ap (λ (y : Module). y.lines.items) is) ∙ has.each ∙ sym (ap (λ (y : Module). length y.tree) is)
 
 -- how many modules there are
 pub known_module : (ms : List Module) (n : ℕ) → n < length (map module_data ms) → n < length ms

@@ -1,13 +1,15 @@
 -- What a run owes to whoever called it.
-use Rattle.std.specs.Prelude.{ℕ, List, [], ◌∷◌, ◌++◌, codes}
+use Rattle.std.specs.Prelude.{ℕ, List, [], ◌∷◌, ◌++◌, codes, slice_get}
 use Rattle.std.specs.Fmt.{decimal}
 use Rattle.std.specs.List.{flat_map}
+use Rattle.std.specs.Option.{unwrap_or}
 use Rattle.xs_text.specs.Escapes.{escaped}
-use Rattle.xs_trace.specs.Mark.{Trace, events_of, messages_of, tick_count}
-use Rattle.xs_trace.specs.Cut.{Cut, End, Whole, Fault, Needs, Spent, Full}
-use Rattle.xs_body.specs.Trace.{text_in}
-use Rattle.xs_engine.specs.declared.faults.TheConstants.{NOT_BUILT, BUDGET, TOO_MANY_EVENTS, UNREADABLE}
-use Rattle.xs_engine.specs.declared.status.TheConstants.{OK, USAGE, READ_FAULT, REFUSED, RUN_FAULT, NO_MEMORY}
+use Rattle.xs_result.specs.Built.{built}
+use Rattle.xs_result.specs.Text.{text_in}
+use Rattle.xs_trace.specs.declared.event.Event.{Event}
+use Rattle.xs_trace.specs.declared.item.Spot.{Spot}
+use Rattle.xs_engine.specs.declared.faults.TheConstants.{NOT_BUILT, UNREADABLE}
+use Rattle.xs_engine.specs.declared.status.TheConstants.{OK, USAGE, READ_FAULT, REFUSED, RUN_FAULT}
 use Rattle.xs_engine.specs.Faults.{fault_name}
 
 -- its status, the bytes of the result, the bytes of the lines for the user, and the ticks that it spent
@@ -48,7 +50,7 @@ refused_file fault name line = record { status = REFUSED; result = []; lines = f
 abbrev pub faultless : Answer
 faultless = record { status = OK; result = []; lines = []; ticks = 0 }
 
--- a file holds what is not built yet
+-- a file holds what is not built
 abbrev pub not_built : List ℕ → Answer
 not_built name = refused_file NOT_BUILT name 0
 
@@ -56,36 +58,19 @@ not_built name = refused_file NOT_BUILT name 0
 abbrev pub message_lines : List (List ℕ) → List ℕ
 message_lines texts = flat_map message_line texts
 
--- The evaluation ended whole: the result is the text of its text nodes (XSLT 1.0, 16.3).
-abbrev pub whole : Trace ℕ → Answer
-whole passed = record {
-  status = OK;
-  result = text_in (events_of passed);
-  lines = message_lines (messages_of passed);
-  ticks = tick_count passed;
-}
+-- The evaluation came to its end: the result is the text of the text nodes that stay of these events (XSLT 1.0, 16.3).
+abbrev pub whole_answer : (says : List (List ℕ)) → List Event → (ticks : ℕ) → Answer
+whole_answer says events ticks = record { status = OK; result = text_in (built events); lines = message_lines says; ticks = ticks }
+
+-- the name of the module of this number
+abbrev pub name_in : List (List ℕ) → ℕ → List ℕ
+name_in names n = unwrap_or (slice_get names n) []
 
 -- The evaluation ended in a fault, at a line of a module: there are the messages before it, and no result.
-abbrev pub faulted : ℕ → List ℕ → ℕ → Trace ℕ → Answer
-faulted fault name line passed = record {
+abbrev pub stopped_answer : (names : List (List ℕ)) → Spot → (says : List (List ℕ)) → (ticks : ℕ) → Answer
+stopped_answer names spot says ticks = record {
   status = RUN_FAULT;
   result = [];
-  lines = message_lines (messages_of passed) ++ fault_line fault name line;
-  ticks = tick_count passed;
+  lines = message_lines says ++ fault_line spot.fault (name_in names spot.«module») spot.line;
+  ticks = ticks;
 }
-
--- nothing is written
-abbrev pub no_answer : Answer
-no_answer = record { status = NO_MEMORY; result = []; lines = []; ticks = 0 }
-
--- The answer of a cut evaluation, over a stylesheet of one module. The trace of a root needs no global variable, so that the
--- case of a need does not come.
-abbrev pub end_answer : List ℕ → End → Trace ℕ → Answer
-end_answer name Whole passed = whole passed
-end_answer name (Fault fault site) passed = faulted fault name site.line passed
-end_answer name (Needs global site) passed = no_answer
-end_answer name (Spent site) passed = faulted BUDGET name site.line passed
-end_answer name (Full site) passed = faulted TOO_MANY_EVENTS name site.line passed
-
-abbrev pub cut_answer : List ℕ → Cut ℕ → Answer
-cut_answer name c = end_answer name c.end c.passed

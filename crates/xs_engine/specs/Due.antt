@@ -1,35 +1,69 @@
 -- The answer that a run owes.
-use Rattle.std.specs.Prelude.{◌≡◌, ℕ, List, [], ◌∷◌, ◌++◌, Option, Some, None, IfSome}
+use Rattle.std.specs.Prelude.{◌≡◌, ℕ, Bool, true, false, List, [], ◌∷◌, ◌++◌, Option, Some, None, IfSome}
+use Rattle.xs_compile.specs.StandsFor.{StandsFor}
 use Rattle.xs_outside.specs.Edge.{Files}
+use Rattle.xs_modules.specs.Mentioned.{Mentioned}
 use Rattle.xs_modules.specs.Numbering.{ModuleData, numbered}
 use Rattle.xs_modules.specs.Reading.{End, whole, unread, refused, out_of_memory}
 use Rattle.xs_static.specs.Faults.{IsFirstFault}
 use Rattle.xs_static.specs.declared.fault.StaticFault.{StaticFault}
-use Rattle.xs_engine.specs.Answer.{Answer, usage, read_fault, refused_file}
+use Rattle.xs_tree.specs.Record.{Record}
+use Rattle.xs_sheet.specs.declared.sheet.Sheet.{Sheet}
+use Rattle.xs_engine.specs.Answer.{Answer, usage, read_fault, refused_file, faultless, not_built}
+use Rattle.xs_engine.specs.Built.{is_built}
+use Rattle.xs_engine.specs.Evaluation.{IsEvaluatedFrom}
 use Rattle.xs_engine.specs.Fetches.{ReadsSheet}
 use Rattle.xs_engine.specs.Job.{Job}
-use Rattle.xs_engine.specs.Run.{modules_answer}
+use Rattle.xs_engine.specs.Read.{Read, read, bad}
+use Rattle.xs_engine.specs.Run.{module_name, source_of}
 
 -- these are the bytes of a file, None where there is none; any, where the library tells no files
 abbrev pub IsFile : Option Files → List ℕ → Option (List ℕ) → Type 0
 IsFile files name bytes = IfSome files (λ map. map name ≡ bytes)
 
--- the bytes of a run's source; none where the stylesheet is only checked
-abbrev pub IsSource : Option Files → Option (List ℕ) → Option (List ℕ) → Type 0
-IsSource files None bytes = bytes ≡ None
-IsSource files (Some name) bytes = IsFile files name bytes
+-- the answer over what the bytes of a source stand for
+abbrev pub IsReadAnswer : Job → Sheet → (source : List ℕ) → Read (List Record) → Answer → Type 0
+IsReadAnswer job sheet source (read records) answer = IsEvaluatedFrom job sheet records answer
+IsReadAnswer job sheet source (bad number line) answer = answer ≡ refused_file number source line
 
--- the answer over these modules, their first static fault, and the source
+-- the answer over the bytes of a source, or the fault that there is no file of that name
+abbrev pub IsBytesAnswer : Job → Sheet → (source : List ℕ) → Option (List ℕ) → Answer → Type 0
+IsBytesAnswer job sheet source None answer = answer ≡ read_fault source
+IsBytesAnswer job sheet source (Some bytes) answer = IsReadAnswer job sheet source (source_of bytes) answer
+
+-- the answer of a compiled stylesheet on a source, which is read where the stylesheet is built
+abbrev pub IsSheetAnswer : (built : Bool) → Option Files → Job → Sheet → (source : List ℕ) → Answer → Type 0
+IsSheetAnswer false files job sheet source answer = answer ≡ not_built job.sheet
+IsSheetAnswer true files job sheet source answer =
+    (bytes : Option (List ℕ)) × IsFile files source bytes × IsBytesAnswer job sheet source bytes answer
+
+-- The answer of a run on a source: that of a compiled stylesheet that stands for the modules.
+pub record IsRunAnswer (files : Option Files) (job : Job) (modules : List ModuleData) (source : List ℕ) (answer : Answer) : Type 0 where
+  pub sheet : Sheet
+  pub stands : StandsFor modules sheet
+  pub answers : IsSheetAnswer (is_built sheet) files job sheet source answer
+
+-- the answer over modules without a static fault; where the stylesheet is only checked, it has none
+abbrev pub IsFaultlessAnswer : (source : Option (List ℕ)) → Option Files → Job → List ModuleData → Answer → Type 0
+IsFaultlessAnswer None files job modules answer = answer ≡ faultless
+IsFaultlessAnswer (Some source) files job modules answer = IsRunAnswer files job modules source answer
+
+-- by their first static fault, told by the module that has it
+abbrev pub IsStaticAnswer : Option StaticFault → Option Files → Job → List ModuleData → Answer → Type 0
+IsStaticAnswer None files job modules answer = IsFaultlessAnswer job.source files job modules answer
+IsStaticAnswer (Some fault) files job modules answer =
+    answer ≡ refused_file fault.number (module_name modules fault.«module») fault.line
+
+-- The answer over the modules of a stylesheet. A static fault is told before the source is read, and so is a stylesheet that is not
+-- built; a stylesheet that is only checked need not be built.
 pub record IsModulesAnswer (files : Option Files) (job : Job) (modules : List ModuleData) (answer : Answer) : Type 0 where
   pub fault : Option StaticFault
   pub first : IsFirstFault modules fault
-  pub bytes : Option (List ℕ)
-  pub source : IsSource files job.source bytes
-  pub gives : answer ≡ modules_answer job modules fault bytes
+  pub answers : IsStaticAnswer fault files job modules answer
 
 -- the answer over an end that the reading of modules comes to of itself: the first trouble is told
 abbrev pub IsEndAnswer : Option Files → Job → End → Answer → Type 0
-IsEndAnswer files job (whole read) answer = IsModulesAnswer files job (numbered read) answer
+IsEndAnswer files job (whole found) answer = IsModulesAnswer files job (numbered found) answer
 IsEndAnswer files job (unread name) answer = ⊥
 IsEndAnswer files job (refused number name line) answer = answer ≡ refused_file number name line
 IsEndAnswer files job out_of_memory answer = ⊥
@@ -52,3 +86,20 @@ pub data Owed (P : Answer → Type 0) (failed failed_after : List (List ℕ)) (a
 abbrev pub IsDue : Option Files → Option Job → (failed failed_after : List (List ℕ)) → Answer → Type 0
 IsDue files None failed failed_after answer = (failed_after ≡ failed) × (answer ≡ usage)
 IsDue files (Some job) failed failed_after answer = Owed (IsAnswer files job) failed failed_after answer
+
+-- the answer of a run on a source, whose modules were read and have no static fault
+pub record RunsOver (files : Option Files) (job : Job) (modules : List ModuleData) (answer : Answer) : Type 0 where
+  pub source : List ℕ
+  pub run : job.source ≡ Some source
+  pub faultless : IsFirstFault modules None
+  pub answers : IsRunAnswer files job modules source answer
+
+pub record IsReadRun (files : Option Files) (given : Job) (answer : Answer) : Type 0 where
+  pub names : List (List ℕ)
+  pub found : Mentioned
+  pub reads : ReadsSheet files given.sheet names (whole found)
+  pub runs : RunsOver files given (numbered found) answer
+
+abbrev pub IsOfRun : Option Files → Option Job → Answer → Type 0
+IsOfRun files None answer = ⊥
+IsOfRun files (Some job) answer = IsReadRun files job answer

@@ -1,5 +1,5 @@
 -- What a run asks its library for.
-use Rattle.std.specs.Prelude.{◌≡◌, ℕ, List, [], ◌∷◌, ◌++◌, Option, Some, None}
+use Rattle.std.specs.Prelude.{◌≡◌, ℕ, true, List, [], ◌∷◌, ◌++◌, Option, Some, None}
 use Rattle.xs_outside.specs.Edge.{Files}
 use Rattle.xs_modules.specs.Mentions.{named_by_words}
 use Rattle.xs_modules.specs.Mentioned.{Mentioned}
@@ -7,17 +7,21 @@ use Rattle.xs_modules.specs.Numbering.{ModuleData, numbered}
 use Rattle.xs_modules.specs.Reading.{End, whole, Reads, failed_names}
 use Rattle.xs_static.specs.Faults.{IsFirstFault}
 use Rattle.xs_engine.specs.Job.{Job}
-use Rattle.xs_engine.specs.Sheet.{IsBuilt}
+use Rattle.xs_engine.specs.Built.{is_built}
+use Rattle.xs_sheet.specs.declared.sheet.Sheet.{Sheet}
+use Rattle.xs_compile.specs.StandsFor.{StandsFor}
 
 -- The reading of a stylesheet's modules asks for these names, in order, and comes to this end (XSLT 1.0, 2.6).
 abbrev pub ReadsSheet : Option Files → List ℕ → List (List ℕ) → End → Type 0
 ReadsSheet files sheet names end = Reads files [] 0 (named_by_words sheet ∷ []) names end
 
--- A run on this source goes on to it: the stylesheet has no static fault, and is built.
+-- A run on this source goes on to it: the stylesheet has no static fault, and what it is compiled to is built.
 pub record GoesOn (job : Job) (modules : List ModuleData) (source : List ℕ) : Type 0 where
   pub run : job.source ≡ Some source
   pub faultless : IsFirstFault modules None
-  pub built : IsBuilt modules
+  pub sheet : Sheet
+  pub stands : StandsFor modules sheet
+  pub built : is_built sheet ≡ true
 
 -- The names that a job asked for, in order, and those of them whose fetch failed: the modules of its stylesheet, as far as the
 -- reading came; and, once all were read and have no static fault, and the stylesheet is built, the source. So nothing is asked for

@@ -1,18 +1,30 @@
 -- What the items that a run kept give, one by one.
-use Rattle.std.specs.Prelude.{ℕ, List, []}
+use Rattle.std.specs.Prelude.{◌≡◌, ℕ, List, [], ◌∷◌, Option, Some, None}
+use Rattle.xs_run.specs.Tasks.{Task}
+use Rattle.xs_trace.specs.Kept.{marks_of}
+use Rattle.xs_trace.specs.Mark.{events_of}
+use Rattle.xs_trace.specs.declared.event.Event.{Event}
 use Rattle.xs_trace.specs.declared.item.Item.{Item}
 use Rattle.xs_trace.specs.declared.item.Item.TheVariants.{Run, Put, Say}
-use Rattle.xs_body.specs.Trace.{own_chars}
 use Rattle.xs_engine.specs.Answer.{message_line}
-
--- the text of a text node
-abbrev pub item_text : Item → List ℕ
-item_text (Run m l n) = []
-item_text (Put event) = own_chars event
-item_text (Say text) = []
 
 -- the line of a message
 abbrev pub item_line : Item → List ℕ
 item_line (Run m l n) = []
 item_line (Put event) = []
 item_line (Say text) = message_line text
+
+-- the event that an item is
+abbrev pub item_event : Item → Option Event
+item_event (Run m l n) = None
+item_event (Put event) = Some event
+item_event (Say text) = None
+
+-- the events among some items
+abbrev pub events_in : List Item → List Event
+events_in items = events_of {H = Task} (marks_of items)
+
+-- the first of them, and the items behind it
+abbrev pub IsFirstEvent : List Item → Option (Event × List Item) → Type 0
+IsFirstEvent items None = events_in items ≡ []
+IsFirstEvent items (Some p) = events_in items ≡ p.0 ∷ events_in p.1

@@ -4,11 +4,12 @@ use Rattle.xs_words.specs.Choice.{Choice, Pair, Job as Work, files, check, load}
 use Rattle.xs_words.specs.Options.{options_of}
 use Rattle.xs_words.specs.Steps.{given, where_it_holds}
 
--- the names of its stylesheet and its source, none where the stylesheet is only checked; how many ticks it may take, and how many
--- events it may put, where there is a limit
+-- the names of its stylesheet and its source, none where the stylesheet is only checked; the names and texts that are given for
+-- parameters of the stylesheet (XSLT 1.0, 11.4); how many ticks it may take, and how many events it may put, where there is a limit
 pub record Job : Type 0 where
   pub sheet : List ℕ
   pub source : Option (List ℕ)
+  pub given : List Pair
   pub budget : ℕ
   pub most_events : Option ℕ
 
@@ -21,12 +22,12 @@ has_none (pair ∷ pairs) = false
 abbrev pub is_built : Choice → Bool
 is_built choice = not (choice.stats || (choice.profile || choice.stream)) && (is_none choice.at && has_none choice.documents)
 
--- A stylesheet on a source, or a stylesheet alone; the made input is not built. The texts of global parameters are ignored, since
--- no stylesheet that is built has a parameter. The workers and the grain change nothing.
+-- A stylesheet on a source, or a stylesheet alone; the made input is not built. The workers and the grain change nothing.
 abbrev pub files_job : Choice → Work → Option Job
 files_job choice (files sheet source texts) =
-    Some (record { sheet = sheet; source = Some source; budget = choice.budget; most_events = choice.max_events })
-files_job choice (check sheet) = Some (record { sheet = sheet; source = None; budget = choice.budget; most_events = choice.max_events })
+    Some (record { sheet = sheet; source = Some source; given = texts; budget = choice.budget; most_events = choice.max_events })
+files_job choice (check sheet) =
+    Some (record { sheet = sheet; source = None; given = []; budget = choice.budget; most_events = choice.max_events })
 files_job choice (load rows) = None
 
 abbrev pub built_job : Choice → Option Job

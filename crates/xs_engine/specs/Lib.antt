@@ -1,5 +1,7 @@
 pub mod Answer
+pub mod Built
 pub mod Due
+pub mod Evaluation
 pub mod Faults
 pub mod Fetches
 pub mod Headline
@@ -8,4 +10,3 @@ pub mod Job
 pub mod Read
 pub mod Reply
 pub mod Run
-pub mod Sheet

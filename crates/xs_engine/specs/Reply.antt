@@ -1,23 +1,24 @@
 -- A reply as an answer, a job and a stylesheet as the code has them, and what the reading of a source gives.
-use Rattle.std.specs.Prelude.{◌≡◌, ◌≢◌, ℕ, List, [], ◌∷◌, ◌++◌, ◌⊎◌, Option, Result, Ok, Err}
+use Rattle.std.specs.Prelude.{◌≡◌, ◌≢◌, ℕ, true, List, [], ◌∷◌, ◌++◌, ◌⊎◌, Option, Some, None, Result, Ok, Err}
 use Rattle.xs_outside.specs.Edge.{Files}
 use Rattle.xs_outside.specs.declared.edge.FetchEnd.{FetchEnd}
 use Rattle.xs_outside.specs.declared.edge.FetchEnd.TheVariants.{Failed, NoMemory}
-use Rattle.xs_body.specs.Body.{body_data}
-use Rattle.xs_modules.specs.Numbering.{ModuleData}
 use Rattle.xs_modules.specs.Reading.{Holds}
 use Rattle.xs_engine.specs.declared.job.Job.{Job as CodeJob}
-use Rattle.xs_engine.specs.declared.reading.Sheet.{Sheet}
 use Rattle.xs_engine.specs.declared.reply.Reply.{Reply}
 use Rattle.xs_engine.specs.declared.status.TheConstants.{OK}
-use Rattle.xs_engine.specs.Answer.{Answer}
-use Rattle.xs_engine.specs.Fetches.{GoesOn}
+use Rattle.xs_modules.specs.Numbering.{ModuleData}
+use Rattle.xs_static.specs.Faults.{IsFirstFault}
+use Rattle.xs_static.specs.declared.fault.StaticFault.{StaticFault}
+use Rattle.xs_engine.specs.Answer.{Answer, faultless, refused_file}
+use Rattle.xs_engine.specs.Run.{module_name}
+use Rattle.xs_engine.specs.Built.{is_built}
+use Rattle.xs_sheet.specs.declared.sheet.Sheet.{Sheet}
 use Rattle.xs_engine.specs.Job.{Job}
 use Rattle.xs_engine.specs.Read.{Read}
-use Rattle.xs_engine.specs.Sheet.{Template}
 
 abbrev pub job_data : CodeJob → Job
-job_data job = record { sheet = job.sheet; source = job.source; budget = job.budget; most_events = job.most_events }
+job_data job = record { sheet = job.sheet; source = job.source; given = job.given.items; budget = job.budget; most_events = job.most_events }
 
 abbrev pub reply_of : Reply → Answer
 reply_of reply = record { status = reply.status; result = reply.result.items; lines = reply.lines.items; ticks = reply.ticks }
@@ -25,9 +26,6 @@ reply_of reply = record { status = reply.status; result = reply.result.items; li
 -- only a status of 0 has a result
 abbrev pub IsWholeOrEmpty : Reply → Type 0
 IsWholeOrEmpty reply = reply.status ≢ OK → reply.result.items ≡ []
-
-abbrev pub template : Sheet → Template
-template sheet = record { root_line = sheet.root_line; body = body_data sheet.body }
 
 -- the library had a file of this name, and this is what the file's bytes stand for
 pub record FileGives {A : Type 0} (reading : List ℕ → Read A) (files : Option Files) (name : List ℕ) (found : Read A) : Type 0 where
@@ -41,8 +39,22 @@ AsksFor (Ok read) name asked asked_after = asked_after ≡ asked ++ name ∷ []
 AsksFor (Err Failed) name asked asked_after = asked_after ≡ asked ++ name ∷ []
 AsksFor (Err NoMemory) name asked asked_after = (asked_after ≡ asked) ⊎ (asked_after ≡ asked ++ name ∷ [])
 
--- Once the modules were read the source was asked for, if the run goes on to it, or, where memory was wanting, nothing.
-pub data AsksSource (job : Job) (modules : List ModuleData) : List (List ℕ) → List (List ℕ) → Type 0 where
-  unasked : AsksSource job modules [] []
-  fetched : {source : List ℕ} → GoesOn job modules source → AsksSource job modules (source ∷ []) []
-  failed : {source : List ℕ} → GoesOn job modules source → AsksSource job modules (source ∷ []) (source ∷ [])
+-- The source was asked for, of which P says that the run goes on to it, or, where memory was wanting or it does not, nothing.
+pub data AsksSource (P : List ℕ → Type 0) : List (List ℕ) → List (List ℕ) → Type 0 where
+  unasked : AsksSource P [] []
+  fetched : {source : List ℕ} → P source → AsksSource P (source ∷ []) []
+  failed : {source : List ℕ} → P source → AsksSource P (source ∷ []) (source ∷ [])
+
+-- a run of a compiled stylesheet on a source goes on to it: the stylesheet is built
+abbrev pub GoesTo : Sheet → (source name : List ℕ) → Type 0
+GoesTo sheet source name = (name ≡ source) × (is_built sheet ≡ true)
+
+-- the answer of a stylesheet that is only checked: its first static fault, or nothing
+abbrev pub IsCheckAnswer : Option StaticFault → List ModuleData → Answer → Type 0
+IsCheckAnswer None modules answer = answer ≡ faultless
+IsCheckAnswer (Some fault) modules answer = answer ≡ refused_file fault.number (module_name modules fault.«module») fault.line
+
+pub record IsChecked (modules : List ModuleData) (answer : Answer) : Type 0 where
+  pub fault : Option StaticFault
+  pub first : IsFirstFault modules fault
+  pub answers : IsCheckAnswer fault modules answer

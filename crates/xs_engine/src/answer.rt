@@ -1,35 +1,35 @@
 //! The answer of a run, before anything of it is written.
 
-ghost use Rattle.std.specs.Prelude.{◌≡◌, ◌≢◌, ◌<◌, ◌⊎◌, IfOk, None, Some, length};
+ghost use Rattle.std.specs.Prelude.{◌≡◌, ◌≢◌, ◌<◌, ◌⊎◌, IfOk, None, length};
 ghost use Rattle.xs_modules.specs.Results.{modules_data};
 ghost use Rattle.xs_modules.specs.Sound.{IsSound};
+ghost use Rattle.xs_sheet.specs.Sound.{IsSound as SheetIsSound};
 ghost use Rattle.xs_words.specs.Results.{texts};
-ghost use Rattle.xs_engine.specs.declared.status.TheConstants.{OK, READ_FAULT, RUN_FAULT, USAGE};
+ghost use Rattle.xs_engine.specs.declared.status.TheConstants.{OK, READ_FAULT, USAGE};
 ghost use Rattle.xs_engine.specs.declared.status.TheConstants.{REFUSED, WRITE_FAULT};
-ghost use Rattle.xs_static.specs.Faults.{IsFirstFault};
 ghost use Rattle.xs_engine.specs.Answer.{refused_file};
-ghost use Rattle.xs_engine.specs.Due.{IsAnswer, IsDue, IsModulesAnswer, Owed};
-ghost use Rattle.xs_engine.specs.Fetches.{Fetches, Grew, JobFetches};
+ghost use Rattle.xs_engine.specs.Built.{is_built};
+ghost use Rattle.xs_engine.specs.Due.{IsAnswer, IsDue, IsModulesAnswer, IsSheetAnswer, Owed};
+ghost use Rattle.xs_engine.specs.Fetches.{Fetches, GoesOn, Grew, JobFetches};
 ghost use Rattle.xs_engine.specs.Headline.{HasTicks};
 ghost use Rattle.xs_engine.specs.Job.{job_of};
-ghost use Rattle.xs_engine.specs.Reply.{AsksSource, IsWholeOrEmpty, job_data, reply_of, template};
-ghost use Rattle.xs_engine.specs.Run.{module_name, root_answer};
+ghost use Rattle.xs_engine.specs.Reply.{AsksSource, GoesTo, IsChecked, IsWholeOrEmpty};
+ghost use Rattle.xs_engine.specs.Reply.{job_data, reply_of};
+ghost use Rattle.xs_engine.specs.Run.{module_name};
 
+use crate::built::is_built;
+use crate::evaluation::evaluate;
 use crate::faults::NOT_BUILT;
 use crate::job::{Job, read_job};
-use crate::reading::{Sheet, read_source, sheet_in};
-use crate::reply::{
-    Reply, faulted_reply, faultless_reply, read_fault_reply, refused_reply, usage_reply,
-    whole_reply,
-};
+use crate::reading::read_source;
+use crate::reply::{Reply, faultless_reply, read_fault_reply, refused_reply, usage_reply};
 use std::alloc::{AllocError, Global};
-use xs_body::run::run_body;
+use xs_compile::{CompileEnd, compile};
 use xs_modules::{Modules, ModulesEnd, read_modules};
 use xs_outside::{FetchEnd, Library};
+use xs_sheet::sheet::Sheet;
 use xs_static::{StaticFault, first_fault};
-use xs_trace::item::{Ended, Limits};
 use xs_trace::text::TextBuf;
-use xs_tree::Tree;
 use xs_words::WordsEnd;
 
 /// The answer of a run: a function of the words and of the files that it comes to.
@@ -96,7 +96,7 @@ fn modules_reply<L: Library>(
 ) -> Result<Reply, AllocError>
     requires { IsSound (modules_data modules.now) }
     ensures files { L.files library.new ≡ L.files library.old }
-    ensures asks { Grew (AsksSource (job_data job.now) (modules_data modules.now))
+    ensures asks { Grew (AsksSource (GoesOn (job_data job.now) (modules_data modules.now)))
         (L.asked library.old) (L.asked library.new) (L.failed library.old) (L.failed library.new) }
     ensures due { IfOk result (λ reply. Owed
         (IsModulesAnswer (L.files library.old) (job_data job.now) (modules_data modules.now))
@@ -108,12 +108,29 @@ fn modules_reply<L: Library>(
     ensures ticks { IfOk result (λ reply. HasTicks reply.status ⊎ (reply.ticks ≡ 0)) }
     ensures whole_only { IfOk result IsWholeOrEmpty }
 {
+    match &job.source {
+        Some(source) => match compile(alloc, modules) {
+            Ok(sheet) => run_reply(alloc, job, source, &sheet, library),
+            Err(CompileEnd::Refused(fault)) => static_reply(alloc, modules, fault),
+            Err(CompileEnd::NoMemory) => Err(AllocError),
+        },
+        None => check_reply(alloc, modules),
+    }
+}
+
+/// The answer of a stylesheet that is only checked: its first static fault, or nothing.
+fn check_reply(alloc: Global, modules: &Modules) -> Result<Reply, AllocError>
+    requires { IsSound (modules_data modules.now) }
+    ensures answer { IfOk result (λ reply.
+        IsChecked (modules_data modules.now) (reply_of reply)) }
+    ensures status { IfOk result (λ reply.
+        (reply.status ≡ OK) ⊎ (reply.status ≡ REFUSED)) }
+    ensures ticks { IfOk result (λ reply. reply.ticks ≡ 0) }
+    ensures whole_only { IfOk result IsWholeOrEmpty }
+{
     match first_fault(alloc, modules)? {
         Some(fault) => static_reply(alloc, modules, fault),
-        None => match &job.source {
-            Some(source) => run_reply(alloc, job, source, modules, library),
-            None => Ok(faultless_reply(alloc)),
-        },
+        None => Ok(faultless_reply(alloc)),
     }
 }
 
@@ -130,23 +147,21 @@ fn static_reply(alloc: Global, modules: &Modules, fault: StaticFault) -> Result<
     refused_reply(alloc, fault.number, &module.name, fault.line)
 }
 
-/// What a run on a source comes to, of a stylesheet without a static fault; the source is read
-/// where the stylesheet is built.
+/// The answer of a run of a compiled stylesheet on a source, which is read where the stylesheet is
+/// built.
 fn run_reply<L: Library>(
     alloc: Global,
     job: &Job,
     source: &TextBuf,
-    modules: &Modules,
+    sheet: &Sheet,
     library: &mut L,
 ) -> Result<Reply, AllocError>
-    requires sound { IsSound (modules_data modules.now) }
-    requires run { job.now.source ≡ Some source.now }
-    requires faultless { IsFirstFault (modules_data modules.now) None }
+    requires sound { SheetIsSound sheet.now }
     ensures files { L.files library.new ≡ L.files library.old }
-    ensures asks { Grew (AsksSource (job_data job.now) (modules_data modules.now))
+    ensures asks { Grew (AsksSource (GoesTo sheet.now source.now))
         (L.asked library.old) (L.asked library.new) (L.failed library.old) (L.failed library.new) }
-    ensures due { IfOk result (λ reply. Owed
-        (IsModulesAnswer (L.files library.old) (job_data job.now) (modules_data modules.now))
+    ensures due { IfOk result (λ reply. Owed (IsSheetAnswer (is_built sheet.now)
+        (L.files library.old) (job_data job.now) sheet.now source.now)
         (L.failed library.old) (L.failed library.new) (reply_of reply)) }
     ensures read_fault_only { IfOk result (λ reply. reply.status ≡ READ_FAULT
         → length (L.failed library.old) < length (L.failed library.new)) }
@@ -155,36 +170,13 @@ fn run_reply<L: Library>(
     ensures ticks { IfOk result (λ reply. HasTicks reply.status ⊎ (reply.ticks ≡ 0)) }
     ensures whole_only { IfOk result IsWholeOrEmpty }
 {
-    let Some(sheet) = sheet_in(alloc, modules)? else {
+    if !is_built(sheet) {
         return refused_reply(alloc, NOT_BUILT, &job.sheet, 0);
-    };
+    }
     match read_source(alloc, source.as_str(), library) {
-        Ok(Ok(tree)) => root_reply(alloc, job, &sheet, &tree),
+        Ok(Ok(tree)) => evaluate(alloc, job, sheet, tree),
         Ok(Err(fault)) => refused_reply(alloc, fault.number, source, fault.line),
         Err(FetchEnd::Failed) => read_fault_reply(alloc, source),
         Err(FetchEnd::NoMemory) => Err(AllocError),
-    }
-}
-
-/// What the root's template comes to, cut at the limits.
-#[tactic(auto, unfolding(crate::specs::Run::root_answer))]
-fn root_reply(alloc: Global, job: &Job, sheet: &Sheet, tree: &Tree) -> Result<Reply, AllocError>
-    ensures answer { IfOk result (λ reply.
-        reply_of reply ≡ root_answer (job_data job.now) (template sheet.now) tree.now) }
-    ensures status { IfOk result (λ reply.
-        (reply.status ≡ OK) ⊎ (reply.status ≡ RUN_FAULT)) }
-    ensures whole_only { IfOk result IsWholeOrEmpty }
-{
-    let limits = Limits {
-        ticks: job.budget,
-        events: job.most_events,
-    };
-    let kept = run_body(alloc, &sheet.body, sheet.root_line, tree, limits)?;
-    match kept.ended {
-        Ended::Whole => whole_reply(alloc, &kept),
-        Ended::Fault(spot) => faulted_reply(alloc, &job.sheet, spot, &kept),
-        Ended::Spent(spot) => faulted_reply(alloc, &job.sheet, spot, &kept),
-        Ended::Full(spot) => faulted_reply(alloc, &job.sheet, spot, &kept),
-        Ended::Over { .. } => unreachable!(),
     }
 }

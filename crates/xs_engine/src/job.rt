@@ -16,6 +16,8 @@ pub struct Job {
     pub sheet: TextBuf,
     /// The name of the source; none where the stylesheet is only checked.
     pub source: Option<TextBuf>,
+    /// The names and texts that are given for parameters of the stylesheet; no name stands twice.
+    pub given: Vec<(TextBuf, TextBuf)>,
     /// How many ticks it may take.
     pub budget: u64,
     /// How many events it may put, where there is a limit.
@@ -27,7 +29,7 @@ pub fn read_job(alloc: Global, words: &[String]) -> Result<Job, WordsEnd>
     ensures { Gives job_data (job_of (texts words.now)) result }
 {
     match read_words(alloc, words) {
-        Ok(options) => match built_job(options) {
+        Ok(options) => match built_job(alloc, options) {
             Some(job) => Ok(job),
             None => Err(WordsEnd::Usage),
         },
@@ -36,11 +38,11 @@ pub fn read_job(alloc: Global, words: &[String]) -> Result<Job, WordsEnd>
 }
 
 /// What options ask for; `None` where that is not built.
-fn built_job(options: Options) -> Option<Job>
+fn built_job(alloc: Global, options: Options) -> Option<Job>
     ensures { option_map job_data result ≡ built_job (told options) }
 {
     if is_built(&options) {
-        files_job(options)
+        files_job(alloc, options)
     } else {
         None
     }
@@ -56,7 +58,7 @@ fn is_built(options: &Options) -> bool
 }
 
 /// A stylesheet on a source, or one that is only checked, where that is what options ask for.
-fn files_job(options: Options) -> Option<Job>
+fn files_job(alloc: Global, options: Options) -> Option<Job>
     ensures { option_map job_data result ≡ files_job (told options) (job_told options.job) }
 {
     let Options {
@@ -66,15 +68,21 @@ fn files_job(options: Options) -> Option<Job>
         ..
     } = options;
     match job {
-        Work::Files { sheet, source, .. } => Some(Job {
+        Work::Files {
+            sheet,
+            source,
+            given,
+        } => Some(Job {
             sheet,
             source: Some(source),
+            given,
             budget,
             most_events: max_events,
         }),
         Work::Check { sheet } => Some(Job {
             sheet,
             source: None,
+            given: Vec::new(alloc),
             budget,
             most_events: max_events,
         }),

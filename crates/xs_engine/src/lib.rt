@@ -2,7 +2,9 @@
 #![tactic(auto)]
 
 mod answer;
+mod built;
 mod deliver;
+mod evaluation;
 mod faults;
 mod items;
 mod job;

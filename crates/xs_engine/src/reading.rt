@@ -1,19 +1,13 @@
-//! Reads what a run works on: the stylesheet that its modules are, and the source.
+//! Reads the source of a run.
 
-ghost use Rattle.std.specs.Prelude.{◌≡◌, IfOk, length, option_map};
+ghost use Rattle.std.specs.Prelude.{◌≡◌, IfOk};
 ghost use Rattle.xs_outside.specs.Edge.{failed_after};
-ghost use Rattle.xs_modules.specs.Results.{modules_data};
-ghost use Rattle.xs_modules.specs.Sound.{IsSound};
 ghost use Rattle.xs_engine.specs.Read.{read_as};
 ghost use Rattle.xs_engine.specs.Run.{source_of};
-ghost use Rattle.xs_engine.specs.Sheet.{sheet_in, template_in};
-ghost use Rattle.xs_engine.specs.Reply.{AsksFor, FileGives, template};
+ghost use Rattle.xs_engine.specs.Reply.{AsksFor, FileGives};
 
 use std::alloc::{AllocError, Global};
-use xs_body::read::{read_body, root_line};
-use xs_body::syntax::Body;
 use xs_build::{BuildFault, Built, build_tree};
-use xs_modules::Modules;
 use xs_outside::{FetchEnd, Library};
 use xs_tree::Tree;
 
@@ -27,41 +21,6 @@ pub struct BadDocument {
     pub number: u8,
     /// The line that has it; 0 is the file as a whole.
     pub line: u32,
-}
-
-/// A stylesheet that is built.
-#[derive(Drop)]
-pub struct Sheet {
-    /// The line of its root element.
-    pub root_line: u32,
-    /// What its template does.
-    pub body: Body,
-}
-
-/// The stylesheet that modules are; `None` where it is not built.
-pub fn sheet_in(alloc: Global, modules: &Modules) -> Result<Option<Sheet>, AllocError>
-    requires { IsSound (modules_data modules.now) }
-    ensures { IfOk result (λ sheet.
-        option_map template sheet ≡ sheet_in (modules_data modules.now)) }
-{
-    match modules.list.as_slice() {
-        [module] => template_in(alloc, &module.tree, &module.lines),
-        _ => Ok(None),
-    }
-}
-
-/// The stylesheet that a document is; `None` where it is not built.
-fn template_in(alloc: Global, tree: &Tree, lines: &[u32]) -> Result<Option<Sheet>, AllocError>
-    requires { length lines.now ≡ length tree.now }
-    ensures { IfOk result (λ sheet. option_map template sheet ≡ template_in tree.now lines.now) }
-{
-    match read_body(alloc, tree, lines)? {
-        Some(body) => Ok(Some(Sheet {
-            root_line: root_line(tree, lines),
-            body,
-        })),
-        None => Ok(None),
-    }
 }
 
 /// The source of this name in the library, or why it is refused.

@@ -1,11 +1,12 @@
 //! Replies: a status, and all that is to be written with it.
 
-ghost use Rattle.std.specs.Prelude.{◌≡◌, ℕ, ◌++◌, IfOk, OnOk};
+ghost use Rattle.std.specs.Prelude.{◌≡◌, ◌++◌, IfOk, OnOk};
 ghost use Rattle.std.specs.Fmt.{decimal};
 ghost use Rattle.xs_trace.specs.Kept.{marks_of};
-ghost use Rattle.xs_trace.specs.Mark.{messages_of, tick_count};
-ghost use Rattle.xs_engine.specs.Answer.{fault_line, faulted, faultless, read_fault};
-ghost use Rattle.xs_engine.specs.Answer.{refused_file, usage, whole};
+ghost use Rattle.xs_trace.specs.Mark.{events_of, messages_of};
+ghost use Rattle.xs_run.specs.Tasks.{Task};
+ghost use Rattle.xs_engine.specs.Answer.{fault_line, faultless, name_in, read_fault};
+ghost use Rattle.xs_engine.specs.Answer.{refused_file, stopped_answer, usage, whole_answer};
 ghost use Rattle.xs_engine.specs.Reply.{reply_of};
 
 use crate::faults::{UNREADABLE, fault_name};
@@ -13,10 +14,10 @@ use crate::items::{message_lines, result_text};
 use crate::status::{OK, READ_FAULT, REFUSED, RUN_FAULT, USAGE};
 use itoa::Buffer;
 use std::alloc::{AllocError, Global};
+use xs_sheet::sheet::Sheet;
 use xs_text::escape_into;
-use xs_trace::item::Spot;
+use xs_trace::item::{Item, Spot};
 use xs_trace::text::TextBuf;
-use xs_trace::whole::Kept;
 use xs_words::USAGE as USAGE_LINE;
 
 /// A status, and all that is to be written with it.
@@ -90,41 +91,61 @@ pub fn faultless_reply(alloc: Global) -> Reply
     }
 }
 
-/// An evaluation that ended whole.
-pub fn whole_reply(alloc: Global, kept: &Kept) -> Result<Reply, AllocError>
-    requires { kept.now.ticks ≡ tick_count {H = ℕ} (marks_of kept.now.items.items) }
-    ensures { IfOk result (λ reply. reply_of reply ≡ whole (marks_of kept.now.items.items)) }
+/// An evaluation that ended whole: the messages and ticks of the globals come first.
+pub fn whole_reply(
+    alloc: Global,
+    says: &[TextBuf],
+    items: &[Item],
+    ticks: u64,
+) -> Result<Reply, AllocError>
+    ensures { IfOk result (λ reply. reply_of reply
+        ≡ whole_answer (says.now ++ messages_of (marks_of {H = Task} items.now))
+        (events_of (marks_of {H = Task} items.now)) ticks) }
 {
-    let result = result_text(alloc, &kept.items)?;
-    let lines = message_lines(alloc, &kept.items)?;
     Ok(Reply {
         status: OK,
-        result,
-        lines,
-        ticks: kept.ticks,
+        result: result_text(alloc, items)?,
+        lines: message_lines(alloc, says, items)?,
+        ticks,
     })
 }
 
-/// An evaluation that ended in a fault.
-pub fn faulted_reply(
+/// An evaluation that ended in a fault, in the module of that number.
+pub fn stopped_reply(
     alloc: Global,
-    name: &TextBuf,
+    sheet: &Sheet,
     spot: Spot,
-    kept: &Kept,
+    says: &[TextBuf],
+    items: &[Item],
+    ticks: u64,
 ) -> Result<Reply, AllocError>
-    requires { kept.now.ticks ≡ tick_count {H = ℕ} (marks_of kept.now.items.items) }
-    ensures { IfOk result (λ reply. reply_of reply
-        ≡ faulted spot.fault name.now spot.line (marks_of kept.now.items.items)) }
+    ensures { IfOk result (λ reply. reply_of reply ≡ stopped_answer sheet.now.modules.items spot
+        (says.now ++ messages_of (marks_of {H = Task} items.now)) ticks) }
 {
     let result = Vec::new(alloc);
-    let messages = message_lines(alloc, &kept.items)?;
-    let lines = append_fault(messages, spot.fault, name.as_str(), spot.line)?;
+    let messages = message_lines(alloc, says, items)?;
+    let lines = append_fault(
+        messages,
+        spot.fault,
+        module_name(sheet, spot.module),
+        spot.line,
+    )?;
     Ok(Reply {
         status: RUN_FAULT,
         result,
         lines,
-        ticks: kept.ticks,
+        ticks,
     })
+}
+
+/// The name of a module of a stylesheet, by its number.
+fn module_name(sheet: &Sheet, number: u32) -> &str
+    ensures { result.now ≡ name_in sheet.now.modules.items number }
+{
+    match sheet.modules.get(number as usize) {
+        Some(name) => name.as_str(),
+        None => "",
+    }
 }
 
 /// Appends the line of a fault to other lines.

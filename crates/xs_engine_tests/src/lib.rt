@@ -16,6 +16,8 @@ mod runs;
 #[cfg(test)]
 mod static_tests;
 #[cfg(test)]
+mod template_tests;
+#[cfg(test)]
 mod tick_tests;
 #[cfg(test)]
 mod word_tests;

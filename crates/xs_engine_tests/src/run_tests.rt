@@ -160,19 +160,17 @@ fn escapes_the_name_of_a_file(rt: HostRuntime) -> Result<(), Fail> {
 }
 
 #[test]
-fn refuses_another_match(rt: HostRuntime) -> Result<(), Fail> {
+fn takes_built_in_rules_where_none_matches(rt: HostRuntime) -> Result<(), Fail> {
     let alloc = rt.alloc();
     let seen = run(
         &rt,
         alloc,
         two_files(alloc, OTHER_MATCH, INVOICE, Vec::new(alloc))?,
     )?;
-    assert_eq!(rt; seen.report.status, 3);
-    assert_eq!(rt; seen.out.len(), 0);
-    assert_eq!(rt;
-        seen.err.as_slice(),
-        b"fault 49 NotBuilt s.pyx 0\n".as_slice()
-    );
+    assert_eq!(rt; seen.report.status, 0);
+    assert_eq!(rt; seen.report.ticks, 6);
+    assert_eq!(rt; seen.out.as_slice(), b"3509".as_slice());
+    assert_eq!(rt; seen.err.len(), 0);
     Ok(())
 }
 

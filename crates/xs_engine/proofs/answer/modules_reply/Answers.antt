@@ -1,22 +1,43 @@
 use Rattle.std.proofs.Common.{refl}
 use Rattle.xs_modules.specs.Results.{modules_data}
 use Rattle.xs_engine.specs.Reply.{job_data}
-use Rattle.xs_engine.proofs.DueLemmas.{static_owed}
-use Rattle.xs_engine.proofs.FetchLemmas.{source_left}
+use Rattle.xs_engine.proofs.DueLemmas.{checked_owed, run_owed, static_owed}
+use Rattle.xs_engine.proofs.FetchLemmas.{sheet_asked_for, source_left}
 use Rattle.xs_engine.proofs.answer.modules_reply.Goals as goal
 
-pub returns-in_err-fault-clause-asks : goal.returns-in_err-fault-clause-asks
-returns-in_err-fault-clause-asks g c = source_left _ _ _ _ _ _ refl refl
+-- A run of a compiled stylesheet.
+pub returns-in-Ok-clause-asks : goal.returns-in-Ok-clause-asks
+returns-in-Ok-clause-asks g c =
+    sheet_asked_for (job_data c.args.job.now) (modules_data c.args.modules.now) c.in-Ok.sheet _
+    (g.L.Library.asked c.args.library.now) (g.L.Library.asked c.run_reply.new.library)
+    (g.L.Library.failed c.args.library.now) (g.L.Library.failed c.run_reply.new.library) c.in-Some.is
+    c.in-Ok.ensures.accepted c.in-Ok.ensures.stands c.run_reply.ensures.asks
 
-pub returns-in-Some-clause-asks : goal.returns-in-Some-clause-asks
-returns-in-Some-clause-asks g c = source_left _ _ _ _ _ _ refl refl
+pub returns-in-Ok-clause-due : goal.returns-in-Ok-clause-due
+returns-in-Ok-clause-due g c =
+    run_owed (g.L.Library.files c.args.library.now) (job_data c.args.job.now) (modules_data c.args.modules.now)
+    (g.L.Library.failed c.args.library.now) (g.L.Library.failed c.run_reply.new.library) c.run_reply.result c.in-Ok.sheet _
+    c.in-Some.is c.in-Ok.ensures.accepted c.in-Ok.ensures.stands c.run_reply.ensures.due
 
-pub returns-in-None-source-clause-asks : goal.returns-in-None-source-clause-asks
-returns-in-None-source-clause-asks g c = source_left _ _ _ _ _ _ refl refl
+-- A static fault, or want of memory.
+pub returns-in-Err-Refused-clause-asks : goal.returns-in-Err-Refused-clause-asks
+returns-in-Err-Refused-clause-asks g c = source_left _ _ _ _ _ refl refl
 
-pub returns-in-Some-clause-due : goal.returns-in-Some-clause-due
-returns-in-Some-clause-due g c =
-    let first = rw c.in-Some.is at c.in_ok-fault.ensures.first in
+pub returns-in-Err-Refused-clause-due : goal.returns-in-Err-Refused-clause-due
+returns-in-Err-Refused-clause-due g c =
+    let first = rw c.in-Err-Refused.field-0-is at c.in-Err-Refused.ensures in
     static_owed (g.L.Library.files c.args.library.now) (job_data c.args.job.now) (modules_data c.args.modules.now)
-    (g.L.Library.failed c.args.library.now) (g.L.Library.failed c.args.library.now) c.static_reply.result c.in-Some.fault refl first
-    c.static_reply.ensures.answer
+    (g.L.Library.failed c.args.library.now) (g.L.Library.failed c.args.library.now) c.static_reply.result c.in-Err-Refused.fault refl first
+    (rw c.in-Err-Refused.fault-is at c.static_reply.ensures.answer)
+
+pub returns-in-Err-NoMemory-clause-asks : goal.returns-in-Err-NoMemory-clause-asks
+returns-in-Err-NoMemory-clause-asks g c = source_left _ _ _ _ _ refl refl
+
+-- The stylesheet is only checked.
+pub returns-in-None-clause-asks : goal.returns-in-None-clause-asks
+returns-in-None-clause-asks g c = source_left _ _ _ _ _ refl refl
+
+pub returns-in-None-clause-due : goal.returns-in-None-clause-due
+returns-in-None-clause-due g c =
+    checked_owed (g.L.Library.files c.args.library.now) (job_data c.args.job.now) (modules_data c.args.modules.now)
+    (g.L.Library.failed c.args.library.now) (g.L.Library.failed c.args.library.now) c.check_reply.result c.in-None.is refl c.check_reply.ensures.answer

@@ -1,7 +1,6 @@
 use Rattle.std.proofs.Common.{◌≡◌, take}
-use Rattle.std.specs.List.{flat_map}
-use Rattle.xs_engine.specs.Items.{item_line}
+use Rattle.xs_engine.specs.Answer.{message_lines}
 use Rattle.xs_engine.proofs.items.message_lines.Given as goal
 
-abbrev pub invariant-loop-item : goal.invariant-loop-item
-invariant-loop-item l = l.lines.items ≡ flat_map item_line (take l.item-index l.items)
+abbrev pub invariant-loop-text : goal.invariant-loop-text
+invariant-loop-text l = l.lines.items ≡ message_lines (take l.text-index l.says)

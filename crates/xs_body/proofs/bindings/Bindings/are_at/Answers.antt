@@ -1,9 +1,0 @@
-use Rattle.std.proofs.Common.{ap, sym, ◌∙◌, ◌++◌}
-use Rattle.xs_tree.proofs.NamespaceLemmas.{namespace-within}
-use Rattle.xs_body.proofs.bindings.Bindings.are_at.Goals as goal
-
--- the node that comes next is in the tree
-pub behind_pair-requires : goal.behind_pair-requires
-behind_pair-requires c =
-    namespace-within c.args.tree.now c.args.n c.loop-space.yielded _ c.in-Some.space
-    (sym c.loop-space.invariant.2 ∙ ap (λ xs. c.loop-space.yielded ++ xs) c.in-Some.ensures.steps)

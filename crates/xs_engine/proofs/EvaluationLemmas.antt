@@ -1,0 +1,130 @@
+-- What an evaluation owes, by what was settled and kept.
+use Rattle.std.proofs.Common.{◌≡◌, ◌≤◌, ◌∙◌, ◌+◌, ◌-◌, ◌++◌, ℕ, arith, [], List, Result, Ok, Err, Option, Some, None, IfOk, ap, sym, subst, append-nil}
+use Rattle.xs_run.specs.Globals.{SettlesAll, with_globals}
+use Rattle.xs_run.specs.Results.{settled_by, settled_of, told_in}
+use Rattle.xs_run.specs.Tasks.{Task}
+use Rattle.xs_run.specs.Trace.{root_task, task_trace}
+use Rattle.xs_run.specs.World.{World, ground}
+use Rattle.xs_run.specs.declared.settling.Settled.{Settled}
+use Rattle.xs_engine.proofs.EndLemmas.{reported}
+use Rattle.xs_engine.specs.Answer.{Answer, stopped_answer, whole_answer}
+use Rattle.xs_engine.specs.Evaluation.{IsCutAnswer, IsEndAnswer, IsEvaluated, IsEvaluatedFrom, IsEvaluatedOn, in_globals, in_root, root_cut}
+use Rattle.xs_engine.specs.Job.{Job}
+use Rattle.xs_engine.specs.Reply.{reply_of}
+use Rattle.xs_engine.specs.declared.reply.Reply.{Reply}
+use Rattle.xs_rules.specs.WhiteSpace.{stripped}
+use Rattle.xs_rules.specs.declared.index.RuleIndex.{RuleIndex}
+use Rattle.xs_sheet.specs.declared.declarations.StripRule.{StripRule}
+use Rattle.xs_sheet.specs.declared.sheet.Sheet.{Sheet}
+use Rattle.xs_trace.proofs.CutLemmas.{cut-longest}
+use Rattle.xs_trace.specs.Cut.{cut, nowhere}
+use Rattle.xs_trace.specs.Kept.{Keeps, ended_by, marks_of}
+use Rattle.xs_trace.specs.Mark.{Trace, events_of, messages_of, tick_count}
+use Rattle.xs_trace.specs.declared.item.Ended.{Ended}
+use Rattle.xs_trace.specs.declared.item.Ended.TheVariants as ended
+use Rattle.xs_trace.specs.declared.item.Spot.{Spot}
+use Rattle.xs_trace.specs.declared.whole.Kept.{Kept}
+use Rattle.xs_tree.specs.Record.{Record}
+use Rattle.xs_tree.specs.Stripping.{without}
+
+-- a run that is kept takes no more ticks than its limit
+pub kept_within : {H : Type 0} (x : Trace H) (b : ℕ) (m : Option ℕ) (k : Kept) → Keeps (cut x b m) k → k.ticks ≤ b
+kept_within x b m k keeps = let l = cut-longest x nowhere b m in omega (arith, keeps.ticks, l.within)
+
+-- a source that is stripped, by the rules of the stylesheet
+pub from_stripped : {E : Type 0} (r : Result Reply E) (job : Job) (sheet : Sheet) (rules : List StripRule) (source tree : List Record)
+    → rules ≡ sheet.strips.items → tree ≡ without (stripped rules source) source → IfOk r (λ reply. IsEvaluatedOn job sheet tree (reply_of reply))
+    → IfOk r (λ reply. IsEvaluatedFrom job sheet source (reply_of reply))
+from_stripped r job sheet rules source tree same is over =
+    subst (λ t. IfOk r (λ reply. IsEvaluatedOn job sheet t (reply_of reply))) (is ∙ ap (λ rs. without (stripped rs source) source) same) over
+
+-- over some index
+pub over_index : {E : Type 0} (r : Result Reply E) (job : Job) (sheet : Sheet) (index : RuleIndex) (tree : List Record)
+    → IfOk r (λ reply. IsEvaluated job (ground sheet index tree []) (reply_of reply)) → IfOk r (λ reply. IsEvaluatedOn job sheet tree (reply_of reply))
+over_index (Err e) job sheet index tree is = tt
+over_index (Ok reply) job sheet index tree is = (index, is)
+
+-- what the runner kept of the root's task is the cut of the root's trace
+pub root_kept : (job : Job) (w : World) (z : Settled) (runner : World) (task : Task) (k : Kept) → runner ≡ with_globals w z.values.items
+    → task ≡ root_task runner → Keeps (cut (task_trace runner task) (job.budget - z.ticks) job.most_events) k → Keeps (root_cut job w (told_in z)) k
+root_kept job w z runner task k same is keeps =
+    subst (λ r. Keeps (cut (task_trace r (root_task r)) (job.budget - z.ticks) job.most_events) k) same
+    (subst (λ t. Keeps (cut (task_trace runner t) (job.budget - z.ticks) job.most_events) k) is keeps)
+
+module _ (job : Job) (w : World) (z : Settled) (settles : SettlesAll w job.given job.budget (settled_of z)) where
+  -- the run ended in a global
+  pub ended_in_globals : {E : Type 0} (r : Result Reply E) (s : Spot) → z.end ≡ Some s
+      → IfOk r (λ reply. reply_of reply ≡ stopped_answer w.sheet.modules.items s (z.says.items ++ []) z.ticks)
+      → IfOk r (λ reply. IsEvaluated job w (reply_of reply))
+  ended_in_globals (Err e) s is same = tt
+  ended_in_globals (Ok reply) s is same =
+      in_globals {t = told_in z} {s = s} (subst (λ e. SettlesAll w job.given job.budget (settled_by e (told_in z))) is settles)
+      (same ∙ ap (λ says. stopped_answer w.sheet.modules.items s says z.ticks) (append-nil z.says.items))
+
+  module _ (k : Kept) (none : z.end ≡ None) (keeps : Keeps (root_cut job w (told_in z)) k) where
+    from_root : (a : Answer) → IsCutAnswer w.sheet.modules.items (told_in z) (root_cut job w (told_in z)) a → IsEvaluated job w a
+    from_root a is = in_root {t = told_in z} (subst (λ e. SettlesAll w job.given job.budget (settled_by e (told_in z))) none settles) is
+
+    -- the cut of the root's trace ended as the run that was kept
+    pub ends_as : (e : Ended) → k.ended ≡ e → ended_by (root_cut job w (told_in z)).end ≡ Some e
+    ends_as e is = keeps.ended ∙ ap (λ x. Some x) is
+
+    -- the root came to its end
+    pub whole_in_root : {E : Type 0} (r : Result Reply E) → k.ended ≡ ended.Whole
+        → IfOk r (λ reply. reply_of reply ≡ whole_answer (z.says.items ++ messages_of {H = Task} (marks_of k.items.items))
+        (events_of {H = Task} (marks_of k.items.items)) (z.ticks + k.ticks))
+        → IfOk r (λ reply. IsEvaluated job w (reply_of reply))
+    whole_in_root (Err e) is same = tt
+    whole_in_root (Ok reply) is same =
+        let c = root_cut job w (told_in z) in
+        let all : reply_of reply ≡ whole_answer (z.says.items ++ messages_of c.passed) (events_of c.passed) (z.ticks + tick_count c.passed) =
+        same ∙ ap (λ x. whole_answer (z.says.items ++ messages_of x) (events_of x) (z.ticks + k.ticks)) keeps.marks
+        ∙ ap (λ n. whole_answer (z.says.items ++ messages_of c.passed) (events_of c.passed) (z.ticks + n)) keeps.ticks in
+        from_root (reply_of reply) (subst (IsCutAnswer w.sheet.modules.items (told_in z) c) (sym all)
+        (reported w.sheet.modules.items c.passed (z.says.items ++ messages_of c.passed) (z.ticks + tick_count c.passed) c.end ended.Whole
+        (ends_as ended.Whole is)))
+
+    -- or it ended in a fault, or at a limit
+    pub stopped_in_root : {E : Type 0} (r : Result Reply E) (s : Spot)
+        → IsEndAnswer w.sheet.modules.items (root_cut job w (told_in z)).end (root_cut job w (told_in z)).passed
+        (z.says.items ++ messages_of (root_cut job w (told_in z)).passed) (z.ticks + tick_count (root_cut job w (told_in z)).passed)
+        (stopped_answer w.sheet.modules.items s (z.says.items ++ messages_of (root_cut job w (told_in z)).passed)
+        (z.ticks + tick_count (root_cut job w (told_in z)).passed))
+        → IfOk r (λ reply. reply_of reply ≡ stopped_answer w.sheet.modules.items s (z.says.items ++ messages_of {H = Task} (marks_of k.items.items))
+        (z.ticks + k.ticks))
+        → IfOk r (λ reply. IsEvaluated job w (reply_of reply))
+    stopped_in_root (Err e) s is same = tt
+    stopped_in_root (Ok reply) s is same =
+        let c = root_cut job w (told_in z) in
+        let names = w.sheet.modules.items in
+        let all : reply_of reply ≡ stopped_answer names s (z.says.items ++ messages_of c.passed) (z.ticks + tick_count c.passed) =
+        same ∙ ap (λ x. stopped_answer names s (z.says.items ++ messages_of x) (z.ticks + k.ticks)) keeps.marks
+        ∙ ap (λ n. stopped_answer names s (z.says.items ++ messages_of c.passed) (z.ticks + n)) keeps.ticks in
+        from_root (reply_of reply) (subst (IsCutAnswer names (told_in z) c) (sym all) is)
+
+    pub fault_in_root : {E : Type 0} (r : Result Reply E) (s : Spot) → k.ended ≡ ended.Fault s
+        → IfOk r (λ reply. reply_of reply ≡ stopped_answer w.sheet.modules.items s (z.says.items ++ messages_of {H = Task} (marks_of k.items.items))
+        (z.ticks + k.ticks))
+        → IfOk r (λ reply. IsEvaluated job w (reply_of reply))
+    fault_in_root r s is same =
+        let c = root_cut job w (told_in z) in
+        stopped_in_root r s (reported w.sheet.modules.items c.passed (z.says.items ++ messages_of c.passed) (z.ticks + tick_count c.passed) c.end
+        (ended.Fault s) (ends_as (ended.Fault s) is)) same
+
+    pub spent_in_root : {E : Type 0} (r : Result Reply E) (s : Spot) → k.ended ≡ ended.Spent s
+        → IfOk r (λ reply. reply_of reply ≡ stopped_answer w.sheet.modules.items s (z.says.items ++ messages_of {H = Task} (marks_of k.items.items))
+        (z.ticks + k.ticks))
+        → IfOk r (λ reply. IsEvaluated job w (reply_of reply))
+    spent_in_root r s is same =
+        let c = root_cut job w (told_in z) in
+        stopped_in_root r s (reported w.sheet.modules.items c.passed (z.says.items ++ messages_of c.passed) (z.ticks + tick_count c.passed) c.end
+        (ended.Spent s) (ends_as (ended.Spent s) is)) same
+
+    pub full_in_root : {E : Type 0} (r : Result Reply E) (s : Spot) → k.ended ≡ ended.Full s
+        → IfOk r (λ reply. reply_of reply ≡ stopped_answer w.sheet.modules.items s (z.says.items ++ messages_of {H = Task} (marks_of k.items.items))
+        (z.ticks + k.ticks))
+        → IfOk r (λ reply. IsEvaluated job w (reply_of reply))
+    full_in_root r s is same =
+        let c = root_cut job w (told_in z) in
+        stopped_in_root r s (reported w.sheet.modules.items c.passed (z.says.items ++ messages_of c.passed) (z.ticks + tick_count c.passed) c.end
+        (ended.Full s) (ends_as (ended.Full s) is)) same

@@ -1,0 +1,99 @@
+//! What a stylesheet makes of a source, cut at the limits of a job.
+
+ghost use Rattle.std.specs.List.{All};
+ghost use Rattle.std.specs.Prelude.{◌≡◌, ◌≤◌, ◌⊎◌, [], IfOk, IsSome, None};
+ghost use Rattle.xs_run.specs.Globals.{SettlesAll};
+ghost use Rattle.xs_run.specs.Results.{settled_of};
+ghost use Rattle.xs_run.specs.World.{ground};
+ghost use Rattle.xs_eval.specs.Conditions.{IsInIf};
+ghost use Rattle.xs_engine.specs.declared.status.TheConstants.{OK, RUN_FAULT};
+ghost use Rattle.xs_engine.specs.Evaluation.{IsEvaluated, IsEvaluatedFrom, IsEvaluatedOn};
+ghost use Rattle.xs_engine.specs.Reply.{IsWholeOrEmpty, job_data, reply_of};
+ghost use Rattle.xs_rules.specs.Indexed.{IsIndex};
+ghost use Rattle.xs_sheet.specs.Sound.{IsSound};
+
+use crate::job::Job;
+use crate::reply::{Reply, stopped_reply, whole_reply};
+use std::alloc::{AllocError, Global};
+use xs_rules::index::RuleIndex;
+use xs_rules::white_space::strip_space;
+use xs_run::runner::SheetRunner;
+use xs_run::settling::{Settled, settle};
+use xs_sheet::sheet::Sheet;
+use xs_trace::item::{Ended, Limits};
+use xs_tree::Tree;
+use xs_value::keys::NoKeys;
+
+/// What a stylesheet makes of a source. White space is stripped from the source first; then the
+/// globals are settled, and then the root of the source takes its template.
+pub fn evaluate(alloc: Global, job: &Job, sheet: &Sheet, source: Tree) -> Result<Reply, AllocError>
+    requires sound { IsSound sheet.now }
+    ensures answer { IfOk result (λ reply.
+        IsEvaluatedFrom (job_data job.now) sheet.now source (reply_of reply)) }
+    ensures status { IfOk result (λ reply.
+        (reply.status ≡ OK) ⊎ (reply.status ≡ RUN_FAULT)) }
+    ensures whole_only { IfOk result IsWholeOrEmpty }
+{
+    let mut tree = source;
+    strip_space(alloc, &mut tree, &sheet.strips)?;
+    evaluate_over(alloc, job, sheet, &tree)
+}
+
+/// The same of a source that is stripped.
+fn evaluate_over(alloc: Global, job: &Job, sheet: &Sheet, tree: &Tree) -> Result<Reply, AllocError>
+    requires sound { IsSound sheet.now }
+    ensures answer { IfOk result (λ reply.
+        IsEvaluatedOn (job_data job.now) sheet.now tree.now (reply_of reply)) }
+    ensures status { IfOk result (λ reply.
+        (reply.status ≡ OK) ⊎ (reply.status ≡ RUN_FAULT)) }
+    ensures whole_only { IfOk result IsWholeOrEmpty }
+{
+    let index = RuleIndex::new(alloc, sheet)?;
+    let settled = settle(alloc, sheet, &index, tree, &NoKeys, &job.given, job.budget)?;
+    match settled.end {
+        Some(spot) => stopped_reply(alloc, sheet, spot, &settled.says, &[], settled.ticks),
+        None => root_reply(alloc, job, sheet, &index, tree, &settled),
+    }
+}
+
+/// What the root of a source takes, once the globals are settled, cut at what is left of the limits
+/// (XSLT 1.0, 5.1).
+fn root_reply(
+    alloc: Global,
+    job: &Job,
+    sheet: &Sheet,
+    index: &RuleIndex<'_>,
+    tree: &Tree,
+    settled: &Settled,
+) -> Result<Reply, AllocError>
+    requires sound { IsSound sheet.now }
+    requires index { IsIndex index.now }
+    requires templates { index.now.templates.now ≡ sheet.now.templates.items }
+    requires settled { SettlesAll (ground sheet.now index.now tree.now [])
+        (job_data job.now).given job.now.budget (settled_of settled.now) }
+    requires none { settled.now.end ≡ None }
+    requires inside { All (IsInIf tree.now) settled.now.values.items }
+    requires values { All IsSome settled.now.values.items }
+    requires within { settled.now.ticks ≤ job.now.budget }
+    ensures answer { IfOk result (λ reply. IsEvaluated (job_data job.now)
+        (ground sheet.now index.now tree.now []) (reply_of reply)) }
+    ensures status { IfOk result (λ reply.
+        (reply.status ≡ OK) ⊎ (reply.status ≡ RUN_FAULT)) }
+    ensures whole_only { IfOk result IsWholeOrEmpty }
+{
+    let runner = SheetRunner::new(sheet, index, tree, &NoKeys, &settled.values);
+    let task = runner.root_task(alloc)?;
+    let limits = Limits {
+        ticks: job.budget - settled.ticks,
+        events: job.most_events,
+    };
+    let kept = runner.run_whole(alloc, &task, limits)?;
+    let ticks = settled.ticks + kept.ticks;
+    match kept.ended {
+        Ended::Whole => whole_reply(alloc, &settled.says, &kept.items, ticks),
+        Ended::Fault(spot) => stopped_reply(alloc, sheet, spot, &settled.says, &kept.items, ticks),
+        Ended::Spent(spot) => stopped_reply(alloc, sheet, spot, &settled.says, &kept.items, ticks),
+        Ended::Full(spot) => stopped_reply(alloc, sheet, spot, &settled.says, &kept.items, ticks),
+        Ended::Over { .. } => unreachable!(),
+    }
+}
