@@ -5,10 +5,10 @@ use Rattle.xs_sheet.specs.declared.declarations.Global.{Global}
 use Rattle.xs_trace.specs.Cut.{Cut, End, Whole, Fault, Needs, Spent, Full, cut, nowhere}
 use Rattle.xs_trace.specs.Keeping.{IsCutAt}
 use Rattle.xs_trace.specs.Kept.{item_marks, marks_of, spot}
-use Rattle.xs_trace.specs.Mark.{Trace, messages_of, tick_count, ticks}
+use Rattle.xs_trace.specs.Mark.{Trace, messages_of, tick_count, ticks, untimed}
 use Rattle.xs_trace.specs.Play.{Step, Goes, Ends, Told, goes, and_then, IsStep, IsOver, Before, play}
-use Rattle.xs_trace.specs.PlayLaws.{begin}
-use Rattle.xs_trace.specs.State.{State}
+use Rattle.xs_trace.specs.PlayLaws.{begun}
+use Rattle.xs_trace.specs.State.{State, Log, Untimed}
 use Rattle.xs_trace.specs.declared.event.Event.{Event}
 use Rattle.xs_trace.specs.declared.item.Item.{Item}
 use Rattle.xs_trace.specs.declared.item.Item.TheVariants as item
@@ -17,7 +17,7 @@ use Rattle.xs_trace.specs.declared.item.Spot.{Spot}
 use Rattle.xs_trace.specs.declared.recorder.Halt.{Halt}
 use Rattle.xs_trace.specs.declared.recorder.Halt.TheVariants as halt
 use Rattle.xs_trace.proofs.CutLemmas.{cut-longest, parts-join}
-use Rattle.xs_trace.proofs.KeptLemmas.{some_same, told-is-cut}
+use Rattle.xs_trace.proofs.KeptLemmas.{some_same, told-is-cut, untimed_same, untimed-messages}
 use Rattle.xs_trace.proofs.PlayLemmas.{then-goes, then-then}
 use Rattle.xs_value.specs.declared.value.Value.{Value}
 use Rattle.xs_run.specs.Globals.{attempt_trace, attempt_value}
@@ -27,6 +27,10 @@ use Rattle.xs_run.specs.World.{World}
 use Rattle.xs_run.specs.declared.attempts.Attempt.{Attempt}
 use Rattle.xs_run.specs.declared.attempts.Attempt.TheVariants as attempt
 use Rattle.xs_run.specs.steps.Attempts.{attempt_steps, StopsAt, IsAttemptOf}
+
+-- a log without ticks, of nothing yet
+abbrev no_marks : Log Task
+no_marks = Untimed []
 
 -- a step that gives a value behind what is told
 value_or : Value → Step Task Value → Value
@@ -43,15 +47,15 @@ behind g v h e = sym (then-goes g) ∙ sym (then-then g (λ u n. Goes v n) (λ x
 
 -- what passed, of what was kept
 passes-so : (x : Trace Task) (b : ℕ) (e : End) (m : State Task) (marks : Trace Task) (left ticks n : ℕ) (says said : List (List ℕ)) →
-    IsCutAt e b (cut x b None) m → m.told ≡ Some marks → Some left ≡ m.left → says ≡ messages_of marks → ticks ≡ b - left → said ≡ says → n ≡ ticks →
+    IsCutAt no_marks e b (cut x b None) m → m.told ≡ Untimed marks → Some left ≡ m.left → says ≡ messages_of marks → ticks ≡ b - left → said ≡ says → n ≡ ticks →
     Passed (cut x b None) said n
 passes-so x b e m marks left ticks n says said h t l s k q o =
     let c : Cut Task = cut x b None in
-    let same : marks ≡ c.passed = some_same (sym t ∙ h.told) in
+    let same : marks ≡ untimed c.passed = untimed_same (sym t ∙ h.told) in
     let rest : left ≡ b - tick_count c.passed = some_same (l ∙ h.left) in
     let within : tick_count c.passed ≤ b = (cut-longest x nowhere b None).within in
     let whole : b - (b - tick_count c.passed) ≡ tick_count c.passed = omega (arith, within) in
-    record { said = q ∙ s ∙ ap messages_of same; taken = o ∙ k ∙ ap (λ i. b - i) rest ∙ whole }
+    record { said = q ∙ s ∙ ap messages_of same ∙ untimed-messages c.passed; taken = o ∙ k ∙ ap (λ i. b - i) rest ∙ whole }
 
 module _ (w : World) (g : Option Global) (b : ℕ) where
   abbrev X : Trace Task
@@ -61,35 +65,35 @@ module _ (w : World) (g : Option Global) (b : ℕ) where
   C = cut X b None
 
   abbrev Tells : Result Value Halt → State Task → Type 0
-  Tells told m = IsStep (attempt_steps w g (begin b None)) told m
+  Tells told m = IsStep (attempt_steps w g (begun no_marks b None)) told m
 
-  done-cut : (v : Value) (m : State Task) → Tells (Ok v) m → IsCutAt Whole b C m
-  done-cut v m q = told-is-cut Task X b None (Ok tt) m (behind (play X (begin b None)) (attempt_value w g) (Goes v m) q)
+  done-cut : (v : Value) (m : State Task) → Tells (Ok v) m → IsCutAt no_marks Whole b C m
+  done-cut v m q = told-is-cut Task no_marks X b None (Ok tt) m (behind (play X (begun no_marks b None)) (attempt_value w g) (Goes v m) q)
 
-  fault-cut : (n : ℕ) (p : Site) (m : State Task) → Tells (Err (halt.Fault n p)) m → IsCutAt (Fault n p) b C m
-  fault-cut n p m q = told-is-cut Task X b None (Err (halt.Fault n p)) m
-      (behind (play X (begin b None)) (attempt_value w g) (Ends (Fault n p) m.told m.left m.shared) q)
+  fault-cut : (n : ℕ) (p : Site) (m : State Task) → Tells (Err (halt.Fault n p)) m → IsCutAt no_marks (Fault n p) b C m
+  fault-cut n p m q = told-is-cut Task no_marks X b None (Err (halt.Fault n p)) m
+      (behind (play X (begun no_marks b None)) (attempt_value w g) (Ends (Fault n p) m.told m.left m.shared) q)
 
-  needs-cut : (n : ℕ) (p : Site) (m : State Task) → Tells (Err (halt.Needs n p)) m → IsCutAt (Needs n p) b C m
-  needs-cut n p m q = told-is-cut Task X b None (Err (halt.Needs n p)) m
-      (behind (play X (begin b None)) (attempt_value w g) (Ends (Needs n p) m.told m.left m.shared) q)
+  needs-cut : (n : ℕ) (p : Site) (m : State Task) → Tells (Err (halt.Needs n p)) m → IsCutAt no_marks (Needs n p) b C m
+  needs-cut n p m q = told-is-cut Task no_marks X b None (Err (halt.Needs n p)) m
+      (behind (play X (begun no_marks b None)) (attempt_value w g) (Ends (Needs n p) m.told m.left m.shared) q)
 
-  spent-cut : (p : Site) (m : State Task) → Tells (Err (halt.Spent p)) m → IsCutAt (Spent p) b C m
-  spent-cut p m q = told-is-cut Task X b None (Err (halt.Spent p)) m
-      (behind (play X (begin b None)) (attempt_value w g) (Ends (Spent p) m.told m.left m.shared) q)
+  spent-cut : (p : Site) (m : State Task) → Tells (Err (halt.Spent p)) m → IsCutAt no_marks (Spent p) b C m
+  spent-cut p m q = told-is-cut Task no_marks X b None (Err (halt.Spent p)) m
+      (behind (play X (begun no_marks b None)) (attempt_value w g) (Ends (Spent p) m.told m.left m.shared) q)
 
   -- by what the last call gave
-  module _ (m : State Task) (marks : Trace Task) (left ticks : ℕ) (says : List (List ℕ)) (t : m.told ≡ Some marks) (l : Some left ≡ m.left)
+  module _ (m : State Task) (marks : Trace Task) (left ticks : ℕ) (says : List (List ℕ)) (t : m.told ≡ Untimed marks) (l : Some left ≡ m.left)
       (s : says ≡ messages_of marks) (k : ticks ≡ b - left) where
     stopped : (told : Result Value Halt) (q : Spot) (said : List (List ℕ)) (n : ℕ) → Tells told m → StopsAt told q → said ≡ says → n ≡ ticks →
         EndsAt C.end q × Passed C said n
     stopped (Ok v) q said n i h u o = absurd h
     stopped (Err (halt.Fault f p)) q said n i h u o =
-        let c : IsCutAt (Fault f p) b C m = fault-cut f p m i in
+        let c : IsCutAt no_marks (Fault f p) b C m = fault-cut f p m i in
         (subst (λ e. EndsAt e q) (sym c.end) h, passes-so X b (Fault f p) m marks left ticks n says said c t l s k u o)
     stopped (Err (halt.Needs f p)) q said n i h u o = absurd h
     stopped (Err (halt.Spent p)) q said n i h u o =
-        let c : IsCutAt (Spent p) b C m = spent-cut p m i in
+        let c : IsCutAt no_marks (Spent p) b C m = spent-cut p m i in
         (subst (λ e. EndsAt e q) (sym c.end) h, passes-so X b (Spent p) m marks left ticks n says said c t l s k u o)
     stopped (Err (halt.Full p)) q said n i h u o = absurd h
     stopped (Err (halt.Over f)) q said n i h u o = absurd h
@@ -98,16 +102,16 @@ module _ (w : World) (g : Option Global) (b : ℕ) where
     pub attempt-is : (told : Result Value Halt) (a : Attempt) → Tells told m → IsAttemptOf told says ticks a → IsAttempt C (attempt_value w g) a
     attempt-is told (attempt.Done v said n) i h =
         let q : Tells (Ok v) m = subst (λ r. Tells r m) h.0 i in
-        let c : IsCutAt Whole b C m = done-cut v m q in
-        (c.end, (given-value (play X (begin b None)) (attempt_value w g) v m q, passes-so X b Whole m marks left ticks n says said.items c t l s k h.1.0 h.1.1))
+        let c : IsCutAt no_marks Whole b C m = done-cut v m q in
+        (c.end, (given-value (play X (begun no_marks b None)) (attempt_value w g) v m q, passes-so X b Whole m marks left ticks n says said.items c t l s k h.1.0 h.1.1))
     attempt-is told (attempt.Stopped said n q) i h = stopped told q said.items n i h.0 h.1.0 h.1.1
     attempt-is told (attempt.Needs f p said n) i h =
         let q : Tells (Err (halt.Needs f p)) m = subst (λ r. Tells r m) h.0 i in
-        let c : IsCutAt (Needs f p) b C m = needs-cut f p m q in
+        let c : IsCutAt no_marks (Needs f p) b C m = needs-cut f p m q in
         (c.end, passes-so X b (Needs f p) m marks left ticks n says said.items c t l s k h.1.0 h.1.1)
 
 pub attempt-comes : {E : Type 0} (w : World) (g : Option Global) (b : ℕ) (s0 m : State Task) (marks : Trace Task) (left ticks : ℕ) (says : List (List ℕ))
-    (told : Result Value Halt) (r : Result Attempt E) → s0 ≡ begin b None → m.told ≡ Some marks → Some left ≡ m.left → says ≡ messages_of marks → ticks ≡ b -
+    (told : Result Value Halt) (r : Result Attempt E) → s0 ≡ begun no_marks b None → m.told ≡ Untimed marks → Some left ≡ m.left → says ≡ messages_of marks → ticks ≡ b -
     left →
     IsStep (attempt_steps w g s0) told m → IfOk r (λ a. IsAttemptOf told says ticks a) →
     IfOk r (λ a. IsAttempt (cut (attempt_trace w g) b None) (attempt_value w g) a)

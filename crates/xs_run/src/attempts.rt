@@ -28,10 +28,10 @@ use crate::world::World;
 use std::alloc::{AllocError, Global};
 use xs_sheet::body::{Binding, Body, Content};
 use xs_sheet::scoped::ScopedExpr;
+use xs_trace::brief::Brief;
 use xs_trace::item::{Item, Limits, Site, Spot};
 use xs_trace::recorder::{Halt, Recorder};
 use xs_trace::text::TextBuf;
-use xs_trace::whole::Whole;
 use xs_tree::Node;
 use xs_value::keys::KeyFinder;
 use xs_value::value::Value;
@@ -73,10 +73,10 @@ impl<'a, K: KeyFinder> SheetRunner<'a, K> {
             ticks: limit,
             events: None,
         };
-        let mut whole: Whole<Task<'a>> = Whole::new(alloc, limits);
-        let told = tell_global(alloc, &self.world, global, &mut whole);
-        let ticks = limit.saturating_sub(whole.left());
-        let items = whole.finish()?;
+        let mut brief: Brief<Task<'a>> = Brief::new(alloc, limits);
+        let told = tell_global(alloc, &self.world, global, &mut brief);
+        let ticks = limit.saturating_sub(brief.left());
+        let items = brief.finish();
         let says = says_of(alloc, &items)?;
         attempt_of(told, says, ticks)
     }

@@ -4,9 +4,9 @@ use Rattle.std.proofs.Common.{refl, sym, ap, subst, ◌∙◌, append_assoc, app
 use Rattle.std.proofs.lemmas.Bool.{true≢false}
 use Rattle.std.proofs.lemmas.Bool.Decides.{nat_tests}
 use Rattle.xs_trace.specs.Event.{text_of}
-use Rattle.xs_trace.specs.Mark.{Mark, Tick, Put, Say, Stop, Need, Hole, Trace, ticks, tick_count}
+use Rattle.xs_trace.specs.Mark.{Mark, Tick, Put, Say, Stop, Need, Hole, Trace, ticks, tick_count, untimed}
 use Rattle.xs_trace.specs.Cut.{End, Fault as CutFault, Needs as CutNeeds, Spent as CutSpent, Full as CutFull, less}
-use Rattle.xs_trace.specs.State.{State, allows, adds, said, shown, place, passed}
+use Rattle.xs_trace.specs.State.{State, Log, Nothing, All, Untimed, allows, adds, said, shown, place, passed}
 use Rattle.xs_trace.specs.Play.{Step, Goes, Ends, goes, stops, and_then, ticked, ticked_by, number, put_in, put, put_at, said_at, play, told_of}
 use Rattle.xs_trace.specs.Play.{left_of, shared_of, raised, Before, IsStepBy}
 use Rattle.xs_trace.specs.PlayLaws.{Extends}
@@ -16,13 +16,24 @@ use Rattle.xs_trace.specs.declared.recorder.Halt.{Halt}
 use Rattle.xs_trace.specs.declared.recorder.Halt.TheVariants.{Fault, Needs, Spent, Full, Over, NoMemory}
 use Rattle.xs_trace.proofs.CutLemmas.{parts-join}
 
-pub adds-nil : {H : Type 0} → (xs : Option (Trace H)) → adds xs [] ≡ xs
-adds-nil None = refl
-adds-nil (Some t) = ap Some (append-nil t)
+pub adds-nil : {H : Type 0} → (l : Log H) → adds l [] ≡ l
+adds-nil Nothing = refl
+adds-nil (All t) = ap All (append-nil t)
+adds-nil (Untimed t) = ap Untimed (append-nil t)
 
-pub adds-adds : {H : Type 0} → (xs : Option (Trace H)) (a b : Trace H) → adds (adds xs a) b ≡ adds xs (a ++ b)
-adds-adds None a b = refl
-adds-adds (Some t) a b = ap Some (append_assoc t a b)
+untimed-join : {H : Type 0} → (a b : Trace H) → untimed (a ++ b) ≡ untimed a ++ untimed b
+untimed-join [] b = refl
+untimed-join (Tick p ∷ a) b = untimed-join a b
+untimed-join (Put e ∷ a) b = ap (λ x. Put e ∷ x) (untimed-join a b)
+untimed-join (Say t ∷ a) b = ap (λ x. Say t ∷ x) (untimed-join a b)
+untimed-join (Stop f p ∷ a) b = ap (λ x. Stop f p ∷ x) (untimed-join a b)
+untimed-join (Need v p ∷ a) b = ap (λ x. Need v p ∷ x) (untimed-join a b)
+untimed-join (Hole k ∷ a) b = ap (λ x. Hole k ∷ x) (untimed-join a b)
+
+pub adds-adds : {H : Type 0} → (l : Log H) (a b : Trace H) → adds (adds l a) b ≡ adds l (a ++ b)
+adds-adds Nothing a b = refl
+adds-adds (All t) a b = ap All (append_assoc t a b)
+adds-adds (Untimed t) a b = ap Untimed (append_assoc t (untimed a) (untimed b) ∙ ap (λ x. t ++ x) (sym (untimed-join a b)))
 
 -- tick counts
 pub count-ticks : (H : Type 0) (p : Site) (n : ℕ) → tick_count {H = H} (ticks p n []) ≡ n

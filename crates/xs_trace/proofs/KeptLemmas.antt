@@ -1,12 +1,12 @@
 -- What is kept of a run is the cut of its trace.
-use Rattle.std.proofs.Common.{◌≡◌, ℕ, zero, suc, ◌-◌, ◌≤◌, List, [], ◌∷◌, Option, Some, None, Result, Ok, Err, Bool, true, false, cond, sym, ap}
+use Rattle.std.proofs.Common.{◌≡◌, ℕ, zero, suc, ◌-◌, ◌≤◌, List, [], ◌∷◌, Option, Some, None, Result, Ok, Err, Bool, true, false, cond, refl, sym, ap}
 use Rattle.std.proofs.Common.{subst, ◌∙◌, arith}
-use Rattle.xs_trace.specs.Mark.{Tick, Put, Say, Stop, Need, Hole, Trace, ◌⨾◌, NeedsNothing, ticks, tick_count, events_of, without_puts, captured}
-use Rattle.xs_trace.specs.State.{State, alone, allows, said, shown, passed, IsAbove}
+use Rattle.xs_trace.specs.Mark.{Tick, Put, Say, Stop, Need, Hole, Trace, ◌⨾◌, NeedsNothing, ticks, tick_count, events_of, messages_of, untimed, without_puts, captured}
+use Rattle.xs_trace.specs.State.{State, Log, Nothing, All, Untimed, alone, adds, allows, said, shown, passed, IsAbove}
 use Rattle.xs_trace.specs.Cut.{End, Whole, Fault, Needs, Spent, Full, Cut, cut, nowhere}
 use Rattle.xs_trace.specs.Play.{Step, Goes, Ends, Told, stops, and_then, ticked, put, put_in, play, told_of, left_of, end_of, number, IsStep}
-use Rattle.xs_trace.specs.PlayLaws.{TellsCut, begin}
-use Rattle.xs_trace.specs.Kept.{marks_of, IsPacked, ended_by, IsEnded, Keeps}
+use Rattle.xs_trace.specs.PlayLaws.{TellsCut, begin, begun}
+use Rattle.xs_trace.specs.Kept.{marks_of, IsPacked, ended_by, IsEnded, Keeps, Sums}
 use Rattle.xs_trace.specs.Keeping.{IsCutAt, IsCutOf, ToldIsCut, NeedComesFromNeed}
 use Rattle.xs_trace.specs.declared.event.Event.{Event}
 use Rattle.xs_trace.specs.declared.item.Site.{Site}
@@ -51,45 +51,105 @@ put-wants [] e s = wants-if (allows s.room 1) _ _ tt tt
 put-wants (c ∷ cs) e s = tt
 
 -- what a run told, and how it ended, is a cut
-cut-at : {H : Type 0} (x : Trace H) (b : ℕ) (m : Option ℕ) (e : End) (s : State H) → play x (begin b m) ≡ stops e s → IsCutAt e b (cut x b m) s
-cut-at x b m e s q =
-    let h : TellsCut [] b (cut x b m) (play x (begin b m)) = play-cut x [] nowhere b m alone in
+cut-at : {H : Type 0} (l : Log H) (x : Trace H) (b : ℕ) (m : Option ℕ) (e : End) (s : State H) → play x (begun l b m) ≡ stops e s →
+    IsCutAt l e b (cut x b m) s
+cut-at l x b m e s q =
+    let h : TellsCut l b (cut x b m) (play x (begun l b m)) = play-cut x l nowhere b m alone in
     record { told = sym (ap told_of q) ∙ h.told; end = sym h.end ∙ ap end_of q; left = sym (ap left_of q) ∙ h.left }
 
-cut-whole : {H : Type 0} (x : Trace H) (b : ℕ) (m : Option ℕ) (s : State H) → play x (begin b m) ≡ Goes tt s → IsCutAt Whole b (cut x b m) s
-cut-whole x b m s q =
-    let h : TellsCut [] b (cut x b m) (play x (begin b m)) = play-cut x [] nowhere b m alone in
+cut-whole : {H : Type 0} (l : Log H) (x : Trace H) (b : ℕ) (m : Option ℕ) (s : State H) → play x (begun l b m) ≡ Goes tt s →
+    IsCutAt l Whole b (cut x b m) s
+cut-whole l x b m s q =
+    let h : TellsCut l b (cut x b m) (play x (begun l b m)) = play-cut x l nowhere b m alone in
     record { told = sym (ap told_of q) ∙ h.told; end = sym h.end ∙ ap end_of q; left = sym (ap left_of q) ∙ h.left }
 
 pub told-is-cut : (H : Type 0) → ToldIsCut H
-told-is-cut H x b m (Ok u) s q = cut-whole x b m s q
-told-is-cut H x b m (Err (halt.Fault f p)) s q = cut-at x b m (Fault f p) s q
-told-is-cut H x b m (Err (halt.Needs g p)) s q = cut-at x b m (Needs g p) s q
-told-is-cut H x b m (Err (halt.Spent p)) s q = cut-at x b m (Spent p) s q
-told-is-cut H x b m (Err (halt.Full p)) s q = cut-at x b m (Full p) s q
-told-is-cut H x b m (Err (halt.Over n)) s q = subst (λ h. IsAbove h.most n) (q.shared ∙ ap (passed n) (play-grows x (begin b m)).shared) q.above
-told-is-cut H x b m (Err halt.NoMemory) s q = tt
+told-is-cut H l x b m (Ok u) s q = cut-whole l x b m s q
+told-is-cut H l x b m (Err (halt.Fault f p)) s q = cut-at l x b m (Fault f p) s q
+told-is-cut H l x b m (Err (halt.Needs g p)) s q = cut-at l x b m (Needs g p) s q
+told-is-cut H l x b m (Err (halt.Spent p)) s q = cut-at l x b m (Spent p) s q
+told-is-cut H l x b m (Err (halt.Full p)) s q = cut-at l x b m (Full p) s q
+told-is-cut H l x b m (Err (halt.Over n)) s q = subst (λ h. IsAbove h.most n) (q.shared ∙ ap (passed n) (play-grows x (begun l b m)).shared) q.above
+told-is-cut H l x b m (Err halt.NoMemory) s q = tt
+
+-- what a log keeps
+marks_in : {H : Type 0} → Log H → Trace H
+marks_in Nothing = []
+marks_in (All t) = t
+marks_in (Untimed t) = t
+
+pub all_same : {H : Type 0} {a b : Trace H} → All a ≡ All b → a ≡ b
+unfolding marks_in
+all_same p = ap marks_in p
+
+pub untimed_same : {H : Type 0} {a b : Trace H} → Untimed a ≡ Untimed b → a ≡ b
+unfolding marks_in
+untimed_same p = ap marks_in p
+
+-- An end, and how many ticks passed, of a state at the end of a run that was no want of memory.
+record Ending {H : Type 0} (l : Log H) (c : Cut H) (s : State H) (k : Kept) : Type 0 where
+  pub told : s.told ≡ adds l c.passed
+  pub ended : ended_by c.end ≡ Some k.ended
+  pub ticks : k.ticks ≡ tick_count c.passed
+
+ending-at : {H : Type 0} (l : Log H) (b : ℕ) (c : Cut H) (e : End) (s : State H) (k : Kept) → tick_count c.passed ≤ b → IsCutAt l e b c s →
+    ended_by e ≡ Some k.ended → k.ticks ≡ b - number s.left → Ending l c s k
+ending-at l b c e s k le h en ti =
+    let d : b - (b - tick_count c.passed) ≡ tick_count c.passed = omega (arith, le) in
+    record { told = h.told; ended = ap ended_by h.end ∙ en; ticks = ti ∙ ap (λ o. b - number o) h.left ∙ d }
+
+ending-by : {H : Type 0} (l : Log H) (b : ℕ) (c : Cut H) (result : Result (Unit {0}) Halt) (s : State H) (k : Kept) → tick_count c.passed ≤ b →
+    IsCutOf l result b c s → IsEnded result k.ended → k.ticks ≡ b - number s.left → Ending l c s k
+ending-by l b c (Ok u) s k le h en ti = ending-at l b c Whole s k le h en ti
+ending-by l b c (Err (halt.Fault f p)) s k le h en ti = ending-at l b c (Fault f p) s k le h en ti
+ending-by l b c (Err (halt.Needs g p)) s k le h en ti = absurd en
+ending-by l b c (Err (halt.Spent p)) s k le h en ti = ending-at l b c (Spent p) s k le h en ti
+ending-by l b c (Err (halt.Full p)) s k le h en ti = ending-at l b c (Full p) s k le h en ti
+ending-by l b c (Err (halt.Over n)) s k le h en ti = absurd h
+ending-by l b c (Err halt.NoMemory) s k le h en ti = absurd en
+
+ending : {H : Type 0} (l : Log H) (x : Trace H) (b : ℕ) (m : Option ℕ) (result : Result (Unit {0}) Halt) (s : State H) (k : Kept) →
+    IsEnded result k.ended → k.ticks ≡ b - number s.left → IsStep (play x (begun l b m)) result s → Ending l (cut x b m) s k
+ending {H} l x b m result s k en ti q =
+    ending-by l b (cut x b m) result s k (cut-longest x nowhere b m).within (told-is-cut H l x b m result s q) en ti
 
 -- what is kept
-keeps-at : {H : Type 0} (b : ℕ) (c : Cut H) (e : End) (s : State H) (k : Kept) → tick_count c.passed ≤ b → IsCutAt e b c s → ended_by e ≡ Some k.ended →
-    s.told ≡ Some (marks_of k.items.items) → IsPacked k.items.items → k.ticks ≡ b - number s.left → Keeps c k
-keeps-at b c e s k le h en t pk ti =
-    let d : b - (b - tick_count c.passed) ≡ tick_count c.passed = omega (arith, le) in
-    record { marks = some_same (sym t ∙ h.told); packed = pk; ended = ap ended_by h.end ∙ en; ticks = ti ∙ ap (λ o. b - number o) h.left ∙ d }
-
-keeps-by : {H : Type 0} (b : ℕ) (c : Cut H) (result : Result (Unit {0}) Halt) (s : State H) (k : Kept) → tick_count c.passed ≤ b → IsCutOf result b c s →
-    IsEnded result k.ended → s.told ≡ Some (marks_of k.items.items) → IsPacked k.items.items → k.ticks ≡ b - number s.left → Keeps c k
-keeps-by b c (Ok u) s k le h en t pk ti = keeps-at b c Whole s k le h en t pk ti
-keeps-by b c (Err (halt.Fault f p)) s k le h en t pk ti = keeps-at b c (Fault f p) s k le h en t pk ti
-keeps-by b c (Err (halt.Needs g p)) s k le h en t pk ti = absurd en
-keeps-by b c (Err (halt.Spent p)) s k le h en t pk ti = keeps-at b c (Spent p) s k le h en t pk ti
-keeps-by b c (Err (halt.Full p)) s k le h en t pk ti = keeps-at b c (Full p) s k le h en t pk ti
-keeps-by b c (Err (halt.Over n)) s k le h en t pk ti = absurd h
-keeps-by b c (Err halt.NoMemory) s k le h en t pk ti = absurd en
-
 pub keeps : {H : Type 0} (x : Trace H) (b : ℕ) (m : Option ℕ) (result : Result (Unit {0}) Halt) (s : State H) (k : Kept) → IsEnded result k.ended →
-    s.told ≡ Some (marks_of k.items.items) → IsPacked k.items.items → k.ticks ≡ b - number s.left → IsStep (play x (begin b m)) result s → Keeps (cut x b m) k
-keeps {H} x b m result s k en t pk ti q = keeps-by b (cut x b m) result s k (cut-longest x nowhere b m).within (told-is-cut H x b m result s q) en t pk ti
+    s.told ≡ All (marks_of k.items.items) → IsPacked k.items.items → k.ticks ≡ b - number s.left → IsStep (play x (begin b m)) result s → Keeps (cut x b m) k
+keeps x b m result s k en t pk ti q =
+    let h : Ending (All []) (cut x b m) s k = ending (All []) x b m result s k en ti q in
+    record { marks = all_same (sym t ∙ h.told); packed = pk; ended = h.ended; ticks = h.ticks }
+
+-- what is kept without ticks
+untimed-events : {H : Type 0} (x : Trace H) → events_of (untimed x) ≡ events_of x
+untimed-events [] = refl
+untimed-events (Tick p ∷ x) = untimed-events x
+untimed-events (Put e ∷ x) = ap (λ es. e ∷ es) (untimed-events x)
+untimed-events (Say t ∷ x) = untimed-events x
+untimed-events (Stop f p ∷ x) = untimed-events x
+untimed-events (Need g p ∷ x) = untimed-events x
+untimed-events (Hole k ∷ x) = untimed-events x
+
+pub untimed-messages : {H : Type 0} (x : Trace H) → messages_of (untimed x) ≡ messages_of x
+untimed-messages [] = refl
+untimed-messages (Tick p ∷ x) = untimed-messages x
+untimed-messages (Put e ∷ x) = untimed-messages x
+untimed-messages (Say t ∷ x) = ap (λ ms. t ∷ ms) (untimed-messages x)
+untimed-messages (Stop f p ∷ x) = untimed-messages x
+untimed-messages (Need g p ∷ x) = untimed-messages x
+untimed-messages (Hole k ∷ x) = untimed-messages x
+
+pub sums : {H : Type 0} (x : Trace H) (b : ℕ) (m : Option ℕ) (result : Result (Unit {0}) Halt) (s : State H) (k : Kept) → IsEnded result k.ended →
+    s.told ≡ Untimed (marks_of k.items.items) → k.ticks ≡ b - number s.left → IsStep (play x (begun (Untimed []) b m)) result s → Sums (cut x b m) k
+sums {H} x b m result s k en t ti q =
+    let h : Ending (Untimed []) (cut x b m) s k = ending (Untimed []) x b m result s k en ti q in
+    let e : marks_of {H = H} k.items.items ≡ untimed (cut x b m).passed = untimed_same (sym t ∙ h.told) in
+    record {
+      events = ap events_of e ∙ untimed-events (cut x b m).passed;
+      messages = ap messages_of e ∙ untimed-messages (cut x b m).passed;
+      ended = h.ended;
+      ticks = h.ticks;
+    }
 
 -- a trace without a need
 no-need : {H : Type 0} (x : Trace H) (s : State H) → NeedsNothing x → WantsNone (play x s)

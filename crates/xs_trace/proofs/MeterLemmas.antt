@@ -3,7 +3,7 @@ use Rattle.std.proofs.Common.{◌≡◌, ℕ, ◌+◌, ◌-◌, ◌≤◌, Optio
 use Rattle.std.proofs.lemmas.Bool.{true≢false}
 use Rattle.std.proofs.lemmas.Bool.Decides.{nat_tests}
 use Rattle.xs_trace.specs.Cut.{Whole, Fault, Needs, Spent, Full, less, Allows}
-use Rattle.xs_trace.specs.State.{State, allows, alone, after_ticks}
+use Rattle.xs_trace.specs.State.{State, Nothing, allows, alone, after_ticks}
 use Rattle.xs_trace.specs.Play.{Step, Goes, Ends, goes, and_then, number, left_of, IsStepBy}
 use Rattle.xs_trace.specs.Run.{Answer, Gives, Faults, Lacks, answered}
 use Rattle.xs_trace.specs.Meter.{metered, stock, spends, IsMetered, MeterLaw}
@@ -78,7 +78,7 @@ past None sm n c h = true≢false c
 past (Some l) sm n c h = grind (arith, nat_tests, c, h)
 
 abbrev At : {H : Type 0} → {A : Type 0} → Site → ℕ → Answer A → Meter → Bool → Step H A
-At p n a m b = and_then (cond b (goes (after_ticks n p (metered m))) (Ends (Spent p) None (Some 0) alone)) (λ u s. answered p a s)
+At p n a m b = and_then (cond b (goes (after_ticks n p (metered m))) (Ends (Spent p) Nothing (Some 0) alone)) (λ u s. answered p a s)
 
 meter : (H : Type 0) {A B : Type 0} (view : B → A) (p : Site) (n : ℕ) (a : Answer A) (result : Result B Halt) (m k : Meter) (b : Bool) →
     allows (less m.limit m.spent) n ≡ b → Allows m.limit m.spent → IsStepBy {H = H} view (At p n a m b) result (metered k) → stock k ≡ stock m →

@@ -2,7 +2,7 @@
 use Rattle.std.proofs.Common.{◌≡◌, ℕ, ◌+◌, ◌-◌, ◌*◌, ◌<◌, ◌≤◌, ◌++◌, [], Option, Some, None, Result, Ok, Err, refl, sym, ap, subst, ◌∙◌, arith, append-nil}
 use Rattle.xs_trace.specs.Mark.{Trace, tick_count}
 use Rattle.xs_trace.specs.Cut.{End, Whole, Fault, Needs, Spent, Full, Cut, cut, nowhere}
-use Rattle.xs_trace.specs.State.{State}
+use Rattle.xs_trace.specs.State.{State, All, adds}
 use Rattle.xs_trace.specs.Play.{Told, play, told_of, left_of, end_of, raised, Before, IsStep}
 use Rattle.xs_trace.specs.PlayLaws.{TellsCut}
 use Rattle.xs_trace.specs.Kept.{IsPacked, ended_by, IsEnded}
@@ -17,7 +17,7 @@ use Rattle.xs_trace.specs.declared.recorder.Halt.{Halt}
 use Rattle.xs_trace.specs.declared.recorder.Halt.TheVariants as halt
 use Rattle.xs_trace.proofs.CutLemmas.{cut-longest, parts-join}
 use Rattle.xs_trace.proofs.PlayLemmas.{play-cut}
-use Rattle.xs_trace.proofs.KeptLemmas.{some_same}
+use Rattle.xs_trace.proofs.KeptLemmas.{some_same, all_same}
 
 -- How far a run came: what it told is a beginning, and what is left is exact.
 record Came {H : Type 0} (c : Cut H) (b left : ℕ) (marks : Trace H) : Type 0 where
@@ -36,25 +36,21 @@ came-all c b left marks m le e =
     let f : tick_count marks ≡ tick_count c.passed = ap tick_count m in
     record { rest = []; whole = sym m ∙ sym (append-nil marks); exact = omega (arith, le, e, f) }
 
-came-end : {H : Type 0} (c : Cut H) (b left : ℕ) (marks : Trace H) (g : Told H) (e : End) → TellsCut [] b c g → tick_count c.passed ≤ b →
-    told_of g ≡ Some marks → left_of g ≡ Some left → end_of g ≡ e → Came c b left marks × CameWhole c marks e
+came-end : {H : Type 0} (c : Cut H) (b left : ℕ) (marks : Trace H) (g : Told H) (e : End) → TellsCut (All []) b c g → tick_count c.passed ≤ b →
+    told_of g ≡ All marks → left_of g ≡ Some left → end_of g ≡ e → Came c b left marks × CameWhole c marks e
 came-end c b left marks g e h le t l n =
-    let m : marks ≡ c.passed = some_same (sym t ∙ h.told) in
+    let m : marks ≡ c.passed = all_same (sym t ∙ h.told) in
     let d : left ≡ b - tick_count c.passed = some_same (sym l ∙ h.left) in
     (came-all c b left marks m le d, record { marks = m; end = sym n ∙ h.end })
 
 -- an end in Over
-came-over : {H : Type 0} (c : Cut H) (b left : ℕ) (marks : Trace H) (g : Told H) (s : State H) → TellsCut [] b c g → tick_count c.passed ≤ b →
-    s.told ≡ Some marks → s.left ≡ Some left → Before s g → Came c b left marks
+came-over : {H : Type 0} (c : Cut H) (b left : ℕ) (marks : Trace H) (g : Told H) (s : State H) → TellsCut (All []) b c g → tick_count c.passed ≤ b →
+    s.told ≡ All marks → s.left ≡ Some left → Before s g → Came c b left marks
 came-over {H} c b left marks g s h le t l q =
-    let w : c.passed ≡ marks ++ q.rest = some_same (sym h.told ∙ q.told ∙ ap (λ o. told-more o q.rest) t) in
+    let w : c.passed ≡ marks ++ q.rest = all_same (sym h.told ∙ q.told ∙ ap (λ o. adds o q.rest) t) in
     let f : left ≡ (b - tick_count c.passed) + tick_count q.rest = some_same (sym l ∙ q.left ∙ ap (λ o. raised o (tick_count q.rest)) h.left) in
     let j : tick_count c.passed ≡ tick_count marks + tick_count q.rest = ap tick_count w ∙ (parts-join marks q.rest).ticks in
     record { rest = q.rest; whole = w; exact = omega (arith, le, f, j) }
-  where
-    told-more : Option (Trace H) → Trace H → Option (Trace H)
-    told-more None x = None
-    told-more (Some t) x = Some (t ++ x)
 
 -- How it came to its end, by what the last call gave; where that is Over, the total is the one that the state has.
 abbrev CameBy : {H : Type 0} → Result (Unit {0}) Halt → Cut H → Trace H → Option ℕ → Type 0
@@ -69,14 +65,14 @@ CameBy (Err halt.NoMemory) c m h = Unit {0}
 abbrev PlayOf : {H : Type 0} → Trace H → Limits → Option ℕ → Told H
 PlayOf x l o = play x (started l o)
 
-tells : {H : Type 0} (x : Trace H) (l : Limits) (o : Option ℕ) → TellsCut [] l.ticks (cut x l.ticks l.events) (PlayOf x l o)
-tells x l o = play-cut x [] nowhere l.ticks l.events (held l.ticks o)
+tells : {H : Type 0} (x : Trace H) (l : Limits) (o : Option ℕ) → TellsCut (All []) l.ticks (cut x l.ticks l.events) (PlayOf x l o)
+tells x l o = play-cut x (All []) nowhere l.ticks l.events (held l.ticks o)
 
 within : {H : Type 0} (x : Trace H) (l : Limits) → tick_count (cut x l.ticks l.events).passed ≤ l.ticks
 within x l = (cut-longest x nowhere l.ticks l.events).within
 
 came : {H : Type 0} (x : Trace H) (l : Limits) (o : Option ℕ) (left : ℕ) (marks : Trace H) (told : Result (Unit {0}) Halt) (s : State H) (e : Ended) →
-    IsEnded told e → s.told ≡ Some marks → s.left ≡ Some left → IsStep (PlayOf x l o) told s →
+    IsEnded told e → s.told ≡ All marks → s.left ≡ Some left → IsStep (PlayOf x l o) told s →
     Came (cut x l.ticks l.events) l.ticks left marks × CameBy told (cut x l.ticks l.events) marks s.shared.above
 came x l o left marks (Ok u) s e en t f q =
     came-end _ _ left marks (PlayOf x l o) Whole (tells x l o) (within x l) (ap told_of q ∙ t) (ap left_of q ∙ f) (ap end_of q)
@@ -122,7 +118,7 @@ pub piece-is : {H : Type 0} (b : ℕ) (events : Option ℕ) (added after due lef
     IsPieceOf (record { limits = record { ticks = b; events = events }; all = added + (due + left) }) told (limited_to room left (held b last) store) after n k
 piece-is b events added after due left last n store room told e k en mk pk ti af st d = λ x o before q all.
     let w = came x (record { ticks = b; events = events }) o left (piece_marks k) told (limited_to room left (held b last) store) e en
-    (ap Some (sym mk)) refl q in
+    (ap All (sym mk)) refl q in
     let ex : left + tick_count (piece_marks k) ≡ b = w.0.exact in
     record {
       added = omega (arith, all, af, ti, ex);

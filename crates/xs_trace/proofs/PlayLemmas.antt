@@ -5,7 +5,7 @@ use Rattle.std.proofs.lemmas.Bool.Decides.{nat_tests}
 use Rattle.xs_trace.specs.Event.{text_of}
 use Rattle.xs_trace.specs.Mark.{Tick, Put, Say, Stop, Need, Hole, Trace, ◌⨾◌, ticks, tick_count, events_of, without_puts, captured}
 use Rattle.xs_trace.specs.Cut.{End, Spent, Full, cut_from, less}
-use Rattle.xs_trace.specs.State.{State, Shared, moved, allows, adds, stands, with_ticks, after_tick, captures_are, opened, popped, top, said, shown}
+use Rattle.xs_trace.specs.State.{State, Log, Shared, moved, allows, adds, stands, with_ticks, after_tick, captures_are, opened, popped, top, said, shown}
 use Rattle.xs_trace.specs.Play.{Step, Goes, Ends, Told, goes, and_then, ticked, ticked_by, number, put, put_at, said_at, play, told_of, left_of, end_of}
 use Rattle.xs_trace.specs.PlayLaws.{TellsCut, captures_from}
 use Rattle.xs_trace.specs.declared.event.Event.{Event}
@@ -60,12 +60,12 @@ stands-same (suc n) p None = refl
 stands-same (suc n) p (Some q) = refl
 
 -- what follows n ticks at p, from what was told, the place and what is left
-abbrev At_once : {H : Type 0} → ℕ → Site → Trace H → Option (Trace H) → Option Site → Bool → Option ℕ → ℕ → State H → Told H
+abbrev At_once : {H : Type 0} → ℕ → Site → Trace H → Log H → Option Site → Bool → Option ℕ → ℕ → State H → Told H
 At_once n p x told at b l k s =
     and_then (cond b (goes (with_ticks (adds told (ticks p n [])) (stands n p at) l s)) (Ends (Spent p) (adds told (ticks p k [])) (Some 0) s.shared))
     (λ u m. play x m)
 
-ticks-once : {H : Type 0} → (n : ℕ) (p : Site) (x : Trace H) (told : Option (Trace H)) (at : Option Site) (l : Option ℕ) (s : State H) →
+ticks-once : {H : Type 0} → (n : ℕ) (p : Site) (x : Trace H) (told : Log H) (at : Option Site) (l : Option ℕ) (s : State H) →
     play (ticks p n x) (with_ticks told at l s) ≡ At_once n p x told at (allows l n) (less l n) (number l) s
 ticks-once zero p x told at None s = ap (λ o. play x (with_ticks o at None s)) (sym (adds-nil told))
 ticks-once zero p x told at (Some k) s =
@@ -158,53 +158,53 @@ pub play-captured : {H : Type 0} → (x : Trace H) (f : List Event → Trace H) 
 play-captured x f s = play-captured-from x f [] s.captures s
 
 -- the cut
-abbrev From : {H : Type 0} → Trace H → Site → ℕ → Option ℕ → Shared → State H
-From t at b m o = record { told = Some t; captures = []; at = Some at; room = m; left = Some b; shared = o }
+abbrev From : {H : Type 0} → Log H → Site → ℕ → Option ℕ → Shared → State H
+From l at b m o = record { told = l; captures = []; at = Some at; room = m; left = Some b; shared = o }
 
-ends-cut : {H : Type 0} → (t : Trace H) (b : ℕ) (e : End) (left : Option ℕ) (o : Shared) → left ≡ Some (b - 0) →
-    TellsCut t b (record { passed = []; end = e }) (Ends e (Some t) left o)
-ends-cut t b e left o q = record { told = ap Some (sym (append-nil t)); end = refl; left = q }
+ends-cut : {H : Type 0} → (l : Log H) (b : ℕ) (e : End) (left : Option ℕ) (o : Shared) → left ≡ Some (b - 0) →
+    TellsCut l b (record { passed = []; end = e }) (Ends e l left o)
+ends-cut l b e left o q = record { told = sym (adds-nil l); end = refl; left = q }
 
 unspent : (b : ℕ) → Some b ≡ Some (b - 0)
 unspent b = let e : b ≡ b - 0 = omega arith in ap Some e
 
-pub play-cut : {H : Type 0} → (x : Trace H) (t : Trace H) (at : Site) (b : ℕ) (m : Option ℕ) (o : Shared) →
-    TellsCut t b (cut_from x at b m) (play x (From t at b m o))
-play-cut [] t at b m o = record { told = ap Some (sym (append-nil t)); end = refl; left = unspent b }
-play-cut (Tick p ∷ x) t at zero m o = ends-cut t 0 (Spent p) (Some 0) o (unspent 0)
-play-cut (Tick p ∷ x) t at (suc b) m o =
+pub play-cut : {H : Type 0} → (x : Trace H) (l : Log H) (at : Site) (b : ℕ) (m : Option ℕ) (o : Shared) →
+    TellsCut l b (cut_from x at b m) (play x (From l at b m o))
+play-cut [] l at b m o = record { told = sym (adds-nil l); end = refl; left = unspent b }
+play-cut (Tick p ∷ x) l at zero m o = ends-cut l 0 (Spent p) (Some 0) o (unspent 0)
+play-cut (Tick p ∷ x) l at (suc b) m o =
     let e : suc b - 1 ≡ b = omega arith in
     let d : b - tick_count (cut_from x p b m).passed ≡ suc b - suc (tick_count (cut_from x p b m).passed) = omega arith in
-    let k : play (Tick p ∷ x) (From t at (suc b) m o) ≡ play x (From (t ++ Tick p ∷ []) p b m o) =
-    ap (λ c. and_then (cond c (goes (From (t ++ Tick p ∷ []) p (suc b - 1) m o)) (Ends (Spent p) (Some t) (Some 0) o)) (λ u n. play x n)) (le-one b)
-    ∙ ap (λ n. play x (From (t ++ Tick p ∷ []) p n m o)) e in
-    let h : TellsCut (t ++ Tick p ∷ []) b (cut_from x p b m) (play x (From (t ++ Tick p ∷ []) p b m o)) = play-cut x (t ++ Tick p ∷ []) p b m o in
+    let k : play (Tick p ∷ x) (From l at (suc b) m o) ≡ play x (From (adds l (Tick p ∷ [])) p b m o) =
+    ap (λ c. and_then (cond c (goes (From (adds l (Tick p ∷ [])) p (suc b - 1) m o)) (Ends (Spent p) l (Some 0) o)) (λ u n. play x n)) (le-one b)
+    ∙ ap (λ n. play x (From (adds l (Tick p ∷ [])) p n m o)) e in
+    let h : TellsCut (adds l (Tick p ∷ [])) b (cut_from x p b m) (play x (From (adds l (Tick p ∷ [])) p b m o)) = play-cut x (adds l (Tick p ∷ [])) p b m o in
     record {
-      told = ap told_of k ∙ h.told ∙ ap Some (append_assoc t (Tick p ∷ []) (cut_from x p b m).passed);
+      told = ap told_of k ∙ h.told ∙ adds-adds l (Tick p ∷ []) (cut_from x p b m).passed;
       end = ap end_of k ∙ h.end;
       left = ap left_of k ∙ h.left ∙ ap Some d;
     }
-play-cut (Put v ∷ x) t at b None o =
-    let h : TellsCut (t ++ Put v ∷ []) b (cut_from x at b None) (play x (From (t ++ Put v ∷ []) at b None o)) = play-cut x (t ++ Put v ∷ []) at b None o in
-    record { told = h.told ∙ ap Some (append_assoc t (Put v ∷ []) (cut_from x at b None).passed); end = h.end; left = h.left }
-play-cut (Put v ∷ x) t at b (Some zero) o = ends-cut t b _ (Some b) o (unspent b)
-play-cut (Put v ∷ x) t at b (Some (suc m)) o =
+play-cut (Put v ∷ x) l at b None o =
+    let h : TellsCut (adds l (Put v ∷ [])) b (cut_from x at b None) (play x (From (adds l (Put v ∷ [])) at b None o)) = play-cut x (adds l (Put v ∷ [])) at b None o in
+    record { told = h.told ∙ adds-adds l (Put v ∷ []) (cut_from x at b None).passed; end = h.end; left = h.left }
+play-cut (Put v ∷ x) l at b (Some zero) o = ends-cut l b _ (Some b) o (unspent b)
+play-cut (Put v ∷ x) l at b (Some (suc m)) o =
     let e : suc m - 1 ≡ m = omega arith in
-    let k : play (Put v ∷ x) (From t at b (Some (suc m)) o) ≡ play x (From (t ++ Put v ∷ []) at b (Some m) o) =
-    ap (λ c. and_then (cond c (goes (From (t ++ Put v ∷ []) at b (Some (suc m - 1)) o)) (Ends (Full at) (Some t) (Some b) o)) (λ u n. play x n)) (le-one m)
-    ∙ ap (λ n. play x (From (t ++ Put v ∷ []) at b (Some n) o)) e in
-    let h : TellsCut (t ++ Put v ∷ []) b (cut_from x at b (Some m)) (play x (From (t ++ Put v ∷ []) at b (Some m) o)) = play-cut x (t ++ Put v ∷ []) at b
+    let k : play (Put v ∷ x) (From l at b (Some (suc m)) o) ≡ play x (From (adds l (Put v ∷ [])) at b (Some m) o) =
+    ap (λ c. and_then (cond c (goes (From (adds l (Put v ∷ [])) at b (Some (suc m - 1)) o)) (Ends (Full at) l (Some b) o)) (λ u n. play x n)) (le-one m)
+    ∙ ap (λ n. play x (From (adds l (Put v ∷ [])) at b (Some n) o)) e in
+    let h : TellsCut (adds l (Put v ∷ [])) b (cut_from x at b (Some m)) (play x (From (adds l (Put v ∷ [])) at b (Some m) o)) = play-cut x (adds l (Put v ∷ [])) at b
     (Some m) o in
     record {
-      told = ap told_of k ∙ h.told ∙ ap Some (append_assoc t (Put v ∷ []) (cut_from x at b (Some m)).passed);
+      told = ap told_of k ∙ h.told ∙ adds-adds l (Put v ∷ []) (cut_from x at b (Some m)).passed;
       end = ap end_of k ∙ h.end;
       left = ap left_of k ∙ h.left;
     }
-play-cut (Say s ∷ x) t at b m o =
-    let h : TellsCut (t ++ Say s ∷ []) b (cut_from x at b m) (play x (From (t ++ Say s ∷ []) at b m o)) = play-cut x (t ++ Say s ∷ []) at b m o in
-    record { told = h.told ∙ ap Some (append_assoc t (Say s ∷ []) (cut_from x at b m).passed); end = h.end; left = h.left }
-play-cut (Stop f p ∷ x) t at b m o = ends-cut t b _ (Some b) o (unspent b)
-play-cut (Need g p ∷ x) t at b m o = ends-cut t b _ (Some b) o (unspent b)
-play-cut (Hole k ∷ x) t at b m o =
-    let h : TellsCut (t ++ Hole k ∷ []) b (cut_from x at b m) (play x (From (t ++ Hole k ∷ []) at b m o)) = play-cut x (t ++ Hole k ∷ []) at b m o in
-    record { told = h.told ∙ ap Some (append_assoc t (Hole k ∷ []) (cut_from x at b m).passed); end = h.end; left = h.left }
+play-cut (Say s ∷ x) l at b m o =
+    let h : TellsCut (adds l (Say s ∷ [])) b (cut_from x at b m) (play x (From (adds l (Say s ∷ [])) at b m o)) = play-cut x (adds l (Say s ∷ [])) at b m o in
+    record { told = h.told ∙ adds-adds l (Say s ∷ []) (cut_from x at b m).passed; end = h.end; left = h.left }
+play-cut (Stop f p ∷ x) l at b m o = ends-cut l b _ (Some b) o (unspent b)
+play-cut (Need g p ∷ x) l at b m o = ends-cut l b _ (Some b) o (unspent b)
+play-cut (Hole k ∷ x) l at b m o =
+    let h : TellsCut (adds l (Hole k ∷ [])) b (cut_from x at b m) (play x (From (adds l (Hole k ∷ [])) at b m o)) = play-cut x (adds l (Hole k ∷ [])) at b m o in
+    record { told = h.told ∙ adds-adds l (Hole k ∷ []) (cut_from x at b m).passed; end = h.end; left = h.left }

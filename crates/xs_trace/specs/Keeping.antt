@@ -1,11 +1,11 @@
 -- What a recorder of a whole run gives at its end.
-use Rattle.std.specs.Prelude.{◌≡◌, ℕ, ◌-◌, Option, Some, Result, Ok, Err}
+use Rattle.std.specs.Prelude.{◌≡◌, ℕ, ◌-◌, [], Option, Some, Result, Ok, Err}
 use Rattle.xs_trace.specs.Mark.{Trace, NeedsNothing, tick_count}
 use Rattle.xs_trace.specs.Cut.{End, Whole, Fault, Needs, Spent, Full, Cut, cut}
-use Rattle.xs_trace.specs.State.{State}
+use Rattle.xs_trace.specs.State.{State, Log, Untimed, adds}
 use Rattle.xs_trace.specs.Play.{IsStep, play}
-use Rattle.xs_trace.specs.PlayLaws.{begin}
-use Rattle.xs_trace.specs.Kept.{Keeps, NeedsNone}
+use Rattle.xs_trace.specs.PlayLaws.{begin, begun}
+use Rattle.xs_trace.specs.Kept.{Keeps, Sums, NeedsNone}
 use Rattle.xs_trace.specs.declared.item.Limits.{Limits}
 use Rattle.xs_trace.specs.declared.recorder.Halt.{Halt}
 use Rattle.xs_trace.specs.declared.recorder.Halt.TheVariants as halt
@@ -15,25 +15,29 @@ use Rattle.xs_trace.specs.declared.whole.Kept.{Kept}
 abbrev pub KeepsAny : {H : Type 0} → Limits → Result (Unit {0}) Halt → State H → Kept → Type 0
 KeepsAny {H = H} l told s k = (x : Trace H) → IsStep (play x (begin l.ticks l.events)) told s → Keeps (cut x l.ticks l.events) k
 
--- A state in which all that passed a cut was told, at an end, with b ticks at the start.
-pub record IsCutAt {H : Type 0} (e : End) (b : ℕ) (c : Cut H) (s : State H) : Type 0 where
-  pub told : s.told ≡ Some c.passed
+-- The same of one that keeps no ticks: what the cut comes to.
+abbrev pub SumsAny : {H : Type 0} → Limits → Result (Unit {0}) Halt → State H → Kept → Type 0
+SumsAny {H = H} l told s k = (x : Trace H) → IsStep (play x (begun (Untimed []) l.ticks l.events)) told s → Sums (cut x l.ticks l.events) k
+
+-- A state in which all that passed a cut was told, after what was kept before, at an end, with b ticks at the start.
+pub record IsCutAt {H : Type 0} (l : Log H) (e : End) (b : ℕ) (c : Cut H) (s : State H) : Type 0 where
+  pub told : s.told ≡ adds l c.passed
   pub end : c.end ≡ e
   pub left : s.left ≡ Some (b - tick_count c.passed)
 
 -- The cut that a run was told, by what its last call gave.
-abbrev pub IsCutOf : {H : Type 0} → Result (Unit {0}) Halt → ℕ → Cut H → State H → Type 0
-IsCutOf (Ok u) b c s = IsCutAt Whole b c s
-IsCutOf (Err (halt.Fault f p)) b c s = IsCutAt (Fault f p) b c s
-IsCutOf (Err (halt.Needs g p)) b c s = IsCutAt (Needs g p) b c s
-IsCutOf (Err (halt.Spent p)) b c s = IsCutAt (Spent p) b c s
-IsCutOf (Err (halt.Full p)) b c s = IsCutAt (Full p) b c s
-IsCutOf (Err (halt.Over t)) b c s = ⊥
-IsCutOf (Err halt.NoMemory) b c s = Unit {0}
+abbrev pub IsCutOf : {H : Type 0} → Log H → Result (Unit {0}) Halt → ℕ → Cut H → State H → Type 0
+IsCutOf l (Ok u) b c s = IsCutAt l Whole b c s
+IsCutOf l (Err (halt.Fault f p)) b c s = IsCutAt l (Fault f p) b c s
+IsCutOf l (Err (halt.Needs g p)) b c s = IsCutAt l (Needs g p) b c s
+IsCutOf l (Err (halt.Spent p)) b c s = IsCutAt l (Spent p) b c s
+IsCutOf l (Err (halt.Full p)) b c s = IsCutAt l (Full p) b c s
+IsCutOf l (Err (halt.Over t)) b c s = ⊥
+IsCutOf l (Err halt.NoMemory) b c s = Unit {0}
 
 abbrev pub ToldIsCut : Type 0 → Type 0
-ToldIsCut H = (x : Trace H) (b : ℕ) (m : Option ℕ) (told : Result (Unit {0}) Halt) (s : State H) →
-    IsStep (play x (begin b m)) told s → IsCutOf told b (cut x b m) s
+ToldIsCut H = (l : Log H) (x : Trace H) (b : ℕ) (m : Option ℕ) (told : Result (Unit {0}) Halt) (s : State H) →
+    IsStep (play x (begun l b m)) told s → IsCutOf l told b (cut x b m) s
 
 -- from whatever state, and from whatever view of what it gives
 abbrev pub NeedComesFromNeed : Type 0 → Type 0

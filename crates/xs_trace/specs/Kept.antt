@@ -1,6 +1,6 @@
 -- The marks that kept items stand for.
 use Rattle.std.specs.Prelude.{◌≡◌, ◌<◌, ℕ, List, [], ◌∷◌, ◌++◌, Option, Some, None, Result, Ok, Err}
-use Rattle.xs_trace.specs.Mark.{Put, Say, Trace, ticks, tick_count}
+use Rattle.xs_trace.specs.Mark.{Put, Say, Trace, ticks, tick_count, events_of, messages_of}
 use Rattle.xs_trace.specs.Cut.{End, Whole, Fault, Needs, Spent, Full, Cut}
 use Rattle.xs_trace.specs.declared.item.Item.{Item}
 use Rattle.xs_trace.specs.declared.item.Item.TheVariants as item
@@ -72,5 +72,12 @@ IsEnded (Err halt.NoMemory) e = ⊥
 pub record Keeps {H : Type 0} (c : Cut H) (k : Kept) : Type 0 where
   pub marks : marks_of k.items.items ≡ c.passed
   pub packed : IsPacked k.items.items
+  pub ended : ended_by c.end ≡ Some k.ended
+  pub ticks : k.ticks ≡ tick_count c.passed
+
+-- What a cut comes to: the events and messages that passed, its end, and how many ticks passed.
+pub record Sums {H : Type 0} (c : Cut H) (k : Kept) : Type 0 where
+  pub events : events_of {H = H} (marks_of k.items.items) ≡ events_of c.passed
+  pub messages : messages_of {H = H} (marks_of k.items.items) ≡ messages_of c.passed
   pub ended : ended_by c.end ≡ Some k.ended
   pub ticks : k.ticks ≡ tick_count c.passed

@@ -103,6 +103,16 @@ without_puts (Stop f p ∷ x) = Stop f p ∷ without_puts x
 without_puts (Need g p ∷ x) = Need g p ∷ without_puts x
 without_puts (Hole k ∷ x) = Hole k ∷ without_puts x
 
+-- a trace without its ticks
+abbrev pub untimed : {H : Type 0} → Trace H → Trace H
+untimed [] = []
+untimed (Tick p ∷ x) = untimed x
+untimed (Put e ∷ x) = Put e ∷ untimed x
+untimed (Say t ∷ x) = Say t ∷ untimed x
+untimed (Stop f p ∷ x) = Stop f p ∷ untimed x
+untimed (Need g p ∷ x) = Need g p ∷ untimed x
+untimed (Hole k ∷ x) = Hole k ∷ untimed x
+
 -- Captured content (XSLT 1.0, 7.1.3, 7.3, 7.4, 11.2, 13): all but the puts stays, the puts become the value, and what
 -- follows is a function of that value.
 abbrev pub captured : {H : Type 0} → Trace H → (List Event → Trace H) → Trace H

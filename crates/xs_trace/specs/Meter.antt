@@ -1,6 +1,6 @@
 -- Meters as tallies.
 use Rattle.std.specs.Prelude.{◌≡◌, ℕ, ◌+◌, [], Option, Some, None, Result, Ok, Err}
-use Rattle.xs_trace.specs.State.{State, alone}
+use Rattle.xs_trace.specs.State.{State, Nothing, alone}
 use Rattle.xs_trace.specs.Play.{number, IsStepBy}
 use Rattle.xs_trace.specs.Run.{Run, Gives, Faults, Lacks, limited}
 use Rattle.xs_trace.specs.Cut.{less, Allows}
@@ -11,7 +11,7 @@ use Rattle.xs_trace.specs.declared.meter.Meter.{Meter}
 
 -- what is left of a limit
 abbrev pub metered : {H : Type 0} → Meter → State H
-metered m = record { told = None; captures = []; at = None; room = None; left = less m.limit m.spent; shared = alone }
+metered m = record { told = Nothing; captures = []; at = None; room = None; left = less m.limit m.spent; shared = alone }
 
 -- A limit, and what was spent together with what is left.
 pub record Stock : Type 0 where

@@ -2,7 +2,7 @@
 use Rattle.std.specs.Prelude.{◌≡◌, ℕ, ◌+◌, ◌*◌, ◌<◌, [], ◌++◌, Option, Some, None, Result}
 use Rattle.xs_trace.specs.Mark.{Trace, tick_count}
 use Rattle.xs_trace.specs.Cut.{Cut, cut}
-use Rattle.xs_trace.specs.State.{State, Shared}
+use Rattle.xs_trace.specs.State.{State, All, Shared}
 use Rattle.xs_trace.specs.Play.{IsStep, play}
 use Rattle.xs_trace.specs.Kept.{marks_of, IsPacked, ended_by}
 use Rattle.xs_trace.specs.declared.item.Ended.TheVariants as ended
@@ -19,7 +19,7 @@ held m o = record { most = Some m; above = over m o }
 -- where a piece begins, by its limits and the last total
 abbrev pub started : {H : Type 0} → Limits → Option ℕ → State H
 started l o =
-    record { told = Some []; captures = []; at = Some (record { «module» = 0; line = 0 }); room = l.events; left = Some l.ticks; shared = held l.ticks o }
+    record { told = All []; captures = []; at = Some (record { «module» = 0; line = 0 }); room = l.events; left = Some l.ticks; shared = held l.ticks o }
 
 -- What no call to a recorder of a piece changes: its limits, and the ticks added, those not added yet and those left together.
 pub record Paid : Type 0 where

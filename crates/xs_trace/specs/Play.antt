@@ -3,7 +3,7 @@ use Rattle.std.specs.Prelude.{◌≡◌, ℕ, ◌+◌, ◌/◌, length, List, []
 use Rattle.xs_trace.specs.Event.{text_of}
 use Rattle.xs_trace.specs.Mark.{Tick, Put, Say, Stop, Need, Hole, Trace, ticks, tick_count}
 use Rattle.xs_trace.specs.Cut.{End, Whole, Fault, Needs, Spent, Full}
-use Rattle.xs_trace.specs.State.{State, Shared, passed, IsAbove, place, allows, adds, after_tick, after_ticks, after_put, captures_are, said, shown}
+use Rattle.xs_trace.specs.State.{State, Log, Shared, passed, IsAbove, place, allows, adds, after_tick, after_ticks, after_put, captures_are, said, shown}
 use Rattle.xs_trace.specs.declared.event.Event.{Event}
 use Rattle.xs_trace.specs.declared.item.Site.{Site}
 use Rattle.xs_trace.specs.declared.recorder.Halt.{Halt}
@@ -12,7 +12,7 @@ use Rattle.xs_trace.specs.declared.recorder.Halt.TheVariants as halt
 -- It goes on with a value, from a state; or it has ended, with what was told, what is left of the ticks, and what is shared.
 pub data Step (H A : Type 0) : Type 0 where
   Goes : (value : A) (state : State H) → Step H A
-  Ends : (end : End) (told : Option (Trace H)) (left : Option ℕ) (shared : Shared) → Step H A
+  Ends : (end : End) (told : Log H) (left : Option ℕ) (shared : Shared) → Step H A
 
 abbrev pub and_then : {H : Type 0} → {A B : Type 0} → Step H A → (A → State H → Step H B) → Step H B
 and_then (Goes x s) f = f x s
@@ -66,7 +66,7 @@ play (Stop f p ∷ x) s = stops (Fault f p) s
 play (Need g p ∷ x) s = stops (Needs g p) s
 play (Hole k ∷ x) s = play x (shown (Hole k) s)
 
-abbrev pub told_of : {H : Type 0} → {A : Type 0} → Step H A → Option (Trace H)
+abbrev pub told_of : {H : Type 0} → {A : Type 0} → Step H A → Log H
 told_of (Goes x s) = s.told
 told_of (Ends e told left h) = told
 

@@ -3,7 +3,7 @@ use Rattle.std.specs.Prelude.{◌≡◌, ℕ, ◌+◌, ◌-◌, ◌^◌, ◌/◌
 use Rattle.xs_trace.specs.Event.{text_of}
 use Rattle.xs_trace.specs.Mark.{Tick, Put, Need, Hole, Trace, ◌⨾◌, ticks, tick_count, captured}
 use Rattle.xs_trace.specs.Cut.{cut}
-use Rattle.xs_trace.specs.State.{State, alone, opened, popped, top, shown}
+use Rattle.xs_trace.specs.State.{State, Nothing, All, alone, opened, popped, top, shown}
 use Rattle.xs_trace.specs.Play.{Told, goes, and_then, ticked, ticked_by, put_at, put}
 use Rattle.xs_trace.specs.Run.{Run, tick, give, fail}
 use Rattle.xs_trace.specs.Kept.{marks_of}
@@ -56,10 +56,10 @@ wanting p (Some g) = Tick p ∷ Need g p ∷ []
 
 -- What an attempt leaves: all that passed the cut, how many ticks, and the cut's end.
 abbrev pub told_of_attempt : ℕ → List Item → ℕ → State ℕ
-told_of_attempt b is n = record { told = Some (marks_of is); captures = []; at = None; room = None; left = Some (b - n); shared = alone }
+told_of_attempt b is n = record { told = All (marks_of is); captures = []; at = None; room = None; left = Some (b - n); shared = alone }
 
 abbrev pub IsAttempt : Trace ℕ → ℕ → List Item → ℕ → Result (Unit {0}) Halt → Type 0
-IsAttempt x b is n told = (n ≡ tick_count {H = ℕ} (marks_of is)) × IsCutOf told b (cut x b None) (told_of_attempt b is n)
+IsAttempt x b is n told = (n ≡ tick_count {H = ℕ} (marks_of is)) × IsCutOf (All []) told b (cut x b None) (told_of_attempt b is n)
 
 -- a number more, for a tick
 abbrev pub adding : ℕ → ℕ → Run ℕ
@@ -67,4 +67,4 @@ adding s n = tick (if nat_lt (s + n) (2 ^ 64) then give (s + n) else fail 52)
 
 -- a state of which nothing is seen
 abbrev pub unwatched : {H : Type 0} → State H
-unwatched = record { told = None; captures = []; at = None; room = None; left = None; shared = alone }
+unwatched = record { told = Nothing; captures = []; at = None; room = None; left = None; shared = alone }

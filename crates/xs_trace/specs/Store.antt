@@ -3,7 +3,7 @@ use Rattle.std.specs.Prelude.{ℕ, zero, suc, List, [], ◌∷◌, ◌++◌, Opt
 use Rattle.xs_trace.specs.Mark.{Put, Trace, ticks}
 use Rattle.xs_trace.specs.Cut.{nowhere}
 use Rattle.xs_trace.specs.Kept.{IsPacked}
-use Rattle.xs_trace.specs.State.{State, Shared}
+use Rattle.xs_trace.specs.State.{State, All, Untimed, Shared}
 use Rattle.xs_trace.specs.declared.event.Event.{Event}
 use Rattle.xs_trace.specs.declared.item.Item.{Item}
 use Rattle.xs_trace.specs.declared.item.Item.TheVariants as item
@@ -49,7 +49,15 @@ put_into (c ∷ cs) e s = with_captures ((c ++ e ∷ []) ∷ cs) s
 
 -- a store under limits
 abbrev pub limited_to : {H : Type 0} → Option ℕ → ℕ → Shared → Store H → State H
-limited_to room left h s = record { told = Some s.told; captures = s.captures; at = Some s.at; room = room; left = Some left; shared = h }
+limited_to room left h s = record { told = All s.told; captures = s.captures; at = Some s.at; room = room; left = Some left; shared = h }
+
+-- the same of a store that takes no ticks
+abbrev pub briefly_to : {H : Type 0} → Option ℕ → ℕ → Shared → Store H → State H
+briefly_to room left h s = record { told = Untimed s.told; captures = s.captures; at = Some s.at; room = room; left = Some left; shared = h }
+
+-- ticks of which the place is kept alone
+abbrev pub stood : {H : Type 0} → Site → ℕ → Store H → Store H
+stood p n s = record { told = s.told; captures = s.captures; at = at_ticks n p s.at }
 
 -- an item that is no run of ticks
 abbrev pub IsSingle : Item → Type 0

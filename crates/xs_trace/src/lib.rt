@@ -1,6 +1,7 @@
 //! What a run of a stylesheet leaves behind, and the texts and places that it speaks of.
 #![tactic(auto)]
 
+pub mod brief;
 mod ending;
 pub mod event;
 pub mod item;
@@ -9,6 +10,7 @@ mod marks;
 pub mod meter;
 pub mod piece;
 pub mod place;
+mod plain;
 pub mod probe;
 pub mod recorder;
 pub mod sections;

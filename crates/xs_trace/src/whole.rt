@@ -1,7 +1,7 @@
 //! A recorder that keeps a whole run.
 ghost use Rattle.std.specs.Prelude.{◌≡◌, Some, Err, false, IfOk, if◌then◌else◌};
 ghost use Rattle.xs_trace.specs.Cut.{less};
-ghost use Rattle.xs_trace.specs.State.{allows, alone};
+ghost use Rattle.xs_trace.specs.State.{allows, alone, All};
 ghost use Rattle.xs_trace.specs.Store.{limited_to};
 ghost use Rattle.xs_trace.specs.PlayLaws.{begin};
 ghost use Rattle.xs_trace.specs.Keeping.{KeepsAny};
@@ -153,7 +153,7 @@ impl<T: Drop> Whole<T> {
     /// What was told, in the fewest items.
     pub fn finish(self) -> Result<Vec<Item>, AllocError>
         ensures items { IfOk result (λ items.
-            (⟦<Whole<T> as Tally>⟧.state self).told ≡ Some (marks_of items.items)) }
+            (⟦<Whole<T> as Tally>⟧.state self).told ≡ All (marks_of items.items)) }
         ensures packed { IfOk result (λ items. IsPacked items.items) }
     {
         self.marks.finish()

@@ -3,6 +3,7 @@
 use std::alloc::{AllocError, Global};
 use std::cmp::Ordering;
 use std::test::Fail;
+use xs_trace::brief::Brief;
 use xs_trace::event::{Event, Fragment, Label, text_ticks};
 use xs_trace::item::{Ended, Item, Limits, Site};
 use xs_trace::laws;
@@ -123,23 +124,23 @@ fn events(rt: HostRuntime) -> Result<(), Fail> {
 const SITE: Site = Site { module: 0, line: 7 };
 
 // Three ticks, by both calls.
-fn tick_thrice(whole: &mut Whole<u64>) -> Result<(), Halt> {
-    whole.tick(SITE)?;
-    whole.ticks(SITE, 2)
+fn tick_thrice<R: Recorder<Task = u64>>(recorder: &mut R) -> Result<(), Halt> {
+    recorder.tick(SITE)?;
+    recorder.ticks(SITE, 2)
 }
 
 // How many events were captured of one.
-fn capture_one(whole: &mut Whole<u64>) -> Result<usize, Halt> {
-    whole.open_capture()?;
-    put_event(whole, SITE, Event::End)?;
-    let fragment = whole.close_capture();
+fn capture_one<R: Recorder<Task = u64>>(recorder: &mut R) -> Result<usize, Halt> {
+    recorder.open_capture()?;
+    put_event(recorder, SITE, Event::End)?;
+    let fragment = recorder.close_capture();
     Ok(fragment.events().len())
 }
 
 // An event and a message.
-fn show_both(alloc: Global, whole: &mut Whole<u64>) -> Result<(), Halt> {
-    put_event(whole, SITE, Event::End)?;
-    say_message(whole, SITE, TextBuf::of(alloc, "hi")?)
+fn show_both<R: Recorder<Task = u64>>(alloc: Global, recorder: &mut R) -> Result<(), Halt> {
+    put_event(recorder, SITE, Event::End)?;
+    say_message(recorder, SITE, TextBuf::of(alloc, "hi")?)
 }
 
 // Whether a run has three ticks, an event and a message, and ended at a second event.
@@ -178,6 +179,44 @@ fn stops_at_its_limit(rt: HostRuntime) -> Result<(), Fail> {
     let items = whole.finish()?;
     assert_eq!(rt; items.len(), 1);
     assert!(rt; matches!(items.first(), Some(Item::Run { ticks: 2, .. })));
+    Ok(())
+}
+
+// Whether a run has an event and a message, and three ticks that none of them is.
+fn is_brief_run(kept: &Kept) -> bool {
+    kept.items.len() == 2 && kept.ticks == 3 && matches!(&kept.ended, Ended::Full(_))
+}
+
+#[test]
+fn keeps_no_ticks(rt: HostRuntime) -> Result<(), Fail> {
+    let limits = Limits {
+        ticks: 9,
+        events: Some(1),
+    };
+    let mut brief: Brief<u64> = Brief::new(rt.alloc(), limits);
+    assert_eq!(rt; tick_thrice(&mut brief), Ok(()));
+    assert_eq!(rt; capture_one(&mut brief), Ok(1));
+    assert_eq!(rt; show_both(rt.alloc(), &mut brief), Ok(()));
+    assert_eq!(rt; brief.left(), 6);
+    assert_eq!(rt; brief.put(Event::End), Err(Halt::Full(SITE)));
+    let kept = brief.keep(Err(Halt::Full(SITE)))?;
+    assert!(rt; is_brief_run(&kept));
+    Ok(())
+}
+
+#[test]
+fn spends_without_keeping(rt: HostRuntime) -> Result<(), Fail> {
+    let mut brief: Brief<u64> = Brief::new(
+        rt.alloc(),
+        Limits {
+            ticks: 2,
+            events: None,
+        },
+    );
+    assert_eq!(rt; brief.ticks(SITE, 3), Err(Halt::Spent(SITE)));
+    assert_eq!(rt; brief.tick(SITE), Err(Halt::Spent(SITE)));
+    assert_eq!(rt; brief.hole(7), Err(Halt::NoMemory));
+    assert_eq!(rt; brief.finish().len(), 0);
     Ok(())
 }
 

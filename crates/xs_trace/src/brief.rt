@@ -1,0 +1,153 @@
+//! A recorder that keeps of a whole run what its answer says: no ticks but their number.
+ghost use Rattle.std.specs.Prelude.{◌≡◌, [], Some, Err, false, IfOk};
+ghost use Rattle.xs_trace.specs.State.{alone, Untimed};
+ghost use Rattle.xs_trace.specs.Store.{briefly_to};
+ghost use Rattle.xs_trace.specs.PlayLaws.{begun};
+ghost use Rattle.xs_trace.specs.Keeping.{SumsAny};
+ghost use Rattle.xs_trace.specs.declared.item.Limits.{Limits};
+ghost use Rattle.xs_trace.specs.declared.recorder.Halt.TheVariants.{NoMemory};
+ghost use Rattle.xs_trace.specs.Kept.{NeedsNone, marks_of};
+
+use crate::ending::ended;
+use crate::event::{Event, Fragment};
+use crate::item::{Item, Limits, Site};
+use crate::plain::Plain;
+use crate::recorder::{Halt, Recorder, Tally};
+use crate::text::TextBuf;
+use crate::whole::{Kept, spend};
+use std::alloc::{AllocError, Global};
+
+/// Keeps the events and messages that it is told, in order, up to its limits, and counts ticks: so
+/// its memory is that of what it answers with, however long a run is. It takes no holes; `T` is
+/// what would fill them.
+#[derive(Drop)]
+pub struct Brief<T> {
+    marks: Plain<T>,
+    room: Option<u64>,
+    left: u64,
+    limits: Limits,
+}
+
+impl<T: Drop> Tally for Brief<T> {
+    type Task = T;
+
+    ghost Kept = { Limits };
+
+    ghost kept = { λ b. b.limits };
+
+    ghost state = { λ b. briefly_to b.room b.left alone b.marks };
+
+    /// One tick, while some are left.
+    #[tactic(auto, using(crate::proofs::BriefLemmas::brief_tick, crate::proofs::BriefLemmas::brief_spent))]
+    fn tick(&mut self, site: Site) -> Result<(), Halt> {
+        if self.left == 0 {
+            return Err(Halt::Spent(site));
+        }
+        self.marks.stand(site, 1);
+        self.left -= 1;
+        Ok(())
+    }
+}
+
+impl<T: Drop> Recorder for Brief<T> {
+    ghost takes_holes = { false };
+
+    /// All at once.
+    #[tactic(auto, using(crate::proofs::BriefLemmas::brief_ticks, crate::proofs::BriefLemmas::brief_short))]
+    fn ticks(&mut self, site: Site, count: u64) -> Result<(), Halt> {
+        if count > self.left {
+            self.marks.stand(site, self.left);
+            self.left = 0;
+            return Err(Halt::Spent(site));
+        }
+        self.marks.stand(site, count);
+        self.left -= count;
+        Ok(())
+    }
+
+    /// To the innermost capture, or to the result while there is room.
+    #[tactic(auto, using(crate::proofs::BriefLemmas::brief_full, crate::proofs::BriefLemmas::brief_put, crate::proofs::BriefLemmas::brief_captured))]
+    fn put(&mut self, event: Event) -> Result<(), Halt> {
+        if self.marks.is_capturing() {
+            self.marks.put(event)?;
+            return Ok(());
+        }
+        if !spend(&mut self.room) {
+            return Err(Halt::Full(self.marks.at()));
+        }
+        self.marks.put(event)?;
+        Ok(())
+    }
+
+    /// Behind what was told.
+    fn say(&mut self, text: TextBuf) -> Result<(), Halt> {
+        self.marks.push(Item::Say(text))?;
+        Ok(())
+    }
+
+    /// There is no room for a hole.
+    fn hole(&mut self, _task: T) -> Result<(), Halt>
+        ensures refused { result ≡ Err NoMemory }
+        ensures kept { self.new.limits ≡ self.old.limits }
+    {
+        Err(Halt::NoMemory)
+    }
+
+    /// One more is open.
+    fn open_capture(&mut self) -> Result<(), Halt> {
+        self.marks.open()?;
+        Ok(())
+    }
+
+    /// One less is open.
+    fn close_capture(&mut self) -> Fragment {
+        self.marks.close()
+    }
+}
+
+impl<T: Drop> Brief<T> {
+    /// Nothing was told yet.
+    pub fn new(alloc: Global, limits: Limits) -> Brief<T>
+        ensures begins { ⟦<Brief<T> as Tally>⟧.state result
+            ≡ begun (Untimed []) limits.ticks limits.events }
+        ensures limits { ⟦<Brief<T> as Tally>⟧.kept result ≡ limits }
+    {
+        Brief {
+            marks: Plain::new(alloc),
+            room: limits.events,
+            left: limits.ticks,
+            limits,
+        }
+    }
+
+    /// How many ticks are left.
+    pub fn left(&self) -> u64
+        ensures left { Some result ≡ (⟦<Brief<T> as Tally>⟧.state self.now).left }
+    {
+        self.left
+    }
+
+    /// What a run told that ended so, and needed no global: what its trace comes to, cut at the
+    /// limits.
+    pub fn keep(self, told: Result<(), Halt>) -> Result<Kept, AllocError>
+        requires settled { NeedsNone told }
+        ensures sums { IfOk result
+            (SumsAny (⟦<Brief<T> as Tally>⟧.kept self) told (⟦<Brief<T> as Tally>⟧.state self)) }
+    {
+        let ended = ended(told)?;
+        let ticks = self.limits.ticks.saturating_sub(self.left);
+        let items = self.finish();
+        Ok(Kept {
+            items,
+            ended,
+            ticks,
+        })
+    }
+
+    /// What was told, but for ticks.
+    pub fn finish(self) -> Vec<Item>
+        ensures items { (⟦<Brief<T> as Tally>⟧.state self).told ≡ Untimed (marks_of result.items) }
+    {
+        self.marks.finish()
+    }
+}
