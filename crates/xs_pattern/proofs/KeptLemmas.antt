@@ -1,7 +1,7 @@
 -- What predicates keep of some nodes.
 use Rattle.std.proofs.Common.{◌≡◌, ℕ, suc, ◌+◌, ◌<◌, ◌≤◌, ◌==◌, ◌&&◌, ◌||◌, Bool, true, false, cond, List, [], ◌∷◌, ◌++◌, All, filter, fold, length, map}
-use Rattle.std.proofs.Common.{drop, get_or, refl, sym, ap, subst, ◌∙◌, arith, append_assoc, ◌⊎◌, inl, inr}
-use Rattle.std.proofs.lemmas.Bool.{and_parts, or_cases, or_left, or_right, true≢false, false_from_ne_true}
+use Rattle.std.proofs.Common.{drop, get_or, refl, sym, ap, subst, ◌∙◌, arith, append_assoc, ◌⊎◌, inl, inr, Option, Some, None}
+use Rattle.std.proofs.lemmas.Bool.{and_parts, eqb-true, or_cases, or_left, or_right, true≢false, false_from_ne_true}
 use Rattle.std.proofs.lemmas.List.{append-nil, at_drop_all}
 use Rattle.std.proofs.lemmas.List.Elements.{All-cons, All-head, All-nil, All-tail}
 use Rattle.std.specs.List.{enumerate_from, list_any}
@@ -11,6 +11,7 @@ use Rattle.xs_eval.specs.Paths.{Meaning, kept_if}
 use Rattle.xs_eval.specs.steps.Nodes.{AreSome}
 use Rattle.xs_eval.proofs.StepLemmas.{from_here, placed_at, placed_below, placed_end}
 use Rattle.xs_pattern.specs.Predicates.{all_kept, holds, is_among, kept}
+use Rattle.xs_pattern.specs.steps.Alone.{AreSaid, IsSaid}
 
 -- the nodes of those that pass, of nodes with their positions
 abbrev pub passing : (ℕ × ℕ → Bool) → List (ℕ × ℕ) → List ℕ
@@ -132,3 +133,39 @@ not-kept c n [] ns e = e
 not-kept c n (m ∷ ms) ns e =
     not-kept c n ms (kept c ns m)
     (false_from_ne_true (is_among n (kept c ns m)) (λ q. true≢false (sym (passing-among (holds c m (length ns)) n 1 ns q) ∙ e)))
+
+-- ---- what predicates say of a node wherever it stands
+
+absorbed : (b a : Bool) → (b || (a && b)) ≡ b
+absorbed true a = refl
+absorbed false true = refl
+absorbed false false = refl
+
+passing-said : (h : ℕ × ℕ → Bool) (n i : ℕ) (b : Bool) (ns : List ℕ) → ((p : ℕ) → h (p, n) ≡ b)
+    → is_among n (passing h (enumerate_from i ns)) ≡ (is_among n ns && b)
+passing-said h n i b [] all = refl
+passing-said h n i b (x ∷ xs) all =
+    ap (is_among n) (passing-cons h (i, x) (enumerate_from (i + 1) xs))
+    ∙ among-by n x (h (i, x)) (passing h (enumerate_from (i + 1) xs))
+    ∙ ap (λ t. ((x == n) && h (i, x)) || t) (passing-said h n (i + 1) b xs all)
+    ∙ here (x == n) (λ q. ap (λ y. h (i, y)) (eqb-true x n q) ∙ all i)
+  where
+    here : (t : Bool) → (t ≡ true → h (i, x) ≡ b) → ((t && h (i, x)) || (is_among n xs && b)) ≡ ((t || is_among n xs) && b)
+    here true e = ap (λ y. y || (is_among n xs && b)) (e refl) ∙ absorbed b (is_among n xs)
+    here false e = refl
+
+kept-said : (c : Context) (n : ℕ) (m : Meaning) (b : Bool) (ns : List ℕ) → IsSaid n c m (Some b) → is_among n ns ≡ true → is_among n (kept c ns m) ≡ b
+kept-said c n m b ns all a = passing-said (holds c m (length ns)) n 1 b ns (λ p. all (length ns) p) ∙ ap (λ t. t && b) a
+
+-- no predicate
+pub said-none : (n : ℕ) (c : Context) → AreSaid n c [] (Some true)
+said-none n c = λ ns a. a
+
+-- one that drops the node
+pub said-dropped : (n : ℕ) (c : Context) (m : Meaning) (ms : List Meaning) → IsSaid n c m (Some false) → AreSaid n c (m ∷ ms) (Some false)
+said-dropped n c m ms all = λ ns a. not-kept c n ms (kept c ns m) (kept-said c n m false ns all a)
+
+-- one that keeps it: the others decide
+pub said-on : (n : ℕ) (c : Context) (m : Meaning) (ms : List Meaning) (o : Option Bool) → IsSaid n c m (Some true) → AreSaid n c ms o → AreSaid n c (m ∷ ms) o
+said-on n c m ms None all rest = tt
+said-on n c m ms (Some b) all rest = λ ns a. rest (kept c ns m) (kept-said c n m true ns all a)

@@ -1,5 +1,6 @@
 pub mod AncestorLemmas
 pub mod KeptLemmas
+pub mod PlaceLemmas
 pub mod StepLemmas
 pub mod TreeLemmas
 pub mod ClimbLemmas

@@ -15,6 +15,7 @@ use Rattle.xs_eval.specs.Context.{Context}
 use Rattle.xs_eval.specs.Paths.{Meaning, passes, tested}
 use Rattle.xs_pattern.specs.Matching.{placed_at, step_nodes}
 use Rattle.xs_pattern.specs.Predicates.{all_kept, is_among}
+use Rattle.xs_pattern.specs.steps.Alone.{AreSaid}
 use Rattle.xs_pattern.specs.steps.Climb.{stands_on}
 use Rattle.xs_pattern.proofs.AncestorLemmas.{any-filter, any-from, any-to, same}
 use Rattle.xs_pattern.proofs.KeptLemmas.{not-kept}
@@ -100,3 +101,13 @@ pub stands-nodes : (axis : Axis) (kind : Kind) (which : NodeTest) (ms : List Mea
 stands-nodes Child kind which ms c s = refl
 stands-nodes AttributeAxis kind which ms c s = refl
 stands-nodes _ kind which ms c s = absurd (true≢false (sym s))
+
+-- one of which the predicates say so wherever it stands
+pub said-nodes : (axis : Axis) (which : NodeTest) (ms : List Meaning) (c : Context) (p n : ℕ) (b : Bool) → n < length c.tree → (at c.tree n).parent ≡ Some p
+    → stands_on axis (at c.tree n).kind ≡ true → passes axis which (at c.tree n) ≡ true → AreSaid n (placed_at c p) ms (Some b)
+    → b ≡ is_among n (step_nodes axis which ms (placed_at c p))
+said-nodes axis which ms c p n b h e s f all =
+    let nodes : List ℕ = tested axis which (placed_at c p) in
+    let one : is_among n nodes ≡ true =
+    sym (ap (is_among n) (stands-nodes axis (at c.tree n).kind which [] (placed_at c p) s)) ∙ passes-lone axis which c p n h e s f in
+    sym (ap (is_among n) (stands-nodes axis (at c.tree n).kind which ms (placed_at c p) s) ∙ all nodes one)

@@ -1,2 +1,3 @@
 -- What the code mirrors.
 pub mod Climb
+pub mod Alone

@@ -6,13 +6,38 @@ ghost use Rattle.xs_eval.specs.Evaluation.{run_of, runs_of};
 ghost use Rattle.xs_eval.specs.Paths.{kept_if};
 ghost use Rattle.xs_eval.specs.steps.Nodes.{AreSome};
 ghost use Rattle.xs_pattern.specs.Predicates.{all_kept, holds, is_among, kept};
+ghost use Rattle.xs_pattern.specs.steps.Alone.{AreSaid};
 
-use crate::values::holds;
+use crate::values::{holds, says};
 use std::alloc::{AllocError, Global};
 use xs_eval::context::Context;
 use xs_tree::{Node, Tree};
 use xs_value::keys::KeyFinder;
 use xs_xpath::expr::Expr;
+
+/// What predicates say of a node wherever it stands among others; nothing, where that depends on
+/// its position.
+pub(crate) fn say<K: KeyFinder>(
+    alloc: Global,
+    predicates: &[Expr],
+    node: Node,
+    context: &Context<'_>,
+    keys: &K,
+) -> Result<Option<bool>, AllocError>
+    requires context { IsContext (K.tables keys.now) context.now }
+    requires node { node < length context.now.tree }
+    ensures say { IfOk result
+        (AreSaid node context.now (runs_of (K.tables keys.now) predicates.now)) }
+{
+    for predicate in predicates {
+        match says(alloc, predicate, node, context, keys)? {
+            None => return Ok(None),
+            Some(false) => return Ok(Some(false)),
+            Some(true) => {}
+        }
+    }
+    Ok(Some(true))
+}
 
 /// The nodes that predicates keep: the first one of all, then the next of those.
 pub(crate) fn all_kept<K: KeyFinder>(

@@ -11,7 +11,7 @@ ghost use Rattle.xs_pattern.specs.Predicates.{is_among};
 ghost use Rattle.xs_pattern.specs.steps.Climb.{stands_on};
 
 use crate::node_tests::{passes, tested};
-use crate::predicates::{all_kept, is_kept};
+use crate::predicates::{all_kept, is_kept, say};
 use std::alloc::{AllocError, Global};
 use xs_eval::context::Context;
 use xs_tree::{Axis, Kind, Node};
@@ -75,8 +75,9 @@ pub(crate) fn leads_to<K: KeyFinder>(
     }
 }
 
-// The same of a step by its parts. Without predicates the node alone is looked at; otherwise its
-// position among its siblings counts, and the last predicate is evaluated for the node alone.
+// The same of a step by its parts. The node alone is looked at where no predicate depends on its
+// position; otherwise its position among its siblings counts, and the last predicate is evaluated
+// for the node alone.
 fn leads_by<K: KeyFinder>(
     alloc: Global,
     axis: Axis,
@@ -104,6 +105,9 @@ fn leads_by<K: KeyFinder>(
         None => Ok(true),
         Some((last, before)) => {
             let around = context.at_node(parent, context.position, context.size);
+            if let Some(said) = say(alloc, predicates, node, &around, keys)? {
+                return Ok(said);
+            }
             let nodes = tested(alloc, axis, test, &around)?;
             let nodes = all_kept(alloc, before, nodes, &around, keys)?;
             is_kept(alloc, last, &nodes, node, &around, keys)

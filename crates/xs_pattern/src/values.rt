@@ -7,6 +7,7 @@ ghost use Rattle.xs_eval.specs.Context.{at_node};
 ghost use Rattle.xs_eval.specs.Evaluation.{run_of};
 ghost use Rattle.xs_eval.specs.Paths.{is_position, selects};
 ghost use Rattle.xs_pattern.specs.Predicates.{holds, is_among, nodes_given, nodes_of, value_in};
+ghost use Rattle.xs_pattern.specs.steps.Alone.{IsSaid, said, said_by};
 
 use std::alloc::{AllocError, Global};
 use xs_eval::context::Context;
@@ -20,6 +21,7 @@ use xs_value::conversion::to_bool;
 use xs_value::keys::KeyFinder;
 use xs_value::value::Value;
 use xs_xpath::expr::Expr;
+use xs_xpath::uses::uses_place;
 
 // Where a pattern is evaluated: its ticks and faults are told to nobody.
 const NOWHERE: Site = Site { module: 0, line: 0 };
@@ -68,6 +70,51 @@ pub(crate) fn holds<K: KeyFinder>(
     let around = context.at_node(node, position, size);
     let v = value_in(alloc, predicate, &around, keys)?;
     Ok(is_selecting(&v, position))
+}
+
+/// What a predicate says of a node wherever it stands among others; nothing, where that depends on
+/// its position, since the predicate asks for it or has a number for its value.
+pub(crate) fn says<K: KeyFinder>(
+    alloc: Global,
+    predicate: &Expr,
+    node: Node,
+    context: &Context<'_>,
+    keys: &K,
+) -> Result<Option<bool>, AllocError>
+    requires context { IsContext (K.tables keys.now) context.now }
+    requires node { node < length context.now.tree }
+    ensures says { IfOk result
+        (IsSaid node context.now (run_of (K.tables keys.now) predicate.now)) }
+{
+    if uses_place(predicate) {
+        return Ok(None);
+    }
+    let around = context.at_node(node, 1, 1);
+    let v = value_in(alloc, predicate, &around, keys)?;
+    Ok(said(&v))
+}
+
+// What a value says of a node at whatever position: nothing, where it is a number.
+fn said(v: &Option<Value>) -> Option<bool>
+    ensures { result ≡ said v.now }
+{
+    match v {
+        Some(v) => said_by(v),
+        None => Some(false),
+    }
+}
+
+// The same where there is a value.
+fn said_by(v: &Value) -> Option<bool>
+    ensures { result ≡ said_by v.now }
+{
+    match v {
+        Value::Number(_) => None,
+        Value::Bool(boolean) => Some(*boolean),
+        Value::Chars(_) => Some(to_bool(v)),
+        Value::Nodes(_) => Some(to_bool(v)),
+        Value::Piece(_) => Some(to_bool(v)),
+    }
 }
 
 // Whether there is a value, and it selects a node at a position.

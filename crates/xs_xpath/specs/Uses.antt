@@ -1,10 +1,10 @@
--- What an expression refers to: variables, `current()` and `key()`.
+-- What an expression refers to: variables, `current()`, `key()`, and `position()` or `last()`.
 use Rattle.std.specs.Prelude.{◌||◌, not, Bool, true, false, Option, is_some}
 use Rattle.xs_xpath.specs.declared.name.Function.{Function}
-use Rattle.xs_xpath.specs.declared.name.Function.TheVariants.{Current as CurrentCall}
+use Rattle.xs_xpath.specs.declared.name.Function.TheVariants.{Current as CurrentCall, Last, Position}
 use Rattle.xs_xpath.specs.declared.name.Slot.{Slot}
 use Rattle.xs_xpath.specs.declared.uses.Sought.{Sought}
-use Rattle.xs_xpath.specs.declared.uses.Sought.TheVariants.{Variable, Unbound, Current, Key}
+use Rattle.xs_xpath.specs.declared.uses.Sought.TheVariants.{Variable, Unbound, Current, Key, Place}
 use Rattle.xs_xpath.specs.Patterns.{is_key}
 use Rattle.xs_xpath.specs.Tree.{Tree, Trees, number, literal, variable, call, negative, chain, group, here, root, step, descend, filter, path, no_trees, first_tree}
 
@@ -13,16 +13,24 @@ is_sought_variable Variable slot = true
 is_sought_variable Unbound slot = not (is_some slot)
 is_sought_variable Current slot = false
 is_sought_variable Key slot = false
+is_sought_variable Place slot = false
 
 abbrev pub is_current : Function → Bool
 is_current CurrentCall = true
 is_current _ = false
+
+-- `position` and `last`
+abbrev pub is_place : Function → Bool
+is_place Last = true
+is_place Position = true
+is_place _ = false
 
 abbrev pub is_sought_call : Sought → Function → Bool
 is_sought_call Variable function = false
 is_sought_call Unbound function = false
 is_sought_call Current function = is_current function
 is_sought_call Key function = is_key function
+is_sought_call Place function = is_place function
 
 -- whether what is sought stands anywhere in an expression
 abbrev mutual
@@ -45,7 +53,7 @@ abbrev mutual
   use_any sought no_trees = false
   use_any sought (first_tree e es) = uses sought e || use_any sought es
 
--- whether an expression has a variable, one without a slot, a call of `current`, a call of `key`
+-- whether an expression has a variable, one without a slot, a call of `current`, of `key`, of `position` or `last`
 abbrev pub uses_variables : Tree → Bool
 uses_variables e = uses Variable e
 
@@ -57,3 +65,6 @@ uses_current e = uses Current e
 
 abbrev pub uses_key : Tree → Bool
 uses_key e = uses Key e
+
+abbrev pub uses_place : Tree → Bool
+uses_place e = uses Place e

@@ -1,9 +1,10 @@
-//! What an expression refers to: variables, `current()` and `key()`.
+//! What an expression refers to: variables, `current()`, `key()`, and `position()` or `last()`.
 ghost use Rattle.std.specs.Prelude.{◌≡◌};
 ghost use Rattle.xs_xpath.specs.Exprs.{tree_from, trees_from};
 ghost use Rattle.xs_xpath.specs.Tree.{trees};
-ghost use Rattle.xs_xpath.specs.Uses.{is_current, is_sought_call, is_sought_variable, use_any};
-ghost use Rattle.xs_xpath.specs.Uses.{has_unbound, uses, uses_current, uses_key, uses_variables};
+ghost use Rattle.xs_xpath.specs.Uses.{is_current, is_place, is_sought_call, is_sought_variable, use_any};
+ghost use Rattle.xs_xpath.specs.Uses.{has_unbound, uses, uses_current, uses_key};
+ghost use Rattle.xs_xpath.specs.Uses.{uses_place, uses_variables};
 
 use crate::expr::Expr;
 use crate::name::{Function, Slot};
@@ -20,6 +21,8 @@ pub(crate) enum Sought {
     Current,
     /// A call of `key`.
     Key,
+    /// A call of `position` or of `last`.
+    Place,
 }
 
 /// Whether a variable is what is sought.
@@ -31,6 +34,7 @@ fn is_sought_variable(sought: Sought, slot: Option<Slot>) -> bool
         Sought::Unbound => slot.is_none(),
         Sought::Current => false,
         Sought::Key => false,
+        Sought::Place => false,
     }
 }
 
@@ -76,6 +80,48 @@ fn is_current(function: Function) -> bool
     }
 }
 
+/// Whether a function is `position` or `last`.
+fn is_place(function: Function) -> bool
+    ensures place { result ≡ is_place function }
+{
+    match function {
+        Function::Last => true,
+        Function::Position => true,
+        Function::Count => false,
+        Function::Id => false,
+        Function::LocalName => false,
+        Function::NamespaceUri => false,
+        Function::Name => false,
+        Function::String => false,
+        Function::Concat => false,
+        Function::StartsWith => false,
+        Function::Contains => false,
+        Function::SubstringBefore => false,
+        Function::SubstringAfter => false,
+        Function::Substring => false,
+        Function::StringLength => false,
+        Function::NormalizeSpace => false,
+        Function::Translate => false,
+        Function::Boolean => false,
+        Function::Not => false,
+        Function::True => false,
+        Function::False => false,
+        Function::Lang => false,
+        Function::Number => false,
+        Function::Sum => false,
+        Function::Floor => false,
+        Function::Ceiling => false,
+        Function::Round => false,
+        Function::Key => false,
+        Function::Current => false,
+        Function::GenerateId => false,
+        Function::SystemProperty => false,
+        Function::ElementAvailable => false,
+        Function::FunctionAvailable => false,
+        Function::UnparsedEntityUri => false,
+    }
+}
+
 /// Whether a call is what is sought.
 fn is_sought_call(sought: Sought, function: Function) -> bool
     ensures sought { result ≡ is_sought_call sought function }
@@ -85,6 +131,7 @@ fn is_sought_call(sought: Sought, function: Function) -> bool
         Sought::Unbound => false,
         Sought::Current => is_current(function),
         Sought::Key => is_key(function),
+        Sought::Place => is_place(function),
     }
 }
 
@@ -149,4 +196,11 @@ pub fn uses_key(e: &Expr) -> bool
     ensures uses { result ≡ uses_key (tree_from e.now) }
 {
     uses(Sought::Key, e)
+}
+
+/// Whether an expression calls `position` or `last`, for whichever context.
+pub fn uses_place(e: &Expr) -> bool
+    ensures uses { result ≡ uses_place (tree_from e.now) }
+{
+    uses(Sought::Place, e)
 }

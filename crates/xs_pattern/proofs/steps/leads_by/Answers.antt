@@ -1,4 +1,4 @@
-use Rattle.std.proofs.Common.{◌≡◌, ℕ, ◌<◌, Bool, true, false, List, arith, ap, length, subst, sym, ◌∙◌}
+use Rattle.std.proofs.Common.{◌≡◌, ℕ, ◌<◌, Bool, true, false, List, Option, arith, ap, length, subst, sym, ◌∙◌}
 use Rattle.xs_tree.specs.declared.kinds.Kind.{Kind}
 use Rattle.xs_tree.specs.Record.{at}
 use Rattle.xs_tree.proofs.WalkLemmas.{IsPlaced-at}
@@ -11,8 +11,9 @@ use Rattle.xs_eval.proofs.InsideLemmas.{moved}
 use Rattle.xs_eval.proofs.StepLemmas.{no_items}
 use Rattle.xs_pattern.specs.Matching.{placed_at, step_nodes}
 use Rattle.xs_pattern.specs.Predicates.{is_among}
+use Rattle.xs_pattern.specs.steps.Alone.{AreSaid}
 use Rattle.xs_pattern.specs.steps.Climb.{stands_on}
-use Rattle.xs_pattern.proofs.StepLemmas.{passes-lone, passes-not, stands-not}
+use Rattle.xs_pattern.proofs.StepLemmas.{passes-lone, passes-not, said-nodes, stands-not}
 use Rattle.xs_pattern.proofs.steps.leads_by.Goals as goal
 
 pub returns-then-not-stands_on : goal.returns-then-not-stands_on
@@ -79,3 +80,30 @@ returns-in-None g c =
           (sym (c.passes.ensures ∙ ap (λ (x : Context). passes c.args.axis c.args.test.now (at x.tree n)) c.context.view_is)
           ∙ c.if-not-passes.false));
     }
+
+-- the predicates say it of the node wherever it stands
+pub returns-in-Some-2 : goal.returns-in-Some-2
+returns-in-Some-2 g c =
+    let keys = g.K.KeyFinder.tables c.args.keys.now in
+    let ctx = c.args.context.now in
+    let n = c.args.node in
+    let ms = runs_of keys c.args.predicates.now in
+    let kind : c.kind.result ≡ (at ctx.tree n).kind = c.kind.ensures.kind ∙ ap (λ (x : Context). (at x.tree n).kind) c.context.view_is in
+    record {
+      leads =
+          said-nodes c.args.axis c.args.test.now ms ctx c.args.parent n c.in-Some-2.said c.requires.node c.requires.parent
+          (ap (λ (k : Kind). stands_on c.args.axis k) (sym kind) ∙ sym c.stands_on.ensures ∙ c.if-not-stands_on.false)
+          (sym (c.passes.ensures ∙ ap (λ (x : Context). passes c.args.axis c.args.test.now (at x.tree n)) c.context.view_is)
+          ∙ c.if-not-passes.false)
+          (subst (λ (o : Option Bool). AreSaid n (placed_at ctx c.args.parent) ms o) c.in-Some-2.is
+          (subst (λ (x : Context). AreSaid n x ms c.in_ok-say.said) c.at_node-around.ensures c.in_ok-say.ensures.say));
+    }
+
+pub say-requires-clause-context : goal.say-requires-clause-context
+say-requires-clause-context g c =
+    λ κs lives.
+    let keys = g.K.KeyFinder.tables c.args.keys.now in
+    let ctx = c.args.context.now in
+    let before = (IsPlaced-at ctx.tree c.args.node c.args.parent c.requires.tree c.requires.node c.requires.parent).before in
+    let inside : c.args.parent < length ctx.tree = omega (arith, before, c.requires.node) in
+    subst (λ (x : Context). IsContext keys x) (sym c.at_node-around.ensures) (moved keys ctx c.args.parent _ _ c.requires.context inside)
