@@ -1,5 +1,5 @@
 -- The answer that is due, by what was read of the files of a run.
-use Rattle.std.proofs.Common.{◌≡◌, ◌∙◌, refl, ap, ℕ, List, [], ◌∷◌, ◌++◌, Option, Some, None, Result, Ok, Err, IfOk, inl, inr, ◌⊎◌, true, false, length, drop, sym, subst, arith, append-nil, length-append}
+use Rattle.std.proofs.Common.{◌≡◌, ◌∙◌, refl, ap, ℕ, List, [], ◌∷◌, ◌++◌, Option, Some, None, Result, Ok, Err, IfOk, Bool, true, false, length, drop, sym, subst, arith, append-nil, length-append}
 use Rattle.std.proofs.Math.Seq.{drop-append_seam}
 use Rattle.xs_outside.specs.Edge.{Files}
 use Rattle.xs_tree.specs.Record.{Record}
@@ -23,8 +23,10 @@ use Rattle.xs_engine.specs.Evaluation.{IsEvaluatedFrom}
 use Rattle.xs_engine.specs.Fetches.{ReadsSheet}
 use Rattle.xs_engine.specs.Run.{source_of, module_name}
 use Rattle.xs_engine.specs.Due.{IsFile, IsReadAnswer, IsBytesAnswer, IsSheetAnswer, IsFaultlessAnswer, IsStaticAnswer, IsModulesAnswer, IsEndAnswer}
-use Rattle.xs_engine.specs.Due.{IsAnswer, Owed, fault, own, IsDue, RunsOver, IsReadRun, IsOfRun}
+use Rattle.xs_engine.specs.Due.{IsAnswer, IsRunAnswer, Owed, fault, own, IsDue}
 use Rattle.xs_engine.proofs.FirstFaultLemmas.{one_fault}
+use Rattle.xs_engine.proofs.OneAnswerLemmas.{one-evaluated}
+use Rattle.xs_engine.proofs.SameBuiltLemmas.{sheet-built}
 use Rattle.xs_engine.specs.Headline.{OnlyDue}
 use Rattle.xs_engine.specs.Reply.{FileGives, IsCheckAnswer, IsChecked, reply_of}
 
@@ -177,35 +179,55 @@ unfolding first_name
 one_name xs ys m n e f =
     ap (first_name []) (sym (drop-append_seam xs (m ∷ [])) ∙ ap (drop (length xs)) (sym e ∙ f) ∙ drop-append_seam xs (n ∷ []))
 
--- files give one answer alone, but to runs of a compiled stylesheet on a source
-over_source : (files : Option Files) (job : Job) (modules : List ModuleData) (a b : Answer) → IsFirstFault modules None → (s : Option (List ℕ))
-    → job.source ≡ s → IsFaultlessAnswer s files job modules a → IsFaultlessAnswer s files job modules b → (a ≡ b) ⊎ RunsOver files job modules b
-over_source files job modules a b first None is p q = inl (p ∙ sym q)
-over_source files job modules a b first (Some source) is p q = inr (record { source = source; run = is; faultless = first; answers = q })
+-- ---- files give one answer alone
 
-over_fault : (files : Option Files) (job : Job) (modules : List ModuleData) (a b : Answer) (f : Option StaticFault) → IsFirstFault modules f
-    → IsStaticAnswer f files job modules a → IsStaticAnswer f files job modules b → (a ≡ b) ⊎ RunsOver files job modules b
-over_fault files job modules a b None first p q = over_source files job modules a b first job.source refl p q
-over_fault files job modules a b (Some f) first p q = inl (p ∙ sym q)
+-- two compiled stylesheets that stand for the same modules have one answer on a source
+module _ (files : Files) (job : Job) (modules : List ModuleData) (source : List ℕ) (sheet other : Sheet) (stands : StandsFor modules sheet)
+    (also : StandsFor modules other) (a b : Answer) where
+  over_read : (found : Read (List Record)) → IsReadAnswer job sheet source found a → IsReadAnswer job other source found b → a ≡ b
+  over_read (read records) p q = one-evaluated job modules sheet other stands also records a b p q
+  over_read (bad number line) p q = p ∙ sym q
 
-one_over : (files : Option Files) (job : Job) (modules : List ModuleData) (a b : Answer) → IsModulesAnswer files job modules a
-    → IsModulesAnswer files job modules b → (a ≡ b) ⊎ RunsOver files job modules b
+  over_bytes : (bytes : Option (List ℕ)) → IsBytesAnswer job sheet source bytes a → IsBytesAnswer job other source bytes b → a ≡ b
+  over_bytes None p q = p ∙ sym q
+  over_bytes (Some bytes) p q = over_read (source_of bytes) p q
+
+  over_built : (built : Bool) → IsSheetAnswer built (Some files) job sheet source a → IsSheetAnswer built (Some files) job other source b → a ≡ b
+  over_built false p q = p ∙ sym q
+  over_built true p q =
+      let same : p.0 ≡ q.0 = sym p.1 ∙ q.1 in
+      over_bytes q.0 (subst (λ bytes. IsBytesAnswer job sheet source bytes a) same p.2) q.2
+
+  over_sheets : IsSheetAnswer (is_built sheet) (Some files) job sheet source a → IsSheetAnswer (is_built other) (Some files) job other source b → a ≡ b
+  over_sheets p q =
+      over_built (is_built other)
+      (subst (λ built. IsSheetAnswer built (Some files) job sheet source a) (sheet-built modules stands.0 also.0 sheet other stands.1 also.1) p) q
+
+over_run : (files : Files) (job : Job) (modules : List ModuleData) (source : List ℕ) (a b : Answer) → IsRunAnswer (Some files) job modules source a
+    → IsRunAnswer (Some files) job modules source b → a ≡ b
+over_run files job modules source a b p q = over_sheets files job modules source p.sheet q.sheet p.stands q.stands a b p.answers q.answers
+
+over_source : (files : Files) (job : Job) (modules : List ModuleData) (a b : Answer) (s : Option (List ℕ)) → IsFaultlessAnswer s (Some files) job modules a
+    → IsFaultlessAnswer s (Some files) job modules b → a ≡ b
+over_source files job modules a b None p q = p ∙ sym q
+over_source files job modules a b (Some source) p q = over_run files job modules source a b p q
+
+over_fault : (files : Files) (job : Job) (modules : List ModuleData) (a b : Answer) (f : Option StaticFault) → IsStaticAnswer f (Some files) job modules a
+    → IsStaticAnswer f (Some files) job modules b → a ≡ b
+over_fault files job modules a b None p q = over_source files job modules a b job.source p q
+over_fault files job modules a b (Some f) p q = p ∙ sym q
+
+one_over : (files : Files) (job : Job) (modules : List ModuleData) (a b : Answer) → IsModulesAnswer (Some files) job modules a
+    → IsModulesAnswer (Some files) job modules b → a ≡ b
 one_over files job modules a b p q =
-    over_fault files job modules a b q.fault q.first
-    (subst (λ f. IsStaticAnswer f files job modules a) (one_fault modules p.fault q.fault p.first q.first) p.answers) q.answers
+    over_fault files job modules a b q.fault
+    (subst (λ f. IsStaticAnswer f (Some files) job modules a) (one_fault modules p.fault q.fault p.first q.first) p.answers) q.answers
 
-read_run : (files : Option Files) (job : Job) (names : List (List ℕ)) (found : Mentioned) (a b : Answer) → ReadsSheet files job.sheet names (whole found)
-    → (a ≡ b) ⊎ RunsOver files job (numbered found) b → (a ≡ b) ⊎ IsReadRun files job b
-read_run files job names found a b reads (inl same) = inl same
-read_run files job names found a b reads (inr runs) = inr (record { names = names; found = found; reads = reads; runs = runs })
-
-one_end : (files : Option Files) (job : Job) (names : List (List ℕ)) (end : End) (a b : Answer) → ReadsSheet files job.sheet names end
-    → IsEndAnswer files job end a → IsEndAnswer files job end b → (a ≡ b) ⊎ IsReadRun files job b
-one_end files job names (whole found) a b reads p q =
-    read_run files job names found a b reads (one_over files job (numbered found) a b p q)
-one_end files job names (unread name) a b reads p q = absurd p
-one_end files job names (refused number name line) a b reads p q = inl (p ∙ sym q)
-one_end files job names out_of_memory a b reads p q = absurd p
+one_end : (files : Files) (job : Job) (end : End) (a b : Answer) → IsEndAnswer (Some files) job end a → IsEndAnswer (Some files) job end b → a ≡ b
+one_end files job (whole found) a b p q = one_over files job (numbered found) a b p q
+one_end files job (unread name) a b p q = absurd p
+one_end files job (refused number name line) a b p q = p ∙ sym q
+one_end files job out_of_memory a b p q = absurd p
 
 -- an end that has an answer is one of its own
 own_end : (files : Files) (job : Job) (end : End) (a : Answer) → IsEndAnswer (Some files) job end a → IsOwn end
@@ -214,39 +236,32 @@ own_end files job (unread name) a p = absurd p
 own_end files job (refused number name line) a p = tt
 own_end files job out_of_memory a p = absurd p
 
-one_answer : (files : Files) (job : Job) (a b : Answer) → IsAnswer (Some files) job a → IsAnswer (Some files) job b
-    → (a ≡ b) ⊎ IsReadRun (Some files) job b
+one_answer : (files : Files) (job : Job) (a b : Answer) → IsAnswer (Some files) job a → IsAnswer (Some files) job b → a ≡ b
 one_answer files job a b p q =
     let same = one_reading files [] 0 (named_by_words job.sheet ∷ []) p.names q.names p.end q.end p.reads q.reads (own_end files job p.end a p.answers)
     (own_end files job q.end b q.answers) in
-    one_end (Some files) job q.names q.end a b q.reads (subst (λ e. IsEndAnswer (Some files) job e a) same.1 p.answers) q.answers
+    one_end files job q.end a b (subst (λ e. IsEndAnswer (Some files) job e a) same.1 p.answers) q.answers
 
 one_owed : (files : Files) (job : Job) (failed failed' : List (List ℕ)) (a b : Answer) → Owed (IsAnswer (Some files) job) failed failed' a
-    → Owed (IsAnswer (Some files) job) failed failed' b → (a ≡ b) ⊎ IsReadRun (Some files) job b
-one_owed files job failed failed' a b (fault m e p) (fault n f q) = inl (p ∙ ap read_fault (one_name failed failed' m n e f) ∙ sym q)
+    → Owed (IsAnswer (Some files) job) failed failed' b → a ≡ b
+one_owed files job failed failed' a b (fault m e p) (fault n f q) = p ∙ ap read_fault (one_name failed failed' m n e f) ∙ sym q
 one_owed files job failed failed' a b (fault m e p) (own f q) = absurd (not_both failed failed' m e f)
 one_owed files job failed failed' a b (own e p) (fault n f q) = absurd (not_both failed failed' n f e)
 one_owed files job failed failed' a b (own e p) (own f q) = one_answer files job a b p q
 
 one_due : (files : Files) (job : Option Job) (failed failed' : List (List ℕ)) (a b : Answer) → IsDue (Some files) job failed failed' a
-    → IsDue (Some files) job failed failed' b → (a ≡ b) ⊎ IsOfRun (Some files) job b
-one_due files None failed failed' a b p q = inl (p.1 ∙ sym q.1)
+    → IsDue (Some files) job failed failed' b → a ≡ b
+one_due files None failed failed' a b p q = p.1 ∙ sym q.1
 one_due files (Some job) failed failed' a b p q = one_owed files job failed failed' a b p q
 
-or_of_run : (files : Option Files) (job : Option Job) (a b : Answer) (P : Answer → Type 0) → P a → (a ≡ b) ⊎ IsOfRun files job b
-    → P b ⊎ IsOfRun files job b
-or_of_run files job a b P p (inl same) = inl (subst P same p)
-or_of_run files job a b P p (inr runs) = inr runs
-
--- what holds of an answer that is due holds of each, but for those of runs
+-- what holds of an answer that is due holds of each
 pub only_due : (files : Option Files) (job : Option Job) (failed failed' : List (List ℕ)) (a : Answer) (P : Answer → Type 0)
     → IsDue files job failed failed' a → P a → OnlyDue files job failed failed' P
 only_due None job failed failed' a P due p = tt
-only_due (Some files) job failed failed' a P due p =
-    λ b other. or_of_run (Some files) job a b P p (one_due files job failed failed' a b due other)
+only_due (Some files) job failed failed' a P due p = λ b other. subst P (one_due files job failed failed' a b due other) p
 
 -- and what holds of all answers
 pub each_due : (files : Option Files) (job : Option Job) (failed failed' : List (List ℕ)) (P : Answer → Type 0) → ((a : Answer) → P a)
     → OnlyDue files job failed failed' P
 each_due None job failed failed' P p = tt
-each_due (Some files) job failed failed' P p = λ a due. inl (p a)
+each_due (Some files) job failed failed' P p = λ a due. p a

@@ -8,4 +8,13 @@ pub mod FirstFaultLemmas
 pub mod GivesLemmas
 pub mod ItemLemmas
 pub mod JobLemmas
+pub mod OneAnswerLemmas
+pub mod OneOrderLemmas
+pub mod SameBuiltLemmas
+pub mod SameKindLemmas
+pub mod SameModeLemmas
+pub mod SameRuleLemmas
+pub mod SameSettlingLemmas
+pub mod SameTemplateLemmas
+pub mod SameTraceLemmas
 pub mod SheetLemmas

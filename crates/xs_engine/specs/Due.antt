@@ -2,7 +2,6 @@
 use Rattle.std.specs.Prelude.{◌≡◌, ℕ, Bool, true, false, List, [], ◌∷◌, ◌++◌, Option, Some, None, IfSome}
 use Rattle.xs_compile.specs.StandsFor.{StandsFor}
 use Rattle.xs_outside.specs.Edge.{Files}
-use Rattle.xs_modules.specs.Mentioned.{Mentioned}
 use Rattle.xs_modules.specs.Numbering.{ModuleData, numbered}
 use Rattle.xs_modules.specs.Reading.{End, whole, unread, refused, out_of_memory}
 use Rattle.xs_static.specs.Faults.{IsFirstFault}
@@ -86,20 +85,3 @@ pub data Owed (P : Answer → Type 0) (failed failed_after : List (List ℕ)) (a
 abbrev pub IsDue : Option Files → Option Job → (failed failed_after : List (List ℕ)) → Answer → Type 0
 IsDue files None failed failed_after answer = (failed_after ≡ failed) × (answer ≡ usage)
 IsDue files (Some job) failed failed_after answer = Owed (IsAnswer files job) failed failed_after answer
-
--- the answer of a run on a source, whose modules were read and have no static fault
-pub record RunsOver (files : Option Files) (job : Job) (modules : List ModuleData) (answer : Answer) : Type 0 where
-  pub source : List ℕ
-  pub run : job.source ≡ Some source
-  pub faultless : IsFirstFault modules None
-  pub answers : IsRunAnswer files job modules source answer
-
-pub record IsReadRun (files : Option Files) (given : Job) (answer : Answer) : Type 0 where
-  pub names : List (List ℕ)
-  pub found : Mentioned
-  pub reads : ReadsSheet files given.sheet names (whole found)
-  pub runs : RunsOver files given (numbered found) answer
-
-abbrev pub IsOfRun : Option Files → Option Job → Answer → Type 0
-IsOfRun files None answer = ⊥
-IsOfRun files (Some job) answer = IsReadRun files job answer

@@ -3,19 +3,17 @@ use Rattle.std.specs.Prelude.{◌≡◌, ◌≢◌, ℕ, ◌⊎◌, List, [], �
 use Rattle.xs_outside.specs.Edge.{Files, IsBeginning, raised}
 use Rattle.xs_engine.specs.declared.status.TheConstants.{OK, RUN_FAULT, WRITE_FAULT, NO_MEMORY}
 use Rattle.xs_engine.specs.Answer.{Answer}
-use Rattle.xs_engine.specs.Due.{IsDue, IsOfRun}
+use Rattle.xs_engine.specs.Due.{IsDue}
 use Rattle.xs_engine.specs.Job.{Job}
 
 -- P of an answer that is due. Where the library tells no files, these are some files of which it is due.
 abbrev pub OfDue : Option Files → Option Job → (failed failed_after : List (List ℕ)) → (Answer → Type 0) → Type 0
 OfDue files job failed failed_after P = (answer : Answer) × IsDue files job failed failed_after answer × P answer
 
--- Where the library tells its files, P of whatever answer is due, or that is the answer of a run of some compiled stylesheet that
--- stands for the modules: that all of these have one answer is not claimed.
+-- where the library tells its files, P of whatever answer is due
 abbrev pub OnlyDue : Option Files → Option Job → (failed failed_after : List (List ℕ)) → (Answer → Type 0) → Type 0
 OnlyDue None job failed failed_after P = Unit {0}
-OnlyDue (Some files) job failed failed_after P =
-    (answer : Answer) → IsDue (Some files) job failed failed_after answer → P answer ⊎ IsOfRun (Some files) job answer
+OnlyDue (Some files) job failed failed_after P = (answer : Answer) → IsDue (Some files) job failed failed_after answer → P answer
 
 -- A sink that tells its bytes holds what it held and then this many more.
 abbrev pub Gained : Option (List ℕ) → Option (List ℕ) → (List ℕ → Type 0) → Type 0

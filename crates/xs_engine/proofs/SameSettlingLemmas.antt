@@ -1,0 +1,165 @@
+-- Settling all globals comes to one end; and to the same one for two stylesheets whose attempts at globals are the same.
+use Rattle.std.proofs.Common.{◌≡◌, ◌⊎◌, inl, inr, ⊎_elim, ℕ, ◌+◌, ◌-◌, List, [], ◌∷◌, slice_get, Option, Some, None, Bool, true, false, refl, sym, ap, subst, ◌∙◌}
+use Rattle.std.proofs.lemmas.Bool.{true≢false}
+use Rattle.xs_trace.specs.Cut.{Cut, End, Whole, Fault, Needs, Spent, Full, cut}
+use Rattle.xs_trace.specs.Kept.{spot}
+use Rattle.xs_trace.specs.declared.item.Spot.{Spot}
+use Rattle.xs_value.specs.declared.value.Value.{Value}
+use Rattle.xs_run.specs.World.{World}
+use Rattle.xs_run.specs.Globals.{Table, Settled, settled, ended, Settles, AllSettle, SettlesAll, IsInOrder, IsUnsettled, at_first, attempt_trace, attempt_value}
+use Rattle.xs_run.specs.Globals.{is_under, once_more, tried, with_globals, with_passed, with_value}
+use Rattle.xs_run.specs.Globals as settles
+use Rattle.xs_engine.proofs.OneOrderLemmas.{one-order}
+
+-- ---- one end
+module _ (w : World) (budget : ℕ) where
+  -- the end behind a global that was needed
+  abbrev After : (under : List ℕ) (g : ℕ) → Settled → Settled → Type 0
+  After under g (settled u) r = Settles w budget under g u r
+  After under g (ended u s) r = r ≡ ended u s
+
+  record Needed (under : List ℕ) (g h : ℕ) (t : Table) (r : Settled) : Type 0 where
+    end : Settled
+    is_settled : Settles w budget (g ∷ under) h (once_more t) end
+    after : After under g end r
+
+  abbrev OrCircle : (is_circle : Bool) (under : List ℕ) (g h : ℕ) (t u : Table) → Spot → Settled → Type 0
+  OrCircle true under g h t u s r = r ≡ ended u s
+  OrCircle false under g h t u s r = Needed under g h t r
+
+  -- what a global is settled to, by the end of the attempt
+  abbrev By : End → (under : List ℕ) (g : ℕ) → Table → Settled → Type 0
+  By Whole under g t r = r ≡ settled (with_value w g (with_passed (tried w budget t g) t))
+  By (Fault f p) under g t r = r ≡ ended (with_passed (tried w budget t g) t) (spot f p)
+  By (Spent p) under g t r = r ≡ ended (with_passed (tried w budget t g) t) (spot 50 p)
+  By (Full p) under g t r = ⊥
+  By (Needs h p) under g t r = OrCircle (is_under (g ∷ under) h) under g h t (with_passed (tried w budget t g) t) (spot 59 p) r
+
+  by-end : {under : List ℕ} {g : ℕ} {t : Table} {r : Settled} → Settles w budget under g t r → By (tried w budget t g).end under g t r
+  by-end {under = under} {g = g} {t = t} (settles.whole e) =
+      subst (λ z. By z under g t (settled (with_value w g (with_passed (tried w budget t g) t)))) (sym e) refl
+  by-end {under = under} {g = g} {t = t} (settles.faults {f = f} {p = p} e) =
+      subst (λ z. By z under g t (ended (with_passed (tried w budget t g) t) (spot f p))) (sym e) refl
+  by-end {under = under} {g = g} {t = t} (settles.spends {p = p} e) =
+      subst (λ z. By z under g t (ended (with_passed (tried w budget t g) t) (spot 50 p))) (sym e) refl
+  by-end {under = under} {g = g} {t = t} (settles.circular {h = h} {p = p} e n) =
+      subst (λ z. By z under g t (ended (with_passed (tried w budget t g) t) (spot 59 p))) (sym e)
+      (subst (λ b. OrCircle b under g h t (with_passed (tried w budget t g) t) (spot 59 p) (ended (with_passed (tried w budget t g) t) (spot 59 p)))
+      (sym n) refl)
+  by-end {under = under} {g = g} {t = t} (settles.needs {u = u} {h = h} {p = p} {r = r} e n k m) =
+      subst (λ z. By z under g t r) (sym e)
+      (subst (λ b. OrCircle b under g h t (with_passed (tried w budget t g) t) (spot 59 p) r) (sym n)
+      (record { end = settled u; is_settled = k; after = m }))
+  by-end {under = under} {g = g} {t = t} (settles.stops {u = u} {h = h} {p = p} {s = s} e n k) =
+      subst (λ z. By z under g t (ended u s)) (sym e)
+      (subst (λ b. OrCircle b under g h t (with_passed (tried w budget t g) t) (spot 59 p) (ended u s)) (sym n)
+      (record { end = ended u s; is_settled = k; after = refl }))
+
+  one-settled : {under : List ℕ} {g : ℕ} {t : Table} {r : Settled} → Settles w budget under g t r → (s : Settled) → Settles w budget under g t s → r ≡ s
+  one-settled {under = under} {g = g} {t = t} (settles.whole e) s x = sym (subst (λ z. By z under g t s) e (by-end x))
+  one-settled {under = under} {g = g} {t = t} (settles.faults e) s x = sym (subst (λ z. By z under g t s) e (by-end x))
+  one-settled {under = under} {g = g} {t = t} (settles.spends e) s x = sym (subst (λ z. By z under g t s) e (by-end x))
+  one-settled {under = under} {g = g} {t = t} (settles.circular {h = h} {p = p} e n) s x =
+      sym (subst (λ b. OrCircle b under g h t (with_passed (tried w budget t g) t) (spot 59 p) s) n (subst (λ z. By z under g t s) e (by-end x)))
+  one-settled {under = under} {g = g} {t = t} (settles.needs {u = u} {h = h} {p = p} e n k m) s x =
+      let y : Needed under g h t s =
+          subst (λ b. OrCircle b under g h t (with_passed (tried w budget t g) t) (spot 59 p) s) n (subst (λ z. By z under g t s) e (by-end x)) in
+      let same : settled u ≡ y.end = one-settled k y.end y.is_settled in
+      one-settled m s (subst (λ v. After under g v s) (sym same) y.after)
+  one-settled {under = under} {g = g} {t = t} (settles.stops {u = u} {h = h} {p = p} {s = o} e n k) s x =
+      let y : Needed under g h t s =
+          subst (λ b. OrCircle b under g h t (with_passed (tried w budget t g) t) (spot 59 p) s) n (subst (λ z. By z under g t s) e (by-end x)) in
+      let same : ended u o ≡ y.end = one-settled k y.end y.is_settled in
+      sym (subst (λ v. After under g v s) (sym same) y.after)
+
+  -- the end behind the first of several
+  abbrev AllAfter : List ℕ → Settled → Settled → Type 0
+  AllAfter gs (settled u) r = AllSettle w budget gs u r
+  AllAfter gs (ended u s) r = r ≡ ended u s
+
+  record First (g : ℕ) (gs : List ℕ) (t : Table) (r : Settled) : Type 0 where
+    unsettled : IsUnsettled t g
+    end : Settled
+    is_settled : Settles w budget [] g t end
+    after : AllAfter gs end r
+
+  record Skips (g : ℕ) (gs : List ℕ) (t : Table) (r : Settled) : Type 0 where
+    has : IsUnsettled t g → ⊥
+    rest : AllSettle w budget gs t r
+
+  abbrev ByFirst : List ℕ → Table → Settled → Type 0
+  ByFirst [] t r = r ≡ settled t
+  ByFirst (g ∷ gs) t r = Skips g gs t r ⊎ First g gs t r
+
+  by-first : {gs : List ℕ} {t : Table} {r : Settled} → AllSettle w budget gs t r → ByFirst gs t r
+  by-first settles.none = refl
+  by-first (settles.skips n k) = inl (record { has = n; rest = k })
+  by-first (settles.next {u = u} l k m) = inr (record { unsettled = l; end = settled u; is_settled = k; after = m })
+  by-first (settles.stop {u = u} {s = s} l k) = inr (record { unsettled = l; end = ended u s; is_settled = k; after = refl })
+
+  one-end : {gs : List ℕ} {t : Table} {r : Settled} → AllSettle w budget gs t r → (s : Settled) → AllSettle w budget gs t s → r ≡ s
+  one-end {t = t} settles.none s x = let y : s ≡ settled t = by-first x in sym y
+  one-end (settles.skips {g = g} {gs = gs} {t = t} n k) s x =
+      let y : Skips g gs t s ⊎ First g gs t s = by-first x in
+      ⊎_elim (λ z. one-end k s z.rest) (λ z. absurd (n z.unsettled)) y
+  one-end (settles.next {g = g} {gs = gs} {t = t} {u = u} l k m) s x =
+      let y : Skips g gs t s ⊎ First g gs t s = by-first x in
+      ⊎_elim (λ z. absurd (z.has l)) (λ z. one-end m s (subst (λ v. AllAfter gs v s) (sym (one-settled k z.end z.is_settled)) z.after)) y
+  one-end (settles.stop {g = g} {gs = gs} {t = t} {u = u} {s = o} l k) s x =
+      let y : Skips g gs t s ⊎ First g gs t s = by-first x in
+      ⊎_elim (λ z. absurd (z.has l)) (λ z. sym (subst (λ v. AllAfter gs v s) (sym (one-settled k z.end z.is_settled)) z.after)) y
+
+  pub one-settling : (given : List (List ℕ × List ℕ)) (r s : Settled) → SettlesAll w given budget r → SettlesAll w given budget s → r ≡ s
+  one-settling given r s a b =
+      let same : a.order ≡ b.order = one-order w.sheet.globals.items a.order b.order a.in_order b.in_order in
+      one-end a.settle s (subst (λ o. AllSettle w budget o (at_first w.sheet given) s) (sym same) b.settle)
+
+-- ---- two stylesheets with the same attempts
+module _ (w v : World) (budget : ℕ)
+    (traces : (vs : List (Option Value)) (g : ℕ) → attempt_trace (with_globals w vs) (slice_get w.sheet.globals.items g)
+    ≡ attempt_trace (with_globals v vs) (slice_get v.sheet.globals.items g))
+    (values : (vs : List (Option Value)) (g : ℕ) → attempt_value (with_globals w vs) (slice_get w.sheet.globals.items g)
+    ≡ attempt_value (with_globals v vs) (slice_get v.sheet.globals.items g)) where
+  tried-same : (t : Table) (g : ℕ) → tried w budget t g ≡ tried v budget t g
+  tried-same t g = ap (λ x. cut x (budget - t.ticks) None) (traces t.values g)
+
+  with-same : (t : Table) (g : ℕ) → with_value v g (with_passed (tried v budget t g) t) ≡ with_value w g (with_passed (tried w budget t g) t)
+  with-same t g =
+      ap (λ (c : Cut _). with_value v g (with_passed c t)) (sym (tried-same t g))
+      ∙ ap (λ (x : Value). settles.valued g x (with_passed (tried w budget t g) t)) (sym (values t.values g))
+
+  passed-same : (t : Table) (g : ℕ) → with_passed (tried v budget t g) t ≡ with_passed (tried w budget t g) t
+  passed-same t g = ap (λ (c : Cut _). with_passed c t) (sym (tried-same t g))
+
+  end-same : (t : Table) (g : ℕ) (e : End) → (tried w budget t g).end ≡ e → (tried v budget t g).end ≡ e
+  end-same t g e q = ap (λ (c : Cut _). c.end) (sym (tried-same t g)) ∙ q
+
+  settles-same : {under : List ℕ} {g : ℕ} {t : Table} {r : Settled} → Settles w budget under g t r → Settles v budget under g t r
+  settles-same {under = under} {g = g} {t = t} (settles.whole e) =
+      subst (λ (u : Table). Settles v budget under g t (settled u)) (with-same t g) (settles.whole (end-same t g Whole e))
+  settles-same {under = under} {g = g} {t = t} (settles.faults {f = f} {p = p} e) =
+      subst (λ (u : Table). Settles v budget under g t (ended u (spot f p))) (passed-same t g) (settles.faults (end-same t g (Fault f p) e))
+  settles-same {under = under} {g = g} {t = t} (settles.spends {p = p} e) =
+      subst (λ (u : Table). Settles v budget under g t (ended u (spot 50 p))) (passed-same t g) (settles.spends (end-same t g (Spent p) e))
+  settles-same {under = under} {g = g} {t = t} (settles.circular {h = h} {p = p} e n) =
+      subst (λ (u : Table). Settles v budget under g t (ended u (spot 59 p))) (passed-same t g) (settles.circular (end-same t g (Needs h p) e) n)
+  settles-same {g = g} {t = t} (settles.needs {h = h} {p = p} e n k m) =
+      settles.needs (end-same t g (Needs h p) e) n (settles-same k) (settles-same m)
+  settles-same {g = g} {t = t} (settles.stops {h = h} {p = p} e n k) = settles.stops (end-same t g (Needs h p) e) n (settles-same k)
+
+  all-same : {gs : List ℕ} {t : Table} {r : Settled} → AllSettle w budget gs t r → AllSettle v budget gs t r
+  all-same settles.none = settles.none
+  all-same (settles.skips n k) = settles.skips n (all-same k)
+  all-same (settles.next l k m) = settles.next l (settles-same k) (all-same m)
+  all-same (settles.stop l k) = settles.stop l (settles-same k)
+
+  -- what is settled by one is settled by the other, and to nothing else
+  pub same-settling : (given : List (List ℕ × List ℕ)) (r s : Settled) → at_first w.sheet given ≡ at_first v.sheet given →
+      ((o : List ℕ) → IsInOrder w.sheet.globals.items o → IsInOrder v.sheet.globals.items o) → SettlesAll w given budget r → SettlesAll v given budget s →
+      r ≡ s
+  same-settling given r s first order a b =
+      one-settling v budget given r s (record {
+        order = a.order;
+        in_order = order a.order a.in_order;
+        settle = subst (λ t. AllSettle v budget a.order t r) first (all-same a.settle);
+      }) b
