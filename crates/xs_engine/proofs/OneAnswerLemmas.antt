@@ -80,7 +80,7 @@ module _ (job : Job) (ms : List ModuleData) (ma mb : List Name) (a b : Sheet) (s
   evaluated-from rs x y p q =
       let strips : a.strips.items ≡ b.strips.items = sa.strips ∙ sym sb.strips in
       let r : IsEvaluatedOn job b (without (stripped a.strips.items rs) rs) y =
-          subst (λ tests. IsEvaluatedOn job b (without (stripped tests rs) rs) y) (sym strips) q in
+      subst (λ tests. IsEvaluatedOn job b (without (stripped tests rs) rs) y) (sym strips) q in
       one-run p.0 r.0 (without (stripped a.strips.items rs) rs) x y p.1 r.1
 
 -- the law

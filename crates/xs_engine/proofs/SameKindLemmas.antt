@@ -209,4 +209,3 @@ by-literal P h k e = absurd (apart (tag k) 18 refl e)
 pub by-extension : (P : InstrKind → Type 0) → ((x : _) → P (Extension x)) → (k : InstrKind) → tag k ≡ 19 → P k
 by-extension P h (Extension x) e = h x
 by-extension P h k e = absurd (apart (tag k) 19 refl e)
-

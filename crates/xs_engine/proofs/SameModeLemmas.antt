@@ -112,4 +112,4 @@ module _ (ma mb : List Name) where
       ∙ same-place mb x y s.place u.place s.found u.found)
 
   pub same-test : (m n k l : ℕ) → SameMode ma mb m n → SameMode ma mb k l → (m == k) ≡ (n == l)
-  same-test m n k l x y = mode-test x.0 y.0 m n k l x.1 x.2 y.1 y.2
+  same-test m n k l x y = mode-test x.0 y.0 m n k l x.1.0 x.1.1 y.1.0 y.1.1

@@ -196,6 +196,16 @@ module _ (ms : List ModuleData) (ma mb : List Name) (a b : Sheet) (i j : RuleInd
       ∙ sym (ap (λ z. last_passed name None z.params.items us) (outs-Passed' m other)
       ∙ ap (λ bs. last_passed name None bs us) (items_shown-the_row-Binding-3 m other))
 
+  -- without any fallback neither has one
+  unless-same : {m n : _} (r : Row_of-Body m) (s : Row_of-Body n) (ps : List Place) → AreBodies SA ps r → AreBodies SB ps s → (site : Site)
+      (t u : Trace Task) → t ≡ u → unless_none r site t ≡ unless_none s site u
+  unless-same end_of-Body end_of-Body ps x y site t u e = refl
+  unless-same end_of-Body (more_of-Body d others) [] x y site t u e = absurd y
+  unless-same end_of-Body (more_of-Body d others) (p ∷ ps) x y site t u e = absurd x
+  unless-same (more_of-Body c others) end_of-Body [] x y site t u e = absurd x
+  unless-same (more_of-Body c others) end_of-Body (p ∷ ps) x y site t u e = absurd y
+  unless-same (more_of-Body c others) (more_of-Body d others') ps x y site t u e = e
+
   mutual
     kind-same : (k l : InstrKind) (p : Place) → IsKind SA p k → IsKind SB p l → (site : Site) (f : Focus) (mode : ℕ) → Modes f.mode mode → CallsSame f.depth →
         (vs : List Value) (next other : List Value → Trace Task) → next ≡ other →
@@ -289,11 +299,11 @@ module _ (ms : List ModuleData) (ma mb : List Name) (a b : Sheet) (i j : RuleInd
         (captured-same _ _ _ _ (body-same body body' (body_at ms p) x.2 z.2 (captured_in f) mode q k vs)
         (ap (λ c. λ es. says site (fragment_text es) ⨾ ended_if c site) (x.1 ∙ sym z.1))) (ap (λ (h : List Value → Trace Task). h vs) e))
         l (kind-tag SB p l y ∙ sym (kind-tag SA p (Message terminate body) x)) y
-    kind-same (Variable' where name content) l p x y site f mode q k vs next other e =
-        by-variable (λ z. IsKind SB p z → instr_trace (Variable' where name content) site WA (called WA f.depth) f vs next
-        ≡ instr_trace z site WB (called WB f.depth) (remoded mode f) vs other) (λ where' name' content' z.
+    kind-same (Variable' here name content) l p x y site f mode q k vs next other e =
+        by-variable (λ z. IsKind SB p z → instr_trace (Variable' here name content) site WA (called WA f.depth) f vs next
+        ≡ instr_trace z site WB (called WB f.depth) (remoded mode f) vs other) (λ here' name' content' z.
         content-same content content' p x.3 z.3 site f mode q k vs _ _ (ap (λ (h : List Value → Trace Task). λ (v : Value). h (vs ++ v ∷ [])) e))
-        l (kind-tag SB p l y ∙ sym (kind-tag SA p (Variable' where name content) x)) y
+        l (kind-tag SB p l y ∙ sym (kind-tag SA p (Variable' here name content) x)) y
     kind-same (Literal start body) l p x y site f mode q k vs next other e =
         by-literal (λ z. IsKind SB p z → instr_trace (Literal start body) site WA (called WA f.depth) f vs next
         ≡ instr_trace z site WB (called WB f.depth) (remoded mode f) vs other) (λ start' body' z.
@@ -387,13 +397,8 @@ module _ (ms : List ModuleData) (ma mb : List Name) (a b : Sheet) (i j : RuleInd
     fallbacks-same : (c d : Fallbacks) (ps : List Place) → AreFallbacks SA ps c → AreFallbacks SB ps d → (site : Site) (f : Focus) (mode : ℕ) →
         Modes f.mode mode → CallsSame f.depth → (vs : List Value) →
         fallbacks_trace c site WA (called WA f.depth) f vs ≡ fallbacks_trace d site WB (called WB f.depth) (remoded mode f) vs
-    fallbacks-same (Fallbacks' n end_of-Body) (Fallbacks' m end_of-Body) ps x y site f mode q k vs = refl
-    fallbacks-same (Fallbacks' n end_of-Body) (Fallbacks' m (more_of-Body d others)) [] x y site f mode q k vs = absurd y
-    fallbacks-same (Fallbacks' n end_of-Body) (Fallbacks' m (more_of-Body d others)) (p ∷ ps) x y site f mode q k vs = absurd x
-    fallbacks-same (Fallbacks' n (more_of-Body c others)) (Fallbacks' m end_of-Body) [] x y site f mode q k vs = absurd x
-    fallbacks-same (Fallbacks' n (more_of-Body c others)) (Fallbacks' m end_of-Body) (p ∷ ps) x y site f mode q k vs = absurd y
-    fallbacks-same (Fallbacks' n (more_of-Body c others)) (Fallbacks' m (more_of-Body d others')) ps x y site f mode q k vs =
-        bodies-same (more_of-Body c others) (more_of-Body d others') ps x y f mode q k vs
+    fallbacks-same (Fallbacks' n row) (Fallbacks' m rows) ps x y site f mode q k vs =
+        unless-same row rows ps x y site _ _ (bodies-same row rows ps x y f mode q k vs)
 
     bodies-same : {m n : _} (r : Row_of-Body m) (s : Row_of-Body n) (ps : List Place) → AreBodies SA ps r → AreBodies SB ps s → (f : Focus) (mode : ℕ) →
         Modes f.mode mode → CallsSame f.depth → (vs : List Value) →
