@@ -7,7 +7,7 @@ use Rattle.std.proofs.lemmas.Slice.Eq.{bytes_eq-Decides}
 use Rattle.xs_elements.specs.Nodes.{Name, is_same_name}
 use Rattle.xs_declared.specs.Labels.{IsMode}
 use Rattle.xs_trace.proofs.KeptLemmas.{some_same}
-use Rattle.xs_engine.proofs.SameTraceLemmas.{SameMode}
+use Rattle.xs_engine.proofs.SamePartLemmas.{SameMode}
 
 and-left : (a b : Bool) → (a && b) ≡ true → a ≡ true
 and-left true b e = refl

@@ -26,7 +26,7 @@ use Rattle.xs_tree.specs.Record.{Record}
 use Rattle.xs_value.specs.Tables.{Table}
 use Rattle.xs_xpath.specs.Exprs.{trees_from}
 use Rattle.xs_xpath.specs.Tree.{Tree}
-use Rattle.xs_engine.proofs.SameTraceLemmas.{SameMode}
+use Rattle.xs_engine.proofs.SamePartLemmas.{SameMode}
 use Rattle.xs_engine.proofs.SameModeLemmas.{same-test}
 
 -- what is found of both is alike, or nothing is

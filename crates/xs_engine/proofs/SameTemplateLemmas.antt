@@ -40,7 +40,8 @@ use Rattle.xs_run.specs.Trace.{built_in, called, chars, fitting, fragment_of, mo
 use Rattle.xs_run.specs.Trace.{template_trace, content_trace, body_trace}
 use Rattle.xs_run.specs.World.{World, alone_at, at_node, by_rule, captured_in, with_depth}
 use Rattle.xs_run.specs.declared.focus.Focus.{Focus}
-use Rattle.xs_engine.proofs.SameTraceLemmas.{CallsSame, SameMode, SameParams, applied-same, body-same, content-same, if-same, remoded, same-none, value-same}
+use Rattle.xs_engine.proofs.SamePartLemmas.{SameMode, SameParams, if-same, remoded, same-none}
+use Rattle.xs_engine.proofs.SameTraceLemmas.{CallsSame, applied-same, body-same, content-same, value-same}
 use Rattle.xs_engine.proofs.SameRuleLemmas.{IfBoth, SameTemplate, among-same, get-both, imported-same, templates-same, paired}
 
 module _ (ms : List ModuleData) (ma mb : List Name) (a b : Sheet) (i j : RuleIndex) (T : List Record) (K : List Table) (gs : List (Option Value))

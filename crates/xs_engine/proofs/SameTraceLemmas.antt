@@ -63,52 +63,10 @@ use Rattle.xs_run.specs.Trace.{Entry, named, fitting, overridden, Calls, each, s
 use Rattle.xs_run.specs.Trace.{passing, imports, chars, says, ended_if, begins, fragment_of, instr_trace, body_trace, row_trace, content_trace}
 use Rattle.xs_run.specs.Trace.{values_trace, choice_trace, whens_trace, fallbacks_trace, unless_none, bodies_trace, param_trace, params_trace}
 use Rattle.xs_run.specs.Trace.{template_trace, built_in, ruled, entered, called}
+use Rattle.xs_engine.proofs.SamePartLemmas.{SameMode, SameParams, captured-same, each-same, evaluated-same, if-same, joined-same, no-grain, remoded, same-none}
 use Rattle.xs_engine.proofs.SameKindLemmas.{tag, kind-tag, by-applies, by-calls, by-imports, by-each, by-value, by-copy-of, by-copy, by-number, by-choose, by-if}
 use Rattle.xs_engine.proofs.SameKindLemmas.{by-text, by-element, by-attribute, by-comment, by-pi, by-message, by-variable, by-literal, by-extension}
 
--- ---- traces of equal parts
-joined-same : (x v y z : Trace Task) → x ≡ v → y ≡ z → x ⨾ y ≡ v ⨾ z
-joined-same x v y z e o = ap (λ t. t ⨾ y) e ∙ ap (λ t. v ⨾ t) o
-
-captured-same : (x v : Trace Task) (h k : List Event → Trace Task) → x ≡ v → h ≡ k → captured x h ≡ captured v k
-captured-same x v h k e o = ap (λ t. captured t h) e ∙ ap (λ g. captured v g) o
-
-evaluated-same : {A : Type 0} (p : Site) (r q : Run A) (h k : A → Trace Task) → r ≡ q → h ≡ k → evaluated p r h ≡ evaluated p q k
-evaluated-same p r q h k e o = ap (λ x. evaluated p x h) e ∙ ap (λ g. evaluated p q g) o
-
-pub if-same : (b : Bool) (x v y z : Trace Task) → x ≡ v → y ≡ z → cond b x y ≡ cond b v z
-if-same true x v y z e o = e
-if-same false x v y z e o = o
-
-no-grain : (b : Bool) (job : Job) (p : Site) (body : Focus → Trace Task) (f : Focus) (ns : List ℕ) →
-    spread_by (cond b None None) job p body f ns ≡ each p body f 1 ns
-no-grain true job p body f ns = refl
-no-grain false job p body f ns = refl
-
--- ---- the same but for the number of the mode
-abbrev pub remoded : ℕ → Focus → Focus
-remoded mode f = record f { mode = mode }
-
--- two numbers of one mode, by two lists of modes
-abbrev pub SameMode : (ma mb : List Name) → ℕ → ℕ → Type 0
-SameMode ma mb m n = (o : Option Name) × (IsMode ma o m × IsMode mb o n)
-
-each-same : (p : Site) (x v : Focus → Trace Task) (f : Focus) (mode : ℕ) → ((n i : ℕ) → x (at_node n i f) ≡ v (at_node n i (remoded mode f))) →
-    (i : ℕ) (ns : List ℕ) → each p x f i ns ≡ each p v (remoded mode f) i ns
-each-same p x v f mode e i [] = refl
-each-same p x v f mode e i (n ∷ ns) =
-    ap (λ t. Tick p ∷ t)
-    (joined-same (x (at_node n i f)) (v (at_node n i (remoded mode f))) (each p x f (i + 1) ns) (each p v (remoded mode f) (i + 1) ns) (e n i)
-    (each-same p x v f mode e (i + 1) ns))
-
--- ---- parameters with the same values for all names
-abbrev pub SameParams : Params → Params → Type 0
-SameParams ps qs = (name : Label) → value_passed name ps ≡ value_passed name qs
-
-pub same-none : SameParams no_params no_params
-same-none name = refl
-
--- ---- over two sheets
 module _ (ms : List ModuleData) (ma mb : List Name) (a b : Sheet) (i j : RuleIndex) (T : List Record) (K : List Table) (gs : List (Option Value)) where
   abbrev SA : Source
   SA = record { modules = ms; modes = ma }
