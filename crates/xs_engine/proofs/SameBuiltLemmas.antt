@@ -1,8 +1,7 @@
 -- Of two compiled stylesheets that stand for the same modules both are built or neither is.
-use Rattle.std.proofs.Common.{◌≡◌, ◌&&◌, ◌==◌, ℕ, suc, length, List, [], ◌∷◌, codes, Option, Some, None, Bool, true, false, refl, sym, ap, ◌∙◌, arith}
+use Rattle.std.proofs.Common.{◌≡◌, ◌&&◌, ◌==◌, ℕ, suc, length, List, [], ◌∷◌, Bool, true, false, refl, sym, ap, ◌∙◌, arith}
 use Rattle.std.proofs.lemmas.Bool.Decides.{nat_tests}
 use Rattle.std.proofs.lemmas.Bool.{true≢false}
-use Rattle.std.proofs.lemmas.List.Elements.{length_all_zip}
 use Rattle.std.specs.List.{AllZip, list_all}
 use Rattle.xs_compile.specs.Bodies.{Source, AreBindings, AreBodies, AreFallbacks, AreInstrs, AreWhens, IsBody, IsChoice, IsContent, IsKind, IsPassed, IsPutAttribute, IsSort}
 use Rattle.xs_compile.specs.Bodies.{first_body, is_otherwise, put_attributes}
@@ -32,7 +31,7 @@ use Rattle.xs_sheet.specs.declared.sheet.Sheet.{Sheet}
 use Rattle.xs_static.specs.Modules.{Place}
 use Rattle.xs_engine.specs.Built.{binding_is_built, bindings_are_built, bodies_are_built, body_is_built, choice_is_built, content_is_built, fallbacks_are_built}
 use Rattle.xs_engine.specs.Built.{global_is_built, is_built, is_none, kind_is_built, passed_is_built, row_is_built, template_is_built, whens_are_built, writes_text}
-use Rattle.xs_engine.proofs.SameKindLemmas.{tag, kind-tag, by-applies, by-calls, by-imports, by-each, by-value, by-copy-of, by-copy, by-number, by-choose, by-if}
+use Rattle.xs_engine.proofs.SameKindLemmas.{kind-tag, by-applies, by-calls, by-imports, by-each, by-value, by-copy-of, by-copy, by-number, by-choose, by-if}
 use Rattle.xs_engine.proofs.SameKindLemmas.{by-text, by-element, by-attribute, by-comment, by-pi, by-message, by-variable, by-literal, by-extension}
 use Rattle.xs_engine.proofs.SameRuleLemmas.{SameTemplate, paired, templates-same}
 

@@ -1,5 +1,5 @@
 -- The numbers of modes by two lists: two numbers of one mode are apart from those of another one alike.
-use Rattle.std.proofs.Common.{◌≡◌, ◌==◌, ◌&&◌, ◌<◌, ℕ, zero, suc, length, List, get_or, option_map, position, Option, Some, None, Bool, true, false, is_some, bytes_eq, refl, sym, ap, subst, ◌∙◌, arith}
+use Rattle.std.proofs.Common.{◌≡◌, ◌==◌, ◌&&◌, ℕ, suc, List, get_or, option_map, position, Option, Some, None, Bool, true, false, is_some, bytes_eq, refl, sym, ap, ◌∙◌, arith}
 use Rattle.std.proofs.lemmas.Bool.Decides.{nat_tests}
 use Rattle.std.proofs.lemmas.Bool.{true≢false}
 use Rattle.std.proofs.lemmas.List.Quantifiers.{position-Some}

@@ -1,6 +1,5 @@
 -- Settling all globals comes to one end; and to the same one for two stylesheets whose attempts at globals are the same.
-use Rattle.std.proofs.Common.{◌≡◌, ◌⊎◌, inl, inr, ⊎_elim, ℕ, ◌+◌, ◌-◌, List, [], ◌∷◌, slice_get, Option, Some, None, Bool, true, false, refl, sym, ap, subst, ◌∙◌}
-use Rattle.std.proofs.lemmas.Bool.{true≢false}
+use Rattle.std.proofs.Common.{◌≡◌, ◌⊎◌, inl, inr, ⊎_elim, ℕ, ◌-◌, List, [], ◌∷◌, slice_get, Option, None, Bool, true, false, refl, sym, ap, subst, ◌∙◌}
 use Rattle.xs_trace.specs.Cut.{Cut, End, Whole, Fault, Needs, Spent, Full, cut}
 use Rattle.xs_trace.specs.Kept.{spot}
 use Rattle.xs_trace.specs.declared.item.Spot.{Spot}

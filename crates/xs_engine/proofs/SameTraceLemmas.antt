@@ -1,15 +1,12 @@
 -- Two compiled stylesheets that stand for the same modules do the same: instruction by instruction, over one tree and the same values
 -- of globals. The numbers of their modes may differ, where they are told by other lists.
-use Rattle.std.proofs.Common.{◌≡◌, ℕ, zero, suc, ◌+◌, ◌/◌, ◌==◌, ◌||◌, length, List, [], ◌∷◌, ◌++◌, map, slice_get, Option, Some, None, Bool, true, false}
-use Rattle.std.proofs.Common.{cond, codes, refl, sym, ap, subst, ◌∙◌}
+use Rattle.std.proofs.Common.{◌≡◌, ℕ, length, List, [], ◌∷◌, ◌++◌, map, Option, Some, None}
+use Rattle.std.proofs.Common.{cond, codes, refl, sym, ap, ◌∙◌}
 use Rattle.std.proofs.Math.Path.{fun_ext}
 use Rattle.std.proofs.lemmas.Bool.{true≢false}
 use Rattle.std.specs.Arc.{arc_value}
-use Rattle.std.specs.List.{AllZip}
 use Rattle.xs_modules.specs.Numbering.{ModuleData}
 use Rattle.xs_elements.specs.Nodes.{Name}
-use Rattle.xs_sheet.specs.declared.body.Applied.{Applied}
-use Rattle.xs_sheet.specs.declared.body.Binding.{Binding}
 use Rattle.xs_sheet.specs.declared.body.Body.{Body, Body', Row_of-Instr, end_of-Instr, more_of-Instr}
 use Rattle.xs_sheet.specs.declared.body.Choice.{Choice, Choice', Row_of-When, end_of-When, more_of-When}
 use Rattle.xs_sheet.specs.declared.body.Content.{Content}
@@ -18,24 +15,21 @@ use Rattle.xs_sheet.specs.declared.body.Fallbacks.{Fallbacks, Fallbacks', Row_of
 use Rattle.xs_sheet.specs.declared.body.InstrKind.{InstrKind, Variable'}
 use Rattle.xs_sheet.specs.declared.body.InstrKind.TheVariants.{ApplyTemplates, CallTemplate, ApplyImports, ForEach, ValueOf, CopyOf, Copy, Number, Choose, If}
 use Rattle.xs_sheet.specs.declared.body.InstrKind.TheVariants.{Text, Element, Attribute, Comment, Pi, Message, Literal, Extension}
-use Rattle.xs_sheet.specs.declared.body.LiteralStart.{LiteralStart}
 use Rattle.xs_sheet.specs.declared.body.Passed.{Passed, Passed', out-Passed, Row_of-Binding, end_of-Binding, more_of-Binding, items-the_row-Binding}
 use Rattle.xs_sheet.specs.declared.body.Passed.{items_shown-the_row-Binding-3, outs-Passed'}
 use Rattle.xs_sheet.specs.declared.body.When.{When'}
-use Rattle.xs_sheet.specs.declared.declarations.Template.{Template}
 use Rattle.xs_sheet.specs.declared.scoped.ScopedExpr.{ScopedExpr}
 use Rattle.xs_sheet.specs.declared.sheet.Sheet.{Sheet}
 use Rattle.xs_sheet.specs.Sets.{is_same_label}
 use Rattle.xs_static.specs.Modules.{Place}
-use Rattle.xs_trace.specs.Mark.{Tick, Put, Say, Stop, Trace, ◌⨾◌, captured, events_of, without_puts}
-use Rattle.xs_trace.specs.Run.{Run, evaluated, give, ◌>>=◌}
+use Rattle.xs_trace.specs.Mark.{Tick, Put, Trace, ◌⨾◌}
+use Rattle.xs_trace.specs.Run.{Run, give, ◌>>=◌}
 use Rattle.xs_trace.specs.declared.event.Event.{Event}
 use Rattle.xs_trace.specs.declared.event.Event.TheVariants.{Start, Space, End}
 use Rattle.xs_trace.specs.declared.event.Label.{Label}
 use Rattle.xs_trace.specs.declared.item.Site.{Site}
 use Rattle.xs_trace.proofs.KeptLemmas.{some_same}
-use Rattle.xs_tree.specs.Kinds.{has_content, is_attribute_kind, is_text_kind}
-use Rattle.xs_tree.specs.Record.{Record, at, children}
+use Rattle.xs_tree.specs.Record.{Record}
 use Rattle.xs_value.specs.declared.value.Value.{Value}
 use Rattle.xs_value.specs.declared.value.Value.TheVariants.{Chars as String, Piece}
 use Rattle.xs_value.specs.Conversion.{bool_value, fragment_text, text_value}
@@ -46,25 +40,23 @@ use Rattle.xs_eval.specs.Results.{given, nodes_in}
 use Rattle.xs_xpath.specs.Exprs.{tree_from}
 use Rattle.xs_xpath.specs.Tree.{Tree}
 use Rattle.xs_rules.specs.declared.index.RuleIndex.{RuleIndex}
-use Rattle.xs_declared.specs.Labels.{IsMode, label_at, mode_at}
-use Rattle.xs_declared.specs.Parts.{body_at, children_with, said_at, site_at, value_at}
+use Rattle.xs_declared.specs.Labels.{mode_at}
+use Rattle.xs_declared.specs.Parts.{body_at, children_with, said_at, value_at}
 use Rattle.xs_elements.specs.Contents.{is_with_param}
 use Rattle.xs_elements.specs.Rows.{is_fallback, is_when}
-use Rattle.xs_compile.specs.Bodies.{Source, AreBindings, AreBodies, AreFallbacks, AreInstrs, AreWhens, IsApplied, IsBody, IsChoice, IsContent, IsExprIf, IsExprOf}
-use Rattle.xs_compile.specs.Bodies.{IsKind, IsPassed, IsWhen, first_body, has_select, is_otherwise}
-use Rattle.xs_compile.specs.Declarations.{IsBinding}
+use Rattle.xs_compile.specs.Bodies.{Source, AreBindings, AreBodies, AreFallbacks, AreInstrs, AreWhens, IsBody, IsChoice, IsContent}
+use Rattle.xs_compile.specs.Bodies.{IsKind, IsPassed, first_body, is_otherwise}
 use Rattle.xs_compile.specs.Parsed.{Both, IsExpr}
 use Rattle.xs_run.specs.declared.focus.Focus.{Focus}
-use Rattle.xs_run.specs.World.{World, at_node, in_list, captured_in, with_depth, by_rule, without_rule, value_run, nodes_run, text_run, test_run}
+use Rattle.xs_run.specs.World.{World, at_node, in_list, captured_in, without_rule, value_run, nodes_run, text_run, test_run}
 use Rattle.xs_run.specs.World.{nodes_or_children}
-use Rattle.xs_run.specs.Tasks.{Params, no_params, last_passed, value_passed, Job, body_job, rules_job, Task, below}
-use Rattle.xs_run.specs.Rules.{rule_for, import_for}
-use Rattle.xs_run.specs.Trace.{Entry, named, fitting, overridden, Calls, each, spread_by, spread, applied, Called, by_number, by_rules, called_with}
+use Rattle.xs_run.specs.Tasks.{Params, last_passed, Job, body_job, rules_job, Task}
+use Rattle.xs_run.specs.Trace.{named, fitting, overridden, spread, applied}
 use Rattle.xs_run.specs.Trace.{passing, imports, chars, says, ended_if, begins, fragment_of, instr_trace, body_trace, row_trace, content_trace}
-use Rattle.xs_run.specs.Trace.{values_trace, choice_trace, whens_trace, fallbacks_trace, unless_none, bodies_trace, param_trace, params_trace}
-use Rattle.xs_run.specs.Trace.{template_trace, built_in, ruled, entered, called}
-use Rattle.xs_engine.proofs.SamePartLemmas.{SameMode, SameParams, captured-same, each-same, evaluated-same, if-same, joined-same, no-grain, remoded, same-none}
-use Rattle.xs_engine.proofs.SameKindLemmas.{tag, kind-tag, by-applies, by-calls, by-imports, by-each, by-value, by-copy-of, by-copy, by-number, by-choose, by-if}
+use Rattle.xs_run.specs.Trace.{values_trace, choice_trace, whens_trace, fallbacks_trace, unless_none, bodies_trace}
+use Rattle.xs_run.specs.Trace.{called}
+use Rattle.xs_engine.proofs.SamePartLemmas.{SameMode, SameParams, captured-same, each-same, evaluated-same, if-same, joined-same, no-grain, remoded}
+use Rattle.xs_engine.proofs.SameKindLemmas.{kind-tag, by-applies, by-calls, by-imports, by-each, by-value, by-copy-of, by-copy, by-number, by-choose, by-if}
 use Rattle.xs_engine.proofs.SameKindLemmas.{by-text, by-element, by-attribute, by-comment, by-pi, by-message, by-variable, by-literal, by-extension}
 
 module _ (ms : List ModuleData) (ma mb : List Name) (a b : Sheet) (i j : RuleIndex) (T : List Record) (K : List Table) (gs : List (Option Value)) where
