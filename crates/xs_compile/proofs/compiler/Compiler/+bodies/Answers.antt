@@ -58,8 +58,8 @@ body-returns t c =
 
 pub add_instr-returns : goal.add_instr-returns
 add_instr-returns t c =
-    gains-instr (source_of c.args.self.now) (c.args.number, c.args.n) c.kind.result c.site_at.result c.push_instr.result c.args.instrs.now.items
-    c.push_instr.new.instrs.items c.site_at.ensures c.kind.ensures c.push_instr.ensures
+    gains-instr (source_of c.args.self.now) (c.args.number, c.args.n) c.kind-kind.result c.site_at-site.result c.push_instr.result c.args.instrs.now.items
+    c.push_instr.new.instrs.items c.site_at-site.ensures c.kind-kind.ensures c.push_instr.ensures
 
 pub for_each-sorts-requires-clause-known : goal.for_each-sorts-requires-clause-known
 for_each-sorts-requires-clause-known t c =
