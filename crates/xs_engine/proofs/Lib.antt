@@ -13,6 +13,7 @@ pub mod OneOrderLemmas
 pub mod SameBuiltLemmas
 pub mod SameKindLemmas
 pub mod SameModeLemmas
+pub mod SamePartLemmas
 pub mod SameRuleLemmas
 pub mod SameSettlingLemmas
 pub mod SameTemplateLemmas

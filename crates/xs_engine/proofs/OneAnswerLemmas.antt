@@ -1,5 +1,5 @@
 -- Compiled stylesheets that stand for the same modules make one answer of a source.
-use Rattle.std.proofs.Common.{◌≡◌, ℕ, ◌-◌, List, [], Option, Some, None, Bool, true, false, refl, sym, ap, subst, ◌∙◌}
+use Rattle.std.proofs.Common.{◌≡◌, ℕ, ◌-◌, List, [], Bool, true, false, sym, ap, subst, ◌∙◌}
 use Rattle.std.proofs.lemmas.Bool.{true≢false}
 use Rattle.xs_compile.specs.StandsFor.{IsSheet, StandsFor}
 use Rattle.xs_elements.specs.Nodes.{Name}
@@ -9,12 +9,11 @@ use Rattle.xs_rules.specs.declared.index.RuleIndex.{RuleIndex}
 use Rattle.xs_sheet.specs.declared.sheet.Sheet.{Sheet}
 use Rattle.xs_trace.specs.Cut.{Cut, End, Whole, Fault, Needs, Spent, Full, cut}
 use Rattle.xs_trace.specs.Mark.{Trace}
-use Rattle.xs_trace.specs.declared.item.Spot.{Spot}
 use Rattle.xs_tree.specs.Record.{Record}
 use Rattle.xs_tree.specs.Stripping.{without}
 use Rattle.xs_run.specs.Globals.{Settled, SettlesAll, Table, ended, settled}
 use Rattle.xs_run.specs.Tasks.{Task}
-use Rattle.xs_run.specs.World.{World, ground}
+use Rattle.xs_run.specs.World.{ground}
 use Rattle.xs_engine.specs.Answer.{Answer, stopped_answer}
 use Rattle.xs_engine.specs.Evaluation.{IsCutAnswer, IsEndAnswer, IsEvaluated, IsEvaluatedFrom, IsEvaluatedOn, in_globals, in_root, root_cut}
 use Rattle.xs_engine.specs.Job.{Job}
@@ -80,7 +79,7 @@ module _ (job : Job) (ms : List ModuleData) (ma mb : List Name) (a b : Sheet) (s
   evaluated-from rs x y p q =
       let strips : a.strips.items ≡ b.strips.items = sa.strips ∙ sym sb.strips in
       let r : IsEvaluatedOn job b (without (stripped a.strips.items rs) rs) y =
-          subst (λ tests. IsEvaluatedOn job b (without (stripped tests rs) rs) y) (sym strips) q in
+      subst (λ tests. IsEvaluatedOn job b (without (stripped tests rs) rs) y) (sym strips) q in
       one-run p.0 r.0 (without (stripped a.strips.items rs) rs) x y p.1 r.1
 
 -- the law

@@ -1,10 +1,10 @@
 -- A list has one order in which it rises, where its order tells all elements apart: the order of globals is one.
-use Rattle.std.proofs.Common.{◌≡◌, ℕ, zero, suc, ◌+◌, ◌<◌, ◌≤◌, length, List, [], ◌∷◌, map, get_or, Bool, true, false, cond, sum_by, refl, sym, ap, subst, ◌∙◌, arith}
+use Rattle.std.proofs.Common.{◌≡◌, ℕ, suc, ◌+◌, ◌<◌, length, List, [], ◌∷◌, map, get_or, Bool, true, false, cond, sum_by, refl, sym, ap, subst, ◌∙◌, arith}
 use Rattle.std.proofs.lemmas.Bool.{true≢false}
 use Rattle.std.proofs.lemmas.Cmp.{upto, tied_itself, on_total, then_total, nat_cmp_total, ranked}
 use Rattle.std.proofs.lemmas.List.Sums.{sum_by-cons}
 use Rattle.std.proofs.lemmas.List.Sorted.{sum_by-IsPermutation}
-use Rattle.std.specs.List.Sorted.{IsPermutation, IsSortedBy, IsSorted}
+use Rattle.std.specs.List.Sorted.{IsSortedBy}
 use Rattle.std.specs.Cmp.{IsTotalOrder}
 use Rattle.std.specs.Ordering.{is_gt, is_lt, nat_cmp, ordering_reverse, ordering_then}
 use Rattle.std.specs.declared.cmp.Ordering.{Ordering}
@@ -37,29 +37,32 @@ module _ {X : Type 0} (lt : X → X → Bool) (itself : (x : X) → lt x x ≡ f
   rises [] s = tt
   rises (x ∷ xs) s =
       let rest : IsSortedBy lt xs = λ k d a b.
-          let next : suc k + 1 ≡ suc (k + 1) = omega arith in
-          let far : suc k + 1 < length (x ∷ xs) = omega (arith, b) in
-          subst (λ j. lt (get_or (x ∷ xs) j d) (get_or xs k d) ≡ false) next (s (suc k) d (omega arith) far) in
+      let next : suc k + 1 ≡ suc (k + 1) = omega arith in
+      let far : suc k + 1 < length (x ∷ xs) = omega (arith, b) in
+      subst (λ j. lt (get_or (x ∷ xs) j d) (get_or xs k d) ≡ false) next (s (suc k) d (omega arith) far) in
       let r : Rises xs = rises xs rest in
       (above-first x xs s r, r)
 
-  abbrev under : X → X → ℕ
-  under x z = cond (lt z x) 1 0
+  abbrev bit : Bool → ℕ
+  bit b = cond b 1 0
 
-  not-under : (b : Bool) → cond b 1 0 ≡ 0 → b ≡ false
+  abbrev under : X → X → ℕ
+  under x z = bit (lt z x)
+
+  not-under : (b : Bool) → bit b ≡ 0 → b ≡ false
   not-under true e = absurd (omega (arith, e))
   not-under false e = refl
 
   none-under : (x : X) (xs : List X) → AllAbove x xs → sum_by (under x) xs ≡ 0
   none-under x [] a = refl
   none-under x (y ∷ ys) a =
-      let first : under x y ≡ 0 = ap (λ b. cond b 1 0) a.0 in
+      let first : under x y ≡ 0 = ap bit a.0 in
       let rest : sum_by (under x) ys ≡ 0 = none-under x ys a.1 in
       sum_by-cons (under x) y ys ∙ omega (arith, first, rest)
 
   lowest : (x y : X) (xs ys : List X) → AllAbove x xs → sum_by (under x) (x ∷ xs) ≡ sum_by (under x) (y ∷ ys) → lt y x ≡ false
   lowest x y xs ys a e =
-      let own : under x x ≡ 0 = ap (λ b. cond b 1 0) (itself x) in
+      let own : under x x ≡ 0 = ap bit (itself x) in
       let rest : sum_by (under x) xs ≡ 0 = none-under x xs a in
       let left : sum_by (under x) (x ∷ xs) ≡ under x x + sum_by (under x) xs = sum_by-cons (under x) x xs in
       let right : sum_by (under x) (y ∷ ys) ≡ under x y + sum_by (under x) ys = sum_by-cons (under x) y ys in
@@ -81,11 +84,11 @@ module _ {X : Type 0} (lt : X → X → Bool) (itself : (x : X) → lt x x ≡ f
   one-list (x ∷ xs) (y ∷ ys) r s e =
       let first : x ≡ y = one x y (lowest y x ys xs s.0 (sym (e (under y)))) (lowest x y xs ys r.0 (e (under x))) in
       let rest : xs ≡ ys = one-list xs ys r.1 s.1 (λ f.
-          let left : sum_by f (x ∷ xs) ≡ f x + sum_by f xs = sum_by-cons f x xs in
-          let right : sum_by f (y ∷ ys) ≡ f y + sum_by f ys = sum_by-cons f y ys in
-          let same : sum_by f (x ∷ xs) ≡ sum_by f (y ∷ ys) = e f in
-          let heads : f x ≡ f y = ap f first in
-          omega (arith, left, right, same, heads)) in
+      let left : sum_by f (x ∷ xs) ≡ f x + sum_by f xs = sum_by-cons f x xs in
+      let right : sum_by f (y ∷ ys) ≡ f y + sum_by f ys = sum_by-cons f y ys in
+      let same : sum_by f (x ∷ xs) ≡ sum_by f (y ∷ ys) = e f in
+      let heads : f x ≡ f y = ap f first in
+      omega (arith, left, right, same, heads)) in
       ap (λ z. z ∷ xs) first ∙ ap (λ zs. y ∷ zs) rest
 
 -- ---- the places of globals
@@ -150,6 +153,6 @@ lower-one x y a b =
 pub one-order : (gs : List Global) (order other : List ℕ) → IsInOrder gs order → IsInOrder gs other → order ≡ other
 one-order gs order other a b =
     let same : a.places ≡ b.places = one-list lower lower-itself lower-chain lower-one a.places b.places
-        (rises lower lower-itself lower-chain lower-one a.places a.sorted) (rises lower lower-itself lower-chain lower-one b.places b.sorted)
-        (λ f. sum_by-IsPermutation f (placed 0 gs) a.places a.all ∙ sym (sum_by-IsPermutation f (placed 0 gs) b.places b.all)) in
+    (rises lower lower-itself lower-chain lower-one a.places a.sorted) (rises lower lower-itself lower-chain lower-one b.places b.sorted)
+    (λ f. sum_by-IsPermutation f (placed 0 gs) a.places a.all ∙ sym (sum_by-IsPermutation f (placed 0 gs) b.places b.all)) in
     a.numbers ∙ ap (map (λ p. p.2)) same ∙ sym b.numbers

@@ -1,7 +1,7 @@
 -- Of two compiled stylesheets that stand for the same modules both are built or neither is.
-use Rattle.std.proofs.Common.{◌≡◌, ◌&&◌, ◌==◌, ℕ, length, List, [], ◌∷◌, codes, Option, Some, None, Bool, true, false, refl, sym, ap, ◌∙◌}
+use Rattle.std.proofs.Common.{◌≡◌, ◌&&◌, ◌==◌, ℕ, suc, length, List, [], ◌∷◌, Bool, true, false, refl, sym, ap, ◌∙◌, arith}
+use Rattle.std.proofs.lemmas.Bool.Decides.{nat_tests}
 use Rattle.std.proofs.lemmas.Bool.{true≢false}
-use Rattle.std.proofs.lemmas.List.Elements.{length_all_zip}
 use Rattle.std.specs.List.{AllZip, list_all}
 use Rattle.xs_compile.specs.Bodies.{Source, AreBindings, AreBodies, AreFallbacks, AreInstrs, AreWhens, IsBody, IsChoice, IsContent, IsKind, IsPassed, IsPutAttribute, IsSort}
 use Rattle.xs_compile.specs.Bodies.{first_body, is_otherwise, put_attributes}
@@ -31,9 +31,12 @@ use Rattle.xs_sheet.specs.declared.sheet.Sheet.{Sheet}
 use Rattle.xs_static.specs.Modules.{Place}
 use Rattle.xs_engine.specs.Built.{binding_is_built, bindings_are_built, bodies_are_built, body_is_built, choice_is_built, content_is_built, fallbacks_are_built}
 use Rattle.xs_engine.specs.Built.{global_is_built, is_built, is_none, kind_is_built, passed_is_built, row_is_built, template_is_built, whens_are_built, writes_text}
-use Rattle.xs_engine.proofs.SameKindLemmas.{tag, kind-tag, by-applies, by-calls, by-imports, by-each, by-value, by-copy-of, by-copy, by-number, by-choose, by-if}
+use Rattle.xs_engine.proofs.SameKindLemmas.{kind-tag, by-applies, by-calls, by-imports, by-each, by-value, by-copy-of, by-copy, by-number, by-choose, by-if}
 use Rattle.xs_engine.proofs.SameKindLemmas.{by-text, by-element, by-attribute, by-comment, by-pi, by-message, by-variable, by-literal, by-extension}
 use Rattle.xs_engine.proofs.SameRuleLemmas.{SameTemplate, paired, templates-same}
+
+not-zero : (n : ℕ) → (suc n == 0) ≡ false
+not-zero n = grind (arith, nat_tests)
 
 none-same : {A B : Type 0} (P Q : A → B → Type 0) (ps : List A) (xs ys : List B) → AllZip P ps xs → AllZip Q ps ys → is_none xs ≡ is_none ys
 none-same P Q [] [] [] h k = refl
@@ -41,7 +44,7 @@ none-same P Q [] [] (y ∷ ys) h k = absurd k
 none-same P Q [] (x ∷ xs) ys h k = absurd h
 none-same P Q (p ∷ ps) [] ys h k = absurd h
 none-same P Q (p ∷ ps) (x ∷ xs) [] h k = absurd k
-none-same P Q (p ∷ ps) (x ∷ xs) (y ∷ ys) h k = refl
+none-same P Q (p ∷ ps) (x ∷ xs) (y ∷ ys) h k = not-zero (length xs) ∙ sym (not-zero (length ys))
 
 and-same : (a b c d : Bool) → a ≡ b → c ≡ d → (a && c) ≡ (b && d)
 and-same a b c d e o = ap (λ x. x && c) e ∙ ap (λ x. b && x) o
@@ -105,10 +108,10 @@ module _ (ms : List ModuleData) (ma mb : List Name) where
         by-message (λ z. IsKind SB p z → kind_is_built (Message terminate body) ≡ kind_is_built z) (λ terminate' body' z. body-built body body'
         (body_at ms p) x.2 z.2)
         l (kind-tag SB p l y ∙ sym (kind-tag SA p (Message terminate body) x)) y
-    kind-built (Variable' where name content) l p x y =
-        by-variable (λ z. IsKind SB p z → kind_is_built (Variable' where name content) ≡ kind_is_built z)
-        (λ where' name' content' z. content-built content content' p x.3 z.3)
-        l (kind-tag SB p l y ∙ sym (kind-tag SA p (Variable' where name content) x)) y
+    kind-built (Variable' here name content) l p x y =
+        by-variable (λ z. IsKind SB p z → kind_is_built (Variable' here name content) ≡ kind_is_built z)
+        (λ here' name' content' z. content-built content content' p x.3 z.3)
+        l (kind-tag SB p l y ∙ sym (kind-tag SA p (Variable' here name content) x)) y
     kind-built (Literal start body) l p x y =
         by-literal (λ z. IsKind SB p z → kind_is_built (Literal start body) ≡ kind_is_built z) (λ start' body' z. and-same _ _ _ _ (and-same _ _ _ _
         (ap is_none (x.1.sets ∙ sym z.1.sets))

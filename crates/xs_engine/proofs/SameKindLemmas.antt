@@ -8,23 +8,12 @@ use Rattle.xs_elements.specs.declared.rows.Row.{Row}
 use Rattle.xs_elements.specs.declared.rows.Row.TheVariants.{Variable as VariableRow, ApplyTemplates as ApplyTemplatesRow, CallTemplate as CallTemplateRow, ApplyImports as ApplyImportsRow}
 use Rattle.xs_elements.specs.declared.rows.Row.TheVariants.{ForEach as ForEachRow, ValueOf as ValueOfRow, CopyOf as CopyOfRow, Copy as CopyRow, Number as NumberRow, Choose as ChooseRow}
 use Rattle.xs_elements.specs.declared.rows.Row.TheVariants.{If as IfRow, Text as TextRow, Element as ElementRow, Attribute as AttributeRow, Comment as CommentRow}
-use Rattle.xs_elements.specs.declared.rows.Row.TheVariants.{ProcessingInstruction as PiRow, Message as MessageRow, Other, NoElement, DecimalFormat, Unknown}
-use Rattle.xs_elements.specs.Reading.{reading_by, reading_of, is_in_extension}
-use Rattle.xs_elements.specs.Rows.{is_top_level, row_of}
-use Rattle.xs_sheet.specs.declared.body.Applied.{Applied}
-use Rattle.xs_sheet.specs.declared.body.Body.{Body}
-use Rattle.xs_sheet.specs.declared.body.Choice.{Choice}
-use Rattle.xs_sheet.specs.declared.body.Content.{Content}
-use Rattle.xs_sheet.specs.declared.body.Fallbacks.{Fallbacks}
+use Rattle.xs_elements.specs.declared.rows.Row.TheVariants.{ProcessingInstruction as PiRow, Message as MessageRow, Other, NoElement}
+use Rattle.xs_elements.specs.Reading.{reading_by, is_in_extension}
+use Rattle.xs_elements.specs.Rows.{is_top_level}
 use Rattle.xs_sheet.specs.declared.body.InstrKind.{InstrKind, Variable'}
 use Rattle.xs_sheet.specs.declared.body.InstrKind.TheVariants.{ApplyTemplates, CallTemplate, ApplyImports, ForEach, ValueOf, CopyOf, Copy, Number, Choose, If}
 use Rattle.xs_sheet.specs.declared.body.InstrKind.TheVariants.{Text, Element, Attribute, Comment, Pi, Message, Literal, Extension}
-use Rattle.xs_sheet.specs.declared.body.LiteralStart.{LiteralStart}
-use Rattle.xs_sheet.specs.declared.body.Passed.{Passed}
-use Rattle.xs_sheet.specs.declared.body.SortDecl.{SortDecl}
-use Rattle.xs_sheet.specs.declared.scoped.ScopedExpr.{ScopedExpr}
-use Rattle.xs_trace.specs.declared.event.Label.{Label}
-use Rattle.xs_trace.specs.declared.item.Site.{Site}
 use Rattle.xs_static.specs.Modules.{Place, records_at}
 use Rattle.xs_declared.specs.Parts.{reading_at, row_at}
 use Rattle.xs_compile.specs.Bodies.{Source, IsKind, is_text_or_element}
@@ -209,4 +198,3 @@ by-literal P h k e = absurd (apart (tag k) 18 refl e)
 pub by-extension : (P : InstrKind → Type 0) → ((x : _) → P (Extension x)) → (k : InstrKind) → tag k ≡ 19 → P k
 by-extension P h (Extension x) e = h x
 by-extension P h k e = absurd (apart (tag k) 19 refl e)
-

@@ -1,5 +1,5 @@
 -- The numbers of modes by two lists: two numbers of one mode are apart from those of another one alike.
-use Rattle.std.proofs.Common.{◌≡◌, ◌==◌, ◌&&◌, ◌<◌, ℕ, zero, suc, length, List, get_or, option_map, position, Option, Some, None, Bool, true, false, is_some, bytes_eq, refl, sym, ap, subst, ◌∙◌, arith}
+use Rattle.std.proofs.Common.{◌≡◌, ◌==◌, ◌&&◌, ℕ, suc, List, get_or, option_map, position, Option, Some, None, Bool, true, false, is_some, bytes_eq, refl, sym, ap, ◌∙◌, arith}
 use Rattle.std.proofs.lemmas.Bool.Decides.{nat_tests}
 use Rattle.std.proofs.lemmas.Bool.{true≢false}
 use Rattle.std.proofs.lemmas.List.Quantifiers.{position-Some}
@@ -7,7 +7,7 @@ use Rattle.std.proofs.lemmas.Slice.Eq.{bytes_eq-Decides}
 use Rattle.xs_elements.specs.Nodes.{Name, is_same_name}
 use Rattle.xs_declared.specs.Labels.{IsMode}
 use Rattle.xs_trace.proofs.KeptLemmas.{some_same}
-use Rattle.xs_engine.proofs.SameTraceLemmas.{SameMode}
+use Rattle.xs_engine.proofs.SamePartLemmas.{SameMode}
 
 and-left : (a b : Bool) → (a && b) ≡ true → a ≡ true
 and-left true b e = refl
@@ -112,4 +112,4 @@ module _ (ma mb : List Name) where
       ∙ same-place mb x y s.place u.place s.found u.found)
 
   pub same-test : (m n k l : ℕ) → SameMode ma mb m n → SameMode ma mb k l → (m == k) ≡ (n == l)
-  same-test m n k l x y = mode-test x.0 y.0 m n k l x.1 x.2 y.1 y.2
+  same-test m n k l x y = mode-test x.0 y.0 m n k l x.1.0 x.1.1 y.1.0 y.1.1

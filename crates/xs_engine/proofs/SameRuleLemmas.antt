@@ -4,7 +4,7 @@ use Rattle.std.specs.Arc.{arc_value}
 use Rattle.std.specs.List.{AllZip, enumerate_from, flat_map}
 use Rattle.std.specs.Option.{option_map_or}
 use Rattle.xs_compile.specs.Bodies.{Source, IsBody}
-use Rattle.xs_compile.specs.Declarations.{IsBinding, IsRule, IsRuleOrModule, IsTemplate, IsWholeModule}
+use Rattle.xs_compile.specs.Declarations.{IsBinding, IsRuleOrModule, IsTemplate}
 use Rattle.xs_compile.specs.Parsed.{Both, IsPattern}
 use Rattle.xs_declared.specs.Labels.{mode_at}
 use Rattle.xs_declared.specs.Parts.{body_at, children_with, row_at, value_at}
@@ -14,10 +14,8 @@ use Rattle.xs_modules.specs.Numbering.{ModuleData}
 use Rattle.xs_pattern.specs.Matching.{matches_path, pattern_context}
 use Rattle.xs_rules.specs.Ranks.{default_priority, highest, or_above, outranks}
 use Rattle.xs_rules.specs.Rules.{Candidate, candidate, candidates, candidates_of, chosen_among, is_imported, rank_of, rule_of, takes}
-use Rattle.xs_rules.specs.declared.choice.Rule.{Rule}
-use Rattle.xs_rules.specs.declared.choice.Rule.TheVariants.{Template as OfTemplate, BuiltIn}
+use Rattle.xs_rules.specs.declared.choice.Rule.TheVariants.{Template as OfTemplate}
 use Rattle.xs_rules.specs.declared.ranks.Rank.{Rank}
-use Rattle.xs_sheet.specs.declared.body.Binding.{Binding}
 use Rattle.xs_sheet.specs.declared.declarations.Template.{Template}
 use Rattle.xs_sheet.specs.declared.scoped.ScopedPattern.{ScopedPattern}
 use Rattle.xs_static.specs.Modules.{Place}
@@ -26,7 +24,7 @@ use Rattle.xs_tree.specs.Record.{Record}
 use Rattle.xs_value.specs.Tables.{Table}
 use Rattle.xs_xpath.specs.Exprs.{trees_from}
 use Rattle.xs_xpath.specs.Tree.{Tree}
-use Rattle.xs_engine.proofs.SameTraceLemmas.{SameMode}
+use Rattle.xs_engine.proofs.SamePartLemmas.{SameMode}
 use Rattle.xs_engine.proofs.SameModeLemmas.{same-test}
 
 -- what is found of both is alike, or nothing is

@@ -1,6 +1,5 @@
 -- Settling all globals comes to one end; and to the same one for two stylesheets whose attempts at globals are the same.
-use Rattle.std.proofs.Common.{◌≡◌, ◌⊎◌, inl, inr, ⊎_elim, ℕ, ◌+◌, ◌-◌, List, [], ◌∷◌, slice_get, Option, Some, None, Bool, true, false, refl, sym, ap, subst, ◌∙◌}
-use Rattle.std.proofs.lemmas.Bool.{true≢false}
+use Rattle.std.proofs.Common.{◌≡◌, ◌⊎◌, inl, inr, ⊎_elim, ℕ, ◌-◌, List, [], ◌∷◌, slice_get, Option, None, Bool, true, false, refl, sym, ap, subst, ◌∙◌}
 use Rattle.xs_trace.specs.Cut.{Cut, End, Whole, Fault, Needs, Spent, Full, cut}
 use Rattle.xs_trace.specs.Kept.{spot}
 use Rattle.xs_trace.specs.declared.item.Spot.{Spot}
@@ -63,12 +62,12 @@ module _ (w : World) (budget : ℕ) where
       sym (subst (λ b. OrCircle b under g h t (with_passed (tried w budget t g) t) (spot 59 p) s) n (subst (λ z. By z under g t s) e (by-end x)))
   one-settled {under = under} {g = g} {t = t} (settles.needs {u = u} {h = h} {p = p} e n k m) s x =
       let y : Needed under g h t s =
-          subst (λ b. OrCircle b under g h t (with_passed (tried w budget t g) t) (spot 59 p) s) n (subst (λ z. By z under g t s) e (by-end x)) in
+      subst (λ b. OrCircle b under g h t (with_passed (tried w budget t g) t) (spot 59 p) s) n (subst (λ z. By z under g t s) e (by-end x)) in
       let same : settled u ≡ y.end = one-settled k y.end y.is_settled in
       one-settled m s (subst (λ v. After under g v s) (sym same) y.after)
   one-settled {under = under} {g = g} {t = t} (settles.stops {u = u} {h = h} {p = p} {s = o} e n k) s x =
       let y : Needed under g h t s =
-          subst (λ b. OrCircle b under g h t (with_passed (tried w budget t g) t) (spot 59 p) s) n (subst (λ z. By z under g t s) e (by-end x)) in
+      subst (λ b. OrCircle b under g h t (with_passed (tried w budget t g) t) (spot 59 p) s) n (subst (λ z. By z under g t s) e (by-end x)) in
       let same : ended u o ≡ y.end = one-settled k y.end y.is_settled in
       sym (subst (λ v. After under g v s) (sym same) y.after)
 

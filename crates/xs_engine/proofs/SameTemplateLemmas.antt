@@ -1,17 +1,15 @@
 -- Two compiled stylesheets that stand for the same modules: their templates, the whole, and the attempts at globals.
-use Rattle.std.proofs.Common.{◌≡◌, ℕ, zero, suc, ◌+◌, ◌||◌, length, List, [], ◌∷◌, ◌++◌, map, slice_get, codes, Option, option_map, Some, None, Bool, true, false, cond, refl, sym, ap, subst, ◌∙◌}
+use Rattle.std.proofs.Common.{◌≡◌, ℕ, zero, suc, ◌+◌, List, [], ◌∷◌, ◌++◌, map, slice_get, codes, Option, option_map, Some, None, Bool, true, cond, refl, sym, ap, subst, ◌∙◌}
 use Rattle.std.proofs.Math.Path.{fun_ext}
 use Rattle.std.proofs.lemmas.Bool.{true≢false}
 use Rattle.std.specs.List.{AllZip}
 use Rattle.std.specs.List.Sorted.{IsPermutation}
 use Rattle.xs_compile.specs.Bodies.{Source, IsContent}
-use Rattle.xs_compile.specs.Declarations.{IsBinding, IsGlobal, IsTemplate}
+use Rattle.xs_compile.specs.Declarations.{IsBinding, IsGlobal}
 use Rattle.xs_compile.specs.StandsFor.{IsSheet}
 use Rattle.xs_declared.specs.Counted.{globals, templates}
-use Rattle.xs_declared.specs.Labels.{label_at}
-use Rattle.xs_declared.specs.Parts.{body_at, row_at, said_at, site_at}
+use Rattle.xs_declared.specs.Parts.{body_at, said_at}
 use Rattle.xs_elements.specs.Nodes.{Name}
-use Rattle.xs_elements.specs.Rows.{is_param}
 use Rattle.xs_modules.specs.Numbering.{ModuleData}
 use Rattle.xs_rules.specs.Rules.{is_imported}
 use Rattle.xs_rules.specs.declared.index.RuleIndex.{RuleIndex}
@@ -22,12 +20,12 @@ use Rattle.xs_sheet.specs.declared.declarations.Global.{Global}
 use Rattle.xs_sheet.specs.declared.declarations.Template.{Template}
 use Rattle.xs_sheet.specs.declared.sheet.Sheet.{Sheet}
 use Rattle.xs_static.specs.Modules.{Place}
-use Rattle.xs_trace.specs.Mark.{Tick, Stop, Trace, ◌⨾◌, events_of}
+use Rattle.xs_trace.specs.Mark.{Tick, Trace, ◌⨾◌, events_of}
 use Rattle.xs_trace.specs.Run.{Run}
 use Rattle.xs_trace.specs.declared.event.Label.{Label}
 use Rattle.xs_trace.specs.declared.item.Site.{Site}
 use Rattle.xs_trace.proofs.KeptLemmas.{some_same}
-use Rattle.xs_tree.specs.Kinds.{has_content, is_attribute_kind, is_text_kind}
+use Rattle.xs_tree.specs.Kinds.{has_content}
 use Rattle.xs_tree.specs.Record.{Record, at, children}
 use Rattle.xs_value.specs.Tables.{Table}
 use Rattle.xs_value.specs.declared.value.Value.{Value}
@@ -36,11 +34,12 @@ use Rattle.xs_run.specs.Globals.{IsInOrder, at_first, attempt_trace, attempt_val
 use Rattle.xs_run.specs.Globals as settles
 use Rattle.xs_run.specs.Rules.{import_for, rule_for, template_of}
 use Rattle.xs_run.specs.Tasks.{Params, Task, no_params, value_passed}
-use Rattle.xs_run.specs.Trace.{built_in, called, chars, fitting, fragment_of, most_depth, named, overridden, param_trace, params_trace, root_task, ruled, task_trace}
-use Rattle.xs_run.specs.Trace.{template_trace, content_trace, body_trace}
-use Rattle.xs_run.specs.World.{World, alone_at, at_node, by_rule, captured_in, with_depth}
+use Rattle.xs_run.specs.Trace.{built_in, called, fitting, fragment_of, most_depth, param_trace, params_trace, root_task, ruled, task_trace}
+use Rattle.xs_run.specs.Trace.{template_trace, content_trace}
+use Rattle.xs_run.specs.World.{World, alone_at, at_node, by_rule, with_depth}
 use Rattle.xs_run.specs.declared.focus.Focus.{Focus}
-use Rattle.xs_engine.proofs.SameTraceLemmas.{CallsSame, SameMode, SameParams, applied-same, body-same, content-same, if-same, remoded, same-none, value-same}
+use Rattle.xs_engine.proofs.SamePartLemmas.{SameMode, SameParams, if-same, remoded, same-none}
+use Rattle.xs_engine.proofs.SameTraceLemmas.{CallsSame, applied-same, body-same, content-same, value-same}
 use Rattle.xs_engine.proofs.SameRuleLemmas.{IfBoth, SameTemplate, among-same, get-both, imported-same, templates-same, paired}
 
 module _ (ms : List ModuleData) (ma mb : List Name) (a b : Sheet) (i j : RuleIndex) (T : List Record) (K : List Table) (gs : List (Option Value))

@@ -1,15 +1,12 @@
 -- Two compiled stylesheets that stand for the same modules do the same: instruction by instruction, over one tree and the same values
 -- of globals. The numbers of their modes may differ, where they are told by other lists.
-use Rattle.std.proofs.Common.{◌≡◌, ℕ, zero, suc, ◌+◌, ◌/◌, ◌==◌, ◌||◌, length, List, [], ◌∷◌, ◌++◌, map, slice_get, Option, Some, None, Bool, true, false}
-use Rattle.std.proofs.Common.{cond, codes, refl, sym, ap, subst, ◌∙◌}
+use Rattle.std.proofs.Common.{◌≡◌, ℕ, length, List, [], ◌∷◌, ◌++◌, map, Option, Some, None}
+use Rattle.std.proofs.Common.{cond, codes, refl, sym, ap, ◌∙◌}
 use Rattle.std.proofs.Math.Path.{fun_ext}
 use Rattle.std.proofs.lemmas.Bool.{true≢false}
 use Rattle.std.specs.Arc.{arc_value}
-use Rattle.std.specs.List.{AllZip}
 use Rattle.xs_modules.specs.Numbering.{ModuleData}
 use Rattle.xs_elements.specs.Nodes.{Name}
-use Rattle.xs_sheet.specs.declared.body.Applied.{Applied}
-use Rattle.xs_sheet.specs.declared.body.Binding.{Binding}
 use Rattle.xs_sheet.specs.declared.body.Body.{Body, Body', Row_of-Instr, end_of-Instr, more_of-Instr}
 use Rattle.xs_sheet.specs.declared.body.Choice.{Choice, Choice', Row_of-When, end_of-When, more_of-When}
 use Rattle.xs_sheet.specs.declared.body.Content.{Content}
@@ -18,24 +15,21 @@ use Rattle.xs_sheet.specs.declared.body.Fallbacks.{Fallbacks, Fallbacks', Row_of
 use Rattle.xs_sheet.specs.declared.body.InstrKind.{InstrKind, Variable'}
 use Rattle.xs_sheet.specs.declared.body.InstrKind.TheVariants.{ApplyTemplates, CallTemplate, ApplyImports, ForEach, ValueOf, CopyOf, Copy, Number, Choose, If}
 use Rattle.xs_sheet.specs.declared.body.InstrKind.TheVariants.{Text, Element, Attribute, Comment, Pi, Message, Literal, Extension}
-use Rattle.xs_sheet.specs.declared.body.LiteralStart.{LiteralStart}
 use Rattle.xs_sheet.specs.declared.body.Passed.{Passed, Passed', out-Passed, Row_of-Binding, end_of-Binding, more_of-Binding, items-the_row-Binding}
 use Rattle.xs_sheet.specs.declared.body.Passed.{items_shown-the_row-Binding-3, outs-Passed'}
 use Rattle.xs_sheet.specs.declared.body.When.{When'}
-use Rattle.xs_sheet.specs.declared.declarations.Template.{Template}
 use Rattle.xs_sheet.specs.declared.scoped.ScopedExpr.{ScopedExpr}
 use Rattle.xs_sheet.specs.declared.sheet.Sheet.{Sheet}
 use Rattle.xs_sheet.specs.Sets.{is_same_label}
 use Rattle.xs_static.specs.Modules.{Place}
-use Rattle.xs_trace.specs.Mark.{Tick, Put, Say, Stop, Trace, ◌⨾◌, captured, events_of, without_puts}
-use Rattle.xs_trace.specs.Run.{Run, evaluated, give, ◌>>=◌}
+use Rattle.xs_trace.specs.Mark.{Tick, Put, Trace, ◌⨾◌}
+use Rattle.xs_trace.specs.Run.{Run, give, ◌>>=◌}
 use Rattle.xs_trace.specs.declared.event.Event.{Event}
 use Rattle.xs_trace.specs.declared.event.Event.TheVariants.{Start, Space, End}
 use Rattle.xs_trace.specs.declared.event.Label.{Label}
 use Rattle.xs_trace.specs.declared.item.Site.{Site}
 use Rattle.xs_trace.proofs.KeptLemmas.{some_same}
-use Rattle.xs_tree.specs.Kinds.{has_content, is_attribute_kind, is_text_kind}
-use Rattle.xs_tree.specs.Record.{Record, at, children}
+use Rattle.xs_tree.specs.Record.{Record}
 use Rattle.xs_value.specs.declared.value.Value.{Value}
 use Rattle.xs_value.specs.declared.value.Value.TheVariants.{Chars as String, Piece}
 use Rattle.xs_value.specs.Conversion.{bool_value, fragment_text, text_value}
@@ -46,69 +40,25 @@ use Rattle.xs_eval.specs.Results.{given, nodes_in}
 use Rattle.xs_xpath.specs.Exprs.{tree_from}
 use Rattle.xs_xpath.specs.Tree.{Tree}
 use Rattle.xs_rules.specs.declared.index.RuleIndex.{RuleIndex}
-use Rattle.xs_declared.specs.Labels.{IsMode, label_at, mode_at}
-use Rattle.xs_declared.specs.Parts.{body_at, children_with, said_at, site_at, value_at}
+use Rattle.xs_declared.specs.Labels.{mode_at}
+use Rattle.xs_declared.specs.Parts.{body_at, children_with, said_at, value_at}
 use Rattle.xs_elements.specs.Contents.{is_with_param}
 use Rattle.xs_elements.specs.Rows.{is_fallback, is_when}
-use Rattle.xs_compile.specs.Bodies.{Source, AreBindings, AreBodies, AreFallbacks, AreInstrs, AreWhens, IsApplied, IsBody, IsChoice, IsContent, IsExprIf, IsExprOf}
-use Rattle.xs_compile.specs.Bodies.{IsKind, IsPassed, IsWhen, first_body, has_select, is_otherwise}
-use Rattle.xs_compile.specs.Declarations.{IsBinding}
+use Rattle.xs_compile.specs.Bodies.{Source, AreBindings, AreBodies, AreFallbacks, AreInstrs, AreWhens, IsBody, IsChoice, IsContent}
+use Rattle.xs_compile.specs.Bodies.{IsKind, IsPassed, first_body, is_otherwise}
 use Rattle.xs_compile.specs.Parsed.{Both, IsExpr}
 use Rattle.xs_run.specs.declared.focus.Focus.{Focus}
-use Rattle.xs_run.specs.World.{World, at_node, in_list, captured_in, with_depth, by_rule, without_rule, value_run, nodes_run, text_run, test_run}
+use Rattle.xs_run.specs.World.{World, at_node, in_list, captured_in, without_rule, value_run, nodes_run, text_run, test_run}
 use Rattle.xs_run.specs.World.{nodes_or_children}
-use Rattle.xs_run.specs.Tasks.{Params, no_params, last_passed, value_passed, Job, body_job, rules_job, Task, below}
-use Rattle.xs_run.specs.Rules.{rule_for, import_for}
-use Rattle.xs_run.specs.Trace.{Entry, named, fitting, overridden, Calls, each, spread_by, spread, applied, Called, by_number, by_rules, called_with}
+use Rattle.xs_run.specs.Tasks.{Params, last_passed, Job, body_job, rules_job, Task}
+use Rattle.xs_run.specs.Trace.{named, fitting, overridden, spread, applied}
 use Rattle.xs_run.specs.Trace.{passing, imports, chars, says, ended_if, begins, fragment_of, instr_trace, body_trace, row_trace, content_trace}
-use Rattle.xs_run.specs.Trace.{values_trace, choice_trace, whens_trace, fallbacks_trace, unless_none, bodies_trace, param_trace, params_trace}
-use Rattle.xs_run.specs.Trace.{template_trace, built_in, ruled, entered, called}
-use Rattle.xs_engine.proofs.SameKindLemmas.{tag, kind-tag, by-applies, by-calls, by-imports, by-each, by-value, by-copy-of, by-copy, by-number, by-choose, by-if}
+use Rattle.xs_run.specs.Trace.{values_trace, choice_trace, whens_trace, fallbacks_trace, unless_none, bodies_trace}
+use Rattle.xs_run.specs.Trace.{called}
+use Rattle.xs_engine.proofs.SamePartLemmas.{SameMode, SameParams, captured-same, each-same, evaluated-same, if-same, joined-same, no-grain, remoded}
+use Rattle.xs_engine.proofs.SameKindLemmas.{kind-tag, by-applies, by-calls, by-imports, by-each, by-value, by-copy-of, by-copy, by-number, by-choose, by-if}
 use Rattle.xs_engine.proofs.SameKindLemmas.{by-text, by-element, by-attribute, by-comment, by-pi, by-message, by-variable, by-literal, by-extension}
 
--- ---- traces of equal parts
-joined-same : (x v y z : Trace Task) → x ≡ v → y ≡ z → x ⨾ y ≡ v ⨾ z
-joined-same x v y z e o = ap (λ t. t ⨾ y) e ∙ ap (λ t. v ⨾ t) o
-
-captured-same : (x v : Trace Task) (h k : List Event → Trace Task) → x ≡ v → h ≡ k → captured x h ≡ captured v k
-captured-same x v h k e o = ap (λ t. captured t h) e ∙ ap (λ g. captured v g) o
-
-evaluated-same : {A : Type 0} (p : Site) (r q : Run A) (h k : A → Trace Task) → r ≡ q → h ≡ k → evaluated p r h ≡ evaluated p q k
-evaluated-same p r q h k e o = ap (λ x. evaluated p x h) e ∙ ap (λ g. evaluated p q g) o
-
-pub if-same : (b : Bool) (x v y z : Trace Task) → x ≡ v → y ≡ z → cond b x y ≡ cond b v z
-if-same true x v y z e o = e
-if-same false x v y z e o = o
-
-no-grain : (b : Bool) (job : Job) (p : Site) (body : Focus → Trace Task) (f : Focus) (ns : List ℕ) →
-    spread_by (cond b None None) job p body f ns ≡ each p body f 1 ns
-no-grain true job p body f ns = refl
-no-grain false job p body f ns = refl
-
--- ---- the same but for the number of the mode
-abbrev pub remoded : ℕ → Focus → Focus
-remoded mode f = record f { mode = mode }
-
--- two numbers of one mode, by two lists of modes
-abbrev pub SameMode : (ma mb : List Name) → ℕ → ℕ → Type 0
-SameMode ma mb m n = (o : Option Name) × (IsMode ma o m × IsMode mb o n)
-
-each-same : (p : Site) (x v : Focus → Trace Task) (f : Focus) (mode : ℕ) → ((n i : ℕ) → x (at_node n i f) ≡ v (at_node n i (remoded mode f))) →
-    (i : ℕ) (ns : List ℕ) → each p x f i ns ≡ each p v (remoded mode f) i ns
-each-same p x v f mode e i [] = refl
-each-same p x v f mode e i (n ∷ ns) =
-    ap (λ t. Tick p ∷ t)
-    (joined-same (x (at_node n i f)) (v (at_node n i (remoded mode f))) (each p x f (i + 1) ns) (each p v (remoded mode f) (i + 1) ns) (e n i)
-    (each-same p x v f mode e (i + 1) ns))
-
--- ---- parameters with the same values for all names
-abbrev pub SameParams : Params → Params → Type 0
-SameParams ps qs = (name : Label) → value_passed name ps ≡ value_passed name qs
-
-pub same-none : SameParams no_params no_params
-same-none name = refl
-
--- ---- over two sheets
 module _ (ms : List ModuleData) (ma mb : List Name) (a b : Sheet) (i j : RuleIndex) (T : List Record) (K : List Table) (gs : List (Option Value)) where
   abbrev SA : Source
   SA = record { modules = ms; modes = ma }
@@ -195,6 +145,16 @@ module _ (ms : List ModuleData) (ma mb : List Name) (a b : Sheet) (i j : RuleInd
       ∙ row-values row other ps x y name None us
       ∙ sym (ap (λ z. last_passed name None z.params.items us) (outs-Passed' m other)
       ∙ ap (λ bs. last_passed name None bs us) (items_shown-the_row-Binding-3 m other))
+
+  -- without any fallback neither has one
+  unless-same : {m n : _} (r : Row_of-Body m) (s : Row_of-Body n) (ps : List Place) → AreBodies SA ps r → AreBodies SB ps s → (site : Site)
+      (t u : Trace Task) → t ≡ u → unless_none r site t ≡ unless_none s site u
+  unless-same end_of-Body end_of-Body ps x y site t u e = refl
+  unless-same end_of-Body (more_of-Body d others) [] x y site t u e = absurd y
+  unless-same end_of-Body (more_of-Body d others) (p ∷ ps) x y site t u e = absurd x
+  unless-same (more_of-Body c others) end_of-Body [] x y site t u e = absurd x
+  unless-same (more_of-Body c others) end_of-Body (p ∷ ps) x y site t u e = absurd y
+  unless-same (more_of-Body c others) (more_of-Body d others') ps x y site t u e = e
 
   mutual
     kind-same : (k l : InstrKind) (p : Place) → IsKind SA p k → IsKind SB p l → (site : Site) (f : Focus) (mode : ℕ) → Modes f.mode mode → CallsSame f.depth →
@@ -289,11 +249,11 @@ module _ (ms : List ModuleData) (ma mb : List Name) (a b : Sheet) (i j : RuleInd
         (captured-same _ _ _ _ (body-same body body' (body_at ms p) x.2 z.2 (captured_in f) mode q k vs)
         (ap (λ c. λ es. says site (fragment_text es) ⨾ ended_if c site) (x.1 ∙ sym z.1))) (ap (λ (h : List Value → Trace Task). h vs) e))
         l (kind-tag SB p l y ∙ sym (kind-tag SA p (Message terminate body) x)) y
-    kind-same (Variable' where name content) l p x y site f mode q k vs next other e =
-        by-variable (λ z. IsKind SB p z → instr_trace (Variable' where name content) site WA (called WA f.depth) f vs next
-        ≡ instr_trace z site WB (called WB f.depth) (remoded mode f) vs other) (λ where' name' content' z.
+    kind-same (Variable' here name content) l p x y site f mode q k vs next other e =
+        by-variable (λ z. IsKind SB p z → instr_trace (Variable' here name content) site WA (called WA f.depth) f vs next
+        ≡ instr_trace z site WB (called WB f.depth) (remoded mode f) vs other) (λ here' name' content' z.
         content-same content content' p x.3 z.3 site f mode q k vs _ _ (ap (λ (h : List Value → Trace Task). λ (v : Value). h (vs ++ v ∷ [])) e))
-        l (kind-tag SB p l y ∙ sym (kind-tag SA p (Variable' where name content) x)) y
+        l (kind-tag SB p l y ∙ sym (kind-tag SA p (Variable' here name content) x)) y
     kind-same (Literal start body) l p x y site f mode q k vs next other e =
         by-literal (λ z. IsKind SB p z → instr_trace (Literal start body) site WA (called WA f.depth) f vs next
         ≡ instr_trace z site WB (called WB f.depth) (remoded mode f) vs other) (λ start' body' z.
@@ -387,13 +347,8 @@ module _ (ms : List ModuleData) (ma mb : List Name) (a b : Sheet) (i j : RuleInd
     fallbacks-same : (c d : Fallbacks) (ps : List Place) → AreFallbacks SA ps c → AreFallbacks SB ps d → (site : Site) (f : Focus) (mode : ℕ) →
         Modes f.mode mode → CallsSame f.depth → (vs : List Value) →
         fallbacks_trace c site WA (called WA f.depth) f vs ≡ fallbacks_trace d site WB (called WB f.depth) (remoded mode f) vs
-    fallbacks-same (Fallbacks' n end_of-Body) (Fallbacks' m end_of-Body) ps x y site f mode q k vs = refl
-    fallbacks-same (Fallbacks' n end_of-Body) (Fallbacks' m (more_of-Body d others)) [] x y site f mode q k vs = absurd y
-    fallbacks-same (Fallbacks' n end_of-Body) (Fallbacks' m (more_of-Body d others)) (p ∷ ps) x y site f mode q k vs = absurd x
-    fallbacks-same (Fallbacks' n (more_of-Body c others)) (Fallbacks' m end_of-Body) [] x y site f mode q k vs = absurd x
-    fallbacks-same (Fallbacks' n (more_of-Body c others)) (Fallbacks' m end_of-Body) (p ∷ ps) x y site f mode q k vs = absurd y
-    fallbacks-same (Fallbacks' n (more_of-Body c others)) (Fallbacks' m (more_of-Body d others')) ps x y site f mode q k vs =
-        bodies-same (more_of-Body c others) (more_of-Body d others') ps x y f mode q k vs
+    fallbacks-same (Fallbacks' n row) (Fallbacks' m rows) ps x y site f mode q k vs =
+        unless-same row rows ps x y site _ _ (bodies-same row rows ps x y f mode q k vs)
 
     bodies-same : {m n : _} (r : Row_of-Body m) (s : Row_of-Body n) (ps : List Place) → AreBodies SA ps r → AreBodies SB ps s → (f : Focus) (mode : ℕ) →
         Modes f.mode mode → CallsSame f.depth → (vs : List Value) →

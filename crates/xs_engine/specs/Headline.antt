@@ -6,7 +6,8 @@ use Rattle.xs_engine.specs.Answer.{Answer}
 use Rattle.xs_engine.specs.Due.{IsDue}
 use Rattle.xs_engine.specs.Job.{Job}
 
--- P of an answer that is due. Where the library tells no files, these are some files of which it is due.
+-- P of an answer that is due. Where the library tells its files there is one alone (`OnlyDue`); where it tells none, these are some
+-- files of which it is due.
 abbrev pub OfDue : Option Files → Option Job → (failed failed_after : List (List ℕ)) → (Answer → Type 0) → Type 0
 OfDue files job failed failed_after P = (answer : Answer) × IsDue files job failed failed_after answer × P answer
 
