@@ -47,8 +47,8 @@ behind g v h e = sym (then-goes g) ∙ sym (then-then g (λ u n. Goes v n) (λ x
 
 -- what passed, of what was kept
 passes-so : (x : Trace Task) (b : ℕ) (e : End) (m : State Task) (marks : Trace Task) (left ticks n : ℕ) (says said : List (List ℕ)) →
-    IsCutAt no_marks e b (cut x b None) m → m.told ≡ Untimed marks → Some left ≡ m.left → says ≡ messages_of marks → ticks ≡ b - left → said ≡ says → n ≡ ticks →
-    Passed (cut x b None) said n
+    IsCutAt no_marks e b (cut x b None) m → m.told ≡ Untimed marks → Some left ≡ m.left → says ≡ messages_of marks → ticks ≡ b - left → said ≡ says →
+    n ≡ ticks → Passed (cut x b None) said n
 passes-so x b e m marks left ticks n says said h t l s k q o =
     let c : Cut Task = cut x b None in
     let same : marks ≡ untimed c.passed = untimed_same (sym t ∙ h.told) in
@@ -103,7 +103,8 @@ module _ (w : World) (g : Option Global) (b : ℕ) where
     attempt-is told (attempt.Done v said n) i h =
         let q : Tells (Ok v) m = subst (λ r. Tells r m) h.0 i in
         let c : IsCutAt no_marks Whole b C m = done-cut v m q in
-        (c.end, (given-value (play X (begun no_marks b None)) (attempt_value w g) v m q, passes-so X b Whole m marks left ticks n says said.items c t l s k h.1.0 h.1.1))
+        let given : v ≡ attempt_value w g = given-value (play X (begun no_marks b None)) (attempt_value w g) v m q in
+        (c.end, (given, passes-so X b Whole m marks left ticks n says said.items c t l s k h.1.0 h.1.1))
     attempt-is told (attempt.Stopped said n q) i h = stopped told q said.items n i h.0 h.1.0 h.1.1
     attempt-is told (attempt.Needs f p said n) i h =
         let q : Tells (Err (halt.Needs f p)) m = subst (λ r. Tells r m) h.0 i in
@@ -111,9 +112,8 @@ module _ (w : World) (g : Option Global) (b : ℕ) where
         (c.end, passes-so X b (Needs f p) m marks left ticks n says said.items c t l s k h.1.0 h.1.1)
 
 pub attempt-comes : {E : Type 0} (w : World) (g : Option Global) (b : ℕ) (s0 m : State Task) (marks : Trace Task) (left ticks : ℕ) (says : List (List ℕ))
-    (told : Result Value Halt) (r : Result Attempt E) → s0 ≡ begun no_marks b None → m.told ≡ Untimed marks → Some left ≡ m.left → says ≡ messages_of marks → ticks ≡ b -
-    left →
-    IsStep (attempt_steps w g s0) told m → IfOk r (λ a. IsAttemptOf told says ticks a) →
+    (told : Result Value Halt) (r : Result Attempt E) → s0 ≡ begun no_marks b None → m.told ≡ Untimed marks → Some left ≡ m.left →
+    says ≡ messages_of marks → ticks ≡ b - left → IsStep (attempt_steps w g s0) told m → IfOk r (λ a. IsAttemptOf told says ticks a) →
     IfOk r (λ a. IsAttempt (cut (attempt_trace w g) b None) (attempt_value w g) a)
 attempt-comes w g b s0 m marks left ticks says told (Ok a) e t l s k q h =
     attempt-is w g b m marks left ticks says t l s k told a (subst (λ (z : State Task). IsStep (attempt_steps w g z) told m) e q) h

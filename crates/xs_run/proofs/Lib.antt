@@ -11,6 +11,7 @@ pub mod LackLemmas
 pub mod SideLemmas
 pub mod GrainLemmas
 pub mod NeedLemmas
+pub mod CapturedLemmas
 pub mod AttemptLemmas
 pub mod SettlingLemmas
 pub mod PassedLemmas

@@ -1,13 +1,14 @@
 -- What is true of the evaluation, and of its steps on the stack.
-use Rattle.std.specs.Prelude.{◌≡◌, ℕ, List, [], ◌∷◌, slice_get, Option, Some, None}
+use Rattle.std.specs.Prelude.{◌≡◌, ℕ, ◌+◌, List, [], ◌∷◌, ◌++◌, slice_get, Option, Some, None}
 use Rattle.std.specs.List.{All}
 use Rattle.std.specs.Option.{IsSome}
 use Rattle.xs_sheet.specs.declared.body.Body.{Body}
 use Rattle.xs_sheet.specs.declared.declarations.Global.{Global}
 use Rattle.xs_trace.specs.Fill.{fill, tasks_of}
-use Rattle.xs_trace.specs.Mark.{Tick, Put, Say, Stop, Need, Hole, Trace, NeedsNothing}
+use Rattle.xs_trace.specs.Mark.{Tick, Put, Say, Stop, Need, Hole, Trace, GoesOn, NeedsNothing, captured, events_of, messages_of, tick_count}
 use Rattle.xs_trace.specs.State.{State}
 use Rattle.xs_trace.specs.Play.{and_then, play}
+use Rattle.xs_trace.specs.declared.event.Event.{Event}
 use Rattle.xs_value.specs.declared.value.Value.{Value}
 use Rattle.xs_rules.specs.declared.index.RuleIndex.{RuleIndex}
 use Rattle.xs_run.specs.declared.focus.Focus.{Focus}
@@ -30,6 +31,16 @@ TasksFill = (w : World) (t : Task) → fill (task_trace (with_grain None w)) (ta
 -- nothing of captured content is left to tasks
 abbrev pub CapturedLeavesNothing : Type 0
 CapturedLeavesNothing = (w : World) (body : Body) (f : Focus) (vs : List Value) → tasks_of (body_trace body w (called w f.depth) (captured_in f) vs) ≡ []
+
+-- Captured content takes its ticks and says its messages as content does that is not captured; what follows comes behind it
+-- (XSLT 1.0, 11.2, 13).
+abbrev pub CapturedTakesTicks : Type 0
+CapturedTakesTicks = (x : Trace Task) (f : List Event → Trace Task) → GoesOn x →
+    tick_count (captured x f) ≡ tick_count x + tick_count (f (events_of x))
+
+abbrev pub CapturedSays : Type 0
+CapturedSays = (x : Trace Task) (f : List Event → Trace Task) → GoesOn x →
+    messages_of (captured x f) ≡ messages_of x ++ messages_of (f (events_of x))
 
 -- a need is of a global that has no value yet
 abbrev pub NeedsOnly : List (Option Value) → Trace Task → Type 0

@@ -226,6 +226,7 @@ fn pass_content<'a, K: KeyFinder, R: Recorder<Task = Task<'a>>>(
 }
 
 /// A call has the value of one parameter more.
+#[inline(always)]
 fn push_value<'a, K: KeyFinder>(
     world: &World<'a, K>,
     value: Value,

@@ -1,6 +1,7 @@
 //! What is true of the evaluation. The functions do nothing: their contracts are the laws.
 
 ghost use Rattle.xs_run.specs.Laws.{AttemptsAreTheSame, AttemptsNeed, CapturedLeavesNothing};
+ghost use Rattle.xs_run.specs.Laws.{CapturedSays, CapturedTakesTicks};
 ghost use Rattle.xs_run.specs.Laws.{SettledNeedsNothing, SettlingIsTheSame, TasksAreTheSame};
 ghost use Rattle.xs_run.specs.Laws.{StepsAgree, TasksBegin, TasksFill, TasksNeed};
 
@@ -22,6 +23,12 @@ pub fn tasks_fill()
 /// Captured content leaves no holes.
 pub fn captured_leaves_nothing()
     ensures { CapturedLeavesNothing }
+{}
+
+/// Captured content takes its ticks and says its messages as if it were not captured.
+pub fn captured_is_taken()
+    ensures ticks { CapturedTakesTicks }
+    ensures messages { CapturedSays }
 {}
 
 /// A task, and an attempt at a global, need a global only where that has no value yet.

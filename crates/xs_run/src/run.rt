@@ -45,6 +45,7 @@ pub(crate) fn finish<'a, K: KeyFinder, R: Recorder<Task = Task<'a>>>(
 }
 
 /// The next step of what is to be done first.
+#[inline(always)]
 fn advance<'a, K: KeyFinder, R: Recorder<Task = Task<'a>>>(
     alloc: Global,
     world: &World<'a, K>,

@@ -34,6 +34,7 @@ impl<'a> Stack<'a> {
     }
 
     /// Puts a frame before the others.
+    #[inline(always)]
     pub(crate) fn push<K: KeyFinder>(
         &mut self,
         world: &World<'a, K>,
@@ -51,6 +52,7 @@ impl<'a> Stack<'a> {
     }
 
     /// The frame before the others.
+    #[inline(always)]
     pub(crate) fn pop<K: KeyFinder>(&mut self, world: &World<'a, K>) -> Option<Frame<'a>>
         requires inside { AreIn world.now.tree self.old }
         ensures popped { MatchOption result ((stack_of self.old).works ≡ [])
@@ -63,6 +65,7 @@ impl<'a> Stack<'a> {
     }
 
     /// Takes so many values away, those that came last.
+    #[inline(always)]
     pub(crate) fn empty<K: KeyFinder>(&mut self, world: &World<'a, K>, count: usize)
         requires inside { AreIn world.now.tree self.old }
         ensures slots { stack_of self.new
@@ -75,6 +78,7 @@ impl<'a> Stack<'a> {
     }
 
     /// A value more.
+    #[inline(always)]
     pub(crate) fn fill<K: KeyFinder>(
         &mut self,
         world: &World<'a, K>,
