@@ -21,7 +21,8 @@ returns-in-Some-false g c =
       say =
           c.loop-predicate.invariant (Some false)
           (subst (λ (l : List Meaning). AreSaid n ctx l (Some false))
-          (sym (from_here ms k (run_of keys e) (mapped_below (run_of keys) es k (omega arith)) (mapped_at (run_of keys) es k e (omega arith) c.predicate-item.is)))
+          (sym (from_here ms k (run_of keys e) (mapped_below (run_of keys) es k (omega arith))
+          (mapped_at (run_of keys) es k e (omega arith) c.predicate-item.is)))
           (said-dropped n ctx (run_of keys e) (drop (k + 1) ms)
           (subst (λ (o : Option Bool). IsSaid n ctx (run_of keys e) o) (c.in-Some-false.is ∙ ap (λ (b : Bool). Some b) c.in-Some-false.field-0-test)
           c.in_ok-says.ensures.says)));
