@@ -1,21 +1,25 @@
 -- Bodies, and their like, by the lists of what stands in them.
-use Rattle.std.proofs.Common.{◌≡◌, ◌∙◌, ◌==◌, ℕ, ap, arith, refl, sym, subst, List, [], ◌∷◌, length, Bool, true, false, Option, None, Some, eq-eqb, eqb-true}
+use Rattle.std.proofs.Common.{◌≡◌, ◌∙◌, ◌==◌, ℕ, ap, arith, refl, sym, subst, List, [], ◌∷◌, length, Bool, true, false, Option, None, Some, Result, Ok, Err, IfOk, eq-eqb, eqb-true}
 use Rattle.std.proofs.lemmas.Bool.{true≢false}
 use Rattle.std.specs.List.{AllZip}
 use Rattle.std.specs.Option.{unwrap_or}
 use Rattle.std.specs.Prelude.{codes, is_some, option_map}
-use Rattle.xs_compile.specs.Bodies.{AreBindings, AreBodies, AreFallbacks, AreInstrs, AreWhens, IsBody, IsChoice, IsExprIf, IsExprOf, IsPassed, IsWhen, Source, first_body, has_select, is_otherwise}
+use Rattle.xs_compile.specs.Bodies.{AreBindings, AreBodies, AreFallbacks, AreInstrs, AreWhens, IsBody, IsChoice, IsExprIf, IsExprOf, IsKind, IsPassed, IsWhen, Source, first_body, has_select, is_otherwise}
 use Rattle.xs_compile.specs.Declarations.{IsBinding, IsInstr}
 use Rattle.xs_compile.specs.Parsed.{Both, IsExpr}
-use Rattle.xs_declared.specs.Parts.{body_at, children_with}
+use Rattle.xs_compile.specs.steps.Gains.{Gains, GainsInstr}
+use Rattle.xs_declared.specs.Parts.{body_at, children_with, site_at}
 use Rattle.xs_elements.specs.Nodes.{attribute_of}
 use Rattle.xs_elements.specs.Rows.{is_when}
 use Rattle.xs_sheet.specs.declared.body.Body.{Body, Body', Row_of-Instr, end_of-Instr, more_of-Instr, items-the_row-Instr, items_shown-the_row-Instr-0, out-Body, outs-Body'}
 use Rattle.xs_sheet.specs.declared.body.Choice.{Choice, Choice', Row_of-When, end_of-When, more_of-When, items-the_row-When, items_shown-the_row-When-1, out-Choice, outs-Choice'}
 use Rattle.xs_sheet.specs.declared.body.Fallbacks.{Fallbacks, Fallbacks', Row_of-Body, end_of-Body, more_of-Body, items-the_row-Body, items_shown-the_row-Body-2, out-Fallbacks, outs-Fallbacks'}
 use Rattle.xs_sheet.specs.declared.body.Passed.{Passed, Passed', Row_of-Binding, end_of-Binding, more_of-Binding, items-the_row-Binding, items_shown-the_row-Binding-3, out-Passed, outs-Passed'}
+use Rattle.xs_sheet.specs.declared.body.Instr.{Instr}
+use Rattle.xs_sheet.specs.declared.body.InstrKind.{InstrKind}
 use Rattle.xs_sheet.specs.declared.scoped.ScopedExpr.{ScopedExpr}
 use Rattle.xs_static.specs.Modules.{Place, records_at}
+use Rattle.xs_trace.specs.declared.item.Site.{Site}
 use Rattle.xs_tree.specs.Record.{at}
 
 module _ (s : Source) where
@@ -110,3 +114,15 @@ none-in (x ∷ xs) n b size e h = absurd (let none : n ≡ 0 = eqb-true n 0 (sym
 
 pub some-in : {T : Type 0} (xs : List T) (n : ℕ) (b : Bool) → n ≡ length xs → b ≡ (n == 0) → b ≡ false → xs ≡ [] → ⊥
 some-in xs n b size e h none = true≢false (sym (eq-eqb n 0 (size ∙ ap length none)) ∙ sym e ∙ h)
+
+-- an instruction more, by what was compiled
+pub gains-instr : {E F : Type 0} (s : Source) (p : Place) (kind : Result InstrKind E) (site : Site) (r : Result (Unit {0}) F) (before after : List Instr)
+    → site ≡ site_at s.modules p → IfOk kind (IsKind s p) → IfOk r (λ u. Gains kind site before after)
+    → IfOk r (λ u. GainsInstr s p before after)
+gains-instr s p kind site (Err e) before after same is gains = tt
+gains-instr s p (Err e) site (Ok u) before after same is gains = absurd gains
+gains-instr s p (Ok kind) site (Ok u) before after same is gains = record {
+  instr = record { site = site; kind = kind };
+  grown = gains;
+  stands = record { site = same; kind = is };
+}

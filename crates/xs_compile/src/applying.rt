@@ -144,6 +144,7 @@ impl<'m> Compiler<'m> {
     }
 
     /// A number (7.7).
+    #[inline(never)]
     pub(crate) fn numbered(&self, number: u32, n: Node) -> Result<InstrKind, AllocError>
         requires ready { IsReady self.now («number», n) }
         requires row { IsRow (source_of self.now) («number», n) Row.Number }

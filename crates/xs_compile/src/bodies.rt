@@ -4,8 +4,9 @@ ghost use Rattle.std.specs.Prelude.{◌≡◌, false, true, IfOk};
 ghost use Rattle.std.specs.List.{AllZip};
 ghost use Rattle.xs_compile.specs.Bodies.{AreFallbacks, IsBody, IsContent, IsKind, IsPassed};
 ghost use Rattle.xs_compile.specs.Bodies.{IsRow, IsWhen, first_body, has_select, is_otherwise};
-ghost use Rattle.xs_compile.specs.Declarations.{IsBinding, IsInstr};
+ghost use Rattle.xs_compile.specs.Declarations.{IsBinding};
 ghost use Rattle.xs_declared.specs.Parts.{body_at, children_with, reading_at, row_at};
+ghost use Rattle.xs_compile.specs.steps.Gains.{Gains, GainsInstr};
 ghost use Rattle.xs_compile.specs.steps.Rows.{holds_body, is_binding};
 ghost use Rattle.xs_compile.specs.steps.State.{IsInstruction, IsReady, modules_of, source_of};
 ghost use Rattle.xs_elements.specs.declared.reading.Reading.TheVariants.{Extension, Known, Literal};
@@ -21,7 +22,22 @@ use xs_declared::places::{row_at, said_at, site_at};
 use xs_elements::reading::Reading;
 use xs_elements::rows::Row;
 use xs_sheet::body::{Binding, Body, Choice, Content, Fallbacks, Instr, InstrKind, Passed, When};
+use xs_trace::item::Site;
 use xs_tree::Node;
+
+/// Adds an instruction that does this, if it was compiled. An instruction takes some hundred bytes
+/// of the stack: here, behind all calls that its bodies need, so that no level of them holds one.
+#[inline(never)]
+fn push_instr(
+    instrs: &mut Vec<Instr>,
+    site: Site,
+    kind: Result<InstrKind, AllocError>,
+) -> Result<(), AllocError>
+    ensures { IfOk result (λ _. Gains kind site instrs.old.items instrs.new.items) }
+{
+    instrs.push(Instr { site, kind: kind? })?;
+    Ok(())
+}
 
 impl<'m> Compiler<'m> {
     /// The body of an element: its content behind parameters and sort keys.
@@ -36,21 +52,26 @@ impl<'m> Compiler<'m> {
         let places = self.body_places(number, n)?;
         let mut instrs = Vec::new(self.alloc);
         for place in &places {
-            let instr = self.instr(place.0, place.1)?;
-            instrs.push(instr)?;
+            self.add_instr(&mut instrs, place.0, place.1)?;
         }
         Ok(Body { instrs })
     }
 
-    /// The instruction that a node of a body stands for.
+    /// Adds the instruction that a node of a body stands for.
     #[cycle(bodies)]
-    pub(crate) fn instr(&self, number: u32, n: Node) -> Result<Instr, AllocError>
+    pub(crate) fn add_instr(
+        &self,
+        instrs: &mut Vec<Instr>,
+        number: u32,
+        n: Node,
+    ) -> Result<(), AllocError>
         requires { IsInstruction self.now («number», n) }
-        ensures { IfOk result (IsInstr (source_of self.now) («number», n)) }
+        ensures { IfOk result (λ _. GainsInstr (source_of self.now) («number», n)
+            instrs.old.items instrs.new.items) }
     {
         let site = site_at(self.modules, number, n);
-        let kind = self.kind(number, n)?;
-        Ok(Instr { site, kind })
+        let kind = self.kind(number, n);
+        push_instr(instrs, site, kind)
     }
 
     /// What it does.
@@ -84,6 +105,7 @@ impl<'m> Compiler<'m> {
 
     /// Templates are applied to nodes (5.4).
     #[cycle(bodies)]
+    #[inline(never)]
     fn apply_templates(&self, number: u32, n: Node) -> Result<InstrKind, AllocError>
         requires ready { IsReady self.now («number», n) }
         requires row { IsRow (source_of self.now) («number», n) Row.ApplyTemplates }
@@ -108,6 +130,7 @@ impl<'m> Compiler<'m> {
 
     /// A body is done for each node (8).
     #[cycle(bodies)]
+    #[inline(never)]
     fn for_each(&self, number: u32, n: Node) -> Result<InstrKind, AllocError>
         requires ready { IsReady self.now («number», n) }
         requires row { IsRow (source_of self.now) («number», n) Row.ForEach }
@@ -147,6 +170,7 @@ impl<'m> Compiler<'m> {
 
     /// One of several bodies is done (9.2).
     #[cycle(bodies)]
+    #[inline(never)]
     fn choose(&self, number: u32, n: Node) -> Result<InstrKind, AllocError>
         requires ready { IsReady self.now («number», n) }
         requires row { IsRow (source_of self.now) («number», n) Row.Choose }
@@ -276,6 +300,7 @@ impl<'m> Compiler<'m> {
 
     /// An element that is no XSLT: a literal one (7.1.1), or an extension element (14.1).
     #[cycle(bodies)]
+    #[inline(never)]
     fn other(&self, number: u32, n: Node) -> Result<InstrKind, AllocError>
         requires instruction { IsInstruction self.now («number», n) }
         requires row { IsRow (source_of self.now) («number», n) Row.Other }
@@ -294,6 +319,7 @@ impl<'m> Compiler<'m> {
 
     /// The bodies of an extension element's fallbacks (15).
     #[cycle(bodies)]
+    #[inline(never)]
     fn fallbacks(&self, number: u32, n: Node) -> Result<Fallbacks, AllocError>
         requires ready { IsReady self.now («number», n) }
         requires extension { reading_at (modules_of self.now) («number», n) ≡ Extension }

@@ -96,6 +96,7 @@ impl<'m> Compiler<'m> {
     }
 
     /// A literal element but for its content (7.1.1).
+    #[inline(never)]
     pub(crate) fn literal_start(&self, number: u32, n: Node) -> Result<LiteralStart, AllocError>
         requires ready { IsReady self.now («number», n) }
         requires literal { reading_at (modules_of self.now) («number», n) ≡ Literal }

@@ -121,7 +121,7 @@ impl<'m> Compiler<'m> {
         ensures { IfOk result (IsTemplate (source_of self.now) («number», n)) }
     {
         let mut instrs = Vec::new(self.alloc);
-        instrs.push(self.instr(number, n)?)?;
+        self.add_instr(&mut instrs, number, n)?;
         let scope = self.scope(number, n)?;
         Ok(Template {
             site: site_at(self.modules, number, n),
@@ -264,8 +264,7 @@ impl<'m> Compiler<'m> {
         let places = self.parts(number, n, Part::Attribute)?;
         let mut attributes = Vec::new(self.alloc);
         for place in &places {
-            let attribute = self.instr(place.0, place.1)?;
-            attributes.push(attribute)?;
+            self.add_instr(&mut attributes, place.0, place.1)?;
         }
         Ok(attributes)
     }

@@ -1,7 +1,7 @@
 use Rattle.std.proofs.Common.{◌≡◌, ◌∙◌, ◌<◌, ◌+◌, ap, refl, sym, subst, arith, length, take, List, [], All, None}
 use Rattle.std.specs.List.{AllZip}
 use Rattle.std.specs.Prelude.{slice_get}
-use Rattle.xs_compile.proofs.BodyLemmas.{body-empty, none-in, some-in, body-is, body-some, choice-is, fallbacks-are, passed-are}
+use Rattle.xs_compile.proofs.BodyLemmas.{body-empty, gains-instr, none-in, some-in, body-is, body-some, choice-is, fallbacks-are, passed-are}
 use Rattle.xs_compile.proofs.RowLemmas.{binding-named, binding-takes, body-row-is, first-none, other-reading, row-body, row-holds, row-known}
 use Rattle.xs_compile.proofs.ZipLemmas.{behind-falls, first-of, item-of, zip-end, zip-more}
 use Rattle.xs_compile.specs.Bodies.{IsBody, IsWhen, first_body, is_otherwise}
@@ -23,8 +23,8 @@ use Rattle.xs_sheet.specs.declared.body.Fallbacks.{out-roll-Fallbacks, roll-Fall
 use Rattle.xs_sheet.specs.declared.body.Passed.{out-roll-Passed, roll-Passed}
 use Rattle.xs_compile.proofs.compiler.Compiler.+bodies.Goals as goal
 
-pub body-instr-requires : goal.body-instr-requires
-body-instr-requires t c =
+pub body-add_instr-requires : goal.body-add_instr-requires
+body-add_instr-requires t c =
     let inside : Place = (c.args.number, c.args.n) in
     let h =
     item-of (IsInBody c.args.self.now inside) c.deref-place-items.result.now c.loop-place.place-index c.place-item.result
@@ -39,9 +39,10 @@ body-loop-place-preserved t c =
     let i = c.loop-place.place-index in
     let items = c.deref-place-items.result.now in
     let lt : i < length items = omega arith in
-    subst (AllZip (IsInstr (source_of c.args.self.now)) (take (i + 1) items)) (sym c.in_ok-push.ensures.items)
-    (zip-more (IsInstr (source_of c.args.self.now)) items c.loop-place.instrs.items i c.place-item.result c.in_ok-instr.instr lt c.place-item.is
-    c.loop-place.invariant c.in_ok-instr.ensures)
+    let more = c.in_ok-add_instr.ensures in
+    subst (AllZip (IsInstr (source_of c.args.self.now)) (take (i + 1) items)) (sym more.grown)
+    (zip-more (IsInstr (source_of c.args.self.now)) items c.loop-place.instrs.items i c.place-item.result more.instr lt c.place-item.is
+    c.loop-place.invariant more.stands)
 
 pub body-returns : goal.body-returns
 body-returns t c =
@@ -54,6 +55,11 @@ body-returns t c =
     (subst (λ (qs : List Place). AllZip (IsInstr (source_of c.args.self.now)) qs c.loop-place.instrs.items) (c.deref-place-items.ensures.value
     ∙ c.in_ok-places.ensures.places)
     (zip-end (IsInstr (source_of c.args.self.now)) items c.loop-place.instrs.items c.loop-place.place-index (omega arith) c.loop-place.invariant)))
+
+pub add_instr-returns : goal.add_instr-returns
+add_instr-returns t c =
+    gains-instr (source_of c.args.self.now) (c.args.number, c.args.n) c.kind.result c.site_at.result c.push_instr.result c.args.instrs.now.items
+    c.push_instr.new.instrs.items c.site_at.ensures c.kind.ensures c.push_instr.ensures
 
 pub for_each-sorts-requires-clause-known : goal.for_each-sorts-requires-clause-known
 for_each-sorts-requires-clause-known t c =

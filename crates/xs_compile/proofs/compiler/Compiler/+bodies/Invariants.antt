@@ -11,8 +11,8 @@ use Rattle.xs_compile.proofs.compiler.Compiler.+bodies.Given as goal
 abbrev pub decreases-body : goal.decreases-body
 decreases-body l = 8 * (length (records_at (modules_of l.self.now) l.number) - l.n) + 0
 
-abbrev pub decreases-instr : goal.decreases-instr
-decreases-instr l = 8 * (length (records_at (modules_of l.self.now) l.number) - l.n) + 7
+abbrev pub decreases-add_instr : goal.decreases-add_instr
+decreases-add_instr l = 8 * (length (records_at (modules_of l.self.now) l.number) - l.n) + 7
 
 abbrev pub decreases-kind : goal.decreases-kind
 decreases-kind l = 8 * (length (records_at (modules_of l.self.now) l.number) - l.n) + 6

@@ -10,8 +10,8 @@ use Rattle.xs_elements.specs.Rows.{is_stylesheet, is_top_level}
 use Rattle.xs_static.specs.Modules.{Place, records_at}
 use Rattle.xs_compile.proofs.compiler.Compiler.set_attributes.Goals as goal
 
-pub instr-requires : goal.instr-requires
-instr-requires c =
+pub add_instr-requires : goal.add_instr-requires
+add_instr-requires c =
     let ms = modules_of c.args.self.now in
     let inside : Place = (c.args.number, c.args.n) in
     let part = IsPartOf c.args.self.now inside Attribute in
@@ -31,9 +31,10 @@ loop-place-preserved c =
     let stands = IsInstr (source_of c.args.self.now) in
     let items = c.deref-place-items.result.now in
     let i = c.loop-place.place-index in
-    subst (λ found. AllZip stands (take (i + 1) items) found) (sym c.in_ok-push.ensures.items)
-    (zip-more stands items c.loop-place.attributes.items i c.place-item.result c.in_ok-attribute.attribute c.loop-place-test.true c.place-item.is
-    c.loop-place.invariant c.in_ok-attribute.ensures)
+    let more = c.in_ok-add_instr.ensures in
+    subst (λ found. AllZip stands (take (i + 1) items) found) (sym more.grown)
+    (zip-more stands items c.loop-place.attributes.items i c.place-item.result more.instr c.loop-place-test.true c.place-item.is
+    c.loop-place.invariant more.stands)
 
 pub returns : goal.returns
 returns c =

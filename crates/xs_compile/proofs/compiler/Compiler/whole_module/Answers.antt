@@ -11,8 +11,8 @@ use Rattle.xs_sheet.specs.declared.body.Body.{out-roll-Body}
 use Rattle.xs_static.specs.Modules.{Place}
 use Rattle.xs_compile.proofs.compiler.Compiler.whole_module.Goals as goal
 
-pub instr-requires : goal.instr-requires
-instr-requires c = simple-instruction c.args.self.now (c.args.number, c.args.n) c.requires.ready c.requires.simplified
+pub add_instr-requires : goal.add_instr-requires
+add_instr-requires c = simple-instruction c.args.self.now (c.args.number, c.args.n) c.requires.ready c.requires.simplified
 
 pub pattern-requires-clause-valid : goal.pattern-requires-clause-valid
 pattern-requires-clause-valid c =
@@ -22,9 +22,10 @@ pub returns : goal.returns
 returns c =
     let s = source_of c.args.self.now in
     let p : Place = (c.args.number, c.args.n) in
+    let more = c.in_ok-add_instr.ensures in
     let instrs =
     subst (λ found. AllZip (IsInstr s) (p ∷ []) found)
-    (sym (c.in_ok-push.ensures.items ∙ ap (λ found. found ++ c.in_ok-instr.field-0 ∷ []) c.new-instrs.ensures.items)) (c.in_ok-instr.ensures, tt) in
+    (sym (more.grown ∙ ap (λ found. found ++ more.instr ∷ []) c.new-instrs.ensures.items)) (more.stands, tt) in
     whole-is s p _ c.requires.simplified c.site_at.ensures c.precedence_at.ensures c.imports_from_at.ensures
     (record {
       pattern = c.in_ok-pattern.ensures;
@@ -33,5 +34,5 @@ returns c =
       mode = refl;
       params = c.new.ensures.items;
       body = body-is s (p ∷ []) _
-          (subst (λ b. AllZip (IsInstr s) (p ∷ []) b.instrs.items) (sym (out-roll-Body (record { instrs = c.push.new.self }))) instrs);
+          (subst (λ b. AllZip (IsInstr s) (p ∷ []) b.instrs.items) (sym (out-roll-Body (record { instrs = c.add_instr.new.instrs }))) instrs);
     })
