@@ -1,4 +1,5 @@
 mod AliasLemmas
+mod AttributeLemmas
 mod CalledLemmas
 mod CountedLemmas
 pub mod DeclarationLemmas

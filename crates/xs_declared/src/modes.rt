@@ -13,7 +13,7 @@ use indexmap::IndexSet;
 use std::alloc::{AllocError, Global};
 use xs_elements::scope::{Expanded, expanded, value_of};
 use xs_modules::Modules;
-use xs_tree::{Node, Tree};
+use xs_tree::{Kind, Node, Tree};
 
 /// The modes that a stylesheet names, in order.
 #[derive(Drop)]
@@ -29,6 +29,19 @@ pub fn mode_at(tree: &Tree, n: Node) -> Option<Expanded<'_>>
 {
     let text = value_of(tree, n, "", "mode")?;
     expanded(tree, n, text)
+}
+
+/// The mode that a node names. An element alone names one, and a node that is none has no
+/// attributes to look through.
+fn noted_at(tree: &Tree, n: Node) -> Option<Expanded<'_>>
+    requires { n < length tree.now }
+    ensures { option_map name_data result ≡ tree_mode tree.now n }
+{
+    let _count = tree.len();
+    match tree.kind(n) {
+        Kind::Element => mode_at(tree, n),
+        _ => None,
+    }
 }
 
 impl<'m> Modes<'m> {
@@ -52,7 +65,7 @@ impl<'m> Modes<'m> {
             → HasModes rs count self.new) }
     {
         for place in 0..tree.len() as u32 {
-            self.note(mode_at(tree, Node::at(place)))?;
+            self.note(noted_at(tree, Node::at(place)))?;
         }
         Ok(())
     }

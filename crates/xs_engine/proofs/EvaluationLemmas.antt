@@ -1,11 +1,11 @@
 -- What an evaluation owes, by what was settled and kept.
 use Rattle.std.proofs.Common.{◌≡◌, ◌≤◌, ◌∙◌, ◌+◌, ◌-◌, ◌++◌, ℕ, arith, [], List, Result, Ok, Err, Option, Some, None, IfOk, ap, sym, subst, append-nil}
-use Rattle.xs_run.specs.Globals.{SettlesAll, with_globals}
-use Rattle.xs_run.specs.Results.{settled_by, settled_of, told_in}
-use Rattle.xs_run.specs.Tasks.{Task}
-use Rattle.xs_run.specs.Trace.{root_task, task_trace}
-use Rattle.xs_run.specs.World.{World, ground}
-use Rattle.xs_run.specs.declared.settling.Settled.{Settled}
+use Rattle.xs_body.specs.Globals.{SettlesAll, with_globals}
+use Rattle.xs_body.specs.Results.{settled_by, settled_of, told_in}
+use Rattle.xs_body.specs.Tasks.{Task}
+use Rattle.xs_body.specs.Trace.{root_task, task_trace}
+use Rattle.xs_body.specs.World.{World, ground}
+use Rattle.xs_body.specs.declared.settling.Settled.{Settled}
 use Rattle.xs_engine.proofs.EndLemmas.{reported}
 use Rattle.xs_engine.specs.Answer.{Answer, stopped_answer, whole_answer}
 use Rattle.xs_engine.specs.Evaluation.{IsCutAnswer, IsEndAnswer, IsEvaluated, IsEvaluatedFrom, IsEvaluatedOn, in_globals, in_root, root_cut}

@@ -11,9 +11,9 @@ use Rattle.xs_trace.specs.Cut.{Cut, End, Whole, Fault, Needs, Spent, Full, cut}
 use Rattle.xs_trace.specs.Mark.{Trace}
 use Rattle.xs_tree.specs.Record.{Record}
 use Rattle.xs_tree.specs.Stripping.{without}
-use Rattle.xs_run.specs.Globals.{Settled, SettlesAll, Table, ended, settled}
-use Rattle.xs_run.specs.Tasks.{Task}
-use Rattle.xs_run.specs.World.{ground}
+use Rattle.xs_body.specs.Globals.{Settled, SettlesAll, Table, ended, settled}
+use Rattle.xs_body.specs.Tasks.{Task}
+use Rattle.xs_body.specs.World.{ground}
 use Rattle.xs_engine.specs.Answer.{Answer, stopped_answer}
 use Rattle.xs_engine.specs.Evaluation.{IsCutAnswer, IsEndAnswer, IsEvaluated, IsEvaluatedFrom, IsEvaluatedOn, in_globals, in_root, root_cut}
 use Rattle.xs_engine.specs.Job.{Job}

@@ -7,10 +7,10 @@ use Rattle.xs_trace.specs.declared.event.Event.{Event}
 use Rattle.xs_trace.specs.declared.event.Label.{Label}
 use Rattle.xs_trace.specs.declared.item.Site.{Site}
 use Rattle.xs_declared.specs.Labels.{IsMode}
-use Rattle.xs_run.specs.declared.focus.Focus.{Focus}
-use Rattle.xs_run.specs.World.{at_node}
-use Rattle.xs_run.specs.Tasks.{Params, no_params, value_passed, Job, Task}
-use Rattle.xs_run.specs.Trace.{each, spread_by}
+use Rattle.xs_body.specs.declared.focus.Focus.{Focus}
+use Rattle.xs_body.specs.World.{at_node}
+use Rattle.xs_body.specs.Tasks.{Params, no_params, value_passed, Job, Task}
+use Rattle.xs_body.specs.Trace.{each, spread_by}
 
 -- ---- traces of equal parts
 pub joined-same : (x v y z : Trace Task) → x ≡ v → y ≡ z → x ⨾ y ≡ v ⨾ z

@@ -4,10 +4,10 @@ use Rattle.xs_trace.specs.Cut.{Cut, End, Whole, Fault, Needs, Spent, Full, cut}
 use Rattle.xs_trace.specs.Kept.{spot}
 use Rattle.xs_trace.specs.declared.item.Spot.{Spot}
 use Rattle.xs_value.specs.declared.value.Value.{Value}
-use Rattle.xs_run.specs.World.{World}
-use Rattle.xs_run.specs.Globals.{Table, Settled, settled, ended, Settles, AllSettle, SettlesAll, IsInOrder, IsUnsettled, at_first, attempt_trace, attempt_value}
-use Rattle.xs_run.specs.Globals.{is_under, once_more, tried, with_globals, with_passed, with_value}
-use Rattle.xs_run.specs.Globals as settles
+use Rattle.xs_body.specs.World.{World}
+use Rattle.xs_body.specs.Globals.{Table, Settled, settled, ended, Settles, AllSettle, SettlesAll, IsInOrder, IsUnsettled, at_first, attempt_trace, attempt_value}
+use Rattle.xs_body.specs.Globals.{is_under, once_more, tried, with_globals, with_passed, with_value}
+use Rattle.xs_body.specs.Globals as settles
 use Rattle.xs_engine.proofs.OneOrderLemmas.{one-order}
 
 -- ---- one end

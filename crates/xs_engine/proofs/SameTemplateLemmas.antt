@@ -30,14 +30,14 @@ use Rattle.xs_tree.specs.Record.{Record, at, children}
 use Rattle.xs_value.specs.Tables.{Table}
 use Rattle.xs_value.specs.declared.value.Value.{Value}
 use Rattle.xs_value.specs.declared.value.Value.TheVariants.{Chars as String, Piece}
-use Rattle.xs_run.specs.Globals.{IsInOrder, at_first, attempt_trace, attempt_value, content_value, global_focus, placed, text_given, value_given, value_in}
-use Rattle.xs_run.specs.Globals as settles
-use Rattle.xs_run.specs.Rules.{import_for, rule_for, template_of}
-use Rattle.xs_run.specs.Tasks.{Params, Task, no_params, value_passed}
-use Rattle.xs_run.specs.Trace.{built_in, called, fitting, fragment_of, most_depth, param_trace, params_trace, root_task, ruled, task_trace}
-use Rattle.xs_run.specs.Trace.{template_trace, content_trace}
-use Rattle.xs_run.specs.World.{World, alone_at, at_node, by_rule, with_depth}
-use Rattle.xs_run.specs.declared.focus.Focus.{Focus}
+use Rattle.xs_body.specs.Globals.{IsInOrder, at_first, attempt_trace, attempt_value, content_value, global_focus, placed, text_given, value_given, value_in}
+use Rattle.xs_body.specs.Globals as settles
+use Rattle.xs_body.specs.Rules.{import_for, rule_for, template_of}
+use Rattle.xs_body.specs.Tasks.{Params, Task, no_params, value_passed}
+use Rattle.xs_body.specs.Trace.{built_in, called, fitting, fragment_of, most_depth, param_trace, params_trace, root_task, ruled, task_trace}
+use Rattle.xs_body.specs.Trace.{template_trace, content_trace}
+use Rattle.xs_body.specs.World.{World, alone_at, at_node, by_rule, with_depth}
+use Rattle.xs_body.specs.declared.focus.Focus.{Focus}
 use Rattle.xs_engine.proofs.SamePartLemmas.{SameMode, SameParams, if-same, remoded, same-none}
 use Rattle.xs_engine.proofs.SameTraceLemmas.{CallsSame, applied-same, body-same, content-same, value-same}
 use Rattle.xs_engine.proofs.SameRuleLemmas.{IfBoth, SameTemplate, among-same, get-both, imported-same, templates-same, paired}

@@ -47,14 +47,14 @@ use Rattle.xs_elements.specs.Rows.{is_fallback, is_when}
 use Rattle.xs_compile.specs.Bodies.{Source, AreBindings, AreBodies, AreFallbacks, AreInstrs, AreWhens, IsBody, IsChoice, IsContent}
 use Rattle.xs_compile.specs.Bodies.{IsKind, IsPassed, first_body, is_otherwise}
 use Rattle.xs_compile.specs.Parsed.{Both, IsExpr}
-use Rattle.xs_run.specs.declared.focus.Focus.{Focus}
-use Rattle.xs_run.specs.World.{World, at_node, in_list, captured_in, without_rule, value_run, nodes_run, text_run, test_run}
-use Rattle.xs_run.specs.World.{nodes_or_children}
-use Rattle.xs_run.specs.Tasks.{Params, last_passed, Job, body_job, rules_job, Task}
-use Rattle.xs_run.specs.Trace.{named, fitting, overridden, spread, applied}
-use Rattle.xs_run.specs.Trace.{passing, imports, chars, says, ended_if, begins, fragment_of, instr_trace, body_trace, row_trace, content_trace}
-use Rattle.xs_run.specs.Trace.{values_trace, choice_trace, whens_trace, fallbacks_trace, unless_none, bodies_trace}
-use Rattle.xs_run.specs.Trace.{called}
+use Rattle.xs_body.specs.declared.focus.Focus.{Focus}
+use Rattle.xs_body.specs.World.{World, at_node, in_list, captured_in, without_rule, value_run, nodes_run, text_run, test_run}
+use Rattle.xs_body.specs.World.{nodes_or_children}
+use Rattle.xs_body.specs.Tasks.{Params, last_passed, Job, body_job, rules_job, Task}
+use Rattle.xs_body.specs.Trace.{named, fitting, overridden, spread, applied}
+use Rattle.xs_body.specs.Trace.{passing, imports, chars, says, ended_if, begins, fragment_of, instr_trace, body_trace, row_trace, content_trace}
+use Rattle.xs_body.specs.Trace.{values_trace, choice_trace, whens_trace, fallbacks_trace, unless_none, bodies_trace}
+use Rattle.xs_body.specs.Trace.{called}
 use Rattle.xs_engine.proofs.SamePartLemmas.{SameMode, SameParams, captured-same, each-same, evaluated-same, if-same, joined-same, no-grain, remoded}
 use Rattle.xs_engine.proofs.SameKindLemmas.{kind-tag, by-applies, by-calls, by-imports, by-each, by-value, by-copy-of, by-copy, by-number, by-choose, by-if}
 use Rattle.xs_engine.proofs.SameKindLemmas.{by-text, by-element, by-attribute, by-comment, by-pi, by-message, by-variable, by-literal, by-extension}

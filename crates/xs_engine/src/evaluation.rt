@@ -2,9 +2,9 @@
 
 ghost use Rattle.std.specs.List.{All};
 ghost use Rattle.std.specs.Prelude.{◌≡◌, ◌≤◌, ◌⊎◌, [], IfOk, IsSome, None};
-ghost use Rattle.xs_run.specs.Globals.{SettlesAll};
-ghost use Rattle.xs_run.specs.Results.{settled_of};
-ghost use Rattle.xs_run.specs.World.{ground};
+ghost use Rattle.xs_body.specs.Globals.{SettlesAll};
+ghost use Rattle.xs_body.specs.Results.{settled_of};
+ghost use Rattle.xs_body.specs.World.{ground};
 ghost use Rattle.xs_eval.specs.Conditions.{IsInIf};
 ghost use Rattle.xs_engine.specs.declared.status.TheConstants.{OK, RUN_FAULT};
 ghost use Rattle.xs_engine.specs.Evaluation.{IsEvaluated, IsEvaluatedFrom, IsEvaluatedOn};
@@ -15,10 +15,10 @@ ghost use Rattle.xs_sheet.specs.Sound.{IsSound};
 use crate::job::Job;
 use crate::reply::{Reply, stopped_reply, whole_reply};
 use std::alloc::{AllocError, Global};
+use xs_body::runner::SheetRunner;
+use xs_body::settling::{Settled, settle};
 use xs_rules::index::RuleIndex;
 use xs_rules::white_space::strip_space;
-use xs_run::runner::SheetRunner;
-use xs_run::settling::{Settled, settle};
 use xs_sheet::sheet::Sheet;
 use xs_trace::item::{Ended, Limits};
 use xs_tree::Tree;

@@ -6,7 +6,7 @@ ghost use Rattle.xs_trace.specs.Kept.{marks_of};
 ghost use Rattle.xs_trace.specs.Mark.{events_of, messages_of};
 ghost use Rattle.xs_result.specs.Built.{built};
 ghost use Rattle.xs_result.specs.Text.{text_in};
-ghost use Rattle.xs_run.specs.Tasks.{Task};
+ghost use Rattle.xs_body.specs.Tasks.{Task};
 ghost use Rattle.xs_engine.specs.Answer.{message_line, message_lines};
 ghost use Rattle.xs_engine.specs.Items.{IsFirstEvent, item_event, item_line};
 
@@ -26,7 +26,7 @@ struct Events<'a> {
 
 impl<'a> Model for Events<'a> {
     ghost use Rattle.std.specs.Prelude.{List};
-    ghost use Rattle.xs_run.specs.Tasks.{Task};
+    ghost use Rattle.xs_body.specs.Tasks.{Task};
     ghost use Rattle.xs_trace.specs.Kept.{marks_of};
     ghost use Rattle.xs_trace.specs.Mark.{events_of};
     ghost use Rattle.xs_trace.specs.declared.event.Event.{Event};

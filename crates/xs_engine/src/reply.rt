@@ -4,7 +4,7 @@ ghost use Rattle.std.specs.Prelude.{◌≡◌, ◌++◌, IfOk, OnOk};
 ghost use Rattle.std.specs.Fmt.{decimal};
 ghost use Rattle.xs_trace.specs.Kept.{marks_of};
 ghost use Rattle.xs_trace.specs.Mark.{events_of, messages_of};
-ghost use Rattle.xs_run.specs.Tasks.{Task};
+ghost use Rattle.xs_body.specs.Tasks.{Task};
 ghost use Rattle.xs_engine.specs.Answer.{fault_line, faultless, name_in, read_fault};
 ghost use Rattle.xs_engine.specs.Answer.{refused_file, stopped_answer, usage, whole_answer};
 ghost use Rattle.xs_engine.specs.Reply.{reply_of};

@@ -12,7 +12,7 @@ use Rattle.xs_value.specs.declared.value.Value.{Value}
 use Rattle.xs_value.specs.declared.value.Value.TheVariants.{Bool as Boolean, Number as Numeral, Chars, Nodes, Piece}
 use Rattle.xs_xpath.specs.Tree as syntax
 use Rattle.xs_xpath.specs.Tree.{Tree, Trees, no_trees, first_tree}
-use Rattle.xs_xpath.specs.Uses.{is_place, use_any, uses, uses_place}
+use Rattle.xs_xpath.specs.Uses.{is_place, is_sought_call, use_any, uses, uses_place}
 use Rattle.xs_xpath.specs.declared.name.Function.{Function}
 use Rattle.xs_xpath.specs.declared.name.Function.TheVariants as function
 use Rattle.xs_xpath.specs.declared.name.NodeTest.{NodeTest}
@@ -20,7 +20,6 @@ use Rattle.xs_xpath.specs.declared.name.NodeTest.TheVariants.{Node}
 use Rattle.xs_xpath.specs.declared.name.Slot.{Slot}
 use Rattle.xs_xpath.specs.declared.name.Slot.TheVariants.{Global, Local}
 use Rattle.xs_xpath.specs.declared.token.Operator.{Operator}
-use Rattle.xs_xpath.specs.declared.uses.Sought.TheVariants.{Place}
 use Rattle.xs_eval.specs.Calls.{called, is_key}
 use Rattle.xs_eval.specs.Context.{Context, at_node}
 use Rattle.xs_eval.specs.Evaluation.{and_argument, answered, arguments, called_of, chain, joined, joined_from, negative, run_of_tree, runs_of_trees, unless}
@@ -224,33 +223,39 @@ variable-same (Some (Global i)) c n p k q j = refl
 
 -- ---- each expression
 
-mutual
-  pub steady : (keys : List Table) (e : Tree) → uses_place e ≡ false → Steady (run_of_tree keys e)
-  steady keys (syntax.number i) h c n p k q j = refl
-  steady keys (syntax.literal text) h c n p k q j = refl
-  steady keys (syntax.variable uri local slot) h c n p k q j = variable-same slot c n p k q j
-  steady keys (syntax.call f es) h c n p k q j =
-      let both : (is_place f ≡ false) × (use_any Place es ≡ false) = or-none (is_place f) (use_any Place es) h in
-      call-same keys f (runs_of_trees keys es) both.0 (all-steady keys es both.1) c n p k q j
-  steady keys (syntax.negative signs e) h c n p k q j = negative-same signs (run_of_tree keys e) (steady keys e h) c n p k q j
-  steady keys (syntax.chain ops es) h c n p k q j = chain-same ops (runs_of_trees keys es) (all-steady keys es h) c n p k q j
-  steady keys (syntax.group e) h c n p k q j = steady keys e h c n p k q j
-  steady keys syntax.here h c n p k q j = refl
-  steady keys syntax.root h c n p k q j = refl
-  steady keys (syntax.step axis which es) h c n p k q j = step-same axis which (runs_of_trees keys es) c n p k q j
-  steady keys syntax.descend h c n p k q j = step-same DescendantOrSelf Node [] c n p k q j
-  steady keys (syntax.filter e es) h c n p k q j =
-      let both : (uses Place e ≡ false) × (use_any Place es ≡ false) = or-none (uses Place e) (use_any Place es) h in
-      filter-same (run_of_tree keys e) (runs_of_trees keys es) (steady keys e both.0) c n p k q j
-  steady keys (syntax.path e es) h c n p k q j =
-      let both : (uses Place e ≡ false) × (use_any Place es ≡ false) = or-none (uses Place e) (use_any Place es) h in
-      path-same (run_of_tree keys e) (runs_of_trees keys es) (steady keys e both.0) (all-steady keys es both.1) c n p k q j
+-- what is sought is any thing that finds both calls
+module _ (keys : List Table) where
+  mutual
+    without : (s : _) → ((f : Function) → is_sought_call s f ≡ false → is_place f ≡ false) → (e : Tree) → uses s e ≡ false → Steady (run_of_tree keys e)
+    without s finds (syntax.number i) h c n p k q j = refl
+    without s finds (syntax.literal text) h c n p k q j = refl
+    without s finds (syntax.variable uri local slot) h c n p k q j = variable-same slot c n p k q j
+    without s finds (syntax.call f es) h c n p k q j =
+        let both = or-none (is_sought_call s f) (use_any s es) h in
+        call-same keys f (runs_of_trees keys es) (finds f both.0) (all-without s finds es both.1) c n p k q j
+    without s finds (syntax.negative signs e) h c n p k q j = negative-same signs (run_of_tree keys e) (without s finds e h) c n p k q j
+    without s finds (syntax.chain ops es) h c n p k q j = chain-same ops (runs_of_trees keys es) (all-without s finds es h) c n p k q j
+    without s finds (syntax.group e) h c n p k q j = without s finds e h c n p k q j
+    without s finds syntax.here h c n p k q j = refl
+    without s finds syntax.root h c n p k q j = refl
+    without s finds (syntax.step axis which es) h c n p k q j = step-same axis which (runs_of_trees keys es) c n p k q j
+    without s finds syntax.descend h c n p k q j = step-same DescendantOrSelf Node [] c n p k q j
+    without s finds (syntax.filter e es) h c n p k q j =
+        let both = or-none (uses s e) (use_any s es) h in
+        filter-same (run_of_tree keys e) (runs_of_trees keys es) (without s finds e both.0) c n p k q j
+    without s finds (syntax.path e es) h c n p k q j =
+        let both = or-none (uses s e) (use_any s es) h in
+        path-same (run_of_tree keys e) (runs_of_trees keys es) (without s finds e both.0) (all-without s finds es both.1) c n p k q j
 
-  pub all-steady : (keys : List Table) (es : Trees) → use_any Place es ≡ false → AllSteady (runs_of_trees keys es)
-  all-steady keys no_trees h = tt
-  all-steady keys (first_tree e es) h =
-      let both : (uses Place e ≡ false) × (use_any Place es ≡ false) = or-none (uses Place e) (use_any Place es) h in
-      (steady keys e both.0, all-steady keys es both.1)
+    all-without : (s : _) → ((f : Function) → is_sought_call s f ≡ false → is_place f ≡ false) → (es : Trees) → use_any s es ≡ false
+        → AllSteady (runs_of_trees keys es)
+    all-without s finds no_trees h = tt
+    all-without s finds (first_tree e es) h =
+        let both = or-none (uses s e) (use_any s es) h in
+        (without s finds e both.0, all-without s finds es both.1)
+
+  pub steady : (e : Tree) → uses_place e ≡ false → Steady (run_of_tree keys e)
+  steady e h = without _ (λ f no. no) e h
 
 -- ---- what a predicate says
 

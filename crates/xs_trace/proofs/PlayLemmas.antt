@@ -185,7 +185,8 @@ play-cut (Tick p ∷ x) l at (suc b) m o =
       left = ap left_of k ∙ h.left ∙ ap Some d;
     }
 play-cut (Put v ∷ x) l at b None o =
-    let h : TellsCut (adds l (Put v ∷ [])) b (cut_from x at b None) (play x (From (adds l (Put v ∷ [])) at b None o)) = play-cut x (adds l (Put v ∷ [])) at b None o in
+    let h : TellsCut (adds l (Put v ∷ [])) b (cut_from x at b None) (play x (From (adds l (Put v ∷ [])) at b None o))
+    = play-cut x (adds l (Put v ∷ [])) at b None o in
     record { told = h.told ∙ adds-adds l (Put v ∷ []) (cut_from x at b None).passed; end = h.end; left = h.left }
 play-cut (Put v ∷ x) l at b (Some zero) o = ends-cut l b _ (Some b) o (unspent b)
 play-cut (Put v ∷ x) l at b (Some (suc m)) o =
@@ -193,7 +194,8 @@ play-cut (Put v ∷ x) l at b (Some (suc m)) o =
     let k : play (Put v ∷ x) (From l at b (Some (suc m)) o) ≡ play x (From (adds l (Put v ∷ [])) at b (Some m) o) =
     ap (λ c. and_then (cond c (goes (From (adds l (Put v ∷ [])) at b (Some (suc m - 1)) o)) (Ends (Full at) l (Some b) o)) (λ u n. play x n)) (le-one m)
     ∙ ap (λ n. play x (From (adds l (Put v ∷ [])) at b (Some n) o)) e in
-    let h : TellsCut (adds l (Put v ∷ [])) b (cut_from x at b (Some m)) (play x (From (adds l (Put v ∷ [])) at b (Some m) o)) = play-cut x (adds l (Put v ∷ [])) at b
+    let h : TellsCut (adds l (Put v ∷ [])) b (cut_from x at b (Some m)) (play x (From (adds l (Put v ∷ [])) at b (Some m) o))
+    = play-cut x (adds l (Put v ∷ [])) at b
     (Some m) o in
     record {
       told = ap told_of k ∙ h.told ∙ adds-adds l (Put v ∷ []) (cut_from x at b (Some m)).passed;
@@ -206,5 +208,6 @@ play-cut (Say s ∷ x) l at b m o =
 play-cut (Stop f p ∷ x) l at b m o = ends-cut l b _ (Some b) o (unspent b)
 play-cut (Need g p ∷ x) l at b m o = ends-cut l b _ (Some b) o (unspent b)
 play-cut (Hole k ∷ x) l at b m o =
-    let h : TellsCut (adds l (Hole k ∷ [])) b (cut_from x at b m) (play x (From (adds l (Hole k ∷ [])) at b m o)) = play-cut x (adds l (Hole k ∷ [])) at b m o in
+    let h : TellsCut (adds l (Hole k ∷ [])) b (cut_from x at b m) (play x (From (adds l (Hole k ∷ [])) at b m o))
+    = play-cut x (adds l (Hole k ∷ [])) at b m o in
     record { told = h.told ∙ adds-adds l (Hole k ∷ []) (cut_from x at b m).passed; end = h.end; left = h.left }

@@ -2,7 +2,8 @@
 ghost use Rattle.std.specs.Prelude.{◌≡◌};
 ghost use Rattle.xs_xpath.specs.Exprs.{tree_from, trees_from};
 ghost use Rattle.xs_xpath.specs.Tree.{trees};
-ghost use Rattle.xs_xpath.specs.Uses.{is_current, is_place, is_sought_call, is_sought_variable, use_any};
+ghost use Rattle.xs_xpath.specs.Uses.{is_current, is_place};
+ghost use Rattle.xs_xpath.specs.Uses.{is_sought_call, is_sought_variable, use_any};
 ghost use Rattle.xs_xpath.specs.Uses.{has_unbound, uses, uses_current, uses_key};
 ghost use Rattle.xs_xpath.specs.Uses.{uses_place, uses_variables};
 

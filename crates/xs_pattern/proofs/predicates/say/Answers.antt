@@ -1,4 +1,4 @@
-use Rattle.std.proofs.Common.{◌+◌, Bool, true, false, List, Option, Some, arith, drop, map, subst, sym}
+use Rattle.std.proofs.Common.{◌+◌, Bool, true, false, List, Option, Some, ap, arith, drop, map, subst, sym, ◌∙◌}
 use Rattle.std.proofs.lemmas.List.{at_drop_all}
 use Rattle.xs_eval.specs.Evaluation.{run_of}
 use Rattle.xs_eval.specs.Paths.{Meaning}
@@ -21,9 +21,11 @@ returns-in-Some-false g c =
       say =
           c.loop-predicate.invariant (Some false)
           (subst (λ (l : List Meaning). AreSaid n ctx l (Some false))
-          (sym (from_here ms k (run_of keys e) (mapped_below (run_of keys) es k (omega arith)) (mapped_at (run_of keys) es k e (omega arith) c.predicate-item.is)))
+          (sym (from_here ms k (run_of keys e) (mapped_below (run_of keys) es k (omega arith))
+          (mapped_at (run_of keys) es k e (omega arith) c.predicate-item.is)))
           (said-dropped n ctx (run_of keys e) (drop (k + 1) ms)
-          (subst (λ (o : Option Bool). IsSaid n ctx (run_of keys e) o) c.in-Some-false.is c.in_ok-says.ensures.says)));
+          (subst (λ (o : Option Bool). IsSaid n ctx (run_of keys e) o) (c.in-Some-false.is ∙ ap (λ (b : Bool). Some b) c.in-Some-false.field-0-test)
+          c.in_ok-says.ensures.says)));
     }
 
 -- it is kept by one, and the others decide
@@ -41,7 +43,8 @@ loop-predicate-preserved g c =
     (subst (λ (l : List Meaning). AreSaid n ctx l o)
     (sym (from_here ms k (run_of keys e) (mapped_below (run_of keys) es k (omega arith)) (mapped_at (run_of keys) es k e (omega arith) c.predicate-item.is)))
     (said-on n ctx (run_of keys e) (drop (k + 1) ms) o
-    (subst (λ (o : Option Bool). IsSaid n ctx (run_of keys e) o) c.in-Some-true.is c.in_ok-says.ensures.says) rest))
+    (subst (λ (o : Option Bool). IsSaid n ctx (run_of keys e) o) (c.in-Some-true.is ∙ ap (λ (b : Bool). Some b) c.in-Some-true.field-0-test)
+    c.in_ok-says.ensures.says) rest))
 
 -- all keep it
 pub returns : goal.returns

@@ -96,7 +96,7 @@ returns-in-Some-2 g c =
           (sym (c.passes.ensures ∙ ap (λ (x : Context). passes c.args.axis c.args.test.now (at x.tree n)) c.context.view_is)
           ∙ c.if-not-passes.false)
           (subst (λ (o : Option Bool). AreSaid n (placed_at ctx c.args.parent) ms o) c.in-Some-2.is
-          (subst (λ (x : Context). AreSaid n x ms c.in_ok-say.said) c.at_node-around.ensures c.in_ok-say.ensures.say));
+          (subst (λ (x : Context). AreSaid n x ms c.in_ok-said-in-Some.field-0) c.at_node-around.ensures c.in_ok-said-in-Some.ensures.say));
     }
 
 pub say-requires-clause-context : goal.say-requires-clause-context

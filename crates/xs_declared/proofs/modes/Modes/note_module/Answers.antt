@@ -11,7 +11,7 @@ loop-place-preserved c =
     let place = c.loop-place.place in
     let here : has_mode c.note.new.self (tree_mode tree place) ≡ true =
     ap (λ (n : ℕ). has_mode c.note.new.self (tree_mode tree n)) (sym c.at.ensures)
-    ∙ ap (λ (o : Option Name). has_mode c.note.new.self o) (sym c.mode_at.ensures) ∙ c.in_ok-note.ensures.noted in
+    ∙ ap (λ (o : Option Name). has_mode c.note.new.self o) (sym c.noted_at.ensures) ∙ c.in_ok-note.ensures.noted in
     record {
       modes = λ n lt. elim (le_or_gt place n) [
         | inl past ↦ (let same : place ≡ n = omega (arith, past, lt) in subst (λ (k : ℕ). has_mode c.note.new.self (tree_mode tree k) ≡ true) same here)

@@ -1,0 +1,198 @@
+-- What was told stays at the beginning of what is told, in each step.
+use Rattle.std.proofs.Common.{◌≡◌, ℕ, ◌+◌, ◌-◌, ◌==◌, ◌||◌, length, List, [], ◌∷◌, ◌++◌, map, slice_get, Option, Some, None, Bool, true, false, cond, refl}
+use Rattle.xs_sheet.specs.declared.body.Body.{Body}
+use Rattle.xs_sheet.specs.declared.body.Binding.{Binding}
+use Rattle.xs_sheet.specs.declared.body.Content.{Content}
+use Rattle.xs_sheet.specs.declared.body.Content.TheVariants.{Empty, Select, Body as Fragment}
+use Rattle.xs_sheet.specs.declared.body.InstrKind.{InstrKind, Variable'}
+use Rattle.xs_sheet.specs.declared.body.InstrKind.TheVariants.{ApplyTemplates, CallTemplate, ApplyImports, ForEach, ValueOf, CopyOf, Copy, Number, Choose, If}
+use Rattle.xs_sheet.specs.declared.body.InstrKind.TheVariants.{Text, Element, Attribute, Comment, Pi, Message, Literal, Extension}
+use Rattle.xs_sheet.specs.declared.body.LiteralStart.{LiteralStart}
+use Rattle.xs_sheet.specs.declared.scoped.ScopedExpr.{ScopedExpr}
+use Rattle.xs_trace.specs.Cut.{Fault}
+use Rattle.xs_trace.specs.Mark.{Hole, Trace}
+use Rattle.xs_trace.specs.Run.{Run, limited}
+use Rattle.xs_trace.specs.State.{State, opened, popped, top}
+use Rattle.xs_trace.specs.Play.{Step, Goes, Told, and_then, goes, ticked, put, put_at, said_at, stops, play}
+use Rattle.xs_trace.specs.PlayLaws.{Extends}
+use Rattle.xs_trace.specs.declared.event.Event.TheVariants.{Start, Space, Chars, End}
+use Rattle.xs_trace.specs.declared.item.Site.{Site}
+use Rattle.xs_trace.proofs.GrowthLemmas.{Grows, same, grows-then, stops-grow, goes-grows, ticked-grows, put-grows, put_at-grows, said_at-grows, play-grows}
+use Rattle.xs_trace.proofs.RunLemmas.{limited-grows}
+use Rattle.xs_tree.specs.Kinds.{has_content, is_attribute_kind, is_text_kind}
+use Rattle.xs_tree.specs.Record.{Record, at, children}
+use Rattle.xs_value.specs.declared.value.Value.{Value}
+use Rattle.xs_value.specs.Conversion.{fragment_text}
+use Rattle.xs_body.specs.declared.focus.Focus.{Focus}
+use Rattle.xs_body.specs.declared.frames.Scope.{Scope}
+use Rattle.xs_body.specs.World.{World, in_list, with_depth, without_rule, value_run, nodes_run, text_run, test_run, nodes_or_children}
+use Rattle.xs_body.specs.Tasks.{Params, no_params, Job, body_job, rules_job, Task, tasks_for, grain_over}
+use Rattle.xs_body.specs.Rules.{rule_for, import_for}
+use Rattle.xs_body.specs.Trace.{Entry, named, fitting, overridden, Called, by_number, by_rules, each, body_trace, params_trace}
+use Rattle.xs_body.specs.steps.Frames.{Work, rest, fill, each_left, apply_left, bodies_left, end_element, say, pass, take_value, params_left, Stack, last}
+use Rattle.xs_body.specs.steps.Frames.{inner, over, bindings_of, instrs_of, bodies_of, chosen, calls_at, instrs_trace, all_bodies, without, filled, ended}
+use Rattle.xs_body.specs.steps.Frames.{message_steps, message_ended, fragment_at, passing_left, work_steps, stack_steps, pushed, filled_up, stays}
+use Rattle.xs_body.specs.steps.Frames.{chars_steps, space_steps, literal_steps, run_by, run_begun, applied_begun, built_in_begun, rule_begun, entry_begun}
+use Rattle.xs_body.specs.steps.Frames.{entering, call_begun, imports_begun, content_begun, pass_begun, param_begun, fallbacks_begun, looping, loop_begun}
+use Rattle.xs_body.specs.steps.Frames.{value_steps, begun}
+
+-- what is told, and then a value that tells nothing
+pub then-goes-grow : {H : Type 0} → {A B : Type 0} (g : State H → Step H A) (f : A → B) → Grows g → Grows (λ s. and_then (g s) (λ x m. Goes (f x) m))
+then-goes-grow g f b s = grows-then s (g s) (λ x m. Goes (f x) m) (b s) (λ x. goes-grows (f x))
+
+-- one of two
+pub if-grows : {H : Type 0} → {A : Type 0} (b : Bool) (x y : State H → Step H A) → Grows x → Grows y → Grows (λ s. cond b (x s) (y s))
+if-grows true x y p q s = p s
+if-grows false x y p q s = q s
+
+-- a capture that is opened, and one that is closed
+pub opened-grows : {H : Type 0} → {A : Type 0} (x : A) → Grows {H = H} (λ s. Goes x (opened s))
+opened-grows x s = record { before = same s (Goes x (opened s)) refl refl; shared = refl }
+
+pub popped-grows : {H : Type 0} → {A : Type 0} (g : State H → State H → Step H A) → ((s : State H) → Grows (g s)) → Grows (λ s. g s (popped s))
+popped-grows g b s = let e = b s (popped s) in record
+    { before = record { rest = e.before.rest; told = e.before.told; left = e.before.left }; shared = e.shared }
+
+pub chars-grow : {H : Type 0} → (p : Site) (t : List ℕ) → Grows {H = H} (chars_steps p t)
+chars-grow p t = if-grows (length t == 0) goes (put_at p (Chars t)) (goes-grows tt) (put_at-grows p (Chars t))
+
+pub spaces-grow : {H : Type 0} → (xs : List (List ℕ × List ℕ)) → Grows {H = H} (space_steps xs)
+spaces-grow [] s = goes-grows tt s
+spaces-grow (x ∷ xs) s = grows-then s (put (Space x.0 x.1) s) (λ u m. space_steps xs m) (put-grows (Space x.0 x.1) s) (λ u. spaces-grow xs)
+
+pub literal-grows : {H : Type 0} → (start : LiteralStart) → Grows {H = H} (literal_steps start)
+literal-grows start s = grows-then s (put (Start start.name) s) (λ u m. space_steps start.spaces.items m) (put-grows (Start start.name) s)
+    (λ u. spaces-grow start.spaces.items)
+
+pub ended-grows : (terminate : Bool) (p : Site) → Grows (ended terminate p)
+ended-grows terminate p = if-grows terminate (stops (Fault 57 p)) goes (stops-grow (Fault 57 p)) (goes-grows tt)
+
+pub message-grows : (p : Site) (terminate : Bool) (text : List ℕ) → Grows (message_steps p terminate text)
+message-grows p terminate text s = grows-then s (said_at p text s) (λ u m. ended terminate p m) (said_at-grows p text s) (λ u. ended-grows terminate p)
+
+pub message_ended-grows : (p : Site) (terminate : Bool) → Grows (message_ended p terminate)
+message_ended-grows p terminate = popped-grows (λ s. message_steps p terminate (fragment_text (top s.captures)))
+    (λ s. message-grows p terminate (fragment_text (top s.captures)))
+
+pub stays-grow : (g : State Task → Told Task) (t : Stack) → Grows g → Grows (λ s. stays (g s) t)
+stays-grow g t b = then-goes-grow g (λ u. t) b
+
+run_by-grows : (g : Option ℕ) (job : Job) (p : Site) (f : Focus) (ns : List ℕ) (x : Work) (t : Stack) → Grows (run_by g job p f ns x t)
+run_by-grows None job p f ns x t = goes-grows (pushed (x ∷ []) t)
+run_by-grows (Some grain) job p f ns x t = stays-grow (play (map Hole (tasks_for grain job p f ns))) t (play-grows (map Hole (tasks_for grain job p f ns)))
+
+pub run-grows : (w : World) (job : Job) (p : Site) (f : Focus) (ns : List ℕ) (x : Work) (t : Stack) → Grows (run_begun w job p f ns x t)
+run-grows w job p f ns x t = run_by-grows (grain_over w f (length ns)) job p f ns x t
+
+pub applied-grows : (w : World) (mode : ℕ) (ps : Params) (p : Site) (f : Focus) (ns : List ℕ) (t : Stack) → Grows (applied_begun w mode ps p f ns t)
+applied-grows w mode ps p f ns t = run-grows w (rules_job mode ps) p (in_list (length ns) f) ns (apply_left mode ps p (in_list (length ns) f) 1 ns) t
+
+built_in-grows : (w : World) (mode : ℕ) (p : Site) (f : Focus) (r : Record) (t : Stack) → Grows (built_in_begun w mode p f r t)
+built_in-grows w mode p f r t =
+    if-grows (has_content r.kind) (applied_begun w mode no_params p f (children w.tree f.node) t)
+    (λ s. cond (is_text_kind r.kind || is_attribute_kind r.kind) (stays (chars_steps p r.text s) t) (Goes t s))
+    (applied-grows w mode no_params p f (children w.tree f.node) t)
+    (if-grows (is_text_kind r.kind || is_attribute_kind r.kind) (λ s. stays (chars_steps p r.text s) t) (Goes t)
+    (stays-grow (chars_steps p r.text) t (chars-grow p r.text)) (goes-grows t))
+
+rule-grows : (o : Option ℕ) (w : World) (mode : ℕ) (ps : Params) (p : Site) (f : Focus) (t : Stack) → Grows (rule_begun o w mode ps p f t)
+rule-grows None w mode ps p f t = built_in-grows w mode p f (at w.tree f.node) t
+rule-grows (Some rule) w mode ps p f t = goes-grows _
+
+entry-grows : (e : Entry) (w : World) (p : Site) (f : Focus) (t : Stack) → Grows (entry_begun e w p f t)
+entry-grows (named i ps) w p f t = goes-grows _
+entry-grows (fitting mode ps) w p f t = rule-grows (rule_for w mode f.node) w mode ps p f t
+entry-grows (overridden current) w p f t = rule-grows (import_for w current f) w f.mode no_params p f t
+
+pub entering-grows : (e : Entry) (w : World) (p : Site) (f : Focus) (t : Stack) → Grows (entering e w p f t)
+entering-grows e w p f t =
+    if-grows (f.depth == 0) (stops (Fault 55 p)) (entry_begun e w p (with_depth (f.depth - 1) f) t) (stops-grow (Fault 55 p))
+    (entry-grows e w p (with_depth (f.depth - 1) f) t)
+
+pub call-grows : (w : World) (callee : Called) (ps : Params) (p : Site) (f : Focus) (t : Stack) → Grows (call_begun w callee ps p f t)
+call-grows w (by_number i) ps p f t s = grows-then s (ticked p s) (λ u m. entering (named i ps) w p f t m) (ticked-grows p s)
+    (λ u. entering-grows (named i ps) w p f t)
+call-grows w (by_rules mode ns) ps p f t s = applied-grows w mode ps p f ns t s
+
+imports-grow : (w : World) (p : Site) (f : Focus) (o : Option ℕ) (t : Stack) → Grows (imports_begun w p f o t)
+imports-grow w p f None t s = stops-grow (Fault 56 p) s
+imports-grow w p f (Some rule) t s = grows-then s (ticked p s) (λ u m. entering (overridden rule) w p f t m) (ticked-grows p s)
+    (λ u. entering-grows (overridden rule) w p f t)
+
+pub content-grows : (w : World) (content : Content) (p : Site) (c : Scope) (t : Stack) → Grows (content_begun w content p c t)
+content-grows w Empty p c t = goes-grows _
+content-grows w (Select e) p c t = then-goes-grow (limited p (value_run w e c.focus (last c.seen t.slots))) (λ v. filled_up (v ∷ []) t) (limited-grows p _)
+content-grows w (Fragment body) p c t = opened-grows _
+
+pub param-grows : (o : Option Value) (w : World) (content : Content) (p : Site) (c : Scope) (t : Stack) → Grows (param_begun o w content p c t)
+param-grows None w content p c t = content-grows w content p c t
+param-grows (Some v) w content p c t = goes-grows _
+
+pub pass-grows : (w : World) (content : Content) (left all : List Binding) (us : List Value) (callee : Called) (p : Site) (c : Scope) (t : Stack) →
+    Grows (pass_begun w content left all us callee p c t)
+pass-grows w Empty left all us callee p c t = goes-grows _
+pass-grows w (Select e) left all us callee p c t =
+    then-goes-grow (limited p (value_run w e c.focus (last c.seen t.slots))) (λ v. pushed (pass left all (us ++ v ∷ []) callee p c ∷ []) t) (limited-grows p _)
+pass-grows w (Fragment body) left all us callee p c t = opened-grows _
+
+fallbacks-grow : (bs : List Body) (p : Site) (c : Scope) (t : Stack) → Grows (fallbacks_begun bs p c t)
+fallbacks-grow [] p c t = stops-grow (Fault 58 p)
+fallbacks-grow (b ∷ bs) p c t = goes-grows _
+
+pub loop-grows : (w : World) (body : Body) (p : Site) (c : Scope) (ns : List ℕ) (t : Stack) → Grows (loop_begun w body p c ns t)
+loop-grows w body p c ns t = run-grows w (body_job body (last c.seen t.slots)) p (looping c.focus ns) ns (each_left body p (over (looping c.focus ns) c) 1 ns) t
+
+value-grows : (w : World) (select : ScopedExpr) (p : Site) (f : Focus) (vs : List Value) → Grows (value_steps w select p f vs)
+value-grows w select p f vs s = grows-then s (limited p (text_run w select f vs) s) (λ text m. chars_steps p text m) (limited-grows p _ s) (chars-grow p)
+
+pub begun-grows : (w : World) (kind : InstrKind) (p : Site) (c : Scope) (t : Stack) → Grows (begun w kind p c t)
+begun-grows w (ApplyTemplates nodes passed) p c t =
+    then-goes-grow (limited p (nodes_or_children w nodes.select c.focus (last c.seen t.slots)))
+    (λ ns. pushed (pass (bindings_of passed) (bindings_of passed) [] (by_rules nodes.mode ns) p c ∷ []) t) (limited-grows p _)
+begun-grows w (CallTemplate i passed) p c t = goes-grows _
+begun-grows w ApplyImports p c t = imports-grow w p c.focus c.focus.rule t
+begun-grows w (ForEach select sorts body) p c t = λ s.
+    grows-then s (limited p (nodes_run w select c.focus (last c.seen t.slots)) s) (λ ns m. loop_begun w body p c ns t m) (limited-grows p _ s)
+    (λ ns. loop-grows w body p c ns t)
+begun-grows w (ValueOf select) p c t = stays-grow (value_steps w select p c.focus (last c.seen t.slots)) t
+    (value-grows w select p c.focus (last c.seen t.slots))
+begun-grows w (CopyOf select) p c t = goes-grows t
+begun-grows w (Copy sets body) p c t = goes-grows t
+begun-grows w (Number decl) p c t = goes-grows t
+begun-grows w (Choose choice) p c t = then-goes-grow (limited p (chosen choice w c.focus (last c.seen t.slots)))
+    (λ body. pushed (rest (instrs_of body) (inner c) ∷ []) t) (limited-grows p _)
+begun-grows w (If test body) p c t =
+    then-goes-grow (limited p (test_run w test c.focus (last c.seen t.slots))) (λ b. pushed (cond b (rest (instrs_of body) (inner c) ∷ []) []) t)
+    (limited-grows p _)
+begun-grows w (Text text) p c t = stays-grow (chars_steps p text) t (chars-grow p text)
+begun-grows w (Element name sets body) p c t = goes-grows t
+begun-grows w (Attribute name body) p c t = goes-grows t
+begun-grows w (Comment body) p c t = goes-grows t
+begun-grows w (Pi name body) p c t = goes-grows t
+begun-grows w (Message terminate body) p c t = opened-grows _
+begun-grows w (Variable' site name content) p c t = content-grows w content p c t
+begun-grows w (Literal start body) p c t = then-goes-grow (literal_steps start) (λ u. pushed (rest (instrs_of body) (inner c) ∷ end_element ∷ []) t)
+    (literal-grows start)
+begun-grows w (Extension fallbacks) p c t = fallbacks-grow (bodies_of fallbacks) p c t
+
+filled-grows : (x : Trace Task) (vs : List Value) → Grows (filled x vs)
+filled-grows x vs = then-goes-grow (play x) (λ u. vs) (play-grows x)
+
+work-grows : (w : World) (x : Work) (vs : List Value) → Grows (work_steps w x vs)
+work-grows w (rest is c) vs = filled-grows (instrs_trace is w (calls_at w c.focus) c.focus (last c.seen vs)) (without c.own vs)
+work-grows w fill vs = λ s. record { before = same s (work_steps w fill vs s) refl refl; shared = refl }
+work-grows w (each_left body p c i ns) vs = filled-grows (each p (λ g. body_trace body w (calls_at w c.focus) g (last c.seen vs)) c.focus i ns) vs
+work-grows w (apply_left mode ps p f i ns) vs = filled-grows (each p (calls_at w f (fitting mode ps) p) f i ns) vs
+work-grows w (bodies_left bodies c) vs = filled-grows (all_bodies bodies w (calls_at w c.focus) c.focus (last c.seen vs)) vs
+work-grows w end_element vs = then-goes-grow (put End) (λ u. vs) (put-grows End)
+work-grows w (say p terminate) vs = then-goes-grow (message_ended p terminate) (λ u. vs) (message_ended-grows p terminate)
+work-grows w (pass left all us callee p c) vs = filled-grows (passing_left left all callee w p c.focus (last c.seen vs) us) vs
+work-grows w (take_value left all us callee p c) vs =
+    popped-grows (λ s. filled (passing_left left all callee w p c.focus (last c.seen vs) (us ++ fragment_at s ∷ [])) vs)
+    (λ s. filled-grows (passing_left left all callee w p c.focus (last c.seen vs) (us ++ fragment_at s ∷ [])) vs)
+work-grows w (params_left bs ps body c) vs =
+    filled-grows (params_trace bs ps w (calls_at w c.focus) c.focus (last c.seen vs) (body_trace body w (calls_at w c.focus) c.focus)) (without c.own vs)
+
+pub stack-grows : (w : World) (xs : List Work) (vs : List Value) → Grows (stack_steps w xs vs)
+stack-grows w [] vs = goes-grows tt
+stack-grows w (x ∷ xs) vs = λ s. grows-then s (work_steps w x vs s) (λ us m. stack_steps w xs us m) (work-grows w x vs s) (stack-grows w xs)

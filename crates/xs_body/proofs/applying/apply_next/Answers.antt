@@ -1,0 +1,33 @@
+use Rattle.std.proofs.Common.{◌<◌, ◌+◌, length, drop, refl, rules}
+use Rattle.xs_body.specs.steps.Lists.{nodes_in}
+use Rattle.xs_body.proofs.ChildLemmas.{next-inside}
+use Rattle.xs_body.proofs.applying.apply_next.Goals as goal
+
+pub apply_at-requires-sync-K : goal.apply_at-requires-sync-K
+apply_at-requires-sync-K g c κs within =
+    let here = next-inside (λ n. n < length c.args.world.now.tree) (nodes_in c.args.nodes) c.args.next c.in-Some.node
+    (drop (c.args.next + 1) (nodes_in c.args.nodes)) c.in-Some.ensures.node c.requires.nodes in (
+      search rules,
+      (
+        (refl, tt),
+        (
+          c.requires.world,
+          (
+            c.requires.holes,
+            (
+              c.requires.nodes,
+              (
+                here,
+                (
+                  c.in-Some.ensures.below,
+                  (
+                    c.requires.passed,
+                    c.requires.inside,
+                  ),
+                ),
+              ),
+            ),
+          ),
+        ),
+      ),
+    )

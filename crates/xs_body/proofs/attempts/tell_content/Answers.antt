@@ -1,0 +1,28 @@
+use Rattle.std.proofs.Common.{refl, rules}
+use Rattle.std.proofs.lemmas.Result.{err_from_is_err_and}
+use Rattle.xs_body.specs.steps.Frames.{stack_of}
+use Rattle.xs_body.proofs.GlobalLemmas.{capture-exit, content-ends, content-exit}
+use Rattle.xs_body.proofs.attempts.tell_content.Goals as goal
+
+pub returns-in_err-open_capture-clause-told : goal.returns-in_err-open_capture-clause-told
+returns-in_err-open_capture-clause-told g c =
+    let p = err_from_is_err_and c.from_residual.result c.from_residual.ensures.1 in
+    capture-exit c.args.world.now c.args.body.now (g.R.Tally.state c.args.recorder.now) (g.R.Tally.state c.open_capture.new.self) c.from_residual.result _ _
+    p.1 p.2
+    c.in_err-open_capture.ensures.told
+
+pub finish-requires-sync-K : goal.finish-requires-sync-K
+finish-requires-sync-K g c κs within = (search rules, ((refl, tt), (c.requires.world, (c.requires.holes, c.in_ok-stack.ensures.inside))))
+
+pub returns-in_err-finish-clause-told : goal.returns-in_err-finish-clause-told
+returns-in_err-finish-clause-told g c =
+    let p = err_from_is_err_and c.from_residual-in_err-finish.result c.from_residual-in_err-finish.ensures.1 in
+    content-exit c.args.world.now c.args.body.now (stack_of c.in_ok-stack.stack) (g.R.Tally.state c.args.recorder.now) (g.R.Tally.state c.open_capture.new.self)
+    (g.R.Tally.state c.finish.new.recorder) c.from_residual-in_err-finish.result _ _ c.in_ok-stack.ensures.stack c.in_ok-open_capture.ensures.told p.1 p.2
+    c.in_err-finish.ensures.told
+
+pub returns-clause-told : goal.returns-clause-told
+returns-clause-told g c =
+    content-ends c.args.world.now c.args.body.now (stack_of c.in_ok-stack.stack) (g.R.Tally.state c.args.recorder.now) (g.R.Tally.state c.open_capture.new.self)
+    (g.R.Tally.state c.finish.new.recorder) _ _ _ c.in_ok-stack.ensures.stack c.in_ok-open_capture.ensures.told c.in_ok-finish.ensures.told
+    c.close_capture-fragment.ensures.events c.close_capture-fragment.ensures.rest c.in_ok-fragment_value.ensures

@@ -1,0 +1,5 @@
+use Rattle.xs_body.proofs.StepLemmas.{advances}
+use Rattle.xs_body.proofs.laws.steps_agree.Goals as goal
+
+pub returns : goal.returns
+returns c = advances

@@ -1,0 +1,373 @@
+-- What is still to be done, as a stack, and its next step.
+use Rattle.std.specs.Prelude.{ℕ, ◌+◌, ◌-◌, ◌==◌, ◌||◌, Bool, true, false, List, [], ◌∷◌, ◌++◌, map, reverse, take, drop, length, slice_get, Option, Some}
+use Rattle.std.specs.Prelude.{None, if◌then◌else◌}
+use Rattle.xs_sheet.specs.declared.body.Applied.{Applied}
+use Rattle.xs_sheet.specs.declared.body.Binding.{Binding}
+use Rattle.xs_sheet.specs.declared.body.Body.{Body, out-Body}
+use Rattle.xs_sheet.specs.declared.body.Choice.{Choice, out-Choice}
+use Rattle.xs_sheet.specs.declared.body.Content.{Content}
+use Rattle.xs_sheet.specs.declared.body.Content.TheVariants.{Empty, Select, Body as Fragment}
+use Rattle.xs_sheet.specs.declared.body.Fallbacks.{Fallbacks, out-Fallbacks}
+use Rattle.xs_sheet.specs.declared.body.Instr.{Instr}
+use Rattle.xs_sheet.specs.declared.body.InstrKind.{InstrKind, Variable'}
+use Rattle.xs_sheet.specs.declared.body.InstrKind.TheVariants.{ApplyTemplates, CallTemplate, ApplyImports, ForEach, ValueOf, CopyOf, Copy, Number, Choose, If}
+use Rattle.xs_sheet.specs.declared.body.InstrKind.TheVariants.{Text, Element, Attribute, Comment, Pi, Message, Literal, Extension}
+use Rattle.xs_sheet.specs.declared.body.LiteralStart.{LiteralStart}
+use Rattle.xs_sheet.specs.declared.body.Passed.{Passed, out-Passed}
+use Rattle.xs_sheet.specs.declared.body.When.{When, out-When}
+use Rattle.xs_sheet.specs.declared.declarations.Template.{Template}
+use Rattle.xs_sheet.specs.declared.scoped.ScopedExpr.{ScopedExpr}
+use Rattle.xs_sheet.specs.Slots.{slots_taken}
+use Rattle.xs_trace.specs.Cut.{Fault}
+use Rattle.xs_trace.specs.Mark.{Tick, Hole, Trace, ◌⨾◌}
+use Rattle.xs_trace.specs.Run.{Run, give, limited, ◌>>=◌}
+use Rattle.xs_trace.specs.State.{State, opened, popped, top}
+use Rattle.xs_trace.specs.Play.{Step, Goes, Told, and_then, goes, ticked, put, put_at, said_at, stops, play}
+use Rattle.xs_trace.specs.declared.event.Event.TheVariants.{Start, Space, Chars, End}
+use Rattle.xs_trace.specs.declared.item.Site.{Site}
+use Rattle.xs_tree.specs.Kinds.{has_content, is_attribute_kind, is_text_kind}
+use Rattle.xs_tree.specs.Record.{Record, at, children}
+use Rattle.xs_value.specs.declared.value.Value.{Value}
+use Rattle.xs_value.specs.declared.value.Value.TheVariants.{Chars as String, Piece}
+use Rattle.xs_value.specs.Conversion.{fragment_text}
+use Rattle.xs_body.specs.declared.focus.Focus.{Focus}
+use Rattle.xs_body.specs.declared.frames.Callee as code_callee
+use Rattle.xs_body.specs.declared.frames.Callee.TheVariants as callee
+use Rattle.xs_body.specs.declared.frames.Frame.{Frame}
+use Rattle.xs_body.specs.declared.frames.Frame.TheVariants as frame
+use Rattle.xs_body.specs.declared.frames.Scope.{Scope}
+use Rattle.xs_body.specs.declared.stack.Stack as code
+use Rattle.xs_body.specs.World.{World, at_node, in_list, captured_in, with_depth, by_rule, without_rule, value_run, nodes_run, text_run, test_run}
+use Rattle.xs_body.specs.World.{nodes_or_children}
+use Rattle.xs_body.specs.Tasks.{Params, no_params, value_passed, Job, body_job, rules_job, Task, tasks_for, grain_over}
+use Rattle.xs_body.specs.Rules.{rule_for, import_for}
+use Rattle.xs_body.specs.Trace.{Entry, named, fitting, overridden, Calls, each, Called, by_number, by_rules, called_with, fragment_of, instr_trace}
+use Rattle.xs_body.specs.Trace.{body_trace, content_trace, params_trace, called}
+use Rattle.xs_body.specs.steps.Lists.{nodes_in}
+
+-- ---- rows of the stylesheet as lists
+
+abbrev pub instrs_of : Body → List Instr
+instrs_of body = (out-Body body).instrs.items
+
+abbrev pub bindings_of : Passed → List Binding
+bindings_of passed = (out-Passed passed).params.items
+
+abbrev pub bodies_of : Fallbacks → List Body
+bodies_of fallbacks = (out-Fallbacks fallbacks).bodies.items
+
+-- what is left of a body; of the values that are passed; of some bodies
+abbrev pub instrs_trace : List Instr → World → Calls → Focus → List Value → Trace Task
+instrs_trace [] w k f vs = []
+instrs_trace (i ∷ is) w k f vs = Tick i.site ∷ instr_trace i.kind i.site w k f vs (instrs_trace is w k f)
+
+abbrev pub bindings_trace : List Binding → Site → World → Calls → Focus → List Value → List Value → (List Value → Trace Task) → Trace Task
+bindings_trace [] p w k f vs us next = next us
+bindings_trace (b ∷ bs) p w k f vs us next = content_trace b.content p w k f vs (λ v. bindings_trace bs p w k f vs (us ++ v ∷ []) next)
+
+abbrev pub all_bodies : List Body → World → Calls → Focus → List Value → Trace Task
+all_bodies [] w k f vs = []
+all_bodies (b ∷ bs) w k f vs = body_trace b w k f vs ⨾ all_bodies bs w k f vs
+
+-- the body of the first test that holds
+abbrev pub chosen_of : List When → Body → World → Focus → List Value → Run Body
+chosen_of [] otherwise w f vs = give otherwise
+chosen_of (t ∷ ts) otherwise w f vs = do
+  b ← test_run w (out-When t).test f vs
+  if b then give (out-When t).body else chosen_of ts otherwise w f vs
+
+abbrev pub chosen : Choice → World → Focus → List Value → Run Body
+chosen choice w f vs = chosen_of (out-Choice choice).whens.items (out-Choice choice).otherwise w f vs
+
+-- ---- one thing that is still to be done
+pub data Work : Type 0 where
+  rest : List Instr → Scope → Work
+  fill : Work
+  each_left : Body → Site → Scope → (position : ℕ) → List ℕ → Work
+  apply_left : (mode : ℕ) → Params → Site → Focus → (position : ℕ) → List ℕ → Work
+  bodies_left : List Body → Scope → Work
+  end_element : Work
+  say : Site → (terminate : Bool) → Work
+  pass : (left all : List Binding) → List Value → Called → Site → Scope → Work
+  take_value : (left all : List Binding) → List Value → Called → Site → Scope → Work
+  params_left : List Binding → Params → Body → Scope → Work
+
+-- what is to be done, the next first, and the values of local bindings
+pub record Stack : Type 0 where
+  pub works : List Work
+  pub slots : List Value
+
+-- the values that came last, and those before them
+abbrev pub last : ℕ → List Value → List Value
+last n vs = drop (length vs - n) vs
+
+abbrev pub without : ℕ → List Value → List Value
+without n vs = take (length vs - n) vs
+
+-- ---- scopes
+abbrev pub inner : Scope → Scope
+inner c = record { focus = c.focus; seen = c.seen; own = 0 }
+
+abbrev pub over : Focus → Scope → Scope
+over f c = record { focus = f; seen = c.seen; own = 0 }
+
+abbrev pub captured_scope : Scope → Scope
+captured_scope c = over (captured_in c.focus) c
+
+abbrev pub outer : Focus → Scope
+outer f = record { focus = f; seen = 0; own = 0 }
+
+abbrev pub more : ℕ → Scope → Scope
+more n c = record { focus = c.focus; seen = c.seen + n; own = c.own + n }
+
+abbrev pub bound : Scope → Scope
+bound c = more 1 c
+
+abbrev pub after : InstrKind → Scope → Scope
+after kind c = more (slots_taken kind) c
+
+-- ---- what works stand for
+abbrev pub calls_at : World → Focus → Calls
+calls_at w f = called w f.depth
+
+abbrev pub filled : Trace Task → List Value → State Task → Step Task (List Value)
+filled x vs s = and_then (play x s) (λ u m. Goes vs m)
+
+abbrev pub ended : Bool → Site → State Task → Told Task
+ended terminate p s = if terminate then stops (Fault 57 p) s else goes s
+
+abbrev pub message_steps : Site → Bool → List ℕ → State Task → Told Task
+message_steps p terminate text s = and_then (said_at p text s) (λ u m. ended terminate p m)
+
+abbrev pub message_ended : Site → Bool → State Task → Told Task
+message_ended p terminate s = message_steps p terminate (fragment_text (top s.captures)) (popped s)
+
+abbrev pub fragment_at : State Task → Value
+fragment_at s = Piece (fragment_of (top s.captures))
+
+abbrev pub passing_left : List Binding → List Binding → Called → World → Site → Focus → List Value → List Value → Trace Task
+passing_left left all callee w p f vs us =
+    bindings_trace left p w (calls_at w f) f vs us (λ ws. called_with w (calls_at w f) callee (record { bindings = all; values = ws }) p f)
+
+abbrev pub work_steps : World → Work → List Value → State Task → Step Task (List Value)
+work_steps w (rest is c) vs s = filled (instrs_trace is w (calls_at w c.focus) c.focus (last c.seen vs)) (without c.own vs) s
+work_steps w fill vs s = Goes (vs ++ fragment_at s ∷ []) (popped s)
+work_steps w (each_left body p c i ns) vs s = filled (each p (λ g. body_trace body w (calls_at w c.focus) g (last c.seen vs)) c.focus i ns) vs s
+work_steps w (apply_left mode ps p f i ns) vs s = filled (each p (calls_at w f (fitting mode ps) p) f i ns) vs s
+work_steps w (bodies_left bodies c) vs s = filled (all_bodies bodies w (calls_at w c.focus) c.focus (last c.seen vs)) vs s
+work_steps w end_element vs s = and_then (put End s) (λ u m. Goes vs m)
+work_steps w (say p terminate) vs s = and_then (message_ended p terminate s) (λ u m. Goes vs m)
+work_steps w (pass left all us callee p c) vs s = filled (passing_left left all callee w p c.focus (last c.seen vs) us) vs s
+work_steps w (take_value left all us callee p c) vs s =
+    filled (passing_left left all callee w p c.focus (last c.seen vs) (us ++ fragment_at s ∷ [])) vs (popped s)
+work_steps w (params_left bs ps body c) vs s =
+    filled (params_trace bs ps w (calls_at w c.focus) c.focus (last c.seen vs) (body_trace body w (calls_at w c.focus) c.focus)) (without c.own vs) s
+
+-- what is told of all that is still to be done
+abbrev pub stack_steps : World → List Work → List Value → State Task → Told Task
+stack_steps w [] vs s = goes s
+stack_steps w (x ∷ xs) vs s = and_then (work_steps w x vs s) (λ us m. stack_steps w xs us m)
+
+abbrev pub stack_told : World → Stack → State Task → Told Task
+stack_told w t s = stack_steps w t.works t.slots s
+
+-- ---- a step
+
+abbrev pub pushed : List Work → Stack → Stack
+pushed xs t = record { works = xs ++ t.works; slots = t.slots }
+
+abbrev pub slots_are : List Value → Stack → Stack
+slots_are vs t = record { works = t.works; slots = vs }
+
+abbrev pub filled_up : List Value → Stack → Stack
+filled_up vs t = slots_are (t.slots ++ vs) t
+
+abbrev pub stays : Told Task → Stack → Step Task Stack
+stays g t = and_then g (λ u m. Goes t m)
+
+-- what is put
+abbrev pub chars_steps : {H : Type 0} → Site → List ℕ → State H → Told H
+chars_steps p t s = if length t == 0 then goes s else put_at p (Chars t) s
+
+abbrev pub space_steps : {H : Type 0} → List (List ℕ × List ℕ) → State H → Told H
+space_steps [] s = goes s
+space_steps (x ∷ xs) s = and_then (put (Space x.0 x.1) s) (λ u m. space_steps xs m)
+
+abbrev pub literal_steps : {H : Type 0} → LiteralStart → State H → Told H
+literal_steps start s = and_then (put (Start start.name) s) (λ u m. space_steps start.spaces.items m)
+
+-- a run over nodes, which a work goes through, or which is left to tasks
+abbrev pub run_by : Option ℕ → Job → Site → Focus → List ℕ → Work → Stack → State Task → Step Task Stack
+run_by None job p f ns x t s = Goes (pushed (x ∷ []) t) s
+run_by (Some grain) job p f ns x t s = stays (play (map Hole (tasks_for grain job p f ns)) s) t
+
+abbrev pub run_begun : World → Job → Site → Focus → List ℕ → Work → Stack → State Task → Step Task Stack
+run_begun w job p f ns x t s = run_by (grain_over w f (length ns)) job p f ns x t s
+
+abbrev pub applied_begun : World → (mode : ℕ) → Params → Site → Focus → List ℕ → Stack → State Task → Step Task Stack
+applied_begun w mode ps p f ns t s =
+    run_begun w (rules_job mode ps) p (in_list (length ns) f) ns (apply_left mode ps p (in_list (length ns) f) 1 ns) t s
+
+-- templates
+abbrev pub template_begun : Option Template → Params → Focus → Stack → Stack
+template_begun None ps f t = t
+template_begun (Some template) ps f t = pushed (params_left template.params.items ps template.body (outer f) ∷ []) t
+
+abbrev pub built_in_begun : World → (mode : ℕ) → Site → Focus → Record → Stack → State Task → Step Task Stack
+built_in_begun w mode p f r t s =
+    if has_content r.kind then applied_begun w mode no_params p f (children w.tree f.node) t s
+    else (if is_text_kind r.kind || is_attribute_kind r.kind then stays (chars_steps p r.text s) t else Goes t s)
+
+abbrev pub rule_begun : Option ℕ → World → (mode : ℕ) → Params → Site → Focus → Stack → State Task → Step Task Stack
+rule_begun None w mode ps p f t s = built_in_begun w mode p f (at w.tree f.node) t s
+rule_begun (Some rule) w mode ps p f t s = Goes (template_begun (slice_get w.sheet.templates.items rule) ps (by_rule rule mode f) t) s
+
+abbrev pub entry_begun : Entry → World → Site → Focus → Stack → State Task → Step Task Stack
+entry_begun (named i ps) w p f t s = Goes (template_begun (slice_get w.sheet.templates.items i) ps f t) s
+entry_begun (fitting mode ps) w p f t s = rule_begun (rule_for w mode f.node) w mode ps p f t s
+entry_begun (overridden current) w p f t s = rule_begun (import_for w current f) w f.mode no_params p f t s
+
+abbrev pub entering : Entry → World → Site → Focus → Stack → State Task → Step Task Stack
+entering e w p f t s = if f.depth == 0 then stops (Fault 55 p) s else entry_begun e w p (with_depth (f.depth - 1) f) t s
+
+abbrev pub call_begun : World → Called → Params → Site → Focus → Stack → State Task → Step Task Stack
+call_begun w (by_number i) ps p f t s = and_then (ticked p s) (λ u m. entering (named i ps) w p f t m)
+call_begun w (by_rules mode ns) ps p f t s = applied_begun w mode ps p f ns t s
+
+abbrev pub imports_begun : World → Site → Focus → Option ℕ → Stack → State Task → Step Task Stack
+imports_begun w p f None t s = stops (Fault 56 p) s
+imports_begun w p f (Some rule) t s = and_then (ticked p s) (λ u m. entering (overridden rule) w p f t m)
+
+-- the value of a binding, which fills a slot
+abbrev pub content_begun : World → Content → Site → Scope → Stack → State Task → Step Task Stack
+content_begun w Empty p c t s = Goes (filled_up (String [] ∷ []) t) s
+content_begun w (Select e) p c t s = and_then (limited p (value_run w e c.focus (last c.seen t.slots)) s) (λ v m. Goes (filled_up (v ∷ []) t) m)
+content_begun w (Fragment body) p c t s = Goes (pushed (rest (instrs_of body) (captured_scope c) ∷ fill ∷ []) t) (opened s)
+
+-- a value that is passed
+abbrev pub pass_begun : World → Content → (left all : List Binding) → List Value → Called → Site → Scope → Stack → State Task → Step Task Stack
+pass_begun w Empty left all us callee p c t s = Goes (pushed (pass left all (us ++ String [] ∷ []) callee p c ∷ []) t) s
+pass_begun w (Select e) left all us callee p c t s =
+    and_then (limited p (value_run w e c.focus (last c.seen t.slots)) s) (λ v m. Goes (pushed (pass left all (us ++ v ∷ []) callee p c ∷ []) t) m)
+pass_begun w (Fragment body) left all us callee p c t s =
+    Goes (pushed (rest (instrs_of body) (captured_scope c) ∷ take_value left all us callee p c ∷ []) t) (opened s)
+
+-- a parameter that is passed, or else its own content
+abbrev pub param_begun : Option Value → World → Content → Site → Scope → Stack → State Task → Step Task Stack
+param_begun None w content p c t s = content_begun w content p c t s
+param_begun (Some v) w content p c t s = Goes (filled_up (v ∷ []) t) s
+
+abbrev pub fallbacks_begun : List Body → Site → Scope → Stack → State Task → Step Task Stack
+fallbacks_begun [] p c t s = stops (Fault 58 p) s
+fallbacks_begun (b ∷ bs) p c t s = Goes (pushed (bodies_left (b ∷ bs) (inner c) ∷ []) t) s
+
+-- the next of some bodies
+abbrev pub next_body : List Body → Scope → Stack → Stack
+next_body [] c t = t
+next_body (b ∷ bs) c t = pushed (rest (instrs_of b) (inner c) ∷ bodies_left bs c ∷ []) t
+
+-- the nodes to which templates are applied, and then what is passed to them
+abbrev pub apply_begun : World → Applied → List Binding → Site → Scope → Stack → State Task → Step Task Stack
+apply_begun w nodes bs p c t s =
+    and_then (limited p (nodes_or_children w nodes.select c.focus (last c.seen t.slots)) s)
+    (λ ns m. Goes (pushed (pass bs bs [] (by_rules nodes.mode ns) p c ∷ []) t) m)
+
+-- a body for each node, where no rule is current
+abbrev pub looping : Focus → List ℕ → Focus
+looping f ns = in_list (length ns) (without_rule f)
+
+abbrev pub loop_begun : World → Body → Site → Scope → List ℕ → Stack → State Task → Step Task Stack
+loop_begun w body p c ns t s =
+    run_begun w (body_job body (last c.seen t.slots)) p (looping c.focus ns) ns (each_left body p (over (looping c.focus ns) c) 1 ns) t s
+
+abbrev pub each_begun : World → ScopedExpr → Body → Site → Scope → Stack → State Task → Step Task Stack
+each_begun w select body p c t s = and_then (limited p (nodes_run w select c.focus (last c.seen t.slots)) s) (λ ns m. loop_begun w body p c ns t m)
+
+abbrev pub value_steps : World → ScopedExpr → Site → Focus → List Value → State Task → Told Task
+value_steps w select p f vs s = and_then (limited p (text_run w select f vs) s) (λ text m. chars_steps p text m)
+
+abbrev pub choice_begun : World → Choice → Site → Scope → Stack → State Task → Step Task Stack
+choice_begun w choice p c t s =
+    and_then (limited p (chosen choice w c.focus (last c.seen t.slots)) s) (λ body m. Goes (pushed (rest (instrs_of body) (inner c) ∷ []) t) m)
+
+abbrev pub if_begun : World → ScopedExpr → Body → Site → Scope → Stack → State Task → Step Task Stack
+if_begun w test body p c t s =
+    and_then (limited p (test_run w test c.focus (last c.seen t.slots)) s) (λ b m. Goes (pushed (if b then rest (instrs_of body) (inner c) ∷ [] else []) t) m)
+
+abbrev pub message_begun : Bool → Body → Site → Scope → Stack → State Task → Step Task Stack
+message_begun terminate body p c t s = Goes (pushed (rest (instrs_of body) (captured_scope c) ∷ say p terminate ∷ []) t) (opened s)
+
+abbrev pub literal_begun : LiteralStart → Body → Scope → Stack → State Task → Step Task Stack
+literal_begun start body c t s = and_then (literal_steps start s) (λ u m. Goes (pushed (rest (instrs_of body) (inner c) ∷ end_element ∷ []) t) m)
+
+-- how an instruction begins
+abbrev pub begun : World → InstrKind → Site → Scope → Stack → State Task → Step Task Stack
+begun w (ApplyTemplates nodes passed) p c t s = apply_begun w nodes (bindings_of passed) p c t s
+begun w (CallTemplate i passed) p c t s = Goes (pushed (pass (bindings_of passed) (bindings_of passed) [] (by_number i) p c ∷ []) t) s
+begun w ApplyImports p c t s = imports_begun w p c.focus c.focus.rule t s
+begun w (ForEach select sorts body) p c t s = each_begun w select body p c t s
+begun w (ValueOf select) p c t s = stays (value_steps w select p c.focus (last c.seen t.slots) s) t
+begun w (CopyOf select) p c t s = Goes t s
+begun w (Copy sets body) p c t s = Goes t s
+begun w (Number decl) p c t s = Goes t s
+begun w (Choose choice) p c t s = choice_begun w choice p c t s
+begun w (If test body) p c t s = if_begun w test body p c t s
+begun w (Text text) p c t s = stays (chars_steps p text s) t
+begun w (Element name sets body) p c t s = Goes t s
+begun w (Attribute name body) p c t s = Goes t s
+begun w (Comment body) p c t s = Goes t s
+begun w (Pi name body) p c t s = Goes t s
+begun w (Message terminate body) p c t s = message_begun terminate body p c t s
+begun w (Variable' site name content) p c t s = content_begun w content p c t s
+begun w (Literal start body) p c t s = literal_begun start body c t s
+begun w (Extension fallbacks) p c t s = fallbacks_begun (bodies_of fallbacks) p c t s
+
+-- the next step of the work that is first, before the others
+abbrev pub advanced : World → Work → Stack → State Task → Step Task Stack
+advanced w (rest [] c) t s = Goes (slots_are (without c.own t.slots) t) s
+advanced w (rest (i ∷ is) c) t s = and_then (ticked i.site s) (λ u m. begun w i.kind i.site c (pushed (rest is (after i.kind c) ∷ []) t) m)
+advanced w fill t s = Goes (filled_up (fragment_at s ∷ []) t) (popped s)
+advanced w (each_left body p c i []) t s = Goes t s
+advanced w (each_left body p c i (n ∷ ns)) t s =
+    and_then (ticked p s) (λ u m. Goes (pushed (rest (instrs_of body) (over (at_node n i c.focus) c) ∷ each_left body p c (i + 1) ns ∷ []) t) m)
+advanced w (apply_left mode ps p f i []) t s = Goes t s
+advanced w (apply_left mode ps p f i (n ∷ ns)) t s =
+    and_then (ticked p s) (λ u m. entering (fitting mode ps) w p (at_node n i f) (pushed (apply_left mode ps p f (i + 1) ns ∷ []) t) m)
+advanced w (bodies_left bodies c) t s = Goes (next_body bodies c t) s
+advanced w end_element t s = stays (put End s) t
+advanced w (say p terminate) t s = stays (message_ended p terminate s) t
+advanced w (pass [] all us callee p c) t s = call_begun w callee (record { bindings = all; values = us }) p c.focus t s
+advanced w (pass (b ∷ left) all us callee p c) t s = pass_begun w b.content left all us callee p c t s
+advanced w (take_value left all us callee p c) t s = Goes (pushed (pass left all (us ++ fragment_at s ∷ []) callee p c ∷ []) t) (popped s)
+advanced w (params_left [] ps body c) t s = Goes (pushed (rest (instrs_of body) c ∷ []) t) s
+advanced w (params_left (b ∷ bs) ps body c) t s =
+    and_then (ticked b.site s) (λ u m. param_begun (value_passed b.name ps) w b.content b.site c (pushed (params_left bs ps body (bound c) ∷ []) t) m)
+
+-- the stack that a task begins with
+abbrev pub begun_job : Job → Task → Stack
+begun_job (body_job body vs) t = record
+    { works = each_left body t.site (record { focus = t.focus; seen = length vs; own = 0 }) t.first t.nodes ∷ []; slots = vs }
+begun_job (rules_job mode ps) t = record { works = apply_left mode ps t.site t.focus t.first t.nodes ∷ []; slots = [] }
+
+abbrev pub begun_with : Task → Stack
+begun_with t = begun_job t.job t
+
+-- ---- what the code's frames and stack stand for
+abbrev pub called_of : code_callee.Callee → Called
+called_of (callee.Template i) = by_number i
+called_of (callee.Rules mode nodes) = by_rules mode (nodes_in nodes)
+
+abbrev pub work_of : Frame → Work
+work_of (frame.Rest is c) = rest is.now c
+work_of frame.Fill = fill
+work_of (frame.Each nodes next i body p c) = each_left body.now p c i (drop next (nodes_in nodes))
+work_of (frame.Apply nodes next i mode passed p f) = apply_left mode passed p f i (drop next (nodes_in nodes))
+work_of (frame.Bodies bodies c) = bodies_left bodies.now c
+work_of frame.End = end_element
+work_of (frame.Say p terminate) = say p terminate
+work_of (frame.Pass left all values callee p c) = pass left.now all.now values.items (called_of callee) p c
+work_of (frame.Take left all values callee p c) = take_value left.now all.now values.items (called_of callee) p c
+work_of (frame.Params left passed body c) = params_left left.now passed body.now c
+
+abbrev pub stack_of : code.Stack → Stack
+stack_of t = record { works = reverse (map work_of t.frames.items); slots = t.slots.items }

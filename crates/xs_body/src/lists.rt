@@ -1,0 +1,63 @@
+//! Lists of nodes that are gone through.
+
+ghost use Rattle.std.specs.Prelude.{◌≡◌, ◌<◌, ◌+◌, ◌∷◌, [], drop, length, IfOk, IfSome};
+ghost use Rattle.std.specs.Prelude.{MatchOption};
+ghost use Rattle.std.specs.List.{All};
+ghost use Rattle.xs_body.specs.steps.Lists.{nodes_in};
+ghost use Rattle.xs_tree.specs.Record.{children};
+
+use std::alloc::{AllocError, Global};
+use xs_tree::{Node, Tree};
+use xs_value::node_set::NodeSet;
+
+/// Nodes, in the order in which they are gone through.
+#[derive(Drop)]
+pub enum NodeList {
+    /// A node-set.
+    Set(NodeSet),
+    /// A list.
+    List(Vec<Node>),
+}
+
+impl NodeList {
+    /// The nodes.
+    pub(crate) fn nodes(&self) -> &[Node]
+        ensures { result.now ≡ nodes_in self.now }
+    {
+        match self {
+            NodeList::Set(nodes) => nodes.nodes(),
+            NodeList::List(nodes) => nodes.as_slice(),
+        }
+    }
+
+    /// How many nodes these are. No tree has as many as a place can't number.
+    pub(crate) fn count(&self) -> Result<u32, AllocError>
+        ensures { IfOk result (λ count. count ≡ length (nodes_in self.now)) }
+    {
+        let nodes = self.nodes();
+        u32::try_from(nodes.len()).map_err(|_| AllocError)
+    }
+
+    /// The node that comes next.
+    pub(crate) fn node_at(&self, next: usize) -> Option<Node>
+        ensures node { MatchOption result (drop next (nodes_in self.now) ≡ [])
+            (λ n. drop next (nodes_in self.now) ≡ n ∷ drop (next + 1) (nodes_in self.now)) }
+        ensures below { IfSome result (λ n. next < length (nodes_in self.now)) }
+    {
+        let nodes = self.nodes();
+        nodes.get(next).copied()
+    }
+}
+
+/// The children of a node.
+pub(crate) fn children_of(alloc: Global, tree: &Tree, node: Node) -> Result<Vec<Node>, AllocError>
+    requires { node < length tree.now }
+    ensures children { IfOk result (λ found. found.items ≡ children tree.now node) }
+    ensures inside { IfOk result (λ found. All (λ k. k < length tree.now) found.items) }
+{
+    let mut found = Vec::new(alloc);
+    for child in tree.children(node) {
+        found.push(child)?;
+    }
+    Ok(found)
+}

@@ -1,0 +1,109 @@
+//! What is put.
+
+ghost use Rattle.std.specs.Prelude.{◌≡◌, ◌<◌, length, IfOk};
+ghost use Rattle.std.specs.List.{All};
+ghost use Rattle.xs_body.specs.Inside.{IsWorld};
+ghost use Rattle.xs_body.specs.steps.Frames.{chars_steps, literal_steps, space_steps};
+ghost use Rattle.xs_body.specs.steps.Frames.{value_steps};
+ghost use Rattle.xs_trace.specs.Play.{IsStep, put};
+ghost use Rattle.xs_trace.specs.declared.event.Event.TheVariants.{Space};
+ghost use Rattle.xs_value.specs.Conversion.{IsIn, fragment_text};
+
+use crate::focus::Focus;
+use crate::task::Task;
+use crate::world::World;
+use std::alloc::{AllocError, Global};
+use xs_sheet::body::LiteralStart;
+use xs_sheet::scoped::ScopedExpr;
+use xs_trace::event::{Event, Fragment};
+use xs_trace::item::Site;
+use xs_trace::recorder::{Halt, Recorder, put_event};
+use xs_trace::text::TextBuf;
+use xs_tree::Tree;
+use xs_value::conversion::to_text;
+use xs_value::keys::KeyFinder;
+use xs_value::shared::SharedFragment;
+use xs_value::value::Value;
+
+/// Puts a text that is not empty.
+pub(crate) fn put_text<R: Recorder>(site: Site, text: TextBuf, recorder: &mut R) -> Result<(), Halt>
+    ensures told { IsStep (chars_steps site text (R.state recorder.old))
+        result (R.state recorder.new) }
+    ensures kept { R.kept recorder.new ≡ R.kept recorder.old }
+{
+    if text.as_str().is_empty() {
+        Ok(())
+    } else {
+        put_event(recorder, site, Event::Chars(text))
+    }
+}
+
+/// Puts the string of an expression (XSLT 1.0, 7.6.1).
+pub(crate) fn put_value<'a, K: KeyFinder, R: Recorder<Task = Task<'a>>>(
+    alloc: Global,
+    world: &World<'a, K>,
+    select: &ScopedExpr,
+    focus: Focus,
+    locals: &[Value],
+    site: Site,
+    recorder: &mut R,
+) -> Result<(), Halt>
+    requires world { IsWorld world.now }
+    requires node { focus.node < length world.now.tree }
+    requires locals { All (IsIn world.now.tree) locals.now }
+    ensures told { IsStep (value_steps world.now select.now site focus locals.now
+        (R.state recorder.old)) result (R.state recorder.new) }
+    ensures kept { R.kept recorder.new ≡ R.kept recorder.old }
+{
+    let text = world.text(alloc, select, focus, locals, site, recorder)?;
+    put_text(site, text, recorder)
+}
+
+/// A literal element begins, with its namespace nodes (7.1.1).
+pub(crate) fn begin_element<R: Recorder>(start: &LiteralStart, recorder: &mut R) -> Result<(), Halt>
+    ensures told { IsStep (literal_steps start.now (R.state recorder.old))
+        result (R.state recorder.new) }
+    ensures kept { R.kept recorder.new ≡ R.kept recorder.old }
+{
+    let name = start.name.copy()?;
+    recorder.put(Event::Start(name))?;
+    put_spaces(&start.spaces, recorder)
+}
+
+/// Puts namespace nodes.
+fn put_spaces<R: Recorder>(spaces: &[(TextBuf, TextBuf)], recorder: &mut R) -> Result<(), Halt>
+    ensures told { IsStep (space_steps spaces.now (R.state recorder.old))
+        result (R.state recorder.new) }
+    ensures kept { R.kept recorder.new ≡ R.kept recorder.old }
+{
+    let mut left = spaces;
+    while let Some((space, behind)) = left.split_first() {
+        put_space(&space.0, &space.1, recorder)?;
+        left = behind;
+    }
+    Ok(())
+}
+
+/// Puts a namespace node.
+fn put_space<R: Recorder>(prefix: &TextBuf, uri: &TextBuf, recorder: &mut R) -> Result<(), Halt>
+    ensures told { IsStep (put (Space prefix.now uri.now) (R.state recorder.old))
+        result (R.state recorder.new) }
+    ensures kept { R.kept recorder.new ≡ R.kept recorder.old }
+{
+    recorder.put(Event::Space {
+        prefix: prefix.copy()?,
+        uri: uri.copy()?,
+    })
+}
+
+/// The text of all text nodes of captured content, those inside elements among them.
+pub(crate) fn events_text(
+    alloc: Global,
+    tree: &Tree,
+    fragment: Fragment,
+) -> Result<TextBuf, AllocError>
+    ensures { IfOk result (λ text. text ≡ fragment_text fragment) }
+{
+    let value = Value::Piece(SharedFragment::of(alloc, fragment)?);
+    to_text(alloc, tree, &value)
+}

@@ -1,0 +1,154 @@
+//! Runs that are left to tasks, and tasks that begin.
+
+ghost use Rattle.std.specs.Prelude.{◌≡◌, map, true, IfOk, IsSome};
+ghost use Rattle.std.specs.Arc.{arc_value};
+ghost use Rattle.xs_body.specs.Tasks.{grain_over, task_behind, tasks_for};
+ghost use Rattle.xs_body.specs.steps.Jobs.{job_of};
+ghost use Rattle.xs_body.specs.steps.Sharing.{share_of, share_step};
+ghost use Rattle.xs_trace.specs.Mark.{Hole};
+ghost use Rattle.xs_trace.specs.Play.{IsStep, IsStepBy, play};
+
+use crate::focus::Focus;
+use crate::task::{Job, Task};
+use crate::world::World;
+use std::alloc::{AllocError, Global};
+use std::sync::Arc;
+use xs_trace::item::Site;
+use xs_trace::recorder::{Halt, Recorder};
+use xs_tree::Node;
+use xs_value::keys::KeyFinder;
+use xs_value::value::Value;
+
+impl<'a, K: KeyFinder> World<'a, K> {
+    /// The grain, where a run of so many nodes is more than that.
+    pub(crate) fn grain_over(&self, focus: Focus, size: u32) -> Option<u32>
+        ensures grain { result ≡ grain_over self.now focus size }
+        ensures some { IsSome result → IsSome self.now.grain }
+    {
+        if focus.is_captured {
+            return None;
+        }
+        match self.grain {
+            Some(grain) if size > grain => Some(grain),
+            _ => None,
+        }
+    }
+}
+
+/// A task that takes nodes.
+#[derive(Drop)]
+pub(crate) struct Sharing<'a> {
+    /// The task.
+    pub(crate) task: Task<'a>,
+    /// How many nodes more it may take.
+    pub(crate) room: u32,
+}
+
+/// Leaves a run to tasks, each with a grain of its nodes.
+pub(crate) fn leave<'a, R: Recorder<Task = Task<'a>>>(
+    alloc: Global,
+    grain: u32,
+    job: Job<'a>,
+    nodes: &[Node],
+    site: Site,
+    focus: Focus,
+    recorder: &mut R,
+) -> Result<(), Halt>
+    requires takes { R.takes_holes ≡ true }
+    ensures told { IsStep
+        (play (map Hole (tasks_for grain (job_of job.entry) site focus nodes.now))
+        (R.state recorder.old)) result (R.state recorder.new) }
+    ensures kept { R.kept recorder.new ≡ R.kept recorder.old }
+{
+    let mut sharing = Sharing {
+        task: Task {
+            job,
+            site,
+            focus,
+            first: 1,
+            nodes: Vec::new(alloc),
+        },
+        room: grain,
+    };
+    let mut left = nodes;
+    while let Some((node, behind)) = left.split_first() {
+        sharing = share(alloc, sharing, *node, grain, recorder)?;
+        left = behind;
+    }
+    recorder.hole(sharing.task)
+}
+
+/// One node more.
+fn share<'a, R: Recorder<Task = Task<'a>>>(
+    alloc: Global,
+    sharing: Sharing<'a>,
+    node: Node,
+    grain: u32,
+    recorder: &mut R,
+) -> Result<Sharing<'a>, Halt>
+    requires takes { R.takes_holes ≡ true }
+    ensures told { IsStepBy (λ z. share_of z) (share_step grain (share_of sharing.entry) node
+        (R.state recorder.old)) result (R.state recorder.new) }
+    ensures kept { R.kept recorder.new ≡ R.kept recorder.old }
+{
+    let Sharing { mut task, room } = sharing;
+    if room == 0 {
+        let next = behind(alloc, &task, node)?;
+        recorder.hole(task)?;
+        Ok(Sharing {
+            task: next,
+            room: grain.saturating_sub(1),
+        })
+    } else {
+        task.nodes.push(node)?;
+        Ok(Sharing {
+            task,
+            room: room - 1,
+        })
+    }
+}
+
+/// The task behind another, with its first node.
+fn behind<'a>(alloc: Global, task: &Task<'a>, node: Node) -> Result<Task<'a>, AllocError>
+    ensures { IfOk result (λ t. t ≡ task_behind task.now node) }
+{
+    let count = u32::try_from(task.nodes.len()).map_err(|_| AllocError)?;
+    let first = task.first.checked_add(count).ok_or(AllocError)?;
+    Ok(Task {
+        job: copy_job(&task.job)?,
+        site: task.site,
+        focus: task.focus,
+        first,
+        nodes: Vec::from_slice(alloc, &[node])?,
+    })
+}
+
+/// The same job, in constant time.
+fn copy_job<'a>(job: &Job<'a>) -> Result<Job<'a>, AllocError>
+    ensures { IfOk result (λ copy. job_of copy ≡ job_of job.now) }
+{
+    match job {
+        Job::Body(body, locals) => Ok(Job::Body(*body, Arc::try_clone(locals)?)),
+        Job::Rules(mode, passed) => Ok(Job::Rules(*mode, passed.copy()?)),
+    }
+}
+
+/// Values as one that tasks share.
+pub(crate) fn shared_values(alloc: Global, values: &[Value]) -> Result<Arc<Vec<Value>>, AllocError>
+    ensures { IfOk result (λ shared. (arc_value shared).items ≡ values.now) }
+{
+    Ok(Arc::new(alloc, copied_values(alloc, values)?)?)
+}
+
+/// Values that are the same, each in constant time.
+pub(crate) fn copied_values(alloc: Global, values: &[Value]) -> Result<Vec<Value>, AllocError>
+    ensures { IfOk result (λ copies. copies.items ≡ values.now) }
+{
+    let mut copies = Vec::new(alloc);
+    let mut left = values;
+    while let Some((value, behind)) = left.split_first() {
+        copies.push(value.copy()?)?;
+        left = behind;
+    }
+    Ok(copies)
+}

@@ -1,7 +1,0 @@
-use Rattle.std.proofs.Common.{refl}
-use Rattle.xs_run.specs.steps.Frames.{begun_with}
-use Rattle.xs_run.proofs.LoopLemmas.{task-starts}
-use Rattle.xs_run.proofs.laws.tasks_begin.Goals as goal
-
-pub returns : goal.returns
-returns c = λ w t s. task-starts w t (begun_with t) s refl
