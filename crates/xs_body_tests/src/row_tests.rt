@@ -156,6 +156,120 @@ fn bindings_are_bound(rt: HostRuntime) -> Result<(), Fail> {
     Ok(())
 }
 
+/// Stylesheets of several modules.
+const MODULES: [(&str, &str, u64, &str); 4] = [
+    // Rules that are overridden, through three levels of imports, and then the built-in one.
+    (
+        "(x:import;Ahref m;);(x:template;Amatch a;-s;(x:apply-imports;););^m:(x:import;Ahref n;);(x:template;Amatch a;-1;(x:apply-imports;););^n:(x:template;Amatch a;-2;(x:apply-imports;););",
+        "(a\n-x\n)a\n",
+        1000,
+        "s12x | 12",
+    ),
+    // Import precedence decides before priorities do.
+    (
+        "(x:import;Ahref m;);(x:template;Amatch *;-s;)^m:(x:template;Amatch a;Apriority 9;-m;)",
+        "(a\n)a\n",
+        1000,
+        "s | 3",
+    ),
+    // A parameter of a template that an import declares.
+    (
+        "(x:import;Ahref m;);(x:template;Amatch /;(x:call-template;Aname t;(x:with-param;Aname p;Aselect 7;););)^m:(x:template;Aname t;(x:param;Aname p;);(x:value-of;Aselect $p;);)",
+        "(r\n)r\n",
+        1000,
+        "7 | 5",
+    ),
+    // A global of higher precedence counts in the module that it overrides, too.
+    (
+        "(x:import;Ahref m;);(x:variable;Aname g;Aselect 'new';);(x:template;Amatch /;(x:call-template;Aname t;);)^m:(x:variable;Aname g;Aselect 'old';);(x:template;Aname t;(x:value-of;Aselect $g;);)",
+        "(r\n)r\n",
+        1000,
+        "new | 4",
+    ),
+];
+
+#[test]
+fn modules_override(rt: HostRuntime) -> Result<(), Fail> {
+    for (sheet, source, budget, want) in MODULES {
+        let given = given(rt.alloc(), sheet, source, budget)?;
+        assert_eq!(rt; given.as_str(), want, "of {sheet}");
+    }
+    Ok(())
+}
+
+/// What is current, and where a budget may end.
+const PLACES: [(&str, &str, u64, &str); 9] = [
+    // A built-in rule stays in its mode.
+    (
+        "(x:template;Amatch /;(x:apply-templates;Amode m;););(x:template;Amatch i;Amode m;-m;);(x:template;Amatch i;-n;)",
+        "(r\n(i\n)i\n)r\n",
+        1000,
+        "m | 6",
+    ),
+    // Positions of an inner loop, and then of the outer one.
+    (
+        "(x:template;Amatch /;(x:for-each;Aselect r/i;(x:for-each;Aselect j;(x:value-of;Aselect position();););(x:value-of;Aselect position();););)",
+        "(r\n(i\n(j\n)j\n(j\n)j\n)i\n(i\n(j\n)j\n)i\n)r\n",
+        1000,
+        "12112 | 25",
+    ),
+    // The current node, in a predicate of another one; a budget that ends there.
+    (
+        "(x:template;Amatch /;(x:for-each;Aselect r/i;(x:value-of;Aselect count(../i[@k = current()/@k]););););",
+        "(r\n(i\nAk a\n)i\n(i\nAk b\n)i\n(i\nAk a\n)i\n)r\n",
+        1000,
+        "212 | 54",
+    ),
+    (
+        "(x:template;Amatch /;(x:for-each;Aselect r/i;(x:value-of;Aselect count(../i[@k = current()/@k]););););",
+        "(r\n(i\nAk a\n)i\n(i\nAk b\n)i\n(i\nAk a\n)i\n)r\n",
+        15,
+        "fault 50 0 8 | 15",
+    ),
+    // What is passed: whole, and cut.
+    (
+        "(x:template;Amatch /;(x:call-template;Aname t;(x:with-param;Aname p;Aselect count(//node()););););(x:template;Aname t;(x:param;Aname p;););",
+        "(r\n(i\n)i\n)r\n",
+        1000,
+        " | 10",
+    ),
+    (
+        "(x:template;Amatch /;(x:call-template;Aname t;(x:with-param;Aname p;Aselect count(//node()););););(x:template;Aname t;(x:param;Aname p;););",
+        "(r\n(i\n)i\n)r\n",
+        4,
+        "fault 50 0 6 | 4",
+    ),
+    // A budget that ends in captured content, and in a built-in rule.
+    (
+        "(x:template;Amatch /;(x:variable;Aname v;-ab;(x:text;-c;););)",
+        "(r\n)r\n",
+        3,
+        "fault 50 0 9 | 3",
+    ),
+    (
+        "(x:output;Amethod text;)",
+        "(a\n(b\n-x\n)b\n)a\n",
+        3,
+        "fault 50 0 1 | 3",
+    ),
+    // Two variables of one name, each seen in its own body.
+    (
+        "(x:template;Amatch /;(x:if;Atest true();(x:variable;Aname v;-a;);(x:value-of;Aselect $v;););(x:if;Atest true();(x:variable;Aname v;-b;);(x:value-of;Aselect $v;););)",
+        "(r\n)r\n",
+        1000,
+        "ab | 11",
+    ),
+];
+
+#[test]
+fn places_are_kept(rt: HostRuntime) -> Result<(), Fail> {
+    for (sheet, source, budget, want) in PLACES {
+        let given = given(rt.alloc(), sheet, source, budget)?;
+        assert_eq!(rt; given.as_str(), want, "of {sheet}");
+    }
+    Ok(())
+}
+
 /// A document of so many letters.
 fn letters(alloc: Global, count: usize) -> Result<String, AllocError> {
     let mut text = String::new(alloc);
