@@ -1,6 +1,6 @@
 #!/usr/bin/env bash
 # Runs the program on the given words, in the folder of the call, and ends with its status, 0 to 6.
-# Proves and builds it first where it is not built or a source is newer: from nothing its proofs add up to some 50 minutes of
+# Proves and builds it first where it is not built or a source is newer: from nothing its proofs add up to some 90 minutes of
 # one processor. Where that fails the status is 125, which the program never ends with.
 set -u
 top=$(cd "$(dirname "$(readlink -f "$0")")" && pwd)
