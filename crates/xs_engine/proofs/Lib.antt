@@ -19,3 +19,4 @@ pub mod SameSettlingLemmas
 pub mod SameTemplateLemmas
 pub mod SameTraceLemmas
 pub mod SheetLemmas
+pub mod StripLemmas

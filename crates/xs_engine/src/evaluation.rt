@@ -1,7 +1,7 @@
 //! What a stylesheet makes of a source, cut at the limits of a job.
 
 ghost use Rattle.std.specs.List.{All};
-ghost use Rattle.std.specs.Prelude.{◌≡◌, ◌≤◌, ◌⊎◌, [], IfOk, IsSome, None};
+ghost use Rattle.std.specs.Prelude.{◌≡◌, ◌≤◌, ◌⊎◌, [], IfOk, IsSome, None, OnOk};
 ghost use Rattle.xs_body.specs.Globals.{SettlesAll};
 ghost use Rattle.xs_body.specs.Results.{settled_of};
 ghost use Rattle.xs_body.specs.World.{ground};
@@ -10,7 +10,9 @@ ghost use Rattle.xs_engine.specs.declared.status.TheConstants.{OK, RUN_FAULT};
 ghost use Rattle.xs_engine.specs.Evaluation.{IsEvaluated, IsEvaluatedFrom, IsEvaluatedOn};
 ghost use Rattle.xs_engine.specs.Reply.{IsWholeOrEmpty, job_data, reply_of};
 ghost use Rattle.xs_rules.specs.Indexed.{IsIndex};
+ghost use Rattle.xs_rules.specs.WhiteSpace.{stripped};
 ghost use Rattle.xs_sheet.specs.Sound.{IsSound};
+ghost use Rattle.xs_tree.specs.Stripping.{without};
 
 use crate::job::Job;
 use crate::reply::{Reply, stopped_reply, whole_reply};
@@ -19,6 +21,7 @@ use xs_body::runner::SheetRunner;
 use xs_body::settling::{Settled, settle};
 use xs_rules::index::RuleIndex;
 use xs_rules::white_space::strip_space;
+use xs_sheet::declarations::StripRule;
 use xs_sheet::sheet::Sheet;
 use xs_trace::item::{Ended, Limits};
 use xs_tree::Tree;
@@ -35,8 +38,20 @@ pub fn evaluate(alloc: Global, job: &Job, sheet: &Sheet, source: Tree) -> Result
     ensures whole_only { IfOk result IsWholeOrEmpty }
 {
     let mut tree = source;
-    strip_space(alloc, &mut tree, &sheet.strips)?;
+    strip(alloc, &mut tree, &sheet.strips)?;
     evaluate_over(alloc, job, sheet, &tree)
+}
+
+/// Strips white space of a source as the rules say (XSLT 1.0, 3.4). Most stylesheets have none, and
+/// then the source is not looked through.
+#[tactic(auto, using(crate::proofs::StripLemmas::stripped_without_rules))]
+fn strip(alloc: Global, tree: &mut Tree, rules: &[StripRule]) -> Result<(), AllocError>
+    ensures stripped { OnOk result (tree.new ≡ without (stripped rules.now tree.old) tree.old) }
+{
+    if rules.is_empty() {
+        return Ok(());
+    }
+    strip_space(alloc, tree, rules)
 }
 
 /// The same of a source that is stripped.
