@@ -22,7 +22,7 @@ Aname only
 -\n  
 (xsl:variable
 Aname wanted
-Aselect /ledger/customer[$only = '' or @name = $only]
+Aselect /ledger/customer[$only = '' or @id = $only]
 )xsl:variable
 -\n\n  
 (xsl:template

@@ -1,11 +1,11 @@
 <xsl:stylesheet xmlns:xsl="http://www.w3.org/1999/XSL/Transform" version="1.0">
-  <xsl:import href="layout.pyx"/>
+  <xsl:import href="layout.xsl"/>
   <xsl:output method="text"/>
   <xsl:strip-space elements="*"/>
 
   <!-- The customer whose statement is wanted; all of them where the words give none. -->
   <xsl:param name="only"/>
-  <xsl:variable name="wanted" select="/ledger/customer[$only = '' or @name = $only]"/>
+  <xsl:variable name="wanted" select="/ledger/customer[$only = '' or @id = $only]"/>
 
   <xsl:template match="/">
     <xsl:text>Statements of </xsl:text>

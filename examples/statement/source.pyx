@@ -2,6 +2,7 @@
 Amonth 2024-03
 -\n  
 (customer
+Aid brandt
 Aname Hofladen Brandt
 -\n    
 (order
@@ -16,6 +17,7 @@ Acents 180
 )customer
 -\n  
 (customer
+Aid lumiere
 Aname Café Lumière
 -\n    
 (order
