@@ -20,6 +20,7 @@ mod OpeningLemmas
 mod PartLemmas
 mod RootLemmas
 mod RowLemmas
+mod ScopeLemmas
 mod ShownLemmas
 mod SoundLemmas
 mod StateLemmas

@@ -36,15 +36,20 @@ tree-at (d ∷ ds) [] h m lt = absurd h
 tree-at (d ∷ ds) (l ∷ ls) h zero lt = h.0.tree
 tree-at (d ∷ ds) (l ∷ ls) h (suc m) lt = tree-at ds ls h.1 m (omega (arith, lt))
 
+-- what the nodes of a module have, in a table of it
+module _ {T X : Type 0} (of : List Record → List X) (items : T → List X) where
+  pub table-in : (ms : List ModuleData) (all : List T) → map items all ≡ map (λ (d : ModuleData). of d.records) ms → (m : ℕ) → m < length ms → (t : T)
+      → t ≡ get_or all m t → items t ≡ of (records_at ms m)
+  table-in [] all h m lt t e = absurd (omega (arith, lt))
+  table-in (d ∷ ds) [] h m lt t e = absurd (let size = ap length h in omega (arith, size))
+  table-in (d ∷ ds) (x ∷ xs) h zero lt t e = ap items e ∙ ap (λ (tables : List (List X)). get_or tables 0 []) h
+  table-in (d ∷ ds) (x ∷ xs) h (suc m) lt t e = table-in ds xs (ap (λ (tables : List (List X)). drop 1 tables) h) m (omega (arith, lt)) t e
+
 -- how a node stands
 pub settings-in : {T : Type 0} (items : T → List Setting) (ms : List ModuleData) (all : List T)
     → map items all ≡ map (λ (d : ModuleData). map (setting_of d.records) (places d.records)) ms → (m : ℕ) → m < length ms → (t : T) → t ≡ get_or all m t
     → items t ≡ map (setting_of (records_at ms m)) (places (records_at ms m))
-settings-in items [] all h m lt t e = absurd (omega (arith, lt))
-settings-in items (d ∷ ds) [] h m lt t e = absurd (let size = ap length h in omega (arith, size))
-settings-in items (d ∷ ds) (x ∷ xs) h zero lt t e = ap items e ∙ ap (λ (tables : List (List Setting)). get_or tables 0 []) h
-settings-in items (d ∷ ds) (x ∷ xs) h (suc m) lt t e = settings-in items ds xs (ap (λ (tables : List (List Setting)). drop 1 tables) h) m (omega (arith, lt))
-    t e
+settings-in items = table-in (λ rs. map (setting_of rs) (places rs)) items
 
 pub settings-many : {T : Type 0} (items : T → List Setting) (ms : List ModuleData) (all : List T)
     → map items all ≡ map (λ (d : ModuleData). map (setting_of d.records) (places d.records)) ms → length all ≡ length ms

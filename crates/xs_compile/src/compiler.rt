@@ -1,6 +1,7 @@
 //! What is known of the whole stylesheet while its parts are compiled.
 
 ghost use Rattle.std.specs.Prelude.{◌≡◌, ℕ, List, None, Some, map, IfOk};
+ghost use Rattle.std.specs.Arc.{arc_value};
 ghost use Rattle.std.specs.List.{All, AllZip};
 ghost use Rattle.std.specs.Option.{option_and_then};
 ghost use Rattle.xs_compile.specs.Bodies.{IsRow};
@@ -8,12 +9,13 @@ ghost use Rattle.xs_declared.specs.Counted.{counted, named, template_number};
 ghost use Rattle.xs_declared.specs.Labels.{IsMode, mode_at};
 ghost use Rattle.xs_declared.specs.Order.{declarations};
 ghost use Rattle.xs_declared.specs.Parts.{name_at};
+ghost use Rattle.xs_compile.specs.Parsed.{IsScope};
 ghost use Rattle.xs_compile.specs.Slots.{slot_at};
 ghost use Rattle.xs_declared.specs.Tables.{place_in};
 ghost use Rattle.xs_declared.specs.Modes.{modes_in};
 ghost use Rattle.xs_scopes.specs.Setting.{setting_of};
 ghost use Rattle.xs_compile.specs.steps.State.{IsReady, IsState, modules_of, source_of};
-ghost use Rattle.xs_compile.specs.steps.Tables.{HasLocals};
+ghost use Rattle.xs_compile.specs.steps.Tables.{HasLocals, scopes_in, scopes_of};
 ghost use Rattle.xs_declared.specs.Places.{IsIn};
 ghost use Rattle.xs_elements.specs.Rows.{is_variable};
 ghost use Rattle.xs_modules.specs.Results.{modules_data};
@@ -22,7 +24,9 @@ ghost use Rattle.xs_static.specs.Faults.{IsFirstFault};
 ghost use Rattle.xs_static.specs.Modules.{records_at};
 ghost use Rattle.xs_tree.specs.Record.{places};
 
+use crate::scopes::Scopes;
 use std::alloc::{AllocError, Global};
+use std::sync::Arc;
 use xs_declared::counted::{Counted, Numbers, global_numbers, template_numbers};
 use xs_declared::modes::{Modes, mode_at};
 use xs_declared::places::{Place, name_at, tree_of};
@@ -32,9 +36,11 @@ use xs_scopes::setting::{Setting, settings};
 use xs_scopes::slots::Locals;
 use xs_tree::Node;
 use xs_xpath::name::Slot;
+use xs_xpath::scope::Scope;
 
 /// What is known of the whole stylesheet: the names that it declares, its modes, and of each module
-/// what its nodes have by the elements around them and where its local variables are bound.
+/// what its nodes have by the elements around them, the namespaces in scope there, and where its
+/// local variables are bound.
 #[derive(Drop)]
 pub(crate) struct Compiler<'m> {
     pub(crate) alloc: Global,
@@ -46,6 +52,8 @@ pub(crate) struct Compiler<'m> {
     modes: Modes<'m>,
     /// Of each module, how its nodes stand.
     settings: Vec<Vec<Setting>>,
+    /// Of each module, the namespaces in scope at its nodes.
+    scopes: Vec<Scopes>,
     /// Of each module, its local bindings.
     locals: Vec<Locals<'m>>,
 }
@@ -58,6 +66,18 @@ fn all_settings(alloc: Global, modules: &Modules) -> Result<Vec<Vec<Setting>>, A
     let mut all = Vec::new(alloc);
     for module in &modules.list {
         all.push(settings(alloc, &module.tree)?)?;
+    }
+    Ok(all)
+}
+
+/// The namespaces in scope at the nodes of all modules.
+fn all_scopes(alloc: Global, modules: &Modules) -> Result<Vec<Scopes>, AllocError>
+    ensures { IfOk result (λ all. map scopes_in all.items
+        ≡ map (λ d. scopes_of d.records) (modules_data modules.now)) }
+{
+    let mut all = Vec::new(alloc);
+    for module in &modules.list {
+        all.push(Scopes::of(alloc, &module.tree)?)?;
     }
     Ok(all)
 }
@@ -104,6 +124,7 @@ impl<'m> Compiler<'m> {
         let templates = template_numbers(alloc, modules, declared)?;
         let modes = Modes::of(alloc, modules)?;
         let settings = all_settings(alloc, modules)?;
+        let scopes = all_scopes(alloc, modules)?;
         let locals = all_locals(alloc, modules, &settings)?;
         Ok(Compiler {
             alloc,
@@ -112,6 +133,7 @@ impl<'m> Compiler<'m> {
             templates,
             modes,
             settings,
+            scopes,
             locals,
         })
     }
@@ -123,6 +145,16 @@ impl<'m> Compiler<'m> {
         ensures { result ≡ setting_of (records_at (modules_of self.now) «number») n }
     {
         self.settings[number as usize][n.place() as usize]
+    }
+
+    /// The namespaces that are in scope at a node.
+    pub(crate) fn scope(&self, number: u32, n: Node) -> Result<Arc<Scope>, AllocError>
+        requires state { IsState self.now }
+        requires at { IsIn (modules_of self.now) («number», n) }
+        ensures { IfOk result (λ scope. IsScope (modules_of self.now) («number», n)
+            (arc_value scope)) }
+    {
+        self.scopes[number as usize].at(n)
     }
 
     /// The slot of the binding of a variable that is visible at an element: a local one, else the

@@ -11,6 +11,7 @@ mod own;
 mod parsed;
 mod parts;
 mod reading;
+mod scopes;
 mod templates;
 
 pub use compiled::{CompileEnd, compile};

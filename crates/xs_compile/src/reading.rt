@@ -19,23 +19,13 @@ use crate::parsed;
 use std::alloc::AllocError;
 use std::sync::Arc;
 use xs_declared::labels::{label_in, labels_in};
-use xs_declared::places::{pairs_at, said_at, value_at};
+use xs_declared::places::{said_at, value_at};
 use xs_sheet::scoped::{ScopedExpr, ScopedPattern, ValueTemplate};
 use xs_trace::event::Label;
 use xs_tree::Node;
 use xs_xpath::scope::Scope;
 
 impl<'m> Compiler<'m> {
-    /// The namespaces that are in scope at an element.
-    pub(crate) fn scope(&self, number: u32, n: Node) -> Result<Arc<Scope>, AllocError>
-        requires at { IsIn (modules_of self.now) («number», n) }
-        ensures { IfOk result (λ scope. IsScope (modules_of self.now) («number», n)
-            (arc_value scope)) }
-    {
-        let scope = pairs_at(self.alloc, self.modules, number, n)?;
-        Ok(Arc::new(self.alloc, scope)?)
-    }
-
     /// An expression.
     pub(crate) fn expr(
         &self,

@@ -23,13 +23,13 @@ pub plain_pushed : {H : Type 0} (is js : List Item) (cs : List (List Event)) (at
     js ≡ is ++ i ∷ [] → Holds (marks_of js) cs at ≡ marked (item_marks i) s
 plain_pushed is js cs at i s v e = ap (λ t. Holds t cs at) (ap marks_of e ∙ marks-pushed is i) ∙ ap (marked (item_marks i)) v
 
-pub stands_moved : (n : ℕ) (p at : Site) → 0 < n → p ≡ at_ticks n p at
-stands_moved zero p at h = absurd (omega (arith, h))
-stands_moved (suc n) p at h = refl
+pub moved : (n : ℕ) (p at : Site) → 0 < n → p ≡ at_ticks n p at
+moved zero p at h = absurd (omega (arith, h))
+moved (suc n) p at h = refl
 
-pub stands_still : (n : ℕ) (p at : Site) → n ≤ 0 → at ≡ at_ticks n p at
-stands_still zero p at h = refl
-stands_still (suc n) p at h = absurd (omega (arith, h))
+pub still : (n : ℕ) (p at : Site) → n ≤ 0 → at ≡ at_ticks n p at
+still zero p at h = refl
+still (suc n) p at h = absurd (omega (arith, h))
 
 -- ---- ticks
 

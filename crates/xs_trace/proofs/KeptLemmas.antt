@@ -6,7 +6,7 @@ use Rattle.xs_trace.specs.State.{State, Log, Nothing, All, Untimed, alone, adds,
 use Rattle.xs_trace.specs.Cut.{End, Whole, Fault, Needs, Spent, Full, Cut, cut, nowhere}
 use Rattle.xs_trace.specs.Play.{Step, Goes, Ends, Told, stops, and_then, ticked, put, put_in, play, told_of, left_of, end_of, number, IsStep}
 use Rattle.xs_trace.specs.PlayLaws.{TellsCut, begin, begun}
-use Rattle.xs_trace.specs.Kept.{marks_of, IsPacked, ended_by, IsEnded, Keeps, Sums}
+use Rattle.xs_trace.specs.Kept.{marks_of, timed, ended_by, IsEnded, Keeps}
 use Rattle.xs_trace.specs.Keeping.{IsCutAt, IsCutOf, ToldIsCut, NeedComesFromNeed}
 use Rattle.xs_trace.specs.declared.event.Event.{Event}
 use Rattle.xs_trace.specs.declared.item.Site.{Site}
@@ -115,13 +115,16 @@ ending {H} l x b m result s k en ti q =
 
 -- what is kept
 pub keeps : {H : Type 0} (x : Trace H) (b : ℕ) (m : Option ℕ) (result : Result (Unit {0}) Halt) (s : State H) (k : Kept) → IsEnded result k.ended →
-    s.told ≡ All (marks_of k.items.items) → IsPacked k.items.items → k.ticks ≡ b - number s.left → IsStep (play x (begin b m)) result s → Keeps (cut x b m) k
-keeps x b m result s k en t pk ti q =
+    s.told ≡ All (timed k.timeline.items (marks_of k.items.items)) →
+    untimed {H = H} (timed k.timeline.items (marks_of k.items.items)) ≡ marks_of k.items.items → k.ticks ≡ b - number s.left →
+    IsStep (play x (begin b m)) result s → Keeps (cut x b m) k
+keeps {H} x b m result s k en t u ti q =
     let h : Ending (All []) (cut x b m) s k = ending (All []) x b m result s k en ti q in
-    record { marks = all_same (sym t ∙ h.told); packed = pk; ended = h.ended; ticks = h.ticks }
+    let e : timed {H = H} k.timeline.items (marks_of k.items.items) ≡ (cut x b m).passed = all_same (sym t ∙ h.told) in
+    record { marks = e; items = sym u ∙ ap untimed e; ended = h.ended; ticks = h.ticks }
 
--- what is kept without ticks
-untimed-events : {H : Type 0} (x : Trace H) → events_of (untimed x) ≡ events_of x
+-- what marks give without ticks
+pub untimed-events : {H : Type 0} (x : Trace H) → events_of (untimed x) ≡ events_of x
 untimed-events [] = refl
 untimed-events (Tick p ∷ x) = untimed-events x
 untimed-events (Put e ∷ x) = ap (λ es. e ∷ es) (untimed-events x)
@@ -138,18 +141,6 @@ untimed-messages (Say t ∷ x) = ap (λ ms. t ∷ ms) (untimed-messages x)
 untimed-messages (Stop f p ∷ x) = untimed-messages x
 untimed-messages (Need g p ∷ x) = untimed-messages x
 untimed-messages (Hole k ∷ x) = untimed-messages x
-
-pub sums : {H : Type 0} (x : Trace H) (b : ℕ) (m : Option ℕ) (result : Result (Unit {0}) Halt) (s : State H) (k : Kept) → IsEnded result k.ended →
-    s.told ≡ Untimed (marks_of k.items.items) → k.ticks ≡ b - number s.left → IsStep (play x (begun (Untimed []) b m)) result s → Sums (cut x b m) k
-sums {H} x b m result s k en t ti q =
-    let h : Ending (Untimed []) (cut x b m) s k = ending (Untimed []) x b m result s k en ti q in
-    let e : marks_of {H = H} k.items.items ≡ untimed (cut x b m).passed = untimed_same (sym t ∙ h.told) in
-    record {
-      events = ap events_of e ∙ untimed-events (cut x b m).passed;
-      messages = ap messages_of e ∙ untimed-messages (cut x b m).passed;
-      ended = h.ended;
-      ticks = h.ticks;
-    }
 
 -- a trace without a need
 no-need : {H : Type 0} (x : Trace H) (s : State H) → NeedsNothing x → WantsNone (play x s)

@@ -1,11 +1,11 @@
 -- What a recorder of a whole run gives at its end.
-use Rattle.std.specs.Prelude.{◌≡◌, ℕ, ◌-◌, [], Option, Some, Result, Ok, Err}
+use Rattle.std.specs.Prelude.{◌≡◌, ℕ, ◌-◌, Option, Some, Result, Ok, Err}
 use Rattle.xs_trace.specs.Mark.{Trace, NeedsNothing, tick_count}
 use Rattle.xs_trace.specs.Cut.{End, Whole, Fault, Needs, Spent, Full, Cut, cut}
-use Rattle.xs_trace.specs.State.{State, Log, Untimed, adds}
+use Rattle.xs_trace.specs.State.{State, Log, adds}
 use Rattle.xs_trace.specs.Play.{IsStep, play}
 use Rattle.xs_trace.specs.PlayLaws.{begin, begun}
-use Rattle.xs_trace.specs.Kept.{Keeps, Sums, NeedsNone}
+use Rattle.xs_trace.specs.Kept.{Keeps, NeedsNone}
 use Rattle.xs_trace.specs.declared.item.Limits.{Limits}
 use Rattle.xs_trace.specs.declared.recorder.Halt.{Halt}
 use Rattle.xs_trace.specs.declared.recorder.Halt.TheVariants as halt
@@ -14,10 +14,6 @@ use Rattle.xs_trace.specs.declared.whole.Kept.{Kept}
 -- The cut of whatever trace was told, under limits, by a run that ended so.
 abbrev pub KeepsAny : {H : Type 0} → Limits → Result (Unit {0}) Halt → State H → Kept → Type 0
 KeepsAny {H = H} l told s k = (x : Trace H) → IsStep (play x (begin l.ticks l.events)) told s → Keeps (cut x l.ticks l.events) k
-
--- The same of one that keeps no ticks: what the cut comes to.
-abbrev pub SumsAny : {H : Type 0} → Limits → Result (Unit {0}) Halt → State H → Kept → Type 0
-SumsAny {H = H} l told s k = (x : Trace H) → IsStep (play x (begun (Untimed []) l.ticks l.events)) told s → Sums (cut x l.ticks l.events) k
 
 -- A state in which all that passed a cut was told, after what was kept before, at an end, with b ticks at the start.
 pub record IsCutAt {H : Type 0} (l : Log H) (e : End) (b : ℕ) (c : Cut H) (s : State H) : Type 0 where

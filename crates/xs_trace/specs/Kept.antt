@@ -1,9 +1,11 @@
 -- The marks that kept items stand for.
 use Rattle.std.specs.Prelude.{◌≡◌, ◌<◌, ℕ, List, [], ◌∷◌, ◌++◌, Option, Some, None, Result, Ok, Err}
-use Rattle.xs_trace.specs.Mark.{Put, Say, Trace, ticks, tick_count, events_of, messages_of}
+use Rattle.xs_trace.specs.Mark.{Put, Say, Trace, ticks, tick_count, untimed}
 use Rattle.xs_trace.specs.Cut.{End, Whole, Fault, Needs, Spent, Full, Cut}
 use Rattle.xs_trace.specs.declared.item.Item.{Item}
 use Rattle.xs_trace.specs.declared.item.Item.TheVariants as item
+use Rattle.xs_trace.specs.declared.item.Entry.{Entry}
+use Rattle.xs_trace.specs.declared.item.Entry.TheVariants as entry
 use Rattle.xs_trace.specs.declared.item.Site.{Site}
 use Rattle.xs_trace.specs.declared.recorder.Halt.{Halt}
 use Rattle.xs_trace.specs.declared.recorder.Halt.TheVariants as halt
@@ -21,6 +23,13 @@ item_marks (item.Say t) = Say t ∷ []
 abbrev pub marks_of : {H : Type 0} → List Item → Trace H
 marks_of [] = []
 marks_of (i ∷ is) = item_marks i ++ marks_of is
+
+-- Marks without ticks, with the ticks of a timeline among them: an entry is some ticks at one place, or the next of the marks.
+abbrev pub timed : {H : Type 0} → List Entry → Trace H → Trace H
+timed [] x = []
+timed (entry.Ticks m l n ∷ es) x = ticks (record { «module» = m; line = l }) n (timed es x)
+timed (entry.Item ∷ es) [] = []
+timed (entry.Item ∷ es) (m ∷ x) = m ∷ timed es x
 
 -- the place of the run that comes first, if one does
 abbrev pub first_run : List Item → Option Site
@@ -68,16 +77,10 @@ IsEnded (Err (halt.Full p)) e = ended_by (Full p) ≡ Some e
 IsEnded (Err (halt.Over t)) e = e ≡ ended.Over t
 IsEnded (Err halt.NoMemory) e = ⊥
 
--- all that passed a cut, in the fewest items, its end, and how many ticks passed
+-- All that passed a cut: the items are its events and messages, and the timeline has its ticks among them. Its end, and how
+-- many ticks passed.
 pub record Keeps {H : Type 0} (c : Cut H) (k : Kept) : Type 0 where
-  pub marks : marks_of k.items.items ≡ c.passed
-  pub packed : IsPacked k.items.items
-  pub ended : ended_by c.end ≡ Some k.ended
-  pub ticks : k.ticks ≡ tick_count c.passed
-
--- What a cut comes to: the events and messages that passed, its end, and how many ticks passed.
-pub record Sums {H : Type 0} (c : Cut H) (k : Kept) : Type 0 where
-  pub events : events_of {H = H} (marks_of k.items.items) ≡ events_of c.passed
-  pub messages : messages_of {H = H} (marks_of k.items.items) ≡ messages_of c.passed
+  pub marks : timed k.timeline.items (marks_of k.items.items) ≡ c.passed
+  pub items : marks_of k.items.items ≡ untimed c.passed
   pub ended : ended_by c.end ≡ Some k.ended
   pub ticks : k.ticks ≡ tick_count c.passed

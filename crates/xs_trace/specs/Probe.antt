@@ -6,11 +6,9 @@ use Rattle.xs_trace.specs.Cut.{cut}
 use Rattle.xs_trace.specs.State.{State, Nothing, All, alone, opened, popped, top, shown}
 use Rattle.xs_trace.specs.Play.{Told, goes, and_then, ticked, ticked_by, put_at, put}
 use Rattle.xs_trace.specs.Run.{Run, tick, give, fail}
-use Rattle.xs_trace.specs.Kept.{marks_of}
 use Rattle.xs_trace.specs.Keeping.{IsCutOf}
 use Rattle.xs_trace.specs.declared.event.Event.{Event}
 use Rattle.xs_trace.specs.declared.event.Event.TheVariants.{End}
-use Rattle.xs_trace.specs.declared.item.Item.{Item}
 use Rattle.xs_trace.specs.declared.item.Site.{Site}
 use Rattle.xs_trace.specs.declared.recorder.Halt.{Halt}
 
@@ -55,11 +53,11 @@ wanting p None = Tick p ∷ []
 wanting p (Some g) = Tick p ∷ Need g p ∷ []
 
 -- What an attempt leaves: all that passed the cut, how many ticks, and the cut's end.
-abbrev pub told_of_attempt : ℕ → List Item → ℕ → State ℕ
-told_of_attempt b is n = record { told = All (marks_of is); captures = []; at = None; room = None; left = Some (b - n); shared = alone }
+abbrev pub told_of_attempt : ℕ → Trace ℕ → ℕ → State ℕ
+told_of_attempt b t n = record { told = All t; captures = []; at = None; room = None; left = Some (b - n); shared = alone }
 
-abbrev pub IsAttempt : Trace ℕ → ℕ → List Item → ℕ → Result (Unit {0}) Halt → Type 0
-IsAttempt x b is n told = (n ≡ tick_count {H = ℕ} (marks_of is)) × IsCutOf (All []) told b (cut x b None) (told_of_attempt b is n)
+abbrev pub IsAttempt : Trace ℕ → ℕ → Trace ℕ → ℕ → Result (Unit {0}) Halt → Type 0
+IsAttempt x b t n told = (n ≡ tick_count t) × IsCutOf (All []) told b (cut x b None) (told_of_attempt b t n)
 
 -- a number more, for a tick
 abbrev pub adding : ℕ → ℕ → Run ℕ

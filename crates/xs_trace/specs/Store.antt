@@ -1,12 +1,14 @@
 -- What a store of marks holds, whatever limits there are.
 use Rattle.std.specs.Prelude.{ℕ, zero, suc, List, [], ◌∷◌, ◌++◌, Option, Some, Bool, true, false}
-use Rattle.xs_trace.specs.Mark.{Put, Trace, ticks}
+use Rattle.xs_trace.specs.Mark.{Mark, Tick, Put, Say, Stop, Need, Hole, Trace, ticks}
 use Rattle.xs_trace.specs.Cut.{nowhere}
 use Rattle.xs_trace.specs.Kept.{IsPacked}
 use Rattle.xs_trace.specs.State.{State, All, Untimed, Shared}
 use Rattle.xs_trace.specs.declared.event.Event.{Event}
 use Rattle.xs_trace.specs.declared.item.Item.{Item}
 use Rattle.xs_trace.specs.declared.item.Item.TheVariants as item
+use Rattle.xs_trace.specs.declared.item.Entry.{Entry}
+use Rattle.xs_trace.specs.declared.item.Entry.TheVariants as entry
 use Rattle.xs_trace.specs.declared.item.Site.{Site}
 
 pub record Store (H : Type 0) : Type 0 where
@@ -74,3 +76,25 @@ pending p (suc n) = item.Run p.«module» p.line (suc n) ∷ []
 abbrev pub TakesRun : List Item → Site → ℕ → Type 0
 TakesRun is p zero = (q : Site) → IsPacked (is ++ pending q 1)
 TakesRun is p (suc n) = IsPacked (is ++ pending p (suc n))
+
+-- so many ticks at a place, as an entry, if there are any
+abbrev pub pending_ticks : Site → ℕ → List Entry
+pending_ticks p zero = []
+pending_ticks p (suc n) = entry.Ticks p.«module» p.line (suc n) ∷ []
+
+-- a mark that is no tick
+abbrev pub IsUntimed : {H : Type 0} → Mark H → Type 0
+IsUntimed (Tick p) = ⊥
+IsUntimed (Put e) = Unit {0}
+IsUntimed (Say t) = Unit {0}
+IsUntimed (Stop f p) = Unit {0}
+IsUntimed (Need g p) = Unit {0}
+IsUntimed (Hole k) = Unit {0}
+
+-- a timeline has a place for each of some marks, none of which is a tick
+abbrev pub IsTimeline : {H : Type 0} → List Entry → Trace H → Type 0
+IsTimeline [] [] = Unit {0}
+IsTimeline [] (m ∷ x) = ⊥
+IsTimeline (entry.Ticks p l n ∷ es) x = IsTimeline es x
+IsTimeline (entry.Item ∷ es) [] = ⊥
+IsTimeline (entry.Item ∷ es) (m ∷ x) = IsUntimed m × IsTimeline es x

@@ -1,39 +1,36 @@
-//! A recorder that keeps of a whole run what its answer says: no ticks but their number.
-ghost use Rattle.std.specs.Prelude.{◌≡◌, [], Some, Err, false, IfOk};
+//! A recorder that keeps no ticks but their number.
+ghost use Rattle.std.specs.Prelude.{◌≡◌, [], Some, Err, false};
 ghost use Rattle.xs_trace.specs.State.{alone, Untimed};
 ghost use Rattle.xs_trace.specs.Store.{briefly_to};
 ghost use Rattle.xs_trace.specs.PlayLaws.{begun};
-ghost use Rattle.xs_trace.specs.Keeping.{SumsAny};
-ghost use Rattle.xs_trace.specs.declared.item.Limits.{Limits};
 ghost use Rattle.xs_trace.specs.declared.recorder.Halt.TheVariants.{NoMemory};
-ghost use Rattle.xs_trace.specs.Kept.{NeedsNone, marks_of};
+ghost use Rattle.xs_trace.specs.Kept.{marks_of};
 
-use crate::ending::ended;
 use crate::event::{Event, Fragment};
 use crate::item::{Item, Limits, Site};
 use crate::plain::Plain;
 use crate::recorder::{Halt, Recorder, Tally};
 use crate::text::TextBuf;
-use crate::whole::{Kept, spend};
-use std::alloc::{AllocError, Global};
+use crate::whole::spend;
+use std::alloc::Global;
 
 /// Keeps the events and messages that it is told, in order, up to its limits, and counts ticks: so
-/// its memory is that of what it answers with, however long a run is. It takes no holes; `T` is
-/// what would fill them.
+/// its memory is that of what it answers with, however long a run is. An attempt of a global
+/// variable has one, since only its messages and the number of its ticks are asked for. It takes no
+/// holes; `T` is what would fill them.
 #[derive(Drop)]
 pub struct Brief<T> {
     marks: Plain<T>,
     room: Option<u64>,
     left: u64,
-    limits: Limits,
 }
 
 impl<T: Drop> Tally for Brief<T> {
     type Task = T;
 
-    ghost Kept = { Limits };
+    ghost Kept = { Unit {0} };
 
-    ghost kept = { λ b. b.limits };
+    ghost kept = { λ b. tt };
 
     ghost state = { λ b. briefly_to b.room b.left alone b.marks };
 
@@ -88,7 +85,6 @@ impl<T: Drop> Recorder for Brief<T> {
     /// There is no room for a hole.
     fn hole(&mut self, _task: T) -> Result<(), Halt>
         ensures refused { result ≡ Err NoMemory }
-        ensures kept { self.new.limits ≡ self.old.limits }
     {
         Err(Halt::NoMemory)
     }
@@ -110,13 +106,11 @@ impl<T: Drop> Brief<T> {
     pub fn new(alloc: Global, limits: Limits) -> Brief<T>
         ensures begins { ⟦<Brief<T> as Tally>⟧.state result
             ≡ begun (Untimed []) limits.ticks limits.events }
-        ensures limits { ⟦<Brief<T> as Tally>⟧.kept result ≡ limits }
     {
         Brief {
             marks: Plain::new(alloc),
             room: limits.events,
             left: limits.ticks,
-            limits,
         }
     }
 
@@ -125,23 +119,6 @@ impl<T: Drop> Brief<T> {
         ensures left { Some result ≡ (⟦<Brief<T> as Tally>⟧.state self.now).left }
     {
         self.left
-    }
-
-    /// What a run told that ended so, and needed no global: what its trace comes to, cut at the
-    /// limits.
-    pub fn keep(self, told: Result<(), Halt>) -> Result<Kept, AllocError>
-        requires settled { NeedsNone told }
-        ensures sums { IfOk result
-            (SumsAny (⟦<Brief<T> as Tally>⟧.kept self) told (⟦<Brief<T> as Tally>⟧.state self)) }
-    {
-        let ended = ended(told)?;
-        let ticks = self.limits.ticks.saturating_sub(self.left);
-        let items = self.finish();
-        Ok(Kept {
-            items,
-            ended,
-            ticks,
-        })
     }
 
     /// What was told, but for ticks.

@@ -19,7 +19,7 @@ pub struct Spot {
     pub line: u32,
 }
 
-/// One thing that is kept of a run.
+/// One thing that is kept of a run, or of a part of it.
 #[derive(Debug, Drop)]
 pub enum Item {
     /// That many ticks, one after another at one place.
@@ -30,8 +30,20 @@ pub enum Item {
     Say(TextBuf),
 }
 
-// A loop keeps two items for each of its nodes, so what a large run keeps is what these take.
+// A loop keeps an item or two for each of its nodes, so what a large run keeps is what these take.
 const _: () = prove!(size_of::<Item>() <= 48);
+
+/// What comes next in a run whose ticks are kept apart from its events and messages.
+#[derive(Clone, Copy, PartialEq, Eq, Debug)]
+pub enum Entry {
+    /// That many ticks, one after another at one place.
+    Ticks { module: u32, line: u32, count: u64 },
+    /// The next of its events and messages.
+    Item,
+}
+
+// A run that calls itself a million times has an entry for each change of instruction.
+const _: () = prove!(size_of::<Entry>() <= 24);
 
 /// How a run ended.
 #[derive(Clone, Copy, Debug)]

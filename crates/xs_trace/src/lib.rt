@@ -15,5 +15,6 @@ pub mod probe;
 pub mod recorder;
 pub mod sections;
 pub mod text;
+mod timed;
 pub mod total;
 pub mod whole;

@@ -1,5 +1,5 @@
 //! A store of events and messages: of ticks it keeps the last place alone, and it knows no limit.
-ghost use Rattle.std.specs.Prelude.{◌≡◌, ◌∷◌, [], reverse, OnOk};
+ghost use Rattle.std.specs.Prelude.{◌≡◌, ◌∷◌, [], reverse, OnOk, OnErr};
 ghost use Rattle.xs_trace.specs.State.{top, below};
 ghost use Rattle.xs_trace.specs.Kept.{marks_of, item_marks};
 ghost use Rattle.xs_trace.specs.Store.{Store, empty, stood, at_ticks, marked, is_open};
@@ -71,6 +71,7 @@ impl<T> Plain<T> {
     /// An event, to the innermost capture or else behind what was told.
     pub fn put(&mut self, event: Event) -> Result<(), AllocError>
         ensures told { OnOk result (self.new ≡ put_into self.old.captures event self.old) }
+        ensures refused { OnErr result (self.new.told ≡ self.old.told) }
     {
         match self.captures.pop() {
             Some(mut inner) => {
@@ -83,10 +84,10 @@ impl<T> Plain<T> {
     }
 
     /// An item that is no run of ticks.
-    #[tactic(auto, using(crate::proofs::BriefLemmas::plain_pushed))]
     pub fn push(&mut self, item: Item) -> Result<(), AllocError>
         requires single { IsSingle item }
         ensures told { OnOk result (self.new ≡ marked (item_marks item) self.old) }
+        ensures refused { OnErr result (self.new.told ≡ self.old.told) }
     {
         self.items.push(item)?;
         Ok(())
@@ -95,6 +96,7 @@ impl<T> Plain<T> {
     /// A capture is opened.
     pub fn open(&mut self) -> Result<(), AllocError>
         ensures told { OnOk result (self.new ≡ with_captures ([] ∷ self.old.captures) self.old) }
+        ensures refused { OnErr result (self.new.told ≡ self.old.told) }
     {
         self.captures.push(Fragment::of(Vec::new(self.alloc)))?;
         Ok(())
@@ -121,7 +123,7 @@ impl<T> Plain<T> {
 }
 
 /// Where one stands after some ticks at a place.
-#[tactic(auto, using(crate::proofs::BriefLemmas::stands_moved, crate::proofs::BriefLemmas::stands_still))]
+#[tactic(auto, using(crate::proofs::BriefLemmas::moved, crate::proofs::BriefLemmas::still))]
 fn last_place(site: Site, count: u64, at: Site) -> Site
     ensures { result ≡ at_ticks count site at }
 {

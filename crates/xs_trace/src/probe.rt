@@ -5,7 +5,7 @@ ghost use Rattle.xs_trace.specs.Cut.{Allows, cut};
 ghost use Rattle.xs_trace.specs.Play.{IsStep, play};
 ghost use Rattle.xs_trace.specs.Run.{fold, limited};
 ghost use Rattle.xs_trace.specs.Meter.{IsMetered};
-ghost use Rattle.xs_trace.specs.Kept.{Keeps};
+ghost use Rattle.xs_trace.specs.Kept.{Keeps, marks_of, timed};
 ghost use Rattle.xs_trace.specs.Total.{over};
 ghost use Rattle.xs_trace.specs.Piece.{IsPiece};
 ghost use Rattle.xs_trace.specs.Probe.{tiny, content_steps, taken_steps, tiny_steps, replay_steps};
@@ -13,7 +13,7 @@ ghost use Rattle.xs_trace.specs.Probe.{end_steps, hole_steps, wanting, adding};
 ghost use Rattle.xs_trace.specs.Probe.{IsAttempt, unwatched};
 
 use crate::event::{Event, Fragment};
-use crate::item::{Item, Limits, Site};
+use crate::item::{Entry, Item, Limits, Site};
 use crate::meter::Meter;
 use crate::piece::{KeptPiece, PieceRecorder};
 use crate::recorder::{Halt, Recorder, Tally, put_event, tick_several};
@@ -186,8 +186,10 @@ fn want<T: Tally>(tally: &mut T, site: Site, global: Option<u32>) -> Result<(), 
 /// What an attempt of a global leaves.
 #[derive(Debug, Drop)]
 pub struct Tried {
-    /// What it did, in order.
+    /// Its events and messages, in order.
     pub items: Vec<Item>,
+    /// Its ticks, in order, and the places of the items among them.
+    pub timeline: Vec<Entry>,
     /// How many ticks it took.
     pub ticks: u64,
     /// How it ended.
@@ -202,7 +204,8 @@ pub fn attempt(
     global: Option<u32>,
 ) -> Result<Tried, AllocError>
     ensures cut { IfOk result (λ a.
-        IsAttempt (wanting site global) limit a.items.items a.ticks a.told) }
+        IsAttempt (wanting site global) limit (timed a.timeline.items (marks_of a.items.items))
+        a.ticks a.told) }
 {
     let limits = Limits {
         ticks: limit,
@@ -214,8 +217,13 @@ pub fn attempt(
         return Err(AllocError);
     }
     let ticks = limit.saturating_sub(whole.left());
-    let items = whole.finish()?;
-    Ok(Tried { items, ticks, told })
+    let (timeline, items) = whole.finish()?;
+    Ok(Tried {
+        items,
+        timeline,
+        ticks,
+        told,
+    })
 }
 
 /// The sum of some numbers, a tick each; a sum past 64 bits is the fault 52.

@@ -1,4 +1,4 @@
-//! A recorder that keeps a whole run.
+//! A recorder that keeps a whole run: all its marks, ticks among them.
 ghost use Rattle.std.specs.Prelude.{◌≡◌, Some, Err, false, IfOk, if◌then◌else◌};
 ghost use Rattle.xs_trace.specs.Cut.{less};
 ghost use Rattle.xs_trace.specs.State.{allows, alone, All};
@@ -7,21 +7,24 @@ ghost use Rattle.xs_trace.specs.PlayLaws.{begin};
 ghost use Rattle.xs_trace.specs.Keeping.{KeepsAny};
 ghost use Rattle.xs_trace.specs.declared.item.Limits.{Limits};
 ghost use Rattle.xs_trace.specs.declared.recorder.Halt.TheVariants.{NoMemory};
-ghost use Rattle.xs_trace.specs.Kept.{IsPacked, NeedsNone, marks_of};
+ghost use Rattle.xs_trace.specs.Mark.{untimed};
+ghost use Rattle.xs_trace.specs.Kept.{NeedsNone, marks_of, timed};
 
 use crate::ending::ended;
 use crate::event::{Event, Fragment};
-use crate::item::{Ended, Item, Limits, Site};
-use crate::marks::Marks;
+use crate::item::{Ended, Entry, Item, Limits, Site};
 use crate::recorder::{Halt, Recorder, Tally};
 use crate::text::TextBuf;
+use crate::timed::Timed;
 use std::alloc::{AllocError, Global};
 
 /// All that is kept of a run.
 #[derive(Debug, Drop)]
 pub struct Kept {
-    /// What it did, in order.
+    /// Its events and messages, in order.
     pub items: Vec<Item>,
+    /// Its ticks, in order, and the places of the items among them.
+    pub timeline: Vec<Entry>,
     /// How it ended.
     pub ended: Ended,
     /// How many ticks it took.
@@ -32,7 +35,7 @@ pub struct Kept {
 /// them.
 #[derive(Drop)]
 pub struct Whole<T> {
-    marks: Marks<T>,
+    marks: Timed<T>,
     room: Option<u64>,
     left: u64,
     limits: Limits,
@@ -120,7 +123,7 @@ impl<T: Drop> Whole<T> {
         ensures limits { ⟦<Whole<T> as Tally>⟧.kept result ≡ limits }
     {
         Whole {
-            marks: Marks::new(alloc),
+            marks: Timed::new(alloc),
             room: limits.events,
             left: limits.ticks,
             limits,
@@ -142,19 +145,22 @@ impl<T: Drop> Whole<T> {
     {
         let ended = ended(told)?;
         let ticks = self.limits.ticks.saturating_sub(self.left);
-        let items = self.finish()?;
+        let (timeline, items) = self.finish()?;
         Ok(Kept {
             items,
+            timeline,
             ended,
             ticks,
         })
     }
 
-    /// What was told, in the fewest items.
-    pub fn finish(self) -> Result<Vec<Item>, AllocError>
-        ensures items { IfOk result (λ items.
-            (⟦<Whole<T> as Tally>⟧.state self).told ≡ All (marks_of items.items)) }
-        ensures packed { IfOk result (λ items. IsPacked items.items) }
+    /// What was told: the ticks, with the places of the items among them, and the items, which are
+    /// the events and messages.
+    pub fn finish(self) -> Result<(Vec<Entry>, Vec<Item>), AllocError>
+        ensures told { IfOk result (λ r. (⟦<Whole<T> as Tally>⟧.state self).told
+            ≡ All (timed r.0.items (marks_of r.1.items))) }
+        ensures items { IfOk result (λ r.
+            untimed {H = T} (timed r.0.items (marks_of r.1.items)) ≡ marks_of r.1.items) }
     {
         self.marks.finish()
     }

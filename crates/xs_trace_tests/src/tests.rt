@@ -5,7 +5,7 @@ use std::cmp::Ordering;
 use std::test::Fail;
 use xs_trace::brief::Brief;
 use xs_trace::event::{Event, Fragment, Label, text_ticks};
-use xs_trace::item::{Ended, Item, Limits, Site};
+use xs_trace::item::{Ended, Entry, Item, Limits, Site};
 use xs_trace::laws;
 use xs_trace::meter::Meter;
 use xs_trace::piece::{KeptPiece, PieceRecorder};
@@ -143,9 +143,23 @@ fn show_both<R: Recorder<Task = u64>>(alloc: Global, recorder: &mut R) -> Result
     say_message(recorder, SITE, TextBuf::of(alloc, "hi")?)
 }
 
+// Three ticks at one place, and then two items.
+const THREE_THEN_TWO: [Entry; 3] = [
+    Entry::Ticks {
+        module: 0,
+        line: 7,
+        count: 3,
+    },
+    Entry::Item,
+    Entry::Item,
+];
+
 // Whether a run has three ticks, an event and a message, and ended at a second event.
 fn is_full_run(kept: &Kept) -> bool {
-    kept.items.len() == 3 && kept.ticks == 3 && matches!(&kept.ended, Ended::Full(_))
+    kept.timeline.as_slice() == THREE_THEN_TWO.as_slice()
+        && are_both(kept.items.as_slice())
+        && kept.ticks == 3
+        && matches!(&kept.ended, Ended::Full(_))
 }
 
 #[test]
@@ -176,15 +190,16 @@ fn stops_at_its_limit(rt: HostRuntime) -> Result<(), Fail> {
     );
     assert_eq!(rt; whole.ticks(SITE, 3), Err(Halt::Spent(SITE)));
     assert_eq!(rt; whole.tick(SITE), Err(Halt::Spent(SITE)));
-    let items = whole.finish()?;
-    assert_eq!(rt; items.len(), 1);
-    assert!(rt; matches!(items.first(), Some(Item::Run { ticks: 2, .. })));
+    let (timeline, items) = whole.finish()?;
+    assert_eq!(rt; items.len(), 0);
+    assert_eq!(rt; timeline.len(), 1);
+    assert!(rt; matches!(timeline.first(), Some(Entry::Ticks { count: 2, .. })));
     Ok(())
 }
 
-// Whether a run has an event and a message, and three ticks that none of them is.
-fn is_brief_run(kept: &Kept) -> bool {
-    kept.items.len() == 2 && kept.ticks == 3 && matches!(&kept.ended, Ended::Full(_))
+// Whether there are an event and a message, and nothing besides.
+fn are_both(items: &[Item]) -> bool {
+    matches!(items, [Item::Put(_), Item::Say(_)])
 }
 
 #[test]
@@ -199,8 +214,7 @@ fn keeps_no_ticks(rt: HostRuntime) -> Result<(), Fail> {
     assert_eq!(rt; show_both(rt.alloc(), &mut brief), Ok(()));
     assert_eq!(rt; brief.left(), 6);
     assert_eq!(rt; brief.put(Event::End), Err(Halt::Full(SITE)));
-    let kept = brief.keep(Err(Halt::Full(SITE)))?;
-    assert!(rt; is_brief_run(&kept));
+    assert!(rt; are_both(brief.finish().as_slice()));
     Ok(())
 }
 
@@ -291,7 +305,8 @@ fn takes_no_holes(rt: HostRuntime) -> Result<(), Fail> {
         events: None,
     };
     let kept = run_whole(rt.alloc(), limits, SITE, 1, Event::End, Event::End)?;
-    assert_eq!(rt; kept.items.len(), 4);
+    assert_eq!(rt; kept.items.len(), 2);
+    assert_eq!(rt; kept.timeline.len(), 4);
     assert!(rt; matches!(&kept.ended, Ended::Whole));
     let mut whole: Whole<u64> = Whole::new(rt.alloc(), limits);
     assert_eq!(rt; whole.hole(7), Err(Halt::NoMemory));

@@ -10,7 +10,7 @@ use Rattle.xs_declared.specs.Tables.{number_in}
 use Rattle.xs_declared.specs.Modes.{HaveModes, modes_in}
 use Rattle.xs_compile.specs.steps.Rows.{is_body_row, part_row}
 use Rattle.xs_scopes.specs.Setting.{setting_of}
-use Rattle.xs_compile.specs.steps.Tables.{HasLocals}
+use Rattle.xs_compile.specs.steps.Tables.{HasLocals, scopes_in, scopes_of}
 use Rattle.xs_declared.specs.Places.{IsIn}
 use Rattle.xs_elements.specs.Reading.{is_seen}
 use Rattle.xs_elements.specs.Rows.{is_top_level}
@@ -36,6 +36,7 @@ pub record IsState (c : Compiler) : Type 0 where
   pub templates : (uri local : List ℕ) → number_in c.templates uri local ≡ template_number (modules_of c) (uri, local)
   pub modes : HaveModes (modules_of c) c.modes
   pub settings : map (λ table. table.items) c.settings.items ≡ map (λ d. map (setting_of d.records) (places d.records)) (modules_of c)
+  pub scopes : map scopes_in c.scopes.items ≡ map (λ d. scopes_of d.records) (modules_of c)
   pub locals : AllZip HasLocals (modules_of c) c.locals.items
 
 -- what stands at a place that is looked at can be compiled

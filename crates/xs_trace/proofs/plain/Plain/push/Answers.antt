@@ -1,4 +1,4 @@
-use Rattle.std.proofs.Common.{reverse}
+use Rattle.std.proofs.Common.{reverse, rules}
 use Rattle.xs_trace.proofs.BriefLemmas.{plain_pushed}
 use Rattle.xs_trace.proofs.plain.Plain.push.Goals as goal
 
@@ -7,4 +7,5 @@ returns g c =
     record {
       told = plain_pushed c.self.inside.items.items _ (reverse c.self.inside.captures.items) c.self.inside.at c.args.item c.args.self.now c.self.view_is
           c.in_ok-push.ensures.items;
+      refused = search rules;
     }
