@@ -7,7 +7,7 @@ ghost use Rattle.xs_body.specs.Tasks.{Task};
 ghost use Rattle.xs_body.specs.Trace.{root_task, task_trace};
 ghost use Rattle.xs_body.specs.steps.Frames.{begun_with, stack_of};
 ghost use Rattle.xs_trace.specs.Cut.{cut};
-ghost use Rattle.xs_trace.specs.Kept.{Sums};
+ghost use Rattle.xs_trace.specs.Kept.{Keeps};
 ghost use Rattle.xs_trace.specs.Play.{IsStep, play};
 
 use crate::focus::Focus;
@@ -23,10 +23,9 @@ use std::alloc::{AllocError, Global};
 use std::marker::Model;
 use xs_rules::index::RuleIndex;
 use xs_sheet::sheet::Sheet;
-use xs_trace::brief::Brief;
 use xs_trace::item::{Limits, Site};
 use xs_trace::recorder::{Halt, Recorder};
-use xs_trace::whole::Kept;
+use xs_trace::whole::{Kept, Whole};
 use xs_tree::{Node, Tree};
 use xs_value::keys::KeyFinder;
 use xs_value::value::Value;
@@ -108,8 +107,8 @@ impl<'a, K: KeyFinder> SheetRunner<'a, K> {
         })
     }
 
-    /// What a task comes to, cut at the limits: its events and messages, its end, the number of its
-    /// ticks.
+    /// All that a task does, cut at the limits: its events and messages, its ticks among them, its
+    /// end, and the number of its ticks.
     pub fn run_whole(
         &self,
         alloc: Global,
@@ -120,12 +119,12 @@ impl<'a, K: KeyFinder> SheetRunner<'a, K> {
         requires whole { self.now.grain ≡ None }
         requires settled { All IsSome self.now.globals }
         requires task { IsTaskIn self.now.tree task.now }
-        ensures sums { IfOk result (λ kept.
-            Sums (cut (task_trace self.now task.now) limits.ticks limits.events) kept) }
+        ensures cut { IfOk result (λ kept.
+            Keeps (cut (task_trace self.now task.now) limits.ticks limits.events) kept) }
     {
-        let mut brief: Brief<Task<'a>> = Brief::new(alloc, limits);
-        let told = tell_task(alloc, &self.world, task, &mut brief);
-        brief.keep(told)
+        let mut whole: Whole<Task<'a>> = Whole::new(alloc, limits);
+        let told = tell_task(alloc, &self.world, task, &mut whole);
+        whole.keep(told)
     }
 }
 

@@ -17,8 +17,9 @@ use Rattle.xs_rules.specs.declared.index.RuleIndex.{RuleIndex}
 use Rattle.xs_sheet.specs.declared.declarations.StripRule.{StripRule}
 use Rattle.xs_sheet.specs.declared.sheet.Sheet.{Sheet}
 use Rattle.xs_trace.proofs.CutLemmas.{cut-longest}
-use Rattle.xs_trace.specs.Cut.{cut, nowhere}
-use Rattle.xs_trace.specs.Kept.{Sums, ended_by, marks_of}
+use Rattle.xs_trace.proofs.KeptLemmas.{untimed-events, untimed-messages}
+use Rattle.xs_trace.specs.Cut.{Cut, cut, nowhere}
+use Rattle.xs_trace.specs.Kept.{Keeps, ended_by, marks_of}
 use Rattle.xs_trace.specs.Mark.{Trace, events_of, messages_of, tick_count}
 use Rattle.xs_trace.specs.declared.item.Ended.{Ended}
 use Rattle.xs_trace.specs.declared.item.Ended.TheVariants as ended
@@ -28,8 +29,15 @@ use Rattle.xs_tree.specs.Record.{Record}
 use Rattle.xs_tree.specs.Stripping.{without}
 
 -- a run that is kept takes no more ticks than its limit
-pub kept_within : {H : Type 0} (x : Trace H) (b : ℕ) (m : Option ℕ) (k : Kept) → Sums (cut x b m) k → k.ticks ≤ b
-kept_within x b m k sums = let l = cut-longest x nowhere b m in omega (arith, sums.ticks, l.within)
+pub kept_within : {H : Type 0} (x : Trace H) (b : ℕ) (m : Option ℕ) (k : Kept) → Keeps (cut x b m) k → k.ticks ≤ b
+kept_within x b m k keeps = let l = cut-longest x nowhere b m in omega (arith, keeps.ticks, l.within)
+
+-- the events and messages of the items are those of all that passed
+events-kept : {H : Type 0} (c : Cut H) (k : Kept) → Keeps c k → events_of {H = H} (marks_of k.items.items) ≡ events_of c.passed
+events-kept c k keeps = ap events_of keeps.items ∙ untimed-events c.passed
+
+messages-kept : {H : Type 0} (c : Cut H) (k : Kept) → Keeps c k → messages_of {H = H} (marks_of k.items.items) ≡ messages_of c.passed
+messages-kept c k keeps = ap messages_of keeps.items ∙ untimed-messages c.passed
 
 -- a source that is stripped, by the rules of the stylesheet
 pub from_stripped : {E : Type 0} (r : Result Reply E) (job : Job) (sheet : Sheet) (rules : List StripRule) (source tree : List Record)
@@ -44,12 +52,12 @@ pub over_index : {E : Type 0} (r : Result Reply E) (job : Job) (sheet : Sheet) (
 over_index (Err e) job sheet index tree is = tt
 over_index (Ok reply) job sheet index tree is = (index, is)
 
--- what the runner kept of the root's task is what the cut of the root's trace comes to
+-- what the runner kept of the root's task is the cut of the root's trace
 pub root_kept : (job : Job) (w : World) (z : Settled) (runner : World) (task : Task) (k : Kept) → runner ≡ with_globals w z.values.items
-    → task ≡ root_task runner → Sums (cut (task_trace runner task) (job.budget - z.ticks) job.most_events) k → Sums (root_cut job w (told_in z)) k
-root_kept job w z runner task k same is sums =
-    subst (λ r. Sums (cut (task_trace r (root_task r)) (job.budget - z.ticks) job.most_events) k) same
-    (subst (λ t. Sums (cut (task_trace runner t) (job.budget - z.ticks) job.most_events) k) is sums)
+    → task ≡ root_task runner → Keeps (cut (task_trace runner task) (job.budget - z.ticks) job.most_events) k → Keeps (root_cut job w (told_in z)) k
+root_kept job w z runner task k same is keeps =
+    subst (λ r. Keeps (cut (task_trace r (root_task r)) (job.budget - z.ticks) job.most_events) k) same
+    (subst (λ t. Keeps (cut (task_trace runner t) (job.budget - z.ticks) job.most_events) k) is keeps)
 
 module _ (job : Job) (w : World) (z : Settled) (settles : SettlesAll w job.given job.budget (settled_of z)) where
   -- the run ended in a global
@@ -61,13 +69,13 @@ module _ (job : Job) (w : World) (z : Settled) (settles : SettlesAll w job.given
       in_globals {t = told_in z} {s = s} (subst (λ e. SettlesAll w job.given job.budget (settled_by e (told_in z))) is settles)
       (same ∙ ap (λ says. stopped_answer w.sheet.modules.items s says z.ticks) (append-nil z.says.items))
 
-  module _ (k : Kept) (none : z.end ≡ None) (sums : Sums (root_cut job w (told_in z)) k) where
+  module _ (k : Kept) (none : z.end ≡ None) (keeps : Keeps (root_cut job w (told_in z)) k) where
     from_root : (a : Answer) → IsCutAnswer w.sheet.modules.items (told_in z) (root_cut job w (told_in z)) a → IsEvaluated job w a
     from_root a is = in_root {t = told_in z} (subst (λ e. SettlesAll w job.given job.budget (settled_by e (told_in z))) none settles) is
 
     -- the cut of the root's trace ended as the run that was kept
     pub ends_as : (e : Ended) → k.ended ≡ e → ended_by (root_cut job w (told_in z)).end ≡ Some e
-    ends_as e is = sums.ended ∙ ap (λ x. Some x) is
+    ends_as e is = keeps.ended ∙ ap (λ x. Some x) is
 
     -- the root came to its end
     pub whole_in_root : {E : Type 0} (r : Result Reply E) → k.ended ≡ ended.Whole
@@ -78,9 +86,9 @@ module _ (job : Job) (w : World) (z : Settled) (settles : SettlesAll w job.given
     whole_in_root (Ok reply) is same =
         let c = root_cut job w (told_in z) in
         let all : reply_of reply ≡ whole_answer (z.says.items ++ messages_of c.passed) (events_of c.passed) (z.ticks + tick_count c.passed) =
-        same ∙ ap (λ ms. whole_answer (z.says.items ++ ms) (events_of {H = Task} (marks_of k.items.items)) (z.ticks + k.ticks)) sums.messages
-        ∙ ap (λ es. whole_answer (z.says.items ++ messages_of c.passed) es (z.ticks + k.ticks)) sums.events
-        ∙ ap (λ n. whole_answer (z.says.items ++ messages_of c.passed) (events_of c.passed) (z.ticks + n)) sums.ticks in
+        same ∙ ap (λ ms. whole_answer (z.says.items ++ ms) (events_of {H = Task} (marks_of k.items.items)) (z.ticks + k.ticks)) (messages-kept c k keeps)
+        ∙ ap (λ es. whole_answer (z.says.items ++ messages_of c.passed) es (z.ticks + k.ticks)) (events-kept c k keeps)
+        ∙ ap (λ n. whole_answer (z.says.items ++ messages_of c.passed) (events_of c.passed) (z.ticks + n)) keeps.ticks in
         from_root (reply_of reply) (subst (IsCutAnswer w.sheet.modules.items (told_in z) c) (sym all)
         (reported w.sheet.modules.items c.passed (z.says.items ++ messages_of c.passed) (z.ticks + tick_count c.passed) c.end ended.Whole
         (ends_as ended.Whole is)))
@@ -99,8 +107,8 @@ module _ (job : Job) (w : World) (z : Settled) (settles : SettlesAll w job.given
         let c = root_cut job w (told_in z) in
         let names = w.sheet.modules.items in
         let all : reply_of reply ≡ stopped_answer names s (z.says.items ++ messages_of c.passed) (z.ticks + tick_count c.passed) =
-        same ∙ ap (λ ms. stopped_answer names s (z.says.items ++ ms) (z.ticks + k.ticks)) sums.messages
-        ∙ ap (λ n. stopped_answer names s (z.says.items ++ messages_of c.passed) (z.ticks + n)) sums.ticks in
+        same ∙ ap (λ ms. stopped_answer names s (z.says.items ++ ms) (z.ticks + k.ticks)) (messages-kept c k keeps)
+        ∙ ap (λ n. stopped_answer names s (z.says.items ++ messages_of c.passed) (z.ticks + n)) keeps.ticks in
         from_root (reply_of reply) (subst (IsCutAnswer names (told_in z) c) (sym all) is)
 
     pub fault_in_root : {E : Type 0} (r : Result Reply E) (s : Spot) → k.ended ≡ ended.Fault s

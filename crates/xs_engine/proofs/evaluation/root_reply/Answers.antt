@@ -6,7 +6,7 @@ use Rattle.xs_engine.proofs.EvaluationLemmas.{fault_in_root, full_in_root, kept_
 use Rattle.xs_engine.proofs.evaluation.root_reply.Goals as goal
 
 pub overflow_add-ticks : goal.overflow_add-ticks
-overflow_add-ticks c = let few = kept_within _ _ _ _ c.in_ok-kept.ensures.sums in omega arith
+overflow_add-ticks c = let few = kept_within _ _ _ _ c.in_ok-kept.ensures.cut in omega arith
 
 pub returns-in-Whole-clause-answer : goal.returns-in-Whole-clause-answer
 returns-in-Whole-clause-answer c =
@@ -15,7 +15,7 @@ returns-in-Whole-clause-answer c =
     (root_kept (job_data c.args.job.now) (ground c.args.sheet.now c.args.index.now c.args.tree.now []) c.args.settled.now
     c.new-runner.result c.in_ok-task.task c.in_ok-kept.kept
     (c.new-runner.ensures ∙ ap (with_globals (ground c.args.sheet.now c.args.index.now c.args.tree.now [])) c.deref.ensures.value)
-    c.in_ok-task.ensures.task c.in_ok-kept.ensures.sums)
+    c.in_ok-task.ensures.task c.in_ok-kept.ensures.cut)
     c.whole_reply.result c.in-Whole.is
     (rw (c.deref-in-Whole.ensures.value, c.deref-in-Whole-2.ensures.value) at c.whole_reply.ensures)
 
@@ -26,7 +26,7 @@ returns-in-Fault-clause-answer c =
     (root_kept (job_data c.args.job.now) (ground c.args.sheet.now c.args.index.now c.args.tree.now []) c.args.settled.now
     c.new-runner.result c.in_ok-task.task c.in_ok-kept.kept
     (c.new-runner.ensures ∙ ap (with_globals (ground c.args.sheet.now c.args.index.now c.args.tree.now [])) c.deref.ensures.value)
-    c.in_ok-task.ensures.task c.in_ok-kept.ensures.sums)
+    c.in_ok-task.ensures.task c.in_ok-kept.ensures.cut)
     c.stopped_reply.result c.in-Fault.spot c.in-Fault.is
     (rw (c.deref-in-Fault.ensures.value, c.deref-in-Fault-2.ensures.value) at c.stopped_reply.ensures)
 
@@ -37,7 +37,7 @@ returns-in-Spent-clause-answer c =
     (root_kept (job_data c.args.job.now) (ground c.args.sheet.now c.args.index.now c.args.tree.now []) c.args.settled.now
     c.new-runner.result c.in_ok-task.task c.in_ok-kept.kept
     (c.new-runner.ensures ∙ ap (with_globals (ground c.args.sheet.now c.args.index.now c.args.tree.now [])) c.deref.ensures.value)
-    c.in_ok-task.ensures.task c.in_ok-kept.ensures.sums)
+    c.in_ok-task.ensures.task c.in_ok-kept.ensures.cut)
     c.stopped_reply-in-Spent.result c.in-Spent.spot c.in-Spent.is
     (rw (c.deref-in-Spent.ensures.value, c.deref-in-Spent-2.ensures.value) at c.stopped_reply-in-Spent.ensures)
 
@@ -48,6 +48,6 @@ returns-in-Full-clause-answer c =
     (root_kept (job_data c.args.job.now) (ground c.args.sheet.now c.args.index.now c.args.tree.now []) c.args.settled.now
     c.new-runner.result c.in_ok-task.task c.in_ok-kept.kept
     (c.new-runner.ensures ∙ ap (with_globals (ground c.args.sheet.now c.args.index.now c.args.tree.now [])) c.deref.ensures.value)
-    c.in_ok-task.ensures.task c.in_ok-kept.ensures.sums)
+    c.in_ok-task.ensures.task c.in_ok-kept.ensures.cut)
     c.stopped_reply-in-Full.result c.in-Full.spot c.in-Full.is
     (rw (c.deref-in-Full.ensures.value, c.deref-in-Full-2.ensures.value) at c.stopped_reply-in-Full.ensures)

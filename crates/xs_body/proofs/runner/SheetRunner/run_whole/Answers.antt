@@ -2,7 +2,7 @@ use Rattle.std.proofs.Common.{◌≡◌, IfOk, None, false, true, ap, refl, rule
 use Rattle.std.specs.List.{All}
 use Rattle.std.specs.Option.{IsSome}
 use Rattle.xs_trace.specs.Cut.{cut}
-use Rattle.xs_trace.specs.Kept.{Sums}
+use Rattle.xs_trace.specs.Kept.{Keeps}
 use Rattle.xs_trace.proofs.KeptLemmas.{need-comes-from-need}
 use Rattle.xs_body.specs.Inside.{IsTaskIn, IsWorld}
 use Rattle.xs_body.specs.Tasks.{Task}
@@ -43,7 +43,7 @@ pub returns : goal.returns
 returns g c =
     let v : c.self.inside.world ≡ c.args.self.now = c.self.view_is in
     record {
-      sums = subst (λ (x : World). IfOk c.keep.result (λ k. Sums (cut (task_trace x c.args.task.now) c.args.limits.ticks c.args.limits.events) k)) v
+      cut = subst (λ (x : World). IfOk c.keep.result (λ k. Keeps (cut (task_trace x c.args.task.now) c.args.limits.ticks c.args.limits.events) k)) v
           (whole-is c.keep.result (task_trace c.self.inside.world c.args.task.now) c.args.limits _ c.tell_task-told.result _ _ (λ k. k)
-          (c.tell_task-told.ensures.kept ∙ c.new-brief.ensures.limits) c.new-brief.ensures.begins c.tell_task-told.ensures.told c.keep.ensures.sums);
+          (c.tell_task-told.ensures.kept ∙ c.new-whole.ensures.limits) c.new-whole.ensures.begins c.tell_task-told.ensures.told c.keep.ensures.cut);
     }
