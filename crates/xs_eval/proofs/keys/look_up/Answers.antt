@@ -17,7 +17,7 @@ returns-in_err-tick_several-in-Ok-clause-told g c =
     let texts = sought ctx (second c.args.values.now) in
     let s = g.T.Tally.state c.args.tally.now in
     let ns = c.nodes.result.now in
-    let same : found ctx t texts ≡ ns = sym (c.nodes.ensures.nodes ∙ c.in-Ok.ensures.found.1) in
+    let same : found ctx t texts ≡ ns = sym {b = found ctx t texts} (c.nodes.ensures.nodes ∙ c.in-Ok.ensures.found.1) in
     exits_at_costs (λ v. v) c.args.site (length ns) (give (Nodes ns)) _ s (g.T.Tally.state c.tick_several.new.tally) c.from_residual.result _ _
     (ap (λ f. limited c.args.site (from_table ctx t f texts) s) c.in-Ok.ensures.found.0
     ∙ ap (λ l. limited c.args.site (costs (length l) (give (Nodes l))) s) same) p.1 p.2 c.in_err-tick_several-in-Ok.ensures.told
