@@ -2,7 +2,7 @@
 
 ghost use Rattle.std.specs.Prelude.{◌≡◌, ◌<◌, ◌≤◌, IfOk, length};
 ghost use Rattle.std.specs.List.{All};
-ghost use Rattle.xs_trace.specs.Play.{IsStep, IsStepBy};
+ghost use Rattle.xs_trace.specs.Play.{IsStep};
 ghost use Rattle.xs_trace.specs.Run.{limited};
 ghost use Rattle.xs_value.specs.Conversion.{IsIn};
 ghost use Rattle.xs_eval.specs.Conditions.{IsContext};
@@ -25,6 +25,7 @@ use xs_trace::item::Site;
 use xs_trace::recorder::{Halt, Tally, tick_several};
 use xs_tree::{Axis, Node};
 use xs_value::keys::KeyFinder;
+use xs_value::node_list::NodeList;
 use xs_value::node_set::NodeSet;
 use xs_value::value::Value;
 use xs_xpath::expr::Expr;
@@ -294,7 +295,7 @@ fn evaluate_filter<K: KeyFinder, T: Tally>(
     ensures inside { IfOk result (IsIn context.now.tree) }
 {
     let set = evaluate_nodes(alloc, inner, context, keys, site, tally)?;
-    let nodes = Vec::from_slice(alloc, set.nodes())?;
+    let nodes = NodeList::from_slice(alloc, set.nodes())?;
     keep(alloc, predicates, nodes, context, keys, site, tally)
 }
 
@@ -303,25 +304,33 @@ fn evaluate_filter<K: KeyFinder, T: Tally>(
 fn keep<K: KeyFinder, T: Tally>(
     alloc: Global,
     predicates: &[Expr],
-    nodes: Vec<Node>,
+    nodes: NodeList,
     context: &Context<'_>,
     keys: &K,
     site: Site,
     tally: &mut T,
 ) -> Result<Value, Halt>
     requires context { IsContext (K.tables keys.now) context.now }
-    requires some { AreSome context.now.tree nodes.items }
+    requires some { AreSome context.now.tree nodes }
     ensures told { IsStep (limited site
-        (kept_of context.now (runs_of (K.tables keys.now) predicates.now) nodes.items)
+        (kept_of context.now (runs_of (K.tables keys.now) predicates.now) nodes)
         (T.state tally.old)) result (T.state tally.new) }
     ensures kept { T.kept tally.new ≡ T.kept tally.old }
     ensures inside { IfOk result (IsIn context.now.tree) }
 {
     let mut nodes = nodes;
     for predicate in predicates {
-        nodes = filter(alloc, predicate, &nodes, context, keys, site, tally)?;
+        nodes = filter(
+            alloc,
+            predicate,
+            nodes.as_slice(),
+            context,
+            keys,
+            site,
+            tally,
+        )?;
     }
-    Ok(Value::Nodes(NodeSet::in_order(nodes)?))
+    Ok(Value::Nodes(NodeSet::of_list(nodes)?))
 }
 
 // The nodes that a predicate keeps, their positions from 1 on (XPath 1.0, 2.4).
@@ -334,17 +343,17 @@ fn filter<K: KeyFinder, T: Tally>(
     keys: &K,
     site: Site,
     tally: &mut T,
-) -> Result<Vec<Node>, Halt>
+) -> Result<NodeList, Halt>
     requires context { IsContext (K.tables keys.now) context.now }
     requires some { AreSome context.now.tree nodes.now }
-    ensures told { IsStepBy (λ ns. ns.items) (limited site
+    ensures told { IsStep (limited site
         (filtered context.now nodes.now (run_of (K.tables keys.now) predicate.now))
         (T.state tally.old)) result (T.state tally.new) }
     ensures kept { T.kept tally.new ≡ T.kept tally.old }
-    ensures some { IfOk result (λ ns. AreSome context.now.tree ns.items) }
+    ensures some { IfOk result (AreSome context.now.tree) }
 {
     let size = count_of(context.tree, nodes);
-    let mut kept = Vec::new(alloc);
+    let mut kept = NodeList::new(alloc);
     let mut position = 0;
     for node in nodes {
         position += 1;
@@ -400,13 +409,13 @@ fn follow<K: KeyFinder, T: Tally>(
     ensures kept { T.kept tally.new ≡ T.kept tally.old }
     ensures inside { IfOk result (λ ns. All (λ k. k < length context.now.tree) ns) }
 {
-    let mut found = Vec::new(alloc);
+    let mut found = NodeList::new(alloc);
     for node in nodes {
         let around = context.at_node(*node, context.position, context.size);
         let set = evaluate_nodes(alloc, step, &around, keys, site, tally)?;
         found.extend_from_slice(set.nodes())?;
     }
-    Ok(NodeSet::in_order(found)?)
+    Ok(NodeSet::of_list(found)?)
 }
 
 // The nodes that an expression gives, which has to be a node-set (XPath 1.0, 3.3).

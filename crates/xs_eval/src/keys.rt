@@ -24,6 +24,7 @@ use xs_trace::recorder::{Halt, Tally, tick_several};
 use xs_tree::{Node, Tree};
 use xs_value::conversion::{lend_text, node_text};
 use xs_value::keys::{KeyEnd, KeyFinder};
+use xs_value::node_list::NodeList;
 use xs_value::node_set::NodeSet;
 use xs_value::value::Value;
 use xs_xpath::scope::Scope;
@@ -130,8 +131,16 @@ fn found_for_text<K: KeyFinder>(
     ensures inside { IfOk result (λ ns. All (λ k. k < length context.now.tree) ns) }
 {
     let document = Document::of(context.tree, context.node);
-    let nodes = add_found(alloc, context, &document, keys, key, text, Vec::new(alloc))?;
-    Ok(NodeSet::in_order(nodes)?)
+    let nodes = add_found(
+        alloc,
+        context,
+        &document,
+        keys,
+        key,
+        text,
+        NodeList::new(alloc),
+    )?;
+    Ok(NodeSet::of_list(nodes)?)
 }
 
 // The nodes that a key gives for the string-values of some nodes. Without a node the table may have
@@ -151,12 +160,12 @@ fn found_for_nodes<K: KeyFinder>(
 {
     let _found = keys.find(alloc, key, "")?;
     let document = Document::of(context.tree, context.node);
-    let mut nodes = Vec::new(alloc);
+    let mut nodes = NodeList::new(alloc);
     for node in sought {
         let text = node_text(alloc, context.tree, *node)?;
         nodes = add_found(alloc, context, &document, keys, key, text.as_str(), nodes)?;
     }
-    Ok(NodeSet::in_order(nodes)?)
+    Ok(NodeSet::of_list(nodes)?)
 }
 
 // The nodes that a key gives for a text, of those that are in a document, behind others.
@@ -167,23 +176,22 @@ fn add_found<K: KeyFinder>(
     keys: &K,
     key: u32,
     text: &str,
-    nodes: Vec<Node>,
-) -> Result<Vec<Node>, KeyEnd>
+    before: NodeList,
+) -> Result<NodeList, KeyEnd>
     requires context { IsContext (K.tables keys.now) context.now }
     requires document { IsDocumentOf context.now.tree context.now.node document.now }
-    requires inside { All (λ k. k < length context.now.tree) nodes.items }
-    ensures found { AddsNodes context.now (table_at (K.tables keys.now) key) text.now
-        nodes.items (λ ns. ns.items) result }
-    ensures inside { IfOk result (λ ns. All (λ k. k < length context.now.tree) ns.items) }
+    requires inside { All (λ k. k < length context.now.tree) before }
+    ensures found { AddsNodes context.now (table_at (K.tables keys.now) key) text.now before
+        result }
+    ensures inside { IfOk result (λ ns. All (λ k. k < length context.now.tree) ns) }
 {
     let found = keys.find(alloc, key, text)?;
-    Ok(add_held(document, found.nodes(), nodes)?)
+    Ok(add_held(document, found.nodes(), before)?)
 }
 
 // Those nodes that are in a document, behind others.
-fn add_held(document: &Document, found: &[Node], nodes: Vec<Node>) -> Result<Vec<Node>, AllocError>
-    ensures nodes { IfOk result (λ ns. ns.items
-        ≡ nodes.items ++ filter (holds document.now) found.now) }
+fn add_held(document: &Document, found: &[Node], nodes: NodeList) -> Result<NodeList, AllocError>
+    ensures nodes { IfOk result (λ ns. ns ≡ nodes ++ filter (holds document.now) found.now) }
 {
     let mut nodes = nodes;
     for node in found {

@@ -9,6 +9,7 @@ use crate::context::Context;
 use std::alloc::{AllocError, Global};
 use xs_axes::axis_nodes;
 use xs_tree::{Axis, Kind, Node, Tree};
+use xs_value::node_list::NodeList;
 use xs_xpath::name::NodeTest;
 
 /// The nodes of an axis from the context node that pass a test, in the order of the axis.
@@ -17,12 +18,12 @@ pub(crate) fn tested(
     axis: Axis,
     test: &NodeTest,
     context: &Context<'_>,
-) -> Result<Vec<Node>, AllocError>
+) -> Result<NodeList, AllocError>
     requires { context.now.node < length context.now.tree }
-    ensures nodes { IfOk result (λ ns. ns.items ≡ tested axis test.now context.now) }
-    ensures some { IfOk result (λ ns. AreSome context.now.tree ns.items) }
+    ensures nodes { IfOk result (λ ns. ns ≡ tested axis test.now context.now) }
+    ensures some { IfOk result (AreSome context.now.tree) }
 {
-    let mut found = Vec::new(alloc);
+    let mut found = NodeList::new(alloc);
     for node in axis_nodes(context.tree, context.node, axis) {
         push_if(passes(context.tree, axis, test, node), node, &mut found)?;
     }
@@ -30,9 +31,9 @@ pub(crate) fn tested(
 }
 
 // Adds a node where it passes.
-fn push_if(is_passing: bool, node: Node, found: &mut Vec<Node>) -> Result<(), AllocError>
-    ensures found { OnOk result (found.new.items
-        ≡ (if is_passing then found.old.items ++ node ∷ [] else found.old.items)) }
+fn push_if(is_passing: bool, node: Node, found: &mut NodeList) -> Result<(), AllocError>
+    ensures found { OnOk result (found.new
+        ≡ (if is_passing then found.old ++ node ∷ [] else found.old)) }
 {
     if is_passing {
         found.push(node)?;

@@ -7,6 +7,7 @@ use std::alloc::AllocError;
 use xs_num::number::{Num, Number};
 use xs_tree::{Node, Tree};
 use xs_value::conversion::to_bool;
+use xs_value::node_list::NodeList;
 use xs_value::value::Value;
 
 /// Whether a value selects a node at a position: a number selects the one position that is equal to
@@ -34,8 +35,8 @@ fn is_position(number: Num, position: u32) -> bool
 }
 
 /// The nodes, with one more where it is kept.
-pub(crate) fn kept_if(is_kept: bool, nodes: Vec<Node>, node: Node) -> Result<Vec<Node>, AllocError>
-    ensures nodes { IfOk result (λ ns. ns.items ≡ kept_if is_kept nodes.items node) }
+pub(crate) fn kept_if(is_kept: bool, nodes: NodeList, node: Node) -> Result<NodeList, AllocError>
+    ensures nodes { IfOk result (λ ns. ns ≡ kept_if is_kept nodes node) }
 {
     let mut nodes = nodes;
     if is_kept {

@@ -4,6 +4,7 @@
 pub mod comparison;
 pub mod conversion;
 pub mod keys;
+pub mod node_list;
 pub mod node_set;
 pub mod shared;
 pub mod value;

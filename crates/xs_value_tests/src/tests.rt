@@ -9,6 +9,7 @@ use xs_tree::{Kind, Name, NameText, Node, Tree};
 use xs_value::comparison::{CompareOp, compare_values};
 use xs_value::conversion::{is_in, text_into, to_bool, to_number, to_text};
 use xs_value::keys::{KeyFinder, NoKeys};
+use xs_value::node_list::NodeList;
 use xs_value::node_set::NodeSet;
 use xs_value::shared::SharedFragment;
 use xs_value::value::{Value, ValueFault};
@@ -349,6 +350,32 @@ fn joins_node_sets(rt: HostRuntime) -> Result<(), Fail> {
     let both = odd.union(rt.alloc(), &low)?;
     let places = [Node::at(1), Node::at(2), Node::at(5)];
     assert_eq!(rt; both.nodes(), places.as_slice());
+    Ok(())
+}
+
+#[test]
+fn gathers_nodes(rt: HostRuntime) -> Result<(), Fail> {
+    let mut list = NodeList::from_slice(rt.alloc(), &[Node::at(5)])?;
+    list.push(Node::at(1))?;
+    list.extend_from_slice(&[Node::at(5), Node::at(2)])?;
+    assert_eq!(rt; list.len(), 4);
+    assert_eq!(rt; list.as_slice()[1], Node::at(1));
+    let set = NodeSet::of_list(list)?;
+    let places = [Node::at(1), Node::at(2), Node::at(5)];
+    assert_eq!(rt; set.nodes(), places.as_slice());
+    Ok(())
+}
+
+#[test]
+fn holds_up_to_one_node(rt: HostRuntime) -> Result<(), Fail> {
+    let mut list = NodeList::new(rt.alloc());
+    list.push(Node::at(3))?;
+    let set = NodeSet::of_list(list)?.copy()?;
+    let single = NodeSet::single(rt.alloc(), Node::at(3))?;
+    assert_eq!(rt; set.nodes(), single.nodes());
+    let none = NodeSet::of_list(NodeList::new(rt.alloc()))?;
+    let empty = NodeSet::empty(rt.alloc())?;
+    assert_eq!(rt; none.nodes(), empty.nodes());
     Ok(())
 }
 

@@ -28,6 +28,6 @@ FindsNodes c t texts (Ok ns) = (t.fault ≡ None) × (ns ≡ found c t texts)
 FindsNodes c t texts (Err e) = HasFault t e
 
 -- for a text, behind others
-abbrev pub AddsNodes : {B : Type 0} → Context → Table → List ℕ → List ℕ → (B → List ℕ) → Result B KeyEnd → Type 0
-AddsNodes c t text before view (Ok ns) = (t.fault ≡ None) × (view ns ≡ before ++ found_for c t text)
-AddsNodes c t text before view (Err e) = HasFault t e
+abbrev pub AddsNodes : Context → Table → List ℕ → List ℕ → Result (List ℕ) KeyEnd → Type 0
+AddsNodes c t text before (Ok ns) = (t.fault ≡ None) × (ns ≡ before ++ found_for c t text)
+AddsNodes c t text before (Err e) = HasFault t e

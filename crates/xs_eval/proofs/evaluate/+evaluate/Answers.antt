@@ -1,6 +1,5 @@
 use Rattle.std.proofs.Common.{ℕ, ◌<◌, ◌≤◌, List, get_or, ◌≡◌, ◌∙◌, ◌+◌, ◌++◌, ◌∷◌, [], ap, arith, drop, length, map, refl, sym, subst}
-use Rattle.std.proofs.Common.{All, Global, Vec, rules}
-use Rattle.xs_tree.specs.declared.nodes.Node.{Node}
+use Rattle.std.proofs.Common.{All, rules}
 use Rattle.std.proofs.lemmas.List.Elements.{All-append, All-get_or, All-push}
 use Rattle.std.proofs.lemmas.Result.{err_from_is_err_and}
 use Rattle.std.specs.List.{enumerate_from}
@@ -257,7 +256,7 @@ pub evaluate_step-returns-in_err-tick_several-clause-told : goal.evaluate_step-r
 evaluate_step-returns-in_err-tick_several-clause-told g t c =
     let p = err_from_is_err_and c.from_residual-in_err-tick_several.result c.from_residual-in_err-tick_several.ensures.1 in
     let ms = runs_of (g.K.KeyFinder.tables c.args.keys.now) c.args.predicates.now in
-    let ns = c.in_ok-nodes.nodes.items in
+    let ns = c.in_ok-nodes.nodes in
     let s = g.T.Tally.state c.args.tally.now in
     let n : c.len.result ≡ length ns = omega arith in
     exits_at_costs (λ v. v) c.args.site c.len.result (kept_of c.args.context.now ms ns) _ s (g.T.Tally.state c.tick_several.new.tally)
@@ -268,7 +267,7 @@ evaluate_step-returns-in_err-tick_several-clause-told g t c =
 pub evaluate_step-returns-clause-told : goal.evaluate_step-returns-clause-told
 evaluate_step-returns-clause-told g t c =
     let ms = runs_of (g.K.KeyFinder.tables c.args.keys.now) c.args.predicates.now in
-    let ns = c.in_ok-nodes.nodes.items in
+    let ns = c.in_ok-nodes.nodes in
     let s = g.T.Tally.state c.args.tally.now in
     let n : c.len.result ≡ length ns = omega arith in
     continues (λ v. v) _ _ _ _
@@ -289,7 +288,7 @@ evaluate_filter-returns-in_err-set-clause-told g t c =
 pub evaluate_filter-keep-requires-clause-some : goal.evaluate_filter-keep-requires-clause-some
 evaluate_filter-keep-requires-clause-some g t c =
     λ κs lives.
-    subst (AreSome c.args.context.now.tree) (sym (c.in_ok-nodes.ensures.items ∙ c.nodes.ensures.nodes))
+    subst (AreSome c.args.context.now.tree) (sym (c.in_ok-nodes.ensures.nodes ∙ c.nodes.ensures.nodes))
     (some_in_list c.args.context.now.tree c.in_ok-set.set c.nodes.ensures.list c.in_ok-set.ensures.inside)
 
 pub evaluate_filter-returns-clause-told : goal.evaluate_filter-returns-clause-told
@@ -300,7 +299,7 @@ evaluate_filter-returns-clause-told g t c =
     continues (λ v. v) _ _ _ _
     (goes_on c.args.site (selected (run_of keys c.args.inner.now) c.args.context.now) (λ ns. kept_of c.args.context.now ms ns) c.in_ok-set.set
     (g.T.Tally.state c.args.tally.now) s c.in_ok-set.ensures.told
-    ∙ ap (λ ns. limited c.args.site (kept_of c.args.context.now ms ns) s) (sym (c.in_ok-nodes.ensures.items ∙ c.nodes.ensures.nodes)))
+    ∙ ap (λ ns. limited c.args.site (kept_of c.args.context.now ms ns) s) (sym (c.in_ok-nodes.ensures.nodes ∙ c.nodes.ensures.nodes)))
     c.keep.ensures.told
 
 -- what predicates keep
@@ -312,12 +311,12 @@ keep-returns-in_err-nodes-clause-told g t c =
     let k = c.loop-predicate.predicate-index in
     let e = c.predicate-item.result in
     let s = g.T.Tally.state c.loop-predicate.tally in
-    exits_in_items (λ (ns : Vec Node Global). ns.items) (λ v. v) c.args.site (filtered c.args.context.now) (λ kept. give (Nodes (in_order kept)))
+    exits_in_items (λ ns. ns) (λ v. v) c.args.site (filtered c.args.context.now) (λ kept. give (Nodes (in_order kept)))
     (map (run_of keys) es) k
-    (run_of keys e) c.deref.result.now s (g.T.Tally.state c.filter.new.tally) _ c.from_residual.result _ _
+    (run_of keys e) c.as_slice.result.now s (g.T.Tally.state c.filter.new.tally) _ c.from_residual.result _ _
     (c.loop-predicate.invariant.told
     ∙ ap (λ ns. Rest c.args.site (filtered c.args.context.now) (λ kept. give (Nodes (in_order kept))) (map (run_of keys) es) k ns s) (sym
-    c.deref.ensures.value))
+    c.as_slice.ensures.nodes))
     (mapped_below (run_of keys) es k (omega arith)) (mapped_at (run_of keys) es k e (omega arith) c.predicate-item.is) p.1 p.2 c.in_err-nodes.ensures.told
 
 pub keep-loop-predicate-preserved : goal.keep-loop-predicate-preserved
@@ -330,10 +329,10 @@ keep-loop-predicate-preserved g t c =
     record {
       told =
           items_on c.args.site (filtered c.args.context.now) (λ kept. give (Nodes (in_order kept))) (map (run_of keys) es) k
-          (run_of keys e) c.deref.result.now c.in_ok-nodes.nodes.items s (g.T.Tally.state c.filter.new.tally) _
+          (run_of keys e) c.as_slice.result.now c.in_ok-nodes.nodes s (g.T.Tally.state c.filter.new.tally) _
           (c.loop-predicate.invariant.told
           ∙ ap (λ ns. Rest c.args.site (filtered c.args.context.now) (λ kept. give (Nodes (in_order kept))) (map (run_of keys) es) k ns s)
-          (sym c.deref.ensures.value))
+          (sym c.as_slice.ensures.nodes))
           (mapped_below (run_of keys) es k (omega arith)) (mapped_at (run_of keys) es k e (omega arith) c.predicate-item.is) c.in_ok-nodes.ensures.told;
       some = c.in_ok-nodes.ensures.some;
       kept = c.in_ok-nodes.ensures.kept ∙ c.loop-predicate.invariant.kept;
@@ -346,15 +345,15 @@ keep-returns-clause-told g t c =
     let k = c.loop-predicate.predicate-index in
     let s = g.T.Tally.state c.loop-predicate.tally in
     c.loop-predicate.invariant.told
-    ∙ items_done c.args.site (filtered c.args.context.now) (λ kept. give (Nodes (in_order kept))) (map (run_of keys) es) k c.loop-predicate.nodes.items s
+    ∙ items_done c.args.site (filtered c.args.context.now) (λ kept. give (Nodes (in_order kept))) (map (run_of keys) es) k c.loop-predicate.nodes s
     (mapped_end (run_of keys) es k (omega arith))
-    ∙ gives c.args.site (Nodes (in_order c.loop-predicate.nodes.items)) s
-    ∙ ap (λ ns. Goes (Nodes ns) s) (sym c.in_ok-in_order.ensures.nodes)
+    ∙ gives c.args.site (Nodes (in_order c.loop-predicate.nodes)) s
+    ∙ ap (λ ns. Goes (Nodes ns) s) (sym c.in_ok-of_list.ensures.nodes)
 
 pub keep-returns-clause-inside : goal.keep-returns-clause-inside
 keep-returns-clause-inside g t c =
-    subst (All (λ k. k < length c.args.context.now.tree)) (sym c.in_ok-in_order.ensures.nodes)
-    (in_order_all (λ k. k < length c.args.context.now.tree) c.loop-predicate.nodes.items c.loop-predicate.invariant.some.inside)
+    subst (All (λ k. k < length c.args.context.now.tree)) (sym c.in_ok-of_list.ensures.nodes)
+    (in_order_all (λ k. k < length c.args.context.now.tree) c.loop-predicate.nodes c.loop-predicate.invariant.some.inside)
 
 -- what one predicate keeps
 pub filter-returns-in_err-v-clause-told : goal.filter-returns-in_err-v-clause-told
@@ -366,13 +365,13 @@ filter-returns-in_err-v-clause-told g t c =
     let ns = c.args.nodes.now in
     let k = c.loop-node.node-index in
     let x = c.node-item.result in
-    let kept = c.loop-node.kept.items in
+    let kept = c.loop-node.kept in
     let around : c.at_node-around.result ≡ at_node ctx x (k + 1) (length ns) =
     c.at_node-around.ensures ∙ ap (λ j. at_node ctx x (j + 1) c.count_of-size.result) c.loop-node.invariant.place
     ∙ ap (λ j. at_node ctx x (k + 1) j) c.count_of-size.ensures in
     let here : judged ctx (length ns) m kept (k + 1, x) ≡ (m c.at_node-around.result >>= (λ v. give (kept_if (selects v (k + 1)) kept x))) =
     ap (λ a. m a >>= (λ v. give (kept_if (selects v (k + 1)) kept x))) (sym around) in
-    exits_in_parts (λ v. v) (λ l. l.items) c.args.site (judged ctx (length ns) m) (λ l. give l) (enumerate_from 1 ns) k (k + 1, x) kept
+    exits_in_parts (λ v. v) (λ l. l) c.args.site (judged ctx (length ns) m) (λ l. give l) (enumerate_from 1 ns) k (k + 1, x) kept
     (m c.at_node-around.result) (λ v. kept_if (selects v (k + 1)) kept x) (g.T.Tally.state c.loop-node.tally) (g.T.Tally.state c.evaluate.new.tally) _
     c.from_residual.result _ _ c.loop-node.invariant.told (placed_below ns k (omega arith)) (placed_at ns k x (omega arith) c.node-item.is) here
     p.1 p.2 c.in_err-v.ensures.told
@@ -385,7 +384,7 @@ filter-loop-node-preserved g t c =
     let ns = c.args.nodes.now in
     let k = c.loop-node.node-index in
     let x = c.node-item.result in
-    let kept = c.loop-node.kept.items in
+    let kept = c.loop-node.kept in
     let around : c.at_node-around.result ≡ at_node ctx x (k + 1) (length ns) =
     c.at_node-around.ensures ∙ ap (λ j. at_node ctx x (j + 1) c.count_of-size.result) c.loop-node.invariant.place
     ∙ ap (λ j. at_node ctx x (k + 1) j) c.count_of-size.ensures in
@@ -395,7 +394,7 @@ filter-loop-node-preserved g t c =
     record {
       told =
           parts_on c.args.site (judged ctx (length ns) m) (λ l. give l) (enumerate_from 1 ns) k (k + 1, x) kept
-          (m c.at_node-around.result) (λ v. kept_if (selects v (k + 1)) kept x) c.in_ok-v.v c.in_ok-kept.kept.items
+          (m c.at_node-around.result) (λ v. kept_if (selects v (k + 1)) kept x) c.in_ok-v.v c.in_ok-kept.kept
           (g.T.Tally.state c.loop-node.tally) (g.T.Tally.state c.evaluate.new.tally) _
           c.loop-node.invariant.told (placed_below ns k (omega arith)) (placed_at ns k x (omega arith) c.node-item.is) here c.in_ok-v.ensures.told
           (c.in_ok-kept.ensures.nodes ∙ ap (λ b. kept_if b kept x) (c.selects.ensures ∙ ap (λ j. selects c.in_ok-v.v (j + 1)) c.loop-node.invariant.place));
@@ -416,9 +415,9 @@ filter-returns-clause-told g t c =
     let k = c.loop-node.node-index in
     let s = g.T.Tally.state c.loop-node.tally in
     c.loop-node.invariant.told
-    ∙ items_done c.args.site (judged c.args.context.now (length ns) m) (λ l. give l) (enumerate_from 1 ns) k c.loop-node.kept.items s
+    ∙ items_done c.args.site (judged c.args.context.now (length ns) m) (λ l. give l) (enumerate_from 1 ns) k c.loop-node.kept s
     (placed_end ns k (omega arith))
-    ∙ gives c.args.site c.loop-node.kept.items s
+    ∙ gives c.args.site c.loop-node.kept s
 
 -- a path: where it begins
 pub evaluate_path-returns-in_err-nodes-clause-told : goal.evaluate_path-returns-in_err-nodes-clause-told
@@ -504,7 +503,7 @@ follow-returns-in_err-set-clause-told g t c =
     let ns = c.args.nodes.now in
     let k = c.loop-node.node-index in
     let x = c.node-item.result in
-    let found = c.loop-node.found.items in
+    let found = c.loop-node.found in
     let around : c.at_node-around.result ≡ at_node ctx x ctx.position ctx.size =
     c.at_node-around.ensures ∙ ap (λ (a : Context). at_node ctx x a.position a.size) c.context.view_is in
     let here : and_from ctx m found x ≡ (selected m c.at_node-around.result >>= (λ l. give (found ++ l))) =
@@ -521,17 +520,17 @@ follow-loop-node-preserved g t c =
     let ns = c.args.nodes.now in
     let k = c.loop-node.node-index in
     let x = c.node-item.result in
-    let found = c.loop-node.found.items in
+    let found = c.loop-node.found in
     let around : c.at_node-around.result ≡ at_node ctx x ctx.position ctx.size =
     c.at_node-around.ensures ∙ ap (λ (a : Context). at_node ctx x a.position a.size) c.context.view_is in
     let here : and_from ctx m found x ≡ (selected m c.at_node-around.result >>= (λ l. give (found ++ l))) =
     ap (λ a. selected m a >>= (λ l. give (found ++ l))) (sym around) in
     let P = λ (n : ℕ). n < length ctx.tree in
-    let items = c.in_ok-extend_from_slice.ensures.items ∙ ap (λ l. found ++ l) c.nodes.ensures.nodes in
+    let items = c.in_ok-extend_from_slice.ensures.nodes ∙ ap (λ l. found ++ l) c.nodes.ensures.nodes in
     record {
       told =
           parts_on c.args.site (and_from ctx m) (λ l. give (in_order l)) ns k x found
-          (selected m c.at_node-around.result) (λ l. found ++ l) c.in_ok-set.set c.extend_from_slice.new.self.items
+          (selected m c.at_node-around.result) (λ l. found ++ l) c.in_ok-set.set c.extend_from_slice.new.self
           (g.T.Tally.state c.loop-node.tally) (g.T.Tally.state c.evaluate_nodes.new.tally) _
           c.loop-node.invariant.told (omega arith) (sym c.node-item.is) here c.in_ok-set.ensures.told items;
       inside =
@@ -548,14 +547,14 @@ follow-returns-clause-told g t c =
     let k = c.loop-node.node-index in
     let s = g.T.Tally.state c.loop-node.tally in
     c.loop-node.invariant.told
-    ∙ items_done c.args.site (and_from c.args.context.now m) (λ l. give (in_order l)) ns k c.loop-node.found.items s (omega arith)
-    ∙ gives c.args.site (in_order c.loop-node.found.items) s
-    ∙ ap (λ l. Goes l s) (sym c.in_ok-in_order.ensures.nodes)
+    ∙ items_done c.args.site (and_from c.args.context.now m) (λ l. give (in_order l)) ns k c.loop-node.found s (omega arith)
+    ∙ gives c.args.site (in_order c.loop-node.found) s
+    ∙ ap (λ l. Goes l s) (sym c.in_ok-of_list.ensures.nodes)
 
 pub follow-returns-clause-inside : goal.follow-returns-clause-inside
 follow-returns-clause-inside g t c =
-    subst (All (λ k. k < length c.args.context.now.tree)) (sym c.in_ok-in_order.ensures.nodes)
-    (in_order_all (λ k. k < length c.args.context.now.tree) c.loop-node.found.items c.loop-node.invariant.inside)
+    subst (All (λ k. k < length c.args.context.now.tree)) (sym c.in_ok-of_list.ensures.nodes)
+    (in_order_all (λ k. k < length c.args.context.now.tree) c.loop-node.found c.loop-node.invariant.inside)
 
 -- nodes
 pub evaluate_nodes-returns-in_err-v-clause-told : goal.evaluate_nodes-returns-in_err-v-clause-told

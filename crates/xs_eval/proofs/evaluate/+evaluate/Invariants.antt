@@ -79,10 +79,10 @@ invariant-join_all-loop-right g l = record {
 abbrev pub invariant-keep-loop-predicate : goal.invariant-keep-loop-predicate
 invariant-keep-loop-predicate g l = record {
   told :
-      limited l.site (kept_of l.context (runs_of (g.K.KeyFinder.tables l.keys) l.predicates) l.fn.nodes.items) (g.T.Tally.state l.fn.tally)
+      limited l.site (kept_of l.context (runs_of (g.K.KeyFinder.tables l.keys) l.predicates) l.fn.nodes) (g.T.Tally.state l.fn.tally)
       ≡ Rest l.site (filtered l.context) (λ kept. give (Nodes (in_order kept)))
-      (map (run_of (g.K.KeyFinder.tables l.keys)) l.predicates) l.predicate-index l.nodes.items (g.T.Tally.state l.tally);
-  some : AreSome l.context.tree l.nodes.items;
+      (map (run_of (g.K.KeyFinder.tables l.keys)) l.predicates) l.predicate-index l.nodes (g.T.Tally.state l.tally);
+  some : AreSome l.context.tree l.nodes;
   kept : g.T.Tally.kept l.tally ≡ g.T.Tally.kept l.fn.tally;
 }
 
@@ -91,10 +91,10 @@ invariant-filter-loop-node g l = record {
   told :
       limited l.site (filtered l.context l.nodes (run_of (g.K.KeyFinder.tables l.keys) l.predicate)) (g.T.Tally.state l.fn.tally)
       ≡ Rest l.site (judged l.context (length l.nodes) (run_of (g.K.KeyFinder.tables l.keys) l.predicate)) (λ kept. give kept)
-      (enumerate_from 1 l.nodes) l.node-index l.kept.items (g.T.Tally.state l.tally);
+      (enumerate_from 1 l.nodes) l.node-index l.kept (g.T.Tally.state l.tally);
   place : l.position ≡ l.node-index;
-  inside : All (λ k. k < length l.context.tree) l.kept.items;
-  few : length l.kept.items ≤ l.node-index;
+  inside : All (λ k. k < length l.context.tree) l.kept;
+  few : length l.kept ≤ l.node-index;
   kept : g.T.Tally.kept l.tally ≡ g.T.Tally.kept l.fn.tally;
 }
 
@@ -114,7 +114,7 @@ invariant-follow-loop-node g l = record {
   told :
       limited l.site (through l.context l.nodes (run_of (g.K.KeyFinder.tables l.keys) l.step)) (g.T.Tally.state l.fn.tally)
       ≡ Rest l.site (and_from l.context (run_of (g.K.KeyFinder.tables l.keys) l.step)) (λ found. give (in_order found))
-      l.nodes l.node-index l.found.items (g.T.Tally.state l.tally);
-  inside : All (λ k. k < length l.context.tree) l.found.items;
+      l.nodes l.node-index l.found (g.T.Tally.state l.tally);
+  inside : All (λ k. k < length l.context.tree) l.found;
   kept : g.T.Tally.kept l.tally ≡ g.T.Tally.kept l.fn.tally;
 }

@@ -10,8 +10,8 @@ pub returns-clause-found : goal.returns-clause-found
 returns-clause-found g c = (
   c.in_ok-found.ensures.found.0,
   c.in_ok-add_held.ensures.nodes
-      ∙ ap (λ ks. c.args.nodes.items ++ filter (holds c.args.document.now) ks) (c.nodes.ensures.nodes ∙ c.in_ok-found.ensures.found.1)
-      ∙ ap (λ ks. c.args.nodes.items ++ ks)
+      ∙ ap (λ ks. c.args.before ++ filter (holds c.args.document.now) ks) (c.nodes.ensures.nodes ∙ c.in_ok-found.ensures.found.1)
+      ∙ ap (λ ks. c.args.before ++ ks)
       (held-are c.args.context.now (g.K.KeyFinder.tables c.args.keys.now) c.args.key c.args.text.now c.args.document.now c.requires.context.tables
       c.requires.document),
 )
@@ -20,6 +20,6 @@ pub returns-clause-inside : goal.returns-clause-inside
 returns-clause-inside g c =
     let tables = g.K.KeyFinder.tables c.args.keys.now in
     let found = found_for c.args.context.now (table_at tables c.args.key) c.args.text.now in
-    All-same (λ k. k < length c.args.context.now.tree) c.in_ok-add_held.field-0.items (c.args.nodes.items ++ found) (returns-clause-found g c).1
-    (All-append (λ k. k < length c.args.context.now.tree) c.args.nodes.items found c.requires.inside
+    All-same (λ k. k < length c.args.context.now.tree) c.in_ok-add_held.field-0 (c.args.before ++ found) (returns-clause-found g c).1
+    (All-append (λ k. k < length c.args.context.now.tree) c.args.before found c.requires.inside
     (held-inside c.args.context.now tables c.args.key c.args.text.now c.requires.context.tables))

@@ -4,4 +4,4 @@ use Rattle.xs_eval.proofs.keys.add_held.Given as goal
 
 abbrev pub invariant-loop-node : goal.invariant-loop-node
 invariant-loop-node l =
-    l.nodes.items ++ filter (holds l.document) (drop l.node-index l.found) ≡ l.fn.nodes.items ++ filter (holds l.document) l.found
+    l.nodes ++ filter (holds l.document) (drop l.node-index l.found) ≡ l.fn.nodes ++ filter (holds l.document) l.found

@@ -6,5 +6,5 @@ use Rattle.xs_eval.proofs.keys.found_for_nodes.Goals as goal
 
 pub returns-clause-inside : goal.returns-clause-inside
 returns-clause-inside g c =
-    All-same (λ k. k < length c.args.context.now.tree) c.in_ok-in_order.field-0 (in_order c.loop-node.nodes.items) c.in_ok-in_order.ensures.nodes
-    (in_order_all (λ k. k < length c.args.context.now.tree) c.loop-node.nodes.items c.loop-node.invariant.1)
+    All-same (λ k. k < length c.args.context.now.tree) c.in_ok-of_list.field-0 (in_order c.loop-node.nodes) c.in_ok-of_list.ensures.nodes
+    (in_order_all (λ k. k < length c.args.context.now.tree) c.loop-node.nodes c.loop-node.invariant.1)

@@ -7,7 +7,7 @@ use Rattle.xs_eval.proofs.keys.found_for_nodes.Given as goal
 
 abbrev pub invariant-loop-node : goal.invariant-loop-node
 invariant-loop-node g l =
-    (l.nodes.items ++ flat_map (found_for l.context (table_at (g.K.KeyFinder.tables l.keys) l.key))
+    (l.nodes ++ flat_map (found_for l.context (table_at (g.K.KeyFinder.tables l.keys) l.key))
     (map (string_value l.context.tree) (drop l.node-index l.sought))
     ≡ flat_map (found_for l.context (table_at (g.K.KeyFinder.tables l.keys) l.key)) (map (string_value l.context.tree) l.sought))
-    × All (λ k. k < length l.context.tree) l.nodes.items
+    × All (λ k. k < length l.context.tree) l.nodes

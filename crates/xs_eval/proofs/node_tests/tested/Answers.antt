@@ -16,5 +16,5 @@ passes-requires c =
 
 pub returns-clause-some : goal.returns-clause-some
 returns-clause-some c =
-    let e : c.loop-node.found.items ≡ tested c.args.axis c.args.test.now c.args.context.now = search rules in
+    let e : c.loop-node.found ≡ tested c.args.axis c.args.test.now c.args.context.now = search rules in
     subst (λ (ns : List ℕ). AreSome c.args.context.now.tree ns) (sym e) (tested-some c.args.axis c.args.test.now c.args.context.now)

@@ -10,4 +10,4 @@ invariant-loop-node l =
     (goal.iterator-loop-node).can_next l.node-iterator ×
     (goal.iterator-loop-node).is_finite l.node-iterator ×
     (l.yielded ++ l.node-iterator ≡ axis_list l.axis l.context.tree l.context.node) ×
-    (l.found.items ++ filter (λ k. passes l.axis l.test (at l.context.tree k)) l.node-iterator ≡ tested l.axis l.test l.context)
+    (l.found ++ filter (λ k. passes l.axis l.test (at l.context.tree k)) l.node-iterator ≡ tested l.axis l.test l.context)
