@@ -1,6 +1,7 @@
 pub mod HighestLemmas
 pub mod RuleLemmas
 pub mod WhiteSpaceLemmas
+mod AttributeLemmas
 pub mod ChainLemmas
 pub mod SearchLemmas
 pub mod KeyLemmas

@@ -95,12 +95,25 @@ fn preserves(tree: &Tree, node: Node, kept: &[bool]) -> bool
     }
 }
 
-// What a node says by `xml:space`, if it has that attribute.
+// What a node says by `xml:space`. An element alone says something, and a node that is none has
+// no attributes to look through.
 fn said_by(tree: &Tree, node: Node) -> Option<bool>
     requires { node < length tree.now }
     ensures { result ≡ said_by tree.now node }
 {
-    let attribute = space_of(tree, node)?;
+    let _count = tree.len();
+    match tree.kind(node) {
+        Kind::Element => said_by_attribute(tree, node),
+        _ => None,
+    }
+}
+
+// What an element says by `xml:space`, if it has that attribute.
+fn said_by_attribute(tree: &Tree, element: Node) -> Option<bool>
+    requires { element < length tree.now }
+    ensures { result ≡ said_by tree.now element }
+{
+    let attribute = space_of(tree, element)?;
     space_value(tree.text(attribute))
 }
 
