@@ -1,4 +1,5 @@
 pub mod HighestLemmas
+mod HigherLemmas
 pub mod RuleLemmas
 pub mod WhiteSpaceLemmas
 mod AttributeLemmas
@@ -6,3 +7,4 @@ pub mod ChainLemmas
 pub mod SearchLemmas
 pub mod KeyLemmas
 pub mod IndexLemmas
+mod StripIndexLemmas
