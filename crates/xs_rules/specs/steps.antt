@@ -1,3 +1,4 @@
 pub mod Candidates
 pub mod Index
 pub mod Lists
+pub mod Strips

@@ -8,4 +8,5 @@ pub mod index;
 mod lists;
 mod ranks;
 mod rule_keys;
+mod strip_index;
 pub mod white_space;

@@ -1,22 +1,19 @@
 //! Which white space of a source is stripped (XSLT 1.0, 3.4).
 
-ghost use Rattle.std.specs.Prelude.{◌≡◌, ◌<◌, Some, IfOk, IfSome, OnErr, OnOk, length, map};
-ghost use Rattle.std.specs.Prelude.{false, filter, get_or, if◌then◌else◌};
+ghost use Rattle.std.specs.Prelude.{◌≡◌, ◌<◌, IfOk, IfSome, OnErr, OnOk, length, map};
+ghost use Rattle.std.specs.Prelude.{false, get_or, if◌then◌else◌};
 ghost use Rattle.std.specs.List.{find, range_with_len};
-ghost use Rattle.std.specs.Option.{option_copied, option_map_or};
-ghost use Rattle.xs_sheet.specs.declared.declarations.StripRule.{StripRule};
 ghost use Rattle.xs_tree.specs.Kinds.{is_element_kind, is_text_kind};
 ghost use Rattle.xs_tree.specs.Record.{at, attributes};
 ghost use Rattle.xs_tree.specs.Shape.{IsTree};
 ghost use Rattle.xs_tree.specs.Stripping.{without};
-ghost use Rattle.xs_rules.specs.Ranks.{highest, or_above};
 ghost use Rattle.xs_rules.specs.WhiteSpace.{is_named, is_space, is_stripped, is_stripped_in};
-ghost use Rattle.xs_rules.specs.WhiteSpace.{is_true_of, preserves, rank_of, said_by, space_value};
-ghost use Rattle.xs_rules.specs.WhiteSpace.{stripped, strips, test_priority};
+ghost use Rattle.xs_rules.specs.WhiteSpace.{preserves, said_by, space_value, stripped, strips};
+ghost use Rattle.xs_rules.specs.steps.Strips.{IsStripIndex};
 
-use crate::ranks::Rank;
+use crate::strip_index::StripIndex;
 use std::alloc::{AllocError, Global};
-use xs_sheet::declarations::{NameTest, StripRule};
+use xs_sheet::declarations::StripRule;
 use xs_text::is_blank;
 use xs_tree::{Kind, Node, Tree};
 
@@ -37,11 +34,12 @@ pub fn strip_space(alloc: Global, tree: &mut Tree, rules: &[StripRule]) -> Resul
 pub fn stripped(alloc: Global, tree: &Tree, rules: &[StripRule]) -> Result<Vec<bool>, AllocError>
     ensures marks { IfOk result (λ marks. marks.items ≡ stripped rules.now tree.now) }
 {
+    let index = StripIndex::of(alloc, rules)?;
     let mut marks = Vec::new(alloc);
     let mut kept = Vec::new(alloc);
     for place in 0..tree.len() as u32 {
         let node = Node::at(place);
-        marks.push(is_stripped(tree, node, rules, &kept))?;
+        marks.push(is_stripped(tree, node, &index, &kept))?;
         kept.push(preserves(tree, node, &kept))?;
     }
     Ok(marks)
@@ -49,10 +47,11 @@ pub fn stripped(alloc: Global, tree: &Tree, rules: &[StripRule]) -> Result<Vec<b
 
 // Whether a node is stripped, where it is known of the nodes before it in which of them white
 // space is preserved.
-fn is_stripped(tree: &Tree, node: Node, rules: &[StripRule], kept: &[bool]) -> bool
+fn is_stripped(tree: &Tree, node: Node, index: &StripIndex<'_>, kept: &[bool]) -> bool
+    requires index { IsStripIndex index.now }
     requires node { node < length tree.now }
     requires kept { kept.now ≡ map (preserves tree.now) (range_with_len 0 node) }
-    ensures { result ≡ is_stripped rules.now tree.now node }
+    ensures { result ≡ is_stripped index.now.rules.now tree.now node }
 {
     if !is_text(tree, node) {
         return false;
@@ -61,22 +60,23 @@ fn is_stripped(tree: &Tree, node: Node, rules: &[StripRule], kept: &[bool]) -> b
         return false;
     }
     match tree.parent(node) {
-        Some(parent) => is_stripped_in(tree, parent, rules, kept),
+        Some(parent) => is_stripped_in(tree, parent, index, kept),
         None => false,
     }
 }
 
 // Whether white space is stripped in a node, where it is known in which nodes it is preserved.
-fn is_stripped_in(tree: &Tree, parent: Node, rules: &[StripRule], kept: &[bool]) -> bool
+fn is_stripped_in(tree: &Tree, parent: Node, index: &StripIndex<'_>, kept: &[bool]) -> bool
+    requires index { IsStripIndex index.now }
     requires parent { parent < length tree.now }
     requires within { parent < length kept.now }
     requires kept { get_or kept.now parent false ≡ preserves tree.now parent }
-    ensures { result ≡ is_stripped_in rules.now tree.now parent }
+    ensures { result ≡ is_stripped_in index.now.rules.now tree.now parent }
 {
     if kept[parent.place() as usize] {
         return false;
     }
-    strips(tree, parent, rules)
+    strips(tree, parent, index)
 }
 
 // Whether white space is preserved in a node, where it is known of the nodes before it.
@@ -95,12 +95,25 @@ fn preserves(tree: &Tree, node: Node, kept: &[bool]) -> bool
     }
 }
 
-// What a node says by `xml:space`, if it has that attribute.
+// What a node says by `xml:space`. An element alone says something, and a node that is none has
+// no attributes to look through.
 fn said_by(tree: &Tree, node: Node) -> Option<bool>
     requires { node < length tree.now }
     ensures { result ≡ said_by tree.now node }
 {
-    let attribute = space_of(tree, node)?;
+    let _count = tree.len();
+    match tree.kind(node) {
+        Kind::Element => said_by_attribute(tree, node),
+        _ => None,
+    }
+}
+
+// What an element says by `xml:space`, if it has that attribute.
+fn said_by_attribute(tree: &Tree, element: Node) -> Option<bool>
+    requires { element < length tree.now }
+    ensures { result ≡ said_by tree.now element }
+{
+    let attribute = space_of(tree, element)?;
     space_value(tree.text(attribute))
 }
 
@@ -141,32 +154,18 @@ fn is_named(tree: &Tree, node: Node, uri: &str, local: &str) -> bool
 
 // Whether white space is stripped in a node by the tests that are true of it.
 #[tactic(auto, unfolding(crate::specs::WhiteSpace::strips))]
-fn strips(tree: &Tree, node: Node, rules: &[StripRule]) -> bool
-    requires { node < length tree.now }
-    ensures { result ≡ strips rules.now (at tree.now node) }
+fn strips(tree: &Tree, node: Node, index: &StripIndex<'_>) -> bool
+    requires index { IsStripIndex index.now }
+    requires node { node < length tree.now }
+    ensures { result ≡ strips index.now.rules.now (at tree.now node) }
 {
     if !is_element(tree, node) {
         return false;
     }
-    match highest(tree, node, rules) {
+    match index.highest(tree, node) {
         Some(rule) => rule.strip,
         None => false,
     }
-}
-
-// The highest of the tests that are true of an element.
-fn highest<'a>(tree: &Tree, element: Node, rules: &'a [StripRule]) -> Option<&'a StripRule>
-    requires { element < length tree.now }
-    ensures { option_copied result ≡ highest rank_of (filter
-        (λ (rule : StripRule). is_true_of (at tree.now element) rule.test) rules.entry.now) }
-{
-    let mut best = None;
-    let mut rest = rules;
-    while let Some((rule, before)) = rest.split_last() {
-        best = higher(tree, element, rule, best);
-        rest = before;
-    }
-    best
 }
 
 // Whether a node is an element.
@@ -183,63 +182,4 @@ fn is_text(tree: &Tree, node: Node) -> bool
     ensures { result ≡ is_text_kind (at tree.now node).kind }
 {
     tree.kind(node) == Kind::Text
-}
-
-// A test that is true of an element, where none behind it is higher; otherwise that one.
-fn higher<'a>(
-    tree: &Tree,
-    element: Node,
-    rule: &'a StripRule,
-    best: Option<&'a StripRule>,
-) -> Option<&'a StripRule>
-    requires { element < length tree.now }
-    ensures { option_copied result ≡ (if is_true_of (at tree.now element) rule.now.test
-        then or_above rank_of rule.now (option_copied best.entry) else option_copied best.entry) }
-{
-    if !is_true_of(tree, element, &rule.test) {
-        return best;
-    }
-    match best {
-        Some(other) => {
-            if rank_of(rule).outranks(rank_of(other)) {
-                Some(rule)
-            } else {
-                best
-            }
-        }
-        None => Some(rule),
-    }
-}
-
-// Whether a test is true of an element.
-fn is_true_of(tree: &Tree, element: Node, test: &NameTest) -> bool
-    requires { element < length tree.now }
-    ensures { result ≡ is_true_of (at tree.now element) test.now }
-{
-    match test {
-        NameTest::Any => true,
-        NameTest::Uri(uri) => tree.uri(element) == uri.as_str(),
-        NameTest::Name(name) => { is_named(tree, element, name.uri.as_str(), name.local.as_str()) }
-    }
-}
-
-// Where a test stands among others.
-fn rank_of(rule: &StripRule) -> Rank
-    ensures { result ≡ rank_of rule.now }
-{
-    Rank {
-        precedence: rule.precedence,
-        priority: test_priority(&rule.test),
-    }
-}
-
-// The priority of a test, as of a pattern (XSLT 1.0, 5.5).
-fn test_priority(test: &NameTest) -> i64
-    ensures { result ≡ test_priority test.now }
-{
-    match test {
-        NameTest::Any => -5_000,
-        NameTest::Uri(_) => -2_500,
-        NameTest::Name(_) => 0,
-    }
 }

@@ -1,6 +1,7 @@
 use Rattle.std.proofs.Common.{◌≡◌, ℕ, ◌+◌, ◌++◌, ◌∷◌, [], Bool, List, arith, ap, map, sym, ◌∙◌}
 use Rattle.std.proofs.lemmas.List.FromFn.{map-range_with_len_more}
 use Rattle.std.specs.List.{range_with_len}
+use Rattle.xs_sheet.specs.declared.declarations.StripRule.{StripRule}
 use Rattle.xs_rules.specs.WhiteSpace.{is_stripped, preserves}
 use Rattle.xs_rules.proofs.white_space.stripped.Goals as goal
 
@@ -18,7 +19,9 @@ loop-place-preserved c = record {
   marks =
       more (is_stripped c.args.rules.now c.args.tree.now) c.loop-place.place c.at-node.result c.loop-place.marks.items c.push.new.self.items
       c.is_stripped.result
-      c.loop-place.invariant.marks c.in_ok-push.ensures.items c.is_stripped.ensures c.at-node.ensures;
+      c.loop-place.invariant.marks c.in_ok-push.ensures.items
+      (c.is_stripped.ensures ∙ ap (λ (rules : List StripRule). is_stripped rules c.args.tree.now c.at-node.result) c.in_ok-index.ensures.rules)
+      c.at-node.ensures;
   kept =
       more (preserves c.args.tree.now) c.loop-place.place c.at-node.result c.loop-place.kept.items c.push-in-loop-place.new.self.items c.preserves.result
       c.loop-place.invariant.kept c.in_ok-push-2.ensures.items c.preserves.ensures c.at-node.ensures;

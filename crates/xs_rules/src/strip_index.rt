@@ -1,0 +1,184 @@
+//! The rules of white space by their name tests, so that an element is not compared with each
+//! (XSLT 1.0, 3.4).
+
+ghost use Rattle.std.specs.Prelude.{◌≡◌, ◌<◌, ◌&&◌, IfOk, List, OnOk, Some, filter, length};
+ghost use Rattle.std.specs.Prelude.{if◌then◌else◌, ℕ};
+ghost use Rattle.std.specs.Option.{option_copied};
+ghost use Rattle.std.specs.Str.{bytes_eq};
+ghost use Rattle.xs_sheet.specs.declared.declarations.StripRule.{StripRule};
+ghost use Rattle.xs_tree.specs.Record.{at};
+ghost use Rattle.xs_rules.specs.Ranks.{highest, or_above};
+ghost use Rattle.xs_rules.specs.WhiteSpace.{is_true_of, rank_of, test_priority};
+ghost use Rattle.xs_rules.specs.steps.Strips.{IsStripIndex, Tested, found, higher, of_name, of_uri};
+ghost use Rattle.xs_rules.specs.steps.Strips.{with_rule};
+
+use crate::ranks::Rank;
+use std::alloc::{AllocError, Global};
+use std::collections::HashMap;
+use xs_sheet::declarations::{NameTest, StripRule};
+use xs_tree::{Node, Tree};
+
+/// The rules of white space, of those with one name test the highest.
+#[derive(Drop)]
+pub(crate) struct StripIndex<'a> {
+    /// All of them.
+    pub(crate) rules: &'a [StripRule],
+    any: Option<&'a StripRule>,
+    uris: HashMap<&'a str, &'a StripRule>,
+    names: HashMap<(&'a str, &'a str), &'a StripRule>,
+}
+
+impl<'a> StripIndex<'a> {
+    /// The index of rules, in time linear in them.
+    pub(crate) fn of(alloc: Global, rules: &'a [StripRule]) -> Result<StripIndex<'a>, AllocError>
+        ensures index { IfOk result IsStripIndex }
+        ensures rules { IfOk result (λ index. index.rules.now ≡ rules.now) }
+    {
+        let mut index = StripIndex {
+            rules,
+            any: None,
+            uris: HashMap::new(alloc),
+            names: HashMap::new(alloc),
+        };
+        let mut rest = rules;
+        while let Some((rule, before)) = rest.split_last() {
+            index.add(rule)?;
+            rest = before;
+        }
+        Ok(index)
+    }
+
+    /// Adds a rule in front of those that were added.
+    fn add(&mut self, rule: &'a StripRule) -> Result<(), AllocError>
+        ensures found { OnOk result ((q : Tested) → found self.new q
+            ≡ with_rule q rule.entry.now (found self.old q)) }
+        ensures rules { OnOk result (self.new.rules.now ≡ self.old.rules.now) }
+    {
+        match &rule.test {
+            NameTest::Any => {
+                self.any = higher(Some(rule), self.any);
+                Ok(())
+            }
+            NameTest::Uri(uri) => add_uri(&mut self.uris, uri.as_str(), rule),
+            NameTest::Name(name) => {
+                add_name(
+                    &mut self.names,
+                    name.uri.as_str(),
+                    name.local.as_str(),
+                    rule,
+                )
+            }
+        }
+    }
+
+    /// The highest of the rules whose tests are true of an element.
+    pub(crate) fn highest(&self, tree: &Tree, element: Node) -> Option<&'a StripRule>
+        requires index { IsStripIndex self.now }
+        requires element { element < length tree.now }
+        ensures { option_copied result ≡ highest rank_of (filter
+            (λ (rule : StripRule). is_true_of (at tree.now element) rule.test)
+            self.now.rules.now) }
+    {
+        let uri = rule_of_uri(&self.uris, tree.uri(element));
+        let name = rule_of_name(&self.names, tree.uri(element), tree.local(element));
+        higher(higher(self.any, uri), name)
+    }
+}
+
+/// The highest rule for the elements of a namespace.
+fn rule_of_uri<'a>(uris: &HashMap<&'a str, &'a StripRule>, uri: &str) -> Option<&'a StripRule>
+    ensures { option_copied result ≡ of_uri uris.now uri.now }
+{
+    uris.get(uri).copied()
+}
+
+/// The highest rule for the elements of a name.
+fn rule_of_name<'a>(
+    names: &HashMap<(&'a str, &'a str), &'a StripRule>,
+    uri: &str,
+    local: &str,
+) -> Option<&'a StripRule>
+    ensures { option_copied result ≡ of_name names.now uri.now local.now }
+{
+    names.get(&(uri, local)).copied()
+}
+
+/// Adds a rule for the elements of a namespace.
+fn add_uri<'a>(
+    uris: &mut HashMap<&'a str, &'a StripRule>,
+    uri: &'a str,
+    rule: &'a StripRule,
+) -> Result<(), AllocError>
+    ensures { OnOk result ((u : List ℕ) → of_uri uris.new u
+        ≡ (if bytes_eq u uri.entry.now then or_above rank_of rule.entry.now (of_uri uris.old u)
+        else of_uri uris.old u)) }
+{
+    let best = above(rule, rule_of_uri(uris, uri));
+    uris.insert(uri, best)?;
+    Ok(())
+}
+
+/// Adds a rule for the elements of a name.
+fn add_name<'a>(
+    names: &mut HashMap<(&'a str, &'a str), &'a StripRule>,
+    uri: &'a str,
+    local: &'a str,
+    rule: &'a StripRule,
+) -> Result<(), AllocError>
+    ensures { OnOk result ((u l : List ℕ) → of_name names.new u l
+        ≡ (if bytes_eq u uri.entry.now && bytes_eq l local.entry.now
+        then or_above rank_of rule.entry.now (of_name names.old u l)
+        else of_name names.old u l)) }
+{
+    let best = above(rule, rule_of_name(names, uri, local));
+    names.insert((uri, local), best)?;
+    Ok(())
+}
+
+/// A rule where it is above another one that stands behind it, if there is one; else that one.
+fn above<'a>(rule: &'a StripRule, other: Option<&'a StripRule>) -> &'a StripRule
+    ensures { Some result.now ≡ or_above rank_of rule.entry.now (option_copied other.entry) }
+{
+    match other {
+        Some(other) => {
+            if rank_of(rule).outranks(rank_of(other)) {
+                rule
+            } else {
+                other
+            }
+        }
+        None => rule,
+    }
+}
+
+/// Of two rules the first where it is above the other.
+fn higher<'a>(first: Option<&'a StripRule>, other: Option<&'a StripRule>) -> Option<&'a StripRule>
+    ensures { option_copied result
+        ≡ higher rank_of (option_copied first.entry) (option_copied other.entry) }
+{
+    match first {
+        Some(rule) => Some(above(rule, other)),
+        None => other,
+    }
+}
+
+/// Where a rule stands among others.
+fn rank_of(rule: &StripRule) -> Rank
+    ensures { result ≡ rank_of rule.now }
+{
+    Rank {
+        precedence: rule.precedence,
+        priority: test_priority(&rule.test),
+    }
+}
+
+/// The priority of a test, as of a pattern (XSLT 1.0, 5.5).
+fn test_priority(test: &NameTest) -> i64
+    ensures { result ≡ test_priority test.now }
+{
+    match test {
+        NameTest::Any => -5_000,
+        NameTest::Uri(_) => -2_500,
+        NameTest::Name(_) => 0,
+    }
+}
