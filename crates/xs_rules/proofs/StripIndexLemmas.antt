@@ -1,24 +1,22 @@
 -- The highest rule whose test is true of an element, from the highest one of each name test.
-use Rattle.std.proofs.Common.{◌≡◌, ◌∙◌, ℕ, ◌==◌, ◌&&◌, ◌||◌, not, nat_lt, ap, refl, sym, arith, Bool, true, false, cond, List, [], ◌∷◌, filter, Option, None, Some}
+use Rattle.std.proofs.Common.{◌≡◌, ◌∙◌, ℕ, ◌&&◌, ◌||◌, ap, refl, sym, Bool, true, false, cond, List, [], filter, Option, None, Some}
 use Rattle.std.proofs.lemmas.Bool.{true≢false}
-use Rattle.std.proofs.lemmas.Int.{ints}
 use Rattle.std.proofs.lemmas.Slice.Eq.{bytes_eq-Decides}
 use Rattle.std.specs.Borrow.{Bor}
 use Rattle.std.specs.HashMap.{HashMap, get_by}
 use Rattle.std.specs.Option.{option_copied}
 use Rattle.std.proofs.lemmas.List.Elements.{filter_agree}
-use Rattle.std.specs.Prelude.{ℤ, int_lt}
+use Rattle.std.specs.Prelude.{int_lt}
 use Rattle.std.specs.Str.{bytes_eq}
 use Rattle.xs_sheet.specs.declared.declarations.NameTest.{NameTest}
 use Rattle.xs_sheet.specs.declared.declarations.NameTest.TheVariants.{Any, Uri, Name}
 use Rattle.xs_sheet.specs.declared.declarations.StripRule.{StripRule}
 use Rattle.xs_tree.specs.Record.{Record, name_local, name_uri}
-use Rattle.xs_rules.specs.declared.ranks.Rank.{Rank}
 use Rattle.xs_rules.specs.declared.strip_index.StripIndex.{StripIndex}
-use Rattle.xs_rules.specs.Ranks.{highest, or_above, outranks}
+use Rattle.xs_rules.specs.Ranks.{highest, or_above}
 use Rattle.xs_rules.specs.WhiteSpace.{is_true_of, rank_of, test_priority}
 use Rattle.xs_rules.proofs.HigherLemmas.{apart-by, highest-apart}
-use Rattle.xs_rules.specs.steps.Strips.{IsStripIndex, Tested, any_element, asking, asks, elements_in, elements_named, found, higher}
+use Rattle.xs_rules.specs.steps.Strips.{IsStripIndex, Tested, any_element, is_rule_of, is_test_of, elements_in, elements_named, found, higher}
 
 -- ---- one rule more
 
@@ -60,12 +58,12 @@ or-false true = refl
 or-false false = refl
 
 true-of : (r : Record) (t : NameTest)
-    → is_true_of r t ≡ (asks any_element t || asks (elements_in (name_uri r)) t || asks (elements_named (name_uri r) (name_local r)) t)
+    → is_true_of r t ≡ (is_test_of any_element t || is_test_of (elements_in (name_uri r)) t || is_test_of (elements_named (name_uri r) (name_local r)) t)
 true-of r Any = refl
 true-of r (Uri v) = or-false (bytes_eq (name_uri r) v)
 true-of r (Name n) = refl
 
-any-below : (uri : List ℕ) (s t : NameTest) → asks any_element s ≡ true → asks (elements_in uri) t ≡ true
+any-below : (uri : List ℕ) (s t : NameTest) → is_test_of any_element s ≡ true → is_test_of (elements_in uri) t ≡ true
     → (int_lt (test_priority s) (test_priority t) ≡ true) × (int_lt (test_priority t) (test_priority s) ≡ false)
 any-below uri Any (Uri v) a b = (refl, refl)
 any-below uri Any Any a b = cc
@@ -73,7 +71,8 @@ any-below uri Any (Name n) a b = cc
 any-below uri (Uri v) t a b = cc
 any-below uri (Name n) t a b = cc
 
-name-above : (uri local : List ℕ) (s t : NameTest) → (asks any_element s || asks (elements_in uri) s) ≡ true → asks (elements_named uri local) t ≡ true
+name-above : (uri local : List ℕ) (s t : NameTest) → (is_test_of any_element s || is_test_of (elements_in uri) s) ≡ true
+    → is_test_of (elements_named uri local) t ≡ true
     → (int_lt (test_priority s) (test_priority t) ≡ true) × (int_lt (test_priority t) (test_priority s) ≡ false)
 name-above uri local Any (Name n) a b = (refl, refl)
 name-above uri local Any Any a b = cc
@@ -88,15 +87,15 @@ pub highest-found : (i : StripIndex) (r : Record) → IsStripIndex i
     ≡ highest rank_of (filter (λ (rule : StripRule). is_true_of r rule.test) i.rules.now)
 highest-found i r h =
     ap (λ o. higher rank_of (higher rank_of o (found i inside)) (found i named)) (h any_element)
-    ∙ ap (λ o. higher rank_of (higher rank_of (highest rank_of (filter (asking any_element) rules)) o) (found i named)) (h inside)
-    ∙ ap (λ o. higher rank_of (higher rank_of (highest rank_of (filter (asking any_element) rules)) (highest rank_of (filter (asking inside) rules))) o) (h named)
-    ∙ ap (λ o. higher rank_of o (highest rank_of (filter (asking named) rules)))
-    (sym (highest-apart rank_of (asking any_element) (asking inside)
+    ∙ ap (λ o. higher rank_of (higher rank_of (of any_element) o) (found i named)) (h inside)
+    ∙ ap (λ o. higher rank_of (higher rank_of (of any_element) (of inside)) o) (h named)
+    ∙ ap (λ o. higher rank_of o (of named))
+    (sym (highest-apart rank_of (is_rule_of any_element) (is_rule_of inside)
     (λ x y a b. let p = any-below (name_uri r) x.test y.test a b in apart-by (rank_of x) (rank_of y) p.0 p.1) rules))
-    ∙ sym (highest-apart rank_of (λ x. asking any_element x || asking inside x) (asking named)
+    ∙ sym (highest-apart rank_of (λ x. is_rule_of any_element x || is_rule_of inside x) (is_rule_of named)
     (λ x y a b. let p = name-above (name_uri r) (name_local r) x.test y.test a b in apart-by (rank_of x) (rank_of y) p.0 p.1) rules)
     ∙ sym (ap (highest rank_of) (filter_agree (λ (rule : StripRule). is_true_of r rule.test)
-    (λ (rule : StripRule). asking any_element rule || asking inside rule || asking named rule) (λ (rule : StripRule). true-of r rule.test) rules))
+    (λ (rule : StripRule). is_rule_of any_element rule || is_rule_of inside rule || is_rule_of named rule) (λ (rule : StripRule). true-of r rule.test) rules))
   where
     rules : List StripRule
     rules = i.rules.now
@@ -106,3 +105,6 @@ highest-found i r h =
 
     named : Tested
     named = elements_named (name_uri r) (name_local r)
+
+    of : Tested → Option StripRule
+    of q = highest rank_of (filter (is_rule_of q) rules)

@@ -21,7 +21,7 @@ use xs_tree::{Node, Tree};
 /// The rules of white space, of those with one name test the highest.
 #[derive(Drop)]
 pub(crate) struct StripIndex<'a> {
-    /// All of them.
+    /// All of them, for the clauses.
     pub(crate) rules: &'a [StripRule],
     any: Option<&'a StripRule>,
     uris: HashMap<&'a str, &'a StripRule>,
@@ -85,14 +85,17 @@ impl<'a> StripIndex<'a> {
     }
 }
 
-/// The highest rule for the elements of a namespace.
+/// The highest rule for the elements of a namespace. Where there is none no URI is hashed.
 fn rule_of_uri<'a>(uris: &HashMap<&'a str, &'a StripRule>, uri: &str) -> Option<&'a StripRule>
     ensures { option_copied result ≡ of_uri uris.now uri.now }
 {
+    if uris.is_empty() {
+        return None;
+    }
     uris.get(uri).copied()
 }
 
-/// The highest rule for the elements of a name.
+/// The highest rule for the elements of a name. Where there is none no name is hashed.
 fn rule_of_name<'a>(
     names: &HashMap<(&'a str, &'a str), &'a StripRule>,
     uri: &str,
@@ -100,6 +103,9 @@ fn rule_of_name<'a>(
 ) -> Option<&'a StripRule>
     ensures { option_copied result ≡ of_name names.now uri.now local.now }
 {
+    if names.is_empty() {
+        return None;
+    }
     names.get(&(uri, local)).copied()
 }
 

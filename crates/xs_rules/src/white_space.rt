@@ -20,7 +20,8 @@ use xs_tree::{Kind, Node, Tree};
 /// The namespace of `xml:space` (Namespaces in XML 1.0, 3).
 const XML_URI: &str = "http://www.w3.org/XML/1998/namespace";
 
-/// Strips white space of a source, in time linear in it. After a refusal it is as it was.
+/// Strips white space of a source, in time linear in it and in the rules. After a refusal it is as
+/// it was.
 pub fn strip_space(alloc: Global, tree: &mut Tree, rules: &[StripRule]) -> Result<(), AllocError>
     ensures stripped { OnOk result (tree.new ≡ without (stripped rules.now tree.old) tree.old) }
     ensures refused { OnErr result (tree.new ≡ tree.old) }

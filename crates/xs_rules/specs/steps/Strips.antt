@@ -19,19 +19,19 @@ pub data Tested : Type 0 where
   elements_named : (uri local : List ℕ) → Tested
 
 -- whether a name test is true of just these
-abbrev pub asks : Tested → NameTest → Bool
-asks any_element Any = true
-asks any_element (Uri v) = false
-asks any_element (Name n) = false
-asks (elements_in uri) Any = false
-asks (elements_in uri) (Uri v) = bytes_eq uri v
-asks (elements_in uri) (Name n) = false
-asks (elements_named uri local) Any = false
-asks (elements_named uri local) (Uri v) = false
-asks (elements_named uri local) (Name n) = bytes_eq uri n.uri && bytes_eq local n.local
+abbrev pub is_test_of : Tested → NameTest → Bool
+is_test_of any_element Any = true
+is_test_of any_element (Uri v) = false
+is_test_of any_element (Name n) = false
+is_test_of (elements_in uri) Any = false
+is_test_of (elements_in uri) (Uri v) = bytes_eq uri v
+is_test_of (elements_in uri) (Name n) = false
+is_test_of (elements_named uri local) Any = false
+is_test_of (elements_named uri local) (Uri v) = false
+is_test_of (elements_named uri local) (Name n) = bytes_eq uri n.uri && bytes_eq local n.local
 
-abbrev pub asking : Tested → StripRule → Bool
-asking q rule = asks q rule.test
+abbrev pub is_rule_of : Tested → StripRule → Bool
+is_rule_of q rule = is_test_of q rule.test
 
 -- the highest rule for them, as the code finds it
 abbrev pub of_uri : {S : Type 0} → HashMap (Bor (List ℕ)) (Bor StripRule) S → List ℕ → Option StripRule
@@ -47,7 +47,7 @@ found i (elements_named uri local) = of_name i.names uri local
 
 -- with one rule more in front
 abbrev pub with_rule : Tested → StripRule → Option StripRule → Option StripRule
-with_rule q rule o = if asking q rule then or_above rank_of rule o else o
+with_rule q rule o = if is_rule_of q rule then or_above rank_of rule o else o
 
 -- of two things the first where it is above the other
 abbrev pub higher : {A : Type 0} → (A → Rank) → Option A → Option A → Option A
@@ -56,4 +56,4 @@ higher rank (Some x) o = or_above rank x o
 
 -- By it the highest rule of each name test is found.
 abbrev pub IsStripIndex : StripIndex → Type 0
-IsStripIndex i = (q : Tested) → found i q ≡ highest rank_of (filter (asking q) i.rules.now)
+IsStripIndex i = (q : Tested) → found i q ≡ highest rank_of (filter (is_rule_of q) i.rules.now)
