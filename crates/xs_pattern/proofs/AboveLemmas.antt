@@ -1,14 +1,13 @@
 -- Tables of where paths end, made from one another step by step.
 use Rattle.std.proofs.Common.{◌≡◌, ℕ, ◌+◌, ◌<◌, ◌==◌, ◌&&◌, not, Bool, true, false, List, [], ◌∷◌, ◌++◌, get_or, length, map, replicate, reverse}
-use Rattle.std.proofs.Common.{Option, None, Some, refl, sym, ap, subst, ◌∙◌, arith, zero-add}
-use Rattle.std.proofs.lemmas.Bool.{eqb-true, true≢false}
-use Rattle.std.proofs.lemmas.List.{get_or-replicate, nil_from_length, reverse-append}
+use Rattle.std.proofs.Common.{Option, None, Some, refl, sym, ap, ◌∙◌, arith, zero-add}
+use Rattle.std.proofs.lemmas.Bool.{eqb-true}
+use Rattle.std.proofs.lemmas.List.{get_or-replicate, reverse-append}
 use Rattle.std.proofs.lemmas.List.Folds.{list_all-append}
 use Rattle.std.proofs.lemmas.List.FromFn.{get_or-map-range_with_len, map-range_with_len_more}
 use Rattle.std.specs.List.{list_all, range_with_len}
 use Rattle.std.specs.Option.{option_map_or}
 use Rattle.xs_tree.specs.declared.axes.Axis.{Axis}
-use Rattle.xs_tree.specs.Kinds.{is_root_kind}
 use Rattle.xs_tree.specs.Record.{Record, at, places}
 use Rattle.xs_tree.specs.Shape.{IsTree}
 use Rattle.xs_tree.proofs.WalkLemmas.{IsPlaced-at}
@@ -17,9 +16,9 @@ use Rattle.xs_xpath.specs.declared.name.NodeTest.{NodeTest}
 use Rattle.xs_xpath.specs.Tree.{Tree, no_trees, here, root, descend, step}
 use Rattle.xs_eval.specs.Context.{Context}
 use Rattle.xs_eval.specs.Paths.{passes}
-use Rattle.xs_pattern.specs.Matching.{ends_path, pattern_context, placed_at, selected, start_of, step_nodes, steps_of}
+use Rattle.xs_pattern.specs.Matching.{ends_path, pattern_context, placed_at, start_of, step_nodes, steps_of}
 use Rattle.xs_pattern.specs.Predicates.{is_among}
-use Rattle.xs_pattern.specs.steps.Above.{EndsBy, IsAbove, IsAboveIn, has_table, is_below, is_led, is_plain, is_plain_path, is_tabled}
+use Rattle.xs_pattern.specs.steps.Above.{EndsBy, IsAbove, IsAboveIn, is_below, is_led, is_plain, is_plain_path, is_root_at, is_tabled}
 use Rattle.xs_pattern.specs.steps.Climb.{before_slashes, ends_above, is_anywhere, stands_on}
 use Rattle.xs_pattern.proofs.AncestorLemmas.{any-root, any-same, any-self, any-up}
 use Rattle.xs_pattern.proofs.ClimbLemmas.{ends-descend, ends-no_parent, ends-parent, ends-start}
@@ -49,13 +48,13 @@ below-here marks rs n h e = any-self (λ k. get_or marks k false) rs n h e
 
 pub below-root : (marks : List Bool) (rs : List Record) (n : ℕ) → IsTree rs → n < length rs → (at rs n).parent ≡ None → get_or marks n false ≡ false
     → is_below marks rs n ≡ false
-below-root marks rs n t h e no = any-root (λ k. get_or marks k false) rs n t h e no
+below-root marks rs n t h e differs = any-root (λ k. get_or marks k false) rs n t h e differs
 
 -- where the node is not marked, what was found of its parent
 pub below-parent : (marks found : List Bool) (rs : List Record) (n p : ℕ) → IsTree rs → n < length rs → (at rs n).parent ≡ Some p
     → get_or marks n false ≡ false → found ≡ map (is_below marks rs) (range_with_len 0 n) → get_or found p false ≡ is_below marks rs n
-below-parent marks found rs n p t h e no f =
-    mark-at (is_below marks rs) found n p f (IsPlaced-at rs n p t h e).before ∙ sym (any-up (λ k. get_or marks k false) rs n p t h e no)
+below-parent marks found rs n p t h e differs f =
+    mark-at (is_below marks rs) found n p f (IsPlaced-at rs n p t h e).before ∙ sym (any-up (λ k. get_or marks k false) rs n p t h e differs)
 
 -- where a table says that a path ends
 below-above : (keys : List Table) (c : Context) (start : Tree) (steps : List Tree) (marks : List Bool) (n : ℕ)
@@ -71,9 +70,9 @@ ends-anywhere rs t e = λ keys scope m n h.
     ∙ get_or-replicate (length rs) n true false h
     ∙ sym (ends-start keys (pattern_context rs scope m) here n ∙ here-among n)
 
-pub ends-roots : (rs : List Record) (t : List Bool) → IsTree rs → t ≡ map (λ n. is_root_kind (at rs n).kind) (places rs) → EndsBy rs root [] t
+pub ends-roots : (rs : List Record) (t : List Bool) → IsTree rs → t ≡ map (is_root_at rs) (places rs) → EndsBy rs root [] t
 ends-roots rs t tree e = λ keys scope m n h.
-    mark-at (λ k. is_root_kind (at rs k).kind) t (length rs) n e h
+    mark-at (is_root_at rs) t (length rs) n e h
     ∙ sym (ends-start keys (pattern_context rs scope m) root n ∙ root-among rs n tree)
 
 -- behind a `//`
@@ -107,9 +106,6 @@ led-path : (keys : List Table) (c : Context) (start : Tree) (steps : List Tree) 
     → is_led axis which marks c.tree n ≡ ends_path keys c start (step axis which no_trees ∷ steps) n
 led-path keys c start steps axis which marks n t h ends = by_parent (at c.tree n).parent refl
   where
-    stands : Bool
-    stands = stands_on axis (at c.tree n).kind && passes axis which (at c.tree n)
-
     Led : Option ℕ → Bool
     Led o = option_map_or (λ p. get_or marks p false && (stands_on axis (at c.tree n).kind && passes axis which (at c.tree n))) o false
 
@@ -150,6 +146,13 @@ above-in rs e start steps t keys scope m a s b = λ n h.
     ∙ ap (λ (l : List Tree). ends_above keys (pattern_context rs scope m) start (before_slashes l) n) (sym b)
 
 -- ---- which paths have one
+
+-- whether there are predicates
+pub some-items : (a b : ℕ) (r : Bool) → a ≡ b → r ≡ (a == 0) → r ≡ false → (b == 0) ≡ false
+some-items a b r e q f = ap (λ (n : ℕ). n == 0) (sym e) ∙ sym q ∙ f
+
+pub no-items : (a b : ℕ) (r : Bool) → a ≡ b → r ≡ (a == 0) → r ≡ true → b ≡ 0
+no-items a b r e q f = sym e ∙ eqb-true a 0 (sym q ∙ f)
 
 pub all-reverse : (p : Tree → Bool) (ts : List Tree) → list_all p (reverse ts) ≡ list_all p ts
 all-reverse p [] = refl

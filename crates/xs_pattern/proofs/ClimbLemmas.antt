@@ -1,14 +1,10 @@
 -- How a path is gone over from its end: steps to parents, and `//` to ancestors.
-use Rattle.std.proofs.Common.{◌≡◌, ℕ, zero, suc, ◌+◌, ◌<◌, ◌≤◌, ◌&&◌, Bool, true, false, cond, List, [], ◌∷◌, ◌++◌, length, reverse, map, Option, Some, None}
+use Rattle.std.proofs.Common.{◌≡◌, ℕ, zero, suc, ◌<◌, ◌≤◌, ◌&&◌, Bool, true, false, List, [], ◌∷◌, length, Option, Some, None}
 use Rattle.std.proofs.Common.{refl, sym, ap, subst, ◌∙◌, arith, ◌⊎◌, inl, inr}
-use Rattle.std.proofs.lemmas.Bool.{and_from, and_parts, true≢false}
-use Rattle.std.proofs.lemmas.List.{reverse-append}
-use Rattle.std.specs.List.{list_any}
+use Rattle.std.proofs.lemmas.Bool.{and_parts, true≢false}
 use Rattle.std.specs.Option.{option_map_or}
-use Rattle.xs_tree.specs.declared.axes.Axis.TheVariants.{AncestorOrSelf}
-use Rattle.xs_tree.specs.Axis.{axis_list}
 use Rattle.xs_tree.specs.Kinds.{is_root_kind}
-use Rattle.xs_tree.specs.Record.{Record, at}
+use Rattle.xs_tree.specs.Record.{at}
 use Rattle.xs_tree.specs.Shape.{IsTree}
 use Rattle.xs_tree.proofs.RootLemmas.{no_parent-root}
 use Rattle.xs_tree.proofs.WalkLemmas.{IsPlaced-at}

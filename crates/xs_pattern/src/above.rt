@@ -1,15 +1,14 @@
 //! Tables of what stands before the last `//` of a pattern (XSLT 1.0, 5.2), so that a node's
 //! ancestors are not gone over each time that the node is matched.
 
-ghost use Rattle.std.specs.Prelude.{◌≡◌, ◌<◌, ◌&&◌, IfOk, IfSome, false, get_or, is_some};
-ghost use Rattle.std.specs.Prelude.{length, map, replicate};
+ghost use Rattle.std.specs.Prelude.{◌≡◌, ◌<◌, [], IfOk, IfSome, false, get_or, is_some};
+ghost use Rattle.std.specs.Prelude.{length, map};
 ghost use Rattle.std.specs.List.{range_with_len};
-ghost use Rattle.xs_tree.specs.Kinds.{is_root_kind};
-ghost use Rattle.xs_tree.specs.Record.{at, places};
+ghost use Rattle.xs_tree.specs.Record.{places};
 ghost use Rattle.xs_tree.specs.Shape.{IsTree};
 ghost use Rattle.xs_xpath.specs.Exprs.{tree_from};
 ghost use Rattle.xs_pattern.specs.steps.Above.{AreEnds, AreNext, IsAbove, has_table, is_below};
-ghost use Rattle.xs_pattern.specs.steps.Above.{is_led};
+ghost use Rattle.xs_pattern.specs.steps.Above.{is_led, is_root_at};
 ghost use Rattle.xs_pattern.specs.steps.Climb.{backwards, before_slashes};
 
 use crate::node_tests::{is_root, passes};
@@ -104,7 +103,7 @@ fn beginnings(alloc: Global, start: &Expr, tree: &Tree) -> Result<Option<Vec<boo
 // For each node, whether it is a root.
 fn roots(alloc: Global, tree: &Tree) -> Result<Vec<bool>, AllocError>
     ensures roots { IfOk result (λ t. t.items
-        ≡ map (λ n. is_root_kind (at tree.now n).kind) (places tree.now)) }
+        ≡ map (is_root_at tree.now) (places tree.now)) }
     ensures tree { IsTree tree.now }
 {
     let mut marks = Vec::new(alloc);
@@ -148,7 +147,8 @@ fn next_ends(
 
 // For each node, whether it or one of its ancestors is marked.
 fn below(alloc: Global, marks: &[bool], tree: &Tree) -> Result<Vec<bool>, AllocError>
-    ensures below { IfOk result (λ t. t.items ≡ map (is_below marks.now tree.now) (places tree.now)) }
+    ensures below { IfOk result (λ t. t.items
+        ≡ map (is_below marks.now tree.now) (places tree.now)) }
     ensures tree { IsTree tree.now }
 {
     let mut found = Vec::new(alloc);

@@ -1,11 +1,12 @@
 -- Tables of what stands before the last `//` of a path: where it ends (XSLT 1.0, 5.2).
-use Rattle.std.specs.Prelude.{◌≡◌, ℕ, ◌<◌, ◌==◌, ◌&&◌, not, Bool, true, false, List, [], ◌∷◌, reverse, length, get_or, Option, Some, None, Vec}
+use Rattle.std.specs.Prelude.{◌≡◌, ℕ, ◌<◌, ◌==◌, ◌&&◌, not, Bool, true, false, List, ◌∷◌, reverse, length, get_or, Option, Some, None, Vec}
 use Rattle.std.specs.declared.alloc.Global.{Global}
 use Rattle.std.specs.List.{list_all, list_any}
 use Rattle.std.specs.Option.{option_map_or}
 use Rattle.xs_tree.specs.declared.axes.Axis.{Axis}
 use Rattle.xs_tree.specs.declared.axes.Axis.TheVariants.{AncestorOrSelf}
 use Rattle.xs_tree.specs.Axis.{axis_list}
+use Rattle.xs_tree.specs.Kinds.{is_root_kind}
 use Rattle.xs_tree.specs.Record.{Record, at}
 use Rattle.xs_value.specs.Tables.{Table}
 use Rattle.xs_xpath.specs.declared.name.NodeTest.{NodeTest}
@@ -69,3 +70,7 @@ is_below marks rs n = list_any (λ k. get_or marks k false) (axis_list AncestorO
 abbrev pub is_led : Axis → NodeTest → List Bool → List Record → ℕ → Bool
 is_led axis which marks rs n =
     option_map_or (λ p. get_or marks p false && (stands_on axis (at rs n).kind && passes axis which (at rs n))) (at rs n).parent false
+
+-- whether the node at n is a root
+abbrev pub is_root_at : List Record → ℕ → Bool
+is_root_at rs n = is_root_kind (at rs n).kind

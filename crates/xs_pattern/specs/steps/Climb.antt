@@ -1,6 +1,5 @@
 -- How a path is gone over from its end.
 use Rattle.std.specs.Prelude.{◌≡◌, ℕ, ◌<◌, ◌≤◌, Bool, true, false, List, [], ◌∷◌, reverse, length, if◌then◌else◌}
-use Rattle.std.specs.Borrow.{Bor}
 use Rattle.std.specs.List.{list_any}
 use Rattle.xs_tree.specs.declared.axes.Axis.{Axis}
 use Rattle.xs_tree.specs.declared.axes.Axis.TheVariants.{Child, Attribute as AttributeAxis, AncestorOrSelf}
@@ -9,7 +8,7 @@ use Rattle.xs_tree.specs.Axis.{axis_list}
 use Rattle.xs_tree.specs.Kinds.{is_attribute_kind, is_child_kind}
 use Rattle.xs_value.specs.Tables.{Table}
 use Rattle.xs_xpath.specs.declared.expr.Expr.{Expr}
-use Rattle.xs_xpath.specs.Exprs.{tree_from, trees_from}
+use Rattle.xs_xpath.specs.Exprs.{trees_from}
 use Rattle.xs_xpath.specs.Tree.{Tree, here, root}
 use Rattle.xs_eval.specs.Context.{Context}
 use Rattle.xs_pattern.specs.declared.matching.Reached.{Reached}
