@@ -1,13 +1,12 @@
 -- What holds of a node or of one of its ancestors.
-use Rattle.std.proofs.Common.{◌≡◌, ℕ, zero, suc, ◌+◌, ◌<◌, ◌≤◌, ◌==◌, ◌||◌, ◌&&◌, Bool, true, false, cond, List, [], ◌∷◌, ◌++◌, filter, reverse, length}
+use Rattle.std.proofs.Common.{◌≡◌, ℕ, zero, suc, ◌+◌, ◌<◌, ◌≤◌, ◌==◌, ◌||◌, ◌&&◌, Bool, true, false, cond, List, [], ◌∷◌, filter, length}
 use Rattle.std.proofs.Common.{Option, None, Some, refl, sym, ap, subst, ◌∙◌, arith, ◌⊎◌, inl, inr}
 use Rattle.std.proofs.lemmas.Bool.{and_from, and_parts, cases_eq, eq-eqb, eqb-true, or_cases, or_left, or_right, true≢false}
 use Rattle.std.proofs.lemmas.List.Sorted.{IsPermutation-reverse, list_any-IsPermutation}
 use Rattle.std.specs.List.{list_any, range_with_len}
-use Rattle.std.specs.Option.{option_map_or}
 use Rattle.xs_tree.specs.declared.axes.Axis.TheVariants.{AncestorOrSelf}
 use Rattle.xs_tree.specs.Axis.{axis_list, is_ancestor, is_on}
-use Rattle.xs_tree.specs.Record.{Record, at, climbs, is_inside, places}
+use Rattle.xs_tree.specs.Record.{Record, at, climbs, places}
 use Rattle.xs_tree.specs.Shape.{IsTree}
 use Rattle.xs_tree.proofs.WalkLemmas.{IsPlaced-at, IsWithin, climbs-within, climbs-from_within}
 
@@ -130,3 +129,33 @@ any-beyond f rs n t h up =
         turned : (k p : ℕ) → ((p == k) ≡ true) ⊎ (is_ancestor rs p k ≡ true) → (k == p || is_ancestor rs p k) ≡ true
         turned k p (inl q) = or_left (k == p) (is_ancestor rs p k) (eq-eqb k p (sym (eqb-true p k q)))
         turned k p (inr q) = or_right (k == p) (is_ancestor rs p k) q
+
+-- where the node itself does not pass, one above it does where one above its parent does
+pub any-up : (f : ℕ → Bool) (rs : List Record) (n p : ℕ) → IsTree rs → n < length rs → (at rs n).parent ≡ Some p → f n ≡ false
+    → any_above f rs n ≡ any_above f rs p
+any-up f rs n p t h e differs =
+    same (any_above f rs n) (any_above f rs p)
+    (λ up. elim (any-beyond f rs n t h up) [
+      | inl q ↦ absurd (true≢false (sym q ∙ differs))
+      | inr w ↦ (let i : Some w.0 ≡ Some p = sym w.1 ∙ e in let j : w.0 ≡ p = cc in subst (λ (k : ℕ). any_above f rs k ≡ true) j w.2)
+    ])
+    (any-parent f rs n p t h e)
+
+pub any-root : (f : ℕ → Bool) (rs : List Record) (n : ℕ) → IsTree rs → n < length rs → (at rs n).parent ≡ None → f n ≡ false → any_above f rs n ≡ false
+any-root f rs n t h e differs =
+    same (any_above f rs n) false
+    (λ up. elim (any-beyond f rs n t h up) [
+      | inl q ↦ absurd (true≢false (sym q ∙ differs))
+      | inr w ↦ (let i : Some w.0 ≡ None = sym w.1 ∙ e in absurd (cc))
+    ])
+    (λ q. absurd (true≢false (sym q)))
+
+any-of : (f g : ℕ → Bool) (rs : List Record) (n : ℕ) → ((k : ℕ) → k < length rs → f k ≡ g k) → any_above f rs n ≡ true → any_above g rs n ≡ true
+any-of f g rs n h e =
+    let w : (k : ℕ) × (k < length rs) × ((is_on AncestorOrSelf rs n k && f k) ≡ true) = any-there f rs n e in
+    let both : (is_on AncestorOrSelf rs n w.0 ≡ true) × (f w.0 ≡ true) = and_parts (is_on AncestorOrSelf rs n w.0) (f w.0) w.2 in
+    any-here g rs n w.0 w.1 both.0 (sym (h w.0 w.1) ∙ both.1)
+
+-- two tests that say the same of each node
+pub any-same : (f g : ℕ → Bool) (rs : List Record) (n : ℕ) → ((k : ℕ) → k < length rs → f k ≡ g k) → any_above f rs n ≡ any_above g rs n
+any-same f g rs n h = same (any_above f rs n) (any_above g rs n) (any-of f g rs n h) (any-of g f rs n (λ k lt. sym (h k lt)))

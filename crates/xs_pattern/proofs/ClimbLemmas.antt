@@ -1,14 +1,10 @@
 -- How a path is gone over from its end: steps to parents, and `//` to ancestors.
-use Rattle.std.proofs.Common.{◌≡◌, ℕ, zero, suc, ◌+◌, ◌<◌, ◌≤◌, ◌&&◌, Bool, true, false, cond, List, [], ◌∷◌, ◌++◌, length, reverse, map, Option, Some, None}
+use Rattle.std.proofs.Common.{◌≡◌, ℕ, zero, suc, ◌<◌, ◌≤◌, ◌&&◌, Bool, true, false, List, [], ◌∷◌, length, Option, Some, None}
 use Rattle.std.proofs.Common.{refl, sym, ap, subst, ◌∙◌, arith, ◌⊎◌, inl, inr}
-use Rattle.std.proofs.lemmas.Bool.{and_from, and_parts, true≢false}
-use Rattle.std.proofs.lemmas.List.{reverse-append}
-use Rattle.std.specs.List.{list_any}
+use Rattle.std.proofs.lemmas.Bool.{and_parts, true≢false}
 use Rattle.std.specs.Option.{option_map_or}
-use Rattle.xs_tree.specs.declared.axes.Axis.TheVariants.{AncestorOrSelf}
-use Rattle.xs_tree.specs.Axis.{axis_list}
 use Rattle.xs_tree.specs.Kinds.{is_root_kind}
-use Rattle.xs_tree.specs.Record.{Record, at}
+use Rattle.xs_tree.specs.Record.{at}
 use Rattle.xs_tree.specs.Shape.{IsTree}
 use Rattle.xs_tree.proofs.RootLemmas.{no_parent-root}
 use Rattle.xs_tree.proofs.WalkLemmas.{IsPlaced-at}
@@ -21,9 +17,9 @@ use Rattle.xs_eval.specs.Evaluation.{run_of_tree}
 use Rattle.xs_pattern.specs.Predicates.{is_among, nodes_given}
 use Rattle.xs_pattern.specs.declared.matching.Reached.{Reached}
 use Rattle.xs_pattern.specs.declared.matching.Reached.TheVariants.{Below, Differs, Fits}
-use Rattle.xs_pattern.specs.steps.Climb.{IsBehind, IsBelow, IsReached, backwards, ends_above, is_anywhere}
+use Rattle.xs_pattern.specs.steps.Climb.{IsBehind, IsBelow, IsReached, backwards, before_slashes, ends_above, is_anywhere}
 use Rattle.xs_pattern.proofs.StartLemmas.{here-among, root-among}
-use Rattle.xs_pattern.proofs.AncestorLemmas.{any-beyond, any-parent, any-self, same}
+use Rattle.xs_pattern.proofs.AncestorLemmas.{any-beyond, any-parent, any-root, any-self, any-up, same}
 
 -- ---- one step
 
@@ -77,23 +73,13 @@ above-beyond keys c start steps n t h up = any-beyond (ends_path keys c start st
 -- where the path does not end at the node, it ends above it where it ends above the parent
 pub above-up : (keys : List Table) (c : Context) (start : Tree) (steps : List Tree) (n p : ℕ) → IsTree c.tree → n < length c.tree
     → (at c.tree n).parent ≡ Some p → ends_path keys c start steps n ≡ false → ends_above keys c start steps n ≡ ends_above keys c start steps p
-above-up keys c start steps n p t h e f =
-    same (ends_above keys c start steps n) (ends_above keys c start steps p)
-    (λ up. elim (above-beyond keys c start steps n t h up) [
-      | inl q ↦ absurd (true≢false (sym q ∙ f))
-      | inr w ↦ (let i : Some w.0 ≡ Some p = sym w.1 ∙ e in let j : w.0 ≡ p = cc in subst (λ (k : ℕ). ends_above keys c start steps k ≡ true) j w.2)
-    ])
-    (above-parent keys c start steps n p t h e)
+unfolding ends_above
+above-up keys c start steps n p t h e f = any-up (ends_path keys c start steps) c.tree n p t h e f
 
 pub above-root : (keys : List Table) (c : Context) (start : Tree) (steps : List Tree) (n : ℕ) → IsTree c.tree → n < length c.tree
     → (at c.tree n).parent ≡ None → ends_path keys c start steps n ≡ false → ends_above keys c start steps n ≡ false
-above-root keys c start steps n t h e f =
-    same (ends_above keys c start steps n) false
-    (λ up. elim (above-beyond keys c start steps n t h up) [
-      | inl q ↦ absurd (true≢false (sym q ∙ f))
-      | inr w ↦ (let i : Some w.0 ≡ None = sym w.1 ∙ e in absurd (cc))
-    ])
-    (λ q. absurd (true≢false (sym q)))
+unfolding ends_above
+above-root keys c start steps n t h e f = any-root (ends_path keys c start steps) c.tree n t h e f
 
 -- the parent that a path which ends in a step leads through
 through-parent : (keys : List Table) (c : Context) (start s : Tree) (before : List Tree) (n : ℕ) → is_descend s ≡ false
@@ -169,14 +155,21 @@ sunk keys c start s before n t d h up = sunk-in keys c start s before t d n n (o
 
 -- ---- the loop over the steps behind the last `//`
 
--- What was gone over so far: the path ends at the first node where its rest ends at this one, and so it is above them.
+-- What was gone over so far: the path ends at the first node where its rest ends at this one, and so it is above them. There was no `//`.
 pub record Gone (keys : List Table) (c : Context) (start : Tree) (all rest : List Tree) (first n : ℕ) : Type 0 where
   pub here : ends_path keys c start all first ≡ ends_path keys c start rest n
   pub above : ends_above keys c start all first ≡ true → ends_above keys c start rest n ≡ true
+  pub slashes : before_slashes rest ≡ before_slashes all
   pub within : n ≤ first
 
+pub slashes-step : (s : Tree) (before : List Tree) → is_descend s ≡ false → before_slashes (s ∷ before) ≡ before_slashes before
+slashes-step s before d = rw d refl
+
+pub slashes-here : (s : Tree) (before : List Tree) → is_descend s ≡ true → before_slashes (s ∷ before) ≡ before
+slashes-here s before d = rw d refl
+
 pub gone-none : (keys : List Table) (c : Context) (start : Tree) (all : List Tree) (n : ℕ) → Gone keys c start all all n n
-gone-none keys c start all n = record { here = refl; above = λ e. e; within = omega arith }
+gone-none keys c start all n = record { here = refl; above = λ e. e; slashes = refl; within = omega arith }
 
 pub gone-step : (keys : List Table) (c : Context) (start s : Tree) (all before : List Tree) (first n p : ℕ) → IsTree c.tree → n < length c.tree
     → Gone keys c start all (s ∷ before) first n → is_descend s ≡ false → (at c.tree n).parent ≡ Some p
@@ -184,6 +177,7 @@ pub gone-step : (keys : List Table) (c : Context) (start s : Tree) (all before :
 gone-step keys c start s all before first n p t h g d e q = record {
   here = g.here ∙ ends-parent keys c start s before n p true d e q;
   above = λ up. lifted keys c start s before n p t d h e (g.above up);
+  slashes = sym (slashes-step s before d) ∙ g.slashes;
   within = omega (arith, g.within, (IsPlaced-at c.tree n p t h e).before);
 }
 
@@ -233,6 +227,7 @@ reached-behind keys c start s steps before first n (Below es top) t h g d lt b =
     let below : IsBelow keys c start steps before first n = record {
       here = g.here ∙ ends-descend keys c start s (backwards before) n d;
       above = gone-below keys c start s (backwards steps) (backwards before) first n t h g d;
+      rest = sym (slashes-here s (backwards before) d) ∙ g.slashes;
       shorter = lt;
       within = g.within;
     } in

@@ -6,3 +6,4 @@ pub mod TreeLemmas
 pub mod ClimbLemmas
 pub mod AlternativeLemmas
 pub mod StartLemmas
+pub mod AboveLemmas

@@ -1,5 +1,5 @@
 -- Which nodes a step of a pattern selects from their parent.
-use Rattle.std.proofs.Common.{◌≡◌, ℕ, ◌+◌, ◌<◌, ◌==◌, ◌&&◌, Bool, true, false, List, [], ◌∷◌, ◌++◌, filter, fold, length, map, Option, Some}
+use Rattle.std.proofs.Common.{◌≡◌, ℕ, ◌+◌, ◌<◌, ◌==◌, ◌&&◌, Bool, true, false, List, [], filter, length, Option, Some}
 use Rattle.std.proofs.Common.{refl, sym, ap, subst, ◌∙◌, arith}
 use Rattle.std.proofs.lemmas.Bool.{and_from, and_parts, eq-eqb, eqb-true, true≢false}
 use Rattle.std.specs.List.{list_any}
@@ -10,7 +10,6 @@ use Rattle.xs_tree.specs.Axis.{axis_list, is_on}
 use Rattle.xs_tree.specs.Kinds.{is_attribute_kind, is_child_kind}
 use Rattle.xs_tree.specs.Record.{Record, at, is_place, places}
 use Rattle.xs_xpath.specs.declared.name.NodeTest.{NodeTest}
-use Rattle.xs_xpath.specs.Patterns.{is_pattern_axis}
 use Rattle.xs_eval.specs.Context.{Context}
 use Rattle.xs_eval.specs.Paths.{Meaning, passes, tested}
 use Rattle.xs_pattern.specs.Matching.{placed_at, step_nodes}

@@ -12,7 +12,7 @@ use Rattle.xs_value.specs.Tables.{Table}
 use Rattle.xs_xpath.specs.declared.name.NodeTest.{NodeTest}
 use Rattle.xs_xpath.specs.Outcome.{listed}
 use Rattle.xs_xpath.specs.Patterns.{is_pattern_axis}
-use Rattle.xs_xpath.specs.Tree.{Tree, Trees, number, literal, variable, call, negative, chain, group, here, root, step, descend, filter, path}
+use Rattle.xs_xpath.specs.Tree.{Tree, number, literal, variable, call, negative, chain, group, here, root, step, descend, filter, path}
 use Rattle.xs_eval.specs.Context.{Context, at_node}
 use Rattle.xs_eval.specs.Evaluation.{run_of_tree, runs_of_trees}
 use Rattle.xs_eval.specs.Paths.{Meaning, tested}

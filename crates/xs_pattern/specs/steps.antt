@@ -1,3 +1,4 @@
 -- What the code mirrors.
 pub mod Climb
+pub mod Above
 pub mod Alone

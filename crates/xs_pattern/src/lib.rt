@@ -1,6 +1,7 @@
 //! Patterns of XSLT 1.0: whether a node matches one (5.2).
 #![tactic(auto)]
 
+pub mod above;
 pub mod matching;
 mod node_tests;
 pub mod paths;

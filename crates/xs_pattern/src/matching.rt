@@ -1,8 +1,6 @@
 //! Whether a node matches a pattern (XSLT 1.0, 5.2).
 
-ghost use Rattle.std.specs.Prelude.{◌≡◌, ◌<◌, IfOk, length};
-ghost use Rattle.xs_tree.specs.Kinds.{is_root_kind};
-ghost use Rattle.xs_tree.specs.Record.{at};
+ghost use Rattle.std.specs.Prelude.{◌≡◌, ◌<◌, IfOk, IfSome, length};
 ghost use Rattle.xs_tree.specs.Shape.{IsTree};
 ghost use Rattle.xs_value.specs.Tables.{TablesIn};
 ghost use Rattle.xs_xpath.specs.Exprs.{tree_from, trees_from};
@@ -11,14 +9,17 @@ ghost use Rattle.xs_eval.specs.Evaluation.{run_of};
 ghost use Rattle.xs_pattern.specs.Matching.{ends_path, matches, matches_path, pattern_context};
 ghost use Rattle.xs_pattern.specs.Matching.{placed_at};
 ghost use Rattle.xs_pattern.specs.Predicates.{is_among, nodes_given};
+ghost use Rattle.xs_pattern.specs.steps.Above.{IsAbove, IsAboveIn};
 ghost use Rattle.xs_pattern.specs.steps.Climb.{IsBehind, IsReached, backwards, ends_above};
 
+use crate::above::is_marked;
+use crate::node_tests::is_root;
 use crate::paths::{start_of, steps_of};
 use crate::steps::{is_descend, leads_to};
 use crate::values::is_given;
 use std::alloc::{AllocError, Global};
 use xs_eval::context::Context;
-use xs_tree::{Kind, Node, Tree};
+use xs_tree::{Node, Tree};
 use xs_value::keys::KeyFinder;
 use xs_xpath::expr::Expr;
 use xs_xpath::pattern::Pattern;
@@ -76,6 +77,26 @@ pub fn matches_path<K: KeyFinder>(
     ensures matches { IfOk result (λ b. b ≡ matches_path (K.tables keys.now)
         (pattern_context tree.now scope.now.pairs.items node) (tree_from alternative.now)) }
 {
+    matches_path_by(alloc, alternative, scope, tree, node, keys, None)
+}
+
+/// The same, with the table that `above_of` makes of the alternative, if there is one: then the
+/// node's ancestors are not gone over.
+pub fn matches_path_by<K: KeyFinder>(
+    alloc: Global,
+    alternative: &Expr,
+    scope: &Scope,
+    tree: &Tree,
+    node: Node,
+    keys: &K,
+    above: Option<&[bool]>,
+) -> Result<bool, AllocError>
+    requires node { node < length tree.now }
+    requires tables { TablesIn tree.now (K.tables keys.now) }
+    requires above { IfSome above (λ t. IsAbove tree.now (tree_from alternative.now) t.now) }
+    ensures matches { IfOk result (λ b. b ≡ matches_path (K.tables keys.now)
+        (pattern_context tree.now scope.now.pairs.items node) (tree_from alternative.now)) }
+{
     let count = tree.len();
     prove!((node.place() as usize) < count);
     let context = Context {
@@ -94,6 +115,7 @@ pub fn matches_path<K: KeyFinder>(
         steps_of(alternative),
         &context,
         keys,
+        above,
     )
 }
 
@@ -104,9 +126,12 @@ fn ends_path<K: KeyFinder>(
     steps: &[Expr],
     context: &Context<'_>,
     keys: &K,
+    above: Option<&[bool]>,
 ) -> Result<bool, AllocError>
     requires context { IsContext (K.tables keys.now) context.now }
     requires tree { IsTree context.now.tree }
+    requires above { IfSome above (λ t. IsAboveIn (K.tables keys.now) context.now
+        (tree_from start.now) (backwards steps.now) t.now) }
     ensures ends { IfOk result (λ b. b ≡ ends_path (K.tables keys.now) context.now
         (tree_from start.now) (backwards steps.now) context.now.node) }
 {
@@ -114,8 +139,9 @@ fn ends_path<K: KeyFinder>(
         Err(refused) => Err(refused),
         Ok(Reached::Fits) => Ok(true),
         Ok(Reached::Differs) => Ok(false),
-        Ok(Reached::Below(before, top)) => {
-            ends_above(alloc, start, before, Node::at(top), context, keys)
+        Ok(Reached::Below(before, top)) => match above {
+            Some(marks) => Ok(is_marked(marks, Node::at(top))),
+            None => ends_above(alloc, start, before, Node::at(top), context, keys),
         },
     }
 }
@@ -230,12 +256,4 @@ fn begins<K: KeyFinder>(
             is_given(alloc, start, node, &around, keys)
         }
     }
-}
-
-// Whether a node is the root of a document.
-fn is_root(tree: &Tree, node: Node) -> bool
-    requires { node < length tree.now }
-    ensures { result ≡ is_root_kind (at tree.now node).kind }
-{
-    tree.kind(node) == Kind::Root
 }

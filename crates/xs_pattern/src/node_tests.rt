@@ -2,6 +2,7 @@
 //! public.
 
 ghost use Rattle.std.specs.Prelude.{◌≡◌, ◌<◌, ◌∷◌, [], ◌++◌, IfOk, OnOk, length, if◌then◌else◌};
+ghost use Rattle.xs_tree.specs.Kinds.{is_root_kind};
 ghost use Rattle.xs_tree.specs.Record.{at};
 ghost use Rattle.xs_eval.specs.Paths.{is_named, is_principal, passes, tested};
 ghost use Rattle.xs_eval.specs.steps.Nodes.{AreSome};
@@ -92,4 +93,12 @@ fn is_principal(axis: Axis, kind: Kind) -> bool
         Axis::DescendantOrSelf => kind == Kind::Element,
         Axis::AncestorOrSelf => kind == Kind::Element,
     }
+}
+
+/// Whether a node is the root of a document.
+pub(crate) fn is_root(tree: &Tree, node: Node) -> bool
+    requires { node < length tree.now }
+    ensures { result ≡ is_root_kind (at tree.now node).kind }
+{
+    tree.kind(node) == Kind::Root
 }

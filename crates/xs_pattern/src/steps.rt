@@ -115,8 +115,8 @@ fn leads_by<K: KeyFinder>(
     }
 }
 
-// Whether a node of a kind stands on an axis of its parent, of the two that patterns have.
-fn stands_on(axis: Axis, kind: Kind) -> bool
+/// Whether a node of a kind stands on an axis of its parent, of the two that patterns have.
+pub(crate) fn stands_on(axis: Axis, kind: Kind) -> bool
     ensures { result ≡ stands_on axis kind }
 {
     match axis {

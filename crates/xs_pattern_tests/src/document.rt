@@ -43,3 +43,18 @@ pub(crate) fn chain(alloc: Global, depth: u32) -> Result<Tree, Fail> {
     }
     tree_of(alloc, &lines)
 }
+
+// Elements `a`, `b` and `c` inside one another, in several orders.
+const BUSH: &[u8] =
+    b"(a\nAk 1\n(b\n(c\n)c\n(a\n-1\n)a\n)b\n(c\n(a\n(b\n)b\n)a\n(b\n(a\n)a\n)b\n)c\n)a\n";
+
+/// An element `doc` with so many bushes of elements, each behind the one before it.
+pub(crate) fn bushes(alloc: Global, count: u32) -> Result<Tree, Fail> {
+    let mut lines = Vec::new(alloc);
+    lines.extend_from_slice(b"(doc\n")?;
+    for _ in 0..count {
+        lines.extend_from_slice(BUSH)?;
+    }
+    lines.extend_from_slice(b")doc\n")?;
+    tree_of(alloc, &lines)
+}

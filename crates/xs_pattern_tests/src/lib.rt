@@ -2,6 +2,8 @@
 #![tactic(auto)]
 
 #[cfg(test)]
+mod above_tests;
+#[cfg(test)]
 mod chain_tests;
 #[cfg(test)]
 mod document;

@@ -1,6 +1,5 @@
 -- How a path is gone over from its end.
-use Rattle.std.specs.Prelude.{◌≡◌, ℕ, ◌<◌, ◌≤◌, Bool, true, false, List, [], reverse, length}
-use Rattle.std.specs.Borrow.{Bor}
+use Rattle.std.specs.Prelude.{◌≡◌, ℕ, ◌<◌, ◌≤◌, Bool, true, false, List, [], ◌∷◌, reverse, length, if◌then◌else◌}
 use Rattle.std.specs.List.{list_any}
 use Rattle.xs_tree.specs.declared.axes.Axis.{Axis}
 use Rattle.xs_tree.specs.declared.axes.Axis.TheVariants.{Child, Attribute as AttributeAxis, AncestorOrSelf}
@@ -9,12 +8,12 @@ use Rattle.xs_tree.specs.Axis.{axis_list}
 use Rattle.xs_tree.specs.Kinds.{is_attribute_kind, is_child_kind}
 use Rattle.xs_value.specs.Tables.{Table}
 use Rattle.xs_xpath.specs.declared.expr.Expr.{Expr}
-use Rattle.xs_xpath.specs.Exprs.{tree_from, trees_from}
+use Rattle.xs_xpath.specs.Exprs.{trees_from}
 use Rattle.xs_xpath.specs.Tree.{Tree, here, root}
 use Rattle.xs_eval.specs.Context.{Context}
 use Rattle.xs_pattern.specs.declared.matching.Reached.{Reached}
 use Rattle.xs_pattern.specs.declared.matching.Reached.TheVariants.{Fits, Differs, Below}
-use Rattle.xs_pattern.specs.Matching.{ends_path}
+use Rattle.xs_pattern.specs.Matching.{ends_path, is_descend}
 
 -- whether a node of a kind stands on an axis of its parent, of the two that patterns have
 abbrev pub stands_on : Axis → Kind → Bool
@@ -30,11 +29,17 @@ ends_above keys c start steps n = list_any (ends_path keys c start steps) (axis_
 abbrev pub backwards : List Expr → List Tree
 backwards es = reverse (trees_from es)
 
+-- what stands before the last `//`, of steps with the last one first; nothing, where there is none
+abbrev pub before_slashes : List Tree → List Tree
+before_slashes [] = []
+before_slashes (s ∷ before) = if is_descend s then before else before_slashes before
+
 -- The steps behind the last `//` lead from the node at top to the node at n. So does the path end there where it ends at top or above,
 -- and it ends above n where it does so.
 pub record IsBelow (keys : List Table) (c : Context) (start : Tree) (steps before : List Expr) (n top : ℕ) : Type 0 where
   pub here : ends_path keys c start (backwards steps) n ≡ ends_above keys c start (backwards before) top
   pub above : ends_above keys c start (backwards steps) n ≡ ends_above keys c start (backwards before) top
+  pub rest : backwards before ≡ before_slashes (backwards steps)
   pub shorter : length before < length steps
   pub within : top ≤ n
 

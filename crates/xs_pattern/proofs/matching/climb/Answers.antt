@@ -1,4 +1,4 @@
-use Rattle.std.proofs.Common.{◌≡◌, ℕ, ◌+◌, ◌<◌, ◌≤◌, ◌&&◌, Bool, true, false, None, Some, List, Option, [], ◌∷◌, arith, ap, length, refl, subst, sym, ◌∙◌}
+use Rattle.std.proofs.Common.{◌≡◌, ◌<◌, false, None, Some, List, ◌∷◌, arith, ap, length, subst, sym, ◌∙◌}
 use Rattle.xs_tree.specs.Record.{at}
 use Rattle.xs_tree.proofs.WalkLemmas.{IsPlaced-at}
 use Rattle.xs_xpath.specs.Exprs.{tree_from}

@@ -1,4 +1,4 @@
-use Rattle.std.proofs.Common.{◌≡◌, ℕ, ◌<◌, Bool, true, false, None, Some, arith, ap, length, sym, ◌∙◌}
+use Rattle.std.proofs.Common.{◌≡◌, None, Some, arith, ap, sym, ◌∙◌}
 use Rattle.xs_tree.specs.Record.{at}
 use Rattle.xs_tree.proofs.WalkLemmas.{IsPlaced-at}
 use Rattle.xs_xpath.specs.Exprs.{tree_from}

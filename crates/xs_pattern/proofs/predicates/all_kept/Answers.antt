@@ -1,4 +1,4 @@
-use Rattle.std.proofs.Common.{◌≡◌, ℕ, ◌+◌, List, arith, ap, drop, map, sym, ◌∙◌}
+use Rattle.std.proofs.Common.{ℕ, ◌+◌, List, arith, ap, drop, map, sym, ◌∙◌}
 use Rattle.xs_eval.specs.Evaluation.{run_of}
 use Rattle.xs_eval.specs.Paths.{Meaning}
 use Rattle.xs_eval.proofs.StepLemmas.{from_here, mapped_at, mapped_below}

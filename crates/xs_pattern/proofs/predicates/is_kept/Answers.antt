@@ -1,4 +1,4 @@
-use Rattle.std.proofs.Common.{◌≡◌, ℕ, ◌+◌, ◌==◌, ◌&&◌, Bool, arith, ap, length, ◌∙◌}
+use Rattle.std.proofs.Common.{ℕ, ◌+◌, ◌==◌, ◌&&◌, arith, ap, length, ◌∙◌}
 use Rattle.xs_eval.specs.Evaluation.{run_of}
 use Rattle.xs_pattern.specs.Predicates.{holds}
 use Rattle.xs_pattern.proofs.KeptLemmas.{among-end, among-found, among-on}
