@@ -63,13 +63,24 @@ fn evaluate_over(alloc: Global, job: &Job, sheet: &Sheet, tree: &Tree) -> Result
         (reply.status ≡ OK) ⊎ (reply.status ≡ RUN_FAULT)) }
     ensures whole_only { IfOk result IsWholeOrEmpty }
 {
-    let mut index = RuleIndex::new(alloc, sheet)?;
-    index.prepare(alloc, tree)?;
+    let index = index_for(alloc, sheet, tree)?;
     let settled = settle(alloc, sheet, &index, tree, &NoKeys, &job.given, job.budget)?;
     match settled.end {
         Some(spot) => stopped_reply(alloc, sheet, spot, &settled.says, &[], settled.ticks),
         None => root_reply(alloc, job, sheet, &index, tree, &settled),
     }
+}
+
+/// The index of a stylesheet's rules, prepared for a source.
+fn index_for<'a>(alloc: Global, sheet: &'a Sheet, tree: &Tree) -> Result<RuleIndex<'a>, AllocError>
+    requires sound { IsSound sheet.now }
+    ensures index { IfOk result IsIndex }
+    ensures prepared { IfOk result (λ index. IsPrepared index tree.now) }
+    ensures templates { IfOk result (λ index. index.templates.now ≡ sheet.now.templates.items) }
+{
+    let mut index = RuleIndex::new(alloc, sheet)?;
+    index.prepare(alloc, tree)?;
+    Ok(index)
 }
 
 /// What the root of a source takes, once the globals are settled, cut at what is left of the limits

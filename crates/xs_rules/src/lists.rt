@@ -114,8 +114,8 @@ impl<'a> Lists<'a> {
     }
 
     /// The rule that a node takes of those that are looked at. The rules with the node's key and
-    /// those for any name are two chains, which are gone along together from their ends. A rule with
-    /// a table beside it is tried by it.
+    /// those for any name are two chains, which are gone along together from their ends. A rule
+    /// that has a table is tried by it.
     pub(crate) fn choose_among<K: KeyFinder>(
         &self,
         alloc: Global,

@@ -64,11 +64,11 @@ fn first_tables(
 {
     let mut tables = Vec::new(alloc);
     let mut left = MOST;
-    for place in 0..entries.len() {
+    for entry in entries {
         if left == 0 {
             return Ok(tables);
         }
-        let table = table_of(alloc, templates, entries[place], tree)?;
+        let table = table_of(alloc, templates, entry, tree)?;
         left = left_behind(left, &table);
         tables.push(table)?;
     }
@@ -87,10 +87,10 @@ fn left_behind(left: usize, table: &Option<Vec<bool>>) -> usize {
 fn table_of(
     alloc: Global,
     templates: &[Template],
-    entry: Entry,
+    entry: &Entry,
     tree: &Tree,
 ) -> Result<Option<Vec<bool>>, AllocError>
-    ensures table { IfOk result (λ table. IsTableOf tree.now (at_entry templates.now entry)
+    ensures table { IfOk result (λ table. IsTableOf tree.now (at_entry templates.now entry.now)
         (option_map (λ t. t.items) table)) }
 {
     match alternative_of(templates, entry) {
@@ -100,9 +100,9 @@ fn table_of(
 }
 
 // The alternative that is a rule.
-fn alternative_of(templates: &[Template], entry: Entry) -> Option<&Expr>
+fn alternative_of<'a>(templates: &'a [Template], entry: &Entry) -> Option<&'a Expr>
     ensures { option_map (λ e. tree_from e.now) result
-        ≡ option_map (λ c. c.alternative) (at_entry templates.now entry) }
+        ≡ option_map (λ c. c.alternative) (at_entry templates.now entry.now) }
 {
     match templates.get(entry.template as usize) {
         None => None,
@@ -125,7 +125,7 @@ fn alternative_at(template: &Template, place: usize) -> Option<&Expr>
 // Whether there is a `//` between the steps of a rule.
 fn some_climb(templates: &[Template], entries: &[Entry]) -> bool {
     for entry in entries {
-        if let Some(alternative) = alternative_of(templates, *entry) {
+        if let Some(alternative) = alternative_of(templates, entry) {
             if has_slashes(steps_of(alternative)) {
                 return true;
             }
