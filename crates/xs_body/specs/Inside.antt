@@ -1,6 +1,6 @@
 -- What has to be in the tree.
 use Rattle.std.specs.Prelude.{◌≡◌, ℕ, ◌<◌, All, List, length}
-use Rattle.xs_rules.specs.Indexed.{IsIndex}
+use Rattle.xs_rules.specs.Indexed.{IsIndex, IsPrepared}
 use Rattle.xs_sheet.specs.Sound.{IsSound}
 use Rattle.xs_tree.specs.Record.{Record}
 use Rattle.xs_value.specs.declared.value.Value.{Value}
@@ -18,10 +18,12 @@ use Rattle.xs_body.specs.declared.attempts.Attempt.TheVariants as attempt
 use Rattle.xs_body.specs.declared.stack.Stack.{Stack}
 use Rattle.xs_body.specs.steps.Lists.{nodes_in}
 
--- the stylesheet is sound, and the index is that of its rules; the nodes of the globals' values and of the keys' tables are in the tree
+-- the stylesheet is sound, and the index is that of its rules, prepared for the tree; the nodes of the globals' values and of the keys'
+-- tables are in the tree
 pub record IsWorld (w : World) : Type 0 where
   pub sheet : IsSound w.sheet
   pub index : IsIndex w.index
+  pub prepared : IsPrepared w.index w.tree
   pub templates : w.index.templates.now ≡ w.sheet.templates.items
   pub globals : All (IsInIf w.tree) w.globals
   pub tables : TablesIn w.tree w.keys

@@ -16,7 +16,7 @@ ghost use Rattle.xs_body.specs.steps.Settling.{Continues, GoesOn, IsGoing, IsMar
 ghost use Rattle.xs_body.specs.steps.Settling.{IsTurn, IsUnderWay, left_over};
 ghost use Rattle.xs_body.specs.steps.Settling.{table_of};
 ghost use Rattle.xs_eval.specs.Conditions.{IsInIf};
-ghost use Rattle.xs_rules.specs.Indexed.{IsIndex};
+ghost use Rattle.xs_rules.specs.Indexed.{IsIndex, IsPrepared};
 ghost use Rattle.xs_sheet.specs.Sound.{IsSound};
 ghost use Rattle.xs_value.specs.Tables.{TablesIn};
 
@@ -178,6 +178,7 @@ pub fn settle<K: KeyFinder>(
 ) -> Result<Settled, AllocError>
     requires sheet { IsSound sheet.now }
     requires index { IsIndex index.now }
+    requires prepared { IsPrepared index.now tree.now }
     requires templates { index.now.templates.now ≡ sheet.now.templates.items }
     requires tables { TablesIn tree.now (K.tables keys.now) }
     ensures settles { IfOk result (λ z. SettlesAll (ground sheet.now index.now tree.now

@@ -3,7 +3,7 @@
 ghost use Rattle.std.specs.Prelude.{◌≡◌, IsSome};
 ghost use Rattle.std.specs.List.{All};
 ghost use Rattle.xs_eval.specs.Conditions.{IsInIf};
-ghost use Rattle.xs_rules.specs.Indexed.{IsIndex};
+ghost use Rattle.xs_rules.specs.Indexed.{IsIndex, IsPrepared};
 ghost use Rattle.xs_sheet.specs.Sound.{IsSound};
 
 use std::alloc::{AllocError, Global};
@@ -91,6 +91,7 @@ fn told_by(
 ) -> Result<String, AllocError>
     requires sheet { IsSound sheet.now }
     requires index { IsIndex index.now }
+    requires prepared { IsPrepared index.now tree.now }
     requires templates { index.now.templates.now ≡ sheet.now.templates.items }
 {
     let mut out = String::new(alloc);
@@ -125,6 +126,7 @@ fn kept_of(
 ) -> Result<Kept, AllocError>
     requires sheet { IsSound sheet.now }
     requires index { IsIndex index.now }
+    requires prepared { IsPrepared index.now tree.now }
     requires templates { index.now.templates.now ≡ sheet.now.templates.items }
     requires inside { All (IsInIf tree.now) globals.now }
     requires settled { All IsSome globals.now }

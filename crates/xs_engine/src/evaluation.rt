@@ -9,7 +9,7 @@ ghost use Rattle.xs_eval.specs.Conditions.{IsInIf};
 ghost use Rattle.xs_engine.specs.declared.status.TheConstants.{OK, RUN_FAULT};
 ghost use Rattle.xs_engine.specs.Evaluation.{IsEvaluated, IsEvaluatedFrom, IsEvaluatedOn};
 ghost use Rattle.xs_engine.specs.Reply.{IsWholeOrEmpty, job_data, reply_of};
-ghost use Rattle.xs_rules.specs.Indexed.{IsIndex};
+ghost use Rattle.xs_rules.specs.Indexed.{IsIndex, IsPrepared};
 ghost use Rattle.xs_rules.specs.WhiteSpace.{stripped};
 ghost use Rattle.xs_sheet.specs.Sound.{IsSound};
 ghost use Rattle.xs_tree.specs.Stripping.{without};
@@ -63,12 +63,24 @@ fn evaluate_over(alloc: Global, job: &Job, sheet: &Sheet, tree: &Tree) -> Result
         (reply.status ≡ OK) ⊎ (reply.status ≡ RUN_FAULT)) }
     ensures whole_only { IfOk result IsWholeOrEmpty }
 {
-    let index = RuleIndex::new(alloc, sheet)?;
+    let index = index_for(alloc, sheet, tree)?;
     let settled = settle(alloc, sheet, &index, tree, &NoKeys, &job.given, job.budget)?;
     match settled.end {
         Some(spot) => stopped_reply(alloc, sheet, spot, &settled.says, &[], settled.ticks),
         None => root_reply(alloc, job, sheet, &index, tree, &settled),
     }
+}
+
+/// The index of a stylesheet's rules, prepared for a source.
+fn index_for<'a>(alloc: Global, sheet: &'a Sheet, tree: &Tree) -> Result<RuleIndex<'a>, AllocError>
+    requires sound { IsSound sheet.now }
+    ensures index { IfOk result IsIndex }
+    ensures prepared { IfOk result (λ index. IsPrepared index tree.now) }
+    ensures templates { IfOk result (λ index. index.templates.now ≡ sheet.now.templates.items) }
+{
+    let mut index = RuleIndex::new(alloc, sheet)?;
+    index.prepare(alloc, tree)?;
+    Ok(index)
 }
 
 /// What the root of a source takes, once the globals are settled, cut at what is left of the limits
@@ -83,6 +95,7 @@ fn root_reply(
 ) -> Result<Reply, AllocError>
     requires sound { IsSound sheet.now }
     requires index { IsIndex index.now }
+    requires prepared { IsPrepared index.now tree.now }
     requires templates { index.now.templates.now ≡ sheet.now.templates.items }
     requires settled { SettlesAll (ground sheet.now index.now tree.now [])
         (job_data job.now).given job.now.budget (settled_of settled.now) }

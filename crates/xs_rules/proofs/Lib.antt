@@ -8,3 +8,4 @@ pub mod SearchLemmas
 pub mod KeyLemmas
 pub mod IndexLemmas
 mod StripIndexLemmas
+mod TableLemmas

@@ -1,9 +1,16 @@
--- The index of a stylesheet's rules.
+-- The index of a stylesheet's rules, and what it knows of the nodes of a tree.
+use Rattle.std.specs.Prelude.{List}
+use Rattle.xs_tree.specs.Record.{Record}
 use Rattle.xs_rules.specs.declared.index.RuleIndex.{RuleIndex}
 use Rattle.xs_rules.specs.Rules.{candidates}
-use Rattle.xs_rules.specs.steps.Index.{IsIndexed}
+use Rattle.xs_rules.specs.steps.Index.{AreTables, IsIndexed}
 use Rattle.xs_rules.specs.steps.Lists.{found_in}
 
 -- By it each rule of its templates is found; so it is with those that are made of a stylesheet.
 abbrev pub IsIndex : RuleIndex → Type 0
 IsIndex i = IsIndexed i.templates.now (candidates i.templates.now) i.lists.entries.items (found_in i.lists.last)
+
+-- The tables that are there tell, each for the rule that it stands beside, at or below which nodes what stands before the last `//` of
+-- the pattern ends (XSLT 1.0, 5.2).
+abbrev pub IsPrepared : RuleIndex → List Record → Type 0
+IsPrepared i rs = AreTables i.templates.now i.lists.entries.items rs i.above.items

@@ -1,14 +1,16 @@
 //! The rules of a stylesheet by mode, kind and name, and the rule that a node takes, found among
 //! those that it may match.
 
-ghost use Rattle.std.specs.Prelude.{◌≡◌, ◌<◌, ◌^◌, IfOk, length};
+ghost use Rattle.std.specs.Prelude.{◌≡◌, ◌<◌, ◌^◌, IfOk, List, OnErr, OnOk, length};
+ghost use Rattle.xs_tree.specs.Record.{Record};
 ghost use Rattle.xs_value.specs.Tables.{TablesIn};
-ghost use Rattle.xs_rules.specs.Indexed.{IsIndex};
+ghost use Rattle.xs_rules.specs.Indexed.{IsIndex, IsPrepared};
 ghost use Rattle.xs_rules.specs.Rules.{chosen, chosen_import};
 
 use crate::candidates::Looked;
 use crate::choice::{Rule, imported_into};
 use crate::lists::Lists;
+use crate::tables::tables_for;
 use std::alloc::{AllocError, Global};
 use xs_sheet::declarations::Template;
 use xs_sheet::sheet::Sheet;
@@ -21,21 +23,42 @@ pub struct RuleIndex<'a> {
     /// The templates of the stylesheet.
     pub templates: &'a [Template],
     lists: Lists<'a>,
+    /// By the places of the rules in their list: their tables over the nodes of a tree, where they
+    /// have one.
+    above: Vec<Option<Vec<bool>>>,
 }
 
 impl<'a> RuleIndex<'a> {
-    /// The rules of a stylesheet, in time linear in it.
+    /// The rules of a stylesheet, in time linear in it. Without tables it is prepared for any tree.
     pub fn new(alloc: Global, sheet: &'a Sheet) -> Result<RuleIndex<'a>, AllocError>
         requires few { length sheet.now.templates.items < 2 ^ 32 }
         ensures index { IfOk result IsIndex }
         ensures templates { IfOk result (λ index. index.templates.now ≡ sheet.now.templates.items) }
+        ensures plain { IfOk result (λ index. (rs : List Record) → IsPrepared index rs) }
     {
         let templates = sheet.templates.as_slice();
         let mut lists = Lists::new(alloc);
         for number in 0..templates.len() {
             lists.add_template(number as u32, &templates[number])?;
         }
-        Ok(RuleIndex { templates, lists })
+        Ok(RuleIndex {
+            templates,
+            lists,
+            above: Vec::new(alloc),
+        })
+    }
+
+    /// Tables for the patterns with `//` between steps, where the tree is deep; without them each
+    /// match climbs (XSLT 1.0, 5.2). Those of another tree are given up, and after a refusal all is
+    /// as it was.
+    pub fn prepare(&mut self, alloc: Global, tree: &Tree) -> Result<(), AllocError>
+        ensures prepared { OnOk result (IsPrepared self.new tree.now) }
+        ensures refused { OnErr result (self.new ≡ self.old) }
+        ensures templates { self.new.templates.now ≡ self.old.templates.now }
+        ensures index { IsIndex self.old → IsIndex self.new }
+    {
+        self.above = tables_for(alloc, self.templates, &self.lists.entries, tree)?;
+        Ok(())
     }
 }
 
@@ -50,12 +73,23 @@ pub fn choose_with<K: KeyFinder>(
     keys: &K,
 ) -> Result<Rule, AllocError>
     requires index { IsIndex index.now }
+    requires prepared { IsPrepared index.now tree.now }
     requires node { node < length tree.now }
     requires tables { TablesIn tree.now (K.tables keys.now) }
     ensures chosen { IfOk result (λ rule. rule
         ≡ chosen (K.tables keys.now) index.now.templates.now tree.now mode node) }
 {
-    index.lists.choose_among(alloc, index.templates, Looked::All, tree, node, mode, keys)
+    let looked = Looked::All;
+    index.lists.choose_among(
+        alloc,
+        index.templates,
+        looked,
+        tree,
+        node,
+        mode,
+        keys,
+        &index.above,
+    )
 }
 
 /// The rule that a node takes in a mode of those that were imported into the module of the template
@@ -70,13 +104,21 @@ pub fn choose_import_with<K: KeyFinder>(
     under: u32,
 ) -> Result<Rule, AllocError>
     requires index { IsIndex index.now }
+    requires prepared { IsPrepared index.now tree.now }
     requires node { node < length tree.now }
     requires tables { TablesIn tree.now (K.tables keys.now) }
     ensures chosen { IfOk result (λ rule. rule
         ≡ chosen_import under (K.tables keys.now) index.now.templates.now tree.now mode node) }
 {
     let looked = imported_into(index.templates, under);
-    index
-        .lists
-        .choose_among(alloc, index.templates, looked, tree, node, mode, keys)
+    index.lists.choose_among(
+        alloc,
+        index.templates,
+        looked,
+        tree,
+        node,
+        mode,
+        keys,
+        &index.above,
+    )
 }

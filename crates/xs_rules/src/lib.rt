@@ -9,4 +9,5 @@ mod lists;
 mod ranks;
 mod rule_keys;
 mod strip_index;
+mod tables;
 pub mod white_space;

@@ -1,20 +1,21 @@
 //! The rules of a stylesheet in its order, in chains of those of one mode, kind and name.
 
 ghost use Rattle.std.specs.Prelude.{◌≡◌, ◌<◌, ◌∷◌, ◌++◌, [], List, None, OnOk, IfOk, length};
-ghost use Rattle.std.specs.Prelude.{Some, if◌then◌else◌, map, slice_get};
+ghost use Rattle.std.specs.Prelude.{Some, if◌then◌else◌, map, option_copied, slice_get};
 ghost use Rattle.std.specs.Option.{option_map_or};
 ghost use Rattle.xs_sheet.specs.declared.declarations.Template.{Template};
 ghost use Rattle.xs_value.specs.Tables.{TablesIn};
 ghost use Rattle.xs_xpath.specs.Exprs.{trees_from};
 ghost use Rattle.xs_rules.specs.Rules.{Candidate, candidate, candidates, candidates_of};
 ghost use Rattle.xs_rules.specs.steps.Candidates.{best_before, passes, rule_of_best};
-ghost use Rattle.xs_rules.specs.steps.Index.{IsIndexed, Key, at_entry, entry, is_key, key_data};
-ghost use Rattle.xs_rules.specs.steps.Index.{later, moved_back};
+ghost use Rattle.xs_rules.specs.steps.Index.{AreTables, IsIndexed, IsTableOf, Key, at_entry};
+ghost use Rattle.xs_rules.specs.steps.Index.{entry, is_key, key_data, later, moved_back};
 ghost use Rattle.xs_rules.specs.steps.Lists.{found_in};
 
 use crate::candidates::{Best, Looked, best_of_nth, rule_of_best};
 use crate::choice::Rule;
 use crate::rule_keys::{RuleKey, any_key, key_of, node_key};
+use crate::tables::table_at;
 use indexmap::IndexMap;
 use std::alloc::{AllocError, Global};
 use xs_sheet::declarations::Template;
@@ -113,7 +114,8 @@ impl<'a> Lists<'a> {
     }
 
     /// The rule that a node takes of those that are looked at. The rules with the node's key and
-    /// those for any name are two chains, which are gone along together from their ends.
+    /// those for any name are two chains, which are gone along together from their ends. A rule
+    /// that has a table is tried by it.
     pub(crate) fn choose_among<K: KeyFinder>(
         &self,
         alloc: Global,
@@ -123,11 +125,13 @@ impl<'a> Lists<'a> {
         node: Node,
         mode: u32,
         keys: &K,
+        above: &[Option<Vec<bool>>],
     ) -> Result<Rule, AllocError>
         requires indexed { IsIndexed templates.now (candidates templates.now)
             self.now.entries.items (found_in self.now.last) }
         requires node { node < length tree.now }
         requires tables { TablesIn tree.now (K.tables keys.now) }
+        requires above { AreTables templates.now self.now.entries.items tree.now above.now }
         ensures chosen { IfOk result (λ rule. rule ≡ rule_of_best (best_before
             (passes looked (K.tables keys.now) tree.now mode node)
             (candidates templates.now) None)) }
@@ -137,8 +141,9 @@ impl<'a> Lists<'a> {
         let mut best = None;
         while let Some(place) = later(named, unnamed) {
             let entry = self.entries[place];
+            let table = table_at(above, place);
             best = best_at(
-                alloc, templates, entry, looked, tree, node, mode, keys, best,
+                alloc, templates, entry, looked, tree, node, mode, keys, table, best,
             )?;
             named = moved_back(named, place, entry.previous);
             unnamed = moved_back(unnamed, place, entry.previous);
@@ -157,10 +162,12 @@ fn best_at<K: KeyFinder>(
     node: Node,
     mode: u32,
     keys: &K,
+    above: Option<&[bool]>,
     best: Option<Best>,
 ) -> Result<Option<Best>, AllocError>
     requires node { node < length tree.now }
     requires tables { TablesIn tree.now (K.tables keys.now) }
+    requires above { IsTableOf tree.now (at_entry templates.now entry) (option_copied above) }
     ensures best { IfOk result (λ found. found ≡ option_map_or (λ c. best_before
         (passes looked (K.tables keys.now) tree.now mode node) (c ∷ []) best)
         (at_entry templates.now entry) best) }
@@ -177,6 +184,7 @@ fn best_at<K: KeyFinder>(
             node,
             mode,
             keys,
+            above,
             best,
         ),
     }

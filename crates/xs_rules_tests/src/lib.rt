@@ -4,6 +4,8 @@
 #[cfg(test)]
 mod choice_tests;
 #[cfg(test)]
+mod deep_tests;
+#[cfg(test)]
 mod document;
 #[cfg(test)]
 mod sheets;

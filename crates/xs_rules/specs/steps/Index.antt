@@ -1,5 +1,5 @@
 -- Rules by mode, kind and name.
-use Rattle.std.specs.Prelude.{◌≡◌, ℕ, zero, suc, ◌==◌, ◌&&◌, Bool, List, [], ◌∷◌, reverse, map, length, get_or, Option, Some, None, option_map, slice_get, nat_lt, if◌then◌else◌}
+use Rattle.std.specs.Prelude.{◌≡◌, ℕ, zero, suc, ◌==◌, ◌&&◌, Bool, List, [], ◌∷◌, reverse, map, length, get_or, Option, Some, None, IfSome, Vec, option_map, slice_get, nat_lt, if◌then◌else◌}
 use Rattle.std.specs.Borrow.{Bor}
 use Rattle.std.specs.Option.{option_and_then}
 use Rattle.std.specs.Str.{bytes_eq}
@@ -16,6 +16,7 @@ use Rattle.xs_xpath.specs.declared.name.NodeTest.TheVariants.{Any, Uri, Name, No
 use Rattle.xs_xpath.specs.Exprs.{tree_from}
 use Rattle.xs_xpath.specs.Tree.{Tree, step}
 use Rattle.xs_pattern.specs.Matching.{steps_of}
+use Rattle.xs_pattern.specs.steps.Above.{IsAbove}
 use Rattle.xs_rules.specs.declared.lists.Entry.{Entry}
 use Rattle.xs_rules.specs.Rules.{Candidate, candidate}
 
@@ -122,3 +123,17 @@ later (Some i) (Some j) = if nat_lt i j then Some j else Some i
 abbrev pub moved_back : Option ℕ → ℕ → Option ℕ → Option ℕ
 moved_back None place previous = None
 moved_back (Some i) place previous = if i == place then previous else Some i
+
+-- ---- tables for patterns with `//` between steps
+
+-- the table beside a rule, if it has one
+abbrev pub table_at : {S : Type 0} → List (Option (Vec Bool S)) → ℕ → Option (List Bool)
+table_at tables place = option_and_then (λ o. option_map (λ t. t.items) o) (slice_get tables place)
+
+-- a table, if there is one, is that of a rule's alternative over the nodes of a tree
+abbrev pub IsTableOf : List Record → Option Candidate → Option (List Bool) → Type 0
+IsTableOf rs o table = IfSome table (λ t. IfSome o (λ c. IsAbove rs c.alternative t))
+
+-- each table is that of the rule that it stands beside
+pub record AreTables {S : Type 0} (ts : List Template) (entries : List Entry) (rs : List Record) (tables : List (Option (Vec Bool S))) : Type 0 where
+  pub each : (place : ℕ) (e : Entry) → slice_get entries place ≡ Some e → IsTableOf rs (at_entry ts e) (table_at tables place)

@@ -30,7 +30,7 @@ returns-then-branch g c = record {
       ∙ sym c.is_above.ensures ∙ c.if-not-is_above.false)
       (ap (λ (s : Scope). matches_path (g.K.KeyFinder.tables c.args.keys.now) (pattern_context c.args.tree.now s.pairs.items c.args.node)
       (tree_from c.args.alternative.now)) (sym c.deref.ensures)
-      ∙ sym c.in_ok-matches_path.ensures.matches ∙ c.if-branch.true);
+      ∙ sym c.in_ok-matches_path_by.ensures.matches ∙ c.if-branch.true);
 }
 
 pub returns : goal.returns
@@ -40,5 +40,5 @@ returns g c = record {
       (candidate c.args.number c.args.template.now c.args.pattern.now (tree_from c.args.alternative.now)) c.args.best
       (ap (λ (s : Scope). matches_path (g.K.KeyFinder.tables c.args.keys.now) (pattern_context c.args.tree.now s.pairs.items c.args.node)
       (tree_from c.args.alternative.now)) (sym c.deref.ensures)
-      ∙ sym c.in_ok-matches_path.ensures.matches ∙ c.if-branch.false);
+      ∙ sym c.in_ok-matches_path_by.ensures.matches ∙ c.if-branch.false);
 }
