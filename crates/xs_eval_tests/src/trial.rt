@@ -175,6 +175,31 @@ fn are_in_if(tree: &Tree, values: &[Option<Value>]) -> bool
     values.iter().all(|value| is_in_if(tree, value))
 }
 
+// A fragment, as a value.
+fn piece(alloc: Global, fragment: Fragment) -> Result<Value, Fail> {
+    Ok(Value::Piece(SharedFragment::of(alloc, fragment)?))
+}
+
+// The values of the local variables.
+fn locals(alloc: Global) -> Result<Vec<Value>, Fail> {
+    let mut values = Vec::new(alloc);
+    values.push(Value::Bool(true))?;
+    values.push(Value::Number(Num::whole(2)))?;
+    values.push(Value::Chars(TextBuf::of(alloc, "x")?))?;
+    values.push(piece(alloc, fragment(alloc)?)?)?;
+    values.push(piece(alloc, Fragment::of(Vec::new(alloc)))?)?;
+    values.push(Value::Nodes(NodeSet::single(alloc, Node::root())?))?;
+    Ok(values)
+}
+
+// The values of the global variables, of which the second one has none yet.
+fn globals(alloc: Global) -> Result<Vec<Option<Value>>, Fail> {
+    let mut values = Vec::new(alloc);
+    values.push(Some(Value::Chars(TextBuf::of(alloc, "g")?)))?;
+    values.push(None)?;
+    Ok(values)
+}
+
 // What an expression gives at the node at a place under a limit, and the ticks that it took.
 fn given(
     alloc: Global,
@@ -187,15 +212,8 @@ fn given(
     let Some(expr) = parsed(alloc, text, &scope)? else {
         return Ok((String::from_str(alloc, "refused")?, 0));
     };
-    let locals = [
-        Value::Bool(true),
-        Value::Number(Num::whole(2)),
-        Value::Chars(TextBuf::of(alloc, "x")?),
-        Value::Piece(SharedFragment::of(alloc, fragment(alloc)?)?),
-        Value::Piece(SharedFragment::of(alloc, Fragment::of(Vec::new(alloc)))?),
-        Value::Nodes(NodeSet::single(alloc, Node::root())?),
-    ];
-    let globals = [Some(Value::Chars(TextBuf::of(alloc, "g")?)), None];
+    let locals = locals(alloc)?;
+    let globals = globals(alloc)?;
     if place as usize >= tree.len() || !are_in(tree, &locals) || !are_in_if(tree, &globals) {
         return Err(Fail::new("no such node"));
     }
