@@ -77,24 +77,46 @@ fn agreed(
     Ok(rule)
 }
 
-// How many nodes of a document take the rule of a template.
-fn takers(alloc: Global, rows: &[Row], lines: &str) -> Result<usize, Fail> {
-    let sheet = sheet(alloc, rows)?;
-    let tree = built(alloc, lines.as_bytes())?.tree;
-    if sheet.templates.as_slice().len() >= MOST {
-        return Err(Fail::new("too many templates"));
-    }
-    let climbing = RuleIndex::new(alloc, &sheet)?;
-    let mut prepared = RuleIndex::new(alloc, &sheet)?;
-    prepared.prepare(alloc, &tree)?;
+// How many nodes take the rule of a template, by each of the three.
+fn agreed_takers(
+    alloc: Global,
+    sheet: &Sheet,
+    climbing: &RuleIndex<'_>,
+    prepared: &RuleIndex<'_>,
+    tree: &Tree,
+) -> Result<usize, Fail>
+    requires few { length sheet.now.templates.items < 2 ^ 32 }
+    requires climbing { IsIndex climbing.now }
+    requires plain { IsPrepared climbing.now tree.now }
+    requires prepared { IsIndex prepared.now }
+    requires tables { IsPrepared prepared.now tree.now }
+{
     let mut count = 0_usize;
     for place in 0..tree.len() as u32 {
-        match agreed(alloc, &sheet, &climbing, &prepared, &tree, Node::at(place))? {
+        match agreed(alloc, sheet, climbing, prepared, tree, Node::at(place))? {
             Rule::Template(_) => count = count.wrapping_add(1),
             Rule::BuiltIn => (),
         }
     }
     Ok(count)
+}
+
+// How many nodes of a tree take the rule of a template.
+fn takers_in(alloc: Global, sheet: &Sheet, tree: &Tree) -> Result<usize, Fail> {
+    if sheet.templates.as_slice().len() >= MOST {
+        return Err(Fail::new("too many templates"));
+    }
+    let climbing = RuleIndex::new(alloc, sheet)?;
+    let mut prepared = RuleIndex::new(alloc, sheet)?;
+    prepared.prepare(alloc, tree)?;
+    agreed_takers(alloc, sheet, &climbing, &prepared, tree)
+}
+
+// The same of a document.
+fn takers(alloc: Global, rows: &[Row], lines: &str) -> Result<usize, Fail> {
+    let sheet = sheet(alloc, rows)?;
+    let tree = built(alloc, lines.as_bytes())?.tree;
+    takers_in(alloc, &sheet, &tree)
 }
 
 // The counts of a rule that are not those that are due.
