@@ -109,12 +109,7 @@ impl Scopes {
     pub(crate) fn of(alloc: Global, tree: &Tree) -> Result<Scopes, AllocError>
         ensures { IfOk result (λ scopes. scopes_in scopes ≡ scopes_of tree.now) }
     {
-        let none = Arc::new(
-            alloc,
-            Scope {
-                pairs: Vec::new(alloc),
-            },
-        )?;
+        let none = Arc::new(alloc, Scope::of(Vec::new(alloc)))?;
         let mut of_nodes = Vec::new(alloc);
         for place in 0..tree.len() as u32 {
             let n = Node::at(place);

@@ -92,7 +92,7 @@ const MAKING: [(&str, &str); 8] = [
 ];
 
 /// Literal elements and extension elements (7.1.1, 14.1 and 15).
-const LITERALS: [(&str, &str); 4] = [
+const LITERALS: [(&str, &str); 5] = [
     (
         "(p:b;Axmlns:p u;Axmlns v;Aa 1{c};Ap:d e;Ax:use-attribute-sets s;)",
         "[ 6:<p:b[u] =v p=u uses s a=1{ c } p:d[u]=e>[]]",
@@ -104,6 +104,11 @@ const LITERALS: [(&str, &str); 4] = [
     (
         "(e:f;Axmlns:e ext;Ax:extension-element-prefixes e;-ignored;(x:fallback;-g;(b;););(x:fallback;););(b;)",
         "[ 6:extension[ 11:'g' 12:<b>[]][] 18:<b>[]]",
+    ),
+    // The nearest declaration of a prefix wins, and behind its element the outer one is back.
+    (
+        "(b;Axmlns:p u;Axmlns:q w;(c;Axmlns:p v;Aa {p:a}{q:a};);(x:value-of;Aselect p:a;);)",
+        "[ 6:<b p=u q=w>[ 9:<c p=v q=w a={ a[v] }{ a[w] }>[] 13:value( a[u] )]]",
     ),
     // An attribute of XSLT is not put, and the default namespace may be excluded.
     (

@@ -10,7 +10,7 @@ use xs_elements::words::first_word;
 use xs_text::split_qname;
 use xs_trace::event::Label;
 use xs_trace::text::TextBuf;
-use xs_xpath::scope::{Scope, uri_in};
+use xs_xpath::scope::Scope;
 
 /// The URI that a prefix is bound to, none without a prefix.
 #[tactic(auto, using(xs_xpath::proofs::RunLemmas::nil_by_length))]
@@ -20,7 +20,7 @@ pub(crate) fn uri_of<'s>(scope: &'s Scope, prefix: &str) -> &'s str
     if prefix.is_empty() {
         return "";
     }
-    match uri_in(&scope.pairs, prefix) {
+    match scope.uri_in(prefix) {
         Some(uri) => uri,
         None => "",
     }

@@ -23,7 +23,7 @@ pub fn scope_at(alloc: Global, tree: &Tree, n: Node) -> Result<Scope, AllocError
     for space in tree.namespaces(n) {
         pairs.push(pair_at(alloc, tree, space)?)?;
     }
-    Ok(Scope { pairs })
+    Ok(Scope::of(pairs))
 }
 
 /// The prefix and the URI of a namespace node.

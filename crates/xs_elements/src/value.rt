@@ -14,13 +14,13 @@ ghost use Rattle.xs_xpath.specs.Names.{is_bound};
 use crate::forms::Form;
 use crate::words::first_word;
 use xs_text::{is_ncname, split_qname};
-use xs_xpath::scope::{Scope, uri_in};
+use xs_xpath::scope::Scope;
 
 /// Whether a prefix is bound; the empty one needs no binding.
 fn is_bound(scope: &Scope, prefix: &str) -> bool
     ensures { result ≡ is_bound scope.now.pairs.items prefix.now }
 {
-    prefix.is_empty() || uri_in(&scope.pairs, prefix).is_some()
+    prefix.is_empty() || scope.uri_in(prefix).is_some()
 }
 
 /// Whether a text is a name (XSLT 1.0, 2.4).

@@ -13,7 +13,7 @@ use std::alloc::{AllocError, Global};
 use xs_num::number::Num;
 use xs_text::split_qname;
 use xs_value::value::Value;
-use xs_xpath::scope::{Scope, function_of, uri_in};
+use xs_xpath::scope::{Scope, function_of};
 
 /// The namespace of XSLT (XSLT 1.0, 2.1).
 const XSLT: &str = "http://www.w3.org/1999/XSL/Transform";
@@ -32,7 +32,7 @@ pub(crate) fn expanded_name<'a>(scope: &'a Scope, text: &'a str) -> Option<(&'a 
             if prefix.is_empty() {
                 return Some(("", local));
             }
-            match uri_in(&scope.pairs, prefix) {
+            match scope.uri_in(prefix) {
                 Some(uri) => Some((uri, local)),
                 None => None,
             }

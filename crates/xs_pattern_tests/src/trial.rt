@@ -35,7 +35,7 @@ pub(crate) fn scope(alloc: Global) -> Result<Scope, Fail> {
     for (prefix, uri) in DECLARATIONS {
         pairs.push((TextBuf::of(alloc, prefix)?, TextBuf::of(alloc, uri)?))?;
     }
-    Ok(Scope { pairs })
+    Ok(Scope::of(pairs))
 }
 
 /// The pattern of a text; none where the text has a fault.

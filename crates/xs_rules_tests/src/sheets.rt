@@ -25,7 +25,7 @@ pub(crate) const fn plain(pattern: &'static str) -> Row {
 fn scope(alloc: Global) -> Result<Scope, AllocError> {
     let mut pairs = Vec::new(alloc);
     pairs.push((TextBuf::of(alloc, "p")?, TextBuf::of(alloc, "u")?))?;
-    Ok(Scope { pairs })
+    Ok(Scope::of(pairs))
 }
 
 // The pattern of a text, none of an empty one.

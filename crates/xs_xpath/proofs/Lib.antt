@@ -20,3 +20,4 @@ mod PlaceLemmas
 mod AvtLemmas
 mod TemplateLemmas
 mod BindLemmas
+mod RisingLemmas

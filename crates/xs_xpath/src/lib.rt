@@ -17,6 +17,7 @@ mod part;
 mod path;
 pub mod pattern;
 mod read;
+mod rising;
 mod scan;
 pub mod scope;
 mod signs;

@@ -7,9 +7,11 @@ ghost use Rattle.xs_xpath.specs.Lexing.{unprefixed};
 ghost use Rattle.xs_xpath.specs.Names.{function_named, is_bound, node_function, number_of};
 ghost use Rattle.xs_xpath.specs.Names.{string_function, token_in, uri_in, uri_of, value_function};
 ghost use Rattle.xs_xpath.specs.Names.{xslt_function};
+ghost use Rattle.xs_xpath.specs.steps.Rising.{rises};
 
 use crate::name::{Function, NodeTest, QName};
 use crate::names::is_unprefixed;
+use crate::rising::{few_with, rises};
 use crate::token::{Atom, Lexeme, Placed, Token};
 use std::alloc::{AllocError, Global};
 use xs_num::number::Num;
@@ -21,10 +23,33 @@ use xs_trace::text::TextBuf;
 #[derive(Drop)]
 pub struct Scope {
     pub pairs: Vec<(TextBuf, TextBuf)>,
+    /// Whether the prefixes rise by their bytes, as those of the namespace nodes of a tree do.
+    is_rising: bool,
+    ghost told: { is_rising ≡ rises pairs.items },
 }
 
-/// The URI that a prefix is bound to.
-pub fn uri_in<'a>(pairs: &'a [(TextBuf, TextBuf)], prefix: &str) -> Option<&'a str>
+impl Scope {
+    /// The scope of these pairs. Takes no memory.
+    pub fn of(pairs: Vec<(TextBuf, TextBuf)>) -> Scope
+        ensures pairs { result.pairs.items ≡ pairs.items }
+    {
+        let is_rising = rises(&pairs);
+        Scope { pairs, is_rising }
+    }
+
+    /// The URI that a prefix is bound to: found by halving where the prefixes rise, else in turn.
+    pub fn uri_in(&self, prefix: &str) -> Option<&str>
+        ensures uri { option_map (λ u. u.now) result ≡ uri_in self.now.pairs.items prefix.now }
+    {
+        if self.is_rising {
+            return uri_in(few_with(&self.pairs, prefix), prefix);
+        }
+        uri_in(&self.pairs, prefix)
+    }
+}
+
+/// The URI that a prefix is bound to by the first pair that has it.
+fn uri_in<'a>(pairs: &'a [(TextBuf, TextBuf)], prefix: &str) -> Option<&'a str>
     ensures uri { option_map (λ u. u.now) result ≡ uri_in pairs.now prefix.now }
 {
     let mut rest = pairs;
@@ -45,7 +70,7 @@ fn uri_of(alloc: Global, scope: &Scope, prefix: &TextBuf) -> Result<TextBuf, All
     if prefix.as_str().is_empty() {
         return TextBuf::of(alloc, "");
     }
-    match uri_in(&scope.pairs, prefix.as_str()) {
+    match scope.uri_in(prefix.as_str()) {
         None => TextBuf::of(alloc, ""),
         Some(uri) => TextBuf::of(alloc, uri),
     }
@@ -59,7 +84,7 @@ pub(crate) fn is_bound(scope: &Scope, prefix: &TextBuf) -> bool
     if prefix.as_str().is_empty() {
         return true;
     }
-    uri_in(&scope.pairs, prefix.as_str()).is_some()
+    scope.uri_in(prefix.as_str()).is_some()
 }
 
 /// A function on nodes (XPath 1.0, 4.1).

@@ -12,6 +12,8 @@ mod outcomes;
 #[cfg(test)]
 mod pattern_tests;
 #[cfg(test)]
+mod scope_tests;
+#[cfg(test)]
 mod shown;
 #[cfg(test)]
 mod slot_tests;

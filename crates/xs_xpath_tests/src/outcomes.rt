@@ -35,7 +35,7 @@ pub(crate) fn scope(rt: &HostRuntime) -> Result<Scope, Fail> {
             TextBuf::of(rt.alloc(), uri)?,
         ))?;
     }
-    Ok(Scope { pairs })
+    Ok(Scope::of(pairs))
 }
 
 // The name of a variable.
