@@ -1,4 +1,4 @@
-//! Pairs of prefix and URI that rise by the bytes of their prefixes, as the namespaces of a tree do.
+//! Pairs whose prefixes rise by their bytes, as the namespaces of a tree do.
 
 ghost use Rattle.std.specs.Prelude.{◌≡◌, ◌<◌, ◌≤◌, true, length};
 ghost use Rattle.xs_xpath.specs.Names.{uri_in};
@@ -7,20 +7,20 @@ ghost use Rattle.xs_xpath.specs.steps.Rising.{is_below, rises, rises_above};
 use xs_trace::text::TextBuf;
 
 /// Whether a text is below another one by its bytes.
-fn is_below(text: &str, other: &str) -> bool
+fn is_below(text: &[u8], other: &[u8]) -> bool
     ensures { result ≡ is_below text.now other.now }
 {
     text.cmp(other).is_lt()
 }
 
 /// Whether the prefixes of pairs rise, and all are above this one.
-fn rises_above(prefix: &str, pairs: &[(TextBuf, TextBuf)]) -> bool
+fn rises_above(prefix: &[u8], pairs: &[(TextBuf, TextBuf)]) -> bool
     ensures { result ≡ rises_above prefix.now pairs.now }
 {
     let mut before = prefix;
     let mut rest = pairs;
     while let Some((pair, behind)) = rest.split_first() {
-        let next = pair.0.as_str();
+        let next = pair.0.as_str().as_bytes();
         if !is_below(before, next) {
             return false;
         }
@@ -36,7 +36,7 @@ pub(crate) fn rises(pairs: &[(TextBuf, TextBuf)]) -> bool
 {
     match pairs.split_first() {
         None => true,
-        Some((first, behind)) => rises_above(first.0.as_str(), behind),
+        Some((first, behind)) => rises_above(first.0.as_str().as_bytes(), behind),
     }
 }
 
@@ -49,10 +49,11 @@ fn half_with<'p>(pairs: &'p [(TextBuf, TextBuf)], prefix: &str) -> &'p [(TextBuf
     ensures shorter { length result.now < length pairs.now }
 {
     let middle = pairs.len() / 2;
-    if is_below(prefix, pairs[middle].0.as_str()) {
-        return &pairs[..middle];
+    let (front, behind) = pairs.split_at(middle);
+    if is_below(prefix.as_bytes(), pairs[middle].0.as_str().as_bytes()) {
+        return front;
     }
-    &pairs[middle..]
+    behind
 }
 
 /// A few of pairs that rise, where a prefix is, if it is in them.
