@@ -25,7 +25,7 @@ pub struct Scope {
     pub pairs: Vec<(TextBuf, TextBuf)>,
     /// Whether the prefixes rise by their bytes, as those of the namespace nodes of a tree do.
     is_rising: bool,
-    ghost told: { is_rising ≡ rises pairs.items },
+    ghost known: { is_rising ≡ rises pairs.items },
 }
 
 impl Scope {
