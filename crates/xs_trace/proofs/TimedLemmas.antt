@@ -231,5 +231,6 @@ fewest-of H (entry.Item ∷ es) (item.Say w ∷ is) t s p = (tt, fewest-of H es 
 pub fewest-finished : {H : Type 0} (es fs : List Entry) (run : ℕ) (s : Store H) (is : List Item) → IsOpenTimeline es s.told s.at run →
     fs ≡ es ++ pending_ticks s.at run → marks_of is ≡ s.told → All IsSingle is → IsFewest fs is
 fewest-finished {H} es fs run s is h e d single =
-    let t : IsTimeline fs (marks_of is) = subst (λ x. IsTimeline fs x) (sym d) (subst (λ l. IsTimeline l s.told) (sym e) (timeline-pending es s.told s.at run h.0)) in
+    let t : IsTimeline fs (marks_of is) =
+    subst (λ x. IsTimeline fs x) (sym d) (subst (λ l. IsTimeline l s.told) (sym e) (timeline-pending es s.told s.at run h.0)) in
     fewest-of H fs is t single (subst IsPacked (sym (ap as_items e ∙ as-pending es s.at run)) (packed-pending (as_items es) s.at run h.1))
