@@ -23,13 +23,13 @@ pub plain_pushed : {H : Type 0} (is js : List Item) (cs : List (List Event)) (at
     js ≡ is ++ i ∷ [] → Holds (marks_of js) cs at ≡ marked (item_marks i) s
 plain_pushed is js cs at i s v e = ap (λ t. Holds t cs at) (ap marks_of e ∙ marks-pushed is i) ∙ ap (marked (item_marks i)) v
 
-pub moved : (n : ℕ) (p at : Site) → 0 < n → p ≡ at_ticks n p at
-moved zero p at h = absurd (omega (arith, h))
-moved (suc n) p at h = refl
+pub at_moved : (n : ℕ) (p at : Site) → 0 < n → p ≡ at_ticks n p at
+at_moved zero p at h = absurd (omega (arith, h))
+at_moved (suc n) p at h = refl
 
-pub still : (n : ℕ) (p at : Site) → n ≤ 0 → at ≡ at_ticks n p at
-still zero p at h = refl
-still (suc n) p at h = absurd (omega (arith, h))
+pub at_still : (n : ℕ) (p at : Site) → n ≤ 0 → at ≡ at_ticks n p at
+at_still zero p at h = refl
+at_still (suc n) p at h = absurd (omega (arith, h))
 
 -- ---- ticks
 

@@ -6,7 +6,7 @@ use Rattle.xs_trace.specs.State.{State, Log, Nothing, All, Untimed, alone, adds,
 use Rattle.xs_trace.specs.Cut.{End, Whole, Fault, Needs, Spent, Full, Cut, cut, nowhere}
 use Rattle.xs_trace.specs.Play.{Step, Goes, Ends, Told, stops, and_then, ticked, put, put_in, play, told_of, left_of, end_of, number, IsStep}
 use Rattle.xs_trace.specs.PlayLaws.{TellsCut, begin, begun}
-use Rattle.xs_trace.specs.Kept.{marks_of, timed, ended_by, IsEnded, Keeps}
+use Rattle.xs_trace.specs.Kept.{marks_of, timed, ended_by, IsEnded, IsFewest, Keeps}
 use Rattle.xs_trace.specs.Keeping.{IsCutAt, IsCutOf, ToldIsCut, NeedComesFromNeed}
 use Rattle.xs_trace.specs.declared.event.Event.{Event}
 use Rattle.xs_trace.specs.declared.item.Site.{Site}
@@ -116,12 +116,12 @@ ending {H} l x b m result s k en ti q =
 -- what is kept
 pub keeps : {H : Type 0} (x : Trace H) (b : ℕ) (m : Option ℕ) (result : Result (Unit {0}) Halt) (s : State H) (k : Kept) → IsEnded result k.ended →
     s.told ≡ All (timed k.timeline.items (marks_of k.items.items)) →
-    untimed {H = H} (timed k.timeline.items (marks_of k.items.items)) ≡ marks_of k.items.items → k.ticks ≡ b - number s.left →
-    IsStep (play x (begin b m)) result s → Keeps (cut x b m) k
-keeps {H} x b m result s k en t u ti q =
+    untimed {H = H} (timed k.timeline.items (marks_of k.items.items)) ≡ marks_of k.items.items → IsFewest k.timeline.items k.items.items →
+    k.ticks ≡ b - number s.left → IsStep (play x (begin b m)) result s → Keeps (cut x b m) k
+keeps {H} x b m result s k en t u f ti q =
     let h : Ending (All []) (cut x b m) s k = ending (All []) x b m result s k en ti q in
     let e : timed {H = H} k.timeline.items (marks_of k.items.items) ≡ (cut x b m).passed = all_same (sym t ∙ h.told) in
-    record { marks = e; items = sym u ∙ ap untimed e; ended = h.ended; ticks = h.ticks }
+    record { marks = e; items = sym u ∙ ap untimed e; fewest = f; ended = h.ended; ticks = h.ticks }
 
 -- what marks give without ticks
 pub untimed-events : {H : Type 0} (x : Trace H) → events_of (untimed x) ≡ events_of x

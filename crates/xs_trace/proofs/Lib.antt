@@ -3,6 +3,7 @@ pub mod GrowthLemmas
 pub mod PlayLemmas
 pub mod KeptLemmas
 pub mod StoreLemmas
+pub mod KeptOnceLemmas
 pub mod TimedLemmas
 pub mod BriefLemmas
 pub mod SectionLemmas

@@ -4,11 +4,11 @@ use Rattle.std.proofs.Common.{ap, subst, ◌∙◌, append_assoc, append-nil, ar
 use Rattle.std.proofs.lemmas.Bool.{true≢false}
 use Rattle.std.proofs.lemmas.Bool.Decides.{nat_tests}
 use Rattle.xs_trace.specs.Mark.{Tick, Trace, ticks}
-use Rattle.xs_trace.specs.Kept.{item_marks, marks_of, first_run, IsPacked}
+use Rattle.xs_trace.specs.Kept.{item_marks, marks_of, first_run, IsPacked, IsSingle}
 use Rattle.xs_trace.specs.State.{Shared, allows}
 use Rattle.xs_trace.specs.Cut.{Full, less}
 use Rattle.xs_trace.specs.Play.{Told, goes, stops, put, put_in}
-use Rattle.xs_trace.specs.Store.{Store, IsSingle, at_ticks, counted, marked, is_open, put_into, limited_to, pending, TakesRun}
+use Rattle.xs_trace.specs.Store.{Store, at_ticks, counted, marked, is_open, put_into, limited_to, pending, TakesRun}
 use Rattle.xs_trace.specs.declared.event.Event.{Event}
 use Rattle.xs_trace.specs.declared.item.Item.{Item}
 use Rattle.xs_trace.specs.declared.item.Item.TheVariants as item
@@ -79,7 +79,7 @@ has_site : Option Site → ℕ
 has_site None = 0
 has_site (Some p) = 1
 
-none-site : (p : Site) → None ≡ Some p → ⊥
+pub none-site : (p : Site) → None ≡ Some p → ⊥
 unfolding has_site
 none-site p e = let d : 0 ≡ 1 = ap has_site e in absurd (omega (arith, d))
 

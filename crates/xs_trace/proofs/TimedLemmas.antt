@@ -1,15 +1,18 @@
 -- Ticks among the marks that are told beside them.
-use Rattle.std.proofs.Common.{◌≡◌, ℕ, zero, suc, ◌+◌, List, [], ◌∷◌, ◌++◌, refl, sym, ap, subst, ◌∙◌, append_assoc, append-nil}
+use Rattle.std.proofs.Common.{◌≡◌, ℕ, zero, suc, ◌+◌, List, [], ◌∷◌, ◌++◌, refl, sym, ap, subst, ◌∙◌, append-nil}
+use Rattle.std.proofs.lemmas.List.Elements.{All-head, All-tail}
+use Rattle.std.specs.List.{All}
 use Rattle.xs_trace.specs.Mark.{Mark, Tick, Put, Say, Stop, Need, Hole, Trace, ticks, untimed}
-use Rattle.xs_trace.specs.Kept.{item_marks, timed}
-use Rattle.xs_trace.specs.Store.{Store, IsSingle, IsUntimed, IsTimeline, at_ticks, counted, marked, pending_ticks, stood}
+use Rattle.xs_trace.specs.Kept.{item_marks, marks_of, timed, first_run, first_ticks, IsSingle, IsPacked, IsFewest}
+use Rattle.xs_trace.specs.Store.{Store, IsUntimed, IsTimeline, IsOpenTimeline, TakesRun, as_items, at_ticks, counted, marked, pending, pending_ticks, stood}
 use Rattle.xs_trace.specs.declared.event.Event.{Event}
+use Rattle.xs_trace.specs.declared.event.Event.TheVariants as event
 use Rattle.xs_trace.specs.declared.item.Entry.{Entry}
 use Rattle.xs_trace.specs.declared.item.Entry.TheVariants as entry
 use Rattle.xs_trace.specs.declared.item.Item.{Item}
 use Rattle.xs_trace.specs.declared.item.Item.TheVariants as item
 use Rattle.xs_trace.specs.declared.item.Site.{Site}
-use Rattle.xs_trace.proofs.StoreLemmas.{runs-on}
+use Rattle.xs_trace.proofs.StoreLemmas.{packed-pending, runs-on, takes-any, takes-next, takes-sum}
 
 -- what a store with a timeline holds
 abbrev View : {H : Type 0} → List Entry → ℕ → Store H → Store H
@@ -81,7 +84,7 @@ timeline-item es x p n (item.Run m l k) s h = absurd s
 timeline-item es x p n (item.Put e) s h = timeline-place (es ++ pending_ticks p n) x (Put e) tt (timeline-pending es x p n h)
 timeline-item es x p n (item.Say t) s h = timeline-place (es ++ pending_ticks p n) x (Say t) tt (timeline-pending es x p n h)
 
-pub timeline-pushed : {H : Type 0} (es fs : List Entry) (run : ℕ) (i : Item) (s k : Store H) → IsSingle i → IsTimeline es s.told →
+timeline-pushed : {H : Type 0} (es fs : List Entry) (run : ℕ) (i : Item) (s k : Store H) → IsSingle i → IsTimeline es s.told →
     fs ≡ (es ++ pending_ticks s.at run) ++ entry.Item ∷ [] → k ≡ marked (item_marks i) s → IsTimeline fs k.told
 timeline-pushed es fs run i s k single h e d =
     subst (λ l. IsTimeline l k.told) (sym e)
@@ -165,9 +168,69 @@ pub untimed-finished : {H : Type 0} (es : List Entry) (run : ℕ) (s v : Store H
 untimed-finished es run s v x w h d =
     ap (λ m. untimed m.told) (sym w) ∙ untimed-behind (timed es s.told) s.at run ∙ untimed-timed es s.told h ∙ sym d
 
--- ticks whose place is kept apart
-pub timeline-stood : {H : Type 0} (es fs : List Entry) (p q : Site) (run n : ℕ) (s k : Store H) → fs ≡ es ++ pending_ticks q run → k ≡ stood p n s →
+-- ---- the fewest entries
+
+as-pushed : (es : List Entry) (e : Entry) → as_items (es ++ e ∷ []) ≡ as_items es ++ as_items (e ∷ [])
+as-pushed [] e = refl
+as-pushed (entry.Ticks m l n ∷ es) e = ap (λ is. item.Run m l n ∷ is) (as-pushed es e)
+as-pushed (entry.Item ∷ es) e = ap (λ is. item.Put event.End ∷ is) (as-pushed es e)
+
+as-pending : (es : List Entry) (p : Site) (n : ℕ) → as_items (es ++ pending_ticks p n) ≡ as_items es ++ pending p n
+as-pending es p zero = ap as_items (append-nil es) ∙ sym (append-nil (as_items es))
+as-pending es p (suc n) = as-pushed es (entry.Ticks p.«module» p.line (suc n))
+
+-- ticks at the same place
+pub open-counted : {H : Type 0} (es : List Entry) (x : Trace H) (p : Site) (run n sum : ℕ) → (n ≡ 0 → ⊥) → sum ≡ run + n → IsOpenTimeline es x p run →
+    IsOpenTimeline es x p sum
+open-counted es x p run n sum nz e h = (h.0, takes-sum (as_items es) p run n sum nz e h.1)
+
+timeline-stood : {H : Type 0} (es fs : List Entry) (p : Site) (run n : ℕ) (s k : Store H) → fs ≡ es ++ pending_ticks s.at run → k ≡ stood p n s →
     IsTimeline es s.told → IsTimeline fs k.told
-timeline-stood es fs p q run n s k e d h =
+timeline-stood es fs p run n s k e d h =
     subst (λ l. IsTimeline l k.told) (sym e)
-    (subst (λ t. IsTimeline (es ++ pending_ticks q run) t) (sym (ap (λ m. m.told) d)) (timeline-pending es s.told q run h))
+    (subst (λ t. IsTimeline (es ++ pending_ticks s.at run) t) (sym (ap (λ m. m.told) d)) (timeline-pending es s.told s.at run h))
+
+-- ticks at another place
+pub open-stood : {H : Type 0} (es fs : List Entry) (p : Site) (run n : ℕ) (s k : Store H) → (p ≡ s.at → ⊥) → (n ≡ 0 → ⊥) →
+    fs ≡ es ++ pending_ticks s.at run → k ≡ stood p n s → IsOpenTimeline es s.told s.at run → IsOpenTimeline fs k.told k.at n
+open-stood es fs p run n s k other nz e d h =
+    let at : k.at ≡ p = ap (λ m. m.at) d ∙ sym (stands-at n p s.at nz) in
+    let is : as_items fs ≡ as_items es ++ pending s.at run = ap as_items e ∙ as-pending es s.at run in (
+      timeline-stood es fs p run n s k e d h.0,
+      subst (λ q. TakesRun (as_items fs) q n) (sym at) (subst (λ l. TakesRun l p n) (sym is) (takes-next (as_items es) s.at p run n other nz h.1)),
+    )
+
+-- an item
+pub open-pushed : {H : Type 0} (es fs : List Entry) (run : ℕ) (i : Item) (s k : Store H) → IsSingle i →
+    fs ≡ (es ++ pending_ticks s.at run) ++ entry.Item ∷ [] → k ≡ marked (item_marks i) s → IsOpenTimeline es s.told s.at run →
+    IsOpenTimeline fs k.told k.at 0
+open-pushed es fs run i s k single e d h =
+    let is : as_items fs ≡ (as_items es ++ pending s.at run) ++ item.Put event.End ∷ [] =
+    ap as_items e ∙ as-pushed (es ++ pending_ticks s.at run) entry.Item ∙ ap (λ l. l ++ item.Put event.End ∷ []) (as-pending es s.at run) in (
+      timeline-pushed es fs run i s k single h.0 e d,
+      λ q. subst (λ l. IsPacked (l ++ pending q 1)) (sym is) (takes-any (as_items es) s.at run (item.Put event.End) tt h.1 q),
+    )
+
+first-as : (es : List Entry) → first_run (as_items es) ≡ first_ticks es
+first-as [] = refl
+first-as (entry.Ticks m l n ∷ es) = refl
+first-as (entry.Item ∷ es) = refl
+
+fewest-of : (H : Type 0) (es : List Entry) (is : List Item) → IsTimeline {H = H} es (marks_of is) → All IsSingle is → IsPacked (as_items es) →
+    IsFewest es is
+fewest-of H [] [] t s p = tt
+fewest-of H [] (item.Run m l n ∷ is) t s p = absurd (All-head IsSingle _ _ s)
+fewest-of H [] (item.Put e ∷ is) t s p = absurd t
+fewest-of H [] (item.Say w ∷ is) t s p = absurd t
+fewest-of H (entry.Ticks m l n ∷ es) is t s p = (p.0, ((λ e. p.1.0 (first-as es ∙ e)), fewest-of H es is t s p.1.1))
+fewest-of H (entry.Item ∷ es) [] t s p = absurd t
+fewest-of H (entry.Item ∷ es) (item.Run m l n ∷ is) t s p = absurd (All-head IsSingle _ _ s)
+fewest-of H (entry.Item ∷ es) (item.Put e ∷ is) t s p = (tt, fewest-of H es is t.1 (All-tail IsSingle _ _ s) p)
+fewest-of H (entry.Item ∷ es) (item.Say w ∷ is) t s p = (tt, fewest-of H es is t.1 (All-tail IsSingle _ _ s) p)
+
+pub fewest-finished : {H : Type 0} (es fs : List Entry) (run : ℕ) (s : Store H) (is : List Item) → IsOpenTimeline es s.told s.at run →
+    fs ≡ es ++ pending_ticks s.at run → marks_of is ≡ s.told → All IsSingle is → IsFewest fs is
+fewest-finished {H} es fs run s is h e d single =
+    let t : IsTimeline fs (marks_of is) =
+    subst (λ x. IsTimeline fs x) (sym d) (subst (λ l. IsTimeline l s.told) (sym e) (timeline-pending es s.told s.at run h.0)) in
+    fewest-of H fs is t single (subst IsPacked (sym (ap as_items e ∙ as-pending es s.at run)) (packed-pending (as_items es) s.at run h.1))

@@ -15,6 +15,17 @@ use Rattle.xs_trace.specs.declared.whole.Kept.{Kept}
 abbrev pub KeepsAny : {H : Type 0} → Limits → Result (Unit {0}) Halt → State H → Kept → Type 0
 KeepsAny {H = H} l told s k = (x : Trace H) → IsStep (play x (begin l.ticks l.events)) told s → Keeps (cut x l.ticks l.events) k
 
+-- the same is kept
+pub record KeepsSame (j k : Kept) : Type 0 where
+  pub items : j.items.items ≡ k.items.items
+  pub timeline : j.timeline.items ≡ k.timeline.items
+  pub ended : j.ended ≡ k.ended
+  pub ticks : j.ticks ≡ k.ticks
+
+-- what is kept of a cut is one thing alone
+abbrev pub KeepsOne : Type 0 → Type 0
+KeepsOne H = (c : Cut H) (j k : Kept) → Keeps c j → Keeps c k → KeepsSame j k
+
 -- A state in which all that passed a cut was told, after what was kept before, at an end, with b ticks at the start.
 pub record IsCutAt {H : Type 0} (l : Log H) (e : End) (b : ℕ) (c : Cut H) (s : State H) : Type 0 where
   pub told : s.told ≡ adds l c.passed

@@ -38,12 +38,33 @@ first_run (item.Run m l n ∷ is) = Some (record { «module» = m; line = l })
 first_run (item.Put e ∷ is) = None
 first_run (item.Say t ∷ is) = None
 
+-- an item that is no run of ticks
+abbrev pub IsSingle : Item → Type 0
+IsSingle (item.Run m l n) = ⊥
+IsSingle (item.Put e) = Unit {0}
+IsSingle (item.Say t) = Unit {0}
+
 -- no run is empty, and none stands beside one at the same place
 abbrev pub IsPacked : List Item → Type 0
 IsPacked [] = Unit {0}
 IsPacked (item.Run m l n ∷ is) = (0 < n) × ((first_run is ≡ Some (record { «module» = m; line = l }) → ⊥) × IsPacked is)
 IsPacked (item.Put e ∷ is) = IsPacked is
 IsPacked (item.Say t ∷ is) = IsPacked is
+
+-- the place of the ticks that come first in a timeline, if some do
+abbrev pub first_ticks : List Entry → Option Site
+first_ticks [] = None
+first_ticks (entry.Ticks m l n ∷ es) = Some (record { «module» = m; line = l })
+first_ticks (entry.Item ∷ es) = None
+
+-- The fewest entries for some items: each item has its place and each place its item, no item is a run of ticks, no entry is of no
+-- ticks, and none stands beside one at the same place.
+abbrev pub IsFewest : List Entry → List Item → Type 0
+IsFewest [] [] = Unit {0}
+IsFewest [] (i ∷ is) = ⊥
+IsFewest (entry.Ticks m l n ∷ es) is = (0 < n) × ((first_ticks es ≡ Some (record { «module» = m; line = l }) → ⊥) × IsFewest es is)
+IsFewest (entry.Item ∷ es) [] = ⊥
+IsFewest (entry.Item ∷ es) (i ∷ is) = IsSingle i × IsFewest es is
 
 abbrev pub spot : ℕ → Site → Spot
 spot f p = record { fault = f; «module» = p.«module»; line = p.line }
@@ -77,10 +98,11 @@ IsEnded (Err (halt.Full p)) e = ended_by (Full p) ≡ Some e
 IsEnded (Err (halt.Over t)) e = e ≡ ended.Over t
 IsEnded (Err halt.NoMemory) e = ⊥
 
--- All that passed a cut: the items are its events and messages, and the timeline has its ticks among them. Its end, and how
--- many ticks passed.
+-- All that passed a cut, in the fewest entries: the items are its events and messages, and the timeline has its ticks among
+-- them. Its end, and how many ticks passed.
 pub record Keeps {H : Type 0} (c : Cut H) (k : Kept) : Type 0 where
   pub marks : timed k.timeline.items (marks_of k.items.items) ≡ c.passed
   pub items : marks_of k.items.items ≡ untimed c.passed
+  pub fewest : IsFewest k.timeline.items k.items.items
   pub ended : ended_by c.end ≡ Some k.ended
   pub ticks : k.ticks ≡ tick_count c.passed

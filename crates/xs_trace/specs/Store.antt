@@ -5,6 +5,7 @@ use Rattle.xs_trace.specs.Cut.{nowhere}
 use Rattle.xs_trace.specs.Kept.{IsPacked}
 use Rattle.xs_trace.specs.State.{State, All, Untimed, Shared}
 use Rattle.xs_trace.specs.declared.event.Event.{Event}
+use Rattle.xs_trace.specs.declared.event.Event.TheVariants as event
 use Rattle.xs_trace.specs.declared.item.Item.{Item}
 use Rattle.xs_trace.specs.declared.item.Item.TheVariants as item
 use Rattle.xs_trace.specs.declared.item.Entry.{Entry}
@@ -61,12 +62,6 @@ briefly_to room left h s = record { told = Untimed s.told; captures = s.captures
 abbrev pub stood : {H : Type 0} → Site → ℕ → Store H → Store H
 stood p n s = record { told = s.told; captures = s.captures; at = at_ticks n p s.at }
 
--- an item that is no run of ticks
-abbrev pub IsSingle : Item → Type 0
-IsSingle (item.Run m l n) = ⊥
-IsSingle (item.Put e) = Unit {0}
-IsSingle (item.Say t) = Unit {0}
-
 -- so many ticks at a place, as an item, if there are any
 abbrev pub pending : Site → ℕ → List Item
 pending p zero = []
@@ -98,3 +93,13 @@ IsTimeline [] (m ∷ x) = ⊥
 IsTimeline (entry.Ticks p l n ∷ es) x = IsTimeline es x
 IsTimeline (entry.Item ∷ es) [] = ⊥
 IsTimeline (entry.Item ∷ es) (m ∷ x) = IsUntimed m × IsTimeline es x
+
+-- The entries of a timeline as items, with any item at each place for one: where ticks may be added is asked of these.
+abbrev pub as_items : List Entry → List Item
+as_items [] = []
+as_items (entry.Ticks m l n ∷ es) = item.Run m l n ∷ as_items es
+as_items (entry.Item ∷ es) = item.Put event.End ∷ as_items es
+
+-- A timeline of some marks, behind which so many ticks at a place are still to stand.
+abbrev pub IsOpenTimeline : {H : Type 0} → List Entry → Trace H → Site → ℕ → Type 0
+IsOpenTimeline es x p n = IsTimeline es x × TakesRun (as_items es) p n

@@ -1,10 +1,11 @@
 //! A recorder that keeps no ticks but their number.
+ghost use Rattle.std.specs.List.{All};
 ghost use Rattle.std.specs.Prelude.{◌≡◌, [], Some, Err, false};
 ghost use Rattle.xs_trace.specs.State.{alone, Untimed};
 ghost use Rattle.xs_trace.specs.Store.{briefly_to};
 ghost use Rattle.xs_trace.specs.PlayLaws.{begun};
 ghost use Rattle.xs_trace.specs.declared.recorder.Halt.TheVariants.{NoMemory};
-ghost use Rattle.xs_trace.specs.Kept.{marks_of};
+ghost use Rattle.xs_trace.specs.Kept.{marks_of, IsSingle};
 
 use crate::event::{Event, Fragment};
 use crate::item::{Item, Limits, Site};
@@ -121,9 +122,10 @@ impl<T: Drop> Brief<T> {
         self.left
     }
 
-    /// What was told, but for ticks.
+    /// What was told, but for ticks: no item is a run of them.
     pub fn finish(self) -> Vec<Item>
         ensures items { (⟦<Brief<T> as Tally>⟧.state self).told ≡ Untimed (marks_of result.items) }
+        ensures single { All IsSingle result.items }
     {
         self.marks.finish()
     }

@@ -4,7 +4,7 @@ ghost use Rattle.xs_trace.specs.Laws.{CutOfThen, CutOfCut, CutWithoutPuts, Parts
 ghost use Rattle.xs_trace.specs.PlayLaws.{PlayOfThen, PlayOfTicks, PlayOfPut, PlayOfSay};
 ghost use Rattle.xs_trace.specs.PlayLaws.{PlayOfCaptured, CapturesFrom, PlayGrows, PlayIsCut};
 ghost use Rattle.xs_trace.specs.Run.{LimitedLaws, FoldLaws};
-ghost use Rattle.xs_trace.specs.Keeping.{ToldIsCut, NeedComesFromNeed};
+ghost use Rattle.xs_trace.specs.Keeping.{ToldIsCut, NeedComesFromNeed, KeepsOne};
 ghost use Rattle.xs_trace.specs.Fill.{FillLaws};
 
 /// Parts joined by `then` may be grouped in any way, and the empty trace changes nothing.
@@ -97,6 +97,11 @@ pub fn fold_laws<H, A, B>()
 /// limits.
 pub fn told_is_cut<H>()
     ensures { ToldIsCut H }
+{}
+
+/// What is kept of a cut is one thing alone: its items, its timeline, its end and its ticks.
+pub fn keeps_one<H>()
+    ensures { KeepsOne H }
 {}
 
 /// Holes are filled part by part.

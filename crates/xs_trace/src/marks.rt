@@ -2,9 +2,9 @@
 ghost use Rattle.std.specs.Prelude.{◌≡◌, ◌++◌, ◌∷◌, [], reverse, OnOk, IfOk, OnErr};
 ghost use Rattle.xs_trace.specs.Mark.{ticks};
 ghost use Rattle.xs_trace.specs.State.{top, below};
-ghost use Rattle.xs_trace.specs.Kept.{marks_of, item_marks, IsPacked};
+ghost use Rattle.xs_trace.specs.Kept.{marks_of, item_marks, IsPacked, IsSingle};
 ghost use Rattle.xs_trace.specs.Store.{Store, empty, counted, marked, is_open, with_captures};
-ghost use Rattle.xs_trace.specs.Store.{put_into, told_nothing, IsSingle, pending, TakesRun};
+ghost use Rattle.xs_trace.specs.Store.{put_into, told_nothing, pending, TakesRun};
 
 use crate::event::{Event, Fragment};
 use crate::item::{Item, Site};

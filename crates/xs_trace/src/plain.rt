@@ -1,9 +1,10 @@
 //! A store of events and messages: of ticks it keeps the last place alone, and it knows no limit.
+ghost use Rattle.std.specs.List.{All};
 ghost use Rattle.std.specs.Prelude.{◌≡◌, ◌∷◌, [], reverse, OnOk, OnErr};
 ghost use Rattle.xs_trace.specs.State.{top, below};
-ghost use Rattle.xs_trace.specs.Kept.{marks_of, item_marks};
+ghost use Rattle.xs_trace.specs.Kept.{marks_of, item_marks, IsSingle};
 ghost use Rattle.xs_trace.specs.Store.{Store, empty, stood, at_ticks, marked, is_open};
-ghost use Rattle.xs_trace.specs.Store.{with_captures, put_into, IsSingle};
+ghost use Rattle.xs_trace.specs.Store.{with_captures, put_into};
 
 use crate::event::{Event, Fragment};
 use crate::item::{Item, Site};
@@ -31,6 +32,8 @@ impl<T> Model for Plain<T> {
       captures = reverse m.captures.items;
       at = m.at;
     } };
+
+    ghost invariant = { λ m. All IsSingle m.items.items };
 }
 
 impl<T> Plain<T> {
@@ -71,7 +74,8 @@ impl<T> Plain<T> {
     /// An event, to the innermost capture or else behind what was told.
     pub fn put(&mut self, event: Event) -> Result<(), AllocError>
         ensures told { OnOk result (self.new ≡ put_into self.old.captures event self.old) }
-        ensures refused { OnErr result (self.new.told ≡ self.old.told) }
+        ensures refused { OnErr result
+            ((self.new.told ≡ self.old.told) × (self.new.at ≡ self.old.at)) }
     {
         match self.captures.pop() {
             Some(mut inner) => {
@@ -87,7 +91,8 @@ impl<T> Plain<T> {
     pub fn push(&mut self, item: Item) -> Result<(), AllocError>
         requires single { IsSingle item }
         ensures told { OnOk result (self.new ≡ marked (item_marks item) self.old) }
-        ensures refused { OnErr result (self.new.told ≡ self.old.told) }
+        ensures refused { OnErr result
+            ((self.new.told ≡ self.old.told) × (self.new.at ≡ self.old.at)) }
     {
         self.items.push(item)?;
         Ok(())
@@ -96,7 +101,8 @@ impl<T> Plain<T> {
     /// A capture is opened.
     pub fn open(&mut self) -> Result<(), AllocError>
         ensures told { OnOk result (self.new ≡ with_captures ([] ∷ self.old.captures) self.old) }
-        ensures refused { OnErr result (self.new.told ≡ self.old.told) }
+        ensures refused { OnErr result
+            ((self.new.told ≡ self.old.told) × (self.new.at ≡ self.old.at)) }
     {
         self.captures.push(Fragment::of(Vec::new(self.alloc)))?;
         Ok(())
@@ -113,9 +119,10 @@ impl<T> Plain<T> {
         }
     }
 
-    /// What was told.
+    /// What was told, in items that are no runs of ticks.
     pub fn finish(self) -> Vec<Item>
         ensures items { marks_of result.items ≡ self.told }
+        ensures single { All IsSingle result.items }
     {
         let Plain { items, .. } = self;
         items
@@ -123,7 +130,7 @@ impl<T> Plain<T> {
 }
 
 /// Where one stands after some ticks at a place.
-#[tactic(auto, using(crate::proofs::BriefLemmas::moved, crate::proofs::BriefLemmas::still))]
+#[tactic(auto, using(crate::proofs::BriefLemmas::at_moved, crate::proofs::BriefLemmas::at_still))]
 fn last_place(site: Site, count: u64, at: Site) -> Site
     ensures { result ≡ at_ticks count site at }
 {

@@ -2,8 +2,8 @@
 ghost use Rattle.std.specs.Prelude.{◌≡◌, ◌++◌, ◌∷◌, [], OnOk, IfOk};
 ghost use Rattle.xs_trace.specs.Mark.{Hole};
 ghost use Rattle.xs_trace.specs.State.{top, below};
-ghost use Rattle.xs_trace.specs.Kept.{marks_of, item_marks, IsPacked};
-ghost use Rattle.xs_trace.specs.Store.{Store, IsSingle, empty, counted, marked, is_open};
+ghost use Rattle.xs_trace.specs.Kept.{marks_of, item_marks, IsPacked, IsSingle};
+ghost use Rattle.xs_trace.specs.Store.{Store, empty, counted, marked, is_open};
 ghost use Rattle.xs_trace.specs.Store.{with_captures, put_into};
 ghost use Rattle.xs_trace.specs.Sections.{section_marks, ArePacked, behind};
 

@@ -2,9 +2,9 @@
 ghost use Rattle.std.specs.Prelude.{◌≡◌, ◌++◌, ◌∷◌, [], OnOk, OnErr, IfOk};
 ghost use Rattle.xs_trace.specs.Mark.{ticks, untimed};
 ghost use Rattle.xs_trace.specs.State.{top, below};
-ghost use Rattle.xs_trace.specs.Kept.{marks_of, item_marks, timed};
+ghost use Rattle.xs_trace.specs.Kept.{marks_of, item_marks, timed, IsSingle, IsFewest};
 ghost use Rattle.xs_trace.specs.Store.{Store, empty, counted, marked, is_open, with_captures};
-ghost use Rattle.xs_trace.specs.Store.{put_into, IsSingle, pending_ticks, IsTimeline};
+ghost use Rattle.xs_trace.specs.Store.{put_into, pending_ticks, IsOpenTimeline};
 ghost use Rattle.xs_trace.specs.declared.item.Entry.TheVariants as entry;
 
 use crate::event::{Event, Fragment};
@@ -34,7 +34,7 @@ impl<T> Model for Timed<T> {
       at = t.plain.at;
     } };
 
-    ghost invariant = { λ t. IsTimeline t.timeline.items t.plain.told };
+    ghost invariant = { λ t. IsOpenTimeline t.timeline.items t.plain.told t.plain.at t.run };
 }
 
 impl<T> Timed<T> {
@@ -119,10 +119,12 @@ impl<T> Timed<T> {
         self.plain.close()
     }
 
-    /// What was told: the ticks, with the places of the items among them, and the items.
+    /// What was told, in the fewest entries: the ticks, with the places of the items among them,
+    /// and the items.
     pub fn finish(self) -> Result<(Vec<Entry>, Vec<Item>), AllocError>
         ensures told { IfOk result (λ r. timed r.0.items (marks_of r.1.items) ≡ self.told) }
         ensures items { IfOk result (λ r. untimed self.told ≡ marks_of r.1.items) }
+        ensures fewest { IfOk result (λ r. IsFewest r.0.items r.1.items) }
     {
         let Timed {
             plain,
@@ -176,8 +178,9 @@ fn push_item<T>(
     ensures pushed { OnOk result (timeline.new.items
         ≡ (timeline.old.items ++ pending_ticks plain.old.at run) ++ entry.Item ∷ []) }
     ensures told { OnOk result (plain.new ≡ marked (item_marks item) plain.old) }
-    ensures refused { OnErr result
-        ((timeline.new.items ≡ timeline.old.items) × (plain.new.told ≡ plain.old.told)) }
+    ensures refused { OnErr result (timeline.new.items ≡ timeline.old.items) }
+    ensures kept { OnErr result
+        ((plain.new.told ≡ plain.old.told) × (plain.new.at ≡ plain.old.at)) }
 {
     let before = timeline.len();
     push_place(timeline, plain.at(), run)?;

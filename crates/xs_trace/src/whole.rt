@@ -8,7 +8,7 @@ ghost use Rattle.xs_trace.specs.Keeping.{KeepsAny};
 ghost use Rattle.xs_trace.specs.declared.item.Limits.{Limits};
 ghost use Rattle.xs_trace.specs.declared.recorder.Halt.TheVariants.{NoMemory};
 ghost use Rattle.xs_trace.specs.Mark.{untimed};
-ghost use Rattle.xs_trace.specs.Kept.{NeedsNone, marks_of, timed};
+ghost use Rattle.xs_trace.specs.Kept.{NeedsNone, marks_of, timed, IsFewest};
 
 use crate::ending::ended;
 use crate::event::{Event, Fragment};
@@ -154,13 +154,14 @@ impl<T: Drop> Whole<T> {
         })
     }
 
-    /// What was told: the ticks, with the places of the items among them, and the items, which are
-    /// the events and messages.
+    /// What was told, in the fewest entries: the ticks, with the places of the items among them,
+    /// and the items, which are the events and messages.
     pub fn finish(self) -> Result<(Vec<Entry>, Vec<Item>), AllocError>
         ensures told { IfOk result (λ r. (⟦<Whole<T> as Tally>⟧.state self).told
             ≡ All (timed r.0.items (marks_of r.1.items))) }
         ensures items { IfOk result (λ r.
             untimed {H = T} (timed r.0.items (marks_of r.1.items)) ≡ marks_of r.1.items) }
+        ensures fewest { IfOk result (λ r. IsFewest r.0.items r.1.items) }
     {
         self.marks.finish()
     }

@@ -5,5 +5,5 @@ pub returns : goal.returns
 returns g c =
     record {
       cut = λ x q. keeps x c.args.self.limits.ticks c.args.self.limits.events c.args.told _ _ c.in_ok-ended.ensures.ended c.in_ok-timeline.ensures.told
-          c.in_ok-timeline.ensures.items c.saturating_sub-ticks.ensures q;
+          c.in_ok-timeline.ensures.items c.in_ok-timeline.ensures.fewest c.saturating_sub-ticks.ensures q;
     }
