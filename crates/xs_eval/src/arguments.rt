@@ -63,6 +63,7 @@ pub(crate) fn set_of(v: &Value) -> Result<&NodeSet, Trouble>
 }
 
 /// The node-set that a value has to be (XPath 1.0, 3.3).
+#[inline(always)]
 pub(crate) fn into_set(v: Value) -> Result<NodeSet, Trouble>
     ensures nodes { Answers (nodes_in v) result }
 {
@@ -200,6 +201,7 @@ pub(crate) fn chars_of(bytes: Vec<u8>) -> Result<Value, AllocError>
 }
 
 /// The node-set of one node.
+#[inline(always)]
 pub(crate) fn single(alloc: Global, node: Node) -> Result<Value, AllocError>
     ensures value { IfOk result (λ v. v ≡ Nodes (node ∷ [])) }
 {

@@ -253,6 +253,7 @@ fn join_right<K: KeyFinder, T: Tally>(
 // A step from the context node: a tick for each node that passes the test, then the predicates
 // (XPath 1.0, 2.1).
 #[cycle(evaluate)]
+#[inline(always)]
 fn evaluate_step<K: KeyFinder, T: Tally>(
     alloc: Global,
     axis: Axis,
@@ -301,6 +302,7 @@ fn evaluate_filter<K: KeyFinder, T: Tally>(
 
 // The node-set of what predicates keep of some nodes: the first one for each node, then the next.
 #[cycle(evaluate)]
+#[inline(always)]
 fn keep<K: KeyFinder, T: Tally>(
     alloc: Global,
     predicates: &[Expr],
@@ -420,6 +422,7 @@ fn follow<K: KeyFinder, T: Tally>(
 
 // The nodes that an expression gives, which has to be a node-set (XPath 1.0, 3.3).
 #[cycle(evaluate)]
+#[inline(always)]
 fn evaluate_nodes<K: KeyFinder, T: Tally>(
     alloc: Global,
     expr: &Expr,

@@ -96,6 +96,7 @@ impl Trouble {
 }
 
 /// What is answered at an instruction.
+#[inline(always)]
 pub(crate) fn settled<A>(answer: Result<A, Trouble>, site: Site) -> Result<A, Halt>
     ensures { result ≡ settled site answer }
 {

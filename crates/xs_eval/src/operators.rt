@@ -19,6 +19,7 @@ use xs_value::value::{Value, ValueFault};
 use xs_xpath::token::Operator;
 
 /// What the left operand of `or` and `and` decides alone (XPath 1.0, 3.4).
+#[inline(always)]
 pub(crate) fn decided(operator: Operator, left: &Value) -> Option<bool>
     ensures { result ≡ decided operator left.now }
 {
@@ -41,6 +42,7 @@ pub(crate) fn decided(operator: Operator, left: &Value) -> Option<bool>
 }
 
 /// An operator on the values of its operands. What the left one decides alone is decided before.
+#[inline(always)]
 pub(crate) fn operate(
     alloc: Global,
     operator: Operator,

@@ -59,6 +59,7 @@ impl NodeList {
     }
 
     /// The nodes, in the order in which they came.
+    #[inline(always)]
     pub fn as_slice(&self) -> &[Node]
         ensures nodes { result.now ≡ self.now }
     {
@@ -70,6 +71,7 @@ impl NodeList {
     }
 
     /// How many nodes they are.
+    #[inline(always)]
     pub fn len(&self) -> usize
         ensures { result ≡ length self.now }
     {
@@ -77,6 +79,7 @@ impl NodeList {
     }
 
     /// Adds a node behind the others.
+    #[inline(always)]
     pub fn push(&mut self, node: Node) -> Result<(), AllocError>
         ensures nodes { OnOk result (self.new ≡ self.old ++ node ∷ []) }
     {
@@ -99,6 +102,7 @@ impl NodeList {
     }
 
     /// Adds nodes behind the others.
+    #[inline(always)]
     pub fn extend_from_slice(&mut self, more: &[Node]) -> Result<(), AllocError>
         ensures nodes { OnOk result (self.new ≡ self.old ++ more.now) }
     {
