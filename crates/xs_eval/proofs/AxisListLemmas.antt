@@ -1,13 +1,14 @@
 -- The nodes of an axis are nodes of the tree, and no more than it has.
 use Rattle.std.proofs.Common.{◌≡◌, ℕ, ◌+◌, ◌-◌, ◌<◌, ◌≤◌, arith, Bool, true, false, cond}
-use Rattle.std.proofs.Common.{List, [], ◌∷◌, ◌++◌, All, filter, length, reverse, zero, suc, sym, subst}
+use Rattle.std.proofs.Common.{List, [], ◌∷◌, ◌++◌, All, filter, length, refl, reverse, zero, suc, sym, subst}
 use Rattle.std.proofs.lemmas.List.{get_or-reverse, length-reverse}
 use Rattle.std.proofs.lemmas.List.Elements.{All-cons, All-filter, All-from_get_or, All-get_or, All-head, All-nil, All-tail}
 use Rattle.std.proofs.lemmas.List.FromFn.{length-range_with_len}
 use Rattle.std.specs.List.{range_with_len}
 use Rattle.xs_tree.specs.declared.axes.Axis.{Axis}
+use Rattle.xs_tree.specs.declared.axes.Axis.TheVariants.{Attribute as AttributeAxis}
 use Rattle.xs_tree.specs.Axis.{axis_list, is_on, is_reverse}
-use Rattle.xs_tree.specs.Record.{Record, at, places}
+use Rattle.xs_tree.specs.Record.{Record, at, attributes, places}
 use Rattle.xs_xpath.specs.declared.name.NodeTest.{NodeTest}
 use Rattle.xs_eval.specs.Context.{Context}
 use Rattle.xs_eval.specs.Paths.{passes, tested}
@@ -56,6 +57,11 @@ axis-inside axis rs n =
 pub axis-few : (axis : Axis) (rs : List Record) (n : ℕ) → length (axis_list axis rs n) ≤ length rs
 unfolding axis_list
 axis-few axis rs n = turned-few (is_reverse axis) (filter (is_on axis rs n) (places rs)) (length rs) (places-few (is_on axis rs n) rs)
+
+-- the attributes of a node are the nodes of that axis
+pub attributes_listed : (rs : List Record) (n : ℕ) → attributes rs n ≡ axis_list AttributeAxis rs n
+unfolding axis_list
+attributes_listed rs n = refl
 
 -- the nodes that pass a test
 pub tested-some : (axis : Axis) (test : NodeTest) (c : Context) → AreSome c.tree (tested axis test c)

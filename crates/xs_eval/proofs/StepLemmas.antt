@@ -104,6 +104,12 @@ pub first_and_rest_at : {A : Type 0} (xs : List A) (d : A) → 0 < length xs →
 first_and_rest_at [] d l = absurd (omega arith)
 first_and_rest_at (y ∷ ys) d l = ap (λ r. y ∷ r) (sym (but_first-cons y ys))
 
+-- a list of one item
+pub only_item : {A : Type 0} (xs : List A) (x : A) → length xs ≡ 1 → x ≡ get_or xs 0 x → xs ≡ x ∷ []
+only_item [] x l e = absurd (omega (arith, l))
+only_item (y ∷ []) x l e = ap (λ z. z ∷ []) (sym e)
+only_item (y ∷ z ∷ zs) x l e = absurd (omega (arith, l))
+
 pub no_items : {A : Type 0} (xs : List A) → length xs < 1 → xs ≡ []
 no_items [] l = refl
 no_items (x ∷ xs) l = absurd (omega arith)

@@ -1,6 +1,6 @@
 //! The evaluation of an expression (XPath 1.0, 2 and 3), which tells its ticks to a tally.
 
-ghost use Rattle.std.specs.Prelude.{◌≡◌, ◌<◌, ◌≤◌, IfOk, length};
+ghost use Rattle.std.specs.Prelude.{◌≡◌, ◌<◌, ◌≤◌, ◌∷◌, [], IfOk, length};
 ghost use Rattle.std.specs.List.{All};
 ghost use Rattle.xs_trace.specs.Play.{IsStep};
 ghost use Rattle.xs_trace.specs.Run.{limited};
@@ -395,6 +395,56 @@ fn evaluate_path<K: KeyFinder, T: Tally>(
 // A step from each node of a set, in document order.
 #[cycle(evaluate)]
 fn follow<K: KeyFinder, T: Tally>(
+    alloc: Global,
+    step: &Expr,
+    nodes: &[Node],
+    context: &Context<'_>,
+    keys: &K,
+    site: Site,
+    tally: &mut T,
+) -> Result<NodeSet, Halt>
+    requires context { IsContext (K.tables keys.now) context.now }
+    requires inside { All (λ k. k < length context.now.tree) nodes.now }
+    ensures told { IsStep (limited site
+        (through context.now nodes.now (run_of (K.tables keys.now) step.now))
+        (T.state tally.old)) result (T.state tally.new) }
+    ensures kept { T.kept tally.new ≡ T.kept tally.old }
+    ensures inside { IfOk result (λ ns. All (λ k. k < length context.now.tree) ns) }
+{
+    match nodes {
+        [node] => follow_one(alloc, step, *node, context, keys, site, tally),
+        _ => follow_each(alloc, step, nodes, context, keys, site, tally),
+    }
+}
+
+// A step from one node, which gives its nodes in order.
+#[cycle(evaluate)]
+fn follow_one<K: KeyFinder, T: Tally>(
+    alloc: Global,
+    step: &Expr,
+    node: Node,
+    context: &Context<'_>,
+    keys: &K,
+    site: Site,
+    tally: &mut T,
+) -> Result<NodeSet, Halt>
+    requires context { IsContext (K.tables keys.now) context.now }
+    requires inside { node < length context.now.tree }
+    ensures told { IsStep (limited site
+        (through context.now (node ∷ []) (run_of (K.tables keys.now) step.now))
+        (T.state tally.old)) result (T.state tally.new) }
+    ensures kept { T.kept tally.new ≡ T.kept tally.old }
+    ensures inside { IfOk result (λ ns. All (λ k. k < length context.now.tree) ns) }
+{
+    let around = context.at_node(node, context.position, context.size);
+    let set = evaluate_nodes(alloc, step, &around, keys, site, tally)?;
+    let _nodes = set.nodes();
+    Ok(set)
+}
+
+// A step from each of some nodes, whose nodes are put in order.
+#[cycle(evaluate)]
+fn follow_each<K: KeyFinder, T: Tally>(
     alloc: Global,
     step: &Expr,
     nodes: &[Node],

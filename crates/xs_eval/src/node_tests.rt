@@ -2,6 +2,7 @@
 
 ghost use Rattle.std.specs.Prelude.{◌≡◌, ◌<◌, ◌∷◌, [], ◌++◌, IfOk, OnOk, length, if◌then◌else◌};
 ghost use Rattle.xs_tree.specs.Record.{at};
+ghost use Rattle.xs_tree.specs.declared.axes.Axis.TheVariants.{Attribute};
 ghost use Rattle.xs_eval.specs.Paths.{is_named, is_principal, passes, tested};
 ghost use Rattle.xs_eval.specs.steps.Nodes.{AreSome};
 
@@ -14,6 +15,45 @@ use xs_xpath::name::NodeTest;
 
 /// The nodes of an axis from the context node that pass a test, in the order of the axis.
 pub(crate) fn tested(
+    alloc: Global,
+    axis: Axis,
+    test: &NodeTest,
+    context: &Context<'_>,
+) -> Result<NodeList, AllocError>
+    requires { context.now.node < length context.now.tree }
+    ensures nodes { IfOk result (λ ns. ns ≡ tested axis test.now context.now) }
+    ensures some { IfOk result (AreSome context.now.tree) }
+{
+    match axis {
+        Axis::Attribute => tested_attributes(alloc, test, context),
+        _ => tested_on_axis(alloc, axis, test, context),
+    }
+}
+
+// The attributes of the context node that pass a test, in document order.
+#[tactic(auto, using(crate::proofs::AxisListLemmas::attributes_listed))]
+fn tested_attributes(
+    alloc: Global,
+    test: &NodeTest,
+    context: &Context<'_>,
+) -> Result<NodeList, AllocError>
+    requires { context.now.node < length context.now.tree }
+    ensures nodes { IfOk result (λ ns. ns ≡ tested Attribute test.now context.now) }
+    ensures some { IfOk result (AreSome context.now.tree) }
+{
+    let mut found = NodeList::new(alloc);
+    for node in context.tree.attributes(context.node) {
+        push_if(
+            passes(context.tree, Axis::Attribute, test, node),
+            node,
+            &mut found,
+        )?;
+    }
+    Ok(found)
+}
+
+// The nodes of any axis from the context node that pass a test, in the order of the axis.
+fn tested_on_axis(
     alloc: Global,
     axis: Axis,
     test: &NodeTest,

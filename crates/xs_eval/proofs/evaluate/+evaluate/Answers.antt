@@ -8,6 +8,7 @@ use Rattle.xs_trace.specs.Run.{costs, give, limited, ◌>>=◌}
 use Rattle.xs_value.specs.Conversion.{IsIn}
 use Rattle.xs_value.specs.declared.value.Value.TheVariants.{Nodes}
 use Rattle.xs_value.specs.NodeSet.{in_order}
+use Rattle.xs_value.proofs.NodeSetLemmas.{in_order-same}
 use Rattle.xs_xpath.specs.declared.expr.Expr.TheVariants as expr
 use Rattle.xs_xpath.specs.declared.token.Operator.TheVariants.{Or}
 use Rattle.xs_eval.specs.Conditions.{IsContext}
@@ -23,7 +24,7 @@ use Rattle.xs_eval.proofs.InsideLemmas.{in_order_all, kept_if_all, kept_if_few, 
 use Rattle.xs_eval.proofs.StepLemmas.{by_case, closes, continues, costs_on, exits, exits_at_costs, exits_at_tick, exits_in_items, exits_in_parts}
 use Rattle.xs_eval.proofs.StepLemmas.{gives, goes_on, items_done, items_on, joins_here, joins_no_more}
 use Rattle.xs_eval.proofs.StepLemmas.{Rest, but_first, first_and_rest, first_and_rest_at}
-use Rattle.xs_eval.proofs.StepLemmas.{mapped_at, mapped_below, mapped_end, parts_on, placed_at, placed_below, placed_end, no_items, ticks_on}
+use Rattle.xs_eval.proofs.StepLemmas.{mapped_at, mapped_below, mapped_end, parts_on, placed_at, placed_below, placed_end, no_items, only_item, ticks_on}
 use Rattle.xs_eval.proofs.evaluate.+evaluate.Goals as goal
 
 -- an expression of each kind that holds others in a list
@@ -485,17 +486,78 @@ evaluate_path-returns-clause-told g t c =
     (mapped_end (run_of keys) es k (omega arith))
     ∙ gives c.args.site (Nodes c.loop-step.nodes) s
 
+-- a step from the one node of a set
+pub follow-follow_one-requires-clause-inside : goal.follow-follow_one-requires-clause-inside
+follow-follow_one-requires-clause-inside g t c =
+    let P = λ (n : ℕ). n < length c.args.context.now.tree in
+    subst P (sym c.node-item.is) (All-get_or P c.args.nodes.now 0 c.node-item.result (omega arith) c.requires.inside)
+
+pub follow-returns-in-len1-clause-told : goal.follow-returns-in-len1-clause-told
+follow-returns-in-len1-clause-told g t c =
+    let m = run_of (g.K.KeyFinder.tables c.args.keys.now) c.args.step.now in
+    continues (λ v. v) _ _ _ _
+    (ap (λ ns. limited c.args.site (through c.args.context.now ns m) (g.T.Tally.state c.args.tally.now))
+    (only_item c.args.nodes.now c.node-item.result (omega arith) c.node-item.is))
+    c.follow_one.ensures.told
+
+-- a step from one node
+pub follow_one-evaluate_nodes-requires-clause-context : goal.follow_one-evaluate_nodes-requires-clause-context
+follow_one-evaluate_nodes-requires-clause-context g t c =
+    λ κs lives.
+    subst (IsContext (g.K.KeyFinder.tables c.args.keys.now)) (sym c.at_node-around.ensures)
+    (moved (g.K.KeyFinder.tables c.args.keys.now) c.args.context.now c.args.node c.context.inside.position c.context.inside.size c.requires.context
+    c.requires.inside)
+
+pub follow_one-returns-in_err-set-clause-told : goal.follow_one-returns-in_err-set-clause-told
+follow_one-returns-in_err-set-clause-told g t c =
+    let p = err_from_is_err_and c.from_residual.result c.from_residual.ensures.1 in
+    let ctx = c.args.context.now in
+    let m = run_of (g.K.KeyFinder.tables c.args.keys.now) c.args.step.now in
+    let x = c.args.node in
+    let around : c.at_node-around.result ≡ at_node ctx x ctx.position ctx.size =
+    c.at_node-around.ensures ∙ ap (λ (a : Context). at_node ctx x a.position a.size) c.context.view_is in
+    let here : and_from ctx m [] x ≡ (selected m c.at_node-around.result >>= (λ l. give ([] ++ l))) =
+    ap (λ a. selected m a >>= (λ l. give ([] ++ l))) (sym around) in
+    exits_in_parts (λ l. l) (λ l. l) c.args.site (and_from ctx m) (λ l. give (in_order l)) (x ∷ []) 0 x []
+    (selected m c.at_node-around.result) (λ l. [] ++ l) (g.T.Tally.state c.args.tally.now) (g.T.Tally.state c.evaluate_nodes.new.tally) _
+    c.from_residual.result _ _ refl (omega arith) refl here p.1 p.2 c.in_err-set.ensures.told
+
+pub follow_one-returns-clause-told : goal.follow_one-returns-clause-told
+follow_one-returns-clause-told g t c =
+    let ctx = c.args.context.now in
+    let m = run_of (g.K.KeyFinder.tables c.args.keys.now) c.args.step.now in
+    let x = c.args.node in
+    let set = c.in_ok-set.set in
+    let s = g.T.Tally.state c.evaluate_nodes.new.tally in
+    let around : c.at_node-around.result ≡ at_node ctx x ctx.position ctx.size =
+    c.at_node-around.ensures ∙ ap (λ (a : Context). at_node ctx x a.position a.size) c.context.view_is in
+    let here : and_from ctx m [] x ≡ (selected m c.at_node-around.result >>= (λ l. give ([] ++ l))) =
+    ap (λ a. selected m a >>= (λ l. give ([] ++ l))) (sym around) in
+    parts_on c.args.site (and_from ctx m) (λ l. give (in_order l)) (x ∷ []) 0 x []
+    (selected m c.at_node-around.result) (λ l. [] ++ l) set set (g.T.Tally.state c.args.tally.now) s _
+    refl (omega arith) refl here c.in_ok-set.ensures.told refl
+    ∙ items_done c.args.site (and_from ctx m) (λ l. give (in_order l)) (x ∷ []) 1 set s (omega arith)
+    ∙ gives c.args.site (in_order set) s
+    ∙ ap (λ l. Goes l s) (in_order-same set c.nodes.ensures.list)
+
+pub follow_one-returns-clause-inside : goal.follow_one-returns-clause-inside
+follow_one-returns-clause-inside g t c =
+    let ctx = c.args.context.now in
+    let around : c.at_node-around.result ≡ at_node ctx c.args.node ctx.position ctx.size =
+    c.at_node-around.ensures ∙ ap (λ (a : Context). at_node ctx c.args.node a.position a.size) c.context.view_is in
+    subst (λ (a : Context). All (λ n. n < length a.tree) c.in_ok-set.set) around c.in_ok-set.ensures.inside
+
 -- a step from each node
-pub follow-evaluate_nodes-requires-clause-context : goal.follow-evaluate_nodes-requires-clause-context
-follow-evaluate_nodes-requires-clause-context g t c =
+pub follow_each-evaluate_nodes-requires-clause-context : goal.follow_each-evaluate_nodes-requires-clause-context
+follow_each-evaluate_nodes-requires-clause-context g t c =
     λ κs lives.
     let P = λ (n : ℕ). n < length c.args.context.now.tree in
     subst (IsContext (g.K.KeyFinder.tables c.args.keys.now)) (sym c.at_node-around.ensures)
     (moved (g.K.KeyFinder.tables c.args.keys.now) c.args.context.now c.node-item.result c.context.inside.position c.context.inside.size c.requires.context
     (subst P (sym c.node-item.is) (All-get_or P c.args.nodes.now c.loop-node.node-index c.node-item.result (omega arith) c.requires.inside)))
 
-pub follow-returns-in_err-set-clause-told : goal.follow-returns-in_err-set-clause-told
-follow-returns-in_err-set-clause-told g t c =
+pub follow_each-returns-in_err-set-clause-told : goal.follow_each-returns-in_err-set-clause-told
+follow_each-returns-in_err-set-clause-told g t c =
     let p = err_from_is_err_and c.from_residual.result c.from_residual.ensures.1 in
     let keys = g.K.KeyFinder.tables c.args.keys.now in
     let ctx = c.args.context.now in
@@ -512,8 +574,8 @@ follow-returns-in_err-set-clause-told g t c =
     (selected m c.at_node-around.result) (λ l. found ++ l) (g.T.Tally.state c.loop-node.tally) (g.T.Tally.state c.evaluate_nodes.new.tally) _
     c.from_residual.result _ _ c.loop-node.invariant.told (omega arith) (sym c.node-item.is) here p.1 p.2 c.in_err-set.ensures.told
 
-pub follow-loop-node-preserved : goal.follow-loop-node-preserved
-follow-loop-node-preserved g t c =
+pub follow_each-loop-node-preserved : goal.follow_each-loop-node-preserved
+follow_each-loop-node-preserved g t c =
     let keys = g.K.KeyFinder.tables c.args.keys.now in
     let ctx = c.args.context.now in
     let m = run_of keys c.args.step.now in
@@ -540,8 +602,8 @@ follow-loop-node-preserved g t c =
       kept = c.in_ok-set.ensures.kept ∙ c.loop-node.invariant.kept;
     }
 
-pub follow-returns-clause-told : goal.follow-returns-clause-told
-follow-returns-clause-told g t c =
+pub follow_each-returns-clause-told : goal.follow_each-returns-clause-told
+follow_each-returns-clause-told g t c =
     let m = run_of (g.K.KeyFinder.tables c.args.keys.now) c.args.step.now in
     let ns = c.args.nodes.now in
     let k = c.loop-node.node-index in
@@ -551,8 +613,8 @@ follow-returns-clause-told g t c =
     ∙ gives c.args.site (in_order c.loop-node.found) s
     ∙ ap (λ l. Goes l s) (sym c.in_ok-of_list.ensures.nodes)
 
-pub follow-returns-clause-inside : goal.follow-returns-clause-inside
-follow-returns-clause-inside g t c =
+pub follow_each-returns-clause-inside : goal.follow_each-returns-clause-inside
+follow_each-returns-clause-inside g t c =
     subst (All (λ k. k < length c.args.context.now.tree)) (sym c.in_ok-of_list.ensures.nodes)
     (in_order_all (λ k. k < length c.args.context.now.tree) c.loop-node.found c.loop-node.invariant.inside)
 

@@ -47,10 +47,16 @@ abbrev pub decreases-filter : goal.decreases-filter
 decreases-filter g l = 8 * size-Expr l.predicate.now + 1
 
 abbrev pub decreases-evaluate_path : goal.decreases-evaluate_path
-decreases-evaluate_path g l = 8 * max (size-Expr l.start.now) (most size-Expr l.steps.now) + 3
+decreases-evaluate_path g l = 8 * max (size-Expr l.start.now) (most size-Expr l.steps.now) + 4
 
 abbrev pub decreases-follow : goal.decreases-follow
-decreases-follow g l = 8 * size-Expr l.step.now + 2
+decreases-follow g l = 8 * size-Expr l.step.now + 3
+
+abbrev pub decreases-follow_one : goal.decreases-follow_one
+decreases-follow_one g l = 8 * size-Expr l.step.now + 2
+
+abbrev pub decreases-follow_each : goal.decreases-follow_each
+decreases-follow_each g l = 8 * size-Expr l.step.now + 2
 
 abbrev pub decreases-evaluate_nodes : goal.decreases-evaluate_nodes
 decreases-evaluate_nodes g l = 8 * size-Expr l.expr.now + 1
@@ -109,8 +115,8 @@ invariant-evaluate_path-loop-step g l = record {
   kept : g.T.Tally.kept l.tally ≡ g.T.Tally.kept l.fn.tally;
 }
 
-abbrev pub invariant-follow-loop-node : goal.invariant-follow-loop-node
-invariant-follow-loop-node g l = record {
+abbrev pub invariant-follow_each-loop-node : goal.invariant-follow_each-loop-node
+invariant-follow_each-loop-node g l = record {
   told :
       limited l.site (through l.context l.nodes (run_of (g.K.KeyFinder.tables l.keys) l.step)) (g.T.Tally.state l.fn.tally)
       ≡ Rest l.site (and_from l.context (run_of (g.K.KeyFinder.tables l.keys) l.step)) (λ found. give (in_order found))

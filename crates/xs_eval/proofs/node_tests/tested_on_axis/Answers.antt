@@ -4,7 +4,7 @@ use Rattle.xs_eval.specs.Context.{Context}
 use Rattle.xs_eval.specs.Paths.{tested}
 use Rattle.xs_eval.specs.steps.Nodes.{AreSome}
 use Rattle.xs_eval.proofs.AxisListLemmas.{axis-inside, next-inside, tested-some}
-use Rattle.xs_eval.proofs.node_tests.tested.Goals as goal
+use Rattle.xs_eval.proofs.node_tests.tested_on_axis.Goals as goal
 
 pub passes-requires : goal.passes-requires
 passes-requires c =
