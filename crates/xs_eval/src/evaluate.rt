@@ -438,6 +438,7 @@ fn follow_one<K: KeyFinder, T: Tally>(
 {
     let around = context.at_node(node, context.position, context.size);
     let set = evaluate_nodes(alloc, step, &around, keys, site, tally)?;
+    // (that its nodes are in order is what this call's contract tells)
     let _nodes = set.nodes();
     Ok(set)
 }
