@@ -489,6 +489,7 @@ evaluate_path-returns-clause-told g t c =
 -- a step from the one node of a set
 pub follow-follow_one-requires-clause-inside : goal.follow-follow_one-requires-clause-inside
 follow-follow_one-requires-clause-inside g t c =
+    λ κs lives.
     let P = λ (n : ℕ). n < length c.args.context.now.tree in
     subst P (sym c.node-item.is) (All-get_or P c.args.nodes.now 0 c.node-item.result (omega arith) c.requires.inside)
 
@@ -538,7 +539,7 @@ follow_one-returns-clause-told g t c =
     refl (omega arith) refl here c.in_ok-set.ensures.told refl
     ∙ items_done c.args.site (and_from ctx m) (λ l. give (in_order l)) (x ∷ []) 1 set s (omega arith)
     ∙ gives c.args.site (in_order set) s
-    ∙ ap (λ l. Goes l s) (in_order-same set c.nodes.ensures.list)
+    ∙ ap (λ l. Goes l s) (in_order-same set c.nodes-nodes.ensures.list)
 
 pub follow_one-returns-clause-inside : goal.follow_one-returns-clause-inside
 follow_one-returns-clause-inside g t c =
