@@ -1,0 +1,2 @@
+//! Tests of what no row can write: fakes, refused allocations, threads, and laws called as functions.
+#![tactic(auto)]
