@@ -1,5 +1,5 @@
 //! Paths, which are read from the right.
-ghost use Rattle.std.specs.Prelude.{◌≡◌, ◌∷◌, IfOk, None, option_map, reverse};
+ghost use Rattle.std.specs.Prelude.{◌≡◌, ◌∷◌, IfOk, None, Some, option_map, reverse};
 ghost use Rattle.xs_xpath.specs.Exprs.{tree_from, trees_from};
 ghost use Rattle.xs_xpath.specs.steps.Parts.{ahead_of, part_of, parts_of, tail_of};
 ghost use Rattle.xs_xpath.specs.Reading.{behind_slash, front, path_from, path_of, plain, steps_in};
@@ -42,6 +42,15 @@ fn step_from(axis: Axis, test: NodeTest, mut predicates: Vec<Expr>) -> Expr
     expr::step(axis, test, predicates)
 }
 
+/// Steps with one more in front.
+fn with_step(first: Expr, mut steps: Vec<Expr>) -> Result<Option<Vec<Expr>>, AllocError>
+    ensures steps { IfOk result (λ r. option_map (λ v. trees_from (reverse v.items)) r
+        ≡ Some (tree_from first ∷ trees_from (reverse steps.items))) }
+{
+    steps.push(first)?;
+    Ok(Some(steps))
+}
+
 /// The steps that stand there, of which the first has the child axis where it has none yet.
 fn steps_in(ahead: Ahead) -> Result<Option<Vec<Expr>>, AllocError>
     ensures steps { IfOk result (λ r. option_map (λ v. trees_from (reverse v.items)) r
@@ -49,14 +58,10 @@ fn steps_in(ahead: Ahead) -> Result<Option<Vec<Expr>>, AllocError>
 {
     match ahead {
         Ahead::Tail(_, _) => Ok(no_path(ahead)),
-        Ahead::Tested(test, predicates, mut steps) => {
-            steps.push(step_from(Axis::Child, test, predicates))?;
-            Ok(Some(steps))
+        Ahead::Tested(test, predicates, steps) => {
+            with_step(step_from(Axis::Child, test, predicates), steps)
         }
-        Ahead::Stepped(first, mut steps) => {
-            steps.push(first)?;
-            Ok(Some(steps))
-        }
+        Ahead::Stepped(first, steps) => with_step(first, steps),
         Ahead::Complete(_) => Ok(no_path(ahead)),
     }
 }
