@@ -1,2 +1,9 @@
 //! Tests of what no row can write: fakes, refused allocations, threads, and laws called as functions.
 #![tactic(auto)]
+
+mod document_laws;
+#[cfg(test)]
+mod edges;
+#[cfg(test)]
+mod recorders;
+mod trace_laws;
