@@ -1,5 +1,7 @@
 //! Rows on single lines.
 
+ghost use Rattle.xs_pyx.specs.Views.{IsReadable, IsReadableData};
+
 use crate::notation::quote;
 use std::alloc::{AllocError, Global};
 use xs_pyx::{Data, Line, LineFault, LineView, Rest, next_line, skip_line, write_line};
@@ -83,7 +85,9 @@ pub(crate) fn answer_views(
 }
 
 // Appends a line as it stands in its bytes.
-fn show_view(alloc: Global, view: LineView<'_>, out: &mut String) -> Result<(), AllocError> {
+fn show_view(alloc: Global, view: LineView<'_>, out: &mut String) -> Result<(), AllocError>
+    requires { IsReadable view }
+{
     out.push_str(" | ")?;
     match view {
         LineView::Start(name) => show_part(out, "start ", name),
@@ -108,12 +112,14 @@ fn show_view(alloc: Global, view: LineView<'_>, out: &mut String) -> Result<(), 
 }
 
 // Appends data by its form and the text that it shows.
-fn show_data(alloc: Global, data: Data<'_>, out: &mut String) -> Result<(), AllocError> {
-    out.push_str(match data {
+fn show_data(alloc: Global, value: Data<'_>, out: &mut String) -> Result<(), AllocError>
+    requires { IsReadableData value }
+{
+    out.push_str(match value {
         Data::Plain(_) => " plain ",
         Data::Escaped(_) => " escaped ",
     })?;
     let mut text = Vec::new(alloc);
-    data.append_to(&mut text)?;
+    value.append_to(&mut text)?;
     quote(out, &text)
 }

@@ -3,28 +3,29 @@
 ghost use Rattle.std.specs.Prelude.{◌≡◌, ◌∷◌, [], true, false, codes};
 ghost use Rattle.xs_pyx.specs.Reading.{says, faulty};
 ghost use Rattle.xs_pyx.specs.Lines.{AreLines, Says};
+ghost use Rattle.xs_pyx.specs.declared.line.Line.TheVariants.{Attr, Chars, End, Pi, Start};
 
 use xs_build::laws;
 
 /// What single rows say.
 pub(crate) fn lines()
     ensures name { Says (record { bytes = codes "(a:b"; ended = true })
-        (says (Line.Start (codes "a:b"))) }
+        (says (Start (codes "a:b"))) }
     ensures pair_in_name { Says (record { bytes = codes "(a\\n"; ended = true })
-        (says (Line.Start (codes "a\\n"))) }
+        (says (Start (codes "a\\n"))) }
     ensures no_space { Says (record { bytes = codes "Ax"; ended = true })
-        (says (Line.Attr (codes "x") [])) }
+        (says (Attr (codes "x") [])) }
     ensures space_at_end { Says (record { bytes = codes "Ax "; ended = true })
-        (says (Line.Attr (codes "x") [])) }
+        (says (Attr (codes "x") [])) }
     ensures two_spaces { Says (record { bytes = codes "?a b c"; ended = true })
-        (says (Line.Pi (codes "a") (codes "b c"))) }
+        (says (Pi (codes "a") (codes "b c"))) }
     ensures space_first { Says (record { bytes = codes "A  x"; ended = true })
-        (says (Line.Attr [] (codes " x"))) }
+        (says (Attr [] (codes " x"))) }
     ensures pairs { Says (record { bytes = codes "Aa\\n \\n"; ended = true })
-        (says (Line.Attr (codes "a\\n") (10 ∷ []))) }
-    ensures empty_text { Says (record { bytes = codes "-"; ended = true }) (says (Line.Chars [])) }
+        (says (Attr (codes "a\\n") (10 ∷ []))) }
+    ensures empty_text { Says (record { bytes = codes "-"; ended = true }) (says (Chars [])) }
     ensures carriage_return { Says (record { bytes = 45 ∷ 97 ∷ 13 ∷ []; ended = true })
-        (says (Line.Chars (97 ∷ 13 ∷ []))) }
+        (says (Chars (97 ∷ 13 ∷ []))) }
 {}
 
 /// The faults of single rows, where several might be meant.
@@ -42,7 +43,7 @@ pub(crate) fn faults()
 /// A document of two lines, and one of none.
 pub(crate) fn documents()
     ensures two { AreLines (40 ∷ 114 ∷ 10 ∷ 41 ∷ 114 ∷ 10 ∷ [])
-        (Line.Start (codes "r") ∷ Line.End (codes "r") ∷ []) }
+        (Start (codes "r") ∷ End (codes "r") ∷ []) }
     ensures none { AreLines [] [] }
 {}
 
