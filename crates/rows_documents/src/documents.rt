@@ -3,7 +3,7 @@
 use crate::notation::decode_into;
 use crate::trees::{add_nodes, root_alone, show_tree, strip};
 use std::alloc::{AllocError, Global};
-use xs_build::{BuildFault, build_tree};
+use xs_build::{BuildFault, Built, build_tree};
 
 /// The most bytes of a document whose row gives no limit.
 const LIMIT: u16 = 65_000;
@@ -27,7 +27,7 @@ pub(crate) fn put_before(
     Ok(())
 }
 
-/// Appends the first fault of a document, which begins with `start`; its limit stands after ` | `.
+/// Appends the first fault of a document, which begins with `start`; its limit comes after ` | `.
 pub(crate) fn answer_line(
     alloc: Global,
     start: &[u8],
@@ -99,7 +99,7 @@ impl Row {
         self.later_nodes.push('\n')
     }
 
-    /// Appends the tree of the document without the marked text nodes, or its fault.
+    /// Appends the tree of the document, or its fault.
     pub(crate) fn answer_document(
         &self,
         alloc: Global,
@@ -108,8 +108,7 @@ impl Row {
         match build_tree(alloc, &self.document, u64::from(LIMIT)) {
             Ok(built) => {
                 let mut built = built;
-                strip(&mut built, &self.marks)?;
-                show_tree(alloc, &built, out)
+                self.answer_tree(alloc, &mut built, out)
             }
             Err(fault) => {
                 out.push_str("= ")?;
@@ -119,13 +118,23 @@ impl Row {
         }
     }
 
-    /// Appends the nodes that can't be added, and the tree of the others without the marked text
-    /// nodes.
+    /// Appends the tree of the nodes.
     pub(crate) fn answer_nodes(&self, alloc: Global, out: &mut String) -> Result<(), AllocError> {
         let mut built = root_alone(alloc)?;
-        add_nodes(alloc, &mut built, self.nodes.as_str(), out)?;
-        strip(&mut built, &self.marks)?;
-        add_nodes(alloc, &mut built, self.later_nodes.as_str(), out)?;
-        show_tree(alloc, &built, out)
+        self.answer_tree(alloc, &mut built, out)
+    }
+
+    // Appends the nodes that can't be added to a tree, and the tree with the others and without the
+    // marked text nodes.
+    fn answer_tree(
+        &self,
+        alloc: Global,
+        built: &mut Built,
+        out: &mut String,
+    ) -> Result<(), AllocError> {
+        add_nodes(alloc, built, self.nodes.as_str(), out)?;
+        strip(built, &self.marks)?;
+        add_nodes(alloc, built, self.later_nodes.as_str(), out)?;
+        show_tree(alloc, built, out)
     }
 }

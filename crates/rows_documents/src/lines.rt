@@ -10,23 +10,26 @@ use xs_pyx::{Data, Line, LineFault, LineView, Rest, next_line, skip_line, write_
 /// what it leaves.
 pub(crate) fn answer_line(alloc: Global, bytes: &[u8], out: &mut String) -> Result<(), AllocError> {
     match next_line(alloc, bytes) {
-        Ok(Some((line, size))) => {
-            show_line(&line, out)?;
-            write!(out, ", {size} bytes, written ")?;
-            let mut written = Vec::new(alloc);
-            write_line(&mut written, &line)?;
-            quote(out, &written)?;
-        }
+        Ok(Some((line, size))) => show_found(alloc, &line, size, out)?,
         Ok(None) => out.push_str("nothing")?,
         Err(LineFault::Bad { number }) => write!(out, "fault {number}")?,
         Err(LineFault::NoMemory) => return Err(AllocError),
     }
     let rest = skip_line(bytes);
-    if !rest.is_empty() {
-        out.push_str(", leaves ")?;
-        quote(out, rest)?;
+    if rest.is_empty() {
+        return Ok(());
     }
-    Ok(())
+    out.push_str(", leaves ")?;
+    quote(out, rest)
+}
+
+// Appends what a line says, how many bytes it took, and how it is written.
+fn show_found(alloc: Global, line: &Line, size: usize, out: &mut String) -> Result<(), AllocError> {
+    show_line(line, out)?;
+    write!(out, ", {size} bytes, written ")?;
+    let mut written = Vec::new(alloc);
+    write_line(&mut written, line)?;
+    quote(out, &written)
 }
 
 // Appends a line by its kind and its texts.
@@ -53,8 +56,8 @@ fn show_part(out: &mut String, word: &str, text: &str) -> Result<(), AllocError>
     quote(out, text.as_bytes())
 }
 
-/// Appends whether some bytes are UTF-8 as a whole, and their lines as they stand in them, up to the
-/// first with a fault.
+/// Appends whether some bytes are UTF-8 as a whole, and their lines as they are in them, up to
+/// the first with a fault.
 pub(crate) fn answer_views(
     alloc: Global,
     bytes: &[u8],
@@ -84,7 +87,7 @@ pub(crate) fn answer_views(
     Ok(())
 }
 
-// Appends a line as it stands in its bytes.
+// Appends a line as it is in its bytes.
 fn show_view(alloc: Global, view: LineView<'_>, out: &mut String) -> Result<(), AllocError>
     requires { IsReadable view }
 {

@@ -1,5 +1,5 @@
-//! How a row writes bytes: `;` is a line feed, `\x{HH}` the byte of that number, `\x{}` no byte, and
-//! any other character itself.
+//! How a row writes bytes: `;` is a line feed, `\x{HH}` the byte of that number, `\x{}` no byte,
+//! and any other character itself.
 
 use std::alloc::{AllocError, Global};
 use std::str::from_utf8;

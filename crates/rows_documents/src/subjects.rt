@@ -14,7 +14,7 @@ pub(crate) enum Subject {
     Data,
     /// The parts of a qualified name.
     Names,
-    /// Where code points may stand in a name.
+    /// Where code points may be in a name.
     NameCharacters,
     /// Whether code points are white space.
     WhiteSpace,
@@ -22,7 +22,7 @@ pub(crate) enum Subject {
     BlankTexts,
     /// The first line of some bytes.
     Lines,
-    /// All lines of some bytes, as they stand in them.
+    /// All lines of some bytes, as they are in them.
     Views,
     /// The first fault of a document.
     Documents,

@@ -39,7 +39,7 @@ pub(crate) fn answer_name(text: &str, out: &mut String) -> Result<(), AllocError
     }
 }
 
-/// Appends where each of some code points may stand in a name without a colon.
+/// Appends where each of some code points may be in a name without a colon.
 pub(crate) fn answer_name_characters(
     alloc: Global,
     codes: &str,
@@ -54,7 +54,7 @@ pub(crate) fn answer_name_characters(
     Ok(())
 }
 
-// Where the character with a code point may stand in a name without a colon.
+// Where the character with a code point may be in a name without a colon.
 fn place_in_names(alloc: Global, code: &str) -> Result<&'static str, AllocError> {
     let Some(c) = character(code) else {
         return Ok("none");

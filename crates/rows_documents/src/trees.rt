@@ -129,16 +129,29 @@ pub(crate) fn show_tree(alloc: Global, built: &Built, out: &mut String) -> Resul
     Ok(())
 }
 
-// Appends a node: its place, and for a root or an element where its subtree ends; its parent, its
-// line, its kind, its name and its text, which for a root or an element is its string value.
+// Appends a node: where it is, its kind, its name and its text.
 fn show_node(alloc: Global, built: &Built, node: Node, out: &mut String) -> Result<(), AllocError>
     requires { node < length built.now.tree }
 {
+    show_place(built, node, out)?;
     let tree = &built.tree;
-    let kind = tree.kind(node);
+    let word = word_of(tree.kind(node));
+    write!(out, ": {word} ")?;
+    if let Some(name) = tree.name(node) {
+        show_name(name, out)?;
+    }
+    show_text(alloc, tree, node, out)
+}
+
+// Appends the place of a node, for a root or an element where its subtree ends, its parent and its
+// line.
+fn show_place(built: &Built, node: Node, out: &mut String) -> Result<(), AllocError>
+    requires { node < length built.now.tree }
+{
+    let tree = &built.tree;
     let place = node.place();
     write!(out, "{place}")?;
-    if kind.has_content() {
+    if tree.kind(node).has_content() {
         let end = tree.subtree_end(node);
         write!(out, "..{end}")?;
     }
@@ -146,21 +159,23 @@ fn show_node(alloc: Global, built: &Built, node: Node, out: &mut String) -> Resu
         let parent = parent.place();
         write!(out, " in {parent}")?;
     }
-    if let Some(line) = built.lines.get(place as usize) {
-        write!(out, ", line {line}")?;
+    match built.lines.get(place as usize) {
+        Some(line) => write!(out, ", line {line}"),
+        None => Ok(()),
     }
-    let word = word_of(kind);
-    write!(out, ": {word} ")?;
-    if let Some(name) = tree.name(node) {
-        show_name(name, out)?;
-    }
-    let mut value = Vec::new(alloc);
-    if kind.has_content() {
+}
+
+// Appends the text of a node, for a root or an element its string value.
+fn show_text(alloc: Global, tree: &Tree, node: Node, out: &mut String) -> Result<(), AllocError>
+    requires { node < length tree.now }
+{
+    if tree.kind(node).has_content() {
+        let mut value = Vec::new(alloc);
         tree.string_value_into(node, &mut value)?;
+        quote(out, &value)?;
     } else {
-        value.extend_from_slice(tree.text(node).as_bytes())?;
+        quote(out, tree.text(node).as_bytes())?;
     }
-    quote(out, &value)?;
     out.push('\n')
 }
 

@@ -171,7 +171,7 @@ fn spends_without_keeping(rt: HostRuntime) {
     assert!(rt; brief.finish().is_empty());
 }
 
-// Whether a piece has five ticks and all that it did stands before one hole.
+// Whether a piece has five ticks and all that it did is before one hole.
 fn is_whole_piece(kept: &KeptPiece<u64>) -> bool {
     matches!(kept.sections.as_slice(), [Section { task: 7, .. }])
         && kept.items.is_empty()
