@@ -116,40 +116,5 @@ fn apply(
 fn is_key(function: Function) -> bool
     ensures { result ≡ is_key function }
 {
-    match function {
-        Function::Key => true,
-        Function::Last => false,
-        Function::Position => false,
-        Function::Count => false,
-        Function::Id => false,
-        Function::LocalName => false,
-        Function::NamespaceUri => false,
-        Function::Name => false,
-        Function::String => false,
-        Function::Concat => false,
-        Function::StartsWith => false,
-        Function::Contains => false,
-        Function::SubstringBefore => false,
-        Function::SubstringAfter => false,
-        Function::Substring => false,
-        Function::StringLength => false,
-        Function::NormalizeSpace => false,
-        Function::Translate => false,
-        Function::Boolean => false,
-        Function::Not => false,
-        Function::True => false,
-        Function::False => false,
-        Function::Lang => false,
-        Function::Number => false,
-        Function::Sum => false,
-        Function::Floor => false,
-        Function::Ceiling => false,
-        Function::Round => false,
-        Function::Current => false,
-        Function::GenerateId => false,
-        Function::SystemProperty => false,
-        Function::ElementAvailable => false,
-        Function::FunctionAvailable => false,
-        Function::UnparsedEntityUri => false,
-    }
+    matches!(function, Function::Key)
 }
