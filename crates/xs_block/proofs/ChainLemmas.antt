@@ -1,5 +1,5 @@
 -- The last block of a list of blocks.
-use Rattle.std.proofs.Common.{◌≡◌, ℕ, zero, suc, ◌+◌, ◌-◌, ◌<◌, ◌≤◌, List, [], ◌∷◌, ◌++◌, length, get_or, set, refl, sym, ap, ◌∙◌, absurd, arith, append_assoc, length-append}
+use Rattle.std.proofs.Common.{◌≡◌, ℕ, zero, suc, ◌+◌, ◌-◌, ◌<◌, ◌≤◌, List, [], ◌∷◌, ◌++◌, length, get_or, set, take, refl, sym, ap, ◌∙◌, arith, append_assoc, length-append}
 use Rattle.std.specs.List.{All, flat_map}
 use Rattle.std.proofs.lemmas.List.{append-nil}
 use Rattle.std.proofs.lemmas.List.Concat.{flat_map-append}
@@ -33,7 +33,7 @@ module _ {X : Type 0} where
   pub length-with_last : (x : X) (bs : List (List X)) → length (with_last x bs) ≡ length bs
   length-with_last x [] = refl
   length-with_last x (b ∷ []) = refl
-  length-with_last x (b ∷ c ∷ r) = ap (λ n. n + 1) (length-with_last x (c ∷ r))
+  length-with_last x (b ∷ c ∷ r) = ap (λ n. suc n) (length-with_last x (c ∷ r))
 
   -- a block in front changes no slots
   pub slots-cons : (b : List X) (bs : List (List X)) → 0 < length bs → slots_of (b ∷ bs) ≡ slots_of bs
@@ -64,3 +64,10 @@ module _ {X : Type 0} where
 
   pub items-append : (bs cs : List (List X)) → items_of (bs ++ cs) ≡ items_of bs ++ items_of cs
   items-append bs cs = flat_map-append (λ b. b) bs cs
+
+  pub earlier-with_last : (x : X) (bs : List (List X)) (i : ℕ) → i + 1 ≡ length bs → take i (with_last x bs) ≡ take i bs
+  earlier-with_last x [] i at = absurd (omega (arith, at))
+  earlier-with_last x (b ∷ []) zero at = refl
+  earlier-with_last x (b ∷ []) (suc i) at = absurd (omega (arith, at))
+  earlier-with_last x (b ∷ c ∷ r) zero at = absurd (omega (arith, at))
+  earlier-with_last x (b ∷ c ∷ r) (suc i) at = ap (λ v. b ∷ v) (earlier-with_last x (c ∷ r) i (omega (arith, at)))

@@ -1,14 +1,14 @@
 -- A chain as the list of its blocks, each the list of its items.
-use Rattle.std.specs.Prelude.{ℕ, ◌+◌, ◌-◌, ◌*◌, ◌^◌, min, List, [], ◌∷◌, ◌++◌, length, take, ◌==◌, if◌then◌else◌}
+use Rattle.std.specs.Prelude.{ℕ, zero, suc, ◌+◌, ◌-◌, ◌*◌, ◌^◌, min, List, [], ◌∷◌, length, take}
 use Rattle.std.specs.List.{flat_map}
 
 -- the most blocks that a chain or a pool has; no memory holds as many
 abbrev pub most_blocks : ℕ
 most_blocks = 2 ^ 63 - 1
 
--- the number of blocks that are free after b more
+-- the free blocks with some more, as many as can be
 abbrev pub with_free : ℕ → ℕ → ℕ
-with_free a b = min (a + b) most_blocks
+with_free free more = free + min more (most_blocks - free)
 
 module _ {X : Type 0} where
   -- its items, in order
@@ -27,5 +27,6 @@ module _ {X : Type 0} where
 
   -- its first n items, in the blocks that they are in
   abbrev pub cut : ℕ → List (List X) → List (List X)
-  cut _ [] = []
-  cut n (block ∷ rest) = if n == 0 then [] else take n block ∷ cut (n - length block) rest
+  cut zero chain = []
+  cut (suc n) [] = []
+  cut (suc n) (block ∷ rest) = take (suc n) block ∷ cut (suc n - length block) rest

@@ -82,9 +82,10 @@ impl<T: Drop> Blocks<T> {
         requires slots { 0 < slots_of self.old }
         ensures pushed { self.new ≡ with_last item self.old }
     {
-        if let Some(block) = self.list.back_mut() {
-            block.push_reserved(item);
-        }
+        let Some(block) = self.list.back_mut() else {
+            unreachable!();
+        };
+        block.push_reserved(item);
     }
 
     /// Keeps the first `n` items of the only block, and returns how many of `n` are left over.
@@ -136,13 +137,15 @@ impl<T: Drop> Blocks<T> {
     }
 
     /// Keeps the blocks of the first `n` items, and hands out the others.
+    #[tactic(auto, using(crate::proofs::CutLemmas::cut_some, crate::proofs::CutLemmas::cut_nil))]
     pub(crate) fn cut(&mut self, n: u64) -> Blocks<T>
         ensures kept { self.new ≡ cut n self.old }
         ensures rest { length result + length self.new ≡ length self.old }
     {
+        let blocks = self.len();
         let mut kept = Blocks::new(self.alloc);
         let mut left = n;
-        while left > 0 && self.len() > 0 {
+        while left > 0 && kept.len() < blocks {
             let mut block = self.take_first();
             left = block.trim(left);
             kept.append(block);

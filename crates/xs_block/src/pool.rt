@@ -65,6 +65,7 @@ impl<T: Drop> Pool<T> {
     /// Out of memory, the blocks that were made until then are free.
     pub fn reserve(&mut self, chain: &Chain<T>, n: u64) -> Result<(), AllocError>
         ensures ok { OnOk result (n ≤ spare_of self.new chain.now) }
+        ensures refused { OnErr result (spare_of self.new chain.now < n) }
         ensures kept { self.old ≤ self.new }
         ensures fewest { self.old < self.new → spare_of (self.new - 1) chain.now < n }
     {
@@ -98,6 +99,8 @@ impl<T: Drop> Pool<T> {
     pub fn push(&mut self, chain: &mut Chain<T>, item: T)
         requires spare { 0 < spare_of self.old chain.old }
         ensures items { items_of chain.new ≡ items_of chain.old ++ item ∷ [] }
+        ensures earlier { take (length chain.old - 1) chain.new
+            ≡ take (length chain.old - 1) chain.old }
         ensures spare { spare_of self.new chain.new + 1 ≡ spare_of self.old chain.old }
         ensures blocks { self.new + length chain.new ≡ self.old + length chain.old }
     {
