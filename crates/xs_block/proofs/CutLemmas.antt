@@ -17,7 +17,7 @@ module _ {X : Type 0} where
   take-join : (n : ℕ) (xs ys : List X) → take n (xs ++ ys) ≡ take n xs ++ take (n - length xs) ys
   take-join zero [] ys = refl
   take-join zero (x ∷ xs) ys = let none : zero - suc (length xs) ≡ zero = omega arith in rw none refl
-  take-join (suc n) [] ys = refl
+  take-join (suc n) [] ys = let same : suc n - 0 ≡ suc n = omega arith in rw same refl
   take-join (suc n) (x ∷ xs) ys =
       let less : suc n - suc (length xs) ≡ n - length xs = omega arith in rw less (ap (λ v. x ∷ v) (take-join n xs ys))
 

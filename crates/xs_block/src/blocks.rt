@@ -1,7 +1,7 @@
 //! Lists of blocks, from which and to which blocks go without memory.
 
 ghost use Rattle.std.specs.Prelude.{◌≡◌, ℕ, ◌+◌, ◌-◌, ◌<◌, ◌≤◌, List, [], ◌∷◌, ◌++◌};
-ghost use Rattle.std.specs.Prelude.{length, map, take, drop, OnOk, OnErr};
+ghost use Rattle.std.specs.Prelude.{length, map, take, drop, OnOk, OnErr, IsSome, ◌↔◌};
 ghost use Rattle.std.specs.Option.{option_to_list};
 ghost use Rattle.std.specs.Vec.{vec_items, vec_len, vec_capacity};
 ghost use Rattle.xs_block.specs.Chain.{items_of, slots_of, cut, most_blocks};
@@ -119,6 +119,7 @@ impl<T: Drop> Blocks<T> {
     /// Takes the first block out of the list, if there is one; the list's own memory for it is lost.
     pub(crate) fn pop_first(&mut self) -> Option<Vec<T>>
         ensures popped { self.old ≡ map vec_items (option_to_list result) ++ self.new }
+        ensures variant { IsSome result ↔ (0 < length self.old) }
     {
         self.list.pop_front()
     }
