@@ -1,5 +1,5 @@
 -- The last vector of a list of vectors, as the last block of what they hold.
-use Rattle.std.proofs.Common.{◌≡◌, ℕ, zero, suc, ◌+◌, ◌-◌, ◌<◌, ◌≤◌, List, [], ◌∷◌, ◌++◌, length, get_or, set, map, refl, sym, ap, ◌∙◌, arith}
+use Rattle.std.proofs.Common.{◌≡◌, ℕ, zero, suc, ◌+◌, ◌-◌, ◌<◌, List, [], ◌∷◌, ◌++◌, length, get_or, map, refl, sym, ap, ◌∙◌, arith}
 use Rattle.std.specs.Prelude.{Vec, slice_index_or, slice_set}
 use Rattle.std.specs.List.{All}
 use Rattle.std.specs.Vec.{vec_items, vec_len, vec_capacity}
@@ -7,7 +7,7 @@ use Rattle.std.proofs.lemmas.List.{length-map, map-set}
 use Rattle.std.proofs.lemmas.List.Elements.{All-get_or}
 use Rattle.xs_block.specs.Chain.{slots_of}
 use Rattle.xs_block.specs.steps.Blocks.{IsBlock, with_last}
-use Rattle.xs_block.proofs.ChainLemmas.{set-last, slots-last, slots-some}
+use Rattle.xs_block.proofs.ChainLemmas.{set-last, slots-last}
 
 module _ {X A : Type 0} where
   at-map : (vs : List (Vec X A)) (i : ℕ) (v : Vec X A) → get_or (map vec_items vs) i (vec_items v) ≡ vec_items (get_or vs i v)

@@ -1,4 +1,4 @@
-use Rattle.std.proofs.Common.{◌≡◌, ◌-◌, sym, ap, ◌∙◌, refl}
+use Rattle.std.proofs.Common.{◌-◌, sym, ap, ◌∙◌, refl}
 use Rattle.xs_block.specs.Chain.{slots_of}
 use Rattle.xs_block.proofs.BlockLemmas.{slots_vec}
 use Rattle.xs_block.proofs.blocks.Blocks.slots.Goals as goal
