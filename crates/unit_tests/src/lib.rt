@@ -1,6 +1,8 @@
 //! Tests of what no row can write: fakes, refused allocations, threads, and laws called as functions.
 #![tactic(auto)]
 
+#[cfg(test)]
+mod blocks;
 mod document_laws;
 #[cfg(test)]
 mod edges;
