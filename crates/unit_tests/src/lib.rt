@@ -1,2 +1,11 @@
 //! Tests of what no row can write: fakes, refused allocations, threads, and laws called as functions.
 #![tactic(auto)]
+
+#[cfg(test)]
+mod blocks;
+mod document_laws;
+#[cfg(test)]
+mod edges;
+#[cfg(test)]
+mod recorders;
+mod trace_laws;
