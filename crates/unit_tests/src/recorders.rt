@@ -59,12 +59,17 @@ fn compared(alloc: Global, numbers: &[u64], others: &[u64]) -> Result<Ordering, 
     Ok(compare_places(&copy, &other))
 }
 
+// Whether a place has the numbers that it was made of.
+fn has_numbers(alloc: Global, numbers: &[u64]) -> Result<bool, AllocError> {
+    let place = place_of(alloc, numbers)?;
+    Ok(place.numbers() == numbers)
+}
+
 #[test]
 fn places(rt: HostRuntime) -> Result<(), Fail> {
+    assert!(rt; has_numbers(rt.alloc(), &[3, 1])?);
     assert_eq!(rt; compared(rt.alloc(), &[], &[3, 1])?, Ordering::Less);
     assert_eq!(rt; compared(rt.alloc(), &[3, 1], &[2])?, Ordering::Greater);
-    let place = place_of(rt.alloc(), &[3, 1])?;
-    assert_eq!(rt; place.numbers(), [3, 1].as_slice());
     Ok(())
 }
 
@@ -86,25 +91,33 @@ fn attribute(alloc: Global) -> Result<Event, AllocError> {
     })
 }
 
-// An attribute and an end.
+// The copy of an event.
+fn copied(event: Event) -> Result<Event, AllocError> {
+    event.copy()
+}
+
+// The copy of an attribute, and an end.
 fn attribute_and_end(alloc: Global) -> Result<Fragment, AllocError> {
     let mut fragment = Fragment::of(Vec::new(alloc));
-    fragment.push(attribute(alloc)?)?;
+    fragment.push(copied(attribute(alloc)?)?)?;
     fragment.push(Event::End)?;
     Ok(fragment)
 }
 
-#[test]
-fn event(rt: HostRuntime) -> Result<(), Fail> {
-    let copy = attribute(rt.alloc())?.copy()?;
-    assert_eq!(rt; text_ticks(&copy), 0);
-    Ok(())
+// Whether there are an attribute with a short text, which takes no ticks of its own, and an end.
+fn are_attribute_and_end(events: &[Event]) -> bool {
+    match events {
+        [attribute, Event::End] => {
+            matches!(attribute, Event::Attr { .. }) && text_ticks(attribute) == 0
+        }
+        _ => false,
+    }
 }
 
 #[test]
-fn fragment(rt: HostRuntime) -> Result<(), Fail> {
+fn events(rt: HostRuntime) -> Result<(), Fail> {
     let copy = attribute_and_end(rt.alloc())?.copy()?;
-    assert!(rt; matches!(copy.events(), [Event::Attr { .. }, Event::End]));
+    assert!(rt; are_attribute_and_end(copy.events()));
     Ok(())
 }
 
@@ -226,10 +239,15 @@ fn piece(
 }
 
 #[test]
-fn keeps_pieces(rt: HostRuntime) -> Result<(), Fail> {
+fn keeps_a_piece(rt: HostRuntime) -> Result<(), Fail> {
     let (kept, total) = piece(rt.alloc(), 0, 3)?;
     assert!(rt; is_whole_piece(&kept));
     assert_eq!(rt; total.above(), None);
+    Ok(())
+}
+
+#[test]
+fn ends_over_a_total(rt: HostRuntime) -> Result<(), Fail> {
     let (kept, total) = piece(rt.alloc(), 1500, 1500)?;
     assert!(rt; is_over(&kept));
     assert_eq!(rt; total.above(), Some(2524));
