@@ -7,6 +7,14 @@ use xs_sheet::declarations::{AttrSet, Global, KeyDecl, Method, NameTest, StripRu
 use xs_sheet::sheet::Sheet;
 use xs_trace::item::Site;
 
+/// Begins a declaration: what it is.
+fn put_word(out: &mut Answer, word: &str) {
+    if !out.is_empty() {
+        out.put("; ");
+    }
+    out.put(word);
+}
+
 /// Begins a declaration: what it is, and its module and line.
 fn put_site(out: &mut Answer, word: &str, site: Site) {
     put_word(out, word);
@@ -14,19 +22,10 @@ fn put_site(out: &mut Answer, word: &str, site: Site) {
     out.put(" ");
 }
 
-/// Begins a declaration: what it is.
-fn put_word(out: &mut Answer, word: &str) {
-    if !out.is_empty() {
-        out.put("; ");
-    }
-    out.put(word);
-    out.put(" ");
-}
-
 /// Adds a template: its module and line, its precedences, its pattern, name, priority and mode, its
 /// parameters, its body.
 fn put_template(out: &mut Answer, template: &Template) {
-    put_site(out, "T", template.site);
+    put_site(out, "T ", template.site);
     out.put_pair(template.imports_from, "-", template.precedence);
     if let Some(pattern) = &template.pattern {
         out.put(" match");
@@ -53,7 +52,7 @@ fn put_template(out: &mut Answer, template: &Template) {
 
 /// Adds a global variable or parameter.
 fn put_global(out: &mut Answer, global: &Global) {
-    put_site(out, "G", global.binding.site);
+    put_site(out, "G ", global.binding.site);
     if global.param {
         out.put("param ");
     }
@@ -62,7 +61,7 @@ fn put_global(out: &mut Answer, global: &Global) {
 
 /// Adds a key.
 fn put_key(out: &mut Answer, key: &KeyDecl) {
-    put_site(out, "K", key.site);
+    put_site(out, "K ", key.site);
     put_label(out, &key.name);
     put_pattern(out, &key.pattern);
     put_scoped(out, &key.value);
@@ -70,7 +69,7 @@ fn put_key(out: &mut Answer, key: &KeyDecl) {
 
 /// Adds a declaration of an attribute set.
 fn put_set(out: &mut Answer, set: &AttrSet) {
-    put_site(out, "S", set.site);
+    put_site(out, "S ", set.site);
     out.put_number(i64::from(set.precedence));
     out.put(" ");
     put_label(out, &set.name);
@@ -82,8 +81,7 @@ fn put_set(out: &mut Answer, set: &AttrSet) {
 
 /// Adds a rule for white space.
 fn put_rule(out: &mut Answer, rule: &StripRule) {
-    put_word(out, "W");
-    out.put(if rule.strip { "strip " } else { "keep " });
+    put_word(out, if rule.strip { "W strip " } else { "W keep " });
     match &rule.test {
         NameTest::Any => out.put("*"),
         NameTest::Uri(uri) => {
@@ -115,7 +113,7 @@ pub(crate) fn put_sheet(out: &mut Answer, sheet: &Sheet) {
         put_rule(out, rule);
     }
     for alias in &sheet.aliases {
-        put_word(out, "A");
+        put_word(out, "A ");
         out.put(alias.from_uri.as_str());
         out.put("=");
         out.put(alias.to_uri.as_str());
