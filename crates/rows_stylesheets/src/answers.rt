@@ -19,6 +19,7 @@ use xs_compile::{CompileEnd, compile};
 use xs_modules::{Modules, ModulesEnd, read_modules};
 use xs_sheet::sheet::Sheet;
 use xs_static::first_fault;
+use xs_tree::Tree;
 
 // The most bytes of a document.
 const MOST: u64 = 10_000_000;
@@ -27,37 +28,56 @@ const MOST: u64 = 10_000_000;
 pub(crate) fn put_answer(
     out: &mut Answer,
     alloc: Global,
-    settings: &Settings,
+    settings: &Settings<'_>,
     input: &str,
 ) -> Result<(), AllocError> {
-    match settings.rows.as_str() {
+    match settings.rows {
         "circles" => put_first_circle(out, alloc, input),
-        "elements" | "contents" | "values" | "words" => put_of_tree(out, alloc, settings, input),
+        "elements" | "contents" | "values" | "words" => put_of_document(
+            out, alloc, settings, input,
+        ),
         _ => put_of_modules(out, alloc, settings, input),
     }
 }
 
+/// The tree of a document, if it is one.
+fn tree_of(alloc: Global, lines: &str) -> Result<Option<Tree>, AllocError> {
+    let text = module(alloc, lines)?;
+    match build_tree(alloc, text.as_bytes(), MOST) {
+        Ok(built) => Ok(Some(built.tree)),
+        Err(BuildFault::NoMemory) => Err(AllocError),
+        Err(BuildFault::Bad { .. }) => Ok(None),
+    }
+}
+
 /// The answer to a row that is one document.
+fn put_of_document(
+    out: &mut Answer,
+    alloc: Global,
+    settings: &Settings<'_>,
+    input: &str,
+) -> Result<(), AllocError> {
+    match tree_of(alloc, input)? {
+        Some(tree) => put_of_tree(out, alloc, settings, &tree),
+        None => {
+            out.put("no document");
+            Ok(())
+        }
+    }
+}
+
+/// The answer to a row that is a tree.
 fn put_of_tree(
     out: &mut Answer,
     alloc: Global,
-    settings: &Settings,
-    input: &str,
+    settings: &Settings<'_>,
+    tree: &Tree,
 ) -> Result<(), AllocError> {
-    let bytes = module(alloc, input)?;
-    let tree = match build_tree(alloc, &bytes, MOST) {
-        Ok(built) => built.tree,
-        Err(BuildFault::NoMemory) => return Err(AllocError),
-        Err(BuildFault::Bad { .. }) => {
-            out.put("no document");
-            return Ok(());
-        }
-    };
-    match settings.rows.as_str() {
-        "elements" => put_elements(out, &tree),
-        "contents" => put_contents(out, &tree),
-        "values" => put_values(out, alloc, &tree)?,
-        _ => put_first_words(out, &tree),
+    match settings.rows {
+        "elements" => put_elements(out, tree),
+        "contents" => put_contents(out, tree),
+        "values" => return put_values(out, alloc, tree),
+        _ => put_first_words(out, tree),
     }
     Ok(())
 }
@@ -66,12 +86,12 @@ fn put_of_tree(
 fn put_of_modules(
     out: &mut Answer,
     alloc: Global,
-    settings: &Settings,
+    settings: &Settings<'_>,
     input: &str,
 ) -> Result<(), AllocError> {
     let mut library = library(alloc, input)?;
     match read_modules(alloc, &mut library, "s") {
-        Ok(modules) => match settings.rows.as_str() {
+        Ok(modules) => match settings.rows {
             "modules" => {
                 put_modules(out, &modules);
                 Ok(())
@@ -95,7 +115,7 @@ fn put_of_modules(
 fn put_of_compiled(
     out: &mut Answer,
     alloc: Global,
-    settings: &Settings,
+    settings: &Settings<'_>,
     modules: &Modules,
 ) -> Result<(), AllocError>
     requires sound { IsSound (modules_data modules.now) }
@@ -114,42 +134,38 @@ fn put_of_compiled(
 fn put_of_sheet(
     out: &mut Answer,
     alloc: Global,
-    settings: &Settings,
+    settings: &Settings<'_>,
     sheet: &Sheet,
 ) -> Result<(), AllocError> {
-    match settings.rows.as_str() {
-        "sheets" => put_sheet(out, sheet),
-        "bodies" => {
-            for template in &sheet.templates {
-                put_body(out, &template.body);
-            }
+    if settings.rows == "sheets" {
+        put_sheet(out, sheet);
+    } else if settings.rows == "bodies" {
+        for template in &sheet.templates {
+            put_body(out, &template.body);
         }
-        _ => return put_of_document(out, alloc, settings, sheet),
+    } else {
+        let lines = settings.expanded(alloc, settings.document, "")?;
+        match tree_of(alloc, lines.as_str())? {
+            Some(mut tree) => return put_of_both(out, alloc, settings, sheet, &mut tree),
+            None => out.put("no document"),
+        }
     }
     Ok(())
 }
 
-/// The answer to a row that is a stylesheet, over the document that was set.
-fn put_of_document(
+/// The answer to a row that is a stylesheet, over a document.
+fn put_of_both(
     out: &mut Answer,
     alloc: Global,
-    settings: &Settings,
+    settings: &Settings<'_>,
     sheet: &Sheet,
+    tree: &mut Tree,
 ) -> Result<(), AllocError> {
-    let bytes = module(alloc, settings.document.as_str())?;
-    let mut tree = match build_tree(alloc, &bytes, MOST) {
-        Ok(built) => built.tree,
-        Err(BuildFault::NoMemory) => return Err(AllocError),
-        Err(BuildFault::Bad { .. }) => {
-            out.put("no document");
-            return Ok(());
-        }
-    };
-    match settings.rows.as_str() {
-        "rules" => put_rules(out, alloc, sheet, &tree),
-        "imported rules" => put_imported(out, alloc, sheet, &tree),
-        "takers" => put_takers(out, alloc, sheet, &tree),
-        "white space" => put_kept(out, alloc, &sheet.strips, &mut tree),
+    match settings.rows {
+        "rules" => put_rules(out, alloc, sheet, tree),
+        "imported rules" => put_imported(out, alloc, sheet, tree),
+        "takers" => put_takers(out, alloc, sheet, tree),
+        "white space" => put_kept(out, alloc, &sheet.strips, tree),
         _ => {
             out.put("no such rows");
             Ok(())

@@ -6,10 +6,7 @@ use xs_circles::{Declaration, Name, Place, first_circle};
 
 /// A name with its URI, if it has one.
 fn name_of(text: &str) -> Name<'_> {
-    match text.split_once(':') {
-        Some((uri, local)) => (uri, local),
-        None => ("", text),
-    }
+    text.split_once(':').unwrap_or(("", text))
 }
 
 /// The place of a module and a line with a point between them.
@@ -33,6 +30,21 @@ fn declaration(alloc: Global, text: &str) -> Result<Declaration<'_>, AllocError>
     Ok(Declaration { place, name, sets })
 }
 
+/// Adds declarations with commas between them.
+fn push_all<'a>(
+    declarations: &mut Vec<Declaration<'a>>,
+    alloc: Global,
+    input: &'a str,
+) -> Result<(), AllocError> {
+    for text in input.split(',') {
+        if !text.is_empty() {
+            let declaration = declaration(alloc, text)?;
+            declarations.push(declaration)?;
+        }
+    }
+    Ok(())
+}
+
 /// Adds the place of the first circular one of declarations with commas between them.
 pub(crate) fn put_first_circle(
     out: &mut Answer,
@@ -40,11 +52,7 @@ pub(crate) fn put_first_circle(
     input: &str,
 ) -> Result<(), AllocError> {
     let mut declarations = Vec::new(alloc);
-    for text in input.split(',') {
-        if !text.is_empty() {
-            declarations.push(declaration(alloc, text)?)?;
-        }
-    }
+    push_all(&mut declarations, alloc, input)?;
     if let Some(place) = first_circle(alloc, &declarations)? {
         out.put_pair(place.module, ".", place.line);
     }

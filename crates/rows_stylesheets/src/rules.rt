@@ -64,49 +64,89 @@ fn indexed_rule(
     }
 }
 
-/// The rules that the nodes take one after another, namespace nodes left out; none for a node where
-/// the stylesheet and the two indexes differ.
-fn agreed_rules(
+/// Adds the rule that each node takes, by the stylesheet.
+fn push_rules(
+    rules: &mut Vec<Option<Rule>>,
     alloc: Global,
     sheet: &Sheet,
-    climbing: &RuleIndex<'_>,
-    prepared: &RuleIndex<'_>,
     tree: &Tree,
     among: Among,
-) -> Result<Vec<Option<Rule>>, AllocError>
+) -> Result<(), AllocError>
     requires few { length sheet.now.templates.items < 2 ^ 32 }
-    requires climbing { IsIndex climbing.now }
-    requires plain { IsPrepared climbing.now tree.now }
-    requires prepared { IsIndex prepared.now }
-    requires tables { IsPrepared prepared.now tree.now }
 {
-    let mut rules = Vec::new(alloc);
     for place in 0..tree.len() as u32 {
-        let node = Node::at(place);
-        if tree.kind(node) != Kind::Space {
-            let rule = rule_of(alloc, sheet, tree, node, among)?;
-            let is_agreed = indexed_rule(alloc, climbing, tree, node, among)? == rule
-                && indexed_rule(alloc, prepared, tree, node, among)? == rule;
-            rules.push(if is_agreed { Some(rule) } else { None })?;
-        }
+        let rule = rule_of(alloc, sheet, tree, Node::at(place), among)?;
+        rules.push(Some(rule))?;
     }
-    Ok(rules)
+    Ok(())
 }
 
-/// The rules that the nodes of a document take; none at all of too large a stylesheet.
+/// Takes away each rule that is another one by an index.
+fn compare(
+    rules: &mut [Option<Rule>],
+    alloc: Global,
+    index: &RuleIndex<'_>,
+    tree: &Tree,
+    among: Among,
+) -> Result<(), AllocError>
+    requires index { IsIndex index.now }
+    requires prepared { IsPrepared index.now tree.now }
+{
+    for place in 0..tree.len() as u32 {
+        let rule = indexed_rule(alloc, index, tree, Node::at(place), among)?;
+        if let Some(known) = rules.get_mut(place as usize)
+            && *known != Some(rule)
+        {
+            *known = None;
+        }
+    }
+    Ok(())
+}
+
+/// Takes away each rule that is another one by the index of the stylesheet, without tables.
+fn compare_climbing(
+    rules: &mut [Option<Rule>],
+    alloc: Global,
+    sheet: &Sheet,
+    tree: &Tree,
+    among: Among,
+) -> Result<(), AllocError>
+    requires few { length sheet.now.templates.items < 2 ^ 32 }
+{
+    let index = RuleIndex::new(alloc, sheet)?;
+    compare(rules, alloc, &index, tree, among)
+}
+
+/// Takes away each rule that is another one by the index of the stylesheet, with tables.
+fn compare_prepared(
+    rules: &mut [Option<Rule>],
+    alloc: Global,
+    sheet: &Sheet,
+    tree: &Tree,
+    among: Among,
+) -> Result<(), AllocError>
+    requires few { length sheet.now.templates.items < 2 ^ 32 }
+{
+    let mut index = RuleIndex::new(alloc, sheet)?;
+    index.prepare(alloc, tree)?;
+    compare(rules, alloc, &index, tree, among)
+}
+
+/// The rules that the nodes of a document take, none for a node where the stylesheet and its
+/// indexes differ; none at all of too large a stylesheet.
 fn rules_of(
     alloc: Global,
     sheet: &Sheet,
     tree: &Tree,
     among: Among,
 ) -> Result<Vec<Option<Rule>>, AllocError> {
-    if sheet.templates.as_slice().len() >= MOST {
-        return Ok(Vec::new(alloc));
+    let mut rules = Vec::new(alloc);
+    if sheet.templates.as_slice().len() < MOST {
+        push_rules(&mut rules, alloc, sheet, tree, among)?;
+        compare_climbing(&mut rules, alloc, sheet, tree, among)?;
+        compare_prepared(&mut rules, alloc, sheet, tree, among)?;
     }
-    let climbing = RuleIndex::new(alloc, sheet)?;
-    let mut prepared = RuleIndex::new(alloc, sheet)?;
-    prepared.prepare(alloc, tree)?;
-    agreed_rules(alloc, sheet, &climbing, &prepared, tree, among)
+    Ok(rules)
 }
 
 /// How many nodes take a template, or are not agreed upon.
@@ -120,13 +160,16 @@ fn count_takers(rules: &[Option<Rule>]) -> u32 {
     count
 }
 
-/// Adds the rules: the number of a template, `-` for the built-in one, `!` where none is agreed.
-fn put_all(out: &mut Answer, rules: &[Option<Rule>]) {
-    for rule in rules {
-        match rule {
-            Some(Rule::Template(number)) => out.put_number(i64::from(*number)),
-            Some(Rule::BuiltIn) => out.put("-"),
-            None => out.put("!"),
+/// Adds the rules of all nodes but the namespace nodes: the number of a template, `-` for the
+/// built-in one, `!` where none is agreed.
+fn put_all(out: &mut Answer, rules: &[Option<Rule>], tree: &Tree) {
+    for place in 0..tree.len() as u32 {
+        if tree.kind(Node::at(place)) != Kind::Space {
+            match rules.get(place as usize) {
+                Some(Some(Rule::Template(number))) => out.put_number(i64::from(*number)),
+                Some(Some(Rule::BuiltIn)) => out.put("-"),
+                _ => out.put("!"),
+            }
         }
     }
 }
@@ -141,10 +184,10 @@ pub(crate) fn put_rules(
     for mode in 0..MODES {
         let rules = rules_of(alloc, sheet, tree, Among::Mode(mode))?;
         if mode == 0 {
-            put_all(out, &rules);
+            put_all(out, &rules, tree);
         } else if count_takers(&rules) > 0 {
             out.put(" ");
-            put_all(out, &rules);
+            put_all(out, &rules, tree);
         }
     }
     Ok(())
@@ -163,7 +206,7 @@ pub(crate) fn put_imported(
             out.put(" ");
         }
         let rules = rules_of(alloc, sheet, tree, Among::ImportedUnder(under))?;
-        put_all(out, &rules);
+        put_all(out, &rules, tree);
         under = under.wrapping_add(1);
     }
     Ok(())
