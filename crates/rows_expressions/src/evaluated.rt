@@ -1,15 +1,15 @@
 //! Values of expressions and value templates, with their ticks.
 
-ghost use Rattle.std.specs.Prelude.{◌↔◌, IsTrue};
+ghost use Rattle.std.specs.Prelude.{◌↔◌, [], IsTrue};
 ghost use Rattle.std.specs.List.{All};
-ghost use Rattle.xs_eval.specs.Conditions.{IsInIf};
+ghost use Rattle.xs_eval.specs.Conditions.{IsContext, IsInIf};
 ghost use Rattle.xs_value.specs.Conversion.{IsIn};
 
 use crate::error::RowError;
-use crate::fields::cut;
+use crate::fields::{add_count, add_quoted, cut, cut_place};
 use crate::parsed::{parsed_bound, parsed_parts};
 use crate::settings::Settings;
-use crate::values::shown;
+use crate::values::show_value;
 use std::alloc::Global;
 use xs_eval::context::Context;
 use xs_eval::evaluate::evaluate;
@@ -29,13 +29,6 @@ use xs_xpath::expr::Expr;
 enum Asked {
     Expression(Expr),
     Template(Vec<AvtPart>),
-}
-
-/// How an evaluation ended, and the ticks that it took.
-#[derive(Drop)]
-struct Outcome {
-    end: String,
-    ticks: u64,
 }
 
 // A limit above the ticks of each row.
@@ -71,25 +64,32 @@ fn are_in_if(tree: &Tree, values: &[Option<Value>]) -> bool
     values.iter().all(|value| is_in_if(tree, value))
 }
 
-// How an evaluation without a value ended.
-fn ended(alloc: Global, halt: Halt) -> Result<String, RowError> {
+// Appends how an evaluation without a value ended.
+fn add_halt(out: &mut Vec<u8>, halt: Halt) -> Result<(), RowError> {
     match halt {
-        Halt::Fault(number, _) => Ok(format!(in alloc; "fault {number}")?),
-        Halt::Needs(global, _) => Ok(format!(in alloc; "needs {global}")?),
-        Halt::Spent(_) => Ok(String::from_str(alloc, "spent")?),
-        Halt::NoMemory => Err(RowError::NoMemory),
-        _ => Err(RowError::Unreadable),
+        Halt::Fault(number, _) => {
+            out.extend_from_slice(b"fault ")?;
+            add_count(out, u64::from(number))?;
+        }
+        Halt::Needs(global, _) => {
+            out.extend_from_slice(b"needs ")?;
+            add_count(out, u64::from(global))?;
+        }
+        Halt::Spent(_) => out.extend_from_slice(b"spent")?,
+        _ => return Err(RowError::NoMemory),
     }
+    Ok(())
 }
 
-// Evaluates at the node at a place, under a limit of ticks.
-fn evaluated(
+// Appends the end of an evaluation at the node at a place, under a limit of ticks, and says how
+// many it took.
+fn add_end(
+    out: &mut Vec<u8>,
     settings: &Settings,
     asked: &Asked,
     place: u32,
     limit: u64,
-) -> Result<Outcome, RowError> {
-    let alloc = settings.alloc;
+) -> Result<u64, RowError> {
     let tree = &settings.tree;
     let is_there = (place as usize) < tree.len() && (settings.current as usize) < tree.len();
     if !is_there || !are_in(tree, &settings.locals) || !are_in_if(tree, &settings.globals) {
@@ -106,92 +106,159 @@ fn evaluated(
         globals: &settings.globals,
         scope: &scope,
     };
+    match asked {
+        Asked::Expression(expr) => add_value(out, settings.alloc, expr, &context, limit),
+        Asked::Template(parts) => add_text(out, settings.alloc, parts, &context, limit),
+    }
+}
+
+// Appends the value of an expression, or how it ended without one, and says its ticks.
+fn add_value(
+    out: &mut Vec<u8>,
+    alloc: Global,
+    expr: &Expr,
+    context: &Context<'_>,
+    limit: u64,
+) -> Result<u64, RowError>
+    requires { IsContext [] context.now }
+{
     let mut meter = Meter {
         limit: Some(limit),
         spent: 0,
     };
-    let end = match asked {
-        Asked::Expression(expr) => {
-            match evaluate(alloc, expr, &context, &NoKeys, SITE, &mut meter) {
-                Ok(value) => shown(alloc, tree, &value)?,
-                Err(halt) => ended(alloc, halt)?,
-            }
-        }
-        Asked::Template(parts) => {
-            match evaluate_avt(alloc, parts, &context, &NoKeys, SITE, &mut meter) {
-                Ok(text) => format!(in alloc; "'{}'", text.as_str())?,
-                Err(halt) => ended(alloc, halt)?,
-            }
-        }
+    match evaluate(alloc, expr, context, &NoKeys, SITE, &mut meter) {
+        Ok(value) => show_value(out, context.tree, &value)?,
+        Err(halt) => add_halt(out, halt)?,
+    }
+    Ok(meter.spent)
+}
+
+// Appends the text of a value template, or how it ended without one, and says its ticks.
+fn add_text(
+    out: &mut Vec<u8>,
+    alloc: Global,
+    parts: &[AvtPart],
+    context: &Context<'_>,
+    limit: u64,
+) -> Result<u64, RowError>
+    requires { IsContext [] context.now }
+{
+    let mut meter = Meter {
+        limit: Some(limit),
+        spent: 0,
     };
-    Ok(Outcome {
-        end,
-        ticks: meter.spent,
-    })
+    match evaluate_avt(alloc, parts, context, &NoKeys, SITE, &mut meter) {
+        Ok(text) => add_quoted(out, text.as_str())?,
+        Err(halt) => add_halt(out, halt)?,
+    }
+    Ok(meter.spent)
 }
 
-// Evaluates under an ample limit, under one of just the ticks that it took, which has to end the same,
-// and under one tick less, which has to end as spent. What ends otherwise is added to the end.
-fn tried(settings: &Settings, asked: &Asked, place: u32) -> Result<Outcome, RowError> {
-    let mut free = evaluated(settings, asked, place, AMPLE)?;
-    let exact = evaluated(settings, asked, place, free.ticks)?;
-    if exact.end.as_str() != free.end.as_str() || exact.ticks != free.ticks {
-        write!(free.end, ", at its limit {}", exact.end)?;
+// Whether an evaluation under a limit spends it and has this end.
+fn ends_so(
+    settings: &Settings,
+    asked: &Asked,
+    place: u32,
+    limit: u64,
+    end: &[u8],
+) -> Result<bool, RowError> {
+    let mut found = Vec::new(settings.alloc);
+    let ticks = add_end(&mut found, settings, asked, place, limit)?;
+    Ok(found.as_slice() == end && ticks == limit)
+}
+
+// Appends the end of an evaluation under an ample limit to nothing, and says its ticks. Where it
+// ends otherwise under a limit of just these ticks, or not as spent under one tick less, it appends
+// this too.
+fn add_tried(
+    out: &mut Vec<u8>,
+    settings: &Settings,
+    asked: &Asked,
+    place: u32,
+) -> Result<u64, RowError> {
+    let ticks = add_end(out, settings, asked, place, AMPLE)?;
+    if !ends_so(settings, asked, place, ticks, out)? {
+        out.extend_from_slice(b", otherwise at its limit")?;
     }
-    if free.ticks > 0 {
-        let short = evaluated(settings, asked, place, free.ticks - 1)?;
-        if short.end.as_str() != "spent" || short.ticks != free.ticks - 1 {
-            write!(free.end, ", one tick short {}", short.end)?;
+    if ticks > 0 && !ends_so(settings, asked, place, ticks - 1, b"spent")? {
+        out.extend_from_slice(b", not spent by one tick less")?;
+    }
+    Ok(ticks)
+}
+
+// Appends what is given at the node at a place, and its ticks.
+fn add_both(
+    out: &mut Vec<u8>,
+    settings: &Settings,
+    asked: &Asked,
+    place: u32,
+) -> Result<(), RowError> {
+    let ticks = add_tried(out, settings, asked, place)?;
+    out.extend_from_slice(b" | ")?;
+    Ok(add_count(out, ticks)?)
+}
+
+/// Appends the answer of a call that evaluates.
+pub(crate) fn answer(
+    out: &mut Vec<u8>,
+    settings: &Settings,
+    call: &str,
+    rest: &str,
+) -> Result<(), RowError> {
+    let (place, text) = cut_place(rest)?;
+    match call {
+        "value" => {
+            let asked = Asked::Expression(parsed_bound(settings, text)?);
+            add_both(out, settings, &asked, place)
         }
+        "text" => {
+            let asked = Asked::Template(parsed_parts(settings, text)?);
+            add_both(out, settings, &asked, place)
+        }
+        _ => compare(out, settings, place, text),
     }
-    Ok(free)
 }
 
-/// The value of an expression at the node at a place, and its ticks.
-pub(crate) fn value(settings: &Settings, text: &str) -> Result<String, RowError> {
-    let (place, text) = cut(text)?;
-    let asked = Asked::Expression(parsed_bound(settings, text)?);
-    let outcome = tried(settings, &asked, place.parse::<u32>()?)?;
-    Ok(format!(in settings.alloc; "{} | {}", outcome.end, outcome.ticks)?)
-}
-
-/// The text of a value template at the node at a place, and its ticks.
-pub(crate) fn text(settings: &Settings, text: &str) -> Result<String, RowError> {
-    let (place, text) = cut(text)?;
-    let asked = Asked::Template(parsed_parts(settings, text)?);
-    let outcome = tried(settings, &asked, place.parse::<u32>()?)?;
-    Ok(format!(in settings.alloc; "{} | {}", outcome.end, outcome.ticks)?)
-}
-
-/// How two operands compare under each operator, a letter for each, and the ticks of one
-/// comparison; where they differ, of each that differs from the one before it.
-pub(crate) fn compare(settings: &Settings, text: &str) -> Result<String, RowError> {
-    let (place, rest) = cut(text)?;
-    let place = place.parse::<u32>()?;
-    let (left, right) = cut(rest)?;
-    let mut letters = String::new(settings.alloc);
-    let mut costs = String::new(settings.alloc);
+// Appends how two operands compare under each operator, a letter for each, and the ticks of one
+// comparison; where they differ, of each that differs from the one before it.
+fn compare(out: &mut Vec<u8>, settings: &Settings, place: u32, text: &str) -> Result<(), RowError> {
+    let (left, right) = cut(text)?;
+    let mut costs = Vec::new(settings.alloc);
     let mut last = None;
     for operator in OPERATORS {
         let text = format!(in settings.alloc; "{left} {operator} {right}")?;
-        let asked = Asked::Expression(parsed_bound(settings, text.as_str())?);
-        let outcome = tried(settings, &asked, place)?;
-        letters.push(letter(outcome.end.as_str()))?;
-        if last != Some(outcome.ticks) {
-            write!(costs, " {}", outcome.ticks)?;
+        let ticks = add_compared(out, settings, place, text.as_str())?;
+        if last != Some(ticks) {
+            costs.push(b' ')?;
+            add_count(&mut costs, ticks)?;
         }
-        last = Some(outcome.ticks);
+        last = Some(ticks);
     }
-    Ok(format!(in settings.alloc; "{letters} |{costs}")?)
+    out.extend_from_slice(b" |")?;
+    Ok(out.extend_from_slice(&costs)?)
+}
+
+// Appends the letter of how a comparison ends, and says its ticks.
+fn add_compared(
+    out: &mut Vec<u8>,
+    settings: &Settings,
+    place: u32,
+    text: &str,
+) -> Result<u64, RowError> {
+    let asked = Asked::Expression(parsed_bound(settings, text)?);
+    let mut end = Vec::new(settings.alloc);
+    let ticks = add_tried(&mut end, settings, &asked, place)?;
+    out.push(letter(&end))?;
+    Ok(ticks)
 }
 
 // The letter of a comparison's end.
-fn letter(end: &str) -> char {
+fn letter(end: &[u8]) -> u8 {
     match end {
-        "true" => 'T',
-        "false" => 'F',
-        "fault 51" => '1',
-        "fault 52" => '2',
-        _ => '?',
+        b"true" => b'T',
+        b"false" => b'F',
+        b"fault 51" => b'1',
+        b"fault 52" => b'2',
+        _ => b'?',
     }
 }

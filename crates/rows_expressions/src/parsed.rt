@@ -1,19 +1,38 @@
 //! What texts are parsed to, and the scopes that they are parsed in.
 
 use crate::error::RowError;
-use crate::fields::{repeated, word};
+use crate::fields::{add_count, add_repeated, word};
 use crate::settings::Settings;
 use crate::shown::{show, show_parts, show_pattern};
-use std::alloc::AllocError;
+use std::alloc::{AllocError, Global};
 use xs_xpath::avt::{AvtPart, parse_avt};
 use xs_xpath::bind::{Slots, bind};
 use xs_xpath::expr::Expr;
 use xs_xpath::parse::{parse_expr, parse_pattern};
 use xs_xpath::pattern::Pattern;
+use xs_xpath::scope::Scope;
 use xs_xpath::uses::{has_unbound, uses_current, uses_key, uses_variables};
 
 // The most bytes of a text.
 const MOST: usize = 100_000_000;
+
+/// Appends the answer of a call with a text that is parsed.
+pub(crate) fn answer(
+    out: &mut Vec<u8>,
+    settings: &Settings,
+    call: &str,
+    rest: &str,
+) -> Result<(), RowError> {
+    match call {
+        "expression" => Ok(show(out, &parsed(settings, rest)?)?),
+        "pattern" => Ok(show_pattern(out, &parsed_pattern(settings, rest)?)?),
+        "template" => Ok(show_parts(out, &parsed_parts(settings, rest)?)?),
+        "bound" => Ok(show_bound(out, &parsed_bound(settings, rest)?)?),
+        "long" => add_long(out, settings, rest),
+        "uri" => Ok(add_uri(out, &settings.scope()?, rest)?),
+        _ => add_found(out, settings.alloc, &settings.scope()?, rest),
+    }
+}
 
 /// The expression of a text.
 pub(crate) fn parsed(settings: &Settings, text: &str) -> Result<Expr, RowError> {
@@ -45,83 +64,64 @@ pub(crate) fn parsed_parts(settings: &Settings, text: &str) -> Result<Vec<AvtPar
     Ok(parse_avt(settings.alloc, text, &settings.scope()?)?)
 }
 
-/// The tree of an expression.
-pub(crate) fn expression(settings: &Settings, text: &str) -> Result<String, RowError> {
-    let mut out = Vec::new(settings.alloc);
-    show(&mut out, &parsed(settings, text)?)?;
-    Ok(String::from_utf8(out)?)
+// Appends the tree of an expression with its variables bound, and letters for what it refers to:
+// variables, some of them unbound, the current node, and keys.
+fn show_bound(out: &mut Vec<u8>, e: &Expr) -> Result<(), AllocError> {
+    show(out, e)?;
+    if uses_variables(e) || uses_current(e) || uses_key(e) {
+        out.extend_from_slice(b" | ")?;
+    }
+    show_use(out, uses_variables(e), b'v')?;
+    show_use(out, has_unbound(e), b'u')?;
+    show_use(out, uses_current(e), b'c')?;
+    show_use(out, uses_key(e), b'k')
 }
 
-/// The alternatives of a pattern.
-pub(crate) fn pattern(settings: &Settings, text: &str) -> Result<String, RowError> {
-    let mut out = Vec::new(settings.alloc);
-    show_pattern(&mut out, &parsed_pattern(settings, text)?)?;
-    Ok(String::from_utf8(out)?)
-}
-
-/// The parts of a value template.
-pub(crate) fn template(settings: &Settings, text: &str) -> Result<String, RowError> {
-    let mut out = Vec::new(settings.alloc);
-    show_parts(&mut out, &parsed_parts(settings, text)?)?;
-    Ok(String::from_utf8(out)?)
-}
-
-/// The tree of an expression with its variables bound, and letters for what it refers to.
-pub(crate) fn bound(settings: &Settings, text: &str) -> Result<String, RowError> {
-    let mut out = Vec::new(settings.alloc);
-    let e = parsed_bound(settings, text)?;
-    show(&mut out, &e)?;
-    show_uses(&mut out, &e)?;
-    Ok(String::from_utf8(out)?)
-}
-
-// Appends letters for what an expression refers to: variables, some of them unbound, the current
-// node, and keys.
-fn show_uses(out: &mut Vec<u8>, e: &Expr) -> Result<(), AllocError> {
-    let mut is_first = true;
-    for (letter, is_used) in [
-        (b'v', uses_variables(e)),
-        (b'u', has_unbound(e)),
-        (b'c', uses_current(e)),
-        (b'k', uses_key(e)),
-    ] {
-        if is_used {
-            if is_first {
-                out.extend_from_slice(b" | ")?;
-            }
-            is_first = false;
-            out.push(letter)?;
-        }
+// Appends the letter of what an expression refers to.
+fn show_use(out: &mut Vec<u8>, is_used: bool, letter: u8) -> Result<(), AllocError> {
+    if is_used {
+        out.push(letter)?;
     }
     Ok(())
 }
 
-/// That an expression made of repeated pieces is read.
-pub(crate) fn long(settings: &Settings, text: &str) -> Result<String, RowError> {
-    let text = repeated(settings.alloc, text)?;
+// Appends that an expression made of repeated pieces is read.
+fn add_long(out: &mut Vec<u8>, settings: &Settings, pieces: &str) -> Result<(), RowError> {
+    let mut text = String::new(settings.alloc);
+    add_repeated(&mut text, pieces)?;
     let _expr = parsed(settings, text.as_str())?;
-    Ok(String::from_str(settings.alloc, "read")?)
+    Ok(out.extend_from_slice(b"read")?)
 }
 
-/// The URI of a prefix.
-pub(crate) fn uri(settings: &Settings, prefix: &str) -> Result<String, RowError> {
-    let scope = settings.scope()?;
-    let uri = scope.uri_in(prefix).unwrap_or("");
-    Ok(String::from_str(settings.alloc, uri)?)
+// Appends the URI of a prefix.
+fn add_uri(out: &mut Vec<u8>, scope: &Scope, prefix: &str) -> Result<(), AllocError> {
+    match scope.uri_in(prefix) {
+        Some(uri) => out.extend_from_slice(uri.as_bytes()),
+        None => Ok(()),
+    }
 }
 
-/// How many of the prefixes with the numbers from one to another have the URI with that number.
-pub(crate) fn uris(settings: &Settings, numbers: &str) -> Result<String, RowError> {
-    let alloc = settings.alloc;
-    let scope = settings.scope()?;
+// Appends how many of the prefixes with the numbers from one to another have the URI with that
+// number.
+fn add_found(
+    out: &mut Vec<u8>,
+    alloc: Global,
+    scope: &Scope,
+    numbers: &str,
+) -> Result<(), RowError> {
     let (first, last) = word(numbers);
     let mut found = 0_u64;
     for number in first.parse::<u32>()?..=last.parse::<u32>()? {
-        let prefix = format!(in alloc; "p{number}")?;
-        let expected = format!(in alloc; "u{number}")?;
-        if scope.uri_in(prefix.as_str()) == Some(expected.as_str()) {
+        if is_found(alloc, scope, number)? {
             found = found.saturating_add(1);
         }
     }
-    Ok(format!(in alloc; "{found}")?)
+    Ok(add_count(out, found)?)
+}
+
+// Whether the prefix with a number has the URI with that number.
+fn is_found(alloc: Global, scope: &Scope, number: u32) -> Result<bool, AllocError> {
+    let prefix = format!(in alloc; "p{number}")?;
+    let uri = format!(in alloc; "u{number}")?;
+    Ok(scope.uri_in(prefix.as_str()) == Some(uri.as_str()))
 }

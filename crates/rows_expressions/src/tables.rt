@@ -4,6 +4,7 @@ ghost use Rattle.xs_pattern.specs.steps.Above.{IsAbove};
 ghost use Rattle.xs_xpath.specs.Exprs.{tree_from};
 
 use crate::error::RowError;
+use crate::fields::add_count;
 use crate::parsed::parsed_pattern;
 use crate::settings::Settings;
 use xs_pattern::above::above_of;
@@ -11,6 +12,7 @@ use xs_pattern::matching::{matches_path, matches_path_by};
 use xs_tree::Node;
 use xs_value::keys::NoKeys;
 use xs_xpath::expr::Expr;
+use xs_xpath::pattern::Pattern;
 use xs_xpath::scope::Scope;
 
 // Whether matching by a table says of each node what matching without it says.
@@ -35,24 +37,6 @@ fn is_agreed(
     Ok(true)
 }
 
-/// Whether each alternative of a pattern has a table, by which the same nodes match as by climbing
-/// from each of them.
-pub(crate) fn table(settings: &Settings, text: &str) -> Result<String, RowError> {
-    let alloc = settings.alloc;
-    let scope = settings.scope()?;
-    for alternative in &parsed_pattern(settings, text)?.alternatives {
-        match above_of(alloc, alternative, &settings.tree)? {
-            None => return Ok(String::from_str(alloc, "no table")?),
-            Some(marks) => {
-                if !is_agreed(settings, alternative, &scope, &marks)? {
-                    return Ok(String::from_str(alloc, "not as climbed")?);
-                }
-            }
-        }
-    }
-    Ok(String::from_str(alloc, "as climbed")?)
-}
-
 // How many nodes match an alternative, by its table.
 fn count_by(
     settings: &Settings,
@@ -74,19 +58,45 @@ fn count_by(
     Ok(found)
 }
 
-/// How many nodes match the alternatives of a pattern, by their tables.
-pub(crate) fn count(settings: &Settings, text: &str) -> Result<String, RowError> {
-    let alloc = settings.alloc;
+/// Appends the answer of a call that makes tables.
+pub(crate) fn answer(
+    out: &mut Vec<u8>,
+    settings: &Settings,
+    call: &str,
+    rest: &str,
+) -> Result<(), RowError> {
+    let pattern = parsed_pattern(settings, rest)?;
+    if call == "count" {
+        return add_found(out, settings, &pattern);
+    }
+    Ok(out.extend_from_slice(table(settings, &pattern)?.as_bytes())?)
+}
+
+// Whether each alternative of a pattern has a table, by which the same nodes match as by climbing
+// from each of them.
+fn table(settings: &Settings, pattern: &Pattern) -> Result<&'static str, RowError> {
     let scope = settings.scope()?;
-    let mut found = 0_u64;
-    for alternative in &parsed_pattern(settings, text)?.alternatives {
-        match above_of(alloc, alternative, &settings.tree)? {
-            None => return Ok(String::from_str(alloc, "no table")?),
-            Some(marks) => {
-                let more = count_by(settings, alternative, &scope, &marks)?;
-                found = found.saturating_add(more);
-            }
+    for alternative in &pattern.alternatives {
+        let Some(marks) = above_of(settings.alloc, alternative, &settings.tree)? else {
+            return Ok("no table");
+        };
+        if !is_agreed(settings, alternative, &scope, &marks)? {
+            return Ok("not as climbed");
         }
     }
-    Ok(format!(in alloc; "{found}")?)
+    Ok("as climbed")
+}
+
+// Appends how many nodes match the alternatives of a pattern, by their tables.
+fn add_found(out: &mut Vec<u8>, settings: &Settings, pattern: &Pattern) -> Result<(), RowError> {
+    let scope = settings.scope()?;
+    let mut found = 0_u64;
+    for alternative in &pattern.alternatives {
+        let Some(marks) = above_of(settings.alloc, alternative, &settings.tree)? else {
+            return Err(RowError::Unreadable);
+        };
+        let more = count_by(settings, alternative, &scope, &marks)?;
+        found = found.saturating_add(more);
+    }
+    Ok(add_count(out, found)?)
 }

@@ -1,16 +1,18 @@
 //! Values: as rows write them, converted, compared and joined.
 
+ghost use Rattle.xs_value.specs.Conversion.{IsIn};
+
 use crate::error::RowError;
-use crate::fields::cut;
+use crate::fields::{add_bool, add_count, add_quoted, cut};
 use crate::names::comparison_named;
-use crate::numbers::{number, outcome};
+use crate::numbers::{add_outcome, number};
 use crate::settings::Settings;
 use std::alloc::{AllocError, Global};
 use xs_num::number::NumFault;
 use xs_trace::event::{Event, Fragment, Label};
 use xs_trace::text::TextBuf;
 use xs_tree::{Node, Tree};
-use xs_value::comparison::compare_values;
+use xs_value::comparison::{CompareOp, compare_values};
 use xs_value::conversion::{is_in, text_into, to_bool, to_number, to_text};
 use xs_value::node_list::NodeList;
 use xs_value::node_set::NodeSet;
@@ -85,25 +87,35 @@ fn event(alloc: Global, line: &str) -> Result<Event, RowError> {
     Err(RowError::Unreadable)
 }
 
-/// The places of nodes.
-pub(crate) fn places(alloc: Global, nodes: &[Node]) -> Result<String, RowError> {
+/// Appends the places of nodes.
+pub(crate) fn add_places(out: &mut Vec<u8>, nodes: &[Node]) -> Result<(), AllocError> {
     if nodes.is_empty() {
-        return Ok(String::from_str(alloc, "none")?);
+        return out.extend_from_slice(b"none");
     }
-    let mut out = String::new(alloc);
+    let mut is_first = true;
     for node in nodes {
-        add_place(&mut out, node.place())?;
+        if !is_first {
+            out.push(b' ')?;
+        }
+        is_first = false;
+        add_count(out, u64::from(node.place()))?;
     }
-    Ok(out)
+    Ok(())
 }
 
-/// Adds a place after the others.
-pub(crate) fn add_place(out: &mut String, place: u32) -> Result<(), RowError> {
-    if !out.is_empty() {
-        out.push(' ')?;
+/// Appends the answer of a call with values.
+pub(crate) fn answer(
+    out: &mut Vec<u8>,
+    settings: &Settings,
+    call: &str,
+    rest: &str,
+) -> Result<(), RowError> {
+    match call {
+        "convert" => convert(out, &settings.tree, operand(settings.alloc, rest)?.copy()?),
+        "compared" => compared(out, settings, rest),
+        "join" => join(out, settings.alloc, rest),
+        _ => gather(out, settings.alloc, rest),
     }
-    write!(out, "{place}")?;
-    Ok(())
 }
 
 // Why a value has no number, or a comparison no outcome.
@@ -115,84 +127,122 @@ fn fault(fault: ValueFault) -> Result<NumFault, RowError> {
     }
 }
 
-/// A value as a boolean, a string and a number.
-pub(crate) fn convert(settings: &Settings, text: &str) -> Result<String, RowError> {
-    let alloc = settings.alloc;
-    let tree = &settings.tree;
-    let value = operand(alloc, text)?.copy()?;
+// Appends a value as a boolean, a string and a number.
+fn convert(out: &mut Vec<u8>, tree: &Tree, value: Value) -> Result<(), RowError> {
     if !is_in(tree, &value) {
         return Err(RowError::Unreadable);
     }
-    let mut bytes = Vec::new(alloc);
-    text_into(tree, &value, &mut bytes)?;
-    let appended = String::from_utf8(bytes)?;
-    let text = to_text(alloc, tree, &value)?;
-    let number = match to_number(alloc, tree, &value) {
+    let alloc = *out.allocator();
+    add_bool(out, to_bool(&value))?;
+    out.extend_from_slice(b" | ")?;
+    add_text(out, alloc, tree, &value)?;
+    out.extend_from_slice(b" | ")?;
+    let outcome = match to_number(alloc, tree, &value) {
         Ok(number) => Ok(number),
         Err(refused) => Err(fault(refused)?),
     };
-    let mut out = format!(in alloc; "{} | '{}' | ", to_bool(&value), text.as_str())?;
-    out.push_str(outcome(alloc, number)?.as_str())?;
-    if appended.as_str() != text.as_str() {
-        write!(out, " | '{appended}'")?;
-    }
-    Ok(out)
+    Ok(add_outcome(out, outcome)?)
 }
 
-/// Whether two values compare so.
-pub(crate) fn compared(settings: &Settings, text: &str) -> Result<String, RowError> {
-    let alloc = settings.alloc;
+// Appends a value as a string, both ways: twice, where they differ.
+fn add_text(out: &mut Vec<u8>, alloc: Global, tree: &Tree, value: &Value) -> Result<(), AllocError>
+    requires { IsIn tree.now value.now }
+{
+    let text = to_text(alloc, tree, value)?;
+    let mut appended = Vec::new(alloc);
+    text_into(tree, value, &mut appended)?;
+    add_quoted(out, text.as_str())?;
+    if appended.as_slice() != text.as_str().as_bytes() {
+        out.extend_from_slice(&appended)?;
+    }
+    Ok(())
+}
+
+// Appends whether two values compare so.
+fn compared(out: &mut Vec<u8>, settings: &Settings, text: &str) -> Result<(), RowError> {
     let (left, rest) = cut(text)?;
     let (name, right) = cut(rest)?;
     let op = comparison_named(name).ok_or(RowError::Unreadable)?;
-    let left = operand(alloc, left)?;
-    let right = operand(alloc, right)?;
-    if !is_in(&settings.tree, &left) || !is_in(&settings.tree, &right) {
+    let left = operand(settings.alloc, left)?;
+    let right = operand(settings.alloc, right)?;
+    add_compared(out, &settings.tree, op, &left, &right)
+}
+
+// Appends whether two values compare so.
+fn add_compared(
+    out: &mut Vec<u8>,
+    tree: &Tree,
+    op: CompareOp,
+    left: &Value,
+    right: &Value,
+) -> Result<(), RowError> {
+    if !is_in(tree, left) || !is_in(tree, right) {
         return Err(RowError::Unreadable);
     }
-    match compare_values(alloc, &settings.tree, op, &left, &right) {
-        Ok(holds) => Ok(format!(in alloc; "{holds}")?),
-        Err(refused) => outcome(alloc, Err(fault(refused)?)),
+    match compare_values(*out.allocator(), tree, op, left, right) {
+        Ok(holds) => Ok(add_bool(out, holds)?),
+        Err(refused) => Ok(add_outcome(out, Err(fault(refused)?))?),
     }
 }
 
-/// The nodes of two sets.
-pub(crate) fn join(alloc: Global, text: &str) -> Result<String, RowError> {
+// Appends the nodes of two sets.
+fn join(out: &mut Vec<u8>, alloc: Global, text: &str) -> Result<(), RowError> {
     let (left, right) = cut(text)?;
     let left = NodeSet::in_order(nodes(alloc, left)?)?;
     let right = NodeSet::in_order(nodes(alloc, right)?)?;
-    places(alloc, left.union(alloc, &right)?.nodes())
+    let both = left.union(alloc, &right)?;
+    Ok(add_places(out, both.nodes())?)
 }
 
-/// A list of nodes, gathered from a slice, one by one and from a slice again, how many it has, and
-/// its set.
-pub(crate) fn gather(alloc: Global, text: &str) -> Result<String, RowError> {
+// Appends a list of nodes, gathered from a slice, one by one and from a slice again, how many it
+// has, and its set.
+fn gather(out: &mut Vec<u8>, alloc: Global, text: &str) -> Result<(), RowError> {
     let (first, rest) = cut(text)?;
-    let mut list = NodeList::from_slice(alloc, &nodes(alloc, first)?)?;
-    let (next, rest) = cut(rest)?;
-    for node in nodes(alloc, next)? {
-        list.push(node)?;
-    }
-    list.extend_from_slice(&nodes(alloc, rest)?)?;
-    let listed = places(alloc, list.as_slice())?;
-    let count = list.len();
-    let set = NodeSet::of_list(list)?.copy()?;
-    let found = places(alloc, set.nodes())?;
-    Ok(format!(in alloc; "{listed} | {count} | {found}")?)
+    let (next, last) = cut(rest)?;
+    let first = nodes(alloc, first)?;
+    let next = nodes(alloc, next)?;
+    let last = nodes(alloc, last)?;
+    let list = gathered(alloc, &first, &next, &last)?;
+    Ok(add_gathered(out, list)?)
 }
 
-/// A value: nodes by their places, any other by its kind and its string.
-pub(crate) fn shown(alloc: Global, tree: &Tree, value: &Value) -> Result<String, RowError> {
-    if !is_in(tree, value) {
-        return Err(RowError::Unreadable);
+// The list of these nodes.
+fn gathered(
+    alloc: Global,
+    first: &[Node],
+    next: &[Node],
+    last: &[Node],
+) -> Result<NodeList, AllocError> {
+    let mut list = NodeList::from_slice(alloc, first)?;
+    for node in next {
+        list.push(*node)?;
     }
-    let mut bytes = Vec::new(alloc);
-    text_into(tree, value, &mut bytes)?;
-    let text = String::from_utf8(bytes)?;
+    list.extend_from_slice(last)?;
+    Ok(list)
+}
+
+// Appends a list of nodes, how many it has, and its set.
+fn add_gathered(out: &mut Vec<u8>, list: NodeList) -> Result<(), AllocError> {
+    add_places(out, list.as_slice())?;
+    out.extend_from_slice(b" | ")?;
+    add_count(out, list.len() as u64)?;
+    out.extend_from_slice(b" | ")?;
+    let set = NodeSet::of_list(list)?.copy()?;
+    add_places(out, set.nodes())
+}
+
+/// Appends a value: nodes by their places, any other by its kind and its string.
+pub(crate) fn show_value(out: &mut Vec<u8>, tree: &Tree, value: &Value) -> Result<(), AllocError>
+    requires { IsIn tree.now value.now }
+{
     match value {
-        Value::Nodes(set) => places(alloc, set.nodes()),
-        Value::Bool(_) | Value::Number(_) => Ok(text),
-        Value::Chars(_) => Ok(format!(in alloc; "'{text}'")?),
-        Value::Piece(_) => Ok(format!(in alloc; "<{text}>")?),
+        Value::Nodes(set) => add_places(out, set.nodes()),
+        Value::Bool(_) | Value::Number(_) => text_into(tree, value, out),
+        Value::Chars(text) => add_quoted(out, text.as_str()),
+        Value::Piece(_) => {
+            out.push(b'<')?;
+            text_into(tree, value, out)?;
+            out.extend_from_slice(b">")
+        }
     }
 }
