@@ -2,10 +2,14 @@
 #![tactic(auto)]
 
 #[cfg(test)]
+mod axes;
+#[cfg(test)]
 mod blocks;
 mod document_laws;
 #[cfg(test)]
 mod edges;
+#[cfg(test)]
+mod numbers;
 #[cfg(test)]
 mod recorders;
 mod trace_laws;
