@@ -91,10 +91,34 @@ pub(crate) fn push_fields(out: &mut String, seen: &Seen) -> Result<(), AllocErro
     }
     if !seen.result.is_empty() {
         out.push_str(" | \"")?;
-        push_escaped(out, seen.result.as_str())?;
+        push_short(out, seen.result.as_str())?;
         out.push_str("\"")?;
     }
     Ok(())
+}
+
+/// Adds a text in one line; one that is a letter many times as a row says it, `<<300:a>>`.
+fn push_short(out: &mut String, text: &str) -> Result<(), AllocError> {
+    match text.chars().next() {
+        Some(letter) if is_run(text) => {
+            let count = text.len();
+            write!(out, "<<{count}:{letter}>>")
+        }
+        _ => push_escaped(out, text),
+    }
+}
+
+/// Whether a text is one letter of one byte many times.
+fn is_run(text: &str) -> bool {
+    let Some(first) = text.bytes().next() else {
+        return false;
+    };
+    for byte in text.bytes() {
+        if byte != first {
+            return false;
+        }
+    }
+    text.len() > 80
 }
 
 /// Adds a line for the user, without its end.

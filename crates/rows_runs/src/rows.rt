@@ -162,11 +162,10 @@ impl Rows {
             self.at = At::Outside;
             self.setup.clear();
         }
-        self.setup.add_file(word, rest)?;
+        self.in_file = self.setup.add_file(word, rest)?;
         if self.at == At::Outside {
             self.setup.share();
         }
-        self.in_file = true;
         Ok(())
     }
 
@@ -178,30 +177,31 @@ impl Rows {
         Ok(())
     }
 
-    /// Adds the answer of the run that has none yet: what it gives with each of the options, where
-    /// that differs from what it gives with the first.
+    /// Adds the answer of the run that has none yet.
     fn answer<R: Threads + Sync>(&mut self, rt: &R) -> Result<(), AllocError> {
         if self.at == At::Outside || self.at == At::Answer {
             return Ok(());
         }
-        let mut first = None;
-        for options in self.with.as_str().split(" | ") {
-            let given = self.given(rt, options)?;
-            match &first {
-                None => {
-                    self.out.push_str(given.as_str())?;
-                    first = Some(given);
-                }
-                Some(first) if first.as_str() == given.as_str() => {}
-                Some(_) => {
-                    let out = &mut self.out;
-                    write!(out, "= differs {options}\n")?;
-                    out.push_str(given.as_str())?;
-                }
-            }
-        }
+        let parts = self.given_with_all(rt)?;
+        self.out.push_str(parts.as_str())?;
         self.at = At::Answer;
         Ok(())
+    }
+
+    /// What a run gives with the first of the options, and with each that gives something else.
+    fn given_with_all<R: Threads + Sync>(&self, rt: &R) -> Result<String, AllocError> {
+        let mut all = String::new(self.alloc);
+        let mut first = String::new(self.alloc);
+        for options in self.with.as_str().split(" | ") {
+            let given = self.given(rt, options)?;
+            if first.is_empty() {
+                first.push_str(given.as_str())?;
+                all.push_str(given.as_str())?;
+            } else if first.as_str() != given.as_str() {
+                write!(&mut all, "= differs {options}\n{given}")?;
+            }
+        }
+        Ok(all)
     }
 
     /// What a run gives with these options, as parts.

@@ -88,8 +88,9 @@ impl Setup {
         self.shared = self.files.len();
     }
 
-    /// Begins a file, by the word and the rest of the line that begins its part.
-    pub(crate) fn add_file(&mut self, word: &str, rest: &str) -> Result<(), AllocError> {
+    /// Begins a file, by the word and the rest of the line that begins its part; whether its lines
+    /// follow.
+    pub(crate) fn add_file(&mut self, word: &str, rest: &str) -> Result<bool, AllocError> {
         let (name, line) = match word {
             "sheet" => ("s.pyx", ""),
             "source" => ("src.pyx", rest),
@@ -108,8 +109,9 @@ impl Setup {
             write!(&mut text, "(xsl:output\nAmethod {rest}\n)xsl:output\n")?;
         }
         let name = String::from_str(self.alloc, name)?;
+        let is_open = !matches!(form, Form::Escaped);
         self.files.push(File { name, text, form })?;
-        Ok(())
+        Ok(is_open)
     }
 
     /// Adds a line to the last file.
@@ -188,16 +190,17 @@ impl Setup {
 
 /// The bytes of a file, in which a text takes its place.
 fn bytes_of(alloc: Global, file: &File, text: &[u8]) -> Result<Vec<u8>, AllocError> {
-    if let Form::Escaped = file.form {
-        return meant(alloc, file.text.as_str());
-    }
     let mut bytes = Vec::new(alloc);
     let mut is_first = true;
     for part in file.text.as_str().split(PLACE) {
         if !is_first {
             bytes.extend_from_slice(text)?;
         }
-        bytes.extend_from_slice(part.as_bytes())?;
+        if let Form::Escaped = file.form {
+            bytes.extend_from_slice(&meant(alloc, part)?)?;
+        } else {
+            bytes.extend_from_slice(part.as_bytes())?;
+        }
         is_first = false;
     }
     if let Form::Content = file.form {
