@@ -1,38 +1,38 @@
 //! What a run left, as a row says it.
 
-use crate::setup::Seen;
+use crate::setup::Outcome;
 use crate::texts::push_escaped;
 use std::alloc::AllocError;
 use xs_engine::Report;
 use xs_words::USAGE;
 
-/// Adds the parts of an answer, but for those that are empty.
-pub(crate) fn push_parts(out: &mut String, seen: &Seen) -> Result<(), AllocError> {
-    let status = seen.report.status;
+/// Adds the parts of an answer, except those that are empty.
+pub(crate) fn push_parts(out: &mut String, outcome: &Outcome) -> Result<(), AllocError> {
+    let status = outcome.report.status;
     write!(out, "= status {status}\n")?;
-    let ticks = seen.report.ticks;
+    let ticks = outcome.report.ticks;
     if ticks > 0 {
         write!(out, "= ticks {ticks}\n")?;
     }
-    if has_pieces(&seen.report) {
-        out.push_str("= pieces ")?;
-        push_pieces(out, &seen.report)?;
-        out.push_str("\n")?;
-    }
-    push_result(out, seen.result.as_str())?;
-    push_lines(out, seen.lines.as_str())
-}
-
-/// Whether a run had pieces.
-fn has_pieces(report: &Report) -> bool {
-    report.pieces > 0 || report.inline > 0 || !report.claims.is_empty()
+    push_pieces(out, "= pieces", &outcome.report, "\n")?;
+    push_result(out, outcome.result.as_str())?;
+    push_lines(out, outcome.lines.as_str())
 }
 
 /// Adds how many pieces were claimed, how many evaluated in their place, and how many claims there
-/// are.
-fn push_pieces(out: &mut String, report: &Report) -> Result<(), AllocError> {
+/// are, where a run had pieces.
+fn push_pieces(
+    out: &mut String,
+    before: &str,
+    report: &Report,
+    after: &str,
+) -> Result<(), AllocError> {
     let claims = report.claims.len();
-    write!(out, "{} {} {claims}", report.pieces, report.inline)
+    let (pieces, inline) = (report.pieces, report.inline);
+    if pieces == 0 && inline == 0 && claims == 0 {
+        return Ok(());
+    }
+    write!(out, "{before} {pieces} {inline} {claims}{after}")
 }
 
 /// Adds a result: as it is where it consists of PYX lines, and else each of its lines after a sign,
@@ -79,46 +79,33 @@ fn push_lines(out: &mut String, lines: &str) -> Result<(), AllocError> {
 
 /// Adds an answer in one line: status, ticks, the lines for the user and the result, without those
 /// that are empty.
-pub(crate) fn push_fields(out: &mut String, seen: &Seen) -> Result<(), AllocError> {
-    write!(out, "{} | {}", seen.report.status, seen.report.ticks)?;
-    if has_pieces(&seen.report) {
-        out.push_str(" | pieces ")?;
-        push_pieces(out, &seen.report)?;
-    }
-    for line in seen.lines.as_str().split_inclusive('\n') {
+pub(crate) fn push_fields(out: &mut String, outcome: &Outcome) -> Result<(), AllocError> {
+    write!(out, "{} | {}", outcome.report.status, outcome.report.ticks)?;
+    push_pieces(out, " | pieces", &outcome.report, "")?;
+    for line in outcome.lines.as_str().split_inclusive('\n') {
         out.push_str(" | ")?;
         push_line(out, line)?;
     }
-    if !seen.result.is_empty() {
+    if !outcome.result.is_empty() {
         out.push_str(" | \"")?;
-        push_short(out, seen.result.as_str())?;
+        push_short(out, outcome.result.as_str())?;
         out.push_str("\"")?;
     }
     Ok(())
 }
 
-/// Adds a text in one line; one that is a letter many times as a row says it, `<<300:a>>`.
+/// Adds a text in one line; a long one of a single letter as a row says it, `<<300:a>>`.
 fn push_short(out: &mut String, text: &str) -> Result<(), AllocError> {
-    match text.chars().next() {
-        Some(letter) if is_run(text) => {
-            let count = text.len();
-            write!(out, "<<{count}:{letter}>>")
-        }
-        _ => push_escaped(out, text),
-    }
-}
-
-/// Whether a text is one letter of one byte many times.
-fn is_run(text: &str) -> bool {
-    let Some(first) = text.bytes().next() else {
-        return false;
-    };
+    let first = text.bytes().next().unwrap_or(0);
+    let mut is_run = text.len() > 80;
     for byte in text.bytes() {
-        if byte != first {
-            return false;
-        }
+        is_run = is_run && byte == first;
     }
-    text.len() > 80
+    if is_run {
+        let (count, letter) = (text.len(), char::from(first));
+        return write!(out, "<<{count}:{letter}>>");
+    }
+    push_escaped(out, text)
 }
 
 /// Adds a line for the user, without its end.

@@ -1,13 +1,14 @@
 //! Command lines, and what is read of them.
 
-use crate::texts::words_of;
+use crate::texts::push_words;
 use std::alloc::{AllocError, Global};
 use xs_trace::text::TextBuf;
 use xs_words::{Job, Options, WordsEnd, read_words};
 
 /// Adds what a command line asks for, or that it is refused.
 pub(crate) fn push_options(alloc: Global, out: &mut String, line: &str) -> Result<(), AllocError> {
-    let words = words_of(alloc, line)?;
+    let mut words = Vec::new(alloc);
+    push_words(alloc, &mut words, line)?;
     match read_words(alloc, &words) {
         Ok(options) => {
             push_job(out, &options.job)?;

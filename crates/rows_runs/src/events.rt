@@ -87,7 +87,11 @@ fn events(alloc: Global, lines: &str) -> Result<Vec<Event>, AllocError> {
 }
 
 /// Adds what stays of events.
-pub(crate) fn push_built(alloc: Global, out: &mut String, lines: &str) -> Result<(), AllocError> {
+pub(crate) fn push_fragment(
+    alloc: Global,
+    out: &mut String,
+    lines: &str,
+) -> Result<(), AllocError> {
     let put = events(alloc, lines)?;
     let fragment = build(alloc, put.iter())?;
     if fragment.events().is_empty() {

@@ -15,8 +15,8 @@ use std::{env, fs, io};
 fn main(rt: HostRuntime) -> io::Result<()> {
     for name in env::args(&rt)?.skip(1) {
         let file = fs::read_to_string(&rt, name.as_str())?;
-        let answered = rows::answered(&rt, rt.alloc(), file.as_str())?;
-        print!(rt; "== {name}\n{answered}")?;
+        let answer = rows::answer_file(&rt, rt.alloc(), file.as_str())?;
+        print!(rt; "== {name}\n{answer}")?;
     }
     Ok(())
 }

@@ -2,9 +2,9 @@
 
 use crate::answers::{push_fields, push_parts};
 use crate::calls::push_options;
-use crate::events::{push_built, push_text};
-use crate::setup::{Setup, arguments};
-use crate::texts::{meant, push_words, text_of, words_of};
+use crate::events::{push_fragment, push_text};
+use crate::setup::Setup;
+use crate::texts::{decode, push_words, text_of};
 use std::alloc::{AllocError, Global};
 use std::thread::Threads;
 
@@ -17,7 +17,7 @@ const ANSWERS: [&str; 7] = [
 ];
 
 /// Where a line stands.
-#[derive(Clone, Copy, PartialEq, Drop)]
+#[derive(Clone, Copy, Drop)]
 enum At {
     /// Outside of the rows of several lines.
     Outside,
@@ -46,7 +46,7 @@ struct Rows {
 }
 
 /// A row file with each answer computed.
-pub(crate) fn answered<R: Threads + Sync>(
+pub(crate) fn answer_file<R: Threads + Sync>(
     rt: &R,
     alloc: Global,
     file: &str,
@@ -94,7 +94,10 @@ impl Rows {
         match (self.at, line.split_once(" ==>")) {
             (At::Answer, _) => Ok(()),
             (_, Some((input, _))) => self.answer_line(rt, input),
-            (_, None) => self.copy(line),
+            (_, None) => {
+                self.out.push_str("= this line is no row:\n")?;
+                self.copy(line)
+            }
         }
     }
 
@@ -113,15 +116,14 @@ impl Rows {
             "row" => {
                 self.end_row(rt)?;
                 self.setup.clear();
-                self.set_words("", PLAIN)?;
+                self.words = String::from_str(self.alloc, PLAIN)?;
                 self.at = At::Input;
             }
             "args" | "budget" => {
-                if self.at == At::Arguments {
+                if let At::Arguments = self.at {
                     self.answer(rt)?;
                 }
                 self.take_arguments(word, rest)?;
-                self.at = At::Arguments;
             }
             _ => self.take_input(word, rest)?,
         }
@@ -130,18 +132,13 @@ impl Rows {
 
     /// Takes the arguments of a run: all of them, or a budget alone.
     fn take_arguments(&mut self, word: &str, rest: &str) -> Result<(), AllocError> {
-        if word == "args" {
-            return self.set_words(rest, "");
-        }
-        let budget = format!(in self.alloc; "--budget {rest} ")?;
-        self.set_words(budget.as_str(), PLAIN)
-    }
-
-    /// Sets the arguments of the next run, from two parts of a line.
-    fn set_words(&mut self, first: &str, second: &str) -> Result<(), AllocError> {
-        self.words.clear();
-        self.words.push_str(first)?;
-        self.words.push_str(second)
+        self.words = if word == "budget" {
+            format!(in self.alloc; "--budget {rest} {PLAIN}")?
+        } else {
+            String::from_str(self.alloc, rest)?
+        };
+        self.at = At::Arguments;
+        Ok(())
     }
 
     /// Takes a part of a row's input, or a setting.
@@ -149,23 +146,21 @@ impl Rows {
         match word {
             "with" => self.with = String::from_str(self.alloc, rest)?,
             "call" => self.call = String::from_str(self.alloc, rest)?,
-            "failing" => self.setup.set_failing(rest)?,
-            "most" => self.setup.set_most(rest),
-            _ => self.take_file(word, rest)?,
+            "failing" | "most" => self.setup.set_limits(word, rest)?,
+            "sheet" | "module" | "source" | "file" => self.take_file(word, rest)?,
+            _ => self.out.push_str("= no part has this word:\n")?,
         }
         Ok(())
     }
 
-    /// Begins a file: of the row, or outside of rows of all that follow.
+    /// Begins a file: of the row, or outside of a row one of all rows that follow.
     fn take_file(&mut self, word: &str, rest: &str) -> Result<(), AllocError> {
-        if self.at == At::Answer {
+        if let At::Answer = self.at {
             self.at = At::Outside;
             self.setup.clear();
         }
-        self.in_file = self.setup.add_file(word, rest)?;
-        if self.at == At::Outside {
-            self.setup.share();
-        }
+        let is_shared = matches!(self.at, At::Outside);
+        self.in_file = self.setup.add_file(word, rest, is_shared)?;
         Ok(())
     }
 
@@ -179,38 +174,33 @@ impl Rows {
 
     /// Adds the answer of the run that has none yet.
     fn answer<R: Threads + Sync>(&mut self, rt: &R) -> Result<(), AllocError> {
-        if self.at == At::Outside || self.at == At::Answer {
+        if let At::Outside | At::Answer = self.at {
             return Ok(());
         }
-        let parts = self.given_with_all(rt)?;
+        let parts = self.all_parts(rt)?;
         self.out.push_str(parts.as_str())?;
         self.at = At::Answer;
         Ok(())
     }
 
     /// What a run gives with the first of the options, and with each that gives something else.
-    fn given_with_all<R: Threads + Sync>(&self, rt: &R) -> Result<String, AllocError> {
+    fn all_parts<R: Threads + Sync>(&self, rt: &R) -> Result<String, AllocError> {
         let mut all = String::new(self.alloc);
         let mut first = String::new(self.alloc);
         for options in self.with.as_str().split(" | ") {
-            let given = self.given(rt, options)?;
+            let mut words = Vec::new(self.alloc);
+            push_words(self.alloc, &mut words, options)?;
+            push_words(self.alloc, &mut words, self.words.as_str())?;
+            let mut parts = String::new(self.alloc);
+            push_parts(&mut parts, &self.setup.run(rt, &words, b"")?)?;
             if first.is_empty() {
-                first.push_str(given.as_str())?;
-                all.push_str(given.as_str())?;
-            } else if first.as_str() != given.as_str() {
-                write!(&mut all, "= differs {options}\n{given}")?;
+                all.push_str(parts.as_str())?;
+                first = parts;
+            } else if first.as_str() != parts.as_str() {
+                write!(&mut all, "= differs {options}\n{parts}")?;
             }
         }
         Ok(all)
-    }
-
-    /// What a run gives with these options, as parts.
-    fn given<R: Threads + Sync>(&self, rt: &R, options: &str) -> Result<String, AllocError> {
-        let words = arguments(self.alloc, options, self.words.as_str())?;
-        let seen = self.setup.run(rt, &words, b"")?;
-        let mut parts = String::new(self.alloc);
-        push_parts(&mut parts, &seen)?;
-        Ok(parts)
     }
 
     /// Adds a row in one line.
@@ -219,9 +209,12 @@ impl Rows {
         self.out.push_str(" ==> ")?;
         match self.call.as_str() {
             "read_words" => push_options(self.alloc, &mut self.out, input)?,
-            "build" => push_built(self.alloc, &mut self.out, input)?,
+            "build" => push_fragment(self.alloc, &mut self.out, input)?,
             "write_text" => push_text(self.alloc, &mut self.out, input)?,
-            _ => self.answer_run(rt, input)?,
+            "transform args" | "transform budget" | "transform text" => {
+                self.answer_run(rt, input)?;
+            }
+            _ => self.out.push_str("no such call")?,
         }
         self.out.push_str("\n")
     }
@@ -229,18 +222,18 @@ impl Rows {
     /// Adds the answer of a run in one line, of which the row says the arguments, the budget, or a
     /// text of the files.
     fn answer_run<R: Threads + Sync>(&mut self, rt: &R, input: &str) -> Result<(), AllocError> {
-        let bytes = meant(self.alloc, input)?;
-        let words = match self.call.as_str() {
-            "transform args" => arguments(self.alloc, "", input)?,
+        let text = decode(self.alloc, input)?;
+        let mut words = Vec::new(self.alloc);
+        match self.call.as_str() {
+            "transform args" => push_words(self.alloc, &mut words, input)?,
             "transform budget" => {
-                let mut words = words_of(self.alloc, "--budget")?;
-                words.push(text_of(self.alloc, &bytes)?)?;
+                push_words(self.alloc, &mut words, "--budget")?;
+                words.push(text_of(self.alloc, &text)?)?;
                 push_words(self.alloc, &mut words, PLAIN)?;
-                words
             }
-            _ => arguments(self.alloc, "", PLAIN)?,
-        };
-        let seen = self.setup.run(rt, &words, &bytes)?;
-        push_fields(&mut self.out, &seen)
+            _ => push_words(self.alloc, &mut words, PLAIN)?,
+        }
+        let outcome = self.setup.run(rt, &words, &text)?;
+        push_fields(&mut self.out, &outcome)
     }
 }

@@ -1,6 +1,6 @@
 //! What a run is made of: files, and what fails of them and of the sinks.
 
-use crate::texts::{meant, push_words, text_of};
+use crate::texts::{decode, text_of};
 use std::alloc::{AllocError, Global};
 use std::thread::Threads;
 use xs_engine::{Report, transform};
@@ -54,7 +54,7 @@ pub(crate) struct Setup {
 
 /// What a run left.
 #[derive(Drop)]
-pub(crate) struct Seen {
+pub(crate) struct Outcome {
     pub(crate) report: Report,
     pub(crate) result: String,
     pub(crate) lines: String,
@@ -83,14 +83,14 @@ impl Setup {
         self.most = ROOM;
     }
 
-    /// Keeps the files of now for all rows that follow.
-    pub(crate) fn share(&mut self) {
-        self.shared = self.files.len();
-    }
-
-    /// Begins a file, by the word and the rest of the line that begins its part; whether its lines
-    /// follow.
-    pub(crate) fn add_file(&mut self, word: &str, rest: &str) -> Result<bool, AllocError> {
+    /// Begins a file, by the word and the rest of the line that begins its part: one of a row, or of
+    /// all rows that follow. Whether its lines follow.
+    pub(crate) fn add_file(
+        &mut self,
+        word: &str,
+        rest: &str,
+        is_shared: bool,
+    ) -> Result<bool, AllocError> {
         let (name, line) = match word {
             "sheet" => ("s.pyx", ""),
             "source" => ("src.pyx", rest),
@@ -111,6 +111,9 @@ impl Setup {
         let name = String::from_str(self.alloc, name)?;
         let is_open = !matches!(form, Form::Escaped);
         self.files.push(File { name, text, form })?;
+        if is_shared {
+            self.shared = self.files.len();
+        }
         Ok(is_open)
     }
 
@@ -123,8 +126,12 @@ impl Setup {
         Ok(())
     }
 
-    /// Takes which fetches, or writes of a sink, fail.
-    pub(crate) fn set_failing(&mut self, rest: &str) -> Result<(), AllocError> {
+    /// Takes how many bytes a sink takes at once, or which fetches, or writes of a sink, fail.
+    pub(crate) fn set_limits(&mut self, word: &str, rest: &str) -> Result<(), AllocError> {
+        if word == "most" {
+            self.most = rest.parse().unwrap_or(ROOM);
+            return Ok(());
+        }
         let (what, numbers) = rest.split_once(' ').unwrap_or((rest, ""));
         for number in numbers.split(' ') {
             let number = number.parse().unwrap_or(0);
@@ -135,11 +142,6 @@ impl Setup {
             }
         }
         Ok(())
-    }
-
-    /// Takes how many bytes a sink takes at once, at most.
-    pub(crate) fn set_most(&mut self, rest: &str) {
-        self.most = rest.parse().unwrap_or(ROOM);
     }
 
     /// The library of the files, in which a text takes its place.
@@ -167,7 +169,7 @@ impl Setup {
         rt: &R,
         words: &[String],
         text: &[u8],
-    ) -> Result<Seen, AllocError> {
+    ) -> Result<Outcome, AllocError> {
         let mut library = self.library(text)?;
         let mut out = self.sink(&self.failing_results)?;
         let mut err = self.sink(&self.failing_lines)?;
@@ -180,7 +182,7 @@ impl Setup {
             &mut err,
             &OpenGate,
         );
-        Ok(Seen {
+        Ok(Outcome {
             report,
             result: text_of(self.alloc, out.held())?,
             lines: text_of(self.alloc, err.held())?,
@@ -197,7 +199,7 @@ fn bytes_of(alloc: Global, file: &File, text: &[u8]) -> Result<Vec<u8>, AllocErr
             bytes.extend_from_slice(text)?;
         }
         if let Form::Escaped = file.form {
-            bytes.extend_from_slice(&meant(alloc, part)?)?;
+            bytes.extend_from_slice(&decode(alloc, part)?)?;
         } else {
             bytes.extend_from_slice(part.as_bytes())?;
         }
@@ -207,16 +209,4 @@ fn bytes_of(alloc: Global, file: &File, text: &[u8]) -> Result<Vec<u8>, AllocErr
         bytes.extend_from_slice(END.as_bytes())?;
     }
     Ok(bytes)
-}
-
-/// The arguments of a run: options, and then further words.
-pub(crate) fn arguments(
-    alloc: Global,
-    options: &str,
-    words: &str,
-) -> Result<Vec<String>, AllocError> {
-    let mut all = Vec::new(alloc);
-    push_words(alloc, &mut all, options)?;
-    push_words(alloc, &mut all, words)?;
-    Ok(all)
 }

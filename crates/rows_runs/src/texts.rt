@@ -4,12 +4,12 @@ use std::alloc::{AllocError, Global};
 
 /// The bytes that a text in one line means: `\n`, `\t`, `\r` and `\\` as in PYX lines, `\s` a space,
 /// `\?` a byte that UTF-8 does not have, and `<<3:ab>>` the same as `ababab`.
-pub(crate) fn meant(alloc: Global, text: &str) -> Result<Vec<u8>, AllocError> {
+pub(crate) fn decode(alloc: Global, text: &str) -> Result<Vec<u8>, AllocError> {
     let mut out = Vec::new(alloc);
     for part in text.split("<<") {
         match part.split_once(">>") {
-            Some((repeated, plain)) => {
-                push_repeated(alloc, &mut out, repeated)?;
+            Some((repeat, plain)) => {
+                push_repeat(alloc, &mut out, repeat)?;
                 push_plain(&mut out, plain)?;
             }
             None => push_plain(&mut out, part)?,
@@ -19,8 +19,8 @@ pub(crate) fn meant(alloc: Global, text: &str) -> Result<Vec<u8>, AllocError> {
 }
 
 /// Adds a text as often as the number before its colon says.
-fn push_repeated(alloc: Global, out: &mut Vec<u8>, repeated: &str) -> Result<(), AllocError> {
-    let (count, text) = repeated.split_once(':').unwrap_or(("0", ""));
+fn push_repeat(alloc: Global, out: &mut Vec<u8>, repeat: &str) -> Result<(), AllocError> {
+    let (count, text) = repeat.split_once(':').unwrap_or(("0", ""));
     let mut once = Vec::new(alloc);
     push_plain(&mut once, text)?;
     for _ in 0..count.parse::<u32>().unwrap_or(0) {
@@ -79,14 +79,7 @@ pub(crate) fn push_escaped(out: &mut String, text: &str) -> Result<(), AllocErro
     Ok(())
 }
 
-/// The words of a line, which stand between single spaces.
-pub(crate) fn words_of(alloc: Global, line: &str) -> Result<Vec<String>, AllocError> {
-    let mut words = Vec::new(alloc);
-    push_words(alloc, &mut words, line)?;
-    Ok(words)
-}
-
-/// Adds the words of a line; an empty line has none.
+/// Adds the words of a line, which are separated by single spaces; an empty line has none.
 pub(crate) fn push_words(
     alloc: Global,
     words: &mut Vec<String>,
@@ -96,7 +89,7 @@ pub(crate) fn push_words(
         return Ok(());
     }
     for word in line.split(' ') {
-        words.push(text_of(alloc, &meant(alloc, word)?)?)?;
+        words.push(text_of(alloc, &decode(alloc, word)?)?)?;
     }
     Ok(())
 }
