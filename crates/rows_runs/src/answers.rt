@@ -14,25 +14,19 @@ pub(crate) fn push_parts(out: &mut String, outcome: &Outcome) -> Result<(), Allo
     if ticks > 0 {
         write!(out, "= ticks {ticks}\n")?;
     }
-    push_pieces(out, "= pieces", &outcome.report, "\n")?;
     push_result(out, outcome.result.as_str())?;
     push_lines(out, outcome.lines.as_str())
 }
 
 /// Adds how many pieces were claimed, how many evaluated in their place, and how many claims there
 /// are, where a run had pieces.
-fn push_pieces(
-    out: &mut String,
-    before: &str,
-    report: &Report,
-    after: &str,
-) -> Result<(), AllocError> {
+pub(crate) fn push_pieces(out: &mut String, report: &Report) -> Result<(), AllocError> {
     let claims = report.claims.len();
     let (pieces, inline) = (report.pieces, report.inline);
     if pieces == 0 && inline == 0 && claims == 0 {
         return Ok(());
     }
-    write!(out, "{before} {pieces} {inline} {claims}{after}")
+    write!(out, "= pieces {pieces} {inline} {claims}\n")
 }
 
 /// Adds a result: as it is where it consists of PYX lines, and else each of its lines after a sign,
@@ -81,7 +75,6 @@ fn push_lines(out: &mut String, lines: &str) -> Result<(), AllocError> {
 /// that are empty.
 pub(crate) fn push_fields(out: &mut String, outcome: &Outcome) -> Result<(), AllocError> {
     write!(out, "{} | {}", outcome.report.status, outcome.report.ticks)?;
-    push_pieces(out, " | pieces", &outcome.report, "")?;
     for line in outcome.lines.as_str().split_inclusive('\n') {
         out.push_str(" | ")?;
         push_line(out, line)?;

@@ -1,6 +1,6 @@
 //! The rows of a file, one line after another.
 
-use crate::answers::{push_fields, push_parts};
+use crate::answers::{push_fields, push_parts, push_pieces};
 use crate::calls::push_options;
 use crate::events::{push_fragment, push_text};
 use crate::setup::Setup;
@@ -192,7 +192,11 @@ impl Rows {
             push_words(self.alloc, &mut words, options)?;
             push_words(self.alloc, &mut words, self.words.as_str())?;
             let mut parts = String::new(self.alloc);
-            push_parts(&mut parts, &self.setup.run(rt, &words, b"")?)?;
+            let outcome = self.setup.run(rt, &words, b"")?;
+            push_parts(&mut parts, &outcome)?;
+            if self.with.is_empty() {
+                push_pieces(&mut parts, &outcome.report)?;
+            }
             if first.is_empty() {
                 all.push_str(parts.as_str())?;
                 first = parts;
