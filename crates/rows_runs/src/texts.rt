@@ -2,8 +2,8 @@
 
 use std::alloc::{AllocError, Global};
 
-/// The bytes that a text in one line means: `\n`, `\t`, `\r` and `\\` as in PYX lines, `\s` a space,
-/// `\?` a byte that UTF-8 does not have, and `<<3:ab>>` the same as `ababab`.
+/// The bytes that a text in one line means: `\n`, `\t`, `\r` and `\\` as in PYX lines, `\s` a
+/// space, `\?` a byte that UTF-8 does not have, and `<<3:ab>>` the same as `ababab`.
 pub(crate) fn decode(alloc: Global, text: &str) -> Result<Vec<u8>, AllocError> {
     let mut out = Vec::new(alloc);
     for part in text.split("<<") {

@@ -41,7 +41,10 @@ fn holds_65_items_in_two_blocks(rt: HostRuntime) -> Result<(), Fail> {
     for n in 0..65u64 {
         pool.push(&mut chain, n);
     }
-    assert_eq!(rt; (chain.blocks(), pool.free_blocks(), pool.spare(&chain)), (2, 0, 63));
+    assert_eq!(rt;
+        (chain.blocks(), pool.free_blocks(), pool.spare(&chain)),
+        (2, 0, 63)
+    );
     let mut wanted = 0..65;
     for n in chain.items() {
         assert_eq!(rt; wanted.next(), Some(*n));
@@ -61,7 +64,10 @@ fn joins_and_cuts(rt: HostRuntime) -> Result<(), Fail> {
     assert_eq!(rt; (chain.blocks(), pool.spare(&chain)), (3, 59));
     assert!(rt; counts_to(&chain, 75));
     pool.truncate(&mut chain, 66);
-    assert_eq!(rt; (chain.blocks(), pool.free_blocks(), pool.spare(&chain)), (2, 1, 126));
+    assert_eq!(rt;
+        (chain.blocks(), pool.free_blocks(), pool.spare(&chain)),
+        (2, 1, 126)
+    );
     assert!(rt; counts_to(&chain, 66));
     let mut wanted = 0..66;
     for item in chain.into_items() {
