@@ -1,4 +1,4 @@
-//! Tests of what no row can write: fakes, refused allocations, threads, and laws called as functions.
+//! Tests of what no row can write: fakes, refused allocations, threads, and laws as functions.
 #![tactic(auto)]
 
 #[cfg(test)]
