@@ -15,7 +15,7 @@ fn makes_a_load_of_four(rt: HostRuntime) -> Result<(), Fail> {
             .iter()
             .filter(|byte| **byte == b'\n')
             .count(),
-        48
+        36
     );
     Ok(())
 }
