@@ -6,7 +6,8 @@ from dataclasses import dataclass
 LINE = re.compile(r"fault (\d+) (\w+) (\S+) (\d+)\n?")
 ESCAPE = re.compile(r"\\(.)")
 MEANT = {"n": "\n", "t": "\t", "r": "\r", "\\": "\\"}
-STATIC = range(20, 50)
+STATIC = range(20, 50)  # of a stylesheet, before any source is read
+ELEMENTS = (*range(20, 26), *range(32, 47))  # of single elements
 READ_FAULT = 70
 
 # What is wrong, where nothing more can be found out.
