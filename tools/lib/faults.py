@@ -1,7 +1,7 @@
 """The faults that the program reports, by their lines `fault NUMBER NAME FILE LINE`."""
 
 import re
-from dataclasses import dataclass
+from collections import namedtuple
 
 LINE = re.compile(r"fault (\d+) (\w+) (\S+) (\d+)\n?")
 ESCAPE = re.compile(r"\\(.)")
@@ -55,12 +55,8 @@ PHRASES = {
 }
 
 
-@dataclass(frozen=True)
-class Fault:
-    number: int
-    name: str
-    file: str
-    row: int
+class Fault(namedtuple("Fault", "number name file row")):
+    """A fault's number and name, and the file and the line, of PYX, where it is."""
 
     @property
     def tag(self):

@@ -2,7 +2,8 @@
 
 from dataclasses import dataclass
 
-from lib import pyx2xml, xpath
+from lib import xpath
+from lib.declarations import declared
 from lib.vocabulary import EXPRESSIONS, PATTERNS, TEMPLATES, XSLT, attributes_of
 
 LONGEST = 60
@@ -39,7 +40,7 @@ class Reading:
 def kind_of(element, attribute):
     """What an attribute's value is read as, or None."""
     prefix = attribute.rpartition(":")[0]
-    if pyx2xml.declared(attribute) is not None or (prefix and element.is_xslt):
+    if declared(attribute) is not None or (prefix and element.is_xslt):
         return None
     if not element.is_xslt:
         is_own = bool(prefix) and element.spaces.get(prefix) == XSLT
