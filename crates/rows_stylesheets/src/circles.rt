@@ -1,0 +1,60 @@
+//! The first circle among declarations of attribute sets (XSLT 1.0, 7.1.4).
+
+use crate::answer::Answer;
+use std::alloc::{AllocError, Global};
+use xs_circles::{Declaration, Name, Place, first_circle};
+
+/// A name with its URI, if it has one.
+fn name_of(text: &str) -> Name<'_> {
+    text.split_once(':').unwrap_or(("", text))
+}
+
+/// The place of a module and a line with a point between them.
+fn place_of(text: &str) -> Place {
+    let (module, line) = text.split_once('.').unwrap_or(("", text));
+    Place {
+        module: module.parse::<u32>().unwrap_or(0),
+        line: line.parse::<u32>().unwrap_or(0),
+    }
+}
+
+/// A declaration: its place, its name and the names that it uses.
+fn declaration(alloc: Global, text: &str) -> Result<Declaration<'_>, AllocError> {
+    let mut words = text.split(' ');
+    let place = place_of(words.next().unwrap_or(""));
+    let name = name_of(words.next().unwrap_or(""));
+    let mut sets = Vec::new(alloc);
+    for word in words {
+        sets.push(name_of(word))?;
+    }
+    Ok(Declaration { place, name, sets })
+}
+
+/// Adds declarations with commas between them.
+fn push_all<'a>(
+    declarations: &mut Vec<Declaration<'a>>,
+    alloc: Global,
+    input: &'a str,
+) -> Result<(), AllocError> {
+    for text in input.split(',') {
+        if !text.is_empty() {
+            let declaration = declaration(alloc, text)?;
+            declarations.push(declaration)?;
+        }
+    }
+    Ok(())
+}
+
+/// Adds the place of the first circular one of declarations with commas between them.
+pub(crate) fn put_first_circle(
+    out: &mut Answer,
+    alloc: Global,
+    input: &str,
+) -> Result<(), AllocError> {
+    let mut declarations = Vec::new(alloc);
+    push_all(&mut declarations, alloc, input)?;
+    if let Some(place) = first_circle(alloc, &declarations)? {
+        out.put_pair(place.module, ".", place.line);
+    }
+    Ok(())
+}
