@@ -17,8 +17,7 @@ class Finding:
     element: object = None
     attribute: str | None = None
     place: int | None = None  # in the attribute's value
-    cure: tuple = ("drop",)  # or ("without", attribute), or ("with", attribute, value)
-    notes: tuple = ()  # more lines, each with an element or none
+    cure: tuple = ("drop",)  # or ("without", attribute), ("with", attribute, value), ("stop",)
 
 
 @dataclass

@@ -11,6 +11,7 @@ from lib import nearest, results, xpath
 from lib.converter_tests import EXAMPLES, TOOLS, implementations
 from lib.modules import Folder, Module
 from lib.samples import lines
+from lib.vocabulary import TOP_LEVEL, UNSUPPORTED, required_of
 
 STAND_IN = os.path.join(TOOLS, "lib", "stand_in.py")
 REAL = os.path.join(TOOLS, "..", "crates", "xslt", "out", "xslt")
@@ -311,6 +312,22 @@ def reports(tests):
         tests.check("nearest: " + name, nearest.nearest(name, names), wanted)
 
 
+def unsupported(tests):
+    """What is named as not supported yet is refused by the real program for that, and so reported."""
+    values = {"name": "n", "select": ".", "match": "a", "use": "b", "stylesheet-prefix": "x", "result-prefix": "x"}
+    for local in UNSUPPORTED if os.path.exists(REAL) else ():
+        element = f"<x:{local} " + " ".join(f'{name}="{values[name]}"' for name in required_of(local)) + "/>"
+        element = f'<x:for-each select="a">{element}</x:for-each>' if local == "sort" else element
+        sheet = BODY.format(element)
+        if local in TOP_LEVEL:
+            sheet = SHEET.format('<x:output method="text"/>' + element)
+        with tempfile.TemporaryDirectory() as folder:
+            write_files(folder, {"s.xsl": sheet, "r.xml": "<r/>"})
+            status, _, err = run_xml(folder, "xslt-xml", "--program", REAL, "s.xsl", "r.xml")
+            tests.check("not supported: " + local, (status, err.splitlines()[:1]), (3, [
+                f"s.xsl:{2 if local in TOP_LEVEL else 3}: error: x:{local} is not supported yet [49 NotBuilt]"]))
+
+
 def outputs(tests):
     """-o, -, --outdir, --time, --version, --help, and arguments that are refused."""
     sheet, run = ["--program", STAND_IN, "s.xsl"], lambda *arguments, **more: run_xml(folder, "xslt-xml", *arguments, **more)
@@ -383,5 +400,6 @@ def examples_of_xml(tests):
 def test(tests):
     runs_of_xml(tests)
     reports(tests)
+    unsupported(tests)
     outputs(tests)
     examples_of_xml(tests)

@@ -135,7 +135,8 @@ def bad_attribute(_modules, _module, element):
     for name, value in element.attributes:
         pattern, what = VALUES.get(name, (None, None))
         if element.is_xslt and pattern and not pattern.fullmatch(value):
-            cure = ("without", name) if name in optional else ("drop",)
+            # Whoever refers to a name that is bad would be reported besides.
+            cure = ("without", name) if name in optional and name != "name" else ("stop",)
             return Finding(f'{name}="{short(value)}" is {what}', element, name, 0, cure)
     return None
 
