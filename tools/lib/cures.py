@@ -19,7 +19,7 @@ class Curer:
     def cure(self, module, finding):
         """Changes or drops the element; whether there was anything to do."""
         element, kind = finding.element, finding.cure[0]
-        if element is None or element.parent is None:
+        if element is None or element.parent is None or kind == "stop":
             return False
         is_first = self.is_new(element)
         self.changed.add(element)

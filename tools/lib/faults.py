@@ -1,12 +1,13 @@
 """The faults that the program reports, by their lines `fault NUMBER NAME FILE LINE`."""
 
 import re
-from dataclasses import dataclass
+from collections import namedtuple
 
 LINE = re.compile(r"fault (\d+) (\w+) (\S+) (\d+)\n?")
 ESCAPE = re.compile(r"\\(.)")
 MEANT = {"n": "\n", "t": "\t", "r": "\r", "\\": "\\"}
-STATIC = range(20, 50)
+STATIC = range(20, 50)  # of a stylesheet, before any source is read
+ELEMENTS = (*range(20, 26), *range(32, 47))  # of single elements
 READ_FAULT = 70
 
 # What is wrong, where nothing more can be found out.
@@ -54,12 +55,8 @@ PHRASES = {
 }
 
 
-@dataclass(frozen=True)
-class Fault:
-    number: int
-    name: str
-    file: str
-    row: int
+class Fault(namedtuple("Fault", "number name file row")):
+    """A fault's number and name, and the file and the line, of PYX, where it is."""
 
     @property
     def tag(self):

@@ -2,7 +2,8 @@
 
 from dataclasses import dataclass
 
-from lib import pyx2xml, xpath
+from lib import xpath
+from lib.declarations import declared
 from lib.vocabulary import EXPRESSIONS, PATTERNS, TEMPLATES, XSLT, attributes_of
 
 LONGEST = 60
@@ -16,8 +17,7 @@ class Finding:
     element: object = None
     attribute: str | None = None
     place: int | None = None  # in the attribute's value
-    cure: tuple = ("drop",)  # or ("without", attribute), or ("with", attribute, value)
-    notes: tuple = ()  # more lines, each with an element or none
+    cure: tuple = ("drop",)  # or ("without", attribute), ("with", attribute, value), ("stop",)
 
 
 @dataclass
@@ -39,7 +39,7 @@ class Reading:
 def kind_of(element, attribute):
     """What an attribute's value is read as, or None."""
     prefix = attribute.rpartition(":")[0]
-    if pyx2xml.declared(attribute) is not None or (prefix and element.is_xslt):
+    if declared(attribute) is not None or (prefix and element.is_xslt):
         return None
     if not element.is_xslt:
         is_own = bool(prefix) and element.spaces.get(prefix) == XSLT

@@ -3,30 +3,32 @@
 import os
 import re
 from array import array
-from dataclasses import dataclass, field
 
-from lib import pyx2xml, xml2pyx
+from lib import xml2pyx
+from lib.declarations import declared
 from lib.vocabulary import XSLT
 
 MOST_MODULES = 256
 ENCODING = re.compile(rb"""<\?xml[^>]*?encoding\s*=\s*["']([\w.\-]+)""")
 
 
-@dataclass(eq=False)
 class Element:
     """An element of a module, with the numbers of its PYX lines and its place in the XML."""
 
-    name: str
-    space: str  # the URI of its namespace
-    attributes: list  # of names and values
-    spaces: dict  # the namespaces in scope, by prefix
-    parent: "Element | None"
-    row: int  # of its start; the attributes follow
-    line: int
-    column: int
-    last: int = 0  # the row of its end
-    children: list = field(default_factory=list)
-    has_text: bool = False  # other than white space
+    def __init__(self, name, attributes, parent, row, place):
+        self.name, self.attributes, self.parent = name, attributes, parent  # attributes are names and values
+        self.row, self.last = row, 0  # of its start, which its attributes follow, and of its end
+        self.line, self.column = place
+        self.spaces = self.namespaces()
+        self.space = self.spaces.get(name.rpartition(":")[0], "")  # the URI of its namespace
+        self.children = []
+        self.has_text = False  # other than white space
+
+    def namespaces(self):
+        """The namespaces in scope, by prefix."""
+        outer = self.parent.spaces if self.parent else {"": "", "xml": ""}
+        own = {declared(name): uri for name, uri in self.attributes if declared(name) is not None}
+        return {**outer, **own} if own else outer
 
     @property
     def local(self):
@@ -50,9 +52,11 @@ class Element:
 
     def walk(self):
         """This element and all inside it, in document order."""
-        yield self
-        for child in self.children:
-            yield from child.walk()
+        todo = [self]
+        while todo:
+            element = todo.pop()
+            yield element
+            todo.extend(reversed(element.children))
 
     def ancestors(self):
         """The elements that it is in, from the inside."""
@@ -73,13 +77,8 @@ class Reader(xml2pyx.Converter):
 
     def start(self, name, attributes):
         pairs = list(zip(attributes[::2], attributes[1::2]))
-        spaces = dict(self.inner.spaces) if self.inner else {"": "", "xml": ""}
-        for each, value in pairs:
-            if pyx2xml.declared(each) is not None:
-                spaces[pyx2xml.declared(each)] = value
-        space = spaces.get(name.rpartition(":")[0], "")
         place = self.reader.CurrentLineNumber, self.reader.CurrentColumnNumber
-        made = Element(name, space, pairs, spaces, self.inner, len(self.places) + 1, *place)
+        made = Element(name, pairs, self.inner, len(self.places) + 1, place)
         if self.inner:
             self.inner.children.append(made)
         self.root, self.inner = self.root or made, made
@@ -108,19 +107,17 @@ class Reader(xml2pyx.Converter):
         self.inner = self.inner.parent
 
 
-@dataclass
 class Module:
     """A module that was read, or why it could not be."""
 
-    xml: str  # its name
-    path: str  # of its XML
-    name: str  # in the folder
-    root: Element | None = None
-    places: array = field(default_factory=lambda: array("Q"))
-    parts: list = field(default_factory=list)
-    reason: str = ""  # why it is no XML, from line and column on
-    missing: str = ""  # why it can't be read
-    rows: list = field(default_factory=list)  # the lines that are left, each with its row
+    def __init__(self, xml, path, name, parts=()):
+        self.xml, self.path, self.name = xml, path, name  # its name, its file, and its name in the folder
+        self.root = None
+        self.places = array("Q")  # of the PYX lines the lines of XML
+        self.parts = parts  # what it says of other modules and of the result
+        self.rows = []  # the lines that are left, each with its number
+        self.reason = ""  # why it is no XML, from line and column on
+        self.missing = ""  # why it can't be read
 
     def line(self, row):
         """The line of XML that a PYX line comes from."""

@@ -45,6 +45,8 @@ class Options:
                 if not value:
                     raise Usage(f"{name} needs a value")
                 setattr(self, values[name], value)
+            elif argument.startswith("-o"):
+                self.output = argument[2:]
             elif argument == "--":
                 inputs.extend(arguments)
             elif argument.startswith("-") and argument != "-":

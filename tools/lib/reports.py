@@ -6,10 +6,12 @@ import sys
 from lib import misplaced, other_faults, static_faults
 from lib.faults import READ_FAULT
 from lib.findings import Finding
+from lib.xml2pyx import escape
 
 ATTRIBUTE = re.compile(r"""\s+([^\s=/>"'<]+)\s*=\s*("[^"]*"|'[^']*')""")
 TAG = re.compile(r"<([^\s/>]+)")
 WIDTH = 120
+XML = "error of XML"
 
 FINDERS = {
     20: static_faults.syntax,
@@ -82,9 +84,9 @@ def locate(module, finding):
 
 def picture(line, column):
     """A line of a file, and a caret below it; of a long line the part around the caret."""
-    from_, to = max(0, column - WIDTH // 2), column + WIDTH // 2
-    shown = line[from_:to]
-    pad = "".join("\t" if letter == "\t" else " " for letter in shown[: column - from_])
+    start = max(0, column - WIDTH // 2) if len(line) > WIDTH else 0
+    shown = line[start : start + WIDTH]
+    pad = "".join("\t" if letter == "\t" else " " for letter in shown[: column - start])
     return f"  {shown.rstrip()}\n  {pad}^\n"
 
 
@@ -98,6 +100,8 @@ def say(text):
 def report_at(name, lines, line, column, text, kind="error"):
     """One report: the place, the text, and the line with a caret where they are known."""
     place = f"{name}:{line}" if line else name
+    if kind == XML:
+        place, kind = f"{place}:{column + 1}", "error"  # as the parser counts
     shown = ""
     if column is not None and 0 < line <= len(lines):
         shown = picture(lines[line - 1], column)
@@ -128,7 +132,7 @@ def report_unread(folder, module, fault):
     other, element = folder.mention(module.xml)
     found = re.match(r"(\d+):(\d+): (.*)", module.reason, re.DOTALL)
     if found:
-        report_at(module.xml, module.source_lines(), int(found[1]), int(found[2]) - 1, f"{found[3]} {fault.tag}")
+        report_at(module.xml, module.source_lines(), int(found[1]), int(found[2]) - 1, f"{found[3]} {fault.tag}", XML)
         if other:
             report(other, Finding(f"{module.xml} is mentioned here", element, "href", 0), "", "note")
         return
@@ -161,12 +165,32 @@ def report_fault(folder, fault):
     return module, None
 
 
+def report_raw(folder, source, fault):
+    """Writes the program's own line, with names and lines of XML."""
+    module = folder.module(fault.file)
+    name, row, kind = fault.file, fault.row, f"{fault.number} {fault.name}"
+    if source and fault.file == source.name:
+        name, row = source.xml, source.place(fault.row) if fault.row and not source.reason else 0
+        kind = "70 ReadFault" if source.reason else kind
+        report_reason(source.xml, source.reason)
+    elif module:
+        name, row = module.xml, module.line(fault.row)
+        report_reason(module.xml, module.reason)
+    say(f"fault {kind} {escape(name)} {row}\n")
+
+
+def report_reason(name, reason):
+    """Writes why a document is no XML, if that is so."""
+    if re.match(r"\d+:\d+: ", reason):
+        say(f"xml2pyx: {name}:{reason}\n")
+
+
 def report_source(source, fault):
     """Reports a fault of the source's own."""
     found = re.match(r"(\d+):(\d+): (.*)", source.reason, re.DOTALL)
     if found:
         lines = source_lines(source) if int(found[1]) < 10000 else []
-        report_at(source.xml, lines, int(found[1]), int(found[2]) - 1, f"{found[3]} [70 ReadFault]")
+        report_at(source.xml, lines, int(found[1]), int(found[2]) - 1, f"{found[3]} [70 ReadFault]", XML)
     elif source.reason:
         say(f"{source.xml}: error: can't be read: {source.reason} [70 ReadFault]\n")
     elif fault.row:

@@ -135,7 +135,8 @@ def bad_attribute(_modules, _module, element):
     for name, value in element.attributes:
         pattern, what = VALUES.get(name, (None, None))
         if element.is_xslt and pattern and not pattern.fullmatch(value):
-            cure = ("without", name) if name in optional else ("drop",)
+            # Whoever refers to a name that is bad would be reported besides.
+            cure = ("without", name) if name in optional and name != "name" else ("stop",)
             return Finding(f'{name}="{short(value)}" is {what}', element, name, 0, cure)
     return None
 
@@ -187,7 +188,7 @@ def unknown_variable(modules, _module, element):
         for name, place in reading.content.variables:
             if expanded(element, name) not in visible:
                 found = hint(name, [each.get("name") for each in bindings], "$")
-                return reading.finding(f"variable ${name} is not in scope{found}", place - 1)
+                return reading.finding(f"variable ${name} is not in scope{found}", place)
     return None
 
 
@@ -235,7 +236,7 @@ def forbidden(_modules, _module, element):
         calls = [call for call in reading.content.calls if call.name in ("current", "key")]
         if reading.kind == "pattern" or element.is_a("key"):
             for name, place in reading.content.variables:
-                return reading.finding(f"variable ${name} is not allowed in {reading.attribute}", place - 1)
+                return reading.finding(f"variable ${name} is not allowed in {reading.attribute}", place)
             for call in calls:
                 return reading.finding(f"function {call.name} is not allowed in {reading.attribute}", call.place)
     return None

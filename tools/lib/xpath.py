@@ -59,6 +59,8 @@ def read(text, place=0):
         Reader(text, place, made).whole()
     except NoExpression as fault:
         made.fault = fault
+    except RecursionError:
+        pass  # far past the 64 brackets that may be open
     return made
 
 
