@@ -83,8 +83,8 @@ impl Setup {
         self.most = ROOM;
     }
 
-    /// Begins a file, by the word and the rest of the line that begins its part: one of a row, or of
-    /// all rows that follow. Whether its lines follow.
+    /// Begins a file, by the word and the rest of the line that begins its part: one of a row, or
+    /// of all rows that follow. Whether its lines follow.
     pub(crate) fn add_file(
         &mut self,
         word: &str,
