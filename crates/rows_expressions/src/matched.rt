@@ -16,7 +16,6 @@ use xs_tree::{Axis, Node};
 use xs_value::keys::NoKeys;
 use xs_value::value::Value;
 use xs_xpath::expr::Expr;
-use xs_xpath::pattern::Pattern;
 use xs_xpath::scope::Scope;
 
 /// Appends the answer of a call with an axis or a pattern.
@@ -32,13 +31,10 @@ pub(crate) fn answer(
             add_axis(out, settings, name, place.parse::<u32>()?)
         }
         "match" => add_both(out, settings, rest),
-        "match-faulty" => {
-            let nodes = matching(settings, &parsed_pattern(settings, rest)?)?;
-            Ok(add_places(out, &nodes)?)
-        }
+        "match-faulty" => add_matching(out, settings, rest),
         _ => {
             let (place, text) = cut_place(rest)?;
-            add_match(out, settings, place, &parsed_pattern(settings, text)?)
+            add_match(out, settings, place, text)
         }
     }
 }
@@ -61,14 +57,21 @@ fn add_axis(
     Ok(add_places(out, &nodes)?)
 }
 
+// Appends the nodes of the document that match a pattern.
+fn add_matching(out: &mut Vec<u8>, settings: &Settings, text: &str) -> Result<(), RowError> {
+    let nodes = matching(settings, text)?;
+    Ok(add_places(out, &nodes)?)
+}
+
 // The nodes of the document that match a pattern.
-fn matching(settings: &Settings, pattern: &Pattern) -> Result<Vec<Node>, RowError> {
+fn matching(settings: &Settings, text: &str) -> Result<Vec<Node>, RowError> {
     let tree = &settings.tree;
     let scope = settings.scope()?;
+    let pattern = parsed_pattern(settings, text)?;
     let mut nodes = Vec::new(settings.alloc);
     for place in 0..tree.len() as u32 {
         let node = Node::at(place);
-        if matches(settings.alloc, pattern, &scope, tree, node, &NoKeys)? {
+        if matches(settings.alloc, &pattern, &scope, tree, node, &NoKeys)? {
             nodes.push(node)?;
         }
     }
@@ -80,15 +83,16 @@ fn add_match(
     out: &mut Vec<u8>,
     settings: &Settings,
     place: u32,
-    pattern: &Pattern,
+    text: &str,
 ) -> Result<(), RowError> {
     let tree = &settings.tree;
     if place as usize >= tree.len() {
         return Err(RowError::Unreadable);
     }
     let scope = settings.scope()?;
+    let pattern = parsed_pattern(settings, text)?;
     let node = Node::at(place);
-    let is_matched = matches(settings.alloc, pattern, &scope, tree, node, &NoKeys)?;
+    let is_matched = matches(settings.alloc, &pattern, &scope, tree, node, &NoKeys)?;
     Ok(add_bool(out, is_matched)?)
 }
 
@@ -143,12 +147,13 @@ fn is_selected(
 }
 
 // The nodes that are in the value of an expression from themselves or an ancestor.
-fn selected(settings: &Settings, expr: &Expr) -> Result<Vec<Node>, RowError> {
+fn selected(settings: &Settings, text: &str) -> Result<Vec<Node>, RowError> {
     let scope = settings.scope()?;
+    let expr = parsed(settings, text)?;
     let mut nodes = Vec::new(settings.alloc);
     for place in 0..settings.tree.len() as u32 {
         let node = Node::at(place);
-        if is_selected(settings, expr, &scope, node)? {
+        if is_selected(settings, &expr, &scope, node)? {
             nodes.push(node)?;
         }
     }
@@ -158,8 +163,8 @@ fn selected(settings: &Settings, expr: &Expr) -> Result<Vec<Node>, RowError> {
 // Appends the nodes that match a pattern, and those that are in its value as an expression, where
 // these are others.
 fn add_both(out: &mut Vec<u8>, settings: &Settings, text: &str) -> Result<(), RowError> {
-    let matching = matching(settings, &parsed_pattern(settings, text)?)?;
-    let selected = selected(settings, &parsed(settings, text)?)?;
+    let matching = matching(settings, text)?;
+    let selected = selected(settings, text)?;
     add_places(out, &matching)?;
     if matching.as_slice() != selected.as_slice() {
         out.extend_from_slice(b", as expressions ")?;

@@ -10,19 +10,30 @@ use xs_text::escape_into;
 
 /// A row file again, with the answers of its rows computed.
 pub(crate) fn answered<R: Files + AllocGlobal>(rt: &R, text: &str) -> Result<Vec<u8>, AllocError> {
-    let mut settings = Settings::new(rt.alloc())?;
     let mut out = Vec::new(rt.alloc());
+    let mut settings = Settings::new(rt.alloc())?;
+    add_lines(&mut out, rt, &mut settings, text)?;
+    Ok(out)
+}
+
+// Adds lines, each as it stands or with its answer.
+fn add_lines<R: Files + AllocGlobal>(
+    out: &mut Vec<u8>,
+    rt: &R,
+    settings: &mut Settings,
+    text: &str,
+) -> Result<(), AllocError> {
     for line in text.lines() {
         if let Some(setting) = line.strip_prefix("= ") {
-            add_setting(&mut out, rt, &mut settings, setting)?;
+            add_setting(out, rt, settings, setting)?;
         } else if line.is_empty() || line.starts_with('#') {
             out.extend_from_slice(line.as_bytes())?;
         } else {
-            add_row(&mut out, &settings, line)?;
+            add_row(out, settings, line)?;
         }
         out.push(b'\n')?;
     }
-    Ok(out)
+    Ok(())
 }
 
 // Sets what a setting says, and adds its line.
