@@ -37,9 +37,6 @@ const AMPLE: u64 = 1_000_000;
 // Where expressions stand.
 const SITE: Site = Site { module: 0, line: 1 };
 
-// The operators that compare.
-const OPERATORS: [&str; 6] = ["=", "!=", "<", "<=", ">", ">="];
-
 // Whether the nodes of values are in the tree.
 fn are_in(tree: &Tree, values: &[Value]) -> bool
     ensures { IsTrue result ↔ All (IsIn tree.now) values.now }
@@ -232,21 +229,19 @@ fn template(
 }
 
 // Appends how two operands compare under each operator, a letter for each, and the ticks of one
-// comparison; where they differ, of each that differs from the one before it.
+// comparison. After a letter stands `?` where its comparison takes other ticks than the one before.
 fn compare(out: &mut Vec<u8>, settings: &Settings, place: u32, text: &str) -> Result<(), RowError> {
     let (left, right) = cut(text)?;
-    let mut costs = Vec::new(settings.alloc);
-    let mut last = None;
-    for operator in OPERATORS {
-        let ticks = add_operated(out, settings, place, [left, operator, right])?;
-        if last != Some(ticks) {
-            costs.push(b' ')?;
-            add_count(&mut costs, ticks)?;
+    let mut ticks = add_operated(out, settings, place, left, "=", right)?;
+    for operator in ["!=", "<", "<=", ">", ">="] {
+        let next = add_operated(out, settings, place, left, operator, right)?;
+        if next != ticks {
+            out.push(b'?')?;
         }
-        last = Some(ticks);
+        ticks = next;
     }
-    out.extend_from_slice(b" |")?;
-    Ok(out.extend_from_slice(&costs)?)
+    out.extend_from_slice(b" | ")?;
+    Ok(add_count(out, ticks)?)
 }
 
 // Appends the letter of how a comparison ends, and says its ticks.
@@ -254,9 +249,10 @@ fn add_operated(
     out: &mut Vec<u8>,
     settings: &Settings,
     place: u32,
-    words: [&str; 3],
+    left: &str,
+    operator: &str,
+    right: &str,
 ) -> Result<u64, RowError> {
-    let [left, operator, right] = words;
     let text = format!(in settings.alloc; "{left} {operator} {right}")?;
     let asked = Asked::Expression(parsed_bound(settings, text.as_str())?);
     add_letter(out, settings, &asked, place)

@@ -92,12 +92,10 @@ pub(crate) fn add_places(out: &mut Vec<u8>, nodes: &[Node]) -> Result<(), AllocE
     if nodes.is_empty() {
         return out.extend_from_slice(b"none");
     }
-    let mut is_first = true;
-    for node in nodes {
-        if !is_first {
+    for (index, node) in nodes.iter().enumerate() {
+        if index > 0 {
             out.push(b' ')?;
         }
-        is_first = false;
         add_count(out, u64::from(node.place()))?;
     }
     Ok(())
