@@ -233,7 +233,7 @@ fn template(
 fn compare(out: &mut Vec<u8>, settings: &Settings, place: u32, text: &str) -> Result<(), RowError> {
     let (left, right) = cut(text)?;
     let mut ticks = add_operated(out, settings, place, left, "=", right)?;
-    for operator in ["!=", "<", "<=", ">", ">="] {
+    for operator in &["!=", "<", "<=", ">", ">="] {
         let next = add_operated(out, settings, place, left, operator, right)?;
         if next != ticks {
             out.push(b'?')?;

@@ -92,10 +92,12 @@ pub(crate) fn add_places(out: &mut Vec<u8>, nodes: &[Node]) -> Result<(), AllocE
     if nodes.is_empty() {
         return out.extend_from_slice(b"none");
     }
-    for (index, node) in nodes.iter().enumerate() {
-        if index > 0 {
+    let mut is_first = true;
+    for node in nodes {
+        if !is_first {
             out.push(b' ')?;
         }
+        is_first = false;
         add_count(out, u64::from(node.place()))?;
     }
     Ok(())
