@@ -1,3 +1,5 @@
+pub mod NameLemmas
+pub mod OutcomeLemmas
 pub mod StepLemmas
 pub mod CaseLemmas
 pub mod InsideLemmas

@@ -1,13 +1,17 @@
 //! The call of a function on evaluated arguments (XPath 1.0, 4; XSLT 1.0, 12 and 15).
 
-ghost use Rattle.std.specs.Prelude.{◌≡◌, ◌<◌, IfOk, length};
+ghost use Rattle.std.specs.Prelude.{◌≡◌, ◌<◌, ◌∷◌, [], IfOk, Ok, length};
 ghost use Rattle.std.specs.List.{All};
 ghost use Rattle.xs_trace.specs.Play.{IsStep};
 ghost use Rattle.xs_trace.specs.Run.{limited};
-ghost use Rattle.xs_value.specs.Conversion.{IsIn};
+ghost use Rattle.xs_value.specs.Conversion.{IsIn, text_value};
+ghost use Rattle.xs_value.specs.declared.value.Value.TheVariants.{Bool as Boolean, Chars, Nodes};
 ghost use Rattle.xs_eval.specs.Calls.{called, is_key};
 ghost use Rattle.xs_eval.specs.Conditions.{IsContext};
 ghost use Rattle.xs_eval.specs.Evaluation.{answered};
+ghost use Rattle.xs_eval.specs.Functions.{first, first_or_node, number};
+ghost use Rattle.xs_eval.specs.Languages.{is_in_language};
+ghost use Rattle.xs_eval.specs.Names.{is_element_available, is_function_available, system_property};
 ghost use Rattle.xs_eval.specs.Results.{Answers};
 
 use crate::arguments::{chars, number_at, number_or_node, single, text_at, truth_at};
@@ -21,6 +25,7 @@ use std::alloc::Global;
 use xs_num::number::Num;
 use xs_trace::item::Site;
 use xs_trace::recorder::{Halt, Tally};
+use xs_tree::Tree;
 use xs_value::keys::KeyFinder;
 use xs_value::node_set::NodeSet;
 use xs_value::value::Value;
@@ -66,90 +71,127 @@ fn apply(
         Function::Last => Ok(Value::Number(Num::from(context.size))),
         Function::Position => Ok(Value::Number(Num::from(context.position))),
         Function::Count => nodes::count(values),
-        Function::Id => Ok(Value::Nodes(NodeSet::empty(alloc)?)),
+        Function::Id => no_nodes(alloc),
         Function::LocalName => nodes::local_name(alloc, context, values),
         Function::NamespaceUri => nodes::namespace_uri(alloc, context, values),
         Function::Name => nodes::name(alloc, context, values),
-        Function::String => Ok(strings::string(alloc, context, values)?),
-        Function::Concat => Ok(strings::concat(alloc, tree, values)?),
-        Function::StartsWith => Ok(Value::Bool(strings::starts_with(alloc, tree, values)?)),
-        Function::Contains => Ok(Value::Bool(strings::contains(alloc, tree, values)?)),
-        Function::SubstringBefore => Ok(strings::substring_before(alloc, tree, values)?),
-        Function::SubstringAfter => Ok(strings::substring_after(alloc, tree, values)?),
+        Function::String => strings::string(alloc, context, values),
+        Function::Concat => strings::concat(alloc, tree, values),
+        Function::StartsWith => strings::starts_with(alloc, tree, values),
+        Function::Contains => strings::contains(alloc, tree, values),
+        Function::SubstringBefore => strings::substring_before(alloc, tree, values),
+        Function::SubstringAfter => strings::substring_after(alloc, tree, values),
         Function::Substring => strings::substring(alloc, tree, values),
         Function::StringLength => strings::string_length(alloc, context, values),
-        Function::NormalizeSpace => Ok(strings::normalize_space(alloc, context, values)?),
-        Function::Translate => Ok(strings::translate(alloc, tree, values)?),
+        Function::NormalizeSpace => strings::normalize_space(alloc, context, values),
+        Function::Translate => strings::translate(alloc, tree, values),
         Function::Boolean => Ok(Value::Bool(truth_at(values, 0))),
         Function::Not => Ok(Value::Bool(!truth_at(values, 0))),
         Function::True => Ok(Value::Bool(true)),
         Function::False => Ok(Value::Bool(false)),
-        Function::Lang => {
-            let wanted = text_at(alloc, tree, values, 0)?;
-            Ok(Value::Bool(is_in_language(tree, context.node, wanted.as_str())))
-        }
-        Function::Number => Ok(Value::Number(number_or_node(alloc, context, values)?)),
+        Function::Lang => lang(alloc, context, values),
+        Function::Number => number(alloc, context, values),
         Function::Sum => nodes::sum(alloc, tree, values),
-        Function::Floor => Ok(Value::Number(number_at(alloc, tree, values, 0)?)),
-        Function::Ceiling => Ok(Value::Number(number_at(alloc, tree, values, 0)?)),
-        Function::Round => Ok(Value::Number(number_at(alloc, tree, values, 0)?)),
-        Function::Key => Ok(Value::Nodes(NodeSet::empty(alloc)?)),
-        Function::Current => Ok(single(alloc, context.current)?),
+        Function::Floor => whole(alloc, tree, values),
+        Function::Ceiling => whole(alloc, tree, values),
+        Function::Round => whole(alloc, tree, values),
+        Function::Key => no_nodes(alloc),
+        Function::Current => current(alloc, context),
         Function::GenerateId => nodes::generate_id(alloc, context, values),
-        Function::SystemProperty => {
-            let name = text_at(alloc, tree, values, 0)?;
-            Ok(system_property(alloc, context.scope, name.as_str())?)
-        }
-        Function::ElementAvailable => {
-            let name = text_at(alloc, tree, values, 0)?;
-            Ok(Value::Bool(is_element_available(context.scope, name.as_str())))
-        }
-        Function::FunctionAvailable => {
-            let name = text_at(alloc, tree, values, 0)?;
-            Ok(Value::Bool(is_function_available(name.as_str())))
-        }
-        Function::UnparsedEntityUri => Ok(chars(alloc, "")?),
+        Function::SystemProperty => property(alloc, context, values),
+        Function::ElementAvailable => element_available(alloc, context, values),
+        Function::FunctionAvailable => function_available(alloc, tree, values),
+        Function::UnparsedEntityUri => no_text(alloc),
     }
+}
+
+// No nodes, as `id` gives: no document has a DTD.
+fn no_nodes(alloc: Global) -> Result<Value, Trouble>
+    ensures value { Answers (Ok (Nodes [])) result }
+{
+    Ok(Value::Nodes(NodeSet::empty(alloc)?))
+}
+
+// No characters, as `unparsed-entity-uri` gives.
+fn no_text(alloc: Global) -> Result<Value, Trouble>
+    ensures value { Answers (Ok (Chars [])) result }
+{
+    Ok(chars(alloc, "")?)
+}
+
+// `lang`.
+fn lang(alloc: Global, context: &Context<'_>, values: &[Value]) -> Result<Value, Trouble>
+    requires node { context.now.node < length context.now.tree }
+    requires inside { All (IsIn context.now.tree) values.now }
+    ensures value { Answers (Ok (Boolean (is_in_language context.now.tree context.now.node
+        (text_value context.now.tree (first values.now))))) result }
+{
+    let wanted = text_at(alloc, context.tree, values, 0)?;
+    Ok(Value::Bool(is_in_language(context.tree, context.node, wanted.as_str())))
+}
+
+// `number`.
+fn number(alloc: Global, context: &Context<'_>, values: &[Value]) -> Result<Value, Trouble>
+    requires node { context.now.node < length context.now.tree }
+    requires inside { All (IsIn context.now.tree) values.now }
+    ensures value { Answers
+        (number context.now.tree (first_or_node context.now values.now)) result }
+{
+    Ok(Value::Number(number_or_node(alloc, context, values)?))
+}
+
+// `floor`, `ceiling` and `round`, since each number is whole.
+fn whole(alloc: Global, tree: &Tree, values: &[Value]) -> Result<Value, Trouble>
+    requires { All (IsIn tree.now) values.now }
+    ensures value { Answers (number tree.now (first values.now)) result }
+{
+    Ok(Value::Number(number_at(alloc, tree, values, 0)?))
+}
+
+// `current`.
+fn current(alloc: Global, context: &Context<'_>) -> Result<Value, Trouble>
+    ensures value { Answers (Ok (Nodes (context.now.current ∷ []))) result }
+{
+    Ok(single(alloc, context.current)?)
+}
+
+// `system-property`.
+fn property(alloc: Global, context: &Context<'_>, values: &[Value]) -> Result<Value, Trouble>
+    requires { All (IsIn context.now.tree) values.now }
+    ensures value { Answers (Ok (system_property context.now.scope
+        (text_value context.now.tree (first values.now)))) result }
+{
+    let name = text_at(alloc, context.tree, values, 0)?;
+    Ok(system_property(alloc, context.scope, name.as_str())?)
+}
+
+// `element-available`.
+fn element_available(
+    alloc: Global,
+    context: &Context<'_>,
+    values: &[Value],
+) -> Result<Value, Trouble>
+    requires { All (IsIn context.now.tree) values.now }
+    ensures value { Answers (Ok (Boolean (is_element_available context.now.scope
+        (text_value context.now.tree (first values.now))))) result }
+{
+    let name = text_at(alloc, context.tree, values, 0)?;
+    Ok(Value::Bool(is_element_available(context.scope, name.as_str())))
+}
+
+// `function-available`.
+fn function_available(alloc: Global, tree: &Tree, values: &[Value]) -> Result<Value, Trouble>
+    requires { All (IsIn tree.now) values.now }
+    ensures value { Answers (Ok (Boolean (is_function_available
+        (text_value tree.now (first values.now))))) result }
+{
+    let name = text_at(alloc, tree, values, 0)?;
+    Ok(Value::Bool(is_function_available(name.as_str())))
 }
 
 // Whether a function is `key`.
 fn is_key(function: Function) -> bool
     ensures { result ≡ is_key function }
 {
-    match function {
-        Function::Key => true,
-        Function::Last => false,
-        Function::Position => false,
-        Function::Count => false,
-        Function::Id => false,
-        Function::LocalName => false,
-        Function::NamespaceUri => false,
-        Function::Name => false,
-        Function::String => false,
-        Function::Concat => false,
-        Function::StartsWith => false,
-        Function::Contains => false,
-        Function::SubstringBefore => false,
-        Function::SubstringAfter => false,
-        Function::Substring => false,
-        Function::StringLength => false,
-        Function::NormalizeSpace => false,
-        Function::Translate => false,
-        Function::Boolean => false,
-        Function::Not => false,
-        Function::True => false,
-        Function::False => false,
-        Function::Lang => false,
-        Function::Number => false,
-        Function::Sum => false,
-        Function::Floor => false,
-        Function::Ceiling => false,
-        Function::Round => false,
-        Function::Current => false,
-        Function::GenerateId => false,
-        Function::SystemProperty => false,
-        Function::ElementAvailable => false,
-        Function::FunctionAvailable => false,
-        Function::UnparsedEntityUri => false,
-    }
+    matches!(function, Function::Key)
 }

@@ -135,7 +135,9 @@ fn evaluate_negative<K: KeyFinder, T: Tally>(
     ensures inside { IfOk result (IsIn context.now.tree) }
 {
     let v = evaluate(alloc, operand, context, keys, site, tally)?;
-    settled(negate(alloc, signs, context.tree, &v), site)
+    let negated = negate(alloc, signs, context.tree, &v);
+    drop(v);
+    settled(negated, site)
 }
 
 // Operands that operators of one level join, to the left (XPath 1.0, 3.3 to 3.5).
@@ -221,7 +223,10 @@ fn join<K: KeyFinder, T: Tally>(
     ensures inside { IfOk result (IsIn context.now.tree) }
 {
     match decided(operator, &left) {
-        Some(holds) => Ok(Value::Bool(holds)),
+        Some(holds) => {
+            drop(left);
+            Ok(Value::Bool(holds))
+        }
         None => join_right(alloc, operator, left, right, context, keys, site, tally),
     }
 }
@@ -247,7 +252,10 @@ fn join_right<K: KeyFinder, T: Tally>(
     ensures inside { IfOk result (IsIn context.now.tree) }
 {
     let v = evaluate(alloc, right, context, keys, site, tally)?;
-    settled(operate(alloc, operator, context.tree, &left, &v), site)
+    let joined = operate(alloc, operator, context.tree, &left, &v);
+    drop(left);
+    drop(v);
+    settled(joined, site)
 }
 
 // A step from the context node: a tick for each node that passes the test, then the predicates
@@ -297,6 +305,7 @@ fn evaluate_filter<K: KeyFinder, T: Tally>(
 {
     let set = evaluate_nodes(alloc, inner, context, keys, site, tally)?;
     let nodes = NodeList::from_slice(alloc, set.nodes())?;
+    drop(set);
     keep(alloc, predicates, nodes, context, keys, site, tally)
 }
 
@@ -361,7 +370,9 @@ fn filter<K: KeyFinder, T: Tally>(
         position += 1;
         let around = context.at_node(*node, position, size);
         let v = evaluate(alloc, predicate, &around, keys, site, tally)?;
-        kept = kept_if(selects(&v, position), kept, *node)?;
+        let is_kept = selects(&v, position);
+        drop(v);
+        kept = kept_if(is_kept, kept, *node)?;
     }
     Ok(kept)
 }
@@ -467,6 +478,7 @@ fn follow_each<K: KeyFinder, T: Tally>(
         let around = context.at_node(*node, context.position, context.size);
         let set = evaluate_nodes(alloc, step, &around, keys, site, tally)?;
         found.extend_from_slice(set.nodes())?;
+        drop(set);
     }
     Ok(NodeSet::of_list(found)?)
 }

@@ -1,12 +1,12 @@
 //! Names that a text spells, in the namespace declarations of the expression, and what they name
 //! (XSLT 1.0, 2.4, 12.4 and 15).
 
-ghost use Rattle.std.specs.Prelude.{◌≡◌, IfOk};
+ghost use Rattle.std.specs.Prelude.{◌≡◌, ◌||◌, IfOk, map};
 ghost use Rattle.std.specs.Option.{option_map};
 ghost use Rattle.xs_eval.specs.Names.{expanded_name, is_element_available, is_function_available};
 ghost use Rattle.xs_eval.specs.Names.{is_copying, is_flow, is_instruction, is_making, property};
 ghost use Rattle.xs_eval.specs.Names.{system_property};
-ghost use Rattle.xs_eval.specs.steps.Names.{texts};
+ghost use Rattle.xs_eval.specs.steps.Names.{instructions, lent_text, texts};
 
 use crate::arguments::chars;
 use std::alloc::{AllocError, Global};
@@ -20,6 +20,31 @@ const XSLT: &str = "http://www.w3.org/1999/XSL/Transform";
 
 /// The vendor of this processor.
 const VENDOR: &str = "xslt whole-number profile";
+
+/// The instructions, by their local parts (XSLT 1.0, 2.2 and appendix C.1).
+static INSTRUCTIONS: [&str; 18] = [
+    // Those that decide what is instantiated, and how often.
+    "apply-templates",
+    "call-template",
+    "apply-imports",
+    "for-each",
+    "choose",
+    "if",
+    // Those that copy or compute text.
+    "value-of",
+    "copy-of",
+    "copy",
+    "number",
+    "text",
+    "message",
+    // Those that make nodes, bind a variable, or stand in for an extension.
+    "element",
+    "attribute",
+    "comment",
+    "processing-instruction",
+    "variable",
+    "fallback",
+];
 
 /// The expanded name of a text: its namespace URI, empty for none, and its local part; none where
 /// it is no QName, or its prefix is not in scope.
@@ -58,81 +83,27 @@ fn is_instruction(uri: &str, local: &str) -> bool
     if uri != XSLT {
         return false;
     }
-    if is_flow(local) {
-        return true;
-    }
-    if is_copying(local) {
-        return true;
-    }
-    is_making(local)
+    is_instruction_name(local)
 }
 
-// Whether a local part is that of one of the instructions that decide what is instantiated, and how
-// often.
-fn is_flow(local: &str) -> bool
-    ensures { result ≡ is_flow local.now }
+// Whether a local part is that of an instruction.
+fn is_instruction_name(local: &str) -> bool
+    ensures { result ≡ (is_flow local.now || is_copying local.now || is_making local.now) }
 {
-    if local == "apply-templates" {
-        return true;
+    for name in instructions() {
+        if local == *name {
+            return true;
+        }
     }
-    if local == "call-template" {
-        return true;
-    }
-    if local == "apply-imports" {
-        return true;
-    }
-    if local == "for-each" {
-        return true;
-    }
-    if local == "choose" {
-        return true;
-    }
-    local == "if"
+    false
 }
 
-// Whether a local part is that of one of the instructions that copy or compute text.
-fn is_copying(local: &str) -> bool
-    ensures { result ≡ is_copying local.now }
+// The instructions, by their local parts.
+#[tactic(auto, unfolding(crate::specs::steps::Names::instructions))]
+fn instructions() -> &'static [&'static str]
+    ensures { map lent_text result.now ≡ instructions }
 {
-    if local == "value-of" {
-        return true;
-    }
-    if local == "copy-of" {
-        return true;
-    }
-    if local == "copy" {
-        return true;
-    }
-    if local == "number" {
-        return true;
-    }
-    if local == "text" {
-        return true;
-    }
-    local == "message"
-}
-
-// Whether a local part is that of one of the instructions that make nodes, bind a variable, or
-// stand in for an extension.
-fn is_making(local: &str) -> bool
-    ensures { result ≡ is_making local.now }
-{
-    if local == "element" {
-        return true;
-    }
-    if local == "attribute" {
-        return true;
-    }
-    if local == "comment" {
-        return true;
-    }
-    if local == "processing-instruction" {
-        return true;
-    }
-    if local == "variable" {
-        return true;
-    }
-    local == "fallback"
+    &INSTRUCTIONS
 }
 
 /// `function-available`: whether a text names a function.

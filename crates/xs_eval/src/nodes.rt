@@ -30,7 +30,8 @@ pub(crate) fn count(values: &[Value]) -> Result<Value, Trouble>
     ensures value { Answers (count (first values.now)) result }
 {
     let nodes = nodes_at(values, 0)?;
-    Ok(Value::Number(natural(nodes.len() as u64)?))
+    let number = natural(nodes.len() as u64)?;
+    Ok(Value::Number(number))
 }
 
 /// `local-name`.

@@ -1,13 +1,13 @@
 //! The functions on strings (XPath 1.0, 4.2), on evaluated arguments.
 
-ghost use Rattle.std.specs.Prelude.{◌≡◌, ◌<◌, IfOk, length, slice_get};
+ghost use Rattle.std.specs.Prelude.{◌≡◌, ◌<◌, Ok, length, slice_get};
 ghost use Rattle.std.specs.List.{All, flat_map};
 ghost use Rattle.std.specs.Str.{chars};
 ghost use Rattle.xs_strings.specs.Normalization.{normalized};
 ghost use Rattle.xs_strings.specs.Searching.{text_after, text_before};
 ghost use Rattle.xs_strings.specs.Translation.{translated};
 ghost use Rattle.xs_value.specs.Conversion.{IsIn, text_value};
-ghost use Rattle.xs_value.specs.declared.value.Value.TheVariants.{Chars};
+ghost use Rattle.xs_value.specs.declared.value.Value.TheVariants.{Bool as Boolean, Chars};
 ghost use Rattle.xs_eval.specs.Functions.{count_given, does_contain, does_start_with, first};
 ghost use Rattle.xs_eval.specs.Functions.{first_or_node, second, string_length, substring, third};
 ghost use Rattle.xs_eval.specs.Functions.{written};
@@ -16,7 +16,7 @@ ghost use Rattle.xs_eval.specs.Results.{Answers, AnswersBy};
 use crate::arguments::{chars_of, natural, number_at, number_of, text_at, text_or_node};
 use crate::context::Context;
 use crate::fault::Trouble;
-use std::alloc::{AllocError, Global};
+use std::alloc::Global;
 use xs_num::number::Num;
 use xs_strings::{normalization, positions, searching, translation};
 use xs_tree::Tree;
@@ -28,37 +28,38 @@ pub(crate) fn string(
     alloc: Global,
     context: &Context<'_>,
     values: &[Value],
-) -> Result<Value, AllocError>
+) -> Result<Value, Trouble>
     requires node { context.now.node < length context.now.tree }
     requires inside { All (IsIn context.now.tree) values.now }
-    ensures value { IfOk result (λ v. v
-        ≡ Chars (text_value context.now.tree (first_or_node context.now values.now))) }
+    ensures value { Answers (Ok (Chars
+        (text_value context.now.tree (first_or_node context.now values.now)))) result }
 {
     let text = text_or_node(alloc, context, values)?;
-    crate::arguments::chars(alloc, text.as_str())
+    Ok(crate::arguments::chars(alloc, text.as_str())?)
 }
 
 /// `concat`.
-pub(crate) fn concat(alloc: Global, tree: &Tree, values: &[Value]) -> Result<Value, AllocError>
+pub(crate) fn concat(alloc: Global, tree: &Tree, values: &[Value]) -> Result<Value, Trouble>
     requires { All (IsIn tree.now) values.now }
-    ensures value { IfOk result (λ v. v ≡ Chars (flat_map (text_value tree.now) values.now)) }
+    ensures value { Answers (Ok (Chars (flat_map (text_value tree.now) values.now))) result }
 {
     let mut bytes = Vec::new(alloc);
     for v in values {
         text_into(tree, v, &mut bytes)?;
     }
-    chars_of(bytes)
+    Ok(chars_of(bytes)?)
 }
 
 /// `starts-with`.
-pub(crate) fn starts_with(alloc: Global, tree: &Tree, values: &[Value]) -> Result<bool, AllocError>
+pub(crate) fn starts_with(alloc: Global, tree: &Tree, values: &[Value]) -> Result<Value, Trouble>
     requires { All (IsIn tree.now) values.now }
-    ensures value { IfOk result (λ b. b ≡ does_start_with
-        (text_value tree.now (first values.now)) (text_value tree.now (second values.now))) }
+    ensures value { Answers (Ok (Boolean (does_start_with
+        (text_value tree.now (first values.now))
+        (text_value tree.now (second values.now))))) result }
 {
     let text = text_at(alloc, tree, values, 0)?;
     let start = text_at(alloc, tree, values, 1)?;
-    Ok(begins(text.as_str(), start.as_str()))
+    Ok(Value::Bool(begins(text.as_str(), start.as_str())))
 }
 
 // Whether a text begins with another.
@@ -69,14 +70,15 @@ fn begins(text: &str, start: &str) -> bool
 }
 
 /// `contains`.
-pub(crate) fn contains(alloc: Global, tree: &Tree, values: &[Value]) -> Result<bool, AllocError>
+pub(crate) fn contains(alloc: Global, tree: &Tree, values: &[Value]) -> Result<Value, Trouble>
     requires { All (IsIn tree.now) values.now }
-    ensures value { IfOk result (λ b. b ≡ does_contain
-        (text_value tree.now (first values.now)) (text_value tree.now (second values.now))) }
+    ensures value { Answers (Ok (Boolean (does_contain
+        (text_value tree.now (first values.now))
+        (text_value tree.now (second values.now))))) result }
 {
     let text = text_at(alloc, tree, values, 0)?;
     let sought = text_at(alloc, tree, values, 1)?;
-    Ok(holds(text.as_str(), sought.as_str()))
+    Ok(Value::Bool(holds(text.as_str(), sought.as_str())))
 }
 
 // Whether a text holds another.
@@ -97,17 +99,17 @@ pub(crate) fn substring_before(
     alloc: Global,
     tree: &Tree,
     values: &[Value],
-) -> Result<Value, AllocError>
+) -> Result<Value, Trouble>
     requires { All (IsIn tree.now) values.now }
-    ensures value { IfOk result (λ v. v ≡ written (text_before
+    ensures value { Answers (Ok (written (text_before
         (chars (text_value tree.now (first values.now)))
-        (chars (text_value tree.now (second values.now))))) }
+        (chars (text_value tree.now (second values.now)))))) result }
 {
     let text = text_at(alloc, tree, values, 0)?;
     let sought = text_at(alloc, tree, values, 1)?;
     let mut bytes = Vec::new(alloc);
     searching::substring_before(&mut bytes, text.as_str(), sought.as_str())?;
-    chars_of(bytes)
+    Ok(chars_of(bytes)?)
 }
 
 /// `substring-after`.
@@ -115,17 +117,17 @@ pub(crate) fn substring_after(
     alloc: Global,
     tree: &Tree,
     values: &[Value],
-) -> Result<Value, AllocError>
+) -> Result<Value, Trouble>
     requires { All (IsIn tree.now) values.now }
-    ensures value { IfOk result (λ v. v ≡ written (text_after
+    ensures value { Answers (Ok (written (text_after
         (chars (text_value tree.now (first values.now)))
-        (chars (text_value tree.now (second values.now))))) }
+        (chars (text_value tree.now (second values.now)))))) result }
 {
     let text = text_at(alloc, tree, values, 0)?;
     let sought = text_at(alloc, tree, values, 1)?;
     let mut bytes = Vec::new(alloc);
     searching::substring_after(&mut bytes, text.as_str(), sought.as_str())?;
-    chars_of(bytes)
+    Ok(chars_of(bytes)?)
 }
 
 /// `substring`.
@@ -173,30 +175,30 @@ pub(crate) fn normalize_space(
     alloc: Global,
     context: &Context<'_>,
     values: &[Value],
-) -> Result<Value, AllocError>
+) -> Result<Value, Trouble>
     requires node { context.now.node < length context.now.tree }
     requires inside { All (IsIn context.now.tree) values.now }
-    ensures value { IfOk result (λ v. v ≡ written (normalized
-        (chars (text_value context.now.tree (first_or_node context.now values.now))))) }
+    ensures value { Answers (Ok (written (normalized
+        (chars (text_value context.now.tree (first_or_node context.now values.now)))))) result }
 {
     let text = text_or_node(alloc, context, values)?;
     let mut bytes = Vec::new(alloc);
     normalization::normalize_space(&mut bytes, text.as_str())?;
-    chars_of(bytes)
+    Ok(chars_of(bytes)?)
 }
 
 /// `translate`.
-pub(crate) fn translate(alloc: Global, tree: &Tree, values: &[Value]) -> Result<Value, AllocError>
+pub(crate) fn translate(alloc: Global, tree: &Tree, values: &[Value]) -> Result<Value, Trouble>
     requires { All (IsIn tree.now) values.now }
-    ensures value { IfOk result (λ v. v ≡ written (translated
+    ensures value { Answers (Ok (written (translated
         (chars (text_value tree.now (first values.now)))
         (chars (text_value tree.now (second values.now)))
-        (chars (text_value tree.now (third values.now))))) }
+        (chars (text_value tree.now (third values.now)))))) result }
 {
     let text = text_at(alloc, tree, values, 0)?;
     let from = text_at(alloc, tree, values, 1)?;
     let to = text_at(alloc, tree, values, 2)?;
     let mut bytes = Vec::new(alloc);
     translation::translate(&mut bytes, text.as_str(), from.as_str(), to.as_str())?;
-    chars_of(bytes)
+    Ok(chars_of(bytes)?)
 }

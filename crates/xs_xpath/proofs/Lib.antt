@@ -21,3 +21,4 @@ mod AvtLemmas
 mod TemplateLemmas
 mod BindLemmas
 mod RisingLemmas
+mod RowLemmas

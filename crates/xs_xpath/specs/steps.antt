@@ -2,6 +2,7 @@
 pub mod Cuttings
 pub mod Parts
 pub mod Rising
+pub mod Rows
 pub mod Scan
 pub mod SoFar
 pub mod States

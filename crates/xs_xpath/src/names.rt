@@ -1,7 +1,8 @@
 //! Names of a text: of operators, node types and axes, and qualified ones.
-ghost use Rattle.std.specs.Prelude.{◌≡◌, IfOk, option_map};
+ghost use Rattle.std.specs.Prelude.{◌≡◌, IfOk, map, option_map};
 ghost use Rattle.xs_xpath.specs.Lexing.{axis_named, is_ncname, is_nil, is_pi, kind_named};
 ghost use Rattle.xs_xpath.specs.Lexing.{operator_named, qname, qualified, unprefixed, with_local};
+ghost use Rattle.xs_xpath.specs.steps.Rows.{axes, row_data};
 
 use crate::bytes::{Class, local_at, split_run};
 use crate::name::{NodeTest, QName};
@@ -107,48 +108,39 @@ fn kind_of(name: &[u8]) -> Option<NodeTest>
     None
 }
 
+/// The axes by their names (XPath 1.0, 2.2).
+static AXES: [(&str, Axis); 13] = [
+    ("child", Axis::Child),
+    ("descendant", Axis::Descendant),
+    ("parent", Axis::Parent),
+    ("ancestor", Axis::Ancestor),
+    ("following-sibling", Axis::FollowingSibling),
+    ("preceding-sibling", Axis::PrecedingSibling),
+    ("following", Axis::Following),
+    ("preceding", Axis::Preceding),
+    ("attribute", Axis::Attribute),
+    ("namespace", Axis::Namespace),
+    ("self", Axis::SelfNode),
+    ("descendant-or-self", Axis::DescendantOrSelf),
+    ("ancestor-or-self", Axis::AncestorOrSelf),
+];
+
+/// The axes by their names.
+#[tactic(auto, unfolding(crate::specs::steps::Rows::axes))]
+fn axes() -> &'static [(&'static str, Axis)]
+    ensures { map row_data result.now ≡ axes }
+{
+    &AXES
+}
+
 /// The axis that a name is.
 fn axis_of(name: &[u8]) -> Option<Axis>
     ensures axis { result ≡ axis_named name.now }
 {
-    if name == b"child".as_slice() {
-        return Some(Axis::Child);
-    }
-    if name == b"descendant".as_slice() {
-        return Some(Axis::Descendant);
-    }
-    if name == b"parent".as_slice() {
-        return Some(Axis::Parent);
-    }
-    if name == b"ancestor".as_slice() {
-        return Some(Axis::Ancestor);
-    }
-    if name == b"following-sibling".as_slice() {
-        return Some(Axis::FollowingSibling);
-    }
-    if name == b"preceding-sibling".as_slice() {
-        return Some(Axis::PrecedingSibling);
-    }
-    if name == b"following".as_slice() {
-        return Some(Axis::Following);
-    }
-    if name == b"preceding".as_slice() {
-        return Some(Axis::Preceding);
-    }
-    if name == b"attribute".as_slice() {
-        return Some(Axis::Attribute);
-    }
-    if name == b"namespace".as_slice() {
-        return Some(Axis::Namespace);
-    }
-    if name == b"self".as_slice() {
-        return Some(Axis::SelfNode);
-    }
-    if name == b"descendant-or-self".as_slice() {
-        return Some(Axis::DescendantOrSelf);
-    }
-    if name == b"ancestor-or-self".as_slice() {
-        return Some(Axis::AncestorOrSelf);
+    for (spelling, axis) in axes() {
+        if name == spelling.as_bytes() {
+            return Some(*axis);
+        }
     }
     None
 }

@@ -58,7 +58,10 @@ fn unless_fault(fault: Option<Fault>, e: Expr) -> Result<Expr, Fault>
 {
     match fault {
         None => Ok(e),
-        Some(fault) => Err(fault),
+        Some(fault) => {
+            drop(e);
+            Err(fault)
+        }
     }
 }
 

@@ -109,8 +109,8 @@ fn with_operand(
     ensures cutting { IfOk result (λ s. cutting_of s
         ≡ with_operand operators.items (trees_from operands.items) operator (tree_from operand)) }
 {
-    operators.push(operator)?;
     operands.push(operand)?;
+    operators.push(operator)?;
     Ok(Cutting {
         operators,
         operands,
@@ -156,7 +156,10 @@ fn behind_part(
 {
     match operator_of(n + 1, &part) {
         None => Ok(Some(with_front(state, part)?)),
-        Some(operator) => behind_operator(alloc, n, operator, state),
+        Some(operator) => {
+            drop(part);
+            behind_operator(alloc, n, operator, state)
+        }
     }
 }
 

@@ -1,5 +1,5 @@
 //! Paths, which are read from the right.
-ghost use Rattle.std.specs.Prelude.{◌≡◌, ◌∷◌, IfOk, None, option_map, reverse};
+ghost use Rattle.std.specs.Prelude.{◌≡◌, ◌∷◌, IfOk, None, Some, option_map, reverse};
 ghost use Rattle.xs_xpath.specs.Exprs.{tree_from, trees_from};
 ghost use Rattle.xs_xpath.specs.steps.Parts.{ahead_of, part_of, parts_of, tail_of};
 ghost use Rattle.xs_xpath.specs.Reading.{behind_slash, front, path_from, path_of, plain, steps_in};
@@ -25,6 +25,14 @@ pub enum Ahead {
     Complete(Expr),
 }
 
+/// Nothing, where what stands at the right makes no path.
+fn no_path<T>(ahead: Ahead) -> Option<T>
+    ensures none { result ≡ None }
+{
+    drop(ahead);
+    None
+}
+
 /// A step whose predicates stand the other way round.
 fn step_from(axis: Axis, test: NodeTest, mut predicates: Vec<Expr>) -> Expr
     ensures tree { tree_from result
@@ -34,22 +42,27 @@ fn step_from(axis: Axis, test: NodeTest, mut predicates: Vec<Expr>) -> Expr
     expr::step(axis, test, predicates)
 }
 
+/// Steps with one more in front.
+fn with_step(first: Expr, mut steps: Vec<Expr>) -> Result<Option<Vec<Expr>>, AllocError>
+    ensures steps { IfOk result (λ r. option_map (λ v. trees_from (reverse v.items)) r
+        ≡ Some (tree_from first ∷ trees_from (reverse steps.items))) }
+{
+    steps.push(first)?;
+    Ok(Some(steps))
+}
+
 /// The steps that stand there, of which the first has the child axis where it has none yet.
 fn steps_in(ahead: Ahead) -> Result<Option<Vec<Expr>>, AllocError>
     ensures steps { IfOk result (λ r. option_map (λ v. trees_from (reverse v.items)) r
         ≡ steps_in (ahead_of ahead)) }
 {
     match ahead {
-        Ahead::Tail(_, _) => Ok(None),
-        Ahead::Tested(test, predicates, mut steps) => {
-            steps.push(step_from(Axis::Child, test, predicates))?;
-            Ok(Some(steps))
+        Ahead::Tail(_, _) => Ok(no_path(ahead)),
+        Ahead::Tested(test, predicates, steps) => {
+            with_step(step_from(Axis::Child, test, predicates), steps)
         }
-        Ahead::Stepped(first, mut steps) => {
-            steps.push(first)?;
-            Ok(Some(steps))
-        }
-        Ahead::Complete(_) => Ok(None),
+        Ahead::Stepped(first, steps) => with_step(first, steps),
+        Ahead::Complete(_) => Ok(no_path(ahead)),
     }
 }
 
@@ -59,9 +72,9 @@ fn tail_in(ahead: Ahead) -> Option<(Vec<Expr>, Vec<Expr>)>
 {
     match ahead {
         Ahead::Tail(predicates, steps) => Some((predicates, steps)),
-        Ahead::Tested(_, _, _) => None,
-        Ahead::Stepped(_, _) => None,
-        Ahead::Complete(_) => None,
+        Ahead::Tested(_, _, _) => no_path(ahead),
+        Ahead::Stepped(_, _) => no_path(ahead),
+        Ahead::Complete(_) => no_path(ahead),
     }
 }
 
@@ -71,7 +84,10 @@ fn with_predicate(e: Expr, ahead: Ahead) -> Result<Option<Ahead>, AllocError>
         ≡ with_predicate (tree_from e) (ahead_of ahead)) }
 {
     match tail_in(ahead) {
-        None => Ok(None),
+        None => {
+            drop(e);
+            Ok(None)
+        }
         Some((mut predicates, steps)) => {
             predicates.push(e)?;
             Ok(Some(Ahead::Tail(predicates, steps)))
@@ -102,7 +118,10 @@ fn with_whole(alloc: Global, e: Expr, ahead: Ahead) -> Result<Option<Ahead>, All
         ≡ with_whole (tree_from e) (ahead_of ahead)) }
 {
     match tail_in(ahead) {
-        None => Ok(None),
+        None => {
+            drop(e);
+            Ok(None)
+        }
         Some((predicates, steps)) => {
             let whole = whole_from(alloc, e, predicates, steps)?;
             Ok(Some(Ahead::Complete(whole)))
@@ -125,12 +144,12 @@ fn with_axis(axis: Axis, ahead: Ahead) -> Option<Ahead>
     ensures ahead { option_map ahead_of result ≡ with_axis axis (ahead_of ahead) }
 {
     match ahead {
-        Ahead::Tail(_, _) => None,
+        Ahead::Tail(_, _) => no_path(ahead),
         Ahead::Tested(test, predicates, steps) => {
             Some(Ahead::Stepped(step_from(axis, test, predicates), steps))
         }
-        Ahead::Stepped(_, _) => None,
-        Ahead::Complete(_) => None,
+        Ahead::Stepped(_, _) => no_path(ahead),
+        Ahead::Complete(_) => no_path(ahead),
     }
 }
 
@@ -146,9 +165,9 @@ fn with_dots(alloc: Global, axis: Axis, ahead: Ahead) -> Option<Ahead>
             let first = expr::step(axis, NodeTest::Node, Vec::new(alloc));
             Some(Ahead::Stepped(first, steps))
         }
-        Ahead::Tested(_, _, _) => None,
-        Ahead::Stepped(_, _) => None,
-        Ahead::Complete(_) => None,
+        Ahead::Tested(_, _, _) => no_path(ahead),
+        Ahead::Stepped(_, _) => no_path(ahead),
+        Ahead::Complete(_) => no_path(ahead),
     }
 }
 
@@ -176,11 +195,9 @@ fn with_slash(alloc: Global, ahead: Ahead) -> Result<Option<Ahead>, AllocError>
             }
             Ok(Some(Ahead::Complete(expr::root())))
         }
-        Ahead::Tested(test, predicates, steps) => {
-            behind_slash(alloc, Ahead::Tested(test, predicates, steps))
-        }
-        Ahead::Stepped(first, steps) => behind_slash(alloc, Ahead::Stepped(first, steps)),
-        Ahead::Complete(_) => Ok(None),
+        Ahead::Tested(_, _, _) => behind_slash(alloc, ahead),
+        Ahead::Stepped(_, _) => behind_slash(alloc, ahead),
+        Ahead::Complete(_) => Ok(no_path(ahead)),
     }
 }
 
@@ -195,14 +212,6 @@ fn with_slashes(alloc: Global, ahead: Ahead) -> Result<Option<Ahead>, AllocError
             Ok(Some(Ahead::Tail(Vec::new(alloc), steps)))
         }
     }
-}
-
-/// Nothing, where a token stands in no path.
-fn no_path(ahead: Ahead) -> Option<Ahead>
-    ensures none { result ≡ None }
-{
-    let _ahead = ahead;
-    None
 }
 
 /// With a token in front.

@@ -101,84 +101,14 @@ fn is_literal(e: &Expr) -> bool
 fn is_id(name: Function) -> bool
     ensures same { result ≡ is_id name }
 {
-    match name {
-        Function::Last => false,
-        Function::Position => false,
-        Function::Count => false,
-        Function::Id => true,
-        Function::LocalName => false,
-        Function::NamespaceUri => false,
-        Function::Name => false,
-        Function::String => false,
-        Function::Concat => false,
-        Function::StartsWith => false,
-        Function::Contains => false,
-        Function::SubstringBefore => false,
-        Function::SubstringAfter => false,
-        Function::Substring => false,
-        Function::StringLength => false,
-        Function::NormalizeSpace => false,
-        Function::Translate => false,
-        Function::Boolean => false,
-        Function::Not => false,
-        Function::True => false,
-        Function::False => false,
-        Function::Lang => false,
-        Function::Number => false,
-        Function::Sum => false,
-        Function::Floor => false,
-        Function::Ceiling => false,
-        Function::Round => false,
-        Function::Key => false,
-        Function::Current => false,
-        Function::GenerateId => false,
-        Function::SystemProperty => false,
-        Function::ElementAvailable => false,
-        Function::FunctionAvailable => false,
-        Function::UnparsedEntityUri => false,
-    }
+    matches!(name, Function::Id)
 }
 
 /// Whether a function is `key`.
 pub(crate) fn is_key(name: Function) -> bool
     ensures same { result ≡ is_key name }
 {
-    match name {
-        Function::Last => false,
-        Function::Position => false,
-        Function::Count => false,
-        Function::Id => false,
-        Function::LocalName => false,
-        Function::NamespaceUri => false,
-        Function::Name => false,
-        Function::String => false,
-        Function::Concat => false,
-        Function::StartsWith => false,
-        Function::Contains => false,
-        Function::SubstringBefore => false,
-        Function::SubstringAfter => false,
-        Function::Substring => false,
-        Function::StringLength => false,
-        Function::NormalizeSpace => false,
-        Function::Translate => false,
-        Function::Boolean => false,
-        Function::Not => false,
-        Function::True => false,
-        Function::False => false,
-        Function::Lang => false,
-        Function::Number => false,
-        Function::Sum => false,
-        Function::Floor => false,
-        Function::Ceiling => false,
-        Function::Round => false,
-        Function::Key => true,
-        Function::Current => false,
-        Function::GenerateId => false,
-        Function::SystemProperty => false,
-        Function::ElementAvailable => false,
-        Function::FunctionAvailable => false,
-        Function::UnparsedEntityUri => false,
-    }
+    matches!(name, Function::Key)
 }
 
 /// Whether a call is of `id` with a literal or of `key` with two.
@@ -334,17 +264,17 @@ pub(crate) fn pattern_of(alloc: Global, e: Expr) -> Result<Pattern, AllocError>
 {
     match e {
         Expr::Chain(_, operands) => Ok(several(operands)),
-        Expr::Number(n) => single(alloc, Expr::Number(n)),
-        Expr::Literal(text) => single(alloc, Expr::Literal(text)),
-        Expr::Variable(uri, local, slot) => single(alloc, Expr::Variable(uri, local, slot)),
-        Expr::Call(name, arguments) => single(alloc, Expr::Call(name, arguments)),
-        Expr::Negative(signs, operand) => single(alloc, Expr::Negative(signs, operand)),
-        Expr::Group(inner) => single(alloc, Expr::Group(inner)),
-        Expr::Here => single(alloc, Expr::Here),
-        Expr::Root => single(alloc, Expr::Root),
-        Expr::Step(axis, test, predicates) => single(alloc, Expr::Step(axis, test, predicates)),
-        Expr::Descend => single(alloc, Expr::Descend),
-        Expr::Filter(start, predicates) => single(alloc, Expr::Filter(start, predicates)),
-        Expr::Path(start, steps) => single(alloc, Expr::Path(start, steps)),
+        Expr::Number(_) => single(alloc, e),
+        Expr::Literal(_) => single(alloc, e),
+        Expr::Variable(_, _, _) => single(alloc, e),
+        Expr::Call(_, _) => single(alloc, e),
+        Expr::Negative(_, _) => single(alloc, e),
+        Expr::Group(_) => single(alloc, e),
+        Expr::Here => single(alloc, e),
+        Expr::Root => single(alloc, e),
+        Expr::Step(_, _, _) => single(alloc, e),
+        Expr::Descend => single(alloc, e),
+        Expr::Filter(_, _) => single(alloc, e),
+        Expr::Path(_, _) => single(alloc, e),
     }
 }

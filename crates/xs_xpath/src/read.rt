@@ -1,5 +1,5 @@
 //! Reads tokens from the left, with the open brackets on a stack of its own.
-ghost use Rattle.std.specs.Prelude.{◌≡◌, ◌++◌, ◌∷◌, [], IfOk, map, option_map, reverse};
+ghost use Rattle.std.specs.Prelude.{◌≡◌, ◌++◌, ◌∷◌, [], IfOk, Some, map, option_map, reverse};
 ghost use Rattle.xs_xpath.specs.Exprs.{tree_from, trees_from};
 ghost use Rattle.xs_xpath.specs.steps.Parts.{part_of, parts_of};
 ghost use Rattle.xs_xpath.specs.Reading.{all_arguments, argued, expr, opened, read, round_ended};
@@ -46,7 +46,10 @@ fn inner(alloc: Global, is_deep: bool, parts: Vec<Part>) -> Result<Option<Expr>,
     }
     match found {
         None => Ok(None),
-        Some(_) => Ok(Some(expr::here())),
+        Some(e) => {
+            drop(e);
+            Ok(Some(expr::here()))
+        }
     }
 }
 
@@ -254,6 +257,22 @@ fn next_argument(alloc: Global, is_deep: bool, state: State) -> Result<Option<St
     }
 }
 
+/// The state behind a token that opens a bracket.
+fn begin(alloc: Global, state: State, bracket: Bracket) -> Result<Option<State>, AllocError>
+    ensures state { IfOk result (λ s. option_map state_of s
+        ≡ Some (opened (bracket_of bracket) (state_of state))) }
+{
+    Ok(Some(open_bracket(alloc, state, bracket)?))
+}
+
+/// The state behind a part more.
+fn add(state: State, part: Part) -> Result<Option<State>, AllocError>
+    ensures state { IfOk result (λ s. option_map state_of s
+        ≡ Some (with_part (part_of part) (state_of state))) }
+{
+    Ok(Some(with_part(state, part)?))
+}
+
 /// The state behind a token.
 fn take(
     alloc: Global,
@@ -265,23 +284,20 @@ fn take(
         ≡ taken (expr (kept is_deep)) token (state_of state)) }
 {
     match token {
-        Token::Round => Ok(Some(open_bracket(alloc, state, Bracket::Round)?)),
-        Token::Call(name) => {
-            let bracket = Bracket::Call(name, Vec::new(alloc));
-            Ok(Some(open_bracket(alloc, state, bracket)?))
-        }
-        Token::Square => Ok(Some(open_bracket(alloc, state, Bracket::Square)?)),
+        Token::Round => begin(alloc, state, Bracket::Round),
+        Token::Call(name) => begin(alloc, state, Bracket::Call(name, Vec::new(alloc))),
+        Token::Square => begin(alloc, state, Bracket::Square),
         Token::EndRound => end_round(alloc, is_deep, state),
         Token::EndSquare => end_square(alloc, is_deep, state),
         Token::Comma => next_argument(alloc, is_deep, state),
-        Token::Slash => Ok(Some(with_part(state, Part::Plain(Token::Slash))?)),
-        Token::Slashes => Ok(Some(with_part(state, Part::Plain(Token::Slashes))?)),
-        Token::Negate => Ok(Some(with_part(state, Part::Plain(Token::Negate))?)),
-        Token::Infix(operator) => Ok(Some(with_part(state, Part::Plain(Token::Infix(operator)))?)),
-        Token::OnAxis(axis) => Ok(Some(with_part(state, Part::Plain(Token::OnAxis(axis)))?)),
-        Token::Test(test) => Ok(Some(with_part(state, Part::Plain(Token::Test(test)))?)),
-        Token::Dots(axis) => Ok(Some(with_part(state, Part::Plain(Token::Dots(axis)))?)),
-        Token::Atom(atom) => Ok(Some(with_part(state, Part::Whole(expr::from_atom(atom)))?)),
+        Token::Slash => add(state, Part::Plain(token)),
+        Token::Slashes => add(state, Part::Plain(token)),
+        Token::Negate => add(state, Part::Plain(token)),
+        Token::Infix(_) => add(state, Part::Plain(token)),
+        Token::OnAxis(_) => add(state, Part::Plain(token)),
+        Token::Test(_) => add(state, Part::Plain(token)),
+        Token::Dots(_) => add(state, Part::Plain(token)),
+        Token::Atom(atom) => add(state, Part::Whole(expr::from_atom(atom))),
     }
 }
 

@@ -1,13 +1,16 @@
 //! What the names of tokens stand for.
-ghost use Rattle.std.specs.Prelude.{◌≡◌, ◌<◌, IfOk, option_map};
+ghost use Rattle.std.specs.Prelude.{◌≡◌, ◌<◌, IfOk, map, option_map};
+ghost use Rattle.std.specs.Option.{unwrap_or};
 ghost use Rattle.xs_num.specs.Text.{number_in};
 ghost use Rattle.xs_xpath.specs.declared.name.Function.TheVariants.{Last};
+ghost use Rattle.xs_xpath.specs.declared.token.Lexeme.TheVariants.{AnyOf, Named, Variable};
+ghost use Rattle.xs_xpath.specs.declared.token.Token.TheVariants.{Call};
 ghost use Rattle.xs_xpath.specs.Faults.{tokens_in};
 ghost use Rattle.xs_xpath.specs.Lexing.{unprefixed};
-ghost use Rattle.xs_xpath.specs.Names.{function_named, is_bound, node_function, number_of};
-ghost use Rattle.xs_xpath.specs.Names.{string_function, token_in, uri_in, uri_of, value_function};
-ghost use Rattle.xs_xpath.specs.Names.{xslt_function};
+ghost use Rattle.xs_xpath.specs.Names.{function_named, is_bound, number_of, token_in, uri_in};
+ghost use Rattle.xs_xpath.specs.Names.{uri_of};
 ghost use Rattle.xs_xpath.specs.steps.Rising.{rises};
+ghost use Rattle.xs_xpath.specs.steps.Rows.{functions, row_data};
 
 use crate::name::{Function, NodeTest, QName};
 use crate::names::is_unprefixed;
@@ -87,151 +90,66 @@ pub(crate) fn is_bound(scope: &Scope, prefix: &TextBuf) -> bool
     scope.uri_in(prefix.as_str()).is_some()
 }
 
-/// A function on nodes (XPath 1.0, 4.1).
-fn node_function(name: &[u8]) -> Option<Function>
-    ensures function { result ≡ node_function name.now }
-{
-    if name == b"last".as_slice() {
-        return Some(Function::Last);
-    }
-    if name == b"position".as_slice() {
-        return Some(Function::Position);
-    }
-    if name == b"count".as_slice() {
-        return Some(Function::Count);
-    }
-    if name == b"id".as_slice() {
-        return Some(Function::Id);
-    }
-    if name == b"local-name".as_slice() {
-        return Some(Function::LocalName);
-    }
-    if name == b"namespace-uri".as_slice() {
-        return Some(Function::NamespaceUri);
-    }
-    if name == b"name".as_slice() {
-        return Some(Function::Name);
-    }
-    None
-}
+/// The functions by their names.
+static FUNCTIONS: [(&str, Function); 34] = [
+    // On nodes (XPath 1.0, 4.1).
+    ("last", Function::Last),
+    ("position", Function::Position),
+    ("count", Function::Count),
+    ("id", Function::Id),
+    ("local-name", Function::LocalName),
+    ("namespace-uri", Function::NamespaceUri),
+    ("name", Function::Name),
+    // On strings (4.2).
+    ("string", Function::String),
+    ("concat", Function::Concat),
+    ("starts-with", Function::StartsWith),
+    ("contains", Function::Contains),
+    ("substring-before", Function::SubstringBefore),
+    ("substring-after", Function::SubstringAfter),
+    ("substring", Function::Substring),
+    ("string-length", Function::StringLength),
+    ("normalize-space", Function::NormalizeSpace),
+    ("translate", Function::Translate),
+    // On booleans and numbers (4.3 and 4.4).
+    ("boolean", Function::Boolean),
+    ("not", Function::Not),
+    ("true", Function::True),
+    ("false", Function::False),
+    ("lang", Function::Lang),
+    ("number", Function::Number),
+    ("sum", Function::Sum),
+    ("floor", Function::Floor),
+    ("ceiling", Function::Ceiling),
+    ("round", Function::Round),
+    // Of XSLT 1.0 (12 and 15).
+    ("key", Function::Key),
+    ("current", Function::Current),
+    ("generate-id", Function::GenerateId),
+    ("system-property", Function::SystemProperty),
+    ("element-available", Function::ElementAvailable),
+    ("function-available", Function::FunctionAvailable),
+    ("unparsed-entity-uri", Function::UnparsedEntityUri),
+];
 
-/// A function on strings (XPath 1.0, 4.2).
-fn string_function(name: &[u8]) -> Option<Function>
-    ensures function { result ≡ string_function name.now }
+/// The functions by their names.
+#[tactic(auto, unfolding(crate::specs::steps::Rows::functions))]
+fn functions() -> &'static [(&'static str, Function)]
+    ensures { map row_data result.now ≡ functions }
 {
-    if name == b"string".as_slice() {
-        return Some(Function::String);
-    }
-    if name == b"concat".as_slice() {
-        return Some(Function::Concat);
-    }
-    if name == b"starts-with".as_slice() {
-        return Some(Function::StartsWith);
-    }
-    if name == b"contains".as_slice() {
-        return Some(Function::Contains);
-    }
-    if name == b"substring-before".as_slice() {
-        return Some(Function::SubstringBefore);
-    }
-    if name == b"substring-after".as_slice() {
-        return Some(Function::SubstringAfter);
-    }
-    if name == b"substring".as_slice() {
-        return Some(Function::Substring);
-    }
-    if name == b"string-length".as_slice() {
-        return Some(Function::StringLength);
-    }
-    if name == b"normalize-space".as_slice() {
-        return Some(Function::NormalizeSpace);
-    }
-    if name == b"translate".as_slice() {
-        return Some(Function::Translate);
-    }
-    None
-}
-
-/// A function on booleans or numbers (XPath 1.0, 4.3 and 4.4).
-fn value_function(name: &[u8]) -> Option<Function>
-    ensures function { result ≡ value_function name.now }
-{
-    if name == b"boolean".as_slice() {
-        return Some(Function::Boolean);
-    }
-    if name == b"not".as_slice() {
-        return Some(Function::Not);
-    }
-    if name == b"true".as_slice() {
-        return Some(Function::True);
-    }
-    if name == b"false".as_slice() {
-        return Some(Function::False);
-    }
-    if name == b"lang".as_slice() {
-        return Some(Function::Lang);
-    }
-    if name == b"number".as_slice() {
-        return Some(Function::Number);
-    }
-    if name == b"sum".as_slice() {
-        return Some(Function::Sum);
-    }
-    if name == b"floor".as_slice() {
-        return Some(Function::Floor);
-    }
-    if name == b"ceiling".as_slice() {
-        return Some(Function::Ceiling);
-    }
-    if name == b"round".as_slice() {
-        return Some(Function::Round);
-    }
-    None
-}
-
-/// A function of XSLT 1.0 (12 and 15).
-fn xslt_function(name: &[u8]) -> Option<Function>
-    ensures function { result ≡ xslt_function name.now }
-{
-    if name == b"key".as_slice() {
-        return Some(Function::Key);
-    }
-    if name == b"current".as_slice() {
-        return Some(Function::Current);
-    }
-    if name == b"generate-id".as_slice() {
-        return Some(Function::GenerateId);
-    }
-    if name == b"system-property".as_slice() {
-        return Some(Function::SystemProperty);
-    }
-    if name == b"element-available".as_slice() {
-        return Some(Function::ElementAvailable);
-    }
-    if name == b"function-available".as_slice() {
-        return Some(Function::FunctionAvailable);
-    }
-    if name == b"unparsed-entity-uri".as_slice() {
-        return Some(Function::UnparsedEntityUri);
-    }
-    None
+    &FUNCTIONS
 }
 
 /// The function of a name without a prefix.
-#[tactic(auto, unfolding(crate::specs::Names::function_named))]
 pub fn function_of(name: &[u8]) -> Option<Function>
     ensures function { result ≡ function_named name.now }
 {
-    match node_function(name) {
-        Some(function) => Some(function),
-        None => match string_function(name) {
-            Some(function) => Some(function),
-            None => match value_function(name) {
-                Some(function) => Some(function),
-                None => xslt_function(name),
-            },
-        },
+    for (spelling, function) in functions() {
+        if name == spelling.as_bytes() {
+            return Some(*function);
+        }
     }
+    None
 }
 
 /// The function that a name is; one with a prefix is none.
@@ -255,27 +173,51 @@ fn number_of(text: &TextBuf) -> Num
     }
 }
 
+/// The test for any name in the namespace of a prefix.
+fn any_of(alloc: Global, scope: &Scope, prefix: TextBuf) -> Result<Token, AllocError>
+    ensures token { IfOk result (λ t. t ≡ token_in scope.now.pairs.items (AnyOf prefix)) }
+{
+    Ok(Token::Test(NodeTest::Uri(uri_of(alloc, scope, &prefix)?)))
+}
+
+/// The test for a name.
+fn name_test(alloc: Global, scope: &Scope, name: QName) -> Result<Token, AllocError>
+    ensures token { IfOk result (λ t. t ≡ token_in scope.now.pairs.items (Named name)) }
+{
+    let uri = uri_of(alloc, scope, &name.prefix)?;
+    let QName { prefix: _, local } = name;
+    Ok(Token::Test(NodeTest::Name(uri, local)))
+}
+
+/// A variable.
+fn variable(alloc: Global, scope: &Scope, name: QName) -> Result<Token, AllocError>
+    ensures token { IfOk result (λ t. t ≡ token_in scope.now.pairs.items (Variable name)) }
+{
+    let uri = uri_of(alloc, scope, &name.prefix)?;
+    let QName { prefix: _, local } = name;
+    Ok(Token::Atom(Atom::Variable(uri, local)))
+}
+
+/// The call of a function.
+fn call(name: QName) -> Token
+    ensures token { result ≡ Call (unwrap_or (unprefixed function_named name) Last) }
+{
+    match function_named(&name) {
+        None => Token::Call(Function::Last),
+        Some(function) => Token::Call(function),
+    }
+}
+
 /// The token whose names are resolved.
 fn token_in(alloc: Global, scope: &Scope, lexeme: Lexeme) -> Result<Token, AllocError>
     ensures token { IfOk result (λ t. t ≡ token_in scope.now.pairs.items lexeme) }
 {
     match lexeme {
         Lexeme::Ready(token) => Ok(token),
-        Lexeme::AnyOf(prefix) => Ok(Token::Test(NodeTest::Uri(uri_of(alloc, scope, &prefix)?))),
-        Lexeme::Named(name) => {
-            let uri = uri_of(alloc, scope, &name.prefix)?;
-            let QName { prefix: _, local } = name;
-            Ok(Token::Test(NodeTest::Name(uri, local)))
-        }
-        Lexeme::Called(name) => match function_named(&name) {
-            None => Ok(Token::Call(Function::Last)),
-            Some(function) => Ok(Token::Call(function)),
-        },
-        Lexeme::Variable(name) => {
-            let uri = uri_of(alloc, scope, &name.prefix)?;
-            let QName { prefix: _, local } = name;
-            Ok(Token::Atom(Atom::Variable(uri, local)))
-        }
+        Lexeme::AnyOf(prefix) => any_of(alloc, scope, prefix),
+        Lexeme::Named(name) => name_test(alloc, scope, name),
+        Lexeme::Called(name) => Ok(call(name)),
+        Lexeme::Variable(name) => variable(alloc, scope, name),
         Lexeme::Number(text) => Ok(Token::Atom(Atom::Number(number_of(&text)))),
     }
 }

@@ -43,84 +43,14 @@ fn is_sought_variable(sought: Sought, slot: Option<Slot>) -> bool
 fn is_current(function: Function) -> bool
     ensures current { result ≡ is_current function }
 {
-    match function {
-        Function::Last => false,
-        Function::Position => false,
-        Function::Count => false,
-        Function::Id => false,
-        Function::LocalName => false,
-        Function::NamespaceUri => false,
-        Function::Name => false,
-        Function::String => false,
-        Function::Concat => false,
-        Function::StartsWith => false,
-        Function::Contains => false,
-        Function::SubstringBefore => false,
-        Function::SubstringAfter => false,
-        Function::Substring => false,
-        Function::StringLength => false,
-        Function::NormalizeSpace => false,
-        Function::Translate => false,
-        Function::Boolean => false,
-        Function::Not => false,
-        Function::True => false,
-        Function::False => false,
-        Function::Lang => false,
-        Function::Number => false,
-        Function::Sum => false,
-        Function::Floor => false,
-        Function::Ceiling => false,
-        Function::Round => false,
-        Function::Key => false,
-        Function::Current => true,
-        Function::GenerateId => false,
-        Function::SystemProperty => false,
-        Function::ElementAvailable => false,
-        Function::FunctionAvailable => false,
-        Function::UnparsedEntityUri => false,
-    }
+    matches!(function, Function::Current)
 }
 
 /// Whether a function is `position` or `last`.
 fn is_place(function: Function) -> bool
     ensures place { result ≡ is_place function }
 {
-    match function {
-        Function::Last => true,
-        Function::Position => true,
-        Function::Count => false,
-        Function::Id => false,
-        Function::LocalName => false,
-        Function::NamespaceUri => false,
-        Function::Name => false,
-        Function::String => false,
-        Function::Concat => false,
-        Function::StartsWith => false,
-        Function::Contains => false,
-        Function::SubstringBefore => false,
-        Function::SubstringAfter => false,
-        Function::Substring => false,
-        Function::StringLength => false,
-        Function::NormalizeSpace => false,
-        Function::Translate => false,
-        Function::Boolean => false,
-        Function::Not => false,
-        Function::True => false,
-        Function::False => false,
-        Function::Lang => false,
-        Function::Number => false,
-        Function::Sum => false,
-        Function::Floor => false,
-        Function::Ceiling => false,
-        Function::Round => false,
-        Function::Key => false,
-        Function::Current => false,
-        Function::GenerateId => false,
-        Function::SystemProperty => false,
-        Function::ElementAvailable => false,
-        Function::FunctionAvailable => false,
-        Function::UnparsedEntityUri => false,
-    }
+    matches!(function, Function::Last | Function::Position)
 }
 
 /// Whether a call is what is sought.

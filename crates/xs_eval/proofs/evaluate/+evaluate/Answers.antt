@@ -160,11 +160,11 @@ evaluate_negative-returns-in_err-v-clause-told g t c =
 pub evaluate_negative-returns-clause-told : goal.evaluate_negative-returns-clause-told
 evaluate_negative-returns-clause-told g t c =
     let s = g.T.Tally.state c.evaluate.new.tally in
-    closes (λ v. v) c.args.site (negation c.args.signs c.context.inside.tree.now c.in_ok-v.v) c.negate.result _ c.settled.result s
+    closes (λ v. v) c.args.site (negation c.args.signs c.context.inside.tree.now c.in_ok-v.v) c.negate-negated.result _ c.settled.result s
     (goes_on c.args.site (run_of (g.K.KeyFinder.tables c.args.keys.now) c.args.operand.now c.args.context.now)
     (λ v. given (negation c.args.signs c.args.context.now.tree v)) c.in_ok-v.v (g.T.Tally.state c.args.tally.now) s c.in_ok-v.ensures.told
     ∙ ap (λ (a : Context). limited c.args.site (given (negation c.args.signs a.tree c.in_ok-v.v)) s) (sym c.context.view_is))
-    c.settled.ensures c.negate.ensures.value
+    c.settled.ensures c.negate-negated.ensures.value
 
 -- operands joined
 pub evaluate_chain-returns-in_err-left-in-len1-up-clause-told : goal.evaluate_chain-returns-in_err-left-in-len1-up-clause-told
@@ -201,11 +201,11 @@ join_right-returns-in_err-v-clause-told g t c =
 pub join_right-returns-clause-told : goal.join_right-returns-clause-told
 join_right-returns-clause-told g t c =
     let s = g.T.Tally.state c.evaluate.new.tally in
-    closes (λ v. v) c.args.site (operated c.args.operator c.context.inside.tree.now c.args.left c.in_ok-v.v) c.operate.result _ c.settled.result s
+    closes (λ v. v) c.args.site (operated c.args.operator c.context.inside.tree.now c.args.left c.in_ok-v.v) c.operate-joined.result _ c.settled.result s
     (goes_on c.args.site (run_of (g.K.KeyFinder.tables c.args.keys.now) c.args.right.now c.args.context.now)
     (λ v. given (operated c.args.operator c.args.context.now.tree c.args.left v)) c.in_ok-v.v (g.T.Tally.state c.args.tally.now) s c.in_ok-v.ensures.told
     ∙ ap (λ (a : Context). limited c.args.site (given (operated c.args.operator a.tree c.args.left c.in_ok-v.v)) s) (sym c.context.view_is))
-    c.settled.ensures c.operate.ensures.value
+    c.settled.ensures c.operate-joined.ensures.value
 
 -- all operands
 pub join_all-returns-in-empty-clause-told : goal.join_all-returns-in-empty-clause-told
@@ -398,14 +398,15 @@ filter-loop-node-preserved g t c =
           (m c.at_node-around.result) (λ v. kept_if (selects v (k + 1)) kept x) c.in_ok-v.v c.in_ok-kept.kept
           (g.T.Tally.state c.loop-node.tally) (g.T.Tally.state c.evaluate.new.tally) _
           c.loop-node.invariant.told (placed_below ns k (omega arith)) (placed_at ns k x (omega arith) c.node-item.is) here c.in_ok-v.ensures.told
-          (c.in_ok-kept.ensures.nodes ∙ ap (λ b. kept_if b kept x) (c.selects.ensures ∙ ap (λ j. selects c.in_ok-v.v (j + 1)) c.loop-node.invariant.place));
+          (c.in_ok-kept.ensures.nodes
+          ∙ ap (λ b. kept_if b kept x) (c.selects-is_kept.ensures ∙ ap (λ j. selects c.in_ok-v.v (j + 1)) c.loop-node.invariant.place));
       place = ap (λ j. j + 1) c.loop-node.invariant.place;
       inside =
           subst (All P) (sym c.in_ok-kept.ensures.nodes)
-          (kept_if_all P c.selects.result kept x c.loop-node.invariant.inside
+          (kept_if_all P c.selects-is_kept.result kept x c.loop-node.invariant.inside
           (subst P (sym c.node-item.is) (All-get_or P ns k x (omega arith) c.requires.some.inside)));
       few =
-          subst (λ (l : List ℕ). length l ≤ k + 1) (sym c.in_ok-kept.ensures.nodes) (kept_if_few c.selects.result kept x k c.loop-node.invariant.few);
+          subst (λ (l : List ℕ). length l ≤ k + 1) (sym c.in_ok-kept.ensures.nodes) (kept_if_few c.selects-is_kept.result kept x k c.loop-node.invariant.few);
       kept = c.in_ok-v.ensures.kept ∙ c.loop-node.invariant.kept;
     }
 

@@ -1,0 +1,104 @@
+//! Chains of blocks and their pool: 65 items in two blocks, joined and cut chains, refused memory.
+
+use std::alloc::{AllocError, Global};
+use std::test::Fail;
+use xs_block::chain::{Chain, append_chain};
+use xs_block::pool::Pool;
+
+// A chain of the numbers from `first` to below `end`, with memory for each as it comes.
+fn numbers(
+    alloc: Global,
+    pool: &mut Pool<Box<u32>>,
+    first: u32,
+    end: u32,
+) -> Result<Chain<Box<u32>>, AllocError> {
+    let mut chain = Chain::new(alloc);
+    for n in first..end {
+        let item = Box::new(alloc, n)?;
+        pool.reserve(&chain, 1)?;
+        pool.push(&mut chain, item);
+    }
+    Ok(chain)
+}
+
+// A value that may go to another thread.
+fn sent<T: Send>(value: T) -> T {
+    value
+}
+
+// Whether a chain has the numbers from 0 to below `end`.
+fn counts_to(chain: &Chain<Box<u32>>, end: u32) -> bool {
+    let mut wanted = 0..end;
+    for item in chain.items() {
+        if wanted.next() != Some(**item) {
+            return false;
+        }
+    }
+    wanted.next().is_none()
+}
+
+#[test]
+fn holds_65_items_in_two_blocks(rt: HostRuntime) -> Result<(), Fail> {
+    let mut pool = Pool::new(rt.alloc());
+    let mut chain = Chain::new(rt.alloc());
+    pool.reserve(&chain, 65)?;
+    assert_eq!(rt; (pool.free_blocks(), pool.spare(&chain)), (2, 128));
+    for n in 0..65u64 {
+        pool.push(&mut chain, n);
+    }
+    assert_eq!(rt;
+        (chain.blocks(), pool.free_blocks(), pool.spare(&chain)),
+        (2, 0, 63)
+    );
+    let mut wanted = 0..65;
+    for n in chain.items() {
+        assert_eq!(rt; wanted.next(), Some(*n));
+    }
+    pool.give_back(chain);
+    assert_eq!(rt; pool.free_blocks(), 2);
+    Ok(())
+}
+
+#[test]
+fn joins_and_cuts(rt: HostRuntime) -> Result<(), Fail> {
+    let mut pool = sent(Pool::new(rt.alloc()));
+    let mut chain = sent(numbers(rt.alloc(), &mut pool, 0, 70)?);
+    let more = numbers(rt.alloc(), &mut pool, 70, 75)?;
+    assert!(rt; !more.is_empty() && chain.can_append(&more));
+    append_chain(&mut chain, more);
+    assert_eq!(rt; (chain.blocks(), pool.spare(&chain)), (3, 59));
+    assert!(rt; counts_to(&chain, 75));
+    pool.truncate(&mut chain, 66);
+    assert_eq!(rt;
+        (chain.blocks(), pool.free_blocks(), pool.spare(&chain)),
+        (2, 1, 126)
+    );
+    assert!(rt; counts_to(&chain, 66));
+    let mut wanted = 0..66;
+    for item in chain.into_items() {
+        assert_eq!(rt; wanted.next(), Some(*item));
+    }
+    Ok(())
+}
+
+#[test]
+fn keeps_its_blocks_where_memory_is_refused(rt: HostRuntime) -> Result<(), Fail> {
+    let mut pool = Pool::new(rt.alloc());
+    let mut chain = Chain::new(rt.alloc());
+    let refused = pool.reserve(&chain, 200).is_err();
+    let made = pool.free_blocks();
+    let mut pushed = 0;
+    for n in 0..200u32 {
+        if pool.spare(&chain) == 0 {
+            break;
+        }
+        pool.push(&mut chain, n);
+        pushed = n + 1;
+    }
+    assert!(rt; refused || pushed == 200);
+    assert_eq!(rt; pool.free_blocks() + chain.blocks(), made);
+    pool.truncate(&mut chain, 64);
+    pool.give_back(chain);
+    assert_eq!(rt; pool.free_blocks(), made);
+    Ok(())
+}

@@ -1,0 +1,26 @@
+/* The XML declaration at the head of a document. */
+#ifndef DECLARATION_H
+#define DECLARATION_H
+
+#include <stdbool.h>
+#include <stddef.h>
+
+/* By how many columns the places on a line have moved. */
+struct moved {
+    unsigned long line;
+    long columns;
+};
+
+/* So many bytes at most does standing_alone add. */
+enum { DECLARATION_ROOM = 128 };
+
+/* Puts `standalone="yes"` into the XML declaration of a document's head, in place: where a
+ * document points at declarations outside itself, expat passes over an entity in an
+ * attribute that it does not know, without a word. Told that the document stands alone, it
+ * refuses it. */
+struct moved standing_alone(char *head, size_t *length);
+
+/* The encoding of a head in units of two bytes, or NULL. */
+const char *wide_encoding(const char *head, size_t length);
+
+#endif

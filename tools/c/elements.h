@@ -1,0 +1,53 @@
+/* The open elements: their starts with attributes and declarations, tested and written. */
+#ifndef ELEMENTS_H
+#define ELEMENTS_H
+
+#include <stdbool.h>
+#include <stddef.h>
+
+#include "output.h"
+#include "refusal.h"
+#include "scopes.h"
+
+/* Bytes that grow. */
+struct store {
+    char *bytes;
+    size_t used, room;
+};
+
+struct elements {
+    struct output *out;
+    struct refusal *refusal; /* what is refused, out of memory too, is noted here */
+    bool is_fragment;        /* any number of elements may stand at the top */
+    bool has_top;
+    struct scopes scopes;
+    struct store names;       /* of the open elements, one after the other */
+    size_t *ends;             /* of these names */
+    size_t depth, most_depth; /* open elements, and for how many there is room */
+    unsigned long start;      /* the line of a start whose attributes are read, or 0 */
+    struct store texts;       /* of its attributes */
+    struct attribute *attributes;
+    size_t count, most_attributes;
+    struct expanded *expanded; /* room for as many */
+};
+
+/* False: out of memory. */
+bool elements_open(struct elements *to, struct output *out, struct refusal *refusal,
+                   bool is_fragment);
+void elements_close(struct elements *to);
+
+/* A `(` line. */
+void open_element(struct elements *to, unsigned long number, struct text name);
+
+/* An `A` line: written at once, and tested when the start is whole. */
+void add_attribute(struct elements *to, unsigned long number, struct text name,
+                   struct text value);
+
+/* Tests the start that was read, if there is one, and ends its tag, that of an empty
+ * element where its end follows. */
+void finish_start(struct elements *to, bool is_empty);
+
+/* A `)` line; of an empty element nothing is left to write. */
+void close_element(struct elements *to, unsigned long number, struct text name, bool is_empty);
+
+#endif

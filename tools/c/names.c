@@ -1,0 +1,139 @@
+#include "names.h"
+
+#include <stdint.h>
+#include <string.h>
+
+typedef unsigned char byte;
+
+/* The number of bytes that are one character of UTF-8, or 0. */
+static size_t length_of(const byte *at, size_t left) {
+    static const byte SECOND[][3] = {
+        /* first byte, least and greatest second byte, where these are special */
+        {0xe0, 0xa0, 0xbf}, {0xed, 0x80, 0x9f}, {0xf0, 0x90, 0xbf}, {0xf4, 0x80, 0x8f},
+    };
+    size_t length = at[0] < 0x80 ? 1 : at[0] < 0xe0 ? 2 : at[0] < 0xf0 ? 3 : 4;
+    if (length == 1)
+        return 1;
+    if (at[0] < 0xc2 || at[0] > 0xf4 || length > left)
+        return 0;
+    for (size_t next = 1; next < length; next++)
+        if ((at[next] & 0xc0) != 0x80)
+            return 0;
+    for (size_t row = 0; row < sizeof SECOND / sizeof *SECOND; row++)
+        if (at[0] == SECOND[row][0] && (at[1] < SECOND[row][1] || at[1] > SECOND[row][2]))
+            return 0;
+    return length;
+}
+
+bool is_utf8(struct text text) {
+    const byte *at = (const byte *)text.bytes, *end = at + text.length;
+    while (at < end) {
+        uint64_t eight;
+        while (end - at >= 8) {
+            memcpy(&eight, at, 8);
+            if (eight & 0x8080808080808080u)
+                break;
+            at += 8;
+        }
+        if (at == end)
+            return true;
+        size_t length = length_of(at, (size_t)(end - at));
+        if (length == 0)
+            return false;
+        at += length;
+    }
+    return true;
+}
+
+/* The character at a place, and its length; the text is UTF-8. */
+static uint32_t character(const byte *at, size_t *length) {
+    *length = at[0] < 0x80 ? 1 : at[0] < 0xe0 ? 2 : at[0] < 0xf0 ? 3 : 4;
+    uint32_t code = *length == 1 ? at[0] : at[0] & (0xffu >> (*length + 1));
+    for (size_t next = 1; next < *length; next++)
+        code = code << 6 | (at[next] & 0x3f);
+    return code;
+}
+
+struct range {
+    uint32_t from, to;
+};
+
+static bool is_in(uint32_t code, const struct range *ranges, size_t count) {
+    for (size_t at = 0; at < count; at++)
+        if (code >= ranges[at].from && code <= ranges[at].to)
+            return true;
+    return false;
+}
+
+/* XML 1.0, 2.3: NameStartChar, without the colon. */
+static bool starts_name(uint32_t code) {
+    static const struct range STARTS[] = {
+        {'a', 'z'}, {'A', 'Z'}, {'_', '_'}, {0xc0, 0xd6}, {0xd8, 0xf6}, {0xf8, 0x2ff},
+        {0x370, 0x37d}, {0x37f, 0x1fff}, {0x200c, 0x200d}, {0x2070, 0x218f}, {0x2c00, 0x2fef},
+        {0x3001, 0xd7ff}, {0xf900, 0xfdcf}, {0xfdf0, 0xfffd}, {0x10000, 0xeffff},
+    };
+    return is_in(code, STARTS, sizeof STARTS / sizeof *STARTS);
+}
+
+/* XML 1.0, 2.3: NameChar, without the colon. */
+static bool continues_name(uint32_t code) {
+    static const struct range MORE[] = {
+        {'-', '.'}, {'0', '9'}, {0xb7, 0xb7}, {0x300, 0x36f}, {0x203f, 0x2040},
+    };
+    return starts_name(code) || is_in(code, MORE, sizeof MORE / sizeof *MORE);
+}
+
+bool is_ncname(struct text text) {
+    const byte *at = (const byte *)text.bytes, *end = at + text.length;
+    bool is_name = text.length > 0;
+    for (bool is_first = true; is_name && at < end; is_first = false) {
+        size_t length;
+        uint32_t code = character(at, &length);
+        is_name = is_first ? starts_name(code) : continues_name(code);
+        at += length;
+    }
+    return is_name;
+}
+
+bool is_qname(struct text text, struct text *prefix, struct text *local) {
+    const char *colon = memchr(text.bytes, ':', text.length);
+    size_t before = colon ? (size_t)(colon - text.bytes) : 0, skipped = colon ? before + 1 : 0;
+    *prefix = (struct text){text.bytes, before};
+    *local = (struct text){text.bytes + skipped, text.length - skipped};
+    return (!colon || is_ncname(*prefix)) && is_ncname(*local);
+}
+
+/* Prints one character of ASCII or beyond, escaped where that is needed. */
+static void print_character(FILE *out, uint32_t code, char quote) {
+    if (code == '\n')
+        fputs("\\n", out);
+    else if (code == '\r')
+        fputs("\\r", out);
+    else if (code == '\t')
+        fputs("\\t", out);
+    else if (code == '\\' || code == (unsigned char)quote)
+        fprintf(out, "\\%c", (char)code);
+    else if (code >= ' ' && code < 0x7f)
+        fputc((int)code, out);
+    else if (code < 0x100)
+        fprintf(out, "\\x%02x", (unsigned)code);
+    else if (code < 0x10000)
+        fprintf(out, "\\u%04x", (unsigned)code);
+    else
+        fprintf(out, "\\U%08x", (unsigned)code);
+}
+
+void print_ascii(FILE *out, struct text text) {
+    bool has_single = memchr(text.bytes, '\'', text.length) != NULL;
+    bool has_double = memchr(text.bytes, '"', text.length) != NULL;
+    char quote = has_single && !has_double ? '"' : '\'';
+    const byte *at = (const byte *)text.bytes, *end = at + text.length;
+    fputc(quote, out);
+    while (at < end) {
+        size_t length;
+        uint32_t code = character(at, &length);
+        print_character(out, code, quote);
+        at += length;
+    }
+    fputc(quote, out);
+}

@@ -1,0 +1,22 @@
+/* UTF-8, and the names of XML 1.0, fifth edition, and Namespaces in XML 1.0. */
+#ifndef NAMES_H
+#define NAMES_H
+
+#include <stdbool.h>
+#include <stdio.h>
+
+#include "scopes.h"
+
+/* Whether bytes are UTF-8: no surrogates, nothing longer than it has to be. */
+bool is_utf8(struct text text);
+
+/* A name without a colon. */
+bool is_ncname(struct text text);
+
+/* A name with one colon or none; the prefix is empty where there is none. */
+bool is_qname(struct text text, struct text *prefix, struct text *local);
+
+/* Prints a text of UTF-8 between quotes, with what is not ASCII as Python's ascii() has it. */
+void print_ascii(FILE *out, struct text text);
+
+#endif

@@ -1,0 +1,265 @@
+/* Writes PYX lines as an XML document: what the script tools/pyx2xml does, at xslt's pace.
+ *
+ * usage: pyx2xml [--fragment] [FILE]
+ *
+ * One pass over a file or a pipe, with memory for one line (of a text a part), the names
+ * of one start tag and of the open elements, and the bindings in scope. The document is
+ * written while the lines are read; its last byte comes only when all of them were found
+ * right, so that a beginning is no document. Of a fragment a beginning may be one: with
+ * --fragment nothing is written before that. Lines that are refused get FILE:LINE and the
+ * reason on standard error, and status 1.
+ */
+#include <errno.h>
+#include <fcntl.h>
+#include <getopt.h>
+#include <signal.h>
+#include <stdio.h>
+#include <stdlib.h>
+#include <string.h>
+#include <strings.h>
+#include <unistd.h>
+
+#include "characters.h"
+#include "elements.h"
+#include "lines.h"
+#include "names.h"
+#include "output.h"
+#include "refusal.h"
+
+enum { REFUSED = 1, USAGE = 2 };
+
+struct options {
+    bool is_fragment;
+    const char *file;
+};
+
+struct converter {
+    bool is_fragment;
+    struct lines lines;
+    struct output out;
+    struct refusal refusal;
+    struct elements elements;
+};
+
+static void add_comment(struct converter *to, unsigned long number, struct text text) {
+    bool is_bad = has_pair(text, '-', '-') || memchr(text.bytes, '\r', text.length)
+               || (text.length > 0 && text.bytes[text.length - 1] == '-');
+    if (is_bad || !is_allowed(text)) {
+        refuse_line(&to->refusal, number, is_bad ? BAD_COMMENT : NO_CHARACTER);
+        return;
+    }
+    output_text(&to->out, "<!--");
+    output_put(&to->out, text.bytes, text.length);
+    output_text(&to->out, "-->");
+}
+
+static bool is_xml(struct text target) {
+    return target.length == 3 && strncasecmp(target.bytes, "xml", 3) == 0;
+}
+
+static void add_instruction(struct converter *to, unsigned long number, struct text target,
+                            struct text text) {
+    if (is_xml(target) && number == 1)
+        return;
+    if (!is_ncname(target) || is_xml(target)) {
+        refuse(&to->refusal, number, BAD_NAME, target);
+        return;
+    }
+    bool is_bad = has_pair(text, '?', '>') || memchr(text.bytes, '\r', text.length)
+               || (text.length > 0 && is_blank((struct text){text.bytes, 1}));
+    if (is_bad || !is_allowed(text)) {
+        refuse_line(&to->refusal, number, is_bad ? BAD_INSTRUCTION : NO_CHARACTER);
+        return;
+    }
+    output_text(&to->out, "<?");
+    output_put(&to->out, target.bytes, target.length);
+    if (text.length > 0)
+        output_byte(&to->out, ' ');
+    output_put(&to->out, text.bytes, text.length);
+    output_text(&to->out, "?>");
+}
+
+/* A `-` line or a part of one. What comes first in the order of reasons counts, in
+ * whichever part it stands. */
+static void add_text(struct converter *to, struct line *line) {
+    struct text text = {line->bytes + line->begins, line->length - line->begins};
+    enum reason reason = FINE;
+    if (!is_utf8(text))
+        reason = BAD_UTF8;
+    else if (!unescape(&text, line->bytes + line->begins))
+        reason = BAD_ESCAPE;
+    else if (line->ends && !line->has_line_feed)
+        reason = NO_LINE_FEED;
+    else if (to->elements.depth == 0 && !to->is_fragment)
+        reason = is_blank(text) ? FINE : TEXT_OUTSIDE;
+    else if (!put_text(&to->out, text, false))
+        reason = NO_CHARACTER;
+    if (reason != FINE && (!is_refused(&to->refusal) || reason < to->refusal.reason))
+        to->refusal = (struct refusal){.reason = reason, .number = line->number};
+}
+
+/* The fault of a whole line before its meaning, if there is one. Its text is unescaped. */
+static enum reason read_line(const struct converter *to, const struct line *line,
+                             struct text *name, struct text *text) {
+    char *bytes = line->bytes;
+    char kind = line->length > 0 ? bytes[0] : 0;
+    size_t rest = line->length > 0 ? line->length - 1 : 0;
+    if (!is_utf8((struct text){bytes, line->length}))
+        return BAD_UTF8;
+    if (!kind || !strchr("(A-)?C", kind))
+        return BAD_KIND;
+    if (kind == 'A' && to->elements.start == 0)
+        return LONE_ATTRIBUTE;
+    size_t length = kind == 'C' ? 0 : rest, skipped = 0;
+    char *space = kind == 'A' || kind == '?' ? memchr(bytes + 1, ' ', rest) : NULL;
+    if (space) {
+        length = (size_t)(space - bytes) - 1;
+        skipped = 1;
+    }
+    *name = (struct text){bytes + 1, length};
+    *text = (struct text){bytes + 1 + length + skipped, rest - length - skipped};
+    if (!unescape(text, bytes + 1 + length + skipped))
+        return BAD_ESCAPE;
+    return line->has_line_feed ? FINE : NO_LINE_FEED;
+}
+
+/* A line that is no text. */
+static void add_line(struct converter *to, const struct line *line) {
+    struct text name = {NULL, 0}, text = {NULL, 0};
+    char kind = line->length > 0 ? line->bytes[0] : 0;
+    bool is_empty = kind == ')' && to->elements.start > 0;
+    enum reason reason = read_line(to, line, &name, &text);
+    if (kind != 'A' || reason != FINE)
+        finish_start(&to->elements, is_empty); /* a fault of an earlier line comes first */
+    if (is_refused(&to->refusal))
+        return;
+    if (reason != FINE)
+        refuse_line(&to->refusal, line->number, reason);
+    else if (kind == '(')
+        open_element(&to->elements, line->number, name);
+    else if (kind == ')')
+        close_element(&to->elements, line->number, name, is_empty);
+    else if (kind == 'A')
+        add_attribute(&to->elements, line->number, name, text);
+    else if (kind == 'C')
+        add_comment(to, line->number, text);
+    else
+        add_instruction(to, line->number, name, text);
+}
+
+/* Converts all lines, or up to the first that is refused. */
+static void convert(struct converter *to) {
+    struct line line = {.number = 0};
+    bool is_text = false;
+    while ((!is_refused(&to->refusal) || !line.ends) && !to->out.fault && lines_next(&to->lines, &line)) {
+        if (line.begins) {
+            is_text = line.length > 0 && line.bytes[0] == '-';
+            if (is_text)
+                finish_start(&to->elements, false);
+            if (is_refused(&to->refusal))
+                return;
+        }
+        if (is_text)
+            add_text(to, &line);
+        else
+            add_line(to, &line);
+    }
+    if (is_refused(&to->refusal) || to->out.fault || to->lines.fault)
+        return;
+    finish_start(&to->elements, false);
+    if (to->elements.depth > 0)
+        refuse_line(&to->refusal, to->lines.number, TRUNCATED);
+    else if (!to->elements.has_top && !to->is_fragment)
+        refuse_line(&to->refusal, to->lines.number, NO_ROOT);
+    if (!to->is_fragment)
+        output_byte(&to->out, '\n');
+}
+
+/* Opens all that a converter needs. False: out of memory. */
+static bool open_converter(struct converter *to, bool is_fragment, int file) {
+    *to = (struct converter){.is_fragment = is_fragment};
+    bool has_lines = lines_open(&to->lines, file);
+    bool has_output = output_open(&to->out, STDOUT_FILENO, is_fragment);
+    return elements_open(&to->elements, &to->out, &to->refusal, is_fragment) && has_lines
+        && has_output;
+}
+
+static void close_converter(struct converter *to) {
+    lines_close(&to->lines);
+    output_close(&to->out);
+    elements_close(&to->elements);
+    free(to->refusal.subject);
+}
+
+static int complain(const char *name, const char *reason) {
+    fprintf(stderr, "pyx2xml: %s: %s\n", name, reason);
+    return REFUSED;
+}
+
+/* Reports where and why the lines are refused. */
+static int complain_of(const struct refusal *refusal, const char *name) {
+    if (refusal->reason == NO_MEMORY)
+        return complain(name, "out of memory");
+    fprintf(stderr, "pyx2xml: %s:%lu: ", name, refusal->number);
+    print_reason(stderr, refusal);
+    fputc('\n', stderr);
+    return REFUSED;
+}
+
+/* Reports what went wrong, or else writes what was held back: the status. */
+static int finish(struct converter *to, const char *name) {
+    if (to->lines.fault)
+        return complain(name, strerror(to->lines.fault));
+    if (is_refused(&to->refusal))
+        return complain_of(&to->refusal, name);
+    if (!output_finish(&to->out))
+        return complain("standard output", strerror(to->out.fault));
+    return 0;
+}
+
+static int run(const struct options *options) {
+    const char *name = options->file ? options->file : "standard input";
+    int file = options->file ? open(options->file, O_RDONLY) : STDIN_FILENO;
+    if (file < 0)
+        return complain(name, strerror(errno));
+    struct converter to;
+    int status = REFUSED;
+    if (open_converter(&to, options->is_fragment, file)) {
+        convert(&to);
+        status = finish(&to, name);
+    } else {
+        complain(name, "out of memory");
+    }
+    close_converter(&to);
+    if (options->file)
+        close(file);
+    return status;
+}
+
+/* Reads the options. False: the arguments are not as they should be. */
+static bool read_options(int count, char **given, struct options *options) {
+    static const struct option OPTIONS[] = {
+        {"fragment", no_argument, NULL, 'f'},
+        {NULL, 0, NULL, 0},
+    };
+    int option;
+    *options = (struct options){.file = NULL};
+    while ((option = getopt_long(count, given, "", OPTIONS, NULL)) != -1) {
+        if (option != 'f')
+            return false;
+        options->is_fragment = true;
+    }
+    if (optind < count)
+        options->file = given[optind++];
+    return optind == count;
+}
+
+int main(int count, char **given) {
+    struct options options;
+    if (!read_options(count, given, &options)) {
+        fprintf(stderr, "usage: pyx2xml [--fragment] [FILE]\n");
+        return USAGE;
+    }
+    signal(SIGPIPE, SIG_IGN);
+    return run(&options);
+}

@@ -1,0 +1,66 @@
+"""The converters in C (tools/c): where they are, and how they are built on first use.
+
+They are kept in tools/c/out, which git ignores, and built again when a source is newer.
+Two runs may build at once: each compiles to a name of its own, and a whole program takes
+the place of the old one. Where there is no C compiler, no expat (Debian: libexpat1-dev)
+or no place to write, there is no program, and the converters in Python do the same more
+slowly. The environment variable XSLT_CONVERTERS=python asks for these.
+"""
+
+import glob
+import os
+import shlex
+import shutil
+import subprocess
+import tempfile
+
+SOURCES = os.path.join(os.path.dirname(os.path.dirname(os.path.realpath(__file__))), "c")
+FLAGS = ["-std=gnu11", "-O2"]
+# Of each program its files and libraries.
+PROGRAMS = {
+    "xml2pyx": (
+        ["xml2pyx", "declaration", "encodings", "escapes", "namespaces", "output", "scopes", "table"],
+        ["-lexpat"],
+    ),
+    "pyx2xml": (
+        ["pyx2xml", "characters", "elements", "lines", "names", "output", "refusal", "scopes"],
+        [],
+    ),
+}
+
+
+def program(name):
+    """The path of a converter in C, built where that is needed, or None."""
+    if os.environ.get("XSLT_CONVERTERS") == "python":
+        return None
+    path = os.path.join(SOURCES, "out", name)
+    try:
+        return path if is_new(path) or build(name, path) else None
+    except OSError:
+        return None
+
+
+def is_new(path):
+    """Whether a program is there and no source is newer."""
+    if not os.path.exists(path):
+        return False
+    sources = glob.glob(os.path.join(SOURCES, "*.[ch]"))
+    return max(map(os.path.getmtime, sources), default=0) <= os.path.getmtime(path)
+
+
+def build(name, path):
+    """Compiles a program; whether that succeeded."""
+    compiler = shlex.split(os.environ.get("CC", "cc"))
+    if not compiler or not shutil.which(compiler[0]):
+        return False
+    files, libraries = PROGRAMS[name]
+    sources = [os.path.join(SOURCES, file + ".c") for file in files]
+    os.makedirs(os.path.dirname(path), exist_ok=True)
+    with tempfile.TemporaryDirectory(dir=os.path.dirname(path)) as folder:
+        made = os.path.join(folder, name)
+        command = [*compiler, *FLAGS, "-o", made, *sources, *libraries]
+        if subprocess.run(command, capture_output=True, check=False).returncode != 0:
+            return False
+        os.replace(made, path)
+    return True
+
