@@ -1,7 +1,7 @@
 use Rattle.std.proofs.Common.{rules, arith, ◌≡◌, ◌∷◌, ◌++◌, [], List, All, length, length-append, ap, ◌∙◌, subst}
 use Rattle.xs_ledger.specs.declared.ledger.Share.{Share}
 use Rattle.xs_ledger.specs.Additions.{total}
-use Rattle.xs_ledger.specs.Shares.{share_ledger_id, weight}
+use Rattle.xs_ledger.specs.Shares.{IsShareOf, weight}
 use Rattle.xs_ledger.proofs.TotalLemmas.{total_append}
 use Rattle.xs_ledger.proofs.ShareLemmas.{all_last, all_before}
 use Rattle.xs_ledger.proofs.WordLemmas.{joins}
@@ -9,14 +9,14 @@ use Rattle.xs_ledger.proofs.calls.join_shares.Goals as goal
 
 pub join_seat-requires : goal.join_seat-requires
 join_seat-requires c =
-    let IsOf : Share → Type 0 = λ s. share_ledger_id s ≡ c.args.shared.now.table_id in
+    let IsOf : Share → Type 0 = IsShareOf c.args.shared.now.table_id in
     let h = c.loop-share.invariant in
     let all : All IsOf (c.pop.new.self.items ++ c.in-Some.share ∷ []) = subst (All IsOf) c.in-Some.ensures.items h.shares in
     (h.of_table, all_last IsOf c.pop.new.self.items c.in-Some.share all, c.in-Some.share.no_slot, c.requires.word, joins _ _ _ _ _)
 
 pub loop-share-preserved : goal.loop-share-preserved
 loop-share-preserved c =
-    let IsOf : Share → Type 0 = λ s. share_ledger_id s ≡ c.args.shared.now.table_id in
+    let IsOf : Share → Type 0 = IsShareOf c.args.shared.now.table_id in
     let h = c.loop-share.invariant in
     let joined = c.join_seat.ensures in
     let share = c.in-Some.share in

@@ -1,5 +1,5 @@
 use Rattle.std.proofs.Common.{◌≡◌, ℕ, ◌+◌, ◌≤◌, [], length, All}
-use Rattle.xs_ledger.specs.Shares.{IsNewShareOf}
+use Rattle.xs_ledger.specs.Shares.{IsShareOf, IsUnused}
 use Rattle.xs_ledger.proofs.ledger.Ledger.new.Given as goal
 
 abbrev pub invariant-loop-share : goal.invariant-loop-share
@@ -10,5 +10,6 @@ invariant-loop-share l = record {
   seats : l.seat.me.0.seats + l._share ≡ l.seats + 1;
   count : length l.shares.items + 1 ≡ l._share;
   low : l._share ≤ l.seats;
-  shares : All (IsNewShareOf l.table.shared.table_id) l.shares.items;
+  shares : All (IsShareOf l.table.shared.table_id) l.shares.items;
+  unused : All IsUnused l.shares.items;
 }
