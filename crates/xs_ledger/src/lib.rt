@@ -1,4 +1,4 @@
-//! The count of ticks that the workers of a run share: one word, to which each worker adds by a share.
+//! The count of ticks that workers share: one word, to which each adds by a share.
 #![tactic(auto)]
 
 mod calls;
