@@ -10,9 +10,11 @@ import os
 import random
 import re
 import resource
+import shutil
 import subprocess
 import sys
 import tempfile
+from unittest import mock
 from array import array
 from xml.etree.ElementTree import ParseError, canonicalize
 
@@ -257,6 +259,7 @@ def compare_natives(tests):
                     tests.holds(name, True)
     native_tables(tests)
     native_memory(tests)
+    native_builds(tests)
 
 
 def native_tables(tests):
@@ -288,6 +291,28 @@ def native_memory(tests):
         done = subprocess.run([native.program(tool)], input=data, capture_output=True, preexec_fn=limit, check=False)
         tests.check(tool + " in C out of memory", done.returncode, 1)
         tests.holds(tool + " says so", done.stderr.lower().rstrip().endswith((b"out of memory", b"cannot allocate memory")))
+
+
+def native_builds(tests):
+    """Programs are built where that is needed, by several runs at once too, and only from sources that compile."""
+    with tempfile.TemporaryDirectory() as folder, mock.patch.object(native, "SOURCES", folder):
+        for path in glob.glob(os.path.join(TOOLS, "c", "*.[ch]")):
+            shutil.copy(path, folder)
+        with mock.patch.dict(os.environ, {"CC": "no-such-compiler"}):
+            tests.check("no compiler", native.program("pyx2xml"), None)
+        with concurrent.futures.ThreadPoolExecutor(3) as pool:
+            paths = list(pool.map(native.program, ["pyx2xml"] * 3))
+        tests.check("built at once", paths, [os.path.join(folder, "out", "pyx2xml")] * 3)
+        tests.check("and it runs", run_native("pyx2xml", b"(a\n)a\n"), b"<a/>\n")
+        tests.check("nothing else is left", os.listdir(os.path.join(folder, "out")), ["pyx2xml"])
+        made = os.path.getmtime(paths[0])
+        os.utime(os.path.join(folder, "names.h"), (made + 2, made + 2))
+        with mock.patch.object(native, "build", return_value=True) as build:
+            native.program("pyx2xml")
+        tests.check("built again for a newer source", build.call_count, 1)
+        with open(os.path.join(folder, "names.c"), "a", encoding="ascii") as source:
+            source.write("no C")
+        tests.check("not built from a bad source", native.program("pyx2xml"), None)
 
 
 def test(tests):

@@ -19,7 +19,6 @@ XSLT_CONVERTERS=python in the environment, this module does it, a hundred times 
 and writes nothing at all where lines are refused.
 """
 
-import argparse
 import os
 import re
 import shutil
@@ -27,6 +26,7 @@ import sys
 import tempfile
 
 from lib import native
+from lib.declarations import declared
 
 IN_MEMORY = 1 << 24
 FLUSH = 1 << 12
@@ -77,13 +77,6 @@ def as_text(text):
 def as_value(text):
     text = as_text(text).replace('"', "&quot;")
     return text.replace("\t", "&#9;").replace("\n", "&#10;")
-
-
-def declared(name):
-    """The prefix that an attribute of this name declares, empty for the default, or None."""
-    if name == "xmlns":
-        return ""
-    return name[6:] if name.startswith("xmlns:") else None
 
 
 def bad_binding(prefix, uri):
@@ -243,6 +236,8 @@ class Converter:
 
 def arguments():
     """The arguments of the command."""
+    import argparse  # it takes longer than a short conversion
+
     parser = argparse.ArgumentParser(
         description=__doc__, formatter_class=argparse.RawDescriptionHelpFormatter
     )

@@ -4,7 +4,7 @@ import shutil
 import subprocess
 import tempfile
 
-from lib import native, pyx2xml
+from lib import native
 
 PART = 1 << 20
 NO_DOCUMENT = ("Unbalanced", "NoRoot")
@@ -32,6 +32,8 @@ def convert(result, made, is_fragment):
     """Writes lines as XML: why they are refused, or nothing."""
     program = native.program("pyx2xml")
     if not program:
+        from lib import pyx2xml
+
         try:
             pyx2xml.Converter(made, is_fragment).convert(result)
             return ""

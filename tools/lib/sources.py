@@ -4,6 +4,7 @@ Where the converter in C can be had it runs beside the program and hands over it
 a pipe; else the lines are written to a file first.
 """
 
+import contextlib
 import fcntl
 import os
 import re
@@ -17,21 +18,24 @@ PIPE = 1 << 20
 SET_PIPE_SIZE = getattr(fcntl, "F_SETPIPE_SZ", None)
 
 
-def open_source(xml, drop_doctype, path):
-    """A source whose lines come by a pipe, or from a file of this path."""
+def open_source(xml, path, drop_doctype, lines):
+    """A source of a name and a path whose lines come by a pipe, or from a file that is to be written."""
     program = native.program("xml2pyx") if os.path.isdir("/dev/fd") else None
     try:
-        return PipedSource(xml, drop_doctype, program) if program else FileSource(xml, drop_doctype, path)
+        if program:
+            return PipedSource(xml, path, drop_doctype, program)
+        return FileSource(xml, path, drop_doctype, lines)
     except OSError as fault:
-        return MissingSource(xml, path, fault.strerror)
+        return MissingSource(xml, path, lines, fault.strerror)
 
 
 class MissingSource:
     """A source that can't be opened: the program finds no file of this name."""
 
-    def __init__(self, xml, path, reason):
-        self.xml, self.name, self.reason = xml, os.path.basename(path), f"xml2pyx: {xml}: {reason}"
-        self.ends = ()
+    def __init__(self, xml, path, lines, reason):
+        self.xml, self.path, self.reason = xml, path, reason
+        self.name = os.path.basename(lines)  # for the program
+        self.ends = ()  # of pipes, for the program
 
     def begin(self):
         """The program has begun to read."""
@@ -39,44 +43,40 @@ class MissingSource:
     def finish(self):
         """The program has ended."""
 
-    def place(self, number):
+    def place(self, row):
         """The line of XML that a PYX line comes from."""
-        return number
+        return row
 
 
 class FileSource(MissingSource):
-    """A source whose lines were written to a file."""
+    """A source whose lines were written to a file; of one that is no XML there is none."""
 
-    def __init__(self, xml, drop_doctype, path):
-        super().__init__(xml, path, None)
-        self.reason, self.places = "", array("Q")
-        with open(xml, "rb") as source, open(path, "wb") as made:
+    def __init__(self, xml, path, drop_doctype, lines):
+        super().__init__(xml, path, lines, "")
+        self.places = array("Q")
+        with open(path, "rb") as source, open(lines, "wb") as made:
             try:
                 xml2pyx.Converter(made, drop_doctype, self.places).convert(source)
             except xml2pyx.Refused as fault:
-                self.reason = f"xml2pyx: {xml}:{fault}"
+                self.reason = str(fault)
         if self.reason:
-            os.remove(path)
+            os.remove(lines)
 
-    def place(self, number):
-        return self.places[number - 1] if 0 < number <= len(self.places) else number
+    def place(self, row):
+        return self.places[row - 1] if 0 < row <= len(self.places) else row
 
 
 class PipedSource(MissingSource):
     """A source whose lines come by a pipe from a converter that runs beside the program."""
 
-    def __init__(self, xml, drop_doctype, program):
-        super().__init__(xml, "", None)
-        self.reason, self.program = "", program
+    def __init__(self, xml, path, drop_doctype, program):
+        super().__init__(xml, path, "", "")
+        self.program = program
         self.options = ["--drop-doctype"] if drop_doctype else []
         self.complaint = tempfile.TemporaryFile()
-        with open(xml, "rb") as source:
+        with open(path, "rb") as source:
             read_end, write_end = os.pipe()
-            if SET_PIPE_SIZE:
-                try:
-                    fcntl.fcntl(write_end, SET_PIPE_SIZE, PIPE)
-                except OSError:
-                    pass  # it is only slower
+            widen(write_end)
             command = [program, *self.options]
             self.converter = subprocess.Popen(command, stdin=source, stdout=write_end, stderr=self.complaint)
             os.close(write_end)
@@ -87,22 +87,28 @@ class PipedSource(MissingSource):
         os.close(self.ends[0])
 
     def finish(self):
-        """Learns why the document is refused. That the program did not read to the end is no reason."""
+        """Finds out why the document is refused. That the program did not read to the end is no reason."""
         self.converter.wait()
         self.complaint.seek(0)
         said = self.complaint.read().decode(errors="surrogateescape").rstrip("\n")
         self.complaint.close()
-        found = re.fullmatch(r"(?s)xml2pyx: standard input:(.*)", said)
-        if found:
-            self.reason = f"xml2pyx: {self.xml}:{found[1]}"
+        found = re.fullmatch(r"xml2pyx: standard input: ?(.*)", said, re.DOTALL)
+        self.reason = found[1] if found else ""
 
-    def place(self, number):
+    def place(self, row):
         """Reads the document once more, for its table of lines."""
-        with tempfile.TemporaryDirectory(prefix="xslt-xml-") as folder, open(self.xml, "rb") as source:
+        with tempfile.TemporaryDirectory(prefix="xslt-xml-") as folder, open(self.path, "rb") as source:
             table = os.path.join(folder, "table")
             command = [self.program, *self.options, "--lines", table]
             done = subprocess.run(command, stdin=source, stdout=subprocess.DEVNULL, check=False)
             if done.returncode != 0:
-                return number
-            with open(table, encoding="ascii") as rows:
-                return next((int(row) for at, row in enumerate(rows, 1) if at == number), number)
+                return row
+            with open(table, encoding="ascii") as places:
+                return next((int(place) for at, place in enumerate(places, 1) if at == row), row)
+
+
+def widen(pipe):
+    """Gives a pipe more room, where the system allows it."""
+    if SET_PIPE_SIZE:
+        with contextlib.suppress(OSError):
+            fcntl.fcntl(pipe, SET_PIPE_SIZE, PIPE)

@@ -24,7 +24,6 @@ the work; else, or with XSLT_CONVERTERS=python in the environment, this module d
 some thirty times more slowly, and writes nothing at all of a document that is refused.
 """
 
-import argparse
 import os
 import re
 import shutil
@@ -206,6 +205,8 @@ class Converter:
 
 def arguments():
     """The arguments of the command."""
+    import argparse  # it takes longer than a short conversion
+
     parser = argparse.ArgumentParser(
         description=__doc__, formatter_class=argparse.RawDescriptionHelpFormatter
     )

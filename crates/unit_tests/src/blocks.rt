@@ -21,6 +21,11 @@ fn numbers(
     Ok(chain)
 }
 
+// A value that may go to another thread.
+fn sent<T: Send>(value: T) -> T {
+    value
+}
+
 // Whether a chain has the numbers from 0 to below `end`.
 fn counts_to(chain: &Chain<Box<u32>>, end: u32) -> bool {
     let mut wanted = 0..end;
@@ -41,7 +46,10 @@ fn holds_65_items_in_two_blocks(rt: HostRuntime) -> Result<(), Fail> {
     for n in 0..65u64 {
         pool.push(&mut chain, n);
     }
-    assert_eq!(rt; (chain.blocks(), pool.free_blocks(), pool.spare(&chain)), (2, 0, 63));
+    assert_eq!(rt;
+        (chain.blocks(), pool.free_blocks(), pool.spare(&chain)),
+        (2, 0, 63)
+    );
     let mut wanted = 0..65;
     for n in chain.items() {
         assert_eq!(rt; wanted.next(), Some(*n));
@@ -53,15 +61,18 @@ fn holds_65_items_in_two_blocks(rt: HostRuntime) -> Result<(), Fail> {
 
 #[test]
 fn joins_and_cuts(rt: HostRuntime) -> Result<(), Fail> {
-    let mut pool = Pool::new(rt.alloc());
-    let mut chain = numbers(rt.alloc(), &mut pool, 0, 70)?;
+    let mut pool = sent(Pool::new(rt.alloc()));
+    let mut chain = sent(numbers(rt.alloc(), &mut pool, 0, 70)?);
     let more = numbers(rt.alloc(), &mut pool, 70, 75)?;
     assert!(rt; !more.is_empty() && chain.can_append(&more));
     append_chain(&mut chain, more);
     assert_eq!(rt; (chain.blocks(), pool.spare(&chain)), (3, 59));
     assert!(rt; counts_to(&chain, 75));
     pool.truncate(&mut chain, 66);
-    assert_eq!(rt; (chain.blocks(), pool.free_blocks(), pool.spare(&chain)), (2, 1, 126));
+    assert_eq!(rt;
+        (chain.blocks(), pool.free_blocks(), pool.spare(&chain)),
+        (2, 1, 126)
+    );
     assert!(rt; counts_to(&chain, 66));
     let mut wanted = 0..66;
     for item in chain.into_items() {
@@ -77,9 +88,12 @@ fn keeps_its_blocks_where_memory_is_refused(rt: HostRuntime) -> Result<(), Fail>
     let refused = pool.reserve(&chain, 200).is_err();
     let made = pool.free_blocks();
     let mut pushed = 0;
-    while pushed < 200 && pool.spare(&chain) > 0 {
-        pool.push(&mut chain, pushed);
-        pushed += 1;
+    for n in 0..200u32 {
+        if pool.spare(&chain) == 0 {
+            break;
+        }
+        pool.push(&mut chain, n);
+        pushed = n + 1;
     }
     assert!(rt; refused || pushed == 200);
     assert_eq!(rt; pool.free_blocks() + chain.blocks(), made);

@@ -28,33 +28,38 @@ fn has_sheet<L: Library>(alloc: Global, library: &mut L, name: &str, limit: u64)
     }
 }
 
+// Whether a library fails to fetch a name.
+fn fails<L: Library>(alloc: Global, library: &mut L, name: &str) -> bool {
+    matches!(library.fetch(alloc, name, 100), Err(FetchEnd::Failed))
+}
+
 #[test]
 fn files_in_memory(rt: HostRuntime) -> Result<(), Fail> {
     let alloc = rt.alloc();
     let mut library = one_file(alloc)?;
     assert!(rt; has_sheet(alloc, &mut library, "s.pyx", 100));
-    assert!(rt; matches!(library.fetch(alloc, "s.pyx", 100), Err(FetchEnd::Failed)));
-    assert!(rt; matches!(library.fetch(alloc, "lib.pyx", 100), Err(FetchEnd::Failed)));
+    assert!(rt; fails(alloc, &mut library, "s.pyx"));
+    assert!(rt; fails(alloc, &mut library, "lib.pyx"));
     assert!(rt; has_sheet(alloc, &mut library, "s.pyx", 2));
     Ok(())
 }
 
+// Whether a file is found, whole and cut, while it is there, and neither it nor a folder after.
+fn is_found_while_there(rt: &HostRuntime, path: &str) -> io::Result<bool> {
+    let alloc = rt.alloc();
+    let mut library = FileLibrary::new(alloc, rt);
+    fs::write(rt, path, SHEET)?;
+    let is_found = has_sheet(alloc, &mut library, path, 100)
+        && has_sheet(alloc, &mut library, path, 2);
+    fs::remove_file(rt, path)?;
+    Ok(is_found && fails(alloc, &mut library, path) && fails(alloc, &mut library, "/tmp"))
+}
+
 #[test]
 fn files_of_the_system(rt: HostRuntime) -> Result<(), Fail> {
-    let alloc = rt.alloc();
-    let path = format!(in alloc; "/tmp/xs_outside_{}.pyx", std::process::id(rt.process()))?;
-    fs::write(&rt, path.as_str(), SHEET)?;
-    let mut library = FileLibrary::new(alloc, &rt);
-    assert!(rt; has_sheet(alloc, &mut library, path.as_str(), 100));
-    assert!(rt; has_sheet(alloc, &mut library, path.as_str(), 2));
-    fs::remove_file(&rt, path.as_str())?;
-    assert!(rt;
-        matches!(
-            library.fetch(alloc, path.as_str(), 100),
-            Err(FetchEnd::Failed)
-        )
-    );
-    assert!(rt; matches!(library.fetch(alloc, "/tmp", 100), Err(FetchEnd::Failed)));
+    let id = std::process::id(rt.process());
+    let path = format!(in rt.alloc(); "/tmp/xs_outside_{id}.pyx")?;
+    assert!(rt; is_found_while_there(&rt, path.as_str())?);
     Ok(())
 }
 

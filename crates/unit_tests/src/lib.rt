@@ -1,11 +1,17 @@
-//! Tests of what no row can write: fakes, refused allocations, threads, and laws called as functions.
+//! Tests of what no row can write: fakes, refused allocations, threads, laws called as functions.
 #![tactic(auto)]
 
+#[cfg(test)]
+mod axes;
 #[cfg(test)]
 mod blocks;
 mod document_laws;
 #[cfg(test)]
 mod edges;
+#[cfg(test)]
+mod loads;
+#[cfg(test)]
+mod numbers;
 #[cfg(test)]
 mod recorders;
 mod trace_laws;

@@ -16,19 +16,30 @@ use xs_trace::text::TextBuf;
 use xs_trace::total::{LocalTotal, Total};
 use xs_trace::whole::{Kept, Whole};
 
-// What only values that cross threads are given to.
-fn crosses_threads<T: Send + Sync>(_value: &T) {}
+// What only types whose values cross threads are given to.
+fn crosses_threads<T: Send + Sync>() {}
+
+#[test]
+fn cross_threads() {
+    crosses_threads::<TextBuf>();
+    crosses_threads::<Claim>();
+    crosses_threads::<Fragment>();
+}
 
 // A text with no room in its block.
 const LONG: &str = "the whole of this text is longer than thirty-two bytes";
 
 #[test]
-fn texts(rt: HostRuntime) -> Result<(), Fail> {
+fn short_text(rt: HostRuntime) -> Result<(), Fail> {
     let copy = TextBuf::of(rt.alloc(), "pi")?.copy()?;
     assert_eq!(rt; copy.as_str(), "pi");
-    crosses_threads(&copy);
-    let long = TextBuf::from_string(String::from_str(rt.alloc(), LONG)?)?.copy()?;
-    assert_eq!(rt; long.as_str(), LONG);
+    Ok(())
+}
+
+#[test]
+fn long_text(rt: HostRuntime) -> Result<(), Fail> {
+    let copy = TextBuf::from_string(String::from_str(rt.alloc(), LONG)?)?.copy()?;
+    assert_eq!(rt; copy.as_str(), LONG);
     Ok(())
 }
 
@@ -41,41 +52,72 @@ fn place_of(alloc: Global, numbers: &[u64]) -> Result<Place, AllocError> {
     Ok(place)
 }
 
+// How the copy of one place compares with another.
+fn compared(alloc: Global, numbers: &[u64], others: &[u64]) -> Result<Ordering, AllocError> {
+    let copy = place_of(alloc, numbers)?.copy()?;
+    let other = place_of(alloc, others)?;
+    Ok(compare_places(&copy, &other))
+}
+
+// Whether a place has the numbers that it was made of.
+fn has_numbers(alloc: Global, numbers: &[u64]) -> Result<bool, AllocError> {
+    let place = place_of(alloc, numbers)?;
+    Ok(place.numbers() == numbers)
+}
+
 #[test]
 fn places(rt: HostRuntime) -> Result<(), Fail> {
-    let root = place_of(rt.alloc(), &[])?;
-    let place = place_of(rt.alloc(), &[3, 1])?.copy()?;
-    let sibling = place_of(rt.alloc(), &[2])?;
-    assert_eq!(rt; place.numbers(), [3, 1].as_slice());
-    assert_eq!(rt; compare_places(&root, &place), Ordering::Less);
-    assert_eq!(rt; compare_places(&place, &sibling), Ordering::Greater);
-    crosses_threads(&Claim { worker: 0, place });
+    assert!(rt; has_numbers(rt.alloc(), &[3, 1])?);
+    assert_eq!(rt; compared(rt.alloc(), &[], &[3, 1])?, Ordering::Less);
+    assert_eq!(rt; compared(rt.alloc(), &[3, 1], &[2])?, Ordering::Greater);
     Ok(())
 }
 
-// An attribute, whose name is in no namespace.
-fn attribute(alloc: Global) -> Result<Event, AllocError> {
-    let name = Label {
+// A name in no namespace.
+fn label(alloc: Global) -> Result<Label, AllocError> {
+    Ok(Label {
         uri: TextBuf::of(alloc, "")?,
         local: TextBuf::of(alloc, "a")?,
         prefix: TextBuf::of(alloc, "")?,
-    };
+    })
+}
+
+// An attribute with the copy of a name.
+fn attribute(alloc: Global) -> Result<Event, AllocError> {
+    let name = label(alloc)?.copy()?;
     Ok(Event::Attr {
-        name: name.copy()?,
+        name,
         value: TextBuf::of(alloc, "1")?,
     })
 }
 
+// The copy of an event.
+fn copied(event: Event) -> Result<Event, AllocError> {
+    event.copy()
+}
+
+// The copy of an attribute, and an end.
+fn attribute_and_end(alloc: Global) -> Result<Fragment, AllocError> {
+    let mut fragment = Fragment::of(Vec::new(alloc));
+    fragment.push(copied(attribute(alloc)?)?)?;
+    fragment.push(Event::End)?;
+    Ok(fragment)
+}
+
+// Whether there are an attribute with a short text, which takes no ticks of its own, and an end.
+fn are_attribute_and_end(events: &[Event]) -> bool {
+    match events {
+        [attribute, Event::End] => {
+            matches!(attribute, Event::Attr { .. }) && text_ticks(attribute) == 0
+        }
+        _ => false,
+    }
+}
+
 #[test]
 fn events(rt: HostRuntime) -> Result<(), Fail> {
-    let copy = attribute(rt.alloc())?.copy()?;
-    assert_eq!(rt; text_ticks(&copy), 0);
-    let mut fragment = Fragment::of(Vec::new(rt.alloc()));
-    fragment.push(copy)?;
-    fragment.push(Event::End)?;
-    let copy = fragment.copy()?;
-    assert!(rt; matches!(copy.events(), [Event::Attr { .. }, Event::End]));
-    crosses_threads(&copy);
+    let copy = attribute_and_end(rt.alloc())?.copy()?;
+    assert!(rt; are_attribute_and_end(copy.events()));
     Ok(())
 }
 
@@ -173,7 +215,8 @@ fn spends_without_keeping(rt: HostRuntime) {
 
 // Whether a piece has five ticks and all that it did is before one hole.
 fn is_whole_piece(kept: &KeptPiece<u64>) -> bool {
-    matches!(kept.sections.as_slice(), [Section { task: 7, .. }])
+    kept.sections.len() == 1
+        && matches!(kept.sections.first(), Some(Section { task: 7, .. }))
         && kept.items.is_empty()
         && kept.ticks == 5
         && matches!(&kept.ended, Ended::Whole)
@@ -188,18 +231,23 @@ fn is_over(kept: &KeptPiece<u64>) -> bool {
 // total.
 fn piece(
     alloc: Global,
-    added: u64,
+    added: u16,
     ticks: u64,
 ) -> Result<(KeptPiece<u64>, LocalTotal), AllocError> {
-    let total = LocalTotal::new(2000, added);
+    let total = LocalTotal::new(2000, u64::from(added));
     run_piece(alloc, total, None, SITE, ticks, Event::End, Event::End, 7)
 }
 
 #[test]
-fn keeps_pieces(rt: HostRuntime) -> Result<(), Fail> {
+fn keeps_a_piece(rt: HostRuntime) -> Result<(), Fail> {
     let (kept, total) = piece(rt.alloc(), 0, 3)?;
     assert!(rt; is_whole_piece(&kept));
     assert_eq!(rt; total.above(), None);
+    Ok(())
+}
+
+#[test]
+fn ends_over_a_total(rt: HostRuntime) -> Result<(), Fail> {
     let (kept, total) = piece(rt.alloc(), 1500, 1500)?;
     assert!(rt; is_over(&kept));
     assert_eq!(rt; total.above(), Some(2524));

@@ -25,7 +25,8 @@ module _ {X A : Type 0} where
       ∙ ap (λ u. 64 - length (vec_items u)) (sym is)
       ∙ ap (λ n. 64 - n) (sym v.ok.0)
 
-  pub room_vec : (vs : List (Vec X A)) (v : Vec X A) → 0 < slots_of (map vec_items vs) → All IsBlock vs → 0 < length vs → v ≡ slice_index_or vs (length vs - 1) v
+  pub room_vec : (vs : List (Vec X A)) (v : Vec X A) → 0 < slots_of (map vec_items vs) → All IsBlock vs → 0 < length vs
+      → v ≡ slice_index_or vs (length vs - 1) v
       → vec_len v < vec_capacity v
   room_vec vs v slots all some is =
       let room : vec_capacity (get_or vs (length vs - 1) v) ≡ 64 = All-get_or IsBlock vs (length vs - 1) v (omega (arith, some)) all in

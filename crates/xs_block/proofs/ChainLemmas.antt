@@ -55,7 +55,8 @@ module _ {X : Type 0} where
   used-with_last x [] all = all
   used-with_last x (b ∷ []) all = All-cons (λ b. 0 < length b) (b ++ x ∷ []) [] (omega (arith, length-append b (x ∷ []))) (All-nil (λ b. 0 < length b))
   used-with_last x (b ∷ c ∷ r) all =
-      All-cons (λ b. 0 < length b) b (with_last x (c ∷ r)) (All-head (λ b. 0 < length b) b (c ∷ r) all) (used-with_last x (c ∷ r) (All-tail (λ b. 0 < length b) b (c ∷ r) all))
+      All-cons (λ b. 0 < length b) b (with_last x (c ∷ r)) (All-head (λ b. 0 < length b) b (c ∷ r) all)
+      (used-with_last x (c ∷ r) (All-tail (λ b. 0 < length b) b (c ∷ r) all))
 
   pub slots-append : (bs : List (List X)) (b : List X) → slots_of (bs ++ b ∷ []) ≡ 64 - length b
   slots-append [] b = refl

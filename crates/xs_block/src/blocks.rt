@@ -116,7 +116,7 @@ impl<T: Drop> Blocks<T> {
         }
     }
 
-    /// Takes the first block out of the list, if there is one; the list's own memory for it is lost.
+    /// Takes the first block out of the list, if there is one; the list's memory for it is freed.
     pub(crate) fn pop_first(&mut self) -> Option<Vec<T>>
         ensures popped { self.old ≡ map vec_items (option_to_list result) ++ self.new }
         ensures variant { IsSome result ↔ (0 < length self.old) }

@@ -73,7 +73,7 @@ impl<T: Drop> Chain<T> {
         Items::over(&self.blocks)
     }
 
-    /// An iterator over its items by value, in order. Its blocks are freed, and no pool has them back.
+    /// An iterator over its items by value, in order. Its blocks are freed, and no pool gets them.
     pub fn into_items(self) -> IntoItems<T>
         ensures items { result ≡ items_of self }
     {

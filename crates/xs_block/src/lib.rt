@@ -1,4 +1,4 @@
-//! Items in blocks of 64, kept in chains that are joined without copying, and the pool of free blocks.
+//! Items in blocks of 64, in chains that are joined without copying, and the pool of free blocks.
 #![tactic(auto)]
 
 mod blocks;

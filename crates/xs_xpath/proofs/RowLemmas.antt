@@ -13,7 +13,8 @@ unless true a x y z e = refl
 unless false a x y z e = e
 
 -- of two tables, one behind the other
-named-append : {A : Type 0} → (front back : List (List ℕ × A)) (name : List ℕ) → first_named (front ++ back) name ≡ or_else (first_named front name) (first_named back name)
+named-append : {A : Type 0} → (front back : List (List ℕ × A)) (name : List ℕ)
+    → first_named (front ++ back) name ≡ or_else (first_named front name) (first_named back name)
 named-append [] back name = refl
 named-append (row ∷ front) back name =
     unless (bytes_eq name row.0) row.1 (first_named (front ++ back) name) (first_named front name) (first_named back name) (named-append front back name)

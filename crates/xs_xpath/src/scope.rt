@@ -7,7 +7,8 @@ ghost use Rattle.xs_xpath.specs.declared.token.Lexeme.TheVariants.{AnyOf, Named,
 ghost use Rattle.xs_xpath.specs.declared.token.Token.TheVariants.{Call};
 ghost use Rattle.xs_xpath.specs.Faults.{tokens_in};
 ghost use Rattle.xs_xpath.specs.Lexing.{unprefixed};
-ghost use Rattle.xs_xpath.specs.Names.{function_named, is_bound, number_of, token_in, uri_in, uri_of};
+ghost use Rattle.xs_xpath.specs.Names.{function_named, is_bound, number_of, token_in, uri_in};
+ghost use Rattle.xs_xpath.specs.Names.{uri_of};
 ghost use Rattle.xs_xpath.specs.steps.Rising.{rises};
 ghost use Rattle.xs_xpath.specs.steps.Rows.{functions, row_data};
 

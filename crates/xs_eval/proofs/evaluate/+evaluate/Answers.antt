@@ -398,7 +398,8 @@ filter-loop-node-preserved g t c =
           (m c.at_node-around.result) (λ v. kept_if (selects v (k + 1)) kept x) c.in_ok-v.v c.in_ok-kept.kept
           (g.T.Tally.state c.loop-node.tally) (g.T.Tally.state c.evaluate.new.tally) _
           c.loop-node.invariant.told (placed_below ns k (omega arith)) (placed_at ns k x (omega arith) c.node-item.is) here c.in_ok-v.ensures.told
-          (c.in_ok-kept.ensures.nodes ∙ ap (λ b. kept_if b kept x) (c.selects-is_kept.ensures ∙ ap (λ j. selects c.in_ok-v.v (j + 1)) c.loop-node.invariant.place));
+          (c.in_ok-kept.ensures.nodes
+          ∙ ap (λ b. kept_if b kept x) (c.selects-is_kept.ensures ∙ ap (λ j. selects c.in_ok-v.v (j + 1)) c.loop-node.invariant.place));
       place = ap (λ j. j + 1) c.loop-node.invariant.place;
       inside =
           subst (All P) (sym c.in_ok-kept.ensures.nodes)

@@ -5,7 +5,8 @@ use Rattle.xs_block.proofs.items.ItemsIterator.next.Given as goal
 
 abbrev pub invariant-loop-item : goal.invariant-loop-item
 invariant-loop-item g l =
-    l.self-inside.block.now ++ items_of (map vec_items l.self-inside.blocks) ≡ l.initial.self-inside.block.now ++ items_of (map vec_items l.initial.self-inside.blocks)
+    l.self-inside.block.now ++ items_of (map vec_items l.self-inside.blocks)
+    ≡ l.initial.self-inside.block.now ++ items_of (map vec_items l.initial.self-inside.blocks)
 
 abbrev pub decreases-loop-item : goal.decreases-loop-item
 decreases-loop-item g l = length l.self-inside.blocks

@@ -1,0 +1,162 @@
+//! Settings, which hold for the rows after them.
+
+use crate::documents::document;
+use crate::error::RowError;
+use crate::fields::{unescaped, word};
+use crate::values::{label, operand};
+use std::alloc::{AllocError, Global};
+use std::rt::Files;
+use xs_trace::event::Label;
+use xs_trace::text::TextBuf;
+use xs_tree::Tree;
+use xs_value::value::Value;
+use xs_xpath::name::Slot;
+use xs_xpath::scope::Scope;
+
+/// What holds for a row.
+#[derive(Drop)]
+pub(crate) struct Settings {
+    pub(crate) alloc: Global,
+    /// The document.
+    pub(crate) tree: Tree,
+    /// The prefixes and their URIs.
+    prefixes: Vec<(TextBuf, TextBuf)>,
+    /// The variables and their slots.
+    pub(crate) slots: Vec<(Label, Slot)>,
+    /// The values of the local variables.
+    pub(crate) locals: Vec<Value>,
+    /// The values of the global variables; one that has none yet is needed.
+    pub(crate) globals: Vec<Option<Value>>,
+    /// The context position.
+    pub(crate) position: u32,
+    /// The context size.
+    pub(crate) size: u32,
+    /// The place of the current node.
+    pub(crate) current: u32,
+}
+
+impl Settings {
+    /// An empty document, no prefixes and no variables.
+    pub(crate) fn new(alloc: Global) -> Result<Settings, AllocError> {
+        Ok(Settings {
+            alloc,
+            tree: Tree::new(alloc)?,
+            prefixes: Vec::new(alloc),
+            slots: Vec::new(alloc),
+            locals: Vec::new(alloc),
+            globals: Vec::new(alloc),
+            position: 1,
+            size: 1,
+            current: 0,
+        })
+    }
+
+    /// Sets what a setting says.
+    pub(crate) fn set<R: Files + AllocGlobal>(
+        &mut self,
+        rt: &R,
+        setting: &str,
+    ) -> Result<(), RowError> {
+        let setting = unescaped(self.alloc, setting)?;
+        let (name, rest) = word(setting.as_str());
+        match name {
+            "clear" => *self = Settings::new(self.alloc)?,
+            "document" => self.tree = document(rt, rest)?,
+            "prefix" => {
+                let (prefix, uri) = word(rest);
+                self.add_prefix(prefix, uri)?;
+            }
+            "prefixes" => self.add_prefixes(rest)?,
+            "local" => self.add_local(rest)?,
+            "global" => self.add_global(rest)?,
+            "position" => self.position = rest.parse::<u32>()?,
+            "size" => self.size = rest.parse::<u32>()?,
+            "current" => self.current = rest.parse::<u32>()?,
+            _ => return Err(RowError::Unreadable),
+        }
+        Ok(())
+    }
+
+    /// The prefixes, as a scope.
+    pub(crate) fn scope(&self) -> Result<Scope, AllocError> {
+        let mut pairs = Vec::new(self.alloc);
+        for (prefix, uri) in &self.prefixes {
+            pairs.push((prefix.copy()?, uri.copy()?))?;
+        }
+        Ok(Scope::of(pairs))
+    }
+
+    // Adds a prefix.
+    fn add_prefix(&mut self, prefix: &str, uri: &str) -> Result<(), AllocError> {
+        let pair = (
+            TextBuf::of(self.alloc, prefix)?,
+            TextBuf::of(self.alloc, uri)?,
+        );
+        self.prefixes.push(pair)?;
+        Ok(())
+    }
+
+    // Adds the prefixes with the numbers from one to another, `p1000` for `u1000`.
+    fn add_prefixes(&mut self, numbers: &str) -> Result<(), RowError> {
+        let (first, last) = word(numbers);
+        let (first, last) = (first.parse::<u32>()?, last.parse::<u32>()?);
+        if first <= last {
+            for number in first..=last {
+                self.add_numbered(number)?;
+            }
+        } else {
+            for number in (last..=first).rev() {
+                self.add_numbered(number)?;
+            }
+        }
+        Ok(())
+    }
+
+    // Adds the prefix with a number.
+    fn add_numbered(&mut self, number: u32) -> Result<(), AllocError> {
+        let prefix = format!(in self.alloc; "p{number}")?;
+        let uri = format!(in self.alloc; "u{number}")?;
+        self.add_prefix(prefix.as_str(), uri.as_str())
+    }
+
+    // Adds a local variable with its value.
+    fn add_local(&mut self, text: &str) -> Result<(), RowError> {
+        let (name, value) = word(text);
+        let slot = Slot::Local(number_of(self.locals.len())?);
+        self.add_slot(name, slot)?;
+        self.locals.push(operand(self.alloc, value)?)?;
+        Ok(())
+    }
+
+    // Adds a global variable, with its value where it has one.
+    fn add_global(&mut self, text: &str) -> Result<(), RowError> {
+        let (name, value) = word(text);
+        let slot = Slot::Global(number_of(self.globals.len())?);
+        self.add_slot(name, slot)?;
+        let value = if value.is_empty() {
+            None
+        } else {
+            Some(operand(self.alloc, value)?)
+        };
+        self.globals.push(value)?;
+        Ok(())
+    }
+
+    // Adds a variable with its slot.
+    fn add_slot(&mut self, name: &str, slot: Slot) -> Result<(), AllocError> {
+        let scope = self.scope()?;
+        let label = match name.split_once(':') {
+            Some((prefix, local)) => {
+                label(self.alloc, scope.uri_in(prefix).unwrap_or(""), local)?
+            }
+            None => label(self.alloc, "", name)?,
+        };
+        self.slots.push((label, slot))?;
+        Ok(())
+    }
+}
+
+// The number of a variable after so many.
+fn number_of(count: usize) -> Result<u32, RowError> {
+    u32::try_from(count).map_err(|_| RowError::Unreadable)
+}

@@ -1,0 +1,51 @@
+//! Strings, by the calls of `xs_strings`.
+
+use crate::error::RowError;
+use crate::fields::{add_count, cut};
+use crate::numbers::number;
+use xs_strings::normalization::normalize_space;
+use xs_strings::positions::{char_count, substring};
+use xs_strings::searching::{substring_after, substring_before};
+use xs_strings::translation::translate;
+
+/// Appends the answer of a call with strings.
+pub(crate) fn answer(out: &mut Vec<u8>, call: &str, rest: &str) -> Result<(), RowError> {
+    if call == "string-length" {
+        return Ok(add_count(out, char_count(rest))?);
+    }
+    out.push(b'\'')?;
+    match call {
+        "normalize-space" => normalize_space(out, rest)?,
+        "substring" => add_substring(out, rest)?,
+        "translate" => add_translated(out, rest)?,
+        _ => add_part(out, call, rest)?,
+    }
+    out.push(b'\'')?;
+    Ok(())
+}
+
+// Appends what stands before another string, or after it.
+fn add_part(out: &mut Vec<u8>, call: &str, rest: &str) -> Result<(), RowError> {
+    let (text, other) = cut(rest)?;
+    match call {
+        "substring-before" => Ok(substring_before(out, text, other)?),
+        "substring-after" => Ok(substring_after(out, text, other)?),
+        _ => Err(RowError::Unreadable),
+    }
+}
+
+// Appends a string with characters in place of others.
+fn add_translated(out: &mut Vec<u8>, rest: &str) -> Result<(), RowError> {
+    let (text, rest) = cut(rest)?;
+    let (from, to) = cut(rest)?;
+    Ok(translate(out, text, from, to)?)
+}
+
+// Appends a part of a string: from a position on, to the end or so many characters.
+fn add_substring(out: &mut Vec<u8>, rest: &str) -> Result<(), RowError> {
+    let (text, rest) = cut(rest)?;
+    match rest.split_once(" | ") {
+        Some((first, count)) => Ok(substring(out, text, number(first)?, Some(number(count)?))?),
+        None => Ok(substring(out, text, number(rest)?, None)?),
+    }
+}

@@ -1,0 +1,245 @@
+//! Values: as rows write them, converted, compared and joined.
+
+ghost use Rattle.xs_value.specs.Conversion.{IsIn};
+
+use crate::error::RowError;
+use crate::fields::{add_bool, add_count, add_quoted, cut};
+use crate::names::comparison_named;
+use crate::numbers::{add_outcome, number};
+use crate::settings::Settings;
+use std::alloc::{AllocError, Global};
+use xs_num::number::NumFault;
+use xs_trace::event::{Event, Fragment, Label};
+use xs_trace::text::TextBuf;
+use xs_tree::{Node, Tree};
+use xs_value::comparison::{CompareOp, compare_values};
+use xs_value::conversion::{is_in, text_into, to_bool, to_number, to_text};
+use xs_value::node_list::NodeList;
+use xs_value::node_set::NodeSet;
+use xs_value::shared::SharedFragment;
+use xs_value::value::{Value, ValueFault};
+
+// What stands between an opening and a closing sign.
+fn inside<'a>(text: &'a str, open: char, close: char) -> Option<&'a str> {
+    text.strip_prefix(open)?.strip_suffix(close)
+}
+
+/// The value that a row writes: `true`, `7`, `'text'`, `{2 4}` for nodes by their places, or a
+/// fragment's PYX lines between `<` and `>`.
+pub(crate) fn operand(alloc: Global, text: &str) -> Result<Value, RowError> {
+    if let Some(chars) = inside(text, '\'', '\'') {
+        return Ok(Value::Chars(TextBuf::of(alloc, chars)?));
+    }
+    if let Some(places) = inside(text, '{', '}') {
+        return Ok(Value::Nodes(node_set(alloc, places)?));
+    }
+    if let Some(lines) = inside(text, '<', '>') {
+        return fragment(alloc, lines);
+    }
+    match text {
+        "true" => Ok(Value::Bool(true)),
+        "false" => Ok(Value::Bool(false)),
+        _ => Ok(Value::Number(number(text)?)),
+    }
+}
+
+// The nodes at some places.
+fn nodes(alloc: Global, places: &str) -> Result<Vec<Node>, RowError> {
+    let mut nodes = Vec::new(alloc);
+    for place in places.split_whitespace() {
+        nodes.push(Node::at(place.parse::<u32>()?))?;
+    }
+    Ok(nodes)
+}
+
+// The fragment of some lines.
+fn fragment(alloc: Global, lines: &str) -> Result<Value, RowError> {
+    let mut fragment = Fragment::of(Vec::new(alloc));
+    for line in lines.lines() {
+        fragment.push(event(alloc, line)?)?;
+    }
+    Ok(Value::Piece(SharedFragment::of(alloc, fragment)?))
+}
+
+/// A name, without a prefix.
+pub(crate) fn label(alloc: Global, uri: &str, local: &str) -> Result<Label, AllocError> {
+    Ok(Label {
+        uri: TextBuf::of(alloc, uri)?,
+        local: TextBuf::of(alloc, local)?,
+        prefix: TextBuf::of(alloc, "")?,
+    })
+}
+
+// The event of a line.
+fn event(alloc: Global, line: &str) -> Result<Event, RowError> {
+    if let Some(name) = line.strip_prefix('(') {
+        return Ok(Event::Start(label(alloc, "", name)?));
+    }
+    if let Some(text) = line.strip_prefix('-') {
+        return Ok(Event::Chars(TextBuf::of(alloc, text)?));
+    }
+    if let Some(text) = line.strip_prefix('C') {
+        return Ok(Event::Comment(TextBuf::of(alloc, text)?));
+    }
+    if line.starts_with(')') {
+        return Ok(Event::End);
+    }
+    Err(RowError::Unreadable)
+}
+
+/// Appends the places of nodes.
+pub(crate) fn add_places(out: &mut Vec<u8>, nodes: &[Node]) -> Result<(), AllocError> {
+    if nodes.is_empty() {
+        return out.extend_from_slice(b"none");
+    }
+    let mut is_first = true;
+    for node in nodes {
+        if !is_first {
+            out.push(b' ')?;
+        }
+        is_first = false;
+        add_count(out, u64::from(node.place()))?;
+    }
+    Ok(())
+}
+
+/// Appends the answer of a call with values.
+pub(crate) fn answer(
+    out: &mut Vec<u8>,
+    settings: &Settings,
+    call: &str,
+    rest: &str,
+) -> Result<(), RowError> {
+    match call {
+        "convert" => convert(out, settings, rest),
+        "compared" => compared(out, settings, rest),
+        "join" => join(out, settings.alloc, rest),
+        _ => gather(out, settings.alloc, rest),
+    }
+}
+
+// Why a value has no number, or a comparison no outcome.
+fn fault(fault: ValueFault) -> Result<NumFault, RowError> {
+    match fault {
+        ValueFault::Fraction => Ok(NumFault::Fraction),
+        ValueFault::Range => Ok(NumFault::Range),
+        ValueFault::NoMemory => Err(RowError::NoMemory),
+    }
+}
+
+// Appends a copy of a value as a boolean, a string and a number.
+fn convert(out: &mut Vec<u8>, settings: &Settings, text: &str) -> Result<(), RowError> {
+    let value = operand(settings.alloc, text)?.copy()?;
+    add_converted(out, &settings.tree, &value)
+}
+
+// Appends a value as a boolean, a string and a number.
+fn add_converted(out: &mut Vec<u8>, tree: &Tree, value: &Value) -> Result<(), RowError> {
+    if !is_in(tree, value) {
+        return Err(RowError::Unreadable);
+    }
+    let alloc = *out.allocator();
+    add_bool(out, to_bool(value))?;
+    out.extend_from_slice(b" | ")?;
+    add_quoted(out, to_text(alloc, tree, value)?.as_str())?;
+    out.extend_from_slice(b" | ")?;
+    let outcome = match to_number(alloc, tree, value) {
+        Ok(number) => Ok(number),
+        Err(refused) => Err(fault(refused)?),
+    };
+    Ok(add_outcome(out, outcome)?)
+}
+
+// Appends whether two values compare so.
+fn compared(out: &mut Vec<u8>, settings: &Settings, text: &str) -> Result<(), RowError> {
+    let (left, rest) = cut(text)?;
+    let (name, right) = cut(rest)?;
+    let op = comparison_named(name).ok_or(RowError::Unreadable)?;
+    let left = operand(settings.alloc, left)?;
+    let right = operand(settings.alloc, right)?;
+    add_compared(out, &settings.tree, op, &left, &right)
+}
+
+// Appends whether two values compare so.
+fn add_compared(
+    out: &mut Vec<u8>,
+    tree: &Tree,
+    op: CompareOp,
+    left: &Value,
+    right: &Value,
+) -> Result<(), RowError> {
+    if !is_in(tree, left) || !is_in(tree, right) {
+        return Err(RowError::Unreadable);
+    }
+    match compare_values(*out.allocator(), tree, op, left, right) {
+        Ok(holds) => Ok(add_bool(out, holds)?),
+        Err(refused) => Ok(add_outcome(out, Err(fault(refused)?))?),
+    }
+}
+
+// The set of the nodes at some places.
+fn node_set(alloc: Global, places: &str) -> Result<NodeSet, RowError> {
+    Ok(NodeSet::in_order(nodes(alloc, places)?)?)
+}
+
+// Appends the nodes of two sets.
+fn join(out: &mut Vec<u8>, alloc: Global, text: &str) -> Result<(), RowError> {
+    let (left, right) = cut(text)?;
+    let left = node_set(alloc, left)?;
+    let right = node_set(alloc, right)?;
+    let both = left.union(alloc, &right)?;
+    Ok(add_places(out, both.nodes())?)
+}
+
+// Appends a list of nodes, gathered from a slice, one by one and from a slice again, how many it
+// has, and its set.
+fn gather(out: &mut Vec<u8>, alloc: Global, text: &str) -> Result<(), RowError> {
+    let (first, rest) = cut(text)?;
+    let (next, last) = cut(rest)?;
+    let first = nodes(alloc, first)?;
+    let next = nodes(alloc, next)?;
+    let last = nodes(alloc, last)?;
+    let list = gathered(alloc, &first, &next, &last)?;
+    Ok(add_gathered(out, list)?)
+}
+
+// The list of these nodes.
+fn gathered(
+    alloc: Global,
+    first: &[Node],
+    next: &[Node],
+    last: &[Node],
+) -> Result<NodeList, AllocError> {
+    let mut list = NodeList::from_slice(alloc, first)?;
+    for node in next {
+        list.push(*node)?;
+    }
+    list.extend_from_slice(last)?;
+    Ok(list)
+}
+
+// Appends a list of nodes, how many it has, and its set.
+fn add_gathered(out: &mut Vec<u8>, list: NodeList) -> Result<(), AllocError> {
+    add_places(out, list.as_slice())?;
+    out.extend_from_slice(b" | ")?;
+    add_count(out, list.len() as u64)?;
+    out.extend_from_slice(b" | ")?;
+    let set = NodeSet::of_list(list)?.copy()?;
+    add_places(out, set.nodes())
+}
+
+/// Appends a value: nodes by their places, any other by its kind and its string.
+pub(crate) fn show_value(out: &mut Vec<u8>, tree: &Tree, value: &Value) -> Result<(), AllocError>
+    requires { IsIn tree.now value.now }
+{
+    match value {
+        Value::Nodes(set) => add_places(out, set.nodes()),
+        Value::Bool(_) | Value::Number(_) => text_into(tree, value, out),
+        Value::Chars(text) => add_quoted(out, text.as_str()),
+        Value::Piece(_) => {
+            out.push(b'<')?;
+            text_into(tree, value, out)?;
+            out.extend_from_slice(b">")
+        }
+    }
+}

@@ -1,0 +1,215 @@
+//! What a run is made of: files, and what fails of them and of the sinks.
+
+use crate::texts::{push_decoded, text_of};
+use std::alloc::{AllocError, Global};
+use std::thread::Threads;
+use xs_engine::{Report, transform};
+use xs_outside::{MemLibrary, MemSink, OpenGate};
+
+/// The first lines of a stylesheet.
+const START: &str =
+    "(xsl:stylesheet\nAxmlns:xsl http://www.w3.org/1999/XSL/Transform\nAversion 1.0\n";
+
+/// Its last line.
+const END: &str = ")xsl:stylesheet\n";
+
+/// In a file, the place of the text of a row in one line.
+const PLACE: &str = "@@";
+
+/// The most bytes that a sink holds.
+const ROOM: usize = 65536;
+
+/// How the text of a file is written.
+#[derive(Clone, Copy, Drop)]
+enum Form {
+    /// As it is.
+    Whole,
+    /// Without the last line of a stylesheet.
+    Content,
+    /// In one line.
+    Escaped,
+}
+
+/// A file of the library.
+#[derive(Drop)]
+struct File {
+    name: String,
+    text: String,
+    form: Form,
+}
+
+/// What the runs of a row have in common.
+#[derive(Drop)]
+pub(crate) struct Setup {
+    alloc: Global,
+    /// The files, of which the last of a name counts.
+    files: Vec<File>,
+    /// How many of them further rows have, too.
+    shared: usize,
+    failing_fetches: Vec<u64>,
+    failing_results: Vec<u64>,
+    failing_lines: Vec<u64>,
+    most: usize,
+}
+
+/// What a run left.
+#[derive(Drop)]
+pub(crate) struct Outcome {
+    pub(crate) report: Report,
+    pub(crate) result: String,
+    pub(crate) lines: String,
+}
+
+impl Setup {
+    /// No files, and nothing that fails.
+    pub(crate) fn new(alloc: Global) -> Setup {
+        Setup {
+            alloc,
+            files: Vec::new(alloc),
+            shared: 0,
+            failing_fetches: Vec::new(alloc),
+            failing_results: Vec::new(alloc),
+            failing_lines: Vec::new(alloc),
+            most: ROOM,
+        }
+    }
+
+    /// Forgets what belonged to a row alone.
+    pub(crate) fn clear(&mut self) {
+        self.files.truncate(self.shared);
+        self.failing_fetches.clear();
+        self.failing_results.clear();
+        self.failing_lines.clear();
+        self.most = ROOM;
+    }
+
+    /// Begins a file, by the word and the rest of the line that begins its part: one of a row, or
+    /// of all rows that follow. Whether its lines follow.
+    pub(crate) fn add_file(
+        &mut self,
+        word: &str,
+        rest: &str,
+        is_shared: bool,
+    ) -> Result<bool, AllocError> {
+        let (name, line) = match word {
+            "sheet" => ("s.pyx", ""),
+            "source" => ("src.pyx", rest),
+            _ => rest.split_once(' ').unwrap_or((rest, "")),
+        };
+        let mut text = String::from_str(self.alloc, line)?;
+        let form = match word {
+            "sheet" | "module" => Form::Content,
+            _ if line.is_empty() => Form::Whole,
+            _ => Form::Escaped,
+        };
+        if let Form::Content = form {
+            text.push_str(START)?;
+        }
+        if word == "sheet" && !rest.is_empty() {
+            write!(&mut text, "(xsl:output\nAmethod {rest}\n)xsl:output\n")?;
+        }
+        let name = String::from_str(self.alloc, name)?;
+        let is_open = !matches!(form, Form::Escaped);
+        self.files.push(File { name, text, form })?;
+        if is_shared {
+            self.shared = self.files.len();
+        }
+        Ok(is_open)
+    }
+
+    /// Adds a line to the last file.
+    pub(crate) fn push_line(&mut self, line: &str) -> Result<(), AllocError> {
+        if let Some(file) = self.files.last_mut() {
+            file.text.push_str(line)?;
+            file.text.push_str("\n")?;
+        }
+        Ok(())
+    }
+
+    /// Takes how many bytes a sink takes at once, at most.
+    pub(crate) fn set_most(&mut self, rest: &str) {
+        self.most = rest.parse().unwrap_or(ROOM);
+    }
+
+    /// Takes the number of a fetch, or of a write of a sink, that fails.
+    pub(crate) fn add_failing(&mut self, rest: &str) -> Result<(), AllocError> {
+        let (what, number) = rest.split_once(' ').unwrap_or((rest, ""));
+        let failing = match what {
+            "fetch" => &mut self.failing_fetches,
+            "result" => &mut self.failing_results,
+            _ => &mut self.failing_lines,
+        };
+        failing.push(number.parse().unwrap_or(0))?;
+        Ok(())
+    }
+
+    /// The library of the files, in which a text takes its place.
+    fn library(&self, text: &[u8]) -> Result<MemLibrary, AllocError> {
+        let mut files = Vec::new(self.alloc);
+        for file in self.files.iter().rev() {
+            let name = file.name.clone()?;
+            files.push((name, bytes_of(self.alloc, file, text)?))?;
+        }
+        let failing = Vec::from_slice(self.alloc, &self.failing_fetches)?;
+        Ok(MemLibrary::new(self.alloc, files, failing))
+    }
+
+    /// An empty sink that fails the listed writes.
+    fn sink(&self, failing: &[u64]) -> Result<MemSink, AllocError> {
+        let failing = Vec::from_slice(self.alloc, failing)?;
+        let mut sink = MemSink::new(self.alloc, self.most.max(1), failing);
+        sink.reserve(ROOM)?;
+        Ok(sink)
+    }
+
+    /// A run with these arguments, where a text takes its place in the files.
+    pub(crate) fn run<R: Threads + Sync>(
+        &self,
+        rt: &R,
+        words: &[String],
+        text: &[u8],
+    ) -> Result<Outcome, AllocError> {
+        let mut library = self.library(text)?;
+        let mut out = self.sink(&self.failing_results)?;
+        let mut err = self.sink(&self.failing_lines)?;
+        let report = transform(
+            rt,
+            self.alloc,
+            words,
+            &mut library,
+            &mut out,
+            &mut err,
+            &OpenGate,
+        );
+        Ok(Outcome {
+            report,
+            result: text_of(self.alloc, out.held())?,
+            lines: text_of(self.alloc, err.held())?,
+        })
+    }
+}
+
+/// The bytes of a file, in which a text takes its place.
+fn bytes_of(alloc: Global, file: &File, text: &[u8]) -> Result<Vec<u8>, AllocError> {
+    let mut bytes = Vec::new(alloc);
+    match file.text.as_str().split_once(PLACE) {
+        Some((before, after)) => {
+            push_part(alloc, &mut bytes, file.form, before)?;
+            bytes.extend_from_slice(text)?;
+            push_part(alloc, &mut bytes, file.form, after)?;
+        }
+        None => push_part(alloc, &mut bytes, file.form, file.text.as_str())?,
+    }
+    if let Form::Content = file.form {
+        bytes.extend_from_slice(END.as_bytes())?;
+    }
+    Ok(bytes)
+}
+
+/// Adds the bytes of a part of a file.
+fn push_part(alloc: Global, bytes: &mut Vec<u8>, form: Form, part: &str) -> Result<(), AllocError> {
+    if let Form::Escaped = form {
+        return push_decoded(alloc, bytes, part);
+    }
+    bytes.extend_from_slice(part.as_bytes())
+}

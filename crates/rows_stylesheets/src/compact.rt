@@ -1,0 +1,108 @@
+//! Stylesheets and documents from their compact form, which the row files explain.
+
+use crate::answer::Answer;
+use std::alloc::{AllocError, Global};
+use xs_outside::MemLibrary;
+
+/// The lines with which a stylesheet begins.
+const START: &str =
+    "(xsl:stylesheet\nAxmlns:xsl http://www.w3.org/1999/XSL/Transform\nAversion 1.0\n";
+
+/// Adds three texts.
+fn put_three(out: &mut Answer, first: &str, second: &str, third: &str) {
+    out.put(first);
+    out.put(second);
+    out.put(third);
+}
+
+/// Adds the end of the last element that is open.
+fn put_end(out: &mut Answer, open: &mut Vec<&str>) {
+    if let Some(name) = open.pop() {
+        put_three(out, ")", name, "\n");
+    }
+}
+
+/// Adds a line, or the lines for which a short one stands; a bracket alone ends the last element
+/// that is open.
+fn put_line<'t>(
+    out: &mut Answer,
+    open: &mut Vec<&'t str>,
+    line: &'t str,
+) -> Result<(), AllocError> {
+    if line == ")" {
+        put_end(out, open);
+    } else if let Some(name) = line.strip_prefix('+') {
+        put_three(out, "(xsl:import\nAhref ", name, "\n)xsl:import\n");
+    } else if let Some(name) = line.strip_prefix('=') {
+        put_three(out, "(xsl:include\nAhref ", name, "\n)xsl:include\n");
+    } else if let Some(pattern) = line.strip_prefix('~') {
+        put_three(out, "(xsl:template\nAmatch ", pattern, "\n)xsl:template\n");
+    } else if !line.is_empty() {
+        put_three(out, line, "\n", "");
+        if let Some(name) = line.strip_prefix('(') {
+            open.push(name)?;
+        }
+    }
+    Ok(())
+}
+
+/// Adds a module: lines with semicolons between them, inside an `xsl:stylesheet` unless they begin
+/// with an exclamation mark.
+fn put_module<'t>(
+    out: &mut Answer,
+    open: &mut Vec<&'t str>,
+    lines: &'t str,
+) -> Result<(), AllocError> {
+    let mut inner = lines;
+    if let Some(whole) = lines.strip_prefix('!') {
+        inner = whole;
+    } else {
+        out.put(START);
+        open.push("xsl:stylesheet")?;
+    }
+    for line in inner.split(';') {
+        put_line(out, open, line)?;
+    }
+    for _ in 0..open.len() {
+        put_end(out, open);
+    }
+    Ok(())
+}
+
+/// The lines of a module; what is open at its end is ended.
+pub(crate) fn module(alloc: Global, lines: &str) -> Result<String, AllocError> {
+    let mut out = Answer::new(alloc);
+    let mut open = Vec::new(alloc);
+    put_module(&mut out, &mut open, lines)?;
+    out.finish()
+}
+
+/// Adds a module to files.
+fn push_file(
+    files: &mut Vec<(String, Vec<u8>)>,
+    alloc: Global,
+    name: &str,
+    lines: &str,
+) -> Result<(), AllocError> {
+    let bytes = module(alloc, lines)?.into_bytes();
+    files.push((String::from_str(alloc, name)?, bytes))?;
+    Ok(())
+}
+
+/// A library of modules: the first one is `s`, and each other one, after a `^`, begins with its
+/// name and a colon.
+pub(crate) fn library(alloc: Global, modules: &str) -> Result<MemLibrary, AllocError> {
+    let mut files = Vec::new(alloc);
+    let mut is_first = true;
+    for lines in modules.split('^') {
+        let named = if is_first {
+            None
+        } else {
+            lines.split_once(':')
+        };
+        let (name, lines) = named.unwrap_or(("s", lines));
+        push_file(&mut files, alloc, name, lines)?;
+        is_first = false;
+    }
+    Ok(MemLibrary::new(alloc, files, Vec::new(alloc)))
+}

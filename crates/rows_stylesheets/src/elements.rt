@@ -1,0 +1,263 @@
+//! What XSLT says of the elements of a stylesheet, as texts.
+
+ghost use Rattle.std.specs.Prelude.{◌<◌, length};
+
+use crate::answer::Answer;
+use std::alloc::{AllocError, Global};
+use xs_elements::attributes::{Need, attributes, form_named};
+use xs_elements::contents::{Before, Content, content_of, holds_text, may_stand};
+use xs_elements::forms::{Form, forbids_current, forbids_key, forbids_variables, sees_locals};
+use xs_elements::kept::{is_kept, own_space};
+use xs_elements::rows::{Row, is_document_element, is_top_level, row_of};
+use xs_elements::scope::{Expanded, expanded, has, own_name, scope_at, uri_of, value_of};
+use xs_elements::value::{is_bad, is_unbound, is_unsupported};
+use xs_elements::words::first_word;
+use xs_tree::{Kind, Node, Tree};
+
+/// Adds an expanded name: its local part, and its URI in square brackets.
+fn put_expanded(out: &mut Answer, name: Option<Expanded<'_>>) {
+    match name {
+        Some((uri, local)) => {
+            out.put(local);
+            if !uri.is_empty() {
+                out.put("[");
+                out.put(uri);
+                out.put("]");
+            }
+        }
+        None => out.put("?"),
+    }
+}
+
+/// Adds the name that an element gives to what it declares, if it gives one.
+fn put_own_name(out: &mut Answer, tree: &Tree, node: Node)
+    requires { node < length tree.now }
+{
+    if let Some(value) = value_of(tree, node, "", "name") {
+        let name = expanded(tree, node, value);
+        out.put(", name ");
+        put_expanded(out, name);
+        if own_name(tree, node) != name {
+            out.put(" and another of its own");
+        }
+    }
+}
+
+/// Adds what an element is, and what holds in it.
+fn put_element(out: &mut Answer, tree: &Tree, node: Node)
+    requires { node < length tree.now }
+{
+    out.put(tree.local(node));
+    match row_of(tree, node) {
+        Row::Unknown => out.put(" unknown"),
+        Row::Other => out.put(" literal"),
+        _ => out.put(" of XSLT"),
+    }
+    if is_document_element(tree, node) {
+        out.put(", document element");
+    }
+    if is_top_level(tree, node) {
+        out.put(", top level");
+    }
+    put_own_name(out, tree, node);
+    if has(tree, node, "select") {
+        out.put(", select");
+    }
+    if let Some(uri) = uri_of(tree, node, "") {
+        out.put(", default ");
+        out.put(uri);
+    }
+    match own_space(tree, node) {
+        Some(true) => out.put(", space preserved"),
+        Some(false) => out.put(", space not preserved"),
+        None => (),
+    }
+}
+
+/// Adds whether a text is kept in its element.
+fn put_text(out: &mut Answer, tree: &Tree, node: Node)
+    requires { node < length tree.now }
+{
+    let Some(parent) = tree.parent(node) else {
+        return;
+    };
+    let preserves = own_space(tree, parent) == Some(true);
+    if is_kept(tree, node, row_of(tree, parent), preserves) {
+        out.put("text kept");
+    } else {
+        out.put("text stripped");
+    }
+}
+
+/// Adds what each element and text is.
+pub(crate) fn put_elements(out: &mut Answer, tree: &Tree) {
+    for place in 0..tree.len() as u32 {
+        let node = Node::at(place);
+        let kind = tree.kind(node);
+        if kind == Kind::Element || kind == Kind::Text {
+            if !out.is_empty() {
+                out.put("; ");
+            }
+            if kind == Kind::Element {
+                put_element(out, tree, node);
+            } else {
+                put_text(out, tree, node);
+            }
+        }
+    }
+}
+
+/// The name of a content.
+fn content_name(content: Content) -> &'static str {
+    match content {
+        Content::Nothing => "nothing",
+        Content::TopLevel => "declarations",
+        Content::Attributes => "attributes",
+        Content::SortsAndParameters => "sorts and parameters",
+        Content::Parameters => "parameters",
+        Content::Branches => "branches",
+        Content::TextAlone => "text alone",
+        Content::Body => "body",
+        Content::ParametersAndBody => "parameters and body",
+        Content::SortsAndBody => "sorts and body",
+        Content::Unread => "unread",
+    }
+}
+
+/// Adds the content of the document element, and whether each element in it may stand there.
+pub(crate) fn put_contents(out: &mut Answer, tree: &Tree) {
+    let mut content = Content::Unread;
+    let mut before = Before::none();
+    for place in 0..tree.len() as u32 {
+        let node = Node::at(place);
+        if is_document_element(tree, node) {
+            content = content_of(row_of(tree, node), has(tree, node, "select"));
+            out.put(content_name(content));
+            out.put(if holds_text(content) {
+                " with text:"
+            } else {
+                ":"
+            });
+        } else if tree.kind(node) == Kind::Element {
+            let row = row_of(tree, node);
+            let has_namespace = !tree.uri(node).is_empty();
+            let stands = may_stand(content, row, has_namespace, before);
+            out.put(if stands { " yes" } else { " no" });
+            before = before.and(row);
+        }
+    }
+}
+
+/// The name of a form.
+fn form_name(form: Form) -> &'static str {
+    match form {
+        Form::Anything => "anything",
+        Form::Version => "version",
+        Form::Expression => "expression",
+        Form::KeyUse => "expression of a key",
+        Form::TemplatePattern => "pattern of a template",
+        Form::KeyPattern => "pattern of a key",
+        Form::NumberPattern => "pattern of a number",
+        Form::ValueTemplate => "value template",
+        Form::YesOrNo => "yes or no",
+        Form::Level => "level",
+        Form::Name => "name",
+        Form::Names => "names",
+        Form::Sets => "sets",
+        Form::Tests => "name tests",
+        Form::Prefix => "prefix",
+        Form::Prefixes => "prefixes",
+        Form::Priority => "priority",
+    }
+}
+
+/// Adds a form, and what its values may not have.
+fn put_form(out: &mut Answer, form: Form) {
+    out.put(form_name(form));
+    if forbids_variables(form) {
+        out.put(", no variables");
+    }
+    if !sees_locals(form) {
+        out.put(", no local ones");
+    }
+    if forbids_current(form) {
+        out.put(", no current()");
+    }
+    if forbids_key(form) {
+        out.put(", no key()");
+    }
+}
+
+/// Whether an element has to have an attribute with this local part.
+fn is_required(row: Row, local: &str) -> bool {
+    for attribute in attributes(row) {
+        if attribute.0 == local {
+            return attribute.1 == Need::Required;
+        }
+    }
+    false
+}
+
+/// Adds what an attribute of an element has to be, and whether it is.
+fn put_value(
+    out: &mut Answer,
+    alloc: Global,
+    tree: &Tree,
+    element: Node,
+    attribute: Node,
+) -> Result<(), AllocError>
+    requires element { element < length tree.now }
+    requires attribute { attribute < length tree.now }
+{
+    let row = row_of(tree, element);
+    let local = tree.local(attribute);
+    let Some(form) = form_named(row, local) else {
+        return Ok(());
+    };
+    if is_required(row, local) {
+        out.put("required ");
+    }
+    put_form(out, form);
+    let scope = scope_at(alloc, tree, element)?;
+    let value = tree.text(attribute);
+    if is_bad(form, value) {
+        out.put(": bad");
+    } else if is_unsupported(form, value) {
+        out.put(": unsupported");
+    } else if is_unbound(form, &scope, value) {
+        out.put(": unbound");
+    } else {
+        out.put(": good");
+    }
+    Ok(())
+}
+
+/// Adds what each attribute of an element below the document element has to be.
+pub(crate) fn put_values(out: &mut Answer, alloc: Global, tree: &Tree) -> Result<(), AllocError> {
+    for place in 0..tree.len() as u32 {
+        let attribute = Node::at(place);
+        if tree.kind(attribute) == Kind::Attribute
+            && let Some(element) = tree.parent(attribute)
+            && !is_document_element(tree, element)
+        {
+            put_value(out, alloc, tree, element, attribute)?;
+        }
+    }
+    Ok(())
+}
+
+/// Adds the first word of each attribute below the document element, and what is after it.
+pub(crate) fn put_first_words(out: &mut Answer, tree: &Tree) {
+    for place in 0..tree.len() as u32 {
+        let node = Node::at(place);
+        if tree.kind(node) == Kind::Attribute
+            && let Some((word, rest)) = first_word(tree.text(node))
+        {
+            out.put("'");
+            out.put(word);
+            out.put("' and '");
+            out.put(rest);
+            out.put("'");
+        }
+    }
+}

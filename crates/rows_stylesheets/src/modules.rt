@@ -1,0 +1,78 @@
+//! Modules that were read, and faults, as texts.
+
+use crate::answer::Answer;
+use xs_modules::{Module, Modules, ModulesEnd};
+use xs_static::StaticFault;
+
+// The most modules that an answer names.
+const MOST: u32 = 6;
+
+/// Adds a module: its name, the precedences that it imports and has, and the number of the module
+/// that mentions it.
+fn put_module(out: &mut Answer, module: &Module) {
+    out.put(module.name.as_str());
+    out.put(" ");
+    out.put_pair(module.imports_from, "-", module.precedence);
+    if let Some((number, _)) = module.mention {
+        out.put(" by ");
+        out.put_number(i64::from(number));
+    }
+    if module.lines.len() != module.tree.len() {
+        out.put(" with other lines");
+    }
+}
+
+/// Adds the first modules, and how many there are where there are more.
+pub(crate) fn put_modules(out: &mut Answer, modules: &Modules) {
+    let mut count = 0_u32;
+    for module in &modules.list {
+        if count < MOST {
+            if count > 0 {
+                out.put("; ");
+            }
+            put_module(out, module);
+        }
+        count = count.saturating_add(1);
+    }
+    if count > MOST {
+        out.put("; .. ");
+        out.put_number(i64::from(count));
+    }
+}
+
+/// Adds a fault: its number, module and line.
+fn put_numbered(out: &mut Answer, number: u8, module: &str, line: u32) {
+    out.put("fault ");
+    out.put_number(i64::from(number));
+    out.put(" ");
+    out.put(module);
+    out.put(" ");
+    out.put_number(i64::from(line));
+}
+
+/// Adds why modules were not read.
+pub(crate) fn put_end(out: &mut Answer, end: &ModulesEnd) {
+    match end {
+        ModulesEnd::Failed { name } => {
+            out.put("failed ");
+            out.put(name.as_str());
+        }
+        ModulesEnd::Refused {
+            number,
+            module,
+            line,
+        } => put_numbered(out, *number, module.as_str(), *line),
+        ModulesEnd::NoMemory => out.put("no memory"),
+    }
+}
+
+/// Adds a static fault, if there is one.
+pub(crate) fn put_fault(out: &mut Answer, modules: &Modules, fault: Option<StaticFault>) {
+    let Some(fault) = fault else {
+        return;
+    };
+    match modules.list.get(fault.module as usize) {
+        Some(module) => put_numbered(out, fault.number, module.name.as_str(), fault.line),
+        None => put_numbered(out, fault.number, "?", fault.line),
+    }
+}

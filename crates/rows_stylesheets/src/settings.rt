@@ -1,0 +1,128 @@
+//! The settings of a row file.
+
+use crate::answer::Answer;
+use std::alloc::{AllocError, Global};
+
+/// How often names are replaced in a text: in its form, in its fields, and in what these stand for.
+const ROUNDS: u32 = 3;
+
+/// The settings that hold for the rows after them.
+#[derive(Drop)]
+pub(crate) struct Settings<'t> {
+    /// What the rows are.
+    pub(crate) rows: &'t str,
+    /// The document, in its compact form.
+    pub(crate) document: &'t str,
+    /// The form into which a row's fields are put; empty where a row is taken as it is.
+    form: &'t str,
+    /// Names, each with a number, and a text that is repeated so many times for it.
+    repeats: Vec<(&'t str, &'t str)>,
+}
+
+/// Adds a text in which `#` is a number, and `#+` the next one.
+fn put_numbered(out: &mut Answer, text: &str, number: u32) {
+    let mut is_first = true;
+    for part in text.split('#') {
+        if is_first {
+            out.put(part);
+        } else if let Some(rest) = part.strip_prefix('+') {
+            out.put_number(i64::from(number.saturating_add(1)));
+            out.put(rest);
+        } else {
+            out.put_number(i64::from(number));
+            out.put(part);
+        }
+        is_first = false;
+    }
+}
+
+/// Adds what stands after a number, so many times.
+fn put_repeated(out: &mut Answer, repeat: &str) {
+    let (count, text) = repeat.split_once(' ').unwrap_or((repeat, ""));
+    for number in 0..count.parse::<u32>().unwrap_or(0) {
+        put_numbered(out, text, number);
+    }
+}
+
+impl<'t> Settings<'t> {
+    /// No settings.
+    pub(crate) fn new(alloc: Global) -> Settings<'t> {
+        Settings {
+            rows: "",
+            document: "",
+            form: "",
+            repeats: Vec::new(alloc),
+        }
+    }
+
+    /// Takes a setting: its word and its text, with a space between them.
+    pub(crate) fn set(&mut self, setting: &'t str) -> Result<(), AllocError> {
+        let (word, text) = setting.split_once(' ').unwrap_or((setting, ""));
+        if word == "rows" {
+            self.rows = text;
+            self.form = "";
+        } else if word == "form" {
+            self.form = text;
+        } else if word == "document" {
+            self.document = text;
+        } else if word == "repeat" {
+            let repeat = text.split_once(' ').unwrap_or((text, ""));
+            self.repeats.push(repeat)?;
+        } else {
+            self.rows = "";
+        }
+        Ok(())
+    }
+
+    /// Adds the text for which a name stands: the field of an input for a number.
+    fn put_named(&self, out: &mut Answer, name: &str, input: &str) {
+        if let Ok(number) = name.parse::<usize>() {
+            let field = input.split(" | ").nth(number.saturating_sub(1));
+            out.put(field.unwrap_or(""));
+        }
+        for (known, repeat) in &self.repeats {
+            if *known == name {
+                put_repeated(out, repeat);
+            }
+        }
+    }
+
+    /// A text with what the names in it, each between two percent signs, stand for.
+    fn replaced(&self, alloc: Global, text: &str, input: &str) -> Result<String, AllocError> {
+        let mut out = Answer::new(alloc);
+        let mut is_name = false;
+        for part in text.split('%') {
+            if is_name {
+                self.put_named(&mut out, part, input);
+            } else {
+                out.put(part);
+            }
+            is_name = !is_name;
+        }
+        out.finish()
+    }
+
+    /// A text without names.
+    pub(crate) fn expanded(
+        &self,
+        alloc: Global,
+        text: &str,
+        input: &str,
+    ) -> Result<String, AllocError> {
+        let mut out = String::from_str(alloc, text)?;
+        for _ in 0..ROUNDS {
+            out = self.replaced(alloc, out.as_str(), input)?;
+        }
+        Ok(out)
+    }
+
+    /// The whole input of a row.
+    pub(crate) fn input(&self, alloc: Global, input: &str) -> Result<String, AllocError> {
+        let form = if self.form.is_empty() {
+            input
+        } else {
+            self.form
+        };
+        self.expanded(alloc, form, input)
+    }
+}

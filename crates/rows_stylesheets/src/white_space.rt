@@ -1,0 +1,40 @@
+//! White space of a document that is stripped (XSLT 1.0, 3.4).
+
+use crate::answer::Answer;
+use std::alloc::{AllocError, Global};
+use xs_rules::white_space::{strip_space, stripped};
+use xs_sheet::declarations::StripRule;
+use xs_tree::{Kind, Node, Tree};
+
+/// Adds the number of each text that is kept, and `x` for each that is marked.
+fn put_marked(out: &mut Answer, tree: &Tree, marks: &[bool]) {
+    let mut number = 0_u32;
+    for place in 0..tree.len() as u32 {
+        if tree.kind(Node::at(place)) == Kind::Text {
+            if marks.get(place as usize).copied().unwrap_or(false) {
+                out.put("x");
+            } else {
+                out.put_number(i64::from(number));
+            }
+            number = number.wrapping_add(1);
+        }
+    }
+}
+
+/// Strips white space, and adds which texts are stripped.
+pub(crate) fn put_kept(
+    out: &mut Answer,
+    alloc: Global,
+    rules: &[StripRule],
+    tree: &mut Tree,
+) -> Result<(), AllocError> {
+    let marks = stripped(alloc, tree, rules)?;
+    put_marked(out, tree, &marks);
+    let before = tree.len();
+    strip_space(alloc, tree, rules)?;
+    let gone = marks.iter().filter(|mark| **mark).count();
+    if tree.len().wrapping_add(gone) != before {
+        out.put(" but other nodes are stripped");
+    }
+    Ok(())
+}

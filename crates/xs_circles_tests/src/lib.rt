@@ -1,5 +1,0 @@
-//! Tests of attribute sets that use themselves, through the public calls of `xs_circles` alone.
-#![tactic(auto)]
-
-#[cfg(test)]
-mod tests;

@@ -1,0 +1,405 @@
+"""Tests tools/xslt-xml and tools/check-xml, on a program in the place of the real one, and on that where it is built."""
+
+import glob
+import os
+import re
+import subprocess
+import sys
+import tempfile
+
+from lib import nearest, results, xpath
+from lib.converter_tests import EXAMPLES, TOOLS, implementations
+from lib.modules import Folder, Module
+from lib.samples import lines
+from lib.vocabulary import TOP_LEVEL, UNSUPPORTED, required_of
+
+STAND_IN = os.path.join(TOOLS, "lib", "stand_in.py")
+REAL = os.path.join(TOOLS, "..", "crates", "xslt", "out", "xslt")
+SHEET = '<x:stylesheet xmlns:x="http://www.w3.org/1999/XSL/Transform" version="1.0">\n{}\n</x:stylesheet>\n'
+BODY = SHEET.format('<x:output method="text"/><x:template match="/">\n{}\n</x:template>')
+
+# Files by their names, the arguments of tools/xslt-xml, and what comes: the status, the result, and what is reported with --raw, in which
+# MODULE.pyx stands for the name in the folder.
+RUNS = {
+    "a result": (
+        {"s.xsl": SHEET.format(""), "r.xml": "<r>é\n<i/></r>"},
+        ["s.xsl", "r.xml"], 0, "<r>é\n<i/></r>\n", ["message 0.pyx source.pyx"],
+    ),
+    "options and parameters": (
+        {"s.xsl": SHEET.format('<x:output method="text"/>'), "r.xml": "<r/>"},
+        ["s.xsl", "--budget", "5", "r.xml", "--stats", "a=0"], 0, "(r\n)r\n",
+        ["message --budget 5 --stats 0.pyx source.pyx a=0"],
+    ),
+    "a status": (
+        {"s.xsl": SHEET.format(""), "r.xml": "<r/>"}, ["s.xsl", "r.xml", "a=4"], 4, "",
+        ["message 0.pyx source.pyx a=4"],
+    ),
+    "a beginning of a text": (
+        {"s.xsl": SHEET.format('<x:output method="text"/>'), "r.xml": "<r/>"}, ["s.xsl", "r.xml", "a=5"], 5,
+        "(r\n)r\n", ["message 0.pyx source.pyx a=5"],
+    ),
+    "a fault of a module": (
+        {
+            "d/s.xsl": SHEET.format('<x:import href="../e/a.xsl"/>'),
+            "e/a.xsl": SHEET.format('<x:output/>\n<x:include\nhref="b c.xsl"/>'),
+            "e/b c.xsl": SHEET.format('<x:template\nmatch="/">\n\n<x:value-of\nselect="$no"/></x:template>'),
+            "r.xml": "<r/>",
+        },
+        ["d/s.xsl", "r.xml"], 3, "",
+        ["message 0.pyx source.pyx", "fault 39 UnknownVariable d/../e/b c.xsl 5"],
+    ),
+    "a check": (
+        {"s.xsl": SHEET.format('<x:import href="a.xsl"/>'), "a.xsl": SHEET.format("<x:param/>")}, ["--check", "s.xsl"], 0,
+        "", ["message --check 0.pyx"],
+    ),
+    "a missing module": (
+        {"d/s.xsl": SHEET.format('<x:import href="no.xsl"/>')}, ["d/s.xsl", "r.xml"], 2, "",
+        ["message 0.pyx source.pyx", "fault 70 ReadFault d/no.xsl 0"],
+    ),
+    "a module that is no XML": (
+        {"s.xsl": SHEET.format('<x:import href="a.xsl"/>'), "a.xsl": "<a>\n<b></a>"}, ["--check", "s.xsl"], 2, "",
+        ["message --check 0.pyx", "xml2pyx: a.xsl:2:6: mismatched tag", "fault 70 ReadFault a.xsl 0"],
+    ),
+    "a circle": (
+        {"s.xsl": SHEET.format('<x:output/>\n<x:include href="a.xsl"/>'), "a.xsl": SHEET.format('\n<x:include href="s.xsl"/>')},
+        ["s.xsl", "r.xml"], 3, "", ["message 0.pyx source.pyx", "fault 30 CircularModule a.xsl 3"],
+    ),
+    "too many modules": (
+        {"s.xsl": SHEET.format('<x:include href="./s.xsl"/>\n<x:include href="./s.xsl"/>')}, ["s.xsl", "r.xml"], 3, "",
+        ["message 0.pyx source.pyx", "fault 31 TooManyModules " + "./" * 255 + "s.xsl 2"],
+    ),
+    "mentions that are none": (
+        {"s.xsl": SHEET.format('<import href="a.xsl"/><x:template><x:import href="a.xsl"/></x:template><x:param x:href="$no"/>')},
+        ["s.xsl", "r.xml"], 2, "", ["message 0.pyx source.pyx", "fault 70 ReadFault a.xsl 0"],
+    ),
+    "a document type declaration": (
+        {"s.xsl": SHEET.format(""), "r.xml": "<!DOCTYPE r>\n<r/>"}, ["s.xsl", "r.xml", "--drop-doctype"], 0, "<r/>\n",
+        ["message 0.pyx source.pyx"],
+    ),
+    "a source that is no XML": (
+        {"s.xsl": SHEET.format(""), "r.xml": "<a>\n<b></a>"}, ["s.xsl", "r.xml"], 2, "",
+        ["message 0.pyx source.pyx", "xml2pyx: r.xml:2:6: mismatched tag", "fault 70 ReadFault r.xml 0"],
+    ),
+    "a source after its document element": (
+        {"s.xsl": SHEET.format(""), "r.xml": "<a/>\n<b/>"}, ["s.xsl", "r.xml"], 2, "",
+        ["message 0.pyx source.pyx", "xml2pyx: r.xml:2:1: junk after document element", "fault 70 ReadFault r.xml 0"],
+    ),
+}
+
+# Mistakes: what a stylesheet holds in its template or besides, the status, and the reports.
+MISTAKES = {
+    "a variable": (
+        '<x:variable name="prefix" select="1"/>\n  <x:value-of select="concat($noprefix, 1)"/>',
+        3, """\
+s.xsl:4: error: variable $noprefix is not in scope; did you mean $prefix? [39 UnknownVariable]
+    <x:value-of select="concat($noprefix, 1)"/>
+                               ^
+"""),
+    "a variable on a later line": (
+        "<x:value-of\n\tselect='&quot;a&quot; = $no'/>",
+        3, """\
+s.xsl:4: error: variable $no is not in scope [39 UnknownVariable]
+  \tselect='&quot;a&quot; = $no'/>
+  \t                        ^
+"""),
+    "no expression": (
+        """<x:value-of select="item[@sku='a'"/>""",
+        3, """\
+s.xsl:3: error: select="item[@sku='a'" is no expression: it ends where ] is expected [20 Syntax]
+  <x:value-of select="item[@sku='a'"/>
+                                   ^
+"""),
+    "a function": (
+        '<x:value-of select="upper-case(.)"/>',
+        3, """\
+s.xsl:3: error: function upper-case is not known [21 UnknownFunction]
+  <x:value-of select="upper-case(.)"/>
+                      ^
+"""),
+    "an element": (
+        '<x:apply-template select="a"/>',
+        3, """\
+s.xsl:3: error: x:apply-template is no element of XSLT; did you mean x:apply-templates? [37 Misplaced]
+  <x:apply-template select="a"/>
+  ^
+"""),
+    "an attribute": (
+        '<x:value-of seelct="a"/>',
+        3, """\
+s.xsl:3: error: x:value-of needs select, and seelct is not known; did you mean select? [34 MissingAttribute]
+  <x:value-of seelct="a"/>
+              ^
+"""),
+    "a template": (
+        '<x:call-template name="fooo"/>\n</x:template><x:template name="foo">',
+        3, """\
+s.xsl:3: error: no template has the name fooo; did you mean foo? [43 UnknownTemplate]
+  <x:call-template name="fooo"/>
+                         ^
+"""),
+    "what is not supported yet": (
+        '<x:for-each select="a">\n<x:sort/><x:copy/></x:for-each>\n<x:number/> <x:copy/>',
+        3, """\
+s.xsl:4: error: x:sort is not supported yet [49 NotBuilt]
+  <x:sort/><x:copy/></x:for-each>
+  ^
+s.xsl:4: error: x:copy is not supported yet [49 NotBuilt]
+  <x:sort/><x:copy/></x:for-each>
+           ^
+s.xsl:5: error: x:number is not supported yet [49 NotBuilt]
+  <x:number/> <x:copy/>
+  ^
+xslt-xml: note: 1 more like these
+"""),
+    "endless recursion": (
+        '<x:call-template name="endless"/>\n</x:template><x:template name="endless"><x:call-template name="endless"/>',
+        4, """\
+s.xsl:4: error: templates nest more than 16,384 deep: the call of template endless in x:template endless comes back \
+without end [55 TooDeep]
+  </x:template><x:template name="endless"><x:call-template name="endless"/>
+                                                                 ^
+"""),
+    "two mistakes on two elements": (
+        '<x:if test="a">\n<x:value-of select="$no"/></x:if>\n<x:apply-template/>',
+        3, """\
+s.xsl:4: error: variable $no is not in scope [39 UnknownVariable]
+  <x:value-of select="$no"/></x:if>
+                      ^
+s.xsl:5: error: x:apply-template is no element of XSLT; did you mean x:apply-templates? [37 Misplaced]
+  <x:apply-template/>
+  ^
+"""),
+    "more than ten mistakes": (
+        "<x:apply-template/>\n" * 12,
+        3, "".join(
+            f"s.xsl:{line}: error: x:apply-template is no element of XSLT; did you mean x:apply-templates? [37 Misplaced]\n"
+            "  <x:apply-template/>\n  ^\n" for line in range(3, 13)
+        )),
+}
+
+# Mistakes between files: the files, the arguments, the status, and the reports.
+FILES = {
+    "a module that is not there": (
+        {"d/s.xsl": SHEET.format('<x:import href="no.xsl"/>'), "r.xml": "<r/>"}, ["d/s.xsl", "r.xml"], 2, """\
+d/s.xsl:2: error: module d/no.xsl can't be read: No such file or directory [70 ReadFault]
+  <x:import href="no.xsl"/>
+                  ^
+"""),
+    "a module that is no XML": (
+        {"s.xsl": SHEET.format('<x:include href="a.xsl"/>'), "a.xsl": "<a>\n<b></a>", "r.xml": "<r/>"}, ["s.xsl", "r.xml"], 2, """\
+a.xsl:2:6: error: mismatched tag [70 ReadFault]
+  <b></a>
+       ^
+s.xsl:2: note: a.xsl is mentioned here
+  <x:include href="a.xsl"/>
+                   ^
+"""),
+    "a stylesheet that is not there": ({"r.xml": "<r/>"}, ["s.xsl", "r.xml"], 2, "s.xsl: error: can't be read: No such file or directory [70 ReadFault]\n"),
+    "a source that is not there": (
+        {"s.xsl": BODY.format("")}, ["s.xsl", "r.xml"], 2, "r.xml: error: can't be read: No such file or directory [70 ReadFault]\n"
+    ),
+    "a source that is no XML": (
+        {"s.xsl": BODY.format(""), "r.xml": "<r>\n <b></r>"}, ["s.xsl", "r.xml"], 2, "r.xml:2:7: error: mismatched tag [70 ReadFault]\n   <b></r>\n        ^\n"
+    ),
+    "a circle": (
+        {"s.xsl": SHEET.format('<x:include href="s.xsl"/>'), "r.xml": "<r/>"}, ["s.xsl", "r.xml"], 3, """\
+s.xsl:2: error: href="s.xsl": the module would be a part of itself [30 CircularModule]
+  <x:include href="s.xsl"/>
+                   ^
+"""),
+}
+
+# What the outputs of a stylesheet and of its modules say, and the method that counts.
+METHODS = {
+    "none": ({"s": []}, None),
+    "the last": ({"s": [("output", "xml"), ("output", "text")]}, "text"),
+    "before an import's": ({"s": [("import", "a"), ("output", "xml")], "a": [("output", "text")]}, "xml"),
+    "an import's": ({"s": [("import", "a"), ("import", "b"), ("import", "c")], "a": [("output", "x")], "b": [("output", "y")], "c": []}, "y"),
+    "an included one": ({"s": [("output", "x"), ("include", "a"), ("import", "b")], "a": [("output", "y")], "b": [("output", "z")]}, "y"),
+    "an import of an included one": (
+        {"s": [("include", "a"), ("import", "b")], "a": [("import", "c")], "b": [("output", "y")], "c": [("output", "z")]}, "z",
+    ),
+}
+
+# Texts that are no expressions, where they stop being one, and why.
+NO_EXPRESSIONS = {
+    "a[": (2, "it ends where an expression is expected"),
+    "a b": (2, "b where an operator or the end is expected"),
+    "concat('a',)": (11, ") where an expression is expected"),
+    "foo::a": (0, "foo where an axis is expected"),
+    "'abc": (0, "the quote is not closed"),
+    "a//": (3, "it ends where an expression is expected"),
+    "$": (1, "it ends where the name of a variable is expected"),
+    "a = (b": (6, "it ends where ) is expected"),
+}
+EXPRESSIONS = (
+    "* * *", "div div div", "/", "/ = 1", "-(1) * -$p:x", "key('a', @b)/c | d", "a:*", "processing-instruction('x')",
+    "..", "self::node()", "@*|node()", ".5", "a-b", "position() mod 2 = 0", "//a[1][@b]/@*", "(//a)[1]/b", "/*/text()",
+)
+
+
+def run_xml(folder, tool, *arguments, env=None, data=b""):
+    """One run of a tool over XML in a folder: its status, the result, and what is reported."""
+    command = [sys.executable, os.path.join(TOOLS, tool), *arguments]
+    env = {**os.environ, **(env or {})}
+    done = subprocess.run(command, cwd=folder, capture_output=True, check=False, env=env, input=data)
+    return done.returncode, done.stdout.decode(), done.stderr.decode()
+
+
+def write_files(folder, files):
+    for path, text in files.items():
+        path = os.path.join(folder, path)
+        os.makedirs(os.path.dirname(path), exist_ok=True)
+        with open(path, "w", encoding="utf-8") as file:
+            file.write(text)
+
+
+def runs_of_xml(tests):
+    """Runs on XML: the arguments that the program gets, its status, names and lines of XML, the form of the result."""
+    for env in implementations():
+        for name, (files, arguments, *wanted, said) in RUNS.items():
+            with tempfile.TemporaryDirectory() as folder:
+                write_files(folder, files)
+                status, result, err = run_xml(folder, "xslt-xml", "--raw", "--program", STAND_IN, *arguments, env=env)
+                got = status, result, re.sub(r"/dev/fd/\d+", "source.pyx", err)
+                tests.check("xslt-xml: " + name, got, (*wanted, lines(said).decode()))
+                if arguments[0] == "--check":
+                    got = run_xml(folder, "check-xml", "--raw", "--program", STAND_IN, *arguments[1:], env=env)
+                    tests.check("check-xml: " + name, got, (*wanted, lines(said).decode()))
+    for name, (parts, wanted) in METHODS.items():
+        folder = Folder("", False)
+        for xml, rows in parts.items():
+            folder.modules[xml] = Module(xml, xml, xml, parts=[(*row, None) for row in rows])
+        tests.check("output method: " + name, folder.method("s"), wanted)
+    for name, result, wanted in (
+        ("a document", b"(a\n)a\n", b"<a/>\n"),
+        ("a piece", b"-x\n(a\n)a\n-y\\n\n", b"x<a/>y\n"),
+    ):
+        tests.check("a result as XML: " + name, results.bytes_of_xml(result), wanted)
+
+
+def programs():
+    """The program in the place of the real one, and that where it is built."""
+    return [STAND_IN] + ([REAL] if os.path.exists(REAL) else [])
+
+
+def reported(text):
+    """What is reported but for the messages of a stylesheet, which the one in the place of the real one has."""
+    return "".join(line for line in text.splitlines(True) if not re.match(r"(--check )?0\.pyx", line))
+
+
+def reports(tests):
+    """Each mistake is reported as a compiler would."""
+    for program in programs():
+        for name, (body, status, wanted) in MISTAKES.items():
+            with tempfile.TemporaryDirectory() as folder:
+                write_files(folder, {"s.xsl": BODY.format(body), "r.xml": "<r/>"})
+                got = run_xml(folder, "xslt-xml", "--program", program, "s.xsl", "r.xml")
+                tests.check("report: " + name, (got[0], got[1], reported(got[2])), (status, "", wanted))
+        for name, (files, arguments, status, wanted) in FILES.items():
+            with tempfile.TemporaryDirectory() as folder:
+                write_files(folder, files)
+                got = run_xml(folder, "xslt-xml", "--program", program, *arguments)
+                tests.check("report: " + name, (got[0], got[1], reported(got[2])), (status, "", wanted))
+    for text, wanted in NO_EXPRESSIONS.items():
+        fault = xpath.read(text).fault
+        tests.check("no expression: " + text, (fault.place, fault.reason) if fault else None, wanted)
+    for text in EXPRESSIONS:
+        tests.check("expression: " + text, xpath.read(text).fault, None)
+    for name, names, wanted in (
+        ("prefx", ["prefix", "suffix"], "prefix"), ("x", ["y"], None), ("apply-template", ["call-template", "apply-templates"], "apply-templates"),
+    ):
+        tests.check("nearest: " + name, nearest.nearest(name, names), wanted)
+
+
+def unsupported(tests):
+    """What is named as not supported yet is refused by the real program for that, and so reported."""
+    values = {"name": "n", "select": ".", "match": "a", "use": "b", "stylesheet-prefix": "x", "result-prefix": "x"}
+    for local in UNSUPPORTED if os.path.exists(REAL) else ():
+        element = f"<x:{local} " + " ".join(f'{name}="{values[name]}"' for name in required_of(local)) + "/>"
+        element = f'<x:for-each select="a">{element}</x:for-each>' if local == "sort" else element
+        sheet = BODY.format(element)
+        if local in TOP_LEVEL:
+            sheet = SHEET.format('<x:output method="text"/>' + element)
+        with tempfile.TemporaryDirectory() as folder:
+            write_files(folder, {"s.xsl": sheet, "r.xml": "<r/>"})
+            status, _, err = run_xml(folder, "xslt-xml", "--program", REAL, "s.xsl", "r.xml")
+            tests.check("not supported: " + local, (status, err.splitlines()[:1]), (3, [
+                f"s.xsl:{2 if local in TOP_LEVEL else 3}: error: x:{local} is not supported yet [49 NotBuilt]"]))
+
+
+def outputs(tests):
+    """-o, -, --outdir, --time, --version, --help, and arguments that are refused."""
+    sheet, run = ["--program", STAND_IN, "s.xsl"], lambda *arguments, **more: run_xml(folder, "xslt-xml", *arguments, **more)
+    with tempfile.TemporaryDirectory() as folder:
+        write_files(folder, {"s.xsl": BODY.format(""), "r.xml": "<r/>", "t.xml": "<t/>", "bad.xml": "<t>", "out": "old"})
+        path = os.path.join(folder, "out")
+        text = lambda *names: open(os.path.join(folder, *names), encoding="utf-8").read()
+        tests.check("-o after a fault", (run(*sheet, "-o", "out", "r.xml", "a=4")[0], text("out")), (4, "old"))
+        tests.check("-o after a write fault", (run(*sheet, "-o", "out", "r.xml", "a=5")[0], text("out")), (5, "old"))
+        os.chmod(path, 0o640)
+        tests.check("-o", (run(*sheet, "-o", "out", "r.xml")[:2], text("out")), ((0, ""), "(r\n)r\n"))
+        tests.check("-o keeps the permissions", os.stat(path).st_mode & 0o777, 0o640)
+        tests.check("-o to a device", run(*sheet, "-o", "/dev/null", "r.xml")[:2], (0, ""))
+        tests.check("-o to no folder", run(*sheet, "-o", "no/out", "r.xml")[0], 5)
+        tests.check("source from standard input", run(*sheet, "-", data=b"<u/>")[:2], (0, "(u\n)u\n"))
+        tests.check("a bad one", run(*sheet, "-", data=b"<u>")[2].splitlines()[1:2], ["standard input:1:4: error: no element found [70 ReadFault]"])
+        tests.check("sheet from standard input", run("--program", STAND_IN, "-", "r.xml", data=BODY.format("").encode())[:2], (0, "(r\n)r\n"))
+        got = run(*sheet, "--outdir", "made", "r.xml", "bad.xml", "t.xml")
+        tests.check("--outdir", (got[0], sorted(os.listdir(os.path.join(folder, "made")))), (2, ["r.txt", "t.txt"]))
+        tests.check("what is in it", (text("made", "r.txt"), text("made", "t.txt")), ("(r\n)r\n", "(t\n)t\n"))
+        tests.check("nothing else is left", sorted(os.listdir(folder)), ["bad.xml", "made", "out", "r.xml", "s.xsl", "t.xml"])
+        tests.holds("--time", re.search(r"xslt-xml: r.xml: stylesheet [\d.]+ s, .* in all\n", run(*sheet, "--time", "r.xml")[2]))
+        tests.holds("--version", run("--version")[1].startswith("xslt-xml of "))
+        tests.holds("--help", "usage: tools/xslt-xml" in run("--help")[1])
+        for arguments in ([], ["s.xsl"], ["s.xsl", "r.xml", "t.xml"], ["-", "-"], ["-o"], ["--check", "s.xsl", "r.xml"], ["--outdir", "made", "-o", "out", "s.xsl", "r.xml"]):
+            tests.check(f"arguments {arguments}", run("--program", STAND_IN, *arguments)[:2], (1, ""))
+        tests.check("one name twice", run(*sheet, "--outdir", "made", "r.xml", "./r.xml")[0], 1)
+        tests.check("no program", run("--program", "./no", "s.xsl", "r.xml")[0], 125)
+    under_make(tests)
+
+
+def under_make(tests):
+    """make builds again what could not be built before, and leaves alone what is new."""
+    rule = f"out: s.xsl r.xml\n\t{sys.executable} {os.path.join(TOOLS, 'xslt-xml')} --program {STAND_IN} -o $@ s.xsl r.xml\n"
+    with tempfile.TemporaryDirectory() as folder:
+        write_files(folder, {"s.xsl": BODY.format(""), "r.xml": "<r>", "Makefile": rule})
+        make = lambda: subprocess.run(["make", "-s"], cwd=folder, capture_output=True, check=False).returncode
+        path = os.path.join(folder, "out")
+        try:
+            tests.check("make with a fault", (make(), os.path.exists(path)), (2, False))
+        except FileNotFoundError:
+            return  # there is no make
+        write_files(folder, {"r.xml": "<r/>"})
+        tests.check("make without it", (make(), os.path.exists(path)), (0, True))
+        made = os.stat(path).st_mtime_ns
+        tests.check("make once more", (make(), os.stat(path).st_mtime_ns), (0, made))
+
+
+def expectations(folder):
+    """The arguments of an example, its result and its status."""
+    expected = {"expected.txt": "", "expected.status": "0", "words": "sheet.pyx source.pyx"}
+    for name in expected:
+        if os.path.exists(folder + name):
+            with open(folder + name, encoding="utf-8") as file:
+                expected[name] = file.read()
+    arguments = expected["words"].replace("sheet.pyx", "sheet.xsl").replace("source.pyx", "source.xml").split()
+    return arguments, expected["expected.txt"], int(expected["expected.status"])
+
+
+def examples_of_xml(tests):
+    """The examples from their XML by the real program, where it is built."""
+    for folder in sorted(glob.glob(os.path.join(EXAMPLES, "*", ""))) if os.path.exists(REAL) else ():
+        arguments, result, status = expectations(folder)
+        files = [each for each in arguments if each.endswith((".xsl", ".xml", ".pyx"))]
+        if files and all(not file.endswith(".pyx") and os.path.exists(folder + file) for file in files):
+            got = run_xml(folder, "xslt-xml", "--program", REAL, *arguments)
+            tests.check(folder + " from its XML", got[:2], (status, result))
+
+
+def test(tests):
+    runs_of_xml(tests)
+    reports(tests)
+    unsupported(tests)
+    outputs(tests)
+    examples_of_xml(tests)

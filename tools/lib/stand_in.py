@@ -1,0 +1,79 @@
+#!/usr/bin/env python3
+"""A program in the place of xslt, for the tests of tools/xslt-xml: it finds faults by single words.
+
+It reads a stylesheet's lines with the modules that they mention, refuses what has one of
+the words of RULES, and gives the source's lines as the result. A parameter a=N is the status.
+"""
+
+import sys
+
+# Faults of a line of an element, in the order in which they count.
+RULES = [
+    ("Aselect item[@sku='a'", 20, "Syntax"),
+    ("Aselect upper-case(.)", 21, "UnknownFunction"),
+    ("Aseelct a", 34, "MissingAttribute"),
+    ("(x:apply-template", 37, "Misplaced"),
+    ("$no", 39, "UnknownVariable"),
+    ("Aname fooo", 43, "UnknownTemplate"),
+]
+NOT_BUILT = ("(x:sort", "(x:number", "(x:copy")
+ENDLESS = "Aname endless"
+
+
+class Program:
+    def __init__(self, arguments):
+        self.arguments, self.read, self.call = arguments, [], None
+        self.inputs = [each for each in arguments if not each.startswith("--") and not each.isdigit()]
+        self.is_built = True
+
+    def run(self):
+        print("message", *self.arguments, file=sys.stderr)
+        self.module(self.inputs[0], [self.inputs[0]])
+        if not self.is_built:
+            refuse(3, 49, "NotBuilt", self.inputs[0], 0)
+        if "--check" in self.arguments:
+            return 0
+        lines = lines_of(self.inputs[1])
+        if lines[-1] or not lines[-2:-1] or lines[-2][:1] not in (")", "C", "?"):
+            refuse(3, 12, "Truncated", self.inputs[1], len(lines))
+        if self.call:
+            refuse(4, 55, "TooDeep", *self.call)
+        sys.stdout.buffer.write("\n".join(lines).encode())
+        return int(self.inputs[2][2:]) if self.inputs[2:] else 0
+
+    def module(self, name, above):
+        self.read.append(name)
+        start, found = 0, []
+        for number, line in enumerate(lines_of(name), 1):
+            start = number if line.startswith("(") else start
+            found += [(start, rule[1:]) for rule in RULES if rule[0] in line]
+            self.is_built = self.is_built and line not in NOT_BUILT
+            self.call = (name, start) if line == ENDLESS else self.call
+            if line.startswith("Ahref "):
+                self.mention(line[6:], name, start, above)
+        if found:
+            refuse(3, *min(found)[1], name, min(found)[0])
+
+    def mention(self, other, name, start, above):
+        if other in above:
+            refuse(3, 30, "CircularModule", name, start)
+        if len(self.read) == 256:
+            refuse(3, 31, "TooManyModules", name, start)
+        self.module(other, above + [other])
+
+
+def refuse(status, *fault):
+    print("fault", *fault, file=sys.stderr)
+    sys.exit(status)
+
+
+def lines_of(name):
+    try:
+        with open(name, encoding="utf-8", newline="") as file:
+            return file.read().split("\n")
+    except OSError:
+        refuse(2, 70, "ReadFault", name, 0)
+
+
+if __name__ == "__main__":
+    sys.exit(Program(sys.argv[1:]).run())
