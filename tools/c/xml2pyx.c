@@ -3,10 +3,10 @@
  * usage: xml2pyx [--drop-doctype] [--lines TABLE] [FILE]
  *
  * One pass over a file or a pipe, with memory for one tag, the open elements, the
- * bindings in scope and the bytes that are read at once. Lines are written while the document is read; their last line feed
- * comes only when all of it was found well-formed, so that a beginning is no document. A
- * document that is refused gets FILE:LINE:COLUMN and the reason on standard error, and
- * status 1.
+ * bindings in scope and the bytes that are read at once. Lines are written while the
+ * document is read; their last line feed comes only when all of it was found well-formed,
+ * so that a beginning is no document. A document that is refused gets FILE:LINE:COLUMN and
+ * the reason on standard error, and status 1.
  *
  * expat without namespaces gives declarations and attributes in their order; the rules
  * of namespaces are tested here. Where there is a document type declaration a second
