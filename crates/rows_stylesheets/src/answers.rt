@@ -9,7 +9,7 @@ use crate::circles::put_first_circle;
 use crate::compact::{library, module};
 use crate::elements::{put_contents, put_elements, put_first_words, put_values};
 use crate::modules::{put_end, put_fault, put_modules};
-use crate::rules::{put_imported, put_rules, put_takers};
+use crate::rules::{put_count, put_imported, put_rules};
 use crate::settings::Settings;
 use crate::sheets::put_sheet;
 use crate::white_space::put_kept;
@@ -91,24 +91,33 @@ fn put_of_modules(
 ) -> Result<(), AllocError> {
     let mut library = library(alloc, input)?;
     match read_modules(alloc, &mut library, "s") {
-        Ok(modules) => match settings.rows {
-            "modules" => {
-                put_modules(out, &modules);
-                Ok(())
-            }
-            "faults" => {
-                let fault = first_fault(alloc, &modules)?;
-                put_fault(out, &modules, fault);
-                Ok(())
-            }
-            _ => put_of_compiled(out, alloc, settings, &modules),
-        },
+        Ok(modules) => put_of_read(out, alloc, settings, &modules),
         Err(ModulesEnd::NoMemory) => Err(AllocError),
         Err(end) => {
             put_end(out, &end);
             Ok(())
         }
     }
+}
+
+/// The answer to a row of modules that were read.
+fn put_of_read(
+    out: &mut Answer,
+    alloc: Global,
+    settings: &Settings<'_>,
+    modules: &Modules,
+) -> Result<(), AllocError>
+    requires sound { IsSound (modules_data modules.now) }
+{
+    match settings.rows {
+        "modules" => put_modules(out, modules),
+        "faults" => {
+            let fault = first_fault(alloc, modules)?;
+            put_fault(out, modules, fault);
+        }
+        _ => return put_of_compiled(out, alloc, settings, modules),
+    }
+    Ok(())
 }
 
 /// The answer to a row of modules that are compiled.
@@ -137,20 +146,36 @@ fn put_of_sheet(
     settings: &Settings<'_>,
     sheet: &Sheet,
 ) -> Result<(), AllocError> {
-    if settings.rows == "sheets" {
-        put_sheet(out, sheet);
-    } else if settings.rows == "bodies" {
-        for template in &sheet.templates {
-            put_body(out, &template.body);
-        }
-    } else {
-        let lines = settings.expanded(alloc, settings.document, "")?;
-        match tree_of(alloc, lines.as_str())? {
-            Some(mut tree) => return put_of_both(out, alloc, settings, sheet, &mut tree),
-            None => out.put("no document"),
-        }
+    match settings.rows {
+        "sheets" => put_sheet(out, sheet),
+        "bodies" => put_bodies(out, sheet),
+        _ => return put_of_set_document(out, alloc, settings, sheet),
     }
     Ok(())
+}
+
+/// Adds the bodies of the templates of a stylesheet.
+fn put_bodies(out: &mut Answer, sheet: &Sheet) {
+    for template in &sheet.templates {
+        put_body(out, &template.body);
+    }
+}
+
+/// The answer to a row that is a stylesheet, over the document that was set.
+fn put_of_set_document(
+    out: &mut Answer,
+    alloc: Global,
+    settings: &Settings<'_>,
+    sheet: &Sheet,
+) -> Result<(), AllocError> {
+    let lines = settings.expanded(alloc, settings.document, "")?;
+    match tree_of(alloc, lines.as_str())? {
+        Some(mut tree) => put_of_both(out, alloc, settings, sheet, &mut tree),
+        None => {
+            out.put("no document");
+            Ok(())
+        }
+    }
 }
 
 /// The answer to a row that is a stylesheet, over a document.
@@ -164,7 +189,7 @@ fn put_of_both(
     match settings.rows {
         "rules" => put_rules(out, alloc, sheet, tree),
         "imported rules" => put_imported(out, alloc, sheet, tree),
-        "takers" => put_takers(out, alloc, sheet, tree),
+        "counts" => put_count(out, alloc, sheet, tree),
         "white space" => put_kept(out, alloc, &sheet.strips, tree),
         _ => {
             out.put("no such rows");

@@ -18,16 +18,27 @@ fn place_of(text: &str) -> Place {
     }
 }
 
+/// Adds names with spaces between them.
+fn push_names<'a>(names: &mut Vec<Name<'a>>, text: &'a str) -> Result<(), AllocError> {
+    for word in text.split(' ') {
+        if !word.is_empty() {
+            names.push(name_of(word))?;
+        }
+    }
+    Ok(())
+}
+
 /// A declaration: its place, its name and the names that it uses.
 fn declaration(alloc: Global, text: &str) -> Result<Declaration<'_>, AllocError> {
-    let mut words = text.split(' ');
-    let place = place_of(words.next().unwrap_or(""));
-    let name = name_of(words.next().unwrap_or(""));
+    let (place, rest) = text.split_once(' ').unwrap_or((text, ""));
+    let (name, used) = rest.split_once(' ').unwrap_or((rest, ""));
     let mut sets = Vec::new(alloc);
-    for word in words {
-        sets.push(name_of(word))?;
-    }
-    Ok(Declaration { place, name, sets })
+    push_names(&mut sets, used)?;
+    Ok(Declaration {
+        place: place_of(place),
+        name: name_of(name),
+        sets,
+    })
 }
 
 /// Adds declarations with commas between them.

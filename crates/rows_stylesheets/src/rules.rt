@@ -150,7 +150,7 @@ fn rules_of(
 }
 
 /// How many nodes take a template, or are not agreed upon.
-fn count_takers(rules: &[Option<Rule>]) -> u32 {
+fn count_chosen(rules: &[Option<Rule>]) -> u32 {
     let mut count = 0_u32;
     for rule in rules {
         if *rule != Some(Rule::BuiltIn) {
@@ -185,7 +185,7 @@ pub(crate) fn put_rules(
         let rules = rules_of(alloc, sheet, tree, Among::Mode(mode))?;
         if mode == 0 {
             put_all(out, &rules, tree);
-        } else if count_takers(&rules) > 0 {
+        } else if count_chosen(&rules) > 0 {
             out.put(" ");
             put_all(out, &rules, tree);
         }
@@ -213,7 +213,7 @@ pub(crate) fn put_imported(
 }
 
 /// Adds how many nodes take a template without a mode.
-pub(crate) fn put_takers(
+pub(crate) fn put_count(
     out: &mut Answer,
     alloc: Global,
     sheet: &Sheet,
@@ -223,6 +223,6 @@ pub(crate) fn put_takers(
     if rules.contains(&None) {
         out.put("not agreed, ");
     }
-    out.put_number(i64::from(count_takers(&rules)));
+    out.put_number(i64::from(count_chosen(&rules)));
     Ok(())
 }

@@ -21,6 +21,11 @@ fn numbers(
     Ok(chain)
 }
 
+// A value that may go to another thread.
+fn sent<T: Send>(value: T) -> T {
+    value
+}
+
 // Whether a chain has the numbers from 0 to below `end`.
 fn counts_to(chain: &Chain<Box<u32>>, end: u32) -> bool {
     let mut wanted = 0..end;
@@ -56,8 +61,8 @@ fn holds_65_items_in_two_blocks(rt: HostRuntime) -> Result<(), Fail> {
 
 #[test]
 fn joins_and_cuts(rt: HostRuntime) -> Result<(), Fail> {
-    let mut pool = Pool::new(rt.alloc());
-    let mut chain = numbers(rt.alloc(), &mut pool, 0, 70)?;
+    let mut pool = sent(Pool::new(rt.alloc()));
+    let mut chain = sent(numbers(rt.alloc(), &mut pool, 0, 70)?);
     let more = numbers(rt.alloc(), &mut pool, 70, 75)?;
     assert!(rt; !more.is_empty() && chain.can_append(&more));
     append_chain(&mut chain, more);
@@ -83,9 +88,12 @@ fn keeps_its_blocks_where_memory_is_refused(rt: HostRuntime) -> Result<(), Fail>
     let refused = pool.reserve(&chain, 200).is_err();
     let made = pool.free_blocks();
     let mut pushed = 0;
-    while pushed < 200 && pool.spare(&chain) > 0 {
-        pool.push(&mut chain, pushed);
-        pushed += 1;
+    for n in 0..200u32 {
+        if pool.spare(&chain) == 0 {
+            break;
+        }
+        pool.push(&mut chain, n);
+        pushed = n + 1;
     }
     assert!(rt; refused || pushed == 200);
     assert_eq!(rt; pool.free_blocks() + chain.blocks(), made);
