@@ -1,0 +1,4 @@
+pub mod SumLemmas
+pub mod GoodLemmas
+pub mod OnceLemmas
+pub mod StepLemmas
