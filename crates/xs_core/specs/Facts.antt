@@ -1,12 +1,10 @@
--- What a list of facts says of each place, and how the machine's code answers.
-use Rattle.std.specs.Prelude.{◌≡◌, ℕ, List, [], ◌∷◌, Option, Some, None, Bool, true, false, Result, Ok, Err, if◌then◌else◌}
+-- What a list of facts says of each place.
+use Rattle.std.specs.Prelude.{ℕ, List, [], ◌∷◌, Option, Some, None, if◌then◌else◌}
 use Rattle.std.specs.Str.{bytes_eq}
-use Rattle.core.specs.declared.alloc.AllocError.{AllocError}
 use Rattle.xs_core.specs.declared.piece.PieceFacts.{PieceFacts}
-use Rattle.xs_core.specs.declared.step.Step.{Step}
-use Rattle.xs_core.specs.Machine.{Place, Facts, State, IsStep}
+use Rattle.xs_core.specs.Machine.{Place, Facts}
 
--- the facts of a place: those that are listed first, if any are
+-- the facts that are listed for a place; the first, if there are several
 abbrev pub find_facts : List PieceFacts → Place → Option PieceFacts
 find_facts [] p = None
 find_facts (x ∷ xs) p = if bytes_eq x.place p then Some x else find_facts xs p
@@ -19,6 +17,6 @@ abbrev pub holes_in : Option PieceFacts → ℕ
 holes_in None = 0
 holes_in (Some x) = x.holes
 
--- a place that no facts are listed for has no ticks and no holes
+-- a place for which none are listed has no ticks and no holes
 abbrev pub facts_of : List PieceFacts → Facts
 facts_of xs = record { ticks = λ p. ticks_in (find_facts xs p); holes = λ p. holes_in (find_facts xs p) }

@@ -1,5 +1,6 @@
 pub mod Machine
 pub mod Good
-pub mod Facts
 pub mod Laws
+pub mod Facts
+pub mod Answer
 pub mod steps
