@@ -14,9 +14,9 @@ pub record Machine : Type 0 where
   pub state : State
 
 -- a new machine knows of each place what the given facts say of it, and it is at the start
-pub record IsNew (given : List PieceFacts) (workers budget : ℕ) (m : Machine) : Type 0 where
+pub record IsNew (given : List PieceFacts) (workers most : ℕ) (m : Machine) : Type 0 where
   pub facts : (p : Place) → find_facts m.facts p ≡ find_facts given p
-  pub budget : m.budget ≡ budget
+  pub budget : m.budget ≡ most
   pub state : m.state ≡ opening (workers - 1)
 
 -- Whether the machine allowed a step: then it has taken it. Else nothing has changed, and no state is one step on. Out of memory,

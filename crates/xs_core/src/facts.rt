@@ -66,7 +66,7 @@ impl Table {
         let pieces = self.pieces.as_slice();
         let index = pieces.partition_point(|x| compare_places(&x.place, place).is_lt());
         let piece = pieces.get(index)?;
-        if piece.place.numbers() == place.numbers() {
+        if compare_places(&piece.place, place).is_eq() {
             return Some(piece);
         }
         None

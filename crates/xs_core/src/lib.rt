@@ -6,5 +6,6 @@ pub mod laws;
 pub mod machine;
 mod parts;
 pub mod piece;
+mod places;
 mod seat;
 pub mod step;

@@ -1,12 +1,11 @@
 //! All that the machine holds: the workers, what is finished and what was dropped.
 
 ghost use Rattle.std.specs.Prelude.{◌≡◌, ◌++◌, ◌-◌, ◌≤◌, ◌==◌, [], None, Some};
-ghost use Rattle.std.specs.Prelude.{IfOk, OnOk, map, nat_lt, slice_get, if◌then◌else◌};
-ghost use Rattle.std.specs.List.{flat_map};
-ghost use Rattle.xs_core.specs.Answer.{place_in, places_in};
+ghost use Rattle.std.specs.Prelude.{IfOk, OnOk, nat_lt, slice_get, if◌then◌else◌};
+ghost use Rattle.xs_core.specs.Answer.{places_in};
 ghost use Rattle.xs_core.specs.Facts.{facts_of};
 ghost use Rattle.xs_core.specs.Good.{IsGood};
-ghost use Rattle.xs_core.specs.Machine.{State, Worker, idle, opening};
+ghost use Rattle.xs_core.specs.Machine.{idle, opening};
 ghost use Rattle.xs_core.specs.steps.Parts.{Changes, IsChanged, IsPopped};
 ghost use Rattle.xs_core.specs.steps.Parts.{is_empty_at, is_free_at, is_idle_at};
 ghost use Rattle.xs_core.specs.steps.Stepped.{at_worker, done, gave, let_go, missed, put};
@@ -15,6 +14,7 @@ ghost use Rattle.xs_core.specs.steps.Stepped.{stepped, stolen, took};
 
 use crate::facts::Table;
 use crate::piece::Progress;
+use crate::places::{copy_dropped, copy_places, copy_seats};
 use crate::seat::Seat;
 use crate::step::Step;
 use std::alloc::{AllocError, Global};
@@ -251,50 +251,19 @@ impl Parts {
     {
         let mut places = Vec::new(*self.finished.allocator());
         copy_seats(&self.seats, &mut places)?;
-        copy_finished(&self.finished, &mut places)?;
+        copy_places(&self.finished, &mut places)?;
         copy_dropped(&self.dropped, &mut places)?;
         Ok(places)
     }
 }
 
 /// Appends so many workers that have nothing.
+#[tactic(auto, using(crate::proofs::OpeningLemmas::idle_more))]
 fn add_idle(alloc: Global, seats: &mut Vec<Seat>, others: u32) -> Result<(), AllocError>
     ensures seats { OnOk result (seats.new.items ≡ seats.old.items ++ idle others) }
 {
     for _other in 0..others {
         seats.push(Seat::new(alloc))?;
-    }
-    Ok(())
-}
-
-/// Appends copies of the places that workers have.
-fn copy_seats(seats: &[Seat], places: &mut Vec<Place>) -> Result<(), AllocError>
-    ensures places { OnOk result (places.new.items
-        ≡ places.old.items ++ flat_map (λ (w : Worker). w.deque ++ place_in w.hand) seats.now) }
-{
-    for seat in seats {
-        seat.copy_places(places)?;
-    }
-    Ok(())
-}
-
-/// Appends copies of places.
-fn copy_finished(finished: &[Place], places: &mut Vec<Place>) -> Result<(), AllocError>
-    ensures places { OnOk result (places.new.items ≡ places.old.items ++ finished.now) }
-{
-    for place in finished {
-        places.push(place.copy()?)?;
-    }
-    Ok(())
-}
-
-/// Appends copies of the places of pieces.
-fn copy_dropped(dropped: &[Progress], places: &mut Vec<Place>) -> Result<(), AllocError>
-    ensures places { OnOk result (places.new.items
-        ≡ places.old.items ++ map (λ h. h.place) dropped.now) }
-{
-    for piece in dropped {
-        places.push(piece.place.copy()?)?;
     }
     Ok(())
 }

@@ -1,16 +1,18 @@
 //! A worker's seat: its deque and its hand.
 
 ghost use Rattle.std.specs.Prelude.{◌≡◌, ◌++◌, ◌∷◌, [], None, Some, is_none};
-ghost use Rattle.std.specs.Prelude.{option_map, OnErr, OnOk};
+ghost use Rattle.std.specs.Prelude.{OnErr, OnOk};
 ghost use Rattle.xs_core.specs.Answer.{place_in};
 ghost use Rattle.xs_core.specs.Facts.{facts_of};
 ghost use Rattle.xs_core.specs.Machine.{worker, fresh};
 ghost use Rattle.xs_core.specs.steps.Parts.{Changes, IsChanged, IsFirst, IsLetGo};
 ghost use Rattle.xs_core.specs.steps.Parts.{has_nothing, is_empty, lifted};
+ghost use Rattle.xs_core.specs.steps.Parts.{with_given, with_spent};
 ghost use Rattle.xs_core.specs.steps.Stepped.{done, gave, let_go, spent, took};
 
 use crate::facts::Table;
 use crate::piece::Progress;
+use crate::places::copy_places;
 use std::alloc::{AllocError, Global};
 use std::collections::VecDeque;
 use std::marker::Model;
@@ -180,13 +182,13 @@ impl Seat {
     }
 
     /// Appends copies of its places: those of the deque, and then that of the hand.
-    pub(crate) fn copy_places(&self, places: &mut Vec<Place>) -> Result<(), AllocError>
+    pub(crate) fn copy_into(&self, places: &mut Vec<Place>) -> Result<(), AllocError>
         ensures places { OnOk result (places.new.items
             ≡ places.old.items ++ (self.now.deque ++ place_in self.now.hand)) }
     {
-        for place in self.deque.iter() {
-            places.push(place.copy()?)?;
-        }
+        let (front, back) = self.deque.as_slices();
+        copy_places(front, places)?;
+        copy_places(back, places)?;
         if let Some(piece) = self.hand.as_ref() {
             places.push(piece.place.copy()?)?;
         }
@@ -195,8 +197,7 @@ impl Seat {
 
     /// Sets how many children the piece in the hand has given.
     fn set_given(&mut self, given: u64)
-        ensures given { self.new ≡ worker self.old.deque
-            (option_map (λ h. record h { given = given }) self.old.hand) }
+        ensures given { self.new ≡ worker self.old.deque (with_given given self.old.hand) }
     {
         self.hand = match self.hand.take() {
             None => None,
@@ -210,8 +211,7 @@ impl Seat {
 
     /// Sets how many ticks were spent on the piece in the hand.
     fn set_spent(&mut self, spent: u64)
-        ensures spent { self.new ≡ worker self.old.deque
-            (option_map (λ h. record h { spent = spent }) self.old.hand) }
+        ensures spent { self.new ≡ worker self.old.deque (with_spent spent self.old.hand) }
     {
         self.hand = match self.hand.take() {
             None => None,

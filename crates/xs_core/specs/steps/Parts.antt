@@ -23,6 +23,15 @@ abbrev pub lifted : List Place → Option Progress → Option (Progress × Worke
 lifted ps None = None
 lifted ps (Some h) = Some (h, worker ps None)
 
+-- the hand, where its piece has given or spent so many
+abbrev pub with_given : ℕ → Option Progress → Option Progress
+with_given n None = None
+with_given n (Some h) = Some (record h { given = n })
+
+abbrev pub with_spent : ℕ → Option Progress → Option Progress
+with_spent n None = None
+with_spent n (Some h) = Some (record h { spent = n })
+
 -- the first place of a list, and those after it
 abbrev pub IsFirst : List Place → Option Place → List Place → Type 0
 IsFirst ps None rest = (ps ≡ []) × (rest ≡ [])
