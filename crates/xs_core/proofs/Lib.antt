@@ -5,3 +5,5 @@ pub mod StepLemmas
 pub mod OpeningLemmas
 pub mod AnswerLemmas
 pub mod PartsLemmas
+pub mod RoomLemmas
+pub mod TableLemmas

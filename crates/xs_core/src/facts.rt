@@ -19,19 +19,19 @@ pub(crate) struct Table {
 impl Model for Table {
     ghost use Rattle.std.specs.Prelude.{List};
     ghost use Rattle.xs_core.specs.declared.piece.PieceFacts.{PieceFacts};
-    ghost use Rattle.xs_core.specs.steps.Table.{AreFew, IsSorted};
+    ghost use Rattle.xs_core.specs.steps.Table.{IsSorted};
 
     ghost Value = { List PieceFacts };
 
     ghost view = { λ t. t.pieces.items };
 
-    ghost invariant = { λ t. IsSorted t.pieces.items × AreFew t.pieces.items };
+    ghost invariant = { λ t. IsSorted t.pieces.items };
 }
 
 impl Table {
     /// A table of these facts. Of two for one place the first counts.
     pub(crate) fn new(alloc: Global, facts: &[PieceFacts]) -> Result<Table, AllocError>
-        requires few { AreFew facts.now }
+        ensures few { AreFew facts.now → IfOk result AreFew }
         ensures facts { IfOk result (λ t. (p : Place) → find_facts t p ≡ find_facts facts.now p) }
     {
         let mut pieces = copy_facts(alloc, facts)?;
@@ -65,7 +65,9 @@ impl Table {
     {
         let pieces = self.pieces.as_slice();
         let index = pieces.partition_point(|x| compare_places(&x.place, place).is_lt());
-        let piece = pieces.get(index)?;
+        let Some(piece) = pieces.get(index) else {
+            return None;
+        };
         if compare_places(&piece.place, place).is_eq() {
             return Some(piece);
         }

@@ -25,12 +25,13 @@ impl Model for Core {
     ghost use Rattle.xs_core.specs.Answer.{Machine};
     ghost use Rattle.xs_core.specs.Facts.{facts_of};
     ghost use Rattle.xs_core.specs.Good.{IsGood};
+    ghost use Rattle.xs_core.specs.steps.Table.{AreFew};
 
     ghost Value = { Machine };
 
     ghost view = { λ c. record { facts = c.facts; budget = c.budget; state = c.parts } };
 
-    ghost invariant = { λ c. IsGood (facts_of c.facts) c.budget c.parts };
+    ghost invariant = { λ c. IsGood (facts_of c.facts) c.budget c.parts × AreFew c.facts };
 }
 
 impl Core {

@@ -11,6 +11,7 @@ ghost use Rattle.xs_core.specs.steps.Parts.{is_empty_at, is_free_at, is_idle_at}
 ghost use Rattle.xs_core.specs.steps.Stepped.{at_worker, done, gave, let_go, missed, put};
 ghost use Rattle.xs_core.specs.steps.Stepped.{put_dropped, put_finished, put_total, spent};
 ghost use Rattle.xs_core.specs.steps.Stepped.{stepped, stolen, took};
+ghost use Rattle.xs_core.specs.steps.Table.{AreFew};
 
 use crate::facts::Table;
 use crate::piece::Progress;
@@ -70,6 +71,7 @@ impl Parts {
         budget: u64,
     ) -> Result<bool, AllocError>
         requires good { IsGood (facts_of facts.now) budget self.old }
+        requires few { AreFew facts.now }
         ensures applied { Changes (stepped (facts_of facts.now) budget step.now self.old)
             result self.old self.new }
     {
@@ -151,6 +153,7 @@ impl Parts {
     /// Ticks are spent on the piece in a worker's hand.
     fn spend(&mut self, worker: usize, ticks: u64, facts: &Table, budget: u64) -> bool
         requires good { IsGood (facts_of facts.now) budget self.old }
+        requires few { AreFew facts.now }
         ensures spent { IsChanged (at_worker (slice_get self.old.workers worker)
             (λ x. put_total ticks (put worker self.old
             (spent (facts_of facts.now) ticks x.hand x.deque))))
@@ -258,7 +261,6 @@ impl Parts {
 }
 
 /// Appends so many workers that have nothing.
-#[tactic(auto, using(crate::proofs::OpeningLemmas::idle_more))]
 fn add_idle(alloc: Global, seats: &mut Vec<Seat>, others: u32) -> Result<(), AllocError>
     ensures seats { OnOk result (seats.new.items ≡ seats.old.items ++ idle others) }
 {
