@@ -11,6 +11,8 @@ mod edges;
 #[cfg(test)]
 mod loads;
 #[cfg(test)]
+mod machine;
+#[cfg(test)]
 mod numbers;
 #[cfg(test)]
 mod recorders;

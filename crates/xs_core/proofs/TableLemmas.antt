@@ -49,7 +49,7 @@ not-below-same a b h k =
     let order : IsTotalOrder (slice_cmp nat_cmp) = nat_list_cmp_total in
     sym (compared a b) ∙ neither (slice_cmp nat_cmp a b) (slice_cmp nat_cmp b a) (order.antisymm b a) h k
 
-weak : IsStrictWeakOrder is_before
+pub weak : IsStrictWeakOrder is_before
 weak = ranks_by nat_list_cmp_total (λ x. x.place)
 
 -- ---- the first facts of a place
@@ -91,17 +91,9 @@ pub found : (xs : List PieceFacts) (i : ℕ) (x : PieceFacts) (p : Place)
     → is_eq (slice_cmp nat_cmp x.place p) ≡ true → find_facts xs p ≡ Some x
 found xs i x p point at same = find-at xs i x p (front-differs xs i p point.0) at (sym (compared x.place p) ∙ same)
 
-get-past : (xs : List PieceFacts) (i : ℕ) → slice_get xs i ≡ None → length xs ≤ i
-get-past [] i e = omega arith
-get-past (x ∷ xs) zero e = absurd (cc)
-get-past (x ∷ xs) (suc i) e = let a = get-past xs i e in omega arith
-
 pub not-found-past : (xs : List PieceFacts) (i : ℕ) (p : Place)
-    → IsPartitionPoint (λ (y : PieceFacts). below y.place p ≡ true) (λ y. below y.place p ≡ false) xs i → slice_get xs i ≡ None
-    → find_facts xs p ≡ None
-not-found-past xs i p point at =
-    let past = get-past xs i at in
-    find-none xs p (λ k d lt. front-differs xs i p point.0 k d (omega (arith, lt, past)))
+    → IsPartitionPoint (λ (y : PieceFacts). below y.place p ≡ true) (λ y. below y.place p ≡ false) xs i → length xs ≤ i → find_facts xs p ≡ None
+not-found-past xs i p point past = find-none xs p (λ k d lt. front-differs xs i p point.0 k d (omega (arith, lt, past)))
 
 -- behind the point, where its place is another one
 back-by : (a x p : Place) (t : Bool) → bytes_eq a p ≡ t → below a x ≡ false → below x p ≡ false → bytes_eq x p ≡ false → bytes_eq a p ≡ false

@@ -2,7 +2,6 @@
 
 ghost use Rattle.std.specs.Prelude.{◌≡◌, IfOk, option_map};
 ghost use Rattle.xs_core.specs.Facts.{facts_of, find_facts};
-ghost use Rattle.xs_core.specs.Machine.{Place};
 ghost use Rattle.xs_core.specs.steps.Table.{AreFew};
 
 use crate::piece::PieceFacts;
