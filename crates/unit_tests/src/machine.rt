@@ -1,7 +1,7 @@
 //! The machine of pieces and workers: a root and its child, on one worker and on two.
 
 ghost use Rattle.std.specs.Prelude.{IfOk};
-ghost use Rattle.xs_core.specs.steps.Table.{AreFew};
+ghost use Rattle.xs_core.specs.Facts.{AreFew};
 
 use std::alloc::{AllocError, Global};
 use std::test::Fail;

@@ -7,3 +7,4 @@ pub mod AnswerLemmas
 pub mod PartsLemmas
 pub mod RoomLemmas
 pub mod TableLemmas
+pub mod WorkerLemmas

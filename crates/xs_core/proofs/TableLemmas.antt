@@ -17,10 +17,10 @@ use Rattle.std.proofs.lemmas.List.Sorted.{ranks_by, sorted_far, sum_by-IsPermuta
 use Rattle.std.proofs.lemmas.List.Sums.{sum_by-cons}
 use Rattle.std.proofs.lemmas.Slice.Eq.{bytes_eq-Decides}
 use Rattle.xs_core.specs.declared.piece.PieceFacts.{PieceFacts}
-use Rattle.xs_core.specs.Facts.{find_facts}
+use Rattle.xs_core.specs.Facts.{AreFew, find_facts}
 use Rattle.xs_core.specs.Machine.{Place}
 use Rattle.xs_core.specs.Good.{total}
-use Rattle.xs_core.specs.steps.Table.{AreFew, IsSorted, is_before}
+use Rattle.xs_core.specs.steps.Table.{IsSorted, is_before}
 
 -- ---- places compared
 

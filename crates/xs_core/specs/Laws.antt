@@ -1,6 +1,7 @@
 -- What is true of every run of the machine.
-use Rattle.std.specs.Prelude.{◌≡◌, ◌≤◌, ℕ, List, [], ◌∷◌}
+use Rattle.std.specs.Prelude.{◌≡◌, ◌<◌, ◌≤◌, ◌+◌, ℕ, List, [], ◌∷◌, length}
 use Rattle.xs_core.specs.declared.step.Step.{Step}
+use Rattle.xs_core.specs.declared.step.Step.TheVariants.{Take, Steal, Miss, Give, Spend, Finish, Discard}
 use Rattle.xs_core.specs.Machine.{Place, Facts, State, IsStep, opening}
 use Rattle.xs_core.specs.Good.{held, is_place, IsGood}
 
@@ -27,3 +28,19 @@ OnePart = (f : Facts) (budget : ℕ) (s : State) → IsGood f budget s → (p : 
 -- a step leads to one state
 abbrev pub OneState : Type 0
 OneState = (f : Facts) (budget : ℕ) (s m n : State) (step : Step) → IsStep f budget s step m → IsStep f budget s step n → m ≡ n
+
+-- the workers that a step names are below a number
+abbrev pub AreBelow : ℕ → Step → Type 0
+AreBelow n (Take w) = w < n
+AreBelow n (Steal t v) = (t < n) × (v < n)
+AreBelow n (Miss t v) = (t < n) × (v < n)
+AreBelow n (Give w) = w < n
+AreBelow n (Spend w i) = w < n
+AreBelow n (Finish w) = w < n
+AreBelow n (Discard w) = w < n
+
+-- a step names workers that are there, and their number stays what it is at the start
+pub record WorkersStay : Type 0 where
+  pub opening : (others : ℕ) → length (opening others).workers ≡ others + 1
+  pub below : (f : Facts) (budget : ℕ) (s n : State) (step : Step) → IsStep f budget s step n → AreBelow (length s.workers) step
+  pub stay : (f : Facts) (budget : ℕ) (s n : State) (step : Step) → IsStep f budget s step n → length n.workers ≡ length s.workers

@@ -1,8 +1,7 @@
 //! The facts of all pieces, found by place.
 
 ghost use Rattle.std.specs.Prelude.{◌≡◌, IfOk, option_map};
-ghost use Rattle.xs_core.specs.Facts.{facts_of, find_facts};
-ghost use Rattle.xs_core.specs.steps.Table.{AreFew};
+ghost use Rattle.xs_core.specs.Facts.{AreFew, facts_of, find_facts};
 
 use crate::piece::PieceFacts;
 use std::alloc::{AllocError, Global};

@@ -1,5 +1,5 @@
 //! What is true of the machine. The functions do nothing: their contracts are the laws.
-ghost use Rattle.xs_core.specs.Laws.{OnePart, OneState, ReachesGood, StaysGood};
+ghost use Rattle.xs_core.specs.Laws.{OnePart, OneState, ReachesGood, StaysGood, WorkersStay};
 
 /// Whatever steps the machine allows from the start on, they lead to a good state.
 pub fn reaches_good()
@@ -19,4 +19,9 @@ pub fn one_part()
 /// A step leads to one state.
 pub fn one_state()
     ensures { OneState }
+{}
+
+/// A step names workers that are there, and their number stays.
+pub fn workers_stay()
+    ensures { WorkersStay }
 {}

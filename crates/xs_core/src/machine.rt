@@ -2,8 +2,7 @@
 
 ghost use Rattle.std.specs.Prelude.{◌≡◌, ◌≤◌, IfOk};
 ghost use Rattle.xs_core.specs.Answer.{Answers, IsNew, places_in};
-ghost use Rattle.xs_core.specs.Facts.{facts_of};
-ghost use Rattle.xs_core.specs.steps.Table.{AreFew};
+ghost use Rattle.xs_core.specs.Facts.{AreFew, facts_of};
 
 use crate::facts::Table;
 use crate::parts::Parts;
@@ -23,9 +22,8 @@ pub struct Core {
 
 impl Model for Core {
     ghost use Rattle.xs_core.specs.Answer.{Machine};
-    ghost use Rattle.xs_core.specs.Facts.{facts_of};
+    ghost use Rattle.xs_core.specs.Facts.{AreFew, facts_of};
     ghost use Rattle.xs_core.specs.Good.{IsGood};
-    ghost use Rattle.xs_core.specs.steps.Table.{AreFew};
 
     ghost Value = { Machine };
 

@@ -3,7 +3,7 @@
 ghost use Rattle.std.specs.Prelude.{◌≡◌, ◌++◌, ◌-◌, ◌≤◌, ◌==◌, [], None, Some};
 ghost use Rattle.std.specs.Prelude.{IfOk, OnOk, nat_lt, slice_get, if◌then◌else◌};
 ghost use Rattle.xs_core.specs.Answer.{places_in};
-ghost use Rattle.xs_core.specs.Facts.{facts_of};
+ghost use Rattle.xs_core.specs.Facts.{AreFew, facts_of};
 ghost use Rattle.xs_core.specs.Good.{IsGood};
 ghost use Rattle.xs_core.specs.Machine.{idle, opening};
 ghost use Rattle.xs_core.specs.steps.Parts.{Changes, IsChanged, IsPopped};
@@ -11,7 +11,6 @@ ghost use Rattle.xs_core.specs.steps.Parts.{is_empty_at, is_free_at, is_idle_at}
 ghost use Rattle.xs_core.specs.steps.Stepped.{at_worker, done, gave, let_go, missed, put};
 ghost use Rattle.xs_core.specs.steps.Stepped.{put_dropped, put_finished, put_total, spent};
 ghost use Rattle.xs_core.specs.steps.Stepped.{stepped, stolen, took};
-ghost use Rattle.xs_core.specs.steps.Table.{AreFew};
 
 use crate::facts::Table;
 use crate::piece::Progress;

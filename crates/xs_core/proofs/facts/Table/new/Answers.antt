@@ -1,8 +1,8 @@
 use Rattle.std.proofs.Common.{◌∙◌, List, ap, rules, subst, sym}
 use Rattle.std.proofs.lemmas.List.Sorted.{answers_always}
 use Rattle.xs_core.specs.declared.piece.PieceFacts.{PieceFacts}
-use Rattle.xs_core.specs.Facts.{find_facts}
-use Rattle.xs_core.specs.steps.Table.{AreFew, is_before}
+use Rattle.xs_core.specs.Facts.{AreFew, find_facts}
+use Rattle.xs_core.specs.steps.Table.{is_before}
 use Rattle.xs_core.proofs.TableLemmas.{few-sorted, same-facts, weak}
 use Rattle.xs_core.proofs.facts.Table.new.Goals as goal
 
