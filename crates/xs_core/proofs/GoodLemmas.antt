@@ -5,7 +5,7 @@ use Rattle.xs_core.specs.declared.piece.Progress.{Progress}
 use Rattle.xs_core.specs.declared.step.Step.{Step}
 use Rattle.xs_core.specs.Machine.{Place, Facts, Worker, State, IsStep, worker, fresh, idle, opening, Has, with, with_total, with_finished, with_dropped}
 use Rattle.xs_core.specs.Machine.IsStep.{takes, steals, misses, gives, spends, finishes, drops, drops_first}
-use Rattle.xs_core.specs.Good.{total, of_hand, children, places_of, children_of, held, born, spending, IsWithin, HandWithin, HandsWithin, AllWithin, IsGood}
+use Rattle.xs_core.specs.Good.{total, of_hand, children, places_of, children_of, held, born, spending, IsWithin, HandWithin, HandsWithin, PiecesWithin, IsGood}
 use Rattle.xs_core.specs.Laws.{Runs, ReachesGood, StaysGood}
 use Rattle.xs_core.specs.Laws.Runs.{ended, goes_on}
 use Rattle.xs_core.proofs.SumLemmas.{total-set, total-push}
@@ -22,7 +22,7 @@ hand-at f [] i x h e = absurd (cc)
 hand-at f (w ∷ ws) zero x h e = let a : w ≡ x = cc in subst (λ (z : Worker). HandWithin f z.hand) a h.0
 hand-at f (w ∷ ws) (suc i) x h e = hand-at f ws i x h.1 e
 
-dropped-push : (f : Facts) (xs : List Progress) (x : Progress) → AllWithin f xs → IsWithin f x → AllWithin f (xs ++ x ∷ [])
+dropped-push : (f : Facts) (xs : List Progress) (x : Progress) → PiecesWithin f xs → IsWithin f x → PiecesWithin f (xs ++ x ∷ [])
 dropped-push f [] x h k = (k, tt)
 dropped-push f (y ∷ xs) x h k = (h.0, dropped-push f xs x h.1 k)
 

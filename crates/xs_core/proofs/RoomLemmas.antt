@@ -9,7 +9,7 @@ use Rattle.xs_core.specs.declared.piece.Progress.{Progress}
 use Rattle.xs_core.specs.declared.step.Step.TheVariants.{Spend}
 use Rattle.xs_core.specs.Facts.{facts_of, find_facts, ticks_in}
 use Rattle.xs_core.specs.Machine.{Place, Facts, Worker, State, with, with_total}
-use Rattle.xs_core.specs.Good.{total, of_hand, places_of, held, spending, HandWithin, HandsWithin, AllWithin, IsGood, is_place}
+use Rattle.xs_core.specs.Good.{total, of_hand, places_of, held, spending, HandWithin, HandsWithin, PiecesWithin, IsGood, is_place}
 use Rattle.xs_core.specs.steps.Parts.{IsChanged}
 use Rattle.xs_core.specs.steps.Stepped.{spent, stepped}
 use Rattle.xs_core.proofs.AnswerLemmas.{good-by}
@@ -131,7 +131,7 @@ hands-spent f (w ∷ ws) k =
     let b = hands-spent f ws k.1 in
     omega arith
 
-dropped-spent : (f : Facts) (xs : List Progress) → AllWithin f xs → total (λ h. h.spent) xs ≤ total (λ h. f.ticks h.place) xs
+dropped-spent : (f : Facts) (xs : List Progress) → PiecesWithin f xs → total (λ h. h.spent) xs ≤ total (λ h. f.ticks h.place) xs
 dropped-spent f [] k = omega arith
 dropped-spent f (x ∷ xs) k =
     let a = k.0.spent in

@@ -52,16 +52,16 @@ abbrev pub HandsWithin : Facts → List Worker → Type 0
 HandsWithin f [] = Unit {0}
 HandsWithin f (w ∷ ws) = HandWithin f w.hand × HandsWithin f ws
 
-abbrev pub AllWithin : Facts → List Progress → Type 0
-AllWithin f [] = Unit {0}
-AllWithin f (h ∷ hs) = IsWithin f h × AllWithin f hs
+abbrev pub PiecesWithin : Facts → List Progress → Type 0
+PiecesWithin f [] = Unit {0}
+PiecesWithin f (h ∷ hs) = IsWithin f h × PiecesWithin f hs
 
 -- A good state. The places in its parts are the root and the children that were given, as often: both weigh the same,
 -- whatever the weights are. The total is what was spent, and something is dropped only where that is above the budget.
 pub record IsGood (f : Facts) (budget : ℕ) (s : State) : Type 0 where
   pub counted : (weight : Place → ℕ) → held weight s ≡ born weight f s
   pub hands : HandsWithin f s.workers
-  pub dropped : AllWithin f s.dropped
+  pub dropped : PiecesWithin f s.dropped
   pub summed : s.total ≡ spending f s
   pub above : 0 < length s.dropped → budget < s.total
 
