@@ -1,5 +1,5 @@
 -- What is changed by the function of a step answers by the relation of it, and a good state stays good.
-use Rattle.std.proofs.Common.{◌≡◌, ℕ, Option, Some, None, Bool, true, false, Result, Ok, Err, refl, sym, subst, ◌∙◌}
+use Rattle.std.proofs.Common.{◌≡◌, ℕ, Option, Some, None, Bool, true, false, Result, Ok, Err, refl, sym, subst}
 use Rattle.xs_core.specs.declared.step.Step.{Step}
 use Rattle.xs_core.specs.Machine.{Facts, State, IsStep}
 use Rattle.xs_core.specs.Good.{IsGood}

@@ -1,11 +1,11 @@
 -- Each step that is allowed keeps a good state good.
-use Rattle.std.proofs.Common.{◌≡◌, ◌<◌, ◌≤◌, ◌+◌, ◌==◌, ℕ, zero, suc, List, [], ◌∷◌, ◌++◌, length, slice_get, set, Option, Some, None}
-use Rattle.std.proofs.Common.{refl, sym, ap, subst, ◌∙◌, arith}
+use Rattle.std.proofs.Common.{◌≡◌, ◌<◌, ◌≤◌, ◌+◌, ℕ, zero, suc, List, [], ◌∷◌, ◌++◌, slice_get, set, Option, Some, None}
+use Rattle.std.proofs.Common.{refl, ap, subst, ◌∙◌, arith}
 use Rattle.xs_core.specs.declared.piece.Progress.{Progress}
 use Rattle.xs_core.specs.declared.step.Step.{Step}
 use Rattle.xs_core.specs.Machine.{Place, Facts, Worker, State, IsStep, worker, fresh, idle, opening, Has, with, with_total, with_finished, with_dropped}
 use Rattle.xs_core.specs.Machine.IsStep.{takes, steals, misses, gives, spends, finishes, drops, drops_first}
-use Rattle.xs_core.specs.Good.{total, of_hand, children, places_of, children_of, held, born, spending, IsWithin, HandWithin, HandsWithin, PiecesWithin, IsGood}
+use Rattle.xs_core.specs.Good.{total, of_hand, children, places_of, children_of, IsWithin, HandWithin, HandsWithin, PiecesWithin, IsGood}
 use Rattle.xs_core.specs.Laws.{Runs, ReachesGood, StaysGood}
 use Rattle.xs_core.specs.Laws.Runs.{ended, goes_on}
 use Rattle.xs_core.proofs.SumLemmas.{total-set, total-push}

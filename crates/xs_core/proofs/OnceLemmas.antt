@@ -1,10 +1,10 @@
 -- In a good state each place is in the parts at most once, by the length of places.
-use Rattle.std.proofs.Common.{◌≡◌, ◌<◌, ◌≤◌, ◌+◌, ◌==◌, ℕ, zero, suc, List, [], ◌∷◌, ◌++◌, length, Option, Some, None, Bool, true, false, cond, eqb}
-use Rattle.std.proofs.Common.{refl, sym, ap, subst, ◌∙◌, arith, append_assoc, append-nil}
+use Rattle.std.proofs.Common.{◌≡◌, ◌≤◌, ◌+◌, ℕ, zero, suc, [], ◌∷◌, ◌++◌, Option, Some, None, Bool, true, false, cond, eqb}
+use Rattle.std.proofs.Common.{refl, ap, ◌∙◌, arith, append_assoc, append-nil}
 use Rattle.std.proofs.lemmas.Bool.Decides.{nat_tests}
 use Rattle.xs_core.specs.declared.piece.Progress.{Progress}
-use Rattle.xs_core.specs.Machine.{Place, Facts, Worker, State}
-use Rattle.xs_core.specs.Good.{total, children, of_hand, places_of, children_of, held, born, IsGood, is_place}
+use Rattle.xs_core.specs.Machine.{Place, Facts, State}
+use Rattle.xs_core.specs.Good.{total, children, of_hand, places_of, children_of, held, IsGood, is_place}
 use Rattle.xs_core.specs.Laws.{OnePart}
 use Rattle.xs_core.proofs.SumLemmas.{total-less, total-none}
 

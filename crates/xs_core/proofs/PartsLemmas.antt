@@ -1,9 +1,9 @@
 -- A change of one seat is the change of the state that the machine as a function makes.
-use Rattle.std.proofs.Common.{◌≡◌, ◌<◌, ◌≤◌, ◌+◌, ◌++◌, ◌==◌, ℕ, zero, suc, List, [], ◌∷◌, length, slice_get, get_or, set, Option, Some, None, Bool, true, false, cond, nat_lt, Result, Ok, Err}
+use Rattle.std.proofs.Common.{◌≡◌, ◌<◌, ◌+◌, ◌++◌, ℕ, zero, suc, List, [], ◌∷◌, length, slice_get, get_or, set, Option, Some, None, Bool, true, false, cond, nat_lt, Result, Ok, Err}
 use Rattle.std.proofs.Common.{refl, sym, ap, subst, ◌∙◌, arith}
 use Rattle.std.proofs.lemmas.Bool.Decides.{nat_tests}
 use Rattle.xs_core.specs.declared.piece.Progress.{Progress}
-use Rattle.xs_core.specs.Machine.{Place, Worker, State, worker, with, with_total, with_finished, with_dropped}
+use Rattle.xs_core.specs.Machine.{Place, Worker, State, with, with_total, with_finished, with_dropped}
 use Rattle.xs_core.specs.steps.Parts.{IsChanged, Changes, IsLetGo, lifted, IsFirst, IsPopped, IsPoppedBy}
 use Rattle.xs_core.specs.steps.Stepped.{at_worker, put, put_total, put_finished, put_dropped}
 

@@ -1,5 +1,5 @@
 -- A good state has spent no more ticks than all facts have together, so the total has room for a step.
-use Rattle.std.proofs.Common.{◌≡◌, ◌<◌, ◌≤◌, ◌+◌, ◌==◌, ℕ, zero, suc, List, [], ◌∷◌, length, get_or, Option, Some, None, Bool, true, false, cond, eqb}
+use Rattle.std.proofs.Common.{◌≡◌, ◌<◌, ◌≤◌, ◌+◌, ℕ, zero, suc, List, [], ◌∷◌, length, get_or, Option, Some, None, Bool, true, false, cond, eqb}
 use Rattle.std.proofs.Common.{refl, sym, ap, ◌∙◌, arith}
 use Rattle.std.proofs.lemmas.Bool.Decides.{nat_tests}
 use Rattle.std.proofs.lemmas.Slice.Eq.{bytes_eq-Decides}
@@ -9,7 +9,7 @@ use Rattle.xs_core.specs.declared.piece.Progress.{Progress}
 use Rattle.xs_core.specs.declared.step.Step.TheVariants.{Spend}
 use Rattle.xs_core.specs.Facts.{facts_of, find_facts, ticks_in}
 use Rattle.xs_core.specs.Machine.{Place, Facts, Worker, State, with, with_total}
-use Rattle.xs_core.specs.Good.{total, of_hand, places_of, held, spending, HandWithin, HandsWithin, PiecesWithin, IsGood, is_place}
+use Rattle.xs_core.specs.Good.{total, of_hand, places_of, held, HandWithin, HandsWithin, PiecesWithin, IsGood, is_place}
 use Rattle.xs_core.specs.steps.Parts.{IsChanged}
 use Rattle.xs_core.specs.steps.Stepped.{spent, stepped}
 use Rattle.xs_core.proofs.AnswerLemmas.{good-by}

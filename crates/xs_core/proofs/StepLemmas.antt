@@ -1,11 +1,11 @@
 -- The relation of a step and the function of it say the same.
-use Rattle.std.proofs.Common.{◌≡◌, ◌<◌, ◌≤◌, ◌+◌, ◌==◌, ℕ, List, [], ◌∷◌, ◌++◌, slice_get, Option, Some, None, Bool, true, false, cond, nat_lt, nat_le, eqb}
+use Rattle.std.proofs.Common.{◌≡◌, ◌<◌, ◌≤◌, ◌+◌, ℕ, List, [], ◌∷◌, ◌++◌, slice_get, Option, Some, None, Bool, true, false, cond, nat_lt, nat_le, eqb}
 use Rattle.std.proofs.Common.{refl, sym, ap, subst, ◌∙◌, arith}
 use Rattle.std.proofs.lemmas.Bool.Decides.{nat_tests}
 use Rattle.xs_core.specs.declared.piece.Progress.{Progress}
 use Rattle.xs_core.specs.declared.step.Step.{Step}
 use Rattle.xs_core.specs.declared.step.Step.TheVariants.{Take, Steal, Miss, Give, Spend, Finish, Discard}
-use Rattle.xs_core.specs.Machine.{Place, Facts, Worker, State, IsStep, worker, fresh, Has, with, with_total, with_finished, with_dropped}
+use Rattle.xs_core.specs.Machine.{Place, Facts, Worker, State, IsStep, worker, Has}
 use Rattle.xs_core.specs.Machine.IsStep.{takes, steals, misses, gives, spends, finishes, drops, drops_first}
 use Rattle.xs_core.specs.Laws.{OneState}
 use Rattle.xs_core.specs.steps.Stepped.{stepped, at_worker, put, put_total, put_finished, put_dropped, took, gave, spent, done, let_go, stolen, missed}

@@ -1,5 +1,5 @@
 -- Sums of weights, where a list is changed at one place or at its end.
-use Rattle.std.proofs.Common.{◌≡◌, ◌+◌, ◌≤◌, ℕ, zero, suc, List, [], ◌∷◌, ◌++◌, slice_get, set, Option, Some, None, refl, ap, arith}
+use Rattle.std.proofs.Common.{◌≡◌, ◌+◌, ◌≤◌, ℕ, zero, suc, List, [], ◌∷◌, ◌++◌, slice_get, set, Some, refl, ap, arith}
 use Rattle.xs_core.specs.Good.{total}
 
 pub total-set : {X : Type 0} → (f : X → ℕ) (xs : List X) (i : ℕ) (x y : X) → slice_get xs i ≡ Some x → total f (set xs i y) + f x ≡ total f xs + f y

@@ -1,10 +1,9 @@
 -- The workers that a step names are there, and their number stays.
-use Rattle.std.proofs.Common.{◌≡◌, ◌<◌, ◌+◌, ◌∷◌, ◌++◌, [], ℕ, zero, suc, length, set, Option, Some, None, refl, ◌∙◌, arith}
+use Rattle.std.proofs.Common.{◌≡◌, ◌+◌, ◌∷◌, ◌++◌, [], ℕ, zero, suc, length, set, Some, None, refl, ◌∙◌, arith}
 use Rattle.std.proofs.lemmas.List.{length-set}
 use Rattle.std.proofs.lemmas.Option.{slice_get_within}
-use Rattle.xs_core.specs.declared.piece.Progress.{Progress}
 use Rattle.xs_core.specs.declared.step.Step.{Step}
-use Rattle.xs_core.specs.Machine.{Place, Facts, State, IsStep, worker, fresh, idle, opening}
+use Rattle.xs_core.specs.Machine.{Facts, State, IsStep, worker, fresh, idle, opening}
 use Rattle.xs_core.specs.Machine.IsStep.{takes, steals, misses, gives, spends, finishes, drops, drops_first}
 use Rattle.xs_core.specs.Laws.{AreBelow, WorkersStay}
 

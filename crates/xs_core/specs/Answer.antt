@@ -4,7 +4,7 @@ use Rattle.std.specs.List.{flat_map}
 use Rattle.xs_core.specs.declared.piece.PieceFacts.{PieceFacts}
 use Rattle.xs_core.specs.declared.piece.Progress.{Progress}
 use Rattle.xs_core.specs.declared.step.Step.{Step}
-use Rattle.xs_core.specs.Machine.{Place, Facts, Worker, State, IsStep, opening}
+use Rattle.xs_core.specs.Machine.{Place, Facts, State, IsStep, opening}
 use Rattle.xs_core.specs.Facts.{find_facts}
 
 -- a machine: its facts, its budget, and the state in which it is

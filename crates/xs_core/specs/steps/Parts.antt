@@ -1,7 +1,7 @@
 -- What the calls below `apply` answer, by what the machine as a function gives.
 use Rattle.std.specs.Prelude.{◌≡◌, ◌∷◌, [], ℕ, List, Option, Some, None, Bool, true, false, Result, Ok, Err, is_none}
 use Rattle.xs_core.specs.declared.piece.Progress.{Progress}
-use Rattle.xs_core.specs.Machine.{Place, Facts, Worker, State, worker, with, Has}
+use Rattle.xs_core.specs.Machine.{Place, Worker, State, worker, with}
 
 -- a thing that was changed where it could be, and is as it was where it could not
 abbrev pub IsChanged : {X : Type 0} → Option X → Bool → X → X → Type 0

@@ -1,5 +1,5 @@
 -- The same machine as a function, as its code goes.
-use Rattle.std.specs.Prelude.{◌≡◌, ◌+◌, ◌++◌, ◌∷◌, [], ◌==◌, ℕ, List, slice_get, Option, Some, None, Bool, nat_lt, nat_le, if◌then◌else◌}
+use Rattle.std.specs.Prelude.{◌+◌, ◌++◌, ◌∷◌, [], ◌==◌, ℕ, List, slice_get, Option, Some, None, nat_lt, nat_le, if◌then◌else◌}
 use Rattle.xs_core.specs.declared.piece.Progress.{Progress}
 use Rattle.xs_core.specs.declared.step.Step.{Step}
 use Rattle.xs_core.specs.declared.step.Step.TheVariants.{Take, Steal, Miss, Give, Spend, Finish, Discard}

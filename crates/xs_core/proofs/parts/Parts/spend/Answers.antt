@@ -1,4 +1,4 @@
-use Rattle.std.proofs.Common.{◌≡◌, ◌<◌, ◌≤◌, ◌+◌, ◌^◌, true, false, length, arith}
+use Rattle.std.proofs.Common.{◌<◌, ◌≤◌, ◌+◌, length, arith}
 use Rattle.xs_core.specs.Facts.{facts_of}
 use Rattle.xs_core.specs.Good.{total}
 use Rattle.xs_core.specs.Machine.{State}
