@@ -96,7 +96,8 @@ once-step f b s g p k =
     (λ w. hand-less (λ x. children (is_place (p ++ k ∷ [])) x.place x.given) (λ x. is_place p x.place) (total (is_place p) w.deque)
     (λ x. children-at p x.place k x.given) w.hand) s.workers in
     let d = total-less (λ r. children (is_place (p ++ k ∷ [])) r (f.holes r)) (is_place p) (λ r. children-at p r k (f.holes r)) s.finished in
-    let e = total-less (λ (x : Progress). children (is_place (p ++ k ∷ [])) x.place x.given) (λ x. is_place p x.place) (λ x. children-at p x.place k x.given) s.dropped in
+    let e = total-less (λ (x : Progress). children (is_place (p ++ k ∷ [])) x.place x.given) (λ x. is_place p x.place)
+    (λ x. children-at p x.place k x.given) s.dropped in
     omega arith
 
 -- a place from its root on

@@ -1,5 +1,6 @@
 -- A change of one seat is the change of the state that the machine as a function makes.
-use Rattle.std.proofs.Common.{◌≡◌, ◌<◌, ◌+◌, ◌++◌, ℕ, zero, suc, List, [], ◌∷◌, length, slice_get, get_or, set, Option, Some, None, Bool, true, false, cond, nat_lt, Result, Ok, Err}
+use Rattle.std.proofs.Common.{◌≡◌, ◌<◌, ◌+◌, ◌++◌, ℕ, zero, suc, List, [], ◌∷◌, length, slice_get, get_or, set}
+use Rattle.std.proofs.Common.{Option, Some, None, Bool, true, false, cond, nat_lt, Result, Ok, Err}
 use Rattle.std.proofs.Common.{refl, sym, ap, subst, ◌∙◌, arith}
 use Rattle.std.proofs.lemmas.Bool.Decides.{nat_tests}
 use Rattle.xs_core.specs.declared.piece.Progress.{Progress}
@@ -65,7 +66,8 @@ pub total-yes : (g : Worker → Option Worker) (s v : State) (w n : ℕ) (x y : 
     → x ≡ get_or v.workers w x → b ≡ true → IsChanged (g x) b x y
     → IsChanged (at_worker (slice_get s.workers w) (λ x. put_total n (put w s (g x)))) true s (with_total (v.total + n) (with w y.deque y.hand v))
 total-yes g s v w n x y b e h get is i =
-    subst (λ (z : State). IsChanged (at_worker (slice_get z.workers w) (λ x. put_total n (put w z (g x)))) true z (with_total (v.total + n) (with w y.deque y.hand v))) e
+    subst (λ (z : State). IsChanged (at_worker (slice_get z.workers w) (λ x. put_total n (put w z (g x)))) true z
+    (with_total (v.total + n) (with w y.deque y.hand v))) e
     (subst (λ (o : Option Worker). IsChanged (at_worker o (λ x. put_total n (put w v (g x)))) true v (with_total (v.total + n) (with w y.deque y.hand v)))
     (sym (there v.workers w x h get))
     (total-yes-by (g x) v w n x y (subst (λ (c : Bool). IsChanged (g x) c x y) is i)))
@@ -134,8 +136,8 @@ not-dropped-by : (o : Option (Progress × Worker)) (v : State) (w : ℕ) (x y : 
 not-dropped-by None v w x y at i = (refl, with-same v w x y at i.1)
 not-dropped-by (Some gone) v w x y at i = absurd (let e = i.0 in cc)
 
-pub dropped-seen : (g : Worker → Option (Progress × Worker)) (b : ℕ) (s v : State) (w : ℕ) (x y : Worker) (r : Option Progress) (h : Progress) (ds : List Progress)
-    → v ≡ s → b < v.total → w < length v.workers → x ≡ get_or v.workers w x → r ≡ Some h → ds ≡ v.dropped ++ h ∷ [] → IsLetGo (g x) r x y
+pub dropped-seen : (g : Worker → Option (Progress × Worker)) (b : ℕ) (s v : State) (w : ℕ) (x y : Worker) (r : Option Progress) (h : Progress)
+    (ds : List Progress) → v ≡ s → b < v.total → w < length v.workers → x ≡ get_or v.workers w x → r ≡ Some h → ds ≡ v.dropped ++ h ∷ [] → IsLetGo (g x) r x y
     → IsChanged (cond (nat_lt b s.total) (at_worker (slice_get s.workers w) (λ x. put_dropped w s (g x))) None) true s
     (record { workers = set v.workers w y; finished = v.finished; dropped = ds; total = v.total })
 dropped-seen g b s v w x y r h ds e over lt get is more i =

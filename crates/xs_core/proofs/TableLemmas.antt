@@ -95,7 +95,7 @@ pub not-found-past : (xs : List PieceFacts) (i : ℕ) (p : Place)
     → IsPartitionPoint (λ (y : PieceFacts). below y.place p ≡ true) (λ y. below y.place p ≡ false) xs i → length xs ≤ i → find_facts xs p ≡ None
 not-found-past xs i p point past = find-none xs p (λ k d lt. front-differs xs i p point.0 k d (omega (arith, lt, past)))
 
--- behind the point, where its place is another one
+-- after the point, where its place is another one
 back-by : (a x p : Place) (t : Bool) → bytes_eq a p ≡ t → below a x ≡ false → below x p ≡ false → bytes_eq x p ≡ false → bytes_eq a p ≡ false
 back-by a x p false e far high other = e
 back-by a x p true e far high other =

@@ -44,7 +44,7 @@ opening others = record { workers = worker ([] ∷ []) None ∷ idle others; fin
 abbrev pub Has : State → ℕ → List Place → Option Progress → Type 0
 Has s w ps hand = slice_get s.workers w ≡ Some (worker ps hand)
 
--- the same state, but for that worker
+-- the same state, except for that worker
 abbrev pub with : ℕ → List Place → Option Progress → State → State
 with w ps hand s = record { workers = set s.workers w (worker ps hand); finished = s.finished; dropped = s.dropped; total = s.total }
 

@@ -57,7 +57,8 @@ impl Seat {
 
     /// Puts a place at the end of the deque.
     pub(crate) fn push(&mut self, place: Place) -> Result<(), AllocError>
-        ensures pushed { OnOk result (self.new ≡ worker (self.old.deque ++ place ∷ []) self.old.hand) }
+        ensures pushed { OnOk result
+            (self.new ≡ worker (self.old.deque ++ place ∷ []) self.old.hand) }
         ensures refused { OnErr result (self.new ≡ self.old) }
     {
         self.deque.push_back(place)?;

@@ -3,6 +3,9 @@ use Rattle.std.specs.Prelude.{◌≡◌, ◌∷◌, [], ℕ, List, Option, Some,
 use Rattle.xs_core.specs.declared.piece.Progress.{Progress}
 use Rattle.xs_core.specs.Machine.{Place, Worker, State, worker, with}
 
+abbrev pub parts : List Worker → List Place → List Progress → ℕ → State
+parts ws fs ds n = record { workers = ws; finished = fs; dropped = ds; total = n }
+
 -- a thing that was changed where it could be, and is as it was where it could not
 abbrev pub IsChanged : {X : Type 0} → Option X → Bool → X → X → Type 0
 IsChanged None b old new = (b ≡ false) × (new ≡ old)
