@@ -26,6 +26,7 @@ Answers f budget s step (Ok true) n = IsStep f budget s step n
 Answers f budget s step (Ok false) n = (n ≡ s) × ((m : State) → ¬ IsStep f budget s step m)
 Answers f budget s step (Err e) n = n ≡ s
 
+-- the place in a hand, if there is one
 abbrev pub place_in : Option Progress → List Place
 place_in None = []
 place_in (Some h) = h.place ∷ []

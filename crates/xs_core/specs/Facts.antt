@@ -10,10 +10,12 @@ abbrev pub find_facts : List PieceFacts → Place → Option PieceFacts
 find_facts [] p = None
 find_facts (x ∷ xs) p = if bytes_eq x.place p then Some x else find_facts xs p
 
+-- the ticks of the facts that were found
 abbrev pub ticks_in : Option PieceFacts → ℕ
 ticks_in None = 0
 ticks_in (Some x) = x.ticks
 
+-- the holes of the facts that were found
 abbrev pub holes_in : Option PieceFacts → ℕ
 holes_in None = 0
 holes_in (Some x) = x.holes

@@ -3,12 +3,12 @@ use Rattle.std.specs.Prelude.{◌≡◌, ◌<◌, ◌≤◌, ◌+◌, ◌++◌, 
 use Rattle.xs_core.specs.declared.piece.Progress.{Progress}
 use Rattle.xs_core.specs.Machine.{Place, Facts, Worker, State}
 
--- a weight of each item, summed
+-- the sum of the weights of all items
 abbrev pub total : {X : Type 0} → (X → ℕ) → List X → ℕ
 total f [] = 0
 total f (x ∷ xs) = f x + total f xs
 
--- of a hand, 0 where it is empty
+-- the weight of the piece in a hand, 0 where it is empty
 abbrev pub of_hand : (Progress → ℕ) → Option Progress → ℕ
 of_hand f None = 0
 of_hand f (Some h) = f h
@@ -18,10 +18,11 @@ abbrev pub children : (Place → ℕ) → Place → ℕ → ℕ
 children weight p zero = 0
 children weight p (suc n) = children weight p n + weight (p ++ n ∷ [])
 
--- the weights of the places that a worker has, and of the children that the piece in its hand has given
+-- the weights of the places that a worker has
 abbrev pub places_of : (Place → ℕ) → Worker → ℕ
 places_of weight w = total weight w.deque + of_hand (λ h. weight h.place) w.hand
 
+-- the weights of the children that the piece in its hand has given
 abbrev pub children_of : (Place → ℕ) → Worker → ℕ
 children_of weight w = of_hand (λ h. children weight h.place h.given) w.hand
 
@@ -39,19 +40,22 @@ born weight f s =
 abbrev pub spending : Facts → State → ℕ
 spending f s = total (λ w. of_hand (λ h. h.spent) w.hand) s.workers + (total f.ticks s.finished + total (λ h. h.spent) s.dropped)
 
--- no more was spent or given than the piece has
+-- a piece has spent and given no more than its facts allow
 pub record IsWithin (f : Facts) (h : Progress) : Type 0 where
   pub spent : h.spent ≤ f.ticks h.place
   pub given : h.given ≤ f.holes h.place
 
+-- so has the piece in a hand, if there is one
 abbrev pub HandWithin : Facts → Option Progress → Type 0
 HandWithin f None = Unit {0}
 HandWithin f (Some h) = IsWithin f h
 
+-- so have the pieces in all hands
 abbrev pub HandsWithin : Facts → List Worker → Type 0
 HandsWithin f [] = Unit {0}
 HandsWithin f (w ∷ ws) = HandWithin f w.hand × HandsWithin f ws
 
+-- so has each piece of a list
 abbrev pub PiecesWithin : Facts → List Progress → Type 0
 PiecesWithin f [] = Unit {0}
 PiecesWithin f (h ∷ hs) = IsWithin f h × PiecesWithin f hs

@@ -25,18 +25,20 @@ pub record State : Type 0 where
   pub dropped : List Progress
   pub total : ℕ
 
+-- a worker with this deque and this hand
 abbrev pub worker : List Place → Option Progress → Worker
 worker ps hand = record { deque = ps; hand = hand }
 
--- a piece of which nothing is done
+-- a piece that was just taken: nothing is spent on it, and it has given no child
 abbrev pub fresh : Place → Progress
 fresh p = record { place = p; spent = 0; given = 0 }
 
+-- so many workers that have nothing
 abbrev pub idle : ℕ → List Worker
 idle zero = []
 idle (suc n) = worker [] None ∷ idle n
 
--- at the start the first worker has the root's place in its deque, and so many others have nothing
+-- the start: the first worker has the root's place in its deque, and so many other workers have nothing
 abbrev pub opening : ℕ → State
 opening others = record { workers = worker ([] ∷ []) None ∷ idle others; finished = []; dropped = []; total = 0 }
 
@@ -44,16 +46,19 @@ opening others = record { workers = worker ([] ∷ []) None ∷ idle others; fin
 abbrev pub Has : State → ℕ → List Place → Option Progress → Type 0
 Has s w ps hand = slice_get s.workers w ≡ Some (worker ps hand)
 
--- the same state, except for that worker
+-- the same state, where that worker has this deque and this hand
 abbrev pub with : ℕ → List Place → Option Progress → State → State
 with w ps hand s = record { workers = set s.workers w (worker ps hand); finished = s.finished; dropped = s.dropped; total = s.total }
 
+-- with another total
 abbrev pub with_total : ℕ → State → State
 with_total n s = record { workers = s.workers; finished = s.finished; dropped = s.dropped; total = n }
 
+-- with one more finished place
 abbrev pub with_finished : Place → State → State
 with_finished p s = record { workers = s.workers; finished = s.finished ++ p ∷ []; dropped = s.dropped; total = s.total }
 
+-- with one more dropped piece
 abbrev pub with_dropped : Progress → State → State
 with_dropped h s = record { workers = s.workers; finished = s.finished; dropped = s.dropped ++ h ∷ []; total = s.total }
 

@@ -3,6 +3,7 @@
 ghost use Rattle.std.specs.Prelude.{◌≡◌, ◌≤◌, IfOk};
 ghost use Rattle.xs_core.specs.Answer.{Answers, IsNew, places_in};
 ghost use Rattle.xs_core.specs.Facts.{AreFew, facts_of};
+ghost use Rattle.xs_core.specs.Good.{IsGood};
 
 use crate::facts::Table;
 use crate::parts::Parts;
@@ -66,8 +67,9 @@ impl Core {
     }
 
     /// The places of all parts of the state: of each worker its deque and its hand, then what is
-    /// finished, then what was dropped.
+    /// finished, then what was dropped. The state is good, so no place comes twice.
     pub fn places(&self) -> Result<Vec<Place>, AllocError>
+        ensures good { IsGood (facts_of self.now.facts) self.now.budget self.now.state }
         ensures places { IfOk result (λ places. places.items ≡ places_in self.now.state) }
     {
         self.parts.places()

@@ -3,6 +3,7 @@ use Rattle.std.specs.Prelude.{◌≡◌, ◌∷◌, [], ℕ, List, Option, Some,
 use Rattle.xs_core.specs.declared.piece.Progress.{Progress}
 use Rattle.xs_core.specs.Machine.{Place, Worker, State, worker, with}
 
+-- the state of these parts
 abbrev pub parts : List Worker → List Place → List Progress → ℕ → State
 parts ws fs ds n = record { workers = ws; finished = fs; dropped = ds; total = n }
 
@@ -26,11 +27,12 @@ abbrev pub lifted : List Place → Option Progress → Option (Progress × Worke
 lifted ps None = None
 lifted ps (Some h) = Some (h, worker ps None)
 
--- the hand, where its piece has given or spent so many
+-- the hand, where its piece has given so many children
 abbrev pub with_given : ℕ → Option Progress → Option Progress
 with_given n None = None
 with_given n (Some h) = Some (record h { given = n })
 
+-- or has spent so many ticks
 abbrev pub with_spent : ℕ → Option Progress → Option Progress
 with_spent n None = None
 with_spent n (Some h) = Some (record h { spent = n })
@@ -63,6 +65,7 @@ abbrev pub is_idle_at : Option Worker → Bool
 is_idle_at None = false
 is_idle_at (Some x) = has_nothing x.hand x.deque
 
+-- whether no place is there
 abbrev pub is_empty : List Place → Bool
 is_empty [] = true
 is_empty (p ∷ ps) = false
