@@ -5,7 +5,7 @@ use Rattle.std.specs.Prelude.{◌&&◌, not}
 use Rattle.std.specs.Cmp.{IsStrictWeakOrder, IsTotalOrder}
 use Rattle.std.specs.Cmp.Lexicographic.{slice_cmp}
 use Rattle.std.specs.List.{AllWithin, filter, sum_by}
-use Rattle.std.specs.List.Sorted.{IsPartitionedBy, IsPartitionPoint, IsPermutation, IsStableBy, ties}
+use Rattle.std.specs.List.Sorted.{IsPartitionedBy, IsPermutation, IsStableBy, ties}
 use Rattle.std.specs.Ordering.{is_eq, is_lt, nat_cmp, ordering_reverse}
 use Rattle.std.specs.declared.cmp.Ordering.{Ordering}
 use Rattle.std.specs.declared.cmp.Ordering.TheVariants.{Less, Equal, Greater}
@@ -20,12 +20,9 @@ use Rattle.xs_core.specs.declared.piece.PieceFacts.{PieceFacts}
 use Rattle.xs_core.specs.Facts.{AreFew, find_facts}
 use Rattle.xs_core.specs.Machine.{Place}
 use Rattle.xs_core.specs.Good.{total}
-use Rattle.xs_core.specs.steps.Table.{IsSorted, is_before}
+use Rattle.xs_core.specs.steps.Table.{IsPoint, IsSorted, is_before, is_below}
 
 -- ---- places compared
-
-abbrev below : Place → Place → Bool
-below a b = is_lt (slice_cmp nat_cmp a b)
 
 pub compared : (a b : List ℕ) → is_eq (slice_cmp nat_cmp a b) ≡ bytes_eq a b
 compared a b =
@@ -36,7 +33,7 @@ less-not-equal Less h = refl
 less-not-equal Equal h = absurd (true≢false (sym h))
 less-not-equal Greater h = refl
 
-below-differs : (a b : Place) → below a b ≡ true → bytes_eq a b ≡ false
+below-differs : (a b : Place) → is_below a b ≡ true → bytes_eq a b ≡ false
 below-differs a b h = sym (compared a b) ∙ less-not-equal (slice_cmp nat_cmp a b) h
 
 neither : (o q : Ordering) → q ≡ ordering_reverse o → is_lt o ≡ false → is_lt q ≡ false → is_eq o ≡ true
@@ -44,7 +41,7 @@ neither Less q e h k = absurd (true≢false h)
 neither Equal q e h k = refl
 neither Greater q e h k = absurd (true≢false (sym (ap is_lt e) ∙ k))
 
-not-below-same : (a b : Place) → below a b ≡ false → below b a ≡ false → bytes_eq a b ≡ true
+not-below-same : (a b : Place) → is_below a b ≡ false → is_below b a ≡ false → bytes_eq a b ≡ true
 not-below-same a b h k =
     let order : IsTotalOrder (slice_cmp nat_cmp) = nat_list_cmp_total in
     sym (compared a b) ∙ neither (slice_cmp nat_cmp a b) (slice_cmp nat_cmp b a) (order.antisymm b a) h k
@@ -71,35 +68,35 @@ find-at (y ∷ xs) (suc i) x p h e same =
 
 -- ---- halving
 
-parted-by : (a b p : Place) (t : Bool) → below a p ≡ t → below b p ≡ true → below b a ≡ false → below a p ≡ true
+parted-by : (a b p : Place) (t : Bool) → is_below a p ≡ t → is_below b p ≡ true → is_below b a ≡ false → is_below a p ≡ true
 parted-by a b p true e low far = e
 parted-by a b p false e low far =
-    let order : IsStrictWeakOrder below = ranks_by nat_list_cmp_total (λ x. x) in
+    let order : IsStrictWeakOrder is_below = ranks_by nat_list_cmp_total (λ x. x) in
     absurd (true≢false (sym low ∙ order.chain b a p far e))
 
-pub parted : (xs : List PieceFacts) (p : Place) → IsSorted xs → IsPartitionedBy (λ y. below y.place p) xs
+pub parted : (xs : List PieceFacts) (p : Place) → IsSorted xs → IsPartitionedBy (λ y. is_below y.place p) xs
 parted xs p up = λ i j d le lt low.
-    parted-by (get_or xs i d).place (get_or xs j d).place p (below (get_or xs i d).place p) refl low (sorted_far is_before weak xs up i j d le lt)
+    parted-by (get_or xs i d).place (get_or xs j d).place p (is_below (get_or xs i d).place p) refl low (sorted_far is_before weak xs up i j d le lt)
 
 -- before the point all places differ
-front-differs : (xs : List PieceFacts) (i : ℕ) (p : Place) → AllWithin (λ (y : PieceFacts). below y.place p ≡ true) xs 0 i
+front-differs : (xs : List PieceFacts) (i : ℕ) (p : Place) → AllWithin (λ (y : PieceFacts). is_below y.place p ≡ true) xs 0 i
     → (k : ℕ) (d : PieceFacts) → k < i → bytes_eq (get_or xs k d).place p ≡ false
 front-differs xs i p low = λ k d lt. below-differs (get_or xs k d).place p (low k d (omega arith) lt)
 
 pub found : (xs : List PieceFacts) (i : ℕ) (x : PieceFacts) (p : Place)
-    → IsPartitionPoint (λ (y : PieceFacts). below y.place p ≡ true) (λ y. below y.place p ≡ false) xs i → slice_get xs i ≡ Some x
+    → IsPoint xs p i → slice_get xs i ≡ Some x
     → is_eq (slice_cmp nat_cmp x.place p) ≡ true → find_facts xs p ≡ Some x
 found xs i x p point at same = find-at xs i x p (front-differs xs i p point.0) at (sym (compared x.place p) ∙ same)
 
 pub not-found-past : (xs : List PieceFacts) (i : ℕ) (p : Place)
-    → IsPartitionPoint (λ (y : PieceFacts). below y.place p ≡ true) (λ y. below y.place p ≡ false) xs i → length xs ≤ i → find_facts xs p ≡ None
+    → IsPoint xs p i → length xs ≤ i → find_facts xs p ≡ None
 not-found-past xs i p point past = find-none xs p (λ k d lt. front-differs xs i p point.0 k d (omega (arith, lt, past)))
 
 -- after the point, where its place is another one
-back-by : (a x p : Place) (t : Bool) → bytes_eq a p ≡ t → below a x ≡ false → below x p ≡ false → bytes_eq x p ≡ false → bytes_eq a p ≡ false
+back-by : (a x p : Place) (t : Bool) → bytes_eq a p ≡ t → is_below a x ≡ false → is_below x p ≡ false → bytes_eq x p ≡ false → bytes_eq a p ≡ false
 back-by a x p false e far high other = e
 back-by a x p true e far high other =
-    let at : below p x ≡ false = sym (ap (λ z. below z x) ((bytes_eq-Decides a p).0 e)) ∙ far in
+    let at : is_below p x ≡ false = sym (ap (λ z. is_below z x) ((bytes_eq-Decides a p).0 e)) ∙ far in
     absurd (true≢false (sym (not-below-same x p high at) ∙ other))
 
 get-there : (xs : List PieceFacts) (i : ℕ) (x d : PieceFacts) → slice_get xs i ≡ Some x → get_or xs i d ≡ x
@@ -113,13 +110,13 @@ get-within (y ∷ xs) zero x e = omega arith
 get-within (y ∷ xs) (suc i) x e = let a = get-within xs i x e in omega arith
 
 back-differs : (xs : List PieceFacts) (i : ℕ) (x : PieceFacts) (p : Place) → IsSorted xs
-    → AllWithin (λ (y : PieceFacts). below y.place p ≡ false) xs i (length xs) → slice_get xs i ≡ Some x → bytes_eq x.place p ≡ false
+    → AllWithin (λ (y : PieceFacts). is_below y.place p ≡ false) xs i (length xs) → slice_get xs i ≡ Some x → bytes_eq x.place p ≡ false
     → (k : ℕ) (d : PieceFacts) → i ≤ k → k < length xs → bytes_eq (get_or xs k d).place p ≡ false
 back-differs xs i x p up high at other = λ k d le lt.
     let is : get_or xs i d ≡ x = get-there xs i x d at in
-    let far : below (get_or xs k d).place x.place ≡ false =
-    sym (ap (λ (z : PieceFacts). below (get_or xs k d).place z.place) is) ∙ sorted_far is_before weak xs up i k d le lt in
-    let low : below x.place p ≡ false = sym (ap (λ (z : PieceFacts). below z.place p) is) ∙ high i d (omega arith) (get-within xs i x at) in
+    let far : is_below (get_or xs k d).place x.place ≡ false =
+    sym (ap (λ (z : PieceFacts). is_below (get_or xs k d).place z.place) is) ∙ sorted_far is_before weak xs up i k d le lt in
+    let low : is_below x.place p ≡ false = sym (ap (λ (z : PieceFacts). is_below z.place p) is) ∙ high i d (omega arith) (get-within xs i x at) in
     back-by (get_or xs k d).place x.place p (bytes_eq (get_or xs k d).place p) refl far low other
 
 either : (xs : List PieceFacts) (i : ℕ) (p : Place) → ((k : ℕ) (d : PieceFacts) → k < i → bytes_eq (get_or xs k d).place p ≡ false)
@@ -129,7 +126,7 @@ either xs i p front back k d lt true e = front k d (grind (arith, nat_tests, e))
 either xs i p front back k d lt false e = back k d (grind (arith, nat_tests, e)) lt
 
 pub not-found : (xs : List PieceFacts) (i : ℕ) (x : PieceFacts) (p : Place) → IsSorted xs
-    → IsPartitionPoint (λ (y : PieceFacts). below y.place p ≡ true) (λ y. below y.place p ≡ false) xs i → slice_get xs i ≡ Some x
+    → IsPoint xs p i → slice_get xs i ≡ Some x
     → is_eq (slice_cmp nat_cmp x.place p) ≡ false → find_facts xs p ≡ None
 not-found xs i x p up point at other =
     let differs : bytes_eq x.place p ≡ false = sym (compared x.place p) ∙ other in

@@ -2,6 +2,7 @@
 
 ghost use Rattle.std.specs.Prelude.{◌≡◌, IfOk, option_map};
 ghost use Rattle.xs_core.specs.Facts.{AreFew, facts_of, find_facts};
+ghost use Rattle.xs_core.specs.steps.Table.{IsPoint};
 
 use crate::piece::PieceFacts;
 use std::alloc::{AllocError, Global};
@@ -57,13 +58,19 @@ impl Table {
         }
     }
 
-    /// The facts of a place, found by halving.
+    /// The index of the first facts that are not of an earlier place, found by halving.
+    fn point(&self, place: &Place) -> usize
+        ensures point { IsPoint self.now place.now result }
+    {
+        let pieces = self.pieces.as_slice();
+        pieces.partition_point(|x| compare_places(&x.place, place).is_lt())
+    }
+
+    /// The facts of a place.
     fn find(&self, place: &Place) -> Option<&PieceFacts>
         ensures found { option_map (λ x. x.now) result ≡ find_facts self.now place.now }
     {
-        let pieces = self.pieces.as_slice();
-        let index = pieces.partition_point(|x| compare_places(&x.place, place).is_lt());
-        let Some(piece) = pieces.get(index) else {
+        let Some(piece) = self.pieces.get(self.point(place)) else {
             return None;
         };
         if compare_places(&piece.place, place).is_eq() {
