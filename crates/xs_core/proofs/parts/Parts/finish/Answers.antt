@@ -14,8 +14,8 @@ returns-in_default c =
     ap (λ (fs : List Place). parts c.self.inside.seats.items fs c.self.inside.dropped.items c.self.inside.total)
     c.reserve.ensures.items ∙ c.self.view_is in
     record {
-      finished = not-finished-seen (done (facts_of c.args.facts.now)) c.args.self.now v c.args.worker c.index_mut.result.now c.finish.new.self c.finish.result same
-          inside c.index_mut.ensures.value c.in_default.is c.finish.ensures.finished;
+      finished = not-finished-seen (done (facts_of c.args.facts.now)) c.args.self.now v c.args.worker c.index_mut.result.now c.finish.new.self
+          c.finish.result same inside c.index_mut.ensures.value c.in_default.is c.finish.ensures.finished;
     }
 
 pub returns : goal.returns
