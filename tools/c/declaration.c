@@ -131,7 +131,7 @@ struct moved standing_alone(char *head, size_t *length) {
     const char *wide = wide_encoding(head, *length);
     struct units units = {(unsigned char *)head, *length, 1, false};
     if (wide)
-        units = (struct units){(unsigned char *)head, *length / 2, 2, strcmp(wide, "UTF-16BE") == 0};
+        units = (struct units){units.bytes, *length / 2, 2, strcmp(wide, "UTF-16BE") == 0};
     size_t odd = *length - units.count * units.width, mark = after_mark(&units);
     char rest = odd ? head[*length - 1] : 0;
     struct moved moved = {1, 0};

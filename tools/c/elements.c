@@ -6,7 +6,7 @@
 #include "characters.h"
 #include "names.h"
 
-/* An `A` line of the start whose attributes are still read; its texts stand in a store. */
+/* An `A` line of the start whose attributes are still read; its texts are in a store. */
 struct attribute {
     unsigned long number;
     size_t name, name_length;

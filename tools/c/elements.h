@@ -18,7 +18,7 @@ struct store {
 struct elements {
     struct output *out;
     struct refusal *refusal; /* what is refused, out of memory too, is noted here */
-    bool is_fragment;        /* any number of elements may stand at the top */
+    bool is_fragment;        /* any number of elements may be at the top */
     bool has_top;
     struct scopes scopes;
     struct store names;       /* of the open elements, one after the other */

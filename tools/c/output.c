@@ -43,7 +43,7 @@ static int open_temporary(int *file) {
     return fault;
 }
 
-/* Writes what is in the buffer but for so many last bytes, which move to its begin. */
+/* Writes what is in the buffer except so many last bytes, which move to its beginning. */
 static void write_buffer(struct output *out, size_t kept) {
     if (out->used <= kept)
         return;

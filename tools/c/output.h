@@ -25,7 +25,7 @@ struct output {
  * output_finish: for results of which a beginning may look whole. False: out of memory. */
 bool output_open(struct output *out, int target, bool is_held);
 
-/* Empties the buffer but for its last byte. */
+/* Empties the buffer except for its last byte. */
 void output_flush(struct output *out);
 
 /* Writes all that is left, the last byte too. False: `fault` says why not. */

@@ -147,11 +147,11 @@ static void add_line(struct converter *to, const struct line *line) {
         add_instruction(to, line->number, name, text);
 }
 
-/* Converts all lines, or up to the first that is refused. */
-static void convert(struct converter *to) {
-    struct line line = {.number = 0};
+/* Converts lines up to the last one, or the first that is refused; of a refused text all parts. */
+static void convert_lines(struct converter *to) {
+    struct line line;
     bool is_text = false;
-    while ((!is_refused(&to->refusal) || !line.ends) && !to->out.fault && lines_next(&to->lines, &line)) {
+    while (!to->out.fault && lines_next(&to->lines, &line)) {
         if (line.begins) {
             is_text = line.length > 0 && line.bytes[0] == '-';
             if (is_text)
@@ -163,7 +163,14 @@ static void convert(struct converter *to) {
             add_text(to, &line);
         else
             add_line(to, &line);
+        if (line.ends && is_refused(&to->refusal))
+            return;
     }
+}
+
+/* Converts all lines. */
+static void convert(struct converter *to) {
+    convert_lines(to);
     if (is_refused(&to->refusal) || to->out.fault || to->lines.fault)
         return;
     finish_start(&to->elements, false);

@@ -2,11 +2,11 @@
  *
  * usage: xml2pyx [--drop-doctype] [--lines TABLE] [FILE]
  *
- * One pass over a file or a pipe, with memory for one tag, the open elements and the
- * bindings in scope. Lines are written while the document is read; their last line feed
- * comes only when all of it was found well-formed, so that a beginning is no document. A
- * document that is refused gets FILE:LINE:COLUMN and the reason on standard error, and
- * status 1.
+ * One pass over a file or a pipe, with memory for one tag, the open elements, the
+ * bindings in scope and the bytes that are read at once. Lines are written while the
+ * document is read; their last line feed comes only when all of it was found well-formed,
+ * so that a beginning is no document. A document that is refused gets FILE:LINE:COLUMN and
+ * the reason on standard error, and status 1.
  *
  * expat without namespaces gives declarations and attributes in their order; the rules
  * of namespaces are tested here. Where there is a document type declaration a second
@@ -22,6 +22,7 @@
 #include <string.h>
 #include <unistd.h>
 
+#include "chunks.h"
 #include "declaration.h"
 #include "encodings.h"
 #include "escapes.h"
@@ -29,7 +30,7 @@
 #include "output.h"
 #include "table.h"
 
-enum { CHUNK = 1 << 16, REASON = 128, REFUSED = 1, USAGE = 2 };
+enum { REASON = 128, REFUSED = 1, USAGE = 2 };
 
 struct options {
     bool drops_doctype;
@@ -55,6 +56,7 @@ struct converter {
     size_t depth;
     char encoding[64]; /* for reading a tag alone; empty: UTF-8 */
     bool in_text, is_blank, in_doctype, has_doctype, has_root, is_out_of_memory;
+    bool is_inside; /* a token: nothing came of the latest bytes */
 };
 
 /* Keeps the least of the refusals: by place, and at one place by reason. */
@@ -88,7 +90,7 @@ static void note_place(struct converter *to) {
 static void begin_line(struct converter *to, char kind) {
     if (to->in_text)
         output_byte(&to->out, '\n');
-    to->in_text = false;
+    to->in_text = to->is_inside = false;
     output_byte(&to->out, kind);
     note_place(to);
 }
@@ -172,6 +174,7 @@ static void text(void *data, const char *text, int length) {
         begin_line(to, '-');
         to->in_text = to->is_blank = true;
     }
+    to->is_inside = false;
     put_escaped(&to->out, text, (size_t)length);
     if (to->table.rows && to->is_blank)
         place_text(to, text, length);
@@ -288,20 +291,6 @@ static bool feed(struct converter *to, const char *bytes, size_t length) {
     return !to->refusal.is_set && !to->is_out_of_memory && !to->out.fault && !to->table.fault;
 }
 
-/* Reads until the chunk is full or the file ends: 0, or the errno. */
-static int read_chunk(int file, char *chunk, size_t *length) {
-    *length = 0;
-    while (*length < CHUNK) {
-        ssize_t got = read(file, chunk + *length, CHUNK - *length);
-        if (got < 0 && errno != EINTR)
-            return errno;
-        if (got == 0)
-            return 0;
-        *length += got > 0 ? (size_t)got : 0;
-    }
-    return 0;
-}
-
 /* Learns the encoding from the first bytes, and makes the document stand alone. */
 static void begin(struct converter *to, char *head, size_t *length) {
     const char *wide = wide_encoding(head, *length);
@@ -313,18 +302,21 @@ static void begin(struct converter *to, char *head, size_t *length) {
 
 /* Converts the whole file: 0, or the errno of a read. */
 static int convert(struct converter *to, int file) {
-    char chunk[CHUNK + DECLARATION_ROOM];
-    bool is_first = true;
-    size_t length;
-    do {
-        int fault = read_chunk(file, chunk, &length);
-        if (fault)
-            return fault;
-        if (is_first)
-            begin(to, chunk, &length);
+    struct chunk chunk = {NULL, 0, 0};
+    int fault = 0;
+    bool is_first = true, goes_on = true;
+    while (goes_on) {
+        fault = chunk_fit(&chunk, to->is_inside);
+        if (!fault)
+            fault = chunk_read(&chunk, file);
+        if (!fault && is_first)
+            begin(to, chunk.bytes, &chunk.length);
         is_first = false;
-    } while (feed(to, chunk, length) && length > 0);
-    return 0;
+        to->is_inside = true;
+        goes_on = !fault && feed(to, chunk.bytes, chunk.length) && chunk.length > 0;
+    }
+    free(chunk.bytes);
+    return fault;
 }
 
 static int complain(const char *name, const char *reason) {

@@ -1,5 +1,7 @@
 """What is wrong in an element of a stylesheet, in the words of whoever wrote it."""
 
+from __future__ import annotations
+
 from dataclasses import dataclass
 
 from lib import xpath

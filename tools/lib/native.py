@@ -19,7 +19,7 @@ FLAGS = ["-std=gnu11", "-O2"]
 # Of each program its files and libraries.
 PROGRAMS = {
     "xml2pyx": (
-        ["xml2pyx", "declaration", "encodings", "escapes", "namespaces", "output", "scopes", "table"],
+        ["xml2pyx", "chunks", "declaration", "encodings", "escapes", "namespaces", "output", "scopes", "table"],
         ["-lexpat"],
     ),
     "pyx2xml": (

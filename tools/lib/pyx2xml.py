@@ -6,7 +6,7 @@ What is written is UTF-8 without a declaration, and any XML parser reads the sam
 elements, declarations, attributes, texts, comments and processing instructions
 from it: nothing is indented, and what a parser would change is written as a
 character reference. With --fragment the lines need not have a single top element:
-texts and any number of elements may stand at the top, as in a result that is a
+texts and any number of elements may be at the top, as in a result that is a
 piece of a document.
 
 Malformed lines get one line on standard error, FILE:LINE with the fault's name, and
@@ -89,7 +89,7 @@ def bad_binding(prefix, uri):
 
 
 class Converter:
-    """Reads lines one by one and keeps the XML that they stand for."""
+    """Reads lines one by one and keeps the XML that they represent."""
 
     def __init__(self, out, fragment):
         self.out = out

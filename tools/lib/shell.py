@@ -149,7 +149,7 @@ class Shell:
         return status, fault
 
     def execute(self, inputs, source, result):
-        """Runs the program in the folder and passes on what it says but for a fault: that, and the status."""
+        """Runs the program in the folder and passes on what it says except a fault: the status, and the fault."""
         command = [self.program, *self.options.passed_on, *inputs]
         try:
             program = subprocess.Popen(

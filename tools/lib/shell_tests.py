@@ -19,7 +19,7 @@ SHEET = '<x:stylesheet xmlns:x="http://www.w3.org/1999/XSL/Transform" version="1
 BODY = SHEET.format('<x:output method="text"/><x:template match="/">\n{}\n</x:template>')
 
 # Files by their names, the arguments of tools/xslt-xml, and what comes: the status, the result, and what is reported with --raw, in which
-# MODULE.pyx stands for the name in the folder.
+# MODULE.pyx is the name in the folder.
 RUNS = {
     "a result": (
         {"s.xsl": SHEET.format(""), "r.xml": "<r>é\n<i/></r>"},
@@ -284,7 +284,7 @@ def programs():
 
 
 def reported(text):
-    """What is reported but for the messages of a stylesheet, which the one in the place of the real one has."""
+    """What is reported except the messages of a stylesheet, which the one in the place of the real one has."""
     return "".join(line for line in text.splitlines(True) if not re.match(r"(--check )?0\.pyx", line))
 
 

@@ -1,8 +1,8 @@
 #!/usr/bin/env python3
-"""A program in the place of xslt, for the tests of tools/xslt-xml: it finds faults by single words.
+"""A program in the place of xslt, for the tests of tools/xslt-xml: it finds faults by single texts.
 
 It reads a stylesheet's lines with the modules that they mention, refuses what has one of
-the words of RULES, and gives the source's lines as the result. A parameter a=N is the status.
+the texts of RULES, and gives the source's lines as the result. A parameter a=N is the status.
 """
 
 import sys

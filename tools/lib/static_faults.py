@@ -174,7 +174,7 @@ def global_bindings(modules):
 
 
 def local_bindings(element):
-    """The variables and parameters that are visible at an element, but for global ones: from the inside."""
+    """The variables and parameters that are visible at an element, except global ones: from the inside."""
     while element.parent and element.parent.parent:
         place = element.parent.children.index(element)
         yield from (each for each in element.parent.children[:place][::-1] if each.is_a("variable", "param"))

@@ -101,14 +101,14 @@ class Converter:
         self.is_blank = True  # the text so far is white space
         self.in_doctype = False
         self.moved = (1, 0)
-        # expat without namespaces tells declarations and attributes in their order;
+        # expat without namespaces gives declarations and attributes in their order;
         # a second reader, with namespaces, hears nothing and tests the namespace rules.
         self.reader = expat.ParserCreate()
         self.tester = expat.ParserCreate(namespace_separator="\x01")
         reader = self.reader
         reader.ordered_attributes = True
         if places is None:
-            # A text that is joined by expat is told where it ends, and not where it begins.
+            # Of a text that is joined by expat one learns where it ends, and not where it begins.
             reader.buffer_text = True
             reader.buffer_size = CHUNK
         reader.StartElementHandler = self.start

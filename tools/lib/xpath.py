@@ -1,5 +1,7 @@
 """Reads expressions of XPath 1.0 as far as messages need: where one stops, and what it refers to."""
 
+from __future__ import annotations
+
 import re
 from dataclasses import dataclass, field
 

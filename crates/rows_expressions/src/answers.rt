@@ -13,6 +13,16 @@ pub(crate) fn add_answer(
 ) -> Result<(), RowError> {
     let input = unescaped(settings.alloc, input)?;
     let (call, rest) = word(input.as_str());
+    add_called(out, settings, call, rest)
+}
+
+// Appends the answer of a call.
+fn add_called(
+    out: &mut Vec<u8>,
+    settings: &Settings,
+    call: &str,
+    rest: &str,
+) -> Result<(), RowError> {
     match call {
         "value" | "compare" | "text" => evaluated::answer(out, settings, call, rest),
         "expression" | "pattern" | "template" | "bound" | "long" | "uri" | "uris" => {

@@ -9,7 +9,7 @@ use xs_text::TextFault;
 use xs_xpath::fault::ParseFault;
 
 /// Why a row has no answer.
-#[derive(Clone, Copy, Debug)]
+#[derive(Clone, Copy)]
 pub(crate) enum RowError {
     /// The row, or the setting, is none that the program knows.
     Unreadable,

@@ -37,9 +37,6 @@ const AMPLE: u64 = 1_000_000;
 // Where expressions stand.
 const SITE: Site = Site { module: 0, line: 1 };
 
-// The operators that compare.
-const OPERATORS: [&str; 6] = ["=", "!=", "<", "<=", ">", ">="];
-
 // Whether the nodes of values are in the tree.
 fn are_in(tree: &Tree, values: &[Value]) -> bool
     ensures { IsTrue result ↔ All (IsIn tree.now) values.now }
@@ -76,7 +73,8 @@ fn add_halt(out: &mut Vec<u8>, halt: Halt) -> Result<(), RowError> {
             add_count(out, u64::from(global))?;
         }
         Halt::Spent(_) => out.extend_from_slice(b"spent")?,
-        _ => return Err(RowError::NoMemory),
+        Halt::NoMemory => return Err(RowError::NoMemory),
+        Halt::Full(_) | Halt::Over { .. } => return Err(RowError::Unreadable),
     }
     Ok(())
 }
@@ -207,58 +205,85 @@ pub(crate) fn answer(
 ) -> Result<(), RowError> {
     let (place, text) = cut_place(rest)?;
     match call {
-        "value" => {
-            let asked = Asked::Expression(parsed_bound(settings, text)?);
-            add_both(out, settings, &asked, place)
-        }
-        "text" => {
-            let asked = Asked::Template(parsed_parts(settings, text)?);
-            add_both(out, settings, &asked, place)
-        }
+        "value" => value(out, settings, place, text),
+        "text" => template(out, settings, place, text),
         _ => compare(out, settings, place, text),
     }
 }
 
-// Appends how two operands compare under each operator, a letter for each, and the ticks of one
-// comparison; where they differ, of each that differs from the one before it.
-fn compare(out: &mut Vec<u8>, settings: &Settings, place: u32, text: &str) -> Result<(), RowError> {
-    let (left, right) = cut(text)?;
-    let mut costs = Vec::new(settings.alloc);
-    let mut last = None;
-    for operator in OPERATORS {
-        let text = format!(in settings.alloc; "{left} {operator} {right}")?;
-        let ticks = add_compared(out, settings, place, text.as_str())?;
-        if last != Some(ticks) {
-            costs.push(b' ')?;
-            add_count(&mut costs, ticks)?;
-        }
-        last = Some(ticks);
-    }
-    out.extend_from_slice(b" |")?;
-    Ok(out.extend_from_slice(&costs)?)
+// Appends the value of an expression at the node at a place, and its ticks.
+fn value(out: &mut Vec<u8>, settings: &Settings, place: u32, text: &str) -> Result<(), RowError> {
+    let asked = Asked::Expression(parsed_bound(settings, text)?);
+    add_both(out, settings, &asked, place)
 }
 
-// Appends the letter of how a comparison ends, and says its ticks.
-fn add_compared(
+// Appends the text of a value template at the node at a place, and its ticks.
+fn template(
     out: &mut Vec<u8>,
     settings: &Settings,
     place: u32,
     text: &str,
+) -> Result<(), RowError> {
+    let asked = Asked::Template(parsed_parts(settings, text)?);
+    add_both(out, settings, &asked, place)
+}
+
+// Appends how two operands compare under each operator, a letter for each, and the ticks of one
+// comparison. After a letter stands `?` where its comparison takes other ticks than the one before.
+fn compare(out: &mut Vec<u8>, settings: &Settings, place: u32, text: &str) -> Result<(), RowError> {
+    let (left, right) = cut(text)?;
+    let mut ticks = add_operated(out, settings, place, left, "=", right)?;
+    for operator in &["!=", "<", "<=", ">", ">="] {
+        let next = add_operated(out, settings, place, left, operator, right)?;
+        if next != ticks {
+            out.push(b'?')?;
+        }
+        ticks = next;
+    }
+    out.extend_from_slice(b" | ")?;
+    Ok(add_count(out, ticks)?)
+}
+
+// Appends the letter of how a comparison ends, and says its ticks.
+fn add_operated(
+    out: &mut Vec<u8>,
+    settings: &Settings,
+    place: u32,
+    left: &str,
+    operator: &str,
+    right: &str,
 ) -> Result<u64, RowError> {
-    let asked = Asked::Expression(parsed_bound(settings, text)?);
+    let text = format!(in settings.alloc; "{left} {operator} {right}")?;
+    let asked = Asked::Expression(parsed_bound(settings, text.as_str())?);
+    add_letter(out, settings, &asked, place)
+}
+
+// Appends the letter of how a comparison ends, and says its ticks.
+fn add_letter(
+    out: &mut Vec<u8>,
+    settings: &Settings,
+    asked: &Asked,
+    place: u32,
+) -> Result<u64, RowError> {
     let mut end = Vec::new(settings.alloc);
-    let ticks = add_tried(&mut end, settings, &asked, place)?;
+    let ticks = add_tried(&mut end, settings, asked, place)?;
     out.push(letter(&end))?;
     Ok(ticks)
 }
 
 // The letter of a comparison's end.
 fn letter(end: &[u8]) -> u8 {
-    match end {
-        b"true" => b'T',
-        b"false" => b'F',
-        b"fault 51" => b'1',
-        b"fault 52" => b'2',
-        _ => b'?',
+    if end == b"true".as_slice() {
+        return b'T';
     }
+    if end == b"false".as_slice() {
+        return b'F';
+    }
+    if end == b"fault 51".as_slice() {
+        return b'1';
+    }
+    if end == b"fault 52".as_slice() {
+        return b'2';
+    }
+    b'?'
 }

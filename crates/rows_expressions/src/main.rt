@@ -19,16 +19,13 @@ mod tables;
 mod values;
 
 use std::io::Write;
-use std::{env, fs, io};
+use std::{env, io};
 
 // Writes each row file that the arguments name, after a line with its name.
 fn main(rt: HostRuntime) -> io::Result<()> {
-    let mut out = io::writer(&rt);
+    let mut out = Vec::new(rt.alloc());
     for name in env::args(&rt)?.skip(1) {
-        let text = fs::read_to_string(&rt, name.as_str())?;
-        let answered = rows::answered(&rt, text.as_str())?;
-        println!(rt; "== {name}")?;
-        out.write_all(&answered)?;
+        rows::add_file(&mut out, &rt, name.as_str())?;
     }
-    Ok(())
+    io::writer(&rt).write_all(&out)
 }

@@ -1,11 +1,11 @@
 //! The nodes of axes, and those that match patterns.
 
 use crate::error::RowError;
-use crate::fields::{add_bool, cut_place, word};
+use crate::fields::{add_bool, add_count, cut_place, word};
 use crate::names::axis_named;
 use crate::parsed::{parsed, parsed_pattern};
 use crate::settings::Settings;
-use crate::values::add_places;
+use std::alloc::AllocError;
 use xs_axes::axis_nodes;
 use xs_eval::context::Context;
 use xs_eval::evaluate::evaluate;
@@ -32,13 +32,10 @@ pub(crate) fn answer(
             add_axis(out, settings, name, place.parse::<u32>()?)
         }
         "match" => add_both(out, settings, rest),
-        "match-faulty" => {
-            let nodes = matching(settings, &parsed_pattern(settings, rest)?)?;
-            Ok(add_places(out, &nodes)?)
-        }
+        "match-faulty" => add_matching(out, settings, rest),
         _ => {
             let (place, text) = cut_place(rest)?;
-            add_match(out, settings, place, &parsed_pattern(settings, text)?)
+            add_match(out, settings, place, text)
         }
     }
 }
@@ -54,25 +51,42 @@ fn add_axis(
     if place as usize >= settings.tree.len() {
         return Err(RowError::Unreadable);
     }
-    let mut nodes = Vec::new(settings.alloc);
     for node in axis_nodes(&settings.tree, Node::at(place), axis) {
-        nodes.push(node)?;
+        add_place(out, node)?;
     }
-    Ok(add_places(out, &nodes)?)
+    Ok(())
 }
 
-// The nodes of the document that match a pattern.
-fn matching(settings: &Settings, pattern: &Pattern) -> Result<Vec<Node>, RowError> {
-    let tree = &settings.tree;
+// Appends the place of a node after others; at the beginning there are none.
+fn add_place(out: &mut Vec<u8>, node: Node) -> Result<(), AllocError> {
+    if !out.is_empty() {
+        out.push(b' ')?;
+    }
+    add_count(out, u64::from(node.place()))
+}
+
+// Appends the nodes of the document that match a pattern to nothing.
+fn add_matching(out: &mut Vec<u8>, settings: &Settings, text: &str) -> Result<(), RowError> {
     let scope = settings.scope()?;
-    let mut nodes = Vec::new(settings.alloc);
+    let pattern = parsed_pattern(settings, text)?;
+    Ok(add_matches(out, settings, &scope, &pattern)?)
+}
+
+// Appends the nodes of the document that match a pattern to nothing.
+fn add_matches(
+    out: &mut Vec<u8>,
+    settings: &Settings,
+    scope: &Scope,
+    pattern: &Pattern,
+) -> Result<(), AllocError> {
+    let tree = &settings.tree;
     for place in 0..tree.len() as u32 {
         let node = Node::at(place);
-        if matches(settings.alloc, pattern, &scope, tree, node, &NoKeys)? {
-            nodes.push(node)?;
+        if matches(settings.alloc, pattern, scope, tree, node, &NoKeys)? {
+            add_place(out, node)?;
         }
     }
-    Ok(nodes)
+    Ok(())
 }
 
 // Appends whether the node at a place matches a pattern.
@@ -80,15 +94,16 @@ fn add_match(
     out: &mut Vec<u8>,
     settings: &Settings,
     place: u32,
-    pattern: &Pattern,
+    text: &str,
 ) -> Result<(), RowError> {
     let tree = &settings.tree;
     if place as usize >= tree.len() {
         return Err(RowError::Unreadable);
     }
     let scope = settings.scope()?;
+    let pattern = parsed_pattern(settings, text)?;
     let node = Node::at(place);
-    let is_matched = matches(settings.alloc, pattern, &scope, tree, node, &NoKeys)?;
+    let is_matched = matches(settings.alloc, &pattern, &scope, tree, node, &NoKeys)?;
     Ok(add_bool(out, is_matched)?)
 }
 
@@ -142,28 +157,40 @@ fn is_selected(
     Ok(false)
 }
 
-// The nodes that are in the value of an expression from themselves or an ancestor.
-fn selected(settings: &Settings, expr: &Expr) -> Result<Vec<Node>, RowError> {
+// Appends the nodes that are in the value of an expression from themselves or an ancestor to
+// nothing.
+fn add_selected(out: &mut Vec<u8>, settings: &Settings, text: &str) -> Result<(), RowError> {
     let scope = settings.scope()?;
-    let mut nodes = Vec::new(settings.alloc);
-    for place in 0..settings.tree.len() as u32 {
-        let node = Node::at(place);
-        if is_selected(settings, expr, &scope, node)? {
-            nodes.push(node)?;
-        }
-    }
-    Ok(nodes)
+    let expr = parsed(settings, text)?;
+    add_selections(out, settings, &scope, &expr)
 }
 
-// Appends the nodes that match a pattern, and those that are in its value as an expression, where
-// these are others.
+// Appends the nodes that are in the value of an expression from themselves or an ancestor to
+// nothing.
+fn add_selections(
+    out: &mut Vec<u8>,
+    settings: &Settings,
+    scope: &Scope,
+    expr: &Expr,
+) -> Result<(), RowError> {
+    for place in 0..settings.tree.len() as u32 {
+        let node = Node::at(place);
+        if is_selected(settings, expr, scope, node)? {
+            add_place(out, node)?;
+        }
+    }
+    Ok(())
+}
+
+// Appends the nodes that match a pattern to nothing, and those that are in its value as an
+// expression, where these are others.
 fn add_both(out: &mut Vec<u8>, settings: &Settings, text: &str) -> Result<(), RowError> {
-    let matching = matching(settings, &parsed_pattern(settings, text)?)?;
-    let selected = selected(settings, &parsed(settings, text)?)?;
-    add_places(out, &matching)?;
-    if matching.as_slice() != selected.as_slice() {
+    add_matching(out, settings, text)?;
+    let mut selected = Vec::new(settings.alloc);
+    add_selected(&mut selected, settings, text)?;
+    if out.as_slice() != selected.as_slice() {
         out.extend_from_slice(b", as expressions ")?;
-        add_places(out, &selected)?;
+        out.extend_from_slice(&selected)?;
     }
     Ok(())
 }

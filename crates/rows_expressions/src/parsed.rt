@@ -24,13 +24,13 @@ pub(crate) fn answer(
     rest: &str,
 ) -> Result<(), RowError> {
     match call {
-        "expression" => Ok(show(out, &parsed(settings, rest)?)?),
-        "pattern" => Ok(show_pattern(out, &parsed_pattern(settings, rest)?)?),
-        "template" => Ok(show_parts(out, &parsed_parts(settings, rest)?)?),
-        "bound" => Ok(show_bound(out, &parsed_bound(settings, rest)?)?),
+        "expression" => add_expression(out, settings, rest),
+        "pattern" => add_pattern(out, settings, rest),
+        "template" => add_template(out, settings, rest),
+        "bound" => add_bound(out, settings, rest),
         "long" => add_long(out, settings, rest),
-        "uri" => Ok(add_uri(out, &settings.scope()?, rest)?),
-        _ => add_found(out, settings.alloc, &settings.scope()?, rest),
+        "uri" => add_uri(out, settings, rest),
+        _ => add_found(out, settings, rest),
     }
 }
 
@@ -64,8 +64,32 @@ pub(crate) fn parsed_parts(settings: &Settings, text: &str) -> Result<Vec<AvtPar
     Ok(parse_avt(settings.alloc, text, &settings.scope()?)?)
 }
 
-// Appends the tree of an expression with its variables bound, and letters for what it refers to:
-// variables, some of them unbound, the current node, and keys.
+// Appends the tree of an expression.
+fn add_expression(out: &mut Vec<u8>, settings: &Settings, text: &str) -> Result<(), RowError> {
+    let e = parsed(settings, text)?;
+    Ok(show(out, &e)?)
+}
+
+// Appends the alternatives of a pattern.
+fn add_pattern(out: &mut Vec<u8>, settings: &Settings, text: &str) -> Result<(), RowError> {
+    let pattern = parsed_pattern(settings, text)?;
+    Ok(show_pattern(out, &pattern)?)
+}
+
+// Appends the parts of a value template.
+fn add_template(out: &mut Vec<u8>, settings: &Settings, text: &str) -> Result<(), RowError> {
+    let parts = parsed_parts(settings, text)?;
+    Ok(show_parts(out, &parts)?)
+}
+
+// Appends the tree of an expression with its variables bound, and what it refers to.
+fn add_bound(out: &mut Vec<u8>, settings: &Settings, text: &str) -> Result<(), RowError> {
+    let e = parsed_bound(settings, text)?;
+    Ok(show_bound(out, &e)?)
+}
+
+// Appends a tree, and letters for what it refers to: variables, some of them unbound, the current
+// node, and keys.
 fn show_bound(out: &mut Vec<u8>, e: &Expr) -> Result<(), AllocError> {
     show(out, e)?;
     if uses_variables(e) || uses_current(e) || uses_key(e) {
@@ -94,25 +118,23 @@ fn add_long(out: &mut Vec<u8>, settings: &Settings, pieces: &str) -> Result<(), 
 }
 
 // Appends the URI of a prefix.
-fn add_uri(out: &mut Vec<u8>, scope: &Scope, prefix: &str) -> Result<(), AllocError> {
+fn add_uri(out: &mut Vec<u8>, settings: &Settings, prefix: &str) -> Result<(), RowError> {
+    let scope = settings.scope()?;
     match scope.uri_in(prefix) {
-        Some(uri) => out.extend_from_slice(uri.as_bytes()),
+        Some(uri) => Ok(out.extend_from_slice(uri.as_bytes())?),
         None => Ok(()),
     }
 }
 
 // Appends how many of the prefixes with the numbers from one to another have the URI with that
 // number.
-fn add_found(
-    out: &mut Vec<u8>,
-    alloc: Global,
-    scope: &Scope,
-    numbers: &str,
-) -> Result<(), RowError> {
+fn add_found(out: &mut Vec<u8>, settings: &Settings, numbers: &str) -> Result<(), RowError> {
     let (first, last) = word(numbers);
+    let (first, last) = (first.parse::<u32>()?, last.parse::<u32>()?);
+    let scope = settings.scope()?;
     let mut found = 0_u64;
-    for number in first.parse::<u32>()?..=last.parse::<u32>()? {
-        if is_found(alloc, scope, number)? {
+    for number in first..=last {
+        if is_found(settings.alloc, &scope, number)? {
             found = found.saturating_add(1);
         }
     }

@@ -6,23 +6,50 @@ use crate::fields::add_count;
 use crate::settings::Settings;
 use std::alloc::AllocError;
 use std::rt::Files;
+use std::{fs, io};
 use xs_text::escape_into;
 
-/// A row file again, with the answers of its rows computed.
-pub(crate) fn answered<R: Files + AllocGlobal>(rt: &R, text: &str) -> Result<Vec<u8>, AllocError> {
+/// Adds a line with the name of a row file, and the file with the answers of its rows computed.
+pub(crate) fn add_file<R: Files + AllocGlobal>(
+    out: &mut Vec<u8>,
+    rt: &R,
+    name: &str,
+) -> io::Result<()> {
+    let text = fs::read_to_string(rt, name)?;
+    out.extend_from_slice(b"== ")?;
+    out.extend_from_slice(name.as_bytes())?;
+    out.push(b'\n')?;
+    Ok(add_rows(out, rt, text.as_str())?)
+}
+
+// Adds the rows of a file.
+fn add_rows<R: Files + AllocGlobal>(
+    out: &mut Vec<u8>,
+    rt: &R,
+    text: &str,
+) -> Result<(), AllocError> {
     let mut settings = Settings::new(rt.alloc())?;
-    let mut out = Vec::new(rt.alloc());
+    add_lines(out, rt, &mut settings, text)
+}
+
+// Adds lines, each as it stands or with its answer.
+fn add_lines<R: Files + AllocGlobal>(
+    out: &mut Vec<u8>,
+    rt: &R,
+    settings: &mut Settings,
+    text: &str,
+) -> Result<(), AllocError> {
     for line in text.lines() {
         if let Some(setting) = line.strip_prefix("= ") {
-            add_setting(&mut out, rt, &mut settings, setting)?;
+            add_setting(out, rt, settings, setting)?;
         } else if line.is_empty() || line.starts_with('#') {
             out.extend_from_slice(line.as_bytes())?;
         } else {
-            add_row(&mut out, &settings, line)?;
+            add_row(out, settings, line)?;
         }
         out.push(b'\n')?;
     }
-    Ok(out)
+    Ok(())
 }
 
 // Sets what a setting says, and adds its line.

@@ -31,7 +31,7 @@ pub(crate) fn operand(alloc: Global, text: &str) -> Result<Value, RowError> {
         return Ok(Value::Chars(TextBuf::of(alloc, chars)?));
     }
     if let Some(places) = inside(text, '{', '}') {
-        return Ok(Value::Nodes(NodeSet::in_order(nodes(alloc, places)?)?));
+        return Ok(Value::Nodes(node_set(alloc, places)?));
     }
     if let Some(lines) = inside(text, '<', '>') {
         return fragment(alloc, lines);
@@ -111,7 +111,7 @@ pub(crate) fn answer(
     rest: &str,
 ) -> Result<(), RowError> {
     match call {
-        "convert" => convert(out, &settings.tree, operand(settings.alloc, rest)?.copy()?),
+        "convert" => convert(out, settings, rest),
         "compared" => compared(out, settings, rest),
         "join" => join(out, settings.alloc, rest),
         _ => gather(out, settings.alloc, rest),
@@ -127,35 +127,27 @@ fn fault(fault: ValueFault) -> Result<NumFault, RowError> {
     }
 }
 
+// Appends a copy of a value as a boolean, a string and a number.
+fn convert(out: &mut Vec<u8>, settings: &Settings, text: &str) -> Result<(), RowError> {
+    let value = operand(settings.alloc, text)?.copy()?;
+    add_converted(out, &settings.tree, &value)
+}
+
 // Appends a value as a boolean, a string and a number.
-fn convert(out: &mut Vec<u8>, tree: &Tree, value: Value) -> Result<(), RowError> {
-    if !is_in(tree, &value) {
+fn add_converted(out: &mut Vec<u8>, tree: &Tree, value: &Value) -> Result<(), RowError> {
+    if !is_in(tree, value) {
         return Err(RowError::Unreadable);
     }
     let alloc = *out.allocator();
-    add_bool(out, to_bool(&value))?;
+    add_bool(out, to_bool(value))?;
     out.extend_from_slice(b" | ")?;
-    add_text(out, alloc, tree, &value)?;
+    add_quoted(out, to_text(alloc, tree, value)?.as_str())?;
     out.extend_from_slice(b" | ")?;
-    let outcome = match to_number(alloc, tree, &value) {
+    let outcome = match to_number(alloc, tree, value) {
         Ok(number) => Ok(number),
         Err(refused) => Err(fault(refused)?),
     };
     Ok(add_outcome(out, outcome)?)
-}
-
-// Appends a value as a string, both ways: twice, where they differ.
-fn add_text(out: &mut Vec<u8>, alloc: Global, tree: &Tree, value: &Value) -> Result<(), AllocError>
-    requires { IsIn tree.now value.now }
-{
-    let text = to_text(alloc, tree, value)?;
-    let mut appended = Vec::new(alloc);
-    text_into(tree, value, &mut appended)?;
-    add_quoted(out, text.as_str())?;
-    if appended.as_slice() != text.as_str().as_bytes() {
-        out.extend_from_slice(&appended)?;
-    }
-    Ok(())
 }
 
 // Appends whether two values compare so.
@@ -185,11 +177,16 @@ fn add_compared(
     }
 }
 
+// The set of the nodes at some places.
+fn node_set(alloc: Global, places: &str) -> Result<NodeSet, RowError> {
+    Ok(NodeSet::in_order(nodes(alloc, places)?)?)
+}
+
 // Appends the nodes of two sets.
 fn join(out: &mut Vec<u8>, alloc: Global, text: &str) -> Result<(), RowError> {
     let (left, right) = cut(text)?;
-    let left = NodeSet::in_order(nodes(alloc, left)?)?;
-    let right = NodeSet::in_order(nodes(alloc, right)?)?;
+    let left = node_set(alloc, left)?;
+    let right = node_set(alloc, right)?;
     let both = left.union(alloc, &right)?;
     Ok(add_places(out, both.nodes())?)
 }

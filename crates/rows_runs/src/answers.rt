@@ -29,13 +29,13 @@ pub(crate) fn push_pieces(out: &mut String, report: &Report) -> Result<(), Alloc
     write!(out, "= pieces {pieces} {inline} {claims}\n")
 }
 
-/// Adds a result: as it is where it consists of PYX lines, and else each of its lines after a sign,
+/// Adds a result: as it is where it looks like PYX lines, and else each of its lines after a sign,
 /// with escapes.
 fn push_result(out: &mut String, text: &str) -> Result<(), AllocError> {
     if text.is_empty() {
         return Ok(());
     }
-    if is_pyx(text) {
+    if text.starts_with('(') && text.ends_with('\n') {
         out.push_str("= result\n")?;
         return out.push_str(text);
     }
@@ -46,16 +46,6 @@ fn push_result(out: &mut String, text: &str) -> Result<(), AllocError> {
         out.push_str("\n")?;
     }
     Ok(())
-}
-
-/// Whether a text consists of lines that begin as those of PYX do.
-fn is_pyx(text: &str) -> bool {
-    for line in text.split_inclusive('\n') {
-        if !line.starts_with(['(', 'A', '-', ')', 'C', '?']) || !line.ends_with('\n') {
-            return false;
-        }
-    }
-    true
 }
 
 /// Adds the lines for the user, as they are; one that has no end is marked.

@@ -4,7 +4,7 @@ use crate::answers::{push_fields, push_parts, push_pieces};
 use crate::calls::push_options;
 use crate::events::{push_fragment, push_text};
 use crate::setup::Setup;
-use crate::texts::{decode, push_words, text_of};
+use crate::texts::{push_decoded, push_words, text_of};
 use std::alloc::{AllocError, Global};
 use std::thread::Threads;
 
@@ -146,7 +146,8 @@ impl Rows {
         match word {
             "with" => self.with = String::from_str(self.alloc, rest)?,
             "call" => self.call = String::from_str(self.alloc, rest)?,
-            "failing" | "most" => self.setup.set_limits(word, rest)?,
+            "failing" => self.setup.add_failing(rest)?,
+            "most" => self.setup.set_most(rest),
             "sheet" | "module" | "source" | "file" => self.take_file(word, rest)?,
             _ => self.out.push_str("= no part has this word:\n")?,
         }
@@ -226,18 +227,25 @@ impl Rows {
     /// Adds the answer of a run in one line, of which the row says the arguments, the budget, or a
     /// text of the files.
     fn answer_run<R: Threads + Sync>(&mut self, rt: &R, input: &str) -> Result<(), AllocError> {
-        let text = decode(self.alloc, input)?;
-        let mut words = Vec::new(self.alloc);
-        match self.call.as_str() {
-            "transform args" => push_words(self.alloc, &mut words, input)?,
-            "transform budget" => {
-                push_words(self.alloc, &mut words, "--budget")?;
-                words.push(text_of(self.alloc, &text)?)?;
-                push_words(self.alloc, &mut words, PLAIN)?;
-            }
-            _ => push_words(self.alloc, &mut words, PLAIN)?,
-        }
+        let mut text = Vec::new(self.alloc);
+        push_decoded(self.alloc, &mut text, input)?;
+        let words = self.words_of(input, &text)?;
         let outcome = self.setup.run(rt, &words, &text)?;
         push_fields(&mut self.out, &outcome)
+    }
+
+    /// The arguments of a run that a row in one line says.
+    fn words_of(&self, input: &str, text: &[u8]) -> Result<Vec<String>, AllocError> {
+        let mut words = Vec::new(self.alloc);
+        if self.call.as_str() == "transform args" {
+            push_words(self.alloc, &mut words, input)?;
+            return Ok(words);
+        }
+        if self.call.as_str() == "transform budget" {
+            push_words(self.alloc, &mut words, "--budget")?;
+            words.push(text_of(self.alloc, text)?)?;
+        }
+        push_words(self.alloc, &mut words, PLAIN)?;
+        Ok(words)
     }
 }

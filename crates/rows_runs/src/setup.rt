@@ -1,6 +1,6 @@
 //! What a run is made of: files, and what fails of them and of the sinks.
 
-use crate::texts::{decode, text_of};
+use crate::texts::{push_decoded, text_of};
 use std::alloc::{AllocError, Global};
 use std::thread::Threads;
 use xs_engine::{Report, transform};
@@ -126,21 +126,20 @@ impl Setup {
         Ok(())
     }
 
-    /// Takes how many bytes a sink takes at once, or which fetches, or writes of a sink, fail.
-    pub(crate) fn set_limits(&mut self, word: &str, rest: &str) -> Result<(), AllocError> {
-        if word == "most" {
-            self.most = rest.parse().unwrap_or(ROOM);
-            return Ok(());
-        }
-        let (what, numbers) = rest.split_once(' ').unwrap_or((rest, ""));
-        for number in numbers.split(' ') {
-            let number = number.parse().unwrap_or(0);
-            match what {
-                "fetch" => self.failing_fetches.push(number)?,
-                "result" => self.failing_results.push(number)?,
-                _ => self.failing_lines.push(number)?,
-            }
-        }
+    /// Takes how many bytes a sink takes at once, at most.
+    pub(crate) fn set_most(&mut self, rest: &str) {
+        self.most = rest.parse().unwrap_or(ROOM);
+    }
+
+    /// Takes the number of a fetch, or of a write of a sink, that fails.
+    pub(crate) fn add_failing(&mut self, rest: &str) -> Result<(), AllocError> {
+        let (what, number) = rest.split_once(' ').unwrap_or((rest, ""));
+        let failing = match what {
+            "fetch" => &mut self.failing_fetches,
+            "result" => &mut self.failing_results,
+            _ => &mut self.failing_lines,
+        };
+        failing.push(number.parse().unwrap_or(0))?;
         Ok(())
     }
 
@@ -193,20 +192,24 @@ impl Setup {
 /// The bytes of a file, in which a text takes its place.
 fn bytes_of(alloc: Global, file: &File, text: &[u8]) -> Result<Vec<u8>, AllocError> {
     let mut bytes = Vec::new(alloc);
-    let mut is_first = true;
-    for part in file.text.as_str().split(PLACE) {
-        if !is_first {
+    match file.text.as_str().split_once(PLACE) {
+        Some((before, after)) => {
+            push_part(alloc, &mut bytes, file.form, before)?;
             bytes.extend_from_slice(text)?;
+            push_part(alloc, &mut bytes, file.form, after)?;
         }
-        if let Form::Escaped = file.form {
-            bytes.extend_from_slice(&decode(alloc, part)?)?;
-        } else {
-            bytes.extend_from_slice(part.as_bytes())?;
-        }
-        is_first = false;
+        None => push_part(alloc, &mut bytes, file.form, file.text.as_str())?,
     }
     if let Form::Content = file.form {
         bytes.extend_from_slice(END.as_bytes())?;
     }
     Ok(bytes)
+}
+
+/// Adds the bytes of a part of a file.
+fn push_part(alloc: Global, bytes: &mut Vec<u8>, form: Form, part: &str) -> Result<(), AllocError> {
+    if let Form::Escaped = form {
+        return push_decoded(alloc, bytes, part);
+    }
+    bytes.extend_from_slice(part.as_bytes())
 }

@@ -2,20 +2,19 @@
 
 use std::alloc::{AllocError, Global};
 
-/// The bytes that a text in one line means: `\n`, `\t`, `\r` and `\\` as in PYX lines, `\s` a
+/// Adds the bytes that a text in one line means: `\n`, `\t`, `\r` and `\\` as in PYX lines, `\s` a
 /// space, `\?` a byte that UTF-8 does not have, and `<<3:ab>>` the same as `ababab`.
-pub(crate) fn decode(alloc: Global, text: &str) -> Result<Vec<u8>, AllocError> {
-    let mut out = Vec::new(alloc);
+pub(crate) fn push_decoded(alloc: Global, out: &mut Vec<u8>, text: &str) -> Result<(), AllocError> {
     for part in text.split("<<") {
         match part.split_once(">>") {
             Some((repeat, plain)) => {
-                push_repeat(alloc, &mut out, repeat)?;
-                push_plain(&mut out, plain)?;
+                push_repeat(alloc, out, repeat)?;
+                push_plain(out, plain)?;
             }
-            None => push_plain(&mut out, part)?,
+            None => push_plain(out, part)?,
         }
     }
-    Ok(out)
+    Ok(())
 }
 
 /// Adds a text as often as the number before its colon says.
@@ -68,15 +67,23 @@ pub(crate) fn text_of(alloc: Global, bytes: &[u8]) -> Result<String, AllocError>
 /// Adds a text in one line, as PYX lines escape it.
 pub(crate) fn push_escaped(out: &mut String, text: &str) -> Result<(), AllocError> {
     for letter in text.chars() {
-        match letter {
-            '\n' => out.push_str("\\n")?,
-            '\t' => out.push_str("\\t")?,
-            '\r' => out.push_str("\\r")?,
-            '\\' => out.push_str("\\\\")?,
-            other => out.push(other)?,
+        match escape_of(letter) {
+            Some(escape) => out.push_str(escape)?,
+            None => out.push(letter)?,
         }
     }
     Ok(())
+}
+
+/// How a letter is escaped, if it is.
+fn escape_of(letter: char) -> Option<&'static str> {
+    match letter {
+        '\n' => Some("\\n"),
+        '\t' => Some("\\t"),
+        '\r' => Some("\\r"),
+        '\\' => Some("\\\\"),
+        _ => None,
+    }
 }
 
 /// Adds the words of a line, which are separated by single spaces; an empty line has none.
@@ -89,7 +96,9 @@ pub(crate) fn push_words(
         return Ok(());
     }
     for word in line.split(' ') {
-        words.push(text_of(alloc, &decode(alloc, word)?)?)?;
+        let mut bytes = Vec::new(alloc);
+        push_decoded(alloc, &mut bytes, word)?;
+        words.push(text_of(alloc, &bytes)?)?;
     }
     Ok(())
 }

@@ -9,6 +9,8 @@ mod document_laws;
 #[cfg(test)]
 mod edges;
 #[cfg(test)]
+mod ledgers;
+#[cfg(test)]
 mod loads;
 #[cfg(test)]
 mod machine;

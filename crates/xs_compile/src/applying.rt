@@ -42,9 +42,9 @@ impl<'m> Compiler<'m> {
         ensures { IfOk result (IsApplied (source_of self.now) («number», n)) }
     {
         Ok(Applied {
-            select: self.own_expr_if(number, n, "select")?,
             mode: self.mode(number, n)?,
             sorts: self.sorts(number, n)?,
+            select: self.own_expr_if(number, n, "select")?,
         })
     }
 
@@ -71,9 +71,9 @@ impl<'m> Compiler<'m> {
     {
         let scope = self.scope(number, n)?;
         Ok(SortDecl {
-            select: self.sort_select(number, n, &scope)?,
             data_type: self.template_if(number, n, &scope, "data-type")?,
             order: self.template_if(number, n, &scope, "order")?,
+            select: self.sort_select(number, n, &scope)?,
         })
     }
 
@@ -108,10 +108,10 @@ impl<'m> Compiler<'m> {
             level: level_named(said_at(self.modules, number, n, "level")),
             count: self.pattern_if(number, n, &scope, "count")?,
             from: self.pattern_if(number, n, &scope, "from")?,
-            value: self.expr_if(number, n, &scope, "value")?,
             format: self.template_if(number, n, &scope, "format")?,
             grouping_separator: self.template_if(number, n, &scope, "grouping-separator")?,
             grouping_size: self.template_if(number, n, &scope, "grouping-size")?,
+            value: self.expr_if(number, n, &scope, "value")?,
         })
     }
 

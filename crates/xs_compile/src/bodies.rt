@@ -111,8 +111,8 @@ impl<'m> Compiler<'m> {
         requires row { IsRow (source_of self.now) («number», n) Row.ApplyTemplates }
         ensures { IfOk result (IsKind (source_of self.now) («number», n)) }
     {
-        let nodes = self.nodes(number, n)?;
         let passed = self.passed(number, n)?;
+        let nodes = self.nodes(number, n)?;
         Ok(InstrKind::ApplyTemplates { nodes, passed })
     }
 
@@ -136,9 +136,9 @@ impl<'m> Compiler<'m> {
         requires row { IsRow (source_of self.now) («number», n) Row.ForEach }
         ensures { IfOk result (IsKind (source_of self.now) («number», n)) }
     {
-        let select = self.own_expr(number, n, "select")?;
         let sorts = self.sorts(number, n)?;
         let body = self.body(number, n)?;
+        let select = self.own_expr(number, n, "select")?;
         Ok(InstrKind::ForEach {
             select,
             sorts,
@@ -153,8 +153,8 @@ impl<'m> Compiler<'m> {
         requires row { IsRow (source_of self.now) («number», n) Row.If }
         ensures { IfOk result (IsKind (source_of self.now) («number», n)) }
     {
-        let test = self.own_expr(number, n, "test")?;
         let body = self.body(number, n)?;
+        let test = self.own_expr(number, n, "test")?;
         Ok(InstrKind::If { test, body })
     }
 
@@ -205,8 +205,8 @@ impl<'m> Compiler<'m> {
         requires row { IsRow (source_of self.now) («number», n) Row.When }
         ensures { IfOk result (IsWhen (source_of self.now) («number», n)) }
     {
-        let test = self.own_expr(number, n, "test")?;
         let body = self.body(number, n)?;
+        let test = self.own_expr(number, n, "test")?;
         Ok(When { test, body })
     }
 
@@ -246,9 +246,9 @@ impl<'m> Compiler<'m> {
         requires row { IsRow (source_of self.now) («number», n) Row.Element }
         ensures { IfOk result (IsKind (source_of self.now) («number», n)) }
     {
-        let name = self.made_name(number, n)?;
-        let sets = self.own_sets(number, n)?;
         let body = self.body(number, n)?;
+        let sets = self.own_sets(number, n)?;
+        let name = self.made_name(number, n)?;
         Ok(InstrKind::Element { name, sets, body })
     }
 
@@ -259,8 +259,8 @@ impl<'m> Compiler<'m> {
         requires row { IsRow (source_of self.now) («number», n) Row.Attribute }
         ensures { IfOk result (IsKind (source_of self.now) («number», n)) }
     {
-        let name = self.made_name(number, n)?;
         let body = self.body(number, n)?;
+        let name = self.made_name(number, n)?;
         Ok(InstrKind::Attribute { name, body })
     }
 
@@ -308,8 +308,8 @@ impl<'m> Compiler<'m> {
     {
         match self.setting(number, n).reading {
             Reading::Literal => {
-                let start = self.literal_start(number, n)?;
                 let body = self.body(number, n)?;
+                let start = self.literal_start(number, n)?;
                 Ok(InstrKind::Literal { start, body })
             }
             Reading::Extension => Ok(InstrKind::Extension(self.fallbacks(number, n)?)),

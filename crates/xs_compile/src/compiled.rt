@@ -1,14 +1,19 @@
 //! A stylesheet, compiled.
 
 ghost use Rattle.std.specs.List.{All};
-ghost use Rattle.std.specs.Prelude.{◌≡◌, ◌<◌, ◌^◌, None, find, length, map, IfOk, IfSome, OnOk};
+ghost use Rattle.std.specs.Prelude.{◌≡◌, ◌<◌, ◌^◌, ℕ, List, None, find, length, map, IfOk};
+ghost use Rattle.std.specs.Prelude.{IfSome, OnOk};
 ghost use Rattle.xs_compile.specs.StandsFor.{StandsFor, is_root_element, root_line};
 ghost use Rattle.xs_static.specs.Faults.{IsFirstFault};
 ghost use Rattle.xs_compile.specs.Answers.{Answers};
 ghost use Rattle.xs_compile.specs.declared.compiled.CompileEnd.TheVariants.{NoMemory};
+ghost use Rattle.xs_compile.specs.steps.State.{IsState, modules_of};
 ghost use Rattle.xs_compile.specs.steps.Trees.{AreTrees};
+ghost use Rattle.xs_declared.specs.Counted.{counted, named};
 ghost use Rattle.xs_declared.specs.Order.{declarations};
 ghost use Rattle.xs_declared.specs.Places.{IsIn};
+ghost use Rattle.xs_declared.specs.Tables.{place_in};
+ghost use Rattle.xs_elements.specs.Rows.{is_variable};
 ghost use Rattle.xs_modules.specs.Results.{modules_data};
 ghost use Rattle.xs_modules.specs.Sound.{IsSound};
 ghost use Rattle.xs_tree.specs.Record.{places};
@@ -17,7 +22,7 @@ use crate::compiler::Compiler;
 use std::alloc::{AllocError, AllocFailed, Global};
 use thiserror::Error;
 use xs_declared::aliases::aliases;
-use xs_declared::counted::{Kind as Declared, counted_of};
+use xs_declared::counted::{Counted, Kind as Declared, counted_of};
 use xs_declared::declarations::declarations;
 use xs_declared::output::method;
 use xs_declared::places::Place;
@@ -126,9 +131,28 @@ fn sheet_of(alloc: Global, modules: &Modules, declared: &[Place]) -> Result<Shee
 {
     let counted = counted_of(alloc, modules, declared, Declared::Global)?;
     let compiler = Compiler::new(alloc, modules, declared, &counted)?;
+    sheet_by(&compiler, declared, &counted)
+}
+
+/// What a compiler makes of these declarations, of whose globals those count.
+fn sheet_by<'m>(
+    compiler: &Compiler<'m>,
+    declared: &[Place],
+    found: &Counted<'m>,
+) -> Result<Sheet, AllocError>
+    requires state { IsState compiler.now }
+    requires inside { All (IsIn (modules_of compiler.now)) declared.now }
+    requires all { declared.now ≡ declarations (modules_of compiler.now) }
+    requires counted { (uri local : List ℕ) → place_in found.now uri local
+        ≡ counted (modules_of compiler.now) (named is_variable (modules_of compiler.now)
+        (uri, local)) }
+    ensures { IfOk result (StandsFor (modules_of compiler.now)) }
+{
+    let alloc = compiler.alloc;
+    let modules = compiler.modules;
     Ok(Sheet {
         templates: compiler.templates(declared)?,
-        globals: compiler.globals(declared, &counted)?,
+        globals: compiler.globals(declared, found)?,
         keys: compiler.keys(declared)?,
         sets: compiler.sets(declared)?,
         strips: strips(alloc, modules, declared)?,

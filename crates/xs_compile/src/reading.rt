@@ -39,10 +39,10 @@ impl<'m> Compiler<'m> {
         requires valid { IsOk (expr_in (pairs_at (modules_of self.now) («number», n)) text.now) }
         ensures { IfOk result (IsExpr (modules_of self.now) («number», n) text.now) }
     {
+        let kept = Arc::try_clone(scope)?;
         let mut expr = parsed::expr(self.alloc, text, scope)?;
         self.bind(&mut expr, number, n);
-        let scope = Arc::try_clone(scope)?;
-        Ok(ScopedExpr { expr, scope })
+        Ok(ScopedExpr { expr, scope: kept })
     }
 
     /// The expression in an attribute that has to be there.

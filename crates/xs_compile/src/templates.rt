@@ -92,12 +92,12 @@ impl<'m> Compiler<'m> {
             site: site_at(self.modules, number, n),
             precedence: precedence_at(self.modules, number),
             imports_from: imports_from_at(self.modules, number),
-            pattern: self.pattern_if(number, n, &scope, "match")?,
-            name: self.name_if(number, n, &scope)?,
             priority: self.priority(number, n),
             mode: self.mode(number, n)?,
             params: self.params(number, n)?,
             body: self.body(number, n)?,
+            pattern: self.pattern_if(number, n, &scope, "match")?,
+            name: self.name_if(number, n, &scope)?,
         })
     }
 

@@ -1,0 +1,80 @@
+//! Ledgers: shares that add in turn, two threads that add at once, refused memory.
+
+ghost use Rattle.std.specs.Prelude.{◌≡◌, IfOk};
+ghost use Rattle.xs_ledger.specs.Shares.{ledger_id, seats_of, IsShareOf, IsUnused};
+
+use std::alloc::{AllocError, Global};
+use std::test::Fail;
+use std::thread;
+use xs_ledger::ledger::{Ledger, Share};
+
+// A ledger and its two shares.
+fn ledger_for_two(alloc: Global) -> Result<(Ledger, Share, Share), AllocError>
+    ensures seats { IfOk result (λ r. seats_of r.0 ≡ 2) }
+    ensures one { IfOk result (λ r. IsShareOf (ledger_id r.0) r.1 × IsUnused r.1) }
+    ensures two { IfOk result (λ r. IsShareOf (ledger_id r.0) r.2 × IsUnused r.2) }
+{
+    let (ledger, mut shares) = Ledger::new(alloc, 2)?;
+    let Some(two) = shares.pop() else {
+        unreachable!()
+    };
+    let Some(one) = shares.pop() else {
+        unreachable!()
+    };
+    Ok((ledger, one, two))
+}
+
+// The total, where both shares come back.
+fn total_of_two(alloc: Global, ledger: Ledger, one: Share, two: Share) -> Result<u64, AllocError>
+    requires seats { seats_of ledger ≡ 2 }
+    requires one { IsShareOf (ledger_id ledger) one }
+    requires two { IsShareOf (ledger_id ledger) two }
+{
+    let mut shares = Vec::new(alloc);
+    shares.push(one)?;
+    shares.push(two)?;
+    Ok(ledger.close(shares))
+}
+
+// The share, after one addition.
+fn add_once(ledger: &Ledger, mut share: Share, n: u32) -> Share
+    requires share { IsShareOf (ledger_id ledger.now) share × IsUnused share }
+    ensures share { IsShareOf (ledger_id ledger.now) result }
+{
+    ledger.add(&mut share, u64::from(n));
+    share
+}
+
+#[test]
+fn answers_the_word_after_each_addition(rt: HostRuntime) -> Result<(), Fail> {
+    let (ledger, mut one, mut two) = ledger_for_two(rt.alloc())?;
+    assert_eq!(rt; ledger.add(&mut one, 10), 10);
+    assert_eq!(rt; ledger.add(&mut two, 10), 20);
+    assert_eq!(rt; total_of_two(rt.alloc(), ledger, one, two)?, 20);
+    Ok(())
+}
+
+#[test]
+fn counts_what_two_threads_add(rt: HostRuntime) -> Result<(), Fail> {
+    let (ledger, one, two) = ledger_for_two(rt.alloc())?;
+    let counted = &ledger;
+    let (one, two) = thread::join(
+        &rt,
+        move || add_once(counted, one, 1024),
+        move || add_once(counted, two, 3),
+    );
+    assert_eq!(rt; total_of_two(rt.alloc(), ledger, one, two)?, 1027);
+    Ok(())
+}
+
+#[test]
+fn makes_all_shares_or_refuses(rt: HostRuntime) {
+    let made = Ledger::new(rt.alloc(), 64);
+    match made {
+        Ok((ledger, shares)) => {
+            assert_eq!(rt; shares.len(), 64);
+            assert_eq!(rt; ledger.close(shares), 0);
+        }
+        Err(AllocError) => {}
+    }
+}
