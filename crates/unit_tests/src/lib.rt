@@ -13,6 +13,8 @@ mod ledgers;
 #[cfg(test)]
 mod loads;
 #[cfg(test)]
+mod machine;
+#[cfg(test)]
 mod numbers;
 #[cfg(test)]
 mod recorders;

@@ -1,0 +1,10 @@
+pub mod SumLemmas
+pub mod GoodLemmas
+pub mod OnceLemmas
+pub mod StepLemmas
+pub mod OpeningLemmas
+pub mod AnswerLemmas
+pub mod PartsLemmas
+pub mod RoomLemmas
+pub mod TableLemmas
+pub mod WorkerLemmas

@@ -1,0 +1,14 @@
+use Rattle.std.proofs.Common.{◌<◌, length, arith}
+use Rattle.xs_core.specs.Machine.{State}
+use Rattle.xs_core.specs.steps.Parts.{parts}
+use Rattle.xs_core.proofs.PartsLemmas.{popped-seen}
+use Rattle.xs_core.proofs.parts.Parts.pop.Goals as goal
+
+pub returns : goal.returns
+returns c =
+    let v : State = parts c.self.inside.seats.items c.self.inside.finished.items c.self.inside.dropped.items c.self.inside.total in
+    let inside : c.args.worker < length v.workers = omega (arith, c.self.inside.seats.ok.0, c.len.ensures, c.if-worker-len.false) in
+    record {
+      popped = popped-seen c.args.self.now v c.args.worker c.index_mut.result.now c.pop.new.self c.pop.result c.self.view_is inside c.index_mut.ensures.value
+          c.pop.ensures.first c.pop.ensures.hand;
+    }

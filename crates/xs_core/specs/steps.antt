@@ -1,0 +1,3 @@
+pub mod Stepped
+pub mod Parts
+pub mod Table
