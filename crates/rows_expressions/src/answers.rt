@@ -1,5 +1,6 @@
 //! The calls that rows make.
 
+use crate::answer::Answer;
 use crate::error::RowError;
 use crate::fields::{unescaped, word};
 use crate::settings::Settings;
@@ -7,7 +8,7 @@ use crate::{evaluated, matched, numbers, parsed, strings, tables, values};
 
 /// Appends the answer of a row, whose first word is its call.
 pub(crate) fn add_answer(
-    out: &mut Vec<u8>,
+    out: &mut Answer,
     settings: &Settings,
     input: &str,
 ) -> Result<(), RowError> {
@@ -18,7 +19,7 @@ pub(crate) fn add_answer(
 
 // Appends the answer of a call.
 fn add_called(
-    out: &mut Vec<u8>,
+    out: &mut Answer,
     settings: &Settings,
     call: &str,
     rest: &str,

@@ -3,13 +3,13 @@
 ghost use Rattle.xs_pattern.specs.steps.Above.{IsAbove};
 ghost use Rattle.xs_xpath.specs.Exprs.{tree_from};
 
+use crate::answer::Answer;
 use crate::error::RowError;
-use crate::fields::add_count;
 use crate::parsed::parsed_pattern;
 use crate::settings::Settings;
 use xs_pattern::above::above_of;
 use xs_pattern::matching::{matches_path, matches_path_by};
-use xs_tree::Node;
+use xs_tree::{Node, Tree};
 use xs_value::keys::NoKeys;
 use xs_xpath::expr::Expr;
 use xs_xpath::pattern::Pattern;
@@ -24,7 +24,7 @@ fn is_agreed(
 ) -> Result<bool, RowError>
     requires { IsAbove settings.now.tree (tree_from alternative.now) marks.now }
 {
-    let tree = &settings.tree;
+    let tree: &Tree = &settings.tree;
     for place in 0..tree.len() as u32 {
         let node = Node::at(place);
         let alloc = settings.alloc;
@@ -46,7 +46,7 @@ fn count_by(
 ) -> Result<u64, RowError>
     requires { IsAbove settings.now.tree (tree_from alternative.now) marks.now }
 {
-    let tree = &settings.tree;
+    let tree: &Tree = &settings.tree;
     let mut found = 0_u64;
     for place in 0..tree.len() as u32 {
         let node = Node::at(place);
@@ -60,43 +60,44 @@ fn count_by(
 
 /// Appends the answer of a call that makes tables.
 pub(crate) fn answer(
-    out: &mut Vec<u8>,
+    out: &mut Answer,
     settings: &Settings,
     call: &str,
     rest: &str,
 ) -> Result<(), RowError> {
     let pattern = parsed_pattern(settings, rest)?;
+    let scope = settings.scope()?;
     if call == "count" {
-        return add_found(out, settings, &pattern);
+        out.put_count(found(settings, &pattern, &scope)?);
+    } else {
+        out.put(table(settings, &pattern, &scope)?);
     }
-    Ok(out.extend_from_slice(table(settings, &pattern)?.as_bytes())?)
+    Ok(())
 }
 
 // Whether each alternative of a pattern has a table, by which the same nodes match as by climbing
 // from each of them.
-fn table(settings: &Settings, pattern: &Pattern) -> Result<&'static str, RowError> {
-    let scope = settings.scope()?;
+fn table(settings: &Settings, pattern: &Pattern, scope: &Scope) -> Result<&'static str, RowError> {
     for alternative in &pattern.alternatives {
         let Some(marks) = above_of(settings.alloc, alternative, &settings.tree)? else {
             return Ok("no table");
         };
-        if !is_agreed(settings, alternative, &scope, &marks)? {
+        if !is_agreed(settings, alternative, scope, &marks)? {
             return Ok("not as climbed");
         }
     }
     Ok("as climbed")
 }
 
-// Appends how many nodes match the alternatives of a pattern, by their tables.
-fn add_found(out: &mut Vec<u8>, settings: &Settings, pattern: &Pattern) -> Result<(), RowError> {
-    let scope = settings.scope()?;
+// How many nodes match the alternatives of a pattern, by their tables.
+fn found(settings: &Settings, pattern: &Pattern, scope: &Scope) -> Result<u64, RowError> {
     let mut found = 0_u64;
     for alternative in &pattern.alternatives {
         let Some(marks) = above_of(settings.alloc, alternative, &settings.tree)? else {
             return Err(RowError::Unreadable);
         };
-        let more = count_by(settings, alternative, &scope, &marks)?;
+        let more = count_by(settings, alternative, scope, &marks)?;
         found = found.saturating_add(more);
     }
-    Ok(add_count(out, found)?)
+    Ok(found)
 }
