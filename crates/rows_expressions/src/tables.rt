@@ -7,6 +7,7 @@ use crate::answer::Answer;
 use crate::error::RowError;
 use crate::parsed::parsed_pattern;
 use crate::settings::Settings;
+use std::alloc::Global;
 use xs_pattern::above::above_of;
 use xs_pattern::matching::{matches_path, matches_path_by};
 use xs_tree::{Node, Tree};
@@ -17,17 +18,16 @@ use xs_xpath::scope::Scope;
 
 // Whether matching by a table says of each node what matching without it says.
 fn is_agreed(
-    settings: &Settings,
+    alloc: Global,
+    tree: &Tree,
     alternative: &Expr,
     scope: &Scope,
     marks: &[bool],
 ) -> Result<bool, RowError>
-    requires { IsAbove settings.now.tree (tree_from alternative.now) marks.now }
+    requires { IsAbove tree.now (tree_from alternative.now) marks.now }
 {
-    let tree: &Tree = &settings.tree;
     for place in 0..tree.len() as u32 {
         let node = Node::at(place);
-        let alloc = settings.alloc;
         let climbed = matches_path(alloc, alternative, scope, tree, node, &NoKeys)?;
         let found = matches_path_by(alloc, alternative, scope, tree, node, &NoKeys, Some(marks))?;
         if climbed != found {
@@ -39,18 +39,17 @@ fn is_agreed(
 
 // How many nodes match an alternative, by its table.
 fn count_by(
-    settings: &Settings,
+    alloc: Global,
+    tree: &Tree,
     alternative: &Expr,
     scope: &Scope,
     marks: &[bool],
 ) -> Result<u64, RowError>
-    requires { IsAbove settings.now.tree (tree_from alternative.now) marks.now }
+    requires { IsAbove tree.now (tree_from alternative.now) marks.now }
 {
-    let tree: &Tree = &settings.tree;
     let mut found = 0_u64;
     for place in 0..tree.len() as u32 {
         let node = Node::at(place);
-        let alloc = settings.alloc;
         if matches_path_by(alloc, alternative, scope, tree, node, &NoKeys, Some(marks))? {
             found = found.saturating_add(1);
         }
@@ -68,9 +67,9 @@ pub(crate) fn answer(
     let pattern = parsed_pattern(settings, rest)?;
     let scope = settings.scope()?;
     if call == "count" {
-        out.put_count(found(settings, &pattern, &scope)?);
+        out.put_count(found(settings.alloc, &settings.tree, &pattern, &scope)?);
     } else {
-        out.put(table(settings, &pattern, &scope)?);
+        out.put(table(settings.alloc, &settings.tree, &pattern, &scope)?);
     }
     Ok(())
 }
@@ -79,10 +78,10 @@ pub(crate) fn answer(
 // from each of them.
 fn table(settings: &Settings, pattern: &Pattern, scope: &Scope) -> Result<&'static str, RowError> {
     for alternative in &pattern.alternatives {
-        let Some(marks) = above_of(settings.alloc, alternative, &settings.tree)? else {
+        let Some(marks) = above_of(alloc, alternative, tree)? else {
             return Ok("no table");
         };
-        if !is_agreed(settings, alternative, scope, &marks)? {
+        if !is_agreed(alloc, tree, alternative, scope, &marks)? {
             return Ok("not as climbed");
         }
     }
@@ -90,13 +89,13 @@ fn table(settings: &Settings, pattern: &Pattern, scope: &Scope) -> Result<&'stat
 }
 
 // How many nodes match the alternatives of a pattern, by their tables.
-fn found(settings: &Settings, pattern: &Pattern, scope: &Scope) -> Result<u64, RowError> {
+fn found(alloc: Global, tree: &Tree, pattern: &Pattern, scope: &Scope) -> Result<u64, RowError> {
     let mut found = 0_u64;
     for alternative in &pattern.alternatives {
-        let Some(marks) = above_of(settings.alloc, alternative, &settings.tree)? else {
+        let Some(marks) = above_of(alloc, alternative, tree)? else {
             return Err(RowError::Unreadable);
         };
-        let more = count_by(settings, alternative, scope, &marks)?;
+        let more = count_by(alloc, tree, alternative, scope, &marks)?;
         found = found.saturating_add(more);
     }
     Ok(found)
