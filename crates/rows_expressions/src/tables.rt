@@ -76,7 +76,12 @@ pub(crate) fn answer(
 
 // Whether each alternative of a pattern has a table, by which the same nodes match as by climbing
 // from each of them.
-fn table(settings: &Settings, pattern: &Pattern, scope: &Scope) -> Result<&'static str, RowError> {
+fn table(
+    alloc: Global,
+    tree: &Tree,
+    pattern: &Pattern,
+    scope: &Scope,
+) -> Result<&'static str, RowError> {
     for alternative in &pattern.alternatives {
         let Some(marks) = above_of(alloc, alternative, tree)? else {
             return Ok("no table");
