@@ -6,6 +6,7 @@ ghost use Rattle.xs_eval.specs.Conditions.{IsContext, IsInIf};
 ghost use Rattle.xs_value.specs.Conversion.{IsIn};
 
 use crate::answer::Answer;
+use crate::calls::Call;
 use crate::error::RowError;
 use crate::fields::{cut, cut_place};
 use crate::parsed::{parsed_bound, parsed_parts};
@@ -196,14 +197,13 @@ fn add_tried(
 pub(crate) fn answer(
     out: &mut Answer,
     settings: &Settings,
-    call: &str,
+    call: Call,
     rest: &str,
 ) -> Result<(), RowError> {
     let (place, text) = cut_place(rest)?;
-    let ticks = if call == "compare" {
-        compare(out, settings, place, text)?
-    } else {
-        add_tried(out, settings, &parsed_as(settings, call, text)?, place)?
+    let ticks = match call {
+        Call::Compare => compare(out, settings, place, text)?,
+        _ => add_tried(out, settings, &parsed_as(settings, call, text)?, place)?,
     };
     out.put(" | ");
     out.put_count(ticks);
@@ -211,11 +211,10 @@ pub(crate) fn answer(
 }
 
 // What a row asks for: the value of an expression, or the text of a value template.
-fn parsed_as(settings: &Settings, call: &str, text: &str) -> Result<Asked, RowError> {
-    if call == "value" {
-        Ok(Asked::Expression(parsed_bound(settings, text)?))
-    } else {
-        Ok(Asked::Template(parsed_parts(settings, text)?))
+fn parsed_as(settings: &Settings, call: Call, text: &str) -> Result<Asked, RowError> {
+    match call {
+        Call::Text => Ok(Asked::Template(parsed_parts(settings, text)?)),
+        _ => Ok(Asked::Expression(parsed_bound(settings, text)?)),
     }
 }
 
@@ -245,7 +244,7 @@ fn add_operated(
     right: &str,
 ) -> Result<u64, RowError> {
     let text = format!(in settings.alloc; "{left} {operator} {right}")?;
-    let asked = parsed_as(settings, "value", text.as_str())?;
+    let asked = parsed_as(settings, Call::Value, text.as_str())?;
     let mut end = Answer::new(settings.alloc);
     let ticks = add_tried(&mut end, settings, &asked, place)?;
     out.put(letter(end.text()?));

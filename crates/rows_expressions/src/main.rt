@@ -4,6 +4,7 @@
 
 mod answer;
 mod answers;
+mod calls;
 mod documents;
 mod error;
 mod evaluated;

@@ -1,6 +1,7 @@
 //! The nodes of axes, and those that match patterns.
 
 use crate::answer::Answer;
+use crate::calls::Call;
 use crate::error::RowError;
 use crate::fields::{cut_place, word};
 use crate::names::axis_named;
@@ -22,16 +23,16 @@ use xs_xpath::scope::Scope;
 pub(crate) fn answer(
     out: &mut Answer,
     settings: &Settings,
-    call: &str,
+    call: Call,
     rest: &str,
 ) -> Result<(), RowError> {
     match call {
-        "axis" => {
+        Call::Axis => {
             let (name, place) = word(rest);
             add_axis(out, settings, name, place.parse::<u32>()?)
         }
-        "match" => add_both(out, settings, rest),
-        "match-faulty" => add_matching(out, settings, rest),
+        Call::Match => add_both(out, settings, rest),
+        Call::MatchFaulty => add_matching(out, settings, rest),
         _ => {
             let (place, text) = cut_place(rest)?;
             add_match(out, settings, place, text)

@@ -1,6 +1,7 @@
 //! Numbers, by the calls of `xs_num`.
 
 use crate::answer::Answer;
+use crate::calls::Call;
 use crate::error::RowError;
 use crate::fields::word;
 use std::cmp::Ordering;
@@ -23,26 +24,26 @@ pub(crate) fn number(text: &str) -> Result<Num, RowError> {
 }
 
 /// Appends the answer of a call with numbers.
-pub(crate) fn answer(out: &mut Answer, call: &str, rest: &str) -> Result<(), RowError> {
-    if call == "number" {
-        add_outcome(out, read_num(rest));
-    } else if call == "negate" {
-        out.put_number(neg(number(rest)?));
-    } else {
-        let (left, right) = word(rest);
-        operate(out, call, number(left)?, number(right)?);
+pub(crate) fn answer(out: &mut Answer, call: Call, rest: &str) -> Result<(), RowError> {
+    match call {
+        Call::Number => add_outcome(out, read_num(rest)),
+        Call::Negate => out.put_number(neg(number(rest)?)),
+        _ => {
+            let (left, right) = word(rest);
+            operate(out, call, number(left)?, number(right)?);
+        }
     }
     Ok(())
 }
 
 // Appends the answer of a call with two numbers.
-fn operate(out: &mut Answer, call: &str, a: Num, b: Num) {
+fn operate(out: &mut Answer, call: Call, a: Num, b: Num) {
     match call {
-        "add" => add_outcome(out, add(a, b)),
-        "subtract" => add_outcome(out, sub(a, b)),
-        "multiply" => add_outcome(out, mul(a, b)),
-        "divide" => add_outcome(out, div(a, b)),
-        "remainder" => add_outcome(out, rem(a, b)),
+        Call::Add => add_outcome(out, add(a, b)),
+        Call::Subtract => add_outcome(out, sub(a, b)),
+        Call::Multiply => add_outcome(out, mul(a, b)),
+        Call::Divide => add_outcome(out, div(a, b)),
+        Call::Remainder => add_outcome(out, rem(a, b)),
         _ => out.put(order(compare(a, b))),
     }
 }

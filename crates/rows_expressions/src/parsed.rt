@@ -1,6 +1,7 @@
 //! What texts are parsed to, and the scopes that they are parsed in.
 
 use crate::answer::Answer;
+use crate::calls::Call;
 use crate::error::RowError;
 use crate::fields::{add_repeated, word};
 use crate::settings::Settings;
@@ -21,16 +22,16 @@ const MOST: usize = 100_000_000;
 pub(crate) fn answer(
     out: &mut Answer,
     settings: &Settings,
-    call: &str,
+    call: Call,
     rest: &str,
 ) -> Result<(), RowError> {
     match call {
-        "expression" => show(out, &*parsed(settings, rest)?),
-        "pattern" => show_all(out, " or ", &parsed_pattern(settings, rest)?.alternatives),
-        "template" => show_parts(out, &parsed_parts(settings, rest)?),
-        "bound" => show_bound(out, &*parsed_bound(settings, rest)?),
-        "long" => return add_long(out, settings, rest),
-        "uri" => return add_uri(out, settings, rest),
+        Call::Expression => show(out, &*parsed(settings, rest)?),
+        Call::Pattern => show_all(out, " or ", &parsed_pattern(settings, rest)?.alternatives),
+        Call::Template => show_parts(out, &parsed_parts(settings, rest)?),
+        Call::Bound => show_bound(out, &*parsed_bound(settings, rest)?),
+        Call::Long => return add_long(out, settings, rest),
+        Call::Uri => return add_uri(out, settings, rest),
         _ => return add_found(out, settings, rest),
     }
     Ok(())

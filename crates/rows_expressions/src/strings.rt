@@ -1,6 +1,7 @@
 //! Strings, by the calls of `xs_strings`.
 
 use crate::answer::Answer;
+use crate::calls::Call;
 use crate::error::RowError;
 use crate::fields::cut;
 use crate::numbers::number;
@@ -10,8 +11,8 @@ use xs_strings::searching::{substring_after, substring_before};
 use xs_strings::translation::translate;
 
 /// Appends the answer of a call with strings.
-pub(crate) fn answer(out: &mut Answer, call: &str, rest: &str) -> Result<(), RowError> {
-    if call == "string-length" {
+pub(crate) fn answer(out: &mut Answer, call: Call, rest: &str) -> Result<(), RowError> {
+    if let Call::StringLength = call {
         out.put_count(char_count(rest));
         return Ok(());
     }
@@ -22,22 +23,21 @@ pub(crate) fn answer(out: &mut Answer, call: &str, rest: &str) -> Result<(), Row
 }
 
 // Appends the string that a call gives.
-fn add_string(out: &mut Vec<u8>, call: &str, rest: &str) -> Result<(), RowError> {
+fn add_string(out: &mut Vec<u8>, call: Call, rest: &str) -> Result<(), RowError> {
     match call {
-        "normalize-space" => Ok(normalize_space(out, rest)?),
-        "substring" => add_substring(out, rest),
-        "translate" => add_translated(out, rest),
+        Call::NormalizeSpace => Ok(normalize_space(out, rest)?),
+        Call::Substring => add_substring(out, rest),
+        Call::Translate => add_translated(out, rest),
         _ => add_part(out, call, rest),
     }
 }
 
 // Appends what stands before another string, or after it.
-fn add_part(out: &mut Vec<u8>, call: &str, rest: &str) -> Result<(), RowError> {
+fn add_part(out: &mut Vec<u8>, call: Call, rest: &str) -> Result<(), RowError> {
     let (text, other) = cut(rest)?;
     match call {
-        "substring-before" => Ok(substring_before(out, text, other)?),
-        "substring-after" => Ok(substring_after(out, text, other)?),
-        _ => Err(RowError::Unreadable),
+        Call::SubstringBefore => Ok(substring_before(out, text, other)?),
+        _ => Ok(substring_after(out, text, other)?),
     }
 }
 

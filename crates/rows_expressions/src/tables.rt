@@ -4,6 +4,7 @@ ghost use Rattle.xs_pattern.specs.steps.Above.{IsAbove};
 ghost use Rattle.xs_xpath.specs.Exprs.{tree_from};
 
 use crate::answer::Answer;
+use crate::calls::Call;
 use crate::error::RowError;
 use crate::parsed::parsed_pattern;
 use crate::settings::Settings;
@@ -61,15 +62,14 @@ fn count_by(
 pub(crate) fn answer(
     out: &mut Answer,
     settings: &Settings,
-    call: &str,
+    call: Call,
     rest: &str,
 ) -> Result<(), RowError> {
     let pattern = parsed_pattern(settings, rest)?;
     let scope = settings.scope()?;
-    if call == "count" {
-        out.put_count(found(settings.alloc, &settings.tree, &pattern, &scope)?);
-    } else {
-        out.put(table(settings.alloc, &settings.tree, &pattern, &scope)?);
+    match call {
+        Call::Count => out.put_count(found(settings.alloc, &settings.tree, &pattern, &scope)?),
+        _ => out.put(table(settings.alloc, &settings.tree, &pattern, &scope)?),
     }
     Ok(())
 }

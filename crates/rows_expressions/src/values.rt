@@ -3,6 +3,7 @@
 ghost use Rattle.xs_value.specs.Conversion.{IsIn};
 
 use crate::answer::Answer;
+use crate::calls::Call;
 use crate::error::RowError;
 use crate::fields::cut;
 use crate::names::comparison_named;
@@ -107,13 +108,13 @@ pub(crate) fn add_places(out: &mut Answer, nodes: &[Node]) {
 pub(crate) fn answer(
     out: &mut Answer,
     settings: &Settings,
-    call: &str,
+    call: Call,
     rest: &str,
 ) -> Result<(), RowError> {
     match call {
-        "convert" => convert(out, settings, rest),
-        "compared" => compared(out, settings, rest),
-        "join" => join(out, settings.alloc, rest),
+        Call::Convert => convert(out, settings, rest),
+        Call::Compared => compared(out, settings, rest),
+        Call::Join => join(out, settings.alloc, rest),
         _ => gather(out, settings.alloc, rest),
     }
 }
