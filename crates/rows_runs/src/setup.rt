@@ -130,12 +130,12 @@ impl<'t> Setup<'t> {
     /// Takes the number of a fetch, or of a write of a sink, that fails.
     pub(crate) fn add_failing(&mut self, rest: &str) -> Result<(), AllocError> {
         let (what, number) = rest.split_once(' ').unwrap_or((rest, ""));
-        let failing = match what {
-            "fetch" => &mut self.failing_fetches,
-            "result" => &mut self.failing_results,
-            _ => &mut self.failing_lines,
-        };
-        failing.push(number.parse().unwrap_or(0))?;
+        let number = number.parse().unwrap_or(0);
+        match what {
+            "fetch" => self.failing_fetches.push(number)?,
+            "result" => self.failing_results.push(number)?,
+            _ => self.failing_lines.push(number)?,
+        }
         Ok(())
     }
 
