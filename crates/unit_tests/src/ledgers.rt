@@ -48,9 +48,9 @@ fn add_once(ledger: &Ledger, mut share: Share, n: u32) -> Share
 #[test]
 fn answers_the_word_after_each_addition(rt: HostRuntime) -> Result<(), Fail> {
     let (ledger, mut one, mut two) = ledger_for_two(rt.alloc())?;
-    assert!(rt; ledger.add(&mut one, 10) == 10);
-    assert!(rt; ledger.add(&mut two, 10) == 20);
-    assert!(rt; total_of_two(rt.alloc(), ledger, one, two)? == 20);
+    assert_eq!(rt; ledger.add(&mut one, 10), 10);
+    assert_eq!(rt; ledger.add(&mut two, 10), 20);
+    assert_eq!(rt; total_of_two(rt.alloc(), ledger, one, two)?, 20);
     Ok(())
 }
 

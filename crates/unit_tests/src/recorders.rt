@@ -32,14 +32,14 @@ const LONG: &str = "the whole of this text is longer than thirty-two bytes";
 #[test]
 fn short_text(rt: HostRuntime) -> Result<(), Fail> {
     let copy = TextBuf::of(rt.alloc(), "pi")?.copy()?;
-    assert!(rt; copy.as_str() == "pi");
+    assert_eq!(rt; copy.as_str(), "pi");
     Ok(())
 }
 
 #[test]
 fn long_text(rt: HostRuntime) -> Result<(), Fail> {
     let copy = TextBuf::from_string(String::from_str(rt.alloc(), LONG)?)?.copy()?;
-    assert!(rt; copy.as_str() == LONG);
+    assert_eq!(rt; copy.as_str(), LONG);
     Ok(())
 }
 
@@ -68,8 +68,8 @@ fn has_numbers(alloc: Global, numbers: &[u64]) -> Result<bool, AllocError> {
 #[test]
 fn places(rt: HostRuntime) -> Result<(), Fail> {
     assert!(rt; has_numbers(rt.alloc(), &[3, 1])?);
-    assert!(rt; compared(rt.alloc(), &[], &[3, 1])? == Ordering::Less);
-    assert!(rt; compared(rt.alloc(), &[3, 1], &[2])? == Ordering::Greater);
+    assert_eq!(rt; compared(rt.alloc(), &[], &[3, 1])?, Ordering::Less);
+    assert_eq!(rt; compared(rt.alloc(), &[3, 1], &[2])?, Ordering::Greater);
     Ok(())
 }
 
@@ -174,9 +174,9 @@ fn is_full_run(kept: &Kept) -> bool {
 #[test]
 fn keeps_a_run(rt: HostRuntime) -> Result<(), Fail> {
     let mut whole: Whole<u64> = Whole::new(rt.alloc(), ONE_EVENT);
-    assert!(rt; record(rt.alloc(), &mut whole) == Ok(1));
-    assert!(rt; whole.left() == 6);
-    assert!(rt; whole.put(Event::End) == Err(Halt::Full(SITE)));
+    assert_eq!(rt; record(rt.alloc(), &mut whole), Ok(1));
+    assert_eq!(rt; whole.left(), 6);
+    assert_eq!(rt; whole.put(Event::End), Err(Halt::Full(SITE)));
     let kept = whole.keep(Err(Halt::Full(SITE)))?;
     assert!(rt; is_full_run(&kept));
     Ok(())
@@ -185,9 +185,9 @@ fn keeps_a_run(rt: HostRuntime) -> Result<(), Fail> {
 #[test]
 fn stops_at_its_limit(rt: HostRuntime) -> Result<(), Fail> {
     let mut whole: Whole<u64> = Whole::new(rt.alloc(), TWO_TICKS);
-    assert!(rt; whole.hole(7) == Err(Halt::NoMemory));
-    assert!(rt; whole.ticks(SITE, 3) == Err(Halt::Spent(SITE)));
-    assert!(rt; whole.tick(SITE) == Err(Halt::Spent(SITE)));
+    assert_eq!(rt; whole.hole(7), Err(Halt::NoMemory));
+    assert_eq!(rt; whole.ticks(SITE, 3), Err(Halt::Spent(SITE)));
+    assert_eq!(rt; whole.tick(SITE), Err(Halt::Spent(SITE)));
     let (timeline, items) = whole.finish()?;
     assert!(rt; items.is_empty());
     assert!(rt; matches!(timeline.as_slice(), [Entry::Ticks { count: 2, .. }]));
@@ -197,9 +197,9 @@ fn stops_at_its_limit(rt: HostRuntime) -> Result<(), Fail> {
 #[test]
 fn keeps_no_ticks(rt: HostRuntime) -> Result<(), Fail> {
     let mut brief: Brief<u64> = Brief::new(rt.alloc(), ONE_EVENT);
-    assert!(rt; record(rt.alloc(), &mut brief) == Ok(1));
-    assert!(rt; brief.left() == 6);
-    assert!(rt; brief.put(Event::End) == Err(Halt::Full(SITE)));
+    assert_eq!(rt; record(rt.alloc(), &mut brief), Ok(1));
+    assert_eq!(rt; brief.left(), 6);
+    assert_eq!(rt; brief.put(Event::End), Err(Halt::Full(SITE)));
     assert!(rt; are_both(brief.finish().as_slice()));
     Ok(())
 }
@@ -207,9 +207,9 @@ fn keeps_no_ticks(rt: HostRuntime) -> Result<(), Fail> {
 #[test]
 fn spends_without_keeping(rt: HostRuntime) {
     let mut brief: Brief<u64> = Brief::new(rt.alloc(), TWO_TICKS);
-    assert!(rt; brief.ticks(SITE, 3) == Err(Halt::Spent(SITE)));
-    assert!(rt; brief.tick(SITE) == Err(Halt::Spent(SITE)));
-    assert!(rt; brief.hole(7) == Err(Halt::NoMemory));
+    assert_eq!(rt; brief.ticks(SITE, 3), Err(Halt::Spent(SITE)));
+    assert_eq!(rt; brief.tick(SITE), Err(Halt::Spent(SITE)));
+    assert_eq!(rt; brief.hole(7), Err(Halt::NoMemory));
     assert!(rt; brief.finish().is_empty());
 }
 
@@ -242,7 +242,7 @@ fn piece(
 fn keeps_a_piece(rt: HostRuntime) -> Result<(), Fail> {
     let (kept, total) = piece(rt.alloc(), 0, 3)?;
     assert!(rt; is_whole_piece(&kept));
-    assert!(rt; total.above() == None);
+    assert_eq!(rt; total.above(), None);
     Ok(())
 }
 
@@ -250,8 +250,8 @@ fn keeps_a_piece(rt: HostRuntime) -> Result<(), Fail> {
 fn ends_over_a_total(rt: HostRuntime) -> Result<(), Fail> {
     let (kept, total) = piece(rt.alloc(), 1500, 1500)?;
     assert!(rt; is_over(&kept));
-    assert!(rt; total.above() == Some(2524));
-    assert!(rt; total.limit() == 2000);
+    assert_eq!(rt; total.above(), Some(2524));
+    assert_eq!(rt; total.limit(), 2000);
     Ok(())
 }
 
@@ -259,9 +259,9 @@ fn ends_over_a_total(rt: HostRuntime) -> Result<(), Fail> {
 fn adds_its_ticks(rt: HostRuntime) {
     let total = LocalTotal::new(2000, 0);
     let mut piece: PieceRecorder<LocalTotal, u64> = PieceRecorder::new(rt.alloc(), None, total);
-    assert!(rt; piece.ticks(SITE, 1025) == Ok(()));
-    assert!(rt; piece.due() == 1);
-    assert!(rt; piece.total().above() == None);
+    assert_eq!(rt; piece.ticks(SITE, 1025), Ok(()));
+    assert_eq!(rt; piece.due(), 1);
+    assert_eq!(rt; piece.total().above(), None);
 }
 
 #[test]
@@ -271,8 +271,8 @@ fn takes_no_holes(rt: HostRuntime) -> Result<(), Fail> {
         events: None,
     };
     let kept = run_whole(rt.alloc(), limits, SITE, 1, Event::End, Event::End)?;
-    assert!(rt; kept.items.len() == 2);
-    assert!(rt; kept.timeline.len() == 4);
+    assert_eq!(rt; kept.items.len(), 2);
+    assert_eq!(rt; kept.timeline.len(), 4);
     assert!(rt; matches!(&kept.ended, Ended::Whole));
     Ok(())
 }
@@ -280,10 +280,10 @@ fn takes_no_holes(rt: HostRuntime) -> Result<(), Fail> {
 #[test]
 fn attempts_a_global(rt: HostRuntime) -> Result<(), Fail> {
     let tried = attempt(rt.alloc(), 5, SITE, Some(3))?;
-    assert!(rt; tried.told == Err(Halt::Needs(3, SITE)));
-    assert!(rt; tried.ticks == 1);
+    assert_eq!(rt; tried.told, Err(Halt::Needs(3, SITE)));
+    assert_eq!(rt; tried.ticks, 1);
     let spent = attempt(rt.alloc(), 0, SITE, Some(3))?;
-    assert!(rt; spent.told == Err(Halt::Spent(SITE)));
+    assert_eq!(rt; spent.told, Err(Halt::Spent(SITE)));
     Ok(())
 }
 
@@ -293,17 +293,17 @@ fn meters(rt: HostRuntime) {
         limit: Some(2),
         spent: 0,
     };
-    assert!(rt; tick_several(&mut meter, SITE, 2) == Ok(()));
-    assert!(rt; meter.tick(SITE) == Err(Halt::Spent(SITE)));
-    assert!(rt; meter.spent == 2);
+    assert_eq!(rt; tick_several(&mut meter, SITE, 2), Ok(()));
+    assert_eq!(rt; meter.tick(SITE), Err(Halt::Spent(SITE)));
+    assert_eq!(rt; meter.spent, 2);
     let mut meter = Meter {
         limit: Some(9),
         spent: 0,
     };
-    assert!(rt; add_up_metered(&mut meter, SITE, &[1, 2]) == Ok(3));
+    assert_eq!(rt; add_up_metered(&mut meter, SITE, &[1, 2]), Ok(3));
     let fault = add_up_metered(&mut meter, SITE, &[1, 2, u64::MAX, 4]);
-    assert!(rt; fault == Err(Halt::Fault(52, SITE)));
-    assert!(rt; meter.spent == 5);
+    assert_eq!(rt; fault, Err(Halt::Fault(52, SITE)));
+    assert_eq!(rt; meter.spent, 5);
 }
 
 #[test]
@@ -313,6 +313,6 @@ fn adds_up_with_a_pool(rt: HostRuntime) {
         taken: 0,
         slots: 1,
     };
-    assert!(rt; add_up_pooled(&mut pool, SITE, &[1, 2]) == Ok(3));
-    assert!(rt; pool.taken == 1);
+    assert_eq!(rt; add_up_pooled(&mut pool, SITE, &[1, 2]), Ok(3));
+    assert_eq!(rt; pool.taken, 1);
 }
