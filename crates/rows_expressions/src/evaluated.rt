@@ -5,8 +5,10 @@ ghost use Rattle.std.specs.List.{All};
 ghost use Rattle.xs_eval.specs.Conditions.{IsContext, IsInIf};
 ghost use Rattle.xs_value.specs.Conversion.{IsIn};
 
+use crate::answer::Answer;
+use crate::calls::Call;
 use crate::error::RowError;
-use crate::fields::{add_count, add_quoted, cut, cut_place};
+use crate::fields::{cut, cut_place};
 use crate::parsed::{parsed_bound, parsed_parts};
 use crate::settings::Settings;
 use crate::values::show_value;
@@ -27,9 +29,17 @@ use xs_xpath::expr::Expr;
 /// What is evaluated.
 #[derive(Drop)]
 enum Asked {
-    Expression(Expr),
+    Expression(Box<Expr>),
     Template(Vec<AvtPart>),
 }
+
+// The ends of comparisons, and their letters.
+const LETTERS: &[(&str, &str)] = &[
+    ("true", "T"),
+    ("false", "F"),
+    ("fault 51", "1"),
+    ("fault 52", "2"),
+];
 
 // A limit above the ticks of each row.
 const AMPLE: u64 = 1_000_000;
@@ -62,33 +72,32 @@ fn are_in_if(tree: &Tree, values: &[Option<Value>]) -> bool
 }
 
 // Appends how an evaluation without a value ended.
-fn add_halt(out: &mut Vec<u8>, halt: Halt) -> Result<(), RowError> {
-    match halt {
-        Halt::Fault(number, _) => {
-            out.extend_from_slice(b"fault ")?;
-            add_count(out, u64::from(number))?;
+fn add_halt(out: &mut Answer, halt: Halt) -> Result<(), RowError> {
+    let (kind, number) = match halt {
+        Halt::Fault(number, _) => ("fault ", u64::from(number)),
+        Halt::Needs(global, _) => ("needs ", u64::from(global)),
+        Halt::Spent(_) => {
+            out.put("spent");
+            return Ok(());
         }
-        Halt::Needs(global, _) => {
-            out.extend_from_slice(b"needs ")?;
-            add_count(out, u64::from(global))?;
-        }
-        Halt::Spent(_) => out.extend_from_slice(b"spent")?,
         Halt::NoMemory => return Err(RowError::NoMemory),
         Halt::Full(_) | Halt::Over { .. } => return Err(RowError::Unreadable),
-    }
+    };
+    out.put(kind);
+    out.put_count(number);
     Ok(())
 }
 
 // Appends the end of an evaluation at the node at a place, under a limit of ticks, and says how
 // many it took.
 fn add_end(
-    out: &mut Vec<u8>,
+    out: &mut Answer,
     settings: &Settings,
     asked: &Asked,
     place: u32,
     limit: u64,
 ) -> Result<u64, RowError> {
-    let tree = &settings.tree;
+    let tree: &Tree = &settings.tree;
     let is_there = (place as usize) < tree.len() && (settings.current as usize) < tree.len();
     if !is_there || !are_in(tree, &settings.locals) || !are_in_if(tree, &settings.globals) {
         return Err(RowError::Unreadable);
@@ -112,7 +121,7 @@ fn add_end(
 
 // Appends the value of an expression, or how it ended without one, and says its ticks.
 fn add_value(
-    out: &mut Vec<u8>,
+    out: &mut Answer,
     alloc: Global,
     expr: &Expr,
     context: &Context<'_>,
@@ -125,7 +134,7 @@ fn add_value(
         spent: 0,
     };
     match evaluate(alloc, expr, context, &NoKeys, SITE, &mut meter) {
-        Ok(value) => show_value(out, context.tree, &value)?,
+        Ok(value) => show_value(out, context.tree, &value),
         Err(halt) => add_halt(out, halt)?,
     }
     Ok(meter.spent)
@@ -133,7 +142,7 @@ fn add_value(
 
 // Appends the text of a value template, or how it ended without one, and says its ticks.
 fn add_text(
-    out: &mut Vec<u8>,
+    out: &mut Answer,
     alloc: Global,
     parts: &[AvtPart],
     context: &Context<'_>,
@@ -146,7 +155,7 @@ fn add_text(
         spent: 0,
     };
     match evaluate_avt(alloc, parts, context, &NoKeys, SITE, &mut meter) {
-        Ok(text) => add_quoted(out, text.as_str())?,
+        Ok(text) => out.put_quoted(text.as_str()),
         Err(halt) => add_halt(out, halt)?,
     }
     Ok(meter.spent)
@@ -160,93 +169,74 @@ fn ends_so(
     limit: u64,
     end: &[u8],
 ) -> Result<bool, RowError> {
-    let mut found = Vec::new(settings.alloc);
+    let mut found = Answer::new(settings.alloc);
     let ticks = add_end(&mut found, settings, asked, place, limit)?;
-    Ok(found.as_slice() == end && ticks == limit)
+    Ok(found.text()? == end && ticks == limit)
 }
 
 // Appends the end of an evaluation under an ample limit to nothing, and says its ticks. Where it
 // ends otherwise under a limit of just these ticks, or not as spent under one tick less, it appends
 // this too.
 fn add_tried(
-    out: &mut Vec<u8>,
+    out: &mut Answer,
     settings: &Settings,
     asked: &Asked,
     place: u32,
 ) -> Result<u64, RowError> {
     let ticks = add_end(out, settings, asked, place, AMPLE)?;
-    if !ends_so(settings, asked, place, ticks, out)? {
-        out.extend_from_slice(b", otherwise at its limit")?;
+    if !ends_so(settings, asked, place, ticks, &out.bytes)? {
+        out.put(", otherwise at its limit");
     }
     if ticks > 0 && !ends_so(settings, asked, place, ticks - 1, b"spent")? {
-        out.extend_from_slice(b", not spent by one tick less")?;
+        out.put(", not spent by one tick less");
     }
     Ok(ticks)
 }
 
-// Appends what is given at the node at a place, and its ticks.
-fn add_both(
-    out: &mut Vec<u8>,
-    settings: &Settings,
-    asked: &Asked,
-    place: u32,
-) -> Result<(), RowError> {
-    let ticks = add_tried(out, settings, asked, place)?;
-    out.extend_from_slice(b" | ")?;
-    Ok(add_count(out, ticks)?)
-}
-
 /// Appends the answer of a call that evaluates.
 pub(crate) fn answer(
-    out: &mut Vec<u8>,
+    out: &mut Answer,
     settings: &Settings,
-    call: &str,
+    call: Call,
     rest: &str,
 ) -> Result<(), RowError> {
     let (place, text) = cut_place(rest)?;
+    let ticks = match call {
+        Call::Compare => compare(out, settings, place, text)?,
+        _ => add_tried(out, settings, &parsed_as(settings, call, text)?, place)?,
+    };
+    out.put(" | ");
+    out.put_count(ticks);
+    Ok(())
+}
+
+// What a row asks for: the value of an expression, or the text of a value template.
+fn parsed_as(settings: &Settings, call: Call, text: &str) -> Result<Asked, RowError> {
     match call {
-        "value" => value(out, settings, place, text),
-        "text" => template(out, settings, place, text),
-        _ => compare(out, settings, place, text),
+        Call::Text => Ok(Asked::Template(parsed_parts(settings, text)?)),
+        _ => Ok(Asked::Expression(parsed_bound(settings, text)?)),
     }
 }
 
-// Appends the value of an expression at the node at a place, and its ticks.
-fn value(out: &mut Vec<u8>, settings: &Settings, place: u32, text: &str) -> Result<(), RowError> {
-    let asked = Asked::Expression(parsed_bound(settings, text)?);
-    add_both(out, settings, &asked, place)
-}
-
-// Appends the text of a value template at the node at a place, and its ticks.
-fn template(
-    out: &mut Vec<u8>,
-    settings: &Settings,
-    place: u32,
-    text: &str,
-) -> Result<(), RowError> {
-    let asked = Asked::Template(parsed_parts(settings, text)?);
-    add_both(out, settings, &asked, place)
-}
-
-// Appends how two operands compare under each operator, a letter for each, and the ticks of one
-// comparison. After a letter stands `?` where its comparison takes other ticks than the one before.
-fn compare(out: &mut Vec<u8>, settings: &Settings, place: u32, text: &str) -> Result<(), RowError> {
+// Appends how two operands compare under each operator, a letter for each, and says the ticks of
+// one comparison. After a letter stands `?` where its comparison takes other ticks than the one
+// before.
+fn compare(out: &mut Answer, settings: &Settings, place: u32, text: &str) -> Result<u64, RowError> {
     let (left, right) = cut(text)?;
     let mut ticks = add_operated(out, settings, place, left, "=", right)?;
     for operator in &["!=", "<", "<=", ">", ">="] {
         let next = add_operated(out, settings, place, left, operator, right)?;
         if next != ticks {
-            out.push(b'?')?;
+            out.put("?");
         }
         ticks = next;
     }
-    out.extend_from_slice(b" | ")?;
-    Ok(add_count(out, ticks)?)
+    Ok(ticks)
 }
 
 // Appends the letter of how a comparison ends, and says its ticks.
 fn add_operated(
-    out: &mut Vec<u8>,
+    out: &mut Answer,
     settings: &Settings,
     place: u32,
     left: &str,
@@ -254,36 +244,19 @@ fn add_operated(
     right: &str,
 ) -> Result<u64, RowError> {
     let text = format!(in settings.alloc; "{left} {operator} {right}")?;
-    let asked = Asked::Expression(parsed_bound(settings, text.as_str())?);
-    add_letter(out, settings, &asked, place)
-}
-
-// Appends the letter of how a comparison ends, and says its ticks.
-fn add_letter(
-    out: &mut Vec<u8>,
-    settings: &Settings,
-    asked: &Asked,
-    place: u32,
-) -> Result<u64, RowError> {
-    let mut end = Vec::new(settings.alloc);
-    let ticks = add_tried(&mut end, settings, asked, place)?;
-    out.push(letter(&end))?;
+    let asked = parsed_as(settings, Call::Value, text.as_str())?;
+    let mut end = Answer::new(settings.alloc);
+    let ticks = add_tried(&mut end, settings, &asked, place)?;
+    out.put(letter(end.text()?));
     Ok(ticks)
 }
 
 // The letter of a comparison's end.
-fn letter(end: &[u8]) -> u8 {
-    if end == b"true".as_slice() {
-        return b'T';
+fn letter(end: &[u8]) -> &'static str {
+    for (text, letter) in LETTERS {
+        if text.as_bytes() == end {
+            return letter;
+        }
     }
-    if end == b"false".as_slice() {
-        return b'F';
-    }
-    if end == b"fault 51".as_slice() {
-        return b'1';
-    }
-    if end == b"fault 52".as_slice() {
-        return b'2';
-    }
-    b'?'
+    "?"
 }

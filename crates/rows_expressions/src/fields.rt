@@ -1,7 +1,7 @@
 //! The fields of a row, and texts made of repeated pieces.
 
 use crate::error::RowError;
-use std::alloc::{AllocError, Global};
+use std::alloc::Global;
 use xs_text::unescape_into;
 
 /// The field before the first ` | `, and what follows it.
@@ -40,22 +40,4 @@ pub(crate) fn add_repeated(out: &mut String, text: &str) -> Result<(), RowError>
         }
     }
     Ok(())
-}
-
-/// Appends a number.
-pub(crate) fn add_count(out: &mut Vec<u8>, count: u64) -> Result<(), AllocError> {
-    let text = format!(in *out.allocator(); "{count}")?;
-    out.extend_from_slice(text.as_bytes())
-}
-
-/// Appends whether something holds.
-pub(crate) fn add_bool(out: &mut Vec<u8>, holds: bool) -> Result<(), AllocError> {
-    out.extend_from_slice(if holds { b"true" } else { b"false" })
-}
-
-/// Appends a text in quotes.
-pub(crate) fn add_quoted(out: &mut Vec<u8>, text: &str) -> Result<(), AllocError> {
-    out.push(b'\'')?;
-    out.extend_from_slice(text.as_bytes())?;
-    out.extend_from_slice(b"'")
 }

@@ -2,7 +2,9 @@
 //! patterns.
 #![tactic(auto)]
 
+mod answer;
 mod answers;
+mod calls;
 mod documents;
 mod error;
 mod evaluated;
@@ -18,14 +20,15 @@ mod strings;
 mod tables;
 mod values;
 
+use answer::Answer;
 use std::io::Write;
 use std::{env, io};
 
 // Writes each row file that the arguments name, after a line with its name.
 fn main(rt: HostRuntime) -> io::Result<()> {
-    let mut out = Vec::new(rt.alloc());
+    let mut out = Answer::new(rt.alloc());
     for name in env::args(&rt)?.skip(1) {
         rows::add_file(&mut out, &rt, name.as_str())?;
     }
-    io::writer(&rt).write_all(&out)
+    io::writer(&rt).write_all(out.text()?)
 }

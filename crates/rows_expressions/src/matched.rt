@@ -1,38 +1,38 @@
 //! The nodes of axes, and those that match patterns.
 
+use crate::answer::Answer;
+use crate::calls::Call;
 use crate::error::RowError;
-use crate::fields::{add_bool, add_count, cut_place, word};
+use crate::fields::{cut_place, word};
 use crate::names::axis_named;
 use crate::parsed::{parsed, parsed_pattern};
 use crate::settings::Settings;
-use std::alloc::AllocError;
 use xs_axes::axis_nodes;
 use xs_eval::context::Context;
 use xs_eval::evaluate::evaluate;
 use xs_pattern::matching::matches;
 use xs_trace::item::Site;
 use xs_trace::meter::Meter;
-use xs_tree::{Axis, Node};
+use xs_tree::{Axis, Node, Tree};
 use xs_value::keys::NoKeys;
 use xs_value::value::Value;
 use xs_xpath::expr::Expr;
-use xs_xpath::pattern::Pattern;
 use xs_xpath::scope::Scope;
 
 /// Appends the answer of a call with an axis or a pattern.
 pub(crate) fn answer(
-    out: &mut Vec<u8>,
+    out: &mut Answer,
     settings: &Settings,
-    call: &str,
+    call: Call,
     rest: &str,
 ) -> Result<(), RowError> {
     match call {
-        "axis" => {
+        Call::Axis => {
             let (name, place) = word(rest);
             add_axis(out, settings, name, place.parse::<u32>()?)
         }
-        "match" => add_both(out, settings, rest),
-        "match-faulty" => add_matching(out, settings, rest),
+        Call::Match => add_both(out, settings, rest),
+        Call::MatchFaulty => add_matching(out, settings, rest),
         _ => {
             let (place, text) = cut_place(rest)?;
             add_match(out, settings, place, text)
@@ -41,49 +41,34 @@ pub(crate) fn answer(
 }
 
 // Appends the nodes of an axis from the node at a place, in the axis' order.
-fn add_axis(
-    out: &mut Vec<u8>,
-    settings: &Settings,
-    name: &str,
-    place: u32,
-) -> Result<(), RowError> {
+fn add_axis(out: &mut Answer, settings: &Settings, name: &str, place: u32) -> Result<(), RowError> {
     let axis = axis_named(name).ok_or(RowError::Unreadable)?;
     if place as usize >= settings.tree.len() {
         return Err(RowError::Unreadable);
     }
     for node in axis_nodes(&settings.tree, Node::at(place), axis) {
-        add_place(out, node)?;
+        add_place(out, node);
     }
     Ok(())
 }
 
 // Appends the place of a node after others; at the beginning there are none.
-fn add_place(out: &mut Vec<u8>, node: Node) -> Result<(), AllocError> {
-    if !out.is_empty() {
-        out.push(b' ')?;
+fn add_place(out: &mut Answer, node: Node) {
+    if !out.bytes.is_empty() {
+        out.put(" ");
     }
-    add_count(out, u64::from(node.place()))
+    out.put_count(u64::from(node.place()));
 }
 
 // Appends the nodes of the document that match a pattern to nothing.
-fn add_matching(out: &mut Vec<u8>, settings: &Settings, text: &str) -> Result<(), RowError> {
+fn add_matching(out: &mut Answer, settings: &Settings, text: &str) -> Result<(), RowError> {
     let scope = settings.scope()?;
     let pattern = parsed_pattern(settings, text)?;
-    Ok(add_matches(out, settings, &scope, &pattern)?)
-}
-
-// Appends the nodes of the document that match a pattern to nothing.
-fn add_matches(
-    out: &mut Vec<u8>,
-    settings: &Settings,
-    scope: &Scope,
-    pattern: &Pattern,
-) -> Result<(), AllocError> {
-    let tree = &settings.tree;
+    let tree: &Tree = &settings.tree;
     for place in 0..tree.len() as u32 {
         let node = Node::at(place);
-        if matches(settings.alloc, pattern, scope, tree, node, &NoKeys)? {
-            add_place(out, node)?;
+        if matches(settings.alloc, &pattern, &scope, tree, node, &NoKeys)? {
+            add_place(out, node);
         }
     }
     Ok(())
@@ -91,12 +76,12 @@ fn add_matches(
 
 // Appends whether the node at a place matches a pattern.
 fn add_match(
-    out: &mut Vec<u8>,
+    out: &mut Answer,
     settings: &Settings,
     place: u32,
     text: &str,
 ) -> Result<(), RowError> {
-    let tree = &settings.tree;
+    let tree: &Tree = &settings.tree;
     if place as usize >= tree.len() {
         return Err(RowError::Unreadable);
     }
@@ -104,7 +89,8 @@ fn add_match(
     let pattern = parsed_pattern(settings, text)?;
     let node = Node::at(place);
     let is_matched = matches(settings.alloc, &pattern, &scope, tree, node, &NoKeys)?;
-    Ok(add_bool(out, is_matched)?)
+    out.put_bool(is_matched);
+    Ok(())
 }
 
 // Whether a node is in the value of an expression from another one.
@@ -159,24 +145,13 @@ fn is_selected(
 
 // Appends the nodes that are in the value of an expression from themselves or an ancestor to
 // nothing.
-fn add_selected(out: &mut Vec<u8>, settings: &Settings, text: &str) -> Result<(), RowError> {
+fn add_selected(out: &mut Answer, settings: &Settings, text: &str) -> Result<(), RowError> {
     let scope = settings.scope()?;
     let expr = parsed(settings, text)?;
-    add_selections(out, settings, &scope, &expr)
-}
-
-// Appends the nodes that are in the value of an expression from themselves or an ancestor to
-// nothing.
-fn add_selections(
-    out: &mut Vec<u8>,
-    settings: &Settings,
-    scope: &Scope,
-    expr: &Expr,
-) -> Result<(), RowError> {
     for place in 0..settings.tree.len() as u32 {
         let node = Node::at(place);
-        if is_selected(settings, expr, scope, node)? {
-            add_place(out, node)?;
+        if is_selected(settings, &expr, &scope, node)? {
+            add_place(out, node);
         }
     }
     Ok(())
@@ -184,13 +159,14 @@ fn add_selections(
 
 // Appends the nodes that match a pattern to nothing, and those that are in its value as an
 // expression, where these are others.
-fn add_both(out: &mut Vec<u8>, settings: &Settings, text: &str) -> Result<(), RowError> {
+fn add_both(out: &mut Answer, settings: &Settings, text: &str) -> Result<(), RowError> {
     add_matching(out, settings, text)?;
-    let mut selected = Vec::new(settings.alloc);
+    let mut selected = Answer::new(settings.alloc);
     add_selected(&mut selected, settings, text)?;
-    if out.as_slice() != selected.as_slice() {
-        out.extend_from_slice(b", as expressions ")?;
-        out.extend_from_slice(&selected)?;
+    let selected = selected.finish()?;
+    if out.text()? != selected.as_str().as_bytes() {
+        out.put(", as expressions ");
+        out.put(selected.as_str());
     }
     Ok(())
 }

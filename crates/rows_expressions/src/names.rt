@@ -6,7 +6,7 @@ use xs_xpath::name::Function;
 use xs_xpath::token::Operator;
 
 // The axes (XPath 1.0, 2.2).
-const AXES: [(&str, Axis); 13] = [
+const AXES: &[(&str, Axis)] = &[
     ("child", Axis::Child),
     ("descendant", Axis::Descendant),
     ("parent", Axis::Parent),
@@ -25,8 +25,8 @@ const AXES: [(&str, Axis); 13] = [
 /// The axis with a name.
 pub(crate) fn axis_named(name: &str) -> Option<Axis> {
     for (other, axis) in AXES {
-        if other == name {
-            return Some(axis);
+        if *other == name {
+            return Some(*axis);
         }
     }
     None
@@ -35,7 +35,7 @@ pub(crate) fn axis_named(name: &str) -> Option<Axis> {
 /// The name of an axis.
 pub(crate) fn axis_name(axis: Axis) -> &'static str {
     for (name, other) in AXES {
-        if other == axis {
+        if *other == axis {
             return name;
         }
     }

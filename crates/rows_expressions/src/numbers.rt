@@ -1,23 +1,20 @@
 //! Numbers, by the calls of `xs_num`.
 
+use crate::answer::Answer;
+use crate::calls::Call;
 use crate::error::RowError;
 use crate::fields::word;
-use std::alloc::AllocError;
 use std::cmp::Ordering;
 use xs_num::arithmetic::{add, compare, div, mul, neg, rem, sub};
 use xs_num::number::{Num, NumFault};
 use xs_num::reading::read_num;
-use xs_num::writing::write_num;
 
 /// Appends a number, or why there is none.
-pub(crate) fn add_outcome(
-    out: &mut Vec<u8>,
-    outcome: Result<Num, NumFault>,
-) -> Result<(), AllocError> {
+pub(crate) fn add_outcome(out: &mut Answer, outcome: Result<Num, NumFault>) {
     match outcome {
-        Ok(number) => write_num(out, number),
-        Err(NumFault::Fraction) => out.extend_from_slice(b"fraction"),
-        Err(NumFault::Range) => out.extend_from_slice(b"range"),
+        Ok(number) => out.put_number(number),
+        Err(NumFault::Fraction) => out.put("fraction"),
+        Err(NumFault::Range) => out.put("range"),
     }
 }
 
@@ -27,26 +24,27 @@ pub(crate) fn number(text: &str) -> Result<Num, RowError> {
 }
 
 /// Appends the answer of a call with numbers.
-pub(crate) fn answer(out: &mut Vec<u8>, call: &str, rest: &str) -> Result<(), RowError> {
-    if call == "number" {
-        return Ok(add_outcome(out, read_num(rest))?);
+pub(crate) fn answer(out: &mut Answer, call: Call, rest: &str) -> Result<(), RowError> {
+    match call {
+        Call::Number => add_outcome(out, read_num(rest)),
+        Call::Negate => out.put_number(neg(number(rest)?)),
+        _ => {
+            let (left, right) = word(rest);
+            operate(out, call, number(left)?, number(right)?);
+        }
     }
-    if call == "negate" {
-        return Ok(write_num(out, neg(number(rest)?))?);
-    }
-    let (left, right) = word(rest);
-    Ok(operate(out, call, number(left)?, number(right)?)?)
+    Ok(())
 }
 
 // Appends the answer of a call with two numbers.
-fn operate(out: &mut Vec<u8>, call: &str, a: Num, b: Num) -> Result<(), AllocError> {
+fn operate(out: &mut Answer, call: Call, a: Num, b: Num) {
     match call {
-        "add" => add_outcome(out, add(a, b)),
-        "subtract" => add_outcome(out, sub(a, b)),
-        "multiply" => add_outcome(out, mul(a, b)),
-        "divide" => add_outcome(out, div(a, b)),
-        "remainder" => add_outcome(out, rem(a, b)),
-        _ => out.extend_from_slice(order(compare(a, b)).as_bytes()),
+        Call::Add => add_outcome(out, add(a, b)),
+        Call::Subtract => add_outcome(out, sub(a, b)),
+        Call::Multiply => add_outcome(out, mul(a, b)),
+        Call::Divide => add_outcome(out, div(a, b)),
+        Call::Remainder => add_outcome(out, rem(a, b)),
+        _ => out.put(order(compare(a, b))),
     }
 }
 

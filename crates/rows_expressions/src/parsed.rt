@@ -1,9 +1,11 @@
 //! What texts are parsed to, and the scopes that they are parsed in.
 
+use crate::answer::Answer;
+use crate::calls::Call;
 use crate::error::RowError;
-use crate::fields::{add_count, add_repeated, word};
+use crate::fields::{add_repeated, word};
 use crate::settings::Settings;
-use crate::shown::{show, show_parts, show_pattern};
+use crate::shown::{show, show_all, show_parts};
 use std::alloc::{AllocError, Global};
 use xs_xpath::avt::{AvtPart, parse_avt};
 use xs_xpath::bind::{Slots, bind};
@@ -18,34 +20,41 @@ const MOST: usize = 100_000_000;
 
 /// Appends the answer of a call with a text that is parsed.
 pub(crate) fn answer(
-    out: &mut Vec<u8>,
+    out: &mut Answer,
     settings: &Settings,
-    call: &str,
+    call: Call,
     rest: &str,
 ) -> Result<(), RowError> {
     match call {
-        "expression" => add_expression(out, settings, rest),
-        "pattern" => add_pattern(out, settings, rest),
-        "template" => add_template(out, settings, rest),
-        "bound" => add_bound(out, settings, rest),
-        "long" => add_long(out, settings, rest),
-        "uri" => add_uri(out, settings, rest),
-        _ => add_found(out, settings, rest),
+        Call::Expression => show(out, &*parsed(settings, rest)?),
+        Call::Pattern => show_all(out, " or ", &parsed_pattern(settings, rest)?.alternatives),
+        Call::Template => show_parts(out, &parsed_parts(settings, rest)?),
+        Call::Bound => show_bound(out, &*parsed_bound(settings, rest)?),
+        Call::Long => return add_long(out, settings, rest),
+        Call::Uri => return add_uri(out, settings, rest),
+        _ => return add_found(out, settings, rest),
     }
+    Ok(())
 }
 
-/// The expression of a text.
-pub(crate) fn parsed(settings: &Settings, text: &str) -> Result<Expr, RowError> {
+// The expression of a text.
+fn expression(settings: &Settings, text: &str) -> Result<Expr, RowError> {
     if text.len() > MOST {
         return Err(RowError::Unreadable);
     }
     Ok(parse_expr(settings.alloc, text, &settings.scope()?)?)
 }
 
+/// The expression of a text.
+pub(crate) fn parsed(settings: &Settings, text: &str) -> Result<Box<Expr>, RowError> {
+    Ok(Box::new(settings.alloc, expression(settings, text)?)?)
+}
+
 /// The expression of a text, its variables bound to their slots.
-pub(crate) fn parsed_bound(settings: &Settings, text: &str) -> Result<Expr, RowError> {
+pub(crate) fn parsed_bound(settings: &Settings, text: &str) -> Result<Box<Expr>, RowError> {
     let slots = Slots::of(settings.alloc, &settings.slots)?;
-    Ok(bind(parsed(settings, text)?, &slots))
+    let bound = bind(expression(settings, text)?, &slots);
+    Ok(Box::new(settings.alloc, bound)?)
 }
 
 /// The pattern of a text.
@@ -64,71 +73,45 @@ pub(crate) fn parsed_parts(settings: &Settings, text: &str) -> Result<Vec<AvtPar
     Ok(parse_avt(settings.alloc, text, &settings.scope()?)?)
 }
 
-// Appends the tree of an expression.
-fn add_expression(out: &mut Vec<u8>, settings: &Settings, text: &str) -> Result<(), RowError> {
-    let e = parsed(settings, text)?;
-    Ok(show(out, &e)?)
-}
-
-// Appends the alternatives of a pattern.
-fn add_pattern(out: &mut Vec<u8>, settings: &Settings, text: &str) -> Result<(), RowError> {
-    let pattern = parsed_pattern(settings, text)?;
-    Ok(show_pattern(out, &pattern)?)
-}
-
-// Appends the parts of a value template.
-fn add_template(out: &mut Vec<u8>, settings: &Settings, text: &str) -> Result<(), RowError> {
-    let parts = parsed_parts(settings, text)?;
-    Ok(show_parts(out, &parts)?)
-}
-
-// Appends the tree of an expression with its variables bound, and what it refers to.
-fn add_bound(out: &mut Vec<u8>, settings: &Settings, text: &str) -> Result<(), RowError> {
-    let e = parsed_bound(settings, text)?;
-    Ok(show_bound(out, &e)?)
-}
-
 // Appends a tree, and letters for what it refers to: variables, some of them unbound, the current
 // node, and keys.
-fn show_bound(out: &mut Vec<u8>, e: &Expr) -> Result<(), AllocError> {
-    show(out, e)?;
+fn show_bound(out: &mut Answer, e: &Expr) {
+    show(out, e);
     if uses_variables(e) || uses_current(e) || uses_key(e) {
-        out.extend_from_slice(b" | ")?;
+        out.put(" | ");
     }
-    show_use(out, uses_variables(e), b'v')?;
-    show_use(out, has_unbound(e), b'u')?;
-    show_use(out, uses_current(e), b'c')?;
-    show_use(out, uses_key(e), b'k')
+    show_use(out, uses_variables(e), "v");
+    show_use(out, has_unbound(e), "u");
+    show_use(out, uses_current(e), "c");
+    show_use(out, uses_key(e), "k");
 }
 
 // Appends the letter of what an expression refers to.
-fn show_use(out: &mut Vec<u8>, is_used: bool, letter: u8) -> Result<(), AllocError> {
+fn show_use(out: &mut Answer, is_used: bool, letter: &str) {
     if is_used {
-        out.push(letter)?;
+        out.put(letter);
     }
-    Ok(())
 }
 
 // Appends that an expression made of repeated pieces is read.
-fn add_long(out: &mut Vec<u8>, settings: &Settings, pieces: &str) -> Result<(), RowError> {
+fn add_long(out: &mut Answer, settings: &Settings, pieces: &str) -> Result<(), RowError> {
     let mut text = String::new(settings.alloc);
     add_repeated(&mut text, pieces)?;
     let _expr = parsed(settings, text.as_str())?;
-    Ok(out.extend_from_slice(b"read")?)
+    out.put("read");
+    Ok(())
 }
 
 // Appends the URI of a prefix.
-fn add_uri(out: &mut Vec<u8>, settings: &Settings, prefix: &str) -> Result<(), RowError> {
+fn add_uri(out: &mut Answer, settings: &Settings, prefix: &str) -> Result<(), RowError> {
     let scope = settings.scope()?;
-    match scope.uri_in(prefix) {
-        Some(uri) => Ok(out.extend_from_slice(uri.as_bytes())?),
-        None => Ok(()),
-    }
+    out.put(scope.uri_in(prefix).unwrap_or(""));
+    Ok(())
 }
 
 // Appends how many of the prefixes with the numbers from one to another have the URI with that
 // number.
-fn add_found(out: &mut Vec<u8>, settings: &Settings, numbers: &str) -> Result<(), RowError> {
+fn add_found(out: &mut Answer, settings: &Settings, numbers: &str) -> Result<(), RowError> {
     let (first, last) = word(numbers);
     let (first, last) = (first.parse::<u32>()?, last.parse::<u32>()?);
     let scope = settings.scope()?;
@@ -138,7 +121,8 @@ fn add_found(out: &mut Vec<u8>, settings: &Settings, numbers: &str) -> Result<()
             found = found.saturating_add(1);
         }
     }
-    Ok(add_count(out, found)?)
+    out.put_count(found);
+    Ok(())
 }
 
 // Whether the prefix with a number has the URI with that number.

@@ -18,7 +18,7 @@ use xs_xpath::scope::Scope;
 pub(crate) struct Settings {
     pub(crate) alloc: Global,
     /// The document.
-    pub(crate) tree: Tree,
+    pub(crate) tree: Box<Tree>,
     /// The prefixes and their URIs.
     prefixes: Vec<(TextBuf, TextBuf)>,
     /// The variables and their slots.
@@ -38,9 +38,10 @@ pub(crate) struct Settings {
 impl Settings {
     /// An empty document, no prefixes and no variables.
     pub(crate) fn new(alloc: Global) -> Result<Settings, AllocError> {
+        let tree = Box::new(alloc, Tree::new(alloc)?)?;
         Ok(Settings {
             alloc,
-            tree: Tree::new(alloc)?,
+            tree,
             prefixes: Vec::new(alloc),
             slots: Vec::new(alloc),
             locals: Vec::new(alloc),
@@ -60,18 +61,34 @@ impl Settings {
         let setting = unescaped(self.alloc, setting)?;
         let (name, rest) = word(setting.as_str());
         match name {
-            "clear" => *self = Settings::new(self.alloc)?,
-            "document" => self.tree = document(rt, rest)?,
-            "prefix" => {
-                let (prefix, uri) = word(rest);
-                self.add_prefix(prefix, uri)?;
-            }
-            "prefixes" => self.add_prefixes(rest)?,
-            "local" => self.add_local(rest)?,
-            "global" => self.add_global(rest)?,
-            "position" => self.position = rest.parse::<u32>()?,
-            "size" => self.size = rest.parse::<u32>()?,
-            "current" => self.current = rest.parse::<u32>()?,
+            "clear" => self.clear(),
+            "document" => self.set_document(rt, rest),
+            "prefix" => self.add_prefix(rest),
+            "prefixes" => self.add_prefixes(rest),
+            "local" => self.add_local(rest),
+            "global" => self.add_global(rest),
+            _ => self.set_number(name, rest.parse::<u32>()?),
+        }
+    }
+
+    // Sets everything as it was at first.
+    fn clear(&mut self) -> Result<(), RowError> {
+        *self = Settings::new(self.alloc)?;
+        Ok(())
+    }
+
+    // Sets the document.
+    fn set_document<R: Files + AllocGlobal>(&mut self, rt: &R, text: &str) -> Result<(), RowError> {
+        self.tree = Box::new(self.alloc, document(rt, text)?)?;
+        Ok(())
+    }
+
+    // Sets a position, a size or a place.
+    fn set_number(&mut self, name: &str, number: u32) -> Result<(), RowError> {
+        match name {
+            "position" => self.position = number,
+            "size" => self.size = number,
+            "current" => self.current = number,
             _ => return Err(RowError::Unreadable),
         }
         Ok(())
@@ -86,13 +103,12 @@ impl Settings {
         Ok(Scope::of(pairs))
     }
 
-    // Adds a prefix.
-    fn add_prefix(&mut self, prefix: &str, uri: &str) -> Result<(), AllocError> {
-        let pair = (
-            TextBuf::of(self.alloc, prefix)?,
-            TextBuf::of(self.alloc, uri)?,
-        );
-        self.prefixes.push(pair)?;
+    // Adds a prefix, which is a word before its URI.
+    fn add_prefix(&mut self, prefix: &str) -> Result<(), RowError> {
+        let (prefix, uri) = word(prefix);
+        let prefix = TextBuf::of(self.alloc, prefix)?;
+        let uri = TextBuf::of(self.alloc, uri)?;
+        self.prefixes.push((prefix, uri))?;
         Ok(())
     }
 
@@ -113,10 +129,9 @@ impl Settings {
     }
 
     // Adds the prefix with a number.
-    fn add_numbered(&mut self, number: u32) -> Result<(), AllocError> {
-        let prefix = format!(in self.alloc; "p{number}")?;
-        let uri = format!(in self.alloc; "u{number}")?;
-        self.add_prefix(prefix.as_str(), uri.as_str())
+    fn add_numbered(&mut self, number: u32) -> Result<(), RowError> {
+        let prefix = format!(in self.alloc; "p{number} u{number}")?;
+        self.add_prefix(prefix.as_str())
     }
 
     // Adds a local variable with its value.

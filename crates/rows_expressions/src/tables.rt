@@ -3,13 +3,15 @@
 ghost use Rattle.xs_pattern.specs.steps.Above.{IsAbove};
 ghost use Rattle.xs_xpath.specs.Exprs.{tree_from};
 
+use crate::answer::Answer;
+use crate::calls::Call;
 use crate::error::RowError;
-use crate::fields::add_count;
 use crate::parsed::parsed_pattern;
 use crate::settings::Settings;
+use std::alloc::Global;
 use xs_pattern::above::above_of;
 use xs_pattern::matching::{matches_path, matches_path_by};
-use xs_tree::Node;
+use xs_tree::{Node, Tree};
 use xs_value::keys::NoKeys;
 use xs_xpath::expr::Expr;
 use xs_xpath::pattern::Pattern;
@@ -17,17 +19,16 @@ use xs_xpath::scope::Scope;
 
 // Whether matching by a table says of each node what matching without it says.
 fn is_agreed(
-    settings: &Settings,
+    alloc: Global,
+    tree: &Tree,
     alternative: &Expr,
     scope: &Scope,
     marks: &[bool],
 ) -> Result<bool, RowError>
-    requires { IsAbove settings.now.tree (tree_from alternative.now) marks.now }
+    requires { IsAbove tree.now (tree_from alternative.now) marks.now }
 {
-    let tree = &settings.tree;
     for place in 0..tree.len() as u32 {
         let node = Node::at(place);
-        let alloc = settings.alloc;
         let climbed = matches_path(alloc, alternative, scope, tree, node, &NoKeys)?;
         let found = matches_path_by(alloc, alternative, scope, tree, node, &NoKeys, Some(marks))?;
         if climbed != found {
@@ -39,18 +40,17 @@ fn is_agreed(
 
 // How many nodes match an alternative, by its table.
 fn count_by(
-    settings: &Settings,
+    alloc: Global,
+    tree: &Tree,
     alternative: &Expr,
     scope: &Scope,
     marks: &[bool],
 ) -> Result<u64, RowError>
-    requires { IsAbove settings.now.tree (tree_from alternative.now) marks.now }
+    requires { IsAbove tree.now (tree_from alternative.now) marks.now }
 {
-    let tree = &settings.tree;
     let mut found = 0_u64;
     for place in 0..tree.len() as u32 {
         let node = Node::at(place);
-        let alloc = settings.alloc;
         if matches_path_by(alloc, alternative, scope, tree, node, &NoKeys, Some(marks))? {
             found = found.saturating_add(1);
         }
@@ -60,43 +60,48 @@ fn count_by(
 
 /// Appends the answer of a call that makes tables.
 pub(crate) fn answer(
-    out: &mut Vec<u8>,
+    out: &mut Answer,
     settings: &Settings,
-    call: &str,
+    call: Call,
     rest: &str,
 ) -> Result<(), RowError> {
     let pattern = parsed_pattern(settings, rest)?;
-    if call == "count" {
-        return add_found(out, settings, &pattern);
+    let scope = settings.scope()?;
+    match call {
+        Call::Count => out.put_count(found(settings.alloc, &settings.tree, &pattern, &scope)?),
+        _ => out.put(table(settings.alloc, &settings.tree, &pattern, &scope)?),
     }
-    Ok(out.extend_from_slice(table(settings, &pattern)?.as_bytes())?)
+    Ok(())
 }
 
 // Whether each alternative of a pattern has a table, by which the same nodes match as by climbing
 // from each of them.
-fn table(settings: &Settings, pattern: &Pattern) -> Result<&'static str, RowError> {
-    let scope = settings.scope()?;
+fn table(
+    alloc: Global,
+    tree: &Tree,
+    pattern: &Pattern,
+    scope: &Scope,
+) -> Result<&'static str, RowError> {
     for alternative in &pattern.alternatives {
-        let Some(marks) = above_of(settings.alloc, alternative, &settings.tree)? else {
+        let Some(marks) = above_of(alloc, alternative, tree)? else {
             return Ok("no table");
         };
-        if !is_agreed(settings, alternative, &scope, &marks)? {
+        if !is_agreed(alloc, tree, alternative, scope, &marks)? {
             return Ok("not as climbed");
         }
     }
     Ok("as climbed")
 }
 
-// Appends how many nodes match the alternatives of a pattern, by their tables.
-fn add_found(out: &mut Vec<u8>, settings: &Settings, pattern: &Pattern) -> Result<(), RowError> {
-    let scope = settings.scope()?;
+// How many nodes match the alternatives of a pattern, by their tables.
+fn found(alloc: Global, tree: &Tree, pattern: &Pattern, scope: &Scope) -> Result<u64, RowError> {
     let mut found = 0_u64;
     for alternative in &pattern.alternatives {
-        let Some(marks) = above_of(settings.alloc, alternative, &settings.tree)? else {
+        let Some(marks) = above_of(alloc, alternative, tree)? else {
             return Err(RowError::Unreadable);
         };
-        let more = count_by(settings, alternative, &scope, &marks)?;
+        let more = count_by(alloc, tree, alternative, scope, &marks)?;
         found = found.saturating_add(more);
     }
-    Ok(add_count(out, found)?)
+    Ok(found)
 }

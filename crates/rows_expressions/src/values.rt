@@ -2,8 +2,10 @@
 
 ghost use Rattle.xs_value.specs.Conversion.{IsIn};
 
+use crate::answer::Answer;
+use crate::calls::Call;
 use crate::error::RowError;
-use crate::fields::{add_bool, add_count, add_quoted, cut};
+use crate::fields::cut;
 use crate::names::comparison_named;
 use crate::numbers::{add_outcome, number};
 use crate::settings::Settings;
@@ -88,32 +90,31 @@ fn event(alloc: Global, line: &str) -> Result<Event, RowError> {
 }
 
 /// Appends the places of nodes.
-pub(crate) fn add_places(out: &mut Vec<u8>, nodes: &[Node]) -> Result<(), AllocError> {
+pub(crate) fn add_places(out: &mut Answer, nodes: &[Node]) {
     if nodes.is_empty() {
-        return out.extend_from_slice(b"none");
+        out.put("none");
     }
     let mut is_first = true;
     for node in nodes {
         if !is_first {
-            out.push(b' ')?;
+            out.put(" ");
         }
         is_first = false;
-        add_count(out, u64::from(node.place()))?;
+        out.put_count(u64::from(node.place()));
     }
-    Ok(())
 }
 
 /// Appends the answer of a call with values.
 pub(crate) fn answer(
-    out: &mut Vec<u8>,
+    out: &mut Answer,
     settings: &Settings,
-    call: &str,
+    call: Call,
     rest: &str,
 ) -> Result<(), RowError> {
     match call {
-        "convert" => convert(out, settings, rest),
-        "compared" => compared(out, settings, rest),
-        "join" => join(out, settings.alloc, rest),
+        Call::Convert => convert(out, settings, rest),
+        Call::Compared => compared(out, settings, rest),
+        Call::Join => join(out, settings.alloc, rest),
         _ => gather(out, settings.alloc, rest),
     }
 }
@@ -128,53 +129,54 @@ fn fault(fault: ValueFault) -> Result<NumFault, RowError> {
 }
 
 // Appends a copy of a value as a boolean, a string and a number.
-fn convert(out: &mut Vec<u8>, settings: &Settings, text: &str) -> Result<(), RowError> {
+fn convert(out: &mut Answer, settings: &Settings, text: &str) -> Result<(), RowError> {
     let value = operand(settings.alloc, text)?.copy()?;
     add_converted(out, &settings.tree, &value)
 }
 
 // Appends a value as a boolean, a string and a number.
-fn add_converted(out: &mut Vec<u8>, tree: &Tree, value: &Value) -> Result<(), RowError> {
+fn add_converted(out: &mut Answer, tree: &Tree, value: &Value) -> Result<(), RowError> {
     if !is_in(tree, value) {
         return Err(RowError::Unreadable);
     }
-    let alloc = *out.allocator();
-    add_bool(out, to_bool(value))?;
-    out.extend_from_slice(b" | ")?;
-    add_quoted(out, to_text(alloc, tree, value)?.as_str())?;
-    out.extend_from_slice(b" | ")?;
-    let outcome = match to_number(alloc, tree, value) {
-        Ok(number) => Ok(number),
-        Err(refused) => Err(fault(refused)?),
-    };
-    Ok(add_outcome(out, outcome)?)
+    let alloc = *out.bytes.allocator();
+    out.put_bool(to_bool(value));
+    out.put(" | ");
+    out.put_quoted(to_text(alloc, tree, value)?.as_str());
+    out.put(" | ");
+    match to_number(alloc, tree, value) {
+        Ok(number) => out.put_number(number),
+        Err(refused) => add_outcome(out, Err(fault(refused)?)),
+    }
+    Ok(())
 }
 
 // Appends whether two values compare so.
-fn compared(out: &mut Vec<u8>, settings: &Settings, text: &str) -> Result<(), RowError> {
+fn compared(out: &mut Answer, settings: &Settings, text: &str) -> Result<(), RowError> {
     let (left, rest) = cut(text)?;
     let (name, right) = cut(rest)?;
     let op = comparison_named(name).ok_or(RowError::Unreadable)?;
     let left = operand(settings.alloc, left)?;
-    let right = operand(settings.alloc, right)?;
-    add_compared(out, &settings.tree, op, &left, &right)
+    add_compared(out, &settings.tree, op, &left, right)
 }
 
-// Appends whether two values compare so.
+// Appends whether a value compares so with the one that a row writes.
 fn add_compared(
-    out: &mut Vec<u8>,
+    out: &mut Answer,
     tree: &Tree,
     op: CompareOp,
     left: &Value,
-    right: &Value,
+    right: &str,
 ) -> Result<(), RowError> {
-    if !is_in(tree, left) || !is_in(tree, right) {
+    let right = operand(*out.bytes.allocator(), right)?;
+    if !is_in(tree, left) || !is_in(tree, &right) {
         return Err(RowError::Unreadable);
     }
-    match compare_values(*out.allocator(), tree, op, left, right) {
-        Ok(holds) => Ok(add_bool(out, holds)?),
-        Err(refused) => Ok(add_outcome(out, Err(fault(refused)?))?),
+    match compare_values(*out.bytes.allocator(), tree, op, left, &right) {
+        Ok(holds) => out.put_bool(holds),
+        Err(refused) => add_outcome(out, Err(fault(refused)?)),
     }
+    Ok(())
 }
 
 // The set of the nodes at some places.
@@ -183,17 +185,18 @@ fn node_set(alloc: Global, places: &str) -> Result<NodeSet, RowError> {
 }
 
 // Appends the nodes of two sets.
-fn join(out: &mut Vec<u8>, alloc: Global, text: &str) -> Result<(), RowError> {
+fn join(out: &mut Answer, alloc: Global, text: &str) -> Result<(), RowError> {
     let (left, right) = cut(text)?;
     let left = node_set(alloc, left)?;
     let right = node_set(alloc, right)?;
     let both = left.union(alloc, &right)?;
-    Ok(add_places(out, both.nodes())?)
+    add_places(out, both.nodes());
+    Ok(())
 }
 
 // Appends a list of nodes, gathered from a slice, one by one and from a slice again, how many it
 // has, and its set.
-fn gather(out: &mut Vec<u8>, alloc: Global, text: &str) -> Result<(), RowError> {
+fn gather(out: &mut Answer, alloc: Global, text: &str) -> Result<(), RowError> {
     let (first, rest) = cut(text)?;
     let (next, last) = cut(rest)?;
     let first = nodes(alloc, first)?;
@@ -219,27 +222,36 @@ fn gathered(
 }
 
 // Appends a list of nodes, how many it has, and its set.
-fn add_gathered(out: &mut Vec<u8>, list: NodeList) -> Result<(), AllocError> {
-    add_places(out, list.as_slice())?;
-    out.extend_from_slice(b" | ")?;
-    add_count(out, list.len() as u64)?;
-    out.extend_from_slice(b" | ")?;
+fn add_gathered(out: &mut Answer, list: NodeList) -> Result<(), AllocError> {
+    add_places(out, list.as_slice());
+    out.put(" | ");
+    out.put_count(list.len() as u64);
+    out.put(" | ");
     let set = NodeSet::of_list(list)?.copy()?;
-    add_places(out, set.nodes())
+    add_places(out, set.nodes());
+    Ok(())
 }
 
 /// Appends a value: nodes by their places, any other by its kind and its string.
-pub(crate) fn show_value(out: &mut Vec<u8>, tree: &Tree, value: &Value) -> Result<(), AllocError>
+pub(crate) fn show_value(out: &mut Answer, tree: &Tree, value: &Value)
     requires { IsIn tree.now value.now }
 {
     match value {
         Value::Nodes(set) => add_places(out, set.nodes()),
-        Value::Bool(_) | Value::Number(_) => text_into(tree, value, out),
-        Value::Chars(text) => add_quoted(out, text.as_str()),
+        Value::Bool(_) | Value::Number(_) => show_text(out, tree, value),
+        Value::Chars(text) => out.put_quoted(text.as_str()),
         Value::Piece(_) => {
-            out.push(b'<')?;
-            text_into(tree, value, out)?;
-            out.extend_from_slice(b">")
+            out.put("<");
+            show_text(out, tree, value);
+            out.put(">");
         }
     }
+}
+
+// Appends a value as a string.
+fn show_text(out: &mut Answer, tree: &Tree, value: &Value)
+    requires { IsIn tree.now value.now }
+{
+    let outcome = text_into(tree, value, &mut out.bytes);
+    out.note(outcome);
 }

@@ -1,101 +1,103 @@
 //! What a run left, as a row says it.
 
+use crate::answer::{Answer, text_of};
 use crate::setup::Outcome;
-use crate::texts::push_escaped;
-use std::alloc::AllocError;
+use crate::texts::put_escaped;
 use xs_engine::Report;
 use xs_words::USAGE;
 
 /// Adds the parts of an answer, except those that are empty.
-pub(crate) fn push_parts(out: &mut String, outcome: &Outcome) -> Result<(), AllocError> {
-    let status = outcome.report.status;
-    write!(out, "= status {status}\n")?;
-    let ticks = outcome.report.ticks;
-    if ticks > 0 {
-        write!(out, "= ticks {ticks}\n")?;
+pub(crate) fn put_parts(out: &mut Answer, outcome: &Outcome) {
+    out.put_count("= status ", u64::from(outcome.report.status));
+    if outcome.report.ticks > 0 {
+        out.put_count("\n= ticks ", outcome.report.ticks);
     }
-    push_result(out, outcome.result.as_str())?;
-    push_lines(out, outcome.lines.as_str())
+    out.put("\n");
+    put_result(out, text_of(outcome.result.held()));
+    put_lines(out, text_of(outcome.lines.held()));
 }
 
 /// Adds how many pieces were claimed, how many evaluated in their place, and how many claims there
 /// are, where a run had pieces.
-pub(crate) fn push_pieces(out: &mut String, report: &Report) -> Result<(), AllocError> {
+pub(crate) fn put_pieces(out: &mut Answer, report: &Report) {
     let claims = report.claims.len();
-    let (pieces, inline) = (report.pieces, report.inline);
-    if pieces == 0 && inline == 0 && claims == 0 {
-        return Ok(());
+    if report.pieces != 0 || report.inline != 0 || claims != 0 {
+        out.put_count("= pieces ", report.pieces);
+        out.put_count(" ", report.inline);
+        out.put_count(" ", claims as u64);
+        out.put("\n");
     }
-    write!(out, "= pieces {pieces} {inline} {claims}\n")
 }
 
 /// Adds a result: as it is where it looks like PYX lines, and else each of its lines after a sign,
 /// with escapes.
-fn push_result(out: &mut String, text: &str) -> Result<(), AllocError> {
-    if text.is_empty() {
-        return Ok(());
-    }
+fn put_result(out: &mut Answer, text: &str) {
     if text.starts_with('(') && text.ends_with('\n') {
-        out.push_str("= result\n")?;
-        return out.push_str(text);
+        out.put("= result\n");
+        out.put(text);
+    } else if !text.is_empty() {
+        out.put("= text\n");
+        for line in text.split_inclusive('\n') {
+            out.put("-");
+            put_escaped(out, line);
+            out.put("\n");
+        }
     }
-    out.push_str("= text\n")?;
-    for line in text.split_inclusive('\n') {
-        out.push_str("-")?;
-        push_escaped(out, line)?;
-        out.push_str("\n")?;
-    }
-    Ok(())
 }
 
 /// Adds the lines for the user, as they are; one that has no end is marked.
-fn push_lines(out: &mut String, lines: &str) -> Result<(), AllocError> {
-    if lines.is_empty() {
-        return Ok(());
+fn put_lines(out: &mut Answer, lines: &str) {
+    if !lines.is_empty() {
+        out.put("= lines\n");
+        out.put(lines);
+        if !lines.ends_with('\n') {
+            out.put(" (no line end)\n");
+        }
     }
-    out.push_str("= lines\n")?;
-    out.push_str(lines)?;
-    if !lines.ends_with('\n') {
-        out.push_str(" (no line end)\n")?;
-    }
-    Ok(())
 }
 
 /// Adds an answer in one line: status, ticks, the lines for the user and the result, without those
 /// that are empty.
-pub(crate) fn push_fields(out: &mut String, outcome: &Outcome) -> Result<(), AllocError> {
-    write!(out, "{} | {}", outcome.report.status, outcome.report.ticks)?;
-    for line in outcome.lines.as_str().split_inclusive('\n') {
-        out.push_str(" | ")?;
-        push_line(out, line)?;
+pub(crate) fn put_fields(out: &mut Answer, outcome: &Outcome) {
+    out.put_count("", u64::from(outcome.report.status));
+    out.put_count(" | ", outcome.report.ticks);
+    for line in text_of(outcome.lines.held()).split_inclusive('\n') {
+        out.put(" | ");
+        put_line(out, line);
     }
-    if !outcome.result.is_empty() {
-        out.push_str(" | \"")?;
-        push_short(out, outcome.result.as_str())?;
-        out.push_str("\"")?;
+    let result = text_of(outcome.result.held());
+    if !result.is_empty() {
+        out.put(" | \"");
+        put_short(out, result);
+        out.put("\"");
     }
-    Ok(())
 }
 
 /// Adds a text in one line; a long one of a single letter as a row says it, `<<300:a>>`.
-fn push_short(out: &mut String, text: &str) -> Result<(), AllocError> {
+fn put_short(out: &mut Answer, text: &str) {
     let first = text.bytes().next().unwrap_or(0);
     let mut is_run = text.len() > 80;
     for byte in text.bytes() {
         is_run = is_run && byte == first;
     }
     if is_run {
-        let (count, letter) = (text.len(), char::from(first));
-        return write!(out, "<<{count}:{letter}>>");
+        out.put_count("<<", text.len() as u64);
+        out.put(":");
+        out.put_byte(first);
+        out.put(">>");
+    } else {
+        put_escaped(out, text);
     }
-    push_escaped(out, text)
 }
 
 /// Adds a line for the user, without its end.
-fn push_line(out: &mut String, line: &str) -> Result<(), AllocError> {
+fn put_line(out: &mut Answer, line: &str) {
     match line.strip_suffix('\n') {
-        Some(USAGE) => out.push_str("usage"),
-        Some(line) => out.push_str(line),
-        None => write!(out, "{line} (no line end)"),
+        Some(USAGE) => out.put("usage"),
+        Some(line) => out.put(line),
+        None => {
+            out.put(line);
+            out.put(" (no line end)");
+        }
     }
 }

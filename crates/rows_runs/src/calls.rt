@@ -1,85 +1,85 @@
 //! Command lines, and what is read of them.
 
+use crate::answer::Answer;
 use crate::texts::push_words;
 use std::alloc::{AllocError, Global};
 use xs_trace::text::TextBuf;
 use xs_words::{Job, Options, WordsEnd, read_words};
 
 /// Adds what a command line asks for, or that it is refused.
-pub(crate) fn push_options(alloc: Global, out: &mut String, line: &str) -> Result<(), AllocError> {
+pub(crate) fn put_options(out: &mut Answer, alloc: Global, line: &str) -> Result<(), AllocError> {
     let mut words = Vec::new(alloc);
     push_words(alloc, &mut words, line)?;
     match read_words(alloc, &words) {
-        Ok(options) => {
-            push_job(out, &options.job)?;
-            push_pairs(out, " @", &options.documents)?;
-            push_numbers(out, &options)?;
-            push_flags(out, &options)
-        }
-        Err(WordsEnd::Usage) => out.push_str("refused"),
-        Err(WordsEnd::NoMemory) => Err(AllocError),
+        Ok(options) => put_asked(out, &options),
+        Err(WordsEnd::Usage) => out.put("refused"),
+        Err(WordsEnd::NoMemory) => return Err(AllocError),
     }
+    Ok(())
+}
+
+/// Adds what a command line asks for.
+fn put_asked(out: &mut Answer, options: &Options) {
+    put_job(out, &options.job);
+    put_pairs(out, " @", &options.documents);
+    put_numbers(out, options);
+    put_flags(out, options);
 }
 
 /// Adds what is run.
-fn push_job(out: &mut String, job: &Job) -> Result<(), AllocError> {
+fn put_job(out: &mut Answer, job: &Job) {
     match job {
         Job::Files {
             sheet,
             source,
             given,
         } => {
-            let (sheet, source) = (sheet.as_str(), source.as_str());
-            write!(out, "run {sheet} on {source}")?;
-            push_pairs(out, " ", given)
+            out.put("run ");
+            out.put(sheet.as_str());
+            out.put(" on ");
+            out.put(source.as_str());
+            put_pairs(out, " ", given);
         }
         Job::Check { sheet } => {
-            let sheet = sheet.as_str();
-            write!(out, "check {sheet}")
+            out.put("check ");
+            out.put(sheet.as_str());
         }
-        Job::Load(rows) => write!(out, "load {rows}"),
+        Job::Load(rows) => out.put_count("load ", u64::from(*rows)),
     }
 }
 
 /// Adds names and texts, each after a sign.
-fn push_pairs(
-    out: &mut String,
-    sign: &str,
-    pairs: &[(TextBuf, TextBuf)],
-) -> Result<(), AllocError> {
+fn put_pairs(out: &mut Answer, sign: &str, pairs: &[(TextBuf, TextBuf)]) {
     for (name, text) in pairs {
-        let (name, text) = (name.as_str(), text.as_str());
-        write!(out, "{sign}{name}={text}")?;
+        out.put(sign);
+        out.put(name.as_str());
+        out.put("=");
+        out.put(text.as_str());
     }
-    Ok(())
 }
 
 /// Adds the numbers, which have defaults or are left out.
-fn push_numbers(out: &mut String, options: &Options) -> Result<(), AllocError> {
-    let (budget, workers, grain) = (options.budget, options.workers, options.grain);
-    write!(
-        out,
-        " | budget {budget} | workers {workers} | grain {grain}"
-    )?;
+fn put_numbers(out: &mut Answer, options: &Options) {
+    out.put_count(" | budget ", u64::from(options.budget));
+    out.put_count(" | workers ", u64::from(options.workers));
+    out.put_count(" | grain ", u64::from(options.grain));
     if let Some(most) = options.max_events {
-        write!(out, " | events {most}")?;
+        out.put_count(" | events ", u64::from(most));
     }
     if let Some(tick) = options.at {
-        write!(out, " | at {tick}")?;
+        out.put_count(" | at ", u64::from(tick));
     }
-    Ok(())
 }
 
 /// Adds the options that have no value.
-fn push_flags(out: &mut String, options: &Options) -> Result<(), AllocError> {
+fn put_flags(out: &mut Answer, options: &Options) {
     if options.stats {
-        out.push_str(" | stats")?;
+        out.put(" | stats");
     }
     if options.profile {
-        out.push_str(" | profile")?;
+        out.put(" | profile");
     }
     if options.stream {
-        out.push_str(" | stream")?;
+        out.put(" | stream");
     }
-    Ok(())
 }

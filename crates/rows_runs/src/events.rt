@@ -1,6 +1,7 @@
 //! Lists of events in one line, and what stays of them.
 
-use crate::texts::push_escaped;
+use crate::answer::{Answer, text_of};
+use crate::texts::put_escaped;
 use std::alloc::{AllocError, Global};
 use xs_result::{build, write_text};
 use xs_trace::event::{Event, Label};
@@ -48,31 +49,31 @@ fn named_event(alloc: Global, name: &str, value: &str) -> Result<Event, AllocErr
 }
 
 /// Adds the line that says an event.
-fn push_event(out: &mut String, event: &Event) -> Result<(), AllocError> {
+fn put_event(out: &mut Answer, event: &Event) {
     match event {
-        Event::Start(name) => push_named(out, "(", name.local.as_str()),
+        Event::Start(name) => put_named(out, "(", name.local.as_str()),
         Event::Attr { name, value } => {
-            push_named(out, "A", name.local.as_str())?;
-            push_named(out, " ", value.as_str())
+            put_named(out, "A", name.local.as_str());
+            put_named(out, " ", value.as_str());
         }
         Event::Space { prefix, uri } => {
-            push_named(out, ":", prefix.as_str())?;
-            push_named(out, " ", uri.as_str())
+            put_named(out, ":", prefix.as_str());
+            put_named(out, " ", uri.as_str());
         }
-        Event::Chars(text) => push_named(out, "-", text.as_str()),
-        Event::End => out.push_str(")"),
-        Event::Comment(text) => push_named(out, "C", text.as_str()),
+        Event::Chars(text) => put_named(out, "-", text.as_str()),
+        Event::End => out.put(")"),
+        Event::Comment(text) => put_named(out, "C", text.as_str()),
         Event::Pi { target, value } => {
-            push_named(out, "?", target.as_str())?;
-            push_named(out, " ", value.as_str())
+            put_named(out, "?", target.as_str());
+            put_named(out, " ", value.as_str());
         }
     }
 }
 
 /// Adds a sign and a text.
-fn push_named(out: &mut String, sign: &str, text: &str) -> Result<(), AllocError> {
-    out.push_str(sign)?;
-    out.push_str(text)
+fn put_named(out: &mut Answer, sign: &str, text: &str) {
+    out.put(sign);
+    out.put(text);
 }
 
 /// The events that lines say, which stand between slashes.
@@ -87,34 +88,33 @@ fn events(alloc: Global, lines: &str) -> Result<Vec<Event>, AllocError> {
 }
 
 /// Adds what stays of events.
-pub(crate) fn push_fragment(
-    alloc: Global,
-    out: &mut String,
-    lines: &str,
-) -> Result<(), AllocError> {
+pub(crate) fn put_fragment(out: &mut Answer, alloc: Global, lines: &str) -> Result<(), AllocError> {
     let put = events(alloc, lines)?;
     let fragment = build(alloc, put.iter())?;
-    if fragment.events().is_empty() {
-        out.push_str("nothing")?;
-    }
-    let mut is_first = true;
-    for event in fragment.events() {
-        if !is_first {
-            out.push_str("/")?;
-        }
-        push_event(out, event)?;
-        is_first = false;
-    }
+    put_events(out, fragment.events());
     Ok(())
 }
 
+/// Adds the lines that say events, with slashes between them.
+fn put_events(out: &mut Answer, events: &[Event]) {
+    if events.is_empty() {
+        out.put("nothing");
+    }
+    let mut is_first = true;
+    for event in events {
+        if !is_first {
+            out.put("/");
+        }
+        put_event(out, event);
+        is_first = false;
+    }
+}
+
 /// Adds the text of events, which is put after another text.
-pub(crate) fn push_text(alloc: Global, out: &mut String, lines: &str) -> Result<(), AllocError> {
+pub(crate) fn put_text(out: &mut Answer, alloc: Global, lines: &str) -> Result<(), AllocError> {
     let put = events(alloc, lines)?;
     let mut text = Vec::from_slice(alloc, b"> ")?;
     write_text(&mut text, put.iter())?;
-    match str::from_utf8(&text) {
-        Ok(text) => push_escaped(out, text),
-        Err(_) => out.push_str("not UTF-8"),
-    }
+    put_escaped(out, text_of(&text));
+    Ok(())
 }

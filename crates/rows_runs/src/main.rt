@@ -2,6 +2,7 @@
 //! with every answer computed.
 #![tactic(auto)]
 
+mod answer;
 mod answers;
 mod calls;
 mod events;
@@ -9,14 +10,19 @@ mod rows;
 mod setup;
 mod texts;
 
+use answer::Answer;
+use std::io::Write;
 use std::{env, fs, io};
 
 // Writes the row files that the arguments name.
 fn main(rt: HostRuntime) -> io::Result<()> {
+    let mut out = Answer::new(rt.alloc());
     for name in env::args(&rt)?.skip(1) {
         let file = fs::read_to_string(&rt, name.as_str())?;
-        let answer = rows::answer_file(&rt, rt.alloc(), file.as_str())?;
-        print!(rt; "== {name}\n{answer}")?;
+        out.put("== ");
+        out.put(name.as_str());
+        out.put("\n");
+        rows::put_rows(&mut out, &rt, rt.alloc(), file.as_str());
     }
-    Ok(())
+    io::writer(&rt).write_all(out.bytes()?)
 }

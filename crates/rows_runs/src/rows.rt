@@ -1,10 +1,11 @@
 //! The rows of a file, one line after another.
 
-use crate::answers::{push_fields, push_parts, push_pieces};
-use crate::calls::push_options;
-use crate::events::{push_fragment, push_text};
+use crate::answer::Answer;
+use crate::answers::{put_fields, put_parts, put_pieces};
+use crate::calls::put_options;
+use crate::events::{put_fragment, put_text};
 use crate::setup::Setup;
-use crate::texts::{push_decoded, push_words, text_of};
+use crate::texts::{push_words, put_decoded};
 use std::alloc::{AllocError, Global};
 use std::thread::Threads;
 
@@ -29,133 +30,149 @@ enum At {
     Answer,
 }
 
-/// A row file that is written again.
+/// What the lines before say of those after them.
 #[derive(Drop)]
-struct Rows {
+struct Rows<'t> {
     alloc: Global,
-    out: String,
-    setup: Setup,
+    setup: Setup<'t>,
     at: At,
     in_file: bool,
-    /// The arguments of the next run.
-    words: String,
+    /// The arguments of the next run, and its budget before them.
+    words: &'t str,
+    budget: &'t str,
     /// The options with which each run is made, between bars.
-    with: String,
+    with: &'t str,
     /// What is called for a row in one line.
-    call: String,
+    call: &'t str,
 }
 
-/// A row file with each answer computed.
-pub(crate) fn answer_file<R: Threads + Sync>(
-    rt: &R,
-    alloc: Global,
-    file: &str,
-) -> Result<String, AllocError> {
+/// Adds a row file with each answer computed.
+pub(crate) fn put_rows<R: Threads + Sync>(out: &mut Answer, rt: &R, alloc: Global, file: &str) {
     let mut rows = Rows {
         alloc,
-        out: String::new(alloc),
         setup: Setup::new(alloc),
         at: At::Outside,
         in_file: false,
-        words: String::new(alloc),
-        with: String::new(alloc),
-        call: String::new(alloc),
+        words: "",
+        budget: "",
+        with: "",
+        call: "",
     };
     for line in file.lines() {
-        rows.take_line(rt, line)?;
+        let taken = rows.take_line(out, rt, line);
+        out.note(taken);
     }
-    rows.end_row(rt)?;
-    Ok(rows.out)
+    let ended = rows.end_row(out, rt);
+    out.note(ended);
 }
 
-impl Rows {
-    /// Adds a line as it is.
-    fn copy(&mut self, line: &str) -> Result<(), AllocError> {
-        self.out.push_str(line)?;
-        self.out.push_str("\n")
-    }
+/// Adds a line as it is.
+fn copy(out: &mut Answer, line: &str) {
+    out.put(line);
+    out.put("\n");
+}
 
+impl<'t> Rows<'t> {
     /// Takes a line.
-    fn take_line<R: Threads + Sync>(&mut self, rt: &R, line: &str) -> Result<(), AllocError> {
+    fn take_line<R: Threads + Sync>(
+        &mut self,
+        out: &mut Answer,
+        rt: &R,
+        line: &'t str,
+    ) -> Result<(), AllocError> {
         if line.is_empty() || line.starts_with('#') {
-            self.end_row(rt)?;
+            self.end_row(out, rt)?;
             self.in_file = false;
-            return self.copy(line);
-        }
-        if let Some(part) = line.strip_prefix("= ") {
+            copy(out, line);
+        } else if let Some(part) = line.strip_prefix("= ") {
             self.in_file = false;
             let (word, rest) = part.split_once(' ').unwrap_or((part, ""));
-            return self.take_part(rt, line, word, rest);
+            if ANSWERS.contains(&word) {
+                return self.answer(out, rt);
+            }
+            self.take_part(out, rt, word, rest)?;
+            copy(out, line);
+        } else if self.in_file {
+            self.setup.put_line(line);
+            copy(out, line);
+        } else if !matches!(self.at, At::Answer) {
+            return self.take_row(out, rt, line);
         }
-        if self.in_file {
-            self.setup.push_line(line)?;
-            return self.copy(line);
-        }
-        match (self.at, line.split_once(" ==>")) {
-            (At::Answer, _) => Ok(()),
-            (_, Some((input, _))) => self.answer_line(rt, input),
-            (_, None) => {
-                self.out.push_str("= this line is no row:\n")?;
-                self.copy(line)
+        Ok(())
+    }
+
+    /// Takes a row in one line.
+    fn take_row<R: Threads + Sync>(
+        &self,
+        out: &mut Answer,
+        rt: &R,
+        line: &str,
+    ) -> Result<(), AllocError> {
+        match line.split_once(" ==>") {
+            Some((input, _)) => {
+                out.put(input);
+                out.put(" ==> ");
+                self.put_called(out, rt, input)?;
+                out.put("\n");
+            }
+            None => {
+                out.put("= this line is no row:\n");
+                copy(out, line);
             }
         }
+        Ok(())
     }
 
     /// Takes the line that begins a part.
     fn take_part<R: Threads + Sync>(
         &mut self,
+        out: &mut Answer,
         rt: &R,
-        line: &str,
         word: &str,
-        rest: &str,
+        rest: &'t str,
     ) -> Result<(), AllocError> {
-        if ANSWERS.contains(&word) {
-            return self.answer(rt);
-        }
         match word {
             "row" => {
-                self.end_row(rt)?;
-                self.setup.clear();
-                self.words = String::from_str(self.alloc, PLAIN)?;
+                self.end_row(out, rt)?;
+                self.take_arguments("", PLAIN);
                 self.at = At::Input;
             }
             "args" | "budget" => {
                 if let At::Arguments = self.at {
-                    self.answer(rt)?;
+                    self.answer(out, rt)?;
                 }
-                self.take_arguments(word, rest)?;
+                if word == "args" {
+                    self.take_arguments("", rest);
+                } else {
+                    self.take_arguments(rest, PLAIN);
+                }
             }
-            _ => self.take_input(word, rest)?,
+            "sheet" | "module" | "source" | "file" => return self.take_file(word, rest),
+            "failing" => return self.setup.add_failing(rest),
+            _ => self.take_setting(out, word, rest),
         }
-        self.copy(line)
+        Ok(())
     }
 
-    /// Takes the arguments of a run: all of them, or a budget alone.
-    fn take_arguments(&mut self, word: &str, rest: &str) -> Result<(), AllocError> {
-        self.words = if word == "budget" {
-            format!(in self.alloc; "--budget {rest} {PLAIN}")?
-        } else {
-            String::from_str(self.alloc, rest)?
-        };
+    /// Takes the arguments of a run, and the budget before them, if there is one.
+    fn take_arguments(&mut self, budget: &'t str, words: &'t str) {
+        self.budget = budget;
+        self.words = words;
         self.at = At::Arguments;
-        Ok(())
     }
 
-    /// Takes a part of a row's input, or a setting.
-    fn take_input(&mut self, word: &str, rest: &str) -> Result<(), AllocError> {
+    /// Takes a setting.
+    fn take_setting(&mut self, out: &mut Answer, word: &str, rest: &'t str) {
         match word {
-            "with" => self.with = String::from_str(self.alloc, rest)?,
-            "call" => self.call = String::from_str(self.alloc, rest)?,
-            "failing" => self.setup.add_failing(rest)?,
+            "with" => self.with = rest,
+            "call" => self.call = rest,
             "most" => self.setup.set_most(rest),
-            "sheet" | "module" | "source" | "file" => self.take_file(word, rest)?,
-            _ => self.out.push_str("= no part has this word:\n")?,
+            _ => out.put("= no part has this word:\n"),
         }
-        Ok(())
     }
 
     /// Begins a file: of the row, or outside of a row one of all rows that follow.
-    fn take_file(&mut self, word: &str, rest: &str) -> Result<(), AllocError> {
+    fn take_file(&mut self, word: &str, rest: &'t str) -> Result<(), AllocError> {
         if let At::Answer = self.at {
             self.at = At::Outside;
             self.setup.clear();
@@ -166,84 +183,112 @@ impl Rows {
     }
 
     /// Ends a row; a run that has no answer yet gets one.
-    fn end_row<R: Threads + Sync>(&mut self, rt: &R) -> Result<(), AllocError> {
-        self.answer(rt)?;
+    fn end_row<R: Threads + Sync>(&mut self, out: &mut Answer, rt: &R) -> Result<(), AllocError> {
+        self.answer(out, rt)?;
         self.setup.clear();
         self.at = At::Outside;
         Ok(())
     }
 
     /// Adds the answer of the run that has none yet.
-    fn answer<R: Threads + Sync>(&mut self, rt: &R) -> Result<(), AllocError> {
+    fn answer<R: Threads + Sync>(&mut self, out: &mut Answer, rt: &R) -> Result<(), AllocError> {
         if let At::Outside | At::Answer = self.at {
             return Ok(());
         }
-        let parts = self.all_parts(rt)?;
-        self.out.push_str(parts.as_str())?;
         self.at = At::Answer;
+        self.put_all_parts(out, rt)
+    }
+
+    /// Adds what a run gives with the first of the options, and with each that gives something
+    /// else.
+    fn put_all_parts<R: Threads + Sync>(&self, out: &mut Answer, rt: &R) -> Result<(), AllocError> {
+        let mut first = Answer::new(self.alloc);
+        let mut is_first = true;
+        for options in self.with.split(" | ") {
+            let mut parts = Answer::new(self.alloc);
+            self.put_run(&mut parts, rt, options)?;
+            if is_first {
+                out.put_bytes(parts.bytes()?);
+                first = parts;
+                is_first = false;
+            } else if first.bytes()? != parts.bytes()? {
+                out.put("= differs ");
+                copy(out, options);
+                out.put_bytes(parts.bytes()?);
+            }
+        }
         Ok(())
     }
 
-    /// What a run gives with the first of the options, and with each that gives something else.
-    fn all_parts<R: Threads + Sync>(&self, rt: &R) -> Result<String, AllocError> {
-        let mut all = String::new(self.alloc);
-        let mut first = String::new(self.alloc);
-        for options in self.with.as_str().split(" | ") {
-            let mut words = Vec::new(self.alloc);
-            push_words(self.alloc, &mut words, options)?;
-            push_words(self.alloc, &mut words, self.words.as_str())?;
-            let mut parts = String::new(self.alloc);
-            let outcome = self.setup.run(rt, &words, b"")?;
-            push_parts(&mut parts, &outcome)?;
-            if self.with.is_empty() {
-                push_pieces(&mut parts, &outcome.report)?;
-            }
-            if first.is_empty() {
-                all.push_str(parts.as_str())?;
-                first = parts;
-            } else if first.as_str() != parts.as_str() {
-                write!(&mut all, "= differs {options}\n{parts}")?;
-            }
+    /// Adds what a run gives with these options.
+    fn put_run<R: Threads + Sync>(
+        &self,
+        out: &mut Answer,
+        rt: &R,
+        options: &str,
+    ) -> Result<(), AllocError> {
+        let mut words = Vec::new(self.alloc);
+        push_words(self.alloc, &mut words, options)?;
+        if !self.budget.is_empty() {
+            push_words(self.alloc, &mut words, "--budget")?;
+            push_words(self.alloc, &mut words, self.budget)?;
         }
-        Ok(all)
+        push_words(self.alloc, &mut words, self.words)?;
+        let outcome = self.setup.run(rt, &words, b"")?;
+        put_parts(out, &outcome);
+        if self.with.is_empty() {
+            put_pieces(out, &outcome.report);
+        }
+        Ok(())
     }
 
-    /// Adds a row in one line.
-    fn answer_line<R: Threads + Sync>(&mut self, rt: &R, input: &str) -> Result<(), AllocError> {
-        self.out.push_str(input)?;
-        self.out.push_str(" ==> ")?;
-        match self.call.as_str() {
-            "read_words" => push_options(self.alloc, &mut self.out, input)?,
-            "build" => push_fragment(self.alloc, &mut self.out, input)?,
-            "write_text" => push_text(self.alloc, &mut self.out, input)?,
+    /// Adds the answer of a row in one line.
+    fn put_called<R: Threads + Sync>(
+        &self,
+        out: &mut Answer,
+        rt: &R,
+        input: &str,
+    ) -> Result<(), AllocError> {
+        match self.call {
+            "read_words" => put_options(out, self.alloc, input),
+            "build" => put_fragment(out, self.alloc, input),
+            "write_text" => put_text(out, self.alloc, input),
             "transform args" | "transform budget" | "transform text" => {
-                self.answer_run(rt, input)?;
+                self.put_transformed(out, rt, input)
             }
-            _ => self.out.push_str("no such call")?,
+            _ => {
+                out.put("no such call");
+                Ok(())
+            }
         }
-        self.out.push_str("\n")
     }
 
     /// Adds the answer of a run in one line, of which the row says the arguments, the budget, or a
     /// text of the files.
-    fn answer_run<R: Threads + Sync>(&mut self, rt: &R, input: &str) -> Result<(), AllocError> {
-        let mut text = Vec::new(self.alloc);
-        push_decoded(self.alloc, &mut text, input)?;
-        let words = self.words_of(input, &text)?;
-        let outcome = self.setup.run(rt, &words, &text)?;
-        push_fields(&mut self.out, &outcome)
+    fn put_transformed<R: Threads + Sync>(
+        &self,
+        out: &mut Answer,
+        rt: &R,
+        input: &str,
+    ) -> Result<(), AllocError> {
+        let mut text = Answer::new(self.alloc);
+        put_decoded(&mut text, input);
+        let words = self.words_of(input, text.text()?)?;
+        let outcome = self.setup.run(rt, &words, text.bytes()?)?;
+        put_fields(out, &outcome);
+        Ok(())
     }
 
     /// The arguments of a run that a row in one line says.
-    fn words_of(&self, input: &str, text: &[u8]) -> Result<Vec<String>, AllocError> {
+    fn words_of(&self, input: &str, text: &str) -> Result<Vec<String>, AllocError> {
         let mut words = Vec::new(self.alloc);
-        if self.call.as_str() == "transform args" {
+        if self.call == "transform args" {
             push_words(self.alloc, &mut words, input)?;
             return Ok(words);
         }
-        if self.call.as_str() == "transform budget" {
+        if self.call == "transform budget" {
             push_words(self.alloc, &mut words, "--budget")?;
-            words.push(text_of(self.alloc, text)?)?;
+            words.push(String::from_str(self.alloc, text)?)?;
         }
         push_words(self.alloc, &mut words, PLAIN)?;
         Ok(words)

@@ -1,6 +1,7 @@
 //! What a run is made of: files, and what fails of them and of the sinks.
 
-use crate::texts::{push_decoded, text_of};
+use crate::answer::Answer;
+use crate::texts::put_decoded;
 use std::alloc::{AllocError, Global};
 use std::thread::Threads;
 use xs_engine::{Report, transform};
@@ -32,18 +33,18 @@ enum Form {
 
 /// A file of the library.
 #[derive(Drop)]
-struct File {
-    name: String,
-    text: String,
+struct File<'t> {
+    name: &'t str,
+    text: Answer,
     form: Form,
 }
 
 /// What the runs of a row have in common.
 #[derive(Drop)]
-pub(crate) struct Setup {
+pub(crate) struct Setup<'t> {
     alloc: Global,
     /// The files, of which the last of a name counts.
-    files: Vec<File>,
+    files: Vec<File<'t>>,
     /// How many of them further rows have, too.
     shared: usize,
     failing_fetches: Vec<u64>,
@@ -56,13 +57,13 @@ pub(crate) struct Setup {
 #[derive(Drop)]
 pub(crate) struct Outcome {
     pub(crate) report: Report,
-    pub(crate) result: String,
-    pub(crate) lines: String,
+    pub(crate) result: MemSink,
+    pub(crate) lines: MemSink,
 }
 
-impl Setup {
+impl<'t> Setup<'t> {
     /// No files, and nothing that fails.
-    pub(crate) fn new(alloc: Global) -> Setup {
+    pub(crate) fn new(alloc: Global) -> Setup<'t> {
         Setup {
             alloc,
             files: Vec::new(alloc),
@@ -88,7 +89,7 @@ impl Setup {
     pub(crate) fn add_file(
         &mut self,
         word: &str,
-        rest: &str,
+        rest: &'t str,
         is_shared: bool,
     ) -> Result<bool, AllocError> {
         let (name, line) = match word {
@@ -96,34 +97,29 @@ impl Setup {
             "source" => ("src.pyx", rest),
             _ => rest.split_once(' ').unwrap_or((rest, "")),
         };
-        let mut text = String::from_str(self.alloc, line)?;
         let form = match word {
             "sheet" | "module" => Form::Content,
             _ if line.is_empty() => Form::Whole,
             _ => Form::Escaped,
         };
-        if let Form::Content = form {
-            text.push_str(START)?;
-        }
+        let mut text = Answer::new(self.alloc);
+        put_start(&mut text, form, line);
         if word == "sheet" && !rest.is_empty() {
-            write!(&mut text, "(xsl:output\nAmethod {rest}\n)xsl:output\n")?;
+            put_method(&mut text, rest);
         }
-        let name = String::from_str(self.alloc, name)?;
-        let is_open = !matches!(form, Form::Escaped);
         self.files.push(File { name, text, form })?;
         if is_shared {
             self.shared = self.files.len();
         }
-        Ok(is_open)
+        Ok(!matches!(form, Form::Escaped))
     }
 
     /// Adds a line to the last file.
-    pub(crate) fn push_line(&mut self, line: &str) -> Result<(), AllocError> {
+    pub(crate) fn put_line(&mut self, line: &str) {
         if let Some(file) = self.files.last_mut() {
-            file.text.push_str(line)?;
-            file.text.push_str("\n")?;
+            file.text.put(line);
+            file.text.put("\n");
         }
-        Ok(())
     }
 
     /// Takes how many bytes a sink takes at once, at most.
@@ -134,12 +130,12 @@ impl Setup {
     /// Takes the number of a fetch, or of a write of a sink, that fails.
     pub(crate) fn add_failing(&mut self, rest: &str) -> Result<(), AllocError> {
         let (what, number) = rest.split_once(' ').unwrap_or((rest, ""));
-        let failing = match what {
-            "fetch" => &mut self.failing_fetches,
-            "result" => &mut self.failing_results,
-            _ => &mut self.failing_lines,
-        };
-        failing.push(number.parse().unwrap_or(0))?;
+        let number = number.parse().unwrap_or(0);
+        match what {
+            "fetch" => self.failing_fetches.push(number)?,
+            "result" => self.failing_results.push(number)?,
+            _ => self.failing_lines.push(number)?,
+        }
         Ok(())
     }
 
@@ -147,8 +143,10 @@ impl Setup {
     fn library(&self, text: &[u8]) -> Result<MemLibrary, AllocError> {
         let mut files = Vec::new(self.alloc);
         for file in self.files.iter().rev() {
-            let name = file.name.clone()?;
-            files.push((name, bytes_of(self.alloc, file, text)?))?;
+            let mut bytes = Answer::new(self.alloc);
+            put_file(&mut bytes, file.form, file.text.text()?, text);
+            let name = String::from_str(self.alloc, file.name)?;
+            files.push((name, bytes.into_bytes()?))?;
         }
         let failing = Vec::from_slice(self.alloc, &self.failing_fetches)?;
         Ok(MemLibrary::new(self.alloc, files, failing))
@@ -183,33 +181,47 @@ impl Setup {
         );
         Ok(Outcome {
             report,
-            result: text_of(self.alloc, out.held())?,
-            lines: text_of(self.alloc, err.held())?,
+            result: out,
+            lines: err,
         })
     }
 }
 
-/// The bytes of a file, in which a text takes its place.
-fn bytes_of(alloc: Global, file: &File, text: &[u8]) -> Result<Vec<u8>, AllocError> {
-    let mut bytes = Vec::new(alloc);
-    match file.text.as_str().split_once(PLACE) {
+/// Adds the lines with which a file begins.
+fn put_start(out: &mut Answer, form: Form, line: &str) {
+    out.put(line);
+    if let Form::Content = form {
+        out.put(START);
+    }
+}
+
+/// Adds the output method of a stylesheet.
+fn put_method(out: &mut Answer, method: &str) {
+    out.put("(xsl:output\nAmethod ");
+    out.put(method);
+    out.put("\n)xsl:output\n");
+}
+
+/// Adds the bytes of a file, in which a text takes its place.
+fn put_file(out: &mut Answer, form: Form, file: &str, text: &[u8]) {
+    match file.split_once(PLACE) {
         Some((before, after)) => {
-            push_part(alloc, &mut bytes, file.form, before)?;
-            bytes.extend_from_slice(text)?;
-            push_part(alloc, &mut bytes, file.form, after)?;
+            put_part(out, form, before);
+            out.put_bytes(text);
+            put_part(out, form, after);
         }
-        None => push_part(alloc, &mut bytes, file.form, file.text.as_str())?,
+        None => put_part(out, form, file),
     }
-    if let Form::Content = file.form {
-        bytes.extend_from_slice(END.as_bytes())?;
+    if let Form::Content = form {
+        out.put(END);
     }
-    Ok(bytes)
 }
 
 /// Adds the bytes of a part of a file.
-fn push_part(alloc: Global, bytes: &mut Vec<u8>, form: Form, part: &str) -> Result<(), AllocError> {
+fn put_part(out: &mut Answer, form: Form, part: &str) {
     if let Form::Escaped = form {
-        return push_decoded(alloc, bytes, part);
+        put_decoded(out, part);
+    } else {
+        out.put(part);
     }
-    bytes.extend_from_slice(part.as_bytes())
 }

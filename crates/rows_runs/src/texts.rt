@@ -1,47 +1,43 @@
 //! Texts that are written in one line.
 
+use crate::answer::Answer;
 use std::alloc::{AllocError, Global};
 
 /// Adds the bytes that a text in one line means: `\n`, `\t`, `\r` and `\\` as in PYX lines, `\s` a
 /// space, `\?` a byte that UTF-8 does not have, and `<<3:ab>>` the same as `ababab`.
-pub(crate) fn push_decoded(alloc: Global, out: &mut Vec<u8>, text: &str) -> Result<(), AllocError> {
+pub(crate) fn put_decoded(out: &mut Answer, text: &str) {
     for part in text.split("<<") {
         match part.split_once(">>") {
             Some((repeat, plain)) => {
-                push_repeat(alloc, out, repeat)?;
-                push_plain(out, plain)?;
+                put_repeat(out, repeat);
+                put_plain(out, plain);
             }
-            None => push_plain(out, part)?,
+            None => put_plain(out, part),
         }
     }
-    Ok(())
 }
 
 /// Adds a text as often as the number before its colon says.
-fn push_repeat(alloc: Global, out: &mut Vec<u8>, repeat: &str) -> Result<(), AllocError> {
+fn put_repeat(out: &mut Answer, repeat: &str) {
     let (count, text) = repeat.split_once(':').unwrap_or(("0", ""));
-    let mut once = Vec::new(alloc);
-    push_plain(&mut once, text)?;
     for _ in 0..count.parse::<u32>().unwrap_or(0) {
-        out.extend_from_slice(&once)?;
+        put_plain(out, text);
     }
-    Ok(())
 }
 
 /// Adds a text without repetitions.
-fn push_plain(out: &mut Vec<u8>, text: &str) -> Result<(), AllocError> {
+fn put_plain(out: &mut Answer, text: &str) {
     let mut is_escaped = false;
     for byte in text.bytes() {
         if is_escaped {
-            out.push(escaped_byte(byte))?;
+            out.put_byte(escaped_byte(byte));
             is_escaped = false;
         } else if byte == b'\\' {
             is_escaped = true;
         } else {
-            out.push(byte)?;
+            out.put_byte(byte);
         }
     }
-    Ok(())
 }
 
 /// The byte that a letter means after a backslash.
@@ -56,33 +52,16 @@ fn escaped_byte(letter: u8) -> u8 {
     }
 }
 
-/// The text of some bytes.
-pub(crate) fn text_of(alloc: Global, bytes: &[u8]) -> Result<String, AllocError> {
-    match str::from_utf8(bytes) {
-        Ok(text) => String::from_str(alloc, text),
-        Err(_) => String::from_str(alloc, "not UTF-8"),
-    }
-}
-
 /// Adds a text in one line, as PYX lines escape it.
-pub(crate) fn push_escaped(out: &mut String, text: &str) -> Result<(), AllocError> {
-    for letter in text.chars() {
-        match escape_of(letter) {
-            Some(escape) => out.push_str(escape)?,
-            None => out.push(letter)?,
+pub(crate) fn put_escaped(out: &mut Answer, text: &str) {
+    for byte in text.bytes() {
+        match byte {
+            b'\n' => out.put("\\n"),
+            b'\t' => out.put("\\t"),
+            b'\r' => out.put("\\r"),
+            b'\\' => out.put("\\\\"),
+            _ => out.put_byte(byte),
         }
-    }
-    Ok(())
-}
-
-/// How a letter is escaped, if it is.
-fn escape_of(letter: char) -> Option<&'static str> {
-    match letter {
-        '\n' => Some("\\n"),
-        '\t' => Some("\\t"),
-        '\r' => Some("\\r"),
-        '\\' => Some("\\\\"),
-        _ => None,
     }
 }
 
@@ -96,9 +75,9 @@ pub(crate) fn push_words(
         return Ok(());
     }
     for word in line.split(' ') {
-        let mut bytes = Vec::new(alloc);
-        push_decoded(alloc, &mut bytes, word)?;
-        words.push(text_of(alloc, &bytes)?)?;
+        let mut text = Answer::new(alloc);
+        put_decoded(&mut text, word);
+        words.push(String::from_str(alloc, text.text()?)?)?;
     }
     Ok(())
 }

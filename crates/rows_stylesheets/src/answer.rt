@@ -18,6 +18,11 @@ impl Answer {
         }
     }
 
+    /// Takes note that memory was refused.
+    pub(crate) fn refuse(&mut self) {
+        self.is_refused = true;
+    }
+
     /// Adds a text.
     pub(crate) fn put(&mut self, text: &str) {
         if self.text.push_str(text).is_err() {

@@ -16,7 +16,7 @@ use crate::white_space::put_kept;
 use std::alloc::{AllocError, Global};
 use xs_build::{BuildFault, build_tree};
 use xs_compile::{CompileEnd, compile};
-use xs_modules::{Modules, ModulesEnd, read_modules};
+use xs_modules::{Modules, read_modules};
 use xs_sheet::sheet::Sheet;
 use xs_static::first_fault;
 use xs_tree::Tree;
@@ -25,12 +25,7 @@ use xs_tree::Tree;
 const MOST: u64 = 10_000_000;
 
 /// The answer to a row.
-pub(crate) fn put_answer(
-    out: &mut Answer,
-    alloc: Global,
-    settings: &Settings<'_>,
-    input: &str,
-) -> Result<(), AllocError> {
+pub(crate) fn put_answer(out: &mut Answer, alloc: Global, settings: &Settings<'_>, input: &str) {
     match settings.rows {
         "circles" => put_first_circle(out, alloc, input),
         "elements" | "contents" | "values" | "words" => put_of_document(
@@ -41,117 +36,77 @@ pub(crate) fn put_answer(
 }
 
 /// The tree of a document, if it is one.
-fn tree_of(alloc: Global, lines: &str) -> Result<Option<Tree>, AllocError> {
+fn tree_of(alloc: Global, lines: &str) -> Result<Option<Box<Tree>>, AllocError> {
     let text = module(alloc, lines)?;
     match build_tree(alloc, text.as_bytes(), MOST) {
-        Ok(built) => Ok(Some(built.tree)),
+        Ok(built) => Ok(Some(Box::new(alloc, built.tree)?)),
         Err(BuildFault::NoMemory) => Err(AllocError),
         Err(BuildFault::Bad { .. }) => Ok(None),
     }
 }
 
 /// The answer to a row that is one document.
-fn put_of_document(
-    out: &mut Answer,
-    alloc: Global,
-    settings: &Settings<'_>,
-    input: &str,
-) -> Result<(), AllocError> {
-    match tree_of(alloc, input)? {
-        Some(tree) => put_of_tree(out, alloc, settings, &tree),
-        None => {
-            out.put("no document");
-            Ok(())
-        }
+fn put_of_document(out: &mut Answer, alloc: Global, settings: &Settings<'_>, input: &str) {
+    match tree_of(alloc, input) {
+        Ok(Some(tree)) => put_of_tree(out, alloc, settings, &tree),
+        Ok(None) => out.put("no document"),
+        Err(_) => out.refuse(),
     }
 }
 
 /// The answer to a row that is a tree.
-fn put_of_tree(
-    out: &mut Answer,
-    alloc: Global,
-    settings: &Settings<'_>,
-    tree: &Tree,
-) -> Result<(), AllocError> {
+fn put_of_tree(out: &mut Answer, alloc: Global, settings: &Settings<'_>, tree: &Tree) {
     match settings.rows {
         "elements" => put_elements(out, tree),
         "contents" => put_contents(out, tree),
-        "values" => return put_values(out, alloc, tree),
+        "values" => put_values(out, alloc, tree),
         _ => put_first_words(out, tree),
     }
-    Ok(())
 }
 
 /// The answer to a row of modules.
-fn put_of_modules(
-    out: &mut Answer,
-    alloc: Global,
-    settings: &Settings<'_>,
-    input: &str,
-) -> Result<(), AllocError> {
-    let mut library = library(alloc, input)?;
+fn put_of_modules(out: &mut Answer, alloc: Global, settings: &Settings<'_>, input: &str) {
+    let Ok(mut library) = library(alloc, input) else {
+        return out.refuse();
+    };
     match read_modules(alloc, &mut library, "s") {
         Ok(modules) => put_of_read(out, alloc, settings, &modules),
-        Err(ModulesEnd::NoMemory) => Err(AllocError),
-        Err(end) => {
-            put_end(out, &end);
-            Ok(())
-        }
+        Err(end) => put_end(out, &end),
     }
 }
 
 /// The answer to a row of modules that were read.
-fn put_of_read(
-    out: &mut Answer,
-    alloc: Global,
-    settings: &Settings<'_>,
-    modules: &Modules,
-) -> Result<(), AllocError>
+fn put_of_read(out: &mut Answer, alloc: Global, settings: &Settings<'_>, modules: &Modules)
     requires sound { IsSound (modules_data modules.now) }
 {
     match settings.rows {
         "modules" => put_modules(out, modules),
-        "faults" => {
-            let fault = first_fault(alloc, modules)?;
-            put_fault(out, modules, fault);
-        }
-        _ => return put_of_compiled(out, alloc, settings, modules),
+        "faults" => match first_fault(alloc, modules) {
+            Ok(fault) => put_fault(out, modules, fault),
+            Err(_) => out.refuse(),
+        },
+        _ => put_of_compiled(out, alloc, settings, modules),
     }
-    Ok(())
 }
 
 /// The answer to a row of modules that are compiled.
-fn put_of_compiled(
-    out: &mut Answer,
-    alloc: Global,
-    settings: &Settings<'_>,
-    modules: &Modules,
-) -> Result<(), AllocError>
+fn put_of_compiled(out: &mut Answer, alloc: Global, settings: &Settings<'_>, modules: &Modules)
     requires sound { IsSound (modules_data modules.now) }
 {
     match compile(alloc, modules) {
         Ok(sheet) => put_of_sheet(out, alloc, settings, &sheet),
-        Err(CompileEnd::Refused(fault)) => {
-            put_fault(out, modules, Some(fault));
-            Ok(())
-        }
-        Err(CompileEnd::NoMemory) => Err(AllocError),
+        Err(CompileEnd::Refused(fault)) => put_fault(out, modules, Some(fault)),
+        Err(CompileEnd::NoMemory) => out.refuse(),
     }
 }
 
 /// The answer to a row that is a stylesheet.
-fn put_of_sheet(
-    out: &mut Answer,
-    alloc: Global,
-    settings: &Settings<'_>,
-    sheet: &Sheet,
-) -> Result<(), AllocError> {
+fn put_of_sheet(out: &mut Answer, alloc: Global, settings: &Settings<'_>, sheet: &Sheet) {
     match settings.rows {
         "sheets" => put_sheet(out, sheet),
         "bodies" => put_bodies(out, sheet),
-        _ => return put_of_set_document(out, alloc, settings, sheet),
+        _ => put_of_set_document(out, alloc, settings, sheet),
     }
-    Ok(())
 }
 
 /// Adds the bodies of the templates of a stylesheet.
@@ -162,19 +117,14 @@ fn put_bodies(out: &mut Answer, sheet: &Sheet) {
 }
 
 /// The answer to a row that is a stylesheet, over the document that was set.
-fn put_of_set_document(
-    out: &mut Answer,
-    alloc: Global,
-    settings: &Settings<'_>,
-    sheet: &Sheet,
-) -> Result<(), AllocError> {
-    let lines = settings.expanded(alloc, settings.document, "")?;
-    match tree_of(alloc, lines.as_str())? {
-        Some(mut tree) => put_of_both(out, alloc, settings, sheet, &mut tree),
-        None => {
-            out.put("no document");
-            Ok(())
-        }
+fn put_of_set_document(out: &mut Answer, alloc: Global, settings: &Settings<'_>, sheet: &Sheet) {
+    let Ok(lines) = settings.expanded(alloc, settings.document, "") else {
+        return out.refuse();
+    };
+    match tree_of(alloc, lines.as_str()) {
+        Ok(Some(mut tree)) => put_of_both(out, alloc, settings, sheet, &mut tree),
+        Ok(None) => out.put("no document"),
+        Err(_) => out.refuse(),
     }
 }
 
@@ -185,15 +135,12 @@ fn put_of_both(
     settings: &Settings<'_>,
     sheet: &Sheet,
     tree: &mut Tree,
-) -> Result<(), AllocError> {
+) {
     match settings.rows {
         "rules" => put_rules(out, alloc, sheet, tree),
         "imported rules" => put_imported(out, alloc, sheet, tree),
         "counts" => put_count(out, alloc, sheet, tree),
         "white space" => put_kept(out, alloc, &sheet.strips, tree),
-        _ => {
-            out.put("no such rows");
-            Ok(())
-        }
+        _ => out.put("no such rows"),
     }
 }

@@ -56,16 +56,18 @@ fn push_all<'a>(
     Ok(())
 }
 
-/// Adds the place of the first circular one of declarations with commas between them.
-pub(crate) fn put_first_circle(
-    out: &mut Answer,
-    alloc: Global,
-    input: &str,
-) -> Result<(), AllocError> {
+/// The place of the first circular one of declarations with commas between them.
+fn circle_of(alloc: Global, input: &str) -> Result<Option<Place>, AllocError> {
     let mut declarations = Vec::new(alloc);
     push_all(&mut declarations, alloc, input)?;
-    if let Some(place) = first_circle(alloc, &declarations)? {
-        out.put_pair(place.module, ".", place.line);
+    first_circle(alloc, &declarations)
+}
+
+/// Adds the place of the first circular one of declarations with commas between them.
+pub(crate) fn put_first_circle(out: &mut Answer, alloc: Global, input: &str) {
+    match circle_of(alloc, input) {
+        Ok(Some(place)) => out.put_pair(place.module, ".", place.line),
+        Ok(None) => (),
+        Err(_) => out.refuse(),
     }
-    Ok(())
 }

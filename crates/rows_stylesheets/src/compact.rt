@@ -8,6 +8,13 @@ use xs_outside::MemLibrary;
 const START: &str =
     "(xsl:stylesheet\nAxmlns:xsl http://www.w3.org/1999/XSL/Transform\nAversion 1.0\n";
 
+/// The signs of short lines, and what is written before and after what follows the sign.
+const SHORT: &[(char, &str, &str)] = &[
+    ('+', "(xsl:import\nAhref ", "\n)xsl:import\n"),
+    ('=', "(xsl:include\nAhref ", "\n)xsl:include\n"),
+    ('~', "(xsl:template\nAmatch ", "\n)xsl:template\n"),
+];
+
 /// Adds three texts.
 fn put_three(out: &mut Answer, first: &str, second: &str, third: &str) {
     out.put(first);
@@ -22,58 +29,61 @@ fn put_end(out: &mut Answer, open: &mut Vec<&str>) {
     }
 }
 
-/// Adds a line, or the lines for which a short one stands; a bracket alone ends the last element
-/// that is open.
-fn put_line<'t>(
-    out: &mut Answer,
-    open: &mut Vec<&'t str>,
-    line: &'t str,
-) -> Result<(), AllocError> {
-    if line == ")" {
-        put_end(out, open);
-    } else if let Some(name) = line.strip_prefix('+') {
-        put_three(out, "(xsl:import\nAhref ", name, "\n)xsl:import\n");
-    } else if let Some(name) = line.strip_prefix('=') {
-        put_three(out, "(xsl:include\nAhref ", name, "\n)xsl:include\n");
-    } else if let Some(pattern) = line.strip_prefix('~') {
-        put_three(out, "(xsl:template\nAmatch ", pattern, "\n)xsl:template\n");
-    } else if !line.is_empty() {
-        put_three(out, line, "\n", "");
-        if let Some(name) = line.strip_prefix('(') {
-            open.push(name)?;
+/// Takes note of an element that is open.
+fn begin<'t>(out: &mut Answer, open: &mut Vec<&'t str>, name: &'t str) {
+    if open.push(name).is_err() {
+        out.refuse();
+    }
+}
+
+/// Adds the element that a short line means, and says whether the line is a short one.
+fn put_short(out: &mut Answer, line: &str) -> bool {
+    for (sign, start, end) in SHORT {
+        if let Some(text) = line.strip_prefix(*sign) {
+            put_three(out, start, text, end);
+            return true;
         }
     }
-    Ok(())
+    false
+}
+
+/// Adds a line, or the lines for which a short one stands; a bracket alone ends the last element
+/// that is open.
+fn put_line<'t>(out: &mut Answer, open: &mut Vec<&'t str>, line: &'t str) {
+    if line == ")" {
+        put_end(out, open);
+    } else if !line.is_empty() && !put_short(out, line) {
+        put_three(out, line, "\n", "");
+        if let Some(name) = line.strip_prefix('(') {
+            begin(out, open, name);
+        }
+    }
 }
 
 /// Adds a module: lines with semicolons between them, inside an `xsl:stylesheet` unless they begin
 /// with an exclamation mark.
-fn put_module<'t>(
-    out: &mut Answer,
-    open: &mut Vec<&'t str>,
-    lines: &'t str,
-) -> Result<(), AllocError> {
-    let mut inner = lines;
-    if let Some(whole) = lines.strip_prefix('!') {
-        inner = whole;
-    } else {
-        out.put(START);
-        open.push("xsl:stylesheet")?;
-    }
+fn put_module<'t>(out: &mut Answer, open: &mut Vec<&'t str>, lines: &'t str) {
+    let inner = match lines.strip_prefix('!') {
+        Some(whole) => whole,
+        None => {
+            out.put(START);
+            begin(out, open, "xsl:stylesheet");
+            lines
+        }
+    };
     for line in inner.split(';') {
-        put_line(out, open, line)?;
+        put_line(out, open, line);
     }
     for _ in 0..open.len() {
         put_end(out, open);
     }
-    Ok(())
 }
 
 /// The lines of a module; what is open at its end is ended.
 pub(crate) fn module(alloc: Global, lines: &str) -> Result<String, AllocError> {
     let mut out = Answer::new(alloc);
     let mut open = Vec::new(alloc);
-    put_module(&mut out, &mut open, lines)?;
+    put_module(&mut out, &mut open, lines);
     out.finish()
 }
 

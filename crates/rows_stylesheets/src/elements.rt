@@ -3,7 +3,7 @@
 ghost use Rattle.std.specs.Prelude.{◌<◌, length};
 
 use crate::answer::Answer;
-use std::alloc::{AllocError, Global};
+use std::alloc::Global;
 use xs_elements::attributes::{Need, attributes, form_named};
 use xs_elements::contents::{Before, Content, content_of, holds_text, may_stand};
 use xs_elements::forms::{Form, forbids_current, forbids_key, forbids_variables, sees_locals};
@@ -199,26 +199,22 @@ fn is_required(row: Row, local: &str) -> bool {
 }
 
 /// Adds what an attribute of an element has to be, and whether it is.
-fn put_value(
-    out: &mut Answer,
-    alloc: Global,
-    tree: &Tree,
-    element: Node,
-    attribute: Node,
-) -> Result<(), AllocError>
+fn put_value(out: &mut Answer, alloc: Global, tree: &Tree, element: Node, attribute: Node)
     requires element { element < length tree.now }
     requires attribute { attribute < length tree.now }
 {
     let row = row_of(tree, element);
     let local = tree.local(attribute);
     let Some(form) = form_named(row, local) else {
-        return Ok(());
+        return;
     };
     if is_required(row, local) {
         out.put("required ");
     }
     put_form(out, form);
-    let scope = scope_at(alloc, tree, element)?;
+    let Ok(scope) = scope_at(alloc, tree, element) else {
+        return out.refuse();
+    };
     let value = tree.text(attribute);
     if is_bad(form, value) {
         out.put(": bad");
@@ -229,21 +225,19 @@ fn put_value(
     } else {
         out.put(": good");
     }
-    Ok(())
 }
 
 /// Adds what each attribute of an element below the document element has to be.
-pub(crate) fn put_values(out: &mut Answer, alloc: Global, tree: &Tree) -> Result<(), AllocError> {
+pub(crate) fn put_values(out: &mut Answer, alloc: Global, tree: &Tree) {
     for place in 0..tree.len() as u32 {
         let attribute = Node::at(place);
         if tree.kind(attribute) == Kind::Attribute
             && let Some(element) = tree.parent(attribute)
             && !is_document_element(tree, element)
         {
-            put_value(out, alloc, tree, element, attribute)?;
+            put_value(out, alloc, tree, element, attribute);
         }
     }
-    Ok(())
 }
 
 /// Adds the first word of each attribute below the document element, and what is after it.

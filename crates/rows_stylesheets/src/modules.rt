@@ -62,7 +62,7 @@ pub(crate) fn put_end(out: &mut Answer, end: &ModulesEnd) {
             module,
             line,
         } => put_numbered(out, *number, module.as_str(), *line),
-        ModulesEnd::NoMemory => out.put("no memory"),
+        ModulesEnd::NoMemory => out.refuse(),
     }
 }
 

@@ -175,54 +175,40 @@ fn put_all(out: &mut Answer, rules: &[Option<Rule>], tree: &Tree) {
 }
 
 /// Adds the rules without a mode, and those of each mode that a node takes.
-pub(crate) fn put_rules(
-    out: &mut Answer,
-    alloc: Global,
-    sheet: &Sheet,
-    tree: &Tree,
-) -> Result<(), AllocError> {
+pub(crate) fn put_rules(out: &mut Answer, alloc: Global, sheet: &Sheet, tree: &Tree) {
     for mode in 0..MODES {
-        let rules = rules_of(alloc, sheet, tree, Among::Mode(mode))?;
-        if mode == 0 {
-            put_all(out, &rules, tree);
-        } else if count_chosen(&rules) > 0 {
-            out.put(" ");
-            put_all(out, &rules, tree);
+        match rules_of(alloc, sheet, tree, Among::Mode(mode)) {
+            Ok(rules) => {
+                if mode == 0 || count_chosen(&rules) > 0 {
+                    out.put(if mode == 0 { "" } else { " " });
+                    put_all(out, &rules, tree);
+                }
+            }
+            Err(_) => out.refuse(),
         }
     }
-    Ok(())
 }
 
 /// Adds the rules among those imported under each template.
-pub(crate) fn put_imported(
-    out: &mut Answer,
-    alloc: Global,
-    sheet: &Sheet,
-    tree: &Tree,
-) -> Result<(), AllocError> {
+pub(crate) fn put_imported(out: &mut Answer, alloc: Global, sheet: &Sheet, tree: &Tree) {
     let mut under = 0_u32;
     for _ in &sheet.templates {
-        if under > 0 {
-            out.put(" ");
+        out.put(if under > 0 { " " } else { "" });
+        match rules_of(alloc, sheet, tree, Among::ImportedUnder(under)) {
+            Ok(rules) => put_all(out, &rules, tree),
+            Err(_) => out.refuse(),
         }
-        let rules = rules_of(alloc, sheet, tree, Among::ImportedUnder(under))?;
-        put_all(out, &rules, tree);
         under = under.wrapping_add(1);
     }
-    Ok(())
 }
 
 /// Adds how many nodes take a template without a mode.
-pub(crate) fn put_count(
-    out: &mut Answer,
-    alloc: Global,
-    sheet: &Sheet,
-    tree: &Tree,
-) -> Result<(), AllocError> {
-    let rules = rules_of(alloc, sheet, tree, Among::Mode(0))?;
+pub(crate) fn put_count(out: &mut Answer, alloc: Global, sheet: &Sheet, tree: &Tree) {
+    let Ok(rules) = rules_of(alloc, sheet, tree, Among::Mode(0)) else {
+        return out.refuse();
+    };
     if rules.contains(&None) {
         out.put("not agreed, ");
     }
     out.put_number(i64::from(count_chosen(&rules)));
-    Ok(())
 }

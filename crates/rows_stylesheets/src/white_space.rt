@@ -1,7 +1,7 @@
 //! White space of a document that is stripped (XSLT 1.0, 3.4).
 
 use crate::answer::Answer;
-use std::alloc::{AllocError, Global};
+use std::alloc::Global;
 use xs_rules::white_space::{strip_space, stripped};
 use xs_sheet::declarations::StripRule;
 use xs_tree::{Kind, Node, Tree};
@@ -21,20 +21,18 @@ fn put_marked(out: &mut Answer, tree: &Tree, marks: &[bool]) {
     }
 }
 
-/// Strips white space, and adds which texts are stripped.
-pub(crate) fn put_kept(
-    out: &mut Answer,
-    alloc: Global,
-    rules: &[StripRule],
-    tree: &mut Tree,
-) -> Result<(), AllocError> {
-    let marks = stripped(alloc, tree, rules)?;
+/// Adds which texts are stripped, and whether just these are gone.
+pub(crate) fn put_kept(out: &mut Answer, alloc: Global, rules: &[StripRule], tree: &mut Tree) {
+    let Ok(marks) = stripped(alloc, tree, rules) else {
+        return out.refuse();
+    };
     put_marked(out, tree, &marks);
     let before = tree.len();
-    strip_space(alloc, tree, rules)?;
+    if strip_space(alloc, tree, rules).is_err() {
+        out.refuse();
+    }
     let gone = marks.iter().filter(|mark| **mark).count();
     if tree.len().wrapping_add(gone) != before {
         out.put(" but other nodes are stripped");
     }
-    Ok(())
 }

@@ -1,0 +1,83 @@
+//! The text of an answer.
+
+use crate::error::RowError;
+use std::alloc::{AllocError, Global};
+use xs_num::number::Num;
+use xs_num::writing::write_num;
+use xs_text::escape_into;
+
+/// A text that is written piece by piece. Once memory was refused there is no text.
+#[derive(Drop)]
+pub(crate) struct Answer {
+    pub(crate) bytes: Vec<u8>,
+    is_refused: bool,
+}
+
+impl Answer {
+    /// An empty text.
+    pub(crate) fn new(alloc: Global) -> Answer {
+        Answer {
+            bytes: Vec::new(alloc),
+            is_refused: false,
+        }
+    }
+
+    /// Takes note of whether memory was refused.
+    pub(crate) fn note(&mut self, outcome: Result<(), AllocError>) {
+        self.is_refused = self.is_refused || outcome.is_err();
+    }
+
+    /// Adds a text.
+    pub(crate) fn put(&mut self, text: &str) {
+        let outcome = self.bytes.extend_from_slice(text.as_bytes());
+        self.note(outcome);
+    }
+
+    /// Adds a text in quotes.
+    pub(crate) fn put_quoted(&mut self, text: &str) {
+        self.put("'");
+        self.put(text);
+        self.put("'");
+    }
+
+    /// Adds a text with escapes.
+    pub(crate) fn put_escaped(&mut self, text: &str) {
+        let outcome = escape_into(&mut self.bytes, text);
+        self.note(outcome);
+    }
+
+    /// Adds a number of things.
+    pub(crate) fn put_count(&mut self, count: u64) {
+        match format!(in *self.bytes.allocator(); "{count}") {
+            Ok(text) => self.put(text.as_str()),
+            Err(_) => self.is_refused = true,
+        }
+    }
+
+    /// Adds a number of XPath.
+    pub(crate) fn put_number(&mut self, number: Num) {
+        let outcome = write_num(&mut self.bytes, number);
+        self.note(outcome);
+    }
+
+    /// Adds whether something holds.
+    pub(crate) fn put_bool(&mut self, holds: bool) {
+        self.put(if holds { "true" } else { "false" });
+    }
+
+    /// The text so far.
+    pub(crate) fn text(&self) -> Result<&[u8], AllocError> {
+        if self.is_refused {
+            return Err(AllocError);
+        }
+        Ok(&self.bytes)
+    }
+
+    /// The whole text.
+    pub(crate) fn finish(self) -> Result<String, RowError> {
+        if self.is_refused {
+            return Err(RowError::NoMemory);
+        }
+        Ok(String::from_utf8(self.bytes)?)
+    }
+}

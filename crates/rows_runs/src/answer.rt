@@ -1,0 +1,76 @@
+//! The text of an answer.
+
+use std::alloc::{AllocError, Global};
+
+/// A text that is written piece by piece. Once memory was refused there is no text.
+#[derive(Drop)]
+pub(crate) struct Answer {
+    bytes: Vec<u8>,
+    is_refused: bool,
+}
+
+impl Answer {
+    /// An empty text.
+    pub(crate) fn new(alloc: Global) -> Answer {
+        Answer {
+            bytes: Vec::new(alloc),
+            is_refused: false,
+        }
+    }
+
+    /// Takes note of whether memory was refused.
+    pub(crate) fn note(&mut self, outcome: Result<(), AllocError>) {
+        self.is_refused = self.is_refused || outcome.is_err();
+    }
+
+    /// Adds a byte.
+    pub(crate) fn put_byte(&mut self, byte: u8) {
+        let outcome = self.bytes.push(byte);
+        self.is_refused = self.is_refused || outcome.is_err();
+    }
+
+    /// Adds bytes.
+    pub(crate) fn put_bytes(&mut self, bytes: &[u8]) {
+        let outcome = self.bytes.extend_from_slice(bytes);
+        self.note(outcome);
+    }
+
+    /// Adds a text.
+    pub(crate) fn put(&mut self, text: &str) {
+        self.put_bytes(text.as_bytes());
+    }
+
+    /// Adds a text, and a number after it.
+    pub(crate) fn put_count(&mut self, text: &str, count: u64) {
+        match format!(in *self.bytes.allocator(); "{text}{count}") {
+            Ok(text) => self.put(text.as_str()),
+            Err(refused) => self.note(Err(refused)),
+        }
+    }
+
+    /// The bytes so far.
+    pub(crate) fn bytes(&self) -> Result<&[u8], AllocError> {
+        if self.is_refused {
+            return Err(AllocError);
+        }
+        Ok(&self.bytes)
+    }
+
+    /// The bytes, when no more come.
+    pub(crate) fn into_bytes(self) -> Result<Vec<u8>, AllocError> {
+        if self.is_refused {
+            return Err(AllocError);
+        }
+        Ok(self.bytes)
+    }
+
+    /// The bytes, as a text.
+    pub(crate) fn text(&self) -> Result<&str, AllocError> {
+        Ok(text_of(self.bytes()?))
+    }
+}
+
+/// The text that some bytes are.
+pub(crate) fn text_of(bytes: &[u8]) -> &str {
+    str::from_utf8(bytes).unwrap_or("not UTF-8")
+}
