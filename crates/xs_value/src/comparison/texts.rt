@@ -118,18 +118,38 @@ fn nodes_have_text(
     Ok(false)
 }
 
-// Whether two lists of nodes have a string-value in common: by an index of those on the left.
+// Whether two lists of nodes have a string-value in common.
 fn share_text(alloc: Global, tree: &Tree, left: &[Node], right: &[Node]) -> Result<bool, AllocError>
     requires left { All (λ n. n < length tree.now) left.now }
     requires right { All (λ n. n < length tree.now) right.now }
     ensures { IfOk result (λ holds. holds ≡ some_equal (node_texts tree.now left.now)
         (node_texts tree.now right.now)) }
 {
-    if left.len() < 2 {
-        return share_text_in_turn(alloc, tree, left, right);
+    if right.len() < left.len() {
+        share_text_of_few(alloc, tree, right, left)
+    } else {
+        share_text_of_few(alloc, tree, left, right)
     }
-    let index = text_index(alloc, tree, left)?;
-    has_indexed(alloc, tree, &index, right)
+}
+
+// Whether two lists of nodes, the shorter one first, have a string-value in common: by an index of
+// the first one.
+fn share_text_of_few(
+    alloc: Global,
+    tree: &Tree,
+    few: &[Node],
+    many: &[Node],
+) -> Result<bool, AllocError>
+    requires few { All (λ n. n < length tree.now) few.now }
+    requires many { All (λ n. n < length tree.now) many.now }
+    ensures { IfOk result (λ holds. holds ≡ some_equal (node_texts tree.now few.now)
+        (node_texts tree.now many.now)) }
+{
+    if few.len() < 2 {
+        return share_text_in_turn(alloc, tree, few, many);
+    }
+    let index = text_index(alloc, tree, few)?;
+    has_indexed(alloc, tree, &index, many)
 }
 
 // The string-values of nodes.
@@ -165,22 +185,22 @@ fn has_indexed(
     Ok(false)
 }
 
-// Whether two lists of nodes have a string-value in common: each on the left with each on the
-// right, where the left has at most one.
+// Whether two lists of nodes have a string-value in common: each of the first list with each of the
+// second, where the first has at most one.
 fn share_text_in_turn(
     alloc: Global,
     tree: &Tree,
-    left: &[Node],
-    right: &[Node],
+    few: &[Node],
+    many: &[Node],
 ) -> Result<bool, AllocError>
-    requires left { All (λ n. n < length tree.now) left.now }
-    requires right { All (λ n. n < length tree.now) right.now }
-    ensures { IfOk result (λ holds. holds ≡ some_equal (node_texts tree.now left.now)
-        (node_texts tree.now right.now)) }
+    requires few { All (λ n. n < length tree.now) few.now }
+    requires many { All (λ n. n < length tree.now) many.now }
+    ensures { IfOk result (λ holds. holds ≡ some_equal (node_texts tree.now few.now)
+        (node_texts tree.now many.now)) }
 {
-    for node in left {
+    for node in few {
         let text = node_text(alloc, tree, *node)?;
-        if nodes_have_text(alloc, tree, right, text.as_str())? {
+        if nodes_have_text(alloc, tree, many, text.as_str())? {
             return Ok(true);
         }
     }
