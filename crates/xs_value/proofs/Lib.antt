@@ -7,3 +7,4 @@ pub mod MergeLemmas
 pub mod NodeSetLemmas
 pub mod RowLemmas
 pub mod TextLemmas
+pub mod UnitedLemmas

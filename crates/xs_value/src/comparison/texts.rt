@@ -7,21 +7,19 @@ ghost use Rattle.std.specs.Str.{bytes_eq};
 ghost use Rattle.xs_tree.specs.Record.{Record};
 ghost use Rattle.xs_value.specs.Comparison.{compared, is_boolean, is_numeral};
 ghost use Rattle.xs_value.specs.Conversion.{IsIn};
-ghost use Rattle.xs_value.specs.steps.Operands.{AreTextsIn, IsIndexOf, KeepsTexts, compared_as};
-ghost use Rattle.xs_value.specs.steps.Operands.{first_of, has_others, is_indexed, is_other};
+ghost use Rattle.xs_value.specs.steps.Operands.{AreTextsIn, KeepsTexts, compared_as};
+ghost use Rattle.xs_value.specs.TextIndexes.{is_indexed};
+ghost use Rattle.xs_value.specs.steps.Operands.{first_of, has_others, is_other};
 ghost use Rattle.xs_value.specs.steps.Operands.{kept_texts, node_texts, some_different, some_equal};
 ghost use Rattle.xs_value.specs.declared.comparison.ComparedAs.TheVariants.{Strings as AsStrings};
 
 use super::CompareOp;
 use crate::conversion::{events_text, node_text};
+use crate::text_indexes::{TextIndex, index_texts};
 use crate::value::Value;
 use std::alloc::{AllocError, Global};
 use std::borrow::CowStr;
-use std::collections::HashSet;
 use xs_tree::{Node, Tree};
-
-// String-values of nodes, each once.
-type Index<'a> = HashSet<CowStr<'a, Global>>;
 
 // The strings that stand for an operand.
 #[derive(Drop)]
@@ -148,28 +146,15 @@ fn share_text_of_few(
     if few.len() < 2 {
         return share_text_in_turn(alloc, tree, few, many);
     }
-    let index = text_index(alloc, tree, few)?;
+    let index = index_texts(alloc, tree, few)?;
     has_indexed(alloc, tree, &index, many)
-}
-
-// The string-values of nodes.
-fn text_index<'a>(alloc: Global, tree: &'a Tree, nodes: &[Node]) -> Result<Index<'a>, AllocError>
-    requires { All (λ n. n < length tree.now) nodes.now }
-    ensures { IfOk result (λ index. IsIndexOf index.keys (node_texts tree.now nodes.now)) }
-{
-    let mut index = HashSet::new(alloc);
-    for node in nodes {
-        let text = node_text(alloc, tree, *node)?;
-        index.insert(text)?;
-    }
-    Ok(index)
 }
 
 // Whether the string-value of some node is in an index.
 fn has_indexed(
     alloc: Global,
     tree: &Tree,
-    index: &Index<'_>,
+    index: &TextIndex<'_>,
     nodes: &[Node],
 ) -> Result<bool, AllocError>
     requires { All (λ n. n < length tree.now) nodes.now }

@@ -4,9 +4,10 @@ use Rattle.std.specs.Cow.{cow_str_bytes}
 use Rattle.std.specs.List.{list_any}
 use Rattle.std.specs.Str.{bytes_eq}
 use Rattle.std.specs.declared.borrow.CowStr.TheVariants.{Borrowed}
-use Rattle.xs_value.specs.steps.Operands.{is_indexed, node_texts}
+use Rattle.xs_value.specs.TextIndexes.{is_indexed}
+use Rattle.xs_value.specs.steps.Operands.{node_texts}
 use Rattle.xs_value.proofs.IndexLemmas.{index-more, texts-more}
-use Rattle.xs_value.proofs.comparison.texts.text_index.Goals as goal
+use Rattle.xs_value.proofs.text_indexes.index_texts.Goals as goal
 
 -- a string is in the new index where it is in the old one or is the one that was inserted
 pub loop-node-preserved : goal.loop-node-preserved
