@@ -68,12 +68,13 @@ place-last d x i (y ∷ ys) =
     ≡ first_of_both (cond b (Some i) (position_from (λ e. e == d) (i + 1) ys)) (cond (x == d) (Some (i + suc (length ys))) None))
     [ true ↦ refl | false ↦ more ]
 
-pub place-more : (xs : List ℕ) (i d : ℕ) (old new : Option ℕ) → i < length xs → old ≡ position_from (λ e. e == d) 0 (take i xs)
-    → new ≡ first_of_both old (cond (get_or xs i 0 == d) (Some i) None) → new ≡ position_from (λ e. e == d) 0 (take (i + 1) xs)
-place-more xs i d old new l h u =
+pub place-more : (xs : List ℕ) (i x d : ℕ) (old new : Option ℕ) → i < length xs → x ≡ get_or xs i x → old ≡ position_from (λ e. e == d) 0 (take i xs)
+    → new ≡ first_of_both old (cond (x == d) (Some i) None) → new ≡ position_from (λ e. e == d) 0 (take (i + 1) xs)
+place-more xs i x d old new l e h u =
     let long : 0 + length (take i xs) ≡ i = omega (arith, length-take i xs) in
     u
-    ∙ ap (λ o. first_of_both o (cond (get_or xs i 0 == d) (Some i) None)) h
-    ∙ ap (λ n. first_of_both (position_from (λ e. e == d) 0 (take i xs)) (cond (get_or xs i 0 == d) (Some n) None)) (sym long)
-    ∙ sym (place-last d (get_or xs i 0) 0 (take i xs))
-    ∙ ap (position_from (λ e. e == d) 0) (sym (take_more xs i 0 l))
+    ∙ ap (λ o. first_of_both o (cond (x == d) (Some i) None)) h
+    ∙ ap (λ n. first_of_both (position_from (λ e. e == d) 0 (take i xs)) (cond (x == d) (Some n) None)) (sym long)
+    ∙ sym (place-last d x 0 (take i xs))
+    ∙ ap (λ y. position_from (λ e. e == d) 0 (take i xs ++ y ∷ [])) e
+    ∙ ap (position_from (λ e. e == d) 0) (sym (take_more xs i x l))
