@@ -93,7 +93,7 @@ pub fn to_text(alloc: Global, tree: &Tree, v: &Value) -> Result<TextBuf, AllocEr
 
 /// A text that is lent or owned, in memory of its own.
 pub fn own_text(alloc: Global, text: CowStr<'_, Global>) -> Result<TextBuf, AllocError>
-    ensures text { IfOk result (λ own. own ≡ cow_str_bytes text) }
+    ensures text { IfOk result (λ own. own ≡ cow_str_bytes text.entry) }
 {
     match text {
         CowStr::Borrowed(text) => TextBuf::of(alloc, text),
