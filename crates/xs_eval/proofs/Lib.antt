@@ -8,3 +8,4 @@ pub mod KeyLemmas
 pub mod AxisListLemmas
 pub mod LanguageLemmas
 pub mod PositionLemmas
+pub mod UnitedLemmas

@@ -7,4 +7,3 @@ pub mod MergeLemmas
 pub mod NodeSetLemmas
 pub mod RowLemmas
 pub mod TextLemmas
-pub mod UnitedLemmas

@@ -2,7 +2,7 @@ use Rattle.std.proofs.Common.{map}
 use Rattle.std.specs.Cow.{cow_str_bytes}
 use Rattle.xs_tree.specs.Record.{string_value}
 use Rattle.xs_value.specs.Tables.{table_at}
-use Rattle.xs_value.proofs.UnitedLemmas.{united-index}
+use Rattle.xs_eval.proofs.UnitedLemmas.{united-index}
 use Rattle.xs_eval.specs.Keys.{found_for}
 use Rattle.xs_eval.proofs.KeyLemmas.{finds-same}
 use Rattle.xs_eval.proofs.keys.found_for_nodes.Goals as goal

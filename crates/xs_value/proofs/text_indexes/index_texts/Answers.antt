@@ -19,5 +19,7 @@ loop-node-preserved c = λ q.
     ∙ ap (list_any (bytes_eq q)) (texts-more c.args.tree.now c.args.nodes.now c.loop-node.node-index c.node-item.result (omega arith) c.node-item.is)
 
 pub returns : goal.returns
-returns c = λ q. c.loop-node.invariant q
-    ∙ ap (λ (ns : List ℕ). list_any (bytes_eq q) (node_texts c.args.tree.now ns)) (take_all c.loop-node.node-index c.args.nodes.now (omega arith))
+returns c = record {
+  texts = λ q. c.loop-node.invariant q
+      ∙ ap (λ (ns : List ℕ). list_any (bytes_eq q) (node_texts c.args.tree.now ns)) (take_all c.loop-node.node-index c.args.nodes.now (omega arith));
+}
