@@ -298,31 +298,31 @@ evaluate_filter-returns-clause-told g t c =
     c.keep_of_set.ensures.told
 
 -- what predicates keep of a set
-pub keep_of_set-returns-in-len0-clause-told : goal.keep_of_set-returns-in-len0-clause-told
-keep_of_set-returns-in-len0-clause-told g t c =
+pub keep_of_set-returns-in-empty-clause-told : goal.keep_of_set-returns-in-empty-clause-told
+keep_of_set-returns-in-empty-clause-told g t c =
     let keys = g.K.KeyFinder.tables c.args.keys.now in
     let s = g.T.Tally.state c.args.tally.now in
     ap (λ es. limited c.args.site (kept_of c.args.context.now (runs_of keys es) c.args.set) s) (no_items c.args.predicates.now (omega arith))
     ∙ gives c.args.site (Nodes (in_order c.args.set)) s
-    ∙ ap (λ ns. Goes (Nodes ns) s) (in_order-same c.args.set c.nodes.ensures.list)
+    ∙ ap (λ ns. Goes (Nodes ns) s) (in_order-same c.args.set c.nodes-nodes.ensures.list)
 
 pub keep_of_set-filter-requires-clause-some : goal.keep_of_set-filter-requires-clause-some
 keep_of_set-filter-requires-clause-some g t c =
-    subst (AreSome c.args.context.now.tree) (sym c.nodes-in-len1-up.ensures.nodes)
-    (some_in_list c.args.context.now.tree c.args.set c.nodes-in-len1-up.ensures.list c.requires.inside)
+    subst (AreSome c.args.context.now.tree) (sym c.nodes.ensures.nodes)
+    (some_in_list c.args.context.now.tree c.args.set c.nodes.ensures.list c.requires.inside)
 
 pub keep_of_set-returns-in_err-nodes-in-len1-up-clause-told : goal.keep_of_set-returns-in_err-nodes-in-len1-up-clause-told
 keep_of_set-returns-in_err-nodes-in-len1-up-clause-told g t c =
-    let p = err_from_is_err_and c.from_residual-in_err-nodes-in-len1-up.result c.from_residual-in_err-nodes-in-len1-up.ensures.1 in
+    let p = err_from_is_err_and c.from_residual.result c.from_residual.ensures.1 in
     let keys = g.K.KeyFinder.tables c.args.keys.now in
     let ctx = c.args.context.now in
     let e = c.first-item.result in
     let es = e ∷ but_first c.args.predicates.now in
     let s = g.T.Tally.state c.args.tally.now in
     exits_in_items (λ ns. ns) (λ v. v) c.args.site (filtered ctx) (λ kept. give (Nodes (in_order kept))) (runs_of keys es) 0 (run_of keys e)
-    c.nodes-in-len1-up.result.now s (g.T.Tally.state c.filter.new.tally) _ c.from_residual-in_err-nodes-in-len1-up.result _ _
+    c.nodes.result.now s (g.T.Tally.state c.filter.new.tally) _ c.from_residual.result _ _
     (ap (λ xs. limited c.args.site (kept_of ctx (runs_of keys xs) c.args.set) s) (first_and_rest c.args.predicates.now e (omega arith) c.first-item.is)
-    ∙ ap (λ ns. limited c.args.site (kept_of ctx (runs_of keys es) ns) s) (sym c.nodes-in-len1-up.ensures.nodes))
+    ∙ ap (λ ns. limited c.args.site (kept_of ctx (runs_of keys es) ns) s) (sym c.nodes.ensures.nodes))
     (omega arith) refl p.1 p.2 c.in_err-nodes-in-len1-up.ensures.told
 
 pub keep_of_set-returns-in_ok-nodes-in-len1-up-clause-told : goal.keep_of_set-returns-in_ok-nodes-in-len1-up-clause-told
@@ -334,9 +334,9 @@ keep_of_set-returns-in_ok-nodes-in-len1-up-clause-told g t c =
     let s = g.T.Tally.state c.args.tally.now in
     continues (λ v. v) _ _ _ _
     (items_on c.args.site (filtered ctx) (λ kept. give (Nodes (in_order kept))) (runs_of keys es) 0 (run_of keys e)
-    c.nodes-in-len1-up.result.now c.in_ok-nodes-in-len1-up.nodes s (g.T.Tally.state c.filter.new.tally) _
+    c.nodes.result.now c.in_ok-nodes-in-len1-up.nodes s (g.T.Tally.state c.filter.new.tally) _
     (ap (λ xs. limited c.args.site (kept_of ctx (runs_of keys xs) c.args.set) s) (first_and_rest c.args.predicates.now e (omega arith) c.first-item.is)
-    ∙ ap (λ ns. limited c.args.site (kept_of ctx (runs_of keys es) ns) s) (sym c.nodes-in-len1-up.ensures.nodes))
+    ∙ ap (λ ns. limited c.args.site (kept_of ctx (runs_of keys es) ns) s) (sym c.nodes.ensures.nodes))
     (omega arith) refl c.in_ok-nodes-in-len1-up.ensures.told)
     c.keep.ensures.told
 
