@@ -308,6 +308,7 @@ keep_of_set-returns-in-empty-clause-told g t c =
 
 pub keep_of_set-filter-requires-clause-some : goal.keep_of_set-filter-requires-clause-some
 keep_of_set-filter-requires-clause-some g t c =
+    λ κs lives.
     subst (AreSome c.args.context.now.tree) (sym c.nodes.ensures.nodes)
     (some_in_list c.args.context.now.tree c.args.set c.nodes.ensures.list c.requires.inside)
 
