@@ -1,6 +1,6 @@
 -- A predicate that is a number keeps the node at that position.
 use Rattle.std.proofs.Common.{◌≡◌, ℕ, zero, suc, ◌+◌, ◌-◌, ◌<◌, ◌≤◌, arith, Bool, true, false, cond, List, [], ◌∷◌, ◌++◌, All, length}
-use Rattle.std.proofs.Common.{Option, None, slice_get, ℤ, pos, negsuc, int_lt, refl, sym, ap, ◌∙◌}
+use Rattle.std.proofs.Common.{None, slice_get, ℤ, pos, negsuc, int_lt, refl, sym, ap, ◌∙◌}
 use Rattle.std.proofs.lemmas.Bool.Decides.{nat_tests}
 use Rattle.std.proofs.lemmas.List.{append-nil, append_assoc}
 use Rattle.std.proofs.lemmas.List.Elements.{All-cons, All-head, All-nil, All-tail}
@@ -15,7 +15,7 @@ use Rattle.xs_value.specs.declared.value.Value.TheVariants.{Number as Numeral}
 use Rattle.xs_eval.specs.Context.{Context, at_node}
 use Rattle.xs_eval.specs.Paths.{Meaning, filtered, is_position, judged, kept_if, selects}
 use Rattle.xs_eval.specs.steps.Nodes.{AreSome}
-use Rattle.xs_eval.specs.steps.Positions.{node_at, picked, place_of}
+use Rattle.xs_eval.specs.steps.Positions.{node_at, picked}
 
 -- ---- what a constant predicate keeps
 
