@@ -84,7 +84,8 @@ picked-at : (k i : ℕ) (ns : List ℕ) → option_to_list (slice_get ns k) ≡ 
 picked-at k i [] = refl
 picked-at zero i (x ∷ xs) =
     let here : i + 0 ≡ i = omega arith in
-    let rest : picked (Whole (pos (i + 0))) (i + 1) xs ≡ [] = picked-never (Whole (pos (i + 0))) (i + 1) xs (λ j l. not-position (i + 0) j (omega (arith, l))) in
+    let rest : picked (Whole (pos (i + 0))) (i + 1) xs ≡ [] =
+    picked-never (Whole (pos (i + 0))) (i + 1) xs (λ j l. not-position (i + 0) j (omega (arith, l))) in
     ap (λ ys. x ∷ ys) (sym rest)
     ∙ ap (λ b. kept_if b [] x ++ picked (Whole (pos (i + 0))) (i + 1) xs) (sym (its-position i) ∙ ap (λ p. int_eq (pos p) (pos i)) (sym here))
 picked-at (suc k) i (x ∷ xs) =

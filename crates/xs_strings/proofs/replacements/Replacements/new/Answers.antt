@@ -9,4 +9,5 @@ pub returns : goal.returns
 returns c = λ d.
     ap (λ to. replacement_at to d (get nat_eq c.in_ok-places.places d)) c.in_ok-partners.ensures
     ∙ ap (replacement_at (chars c.args.to.now) d)
-    (c.in_ok-places.ensures d ∙ same-place d c.as_slice.result.now c.in_ok-alphabet.alphabet.items (chars c.args.from.now) c.as_slice.ensures.value c.in_ok-alphabet.ensures)
+    (c.in_ok-places.ensures d
+    ∙ same-place d c.as_slice.result.now c.in_ok-alphabet.alphabet.items (chars c.args.from.now) c.as_slice.ensures.value c.in_ok-alphabet.ensures)
