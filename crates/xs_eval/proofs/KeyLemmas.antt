@@ -1,6 +1,6 @@
 -- Nodes by key: what tables hold is in the tree, and a document is all nodes between its ends.
 use Rattle.std.proofs.Common.{◌≡◌, ℕ, ◌<◌, ◌≤◌, ◌&&◌, ◌⊎◌, Bool, cond, List, [], ◌∷◌, All, filter, length, zero, suc, nat_le, nat_lt}
-use Rattle.std.proofs.Common.{refl, sym, ap, inl, inr, ◌∙◌}
+use Rattle.std.proofs.Common.{refl, sym, ap, inl, inr, ◌∙◌, Result, Ok, Err}
 use Rattle.std.proofs.lemmas.Bool.{lt-ltb, le-ltb, lt-leb, le-leb}
 use Rattle.std.proofs.lemmas.List.Elements.{All-filter, All-head, All-map, All-nil, All-tail}
 use Rattle.xs_tree.specs.Axis.{is_same_document, root_of}
@@ -8,10 +8,11 @@ use Rattle.xs_tree.specs.Record.{Record}
 use Rattle.xs_tree.specs.Shape.{EndsAt, IsTree}
 use Rattle.xs_tree.proofs.RootLemmas.{other-before, other-past, same-inside}
 use Rattle.xs_tree.proofs.WalkLemmas.{le_or_gt}
+use Rattle.xs_value.specs.declared.keys.KeyEnd.{KeyEnd}
 use Rattle.xs_value.specs.Tables.{Entry, Table, TablesIn, is_for, nodes_of, table_at}
 use Rattle.xs_eval.specs.Context.{Context}
-use Rattle.xs_eval.specs.Keys.{found_for}
-use Rattle.xs_eval.specs.steps.Keys.{IsDocumentOf, holds}
+use Rattle.xs_eval.specs.Keys.{found, found_for}
+use Rattle.xs_eval.specs.steps.Keys.{FindsNodes, IsDocumentOf, holds}
 use Rattle.xs_eval.specs.declared.keys.Document.{Document}
 
 -- two tests that agree where all items are keep the same items
@@ -65,3 +66,9 @@ pub held-inside : (c : Context) (ts : List Table) (k : ℕ) (text : List ℕ) �
     → All (λ n. n < length c.tree) (found_for c (table_at ts k) text)
 held-inside c ts k text h =
     All-filter (is_same_document c.tree c.node) (λ n. n < length c.tree) (nodes_of text (table_at ts k).entries) (table-inside c.tree ts k text h)
+
+-- what is found for some texts is found for others that come to the same nodes
+pub finds-same : (c : Context) (t : Table) (xs ys : List (List ℕ)) (r : Result (List ℕ) KeyEnd) → found c t xs ≡ found c t ys → FindsNodes c t xs r
+    → FindsNodes c t ys r
+finds-same c t xs ys (Ok ns) e h = (h.0, h.1 ∙ e)
+finds-same c t xs ys (Err end) e h = h

@@ -7,3 +7,5 @@ pub mod SignLemmas
 pub mod KeyLemmas
 pub mod AxisListLemmas
 pub mod LanguageLemmas
+pub mod PositionLemmas
+pub mod UnitedLemmas

@@ -3,3 +3,4 @@ pub mod Languages
 pub mod Names
 pub mod Nodes
 pub mod Variables
+pub mod Positions

@@ -18,7 +18,7 @@ use crate::context::Context;
 use crate::fault::settled;
 use crate::node_tests::tested;
 use crate::operators::{decided, negate, operate};
-use crate::predicates::{count_of, kept_if, selects};
+use crate::predicates::{count_of, kept_if, number_of, picked, selects};
 use crate::variables::variable;
 use std::alloc::Global;
 use xs_trace::item::Site;
@@ -304,9 +304,40 @@ fn evaluate_filter<K: KeyFinder, T: Tally>(
     ensures inside { IfOk result (IsIn context.now.tree) }
 {
     let set = evaluate_nodes(alloc, inner, context, keys, site, tally)?;
-    let nodes = NodeList::from_slice(alloc, set.nodes())?;
-    drop(set);
-    keep(alloc, predicates, nodes, context, keys, site, tally)
+    keep_of_set(alloc, predicates, set, context, keys, site, tally)
+}
+
+// The node-set of what predicates keep of a set, which the first one reads where it is.
+#[cycle(evaluate)]
+fn keep_of_set<K: KeyFinder, T: Tally>(
+    alloc: Global,
+    predicates: &[Expr],
+    set: NodeSet,
+    context: &Context<'_>,
+    keys: &K,
+    site: Site,
+    tally: &mut T,
+) -> Result<Value, Halt>
+    requires context { IsContext (K.tables keys.now) context.now }
+    requires inside { All (λ k. k < length context.now.tree) set }
+    ensures told { IsStep (limited site
+        (kept_of context.now (runs_of (K.tables keys.now) predicates.now) set)
+        (T.state tally.old)) result (T.state tally.new) }
+    ensures kept { T.kept tally.new ≡ T.kept tally.old }
+    ensures inside { IfOk result (IsIn context.now.tree) }
+{
+    match predicates {
+        [] => {
+            // (that its nodes are in order is what this call's contract says)
+            let _nodes = set.nodes();
+            Ok(Value::Nodes(set))
+        }
+        [first, rest @ ..] => {
+            let nodes = filter(alloc, first, set.nodes(), context, keys, site, tally)?;
+            drop(set);
+            keep(alloc, rest, nodes, context, keys, site, tally)
+        }
+    }
 }
 
 // The node-set of what predicates keep of some nodes: the first one for each node, then the next.
@@ -344,9 +375,35 @@ fn keep<K: KeyFinder, T: Tally>(
     Ok(Value::Nodes(NodeSet::of_list(nodes)?))
 }
 
-// The nodes that a predicate keeps, their positions from 1 on (XPath 1.0, 2.4).
+// The nodes that a predicate keeps, their positions from 1 on (XPath 1.0, 2.4). A number keeps the
+// node at its position, and no other is looked at.
 #[cycle(evaluate)]
 fn filter<K: KeyFinder, T: Tally>(
+    alloc: Global,
+    predicate: &Expr,
+    nodes: &[Node],
+    context: &Context<'_>,
+    keys: &K,
+    site: Site,
+    tally: &mut T,
+) -> Result<NodeList, Halt>
+    requires context { IsContext (K.tables keys.now) context.now }
+    requires some { AreSome context.now.tree nodes.now }
+    ensures told { IsStep (limited site
+        (filtered context.now nodes.now (run_of (K.tables keys.now) predicate.now))
+        (T.state tally.old)) result (T.state tally.new) }
+    ensures kept { T.kept tally.new ≡ T.kept tally.old }
+    ensures some { IfOk result (AreSome context.now.tree) }
+{
+    match number_of(predicate) {
+        Some(number) => Ok(picked(alloc, nodes, number)?),
+        None => filter_each(alloc, predicate, nodes, context, keys, site, tally),
+    }
+}
+
+// The same, where the predicate is evaluated for each node.
+#[cycle(evaluate)]
+fn filter_each<K: KeyFinder, T: Tally>(
     alloc: Global,
     predicate: &Expr,
     nodes: &[Node],

@@ -2,6 +2,7 @@
 
 ghost use Rattle.std.specs.Prelude.{◌≡◌, ◌<◌, ◌++◌, ◌∷◌, [], IfOk, length, filter, map};
 ghost use Rattle.xs_tree.specs.Record.{string_value};
+ghost use Rattle.std.specs.Cow.{cow_str_bytes};
 ghost use Rattle.std.specs.List.{All};
 ghost use Rattle.xs_trace.specs.Play.{IsStep};
 ghost use Rattle.xs_trace.specs.Run.{limited};
@@ -26,6 +27,7 @@ use xs_value::conversion::{lend_text, node_text};
 use xs_value::keys::{KeyEnd, KeyFinder};
 use xs_value::node_list::NodeList;
 use xs_value::node_set::NodeSet;
+use xs_value::text_indexes::{TextIndex, index_texts};
 use xs_value::value::Value;
 use xs_xpath::scope::Scope;
 
@@ -143,9 +145,31 @@ fn found_for_text<K: KeyFinder>(
     Ok(NodeSet::of_list(nodes)?)
 }
 
-// The nodes that a key gives for the string-values of some nodes. Without a node the table may have
-// a fault all the same.
+// The nodes that a key gives for the string-values of some nodes: each distinct one is looked up
+// once.
 fn found_for_nodes<K: KeyFinder>(
+    alloc: Global,
+    context: &Context<'_>,
+    keys: &K,
+    key: u32,
+    sought: &[Node],
+) -> Result<NodeSet, KeyEnd>
+    requires context { IsContext (K.tables keys.now) context.now }
+    requires sought { All (λ k. k < length context.now.tree) sought.now }
+    ensures found { FindsNodes context.now (table_at (K.tables keys.now) key)
+        (map (string_value context.now.tree) sought.now) result }
+    ensures inside { IfOk result (λ ns. All (λ k. k < length context.now.tree) ns) }
+{
+    if sought.len() < 2 {
+        return found_in_turn(alloc, context, keys, key, sought);
+    }
+    let index = index_texts(alloc, context.tree, sought)?;
+    found_for_index(alloc, context, keys, key, &index)
+}
+
+// The same for nodes whose texts are looked up in turn. Without a node the table may have a fault
+// all the same.
+fn found_in_turn<K: KeyFinder>(
     alloc: Global,
     context: &Context<'_>,
     keys: &K,
@@ -163,6 +187,28 @@ fn found_for_nodes<K: KeyFinder>(
     let mut nodes = NodeList::new(alloc);
     for node in sought {
         let text = node_text(alloc, context.tree, *node)?;
+        nodes = add_found(alloc, context, &document, keys, key, text.as_str(), nodes)?;
+    }
+    Ok(NodeSet::of_list(nodes)?)
+}
+
+// The nodes that a key gives for the texts of an index.
+fn found_for_index<K: KeyFinder>(
+    alloc: Global,
+    context: &Context<'_>,
+    keys: &K,
+    key: u32,
+    index: &TextIndex<'_>,
+) -> Result<NodeSet, KeyEnd>
+    requires context { IsContext (K.tables keys.now) context.now }
+    ensures found { FindsNodes context.now (table_at (K.tables keys.now) key)
+        (map cow_str_bytes index.now.keys) result }
+    ensures inside { IfOk result (λ ns. All (λ k. k < length context.now.tree) ns) }
+{
+    let _found = keys.find(alloc, key, "")?;
+    let document = Document::of(context.tree, context.node);
+    let mut nodes = NodeList::new(alloc);
+    for text in index.iter() {
         nodes = add_found(alloc, context, &document, keys, key, text.as_str(), nodes)?;
     }
     Ok(NodeSet::of_list(nodes)?)

@@ -21,6 +21,7 @@ use xs_num::arithmetic::add;
 use xs_num::number::Num;
 use xs_num::reading::read_num;
 use xs_num::writing::write_num;
+use xs_trace::text::TextBuf;
 use xs_tree::{Node, Tree};
 use xs_value::conversion::node_text;
 use xs_value::value::Value;
@@ -93,7 +94,7 @@ fn written_name(alloc: Global, tree: &Tree, node: Node) -> Result<Value, AllocEr
     let mut text = String::from_str(alloc, prefix)?;
     text.push(':')?;
     text.push_str(tree.local(node))?;
-    chars(alloc, text.as_str())
+    Ok(Value::Chars(TextBuf::from_string(text)?))
 }
 
 /// `generate-id`.

@@ -20,7 +20,7 @@ use std::alloc::Global;
 use xs_num::number::Num;
 use xs_strings::{normalization, positions, searching, translation};
 use xs_tree::Tree;
-use xs_value::conversion::text_into;
+use xs_value::conversion::{node_text, own_text, text_into, to_text};
 use xs_value::value::Value;
 
 /// `string`.
@@ -34,8 +34,13 @@ pub(crate) fn string(
     ensures value { Answers (Ok (Chars
         (text_value context.now.tree (first_or_node context.now values.now)))) result }
 {
-    let text = text_or_node(alloc, context, values)?;
-    Ok(crate::arguments::chars(alloc, text.as_str())?)
+    match values.first() {
+        Some(v) => Ok(Value::Chars(to_text(alloc, context.tree, v)?)),
+        None => {
+            let text = node_text(alloc, context.tree, context.node)?;
+            Ok(Value::Chars(own_text(alloc, text)?))
+        }
+    }
 }
 
 /// `concat`.

@@ -1,9 +1,10 @@
 //! Attribute value templates (XSLT 1.0, 7.6.2).
 
-ghost use Rattle.std.specs.Prelude.{◌≡◌, ◌++◌, IfOk};
+ghost use Rattle.std.specs.Prelude.{◌≡◌, [], ◌∷◌, ◌++◌, IfOk, IfSome};
 ghost use Rattle.std.specs.String.{string_bytes};
 ghost use Rattle.xs_trace.specs.Play.{IsStepBy};
 ghost use Rattle.xs_trace.specs.Run.{limited};
+ghost use Rattle.xs_xpath.specs.declared.avt.AvtPart.TheVariants.{Fixed};
 ghost use Rattle.xs_eval.specs.Conditions.{IsContext};
 ghost use Rattle.xs_eval.specs.Templates.{and_part, template};
 
@@ -17,9 +18,40 @@ use xs_value::conversion::lend_text;
 use xs_value::keys::KeyFinder;
 use xs_xpath::avt::AvtPart;
 
-/// The text of a value template: the texts of its parts, one after another. It ends as the first
-/// part that has another end than a value.
+/// The text of a value template: the texts of its parts, one after another; fixed text alone is
+/// shared. It ends as the first part that has another end than a value.
 pub fn evaluate_avt<K: KeyFinder, T: Tally>(
+    alloc: Global,
+    parts: &[AvtPart],
+    context: &Context<'_>,
+    keys: &K,
+    site: Site,
+    tally: &mut T,
+) -> Result<TextBuf, Halt>
+    requires context { IsContext (K.tables keys.now) context.now }
+    ensures told { IsStepBy (λ text. text) (limited site
+        (template (K.tables keys.now) parts.now context.now)
+        (T.state tally.old)) result (T.state tally.new) }
+    ensures kept { T.kept tally.new ≡ T.kept tally.old }
+{
+    match fixed_alone(parts) {
+        Some(text) => Ok(text.copy()?),
+        None => evaluate_parts(alloc, parts, context, keys, site, tally),
+    }
+}
+
+// The text of a template that is fixed text alone.
+fn fixed_alone(parts: &[AvtPart]) -> Option<&TextBuf>
+    ensures { IfSome result (λ text. parts.now ≡ Fixed text.now ∷ []) }
+{
+    match parts {
+        [AvtPart::Fixed(text)] => Some(text),
+        _ => None,
+    }
+}
+
+// The texts of parts, one after another.
+fn evaluate_parts<K: KeyFinder, T: Tally>(
     alloc: Global,
     parts: &[AvtPart],
     context: &Context<'_>,

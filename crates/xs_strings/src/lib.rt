@@ -3,5 +3,6 @@
 
 pub mod normalization;
 pub mod positions;
+mod replacements;
 pub mod searching;
 pub mod translation;

@@ -37,7 +37,7 @@ any-or p q (x ∷ xs) = ap (λ b. (p x || q x) || b) (any-or p q xs) ∙ mix (p 
     mix false false c d = refl
 
 -- some string of the one list is in the other, in either order
-equal-swap : (xs ys : List (List ℕ)) → some_equal xs ys ≡ some_equal ys xs
+pub equal-swap : (xs ys : List (List ℕ)) → some_equal xs ys ≡ some_equal ys xs
 equal-swap [] ys = none ys
   where
     none : (zs : List (List ℕ)) → false ≡ list_any (λ z. list_any (bytes_eq z) []) zs
@@ -48,7 +48,7 @@ equal-swap (x ∷ xs) ys =
     ∙ ap (λ b. b || some_equal ys xs) (any-same (bytes_eq x) (λ y. bytes_eq y x) ys (λ y. bytes-sym x y))
     ∙ sym (any-or (λ y. bytes_eq y x) (λ y. list_any (bytes_eq y) xs) ys)
 
--- a test by an index of the strings on the left
+-- a test by an index of the strings of the first list
 pub by_index : (test : List ℕ → Bool) (xs ys : List (List ℕ)) → ((q : List ℕ) → test q ≡ list_any (bytes_eq q) xs) → list_any test ys ≡ some_equal xs ys
 by_index test xs ys h = any-same test (λ y. list_any (bytes_eq y) xs) ys h ∙ equal-swap ys xs
 

@@ -6,4 +6,5 @@ pub mod Keys
 pub mod NodeSet
 pub mod Results
 pub mod Tables
+pub mod TextIndexes
 pub mod steps

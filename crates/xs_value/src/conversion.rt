@@ -80,13 +80,25 @@ pub fn to_number(alloc: Global, tree: &Tree, v: &Value) -> Result<Num, ValueFaul
     }
 }
 
-/// A value as a string, in memory of its own (XPath 1.0, 4.2).
+/// A value as a string (XPath 1.0, 4.2), which shares the bytes of one.
 pub fn to_text(alloc: Global, tree: &Tree, v: &Value) -> Result<TextBuf, AllocError>
     requires { IsIn tree.now v.now }
     ensures text { IfOk result (λ text. text ≡ text_value tree.now v.now) }
 {
-    let text = lend_text(alloc, tree, v)?;
-    TextBuf::from_string(text.into_owned(alloc)?)
+    match v {
+        Value::Chars(text) => text.copy(),
+        _ => own_text(alloc, lend_text(alloc, tree, v)?),
+    }
+}
+
+/// A text that is lent or owned, in memory of its own.
+pub fn own_text(alloc: Global, text: CowStr<'_, Global>) -> Result<TextBuf, AllocError>
+    ensures text { IfOk result (λ own. own ≡ cow_str_bytes text.entry) }
+{
+    match text {
+        CowStr::Borrowed(text) => TextBuf::of(alloc, text),
+        CowStr::Owned(text) => TextBuf::from_string(text),
+    }
 }
 
 /// Appends a value as a string (XPath 1.0, 4.2). After a refusal `out` is as it was.

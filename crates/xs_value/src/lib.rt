@@ -7,4 +7,5 @@ pub mod keys;
 pub mod node_list;
 pub mod node_set;
 pub mod shared;
+pub mod text_indexes;
 pub mod value;

@@ -1,7 +1,6 @@
 -- The operands of a comparison, in the ways in which they are compared.
 use Rattle.std.specs.Prelude.{◌≡◌, ◌==◌, ◌||◌, not, ℕ, Bool, true, false, List, [], ◌∷◌, ◌<◌, map, length, Option, Some, None, Result, Ok, Err, if◌then◌else◌}
 use Rattle.std.specs.Cow.{cow_str_bytes}
-use Rattle.std.specs.declared.borrow.CowStr.{CowStr}
 use Rattle.std.specs.List.{All, list_any}
 use Rattle.std.specs.Str.{bytes_eq}
 use Rattle.xs_num.specs.Text.{number_in}
@@ -154,11 +153,3 @@ first_of (text ∷ rest) = text
 -- some string of the one or the other list is another than this one
 abbrev pub has_others : List ℕ → List (List ℕ) → List (List ℕ) → Bool
 has_others text xs ys = list_any (is_other text) ys || list_any (is_other text) xs
-
--- whether a string is one of an index
-abbrev pub is_indexed : {Z : Type 0} → List (CowStr Z) → List ℕ → Bool
-is_indexed keys text = list_any (λ k. bytes_eq text (cow_str_bytes k)) keys
-
--- an index has the strings of a list
-abbrev pub IsIndexOf : {Z : Type 0} → List (CowStr Z) → List (List ℕ) → Type 0
-IsIndexOf keys strings = (q : List ℕ) → is_indexed keys q ≡ list_any (bytes_eq q) strings

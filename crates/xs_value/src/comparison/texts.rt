@@ -7,21 +7,19 @@ ghost use Rattle.std.specs.Str.{bytes_eq};
 ghost use Rattle.xs_tree.specs.Record.{Record};
 ghost use Rattle.xs_value.specs.Comparison.{compared, is_boolean, is_numeral};
 ghost use Rattle.xs_value.specs.Conversion.{IsIn};
-ghost use Rattle.xs_value.specs.steps.Operands.{AreTextsIn, IsIndexOf, KeepsTexts, compared_as};
-ghost use Rattle.xs_value.specs.steps.Operands.{first_of, has_others, is_indexed, is_other};
+ghost use Rattle.xs_value.specs.steps.Operands.{AreTextsIn, KeepsTexts, compared_as};
+ghost use Rattle.xs_value.specs.TextIndexes.{is_indexed};
+ghost use Rattle.xs_value.specs.steps.Operands.{first_of, has_others, is_other};
 ghost use Rattle.xs_value.specs.steps.Operands.{kept_texts, node_texts, some_different, some_equal};
 ghost use Rattle.xs_value.specs.declared.comparison.ComparedAs.TheVariants.{Strings as AsStrings};
 
 use super::CompareOp;
 use crate::conversion::{events_text, node_text};
+use crate::text_indexes::{TextIndex, index_texts};
 use crate::value::Value;
 use std::alloc::{AllocError, Global};
 use std::borrow::CowStr;
-use std::collections::HashSet;
 use xs_tree::{Node, Tree};
-
-// String-values of nodes, each once.
-type Index<'a> = HashSet<CowStr<'a, Global>>;
 
 // The strings that stand for an operand.
 #[derive(Drop)]
@@ -118,38 +116,45 @@ fn nodes_have_text(
     Ok(false)
 }
 
-// Whether two lists of nodes have a string-value in common: by an index of those on the left.
+// Whether two lists of nodes have a string-value in common.
 fn share_text(alloc: Global, tree: &Tree, left: &[Node], right: &[Node]) -> Result<bool, AllocError>
     requires left { All (λ n. n < length tree.now) left.now }
     requires right { All (λ n. n < length tree.now) right.now }
     ensures { IfOk result (λ holds. holds ≡ some_equal (node_texts tree.now left.now)
         (node_texts tree.now right.now)) }
 {
-    if left.len() < 2 {
-        return share_text_in_turn(alloc, tree, left, right);
+    if right.len() < left.len() {
+        share_text_of_few(alloc, tree, right, left)
+    } else {
+        share_text_of_few(alloc, tree, left, right)
     }
-    let index = text_index(alloc, tree, left)?;
-    has_indexed(alloc, tree, &index, right)
 }
 
-// The string-values of nodes.
-fn text_index<'a>(alloc: Global, tree: &'a Tree, nodes: &[Node]) -> Result<Index<'a>, AllocError>
-    requires { All (λ n. n < length tree.now) nodes.now }
-    ensures { IfOk result (λ index. IsIndexOf index.keys (node_texts tree.now nodes.now)) }
+// Whether two lists of nodes, the shorter one first, have a string-value in common: by an index of
+// the first one.
+fn share_text_of_few(
+    alloc: Global,
+    tree: &Tree,
+    few: &[Node],
+    many: &[Node],
+) -> Result<bool, AllocError>
+    requires few { All (λ n. n < length tree.now) few.now }
+    requires many { All (λ n. n < length tree.now) many.now }
+    ensures { IfOk result (λ holds. holds ≡ some_equal (node_texts tree.now few.now)
+        (node_texts tree.now many.now)) }
 {
-    let mut index = HashSet::new(alloc);
-    for node in nodes {
-        let text = node_text(alloc, tree, *node)?;
-        index.insert(text)?;
+    if few.len() < 2 {
+        return share_text_in_turn(alloc, tree, few, many);
     }
-    Ok(index)
+    let index = index_texts(alloc, tree, few)?;
+    has_indexed(alloc, tree, &index, many)
 }
 
 // Whether the string-value of some node is in an index.
 fn has_indexed(
     alloc: Global,
     tree: &Tree,
-    index: &Index<'_>,
+    index: &TextIndex<'_>,
     nodes: &[Node],
 ) -> Result<bool, AllocError>
     requires { All (λ n. n < length tree.now) nodes.now }
@@ -165,22 +170,22 @@ fn has_indexed(
     Ok(false)
 }
 
-// Whether two lists of nodes have a string-value in common: each on the left with each on the
-// right, where the left has at most one.
+// Whether two lists of nodes have a string-value in common: each of the first list with each of the
+// second, where the first has at most one.
 fn share_text_in_turn(
     alloc: Global,
     tree: &Tree,
-    left: &[Node],
-    right: &[Node],
+    few: &[Node],
+    many: &[Node],
 ) -> Result<bool, AllocError>
-    requires left { All (λ n. n < length tree.now) left.now }
-    requires right { All (λ n. n < length tree.now) right.now }
-    ensures { IfOk result (λ holds. holds ≡ some_equal (node_texts tree.now left.now)
-        (node_texts tree.now right.now)) }
+    requires few { All (λ n. n < length tree.now) few.now }
+    requires many { All (λ n. n < length tree.now) many.now }
+    ensures { IfOk result (λ holds. holds ≡ some_equal (node_texts tree.now few.now)
+        (node_texts tree.now many.now)) }
 {
-    for node in left {
+    for node in few {
         let text = node_text(alloc, tree, *node)?;
-        if nodes_have_text(alloc, tree, right, text.as_str())? {
+        if nodes_have_text(alloc, tree, many, text.as_str())? {
             return Ok(true);
         }
     }

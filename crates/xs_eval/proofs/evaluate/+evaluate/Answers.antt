@@ -16,11 +16,13 @@ use Rattle.xs_eval.specs.Context.{Context, at_node}
 use Rattle.xs_eval.specs.Evaluation.{and_argument, answered, arguments, called_of, chain, joined, joined_from, run_of, runs_of}
 use Rattle.xs_eval.specs.Operators.{negation, operated}
 use Rattle.xs_eval.specs.steps.Nodes.{AreSome}
+use Rattle.xs_eval.specs.steps.Positions.{picked}
 use Rattle.xs_eval.specs.Paths.{and_from, filter_expr, filtered, judged, kept_if, kept_of, path, selected, selects, step, steps_from, through}
 use Rattle.xs_eval.specs.Results.{given, nodes_in}
-use Rattle.xs_eval.proofs.CaseLemmas.{run_call, run_chain}
+use Rattle.xs_eval.proofs.CaseLemmas.{run_call, run_chain, run_number}
 use Rattle.xs_eval.proofs.CaseLemmas.{run_step, run_filter, run_path}
 use Rattle.xs_eval.proofs.InsideLemmas.{in_order_all, kept_if_all, kept_if_few, moved, some_in_list}
+use Rattle.xs_eval.proofs.PositionLemmas.{filtered_by_number, picked_some}
 use Rattle.xs_eval.proofs.StepLemmas.{by_case, closes, continues, costs_on, exits, exits_at_costs, exits_at_tick, exits_in_items, exits_in_parts}
 use Rattle.xs_eval.proofs.StepLemmas.{gives, goes_on, items_done, items_on, joins_here, joins_no_more}
 use Rattle.xs_eval.proofs.StepLemmas.{Rest, but_first, first_and_rest, first_and_rest_at}
@@ -286,21 +288,57 @@ evaluate_filter-returns-in_err-set-clause-told g t c =
     (λ ns. kept_of c.args.context.now (runs_of keys c.args.predicates.now) ns) _
     (g.T.Tally.state c.args.tally.now) (g.T.Tally.state c.evaluate_nodes.new.tally) c.from_residual.result _ _ refl p.1 p.2 c.in_err-set.ensures.told
 
-pub evaluate_filter-keep-requires-clause-some : goal.evaluate_filter-keep-requires-clause-some
-evaluate_filter-keep-requires-clause-some g t c =
-    λ κs lives.
-    subst (AreSome c.args.context.now.tree) (sym (c.in_ok-nodes.ensures.nodes ∙ c.nodes.ensures.nodes))
-    (some_in_list c.args.context.now.tree c.in_ok-set.set c.nodes.ensures.list c.in_ok-set.ensures.inside)
-
 pub evaluate_filter-returns-clause-told : goal.evaluate_filter-returns-clause-told
 evaluate_filter-returns-clause-told g t c =
     let keys = g.K.KeyFinder.tables c.args.keys.now in
     let ms = runs_of keys c.args.predicates.now in
-    let s = g.T.Tally.state c.evaluate_nodes.new.tally in
     continues (λ v. v) _ _ _ _
     (goes_on c.args.site (selected (run_of keys c.args.inner.now) c.args.context.now) (λ ns. kept_of c.args.context.now ms ns) c.in_ok-set.set
-    (g.T.Tally.state c.args.tally.now) s c.in_ok-set.ensures.told
-    ∙ ap (λ ns. limited c.args.site (kept_of c.args.context.now ms ns) s) (sym (c.in_ok-nodes.ensures.nodes ∙ c.nodes.ensures.nodes)))
+    (g.T.Tally.state c.args.tally.now) (g.T.Tally.state c.evaluate_nodes.new.tally) c.in_ok-set.ensures.told)
+    c.keep_of_set.ensures.told
+
+-- what predicates keep of a set
+pub keep_of_set-returns-in-empty-clause-told : goal.keep_of_set-returns-in-empty-clause-told
+keep_of_set-returns-in-empty-clause-told g t c =
+    let keys = g.K.KeyFinder.tables c.args.keys.now in
+    let s = g.T.Tally.state c.args.tally.now in
+    ap (λ es. limited c.args.site (kept_of c.args.context.now (runs_of keys es) c.args.set) s) (no_items c.args.predicates.now (omega arith))
+    ∙ gives c.args.site (Nodes (in_order c.args.set)) s
+    ∙ ap (λ ns. Goes (Nodes ns) s) (in_order-same c.args.set c.nodes-nodes.ensures.list)
+
+pub keep_of_set-filter-requires-clause-some : goal.keep_of_set-filter-requires-clause-some
+keep_of_set-filter-requires-clause-some g t c =
+    λ κs lives.
+    subst (AreSome c.args.context.now.tree) (sym c.nodes.ensures.nodes)
+    (some_in_list c.args.context.now.tree c.args.set c.nodes.ensures.list c.requires.inside)
+
+pub keep_of_set-returns-in_err-nodes-in-len1-up-clause-told : goal.keep_of_set-returns-in_err-nodes-in-len1-up-clause-told
+keep_of_set-returns-in_err-nodes-in-len1-up-clause-told g t c =
+    let p = err_from_is_err_and c.from_residual.result c.from_residual.ensures.1 in
+    let keys = g.K.KeyFinder.tables c.args.keys.now in
+    let ctx = c.args.context.now in
+    let e = c.first-item.result in
+    let es = e ∷ but_first c.args.predicates.now in
+    let s = g.T.Tally.state c.args.tally.now in
+    exits_in_items (λ ns. ns) (λ v. v) c.args.site (filtered ctx) (λ kept. give (Nodes (in_order kept))) (runs_of keys es) 0 (run_of keys e)
+    c.nodes.result.now s (g.T.Tally.state c.filter.new.tally) _ c.from_residual.result _ _
+    (ap (λ xs. limited c.args.site (kept_of ctx (runs_of keys xs) c.args.set) s) (first_and_rest c.args.predicates.now e (omega arith) c.first-item.is)
+    ∙ ap (λ ns. limited c.args.site (kept_of ctx (runs_of keys es) ns) s) (sym c.nodes.ensures.nodes))
+    (omega arith) refl p.1 p.2 c.in_err-nodes-in-len1-up.ensures.told
+
+pub keep_of_set-returns-in_ok-nodes-in-len1-up-clause-told : goal.keep_of_set-returns-in_ok-nodes-in-len1-up-clause-told
+keep_of_set-returns-in_ok-nodes-in-len1-up-clause-told g t c =
+    let keys = g.K.KeyFinder.tables c.args.keys.now in
+    let ctx = c.args.context.now in
+    let e = c.first-item.result in
+    let es = e ∷ but_first c.args.predicates.now in
+    let s = g.T.Tally.state c.args.tally.now in
+    continues (λ v. v) _ _ _ _
+    (items_on c.args.site (filtered ctx) (λ kept. give (Nodes (in_order kept))) (runs_of keys es) 0 (run_of keys e)
+    c.nodes.result.now c.in_ok-nodes-in-len1-up.nodes s (g.T.Tally.state c.filter.new.tally) _
+    (ap (λ xs. limited c.args.site (kept_of ctx (runs_of keys xs) c.args.set) s) (first_and_rest c.args.predicates.now e (omega arith) c.first-item.is)
+    ∙ ap (λ ns. limited c.args.site (kept_of ctx (runs_of keys es) ns) s) (sym c.nodes.ensures.nodes))
+    (omega arith) refl c.in_ok-nodes-in-len1-up.ensures.told)
     c.keep.ensures.told
 
 -- what predicates keep
@@ -356,9 +394,26 @@ keep-returns-clause-inside g t c =
     subst (All (λ k. k < length c.args.context.now.tree)) (sym c.in_ok-of_list.ensures.nodes)
     (in_order_all (λ k. k < length c.args.context.now.tree) c.loop-predicate.nodes c.loop-predicate.invariant.some.inside)
 
+-- what a number keeps
+pub filter-returns-in_ok-picked-in-Some-clause-told : goal.filter-returns-in_ok-picked-in-Some-clause-told
+filter-returns-in_ok-picked-in-Some-clause-told g t c =
+    let keys = g.K.KeyFinder.tables c.args.keys.now in
+    let ns = c.args.nodes.now in
+    let n = c.in-Some.number in
+    let s = g.T.Tally.state c.args.tally.now in
+    ap (λ r. limited c.args.site r s)
+    (filtered_by_number (run_of keys c.args.predicate.now) n (λ a. ap (λ e. run_of keys e a) c.in-Some.ensures ∙ run_number keys n a) c.args.context.now ns)
+    ∙ gives c.args.site (picked n 1 ns) s
+    ∙ ap (λ l. Goes l s) (sym c.in_ok-picked-in-Some.ensures.nodes)
+
+pub filter-returns-in_ok-picked-in-Some-clause-some : goal.filter-returns-in_ok-picked-in-Some-clause-some
+filter-returns-in_ok-picked-in-Some-clause-some g t c =
+    let tree = c.args.context.now.tree in
+    subst (AreSome tree) (sym c.in_ok-picked-in-Some.ensures.nodes) (picked_some tree c.in-Some.number c.args.nodes.now c.requires.some)
+
 -- what one predicate keeps
-pub filter-returns-in_err-v-clause-told : goal.filter-returns-in_err-v-clause-told
-filter-returns-in_err-v-clause-told g t c =
+pub filter_each-returns-in_err-v-clause-told : goal.filter_each-returns-in_err-v-clause-told
+filter_each-returns-in_err-v-clause-told g t c =
     let p = err_from_is_err_and c.from_residual.result c.from_residual.ensures.1 in
     let keys = g.K.KeyFinder.tables c.args.keys.now in
     let ctx = c.args.context.now in
@@ -377,8 +432,8 @@ filter-returns-in_err-v-clause-told g t c =
     c.from_residual.result _ _ c.loop-node.invariant.told (placed_below ns k (omega arith)) (placed_at ns k x (omega arith) c.node-item.is) here
     p.1 p.2 c.in_err-v.ensures.told
 
-pub filter-loop-node-preserved : goal.filter-loop-node-preserved
-filter-loop-node-preserved g t c =
+pub filter_each-loop-node-preserved : goal.filter_each-loop-node-preserved
+filter_each-loop-node-preserved g t c =
     let keys = g.K.KeyFinder.tables c.args.keys.now in
     let ctx = c.args.context.now in
     let m = run_of keys c.args.predicate.now in
@@ -410,8 +465,8 @@ filter-loop-node-preserved g t c =
       kept = c.in_ok-v.ensures.kept ∙ c.loop-node.invariant.kept;
     }
 
-pub filter-returns-clause-told : goal.filter-returns-clause-told
-filter-returns-clause-told g t c =
+pub filter_each-returns-clause-told : goal.filter_each-returns-clause-told
+filter_each-returns-clause-told g t c =
     let m = run_of (g.K.KeyFinder.tables c.args.keys.now) c.args.predicate.now in
     let ns = c.args.nodes.now in
     let k = c.loop-node.node-index in

@@ -35,16 +35,22 @@ abbrev pub decreases-join_right : goal.decreases-join_right
 decreases-join_right g l = 8 * size-Expr l.right.now + 1
 
 abbrev pub decreases-evaluate_step : goal.decreases-evaluate_step
-decreases-evaluate_step g l = 8 * most size-Expr l.predicates.now + 3
+decreases-evaluate_step g l = 8 * most size-Expr l.predicates.now + 4
 
 abbrev pub decreases-evaluate_filter : goal.decreases-evaluate_filter
-decreases-evaluate_filter g l = 8 * max (size-Expr l.inner.now) (most size-Expr l.predicates.now) + 3
+decreases-evaluate_filter g l = 8 * max (size-Expr l.inner.now) (most size-Expr l.predicates.now) + 5
+
+abbrev pub decreases-keep_of_set : goal.decreases-keep_of_set
+decreases-keep_of_set g l = 8 * most size-Expr l.predicates.now + 4
 
 abbrev pub decreases-keep : goal.decreases-keep
-decreases-keep g l = 8 * most size-Expr l.predicates.now + 2
+decreases-keep g l = 8 * most size-Expr l.predicates.now + 3
 
 abbrev pub decreases-filter : goal.decreases-filter
-decreases-filter g l = 8 * size-Expr l.predicate.now + 1
+decreases-filter g l = 8 * size-Expr l.predicate.now + 2
+
+abbrev pub decreases-filter_each : goal.decreases-filter_each
+decreases-filter_each g l = 8 * size-Expr l.predicate.now + 1
 
 abbrev pub decreases-evaluate_path : goal.decreases-evaluate_path
 decreases-evaluate_path g l = 8 * max (size-Expr l.start.now) (most size-Expr l.steps.now) + 4
@@ -92,8 +98,8 @@ invariant-keep-loop-predicate g l = record {
   kept : g.T.Tally.kept l.tally ≡ g.T.Tally.kept l.fn.tally;
 }
 
-abbrev pub invariant-filter-loop-node : goal.invariant-filter-loop-node
-invariant-filter-loop-node g l = record {
+abbrev pub invariant-filter_each-loop-node : goal.invariant-filter_each-loop-node
+invariant-filter_each-loop-node g l = record {
   told :
       limited l.site (filtered l.context l.nodes (run_of (g.K.KeyFinder.tables l.keys) l.predicate)) (g.T.Tally.state l.fn.tally)
       ≡ Rest l.site (judged l.context (length l.nodes) (run_of (g.K.KeyFinder.tables l.keys) l.predicate)) (λ kept. give kept)

@@ -1,10 +1,23 @@
-use Rattle.std.proofs.Common.{◌<◌, length}
-use Rattle.std.proofs.lemmas.List.Elements.{All-same}
-use Rattle.xs_value.specs.NodeSet.{in_order}
-use Rattle.xs_eval.proofs.InsideLemmas.{in_order_all}
+use Rattle.std.proofs.Common.{◌∙◌, ap, map}
+use Rattle.std.specs.Cow.{cow_str_bytes}
+use Rattle.std.specs.List.{list_any}
+use Rattle.std.specs.Str.{bytes_eq}
+use Rattle.xs_tree.specs.Record.{string_value}
+use Rattle.xs_value.specs.Tables.{table_at}
+use Rattle.xs_value.specs.TextIndexes.{IsIndexOf}
+use Rattle.xs_eval.proofs.UnitedLemmas.{united-index}
+use Rattle.xs_eval.specs.Context.{Context}
+use Rattle.xs_eval.specs.Keys.{found_for}
+use Rattle.xs_eval.proofs.KeyLemmas.{finds-same}
 use Rattle.xs_eval.proofs.keys.found_for_nodes.Goals as goal
 
-pub returns-clause-inside : goal.returns-clause-inside
-returns-clause-inside g c =
-    All-same (λ k. k < length c.args.context.now.tree) c.in_ok-of_list.field-0 (in_order c.loop-node.nodes) c.in_ok-of_list.ensures.nodes
-    (in_order_all (λ k. k < length c.args.context.now.tree) c.loop-node.nodes c.loop-node.invariant.1)
+pub returns-clause-found : goal.returns-clause-found
+returns-clause-found g c =
+    let around = c.args.context.now in
+    let table = table_at (g.K.KeyFinder.tables c.args.keys.now) c.args.key in
+    let index = c.in_ok-index.index.keys in
+    let sought = map (string_value around.tree) c.args.sought.now in
+    let is : IsIndexOf index sought = λ q.
+    c.in_ok-index.ensures.texts q ∙ ap (λ (a : Context). list_any (bytes_eq q) (map (string_value a.tree) c.args.sought.now)) c.context.view_is in
+    finds-same around table (map cow_str_bytes index) sought c.found_for_index.result (united-index (found_for around table) index sought is)
+    c.found_for_index.ensures.found

@@ -1,21 +1,10 @@
-use Rattle.std.proofs.Common.{arith, ◌++◌, ap, ◌∙◌, sym}
-use Rattle.std.proofs.lemmas.Grind.{common_steps}
-use Rattle.std.proofs.lemmas.List.{map-id}
-use Rattle.std.proofs.lemmas.Str.{encodes-append}
-use Rattle.std.proofs.lemmas.List.Elements.{filter_map-append}
-use Rattle.std.proofs.lemmas.Iterator.{YieldsList-from_chars}
-use Rattle.std.proofs.lemmas.Iterator.Consumers.{YieldsList-end}
-use Rattle.std.specs.Str.{chars, encode_utf8_all}
-use Rattle.xs_strings.specs.Translation.{translated}
+use Rattle.std.specs.Str.{chars}
+use Rattle.xs_strings.specs.Replacements.{replaced_by}
+use Rattle.xs_strings.specs.Translation.{replacement}
+use Rattle.xs_strings.proofs.ReplacementLemmas.{appended-same}
 use Rattle.xs_strings.proofs.translation.append_translated.Goals as goal
-
-pub loop-character-preserved : goal.loop-character-preserved
-loop-character-preserved c = grind (arith, common_steps, encodes-append, filter_map-append)
 
 pub returns-clause-ok : goal.returns-clause-ok
 returns-clause-ok c =
-    let chain = YieldsList-from_chars c.args.s.now c.utf8.s cc in
-    let ended = YieldsList-end chain c.loop-character.yielded _ c.loop-character.yielded_by _ _ c.in-None.is c.next.ensures.steps in
-    c.loop-character.invariant
-    ∙ ap (λ cs. c.args.out.now.items ++ encode_utf8_all (translated cs (chars c.args.from.now) (chars c.args.to.now)))
-    (sym (map-id c.loop-character.yielded) ∙ ended.0)
+    appended-same c.append_by_table.result c.append_by_table.new.out.items c.args.out.now.items (replaced_by c.in_ok-table.table)
+    (replacement (chars c.args.from.now) (chars c.args.to.now)) (chars c.args.s.now) c.in_ok-table.ensures c.append_by_table.ensures.ok

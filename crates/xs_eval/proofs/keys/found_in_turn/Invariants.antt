@@ -3,7 +3,7 @@ use Rattle.std.specs.List.{flat_map}
 use Rattle.xs_tree.specs.Record.{string_value}
 use Rattle.xs_value.specs.Tables.{table_at}
 use Rattle.xs_eval.specs.Keys.{found_for}
-use Rattle.xs_eval.proofs.keys.found_for_nodes.Given as goal
+use Rattle.xs_eval.proofs.keys.found_in_turn.Given as goal
 
 abbrev pub invariant-loop-node : goal.invariant-loop-node
 invariant-loop-node g l =

@@ -4,9 +4,10 @@ use Rattle.std.specs.Cow.{cow_str_bytes}
 use Rattle.std.specs.List.{list_any}
 use Rattle.std.specs.Str.{bytes_eq}
 use Rattle.std.specs.declared.borrow.CowStr.TheVariants.{Borrowed}
-use Rattle.xs_value.specs.steps.Operands.{is_indexed, node_texts}
+use Rattle.xs_value.specs.TextIndexes.{is_indexed}
+use Rattle.xs_value.specs.steps.Operands.{node_texts}
 use Rattle.xs_value.proofs.IndexLemmas.{index-more, texts-more}
-use Rattle.xs_value.proofs.comparison.texts.text_index.Goals as goal
+use Rattle.xs_value.proofs.text_indexes.index_texts.Goals as goal
 
 -- a string is in the new index where it is in the old one or is the one that was inserted
 pub loop-node-preserved : goal.loop-node-preserved
@@ -18,5 +19,7 @@ loop-node-preserved c = λ q.
     ∙ ap (list_any (bytes_eq q)) (texts-more c.args.tree.now c.args.nodes.now c.loop-node.node-index c.node-item.result (omega arith) c.node-item.is)
 
 pub returns : goal.returns
-returns c = λ q. c.loop-node.invariant q
-    ∙ ap (λ (ns : List ℕ). list_any (bytes_eq q) (node_texts c.args.tree.now ns)) (take_all c.loop-node.node-index c.args.nodes.now (omega arith))
+returns c = record {
+  texts = λ q. c.loop-node.invariant q
+      ∙ ap (λ (ns : List ℕ). list_any (bytes_eq q) (node_texts c.args.tree.now ns)) (take_all c.loop-node.node-index c.args.nodes.now (omega arith));
+}

@@ -2,7 +2,7 @@ use Rattle.std.proofs.Common.{◌≡◌, drop}
 use Rattle.std.specs.String.{string_bytes}
 use Rattle.xs_trace.specs.Run.{fold, limited}
 use Rattle.xs_eval.specs.Templates.{and_part, template}
-use Rattle.xs_eval.proofs.templates.evaluate_avt.Given as goal
+use Rattle.xs_eval.proofs.templates.evaluate_parts.Given as goal
 
 abbrev pub invariant-loop-part : goal.invariant-loop-part
 invariant-loop-part g l =
