@@ -31,7 +31,7 @@ fn add_called(
         "axis" | "match" | "match-faulty" | "match-at" => {
             matched::answer(out, settings, call, rest)
         }
-        "table" | "count" => tables::answer(out, settings, call, rest),
+        "table" | "count" | "marks" => tables::answer(out, settings, call, rest),
         "convert" | "compared" | "join" | "gather" => values::answer(out, settings, call, rest),
         "number" | "negate" | "add" | "subtract" | "multiply" | "divide" | "remainder" | "order" =>
             numbers::answer(out, call, rest),

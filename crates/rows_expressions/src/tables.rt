@@ -1,4 +1,4 @@
-//! Tables of what stands before the last `//` of a pattern.
+//! Tables of what stands before the last `//` of a pattern, and of the nodes that match one.
 
 ghost use Rattle.xs_pattern.specs.steps.Above.{IsAbove};
 ghost use Rattle.xs_xpath.specs.Exprs.{tree_from};
@@ -7,7 +7,8 @@ use crate::error::RowError;
 use crate::fields::add_count;
 use crate::parsed::parsed_pattern;
 use crate::settings::Settings;
-use xs_pattern::above::above_of;
+use xs_pattern::above::{above_of, is_marked};
+use xs_pattern::marks::marks_of;
 use xs_pattern::matching::{matches_path, matches_path_by};
 use xs_tree::Node;
 use xs_value::keys::NoKeys;
@@ -69,6 +70,9 @@ pub(crate) fn answer(
     if call == "count" {
         return add_found(out, settings, &pattern);
     }
+    if call == "marks" {
+        return Ok(out.extend_from_slice(marks(settings, &pattern)?.as_bytes())?);
+    }
     Ok(out.extend_from_slice(table(settings, &pattern)?.as_bytes())?)
 }
 
@@ -85,6 +89,40 @@ fn table(settings: &Settings, pattern: &Pattern) -> Result<&'static str, RowErro
         }
     }
     Ok("as climbed")
+}
+
+// Whether each alternative of a pattern has a table of the nodes that match, and these are the
+// ones that match when each is looked at.
+fn marks(settings: &Settings, pattern: &Pattern) -> Result<&'static str, RowError> {
+    let scope = settings.scope()?;
+    for alternative in &pattern.alternatives {
+        let Some(marks) = marks_of(settings.alloc, alternative, &scope, &settings.tree)? else {
+            return Ok("no table");
+        };
+        if !are_matches(settings, alternative, &scope, &marks)? {
+            return Ok("not as matched");
+        }
+    }
+    Ok("as matched")
+}
+
+// Whether the nodes that are marked are those that match an alternative.
+fn are_matches(
+    settings: &Settings,
+    alternative: &Expr,
+    scope: &Scope,
+    marks: &[bool],
+) -> Result<bool, RowError> {
+    let tree = &settings.tree;
+    for place in 0..tree.len() as u32 {
+        let node = Node::at(place);
+        if matches_path(settings.alloc, alternative, scope, tree, node, &NoKeys)?
+            != is_marked(marks, node)
+        {
+            return Ok(false);
+        }
+    }
+    Ok(true)
 }
 
 // Appends how many nodes match the alternatives of a pattern, by their tables.

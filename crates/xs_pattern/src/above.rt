@@ -217,7 +217,7 @@ fn is_led(axis: Axis, test: &NodeTest, marks: &[bool], tree: &Tree, node: Node) 
 }
 
 /// Whether a node is marked, which none is behind the last mark.
-pub(crate) fn is_marked(marks: &[bool], node: Node) -> bool
+pub fn is_marked(marks: &[bool], node: Node) -> bool
     ensures { result ≡ get_or marks.now node false }
 {
     let place = node.place() as usize;
