@@ -67,6 +67,13 @@ mark-set xs ys i n e lt =
 pub mark-past : (xs : List Bool) (i n : ℕ) → length xs ≤ i → n < length xs → get_or xs n false ≡ (get_or xs n false || i == n)
 mark-past xs i n le lt = sym (ap (λ b. get_or xs n false || b) (ne_eqb i n (λ q. omega (arith, q, le, lt))) ∙ or-false (get_or xs n false))
 
+-- what a step selects from a node that is not marked, and from one that is
+pub mark-none : (a e x : Bool) → e ≡ false → a ≡ (a || (e && x))
+mark-none a e x h = sym (ap (λ b. a || (b && x)) h ∙ or-false a)
+
+pub mark-some : (a b e x y : Bool) → e ≡ true → x ≡ y → b ≡ (a || x) → b ≡ (a || (e && y))
+mark-some a b e x y h same q = q ∙ ap (λ t. a || t) same ∙ sym (ap (λ t. a || (t && y)) h)
+
 -- marks of nodes, one after another
 pub marks-on : (a b whole : Bool) (ns : List ℕ) (k n x : ℕ) → k < length ns → x ≡ get_or ns k x → b ≡ (a || x == n)
     → (a || is_among n (drop k ns)) ≡ whole → (b || is_among n (drop (k + 1) ns)) ≡ whole

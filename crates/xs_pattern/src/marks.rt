@@ -2,7 +2,7 @@
 //! counted once for their parent, and not again for each node that is matched.
 
 ghost use Rattle.std.specs.Prelude.{◌≡◌, ◌<◌, ℕ, ◌||◌, ◌==◌, false, get_or, IfOk, IfSome, OnOk};
-ghost use Rattle.std.specs.Prelude.{is_some, length};
+ghost use Rattle.std.specs.Prelude.{[], is_some, length};
 ghost use Rattle.std.specs.List.{list_any};
 ghost use Rattle.xs_tree.specs.Record.{places};
 ghost use Rattle.xs_tree.specs.Shape.{IsTree};
