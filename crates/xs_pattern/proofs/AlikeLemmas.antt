@@ -13,7 +13,7 @@ use Rattle.xs_value.specs.declared.value.Value.TheVariants.{Nodes}
 use Rattle.xs_xpath.specs.Patterns.{is_key, is_pattern_axis}
 use Rattle.xs_xpath.specs.Tree as syntax
 use Rattle.xs_xpath.specs.Tree.{Tree, Trees, no_trees, first_tree}
-use Rattle.xs_xpath.specs.Uses.{is_current, use_any, uses}
+use Rattle.xs_xpath.specs.Uses.{is_current, is_sought_call, use_any, uses, uses_current, uses_key}
 use Rattle.xs_xpath.specs.declared.name.Function.{Function}
 use Rattle.xs_xpath.specs.declared.name.Function.TheVariants as function
 use Rattle.xs_xpath.specs.declared.name.NodeTest.{NodeTest}
@@ -21,7 +21,6 @@ use Rattle.xs_xpath.specs.declared.name.NodeTest.TheVariants.{Node}
 use Rattle.xs_xpath.specs.declared.name.Slot.{Slot}
 use Rattle.xs_xpath.specs.declared.name.Slot.TheVariants.{Global, Local}
 use Rattle.xs_xpath.specs.declared.token.Operator.{Operator}
-use Rattle.xs_xpath.specs.declared.uses.Sought.TheVariants.{Current, Key}
 use Rattle.xs_eval.specs.Calls as calls
 use Rattle.xs_eval.specs.Calls.{called}
 use Rattle.xs_eval.specs.Context.{Context, at_node}
@@ -184,37 +183,46 @@ module _ (keys others : List Table) where
       bind-same (run_of_tree keys e (seen c x)) (run_of_tree others e (seen c y)) (λ v. joined_from (seen c x) v ops (runs_of_trees keys es))
       (λ v. joined_from (seen c y) v ops (runs_of_trees others es)) (s.0 c x y) (λ v. joined-alike es s.1 c x y v ops)
 
+  -- what is sought is any two things that find the calls
   mutual
-    pub alike : (e : Tree) → uses Key e ≡ false → uses Current e ≡ false → Alike (run_of_tree keys e) (run_of_tree others e)
-    alike (syntax.number i) k h c x y = refl
-    alike (syntax.literal text) k h c x y = refl
-    alike (syntax.variable uri local slot) k h c x y = variable-alike slot c x y
-    alike (syntax.call f es) k h c x y =
-        let no : (is_key f ≡ false) × (use_any Key es ≡ false) = or-none (is_key f) (use_any Key es) k in
-        let nor : (is_current f ≡ false) × (use_any Current es ≡ false) = or-none (is_current f) (use_any Current es) h in
-        call-alike f es no.0 nor.0 (all-alike es no.1 nor.1) c x y
-    alike (syntax.negative signs e) k h c x y = negative-alike signs (run_of_tree keys e) (run_of_tree others e) (alike e k h) c x y
-    alike (syntax.chain ops es) k h c x y = chain-alike ops es (all-alike es k h) c x y
-    alike (syntax.group e) k h c x y = alike e k h c x y
-    alike syntax.here k h c x y = refl
-    alike syntax.root k h c x y = refl
-    alike (syntax.step axis which es) k h c x y = step-alike axis which es (all-alike es k h) c x y
-    alike syntax.descend k h c x y = step-alike DescendantOrSelf Node no_trees tt c x y
-    alike (syntax.filter e es) k h c x y =
-        let no : (uses Key e ≡ false) × (use_any Key es ≡ false) = or-none (uses Key e) (use_any Key es) k in
-        let nor : (uses Current e ≡ false) × (use_any Current es ≡ false) = or-none (uses Current e) (use_any Current es) h in
-        filter-alike (run_of_tree keys e) (run_of_tree others e) es (alike e no.0 nor.0) (all-alike es no.1 nor.1) c x y
-    alike (syntax.path e es) k h c x y =
-        let no : (uses Key e ≡ false) × (use_any Key es ≡ false) = or-none (uses Key e) (use_any Key es) k in
-        let nor : (uses Current e ≡ false) × (use_any Current es ≡ false) = or-none (uses Current e) (use_any Current es) h in
-        path-alike (run_of_tree keys e) (run_of_tree others e) es (alike e no.0 nor.0) (all-alike es no.1 nor.1) c x y
+    without : (s t : _) → ((f : Function) → is_sought_call s f ≡ false → is_key f ≡ false) → ((f : Function) → is_sought_call t f ≡ false → is_current f ≡ false)
+        → (e : Tree) → uses s e ≡ false → uses t e ≡ false → Alike (run_of_tree keys e) (run_of_tree others e)
+    without s t key current (syntax.number i) k h c x y = refl
+    without s t key current (syntax.literal text) k h c x y = refl
+    without s t key current (syntax.variable uri local slot) k h c x y = variable-alike slot c x y
+    without s t key current (syntax.call f es) k h c x y =
+        let no = or-none (is_sought_call s f) (use_any s es) k in
+        let nor = or-none (is_sought_call t f) (use_any t es) h in
+        call-alike f es (key f no.0) (current f nor.0) (all-without s t key current es no.1 nor.1) c x y
+    without s t key current (syntax.negative signs e) k h c x y =
+        negative-alike signs (run_of_tree keys e) (run_of_tree others e) (without s t key current e k h) c x y
+    without s t key current (syntax.chain ops es) k h c x y = chain-alike ops es (all-without s t key current es k h) c x y
+    without s t key current (syntax.group e) k h c x y = without s t key current e k h c x y
+    without s t key current syntax.here k h c x y = refl
+    without s t key current syntax.root k h c x y = refl
+    without s t key current (syntax.step axis which es) k h c x y = step-alike axis which es (all-without s t key current es k h) c x y
+    without s t key current syntax.descend k h c x y = step-alike DescendantOrSelf Node no_trees tt c x y
+    without s t key current (syntax.filter e es) k h c x y =
+        let no = or-none (uses s e) (use_any s es) k in
+        let nor = or-none (uses t e) (use_any t es) h in
+        filter-alike (run_of_tree keys e) (run_of_tree others e) es (without s t key current e no.0 nor.0) (all-without s t key current es no.1 nor.1) c x y
+    without s t key current (syntax.path e es) k h c x y =
+        let no = or-none (uses s e) (use_any s es) k in
+        let nor = or-none (uses t e) (use_any t es) h in
+        path-alike (run_of_tree keys e) (run_of_tree others e) es (without s t key current e no.0 nor.0) (all-without s t key current es no.1 nor.1) c x y
 
-    pub all-alike : (es : Trees) → use_any Key es ≡ false → use_any Current es ≡ false → AllAlike es
-    all-alike no_trees k h = tt
-    all-alike (first_tree e es) k h =
-        let no : (uses Key e ≡ false) × (use_any Key es ≡ false) = or-none (uses Key e) (use_any Key es) k in
-        let nor : (uses Current e ≡ false) × (use_any Current es ≡ false) = or-none (uses Current e) (use_any Current es) h in
-        (alike e no.0 nor.0, all-alike es no.1 nor.1)
+    all-without : (s t : _) → ((f : Function) → is_sought_call s f ≡ false → is_key f ≡ false)
+        → ((f : Function) → is_sought_call t f ≡ false → is_current f ≡ false) → (es : Trees) → use_any s es ≡ false → use_any t es ≡ false → AllAlike es
+    all-without s t key current no_trees k h = tt
+    all-without s t key current (first_tree e es) k h =
+        let no = or-none (uses s e) (use_any s es) k in
+        let nor = or-none (uses t e) (use_any t es) h in
+        (without s t key current e no.0 nor.0, all-without s t key current es no.1 nor.1)
+
+  -- the predicates of a step
+  pub step-without : (axis : Axis) (which : NodeTest) (es : Trees) → uses_key (syntax.step axis which es) ≡ false
+      → uses_current (syntax.step axis which es) ≡ false → AllAlike es
+  step-without axis which es k h = all-without _ _ (λ f no. no) (λ f no. no) es k h
 
 -- ---- the predicates of a pattern
 
@@ -244,8 +252,9 @@ not-true false h = refl
 pub step-free : (keys others : List Table) (s : Tree) → is_free s ≡ true → (c : Context) (x y : ℕ)
     → pattern.selected keys s (seen c x) ≡ pattern.selected others s (seen c y)
 step-free keys others (syntax.step axis which es) h c x y =
-    let both : (not (use_any Key es) ≡ true) × (not (use_any Current es) ≡ true) = and_parts (not (use_any Key es)) (not (use_any Current es)) h in
+    let e : Tree = syntax.step axis which es in
+    let both : (not (uses_key e) ≡ true) × (not (uses_current e) ≡ true) = and_parts (not (uses_key e)) (not (uses_current e)) h in
     ap (λ (l : List ℕ). cond (is_pattern_axis axis) l [])
-    (all-kept-alike keys others es (all-alike keys others es (not-true (use_any Key es) both.0) (not-true (use_any Current es) both.1)) c x y
-    (tested axis which (seen c y)))
+    (all-kept-alike keys others es
+    (step-without keys others axis which es (not-true (uses_key e) both.0) (not-true (uses_current e) both.1)) c x y (tested axis which (seen c y)))
 step-free keys others _ h c x y = refl
