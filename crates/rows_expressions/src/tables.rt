@@ -1,4 +1,4 @@
-//! Tables of what stands before the last `//` of a pattern.
+//! Tables of what stands before the last `//` of a pattern, and of the nodes that match one.
 
 ghost use Rattle.xs_pattern.specs.steps.Above.{IsAbove};
 ghost use Rattle.xs_xpath.specs.Exprs.{tree_from};
@@ -9,7 +9,8 @@ use crate::error::RowError;
 use crate::parsed::parsed_pattern;
 use crate::settings::Settings;
 use std::alloc::Global;
-use xs_pattern::above::above_of;
+use xs_pattern::above::{above_of, is_marked};
+use xs_pattern::marks::marks_of;
 use xs_pattern::matching::{matches_path, matches_path_by};
 use xs_tree::{Node, Tree};
 use xs_value::keys::NoKeys;
@@ -69,6 +70,7 @@ pub(crate) fn answer(
     let scope = settings.scope()?;
     match call {
         Call::Count => out.put_count(found(settings.alloc, &settings.tree, &pattern, &scope)?),
+        Call::Marks => out.put(marks(settings.alloc, &settings.tree, &pattern, &scope)?),
         _ => out.put(table(settings.alloc, &settings.tree, &pattern, &scope)?),
     }
     Ok(())
@@ -91,6 +93,43 @@ fn table(
         }
     }
     Ok("as climbed")
+}
+
+// Whether each alternative of a pattern has a table of the nodes that match, and these are the
+// ones that match when each is looked at.
+fn marks(
+    alloc: Global,
+    tree: &Tree,
+    pattern: &Pattern,
+    scope: &Scope,
+) -> Result<&'static str, RowError> {
+    for alternative in &pattern.alternatives {
+        let Some(marks) = marks_of(alloc, alternative, scope, tree)? else {
+            return Ok("no table");
+        };
+        if !are_matches(alloc, tree, alternative, scope, &marks)? {
+            return Ok("not as matched");
+        }
+    }
+    Ok("as matched")
+}
+
+// Whether the nodes that are marked are those that match an alternative.
+fn are_matches(
+    alloc: Global,
+    tree: &Tree,
+    alternative: &Expr,
+    scope: &Scope,
+    marks: &[bool],
+) -> Result<bool, RowError> {
+    for place in 0..tree.len() as u32 {
+        let node = Node::at(place);
+        let matched = matches_path(alloc, alternative, scope, tree, node, &NoKeys)?;
+        if matched != is_marked(marks, node) {
+            return Ok(false);
+        }
+    }
+    Ok(true)
 }
 
 // How many nodes match the alternatives of a pattern, by their tables.

@@ -57,7 +57,7 @@ below-parent marks found rs n p t h e differs f =
     mark-at (is_below marks rs) found n p f (IsPlaced-at rs n p t h e).before ∙ sym (any-up (λ k. get_or marks k false) rs n p t h e differs)
 
 -- where a table says that a path ends
-below-above : (keys : List Table) (c : Context) (start : Tree) (steps : List Tree) (marks : List Bool) (n : ℕ)
+pub below-above : (keys : List Table) (c : Context) (start : Tree) (steps : List Tree) (marks : List Bool) (n : ℕ)
     → ((k : ℕ) → k < length c.tree → get_or marks k false ≡ ends_path keys c start steps k) → is_below marks c.tree n ≡ ends_above keys c start steps n
 unfolding ends_above
 below-above keys c start steps marks n h = any-same (λ k. get_or marks k false) (ends_path keys c start steps) c.tree n h
@@ -94,7 +94,7 @@ plain-among axis which c p n h e = by_tests (stands_on axis (at c.tree n).kind) 
     by_tests true false s t = sym (passes-not axis which [] c p n h e t)
     by_tests false t s q = sym (stands-not axis which [] c p n h e s)
 
-swap : (a b : Bool) → (a && b) ≡ (b && a)
+pub swap : (a b : Bool) → (a && b) ≡ (b && a)
 swap true true = refl
 swap true false = refl
 swap false true = refl

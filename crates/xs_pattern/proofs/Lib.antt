@@ -7,3 +7,5 @@ pub mod ClimbLemmas
 pub mod AlternativeLemmas
 pub mod StartLemmas
 pub mod AboveLemmas
+pub mod AlikeLemmas
+pub mod MarksLemmas

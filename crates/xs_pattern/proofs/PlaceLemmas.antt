@@ -43,13 +43,13 @@ abbrev pub AllSteady : List Meaning → Type 0
 AllSteady [] = Unit {0}
 AllSteady (m ∷ ms) = Steady m × AllSteady ms
 
-or-none : (a b : Bool) → (a || b) ≡ false → (a ≡ false) × (b ≡ false)
+pub or-none : (a b : Bool) → (a || b) ≡ false → (a ≡ false) × (b ≡ false)
 or-none true b h = absurd (true≢false h)
 or-none false b h = (refl, h)
 
 -- ---- runs
 
-bind-same : {A B : Type 0} (r s : Run A) (f g : A → Run B) → r ≡ s → ((x : A) → f x ≡ g x) → (r >>= f) ≡ (s >>= g)
+pub bind-same : {A B : Type 0} (r s : Run A) (f g : A → Run B) → r ≡ s → ((x : A) → f x ≡ g x) → (r >>= f) ≡ (s >>= g)
 bind-same {A} {B} r s f g e h = ap (λ q. q >>= f) e ∙ by_end s.cost s.end
   where
     by_end : (n : ℕ) (a : Answer A) → go_on n a f ≡ go_on n a g
@@ -57,7 +57,7 @@ bind-same {A} {B} r s f g e h = ap (λ q. q >>= f) e ∙ by_end s.cost s.end
     by_end n (Faults t) = refl
     by_end n (Lacks t) = refl
 
-fold-same : {A B : Type 0} (f g : B → A → Run B) (b : B) (xs : List A) → ((y : B) (a : A) → f y a ≡ g y a) → fold f b xs ≡ fold g b xs
+pub fold-same : {A B : Type 0} (f g : B → A → Run B) (b : B) (xs : List A) → ((y : B) (a : A) → f y a ≡ g y a) → fold f b xs ≡ fold g b xs
 fold-same f g b [] h = refl
 fold-same f g b (a ∷ xs) h = bind-same (f b a) (g b a) (λ y. fold f y xs) (λ y. fold g y xs) (h b a) (λ y. fold-same f g y xs h)
 

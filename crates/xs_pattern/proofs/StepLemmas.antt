@@ -20,7 +20,7 @@ use Rattle.xs_pattern.proofs.AncestorLemmas.{any-filter, any-from, any-to, same}
 use Rattle.xs_pattern.proofs.KeptLemmas.{not-kept}
 
 -- a node that passes two tests, among all places
-among-places : (t u : ℕ → Bool) (rs : List Record) (n : ℕ) → n < length rs → is_among n (filter t (filter u (places rs))) ≡ (u n && t n)
+pub among-places : (t u : ℕ → Bool) (rs : List Record) (n : ℕ) → n < length rs → is_among n (filter t (filter u (places rs))) ≡ (u n && t n)
 among-places t u rs n h =
     any-filter (λ k. k == n) t (filter u (places rs))
     ∙ any-filter (λ k. t k && (k == n)) u (places rs)

@@ -2,3 +2,4 @@
 pub mod Climb
 pub mod Above
 pub mod Alone
+pub mod Marks

@@ -79,8 +79,12 @@ fn ends_of(
     Ok(Some(ends))
 }
 
-// For each node, whether a path may begin there.
-fn beginnings(alloc: Global, start: &Expr, tree: &Tree) -> Result<Option<Vec<bool>>, AllocError>
+/// For each node, whether a path may begin there.
+pub(crate) fn beginnings(
+    alloc: Global,
+    start: &Expr,
+    tree: &Tree,
+) -> Result<Option<Vec<bool>>, AllocError>
     ensures ends { IfOk result (AreEnds tree.now (tree_from start.now) []) }
 {
     match start {
@@ -145,8 +149,8 @@ fn next_ends(
     }
 }
 
-// For each node, whether it or one of its ancestors is marked.
-fn below(alloc: Global, marks: &[bool], tree: &Tree) -> Result<Vec<bool>, AllocError>
+/// For each node, whether it or one of its ancestors is marked.
+pub(crate) fn below(alloc: Global, marks: &[bool], tree: &Tree) -> Result<Vec<bool>, AllocError>
     ensures below { IfOk result (λ t. t.items
         ≡ map (is_below marks.now tree.now) (places tree.now)) }
     ensures tree { IsTree tree.now }
@@ -213,7 +217,7 @@ fn is_led(axis: Axis, test: &NodeTest, marks: &[bool], tree: &Tree, node: Node) 
 }
 
 /// Whether a node is marked, which none is behind the last mark.
-pub(crate) fn is_marked(marks: &[bool], node: Node) -> bool
+pub fn is_marked(marks: &[bool], node: Node) -> bool
     ensures { result ≡ get_or marks.now node false }
 {
     let place = node.place() as usize;

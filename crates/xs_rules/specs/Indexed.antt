@@ -10,7 +10,7 @@ use Rattle.xs_rules.specs.steps.Lists.{found_in}
 abbrev pub IsIndex : RuleIndex → Type 0
 IsIndex i = IsIndexed i.templates.now (candidates i.templates.now) i.lists.entries.items (found_in i.lists.last)
 
--- The tables that are there tell, each for the rule that it stands beside, at or below which nodes what stands before the last `//` of
--- the pattern ends (XSLT 1.0, 5.2).
+-- The tables that are there say, each for the rule that it stands beside, which nodes match, or at or below which nodes what stands before
+-- the last `//` of the pattern ends (XSLT 1.0, 5.2).
 abbrev pub IsPrepared : RuleIndex → List Record → Type 0
-IsPrepared i rs = AreTables i.templates.now i.lists.entries.items rs i.above.items
+IsPrepared i rs = AreTables i.templates.now i.lists.entries.items rs i.tables.items

@@ -4,19 +4,18 @@
 ghost use Rattle.std.specs.Prelude.{◌≡◌, ◌<◌, ◌∷◌, [], true, IfOk, IfSome, length, map};
 ghost use Rattle.std.specs.Prelude.{option_copied};
 ghost use Rattle.std.specs.Option.{option_and_then, option_map_or};
-ghost use Rattle.xs_pattern.specs.steps.Above.{IsAbove};
 ghost use Rattle.xs_value.specs.Tables.{TablesIn};
 ghost use Rattle.xs_xpath.specs.Exprs.{tree_from, trees_from};
 ghost use Rattle.xs_rules.specs.Ranks.{outranks};
 ghost use Rattle.xs_rules.specs.Rules.{candidate, candidates_of, rank_of};
 ghost use Rattle.xs_rules.specs.steps.Candidates.{best_before, is_matching, looks_at, passes};
 ghost use Rattle.xs_rules.specs.steps.Candidates.{rule_of_best};
-ghost use Rattle.xs_rules.specs.steps.Index.{IsTableOf, nth_of};
+ghost use Rattle.xs_rules.specs.steps.Index.{IsTable, IsTableOf, nth_of, scope_of};
 
 use crate::choice::Rule;
 use crate::ranks::{Rank, default_priority};
+use crate::tables::{RuleTable, matches_by};
 use std::alloc::{AllocError, Global};
-use xs_pattern::matching::matches_path_by;
 use xs_sheet::declarations::Template;
 use xs_sheet::scoped::ScopedPattern;
 use xs_tree::{Node, Tree};
@@ -135,12 +134,13 @@ fn best_of_alternative<K: KeyFinder>(
     tree: &Tree,
     node: Node,
     keys: &K,
-    above: Option<&[bool]>,
+    table: Option<&RuleTable>,
     best: Option<Best>,
 ) -> Result<Option<Best>, AllocError>
     requires node { node < length tree.now }
     requires tables { TablesIn tree.now (K.tables keys.now) }
-    requires above { IfSome above (λ t. IsAbove tree.now (tree_from alternative.now) t.now) }
+    requires table { IfSome table (λ t. IsTable tree.now
+        (scope_of pattern.now) (tree_from alternative.now) t.now) }
     ensures best { IfOk result (λ found. found
         ≡ best_before (is_matching (K.tables keys.now) tree.now node)
         (candidate number template.now pattern.now (tree_from alternative.now) ∷ []) best) }
@@ -149,7 +149,7 @@ fn best_of_alternative<K: KeyFinder>(
     if !is_above(rank, best) {
         return Ok(best);
     }
-    if matches_path_by(alloc, alternative, &pattern.scope, tree, node, keys, above)? {
+    if matches_by(alloc, alternative, &pattern.scope, tree, node, keys, table)? {
         return Ok(Some(Best {
             template: number,
             rank,
@@ -204,14 +204,14 @@ pub(crate) fn best_of_nth<K: KeyFinder>(
     node: Node,
     mode: u32,
     keys: &K,
-    above: Option<&[bool]>,
+    table: Option<&RuleTable>,
     best: Option<Best>,
 ) -> Result<Option<Best>, AllocError>
     requires node { node < length tree.now }
     requires tables { TablesIn tree.now (K.tables keys.now) }
-    requires above { IsTableOf tree.now
+    requires table { IsTableOf tree.now
         (option_and_then (nth_of number template.now place) template.now.pattern)
-        (option_copied above) }
+        (option_copied table) }
     ensures best { IfOk result (λ found. found ≡ option_map_or (λ c. best_before
         (passes looked (K.tables keys.now) tree.now mode node) (c ∷ []) best)
         (option_and_then (nth_of number template.now place) template.now.pattern) best) }
@@ -231,7 +231,7 @@ pub(crate) fn best_of_nth<K: KeyFinder>(
                 node,
                 mode,
                 keys,
-                above,
+                table,
                 best,
             ),
         },
@@ -251,12 +251,13 @@ fn best_of_rule<K: KeyFinder>(
     node: Node,
     mode: u32,
     keys: &K,
-    above: Option<&[bool]>,
+    table: Option<&RuleTable>,
     best: Option<Best>,
 ) -> Result<Option<Best>, AllocError>
     requires node { node < length tree.now }
     requires tables { TablesIn tree.now (K.tables keys.now) }
-    requires above { IfSome above (λ t. IsAbove tree.now (tree_from alternative.now) t.now) }
+    requires table { IfSome table (λ t. IsTable tree.now
+        (scope_of pattern.now) (tree_from alternative.now) t.now) }
     ensures best { IfOk result (λ found. found
         ≡ best_before (passes looked (K.tables keys.now) tree.now mode node)
         (candidate number template.now pattern.now (tree_from alternative.now) ∷ []) best) }
@@ -276,7 +277,7 @@ fn best_of_rule<K: KeyFinder>(
         tree,
         node,
         keys,
-        above,
+        table,
         best,
     )
 }

@@ -10,7 +10,7 @@ ghost use Rattle.xs_rules.specs.Rules.{chosen, chosen_import};
 use crate::candidates::Looked;
 use crate::choice::{Rule, imported_into};
 use crate::lists::Lists;
-use crate::tables::tables_for;
+use crate::tables::{RuleTable, tables_for};
 use std::alloc::{AllocError, Global};
 use xs_sheet::declarations::Template;
 use xs_sheet::sheet::Sheet;
@@ -25,7 +25,7 @@ pub struct RuleIndex<'a> {
     lists: Lists<'a>,
     /// By the places of the rules in their list: their tables over the nodes of a tree, where they
     /// have one.
-    above: Vec<Option<Vec<bool>>>,
+    tables: Vec<Option<RuleTable>>,
 }
 
 impl<'a> RuleIndex<'a> {
@@ -44,20 +44,21 @@ impl<'a> RuleIndex<'a> {
         Ok(RuleIndex {
             templates,
             lists,
-            above: Vec::new(alloc),
+            tables: Vec::new(alloc),
         })
     }
 
-    /// Tables for the patterns with `//` between steps, where the tree is deep; without them each
-    /// match climbs (XSLT 1.0, 5.2). Those of another tree are given up, and after a refusal all is
-    /// as it was.
+    /// Tables for the patterns with `//` between steps, where the tree is deep, and for those that
+    /// count positions, where it is wide; without them each match climbs, or lists the node's
+    /// siblings (XSLT 1.0, 5.2). Those of another tree are given up, and after a refusal all is as
+    /// it was.
     pub fn prepare(&mut self, alloc: Global, tree: &Tree) -> Result<(), AllocError>
         ensures prepared { OnOk result (IsPrepared self.new tree.now) }
         ensures refused { OnErr result (self.new ≡ self.old) }
         ensures templates { self.new.templates.now ≡ self.old.templates.now }
         ensures index { IsIndex self.old → IsIndex self.new }
     {
-        self.above = tables_for(alloc, self.templates, &self.lists.entries, tree)?;
+        self.tables = tables_for(alloc, self.templates, &self.lists.entries, tree)?;
         Ok(())
     }
 }
@@ -88,7 +89,7 @@ pub fn choose_with<K: KeyFinder>(
         node,
         mode,
         keys,
-        &index.above,
+        &index.tables,
     )
 }
 
@@ -119,6 +120,6 @@ pub fn choose_import_with<K: KeyFinder>(
         node,
         mode,
         keys,
-        &index.above,
+        &index.tables,
     )
 }

@@ -8,6 +8,7 @@ pub mod index;
 mod lists;
 mod ranks;
 mod rule_keys;
+mod shapes;
 mod strip_index;
 mod tables;
 pub mod white_space;

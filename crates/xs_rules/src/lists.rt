@@ -15,7 +15,7 @@ ghost use Rattle.xs_rules.specs.steps.Lists.{found_in};
 use crate::candidates::{Best, Looked, best_of_nth, rule_of_best};
 use crate::choice::Rule;
 use crate::rule_keys::{RuleKey, any_key, key_of, node_key};
-use crate::tables::table_at;
+use crate::tables::{RuleTable, table_at};
 use indexmap::IndexMap;
 use std::alloc::{AllocError, Global};
 use xs_sheet::declarations::Template;
@@ -125,13 +125,14 @@ impl<'a> Lists<'a> {
         node: Node,
         mode: u32,
         keys: &K,
-        above: &[Option<Vec<bool>>],
+        rule_tables: &[Option<RuleTable>],
     ) -> Result<Rule, AllocError>
         requires indexed { IsIndexed templates.now (candidates templates.now)
             self.now.entries.items (found_in self.now.last) }
         requires node { node < length tree.now }
         requires tables { TablesIn tree.now (K.tables keys.now) }
-        requires above { AreTables templates.now self.now.entries.items tree.now above.now }
+        requires rule_tables { AreTables templates.now self.now.entries.items tree.now
+            rule_tables.now }
         ensures chosen { IfOk result (λ rule. rule ≡ rule_of_best (best_before
             (passes looked (K.tables keys.now) tree.now mode node)
             (candidates templates.now) None)) }
@@ -141,7 +142,7 @@ impl<'a> Lists<'a> {
         let mut best = None;
         while let Some(place) = later(named, unnamed) {
             let entry = self.entries[place];
-            let table = table_at(above, place);
+            let table = table_at(rule_tables, place);
             best = best_at(
                 alloc, templates, entry, looked, tree, node, mode, keys, table, best,
             )?;
@@ -162,12 +163,12 @@ fn best_at<K: KeyFinder>(
     node: Node,
     mode: u32,
     keys: &K,
-    above: Option<&[bool]>,
+    table: Option<&RuleTable>,
     best: Option<Best>,
 ) -> Result<Option<Best>, AllocError>
     requires node { node < length tree.now }
     requires tables { TablesIn tree.now (K.tables keys.now) }
-    requires above { IsTableOf tree.now (at_entry templates.now entry) (option_copied above) }
+    requires table { IsTableOf tree.now (at_entry templates.now entry) (option_copied table) }
     ensures best { IfOk result (λ found. found ≡ option_map_or (λ c. best_before
         (passes looked (K.tables keys.now) tree.now mode node) (c ∷ []) best)
         (at_entry templates.now entry) best) }
@@ -184,7 +185,7 @@ fn best_at<K: KeyFinder>(
             node,
             mode,
             keys,
-            above,
+            table,
             best,
         ),
     }

@@ -1,26 +1,39 @@
-//! Tables for the rules whose patterns have `//` between steps (XSLT 1.0, 5.2). Without one, each
-//! match of such a rule climbs from the node, which in a deep tree takes long. For which rules
-//! there are tables is a matter of time alone, and no clause speaks of it.
+//! Tables for the rules whose patterns have `//` between steps, or a predicate that counts
+//! positions (XSLT 1.0, 5.2). Without one, each match of such a rule climbs from the node, or lists
+//! the node's siblings, which in a deep or a wide tree takes long. For which rules there are tables
+//! is a matter of time alone, and no clause speaks of it.
 
-ghost use Rattle.std.specs.Prelude.{◌≡◌, ◌<◌, ℕ, IfOk, length, option_copied, option_map};
+ghost use Rattle.std.specs.Prelude.{◌≡◌, ◌<◌, ℕ, IfOk, IfSome, length, List, option_copied};
 ghost use Rattle.std.specs.Option.{option_and_then};
+ghost use Rattle.xs_pattern.specs.Matching.{matches_path, pattern_context};
+ghost use Rattle.xs_value.specs.Tables.{TablesIn};
 ghost use Rattle.xs_xpath.specs.Exprs.{tree_from};
-ghost use Rattle.xs_rules.specs.steps.Index.{AreTables, IsTableOf, at_entry, nth_of, table_at};
+ghost use Rattle.xs_rules.specs.steps.Index.{AreTables, IsTable, IsTableOf, at_entry, nth_of};
+ghost use Rattle.xs_rules.specs.steps.Index.{table_at};
 
 use crate::lists::Entry;
+use crate::shapes::{Worth, has_positions, worth_of};
 use std::alloc::{AllocError, Global};
-use xs_pattern::above::above_of;
-use xs_pattern::paths::steps_of;
+use xs_pattern::above::{above_of, is_marked};
+use xs_pattern::marks::marks_of;
+use xs_pattern::matching::matches_path_by;
 use xs_sheet::declarations::Template;
 use xs_tree::{Node, Tree};
+use xs_value::keys::KeyFinder;
 use xs_xpath::expr::Expr;
+use xs_xpath::scope::Scope;
 
-/// Up to so many levels a tree has no tables: to climb them takes a match less time than there is
-/// to win, and documents that are not made to be deep have fewer.
-const SHALLOW: u8 = 64;
-
-/// The most tables: each takes a byte a node, and the rules behind climb.
+/// The most tables: each takes a byte a node, and the rules behind it go without.
 const MOST: usize = 64;
+
+/// A table beside a rule.
+#[derive(Drop)]
+pub(crate) enum RuleTable {
+    /// Below which nodes what stands before the last `//` of its pattern ends.
+    Above(Vec<bool>),
+    /// Which nodes match.
+    Matches(Vec<bool>),
+}
 
 /// The tables of the rules of a stylesheet over the nodes of a tree.
 pub(crate) fn tables_for(
@@ -28,27 +41,52 @@ pub(crate) fn tables_for(
     templates: &[Template],
     entries: &[Entry],
     tree: &Tree,
-) -> Result<Vec<Option<Vec<bool>>>, AllocError>
+) -> Result<Vec<Option<RuleTable>>, AllocError>
     ensures tables { IfOk result (λ tables. AreTables templates.now entries.now tree.now
         tables.items) }
 {
-    if !some_climb(templates, entries) {
+    let worth = worth_of(alloc, templates, entries, tree)?;
+    if worth.is_none() {
         return Ok(Vec::new(alloc));
     }
-    if !is_deep(alloc, tree)? {
-        return Ok(Vec::new(alloc));
-    }
-    first_tables(alloc, templates, entries, tree)
+    first_tables(alloc, templates, entries, worth, tree)
 }
 
 /// The table beside a rule, if it has one.
-pub(crate) fn table_at(tables: &[Option<Vec<bool>>], place: usize) -> Option<&[bool]>
+pub(crate) fn table_at(tables: &[Option<RuleTable>], place: usize) -> Option<&RuleTable>
     ensures { option_copied result ≡ table_at tables.now place }
 {
     match tables.get(place) {
-        Some(Some(table)) => Some(table.as_slice()),
+        Some(Some(table)) => Some(table),
         Some(None) => None,
         None => None,
+    }
+}
+
+/// Whether a node matches an alternative, by the table beside it, if there is one.
+pub(crate) fn matches_by<K: KeyFinder>(
+    alloc: Global,
+    alternative: &Expr,
+    scope: &Scope,
+    tree: &Tree,
+    node: Node,
+    keys: &K,
+    table: Option<&RuleTable>,
+) -> Result<bool, AllocError>
+    requires node { node < length tree.now }
+    requires tables { TablesIn tree.now (K.tables keys.now) }
+    requires table { IfSome table (λ t.
+        IsTable tree.now scope.now.pairs.items (tree_from alternative.now) t.now) }
+    ensures matches { IfOk result (λ b. b ≡ matches_path (K.tables keys.now)
+        (pattern_context tree.now scope.now.pairs.items node) (tree_from alternative.now)) }
+{
+    match table {
+        Some(RuleTable::Matches(marks)) => Ok(is_marked(marks, node)),
+        Some(RuleTable::Above(above)) => {
+            let above = Some(above.as_slice());
+            matches_path_by(alloc, alternative, scope, tree, node, keys, above)
+        }
+        None => matches_path_by(alloc, alternative, scope, tree, node, keys, None),
     }
 }
 
@@ -57,8 +95,9 @@ fn first_tables(
     alloc: Global,
     templates: &[Template],
     entries: &[Entry],
+    worth: Worth,
     tree: &Tree,
-) -> Result<Vec<Option<Vec<bool>>>, AllocError>
+) -> Result<Vec<Option<RuleTable>>, AllocError>
     ensures tables { IfOk result (λ tables. AreTables templates.now entries.now tree.now
         tables.items) }
 {
@@ -68,7 +107,7 @@ fn first_tables(
         if left == 0 {
             return Ok(tables);
         }
-        let table = table_of(alloc, templates, entry, tree)?;
+        let table = table_of(alloc, templates, entry, worth, tree)?;
         left = left_behind(left, &table);
         tables.push(table)?;
     }
@@ -76,94 +115,96 @@ fn first_tables(
 }
 
 // How many more tables there may be behind one that may be there.
-fn left_behind(left: usize, table: &Option<Vec<bool>>) -> usize {
+fn left_behind(left: usize, table: &Option<RuleTable>) -> usize {
     match table {
         Some(_) => left.saturating_sub(1),
         None => left,
     }
 }
 
-// The table of a rule, if there is a `//` between its steps.
+// The table of a rule, if it is worth one.
 fn table_of(
     alloc: Global,
     templates: &[Template],
     entry: &Entry,
+    worth: Worth,
     tree: &Tree,
-) -> Result<Option<Vec<bool>>, AllocError>
-    ensures table { IfOk result (λ table. IsTableOf tree.now (at_entry templates.now entry.now)
-        (option_map (λ t. t.items) table)) }
-{
-    match alternative_of(templates, entry) {
-        None => Ok(None),
-        Some(alternative) => above_of(alloc, alternative, tree),
-    }
-}
-
-// The alternative that is a rule.
-fn alternative_of<'a>(templates: &'a [Template], entry: &Entry) -> Option<&'a Expr>
-    ensures { option_map (λ e. tree_from e.now) result
-        ≡ option_map (λ c. c.alternative) (at_entry templates.now entry.now) }
+) -> Result<Option<RuleTable>, AllocError>
+    ensures table { IfOk result (IsTableOf tree.now (at_entry templates.now entry.now)) }
 {
     match templates.get(entry.template as usize) {
-        None => None,
-        Some(template) => alternative_at(template, entry.alternative),
+        None => Ok(None),
+        Some(template) => table_of_nth(alloc, template, entry.alternative, worth, tree),
     }
 }
 
-// One of the alternatives of a template's pattern, by its number.
-fn alternative_at(template: &Template, place: usize) -> Option<&Expr>
-    ensures { (number : ℕ) → option_map (λ e. tree_from e.now) result
-        ≡ option_map (λ c. c.alternative)
-        (option_and_then (nth_of number template.now place) template.now.pattern) }
+// That of one of the alternatives of a template's pattern, by its number.
+fn table_of_nth(
+    alloc: Global,
+    template: &Template,
+    place: usize,
+    worth: Worth,
+    tree: &Tree,
+) -> Result<Option<RuleTable>, AllocError>
+    ensures table { (number : ℕ) → IfOk result (IsTableOf tree.now
+        (option_and_then (nth_of number template.now place) template.now.pattern)) }
 {
     match &template.pattern {
-        None => None,
-        Some(pattern) => pattern.pattern.alternatives.get(place),
-    }
-}
-
-// Whether there is a `//` between the steps of a rule.
-fn some_climb(templates: &[Template], entries: &[Entry]) -> bool {
-    for entry in entries {
-        if let Some(alternative) = alternative_of(templates, entry) {
-            if has_slashes(steps_of(alternative)) {
-                return true;
-            }
-        }
-    }
-    false
-}
-
-// Whether a `//` stands behind the first of some steps.
-fn has_slashes(steps: &[Expr]) -> bool {
-    match steps.split_first() {
-        None => false,
-        Some((_, behind)) => behind.iter().any(|step| matches!(step, Expr::Descend)),
-    }
-}
-
-// Whether a tree has more levels than a shallow one.
-fn is_deep(alloc: Global, tree: &Tree) -> Result<bool, AllocError> {
-    let mut levels = Vec::new(alloc);
-    for place in 0..tree.len() as u32 {
-        let level = level_of(tree, Node::at(place), &levels);
-        if level > SHALLOW {
-            return Ok(true);
-        }
-        levels.push(level)?;
-    }
-    Ok(false)
-}
-
-// How many ancestors a node has, where it is known of the nodes before it.
-fn level_of(tree: &Tree, node: Node, levels: &[u8]) -> u8
-    requires { node < length tree.now }
-{
-    match tree.parent(node) {
-        None => 0,
-        Some(parent) => match levels.get(parent.place() as usize) {
-            None => 0,
-            Some(level) => level.saturating_add(1),
+        None => Ok(None),
+        Some(pattern) => match pattern.pattern.alternatives.get(place) {
+            None => Ok(None),
+            Some(alternative) => table_in(alloc, alternative, &pattern.scope, worth, tree),
         },
+    }
+}
+
+// That of an alternative: of the nodes that match, or of what stands before its last `//`.
+fn table_in(
+    alloc: Global,
+    alternative: &Expr,
+    scope: &Scope,
+    worth: Worth,
+    tree: &Tree,
+) -> Result<Option<RuleTable>, AllocError>
+    ensures table { IfOk result (λ table. IfSome table
+        (IsTable tree.now scope.now.pairs.items (tree_from alternative.now))) }
+{
+    if worth.positions && has_positions(alternative) {
+        return matching_nodes(alloc, alternative, scope, tree);
+    }
+    if worth.climbs {
+        return nodes_below(alloc, alternative, tree);
+    }
+    Ok(None)
+}
+
+// The table of the nodes that match an alternative, if there is one.
+fn matching_nodes(
+    alloc: Global,
+    alternative: &Expr,
+    scope: &Scope,
+    tree: &Tree,
+) -> Result<Option<RuleTable>, AllocError>
+    ensures table { IfOk result (λ table. IfSome table
+        (IsTable tree.now scope.now.pairs.items (tree_from alternative.now))) }
+{
+    match marks_of(alloc, alternative, scope, tree)? {
+        None => Ok(None),
+        Some(marks) => Ok(Some(RuleTable::Matches(marks))),
+    }
+}
+
+// The table of what stands before the last `//` of an alternative, if there is one.
+fn nodes_below(
+    alloc: Global,
+    alternative: &Expr,
+    tree: &Tree,
+) -> Result<Option<RuleTable>, AllocError>
+    ensures table { (scope : List (List ℕ × List ℕ)) → IfOk result (λ table. IfSome table
+        (IsTable tree.now scope (tree_from alternative.now))) }
+{
+    match above_of(alloc, alternative, tree)? {
+        None => Ok(None),
+        Some(above) => Ok(Some(RuleTable::Above(above))),
     }
 }

@@ -1,5 +1,6 @@
 -- Rules by mode, kind and name.
-use Rattle.std.specs.Prelude.{◌≡◌, ℕ, zero, suc, ◌==◌, ◌&&◌, Bool, List, [], ◌∷◌, reverse, map, length, get_or, Option, Some, None, IfSome, Vec, option_map, slice_get, nat_lt, if◌then◌else◌}
+use Rattle.std.specs.Prelude.{◌≡◌, ℕ, zero, suc, ◌==◌, ◌&&◌, Bool, List, [], ◌∷◌, reverse, map, length, get_or, Option, Some, None, IfSome, option_map, slice_get, nat_lt, if◌then◌else◌}
+use Rattle.std.specs.Arc.{arc_value}
 use Rattle.std.specs.Borrow.{Bor}
 use Rattle.std.specs.Option.{option_and_then}
 use Rattle.std.specs.Str.{bytes_eq}
@@ -17,7 +18,10 @@ use Rattle.xs_xpath.specs.Exprs.{tree_from}
 use Rattle.xs_xpath.specs.Tree.{Tree, step}
 use Rattle.xs_pattern.specs.Matching.{steps_of}
 use Rattle.xs_pattern.specs.steps.Above.{IsAbove}
+use Rattle.xs_pattern.specs.steps.Marks.{AreMarks}
 use Rattle.xs_rules.specs.declared.lists.Entry.{Entry}
+use Rattle.xs_rules.specs.declared.tables.RuleTable.{RuleTable}
+use Rattle.xs_rules.specs.declared.tables.RuleTable.TheVariants.{Above, Matches}
 use Rattle.xs_rules.specs.Rules.{Candidate, candidate}
 
 -- Where a rule is found: its mode, and the kind and the name of the nodes that it may match; of a rule that may match others too, no
@@ -124,16 +128,24 @@ abbrev pub moved_back : Option ℕ → ℕ → Option ℕ → Option ℕ
 moved_back None place previous = None
 moved_back (Some i) place previous = if i == place then previous else Some i
 
--- ---- tables for patterns with `//` between steps
+-- ---- tables beside rules
 
 -- the table beside a rule, if it has one
-abbrev pub table_at : {S : Type 0} → List (Option (Vec Bool S)) → ℕ → Option (List Bool)
-table_at tables place = option_and_then (λ o. option_map (λ t. t.items) o) (slice_get tables place)
+abbrev pub table_at : List (Option RuleTable) → ℕ → Option RuleTable
+table_at tables place = option_and_then (λ o. o) (slice_get tables place)
 
--- a table, if there is one, is that of a rule's alternative over the nodes of a tree
-abbrev pub IsTableOf : List Record → Option Candidate → Option (List Bool) → Type 0
-IsTableOf rs o table = IfSome table (λ t. IfSome o (λ c. IsAbove rs c.alternative t))
+-- whether a table is that of an alternative over the nodes of a tree, under the declarations in scope for it
+abbrev pub IsTable : List Record → (scope : List (List ℕ × List ℕ)) → Tree → RuleTable → Type 0
+IsTable rs scope e (Above t) = IsAbove rs e t.items
+IsTable rs scope e (Matches t) = AreMarks rs scope e t.items
+
+abbrev pub scope_of : ScopedPattern → List (List ℕ × List ℕ)
+scope_of p = (arc_value p.scope).pairs.items
+
+-- a table, if there is one, is that of a rule's alternative
+abbrev pub IsTableOf : List Record → Option Candidate → Option RuleTable → Type 0
+IsTableOf rs o table = IfSome table (λ t. IfSome o (λ c. IsTable rs c.scope c.alternative t))
 
 -- each table is that of the rule that it stands beside
-pub record AreTables {S : Type 0} (ts : List Template) (entries : List Entry) (rs : List Record) (tables : List (Option (Vec Bool S))) : Type 0 where
+pub record AreTables (ts : List Template) (entries : List Entry) (rs : List Record) (tables : List (Option RuleTable)) : Type 0 where
   pub each : (place : ℕ) (e : Entry) → slice_get entries place ≡ Some e → IsTableOf rs (at_entry ts e) (table_at tables place)

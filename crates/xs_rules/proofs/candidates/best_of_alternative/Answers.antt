@@ -1,4 +1,4 @@
-use Rattle.std.proofs.Common.{true, Some, ap, sym, ◌∙◌}
+use Rattle.std.proofs.Common.{true, IfSome, Some, ap, subst, sym, ◌∙◌}
 use Rattle.std.specs.Option.{option_map_or}
 use Rattle.xs_xpath.specs.declared.scope.Scope.{Scope}
 use Rattle.xs_xpath.specs.Exprs.{tree_from}
@@ -8,6 +8,7 @@ use Rattle.xs_rules.specs.declared.ranks.Rank.{Rank}
 use Rattle.xs_rules.specs.Ranks.{outranks}
 use Rattle.xs_rules.specs.Rules.{candidate}
 use Rattle.xs_rules.specs.steps.Candidates.{is_matching}
+use Rattle.xs_rules.specs.steps.Index.{IsTable}
 use Rattle.xs_rules.proofs.RuleLemmas.{one-below, one-passed, one-taken}
 use Rattle.xs_rules.proofs.candidates.best_of_alternative.Goals as goal
 
@@ -20,6 +21,11 @@ returns-then-not-is_above g c = record {
       ∙ sym c.is_above.ensures ∙ c.if-not-is_above.true);
 }
 
+pub matches_by-requires-clause-table : goal.matches_by-requires-clause-table
+matches_by-requires-clause-table g c κs within =
+    subst (λ (s : Scope). IfSome c.args.table (λ t. IsTable c.args.tree.now s.pairs.items (tree_from c.args.alternative.now) t.now)) (sym c.deref.ensures)
+    c.requires.table
+
 pub returns-then-branch : goal.returns-then-branch
 returns-then-branch g c = record {
   best =
@@ -30,7 +36,7 @@ returns-then-branch g c = record {
       ∙ sym c.is_above.ensures ∙ c.if-not-is_above.false)
       (ap (λ (s : Scope). matches_path (g.K.KeyFinder.tables c.args.keys.now) (pattern_context c.args.tree.now s.pairs.items c.args.node)
       (tree_from c.args.alternative.now)) (sym c.deref.ensures)
-      ∙ sym c.in_ok-matches_path_by.ensures.matches ∙ c.if-branch.true);
+      ∙ sym c.in_ok-matches_by.ensures.matches ∙ c.if-branch.true);
 }
 
 pub returns : goal.returns
@@ -40,5 +46,5 @@ returns g c = record {
       (candidate c.args.number c.args.template.now c.args.pattern.now (tree_from c.args.alternative.now)) c.args.best
       (ap (λ (s : Scope). matches_path (g.K.KeyFinder.tables c.args.keys.now) (pattern_context c.args.tree.now s.pairs.items c.args.node)
       (tree_from c.args.alternative.now)) (sym c.deref.ensures)
-      ∙ sym c.in_ok-matches_path_by.ensures.matches ∙ c.if-branch.false);
+      ∙ sym c.in_ok-matches_by.ensures.matches ∙ c.if-branch.false);
 }

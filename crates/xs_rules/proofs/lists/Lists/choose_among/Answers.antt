@@ -3,6 +3,7 @@ use Rattle.std.proofs.lemmas.Option.{slice_get_read}
 use Rattle.std.specs.Vec.{vec_len}
 use Rattle.xs_tree.specs.Record.{at}
 use Rattle.xs_rules.specs.declared.lists.Entry.{Entry}
+use Rattle.xs_rules.specs.declared.tables.RuleTable.{RuleTable}
 use Rattle.xs_rules.specs.Rules.{Candidate, candidates}
 use Rattle.xs_rules.specs.steps.Candidates.{passes, rule_of_best}
 use Rattle.xs_rules.specs.steps.Index.{IsTableOf, Key, any_key, at_entry, has_key, key_data, key_of, later, moved_back, node_key}
@@ -36,8 +37,8 @@ index-entry-requires g c =
     let long : vec_len c.args.self.now.entries ≡ length c.args.self.now.entries.items = c.args.self.now.entries.ok.0 in
     omega (arith, inside, long)
 
-pub best_at-requires-clause-above : goal.best_at-requires-clause-above
-best_at-requires-clause-above g c κs within =
+pub best_at-requires-clause-table : goal.best_at-requires-clause-table
+best_at-requires-clause-table g c κs within =
     let p : Candidate → Bool = passes c.args.looked (g.K.KeyFinder.tables c.args.keys.now) c.args.tree.now c.args.mode c.args.node in
     let cs : List Candidate = candidates c.args.templates.now in
     let entry : Entry = c.index-entry.result.now in
@@ -48,8 +49,8 @@ best_at-requires-clause-above g c κs within =
     (sym c.later.ensures ∙ c.in-Some.is) in
     let read : slice_get c.args.self.now.entries.items c.in-Some.place ≡ Some entry =
     slice_get_read c.args.self.now.entries.items (length c.args.self.now.entries.items) c.in-Some.place entry refl inside c.index-entry.ensures in
-    subst (λ (o : Option (List Bool)). IsTableOf c.args.tree.now (at_entry c.args.templates.now entry) o) (sym c.table_at-table.ensures)
-    (c.requires.above.each c.in-Some.place entry read)
+    subst (λ (o : Option RuleTable). IsTableOf c.args.tree.now (at_entry c.args.templates.now entry) o) (sym c.table_at-table.ensures)
+    (c.requires.rule_tables.each c.in-Some.place entry read)
 
 pub loop-place-smaller : goal.loop-place-smaller
 loop-place-smaller g c =
