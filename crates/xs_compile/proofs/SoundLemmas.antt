@@ -30,6 +30,7 @@ use Rattle.xs_declared.specs.Order.{declarations, declares, is_simplified}
 use Rattle.xs_compile.specs.Parsed.{Both, IsPattern}
 use Rattle.xs_declared.specs.Parts.{body_at, children_at, children_with, reading_at, row_at, site_at}
 use Rattle.xs_compile.specs.StandsFor.{IsSheet, StandsFor}
+use Rattle.xs_declared.specs.Modes.{modes_of}
 use Rattle.xs_compile.specs.steps.Rows.{is_binding, needs}
 use Rattle.xs_compile.specs.steps.Trees.{AreTrees, HasTree}
 use Rattle.xs_declared.specs.Places.{IsIn}
@@ -333,8 +334,8 @@ few-nodes n le = let room : most_nodes + most_nodes < 2 ^ 32 = omega arith in om
 pub sheet_sound : (ms : List ModuleData) (sheet : Sheet) → AreSound ms → AreTrees ms → IsFirstFault ms None → StandsFor ms sheet
     → length (declarations ms) < 2 ^ 32 → IsSound sheet
 sheet_sound ms sheet sound are accepted stands few =
-    let s : Source = record { modules = ms; modes = stands.0 } in
-    let is : IsSheet s sheet = stands.1 in
+    let s : Source = record { modules = ms; modes = modes_of ms } in
+    let is : IsSheet s sheet = stands in
     let trees : (m : ℕ) → m < length ms → IsTree (records_at ms m) = λ m lt. (tree-of ms are m lt).tree in
     let small : (m : ℕ) → m < length ms → length (records_at ms m) + length (records_at ms m) < 2 ^ 32 =
     λ m lt. few-nodes (length (records_at ms m)) (tree-of ms are m lt).few in

@@ -39,7 +39,7 @@ use Rattle.xs_declared.specs.Labels.{IsMode, label_at, labels_in, mode_at, own_l
 use Rattle.xs_compile.specs.Parsed.{Both, IsExpr, IsPattern, IsScope, IsValueTemplate}
 use Rattle.xs_declared.specs.Parts.{body_at, children_with, name_at, pairs_at, reading_at, row_at, said_at, site_at, text_at, value_at}
 
--- The modules of a stylesheet, and its modes in an order that tells their numbers.
+-- The modules of a stylesheet, and its modes in the order that gives their numbers.
 pub record Source : Type 0 where
   pub modules : List ModuleData
   pub modes : List Name

@@ -3,7 +3,6 @@ use Rattle.std.specs.Prelude.{◌≡◌, ℕ, ◌&&◌, Bool, List, map, find}
 use Rattle.std.specs.List.{AllZip}
 use Rattle.std.specs.Option.{option_map_or}
 use Rattle.xs_modules.specs.Numbering.{ModuleData}
-use Rattle.xs_elements.specs.Nodes.{Name}
 use Rattle.xs_elements.specs.Rows.{is_attribute_set, is_document_element}
 use Rattle.xs_sheet.specs.declared.sheet.Sheet.{Sheet}
 use Rattle.xs_static.specs.Modules.{line_at, records_at}
@@ -13,6 +12,7 @@ use Rattle.xs_compile.specs.Bodies.{Source}
 use Rattle.xs_declared.specs.Counted.{globals, templates}
 use Rattle.xs_compile.specs.Declarations.{IsGlobal, IsKey, IsSet, IsTemplate, is_key}
 use Rattle.xs_declared.specs.Aliases.{aliases}
+use Rattle.xs_declared.specs.Modes.{modes_of}
 use Rattle.xs_declared.specs.Order.{all_with}
 use Rattle.xs_declared.specs.Output.{method}
 use Rattle.xs_declared.specs.Spaces.{strip_rules}
@@ -36,6 +36,6 @@ pub record IsSheet (s : Source) (sheet : Sheet) : Type 0 where
   pub modules : sheet.modules.items ≡ map (λ d. d.name) s.modules
   pub root_line : sheet.root_line ≡ root_line s.modules
 
--- for some order of the modes, which tells their numbers
+-- the numbers of modes are by their first use
 abbrev pub StandsFor : List ModuleData → Sheet → Type 0
-StandsFor ms sheet = (modes : List Name) × IsSheet (record { modules = ms; modes = modes }) sheet
+StandsFor ms sheet = IsSheet (record { modules = ms; modes = modes_of ms }) sheet
