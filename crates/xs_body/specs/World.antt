@@ -71,7 +71,7 @@ context w f vs e = record {
   current = f.node;
   locals = vs;
   globals = w.globals;
-  scope = (arc_value e.scope).pairs.items;
+  scope = e.scope;
 }
 
 abbrev pub value_run : World → ScopedExpr → Focus → List Value → Run Value

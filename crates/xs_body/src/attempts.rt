@@ -66,7 +66,7 @@ impl<'a, K: KeyFinder> SheetRunner<'a, K> {
         requires world { IsWorld self.now }
         requires whole { self.now.grain ≡ None }
         ensures attempt { IfOk result (IsAttempt (attempt_cut self.now global limit)
-            (attempt_value self.now (slice_get self.now.sheet.globals.items global))) }
+            (attempt_value self.now (slice_get self.now.sheet.globals global))) }
         ensures inside { IfOk result (IsAttemptIn self.now.tree) }
     {
         let limits = Limits {
@@ -154,7 +154,7 @@ fn tell_global<'a, K: KeyFinder, R: Recorder<Task = Task<'a>>>(
     requires world { IsWorld world.now }
     requires holes { IsSome world.now.grain → R.takes_holes ≡ true }
     ensures told { IsStep (attempt_steps world.now
-        (slice_get world.now.sheet.globals.items global) (R.state recorder.old))
+        (slice_get world.now.sheet.globals global) (R.state recorder.old))
         result (R.state recorder.new) }
     ensures kept { R.kept recorder.new ≡ R.kept recorder.old }
     ensures inside { IfOk result (IsIn world.now.tree) }

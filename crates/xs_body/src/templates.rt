@@ -244,7 +244,7 @@ fn begin_template<'a, K: KeyFinder>(
     requires passed { All (IsIn world.now.tree) passed.values }
     requires inside { AreIn world.now.tree stack.old }
     ensures begun { OnOk result (stack_of stack.new ≡ template_begun
-        (slice_get world.now.sheet.templates.items template) passed.entry focus
+        (slice_get world.now.sheet.templates template) passed.entry focus
         (stack_of stack.old)) }
     ensures inside { OnOk result (AreIn world.now.tree stack.new) }
 {

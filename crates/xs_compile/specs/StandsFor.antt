@@ -26,14 +26,14 @@ root_line ms = option_map_or (line_at ms 0) (find (is_root_element (records_at m
 
 -- Each list has one part for each declaration, in the order of the stylesheet: of globals, aliases and the output those that count.
 pub record IsSheet (s : Source) (sheet : Sheet) : Type 0 where
-  pub templates : AllZip (IsTemplate s) (templates s.modules) sheet.templates.items
-  pub globals : AllZip (IsGlobal s) (globals s.modules) sheet.globals.items
-  pub keys : AllZip (IsKey s) (all_with is_key s.modules) sheet.keys.items
-  pub sets : AllZip (IsSet s) (all_with is_attribute_set s.modules) sheet.sets.items
-  pub strips : sheet.strips.items ≡ strip_rules s.modules
-  pub aliases : sheet.aliases.items ≡ aliases s.modules
+  pub templates : AllZip (IsTemplate s) (templates s.modules) sheet.templates
+  pub globals : AllZip (IsGlobal s) (globals s.modules) sheet.globals
+  pub keys : AllZip (IsKey s) (all_with is_key s.modules) sheet.keys
+  pub sets : AllZip (IsSet s) (all_with is_attribute_set s.modules) sheet.sets
+  pub strips : sheet.strips ≡ strip_rules s.modules
+  pub aliases : sheet.aliases ≡ aliases s.modules
   pub method : sheet.method ≡ method s.modules
-  pub modules : sheet.modules.items ≡ map (λ d. d.name) s.modules
+  pub modules : sheet.modules ≡ map (λ d. d.name) s.modules
   pub root_line : sheet.root_line ≡ root_line s.modules
 
 -- the numbers of modes are by their first use

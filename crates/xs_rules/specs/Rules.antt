@@ -35,12 +35,12 @@ candidate number t p e = record {
   mode = t.mode;
   rank = rank_of t e;
   alternative = e;
-  scope = (arc_value p.scope).pairs.items;
+  scope = p.scope;
 }
 
 abbrev pub candidates_of : ℕ × Template → List Candidate
 candidates_of numbered =
-    option_map_or (λ (p : ScopedPattern). map (candidate numbered.0 numbered.1 p) (trees_from p.pattern.alternatives.items)) numbered.1.pattern []
+    option_map_or (λ (p : ScopedPattern). map (candidate numbered.0 numbered.1 p) p.pattern) numbered.1.pattern []
 
 -- all rules, in the order of the stylesheet
 abbrev pub candidates : List Template → List Candidate

@@ -103,7 +103,7 @@ fn best_of_pattern<K: KeyFinder>(
     ensures best { IfOk result (λ found. found
         ≡ best_before (is_matching (K.tables keys.now) tree.now node)
         (map (candidate number template.now pattern.now)
-        (trees_from pattern.now.pattern.alternatives.items)) best) }
+        pattern.now.pattern) best) }
 {
     let mut best = best;
     let mut rest = pattern.pattern.alternatives.as_slice();

@@ -21,7 +21,7 @@ settle_in_turn-requires-clause-going g c κs within =
 pub settle_in_turn-requires-clause-marked : goal.settle_in_turn-requires-clause-marked
 settle_in_turn-requires-clause-marked g c κs within =
     let s = c.as_slice-globals.ensures.value in
-    first-marked c.args.given.now c.args.sheet.now.globals.items c.in_ok-begun.begun.items c.with-table.result.values.items
+    first-marked c.args.given.now c.args.sheet.now.globals c.in_ok-begun.begun.items c.with-table.result.values.items
     (c.in_ok-begun.ensures.marks ∙ ap (map (λ x. false)) s)
     (ap (λ (t : Table). t.values) c.with-table.ensures ∙ c.in_ok-values_given.ensures.values ∙ ap (map (value_given c.args.given.now)) s)
 

@@ -7,7 +7,7 @@ use Rattle.xs_rules.proofs.choice.choose_import.Goals as goal
 
 pub returns : goal.returns
 returns g c =
-    let ts = c.args.sheet.now.templates.items in
+    let ts = c.args.sheet.now.templates in
     record {
       chosen =
           subst (λ (r : Rule). IfOk c.choose_among.result (λ rule. rule ≡ r))

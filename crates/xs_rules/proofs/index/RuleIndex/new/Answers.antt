@@ -8,7 +8,7 @@ use Rattle.xs_rules.proofs.index.RuleIndex.new.Goals as goal
 
 pub loop-number-preserved : goal.loop-number-preserved
 loop-number-preserved c =
-    let ts : List Template = c.args.sheet.now.templates.items in
+    let ts : List Template = c.args.sheet.now.templates in
     let slice : List Template = c.as_slice-templates.result.now in
     let t : Template = c.index-templates-number.result in
     let read : slice_get slice c.loop-number.number ≡ Some t =

@@ -14,7 +14,7 @@ returns-in-Some c = record {
       on_ok_weaker c.add_pattern.result
       (λ f ts cs of_number i.
       subst (λ (o : Option ScopedPattern). IsIndexed ts
-      (cs ++ option_map_or (λ (p : ScopedPattern). map (candidate c.args.number c.args.template.now p) (trees_from p.pattern.alternatives.items)) o [])
+      (cs ++ option_map_or (λ (p : ScopedPattern). map (candidate c.args.number c.args.template.now p) p.pattern) o [])
       c.add_pattern.new.self.entries.items (found_in c.add_pattern.new.self.last)) (sym c.in-Some.is) (f ts cs of_number c.in-Some.is i))
       c.add_pattern.ensures.indexed;
 }
