@@ -201,7 +201,7 @@ pub(crate) fn put_imported(
     tree: &Tree,
 ) -> Result<(), AllocError> {
     let mut under = 0_u32;
-    for _ in &sheet.templates {
+    for _ in sheet.templates.as_slice() {
         if under > 0 {
             out.put(" ");
         }

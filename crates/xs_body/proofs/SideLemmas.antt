@@ -29,7 +29,6 @@ use Rattle.xs_value.specs.declared.value.Value.TheVariants.{Chars as String, Pie
 use Rattle.xs_value.specs.Conversion.{bool_value, fragment_text, text_value}
 use Rattle.xs_eval.specs.Results.{given, nodes_in}
 use Rattle.xs_rules.specs.declared.index.RuleIndex.{RuleIndex}
-use Rattle.xs_xpath.specs.Exprs.{tree_from}
 use Rattle.xs_body.specs.declared.focus.Focus.{Focus}
 use Rattle.xs_body.specs.World.{World, at_node, in_list, captured_in, with_depth, by_rule, without_rule, context, value_run, nodes_run, text_run, test_run}
 use Rattle.xs_body.specs.World.{nodes_or_children}

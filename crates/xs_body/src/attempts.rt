@@ -160,7 +160,7 @@ fn tell_global<'a, K: KeyFinder, R: Recorder<Task = Task<'a>>>(
     ensures inside { IfOk result (IsIn world.now.tree) }
 {
     let sheet = world.sheet;
-    let Some(declared) = sheet.globals.get(global as usize) else {
+    let Some(declared) = sheet.globals.as_slice().get(global as usize) else {
         return Ok(Value::Chars(TextBuf::of(alloc, "")?));
     };
     tell_binding(alloc, world, &declared.binding, recorder)
@@ -252,7 +252,7 @@ fn content_stack<'a, K: KeyFinder>(
     let mut stack = Stack::with(alloc, Vec::new(alloc));
     stack.push(
         world,
-        Frame::Rest(&body.instrs, Scope::outer(global_focus())),
+        Frame::Rest(body.instrs.as_slice(), Scope::outer(global_focus())),
     )?;
     Ok(stack)
 }

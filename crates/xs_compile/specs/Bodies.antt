@@ -1,6 +1,5 @@
 -- Which bodies of a compiled stylesheet stand for which elements: for each instruction one case.
 use Rattle.std.specs.Prelude.{◌≡◌, ℕ, not, Bool, true, false, List, [], ◌∷◌, filter, Option, Some, codes, if◌then◌else◌}
-use Rattle.std.specs.Arc.{arc_value}
 use Rattle.std.specs.List.{AllZip}
 use Rattle.std.specs.Option.{option_and_then, unwrap_or}
 use Rattle.std.specs.Str.{bytes_eq}
@@ -36,7 +35,7 @@ use Rattle.xs_tree.specs.Record.{at, attributes, uri_at}
 use Rattle.xs_declared.specs.Counted.{template_number}
 use Rattle.xs_scopes.specs.Excluded.{copied_spaces}
 use Rattle.xs_declared.specs.Labels.{IsMode, label_at, labels_in, mode_at, own_label}
-use Rattle.xs_compile.specs.Parsed.{Both, IsExpr, IsPattern, IsScope, IsValueTemplate}
+use Rattle.xs_compile.specs.Parsed.{Both, IsExpr, IsPattern, IsValueTemplate}
 use Rattle.xs_declared.specs.Parts.{body_at, children_with, name_at, pairs_at, reading_at, row_at, said_at, site_at, text_at, value_at}
 
 -- The modules of a stylesheet, and its modes in the order that gives their numbers.
@@ -97,7 +96,7 @@ pub record IsNumber (s : Source) (p : Place) (d : NumberDecl) : Type 0 where
 pub record IsMadeName (s : Source) (p : Place) (n : MadeName) : Type 0 where
   pub name : IsTemplateOf s p (codes "name") n.name
   pub namespace : IsTemplateIf s p (codes "namespace") n.namespace
-  pub scope : IsScope s.modules p n.scope
+  pub scope : n.scope ≡ pairs_at s.modules p
 
 -- a literal element but for its content: its attributes but for those of XSLT are value templates (7.1.1)
 abbrev pub IsPutAttribute : Source → Place → ℕ → Label × ValueTemplate → Type 0

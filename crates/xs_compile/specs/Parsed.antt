@@ -7,6 +7,7 @@ use Rattle.xs_sheet.specs.declared.scoped.ScopedPattern.{ScopedPattern}
 use Rattle.xs_sheet.specs.declared.scoped.ValueTemplate.{ValueTemplate}
 use Rattle.xs_static.specs.Modules.{Place}
 use Rattle.xs_xpath.specs.declared.name.Slot.{Slot}
+use Rattle.xs_xpath.specs.declared.scope.Scope.{Scope}
 use Rattle.xs_xpath.specs.Binding.{bound}
 use Rattle.xs_xpath.specs.Faults.{expr_in, pattern_in}
 use Rattle.xs_xpath.specs.Outcome.{alternatives}
@@ -14,17 +15,17 @@ use Rattle.xs_xpath.specs.Templates.{Part, text, computed, template_in}
 use Rattle.xs_declared.specs.Parts.{pairs_at}
 use Rattle.xs_compile.specs.Slots.{slot_at}
 
-abbrev pub IsScope : List ModuleData → Place → List (List ℕ × List ℕ) → Type 0
-IsScope ms p pairs = pairs ≡ pairs_at ms p
+abbrev pub IsScope : List ModuleData → Place → Scope → Type 0
+IsScope ms p scope = scope.pairs.items ≡ pairs_at ms p
 
 -- an expression (XSLT 1.0, 4)
 pub record IsExpr (ms : List ModuleData) (p : Place) (value : List ℕ) (e : ScopedExpr) : Type 0 where
-  pub scope : IsScope ms p e.scope
+  pub scope : e.scope ≡ pairs_at ms p
   pub expr : option_map (bound (slot_at ms p)) (result_ok (expr_in (pairs_at ms p) value)) ≡ Some e.expr
 
 -- a pattern (5.2), which has no variables
 pub record IsPattern (ms : List ModuleData) (p : Place) (value : List ℕ) (e : ScopedPattern) : Type 0 where
-  pub scope : IsScope ms p e.scope
+  pub scope : e.scope ≡ pairs_at ms p
   pub pattern : option_map alternatives (result_ok (pattern_in (pairs_at ms p) value)) ≡ Some e.pattern
 
 -- a value template (7.6.2)
@@ -33,7 +34,7 @@ bound_part slots (text bytes) = text bytes
 bound_part slots (computed e) = computed (bound slots e)
 
 pub record IsValueTemplate (ms : List ModuleData) (p : Place) (value : List ℕ) (v : ValueTemplate) : Type 0 where
-  pub scope : IsScope ms p v.scope
+  pub scope : v.scope ≡ pairs_at ms p
   pub parts : option_map (map (bound_part (slot_at ms p))) (result_ok (template_in (pairs_at ms p) value)) ≡ Some v.parts
 
 -- what may be missing is there where its attribute is

@@ -102,5 +102,5 @@ writes_text TextMethod = true
 -- The result is text (16.3), and there are no keys (12.2), attribute sets (7.1.4) and aliases (7.1.1).
 abbrev pub is_built : Sheet → Bool
 is_built s =
-    writes_text s.method && is_none s.keys && is_none s.sets.items && is_none s.aliases && list_all template_is_built s.templates
+    writes_text s.method && is_none s.keys && is_none s.sets && is_none s.aliases && list_all template_is_built s.templates
     && list_all global_is_built s.globals

@@ -38,7 +38,7 @@ pub fn evaluate(alloc: Global, job: &Job, sheet: &Sheet, source: Tree) -> Result
     ensures whole_only { IfOk result IsWholeOrEmpty }
 {
     let mut tree = source;
-    strip(alloc, &mut tree, &sheet.strips)?;
+    strip(alloc, &mut tree, sheet.strips.as_slice())?;
     evaluate_over(alloc, job, sheet, &tree)
 }
 

@@ -142,7 +142,7 @@ pub fn stopped_reply(
 fn module_name(sheet: &Sheet, number: u32) -> &str
     ensures { result.now ≡ name_in sheet.now.modules number }
 {
-    match sheet.modules.get(number as usize) {
+    match sheet.modules.as_slice().get(number as usize) {
         Some(name) => name.as_str(),
         None => "",
     }

@@ -1,13 +1,11 @@
 -- Which template rule a node takes (XSLT 1.0, 5.5), and which one behind it (5.6).
 use Rattle.std.specs.Prelude.{ℕ, ◌==◌, ◌&&◌, Bool, true, false, nat_le, nat_lt, List, [], map, filter, Option, Some, None, slice_get, unwrap_or}
-use Rattle.std.specs.Arc.{arc_value}
 use Rattle.std.specs.List.{enumerate_from, flat_map}
 use Rattle.std.specs.Option.{option_map_or}
 use Rattle.xs_sheet.specs.declared.declarations.Template.{Template}
 use Rattle.xs_sheet.specs.declared.scoped.ScopedPattern.{ScopedPattern}
 use Rattle.xs_tree.specs.Record.{Record}
 use Rattle.xs_value.specs.Tables.{Table}
-use Rattle.xs_xpath.specs.Exprs.{trees_from}
 use Rattle.xs_xpath.specs.Tree.{Tree}
 use Rattle.xs_pattern.specs.Matching.{matches_path, pattern_context}
 use Rattle.xs_rules.specs.declared.choice.Rule.{Rule}

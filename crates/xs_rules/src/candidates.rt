@@ -106,7 +106,7 @@ fn best_of_pattern<K: KeyFinder>(
         pattern.now.pattern) best) }
 {
     let mut best = best;
-    let mut rest = pattern.pattern.alternatives.as_slice();
+    let mut rest = pattern.pattern.alternatives();
     while let Some((alternative, before)) = rest.split_last() {
         best = best_of_alternative(
             alloc,
@@ -149,7 +149,15 @@ fn best_of_alternative<K: KeyFinder>(
     if !is_above(rank, best) {
         return Ok(best);
     }
-    if matches_path_by(alloc, alternative, &pattern.scope, tree, node, keys, above)? {
+    if matches_path_by(
+        alloc,
+        alternative,
+        pattern.scope.scope(),
+        tree,
+        node,
+        keys,
+        above,
+    )? {
         return Ok(Some(Best {
             template: number,
             rank,
@@ -218,7 +226,7 @@ pub(crate) fn best_of_nth<K: KeyFinder>(
 {
     match &template.pattern {
         None => Ok(best),
-        Some(pattern) => match pattern.pattern.alternatives.get(place) {
+        Some(pattern) => match pattern.pattern.alternatives().get(place) {
             None => Ok(best),
             Some(alternative) => best_of_rule(
                 alloc,

@@ -57,7 +57,7 @@ pub fn choose_import<K: KeyFinder>(
     ensures chosen { IfOk result (λ rule. rule
         ≡ chosen_import under (K.tables keys.now) sheet.now.templates tree.now mode node) }
 {
-    let looked = imported_into(&sheet.templates, under);
+    let looked = imported_into(sheet.templates.as_slice(), under);
     choose_among(alloc, looked, sheet, tree, node, mode, keys)
 }
 

@@ -86,7 +86,7 @@ impl<'a> Lists<'a> {
             pattern.entry.now.pattern)
             self.new.entries.items (found_in self.new.last)) }
     {
-        let alternatives = pattern.pattern.alternatives.as_slice();
+        let alternatives = pattern.pattern.alternatives();
         for place in 0..alternatives.len() {
             let key = key_of(template.mode, &alternatives[place]);
             self.add(number, place, key)?;

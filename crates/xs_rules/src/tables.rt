@@ -118,7 +118,7 @@ fn alternative_at(template: &Template, place: usize) -> Option<&Expr>
 {
     match &template.pattern {
         None => None,
-        Some(pattern) => pattern.pattern.alternatives.get(place),
+        Some(pattern) => pattern.pattern.alternatives().get(place),
     }
 }
 

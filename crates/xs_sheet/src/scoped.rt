@@ -128,11 +128,11 @@ impl ParsedPattern {
         ParsedPattern { pattern }
     }
 
-    /// The pattern.
-    pub fn pattern(&self) -> &Pattern
-        ensures { trees_from result.now.alternatives.items ≡ self.now }
+    /// Its alternatives.
+    pub fn alternatives(&self) -> &[Expr]
+        ensures { trees_from result.now ≡ self.now }
     {
-        &self.pattern
+        self.pattern.alternatives.as_slice()
     }
 }
 

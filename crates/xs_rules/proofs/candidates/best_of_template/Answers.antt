@@ -2,7 +2,6 @@ use Rattle.std.proofs.Common.{◌≡◌, [], IfOk, Option, ap, map, subst, sym, 
 use Rattle.std.proofs.lemmas.Bool.{eq-eqb, ne_eqb}
 use Rattle.std.specs.Option.{option_map_or}
 use Rattle.xs_sheet.specs.declared.scoped.ScopedPattern.{ScopedPattern}
-use Rattle.xs_xpath.specs.Exprs.{trees_from}
 use Rattle.xs_rules.specs.declared.candidates.Best.{Best}
 use Rattle.xs_rules.specs.Rules.{candidate}
 use Rattle.xs_rules.specs.steps.Candidates.{best_before, passes}

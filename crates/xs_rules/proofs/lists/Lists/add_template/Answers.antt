@@ -2,7 +2,6 @@ use Rattle.std.proofs.Common.{◌++◌, [], Option, map, subst, sym}
 use Rattle.std.proofs.lemmas.Result.{on_ok_weaker}
 use Rattle.std.specs.Option.{option_map_or}
 use Rattle.xs_sheet.specs.declared.scoped.ScopedPattern.{ScopedPattern}
-use Rattle.xs_xpath.specs.Exprs.{trees_from}
 use Rattle.xs_rules.specs.Rules.{candidate}
 use Rattle.xs_rules.specs.steps.Index.{IsIndexed}
 use Rattle.xs_rules.specs.steps.Lists.{found_in}
