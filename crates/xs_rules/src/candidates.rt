@@ -2,7 +2,7 @@
 //! best of those that match.
 
 ghost use Rattle.std.specs.Prelude.{◌≡◌, ◌<◌, ◌∷◌, [], true, IfOk, IfSome, length, map};
-ghost use Rattle.std.specs.Prelude.{option_copied};
+ghost use Rattle.std.specs.Prelude.{option_copied, option_map, slice_get};
 ghost use Rattle.std.specs.Option.{option_and_then, option_map_or};
 ghost use Rattle.xs_pattern.specs.steps.Above.{IsAbove};
 ghost use Rattle.xs_value.specs.Tables.{TablesIn};
@@ -85,6 +85,15 @@ pub(crate) fn best_of_template<K: KeyFinder>(
             best_of_pattern(alloc, number, template, pattern, tree, node, keys, best)
         }
     }
+}
+
+/// One of the alternatives of a pattern, by its place.
+#[tactic(auto, using(crate::proofs::TreeLemmas::tree_at))]
+pub(crate) fn nth_alternative(pattern: &ScopedPattern, place: usize) -> Option<&Expr>
+    ensures { option_map tree_from (option_copied result)
+        ≡ slice_get pattern.now.pattern place }
+{
+    pattern.pattern.alternatives().get(place)
 }
 
 // The best of the alternatives of a pattern that match, before the best rule behind it.
@@ -226,7 +235,7 @@ pub(crate) fn best_of_nth<K: KeyFinder>(
 {
     match &template.pattern {
         None => Ok(best),
-        Some(pattern) => match pattern.pattern.alternatives().get(place) {
+        Some(pattern) => match nth_alternative(pattern, place) {
             None => Ok(best),
             Some(alternative) => best_of_rule(
                 alloc,

@@ -7,6 +7,7 @@ ghost use Rattle.std.specs.Option.{option_and_then};
 ghost use Rattle.xs_xpath.specs.Exprs.{tree_from};
 ghost use Rattle.xs_rules.specs.steps.Index.{AreTables, IsTableOf, at_entry, nth_of, table_at};
 
+use crate::candidates::nth_alternative;
 use crate::lists::Entry;
 use std::alloc::{AllocError, Global};
 use xs_pattern::above::above_of;
@@ -118,7 +119,7 @@ fn alternative_at(template: &Template, place: usize) -> Option<&Expr>
 {
     match &template.pattern {
         None => None,
-        Some(pattern) => pattern.pattern.alternatives().get(place),
+        Some(pattern) => nth_alternative(pattern, place),
     }
 }
 
