@@ -1,6 +1,5 @@
 -- What a transformation is evaluated over, where one is in it, and what expressions give there.
-use Rattle.std.specs.Prelude.{ℕ, ◌&&◌, length, Bool, List, [], Option, Some, None}
-use Rattle.xs_sheet.specs.declared.body.Applied.{Applied}
+use Rattle.std.specs.Prelude.{ℕ, length, Bool, List, [], Option, Some, None}
 use Rattle.xs_sheet.specs.declared.scoped.ScopedExpr.{ScopedExpr}
 use Rattle.xs_sheet.specs.declared.sheet.Sheet.{Sheet}
 use Rattle.xs_trace.specs.Run.{Run, give, costs, ◌>>=◌}

@@ -27,12 +27,10 @@ use Rattle.xs_static.specs.Modules.{Place, records_at}
 use Rattle.xs_static.specs.Names.{is_global as has_global}
 use Rattle.xs_tree.specs.Record.{places}
 use Rattle.xs_tree.specs.Shape.{IsTree}
-use Rattle.xs_xpath.specs.AvtParts.{parts_from}
 use Rattle.xs_xpath.specs.Binding.{bound, bounds}
 use Rattle.xs_xpath.specs.declared.fault.Fault.{Fault as ParseFault}
 use Rattle.xs_xpath.specs.declared.name.Slot.{Slot}
 use Rattle.xs_xpath.specs.declared.name.Slot.TheVariants.{Local, Global}
-use Rattle.xs_xpath.specs.Exprs.{tree_from}
 use Rattle.xs_xpath.specs.Faults.{expr_in}
 use Rattle.xs_xpath.specs.Templates.{Part, text, computed, template_in}
 use Rattle.xs_xpath.specs.Tree.{Tree, Trees, number, literal, variable, call, negative, chain, group, here, root, step, descend, filter as filtered, path, no_trees, first_tree}

@@ -30,7 +30,6 @@ use Rattle.xs_tree.specs.Record.{Record, at, attributes}
 use Rattle.xs_xpath.specs.declared.fault.Fault.{Fault as ParseFault}
 use Rattle.xs_xpath.specs.declared.name.Slot.{Slot}
 use Rattle.xs_xpath.specs.Binding.{bound, bounds}
-use Rattle.xs_xpath.specs.Exprs.{tree_from, trees_from}
 use Rattle.xs_xpath.specs.Faults.{expr_in, outcome_in, pattern_in}
 use Rattle.xs_xpath.specs.Lexing.{begun, lexed}
 use Rattle.xs_xpath.specs.Outcome.{alternatives, listed}

@@ -25,7 +25,6 @@ use Rattle.xs_static.specs.Faults.{IsFirstFault}
 use Rattle.xs_static.specs.Modules.{Place, records_at}
 use Rattle.xs_trace.specs.declared.item.Site.{Site}
 use Rattle.xs_tree.specs.Shape.{IsTree}
-use Rattle.xs_xpath.specs.Exprs.{tree_from, trees_from}
 use Rattle.xs_xpath.specs.Uses.{uses_variables}
 
 -- what stands in the stylesheet is in a module of the sheet

@@ -6,7 +6,6 @@ use Rattle.std.specs.Option.{unwrap_or}
 use Rattle.xs_elements.specs.Contents.{is_with_param}
 use Rattle.xs_elements.specs.Nodes.{Name}
 use Rattle.xs_elements.specs.Rows.{is_attribute_set, is_fallback, is_param, is_sort, is_template, is_when}
-use Rattle.xs_modules.specs.Numbering.{ModuleData}
 use Rattle.xs_sheet.specs.declared.body.Applied.{Applied}
 use Rattle.xs_sheet.specs.declared.body.Binding.{Binding}
 use Rattle.xs_sheet.specs.declared.body.Body.{Body, Body', Row_of-Instr, end_of-Instr, more_of-Instr, items-the_row-Instr, items_shown-the_row-Instr-0, out-Body, outs-Body', roll-Body, roll-out-Body}
@@ -22,7 +21,7 @@ use Rattle.xs_sheet.specs.declared.body.MadeName.{MadeName}
 use Rattle.xs_sheet.specs.declared.body.NumberDecl.{NumberDecl}
 use Rattle.xs_sheet.specs.declared.body.Passed.{Passed, Passed', Row_of-Binding, end_of-Binding, more_of-Binding, items-the_row-Binding, items_shown-the_row-Binding-3, out-Passed, outs-Passed', roll-Passed, roll-out-Passed}
 use Rattle.xs_sheet.specs.declared.body.SortDecl.{SortDecl}
-use Rattle.xs_sheet.specs.declared.body.When.{When, When'}
+use Rattle.xs_sheet.specs.declared.body.When.{When'}
 use Rattle.xs_sheet.specs.declared.declarations.AttrSet.{AttrSet}
 use Rattle.xs_sheet.specs.declared.declarations.Global.{Global}
 use Rattle.xs_sheet.specs.declared.declarations.KeyDecl.{KeyDecl}
@@ -41,11 +40,11 @@ use Rattle.xs_declared.specs.Modes.{modes_of}
 use Rattle.xs_declared.specs.Order.{all_with}
 use Rattle.xs_declared.specs.Parts.{body_at, children_with, row_at, said_at, value_at}
 use Rattle.xs_compile.specs.Bodies.{Source, AreBindings, AreBodies, AreFallbacks, AreInstrs, AreWhens, IsApplied, IsBody, IsChoice, IsContent, IsKind}
-use Rattle.xs_compile.specs.Bodies.{IsLiteralStart, IsMadeName, IsNumber, IsPassed, IsPutAttribute, IsSort, IsWhen, first_body, is_otherwise, put_attributes}
+use Rattle.xs_compile.specs.Bodies.{IsLiteralStart, IsMadeName, IsNumber, IsPassed, IsPutAttribute, IsSort, first_body, is_otherwise, put_attributes}
 use Rattle.xs_compile.specs.Declarations.{IsBinding, IsGlobal, IsInstr, IsKey, IsRuleOrModule, IsSet, IsTemplate, is_attribute, is_key}
 use Rattle.xs_compile.specs.Laws.{OneSheet}
 use Rattle.xs_compile.specs.Parsed.{Both, IsExpr, IsPattern, IsValueTemplate}
-use Rattle.xs_compile.specs.StandsFor.{IsSheet, StandsFor}
+use Rattle.xs_compile.specs.StandsFor.{IsSheet}
 use Rattle.xs_compile.proofs.KindLemmas.{kind-tag, by-applies, by-calls, by-imports, by-each, by-value, by-copy-of, by-copy, by-number, by-choose, by-if}
 use Rattle.xs_compile.proofs.KindLemmas.{by-text, by-element, by-attribute, by-comment, by-pi, by-message, by-variable, by-literal, by-extension}
 

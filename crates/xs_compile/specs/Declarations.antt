@@ -1,5 +1,5 @@
 -- Which parts of a compiled stylesheet stand for which declarations of its modules.
-use Rattle.std.specs.Prelude.{◌≡◌, ℕ, Bool, true, false, List, [], ◌∷◌, Some, None, option_map, codes}
+use Rattle.std.specs.Prelude.{◌≡◌, Bool, true, false, [], ◌∷◌, Some, None, option_map, codes}
 use Rattle.std.specs.List.{AllZip}
 use Rattle.xs_elements.specs.declared.rows.Row.{Row}
 use Rattle.xs_elements.specs.declared.rows.Row.TheVariants.{Key, Attribute}

@@ -21,7 +21,6 @@ use Rattle.xs_compile.specs.StandsFor.{StandsFor}
 use Rattle.xs_sheet.specs.declared.sheet.Sheet.{Sheet}
 use Rattle.xs_engine.specs.Built.{is_built}
 use Rattle.xs_engine.specs.Evaluation.{IsEvaluatedFrom}
-use Rattle.xs_engine.specs.Fetches.{ReadsSheet}
 use Rattle.xs_engine.specs.Run.{source_of, module_name}
 use Rattle.xs_engine.specs.Due.{IsFile, IsReadAnswer, IsBytesAnswer, IsSheetAnswer, IsFaultlessAnswer, IsStaticAnswer, IsModulesAnswer, IsEndAnswer}
 use Rattle.xs_engine.specs.Due.{IsAnswer, IsRunAnswer, Owed, fault, own, IsDue}

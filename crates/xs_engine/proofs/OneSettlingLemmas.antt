@@ -1,12 +1,11 @@
 -- Settling all globals comes to one end.
-use Rattle.std.proofs.Common.{◌≡◌, ◌⊎◌, inl, inr, ⊎_elim, ℕ, ◌-◌, List, [], ◌∷◌, slice_get, Option, None, Bool, true, false, refl, sym, ap, subst, ◌∙◌}
-use Rattle.xs_trace.specs.Cut.{Cut, End, Whole, Fault, Needs, Spent, Full, cut}
+use Rattle.std.proofs.Common.{◌≡◌, ◌⊎◌, inl, inr, ⊎_elim, ℕ, ◌-◌, List, [], ◌∷◌, Bool, true, false, refl, sym, subst}
+use Rattle.xs_trace.specs.Cut.{End, Whole, Fault, Needs, Spent, Full}
 use Rattle.xs_trace.specs.Kept.{spot}
 use Rattle.xs_trace.specs.declared.item.Spot.{Spot}
-use Rattle.xs_value.specs.declared.value.Value.{Value}
 use Rattle.xs_body.specs.World.{World}
-use Rattle.xs_body.specs.Globals.{Table, Settled, settled, ended, Settles, AllSettle, SettlesAll, IsInOrder, IsUnsettled, at_first, attempt_trace, attempt_value}
-use Rattle.xs_body.specs.Globals.{is_under, once_more, tried, with_globals, with_passed, with_value}
+use Rattle.xs_body.specs.Globals.{Table, Settled, settled, ended, Settles, AllSettle, SettlesAll, IsUnsettled, at_first}
+use Rattle.xs_body.specs.Globals.{is_under, once_more, tried, with_passed, with_value}
 use Rattle.xs_body.specs.Globals as settles
 use Rattle.xs_engine.proofs.OneOrderLemmas.{one-order}
 

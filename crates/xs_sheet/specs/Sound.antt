@@ -10,7 +10,6 @@ use Rattle.xs_sheet.specs.declared.declarations.Template.{Template}
 use Rattle.xs_sheet.specs.declared.sheet.Sheet.{Sheet}
 use Rattle.xs_sheet.specs.Sets.{is_apart}
 use Rattle.xs_sheet.specs.Standing.{Counts, body_stands, content_stands, kind_stands, pattern_is_free, pattern_is_free_if, site_stands}
-use Rattle.xs_xpath.specs.Exprs.{tree_from, trees_from}
 use Rattle.xs_xpath.specs.Tree.{Tree}
 use Rattle.xs_xpath.specs.Uses.{uses_key, uses_variables}
 

@@ -22,8 +22,6 @@ use Rattle.xs_sheet.specs.declared.scoped.ValueTemplate.{ValueTemplate}
 use Rattle.xs_sheet.specs.Slots.{slots_taken}
 use Rattle.xs_xpath.specs.declared.name.Slot.{Slot}
 use Rattle.xs_xpath.specs.declared.name.Slot.TheVariants.{Local, Global}
-use Rattle.xs_xpath.specs.AvtParts.{parts_from}
-use Rattle.xs_xpath.specs.Exprs.{tree_from, trees_from}
 use Rattle.xs_xpath.specs.Templates.{Part, text, computed}
 use Rattle.xs_xpath.specs.Tree.{Tree, Trees, number, literal, variable, call, negative, chain, group, here, root, step, descend, filter, path, no_trees, first_tree}
 use Rattle.xs_xpath.specs.Uses.{uses_current, uses_variables}
