@@ -14,5 +14,5 @@ returns g c =
           (chosen-best c.imported_into-looked.result (is_imported ts c.args.under) (g.K.KeyFinder.tables c.args.keys.now) ts c.args.tree.now c.args.mode
           c.args.node
           (λ precedence. c.imported_into-looked.ensures precedence
-          ∙ ap (λ (l : List Template). is_imported l c.args.under precedence) c.deref.ensures.value)) c.choose_among.ensures.chosen;
+          ∙ ap (λ (l : List Template). is_imported l c.args.under precedence) c.as_slice.ensures)) c.choose_among.ensures.chosen;
     }
