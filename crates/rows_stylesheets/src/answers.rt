@@ -111,7 +111,7 @@ fn put_of_sheet(out: &mut Answer, alloc: Global, settings: &Settings<'_>, sheet:
 
 /// Adds the bodies of the templates of a stylesheet.
 fn put_bodies(out: &mut Answer, sheet: &Sheet) {
-    for template in &sheet.templates {
+    for template in sheet.templates.as_slice() {
         put_body(out, &template.body);
     }
 }
@@ -140,7 +140,7 @@ fn put_of_both(
         "rules" => put_rules(out, alloc, sheet, tree),
         "imported rules" => put_imported(out, alloc, sheet, tree),
         "counts" => put_count(out, alloc, sheet, tree),
-        "white space" => put_kept(out, alloc, &sheet.strips, tree),
+        "white space" => put_kept(out, alloc, sheet.strips.as_slice(), tree),
         _ => out.put("no such rows"),
     }
 }

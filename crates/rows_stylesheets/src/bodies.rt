@@ -14,7 +14,7 @@ use xs_sheet::scoped::ScopedExpr;
 #[cycle(bodies)]
 pub(crate) fn put_body(out: &mut Answer, body: &Body) {
     out.put("[");
-    for instr in &body.instrs {
+    for instr in body.instrs.as_slice() {
         put_instr(out, instr);
     }
     out.put("]");
@@ -53,7 +53,7 @@ fn put_kind(out: &mut Answer, kind: &InstrKind) {
             body,
         } => {
             put_tested(out, "each", select);
-            put_sorts(out, sorts);
+            put_sorts(out, sorts.as_slice());
             put_body(out, body);
         }
         InstrKind::Choose(choice) => put_choice(out, choice),
@@ -64,7 +64,7 @@ fn put_kind(out: &mut Answer, kind: &InstrKind) {
         InstrKind::Variable(binding) => put_binding(out, binding),
         InstrKind::Extension(fallbacks) => {
             out.put("extension");
-            for body in &fallbacks.bodies {
+            for body in fallbacks.bodies.as_slice() {
                 put_body(out, body);
             }
         }
@@ -78,12 +78,12 @@ fn put_made(out: &mut Answer, kind: &InstrKind) {
     match kind {
         InstrKind::Copy { sets, body } => {
             out.put("copy");
-            put_labels(out, " uses ", sets);
+            put_labels(out, " uses ", sets.as_slice());
             put_body(out, body);
         }
         InstrKind::Element { name, sets, body } => {
             put_made_name(out, "element ", name);
-            put_labels(out, " uses ", sets);
+            put_labels(out, " uses ", sets.as_slice());
             put_body(out, body);
         }
         InstrKind::Attribute { name, body } => {
@@ -135,7 +135,7 @@ fn put_simple(out: &mut Answer, kind: &InstrKind) {
 #[cycle(bodies)]
 fn put_choice(out: &mut Answer, choice: &Choice) {
     out.put("choose");
-    for when in &choice.whens {
+    for when in choice.whens.as_slice() {
         put_scoped(out, &when.test);
         put_body(out, &when.body);
     }
@@ -146,7 +146,7 @@ fn put_choice(out: &mut Answer, choice: &Choice) {
 /// Adds the parameters that are passed.
 #[cycle(bodies)]
 fn put_passed(out: &mut Answer, passed: &Passed) {
-    for binding in &passed.params {
+    for binding in passed.params.as_slice() {
         out.put(" with");
         put_line(out, binding.site.line);
         put_binding(out, binding);
@@ -181,7 +181,7 @@ fn put_nodes(out: &mut Answer, nodes: &Applied) {
         out.put(" mode ");
         out.put_number(i64::from(nodes.mode));
     }
-    put_sorts(out, &nodes.sorts);
+    put_sorts(out, nodes.sorts.as_slice());
 }
 
 /// Adds sort keys.
@@ -227,14 +227,14 @@ fn put_made_name(out: &mut Answer, word: &str, name: &MadeName) {
 fn put_start(out: &mut Answer, start: &LiteralStart) {
     out.put("<");
     put_label(out, &start.name);
-    for (prefix, uri) in &start.spaces {
+    for (prefix, uri) in start.spaces.as_slice() {
         out.put(" ");
         out.put(prefix.as_str());
         out.put("=");
         out.put(uri.as_str());
     }
-    put_labels(out, " uses ", &start.sets);
-    for (name, value) in &start.attributes {
+    put_labels(out, " uses ", start.sets.as_slice());
+    for (name, value) in start.attributes.as_slice() {
         out.put(" ");
         put_label(out, name);
         out.put("=");

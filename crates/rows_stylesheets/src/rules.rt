@@ -35,7 +35,7 @@ fn rule_of(
     node: Node,
     among: Among,
 ) -> Result<Rule, AllocError>
-    requires few { length sheet.now.templates.items < 2 ^ 32 }
+    requires few { length sheet.now.templates < 2 ^ 32 }
     requires node { node < length tree.now }
 {
     match among {
@@ -72,7 +72,7 @@ fn push_rules(
     tree: &Tree,
     among: Among,
 ) -> Result<(), AllocError>
-    requires few { length sheet.now.templates.items < 2 ^ 32 }
+    requires few { length sheet.now.templates < 2 ^ 32 }
 {
     for place in 0..tree.len() as u32 {
         let rule = rule_of(alloc, sheet, tree, Node::at(place), among)?;
@@ -111,7 +111,7 @@ fn compare_climbing(
     tree: &Tree,
     among: Among,
 ) -> Result<(), AllocError>
-    requires few { length sheet.now.templates.items < 2 ^ 32 }
+    requires few { length sheet.now.templates < 2 ^ 32 }
 {
     let index = RuleIndex::new(alloc, sheet)?;
     compare(rules, alloc, &index, tree, among)
@@ -125,7 +125,7 @@ fn compare_prepared(
     tree: &Tree,
     among: Among,
 ) -> Result<(), AllocError>
-    requires few { length sheet.now.templates.items < 2 ^ 32 }
+    requires few { length sheet.now.templates < 2 ^ 32 }
 {
     let mut index = RuleIndex::new(alloc, sheet)?;
     index.prepare(alloc, tree)?;
@@ -192,7 +192,7 @@ pub(crate) fn put_rules(out: &mut Answer, alloc: Global, sheet: &Sheet, tree: &T
 /// Adds the rules among those imported under each template.
 pub(crate) fn put_imported(out: &mut Answer, alloc: Global, sheet: &Sheet, tree: &Tree) {
     let mut under = 0_u32;
-    for _ in &sheet.templates {
+    for _ in sheet.templates.as_slice() {
         out.put(if under > 0 { " " } else { "" });
         match rules_of(alloc, sheet, tree, Among::ImportedUnder(under)) {
             Ok(rules) => put_all(out, &rules, tree),

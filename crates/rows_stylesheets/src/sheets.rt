@@ -43,7 +43,7 @@ fn put_template(out: &mut Answer, template: &Template) {
         out.put(" mode ");
         out.put_number(i64::from(template.mode));
     }
-    for param in &template.params {
+    for param in template.params.as_slice() {
         out.put(" ");
         put_binding(out, param);
     }
@@ -73,8 +73,8 @@ fn put_set(out: &mut Answer, set: &AttrSet) {
     out.put_number(i64::from(set.precedence));
     out.put(" ");
     put_label(out, &set.name);
-    put_labels(out, " uses ", &set.sets);
-    for attribute in &set.attributes {
+    put_labels(out, " uses ", set.sets.as_slice());
+    for attribute in set.attributes.as_slice() {
         put_instr(out, attribute);
     }
 }
@@ -97,22 +97,22 @@ fn put_rule(out: &mut Answer, rule: &StripRule) {
 
 /// Adds all of a stylesheet.
 pub(crate) fn put_sheet(out: &mut Answer, sheet: &Sheet) {
-    for template in &sheet.templates {
+    for template in sheet.templates.as_slice() {
         put_template(out, template);
     }
-    for global in &sheet.globals {
+    for global in sheet.globals.as_slice() {
         put_global(out, global);
     }
-    for key in &sheet.keys {
+    for key in sheet.keys.as_slice() {
         put_key(out, key);
     }
-    for set in &sheet.sets {
+    for set in sheet.sets.as_slice() {
         put_set(out, set);
     }
-    for rule in &sheet.strips {
+    for rule in sheet.strips.as_slice() {
         put_rule(out, rule);
     }
-    for alias in &sheet.aliases {
+    for alias in sheet.aliases.as_slice() {
         put_word(out, "A ");
         out.put(alias.from_uri.as_str());
         out.put("=");

@@ -134,13 +134,13 @@ fn put_leaf(out: &mut Answer, e: &Expr) {
 /// Adds an expression, in round brackets.
 pub(crate) fn put_scoped(out: &mut Answer, e: &ScopedExpr) {
     out.put("(");
-    put_expr(out, &e.expr);
+    put_expr(out, e.expr.expr());
     out.put(" )");
 }
 
 /// Adds the alternatives of a pattern, in round brackets.
 pub(crate) fn put_pattern(out: &mut Answer, p: &ScopedPattern) {
-    for e in &p.pattern.alternatives {
+    for e in p.pattern.alternatives() {
         out.put("(");
         put_expr(out, e);
         out.put(" )");
@@ -149,7 +149,7 @@ pub(crate) fn put_pattern(out: &mut Answer, p: &ScopedPattern) {
 
 /// Adds a value template: its texts, and its expressions in curly brackets.
 pub(crate) fn put_template(out: &mut Answer, v: &ValueTemplate) {
-    for part in &v.parts {
+    for part in v.parts.as_slice() {
         match part {
             AvtPart::Fixed(text) => out.put(text.as_str()),
             AvtPart::Computed(e) => {

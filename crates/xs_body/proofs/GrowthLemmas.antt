@@ -61,8 +61,8 @@ spaces-grow [] s = goes-grows tt s
 spaces-grow (x ∷ xs) s = grows-then s (put (Space x.0 x.1) s) (λ u m. space_steps xs m) (put-grows (Space x.0 x.1) s) (λ u. spaces-grow xs)
 
 pub literal-grows : {H : Type 0} → (start : LiteralStart) → Grows {H = H} (literal_steps start)
-literal-grows start s = grows-then s (put (Start start.name) s) (λ u m. space_steps start.spaces.items m) (put-grows (Start start.name) s)
-    (λ u. spaces-grow start.spaces.items)
+literal-grows start s = grows-then s (put (Start start.name) s) (λ u m. space_steps start.spaces m) (put-grows (Start start.name) s)
+    (λ u. spaces-grow start.spaces)
 
 pub ended-grows : (terminate : Bool) (p : Site) → Grows (ended terminate p)
 ended-grows terminate p = if-grows terminate (stops (Fault 57 p)) goes (stops-grow (Fault 57 p)) (goes-grows tt)

@@ -82,13 +82,13 @@ module _ (w : World) (index : RuleIndex) (budget : ℕ) where
 
   tried-same : (t : Table) (g : ℕ) → tried w budget t g ≡ tried U budget t g
   tried-same t g =
-      ap (λ x. cut x (budget - t.ticks) None) (sym (attempt-same (with_globals w t.values) index (slice_get w.sheet.globals.items g)))
+      ap (λ x. cut x (budget - t.ticks) None) (sym (attempt-same (with_globals w t.values) index (slice_get w.sheet.globals g)))
 
   with-same : (t : Table) (g : ℕ) → with_value U g (with_passed (tried U budget t g) t) ≡ with_value w g (with_passed (tried w budget t g) t)
   with-same t g =
       ap (λ (c : Cut Task). with_value U g (with_passed c t)) (sym (tried-same t g))
       ∙ ap (λ (v : Value). settles.valued g v (with_passed (tried w budget t g) t))
-      (value-same (with_globals w t.values) index (slice_get w.sheet.globals.items g))
+      (value-same (with_globals w t.values) index (slice_get w.sheet.globals g))
 
   passed-same : (t : Table) (g : ℕ) → with_passed (tried U budget t g) t ≡ with_passed (tried w budget t g) t
   passed-same t g = ap (λ (c : Cut Task). with_passed c t) (sym (tried-same t g))

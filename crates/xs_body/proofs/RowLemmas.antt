@@ -27,7 +27,7 @@ row-instrs (more_of-Instr p kind rest) w k f vs = ap (λ next. Tick p ∷ instr_
 pub body-instrs : (body : Body) (w : World) (k : Calls) (f : Focus) (vs : List Value) → body_trace body w k f vs ≡ instrs_trace (instrs_of body) w k f vs
 body-instrs (Body' n row) w k f vs =
     row-instrs row w k f vs ∙ ap (λ is. instrs_trace is w k f vs) (sym (items_shown-the_row-Instr-0 n row))
-    ∙ ap (λ b. instrs_trace b.instrs.items w k f vs) (sym (outs-Body' n row))
+    ∙ ap (λ b. instrs_trace b.instrs w k f vs) (sym (outs-Body' n row))
 
 row-bindings : {m : _} (row : Row_of-Binding m) (p : Site) (w : World) (k : Calls) (f : Focus) (vs us : List Value) (next : List Value → Trace Task) →
     values_trace row p w k f vs us next ≡ bindings_trace (items-the_row-Binding m row) p w k f vs us next
@@ -40,7 +40,7 @@ pub passing-bindings : (passed : Passed) (p : Site) (w : World) (k : Calls) (f :
 passing-bindings (Passed' n row) p w k f vs next =
     let last : List Value → Trace Task = λ us. next (record { bindings = bindings_of (Passed' n row); values = us }) in
     row-bindings row p w k f vs [] last ∙ ap (λ bs. bindings_trace bs p w k f vs [] last) (sym (items_shown-the_row-Binding-3 n row))
-    ∙ ap (λ b. bindings_trace b.params.items p w k f vs [] last) (sym (outs-Passed' n row))
+    ∙ ap (λ b. bindings_trace b.params p w k f vs [] last) (sym (outs-Passed' n row))
 
 row-bodies : {m : _} (row : Row_of-Body m) (w : World) (k : Calls) (f : Focus) (vs : List Value) →
     bodies_trace row w k f vs ≡ all_bodies (items-the_row-Body m row) w k f vs
@@ -61,4 +61,4 @@ pub fallbacks-bodies : (fallbacks : Fallbacks) (p : Site) (w : World) (k : Calls
     fallbacks_trace fallbacks p w k f vs ≡ fallback_trace (bodies_of fallbacks) p w k f vs
 fallbacks-bodies (Fallbacks' n row) p w k f vs =
     row-fallbacks row p w k f vs ∙ ap (λ bs. fallback_trace bs p w k f vs) (sym (items_shown-the_row-Body-2 n row))
-    ∙ ap (λ b. fallback_trace b.bodies.items p w k f vs) (sym (outs-Fallbacks' n row))
+    ∙ ap (λ b. fallback_trace b.bodies p w k f vs) (sym (outs-Fallbacks' n row))

@@ -54,7 +54,7 @@ has-after g h t u (ended v s) a b = tt
 module _ (w : World) (budget : ℕ) where
   has-settled : {under : List ℕ} {g : ℕ} {t : Table} {r : Settled} → Settles w budget under g t r → HasSettled g t r
   has-settled {g = g} {t = t} (settles.whole e) =
-      has-filled g t (attempt_value (with_globals w t.values) (slice_get w.sheet.globals.items g)) (with_value w g (with_passed (tried w budget t g) t)) refl
+      has-filled g t (attempt_value (with_globals w t.values) (slice_get w.sheet.globals g)) (with_value w g (with_passed (tried w budget t g) t)) refl
   has-settled (settles.faults e) = tt
   has-settled (settles.spends e) = tt
   has-settled (settles.circular e n) = tt
@@ -120,9 +120,9 @@ there vs n k d l = by_value (get_or vs k d) (slice_get-get_or vs k d l)
     by_value (Some v) e = refl
 
 pub all-there : (w : World) (given : List (List ℕ × List ℕ)) (budget : ℕ) (u : Table) → SettlesAll w given budget (settled u) →
-    length u.values ≡ length w.sheet.globals.items → All IsSome u.values
+    length u.values ≡ length w.sheet.globals → All IsSome u.values
 all-there w given budget u s e =
-    there u.values (λ k l. (have-settled w budget s.settle).0 k (in-order w.sheet.globals.items s.order s.in_order k (subst (λ n. k < n) e l)))
+    there u.values (λ k l. (have-settled w budget s.settle).0 k (in-order w.sheet.globals s.order s.in_order k (subst (λ n. k < n) e l)))
 
 -- ---- what settling begins with
 
@@ -158,10 +158,10 @@ none-left (g ∷ gs) =
     let whole : 1 + left_over (map (λ x. false) gs) ≡ suc (length gs) = omega (arith, e) in
     first ∙ whole
 
-pub first-going : (w : World) (budget : ℕ) (given : List (List ℕ × List ℕ)) (begun : List Bool) (t : Table) → begun ≡ map (λ g. false) w.sheet.globals.items →
+pub first-going : (w : World) (budget : ℕ) (given : List (List ℕ × List ℕ)) (begun : List Bool) (t : Table) → begun ≡ map (λ g. false) w.sheet.globals →
     t ≡ at_first w.sheet given → IsGoing w budget begun t
 first-going w budget given begun t b e =
-    let gs : List Global = w.sheet.globals.items in
+    let gs : List Global = w.sheet.globals in
     let rest : left_over begun ≡ length gs = ap left_over b ∙ none-left gs in
     let few : 0 + left_over begun ≤ length gs = omega (arith, rest) in
     let first : IsGoing w budget begun (at_first w.sheet given) = record {
@@ -175,12 +175,12 @@ first-going w budget given begun t b e =
 
 -- what it comes to
 pub whole-there : (w : World) (given : List (List ℕ × List ℕ)) (budget : ℕ) (t : Table) (end : Option Spot) → SettlesAll w given budget (settled_by end t) →
-    length t.values ≡ length w.sheet.globals.items → end ≡ None → All IsSome t.values
+    length t.values ≡ length w.sheet.globals → end ≡ None → All IsSome t.values
 whole-there w given budget t end s l e =
     all-there w given budget t (subst (λ o. SettlesAll w given budget (settled_by o t)) e s) l
 
 pub settles-so : (w : World) (given : List (List ℕ × List ℕ)) (budget : ℕ) (globals : List Global) (order left : List ℕ) (t : Table) (r : Settled) →
-    globals ≡ w.sheet.globals.items → IsInOrder globals order → left ≡ order → t ≡ at_first w.sheet given → AllSettle w budget left t r →
+    globals ≡ w.sheet.globals → IsInOrder globals order → left ≡ order → t ≡ at_first w.sheet given → AllSettle w budget left t r →
     SettlesAll w given budget r
 settles-so w given budget globals order left t r e o q k s = record {
   order = order;

@@ -53,7 +53,7 @@ module _ (w : World) (budget : ℕ) where
   -- a need is of a global that is there without a value
   pub needed : (t : Table) (g h : ℕ) (p : Site) → (tried w budget t g).end ≡ Needs h p → slice_get t.values h ≡ Some None
   needed t g h p e =
-      let o : Option Global = slice_get w.sheet.globals.items g in
+      let o : Option Global = slice_get w.sheet.globals g in
       cut-needs t.values (attempt_trace (with_globals w t.values) o) (attempt-needs (with_globals w t.values) o) nowhere (budget - t.ticks) None h p e
 
   -- an attempt with which the run has ended
@@ -149,7 +149,7 @@ module _ (w : World) (budget : ℕ) where
   -- the ticks of an attempt are within the budget
   within-budget : (t : Table) (g : ℕ) → t.ticks ≤ budget → t.ticks + tick_count (tried w budget t g).passed ≤ budget
   within-budget t g h =
-      let o : Option Global = slice_get w.sheet.globals.items g in
+      let o : Option Global = slice_get w.sheet.globals g in
       let n : tick_count (tried w budget t g).passed ≤ budget - t.ticks =
       (cut-longest (attempt_trace (with_globals w t.values) o) nowhere (budget - t.ticks) None).within in
       omega (arith, h, n)
@@ -158,13 +158,13 @@ module _ (w : World) (budget : ℕ) where
       t.values →
       u.thrown ≡ t.thrown → IsGoing w budget begun u
   going-by begun t u h a n l k =
-      let few : u.thrown + left_over begun ≤ length w.sheet.globals.items = subst (λ i. i + left_over begun ≤ length w.sheet.globals.items) (sym k) h.few in
+      let few : u.thrown + left_over begun ≤ length w.sheet.globals = subst (λ i. i + left_over begun ≤ length w.sheet.globals) (sym k) h.few in
       record { values = a; within = n; marks = h.marks; count = l ∙ h.count; few = few }
 
   going-mark : (begun : List Bool) (t : Table) (h : ℕ) → slice_get begun h ≡ Some false → IsGoing w budget begun t → IsGoing w budget (slice_set begun h true) t
   going-mark begun t h e k =
       let less : left_over (slice_set begun h true) + 1 ≡ left_over begun = fewer begun h e in
-      let few : t.thrown + left_over begun ≤ length w.sheet.globals.items = k.few in
+      let few : t.thrown + left_over begun ≤ length w.sheet.globals = k.few in
       record {
         values = k.values;
         within = k.within;
@@ -177,7 +177,7 @@ module _ (w : World) (budget : ℕ) where
       IsGoing w budget (slice_set begun h true) u
   going-need begun t u h e k q =
       let less : left_over (slice_set begun h true) + 1 ≡ left_over begun = fewer begun h e in
-      let few : t.thrown + left_over begun ≤ length w.sheet.globals.items = k.few in
+      let few : t.thrown + left_over begun ≤ length w.sheet.globals = k.few in
       let one : u.thrown ≡ t.thrown + 1 = ap (λ (v : Table). v.thrown) q in
       record {
         values = subst (λ vs. All (IsInIf w.tree) vs) (sym (ap (λ (v : Table). v.values) q)) k.values;
@@ -205,7 +205,7 @@ module _ (w : World) (budget : ℕ) where
 
     pub after-done : IsTurn w budget begun top t u turn.Done → All (IsInIf w.tree) u.values → IsUnderWay w budget g first begun (reverse front) u
     after-done q a =
-        let v : Value = attempt_value (with_globals w t.values) (slice_get w.sheet.globals.items top) in
+        let v : Value = attempt_value (with_globals w t.values) (slice_get w.sheet.globals top) in
         let values : u.values ≡ slice_set t.values top (Some v) = ap (λ (x : Table). x.values) q.1 in
         record {
           settles = λ r x. under.settles r (pops w budget top (reverse front) t u r q.0 q.1 x);

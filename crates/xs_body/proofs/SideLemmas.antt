@@ -29,7 +29,6 @@ use Rattle.xs_value.specs.declared.value.Value.TheVariants.{Chars as String, Pie
 use Rattle.xs_value.specs.Conversion.{bool_value, fragment_text, text_value}
 use Rattle.xs_eval.specs.Results.{given, nodes_in}
 use Rattle.xs_rules.specs.declared.index.RuleIndex.{RuleIndex}
-use Rattle.xs_xpath.specs.Exprs.{tree_from}
 use Rattle.xs_body.specs.declared.focus.Focus.{Focus}
 use Rattle.xs_body.specs.World.{World, at_node, in_list, captured_in, with_depth, by_rule, without_rule, context, value_run, nodes_run, text_run, test_run}
 use Rattle.xs_body.specs.World.{nodes_or_children}
@@ -65,7 +64,7 @@ pub record IsKept (w : World) (grain : Option ℕ) (index : RuleIndex) (R : Bool
 
 -- expressions
 value-lacks : (w : World) (e : ScopedExpr) (f : Focus) (vs : List Value) → LacksOnly w.globals (value_run w e f vs).end
-value-lacks w e f vs = tree-settles w.globals w.keys (tree_from e.expr) (context w f vs e) refl
+value-lacks w e f vs = tree-settles w.globals w.keys e.expr (context w f vs e) refl
 
 nodes-lack : (w : World) (e : ScopedExpr) (f : Focus) (vs : List Value) → LacksOnly w.globals (nodes_run w e f vs).end
 nodes-lack w e f vs = value-then w.globals (value_run w e f vs) (λ v. given (nodes_in v)) (value-lacks w e f vs) (λ v. given-value w.globals (nodes_in v))
@@ -126,9 +125,9 @@ module _ (w : World) (grain : Option ℕ) (index : RuleIndex) (R : Bool → Trac
 
   begins-keeps : (b : Bool) (start : LiteralStart) → R b (begins start) (begins start)
   begins-keeps b start =
-      let others : Trace Task = map (λ y. Put (Space y.0 y.1)) start.spaces.items in
+      let others : Trace Task = map (λ y. Put (Space y.0 y.1)) start.spaces in
       keeps.joins b (Put (Start start.name) ∷ []) (Put (Start start.name) ∷ []) others others (keeps.puts b (Start start.name))
-      (spaces-keep b start.spaces.items)
+      (spaces-keep b start.spaces)
 
   message-keeps : (b : Bool) (p : Site) (terminate : Bool) (t : List ℕ) → R b (says p t ⨾ ended_if terminate p) (says p t ⨾ ended_if terminate p)
   message-keeps b p terminate t =
@@ -249,7 +248,7 @@ module _ (w : World) (grain : Option ℕ) (index : RuleIndex) (R : Bool → Trac
     passing-keeps : (passed : Passed) (p : Site) (f : Focus) → CallsKeep f.depth → (vs : List Value) (next : World → Calls → Params → Trace Task) →
         ((ps : Params) → Both f (λ u k. next u k ps)) → Both f (λ u k. passing passed p u k f vs (next u k))
     passing-keeps (Passed' n row) p f d vs next h =
-        let params : List Value → Params = λ us. record { bindings = (out-Passed (Passed' n row)).params.items; values = us } in
+        let params : List Value → Params = λ us. record { bindings = (out-Passed (Passed' n row)).params; values = us } in
         values-keep row p f d vs [] (λ u k us. next u k (params us)) (λ us. h (params us))
 
     values-keep : {m : _} (row : Row_of-Binding m) (p : Site) (f : Focus) → CallsKeep f.depth → (vs us : List Value)
@@ -298,7 +297,7 @@ module _ (w : World) (grain : Option ℕ) (index : RuleIndex) (R : Bool → Trac
 
   template-keeps : (o : Option Template) (ps : Params) (f : Focus) → CallsKeep f.depth → Both f (λ u k. template_trace o ps u k f)
   template-keeps None ps f d = keeps.nothing f.is_captured
-  template-keeps (Some t) ps f d = params-keep t.params.items ps f d [] (λ u k. body_trace t.body u k f) (λ vs. body-keeps t.body f d vs)
+  template-keeps (Some t) ps f d = params-keep t.params ps f d [] (λ u k. body_trace t.body u k f) (λ vs. body-keeps t.body f d vs)
 
   built_in-keeps : (mode : ℕ) (p : Site) (f : Focus) → CallsKeep f.depth → (r : Record) → Both f (λ u k. built_in u k mode p f r)
   built_in-keeps mode p f d r =
@@ -310,10 +309,10 @@ module _ (w : World) (grain : Option ℕ) (index : RuleIndex) (R : Bool → Trac
 
   rule-keeps : (o : Option ℕ) (mode : ℕ) (ps : Params) (p : Site) (f : Focus) → CallsKeep f.depth → Both f (λ u k. ruled o mode ps u k p f)
   rule-keeps None mode ps p f d = built_in-keeps mode p f d (at w.tree f.node)
-  rule-keeps (Some rule) mode ps p f d = template-keeps (slice_get w.sheet.templates.items rule) ps (by_rule rule mode f) d
+  rule-keeps (Some rule) mode ps p f d = template-keeps (slice_get w.sheet.templates rule) ps (by_rule rule mode f) d
 
   entry-keeps : (e : Entry) (p : Site) (f : Focus) → CallsKeep f.depth → Both f (λ u k. entered e u k p f)
-  entry-keeps (named i ps) p f d = template-keeps (slice_get w.sheet.templates.items i) ps f d
+  entry-keeps (named i ps) p f d = template-keeps (slice_get w.sheet.templates i) ps f d
   entry-keeps (fitting mode ps) p f d = rule-keeps (rule_for w mode f.node) mode ps p f d
   entry-keeps (overridden current) p f d = rule-keeps (import_for w current f) f.mode no_params p f d
 

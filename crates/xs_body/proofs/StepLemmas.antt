@@ -66,8 +66,8 @@ spaces-told (x ∷ xs) s = then-same (put (Space x.0 x.1) s) (λ u m. space_step
 
 literal-told : (start : LiteralStart) (s : State Task) → literal_steps start s ≡ play (begins start) s
 literal-told start s =
-    then-same (put (Start start.name) s) (λ u m. space_steps start.spaces.items m) (λ u m. play (map (λ y. Put (Space y.0 y.1)) start.spaces.items) m)
-    (λ u m. spaces-told start.spaces.items m)
+    then-same (put (Start start.name) s) (λ u m. space_steps start.spaces m) (λ u m. play (map (λ y. Put (Space y.0 y.1)) start.spaces) m)
+    (λ u m. spaces-told start.spaces m)
 
 ended-told : (terminate : Bool) (p : Site) (s : State Task) → ended terminate p s ≡ play (ended_if terminate p) s
 ended-told true p s = refl
@@ -116,7 +116,7 @@ chooses-body (Choice' n row otherwise) p w k f vs s =
     let next : Body → State Task → Told Task = λ b n. play (body_trace b w k f vs) n in
     chooses row otherwise p w k f vs s
     ∙ ap (λ ts. and_then (limited p (chosen_of ts otherwise w f vs) s) next) (sym (items_shown-the_row-When-1 n row))
-    ∙ ap (λ c. and_then (limited p (chosen_of c.whens.items c.otherwise w f vs) s) next) (sym (outs-Choice' n row otherwise))
+    ∙ ap (λ c. and_then (limited p (chosen_of c.whens c.otherwise w f vs) s) next) (sym (outs-Choice' n row otherwise))
 
 module _ (w : World) where
   abbrev Go : Stack → State Task → Told Task
@@ -200,7 +200,7 @@ module _ (w : World) where
       Then (template_trace o ps w (calls_at w f) f) t s ≡ Go (template_begun o ps f t) s
   template-begins None ps f t s = refl
   template-begins (Some template) ps f t s =
-      let x : List Value → Trace Task = λ vs. params_trace template.params.items ps w (calls_at w f) f vs (body_trace template.body w (calls_at w f) f) in
+      let x : List Value → Trace Task = λ vs. params_trace template.params ps w (calls_at w f) f vs (body_trace template.body w (calls_at w f) f) in
       ap (λ vs. Then (x vs) t s) (sym (last-none t.slots))
       ∙ ap (λ vs. Then (x (last 0 t.slots)) (slots_are vs t) s) (sym (without-none t.slots))
       ∙ behind (x (last 0 t.slots)) (without 0 t.slots) t s
@@ -223,11 +223,11 @@ module _ (w : World) where
   rule-begins : (o : Option ℕ) (mode : ℕ) (ps : Params) (p : Site) (f : Focus) (t : Stack) (s : State Task) →
       Then (ruled o mode ps w (calls_at w f) p f) t s ≡ and_then (rule_begun o w mode ps p f t s) Go
   rule-begins None mode ps p f t s = built-in-begins mode p f (at w.tree f.node) t s
-  rule-begins (Some rule) mode ps p f t s = template-begins (slice_get w.sheet.templates.items rule) ps (by_rule rule mode f) t s
+  rule-begins (Some rule) mode ps p f t s = template-begins (slice_get w.sheet.templates rule) ps (by_rule rule mode f) t s
 
   entry-begins : (e : Entry) (p : Site) (f : Focus) (t : Stack) (s : State Task) →
       Then (entered e w (calls_at w f) p f) t s ≡ and_then (entry_begun e w p f t s) Go
-  entry-begins (named i ps) p f t s = template-begins (slice_get w.sheet.templates.items i) ps f t s
+  entry-begins (named i ps) p f t s = template-begins (slice_get w.sheet.templates i) ps f t s
   entry-begins (fitting mode ps) p f t s = rule-begins (rule_for w mode f.node) mode ps p f t s
   entry-begins (overridden current) p f t s = rule-begins (import_for w current f) f.mode no_params p f t s
 

@@ -53,7 +53,7 @@ attempt_value w (Some g) = content_value w g.binding.content
 
 -- an attempt at a global, cut at a number of ticks
 abbrev pub attempt_cut : World → (global limit : ℕ) → Cut Task
-attempt_cut w global limit = cut (attempt_trace w (slice_get w.sheet.globals.items global)) limit None
+attempt_cut w global limit = cut (attempt_trace w (slice_get w.sheet.globals global)) limit None
 
 -- ---- settling
 
@@ -88,7 +88,7 @@ abbrev pub valued : ℕ → Value → Table → Table
 valued g v t = record t { values = slice_set t.values g (Some v) }
 
 abbrev pub with_value : World → ℕ → Table → Table
-with_value w g t = valued g (attempt_value (with_globals w t.values) (slice_get w.sheet.globals.items g)) t
+with_value w g t = valued g (attempt_value (with_globals w t.values) (slice_get w.sheet.globals g)) t
 
 -- nothing of an attempt is kept
 abbrev pub once_more : Table → Table
@@ -138,7 +138,7 @@ abbrev pub value_given : List (List ℕ × List ℕ) → Global → Option Value
 value_given given g = if g.param then option_map String (text_given given g.binding.name) else None
 
 abbrev pub at_first : Sheet → List (List ℕ × List ℕ) → Table
-at_first sheet given = record { values = map (value_given given) sheet.globals.items; says = []; ticks = 0; thrown = 0 }
+at_first sheet given = record { values = map (value_given given) sheet.globals; says = []; ticks = 0; thrown = 0 }
 
 -- each global's module, line and number, and their order
 abbrev pub placed : ℕ → List Global → List (ℕ × ℕ × ℕ)
@@ -158,5 +158,5 @@ pub record IsInOrder (globals : List Global) (order : List ℕ) : Type 0 where
 -- all globals in their order
 pub record SettlesAll (w : World) (given : List (List ℕ × List ℕ)) (budget : ℕ) (r : Settled) : Type 0 where
   pub order : List ℕ
-  pub in_order : IsInOrder w.sheet.globals.items order
+  pub in_order : IsInOrder w.sheet.globals order
   pub settle : AllSettle w budget order (at_first w.sheet given) r

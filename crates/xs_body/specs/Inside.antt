@@ -24,7 +24,7 @@ pub record IsWorld (w : World) : Type 0 where
   pub sheet : IsSound w.sheet
   pub index : IsIndex w.index
   pub prepared : IsPrepared w.index w.tree
-  pub templates : w.index.templates.now ≡ w.sheet.templates.items
+  pub templates : w.index.templates.now ≡ w.sheet.templates
   pub globals : All (IsInIf w.tree) w.globals
   pub tables : TablesIn w.tree w.keys
 

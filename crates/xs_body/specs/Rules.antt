@@ -12,8 +12,8 @@ template_of BuiltIn = None
 
 -- the template that is the rule for a node in a mode; none where a built-in rule is
 abbrev pub rule_for : World → (mode node : ℕ) → Option ℕ
-rule_for w mode n = template_of (chosen w.keys w.sheet.templates.items w.tree mode n)
+rule_for w mode n = template_of (chosen w.keys w.sheet.templates w.tree mode n)
 
 -- the rule that the current one overrides, for the current node and mode
 abbrev pub import_for : World → (current : ℕ) → Focus → Option ℕ
-import_for w current f = template_of (chosen_import current w.keys w.sheet.templates.items w.tree f.mode f.node)
+import_for w current f = template_of (chosen_import current w.keys w.sheet.templates w.tree f.mode f.node)

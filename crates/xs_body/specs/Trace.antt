@@ -50,7 +50,7 @@ says p t = ticks p (length t / 256) (Say t ∷ [])
 
 -- a literal result element begins: its name, and then its namespace nodes (7.1.1)
 abbrev pub begins : LiteralStart → Trace Task
-begins start = Put (Start start.name) ∷ map (λ s. Put (Space s.0 s.1)) start.spaces.items
+begins start = Put (Start start.name) ∷ map (λ s. Put (Space s.0 s.1)) start.spaces
 
 -- the fragment that captured content makes: the events that stay (7.1.3, 11.1)
 abbrev pub fragment_of : List Event → List Event
@@ -150,7 +150,7 @@ abbrev mutual
   -- the parameters that are passed (11.6), and then what follows them
   pub passing : Passed → Site → World → Calls → Focus → List Value → (Params → Trace Task) → Trace Task
   passing (Passed' n row) p w k f vs next = values_trace row p w k f vs []
-      (λ us. next (record { bindings = (out-Passed (Passed' n row)).params.items; values = us }))
+      (λ us. next (record { bindings = (out-Passed (Passed' n row)).params; values = us }))
 
   -- their values, behind those that are there already
   pub values_trace : {m : _} → Row_of-Binding m → Site → World → Calls → Focus → List Value → (before : List Value) → (List Value → Trace Task) → Trace Task
@@ -194,7 +194,7 @@ params_trace (b ∷ bs) ps w k f vs next =
 
 abbrev pub template_trace : Option Template → Params → World → Calls → Focus → Trace Task
 template_trace None ps w k f = []
-template_trace (Some t) ps w k f = params_trace t.params.items ps w k f [] (body_trace t.body w k f)
+template_trace (Some t) ps w k f = params_trace t.params ps w k f [] (body_trace t.body w k f)
 
 -- the built-in rules (5.8): templates in the same mode for the children of a root or an element, the text of a text or an
 -- attribute, and nothing of other nodes
@@ -206,10 +206,10 @@ built_in w k mode p f r =
 -- a rule: a template, which is then the current rule (5.6), or a built-in one
 abbrev pub ruled : Option ℕ → (mode : ℕ) → Params → World → Calls → Site → Focus → Trace Task
 ruled None mode ps w k p f = built_in w k mode p f (at w.tree f.node)
-ruled (Some rule) mode ps w k p f = template_trace (slice_get w.sheet.templates.items rule) ps w k (by_rule rule mode f)
+ruled (Some rule) mode ps w k p f = template_trace (slice_get w.sheet.templates rule) ps w k (by_rule rule mode f)
 
 abbrev pub entered : Entry → World → Calls → Site → Focus → Trace Task
-entered (named template ps) w k p f = template_trace (slice_get w.sheet.templates.items template) ps w k f
+entered (named template ps) w k p f = template_trace (slice_get w.sheet.templates template) ps w k f
 entered (fitting mode ps) w k p f = ruled (rule_for w mode f.node) mode ps w k p f
 entered (overridden current) w k p f = ruled (import_for w current f) f.mode no_params w k p f
 

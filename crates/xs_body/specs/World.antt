@@ -1,7 +1,5 @@
 -- What a transformation is evaluated over, where one is in it, and what expressions give there.
-use Rattle.std.specs.Prelude.{ℕ, ◌&&◌, length, Bool, List, [], Option, Some, None}
-use Rattle.std.specs.Arc.{arc_value}
-use Rattle.xs_sheet.specs.declared.body.Applied.{Applied}
+use Rattle.std.specs.Prelude.{ℕ, length, Bool, List, [], Option, Some, None}
 use Rattle.xs_sheet.specs.declared.scoped.ScopedExpr.{ScopedExpr}
 use Rattle.xs_sheet.specs.declared.sheet.Sheet.{Sheet}
 use Rattle.xs_trace.specs.Run.{Run, give, costs, ◌>>=◌}
@@ -10,7 +8,7 @@ use Rattle.xs_value.specs.declared.value.Value.{Value}
 use Rattle.xs_value.specs.Conversion.{bool_value, text_value}
 use Rattle.xs_value.specs.Tables.{Table}
 use Rattle.xs_eval.specs.Context.{Context}
-use Rattle.xs_eval.specs.Evaluation.{run_of}
+use Rattle.xs_eval.specs.Evaluation.{run_of_tree}
 use Rattle.xs_eval.specs.Results.{given, nodes_in}
 use Rattle.xs_rules.specs.declared.index.RuleIndex.{RuleIndex}
 use Rattle.xs_body.specs.declared.focus.Focus.{Focus}
@@ -71,11 +69,11 @@ context w f vs e = record {
   current = f.node;
   locals = vs;
   globals = w.globals;
-  scope = (arc_value e.scope).pairs.items;
+  scope = e.scope;
 }
 
 abbrev pub value_run : World → ScopedExpr → Focus → List Value → Run Value
-value_run w e f vs = run_of w.keys e.expr (context w f vs e)
+value_run w e f vs = run_of_tree w.keys e.expr (context w f vs e)
 
 -- its value as a node-set, which it has to be (5.4, 8); as a string (7.6.1); as a boolean (9.1, 9.2)
 abbrev pub nodes_run : World → ScopedExpr → Focus → List Value → Run (List ℕ)

@@ -384,6 +384,9 @@ fn do_at<'a, K: KeyFinder, R: Recorder<Task = Task<'a>>>(
         },
     )?;
     let focus = scope.focus.at_node(node, position);
-    stack.push(world, Frame::Rest(&body.instrs, scope.over(focus)))?;
+    stack.push(
+        world,
+        Frame::Rest(body.instrs.as_slice(), scope.over(focus)),
+    )?;
     Ok(())
 }

@@ -66,7 +66,7 @@ impl<'a, K: KeyFinder> SheetRunner<'a, K> {
         requires world { IsWorld self.now }
         requires whole { self.now.grain ≡ None }
         ensures attempt { IfOk result (IsAttempt (attempt_cut self.now global limit)
-            (attempt_value self.now (slice_get self.now.sheet.globals.items global))) }
+            (attempt_value self.now (slice_get self.now.sheet.globals global))) }
         ensures inside { IfOk result (IsAttemptIn self.now.tree) }
     {
         let limits = Limits {
@@ -154,13 +154,13 @@ fn tell_global<'a, K: KeyFinder, R: Recorder<Task = Task<'a>>>(
     requires world { IsWorld world.now }
     requires holes { IsSome world.now.grain → R.takes_holes ≡ true }
     ensures told { IsStep (attempt_steps world.now
-        (slice_get world.now.sheet.globals.items global) (R.state recorder.old))
+        (slice_get world.now.sheet.globals global) (R.state recorder.old))
         result (R.state recorder.new) }
     ensures kept { R.kept recorder.new ≡ R.kept recorder.old }
     ensures inside { IfOk result (IsIn world.now.tree) }
 {
     let sheet = world.sheet;
-    let Some(declared) = sheet.globals.get(global as usize) else {
+    let Some(declared) = sheet.globals.as_slice().get(global as usize) else {
         return Ok(Value::Chars(TextBuf::of(alloc, "")?));
     };
     tell_binding(alloc, world, &declared.binding, recorder)
@@ -252,7 +252,7 @@ fn content_stack<'a, K: KeyFinder>(
     let mut stack = Stack::with(alloc, Vec::new(alloc));
     stack.push(
         world,
-        Frame::Rest(&body.instrs, Scope::outer(global_focus())),
+        Frame::Rest(body.instrs.as_slice(), Scope::outer(global_focus())),
     )?;
     Ok(stack)
 }

@@ -101,7 +101,7 @@ fn bind_content<'a, K: KeyFinder, R: Recorder<Task = Task<'a>>>(
 {
     recorder.open_capture()?;
     stack.push(world, Frame::Fill)?;
-    stack.push(world, Frame::Rest(&body.instrs, scope.captured()))?;
+    stack.push(world, Frame::Rest(body.instrs.as_slice(), scope.captured()))?;
     Ok(())
 }
 

@@ -52,8 +52,8 @@ pub(crate) fn begin_call<'a, K: KeyFinder>(
     stack.push(
         world,
         Frame::Pass {
-            left: &passed.params,
-            all: &passed.params,
+            left: passed.params.as_slice(),
+            all: passed.params.as_slice(),
             values: Vec::new(alloc),
             callee,
             site,
@@ -221,7 +221,7 @@ fn pass_content<'a, K: KeyFinder, R: Recorder<Task = Task<'a>>>(
             scope,
         },
     )?;
-    stack.push(world, Frame::Rest(&body.instrs, scope.captured()))?;
+    stack.push(world, Frame::Rest(body.instrs.as_slice(), scope.captured()))?;
     Ok(())
 }
 

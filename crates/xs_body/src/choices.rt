@@ -44,7 +44,7 @@ pub(crate) fn begin_if<'a, K: KeyFinder, R: Recorder<Task = Task<'a>>>(
 {
     let locals = scope.locals(&stack.slots);
     if world.holds(alloc, test, scope.focus, locals, site, recorder)? {
-        stack.push(world, Frame::Rest(&body.instrs, scope.inner()))?;
+        stack.push(world, Frame::Rest(body.instrs.as_slice(), scope.inner()))?;
     }
     Ok(())
 }
@@ -71,7 +71,7 @@ pub(crate) fn begin_choice<'a, K: KeyFinder, R: Recorder<Task = Task<'a>>>(
 {
     let locals = scope.locals(&stack.slots);
     let body = chosen(alloc, world, choice, scope.focus, locals, site, recorder)?;
-    stack.push(world, Frame::Rest(&body.instrs, scope.inner()))?;
+    stack.push(world, Frame::Rest(body.instrs.as_slice(), scope.inner()))?;
     Ok(())
 }
 
@@ -93,7 +93,7 @@ fn chosen<'a, K: KeyFinder, T: Tally>(
         (T.state tally.old)) result (T.state tally.new) }
     ensures kept { T.kept tally.new ≡ T.kept tally.old }
 {
-    let mut left: &'a [When] = &choice.whens;
+    let mut left: &'a [When] = choice.whens.as_slice();
     while let Some((when, behind)) = left.split_first() {
         if world.holds(alloc, &when.test, focus, locals, site, tally)? {
             return Ok(&when.body);

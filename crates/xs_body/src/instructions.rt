@@ -163,7 +163,7 @@ fn begin_message<'a, K: KeyFinder, R: Recorder<Task = Task<'a>>>(
 {
     recorder.open_capture()?;
     stack.push(world, Frame::Say { site, terminate })?;
-    stack.push(world, Frame::Rest(&body.instrs, scope.captured()))?;
+    stack.push(world, Frame::Rest(body.instrs.as_slice(), scope.captured()))?;
     Ok(())
 }
 
@@ -209,7 +209,7 @@ fn begin_literal<'a, K: KeyFinder, R: Recorder<Task = Task<'a>>>(
 {
     begin_element(start, recorder)?;
     stack.push(world, Frame::End)?;
-    stack.push(world, Frame::Rest(&body.instrs, scope.inner()))?;
+    stack.push(world, Frame::Rest(body.instrs.as_slice(), scope.inner()))?;
     Ok(())
 }
 
@@ -230,10 +230,13 @@ fn begin_fallbacks<'a, K: KeyFinder, R: Recorder<Task = Task<'a>>>(
     ensures inside { OnOk result (AreIn world.now.tree stack.new) }
 {
     let _recorder = recorder;
-    if fallbacks.bodies.is_empty() {
+    if fallbacks.bodies.as_slice().is_empty() {
         return Err(Halt::Fault(58, site));
     }
-    stack.push(world, Frame::Bodies(&fallbacks.bodies, scope.inner()))?;
+    stack.push(
+        world,
+        Frame::Bodies(fallbacks.bodies.as_slice(), scope.inner()),
+    )?;
     Ok(())
 }
 
@@ -254,7 +257,7 @@ pub(crate) fn begin_next_body<'a, K: KeyFinder>(
         None => Ok(()),
         Some((body, behind)) => {
             stack.push(world, Frame::Bodies(behind, scope))?;
-            stack.push(world, Frame::Rest(&body.instrs, scope.inner()))?;
+            stack.push(world, Frame::Rest(body.instrs.as_slice(), scope.inner()))?;
             Ok(())
         }
     }

@@ -67,7 +67,7 @@ pub(crate) fn begin_element<R: Recorder>(start: &LiteralStart, recorder: &mut R)
 {
     let name = start.name.copy()?;
     recorder.put(Event::Start(name))?;
-    put_spaces(&start.spaces, recorder)
+    put_spaces(start.spaces.as_slice(), recorder)
 }
 
 /// Puts namespace nodes.

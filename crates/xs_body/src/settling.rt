@@ -179,16 +179,16 @@ pub fn settle<K: KeyFinder>(
     requires sheet { IsSound sheet.now }
     requires index { IsIndex index.now }
     requires prepared { IsPrepared index.now tree.now }
-    requires templates { index.now.templates.now ≡ sheet.now.templates.items }
+    requires templates { index.now.templates.now ≡ sheet.now.templates }
     requires tables { TablesIn tree.now (K.tables keys.now) }
     ensures settles { IfOk result (λ z. SettlesAll (ground sheet.now index.now tree.now
         (K.tables keys.now)) given.now budget (settled_of z)) }
     ensures inside { IfOk result (λ z. All (IsInIf tree.now) z.values.items) }
     ensures whole { IfOk result (λ z. z.end ≡ None → All IsSome z.values.items) }
     ensures count { IfOk result (λ z.
-        length z.values.items ≡ length sheet.now.globals.items) }
+        length z.values.items ≡ length sheet.now.globals) }
     ensures within { IfOk result (λ z. z.ticks ≤ budget) }
-    ensures few { IfOk result (λ z. z.thrown ≤ length sheet.now.globals.items) }
+    ensures few { IfOk result (λ z. z.thrown ≤ length sheet.now.globals) }
 {
     let world = World {
         sheet,
@@ -393,7 +393,7 @@ fn attempt_over<K: KeyFinder>(
     ensures attempt { IfOk result (IsAttempt
         (attempt_cut (with_globals world.now values.now) global limit)
         (attempt_value (with_globals world.now values.now)
-        (slice_get world.now.sheet.globals.items global))) }
+        (slice_get world.now.sheet.globals global))) }
     ensures inside { IfOk result (IsAttemptIn world.now.tree) }
 {
     let runner = SheetRunner::new(world.sheet, world.index, world.tree, world.keys, values);

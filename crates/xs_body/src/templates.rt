@@ -244,16 +244,16 @@ fn begin_template<'a, K: KeyFinder>(
     requires passed { All (IsIn world.now.tree) passed.values }
     requires inside { AreIn world.now.tree stack.old }
     ensures begun { OnOk result (stack_of stack.new ≡ template_begun
-        (slice_get world.now.sheet.templates.items template) passed.entry focus
+        (slice_get world.now.sheet.templates template) passed.entry focus
         (stack_of stack.old)) }
     ensures inside { OnOk result (AreIn world.now.tree stack.new) }
 {
     let sheet = world.sheet;
-    if let Some(template) = sheet.templates.get(template as usize) {
+    if let Some(template) = sheet.templates.as_slice().get(template as usize) {
         stack.push(
             world,
             Frame::Params {
-                left: &template.params,
+                left: template.params.as_slice(),
                 passed,
                 body: &template.body,
                 scope: Scope::outer(focus),
@@ -288,7 +288,7 @@ pub(crate) fn next_param<'a, K: KeyFinder, R: Recorder<Task = Task<'a>>>(
 {
     match left.split_first() {
         None => {
-            stack.push(world, Frame::Rest(&body.instrs, scope))?;
+            stack.push(world, Frame::Rest(body.instrs.as_slice(), scope))?;
             Ok(())
         }
         Some((binding, behind)) => bind_param(

@@ -96,9 +96,9 @@ impl<'a, K: KeyFinder> World<'a, K> {
             current: Node::at(focus.node),
             locals,
             globals: self.globals,
-            scope: &*expr.scope,
+            scope: expr.scope.scope(),
         };
-        evaluate(alloc, &expr.expr, &context, self.keys, site, tally)
+        evaluate(alloc, expr.expr.expr(), &context, self.keys, site, tally)
     }
 
     /// Its nodes: the value has to be a node-set (5.4, 8).

@@ -221,12 +221,12 @@ module _ (s : Source) (trees : (m : ℕ) → m < length s.modules → IsTree (re
       let rs = records_at s.modules p.0 in
       let first = named_sets rs p.1 in
       let second = flat_map (attribute_sets rs) (children rs p.1) in
-      covers-append (first ++ second) d.sets.items (flat_map (λ i. kind_sets i.kind) d.attributes.items)
-      (covers-wider first (first ++ second) (λ n g. among-left n first second g) d.sets.items
+      covers-append (first ++ second) d.sets (flat_map (λ i. kind_sets i.kind) d.attributes)
+      (covers-wider first (first ++ second) (λ n g. among-left n first second g) d.sets
       (subst (Covers first) (sym is.sets)
       (element_covers s trees accepted p.0 p.1 h.known p.1 h.inside h.seen AttributeSet Known [] h.row (set-read p h) refl refl refl (inl refl))))
-      (covers-wider second (first ++ second) (λ n g. among-right n first second g) (flat_map (λ i. kind_sets i.kind) d.attributes.items)
-      (attributes-cover p h (children_with is_attribute s.modules p) d.attributes.items (attributes-at p) is.attributes))
+      (covers-wider second (first ++ second) (λ n g. among-right n first second g) (flat_map (λ i. kind_sets i.kind) d.attributes)
+      (attributes-cover p h (children_with is_attribute s.modules p) d.attributes (attributes-at p) is.attributes))
 
   -- ---- a chain of uses
   -- the name that a declaration says

@@ -29,9 +29,9 @@ module _ (s : Source) where
   instrs-are (more_of-Instr site kind rest) [] h = h
   instrs-are (more_of-Instr site kind rest) (p ∷ ps) h = (h.0.site, h.0.kind, instrs-are rest ps h.1)
 
-  pub body-is : (ps : List Place) (b : Body) → AllZip (IsInstr s) ps (out-Body b).instrs.items → IsBody s ps b
+  pub body-is : (ps : List Place) (b : Body) → AllZip (IsInstr s) ps (out-Body b).instrs → IsBody s ps b
   body-is ps (Body' n row) h =
-      instrs-are row ps (subst (AllZip (IsInstr s) ps) (ap (λ b. b.instrs.items) (outs-Body' n row) ∙ items_shown-the_row-Instr-0 n row) h)
+      instrs-are row ps (subst (AllZip (IsInstr s) ps) (ap (λ b. b.instrs) (outs-Body' n row) ∙ items_shown-the_row-Instr-0 n row) h)
 
   whens-are : {m : _} (row : Row_of-When m) (ps : List Place) → AllZip (IsWhen s) ps (items-the_row-When m row) → AreWhens s ps row
   whens-are end_of-When [] h = h
@@ -39,11 +39,11 @@ module _ (s : Source) where
   whens-are (more_of-When when rest) [] h = h
   whens-are (more_of-When when rest) (p ∷ ps) h = (h.0, whens-are rest ps h.1)
 
-  pub choice-is : (p : Place) (c : Choice) → AllZip (IsWhen s) (children_with is_when s.modules p) (out-Choice c).whens.items
+  pub choice-is : (p : Place) (c : Choice) → AllZip (IsWhen s) (children_with is_when s.modules p) (out-Choice c).whens
       → IsBody s (first_body s (children_with is_otherwise s.modules p)) (out-Choice c).otherwise → IsChoice s p c
   choice-is p (Choice' n row otherwise) h o = (
     whens-are row (children_with is_when s.modules p)
-        (subst (AllZip (IsWhen s) (children_with is_when s.modules p)) (ap (λ c. c.whens.items) (outs-Choice' n row otherwise)
+        (subst (AllZip (IsWhen s) (children_with is_when s.modules p)) (ap (λ c. c.whens) (outs-Choice' n row otherwise)
         ∙ items_shown-the_row-When-1 n row) h),
     subst (IsBody s (first_body s (children_with is_otherwise s.modules p))) (ap (λ c. c.otherwise) (outs-Choice' n row otherwise)) o,
   )
@@ -55,11 +55,11 @@ module _ (s : Source) where
   bodies-are (more_of-Body body rest) [] h = h
   bodies-are (more_of-Body body rest) (p ∷ ps) h = (h.0, bodies-are rest ps h.1)
 
-  pub fallbacks-are : (ps : List Place) (f : Fallbacks) → AllZip (λ (p : Place). IsBody s (body_at s.modules p)) ps (out-Fallbacks f).bodies.items
+  pub fallbacks-are : (ps : List Place) (f : Fallbacks) → AllZip (λ (p : Place). IsBody s (body_at s.modules p)) ps (out-Fallbacks f).bodies
       → AreFallbacks s ps f
   fallbacks-are ps (Fallbacks' n row) h =
       bodies-are row ps
-      (subst (AllZip (λ (p : Place). IsBody s (body_at s.modules p)) ps) (ap (λ f. f.bodies.items) (outs-Fallbacks' n row)
+      (subst (AllZip (λ (p : Place). IsBody s (body_at s.modules p)) ps) (ap (λ f. f.bodies) (outs-Fallbacks' n row)
       ∙ items_shown-the_row-Body-2 n row) h)
 
   bindings-are : {m : _} (row : Row_of-Binding m) (ps : List Place) → AllZip (IsBinding s) ps (items-the_row-Binding m row) → AreBindings s ps row
@@ -68,9 +68,9 @@ module _ (s : Source) where
   bindings-are (more_of-Binding site name content rest) [] h = h
   bindings-are (more_of-Binding site name content rest) (p ∷ ps) h = (h.0.site, h.0.name, h.0.content, bindings-are rest ps h.1)
 
-  pub passed-are : (ps : List Place) (x : Passed) → AllZip (IsBinding s) ps (out-Passed x).params.items → IsPassed s ps x
+  pub passed-are : (ps : List Place) (x : Passed) → AllZip (IsBinding s) ps (out-Passed x).params → IsPassed s ps x
   passed-are ps (Passed' n row) h =
-      bindings-are row ps (subst (AllZip (IsBinding s) ps) (ap (λ x. x.params.items) (outs-Passed' n row) ∙ items_shown-the_row-Binding-3 n row) h)
+      bindings-are row ps (subst (AllZip (IsBinding s) ps) (ap (λ x. x.params) (outs-Passed' n row) ∙ items_shown-the_row-Binding-3 n row) h)
 
   -- ---- bodies that are empty or not
   instrs-empty : {m : _} (row : Row_of-Instr m) (ps : List Place) → AreInstrs s ps row → items-the_row-Instr m row ≡ [] → ps ≡ []
@@ -83,13 +83,13 @@ module _ (s : Source) where
   instrs-some (more_of-Instr site kind rest) [] h e = absurd h
   instrs-some (more_of-Instr site kind rest) (p ∷ ps) h e = absurd (cc (e))
 
-  pub body-empty : (ps : List Place) (b : Body) → IsBody s ps b → (out-Body b).instrs.items ≡ [] → ps ≡ []
+  pub body-empty : (ps : List Place) (b : Body) → IsBody s ps b → (out-Body b).instrs ≡ [] → ps ≡ []
   body-empty ps (Body' n row) h e =
-      instrs-empty row ps h (sym (ap (λ b. b.instrs.items) (outs-Body' n row) ∙ items_shown-the_row-Instr-0 n row) ∙ e)
+      instrs-empty row ps h (sym (ap (λ b. b.instrs) (outs-Body' n row) ∙ items_shown-the_row-Instr-0 n row) ∙ e)
 
-  pub body-some : (ps : List Place) (b : Body) → IsBody s ps b → ((out-Body b).instrs.items ≡ [] → ⊥) → ps ≡ [] → ⊥
+  pub body-some : (ps : List Place) (b : Body) → IsBody s ps b → ((out-Body b).instrs ≡ [] → ⊥) → ps ≡ [] → ⊥
   body-some ps (Body' n row) h other e =
-      other (ap (λ b. b.instrs.items) (outs-Body' n row) ∙ items_shown-the_row-Instr-0 n row ∙ instrs-some row ps h e)
+      other (ap (λ b. b.instrs) (outs-Body' n row) ∙ items_shown-the_row-Instr-0 n row ∙ instrs-some row ps h e)
 
   -- ---- what is selected
   pub selected : (p : Place) (e : ScopedExpr) → IsExprIf s p (codes "select") (Some e) → (has_select s p ≡ true) × IsExprOf s p (codes "select") e

@@ -27,12 +27,10 @@ use Rattle.xs_static.specs.Modules.{Place, records_at}
 use Rattle.xs_static.specs.Names.{is_global as has_global}
 use Rattle.xs_tree.specs.Record.{places}
 use Rattle.xs_tree.specs.Shape.{IsTree}
-use Rattle.xs_xpath.specs.AvtParts.{parts_from}
 use Rattle.xs_xpath.specs.Binding.{bound, bounds}
 use Rattle.xs_xpath.specs.declared.fault.Fault.{Fault as ParseFault}
 use Rattle.xs_xpath.specs.declared.name.Slot.{Slot}
 use Rattle.xs_xpath.specs.declared.name.Slot.TheVariants.{Local, Global}
-use Rattle.xs_xpath.specs.Exprs.{tree_from}
 use Rattle.xs_xpath.specs.Faults.{expr_in}
 use Rattle.xs_xpath.specs.Templates.{Part, text, computed, template_in}
 use Rattle.xs_xpath.specs.Tree.{Tree, Trees, number, literal, variable, call, negative, chain, group, here, root, step, descend, filter as filtered, path, no_trees, first_tree}
@@ -158,11 +156,11 @@ module _ (ms : List ModuleData) (counts : Counts) (some_globals : counts.globals
       → expr_stands counts locals e ≡ true
   expr-stands value e is known = by_outcome (expr_in (pairs_at ms p) value) is.expr known
     where
-      by_outcome : (o : Result Tree ParseFault) → option_map (bound (slot_at ms p)) (result_ok o) ≡ Some (tree_from e.expr)
-          → list_any (has_unknown (is_known ms Expression p)) (trees_if o) ≡ false → tree_stands counts locals (tree_from e.expr) ≡ true
-      by_outcome (Err fault) h g = absurd (none-some (tree_from e.expr) h)
+      by_outcome : (o : Result Tree ParseFault) → option_map (bound (slot_at ms p)) (result_ok o) ≡ Some e.expr
+          → list_any (has_unknown (is_known ms Expression p)) (trees_if o) ≡ false → tree_stands counts locals e.expr ≡ true
+      by_outcome (Err fault) h g = absurd (none-some e.expr h)
       by_outcome (Ok t) h g =
-          subst (λ x. tree_stands counts locals x ≡ true) (some-same (bound (slot_at ms p) t) (tree_from e.expr) h)
+          subst (λ x. tree_stands counts locals x ≡ true) (some-same (bound (slot_at ms p) t) e.expr h)
           (bound-stands counts locals (is_known ms Expression p) (slot_at ms p) (slot-stands Expression) t
           (or_parts (has_unknown (is_known ms Expression p) t) false g).0)
 
@@ -171,10 +169,10 @@ module _ (ms : List ModuleData) (counts : Counts) (some_globals : counts.globals
       → template_stands counts locals v ≡ true
   template-stands value v is known = by_outcome (template_in (pairs_at ms p) value) is.parts known
     where
-      by_outcome : (o : Result (List Part) ParseFault) → option_map (map (bound_part (slot_at ms p))) (result_ok o) ≡ Some (parts_from v.parts.items)
+      by_outcome : (o : Result (List Part) ParseFault) → option_map (map (bound_part (slot_at ms p))) (result_ok o) ≡ Some v.parts
           → list_any (has_unknown (is_known ms ValueTemplate p)) (expressions_if o) ≡ false
-          → list_all (part_stands counts locals) (parts_from v.parts.items) ≡ true
-      by_outcome (Err fault) h g = absurd (none-some (parts_from v.parts.items) h)
+          → list_all (part_stands counts locals) v.parts ≡ true
+      by_outcome (Err fault) h g = absurd (none-some v.parts h)
       by_outcome (Ok ps) h g =
-          subst (λ x. list_all (part_stands counts locals) x ≡ true) (some-same (map (bound_part (slot_at ms p)) ps) (parts_from v.parts.items) h)
+          subst (λ x. list_all (part_stands counts locals) x ≡ true) (some-same (map (bound_part (slot_at ms p)) ps) v.parts h)
           (parts-stand counts locals (is_known ms ValueTemplate p) (slot_at ms p) (slot-stands ValueTemplate) ps g)

@@ -30,7 +30,6 @@ use Rattle.xs_tree.specs.Record.{Record, at, attributes}
 use Rattle.xs_xpath.specs.declared.fault.Fault.{Fault as ParseFault}
 use Rattle.xs_xpath.specs.declared.name.Slot.{Slot}
 use Rattle.xs_xpath.specs.Binding.{bound, bounds}
-use Rattle.xs_xpath.specs.Exprs.{tree_from, trees_from}
 use Rattle.xs_xpath.specs.Faults.{expr_in, outcome_in, pattern_in}
 use Rattle.xs_xpath.specs.Lexing.{begun, lexed}
 use Rattle.xs_xpath.specs.Outcome.{alternatives, listed}
@@ -181,7 +180,7 @@ slash pairs = refl
 
 pub root_is_free : (ms : List ModuleData) (p : Place) (e : ScopedPattern) → IsPattern ms p (codes "/") e → pattern_is_free e ≡ true
 root_is_free ms p e h =
-    let same = some-same (root ∷ []) (trees_from e.pattern.alternatives.items)
+    let same = some-same (root ∷ []) e.pattern
     (sym (ap (λ (o : Result Tree ParseFault). option_map alternatives (result_ok o)) (slash (pairs_at ms p))) ∙ h.pattern) in
     ap (list_all is_free) same
 
@@ -221,29 +220,29 @@ module _ (ms : List ModuleData) (accepted : IsFirstFault ms None) (p : Place) (w
         → Both (IsPattern ms p) (value_at ms p (codes "match")) e → pattern_is_free_if e ≡ true
     template_pattern_free formed e =
         if-free (value_at ms p (codes "match")) e
-        (λ value pattern said is. outcome-free (pattern_in (pairs_at ms p) value) (trees_from pattern.pattern.alternatives.items)
+        (λ value pattern said is. outcome-free (pattern_in (pairs_at ms p) value) pattern.pattern
         (is_forbidden_in TemplatePattern) template-forbids (not_forbidden (codes "match") value TemplatePattern said formed) is.pattern)
 
     pub number_pattern_free : (local : List ℕ) → allowed_form (row_at ms p) local ≡ Some NumberPattern → (e : Option ScopedPattern)
         → Both (IsPattern ms p) (value_at ms p local) e → pattern_is_free_if e ≡ true
     number_pattern_free local formed e =
         if-free (value_at ms p local) e
-        (λ value pattern said is. outcome-free (pattern_in (pairs_at ms p) value) (trees_from pattern.pattern.alternatives.items)
+        (λ value pattern said is. outcome-free (pattern_in (pairs_at ms p) value) pattern.pattern
         (is_forbidden_in NumberPattern) number-forbids (not_forbidden local value NumberPattern said formed) is.pattern)
 
     module _ (value : List ℕ) (said : value_at ms p (codes "match") ≡ Some value) (formed : allowed_form (row_at ms p) (codes "match") ≡ Some KeyPattern)
         (e : ScopedPattern) (is : IsPattern ms p value e) where
       pub key_pattern_free : pattern_is_free e ≡ true
       key_pattern_free =
-          outcome-free (pattern_in (pairs_at ms p) value) (trees_from e.pattern.alternatives.items) (is_forbidden_in KeyPattern) key-forbids
+          outcome-free (pattern_in (pairs_at ms p) value) e.pattern (is_forbidden_in KeyPattern) key-forbids
           (not_forbidden (codes "match") value KeyPattern said formed) is.pattern
 
-      pub key_pattern_no_key : list_all holds_no_key (trees_from e.pattern.alternatives.items) ≡ true
+      pub key_pattern_no_key : list_all holds_no_key e.pattern ≡ true
       key_pattern_no_key =
-          outcome-no-key (pattern_in (pairs_at ms p) value) (trees_from e.pattern.alternatives.items) (is_forbidden_in KeyPattern) key-forbids-key
+          outcome-no-key (pattern_in (pairs_at ms p) value) e.pattern (is_forbidden_in KeyPattern) key-forbids-key
           (not_forbidden (codes "match") value KeyPattern said formed) is.pattern
 
     pub key_use_free : (value : List ℕ) → value_at ms p (codes "use") ≡ Some value → allowed_form (row_at ms p) (codes "use") ≡ Some KeyUse
-        → (e : ScopedExpr) → IsExpr ms p value e → UsesNothing (tree_from e.expr)
+        → (e : ScopedExpr) → IsExpr ms p value e → UsesNothing e.expr
     key_use_free value said formed e is =
-        use-free (slot_at ms p) (expr_in (pairs_at ms p) value) (tree_from e.expr) (not_forbidden (codes "use") value KeyUse said formed) is.expr
+        use-free (slot_at ms p) (expr_in (pairs_at ms p) value) e.expr (not_forbidden (codes "use") value KeyUse said formed) is.expr

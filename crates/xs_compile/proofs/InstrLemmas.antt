@@ -149,10 +149,10 @@ module _ (s : Source) (trees : (m : ℕ) → m < length s.modules → IsTree (re
   nodes-stand : (locals : ℕ) (p : Place) (a : Applied) → Here locals p → row_at s.modules p ≡ ApplyTemplatesRow → IsApplied s p a
       → nodes_stand counts locals a ≡ true
   nodes-stand locals p a h row is =
-      and_from (expr_stands_if counts locals a.select) (list_all (sort_stands counts locals) a.sorts.items)
+      and_from (expr_stands_if counts locals a.select) (list_all (sort_stands counts locals) a.sorts)
       (expr-if s trees accepted counts some_globals p locals h (known-row s p ApplyTemplatesRow row (λ x y. refl)) (codes "select")
       (ap (λ (r : Row). allowed_form r (codes "select")) row) a.select is.select)
-      (sorts-stand locals p a.sorts.items (parts-without s trees accepted locals p ApplyTemplatesRow is_sort h row (λ x y. refl) (λ x. refl)) is.sorts)
+      (sorts-stand locals p a.sorts (parts-without s trees accepted locals p ApplyTemplatesRow is_sort h row (λ x y. refl) (λ x. refl)) is.sorts)
 
   -- the expression that an instruction has to have
   expr-here : (locals : ℕ) (p : Place) (row : Row) (local : List ℕ) → Here locals p → row_at s.modules p ≡ row
@@ -216,10 +216,10 @@ module _ (s : Source) (trees : (m : ℕ) → m < length s.modules → IsTree (re
         (parts-without s trees accepted locals p CallTemplateRow is_with_param h is.0 (λ x y. refl) (λ x. refl)) is.2)
     kind-stands locals p ApplyImports h is = refl
     kind-stands locals p (ForEach select sorts body) h is =
-        and_from (expr_stands counts locals select && list_all (sort_stands counts locals) sorts.items) (body_stands counts locals body)
-        (and_from (expr_stands counts locals select) (list_all (sort_stands counts locals) sorts.items)
+        and_from (expr_stands counts locals select && list_all (sort_stands counts locals) sorts) (body_stands counts locals body)
+        (and_from (expr_stands counts locals select) (list_all (sort_stands counts locals) sorts)
         (expr-here locals p ForEachRow (codes "select") h is.0 (λ x y. refl) refl refl select is.1)
-        (sorts-stand locals p sorts.items (loop-sorts s trees accepted locals p h is.0) is.2))
+        (sorts-stand locals p sorts (loop-sorts s trees accepted locals p h is.0) is.2))
         (body-stands locals (body_at s.modules p) body (fits locals p (opens-row s trees accepted locals p ForEachRow h is.0 (λ x y. refl) (λ x. refl))) is.3)
     kind-stands locals p (ValueOf select) h is = expr-here locals p ValueOfRow (codes "select") h is.0 (λ x y. refl) refl refl select is.1
     kind-stands locals p (CopyOf select) h is = expr-here locals p CopyOfRow (codes "select") h is.0 (λ x y. refl) refl refl select is.1
@@ -255,8 +255,8 @@ module _ (s : Source) (trees : (m : ℕ) → m < length s.modules → IsTree (re
         (site-stands s.modules counts some_modules p h.within.«module» site is.1)
         (content-stands locals p content h (ap is_binding is.0) is.3)
     kind-stands locals p (Literal' start body) h is =
-        and_from (list_all (λ a. template_stands counts locals a.1) start.attributes.items) (body_stands counts locals body)
-        (puts-stand s trees accepted counts some_globals p locals h is.0 start.attributes.items is.1.attributes)
+        and_from (list_all (λ a. template_stands counts locals a.1) start.attributes) (body_stands counts locals body)
+        (puts-stand s trees accepted counts some_globals p locals h is.0 start.attributes is.1.attributes)
         (body-stands locals (body_at s.modules p) body (fits locals p (opens-literal s trees accepted locals p h is.0)) is.2)
     kind-stands locals p (Extension' fallbacks) h is =
         fallbacks-stand locals (children_with is_fallback s.modules p) fallbacks (extension-parts s trees accepted locals p h is.0) is.1

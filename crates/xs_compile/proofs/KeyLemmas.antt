@@ -25,7 +25,6 @@ use Rattle.xs_static.specs.Faults.{IsFirstFault}
 use Rattle.xs_static.specs.Modules.{Place, records_at}
 use Rattle.xs_trace.specs.declared.item.Site.{Site}
 use Rattle.xs_tree.specs.Shape.{IsTree}
-use Rattle.xs_xpath.specs.Exprs.{tree_from, trees_from}
 use Rattle.xs_xpath.specs.Uses.{uses_variables}
 
 -- what stands in the stylesheet is in a module of the sheet
@@ -51,9 +50,9 @@ module _ (s : Source) (trees : (m : ℕ) → m < length s.modules → IsTree (re
       let nothing = key_use_free ms accepted p within seen element read known value said-use (ap (λ (r : Row). allowed_form r (codes "use")) row) k.value
       uses in
       let free = pattern_is_free k.pattern in
-      let no-key = list_all holds_no_key (trees_from k.pattern.pattern.alternatives.items) in
-      let no-variable = not (uses_variables (tree_from k.value.expr)) in
-      let no-key-used = holds_no_key (tree_from k.value.expr) in
+      let no-key = list_all holds_no_key k.pattern.pattern in
+      let no-variable = not (uses_variables k.value.expr) in
+      let no-key-used = holds_no_key k.value.expr in
       let site = site_stands counts k.site in
       and_from (((site && free) && no-key) && no-variable) no-key-used
       (and_from ((site && free) && no-key) no-variable

@@ -13,9 +13,11 @@ mod FitLemmas
 mod FreeLemmas
 mod InstrLemmas
 mod KeyLemmas
+pub mod KindLemmas
 mod LevelLemmas
 mod MakingLemmas
 mod MentionedLemmas
+pub mod OneSheetLemmas
 mod OpeningLemmas
 mod PartLemmas
 mod RootLemmas

@@ -30,6 +30,7 @@ use Rattle.xs_declared.specs.Order.{declarations, declares, is_simplified}
 use Rattle.xs_compile.specs.Parsed.{Both, IsPattern}
 use Rattle.xs_declared.specs.Parts.{body_at, children_at, children_with, reading_at, row_at, site_at}
 use Rattle.xs_compile.specs.StandsFor.{IsSheet, StandsFor}
+use Rattle.xs_declared.specs.Modes.{modes_of}
 use Rattle.xs_compile.specs.steps.Rows.{is_binding, needs}
 use Rattle.xs_compile.specs.steps.Trees.{AreTrees, HasTree}
 use Rattle.xs_declared.specs.Places.{IsIn}
@@ -198,11 +199,11 @@ module _ (s : Source) (trees : (m : ℕ) → m < length s.modules → IsTree (re
     free = pattern_is_free_if t.pattern
 
     abbrev params : Bool
-    params = params_stand counts 0 t.params.items
+    params = params_stand counts 0 t.params
 
-    together : site ≡ true → free ≡ true → params ≡ true → body_stands counts (length t.params.items) t.body ≡ true → template_is_sound counts t ≡ true
+    together : site ≡ true → free ≡ true → params ≡ true → body_stands counts (length t.params) t.body ≡ true → template_is_sound counts t ≡ true
     together a b c e =
-        and_from ((site && free) && params) (body_stands counts (length t.params.items) t.body)
+        and_from ((site && free) && params) (body_stands counts (length t.params) t.body)
         (and_from (site && free) params (and_from site free a b) c) e
 
     rule-sound : t.site ≡ site_at s.modules p → row_at s.modules p ≡ TemplateRow → IsRule s p t → template_is_sound counts t ≡ true
@@ -218,9 +219,9 @@ module _ (s : Source) (trees : (m : ℕ) → m < length s.modules → IsTree (re
         let content = ap (λ (r : Row). content_by (reading_by r (is_top_level rs p.1) (is_in_extension rs p.1)) r (has_select s p)) row in
         let along = params-along s.modules counts.bound trees accepted p h.within h.seen shown content none in
         let many = params-many s.modules counts.bound trees accepted p.0 p.1 (places rs) in
-        let same = AllZip-long (IsBinding s) (children_with is_param s.modules p) t.params.items is.params in
+        let same = AllZip-long (IsBinding s) (children_with is_param s.modules p) t.params is.params in
         let few = passing-few (is_param_in rs p.1) (length rs) in
-        let opens : Opens s.modules (length t.params.items) p = record {
+        let opens : Opens s.modules (length t.params) p = record {
           within = h.within;
           seen = h.seen;
           shown = shown;
@@ -230,10 +231,10 @@ module _ (s : Source) (trees : (m : ℕ) → m < length s.modules → IsTree (re
         together (site-here p d t.site e)
         (template_pattern_free s.modules accepted p h.within h.seen element clean.read known (ap (λ (r : Row). allowed_form r (codes "match")) row) t.pattern
         is.pattern)
-        (params-stand 0 (children_with is_param s.modules p) t.params.items along
+        (params-stand 0 (children_with is_param s.modules p) t.params along
         (filter_passes (λ q. is_param (row_at s.modules q)) (children_at s.modules p)) is.params)
-        (body-stands s trees accepted counts some_globals some_templates some_modules small (length t.params.items) (body_at s.modules p) t.body
-        (body-along s.modules counts.bound trees accepted (length t.params.items) p opens (small p.0 h.within.«module»)) is.body)
+        (body-stands s trees accepted counts some_globals some_templates some_modules small (length t.params) (body_at s.modules p) t.body
+        (body-along s.modules counts.bound trees accepted (length t.params) p opens (small p.0 h.within.«module»)) is.body)
 
     whole-sound : t.site ≡ site_at s.modules p → is_simplified (records_at s.modules p.0) p.1 ≡ true → IsWholeModule s p t
         → template_is_sound counts t ≡ true
@@ -294,12 +295,12 @@ module _ (s : Source) (trees : (m : ℕ) → m < length s.modules → IsTree (re
       z
 
   abbrev attributes_sound : AttrSet → Bool
-  attributes_sound a = site_stands counts a.site && list_all (attribute_stands counts) a.attributes.items
+  attributes_sound a = site_stands counts a.site && list_all (attribute_stands counts) a.attributes
 
   set-sound : (p : Place) (a : AttrSet) → Declared (λ q. is_attribute_set (row_at s.modules q)) p → IsSet s p a → attributes_sound a ≡ true
   set-sound p a d is =
-      and_from (site_stands counts a.site) (list_all (attribute_stands counts) a.attributes.items) (site-here p d.0 a.site is.site)
-      (attributes-stand p a.attributes.items d.0 (set-row (row_at s.modules p) d.1) is.attributes)
+      and_from (site_stands counts a.site) (list_all (attribute_stands counts) a.attributes) (site-here p d.0 a.site is.site)
+      (attributes-stand p a.attributes d.0 (set-row (row_at s.modules p) d.1) is.attributes)
 
   pub sets-sound : (sets : List AttrSet) → AllZip (IsSet s) (all_with is_attribute_set s.modules) sets → list_all (set_is_sound counts sets) sets ≡ true
   sets-sound sets z =
@@ -333,22 +334,22 @@ few-nodes n le = let room : most_nodes + most_nodes < 2 ^ 32 = omega arith in om
 pub sheet_sound : (ms : List ModuleData) (sheet : Sheet) → AreSound ms → AreTrees ms → IsFirstFault ms None → StandsFor ms sheet
     → length (declarations ms) < 2 ^ 32 → IsSound sheet
 sheet_sound ms sheet sound are accepted stands few =
-    let s : Source = record { modules = ms; modes = stands.0 } in
-    let is : IsSheet s sheet = stands.1 in
+    let s : Source = record { modules = ms; modes = modes_of ms } in
+    let is : IsSheet s sheet = stands in
     let trees : (m : ℕ) → m < length ms → IsTree (records_at ms m) = λ m lt. (tree-of ms are m lt).tree in
     let small : (m : ℕ) → m < length ms → length (records_at ms m) + length (records_at ms m) < 2 ^ 32 =
     λ m lt. few-nodes (length (records_at ms m)) (tree-of ms are m lt).few in
     let counts = counts_of sheet in
-    let some_globals = AllZip-long (IsGlobal s) (globals ms) sheet.globals.items is.globals in
-    let some_templates = AllZip-long (IsTemplate s) (templates ms) sheet.templates.items is.templates in
-    let some_modules : length sheet.modules.items ≡ length ms = ap length is.modules ∙ length-map ms (λ (d : ModuleData). d.name) in
+    let some_globals = AllZip-long (IsGlobal s) (globals ms) sheet.globals is.globals in
+    let some_templates = AllZip-long (IsTemplate s) (templates ms) sheet.templates is.templates in
+    let some_modules : length sheet.modules ≡ length ms = ap length is.modules ∙ length-map ms (λ (d : ModuleData). d.name) in
     record {
-      templates = templates-sound s trees accepted counts some_globals some_templates some_modules small sound sheet.templates.items is.templates;
-      globals = globals-sound s trees accepted counts some_globals some_templates some_modules small sound sheet.globals.items is.globals;
-      keys = keys-sound s trees accepted counts some_globals some_templates some_modules small sound sheet.keys.items is.keys;
-      sets = sets-sound s trees accepted counts some_globals some_templates some_modules small sound sheet.sets.items is.sets;
-      few_templates = fewer (IsTemplate s) (is_template_place ms) (declarations ms) sheet.templates.items (2 ^ 32) is.templates few;
-      few_globals = fewer (IsGlobal s) (is_global ms) (declarations ms) sheet.globals.items (2 ^ 32) is.globals few;
-      few_keys = fewer (IsKey s) (λ q. is_key (row_at ms q)) (declarations ms) sheet.keys.items (2 ^ 32) is.keys few;
-      few_modules = few-modules (length sheet.modules.items) (subst (λ n. n ≤ most_modules) (sym some_modules) sound.few);
+      templates = templates-sound s trees accepted counts some_globals some_templates some_modules small sound sheet.templates is.templates;
+      globals = globals-sound s trees accepted counts some_globals some_templates some_modules small sound sheet.globals is.globals;
+      keys = keys-sound s trees accepted counts some_globals some_templates some_modules small sound sheet.keys is.keys;
+      sets = sets-sound s trees accepted counts some_globals some_templates some_modules small sound sheet.sets is.sets;
+      few_templates = fewer (IsTemplate s) (is_template_place ms) (declarations ms) sheet.templates (2 ^ 32) is.templates few;
+      few_globals = fewer (IsGlobal s) (is_global ms) (declarations ms) sheet.globals (2 ^ 32) is.globals few;
+      few_keys = fewer (IsKey s) (λ q. is_key (row_at ms q)) (declarations ms) sheet.keys (2 ^ 32) is.keys few;
+      few_modules = few-modules (length sheet.modules) (subst (λ n. n ≤ most_modules) (sym some_modules) sound.few);
     }

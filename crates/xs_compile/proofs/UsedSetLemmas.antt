@@ -330,8 +330,8 @@ module _ (s : Source) (trees : (m : ℕ) → m < length s.modules → IsTree (re
     kind-covers p (ValueOf select) h is = tt
     kind-covers p (CopyOf select) h is = tt
     kind-covers p (Copy sets body) h is =
-        covers-append used sets.items (body_sets body)
-        (set-covers p h CopyRow Known [] sets.items is.0 (known-read p CopyRow is.0 (λ x y. refl)) refl (λ rs n. refl) refl (inl refl) is.1)
+        covers-append used sets (body_sets body)
+        (set-covers p h CopyRow Known [] sets is.0 (known-read p CopyRow is.0 (λ x y. refl)) refl (λ rs n. refl) refl (inl refl) is.1)
         (body-covers (body_at s.modules p) body (body-held p (known-shown p CopyRow h is.0 (λ x y. refl))) is.2)
     kind-covers p (Number decl) h is = tt
     kind-covers p (Choose choice) h is = choice-covers p choice (known-shown p ChooseRow h is.0 (λ x y. refl)) is.1
@@ -339,8 +339,8 @@ module _ (s : Source) (trees : (m : ℕ) → m < length s.modules → IsTree (re
         body-covers (body_at s.modules p) body (body-held p (known-shown p IfRow h is.0 (λ x y. refl))) is.2
     kind-covers p (Text bytes) h is = tt
     kind-covers p (Element name sets body) h is =
-        covers-append used sets.items (body_sets body)
-        (set-covers p h ElementRow Known [] sets.items is.0 (known-read p ElementRow is.0 (λ x y. refl)) refl (λ rs n. refl) refl (inl refl) is.2)
+        covers-append used sets (body_sets body)
+        (set-covers p h ElementRow Known [] sets is.0 (known-read p ElementRow is.0 (λ x y. refl)) refl (λ rs n. refl) refl (inl refl) is.2)
         (body-covers (body_at s.modules p) body (body-held p (known-shown p ElementRow h is.0 (λ x y. refl))) is.3)
     kind-covers p (Attribute name body) h is =
         body-covers (body_at s.modules p) body (body-held p (known-shown p AttributeRow h is.0 (λ x y. refl))) is.2
@@ -350,8 +350,8 @@ module _ (s : Source) (trees : (m : ℕ) → m < length s.modules → IsTree (re
         body-covers (body_at s.modules p) body (body-held p (known-shown p MessageRow h is.0 (λ x y. refl))) is.2
     kind-covers p (Variable' site name content) h is = content-covers p content (known-shown p VariableRow h is.0 (λ x y. refl)) is.3
     kind-covers p (Literal' start body) h is =
-        covers-append used start.sets.items (body_sets body)
-        (set-covers p h Other Literal xslt_uri start.sets.items
+        covers-append used start.sets (body_sets body)
+        (set-covers p h Other Literal xslt_uri start.sets
         (literal-row (row_at s.modules p) (is_top_level (records_at s.modules p.0) p.1) (is_in_extension (records_at s.modules p.0) p.1) is.0)
         is.0 refl (λ rs n. refl) refl (inr refl) is.1.sets)
         (body-covers (body_at s.modules p) body (body-held p (literal-shown p h is.0)) is.2)

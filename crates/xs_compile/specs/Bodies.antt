@@ -1,6 +1,5 @@
 -- Which bodies of a compiled stylesheet stand for which elements: for each instruction one case.
 use Rattle.std.specs.Prelude.{◌≡◌, ℕ, not, Bool, true, false, List, [], ◌∷◌, filter, Option, Some, codes, if◌then◌else◌}
-use Rattle.std.specs.Arc.{arc_value}
 use Rattle.std.specs.List.{AllZip}
 use Rattle.std.specs.Option.{option_and_then, unwrap_or}
 use Rattle.std.specs.Str.{bytes_eq}
@@ -36,10 +35,10 @@ use Rattle.xs_tree.specs.Record.{at, attributes, uri_at}
 use Rattle.xs_declared.specs.Counted.{template_number}
 use Rattle.xs_scopes.specs.Excluded.{copied_spaces}
 use Rattle.xs_declared.specs.Labels.{IsMode, label_at, labels_in, mode_at, own_label}
-use Rattle.xs_compile.specs.Parsed.{Both, IsExpr, IsPattern, IsScope, IsValueTemplate}
+use Rattle.xs_compile.specs.Parsed.{Both, IsExpr, IsPattern, IsValueTemplate}
 use Rattle.xs_declared.specs.Parts.{body_at, children_with, name_at, pairs_at, reading_at, row_at, said_at, site_at, text_at, value_at}
 
--- The modules of a stylesheet, and its modes in an order that tells their numbers.
+-- The modules of a stylesheet, and its modes in the order that gives their numbers.
 pub record Source : Type 0 where
   pub modules : List ModuleData
   pub modes : List Name
@@ -78,7 +77,7 @@ AreSorts s p = AllZip (IsSort s) (children_with is_sort s.modules p)
 pub record IsApplied (s : Source) (p : Place) (a : Applied) : Type 0 where
   pub select : IsExprIf s p (codes "select") a.select
   pub mode : IsMode s.modes (mode_at s.modules p) a.mode
-  pub sorts : AreSorts s p a.sorts.items
+  pub sorts : AreSorts s p a.sorts
 
 -- 7.7
 abbrev pub level_named : List ℕ → Level
@@ -97,7 +96,7 @@ pub record IsNumber (s : Source) (p : Place) (d : NumberDecl) : Type 0 where
 pub record IsMadeName (s : Source) (p : Place) (n : MadeName) : Type 0 where
   pub name : IsTemplateOf s p (codes "name") n.name
   pub namespace : IsTemplateIf s p (codes "namespace") n.namespace
-  pub scope : IsScope s.modules p (arc_value n.scope)
+  pub scope : n.scope ≡ pairs_at s.modules p
 
 -- a literal element but for its content: its attributes but for those of XSLT are value templates (7.1.1)
 abbrev pub IsPutAttribute : Source → Place → ℕ → Label × ValueTemplate → Type 0
@@ -109,9 +108,9 @@ put_attributes s p = filter (λ a. not (is_xslt (uri_at (records_at s.modules p.
 
 pub record IsLiteralStart (s : Source) (p : Place) (l : LiteralStart) : Type 0 where
   pub name : l.name ≡ own_label (records_at s.modules p.0) p.1
-  pub spaces : l.spaces.items ≡ copied_spaces (records_at s.modules p.0) p.1
-  pub sets : l.sets.items ≡ labels_in (pairs_at s.modules p) (value_of (records_at s.modules p.0) p.1 xslt_uri (codes "use-attribute-sets"))
-  pub attributes : AllZip (IsPutAttribute s p) (put_attributes s p) l.attributes.items
+  pub spaces : l.spaces ≡ copied_spaces (records_at s.modules p.0) p.1
+  pub sets : l.sets ≡ labels_in (pairs_at s.modules p) (value_of (records_at s.modules p.0) p.1 xslt_uri (codes "use-attribute-sets"))
+  pub attributes : AllZip (IsPutAttribute s p) (put_attributes s p) l.attributes
 
 -- ---- bodies
 abbrev pub has_select : Source → Place → Bool
@@ -157,13 +156,13 @@ abbrev mutual
   IsKind s p ApplyImports = IsRow s p ApplyImportsRow
   -- 8
   IsKind s p (ForEach select sorts body) =
-      IsRow s p ForEachRow × IsExprOf s p (codes "select") select × AreSorts s p sorts.items × IsBody s (body_at s.modules p) body
+      IsRow s p ForEachRow × IsExprOf s p (codes "select") select × AreSorts s p sorts × IsBody s (body_at s.modules p) body
   -- 7.6.1
   IsKind s p (ValueOf select) = IsRow s p ValueOfRow × IsExprOf s p (codes "select") select
   -- 11.3
   IsKind s p (CopyOf select) = IsRow s p CopyOfRow × IsExprOf s p (codes "select") select
   -- 7.5
-  IsKind s p (Copy sets body) = IsRow s p CopyRow × AreSets s p sets.items × IsBody s (body_at s.modules p) body
+  IsKind s p (Copy sets body) = IsRow s p CopyRow × AreSets s p sets × IsBody s (body_at s.modules p) body
   -- 7.7
   IsKind s p (Number decl) = IsRow s p NumberRow × IsNumber s p decl
   -- 9.2
@@ -173,7 +172,7 @@ abbrev mutual
   -- 7.2
   IsKind s p (Text bytes) = (is_text_or_element (row_at s.modules p) ≡ true) × (bytes ≡ text_at s.modules p)
   -- 7.1.2
-  IsKind s p (Element name sets body) = IsRow s p ElementRow × IsMadeName s p name × AreSets s p sets.items × IsBody s (body_at s.modules p) body
+  IsKind s p (Element name sets body) = IsRow s p ElementRow × IsMadeName s p name × AreSets s p sets × IsBody s (body_at s.modules p) body
   -- 7.1.3
   IsKind s p (Attribute name body) = IsRow s p AttributeRow × IsMadeName s p name × IsBody s (body_at s.modules p) body
   -- 7.4

@@ -1,5 +1,5 @@
 -- Which parts of a compiled stylesheet stand for which declarations of its modules.
-use Rattle.std.specs.Prelude.{◌≡◌, ℕ, Bool, true, false, List, [], ◌∷◌, Some, None, option_map, codes}
+use Rattle.std.specs.Prelude.{◌≡◌, Bool, true, false, [], ◌∷◌, Some, None, option_map, codes}
 use Rattle.std.specs.List.{AllZip}
 use Rattle.xs_elements.specs.declared.rows.Row.{Row}
 use Rattle.xs_elements.specs.declared.rows.Row.TheVariants.{Key, Attribute}
@@ -30,7 +30,7 @@ pub record IsRule (s : Source) (p : Place) (t : Template) : Type 0 where
   pub name : t.name ≡ label_at s.modules p
   pub priority : t.priority ≡ option_map priority_in (value_at s.modules p (codes "priority"))
   pub mode : IsMode s.modes (mode_at s.modules p) t.mode
-  pub params : AllZip (IsBinding s) (children_with is_param s.modules p) t.params.items
+  pub params : AllZip (IsBinding s) (children_with is_param s.modules p) t.params
   pub body : IsBody s (body_at s.modules p) t.body
 
 -- a literal element that is a whole module: a template for the root, with the element as its content (2.3)
@@ -39,7 +39,7 @@ pub record IsWholeModule (s : Source) (p : Place) (t : Template) : Type 0 where
   pub name : t.name ≡ None
   pub priority : t.priority ≡ None
   pub mode : t.mode ≡ 0
-  pub params : t.params.items ≡ []
+  pub params : t.params ≡ []
   pub body : IsBody s (p ∷ []) t.body
 
 -- either of them
@@ -80,5 +80,5 @@ pub record IsSet (s : Source) (p : Place) (a : AttrSet) : Type 0 where
   pub site : a.site ≡ site_at s.modules p
   pub precedence : a.precedence ≡ precedence_at s.modules p.0
   pub name : label_at s.modules p ≡ Some a.name
-  pub sets : AreSets s p a.sets.items
-  pub attributes : AllZip (IsInstr s) (children_with is_attribute s.modules p) a.attributes.items
+  pub sets : AreSets s p a.sets
+  pub attributes : AllZip (IsInstr s) (children_with is_attribute s.modules p) a.attributes

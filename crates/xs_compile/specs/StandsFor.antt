@@ -3,7 +3,6 @@ use Rattle.std.specs.Prelude.{◌≡◌, ℕ, ◌&&◌, Bool, List, map, find}
 use Rattle.std.specs.List.{AllZip}
 use Rattle.std.specs.Option.{option_map_or}
 use Rattle.xs_modules.specs.Numbering.{ModuleData}
-use Rattle.xs_elements.specs.Nodes.{Name}
 use Rattle.xs_elements.specs.Rows.{is_attribute_set, is_document_element}
 use Rattle.xs_sheet.specs.declared.sheet.Sheet.{Sheet}
 use Rattle.xs_static.specs.Modules.{line_at, records_at}
@@ -13,6 +12,7 @@ use Rattle.xs_compile.specs.Bodies.{Source}
 use Rattle.xs_declared.specs.Counted.{globals, templates}
 use Rattle.xs_compile.specs.Declarations.{IsGlobal, IsKey, IsSet, IsTemplate, is_key}
 use Rattle.xs_declared.specs.Aliases.{aliases}
+use Rattle.xs_declared.specs.Modes.{modes_of}
 use Rattle.xs_declared.specs.Order.{all_with}
 use Rattle.xs_declared.specs.Output.{method}
 use Rattle.xs_declared.specs.Spaces.{strip_rules}
@@ -26,16 +26,16 @@ root_line ms = option_map_or (line_at ms 0) (find (is_root_element (records_at m
 
 -- Each list has one part for each declaration, in the order of the stylesheet: of globals, aliases and the output those that count.
 pub record IsSheet (s : Source) (sheet : Sheet) : Type 0 where
-  pub templates : AllZip (IsTemplate s) (templates s.modules) sheet.templates.items
-  pub globals : AllZip (IsGlobal s) (globals s.modules) sheet.globals.items
-  pub keys : AllZip (IsKey s) (all_with is_key s.modules) sheet.keys.items
-  pub sets : AllZip (IsSet s) (all_with is_attribute_set s.modules) sheet.sets.items
-  pub strips : sheet.strips.items ≡ strip_rules s.modules
-  pub aliases : sheet.aliases.items ≡ aliases s.modules
+  pub templates : AllZip (IsTemplate s) (templates s.modules) sheet.templates
+  pub globals : AllZip (IsGlobal s) (globals s.modules) sheet.globals
+  pub keys : AllZip (IsKey s) (all_with is_key s.modules) sheet.keys
+  pub sets : AllZip (IsSet s) (all_with is_attribute_set s.modules) sheet.sets
+  pub strips : sheet.strips ≡ strip_rules s.modules
+  pub aliases : sheet.aliases ≡ aliases s.modules
   pub method : sheet.method ≡ method s.modules
-  pub modules : sheet.modules.items ≡ map (λ d. d.name) s.modules
+  pub modules : sheet.modules ≡ map (λ d. d.name) s.modules
   pub root_line : sheet.root_line ≡ root_line s.modules
 
--- for some order of the modes, which tells their numbers
+-- the numbers of modes are by their first use
 abbrev pub StandsFor : List ModuleData → Sheet → Type 0
-StandsFor ms sheet = (modes : List Name) × IsSheet (record { modules = ms; modes = modes }) sheet
+StandsFor ms sheet = IsSheet (record { modules = ms; modes = modes_of ms }) sheet

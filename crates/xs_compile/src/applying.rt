@@ -17,6 +17,7 @@ use std::sync::Arc;
 use xs_declared::places::{said_at, text_at, value_at};
 use xs_elements::rows::Row;
 use xs_sheet::body::{Applied, InstrKind, Level, NumberDecl, SortDecl};
+use xs_sheet::items::Items;
 use xs_sheet::scoped::ScopedExpr;
 use xs_tree::Node;
 use xs_xpath::scope::Scope;
@@ -43,7 +44,7 @@ impl<'m> Compiler<'m> {
     {
         Ok(Applied {
             mode: self.mode(number, n)?,
-            sorts: self.sorts(number, n)?,
+            sorts: Items::of(self.sorts(number, n)?),
             select: self.own_expr_if(number, n, "select")?,
         })
     }

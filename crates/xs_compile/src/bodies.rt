@@ -22,6 +22,7 @@ use xs_declared::places::{row_at, said_at, site_at};
 use xs_elements::reading::Reading;
 use xs_elements::rows::Row;
 use xs_sheet::body::{Binding, Body, Choice, Content, Fallbacks, Instr, InstrKind, Passed, When};
+use xs_sheet::items::Items;
 use xs_trace::item::Site;
 use xs_tree::Node;
 
@@ -54,7 +55,9 @@ impl<'m> Compiler<'m> {
         for place in &places {
             self.add_instr(&mut instrs, place.0, place.1)?;
         }
-        Ok(Body { instrs })
+        Ok(Body {
+            instrs: Items::of(instrs),
+        })
     }
 
     /// Adds the instruction that a node of a body stands for.
@@ -141,7 +144,7 @@ impl<'m> Compiler<'m> {
         let select = self.own_expr(number, n, "select")?;
         Ok(InstrKind::ForEach {
             select,
-            sorts,
+            sorts: Items::of(sorts),
             body,
         })
     }
@@ -178,7 +181,10 @@ impl<'m> Compiler<'m> {
     {
         let whens = self.whens(number, n)?;
         let otherwise = self.otherwise(number, n)?;
-        Ok(InstrKind::Choose(Choice { whens, otherwise }))
+        Ok(InstrKind::Choose(Choice {
+            whens: Items::of(whens),
+            otherwise,
+        }))
     }
 
     /// The branches with a test of `xsl:choose` (9.2).
@@ -222,7 +228,7 @@ impl<'m> Compiler<'m> {
         match places.first() {
             Some(place) => self.body(place.0, place.1),
             None => Ok(Body {
-                instrs: Vec::new(self.alloc),
+                instrs: Items::new(self.alloc),
             }),
         }
     }
@@ -236,7 +242,10 @@ impl<'m> Compiler<'m> {
     {
         let sets = self.own_sets(number, n)?;
         let body = self.body(number, n)?;
-        Ok(InstrKind::Copy { sets, body })
+        Ok(InstrKind::Copy {
+            sets: Items::of(sets),
+            body,
+        })
     }
 
     /// An element (7.1.2).
@@ -249,7 +258,11 @@ impl<'m> Compiler<'m> {
         let body = self.body(number, n)?;
         let sets = self.own_sets(number, n)?;
         let name = self.made_name(number, n)?;
-        Ok(InstrKind::Element { name, sets, body })
+        Ok(InstrKind::Element {
+            name,
+            sets: Items::of(sets),
+            body,
+        })
     }
 
     /// An attribute (7.1.3).
@@ -332,7 +345,9 @@ impl<'m> Compiler<'m> {
             let body = self.body(place.0, place.1)?;
             bodies.push(body)?;
         }
-        Ok(Fallbacks { bodies })
+        Ok(Fallbacks {
+            bodies: Items::of(bodies),
+        })
     }
 
     /// The parameters that an instruction passes (11.6).
@@ -349,7 +364,9 @@ impl<'m> Compiler<'m> {
             let param = self.binding(place.0, place.1)?;
             params.push(param)?;
         }
-        Ok(Passed { params })
+        Ok(Passed {
+            params: Items::of(params),
+        })
     }
 
     /// A binding of a variable or a parameter (11).
@@ -391,7 +408,7 @@ impl<'m> Compiler<'m> {
         ensures { IfOk result (IsContent (source_of self.now) («number», n)) }
     {
         let body = self.body(number, n)?;
-        if body.instrs.is_empty() {
+        if body.instrs.as_slice().is_empty() {
             Ok(Content::Empty)
         } else {
             Ok(Content::Body(body))

@@ -29,6 +29,7 @@ use xs_declared::places::Place;
 use xs_declared::spaces::strips;
 use xs_modules::Modules;
 use xs_scopes::setting::is_element;
+use xs_sheet::items::Items;
 use xs_sheet::sheet::Sheet;
 use xs_static::{StaticFault, first_fault};
 use xs_trace::text::TextBuf;
@@ -151,14 +152,14 @@ fn sheet_by<'m>(
     let alloc = compiler.alloc;
     let modules = compiler.modules;
     Ok(Sheet {
-        templates: compiler.templates(declared)?,
-        globals: compiler.globals(declared, found)?,
-        keys: compiler.keys(declared)?,
-        sets: compiler.sets(declared)?,
-        strips: strips(alloc, modules, declared)?,
-        aliases: aliases(alloc, modules, declared)?,
+        templates: Items::of(compiler.templates(declared)?),
+        globals: Items::of(compiler.globals(declared, found)?),
+        keys: Items::of(compiler.keys(declared)?),
+        sets: Items::of(compiler.sets(declared)?),
+        strips: Items::of(strips(alloc, modules, declared)?),
+        aliases: Items::of(aliases(alloc, modules, declared)?),
         method: method(modules, declared),
-        modules: names(alloc, modules)?,
+        modules: Items::of(names(alloc, modules)?),
         root_line: root_line(modules),
     })
 }

@@ -12,7 +12,7 @@ ghost use Rattle.xs_declared.specs.Parts.{name_at};
 ghost use Rattle.xs_compile.specs.Parsed.{IsScope};
 ghost use Rattle.xs_compile.specs.Slots.{slot_at};
 ghost use Rattle.xs_declared.specs.Tables.{place_in};
-ghost use Rattle.xs_declared.specs.Modes.{modes_in};
+ghost use Rattle.xs_declared.specs.Modes.{modes_of};
 ghost use Rattle.xs_scopes.specs.Setting.{setting_of};
 ghost use Rattle.xs_compile.specs.steps.State.{IsReady, IsState, modules_of, source_of};
 ghost use Rattle.xs_compile.specs.steps.Tables.{HasLocals, scopes_in, scopes_of};
@@ -176,7 +176,7 @@ impl<'m> Compiler<'m> {
     /// The number of an element's mode, 0 without one (5.7).
     pub(crate) fn mode(&self, number: u32, n: Node) -> Result<u32, AllocError>
         requires ready { IsReady self.now («number», n) }
-        ensures { IfOk result (IsMode (modes_in self.now.modes)
+        ensures { IfOk result (IsMode (modes_of (modules_of self.now))
             (mode_at (modules_of self.now) («number», n))) }
     {
         match mode_at(tree_of(self.modules, number), n) {

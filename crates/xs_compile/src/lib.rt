@@ -6,6 +6,7 @@ mod binding;
 mod bodies;
 mod compiled;
 mod compiler;
+pub mod laws;
 mod making;
 mod own;
 mod parsed;

@@ -31,7 +31,8 @@ use xs_elements::rows::XSLT_URI;
 use xs_elements::scope::value_of;
 use xs_modules::Modules;
 use xs_sheet::body::{LiteralStart, MadeName};
-use xs_sheet::scoped::ValueTemplate;
+use xs_sheet::items::Items;
+use xs_sheet::scoped::{Namespaces, ValueTemplate};
 use xs_trace::event::Label;
 use xs_trace::text::TextBuf;
 use xs_tree::{Node, Tree};
@@ -91,7 +92,7 @@ impl<'m> Compiler<'m> {
         Ok(MadeName {
             name: self.template_of(number, n, &scope, "name")?,
             namespace: self.template_if(number, n, &scope, "namespace")?,
-            scope,
+            scope: Namespaces::of(scope),
         })
     }
 
@@ -105,9 +106,9 @@ impl<'m> Compiler<'m> {
         let scope = self.scope(number, n)?;
         Ok(LiteralStart {
             name: self.label(number, n)?,
-            spaces: self.spaces(number, n)?,
-            sets: self.literal_sets(number, n, &scope)?,
-            attributes: self.put_attributes(number, n, &scope)?,
+            spaces: Items::of(self.spaces(number, n)?),
+            sets: Items::of(self.literal_sets(number, n, &scope)?),
+            attributes: Items::of(self.put_attributes(number, n, &scope)?),
         })
     }
 

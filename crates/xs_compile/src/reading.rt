@@ -20,7 +20,9 @@ use std::alloc::AllocError;
 use std::sync::Arc;
 use xs_declared::labels::{label_in, labels_in};
 use xs_declared::places::{said_at, value_at};
-use xs_sheet::scoped::{ScopedExpr, ScopedPattern, ValueTemplate};
+use xs_sheet::scoped::{
+    Namespaces, ParsedExpr, ParsedPattern, Parts, ScopedExpr, ScopedPattern, ValueTemplate,
+};
 use xs_trace::event::Label;
 use xs_tree::Node;
 use xs_xpath::scope::Scope;
@@ -42,7 +44,10 @@ impl<'m> Compiler<'m> {
         let kept = Arc::try_clone(scope)?;
         let mut expr = parsed::expr(self.alloc, text, scope)?;
         self.bind(&mut expr, number, n);
-        Ok(ScopedExpr { expr, scope: kept })
+        Ok(ScopedExpr {
+            expr: ParsedExpr::of(expr),
+            scope: Namespaces::of(kept),
+        })
     }
 
     /// The expression in an attribute that has to be there.
@@ -101,7 +106,10 @@ impl<'m> Compiler<'m> {
     {
         let pattern = parsed::pattern(self.alloc, text, scope)?;
         let scope = Arc::try_clone(scope)?;
-        Ok(ScopedPattern { pattern, scope })
+        Ok(ScopedPattern {
+            pattern: ParsedPattern::of(pattern),
+            scope: Namespaces::of(scope),
+        })
     }
 
     /// The pattern in an attribute that has to be there.
@@ -162,7 +170,10 @@ impl<'m> Compiler<'m> {
         let mut parts = parsed::template(self.alloc, text, scope)?;
         self.bind_parts(&mut parts, number, n);
         let scope = Arc::try_clone(scope)?;
-        Ok(ValueTemplate { parts, scope })
+        Ok(ValueTemplate {
+            parts: Parts::of(parts),
+            scope: Namespaces::of(scope),
+        })
     }
 
     /// The value template in an attribute that has to be there.

@@ -31,6 +31,7 @@ use xs_elements::rows::Row;
 use xs_modules::Modules;
 use xs_sheet::body::{Binding, Body, Instr};
 use xs_sheet::declarations::{AttrSet, Global, KeyDecl, Template};
+use xs_sheet::items::Items;
 use xs_tree::Node;
 
 /// Whether a declaration is one of a key.
@@ -94,7 +95,7 @@ impl<'m> Compiler<'m> {
             imports_from: imports_from_at(self.modules, number),
             priority: self.priority(number, n),
             mode: self.mode(number, n)?,
-            params: self.params(number, n)?,
+            params: Items::of(self.params(number, n)?),
             body: self.body(number, n)?,
             pattern: self.pattern_if(number, n, &scope, "match")?,
             name: self.name_if(number, n, &scope)?,
@@ -131,8 +132,10 @@ impl<'m> Compiler<'m> {
             name: None,
             priority: None,
             mode: 0,
-            params: Vec::new(self.alloc),
-            body: Body { instrs },
+            params: Items::new(self.alloc),
+            body: Body {
+                instrs: Items::of(instrs),
+            },
         })
     }
 
@@ -249,8 +252,8 @@ impl<'m> Compiler<'m> {
             site: site_at(self.modules, number, n),
             precedence: precedence_at(self.modules, number),
             name: self.name(number, n, &scope)?,
-            sets: self.sets_of(number, n, &scope)?,
-            attributes: self.set_attributes(number, n)?,
+            sets: Items::of(self.sets_of(number, n, &scope)?),
+            attributes: Items::of(self.set_attributes(number, n)?),
         })
     }
 

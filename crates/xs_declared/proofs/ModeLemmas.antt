@@ -1,13 +1,17 @@
 -- Modes, told by their places.
-use Rattle.std.proofs.Common.{◌≡◌, ◌∙◌, ℕ, suc, ◌+◌, ◌<◌, ap, refl, sym, arith, length, List, [], ◌∷◌, ◌++◌, map, cond, Bool, true, false, Option, None, Some}
+use Rattle.std.proofs.Common.{◌≡◌, ◌∙◌, ℕ, suc, ◌+◌, ◌<◌, ap, refl, sym, arith, drop, get_or, length, List, [], ◌∷◌, ◌++◌, map, cond, Bool, true, false, Option, None, Some}
 use Rattle.std.proofs.lemmas.Bool.{and_from, false≢true, ltb-true, or_right}
+use Rattle.std.proofs.lemmas.List.{drop-map, map-append}
+use Rattle.std.proofs.lemmas.List.FromFn.{map-range_with_len_more}
 use Rattle.std.proofs.lemmas.Option.{none-some}
 use Rattle.std.proofs.lemmas.Slice.Eq.{bytes_eq-Decides}
-use Rattle.std.specs.List.{list_any, position, position_or_len}
+use Rattle.std.specs.List.{list_any, position, position_or_len, range_with_len}
 use Rattle.std.specs.Option.{option_map_or}
 use Rattle.std.specs.Prelude.{◌||◌, nat_lt, not, option_map, if◌then◌else◌}
 use Rattle.std.specs.Str.{bytes_eq}
 use Rattle.xs_elements.specs.Nodes.{Name, is_same_name}
+use Rattle.xs_declared.specs.Modes.{with_mode, with_modes}
+use Rattle.xs_declared.proofs.CountedLemmas.{drop_next}
 use Rattle.xs_declared.proofs.NumberLemmas.{number_from, position_is}
 
 -- of a list the first that passes a test, if one does
@@ -58,6 +62,16 @@ module _ {K N : Type 0} (f : K → N) (same : N → Bool) where
   pub mode_noted : (k : K) (ks new : List K) → own k ≡ true → new ≡ (if list_any own ks then ks else ks ++ k ∷ []) → list_any same (map f new) ≡ true
   mode_noted k ks new is e = ap (λ (xs : List K). list_any same (map f xs)) e ∙ noted-by k is ks (list_any own ks) refl
 
+  gained-by : (k : K) (ks : List K) (b : Bool) → list_any own ks ≡ b
+      → map f (if b then ks else ks ++ k ∷ []) ≡ (if list_any same (map f ks) then map f ks else map f ks ++ f k ∷ [])
+  gained-by k ks true e = ap (λ (c : Bool). if c then map f ks else map f ks ++ f k ∷ []) (sym (any-mapped ks ∙ e))
+  gained-by k ks false e =
+      map-append f ks (k ∷ []) ∙ ap (λ (c : Bool). if c then map f ks else map f ks ++ f k ∷ []) (sym (any-mapped ks ∙ e))
+
+  pub mode_gained : (k : K) (ks new : List K) → new ≡ (if list_any own ks then ks else ks ++ k ∷ [])
+      → map f new ≡ (if list_any same (map f ks) then map f ks else map f ks ++ f k ∷ [])
+  mode_gained k ks new e = ap (map f) e ∙ gained-by k ks (list_any own ks) refl
+
   -- ---- the place of one that was noted
   pub mode_there : (ks : List K) → list_any same (map f ks) ≡ true → ◌≡◌ {A = Option ℕ} None (position own ks) → ⊥
   mode_there ks h e = none-some (0 + position_or_len own ks) (e ∙ sym (position_is own ks) ∙ found own 0 ks (sym (any-mapped ks) ∙ h))
@@ -72,3 +86,20 @@ module _ {K N : Type 0} (f : K → N) (same : N → Bool) where
 pub mode_same : (name : Name) → is_same_name name name ≡ true
 mode_same name =
     and_from (bytes_eq name.0 name.0) (bytes_eq name.1 name.1) ((bytes_eq-Decides name.0 name.0).1 refl) ((bytes_eq-Decides name.1 name.1).1 refl)
+
+-- ---- the items of a mapped list from one on
+pub drop_mapped : {X Y : Type 0} (f : X → Y) (xs : List X) (i : ℕ) (x : X) → i < length xs → x ≡ get_or xs i x
+    → drop i (map f xs) ≡ f x ∷ drop (i + 1) (map f xs)
+drop_mapped f xs i x lt is =
+    drop-map f i xs ∙ ap (map f) (drop_next xs i x lt is) ∙ ap (λ ys. f x ∷ ys) (sym (drop-map f (i + 1) xs))
+
+-- ---- modes one after another
+pub with_modes_append : (names : List Name) (xs ys : List (Option Name)) → with_modes names (xs ++ ys) ≡ with_modes (with_modes names xs) ys
+with_modes_append names [] ys = refl
+with_modes_append names (x ∷ xs) ys = with_modes_append (with_mode names x) xs ys
+
+-- the mode of the next node
+pub with_modes_more : (names : List Name) (mode : ℕ → Option Name) (n : ℕ)
+    → with_modes names (map mode (range_with_len 0 (n + 1))) ≡ with_mode (with_modes names (map mode (range_with_len 0 n))) (mode n)
+with_modes_more names mode n =
+    ap (with_modes names) (map-range_with_len_more mode 0 n n (omega arith)) ∙ with_modes_append names (map mode (range_with_len 0 n)) (mode n ∷ [])

@@ -3,7 +3,8 @@
 ghost use Rattle.std.specs.Prelude.{◌≡◌, ◌+◌, ◌<◌, ℕ, true, length, option_map};
 ghost use Rattle.std.specs.Prelude.{List, Option, Some, IfOk, OnOk};
 ghost use Rattle.xs_declared.specs.Labels.{IsMode};
-ghost use Rattle.xs_declared.specs.Modes.{HaveModes, HasModes, has_mode, modes_in, tree_mode};
+ghost use Rattle.xs_declared.specs.Modes.{HaveModes, HasModes, has_mode, modes_in, modes_of};
+ghost use Rattle.xs_declared.specs.Modes.{tree_mode, tree_modes, with_mode, with_modes};
 ghost use Rattle.xs_elements.specs.Nodes.{Name, name_data};
 ghost use Rattle.xs_modules.specs.Results.{modules_data};
 ghost use Rattle.xs_tree.specs.Record.{Record};
@@ -15,7 +16,7 @@ use xs_elements::scope::{Expanded, expanded, value_of};
 use xs_modules::Modules;
 use xs_tree::{Kind, Node, Tree};
 
-/// The modes that a stylesheet names, in order.
+/// The modes that a stylesheet names, by first use in the order of its modules and their nodes.
 #[derive(Drop)]
 pub struct Modes<'m> {
     /// Each name once.
@@ -46,8 +47,10 @@ fn noted_at(tree: &Tree, n: Node) -> Option<Expanded<'_>>
 
 impl<'m> Modes<'m> {
     /// Those of all modules.
+    #[tactic(auto, unfolding(crate::specs::Modes::modes_of))]
     pub fn of(alloc: Global, modules: &'m Modules) -> Result<Modes<'m>, AllocError>
-        ensures { IfOk result (HaveModes (modules_data modules.now)) }
+        ensures modes { IfOk result (HaveModes (modules_data modules.now)) }
+        ensures order { IfOk result (λ m. modes_in m ≡ modes_of (modules_data modules.now)) }
     {
         let mut modes = Modes {
             names: IndexSet::new(alloc),
@@ -63,6 +66,8 @@ impl<'m> Modes<'m> {
         ensures modes { OnOk result (HasModes tree.now (length tree.now) self.new) }
         ensures kept { OnOk result ((rs : List Record) (count : ℕ) → HasModes rs count self.old
             → HasModes rs count self.new) }
+        ensures order { OnOk result (modes_in self.new
+            ≡ with_modes (modes_in self.old) (tree_modes tree.now)) }
     {
         for place in 0..tree.len() as u32 {
             self.note(noted_at(tree, Node::at(place)))?;
@@ -75,6 +80,8 @@ impl<'m> Modes<'m> {
         ensures noted { OnOk result (has_mode self.new (option_map name_data mode.entry) ≡ true) }
         ensures kept { OnOk result ((mode : Option Name) → has_mode self.old mode ≡ true
             → has_mode self.new mode ≡ true) }
+        ensures order { OnOk result (modes_in self.new
+            ≡ with_mode (modes_in self.old) (option_map name_data mode.entry)) }
     {
         if let Some(name) = mode {
             self.names.insert(name)?;

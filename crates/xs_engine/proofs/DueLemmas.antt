@@ -16,17 +16,16 @@ use Rattle.xs_engine.specs.declared.reply.Reply.{Reply}
 use Rattle.xs_engine.specs.Answer.{Answer, usage, read_fault, not_built, refused_file}
 use Rattle.xs_engine.specs.Job.{Job}
 use Rattle.xs_engine.specs.Read.{Read, read, bad}
+use Rattle.xs_compile.proofs.OneSheetLemmas.{one_sheet}
 use Rattle.xs_compile.specs.StandsFor.{StandsFor}
 use Rattle.xs_sheet.specs.declared.sheet.Sheet.{Sheet}
 use Rattle.xs_engine.specs.Built.{is_built}
 use Rattle.xs_engine.specs.Evaluation.{IsEvaluatedFrom}
-use Rattle.xs_engine.specs.Fetches.{ReadsSheet}
 use Rattle.xs_engine.specs.Run.{source_of, module_name}
 use Rattle.xs_engine.specs.Due.{IsFile, IsReadAnswer, IsBytesAnswer, IsSheetAnswer, IsFaultlessAnswer, IsStaticAnswer, IsModulesAnswer, IsEndAnswer}
 use Rattle.xs_engine.specs.Due.{IsAnswer, IsRunAnswer, Owed, fault, own, IsDue}
 use Rattle.xs_engine.proofs.FirstFaultLemmas.{one_fault}
 use Rattle.xs_engine.proofs.OneAnswerLemmas.{one-evaluated}
-use Rattle.xs_engine.proofs.SameBuiltLemmas.{sheet-built}
 use Rattle.xs_engine.specs.Headline.{OnlyDue}
 use Rattle.xs_engine.specs.Reply.{FileGives, IsCheckAnswer, IsChecked, reply_of}
 
@@ -181,31 +180,29 @@ one_name xs ys m n e f =
 
 -- ---- files give one answer alone
 
--- two compiled stylesheets that stand for the same modules have one answer on a source
-module _ (files : Files) (job : Job) (modules : List ModuleData) (source : List ℕ) (sheet other : Sheet) (stands : StandsFor modules sheet)
-    (also : StandsFor modules other) (a b : Answer) where
-  over_read : (found : Read (List Record)) → IsReadAnswer job sheet source found a → IsReadAnswer job other source found b → a ≡ b
-  over_read (read records) p q = one-evaluated job modules sheet other stands also records a b p q
+-- a compiled stylesheet has one on a source
+module _ (files : Files) (job : Job) (source : List ℕ) (sheet : Sheet) (a b : Answer) where
+  over_read : (found : Read (List Record)) → IsReadAnswer job sheet source found a → IsReadAnswer job sheet source found b → a ≡ b
+  over_read (read records) p q = one-evaluated job sheet records a b p q
   over_read (bad number line) p q = p ∙ sym q
 
-  over_bytes : (bytes : Option (List ℕ)) → IsBytesAnswer job sheet source bytes a → IsBytesAnswer job other source bytes b → a ≡ b
+  over_bytes : (bytes : Option (List ℕ)) → IsBytesAnswer job sheet source bytes a → IsBytesAnswer job sheet source bytes b → a ≡ b
   over_bytes None p q = p ∙ sym q
   over_bytes (Some bytes) p q = over_read (source_of bytes) p q
 
-  over_built : (built : Bool) → IsSheetAnswer built (Some files) job sheet source a → IsSheetAnswer built (Some files) job other source b → a ≡ b
-  over_built false p q = p ∙ sym q
-  over_built true p q =
+  over_sheet : (built : Bool) → IsSheetAnswer built (Some files) job sheet source a → IsSheetAnswer built (Some files) job sheet source b → a ≡ b
+  over_sheet false p q = p ∙ sym q
+  over_sheet true p q =
       let same : p.0 ≡ q.0 = sym p.1 ∙ q.1 in
       over_bytes q.0 (subst (λ bytes. IsBytesAnswer job sheet source bytes a) same p.2) q.2
 
-  over_sheets : IsSheetAnswer (is_built sheet) (Some files) job sheet source a → IsSheetAnswer (is_built other) (Some files) job other source b → a ≡ b
-  over_sheets p q =
-      over_built (is_built other)
-      (subst (λ built. IsSheetAnswer built (Some files) job sheet source a) (sheet-built modules stands.0 also.0 sheet other stands.1 also.1) p) q
-
+-- and modules have one compiled stylesheet
 over_run : (files : Files) (job : Job) (modules : List ModuleData) (source : List ℕ) (a b : Answer) → IsRunAnswer (Some files) job modules source a
     → IsRunAnswer (Some files) job modules source b → a ≡ b
-over_run files job modules source a b p q = over_sheets files job modules source p.sheet q.sheet p.stands q.stands a b p.answers q.answers
+over_run files job modules source a b p q =
+    let same : p.sheet ≡ q.sheet = one_sheet modules p.sheet q.sheet p.stands q.stands in
+    over_sheet files job source q.sheet a b (is_built q.sheet)
+    (subst (λ (s : Sheet). IsSheetAnswer (is_built s) (Some files) job s source a) same p.answers) q.answers
 
 over_source : (files : Files) (job : Job) (modules : List ModuleData) (a b : Answer) (s : Option (List ℕ)) → IsFaultlessAnswer s (Some files) job modules a
     → IsFaultlessAnswer s (Some files) job modules b → a ≡ b

@@ -41,7 +41,7 @@ messages-kept c k keeps = ap messages_of keeps.items ∙ untimed-messages c.pass
 
 -- a source that is stripped, by the rules of the stylesheet
 pub from_stripped : {E : Type 0} (r : Result Reply E) (job : Job) (sheet : Sheet) (rules : List StripRule) (source tree : List Record)
-    → rules ≡ sheet.strips.items → tree ≡ without (stripped rules source) source → IfOk r (λ reply. IsEvaluatedOn job sheet tree (reply_of reply))
+    → rules ≡ sheet.strips → tree ≡ without (stripped rules source) source → IfOk r (λ reply. IsEvaluatedOn job sheet tree (reply_of reply))
     → IfOk r (λ reply. IsEvaluatedFrom job sheet source (reply_of reply))
 from_stripped r job sheet rules source tree same is over =
     subst (λ t. IfOk r (λ reply. IsEvaluatedOn job sheet t (reply_of reply))) (is ∙ ap (λ rs. without (stripped rs source) source) same) over
@@ -62,15 +62,15 @@ root_kept job w z runner task k same is keeps =
 module _ (job : Job) (w : World) (z : Settled) (settles : SettlesAll w job.given job.budget (settled_of z)) where
   -- the run ended in a global
   pub ended_in_globals : {E : Type 0} (r : Result Reply E) (s : Spot) → z.end ≡ Some s
-      → IfOk r (λ reply. reply_of reply ≡ stopped_answer w.sheet.modules.items s (z.says.items ++ []) z.ticks)
+      → IfOk r (λ reply. reply_of reply ≡ stopped_answer w.sheet.modules s (z.says.items ++ []) z.ticks)
       → IfOk r (λ reply. IsEvaluated job w (reply_of reply))
   ended_in_globals (Err e) s is same = tt
   ended_in_globals (Ok reply) s is same =
       in_globals {t = told_in z} {s = s} (subst (λ e. SettlesAll w job.given job.budget (settled_by e (told_in z))) is settles)
-      (same ∙ ap (λ says. stopped_answer w.sheet.modules.items s says z.ticks) (append-nil z.says.items))
+      (same ∙ ap (λ says. stopped_answer w.sheet.modules s says z.ticks) (append-nil z.says.items))
 
   module _ (k : Kept) (none : z.end ≡ None) (keeps : Keeps (root_cut job w (told_in z)) k) where
-    from_root : (a : Answer) → IsCutAnswer w.sheet.modules.items (told_in z) (root_cut job w (told_in z)) a → IsEvaluated job w a
+    from_root : (a : Answer) → IsCutAnswer w.sheet.modules (told_in z) (root_cut job w (told_in z)) a → IsEvaluated job w a
     from_root a is = in_root {t = told_in z} (subst (λ e. SettlesAll w job.given job.budget (settled_by e (told_in z))) none settles) is
 
     -- the cut of the root's trace ended as the run that was kept
@@ -89,51 +89,51 @@ module _ (job : Job) (w : World) (z : Settled) (settles : SettlesAll w job.given
         same ∙ ap (λ ms. whole_answer (z.says.items ++ ms) (events_of {H = Task} (marks_of k.items.items)) (z.ticks + k.ticks)) (messages-kept c k keeps)
         ∙ ap (λ es. whole_answer (z.says.items ++ messages_of c.passed) es (z.ticks + k.ticks)) (events-kept c k keeps)
         ∙ ap (λ n. whole_answer (z.says.items ++ messages_of c.passed) (events_of c.passed) (z.ticks + n)) keeps.ticks in
-        from_root (reply_of reply) (subst (IsCutAnswer w.sheet.modules.items (told_in z) c) (sym all)
-        (reported w.sheet.modules.items c.passed (z.says.items ++ messages_of c.passed) (z.ticks + tick_count c.passed) c.end ended.Whole
+        from_root (reply_of reply) (subst (IsCutAnswer w.sheet.modules (told_in z) c) (sym all)
+        (reported w.sheet.modules c.passed (z.says.items ++ messages_of c.passed) (z.ticks + tick_count c.passed) c.end ended.Whole
         (ends_as ended.Whole is)))
 
     -- or it ended in a fault, or at a limit
     pub stopped_in_root : {E : Type 0} (r : Result Reply E) (s : Spot)
-        → IsEndAnswer w.sheet.modules.items (root_cut job w (told_in z)).end (root_cut job w (told_in z)).passed
+        → IsEndAnswer w.sheet.modules (root_cut job w (told_in z)).end (root_cut job w (told_in z)).passed
         (z.says.items ++ messages_of (root_cut job w (told_in z)).passed) (z.ticks + tick_count (root_cut job w (told_in z)).passed)
-        (stopped_answer w.sheet.modules.items s (z.says.items ++ messages_of (root_cut job w (told_in z)).passed)
+        (stopped_answer w.sheet.modules s (z.says.items ++ messages_of (root_cut job w (told_in z)).passed)
         (z.ticks + tick_count (root_cut job w (told_in z)).passed))
-        → IfOk r (λ reply. reply_of reply ≡ stopped_answer w.sheet.modules.items s (z.says.items ++ messages_of {H = Task} (marks_of k.items.items))
+        → IfOk r (λ reply. reply_of reply ≡ stopped_answer w.sheet.modules s (z.says.items ++ messages_of {H = Task} (marks_of k.items.items))
         (z.ticks + k.ticks))
         → IfOk r (λ reply. IsEvaluated job w (reply_of reply))
     stopped_in_root (Err e) s is same = tt
     stopped_in_root (Ok reply) s is same =
         let c = root_cut job w (told_in z) in
-        let names = w.sheet.modules.items in
+        let names = w.sheet.modules in
         let all : reply_of reply ≡ stopped_answer names s (z.says.items ++ messages_of c.passed) (z.ticks + tick_count c.passed) =
         same ∙ ap (λ ms. stopped_answer names s (z.says.items ++ ms) (z.ticks + k.ticks)) (messages-kept c k keeps)
         ∙ ap (λ n. stopped_answer names s (z.says.items ++ messages_of c.passed) (z.ticks + n)) keeps.ticks in
         from_root (reply_of reply) (subst (IsCutAnswer names (told_in z) c) (sym all) is)
 
     pub fault_in_root : {E : Type 0} (r : Result Reply E) (s : Spot) → k.ended ≡ ended.Fault s
-        → IfOk r (λ reply. reply_of reply ≡ stopped_answer w.sheet.modules.items s (z.says.items ++ messages_of {H = Task} (marks_of k.items.items))
+        → IfOk r (λ reply. reply_of reply ≡ stopped_answer w.sheet.modules s (z.says.items ++ messages_of {H = Task} (marks_of k.items.items))
         (z.ticks + k.ticks))
         → IfOk r (λ reply. IsEvaluated job w (reply_of reply))
     fault_in_root r s is same =
         let c = root_cut job w (told_in z) in
-        stopped_in_root r s (reported w.sheet.modules.items c.passed (z.says.items ++ messages_of c.passed) (z.ticks + tick_count c.passed) c.end
+        stopped_in_root r s (reported w.sheet.modules c.passed (z.says.items ++ messages_of c.passed) (z.ticks + tick_count c.passed) c.end
         (ended.Fault s) (ends_as (ended.Fault s) is)) same
 
     pub spent_in_root : {E : Type 0} (r : Result Reply E) (s : Spot) → k.ended ≡ ended.Spent s
-        → IfOk r (λ reply. reply_of reply ≡ stopped_answer w.sheet.modules.items s (z.says.items ++ messages_of {H = Task} (marks_of k.items.items))
+        → IfOk r (λ reply. reply_of reply ≡ stopped_answer w.sheet.modules s (z.says.items ++ messages_of {H = Task} (marks_of k.items.items))
         (z.ticks + k.ticks))
         → IfOk r (λ reply. IsEvaluated job w (reply_of reply))
     spent_in_root r s is same =
         let c = root_cut job w (told_in z) in
-        stopped_in_root r s (reported w.sheet.modules.items c.passed (z.says.items ++ messages_of c.passed) (z.ticks + tick_count c.passed) c.end
+        stopped_in_root r s (reported w.sheet.modules c.passed (z.says.items ++ messages_of c.passed) (z.ticks + tick_count c.passed) c.end
         (ended.Spent s) (ends_as (ended.Spent s) is)) same
 
     pub full_in_root : {E : Type 0} (r : Result Reply E) (s : Spot) → k.ended ≡ ended.Full s
-        → IfOk r (λ reply. reply_of reply ≡ stopped_answer w.sheet.modules.items s (z.says.items ++ messages_of {H = Task} (marks_of k.items.items))
+        → IfOk r (λ reply. reply_of reply ≡ stopped_answer w.sheet.modules s (z.says.items ++ messages_of {H = Task} (marks_of k.items.items))
         (z.ticks + k.ticks))
         → IfOk r (λ reply. IsEvaluated job w (reply_of reply))
     full_in_root r s is same =
         let c = root_cut job w (told_in z) in
-        stopped_in_root r s (reported w.sheet.modules.items c.passed (z.says.items ++ messages_of c.passed) (z.ticks + tick_count c.passed) c.end
+        stopped_in_root r s (reported w.sheet.modules c.passed (z.says.items ++ messages_of c.passed) (z.ticks + tick_count c.passed) c.end
         (ended.Full s) (ends_as (ended.Full s) is)) same

@@ -10,13 +10,6 @@ pub mod ItemLemmas
 pub mod JobLemmas
 pub mod OneAnswerLemmas
 pub mod OneOrderLemmas
-pub mod SameBuiltLemmas
-pub mod SameKindLemmas
-pub mod SameModeLemmas
-pub mod SamePartLemmas
-pub mod SameRuleLemmas
-pub mod SameSettlingLemmas
-pub mod SameTemplateLemmas
-pub mod SameTraceLemmas
+pub mod OneSettlingLemmas
 pub mod SheetLemmas
 pub mod StripLemmas

@@ -34,10 +34,10 @@ abbrev mutual
   row_is_built (more_of-Instr site kind rest) = kind_is_built kind && row_is_built rest
 
   pub kind_is_built : InstrKind → Bool
-  kind_is_built (ApplyTemplates nodes passed) = is_none nodes.sorts.items && passed_is_built passed
+  kind_is_built (ApplyTemplates nodes passed) = is_none nodes.sorts && passed_is_built passed
   kind_is_built (CallTemplate template passed) = passed_is_built passed
   kind_is_built ApplyImports = true
-  kind_is_built (ForEach select sorts body) = is_none sorts.items && body_is_built body
+  kind_is_built (ForEach select sorts body) = is_none sorts && body_is_built body
   kind_is_built (ValueOf select) = true
   kind_is_built (CopyOf select) = false
   kind_is_built (Copy sets body) = false
@@ -51,7 +51,7 @@ abbrev mutual
   kind_is_built (Pi name body) = false
   kind_is_built (Message terminate body) = body_is_built body
   kind_is_built (Variable' site name content) = content_is_built content
-  kind_is_built (Literal start body) = is_none start.sets.items && is_none start.attributes.items && body_is_built body
+  kind_is_built (Literal start body) = is_none start.sets && is_none start.attributes && body_is_built body
   kind_is_built (Extension fallbacks) = fallbacks_are_built fallbacks
 
   pub content_is_built : Content → Bool
@@ -90,7 +90,7 @@ abbrev pub binding_is_built : Binding → Bool
 binding_is_built b = content_is_built b.content
 
 abbrev pub template_is_built : Template → Bool
-template_is_built t = list_all binding_is_built t.params.items && body_is_built t.body
+template_is_built t = list_all binding_is_built t.params && body_is_built t.body
 
 abbrev pub global_is_built : Global → Bool
 global_is_built g = binding_is_built g.binding
@@ -102,5 +102,5 @@ writes_text TextMethod = true
 -- The result is text (16.3), and there are no keys (12.2), attribute sets (7.1.4) and aliases (7.1.1).
 abbrev pub is_built : Sheet → Bool
 is_built s =
-    writes_text s.method && is_none s.keys.items && is_none s.sets.items && is_none s.aliases.items && list_all template_is_built s.templates.items
-    && list_all global_is_built s.globals.items
+    writes_text s.method && is_none s.keys && is_none s.sets && is_none s.aliases && list_all template_is_built s.templates
+    && list_all global_is_built s.globals

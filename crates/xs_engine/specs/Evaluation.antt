@@ -39,9 +39,9 @@ root_cut job w t = cut (task_trace (with_globals w t.values) (root_task (with_gl
 -- end in either.
 pub data IsEvaluated (job : Job) (w : World) (answer : Answer) : Type 0 where
   in_globals : {t : Table} {s : Spot} → SettlesAll w job.given job.budget (ended t s)
-      → answer ≡ stopped_answer w.sheet.modules.items s t.says t.ticks → IsEvaluated job w answer
+      → answer ≡ stopped_answer w.sheet.modules s t.says t.ticks → IsEvaluated job w answer
   in_root : {t : Table} → SettlesAll w job.given job.budget (settled t)
-      → IsCutAnswer w.sheet.modules.items t (root_cut job w t) answer → IsEvaluated job w answer
+      → IsCutAnswer w.sheet.modules t (root_cut job w t) answer → IsEvaluated job w answer
 
 -- Over a source; by which index the rules of the stylesheet are found changes nothing.
 abbrev pub IsEvaluatedOn : Job → Sheet → List Record → Answer → Type 0
@@ -49,4 +49,4 @@ IsEvaluatedOn job sheet records answer = (index : RuleIndex) × IsEvaluated job 
 
 -- over a source, of which white space is stripped first (3.4)
 abbrev pub IsEvaluatedFrom : Job → Sheet → List Record → Answer → Type 0
-IsEvaluatedFrom job sheet records answer = IsEvaluatedOn job sheet (without (stripped sheet.strips.items records) records) answer
+IsEvaluatedFrom job sheet records answer = IsEvaluatedOn job sheet (without (stripped sheet.strips records) records) answer

@@ -17,11 +17,11 @@ pub fn is_built(sheet: &Sheet) -> bool
     ensures { result ≡ is_built sheet.now }
 {
     sheet.method == Method::Text
-        && sheet.keys.is_empty()
-        && sheet.sets.is_empty()
-        && sheet.aliases.is_empty()
-        && templates_are_built(&sheet.templates)
-        && globals_are_built(&sheet.globals)
+        && sheet.keys.as_slice().is_empty()
+        && sheet.sets.as_slice().is_empty()
+        && sheet.aliases.as_slice().is_empty()
+        && templates_are_built(sheet.templates.as_slice())
+        && globals_are_built(sheet.globals.as_slice())
 }
 
 /// Whether all of some templates are built.
@@ -40,7 +40,7 @@ fn templates_are_built(templates: &[Template]) -> bool
 fn template_is_built(template: &Template) -> bool
     ensures { result ≡ template_is_built template.now }
 {
-    bindings_are_built(&template.params) && body_is_built(&template.body)
+    bindings_are_built(template.params.as_slice()) && body_is_built(&template.body)
 }
 
 /// Whether all of some globals are.
@@ -61,7 +61,7 @@ fn globals_are_built(globals: &[Global]) -> bool
 fn body_is_built(body: &Body) -> bool
     ensures { result ≡ body_is_built body.now }
 {
-    instrs_are_built(&body.instrs)
+    instrs_are_built(body.instrs.as_slice())
 }
 
 /// Whether all of some instructions are.
@@ -84,16 +84,19 @@ fn kind_is_built(kind: &InstrKind) -> bool
 {
     match kind {
         InstrKind::ApplyTemplates { nodes, passed } => {
-            nodes.sorts.is_empty() && passed_is_built(passed)
+            nodes.sorts.as_slice().is_empty() && passed_is_built(passed)
         }
         InstrKind::CallTemplate { passed, .. } => passed_is_built(passed),
-        InstrKind::ForEach { sorts, body, .. } => sorts.is_empty() && body_is_built(body),
+        InstrKind::ForEach { sorts, body, .. } => sorts.as_slice().is_empty()
+            && body_is_built(body),
         InstrKind::Choose(choice) => choice_is_built(choice),
         InstrKind::If { body, .. } => body_is_built(body),
         InstrKind::Message { body, .. } => body_is_built(body),
         InstrKind::Variable(binding) => content_is_built(&binding.content),
         InstrKind::Literal { start, body } => {
-            start.sets.is_empty() && start.attributes.is_empty() && body_is_built(body)
+            start.sets.as_slice().is_empty()
+                && start.attributes.as_slice().is_empty()
+                && body_is_built(body)
         }
         InstrKind::Extension(fallbacks) => fallbacks_are_built(fallbacks),
         InstrKind::ApplyImports | InstrKind::ValueOf(_) | InstrKind::Text(_) => true,
@@ -120,7 +123,7 @@ fn content_is_built(content: &Content) -> bool
 fn passed_is_built(passed: &Passed) -> bool
     ensures { result ≡ passed_is_built passed.now }
 {
-    bindings_are_built(&passed.params)
+    bindings_are_built(passed.params.as_slice())
 }
 
 /// Whether the contents of all of some bindings are.
@@ -142,7 +145,7 @@ fn bindings_are_built(bindings: &[Binding]) -> bool
 fn choice_is_built(choice: &Choice) -> bool
     ensures { result ≡ choice_is_built choice.now }
 {
-    whens_are_built(&choice.whens) && body_is_built(&choice.otherwise)
+    whens_are_built(choice.whens.as_slice()) && body_is_built(&choice.otherwise)
 }
 
 /// Whether the bodies of all of some tests are.
@@ -164,7 +167,7 @@ fn whens_are_built(whens: &[When]) -> bool
 fn fallbacks_are_built(fallbacks: &Fallbacks) -> bool
     ensures { result ≡ fallbacks_are_built fallbacks.now }
 {
-    bodies_are_built(&fallbacks.bodies)
+    bodies_are_built(fallbacks.bodies.as_slice())
 }
 
 /// Whether all of some bodies are.

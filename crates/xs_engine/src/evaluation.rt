@@ -38,7 +38,7 @@ pub fn evaluate(alloc: Global, job: &Job, sheet: &Sheet, source: Tree) -> Result
     ensures whole_only { IfOk result IsWholeOrEmpty }
 {
     let mut tree = source;
-    strip(alloc, &mut tree, &sheet.strips)?;
+    strip(alloc, &mut tree, sheet.strips.as_slice())?;
     evaluate_over(alloc, job, sheet, &tree)
 }
 
@@ -76,7 +76,7 @@ fn index_for<'a>(alloc: Global, sheet: &'a Sheet, tree: &Tree) -> Result<RuleInd
     requires sound { IsSound sheet.now }
     ensures index { IfOk result IsIndex }
     ensures prepared { IfOk result (λ index. IsPrepared index tree.now) }
-    ensures templates { IfOk result (λ index. index.templates.now ≡ sheet.now.templates.items) }
+    ensures templates { IfOk result (λ index. index.templates.now ≡ sheet.now.templates) }
 {
     let mut index = RuleIndex::new(alloc, sheet)?;
     index.prepare(alloc, tree)?;
@@ -96,7 +96,7 @@ fn root_reply(
     requires sound { IsSound sheet.now }
     requires index { IsIndex index.now }
     requires prepared { IsPrepared index.now tree.now }
-    requires templates { index.now.templates.now ≡ sheet.now.templates.items }
+    requires templates { index.now.templates.now ≡ sheet.now.templates }
     requires settled { SettlesAll (ground sheet.now index.now tree.now [])
         (job_data job.now).given job.now.budget (settled_of settled.now) }
     requires none { settled.now.end ≡ None }

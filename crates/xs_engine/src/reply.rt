@@ -119,7 +119,7 @@ pub fn stopped_reply(
     items: &[Item],
     ticks: u64,
 ) -> Result<Reply, AllocError>
-    ensures { IfOk result (λ reply. reply_of reply ≡ stopped_answer sheet.now.modules.items spot
+    ensures { IfOk result (λ reply. reply_of reply ≡ stopped_answer sheet.now.modules spot
         (says.now ++ messages_of (marks_of {H = Task} items.now)) ticks) }
 {
     let result = Vec::new(alloc);
@@ -140,9 +140,9 @@ pub fn stopped_reply(
 
 /// The name of a module of a stylesheet, by its number.
 fn module_name(sheet: &Sheet, number: u32) -> &str
-    ensures { result.now ≡ name_in sheet.now.modules.items number }
+    ensures { result.now ≡ name_in sheet.now.modules number }
 {
-    match sheet.modules.get(number as usize) {
+    match sheet.modules.as_slice().get(number as usize) {
         Some(name) => name.as_str(),
         None => "",
     }

@@ -10,8 +10,7 @@ use Rattle.xs_sheet.specs.declared.declarations.Template.{Template}
 use Rattle.xs_sheet.specs.declared.scoped.ScopedPattern.{ScopedPattern}
 use Rattle.xs_tree.specs.Record.{Record, at}
 use Rattle.xs_value.specs.Tables.{Table}
-use Rattle.xs_xpath.specs.declared.expr.Expr.{Expr}
-use Rattle.xs_xpath.specs.Exprs.{tree_from, trees_from}
+use Rattle.xs_xpath.specs.Tree.{Tree}
 use Rattle.xs_rules.specs.declared.candidates.Best.{Best}
 use Rattle.xs_rules.specs.declared.candidates.Looked.{Looked}
 use Rattle.xs_rules.specs.declared.lists.Entry.{Entry}
@@ -100,46 +99,45 @@ indexed-none ts entries found e f = record {
 }
 
 -- the entry of an alternative
-pub candidate-is : (ts : List Template) (number k : ℕ) (t : Template) (p : ScopedPattern) (e : Expr) → slice_get ts number ≡ Some t → t.pattern ≡ Some p
-    → slice_get p.pattern.alternatives.items k ≡ Some e → candidate_at ts number k ≡ Some (candidate number t p (tree_from e))
+pub candidate-is : (ts : List Template) (number k : ℕ) (t : Template) (p : ScopedPattern) (e : Tree) → slice_get ts number ≡ Some t → t.pattern ≡ Some p
+    → slice_get p.pattern k ≡ Some e → candidate_at ts number k ≡ Some (candidate number t p e)
 candidate-is ts number k t p e a b c =
     ap (λ (o : Option Template). option_and_then (λ (x : Template). option_and_then (nth_of number x k) x.pattern) o) a
     ∙ ap (λ (o : Option ScopedPattern). option_and_then (nth_of number t k) o) b
-    ∙ ap (λ (o : Option Expr). option_map (λ (x : Expr). candidate number t p (tree_from x)) o) c
+    ∙ ap (λ (o : Option Tree). option_map (candidate number t p) o) c
 
 -- the alternatives of a template's pattern, one after another
-pub alternative-more : (ts : List Template) (cs : List Candidate) (number place : ℕ) (t : Template) (p : ScopedPattern) (e : Expr) (k : Key)
+pub alternative-more : (ts : List Template) (cs : List Candidate) (number place : ℕ) (t : Template) (p : ScopedPattern) (e : Tree) (k : Key)
     (entries pushed : List Entry) (found more : Key → Option ℕ)
-    → IsIndexed ts (cs ++ map (candidate number t p) (trees_from (take place p.pattern.alternatives.items))) entries found
-    → slice_get ts number ≡ Some t → t.pattern ≡ Some p → slice_get p.pattern.alternatives.items place ≡ Some e
-    → k ≡ key_of (candidate number t p (tree_from e)) → pushed ≡ entries ++ entry number place (found k) ∷ []
+    → IsIndexed ts (cs ++ map (candidate number t p) (take place p.pattern)) entries found
+    → slice_get ts number ≡ Some t → t.pattern ≡ Some p → slice_get p.pattern place ≡ Some e
+    → k ≡ key_of (candidate number t p e) → pushed ≡ entries ++ entry number place (found k) ∷ []
     → ((q : Key) → more q ≡ cond (is_key q k) (Some (length entries)) (found q))
-    → IsIndexed ts (cs ++ map (candidate number t p) (trees_from (take (place + 1) p.pattern.alternatives.items))) pushed more
+    → IsIndexed ts (cs ++ map (candidate number t p) (take (place + 1) p.pattern)) pushed more
 alternative-more ts cs number place t p e k entries pushed found more i of_number of_pattern of_place key_is entries_are f =
     subst (λ l. IsIndexed ts l pushed more) list_is
-    (subst (λ l. IsIndexed ts ((cs ++ map (candidate number t p) (trees_from (take place es))) ++ c ∷ []) l more) (sym entries_are)
-    (indexed-push ts (cs ++ map (candidate number t p) (trees_from (take place es))) c entries (entry number place (found k)) found more i
+    (subst (λ l. IsIndexed ts ((cs ++ map (candidate number t p) (take place es)) ++ c ∷ []) l more) (sym entries_are)
+    (indexed-push ts (cs ++ map (candidate number t p) (take place es)) c entries (entry number place (found k)) found more i
     (candidate-is ts number place t p e of_number of_pattern of_place) (ap found key_is)
     (λ q. f q ∙ ap (λ x. cond (is_key q x) (Some (length entries)) (found q)) key_is)))
   where
-    es : List Expr
-    es = p.pattern.alternatives.items
+    es : List Tree
+    es = p.pattern
 
     c : Candidate
-    c = candidate number t p (tree_from e)
+    c = candidate number t p e
 
     taken : take (place + 1) es ≡ take place es ++ e ∷ []
     taken =
         take_more es place e (slice_get_within es place e of_place)
         ∙ ap (λ x. take place es ++ x ∷ []) (get_or_from_slice_get es place e e of_place)
 
-    list_is : (cs ++ map (candidate number t p) (trees_from (take place es))) ++ c ∷ []
-        ≡ cs ++ map (candidate number t p) (trees_from (take (place + 1) es))
+    list_is : (cs ++ map (candidate number t p) (take place es)) ++ c ∷ []
+        ≡ cs ++ map (candidate number t p) (take (place + 1) es)
     list_is =
-        append_assoc cs (map (candidate number t p) (trees_from (take place es))) (c ∷ [])
-        ∙ ap (λ l. cs ++ l) (sym (map-append (candidate number t p) (trees_from (take place es)) (tree_from e ∷ [])))
-        ∙ ap (λ l. cs ++ map (candidate number t p) l) (sym (map-append tree_from (take place es) (e ∷ [])))
-        ∙ ap (λ l. cs ++ map (candidate number t p) (trees_from l)) (sym taken)
+        append_assoc cs (map (candidate number t p) (take place es)) (c ∷ [])
+        ∙ ap (λ l. cs ++ l) (sym (map-append (candidate number t p) (take place es) (e ∷ [])))
+        ∙ ap (λ l. cs ++ map (candidate number t p) l) (sym taken)
 
 -- the templates, one after another
 pub template-more : (ts : List Template) (number : ℕ) (t : Template) (entries : List Entry) (found : Key → Option ℕ) → slice_get ts number ≡ Some t

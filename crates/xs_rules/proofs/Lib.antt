@@ -9,3 +9,4 @@ pub mod KeyLemmas
 pub mod IndexLemmas
 mod StripIndexLemmas
 mod TableLemmas
+pub mod TreeLemmas

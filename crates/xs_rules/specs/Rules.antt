@@ -1,13 +1,11 @@
 -- Which template rule a node takes (XSLT 1.0, 5.5), and which one behind it (5.6).
 use Rattle.std.specs.Prelude.{ℕ, ◌==◌, ◌&&◌, Bool, true, false, nat_le, nat_lt, List, [], map, filter, Option, Some, None, slice_get, unwrap_or}
-use Rattle.std.specs.Arc.{arc_value}
 use Rattle.std.specs.List.{enumerate_from, flat_map}
 use Rattle.std.specs.Option.{option_map_or}
 use Rattle.xs_sheet.specs.declared.declarations.Template.{Template}
 use Rattle.xs_sheet.specs.declared.scoped.ScopedPattern.{ScopedPattern}
 use Rattle.xs_tree.specs.Record.{Record}
 use Rattle.xs_value.specs.Tables.{Table}
-use Rattle.xs_xpath.specs.Exprs.{trees_from}
 use Rattle.xs_xpath.specs.Tree.{Tree}
 use Rattle.xs_pattern.specs.Matching.{matches_path, pattern_context}
 use Rattle.xs_rules.specs.declared.choice.Rule.{Rule}
@@ -35,12 +33,12 @@ candidate number t p e = record {
   mode = t.mode;
   rank = rank_of t e;
   alternative = e;
-  scope = (arc_value p.scope).pairs.items;
+  scope = p.scope;
 }
 
 abbrev pub candidates_of : ℕ × Template → List Candidate
 candidates_of numbered =
-    option_map_or (λ (p : ScopedPattern). map (candidate numbered.0 numbered.1 p) (trees_from p.pattern.alternatives.items)) numbered.1.pattern []
+    option_map_or (λ (p : ScopedPattern). map (candidate numbered.0 numbered.1 p) p.pattern) numbered.1.pattern []
 
 -- all rules, in the order of the stylesheet
 abbrev pub candidates : List Template → List Candidate

@@ -2,7 +2,7 @@
 //! best of those that match.
 
 ghost use Rattle.std.specs.Prelude.{◌≡◌, ◌<◌, ◌∷◌, [], true, IfOk, IfSome, length, map};
-ghost use Rattle.std.specs.Prelude.{option_copied};
+ghost use Rattle.std.specs.Prelude.{option_copied, option_map, slice_get};
 ghost use Rattle.std.specs.Option.{option_and_then, option_map_or};
 ghost use Rattle.xs_value.specs.Tables.{TablesIn};
 ghost use Rattle.xs_xpath.specs.Exprs.{tree_from, trees_from};
@@ -86,6 +86,15 @@ pub(crate) fn best_of_template<K: KeyFinder>(
     }
 }
 
+/// One of the alternatives of a pattern, by its place.
+#[tactic(auto, using(crate::proofs::TreeLemmas::tree_at))]
+pub(crate) fn nth_alternative(pattern: &ScopedPattern, place: usize) -> Option<&Expr>
+    ensures { option_map tree_from (option_copied result)
+        ≡ slice_get pattern.now.pattern place }
+{
+    pattern.pattern.alternatives().get(place)
+}
+
 // The best of the alternatives of a pattern that match, before the best rule behind it.
 fn best_of_pattern<K: KeyFinder>(
     alloc: Global,
@@ -102,10 +111,10 @@ fn best_of_pattern<K: KeyFinder>(
     ensures best { IfOk result (λ found. found
         ≡ best_before (is_matching (K.tables keys.now) tree.now node)
         (map (candidate number template.now pattern.now)
-        (trees_from pattern.now.pattern.alternatives.items)) best) }
+        pattern.now.pattern) best) }
 {
     let mut best = best;
-    let mut rest = pattern.pattern.alternatives.as_slice();
+    let mut rest = pattern.pattern.alternatives();
     while let Some((alternative, before)) = rest.split_last() {
         best = best_of_alternative(
             alloc,
@@ -149,7 +158,7 @@ fn best_of_alternative<K: KeyFinder>(
     if !is_above(rank, best) {
         return Ok(best);
     }
-    if matches_by(alloc, alternative, &pattern.scope, tree, node, keys, table)? {
+    if matches_by(alloc, alternative, pattern.scope.scope(), tree, node, keys, table)? {
         return Ok(Some(Best {
             template: number,
             rank,
@@ -218,7 +227,7 @@ pub(crate) fn best_of_nth<K: KeyFinder>(
 {
     match &template.pattern {
         None => Ok(best),
-        Some(pattern) => match pattern.pattern.alternatives.get(place) {
+        Some(pattern) => match nth_alternative(pattern, place) {
             None => Ok(best),
             Some(alternative) => best_of_rule(
                 alloc,

@@ -31,11 +31,11 @@ pub fn choose<K: KeyFinder>(
     mode: u32,
     keys: &K,
 ) -> Result<Rule, AllocError>
-    requires few { length sheet.now.templates.items < 2 ^ 32 }
+    requires few { length sheet.now.templates < 2 ^ 32 }
     requires node { node < length tree.now }
     requires tables { TablesIn tree.now (K.tables keys.now) }
     ensures chosen { IfOk result (λ rule. rule
-        ≡ chosen (K.tables keys.now) sheet.now.templates.items tree.now mode node) }
+        ≡ chosen (K.tables keys.now) sheet.now.templates tree.now mode node) }
 {
     choose_among(alloc, Looked::All, sheet, tree, node, mode, keys)
 }
@@ -51,13 +51,13 @@ pub fn choose_import<K: KeyFinder>(
     keys: &K,
     under: u32,
 ) -> Result<Rule, AllocError>
-    requires few { length sheet.now.templates.items < 2 ^ 32 }
+    requires few { length sheet.now.templates < 2 ^ 32 }
     requires node { node < length tree.now }
     requires tables { TablesIn tree.now (K.tables keys.now) }
     ensures chosen { IfOk result (λ rule. rule
-        ≡ chosen_import under (K.tables keys.now) sheet.now.templates.items tree.now mode node) }
+        ≡ chosen_import under (K.tables keys.now) sheet.now.templates tree.now mode node) }
 {
-    let looked = imported_into(&sheet.templates, under);
+    let looked = imported_into(sheet.templates.as_slice(), under);
     choose_among(alloc, looked, sheet, tree, node, mode, keys)
 }
 
@@ -82,12 +82,12 @@ fn choose_among<K: KeyFinder>(
     mode: u32,
     keys: &K,
 ) -> Result<Rule, AllocError>
-    requires few { length sheet.now.templates.items < 2 ^ 32 }
+    requires few { length sheet.now.templates < 2 ^ 32 }
     requires node { node < length tree.now }
     requires tables { TablesIn tree.now (K.tables keys.now) }
     ensures chosen { IfOk result (λ rule. rule ≡ rule_of_best (best_before
         (passes looked (K.tables keys.now) tree.now mode node)
-        (candidates sheet.now.templates.items) None)) }
+        (candidates sheet.now.templates) None)) }
 {
     let mut best = None;
     let mut rest = sheet.templates.as_slice();

@@ -31,9 +31,9 @@ pub struct RuleIndex<'a> {
 impl<'a> RuleIndex<'a> {
     /// The rules of a stylesheet, in time linear in it. Without tables it is prepared for any tree.
     pub fn new(alloc: Global, sheet: &'a Sheet) -> Result<RuleIndex<'a>, AllocError>
-        requires few { length sheet.now.templates.items < 2 ^ 32 }
+        requires few { length sheet.now.templates < 2 ^ 32 }
         ensures index { IfOk result IsIndex }
-        ensures templates { IfOk result (λ index. index.templates.now ≡ sheet.now.templates.items) }
+        ensures templates { IfOk result (λ index. index.templates.now ≡ sheet.now.templates) }
         ensures plain { IfOk result (λ index. (rs : List Record) → IsPrepared index rs) }
     {
         let templates = sheet.templates.as_slice();

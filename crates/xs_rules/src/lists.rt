@@ -83,10 +83,10 @@ impl<'a> Lists<'a> {
             → template.entry.now.pattern ≡ Some pattern.entry.now
             → IsIndexed ts cs self.old.entries.items (found_in self.old.last)
             → IsIndexed ts (cs ++ map (candidate number template.entry.now pattern.entry.now)
-            (trees_from pattern.entry.now.pattern.alternatives.items))
+            pattern.entry.now.pattern)
             self.new.entries.items (found_in self.new.last)) }
     {
-        let alternatives = pattern.pattern.alternatives.as_slice();
+        let alternatives = pattern.pattern.alternatives();
         for place in 0..alternatives.len() {
             let key = key_of(template.mode, &alternatives[place]);
             self.add(number, place, key)?;

@@ -91,7 +91,7 @@ fn alternative_of<'a>(templates: &'a [Template], entry: &Entry) -> Option<&'a Ex
         None => None,
         Some(template) => match &template.pattern {
             None => None,
-            Some(pattern) => pattern.pattern.alternatives.get(entry.alternative),
+            Some(pattern) => pattern.pattern.alternatives().get(entry.alternative),
         },
     }
 }

@@ -11,6 +11,7 @@ ghost use Rattle.xs_xpath.specs.Exprs.{tree_from};
 ghost use Rattle.xs_rules.specs.steps.Index.{AreTables, IsTable, IsTableOf, at_entry, nth_of};
 ghost use Rattle.xs_rules.specs.steps.Index.{table_at};
 
+use crate::candidates::nth_alternative;
 use crate::lists::Entry;
 use crate::shapes::{Worth, has_positions, worth_of};
 use std::alloc::{AllocError, Global};
@@ -151,9 +152,11 @@ fn table_of_nth(
 {
     match &template.pattern {
         None => Ok(None),
-        Some(pattern) => match pattern.pattern.alternatives.get(place) {
+        Some(pattern) => match nth_alternative(pattern, place) {
             None => Ok(None),
-            Some(alternative) => table_in(alloc, alternative, &pattern.scope, worth, tree),
+            Some(alternative) => {
+                table_in(alloc, alternative, pattern.scope.scope(), worth, tree)
+            }
         },
     }
 }

@@ -33,13 +33,13 @@ row_few counts locals (more_of-Instr site kind rest) e =
 pub body_few : (counts : Counts) (locals : ℕ) (body : Body) → body_stands counts locals body ≡ true → locals + slot_count body < counts.bound
 body_few counts locals (Body' n row) e =
     subst (λ k. locals + k < counts.bound)
-    (sym (ap (λ b. slots_in b.instrs.items) (outs-Body' n row) ∙ ap slots_in (items_shown-the_row-Instr-0 n row)))
+    (sym (ap (λ b. slots_in b.instrs) (outs-Body' n row) ∙ ap slots_in (items_shown-the_row-Instr-0 n row)))
     (row_few counts locals row e)
 
 pub templates_have_slots : TemplatesHaveSlots
 templates_have_slots s sound =
-    All-weaker (λ (t : Template). template_is_sound (counts_of s) t ≡ true) (λ (t : Template). length t.params.items + slot_count t.body < 2 ^ 32)
-    (λ t e. body_few (counts_of s) (length t.params.items) t.body
-    (fourth (site_stands (counts_of s) t.site) (pattern_is_free_if t.pattern) (params_stand (counts_of s) 0 t.params.items)
-    (body_stands (counts_of s) (length t.params.items) t.body) e))
-    s.templates.items (AllPass-from_list_all (template_is_sound (counts_of s)) s.templates.items sound.templates)
+    All-weaker (λ (t : Template). template_is_sound (counts_of s) t ≡ true) (λ (t : Template). length t.params + slot_count t.body < 2 ^ 32)
+    (λ t e. body_few (counts_of s) (length t.params) t.body
+    (fourth (site_stands (counts_of s) t.site) (pattern_is_free_if t.pattern) (params_stand (counts_of s) 0 t.params)
+    (body_stands (counts_of s) (length t.params) t.body) e))
+    s.templates (AllPass-from_list_all (template_is_sound (counts_of s)) s.templates sound.templates)

@@ -8,4 +8,4 @@ use Rattle.xs_sheet.specs.Sound.{IsSound}
 
 -- the params of each template, and the variables that stand directly in its body, have slots below 2^32
 abbrev pub TemplatesHaveSlots : Type 0
-TemplatesHaveSlots = (s : Sheet) → IsSound s → All (λ (t : Template). length t.params.items + slot_count t.body < 2 ^ 32) s.templates.items
+TemplatesHaveSlots = (s : Sheet) → IsSound s → All (λ (t : Template). length t.params + slot_count t.body < 2 ^ 32) s.templates

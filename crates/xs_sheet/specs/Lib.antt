@@ -1,3 +1,5 @@
+pub mod Codes
+pub mod formers
 pub mod Laws
 pub mod Sets
 pub mod Slots

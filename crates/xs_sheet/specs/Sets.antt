@@ -30,18 +30,18 @@ abbrev mutual
   kind_sets (ForEach select sorts body) = body_sets body
   kind_sets (ValueOf select) = []
   kind_sets (CopyOf select) = []
-  kind_sets (Copy sets body) = sets.items ++ body_sets body
+  kind_sets (Copy sets body) = sets ++ body_sets body
   kind_sets (Number decl) = []
   kind_sets (Choose choice) = choice_sets choice
   kind_sets (If test body) = body_sets body
   kind_sets (Text bytes) = []
-  kind_sets (Element name sets body) = sets.items ++ body_sets body
+  kind_sets (Element name sets body) = sets ++ body_sets body
   kind_sets (Attribute name body) = body_sets body
   kind_sets (Comment body) = body_sets body
   kind_sets (Pi name body) = body_sets body
   kind_sets (Message terminate body) = body_sets body
   kind_sets (Variable' site name content) = content_sets content
-  kind_sets (Literal start body) = start.sets.items ++ body_sets body
+  kind_sets (Literal start body) = start.sets ++ body_sets body
   kind_sets (Extension fallbacks) = fallbacks_sets fallbacks
 
   pub content_sets : Content → List Label
@@ -75,7 +75,7 @@ is_same_label a b = bytes_eq a.uri b.uri && bytes_eq a.local b.local
 
 -- the sets that a declaration uses: those that it names, and those that its attributes use
 abbrev pub sets_of : AttrSet → List Label
-sets_of s = s.sets.items ++ flat_map (λ i. kind_sets i.kind) s.attributes.items
+sets_of s = s.sets ++ flat_map (λ i. kind_sets i.kind) s.attributes
 
 -- those that all declarations of a name use
 abbrev pub used_by : List AttrSet → Label → List Label

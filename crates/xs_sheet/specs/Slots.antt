@@ -15,4 +15,4 @@ slots_in (i ∷ is) = slots_taken i.kind + slots_in is
 
 -- how many variables stand directly in a body
 abbrev pub slot_count : Body → ℕ
-slot_count body = slots_in (out-Body body).instrs.items
+slot_count body = slots_in (out-Body body).instrs

@@ -22,8 +22,6 @@ use Rattle.xs_sheet.specs.declared.scoped.ValueTemplate.{ValueTemplate}
 use Rattle.xs_sheet.specs.Slots.{slots_taken}
 use Rattle.xs_xpath.specs.declared.name.Slot.{Slot}
 use Rattle.xs_xpath.specs.declared.name.Slot.TheVariants.{Local, Global}
-use Rattle.xs_xpath.specs.AvtParts.{parts_from}
-use Rattle.xs_xpath.specs.Exprs.{tree_from, trees_from}
 use Rattle.xs_xpath.specs.Templates.{Part, text, computed}
 use Rattle.xs_xpath.specs.Tree.{Tree, Trees, number, literal, variable, call, negative, chain, group, here, root, step, descend, filter, path, no_trees, first_tree}
 use Rattle.xs_xpath.specs.Uses.{uses_current, uses_variables}
@@ -62,14 +60,14 @@ abbrev mutual
   trees_stand counts locals (first_tree e es) = tree_stands counts locals e && trees_stand counts locals es
 
 abbrev pub expr_stands : Counts → (locals : ℕ) → ScopedExpr → Bool
-expr_stands counts locals e = tree_stands counts locals (tree_from e.expr)
+expr_stands counts locals e = tree_stands counts locals e.expr
 
 abbrev pub part_stands : Counts → (locals : ℕ) → Part → Bool
 part_stands counts locals (text bytes) = true
 part_stands counts locals (computed e) = tree_stands counts locals e
 
 abbrev pub template_stands : Counts → (locals : ℕ) → ValueTemplate → Bool
-template_stands counts locals v = list_all (part_stands counts locals) (parts_from v.parts.items)
+template_stands counts locals v = list_all (part_stands counts locals) v.parts
 
 -- where it is there
 abbrev pub expr_stands_if : Counts → (locals : ℕ) → Option ScopedExpr → Bool
@@ -83,7 +81,7 @@ abbrev pub is_free : Tree → Bool
 is_free e = not (uses_variables e || uses_current e)
 
 abbrev pub pattern_is_free : ScopedPattern → Bool
-pattern_is_free p = list_all is_free (trees_from p.pattern.alternatives.items)
+pattern_is_free p = list_all is_free p.pattern
 
 abbrev pub pattern_is_free_if : Option ScopedPattern → Bool
 pattern_is_free_if p = option_map_or pattern_is_free p true
@@ -102,7 +100,7 @@ number_stands counts locals n =
     && template_stands_if counts locals n.grouping_separator && template_stands_if counts locals n.grouping_size
 
 abbrev pub nodes_stand : Counts → (locals : ℕ) → Applied → Bool
-nodes_stand counts locals a = expr_stands_if counts locals a.select && list_all (sort_stands counts locals) a.sorts.items
+nodes_stand counts locals a = expr_stands_if counts locals a.select && list_all (sort_stands counts locals) a.sorts
 
 -- the place of an instruction is in a module of the sheet
 abbrev pub site_stands : Counts → Site → Bool
@@ -124,7 +122,7 @@ abbrev mutual
   kind_stands counts locals (CallTemplate template passed) = nat_lt template counts.templates && passed_stands counts locals passed
   kind_stands counts locals ApplyImports = true
   kind_stands counts locals (ForEach select sorts body) =
-      expr_stands counts locals select && list_all (sort_stands counts locals) sorts.items && body_stands counts locals body
+      expr_stands counts locals select && list_all (sort_stands counts locals) sorts && body_stands counts locals body
   kind_stands counts locals (ValueOf select) = expr_stands counts locals select
   kind_stands counts locals (CopyOf select) = expr_stands counts locals select
   kind_stands counts locals (Copy sets body) = body_stands counts locals body
@@ -139,7 +137,7 @@ abbrev mutual
   kind_stands counts locals (Message terminate body) = body_stands counts locals body
   kind_stands counts locals (Variable' site name content) = site_stands counts site && content_stands counts locals content
   kind_stands counts locals (Literal start body) =
-      list_all (λ a. template_stands counts locals a.1) start.attributes.items && body_stands counts locals body
+      list_all (λ a. template_stands counts locals a.1) start.attributes && body_stands counts locals body
   kind_stands counts locals (Extension fallbacks) = fallbacks_stand counts locals fallbacks
 
   pub content_stands : Counts → (locals : ℕ) → Content → Bool

@@ -2,18 +2,17 @@
 ghost use Rattle.std.specs.Prelude.{◌≡◌, ◌<◌, ◌^◌};
 ghost use Rattle.xs_sheet.specs.Slots.{slot_count};
 
-use crate::scoped::{ScopedExpr, ScopedPattern, ValueTemplate};
-use std::sync::Arc;
+use crate::items::Items;
+use crate::scoped::{Namespaces, ScopedExpr, ScopedPattern, ValueTemplate};
 use xs_trace::event::Label;
 use xs_trace::item::Site;
 use xs_trace::text::TextBuf;
-use xs_xpath::scope::Scope;
 
 /// Instructions, literal elements and texts, in the order of the stylesheet (XSLT 1.0, 2.1).
 #[cycle(body)]
 #[derive(Drop)]
 pub struct Body {
-    pub instrs: Vec<Instr>,
+    pub instrs: Items<Instr>,
 }
 
 /// One of them.
@@ -89,7 +88,7 @@ pub struct When {
 #[derive(Drop)]
 pub struct Choice {
     /// The tests, in order, each with its body.
-    pub whens: Vec<When>,
+    pub whens: Items<When>,
     /// What is done where none of them holds; empty without `xsl:otherwise`.
     pub otherwise: Body,
 }
@@ -98,14 +97,14 @@ pub struct Choice {
 #[cycle(body)]
 #[derive(Drop)]
 pub struct Passed {
-    pub params: Vec<Binding>,
+    pub params: Items<Binding>,
 }
 
 /// The contents of the `xsl:fallback`s of an extension element (XSLT 1.0, 15).
 #[cycle(body)]
 #[derive(Drop)]
 pub struct Fallbacks {
-    pub bodies: Vec<Body>,
+    pub bodies: Items<Body>,
 }
 
 /// A name that is made when the instruction runs, with the namespaces in scope for it
@@ -114,7 +113,7 @@ pub struct Fallbacks {
 pub struct MadeName {
     pub name: ValueTemplate,
     pub namespace: Option<ValueTemplate>,
-    pub scope: Arc<Scope>,
+    pub scope: Namespaces,
 }
 
 /// A literal element but for its content (XSLT 1.0, 7.1.1).
@@ -123,10 +122,10 @@ pub struct LiteralStart {
     pub name: Label,
     /// The prefixes and URIs of its namespace nodes, but for those that are excluded. Aliases are
     /// not applied yet, to none of its names.
-    pub spaces: Vec<(TextBuf, TextBuf)>,
+    pub spaces: Items<(TextBuf, TextBuf)>,
     /// The names of the attribute sets that it uses.
-    pub sets: Vec<Label>,
-    pub attributes: Vec<(Label, ValueTemplate)>,
+    pub sets: Items<Label>,
+    pub attributes: Items<(Label, ValueTemplate)>,
 }
 
 /// The nodes to which templates are applied, and the mode (XSLT 1.0, 5.4 and 5.7).
@@ -137,7 +136,7 @@ pub struct Applied {
     /// The number of the mode, 0 without one; two modes have one number exactly where their
     /// expanded names are the same.
     pub mode: u32,
-    pub sorts: Vec<SortDecl>,
+    pub sorts: Items<SortDecl>,
 }
 
 /// What one part of a body does.
@@ -159,7 +158,7 @@ pub enum InstrKind {
     /// Does a body for each node (8).
     ForEach {
         select: ScopedExpr,
-        sorts: Vec<SortDecl>,
+        sorts: Items<SortDecl>,
         body: Body,
     },
     /// Puts a string (7.6.1).
@@ -168,7 +167,7 @@ pub enum InstrKind {
     CopyOf(ScopedExpr),
     /// Puts a copy of the current node, with a body in it (7.5).
     Copy {
-        sets: Vec<Label>,
+        sets: Items<Label>,
         body: Body,
     },
     /// Puts a number (7.7).
@@ -185,7 +184,7 @@ pub enum InstrKind {
     /// Puts an element with a name that is made (7.1.2).
     Element {
         name: MadeName,
-        sets: Vec<Label>,
+        sets: Items<Label>,
         body: Body,
     },
     /// Puts an attribute (7.1.3).
@@ -222,7 +221,7 @@ pub fn slot_count(body: &Body) -> u32
     ensures count { result ≡ slot_count body.now }
 {
     let mut count = 0;
-    for instr in &body.instrs {
+    for instr in body.instrs.as_slice() {
         if let InstrKind::Variable(_) = instr.kind {
             count += 1;
         }

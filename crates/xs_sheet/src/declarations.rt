@@ -1,6 +1,7 @@
 //! What the top level of a stylesheet declares (XSLT 1.0, 2.2).
 
 use crate::body::{Binding, Body, Instr};
+use crate::items::Items;
 use crate::scoped::{ScopedExpr, ScopedPattern};
 use xs_trace::event::Label;
 use xs_trace::item::Site;
@@ -20,7 +21,7 @@ pub struct Template {
     pub priority: Option<i64>,
     /// The number of its mode, 0 without one.
     pub mode: u32,
-    pub params: Vec<Binding>,
+    pub params: Items<Binding>,
     pub body: Body,
 }
 
@@ -48,9 +49,9 @@ pub struct AttrSet {
     pub precedence: u32,
     pub name: Label,
     /// The names of the sets that it uses.
-    pub sets: Vec<Label>,
+    pub sets: Items<Label>,
     /// Its `xsl:attribute` instructions.
-    pub attributes: Vec<Instr>,
+    pub attributes: Items<Instr>,
 }
 
 /// A name test (XPath 1.0, 2.3).

@@ -3,6 +3,7 @@
 
 pub mod body;
 pub mod declarations;
+pub mod items;
 pub mod laws;
 pub mod scoped;
 pub mod sheet;

@@ -1,6 +1,7 @@
 //! A stylesheet, with all modules that it includes and imports.
 
 use crate::declarations::{Alias, AttrSet, Global, KeyDecl, Method, StripRule, Template};
+use crate::items::Items;
 use xs_trace::text::TextBuf;
 
 /// A compiled stylesheet.
@@ -9,15 +10,15 @@ use xs_trace::text::TextBuf;
 /// included module standing in the place of the element that includes it.
 #[derive(Drop)]
 pub struct Sheet {
-    pub templates: Vec<Template>,
-    pub globals: Vec<Global>,
-    pub keys: Vec<KeyDecl>,
-    pub sets: Vec<AttrSet>,
-    pub strips: Vec<StripRule>,
-    pub aliases: Vec<Alias>,
+    pub templates: Items<Template>,
+    pub globals: Items<Global>,
+    pub keys: Items<KeyDecl>,
+    pub sets: Items<AttrSet>,
+    pub strips: Items<StripRule>,
+    pub aliases: Items<Alias>,
     pub method: Method,
     /// The names of the modules, by their numbers.
-    pub modules: Vec<TextBuf>,
+    pub modules: Items<TextBuf>,
     /// The line of the first module's element.
     pub root_line: u32,
 }

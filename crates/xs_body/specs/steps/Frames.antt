@@ -48,13 +48,13 @@ use Rattle.xs_body.specs.steps.Lists.{nodes_in}
 -- ---- rows of the stylesheet as lists
 
 abbrev pub instrs_of : Body → List Instr
-instrs_of body = (out-Body body).instrs.items
+instrs_of body = (out-Body body).instrs
 
 abbrev pub bindings_of : Passed → List Binding
-bindings_of passed = (out-Passed passed).params.items
+bindings_of passed = (out-Passed passed).params
 
 abbrev pub bodies_of : Fallbacks → List Body
-bodies_of fallbacks = (out-Fallbacks fallbacks).bodies.items
+bodies_of fallbacks = (out-Fallbacks fallbacks).bodies
 
 -- what is left of a body; of the values that are passed; of some bodies
 abbrev pub instrs_trace : List Instr → World → Calls → Focus → List Value → Trace Task
@@ -77,7 +77,7 @@ chosen_of (t ∷ ts) otherwise w f vs = do
   if b then give (out-When t).body else chosen_of ts otherwise w f vs
 
 abbrev pub chosen : Choice → World → Focus → List Value → Run Body
-chosen choice w f vs = chosen_of (out-Choice choice).whens.items (out-Choice choice).otherwise w f vs
+chosen choice w f vs = chosen_of (out-Choice choice).whens (out-Choice choice).otherwise w f vs
 
 -- ---- one thing that is still to be done
 pub data Work : Type 0 where
@@ -194,7 +194,7 @@ space_steps [] s = goes s
 space_steps (x ∷ xs) s = and_then (put (Space x.0 x.1) s) (λ u m. space_steps xs m)
 
 abbrev pub literal_steps : {H : Type 0} → LiteralStart → State H → Told H
-literal_steps start s = and_then (put (Start start.name) s) (λ u m. space_steps start.spaces.items m)
+literal_steps start s = and_then (put (Start start.name) s) (λ u m. space_steps start.spaces m)
 
 -- a run over nodes, which a work goes through, or which is left to tasks
 abbrev pub run_by : Option ℕ → Job → Site → Focus → List ℕ → Work → Stack → State Task → Step Task Stack
@@ -211,7 +211,7 @@ applied_begun w mode ps p f ns t s =
 -- templates
 abbrev pub template_begun : Option Template → Params → Focus → Stack → Stack
 template_begun None ps f t = t
-template_begun (Some template) ps f t = pushed (params_left template.params.items ps template.body (outer f) ∷ []) t
+template_begun (Some template) ps f t = pushed (params_left template.params ps template.body (outer f) ∷ []) t
 
 abbrev pub built_in_begun : World → (mode : ℕ) → Site → Focus → Record → Stack → State Task → Step Task Stack
 built_in_begun w mode p f r t s =
@@ -220,10 +220,10 @@ built_in_begun w mode p f r t s =
 
 abbrev pub rule_begun : Option ℕ → World → (mode : ℕ) → Params → Site → Focus → Stack → State Task → Step Task Stack
 rule_begun None w mode ps p f t s = built_in_begun w mode p f (at w.tree f.node) t s
-rule_begun (Some rule) w mode ps p f t s = Goes (template_begun (slice_get w.sheet.templates.items rule) ps (by_rule rule mode f) t) s
+rule_begun (Some rule) w mode ps p f t s = Goes (template_begun (slice_get w.sheet.templates rule) ps (by_rule rule mode f) t) s
 
 abbrev pub entry_begun : Entry → World → Site → Focus → Stack → State Task → Step Task Stack
-entry_begun (named i ps) w p f t s = Goes (template_begun (slice_get w.sheet.templates.items i) ps f t) s
+entry_begun (named i ps) w p f t s = Goes (template_begun (slice_get w.sheet.templates i) ps f t) s
 entry_begun (fitting mode ps) w p f t s = rule_begun (rule_for w mode f.node) w mode ps p f t s
 entry_begun (overridden current) w p f t s = rule_begun (import_for w current f) w f.mode no_params p f t s
 

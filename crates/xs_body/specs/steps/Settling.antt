@@ -34,9 +34,9 @@ left_over begun = sum_by unmarked begun
 pub record IsGoing (w : World) (budget : ℕ) (begun : List Bool) (t : Table) : Type 0 where
   pub values : All (IsInIf w.tree) t.values
   pub within : t.ticks ≤ budget
-  pub marks : length begun ≡ length w.sheet.globals.items
-  pub count : length t.values ≡ length w.sheet.globals.items
-  pub few : t.thrown + left_over begun ≤ length w.sheet.globals.items
+  pub marks : length begun ≡ length w.sheet.globals
+  pub count : length t.values ≡ length w.sheet.globals
+  pub few : t.thrown + left_over begun ≤ length w.sheet.globals
 
 -- where an attempt ended, and the run with it
 abbrev pub EndsSo : List Bool → End → Spot → Type 0

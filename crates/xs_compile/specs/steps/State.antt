@@ -7,7 +7,7 @@ use Rattle.xs_compile.specs.Bodies.{Source}
 use Rattle.xs_declared.specs.Counted.{global_number, template_number}
 use Rattle.xs_declared.specs.Parts.{row_at}
 use Rattle.xs_declared.specs.Tables.{number_in}
-use Rattle.xs_declared.specs.Modes.{HaveModes, modes_in}
+use Rattle.xs_declared.specs.Modes.{HaveModes, modes_in, modes_of}
 use Rattle.xs_compile.specs.steps.Rows.{is_body_row, part_row}
 use Rattle.xs_scopes.specs.Setting.{setting_of}
 use Rattle.xs_compile.specs.steps.Tables.{HasLocals, scopes_in, scopes_of}
@@ -24,9 +24,8 @@ use Rattle.xs_tree.specs.Record.{at, places}
 abbrev pub modules_of : Compiler → List ModuleData
 modules_of c = modules_data c.modules.now
 
--- the modules, and the modes in the order that tells their numbers
 abbrev pub source_of : Compiler → Source
-source_of c = record { modules = modules_of c; modes = modes_in c.modes }
+source_of c = record { modules = modules_of c; modes = modes_of (modules_of c) }
 
 -- the stylesheet has no static fault, and the tables are those of its modules
 pub record IsState (c : Compiler) : Type 0 where
@@ -35,6 +34,7 @@ pub record IsState (c : Compiler) : Type 0 where
   pub globals : (uri local : List ℕ) → number_in c.globals uri local ≡ global_number (modules_of c) (uri, local)
   pub templates : (uri local : List ℕ) → number_in c.templates uri local ≡ template_number (modules_of c) (uri, local)
   pub modes : HaveModes (modules_of c) c.modes
+  pub order : modes_in c.modes ≡ modes_of (modules_of c)
   pub settings : map (λ table. table.items) c.settings.items ≡ map (λ d. map (setting_of d.records) (places d.records)) (modules_of c)
   pub scopes : map scopes_in c.scopes.items ≡ map (λ d. scopes_of d.records) (modules_of c)
   pub locals : AllZip HasLocals (modules_of c) c.locals.items

@@ -1,6 +1,5 @@
 -- Rules by mode, kind and name.
 use Rattle.std.specs.Prelude.{◌≡◌, ℕ, zero, suc, ◌==◌, ◌&&◌, Bool, List, [], ◌∷◌, reverse, map, length, get_or, Option, Some, None, IfSome, option_map, slice_get, nat_lt, if◌then◌else◌}
-use Rattle.std.specs.Arc.{arc_value}
 use Rattle.std.specs.Borrow.{Bor}
 use Rattle.std.specs.Option.{option_and_then}
 use Rattle.std.specs.Str.{bytes_eq}
@@ -11,10 +10,8 @@ use Rattle.xs_tree.specs.declared.axes.Axis.TheVariants.{Child, Attribute as Att
 use Rattle.xs_tree.specs.declared.kinds.Kind.{Kind}
 use Rattle.xs_tree.specs.declared.kinds.Kind.TheVariants.{Root, Element, Attribute, Space, Text as TextKind, Comment as CommentKind, Pi as PiKind}
 use Rattle.xs_tree.specs.Record.{Record, name_local, name_uri}
-use Rattle.xs_xpath.specs.declared.expr.Expr.{Expr}
 use Rattle.xs_xpath.specs.declared.name.NodeTest.{NodeTest}
 use Rattle.xs_xpath.specs.declared.name.NodeTest.TheVariants.{Any, Uri, Name, Node, Text, Comment, Pi, Target}
-use Rattle.xs_xpath.specs.Exprs.{tree_from}
 use Rattle.xs_xpath.specs.Tree.{Tree, step}
 use Rattle.xs_pattern.specs.Matching.{steps_of}
 use Rattle.xs_pattern.specs.steps.Above.{IsAbove}
@@ -100,7 +97,7 @@ has_key ks q i = is_key q (key_at ks i)
 
 -- the rule of an alternative of a template
 abbrev pub nth_of : ℕ → Template → ℕ → ScopedPattern → Option Candidate
-nth_of number t k p = option_map (λ (e : Expr). candidate number t p (tree_from e)) (slice_get p.pattern.alternatives.items k)
+nth_of number t k p = option_map (candidate number t p) (slice_get p.pattern k)
 
 abbrev pub candidate_at : List Template → ℕ → ℕ → Option Candidate
 candidate_at ts number k =
@@ -140,7 +137,7 @@ IsTable rs scope e (Above t) = IsAbove rs e t.items
 IsTable rs scope e (Matches t) = AreMarks rs scope e t.items
 
 abbrev pub scope_of : ScopedPattern → List (List ℕ × List ℕ)
-scope_of p = (arc_value p.scope).pairs.items
+scope_of p = p.scope
 
 -- a table, if there is one, is that of a rule's alternative
 abbrev pub IsTableOf : List Record → Option Candidate → Option RuleTable → Type 0

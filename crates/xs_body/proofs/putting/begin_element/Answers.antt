@@ -10,7 +10,7 @@ use Rattle.xs_body.proofs.putting.begin_element.Goals as goal
 pub returns-in_err-put-clause-told : goal.returns-in_err-put-clause-told
 returns-in_err-put-clause-told g c =
     let p = err_from_is_err_and c.from_residual-in_err-put.result c.from_residual-in_err-put.ensures.1 in
-    let e = ap (λ l. and_then (put (Start l) (g.R.Tally.state c.args.recorder.now)) (λ u m. space_steps c.args.start.now.spaces.items m))
+    let e = ap (λ l. and_then (put (Start l) (g.R.Tally.state c.args.recorder.now)) (λ u m. space_steps c.args.start.now.spaces m))
     (sym c.in_ok-name.ensures.label) in
-    passes (λ x. x) (λ x. x) _ _ (λ u m. space_steps c.args.start.now.spaces.items m) (g.R.Tally.state c.put.new.self) c.from_residual-in_err-put.result _ _ e
-    (λ u. spaces-grow c.args.start.now.spaces.items) p.1 p.2 c.in_err-put.ensures.told
+    passes (λ x. x) (λ x. x) _ _ (λ u m. space_steps c.args.start.now.spaces m) (g.R.Tally.state c.put.new.self) c.from_residual-in_err-put.result _ _ e
+    (λ u. spaces-grow c.args.start.now.spaces) p.1 p.2 c.in_err-put.ensures.told

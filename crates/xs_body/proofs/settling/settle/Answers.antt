@@ -12,7 +12,7 @@ use Rattle.xs_body.proofs.settling.settle.Goals as goal
 pub settle_in_turn-requires-clause-going : goal.settle_in_turn-requires-clause-going
 settle_in_turn-requires-clause-going g c κs within =
     let w = ground c.args.sheet.now c.args.index.now c.args.tree.now (g.K.KeyFinder.tables c.args.keys.now) in
-    let s = c.as_slice-globals.ensures.value in
+    let s = c.as_slice-globals.ensures in
     let first : List (Option Value) → Table = λ vs. record { values = vs; says = []; ticks = 0; thrown = 0 } in
     first-going w c.args.budget c.args.given.now c.in_ok-begun.begun.items (table_of c.with-table.result)
     (c.in_ok-begun.ensures.marks ∙ ap (map (λ x. false)) s)
@@ -20,15 +20,15 @@ settle_in_turn-requires-clause-going g c κs within =
 
 pub settle_in_turn-requires-clause-marked : goal.settle_in_turn-requires-clause-marked
 settle_in_turn-requires-clause-marked g c κs within =
-    let s = c.as_slice-globals.ensures.value in
-    first-marked c.args.given.now c.args.sheet.now.globals.items c.in_ok-begun.begun.items c.with-table.result.values.items
+    let s = c.as_slice-globals.ensures in
+    first-marked c.args.given.now c.args.sheet.now.globals c.in_ok-begun.begun.items c.with-table.result.values.items
     (c.in_ok-begun.ensures.marks ∙ ap (map (λ x. false)) s)
     (ap (λ (t : Table). t.values) c.with-table.ensures ∙ c.in_ok-values_given.ensures.values ∙ ap (map (value_given c.args.given.now)) s)
 
 pub returns-clause-whole : goal.returns-clause-whole
 returns-clause-whole g c = λ e.
     let w = ground c.args.sheet.now c.args.index.now c.args.tree.now (g.K.KeyFinder.tables c.args.keys.now) in
-    let s = c.as_slice-globals.ensures.value in
+    let s = c.as_slice-globals.ensures in
     let first : List (Option Value) → Table = λ vs. record { values = vs; says = []; ticks = 0; thrown = 0 } in
     let u = table_of c.settle_in_turn.new.table in
     let all = settles-so w c.args.given.now c.args.budget c.as_slice-globals.result.now c.in_ok-order.order.items c.deref.result.now

@@ -4,5 +4,5 @@ use Rattle.xs_engine.proofs.evaluation.evaluate.Goals as goal
 
 pub returns-clause-answer : goal.returns-clause-answer
 returns-clause-answer c =
-    from_stripped c.evaluate_over.result (job_data c.args.job.now) c.args.sheet.now c.deref.result.now c.args.source c.strip.new.tree
-    c.deref.ensures.value c.in_ok-strip.ensures.stripped c.evaluate_over.ensures.answer
+    from_stripped c.evaluate_over.result (job_data c.args.job.now) c.args.sheet.now c.as_slice.result.now c.args.source c.strip.new.tree
+    c.as_slice.ensures c.in_ok-strip.ensures.stripped c.evaluate_over.ensures.answer

@@ -1,6 +1,5 @@
-use Rattle.std.proofs.Common.{true, IfSome, Some, ap, subst, sym, ◌∙◌}
+use Rattle.std.proofs.Common.{true, IfSome, Some, List, ℕ, ap, subst, sym, ◌∙◌}
 use Rattle.std.specs.Option.{option_map_or}
-use Rattle.xs_xpath.specs.declared.scope.Scope.{Scope}
 use Rattle.xs_xpath.specs.Exprs.{tree_from}
 use Rattle.xs_pattern.specs.Matching.{matches_path, pattern_context}
 use Rattle.xs_rules.specs.declared.candidates.Best.{Best}
@@ -23,7 +22,7 @@ returns-then-not-is_above g c = record {
 
 pub matches_by-requires-clause-table : goal.matches_by-requires-clause-table
 matches_by-requires-clause-table g c κs within =
-    subst (λ (s : Scope). IfSome c.args.table (λ t. IsTable c.args.tree.now s.pairs.items (tree_from c.args.alternative.now) t.now)) (sym c.deref.ensures)
+    subst (λ (ps : List (List ℕ × List ℕ)). IfSome c.args.table (λ t. IsTable c.args.tree.now ps (tree_from c.args.alternative.now) t.now)) (sym c.scope.ensures)
     c.requires.table
 
 pub returns-then-branch : goal.returns-then-branch
@@ -34,8 +33,8 @@ returns-then-branch g c = record {
       (candidate c.args.number c.args.template.now c.args.pattern.now (tree_from c.args.alternative.now)) c.args.best
       (ap (λ (r : Rank). option_map_or (λ (b : Best). outranks r b.rank) c.args.best true) (sym c.rank_of-rank.ensures)
       ∙ sym c.is_above.ensures ∙ c.if-not-is_above.false)
-      (ap (λ (s : Scope). matches_path (g.K.KeyFinder.tables c.args.keys.now) (pattern_context c.args.tree.now s.pairs.items c.args.node)
-      (tree_from c.args.alternative.now)) (sym c.deref.ensures)
+      (ap (λ (ps : List (List ℕ × List ℕ)). matches_path (g.K.KeyFinder.tables c.args.keys.now) (pattern_context c.args.tree.now ps c.args.node)
+      (tree_from c.args.alternative.now)) (sym c.scope.ensures)
       ∙ sym c.in_ok-matches_by.ensures.matches ∙ c.if-branch.true);
 }
 
@@ -44,7 +43,7 @@ returns g c = record {
   best =
       one-passed (is_matching (g.K.KeyFinder.tables c.args.keys.now) c.args.tree.now c.args.node)
       (candidate c.args.number c.args.template.now c.args.pattern.now (tree_from c.args.alternative.now)) c.args.best
-      (ap (λ (s : Scope). matches_path (g.K.KeyFinder.tables c.args.keys.now) (pattern_context c.args.tree.now s.pairs.items c.args.node)
-      (tree_from c.args.alternative.now)) (sym c.deref.ensures)
+      (ap (λ (ps : List (List ℕ × List ℕ)). matches_path (g.K.KeyFinder.tables c.args.keys.now) (pattern_context c.args.tree.now ps c.args.node)
+      (tree_from c.args.alternative.now)) (sym c.scope.ensures)
       ∙ sym c.in_ok-matches_by.ensures.matches ∙ c.if-branch.false);
 }

@@ -8,7 +8,7 @@ abbrev pub invariant-loop-alternative : goal.invariant-loop-alternative
 invariant-loop-alternative g l =
     best_before (is_matching (g.K.KeyFinder.tables l.keys) l.tree l.node) (map (candidate l.number l.template l.pattern) (trees_from l.rest)) l.best
     ≡ best_before (is_matching (g.K.KeyFinder.tables l.keys) l.tree l.node)
-    (map (candidate l.number l.template l.pattern) (trees_from l.pattern.pattern.alternatives.items)) l.fn.best
+    (map (candidate l.number l.template l.pattern) l.pattern.pattern) l.fn.best
 
 abbrev pub decreases-loop-alternative : goal.decreases-loop-alternative
 decreases-loop-alternative g l = length l.rest

@@ -2,7 +2,6 @@ use Rattle.std.proofs.Common.{◌≡◌, [], IfOk, Option, ap, map, subst, sym, 
 use Rattle.std.proofs.lemmas.Bool.{eq-eqb, ne_eqb}
 use Rattle.std.specs.Option.{option_map_or}
 use Rattle.xs_sheet.specs.declared.scoped.ScopedPattern.{ScopedPattern}
-use Rattle.xs_xpath.specs.Exprs.{trees_from}
 use Rattle.xs_rules.specs.declared.candidates.Best.{Best}
 use Rattle.xs_rules.specs.Rules.{candidate}
 use Rattle.xs_rules.specs.steps.Candidates.{best_before, passes}
@@ -17,10 +16,10 @@ returns-then-template-mode g c =
     let pat = c.in-Some.pattern in
     record {
       best =
-          other-mode c.args.looked keys c.args.tree.now c.args.mode c.args.node c.args.number t pat (trees_from pat.pattern.alternatives.items) c.args.best
+          other-mode c.args.looked keys c.args.tree.now c.args.mode c.args.node c.args.number t pat pat.pattern c.args.best
           (ne_eqb t.mode c.args.mode c.if-template-mode.true)
           ∙ sym (ap (λ (o : Option ScopedPattern). best_before p
-          (option_map_or (λ (q : ScopedPattern). map (candidate c.args.number t q) (trees_from q.pattern.alternatives.items)) o []) c.args.best) c.in-Some.is);
+          (option_map_or (λ (q : ScopedPattern). map (candidate c.args.number t q) q.pattern) o []) c.args.best) c.in-Some.is);
     }
 
 pub returns-then-not-looks_at : goal.returns-then-not-looks_at
@@ -31,10 +30,10 @@ returns-then-not-looks_at g c =
     let pat = c.in-Some.pattern in
     record {
       best =
-          not_looked-at c.args.looked keys c.args.tree.now c.args.mode c.args.node c.args.number t pat (trees_from pat.pattern.alternatives.items) c.args.best
+          not_looked-at c.args.looked keys c.args.tree.now c.args.mode c.args.node c.args.number t pat pat.pattern c.args.best
           (sym c.looks_at.ensures ∙ c.if-not-looks_at.true)
           ∙ sym (ap (λ (o : Option ScopedPattern). best_before p
-          (option_map_or (λ (q : ScopedPattern). map (candidate c.args.number t q) (trees_from q.pattern.alternatives.items)) o []) c.args.best) c.in-Some.is);
+          (option_map_or (λ (q : ScopedPattern). map (candidate c.args.number t q) q.pattern) o []) c.args.best) c.in-Some.is);
     }
 
 pub returns-in-None : goal.returns-in-None
@@ -45,7 +44,7 @@ returns-in-None g c =
       best =
           sym (none-before p c.args.best)
           ∙ sym (ap (λ (o : Option ScopedPattern). best_before p
-          (option_map_or (λ (q : ScopedPattern). map (candidate c.args.number t q) (trees_from q.pattern.alternatives.items)) o []) c.args.best) c.in-None.is);
+          (option_map_or (λ (q : ScopedPattern). map (candidate c.args.number t q) q.pattern) o []) c.args.best) c.in-None.is);
     }
 
 pub returns-else-not-looks_at : goal.returns-else-not-looks_at
@@ -57,9 +56,9 @@ returns-else-not-looks_at g c =
     record {
       best =
           subst (λ (o : Option Best). IfOk c.best_of_pattern.result (λ found. found ≡ o))
-          (all-matching c.args.looked keys c.args.tree.now c.args.mode c.args.node c.args.number t pat (trees_from pat.pattern.alternatives.items) c.args.best
+          (all-matching c.args.looked keys c.args.tree.now c.args.mode c.args.node c.args.number t pat pat.pattern c.args.best
           (eq-eqb t.mode c.args.mode c.if-template-mode.false) (sym c.looks_at.ensures ∙ c.if-not-looks_at.false)
           ∙ sym (ap (λ (o : Option ScopedPattern). best_before p
-          (option_map_or (λ (q : ScopedPattern). map (candidate c.args.number t q) (trees_from q.pattern.alternatives.items)) o []) c.args.best) c.in-Some.is))
+          (option_map_or (λ (q : ScopedPattern). map (candidate c.args.number t q) q.pattern) o []) c.args.best) c.in-Some.is))
           c.best_of_pattern.ensures.best;
     }

@@ -8,6 +8,6 @@ pub returns : goal.returns
 returns g c = record {
   chosen =
       subst (λ (r : Rule). IfOk c.choose_among.result (λ rule. rule ≡ r))
-      (chosen-best All (λ precedence. true) (g.K.KeyFinder.tables c.args.keys.now) c.args.sheet.now.templates.items c.args.tree.now c.args.mode c.args.node
+      (chosen-best All (λ precedence. true) (g.K.KeyFinder.tables c.args.keys.now) c.args.sheet.now.templates c.args.tree.now c.args.mode c.args.node
       (λ precedence. refl)) c.choose_among.ensures.chosen;
 }

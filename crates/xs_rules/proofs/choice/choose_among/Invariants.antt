@@ -7,8 +7,8 @@ abbrev pub invariant-loop-template : goal.invariant-loop-template
 invariant-loop-template g l = record {
   whole :
       best_before (passes l.looked (g.K.KeyFinder.tables l.keys) l.tree l.mode l.node) (candidates l.rest) l.best
-      ≡ best_before (passes l.looked (g.K.KeyFinder.tables l.keys) l.tree l.mode l.node) (candidates l.sheet.templates.items) None;
-  few : length l.rest ≤ length l.sheet.templates.items;
+      ≡ best_before (passes l.looked (g.K.KeyFinder.tables l.keys) l.tree l.mode l.node) (candidates l.sheet.templates) None;
+  few : length l.rest ≤ length l.sheet.templates;
 }
 
 abbrev pub decreases-loop-template : goal.decreases-loop-template

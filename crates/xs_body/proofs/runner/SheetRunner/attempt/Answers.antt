@@ -21,8 +21,8 @@ returns-clause-attempt g c =
     let v : c.self.inside.world ≡ c.args.self.now = c.self.view_is in
     let w : World = c.self.inside.world in
     subst (λ (x : World). IfOk c.attempt_of.result (λ a. IsAttempt (attempt_cut x c.args.global c.args.limit)
-    (attempt_value x (slice_get x.sheet.globals.items c.args.global)) a)) v
-    (attempt-comes w (slice_get w.sheet.globals.items c.args.global) c.args.limit _ _ _ _ _ _ c.tell_global-told.result c.attempt_of.result
+    (attempt_value x (slice_get x.sheet.globals c.args.global)) a)) v
+    (attempt-comes w (slice_get w.sheet.globals c.args.global) c.args.limit _ _ _ _ _ _ c.tell_global-told.result c.attempt_of.result
     c.new-brief.ensures.begins c.finish-items.ensures.items c.left.ensures.left
     (c.in_ok-says.ensures ∙ ap (λ is. messages_of {H = Task} (marks_of is)) c.deref.ensures.value) (search rules) c.tell_global-told.ensures.told
     c.attempt_of.ensures)

@@ -49,9 +49,9 @@ body-returns t c =
     let s = source_of c.args.self.now in
     let inside : Place = (c.args.number, c.args.n) in
     let items = c.deref-place-items.result.now in
-    body-is s (body_at (modules_of c.args.self.now) inside) (roll-Body (record { instrs = c.loop-place.instrs }))
+    body-is s (body_at (modules_of c.args.self.now) inside) (roll-Body (record { instrs = c.of.result }))
     (subst (AllZip (IsInstr (source_of c.args.self.now)) (body_at (modules_of c.args.self.now) inside))
-    (sym (ap (λ b. b.instrs.items) (out-roll-Body (record { instrs = c.loop-place.instrs }))))
+    (sym (ap (λ b. b.instrs) (out-roll-Body (record { instrs = c.of.result })) ∙ c.of.ensures))
     (subst (λ (qs : List Place). AllZip (IsInstr (source_of c.args.self.now)) qs c.loop-place.instrs.items) (c.deref-place-items.ensures.value
     ∙ c.in_ok-places.ensures.places)
     (zip-end (IsInstr (source_of c.args.self.now)) items c.loop-place.instrs.items c.loop-place.place-index (omega arith) c.loop-place.invariant)))
@@ -127,9 +127,9 @@ passed-returns t c =
     let s = source_of c.args.self.now in
     let inside : Place = (c.args.number, c.args.n) in
     let items = c.deref-place-items.result.now in
-    passed-are s (children_with is_with_param (modules_of c.args.self.now) inside) (roll-Passed (record { params = c.loop-place.params }))
+    passed-are s (children_with is_with_param (modules_of c.args.self.now) inside) (roll-Passed (record { params = c.of.result }))
     (subst (AllZip (IsBinding (source_of c.args.self.now)) (children_with is_with_param (modules_of c.args.self.now) inside))
-    (sym (ap (λ b. b.params.items) (out-roll-Passed (record { params = c.loop-place.params }))))
+    (sym (ap (λ b. b.params) (out-roll-Passed (record { params = c.of.result })) ∙ c.of.ensures))
     (subst (λ (qs : List Place). AllZip (IsBinding (source_of c.args.self.now)) qs c.loop-place.params.items) (c.deref-place-items.ensures.value
     ∙ c.in_ok-places.ensures.places)
     (zip-end (IsBinding (source_of c.args.self.now)) items c.loop-place.params.items c.loop-place.place-index (omega arith) c.loop-place.invariant)))
@@ -163,10 +163,10 @@ fallbacks-returns t c =
     let s = source_of c.args.self.now in
     let inside : Place = (c.args.number, c.args.n) in
     let items = c.deref-place-items.result.now in
-    fallbacks-are s (children_with is_fallback (modules_of c.args.self.now) inside) (roll-Fallbacks (record { bodies = c.loop-place.bodies }))
+    fallbacks-are s (children_with is_fallback (modules_of c.args.self.now) inside) (roll-Fallbacks (record { bodies = c.of.result }))
     (subst (AllZip (λ (p : Place). IsBody (source_of c.args.self.now) (body_at (modules_of c.args.self.now) p))
     (children_with is_fallback (modules_of c.args.self.now) inside))
-    (sym (ap (λ b. b.bodies.items) (out-roll-Fallbacks (record { bodies = c.loop-place.bodies }))))
+    (sym (ap (λ b. b.bodies) (out-roll-Fallbacks (record { bodies = c.of.result })) ∙ c.of.ensures))
     (subst (λ (qs : List Place). AllZip (λ (p : Place). IsBody (source_of c.args.self.now) (body_at (modules_of c.args.self.now) p)) qs
     c.loop-place.bodies.items) (c.deref-place-items.ensures.value ∙ c.in_ok-places.ensures.places)
     (zip-end (λ (p : Place). IsBody (source_of c.args.self.now) (body_at (modules_of c.args.self.now) p)) items c.loop-place.bodies.items
@@ -181,7 +181,7 @@ own_content-returns-then-is_empty t c =
     let b = c.in_ok-body.body in (
       c.requires.none,
       body-empty (source_of c.args.self.now) (body_at (modules_of c.args.self.now) p) b c.in_ok-body.ensures
-          (none-in (out-Body b).instrs.items _ c.is_empty.result (out-Body b).instrs.ok.0 c.is_empty.ensures c.if-is_empty.true),
+          (none-in (out-Body b).instrs _ c.is_empty.result (ap length c.as_slice.ensures) c.is_empty.ensures c.if-is_empty.true),
     )
 
 pub own_content-returns-else-is_empty : goal.own_content-returns-else-is_empty
@@ -190,7 +190,7 @@ own_content-returns-else-is_empty t c =
     let b = c.in_ok-body.body in (
       c.requires.none,
       body-some (source_of c.args.self.now) (body_at (modules_of c.args.self.now) p) b c.in_ok-body.ensures
-          (some-in (out-Body b).instrs.items _ c.is_empty.result (out-Body b).instrs.ok.0 c.is_empty.ensures c.if-is_empty.false),
+          (some-in (out-Body b).instrs _ c.is_empty.result (ap length c.as_slice.ensures) c.is_empty.ensures c.if-is_empty.false),
       c.in_ok-body.ensures,
     )
 
@@ -221,7 +221,7 @@ otherwise-returns t c =
     subst (λ (qs : List Place). IsBody s qs (roll-Body (record { instrs = c.new.result })))
     (sym (first-none s (children_with is_otherwise (modules_of c.args.self.now) p) none))
     (body-is s [] (roll-Body (record { instrs = c.new.result }))
-    (subst (AllZip (IsInstr s) []) (sym (ap (λ b. b.instrs.items) (out-roll-Body (record { instrs = c.new.result })) ∙ c.new.ensures.items)) tt))
+    (subst (AllZip (IsInstr s) []) (sym (ap (λ b. b.instrs) (out-roll-Body (record { instrs = c.new.result })) ∙ c.new.ensures)) tt))
 
 pub kind-unreachable-requires : goal.kind-unreachable-requires
 kind-unreachable-requires t c =
@@ -261,11 +261,11 @@ choose-returns t c =
     let s = source_of c.args.self.now in
     let p : Place = (c.args.number, c.args.n) in (
       c.requires.row,
-      choice-is s p (roll-Choice (record { whens = c.in_ok-whens.whens; otherwise = c.in_ok-otherwise.otherwise }))
+      choice-is s p (roll-Choice (record { whens = c.of.result; otherwise = c.in_ok-otherwise.otherwise }))
           (subst (AllZip (IsWhen s) (children_with is_when (modules_of c.args.self.now) p))
-          (sym (ap (λ x. x.whens.items) (out-roll-Choice (record { whens = c.in_ok-whens.whens; otherwise = c.in_ok-otherwise.otherwise }))))
+          (sym (ap (λ x. x.whens) (out-roll-Choice (record { whens = c.of.result; otherwise = c.in_ok-otherwise.otherwise })) ∙ c.of.ensures))
           c.in_ok-whens.ensures)
           (subst (IsBody s (first_body s (children_with is_otherwise (modules_of c.args.self.now) p)))
-          (sym (ap (λ x. x.otherwise) (out-roll-Choice (record { whens = c.in_ok-whens.whens; otherwise = c.in_ok-otherwise.otherwise }))))
+          (sym (ap (λ x. x.otherwise) (out-roll-Choice (record { whens = c.of.result; otherwise = c.in_ok-otherwise.otherwise }))))
           c.in_ok-otherwise.ensures),
     )

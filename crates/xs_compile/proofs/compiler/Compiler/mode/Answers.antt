@@ -1,7 +1,7 @@
 use Rattle.std.proofs.Common.{◌≡◌, ◌∙◌, List, Option, None, Some, ap, refl, subst, sym}
 use Rattle.std.specs.Prelude.{option_map, IfOk}
 use Rattle.xs_declared.specs.Labels.{IsMode, mode_at}
-use Rattle.xs_declared.specs.Modes.{has_mode, modes_in, tree_mode}
+use Rattle.xs_declared.specs.Modes.{has_mode, modes_in, modes_of, tree_mode}
 use Rattle.xs_compile.specs.steps.State.{modules_of}
 use Rattle.xs_elements.specs.Nodes.{Name, name_data}
 use Rattle.xs_static.specs.Modules.{records_at}
@@ -19,13 +19,15 @@ number-requires c =
 pub returns-in-Some : goal.returns-in-Some
 returns-in-Some c =
     let compiler = c.args.self.now in
+    let ready = c.requires.ready in
     let told : Some (name_data c.in-Some.name) ≡ mode_at (modules_of compiler) (c.args.number, c.args.n) =
     ap (option_map name_data) (sym c.in-Some.is) ∙ c.mode_at.ensures ∙ ap (λ (rs : List Record). tree_mode rs c.args.n) c.tree_of.ensures in
-    subst (λ (o : Option Name). IfOk c.number.result (IsMode (modes_in compiler.modes) o)) told c.number.ensures
+    subst (λ (names : List Name). IfOk c.number.result (IsMode names (mode_at (modules_of compiler) (c.args.number, c.args.n)))) ready.state.order
+    (subst (λ (o : Option Name). IfOk c.number.result (IsMode (modes_in compiler.modes) o)) told c.number.ensures)
 
 pub returns-in-None : goal.returns-in-None
 returns-in-None c =
     let compiler = c.args.self.now in
     let told : None ≡ mode_at (modules_of compiler) (c.args.number, c.args.n) =
     ap (option_map name_data) (sym c.in-None.is) ∙ c.mode_at.ensures ∙ ap (λ (rs : List Record). tree_mode rs c.args.n) c.tree_of.ensures in
-    subst (λ (o : Option Name). IsMode (modes_in compiler.modes) o 0) told refl
+    subst (λ (o : Option Name). IsMode (modes_of (modules_of compiler)) o 0) told refl

@@ -32,7 +32,7 @@ returns c =
       name = refl;
       priority = refl;
       mode = refl;
-      params = c.new.ensures.items;
+      params = c.new.ensures;
       body = body-is s (p ∷ []) _
-          (subst (λ b. AllZip (IsInstr s) (p ∷ []) b.instrs.items) (sym (out-roll-Body (record { instrs = c.add_instr.new.instrs }))) instrs);
+          (subst (AllZip (IsInstr s) (p ∷ [])) (sym (ap (λ b. b.instrs) (out-roll-Body (record { instrs = c.of.result })) ∙ c.of.ensures)) instrs);
     })

@@ -8,12 +8,12 @@ use Rattle.xs_rules.proofs.index.RuleIndex.new.Goals as goal
 
 pub loop-number-preserved : goal.loop-number-preserved
 loop-number-preserved c =
-    let ts : List Template = c.args.sheet.now.templates.items in
+    let ts : List Template = c.args.sheet.now.templates in
     let slice : List Template = c.as_slice-templates.result.now in
     let t : Template = c.index-templates-number.result in
     let read : slice_get slice c.loop-number.number ≡ Some t =
     slice_get_read slice (length slice) c.loop-number.number t refl (omega (arith, c.loop-number-test.true)) c.index-templates-number.is in
     let of_number : slice_get ts c.loop-number.number ≡ Some t =
-    subst (λ xs. slice_get xs c.loop-number.number ≡ Some t) c.as_slice-templates.ensures.value read in
+    subst (λ xs. slice_get xs c.loop-number.number ≡ Some t) c.as_slice-templates.ensures read in
     template-more ts c.loop-number.number t c.add_template.new.self.entries.items (found_in c.add_template.new.self.last) of_number
     (c.in_ok-add_template.ensures.indexed ts (candidates (take c.loop-number.number ts)) of_number c.loop-number.invariant)

@@ -6,4 +6,4 @@ use Rattle.xs_rules.proofs.index.RuleIndex.new.Given as goal
 
 abbrev pub invariant-loop-number : goal.invariant-loop-number
 invariant-loop-number l =
-    IsIndexed l.sheet.templates.items (candidates (take l.number l.sheet.templates.items)) l.lists.entries.items (found_in l.lists.last)
+    IsIndexed l.sheet.templates (candidates (take l.number l.sheet.templates)) l.lists.entries.items (found_in l.lists.last)

@@ -1,6 +1,5 @@
 use Rattle.std.proofs.Common.{◌≡◌, ◌++◌, List, Some, map, slice_get, take}
 use Rattle.xs_sheet.specs.declared.declarations.Template.{Template}
-use Rattle.xs_xpath.specs.Exprs.{trees_from}
 use Rattle.xs_rules.specs.Rules.{Candidate, candidate}
 use Rattle.xs_rules.specs.steps.Index.{IsIndexed}
 use Rattle.xs_rules.specs.steps.Lists.{found_in}
@@ -12,5 +11,5 @@ invariant-loop-place l =
     → slice_get ts l.number ≡ Some l.template
     → l.template.pattern ≡ Some l.pattern
     → IsIndexed ts cs l.initial.self.entries.items (found_in l.initial.self.last)
-    → IsIndexed ts (cs ++ map (candidate l.number l.template l.pattern) (trees_from (take l.place l.pattern.pattern.alternatives.items)))
+    → IsIndexed ts (cs ++ map (candidate l.number l.template l.pattern) (take l.place l.pattern.pattern))
     l.self.entries.items (found_in l.self.last)

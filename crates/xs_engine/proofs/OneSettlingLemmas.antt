@@ -1,16 +1,14 @@
--- Settling all globals comes to one end; and to the same one for two stylesheets whose attempts at globals are the same.
-use Rattle.std.proofs.Common.{◌≡◌, ◌⊎◌, inl, inr, ⊎_elim, ℕ, ◌-◌, List, [], ◌∷◌, slice_get, Option, None, Bool, true, false, refl, sym, ap, subst, ◌∙◌}
-use Rattle.xs_trace.specs.Cut.{Cut, End, Whole, Fault, Needs, Spent, Full, cut}
+-- Settling all globals comes to one end.
+use Rattle.std.proofs.Common.{◌≡◌, ◌⊎◌, inl, inr, ⊎_elim, ℕ, ◌-◌, List, [], ◌∷◌, Bool, true, false, refl, sym, subst}
+use Rattle.xs_trace.specs.Cut.{End, Whole, Fault, Needs, Spent, Full}
 use Rattle.xs_trace.specs.Kept.{spot}
 use Rattle.xs_trace.specs.declared.item.Spot.{Spot}
-use Rattle.xs_value.specs.declared.value.Value.{Value}
 use Rattle.xs_body.specs.World.{World}
-use Rattle.xs_body.specs.Globals.{Table, Settled, settled, ended, Settles, AllSettle, SettlesAll, IsInOrder, IsUnsettled, at_first, attempt_trace, attempt_value}
-use Rattle.xs_body.specs.Globals.{is_under, once_more, tried, with_globals, with_passed, with_value}
+use Rattle.xs_body.specs.Globals.{Table, Settled, settled, ended, Settles, AllSettle, SettlesAll, IsUnsettled, at_first}
+use Rattle.xs_body.specs.Globals.{is_under, once_more, tried, with_passed, with_value}
 use Rattle.xs_body.specs.Globals as settles
 use Rattle.xs_engine.proofs.OneOrderLemmas.{one-order}
 
--- ---- one end
 module _ (w : World) (budget : ℕ) where
   -- the end behind a global that was needed
   abbrev After : (under : List ℕ) (g : ℕ) → Settled → Settled → Type 0
@@ -110,55 +108,5 @@ module _ (w : World) (budget : ℕ) where
 
   pub one-settling : (given : List (List ℕ × List ℕ)) (r s : Settled) → SettlesAll w given budget r → SettlesAll w given budget s → r ≡ s
   one-settling given r s a b =
-      let same : a.order ≡ b.order = one-order w.sheet.globals.items a.order b.order a.in_order b.in_order in
+      let same : a.order ≡ b.order = one-order w.sheet.globals a.order b.order a.in_order b.in_order in
       one-end a.settle s (subst (λ o. AllSettle w budget o (at_first w.sheet given) s) (sym same) b.settle)
-
--- ---- two stylesheets with the same attempts
-module _ (w v : World) (budget : ℕ)
-    (traces : (vs : List (Option Value)) (g : ℕ) → attempt_trace (with_globals w vs) (slice_get w.sheet.globals.items g)
-    ≡ attempt_trace (with_globals v vs) (slice_get v.sheet.globals.items g))
-    (values : (vs : List (Option Value)) (g : ℕ) → attempt_value (with_globals w vs) (slice_get w.sheet.globals.items g)
-    ≡ attempt_value (with_globals v vs) (slice_get v.sheet.globals.items g)) where
-  tried-same : (t : Table) (g : ℕ) → tried w budget t g ≡ tried v budget t g
-  tried-same t g = ap (λ x. cut x (budget - t.ticks) None) (traces t.values g)
-
-  with-same : (t : Table) (g : ℕ) → with_value v g (with_passed (tried v budget t g) t) ≡ with_value w g (with_passed (tried w budget t g) t)
-  with-same t g =
-      ap (λ (c : Cut _). with_value v g (with_passed c t)) (sym (tried-same t g))
-      ∙ ap (λ (x : Value). settles.valued g x (with_passed (tried w budget t g) t)) (sym (values t.values g))
-
-  passed-same : (t : Table) (g : ℕ) → with_passed (tried v budget t g) t ≡ with_passed (tried w budget t g) t
-  passed-same t g = ap (λ (c : Cut _). with_passed c t) (sym (tried-same t g))
-
-  end-same : (t : Table) (g : ℕ) (e : End) → (tried w budget t g).end ≡ e → (tried v budget t g).end ≡ e
-  end-same t g e q = ap (λ (c : Cut _). c.end) (sym (tried-same t g)) ∙ q
-
-  settles-same : {under : List ℕ} {g : ℕ} {t : Table} {r : Settled} → Settles w budget under g t r → Settles v budget under g t r
-  settles-same {under = under} {g = g} {t = t} (settles.whole e) =
-      subst (λ (u : Table). Settles v budget under g t (settled u)) (with-same t g) (settles.whole (end-same t g Whole e))
-  settles-same {under = under} {g = g} {t = t} (settles.faults {f = f} {p = p} e) =
-      subst (λ (u : Table). Settles v budget under g t (ended u (spot f p))) (passed-same t g) (settles.faults (end-same t g (Fault f p) e))
-  settles-same {under = under} {g = g} {t = t} (settles.spends {p = p} e) =
-      subst (λ (u : Table). Settles v budget under g t (ended u (spot 50 p))) (passed-same t g) (settles.spends (end-same t g (Spent p) e))
-  settles-same {under = under} {g = g} {t = t} (settles.circular {h = h} {p = p} e n) =
-      subst (λ (u : Table). Settles v budget under g t (ended u (spot 59 p))) (passed-same t g) (settles.circular (end-same t g (Needs h p) e) n)
-  settles-same {g = g} {t = t} (settles.needs {h = h} {p = p} e n k m) =
-      settles.needs (end-same t g (Needs h p) e) n (settles-same k) (settles-same m)
-  settles-same {g = g} {t = t} (settles.stops {h = h} {p = p} e n k) = settles.stops (end-same t g (Needs h p) e) n (settles-same k)
-
-  all-same : {gs : List ℕ} {t : Table} {r : Settled} → AllSettle w budget gs t r → AllSettle v budget gs t r
-  all-same settles.none = settles.none
-  all-same (settles.skips n k) = settles.skips n (all-same k)
-  all-same (settles.next l k m) = settles.next l (settles-same k) (all-same m)
-  all-same (settles.stop l k) = settles.stop l (settles-same k)
-
-  -- what is settled by one is settled by the other, and to nothing else
-  pub same-settling : (given : List (List ℕ × List ℕ)) (r s : Settled) → at_first w.sheet given ≡ at_first v.sheet given →
-      ((o : List ℕ) → IsInOrder w.sheet.globals.items o → IsInOrder v.sheet.globals.items o) → SettlesAll w given budget r → SettlesAll v given budget s →
-      r ≡ s
-  same-settling given r s first order a b =
-      one-settling v budget given r s (record {
-        order = a.order;
-        in_order = order a.order a.in_order;
-        settle = subst (λ t. AllSettle v budget a.order t r) first (all-same a.settle);
-      }) b

@@ -1,0 +1,9 @@
+-- What follows of the definition of a compiled stylesheet.
+use Rattle.std.specs.Prelude.{◌≡◌, List}
+use Rattle.xs_modules.specs.Numbering.{ModuleData}
+use Rattle.xs_sheet.specs.declared.sheet.Sheet.{Sheet}
+use Rattle.xs_compile.specs.StandsFor.{StandsFor}
+
+-- modules have one compiled stylesheet
+abbrev pub OneSheet : Type 0
+OneSheet = (ms : List ModuleData) (a b : Sheet) → StandsFor ms a → StandsFor ms b → a ≡ b
