@@ -1,4 +1,5 @@
 pub mod Event
+pub mod Fault
 pub mod Text
 pub mod Mark
 pub mod Cut
@@ -9,10 +10,6 @@ pub mod Play
 pub mod PlayLaws
 pub mod Kept
 pub mod Keeping
-pub mod Store
 pub mod Run
 pub mod Meter
 pub mod Total
-pub mod Sections
-pub mod Piece
-pub mod Probe
