@@ -8,11 +8,11 @@ use Rattle.xs_trace.specs.Kept.{item_marks, marks_of}
 use Rattle.xs_trace.specs.State.{State, Shared, Untimed, allows, stands, after_tick, after_ticks}
 use Rattle.xs_trace.specs.Cut.{Spent, Full, less}
 use Rattle.xs_trace.specs.Play.{Told, Ends, goes, stops, put, put_in, ticked, ticked_by}
-use Rattle.xs_trace.specs.Store.{Store, at_ticks, marked, is_open, put_into, briefly_to, stood}
+use Rattle.xs_record.specs.Store.{Store, at_ticks, marked, is_open, put_into, briefly_to, stood}
 use Rattle.xs_trace.specs.declared.event.Event.{Event}
 use Rattle.xs_trace.specs.declared.item.Item.{Item}
 use Rattle.xs_trace.specs.declared.item.Site.{Site}
-use Rattle.xs_trace.proofs.StoreLemmas.{marks-pushed}
+use Rattle.xs_record.proofs.StoreLemmas.{marks-pushed}
 
 -- ---- the store
 

@@ -6,10 +6,10 @@ use Rattle.xs_trace.specs.State.{State, All, adds}
 use Rattle.xs_trace.specs.Play.{Told, play, told_of, left_of, end_of, raised, Before, IsStep}
 use Rattle.xs_trace.specs.PlayLaws.{TellsCut}
 use Rattle.xs_trace.specs.Kept.{IsPacked, ended_by, IsEnded}
-use Rattle.xs_trace.specs.Store.{Store, limited_to}
+use Rattle.xs_record.specs.Store.{Store, limited_to}
 use Rattle.xs_trace.specs.Sections.{ArePacked}
 use Rattle.xs_trace.specs.Total.{over, ended_in}
-use Rattle.xs_trace.specs.Piece.{held, started, HasAdded, piece_marks, EndsBy, IsPieceOf}
+use Rattle.xs_record.specs.Piece.{held, started, HasAdded, piece_marks, EndsBy, IsPieceOf}
 use Rattle.xs_trace.specs.declared.item.Limits.{Limits}
 use Rattle.xs_trace.specs.declared.item.Ended.{Ended}
 use Rattle.xs_trace.specs.declared.piece.KeptPiece.{KeptPiece}

@@ -8,7 +8,7 @@ use Rattle.xs_trace.specs.Kept.{item_marks, marks_of, first_run, IsPacked, IsSin
 use Rattle.xs_trace.specs.State.{Shared, allows}
 use Rattle.xs_trace.specs.Cut.{Full, less}
 use Rattle.xs_trace.specs.Play.{Told, goes, stops, put, put_in}
-use Rattle.xs_trace.specs.Store.{Store, at_ticks, counted, marked, is_open, put_into, limited_to, pending, TakesRun}
+use Rattle.xs_record.specs.Store.{Store, at_ticks, counted, marked, is_open, put_into, limited_to, pending, TakesRun}
 use Rattle.xs_trace.specs.declared.event.Event.{Event}
 use Rattle.xs_trace.specs.declared.item.Item.{Item}
 use Rattle.xs_trace.specs.declared.item.Item.TheVariants as item

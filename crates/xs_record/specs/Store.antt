@@ -1,15 +1,12 @@
 -- What a store of marks holds, whatever limits there are.
 use Rattle.std.specs.Prelude.{ℕ, zero, suc, List, [], ◌∷◌, ◌++◌, Option, Some, Bool, true, false}
-use Rattle.xs_trace.specs.Mark.{Mark, Tick, Put, Say, Stop, Need, Hole, Trace, ticks}
+use Rattle.xs_trace.specs.Mark.{Put, Trace, ticks}
 use Rattle.xs_trace.specs.Cut.{nowhere}
 use Rattle.xs_trace.specs.Kept.{IsPacked}
 use Rattle.xs_trace.specs.State.{State, All, Untimed, Shared}
 use Rattle.xs_trace.specs.declared.event.Event.{Event}
-use Rattle.xs_trace.specs.declared.event.Event.TheVariants as event
 use Rattle.xs_trace.specs.declared.item.Item.{Item}
 use Rattle.xs_trace.specs.declared.item.Item.TheVariants as item
-use Rattle.xs_trace.specs.declared.item.Entry.{Entry}
-use Rattle.xs_trace.specs.declared.item.Entry.TheVariants as entry
 use Rattle.xs_trace.specs.declared.item.Site.{Site}
 
 pub record Store (H : Type 0) : Type 0 where
@@ -72,34 +69,11 @@ abbrev pub TakesRun : List Item → Site → ℕ → Type 0
 TakesRun is p zero = (q : Site) → IsPacked (is ++ pending q 1)
 TakesRun is p (suc n) = IsPacked (is ++ pending p (suc n))
 
--- so many ticks at a place, as an entry, if there are any
-abbrev pub pending_ticks : Site → ℕ → List Entry
-pending_ticks p zero = []
-pending_ticks p (suc n) = entry.Ticks p.«module» p.line (suc n) ∷ []
+-- a store after some marks
+abbrev pub behind : {H : Type 0} → Trace H → Store H → Store H
+behind t s = record { told = t ++ s.told; captures = s.captures; at = s.at }
 
--- a mark that is no tick
-abbrev pub IsUntimed : {H : Type 0} → Mark H → Type 0
-IsUntimed (Tick p) = ⊥
-IsUntimed (Put e) = Unit {0}
-IsUntimed (Say t) = Unit {0}
-IsUntimed (Stop f p) = Unit {0}
-IsUntimed (Need g p) = Unit {0}
-IsUntimed (Hole k) = Unit {0}
-
--- a timeline has a place for each of some marks, none of which is a tick
-abbrev pub IsTimeline : {H : Type 0} → List Entry → Trace H → Type 0
-IsTimeline [] [] = Unit {0}
-IsTimeline [] (m ∷ x) = ⊥
-IsTimeline (entry.Ticks p l n ∷ es) x = IsTimeline es x
-IsTimeline (entry.Item ∷ es) [] = ⊥
-IsTimeline (entry.Item ∷ es) (m ∷ x) = IsUntimed m × IsTimeline es x
-
--- The entries of a timeline as items, with any item at each place for one: where ticks may be added is asked of these.
-abbrev pub as_items : List Entry → List Item
-as_items [] = []
-as_items (entry.Ticks m l n ∷ es) = item.Run m l n ∷ as_items es
-as_items (entry.Item ∷ es) = item.Put event.End ∷ as_items es
-
--- A timeline of some marks, behind which so many ticks at a place are still to stand.
-abbrev pub IsOpenTimeline : {H : Type 0} → List Entry → Trace H → Site → ℕ → Type 0
-IsOpenTimeline es x p n = IsTimeline es x × TakesRun (as_items es) p n
+-- what a store holds, and how many blocks it has for it
+pub record Held (H : Type 0) : Type 0 where
+  pub store : Store H
+  pub blocks : ℕ

@@ -2,17 +2,17 @@
 ghost use Rattle.std.specs.List.{All};
 ghost use Rattle.std.specs.Prelude.{◌≡◌, [], Some, Err, false};
 ghost use Rattle.xs_trace.specs.State.{alone, Untimed};
-ghost use Rattle.xs_trace.specs.Store.{briefly_to};
+ghost use Rattle.xs_record.specs.Store.{briefly_to};
 ghost use Rattle.xs_trace.specs.PlayLaws.{begun};
 ghost use Rattle.xs_trace.specs.declared.recorder.Halt.TheVariants.{NoMemory};
 ghost use Rattle.xs_trace.specs.Kept.{marks_of, IsSingle};
 
-use crate::event::{Event, Fragment};
-use crate::item::{Item, Limits, Site};
+use xs_trace::event::{Event, Fragment};
+use xs_trace::item::{Item, Limits, Site};
 use crate::plain::Plain;
-use crate::recorder::{Halt, Recorder, Tally};
-use crate::text::TextBuf;
-use crate::whole::spend;
+use xs_trace::recorder::{Halt, Recorder, Tally};
+use xs_trace::text::TextBuf;
+use crate::room::spend;
 use std::alloc::Global;
 
 /// Keeps the events and messages that it is told, in order, up to its limits, and counts ticks: so

@@ -1,23 +1,25 @@
-//! A store of marks: it keeps what it is told, and knows no limit.
-ghost use Rattle.std.specs.Prelude.{◌≡◌, ◌++◌, ◌∷◌, [], reverse, OnOk, IfOk, OnErr};
+//! A store of marks: it keeps what it is given, and knows no limit.
+ghost use Rattle.std.specs.Prelude.{◌≡◌, ◌+◌, ◌<◌, ◌≤◌, ◌++◌, ◌∷◌, [], reverse};
+ghost use Rattle.std.specs.Prelude.{OnOk, OnErr, IfOk};
 ghost use Rattle.xs_trace.specs.Mark.{ticks};
 ghost use Rattle.xs_trace.specs.State.{top, below};
 ghost use Rattle.xs_trace.specs.Kept.{marks_of, item_marks, IsPacked, IsSingle};
-ghost use Rattle.xs_trace.specs.Store.{Store, empty, counted, marked, is_open, with_captures};
-ghost use Rattle.xs_trace.specs.Store.{put_into, told_nothing, pending, TakesRun};
+ghost use Rattle.xs_record.specs.Store.{Held, empty, counted, marked, is_open, with_captures};
+ghost use Rattle.xs_record.specs.Store.{put_into, told_nothing, pending, TakesRun};
 
-use crate::event::{Event, Fragment};
-use crate::item::{Item, Site};
+use crate::row::Row;
 use std::alloc::{AllocError, Global};
 use std::marker::{Model, PhantomData};
+use xs_trace::event::{Event, Fragment};
+use xs_trace::item::{Item, Site};
 
-/// What was told, in order, and the captures that are open. `T` is what fills the holes of the
+/// What was recorded, in order, and the captures that are open. `T` is what fills the holes of the
 /// traces.
 #[derive(Drop)]
-pub struct Marks<T> {
+pub(crate) struct Marks<R: Row, T> {
     alloc: Global,
-    // What was told, but for the last ticks.
-    items: Vec<Item>,
+    // What was recorded, but for the last ticks.
+    row: R,
     // The open captures, the one that was opened last at the end.
     captures: Vec<Fragment>,
     // The place of the last tick, and how many ticks there no item holds yet.
@@ -26,26 +28,31 @@ pub struct Marks<T> {
     of: PhantomData<T>,
 }
 
-impl<T> Model for Marks<T> {
-    ghost Value = { Store T };
+impl<R: Row, T> Model for Marks<R, T> {
+    ghost Value = { Held T };
 
     ghost view = { λ m. record {
-      told = marks_of m.items.items ++ ticks m.at m.run [];
-      captures = reverse m.captures.items;
-      at = m.at;
+      store = record {
+        told = marks_of (R.items m.row) ++ ticks m.at m.run [];
+        captures = reverse m.captures.items;
+        at = m.at;
+      };
+      blocks = R.blocks m.row;
     } };
 
-    ghost invariant = { λ m. TakesRun m.items.items m.at m.run };
+    ghost invariant = { λ m. TakesRun (R.items m.row) m.at m.run };
 }
 
-impl<T> Marks<T> {
-    /// Nothing was told yet.
-    pub fn new(alloc: Global) -> Marks<T>
-        ensures empty { result ≡ empty }
+impl<R: Row, T> Marks<R, T> {
+    /// Nothing was recorded yet, in an empty row.
+    pub(crate) fn new(alloc: Global, row: R) -> Marks<R, T>
+        requires empty { R.items row ≡ [] }
+        ensures empty { result.store ≡ empty }
+        ensures blocks { result.blocks ≡ R.blocks row }
     {
         Marks {
             alloc,
-            items: Vec::new(alloc),
+            row,
             captures: Vec::new(alloc),
             at: Site { module: 0, line: 0 },
             run: 0,
@@ -54,22 +61,23 @@ impl<T> Marks<T> {
     }
 
     /// The place of the last tick.
-    pub fn at(&self) -> Site
-        ensures at { result ≡ self.now.at }
+    pub(crate) fn at(&self) -> Site
+        ensures at { result ≡ self.now.store.at }
     {
         self.at
     }
 
     /// Whether a capture is open.
-    pub fn is_capturing(&self) -> bool
-        ensures open { result ≡ is_open self.now.captures }
+    pub(crate) fn is_capturing(&self) -> bool
+        ensures open { result ≡ is_open self.now.store.captures }
     {
         !self.captures.is_empty()
     }
 
     /// Some ticks more. There is no room for 2^64 of them in one run.
-    pub fn count(&mut self, site: Site, count: u64) -> Result<(), AllocError>
-        ensures told { OnOk result (self.new ≡ counted site count self.old) }
+    pub(crate) fn count(&mut self, site: Site, count: u64) -> Result<(), AllocError>
+        ensures told { OnOk result (self.new.store ≡ counted site count self.old.store) }
+        ensures blocks { self.old.blocks ≤ self.new.blocks }
     {
         if count == 0 {
             return Ok(());
@@ -81,15 +89,18 @@ impl<T> Marks<T> {
             }
             return Ok(());
         }
-        push_run(&mut self.items, self.at, self.run)?;
+        self.row.reserve(1)?;
+        push_run(&mut self.row, self.at, self.run);
         self.at = site;
         self.run = count;
         Ok(())
     }
 
     /// An event, to the innermost capture or else among the marks.
-    pub fn put(&mut self, event: Event) -> Result<(), AllocError>
-        ensures told { OnOk result (self.new ≡ put_into self.old.captures event self.old) }
+    pub(crate) fn put(&mut self, event: Event) -> Result<(), AllocError>
+        ensures told { OnOk result
+            (self.new.store ≡ put_into self.old.store.captures event self.old.store) }
+        ensures blocks { self.old.blocks ≤ self.new.blocks }
     {
         match self.captures.pop() {
             Some(mut inner) => {
@@ -102,27 +113,34 @@ impl<T> Marks<T> {
     }
 
     /// An item that is no run of ticks.
-    pub fn push(&mut self, item: Item) -> Result<(), AllocError>
+    pub(crate) fn push(&mut self, item: Item) -> Result<(), AllocError>
         requires single { IsSingle item }
-        ensures told { OnOk result (self.new ≡ marked (item_marks item) self.old) }
+        ensures told { OnOk result (self.new.store ≡ marked (item_marks item) self.old.store) }
+        ensures blocks { self.old.blocks ≤ self.new.blocks }
     {
-        push_after(&mut self.items, self.at, self.run, item)?;
+        self.row.reserve(2)?;
+        push_run(&mut self.row, self.at, self.run);
+        self.row.push(item);
         self.run = 0;
         Ok(())
     }
 
     /// A capture is opened.
-    pub fn open(&mut self) -> Result<(), AllocError>
-        ensures told { OnOk result (self.new ≡ with_captures ([] ∷ self.old.captures) self.old) }
+    pub(crate) fn open(&mut self) -> Result<(), AllocError>
+        ensures told { OnOk result
+            (self.new.store ≡ with_captures ([] ∷ self.old.store.captures) self.old.store) }
+        ensures blocks { self.new.blocks ≡ self.old.blocks }
     {
         self.captures.push(Fragment::of(Vec::new(self.alloc)))?;
         Ok(())
     }
 
     /// The innermost capture is closed.
-    pub fn close(&mut self) -> Fragment
-        ensures events { result ≡ top self.old.captures }
-        ensures rest { self.new ≡ with_captures (below self.old.captures) self.old }
+    pub(crate) fn close(&mut self) -> Fragment
+        ensures events { result ≡ top self.old.store.captures }
+        ensures rest { self.new.store
+            ≡ with_captures (below self.old.store.captures) self.old.store }
+        ensures blocks { self.new.blocks ≡ self.old.blocks }
     {
         match self.captures.pop() {
             Some(fragment) => fragment,
@@ -130,59 +148,43 @@ impl<T> Marks<T> {
         }
     }
 
-    /// What was told, in the fewest items; from here on nothing was told.
-    pub fn cut(&mut self) -> Result<Vec<Item>, AllocError>
-        ensures items { IfOk result (λ items. marks_of items.items ≡ self.old.told) }
-        ensures packed { IfOk result (λ items. IsPacked items.items) }
-        ensures rest { OnOk result (self.new ≡ told_nothing self.old) }
+    /// What was recorded, in the fewest items; from here on nothing was.
+    pub(crate) fn take(&mut self) -> Result<R::Taken, AllocError>
+        ensures items { IfOk result (λ taken.
+            marks_of (R.taken_items taken) ≡ self.old.store.told) }
+        ensures packed { IfOk result (λ taken. IsPacked (R.taken_items taken)) }
+        ensures rest { OnOk result (self.new.store ≡ told_nothing self.old.store) }
+        ensures blocks { IfOk result (λ taken.
+            self.old.blocks ≤ self.new.blocks + R.taken_blocks taken) }
+        ensures refused { OnErr result (self.old.blocks ≤ self.new.blocks) }
     {
-        push_run(&mut self.items, self.at, self.run)?;
+        self.row.reserve(1)?;
+        push_run(&mut self.row, self.at, self.run);
         self.run = 0;
-        Ok(std::mem::replace(&mut self.items, Vec::new(self.alloc)))
+        Ok(self.row.take())
     }
 
-    /// What was told, in the fewest items.
-    pub fn finish(self) -> Result<Vec<Item>, AllocError>
-        ensures items { IfOk result (λ items. marks_of items.items ≡ self.told) }
-        ensures packed { IfOk result (λ items. IsPacked items.items) }
+    /// The row, with what lies in it.
+    pub(crate) fn into_row(self) -> R
+        ensures blocks { R.blocks result ≡ self.blocks }
     {
-        let Marks {
-            mut items,
-            at,
-            run,
-            ..
-        } = self;
-        push_run(&mut items, at, run)?;
-        Ok(items)
+        let Marks { row, .. } = self;
+        row
     }
 }
 
-// Adds a run of ticks, if there are any.
-fn push_run(items: &mut Vec<Item>, site: Site, run: u64) -> Result<(), AllocError>
-    ensures pushed { OnOk result (items.new.items ≡ items.old.items ++ pending site run) }
-    ensures refused { OnErr result (items.new.items ≡ items.old.items) }
+/// Adds a run of ticks, if there are any.
+fn push_run<R: Row>(row: &mut R, site: Site, run: u64)
+    requires spare { 0 < R.spare row.old }
+    ensures items { R.items row.new ≡ R.items row.old ++ pending site run }
+    ensures spare { R.spare row.old ≤ R.spare row.new + 1 }
+    ensures blocks { R.blocks row.new ≡ R.blocks row.old }
 {
     if run > 0 {
-        items.push(Item::Run {
+        row.push(Item::Run {
             module: site.module,
             line: site.line,
             ticks: run,
-        })?;
+        });
     }
-    Ok(())
-}
-
-// Adds a run of ticks, if there are any, and then an item.
-fn push_after(items: &mut Vec<Item>, site: Site, run: u64, item: Item) -> Result<(), AllocError>
-    ensures pushed { OnOk result
-        (items.new.items ≡ (items.old.items ++ pending site run) ++ item ∷ []) }
-    ensures refused { OnErr result (items.new.items ≡ items.old.items) }
-{
-    let before = items.len();
-    push_run(items, site, run)?;
-    if items.push(item).is_err() {
-        items.truncate(before);
-        return Err(AllocError);
-    }
-    Ok(())
 }

@@ -1,73 +1,85 @@
 //! A recorder of a piece of a run, which takes holes and adds its ticks to a shared total.
-ghost use Rattle.std.specs.Prelude.{◌≡◌, ◌+◌, ◌<◌, ◌*◌, ◌^◌, ℕ, Some, true, IfOk};
-ghost use Rattle.xs_trace.specs.Kept.{NeedsNone};
-ghost use Rattle.xs_trace.specs.Store.{limited_to};
-ghost use Rattle.xs_trace.specs.Total.{IsOpen};
-ghost use Rattle.xs_trace.specs.Piece.{HasAdded, Paid, held, started, IsDue, IsPieceOf};
+ghost use Rattle.std.specs.Prelude.{◌≡◌, ◌+◌, ◌*◌, ◌<◌, ◌≤◌, ℕ, Some, true, IfOk, OnErr};
+ghost use Rattle.xs_block.specs.Chain.{most_blocks};
+ghost use Rattle.xs_trace.specs.Kept.{IsEnded, NeedsNone};
+ghost use Rattle.xs_record.specs.Outcome.{part_blocks};
+ghost use Rattle.xs_record.specs.Paying.{IsOpen};
+ghost use Rattle.xs_record.specs.Piece.{HasAdded, Paid, held, started, IsDue, IsPieceOf};
+ghost use Rattle.xs_record.specs.Store.{limited_to};
 
 use crate::ending::ended;
-use crate::event::{Event, Fragment};
-use crate::item::{Ended, Item, Site};
-use crate::recorder::{Halt, Recorder, Tally, tick_several};
-use crate::sections::{Section, Sections};
-use crate::text::TextBuf;
-use crate::total::{Total, pay, settle};
-use crate::whole::spend;
+use crate::outcome::Outcome;
+use crate::parts::{Left, Parts};
+use crate::paying::{pay, settle};
+use crate::room::spend;
 use std::alloc::{AllocError, Global};
+use xs_block::pool::Pool;
+use xs_trace::event::{Event, Fragment};
+use xs_trace::item::{Ended, Item, Limits, Site};
+use xs_trace::recorder::{Halt, Recorder, Tally, tick_several};
+use xs_trace::text::TextBuf;
+use xs_trace::total::Total;
 
-/// All that is kept of a piece.
-#[derive(Debug, Drop)]
-pub struct KeptPiece<H> {
-    /// What it did before its holes, in order, each part with what fills the hole behind it.
-    pub sections: Vec<Section<H>>,
-    /// What it did behind the last hole.
-    pub items: Vec<Item>,
-    /// How it ended.
-    pub ended: Ended,
-    /// How many ticks it took.
-    pub ticks: u64,
+/// What comes back from a recorder of a piece.
+#[derive(Drop)]
+pub struct Finished<T> {
+    /// What the piece gave, or out of memory.
+    pub outcome: Result<Outcome, AllocError>,
+    /// Its share in the total.
+    pub total: T,
+    /// The pool that its blocks came from.
+    pub pool: Pool<Item>,
 }
 
-/// Keeps what it is told, and adds its ticks to a shared total at each 1,024. It ends the run where
-/// that total is above the most, which is its own limit on ticks too.
+/// Records what a piece does, and adds its ticks to a shared total at each 1,024 and at its end. It
+/// ends the run where that total is above the most. `H` is what fills a hole.
+///
+/// A whole run is a piece that leaves no holes, with a total that nobody else adds to.
 #[derive(Drop)]
 pub struct PieceRecorder<T: Total, H> {
-    marks: Sections<H>,
+    parts: Parts<H>,
     room: Option<u64>,
     left: u64,
-    events: Option<u64>,
+    limits: Limits,
     total: T,
     // How many ticks were not added yet, and how often 1,024 were.
     due: u64,
     additions: u64,
-    ghost bounded: { T.most total < 2 ^ 64 },
+    // How many free blocks the pool had at the start.
+    free: usize,
     ghost few: { due < 1024 },
     ghost open: { IsOpen (T.most total) (T.last total) due },
-    ghost all: { left + (1024 * additions + due) ≡ T.most total },
+    ghost all: { left + (1024 * additions + due) ≡ limits.ticks },
+    ghost enough: { free ≤ parts.blocks },
+    ghost counted: { free ≤ most_blocks },
 }
 
 impl<T: Total, H: Drop> Tally for PieceRecorder<T, H> {
     type Task = H;
 
-    ghost Kept = { Paid };
+    ghost Kept = { Paid T.Kept };
 
     ghost kept = { λ p. record {
-      limits = record { ticks = T.most p.total; events = p.events };
+      limits = p.limits;
+      total = T.kept p.total;
+      most = T.most p.total;
       all = T.added p.total + (p.due + p.left);
+      free = p.free;
     } };
 
-    ghost state = { λ p.
-        limited_to p.room p.left (held (T.most p.total) (T.last p.total)) p.marks };
+    ghost state = { λ p. limited_to p.room p.left
+        (held (T.most p.total) (T.last p.total) p.left) p.parts.store };
 
-    /// One tick, added to the total with those before it where they are 1,024.
+    /// One tick, added to the total with those before it where they are 1,024. Nobody who keeps the
+    /// contract asks for one after the total was above the most.
     fn tick(&mut self, site: Site) -> Result<(), Halt> {
-        if let Some(total) = self.total.above() {
-            return Err(Halt::Over { total });
+        if self.total.above().is_some() {
+            return Err(Halt::NoMemory);
         }
         if self.left == 0 {
             return Err(Halt::Spent(site));
         }
-        self.marks.count(site, 1)?;
+        self.parts.count(site, 1)?;
         self.left -= 1;
         if self.due == 1023 {
             self.due = 0;
@@ -90,60 +102,64 @@ impl<T: Total, H: Drop> Recorder for PieceRecorder<T, H> {
     /// To the innermost capture, or to the result while there is room.
     #[tactic(auto, using(crate::proofs::StoreLemmas::put_full, crate::proofs::StoreLemmas::put_spent, crate::proofs::StoreLemmas::put_captured))]
     fn put(&mut self, event: Event) -> Result<(), Halt> {
-        if self.marks.is_capturing() {
-            self.marks.put(event)?;
+        if self.parts.is_capturing() {
+            self.parts.put(event)?;
             return Ok(());
         }
         if !spend(&mut self.room) {
-            return Err(Halt::Full(self.marks.at()));
+            return Err(Halt::Full(self.parts.at()));
         }
-        self.marks.put(event)?;
+        self.parts.put(event)?;
         Ok(())
     }
 
-    /// Behind what was told.
+    /// After what was recorded.
     fn say(&mut self, text: TextBuf) -> Result<(), Halt> {
-        self.marks.push(Item::Say(text))?;
+        self.parts.push(Item::Say(text))?;
         Ok(())
     }
 
-    /// A section ends here.
+    /// A part ends here.
     fn hole(&mut self, task: H) -> Result<(), Halt> {
-        self.marks.hole(task)?;
+        self.parts.hole(task)?;
         Ok(())
     }
 
     /// One more is open.
     fn open_capture(&mut self) -> Result<(), Halt> {
-        self.marks.open()?;
+        self.parts.open()?;
         Ok(())
     }
 
     /// One less is open.
     fn close_capture(&mut self) -> Fragment {
-        self.marks.close()
+        self.parts.close()
     }
 }
 
 impl<T: Total + Drop, H: Drop> PieceRecorder<T, H> {
-    /// Nothing was told yet. The limit on ticks is the most that the total may come to.
-    pub fn new(alloc: Global, events: Option<u64>, total: T) -> PieceRecorder<T, H>
+    /// Nothing was recorded yet.
+    pub fn new(alloc: Global, limits: Limits, total: T, pool: Pool<Item>) -> PieceRecorder<T, H>
         ensures begins { ⟦<PieceRecorder<T, H> as Tally>⟧.state result
-            ≡ started (record { ticks = T.most total; events = events }) (T.last total) }
-        ensures limits { ⟦<PieceRecorder<T, H> as Tally>⟧.kept result
-            ≡ record {
-              limits = record { ticks = T.most total; events = events };
-              all = T.added total + T.most total;
-            } }
+            ≡ started limits (T.most total) (T.last total) }
+        ensures kept { ⟦<PieceRecorder<T, H> as Tally>⟧.kept result ≡ record {
+          limits = limits;
+          total = T.kept total;
+          most = T.most total;
+          all = T.added total + limits.ticks;
+          free = pool;
+        } }
     {
+        let free = pool.free_blocks();
         PieceRecorder {
-            marks: Sections::new(alloc),
-            room: events,
-            left: total.limit(),
-            events,
+            parts: Parts::new(alloc, pool),
+            room: limits.events,
+            left: limits.ticks,
+            limits,
             total,
             due: 0,
             additions: 0,
+            free,
         }
     }
 
@@ -161,36 +177,91 @@ impl<T: Total + Drop, H: Drop> PieceRecorder<T, H> {
     pub fn total(&self) -> &T
         ensures added { (left : ℕ) →
             (⟦<PieceRecorder<T, H> as Tally>⟧.state self.now).left ≡ Some left →
-            HasAdded (⟦<PieceRecorder<T, H> as Tally>⟧.kept self.now) left (T.added result.now) }
+            HasAdded (⟦<PieceRecorder<T, H> as Tally>⟧.kept self.now).all
+                (⟦<PieceRecorder<T, H> as Tally>⟧.kept self.now).limits.ticks left
+                (T.added result.now) }
     {
         &self.total
     }
 
-    /// What a piece told that ended so, and needed no global, after its last addition.
-    pub fn finish(self, told: Result<(), Halt>) -> Result<(KeptPiece<H>, T), AllocError>
+    /// What a piece gave that ended so, and needed no global, after its last addition. The tasks of
+    /// its holes are appended to the children. The share and the pool come back whatever the answer.
+    pub fn finish(self, told: Result<(), Halt>, children: &mut Vec<H>) -> Finished<T>
         requires settled { NeedsNone told }
-        ensures piece { IfOk result (λ r.
+        ensures piece { IfOk result.outcome
+            (IsPieceOf (⟦<PieceRecorder<T, H> as Tally>⟧.kept self) told
+            (⟦<PieceRecorder<T, H> as Tally>⟧.state self) (T.added result.total)
+            (T.last result.total) children.old.items children.new.items) }
+        ensures refused { OnErr result.outcome (children.new.items ≡ children.old.items) }
+        ensures kept { T.kept result.total
+            ≡ (⟦<PieceRecorder<T, H> as Tally>⟧.kept self).total }
+        ensures most { T.most result.total
+            ≡ (⟦<PieceRecorder<T, H> as Tally>⟧.kept self).most }
+        ensures blocks { IfOk result.outcome (λ o.
+            (⟦<PieceRecorder<T, H> as Tally>⟧.kept self).free
+            ≤ part_blocks o.parts.items + result.pool) }
+        ensures free { OnErr result.outcome
+            ((⟦<PieceRecorder<T, H> as Tally>⟧.kept self).free ≤ result.pool) }
+    {
+        match ended(told) {
+            Ok(ended) => self.close(ended, children),
+            Err(refused) => {
+                let PieceRecorder { parts, total, .. } = self;
+                Finished {
+                    outcome: Err(refused),
+                    total,
+                    pool: parts.into_pool(),
+                }
+            }
+        }
+    }
+
+    /// What a piece gave that ended so, after its last addition.
+    fn close(self, ended: Ended, children: &mut Vec<H>) -> Finished<T>
+        ensures piece { IfOk result.outcome (λ o. (told : _) → IsEnded told ended →
             IsPieceOf (⟦<PieceRecorder<T, H> as Tally>⟧.kept self) told
-            (⟦<PieceRecorder<T, H> as Tally>⟧.state self) (T.added r.1) (T.last r.1) r.0) }
-        ensures most { IfOk result (λ r.
-            T.most r.1 ≡ (⟦<PieceRecorder<T, H> as Tally>⟧.kept self).limits.ticks) }
+            (⟦<PieceRecorder<T, H> as Tally>⟧.state self) (T.added result.total)
+            (T.last result.total) children.old.items children.new.items o) }
+        ensures refused { OnErr result.outcome (children.new.items ≡ children.old.items) }
+        ensures kept { T.kept result.total
+            ≡ (⟦<PieceRecorder<T, H> as Tally>⟧.kept self).total }
+        ensures most { T.most result.total
+            ≡ (⟦<PieceRecorder<T, H> as Tally>⟧.kept self).most }
+        ensures blocks { IfOk result.outcome (λ o.
+            (⟦<PieceRecorder<T, H> as Tally>⟧.kept self).free
+            ≤ part_blocks o.parts.items + result.pool) }
+        ensures free { OnErr result.outcome
+            ((⟦<PieceRecorder<T, H> as Tally>⟧.kept self).free ≤ result.pool) }
     {
         let PieceRecorder {
-            marks,
+            parts,
             left,
+            limits,
             mut total,
             due,
             ..
         } = self;
-        let ticks = total.limit().saturating_sub(left);
-        let ended = settle(&mut total, due, ended(told)?);
-        let (sections, items) = marks.finish()?;
-        let kept = KeptPiece {
-            sections,
-            items,
-            ended,
-            ticks,
-        };
-        Ok((kept, total))
+        let Left { parts, pool } = parts.finish(children);
+        match parts {
+            Ok(parts) => {
+                let ended = settle(&mut total, due, ended);
+                let ticks = limits.ticks - left;
+                let outcome = Ok(Outcome {
+                    parts,
+                    ended,
+                    ticks,
+                });
+                Finished {
+                    outcome,
+                    total,
+                    pool,
+                }
+            }
+            Err(refused) => Finished {
+                outcome: Err(refused),
+                total,
+                pool,
+            },
+        }
     }
 }

@@ -3,11 +3,11 @@ ghost use Rattle.std.specs.List.{All};
 ghost use Rattle.std.specs.Prelude.{◌≡◌, ◌∷◌, [], reverse, OnOk, OnErr};
 ghost use Rattle.xs_trace.specs.State.{top, below};
 ghost use Rattle.xs_trace.specs.Kept.{marks_of, item_marks, IsSingle};
-ghost use Rattle.xs_trace.specs.Store.{Store, empty, stood, at_ticks, marked, is_open};
-ghost use Rattle.xs_trace.specs.Store.{with_captures, put_into};
+ghost use Rattle.xs_record.specs.Store.{Store, empty, stood, at_ticks, marked, is_open};
+ghost use Rattle.xs_record.specs.Store.{with_captures, put_into};
 
-use crate::event::{Event, Fragment};
-use crate::item::{Item, Site};
+use xs_trace::event::{Event, Fragment};
+use xs_trace::item::{Item, Site};
 use std::alloc::{AllocError, Global};
 use std::marker::{Model, PhantomData};
 

@@ -1,7 +1,7 @@
 use Rattle.std.proofs.Common.{subst, sym}
-use Rattle.xs_trace.specs.Store.{TakesRun}
-use Rattle.xs_trace.proofs.StoreLemmas.{takes-sum, takes-next, count-same, count-other, same-site, other-site}
-use Rattle.xs_trace.proofs.marks.Marks.count.Goals as goal
+use Rattle.xs_record.specs.Store.{TakesRun}
+use Rattle.xs_record.proofs.StoreLemmas.{takes-sum, takes-next, count-same, count-other, same-site, other-site}
+use Rattle.xs_record.proofs.marks.Marks.count.Goals as goal
 
 pub invariant_of-self : goal.invariant_of-self
 invariant_of-self g c =

@@ -1,7 +1,7 @@
 use Rattle.std.proofs.Common.{ap, sym, subst, ◌∙◌}
 use Rattle.xs_trace.specs.Kept.{marks_of, IsPacked}
-use Rattle.xs_trace.proofs.StoreLemmas.{marks-pending, packed-pending}
-use Rattle.xs_trace.proofs.marks.Marks.finish.Goals as goal
+use Rattle.xs_record.proofs.StoreLemmas.{marks-pending, packed-pending}
+use Rattle.xs_record.proofs.marks.Marks.finish.Goals as goal
 
 pub returns-clause-items : goal.returns-clause-items
 returns-clause-items g c =

@@ -1,8 +1,8 @@
 use Rattle.std.proofs.Common.{subst, sym, ◌++◌}
 use Rattle.xs_trace.specs.Kept.{IsPacked}
-use Rattle.xs_trace.specs.Store.{pending}
-use Rattle.xs_trace.proofs.StoreLemmas.{takes-any, push-marked}
-use Rattle.xs_trace.proofs.marks.Marks.push.Goals as goal
+use Rattle.xs_record.specs.Store.{pending}
+use Rattle.xs_record.proofs.StoreLemmas.{takes-any, push-marked}
+use Rattle.xs_record.proofs.marks.Marks.push.Goals as goal
 
 pub invariant_of-self-2 : goal.invariant_of-self-2
 invariant_of-self-2 g c =

@@ -1,6 +1,6 @@
 use Rattle.std.proofs.Common.{◌-◌, ap, ◌∙◌}
-use Rattle.xs_trace.proofs.PieceLemmas.{piece-is}
-use Rattle.xs_trace.proofs.piece.PieceRecorder.finish.Goals as goal
+use Rattle.xs_record.proofs.PieceLemmas.{piece-is}
+use Rattle.xs_record.proofs.piece.PieceRecorder.finish.Goals as goal
 
 pub returns-clause-piece : goal.returns-clause-piece
 returns-clause-piece g c =

@@ -1,6 +1,6 @@
 use Rattle.std.proofs.Common.{reverse, rules}
-use Rattle.xs_trace.proofs.BriefLemmas.{plain_pushed}
-use Rattle.xs_trace.proofs.plain.Plain.push.Goals as goal
+use Rattle.xs_record.proofs.BriefLemmas.{plain_pushed}
+use Rattle.xs_record.proofs.plain.Plain.push.Goals as goal
 
 pub returns : goal.returns
 returns g c =

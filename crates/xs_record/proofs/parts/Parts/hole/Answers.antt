@@ -1,7 +1,7 @@
 use Rattle.std.proofs.Common.{subst, sym}
-use Rattle.xs_trace.specs.Sections.{ArePacked}
-use Rattle.xs_trace.proofs.SectionLemmas.{packed-pushed, hole-marked}
-use Rattle.xs_trace.proofs.sections.Sections.hole.Goals as goal
+use Rattle.xs_record.specs.Sections.{ArePacked}
+use Rattle.xs_record.proofs.SectionLemmas.{packed-pushed, hole-marked}
+use Rattle.xs_record.proofs.sections.Sections.hole.Goals as goal
 
 pub invariant_of-self-2 : goal.invariant_of-self-2
 invariant_of-self-2 g c =

@@ -1,0 +1,5 @@
+pub mod StoreLemmas
+pub mod BriefLemmas
+pub mod SectionLemmas
+pub mod OutcomeLemmas
+pub mod PieceLemmas
