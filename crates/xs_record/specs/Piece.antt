@@ -79,3 +79,8 @@ abbrev pub IsPieceOf : {H K : Type 0} → Paid K → Result (Unit {0}) Halt → 
 IsPieceOf {H = H} paid told s after last old new o = (x : Trace H) (first before : ℕ) →
     IsStep (play x (started paid.limits paid.most first)) told s → paid.all ≡ before + paid.limits.ticks →
     IsPiece x paid.limits paid.most before after last old new o
+
+-- A total to which nobody else adds is never above a limit that is the run's own.
+abbrev pub NeverOver : Type 0 → Type 0
+NeverOver H = (x : Trace H) (l : Limits) (after last : ℕ) (old new : List H) (o : Outcome) → last ≤ after →
+    IsPiece x l l.ticks 0 after last old new o → IsWhole x l old new o

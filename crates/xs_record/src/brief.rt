@@ -7,13 +7,13 @@ ghost use Rattle.xs_trace.specs.PlayLaws.{begun};
 ghost use Rattle.xs_trace.specs.declared.recorder.Halt.TheVariants.{NoMemory};
 ghost use Rattle.xs_trace.specs.Kept.{marks_of, IsSingle};
 
-use xs_trace::event::{Event, Fragment};
-use xs_trace::item::{Item, Limits, Site};
 use crate::plain::Plain;
-use xs_trace::recorder::{Halt, Recorder, Tally};
-use xs_trace::text::TextBuf;
 use crate::room::spend;
 use std::alloc::Global;
+use xs_trace::event::{Event, Fragment};
+use xs_trace::item::{Item, Limits, Site};
+use xs_trace::recorder::{Halt, Recorder, Tally};
+use xs_trace::text::TextBuf;
 
 /// Keeps the events and messages that it is told, in order, up to its limits, and counts ticks: so
 /// its memory is that of what it answers with, however long a run is. An attempt of a global

@@ -3,6 +3,7 @@
 
 pub mod brief;
 mod ending;
+pub mod laws;
 mod marks;
 pub mod outcome;
 mod parts;

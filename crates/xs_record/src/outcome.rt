@@ -1,6 +1,4 @@
 //! What a run of a piece gives.
-ghost use Rattle.xs_record.specs.Outcome.{OutcomesAgree};
-
 use xs_block::chain::Chain;
 use xs_trace::item::{Ended, Item};
 
@@ -23,8 +21,3 @@ pub struct Outcome {
     /// How many ticks it took.
     pub ticks: u64,
 }
-
-/// Two outcomes of one cut are the same, but for where in their blocks the items lie.
-pub fn outcomes_agree<H>()
-    ensures { OutcomesAgree H }
-{}

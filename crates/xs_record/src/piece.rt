@@ -178,8 +178,8 @@ impl<T: Total + Drop, H: Drop> PieceRecorder<T, H> {
         ensures added { (left : ℕ) →
             (⟦<PieceRecorder<T, H> as Tally>⟧.state self.now).left ≡ Some left →
             HasAdded (⟦<PieceRecorder<T, H> as Tally>⟧.kept self.now).all
-                (⟦<PieceRecorder<T, H> as Tally>⟧.kept self.now).limits.ticks left
-                (T.added result.now) }
+            (⟦<PieceRecorder<T, H> as Tally>⟧.kept self.now).limits.ticks left
+            (T.added result.now) }
     {
         &self.total
     }

@@ -6,10 +6,10 @@ ghost use Rattle.xs_trace.specs.Kept.{marks_of, item_marks, IsSingle};
 ghost use Rattle.xs_record.specs.Store.{Store, empty, stood, at_ticks, marked, is_open};
 ghost use Rattle.xs_record.specs.Store.{with_captures, put_into};
 
-use xs_trace::event::{Event, Fragment};
-use xs_trace::item::{Item, Site};
 use std::alloc::{AllocError, Global};
 use std::marker::{Model, PhantomData};
+use xs_trace::event::{Event, Fragment};
+use xs_trace::item::{Item, Site};
 
 /// What was told but for ticks, in order, and the captures that are open. `T` is what fills the
 /// holes of the traces.

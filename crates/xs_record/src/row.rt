@@ -108,7 +108,9 @@ impl ChainRow {
             → n ≤ result }
     {
         let ChainRow {
-            chain, mut pool, ..
+            chain,
+            mut pool,
+            ..
         } = self;
         pool.give_back(chain);
         pool
