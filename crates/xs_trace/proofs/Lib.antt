@@ -6,3 +6,4 @@ pub mod PackedLemmas
 pub mod RunLemmas
 pub mod MeterLemmas
 pub mod FillLemmas
+pub mod KnownLemmas

@@ -5,9 +5,11 @@ pub mod Mark
 pub mod Cut
 pub mod Laws
 pub mod Fill
+pub mod Known
 pub mod State
 pub mod Play
 pub mod PlayLaws
+pub mod PieceLaws
 pub mod Kept
 pub mod Keeping
 pub mod Run

@@ -6,6 +6,7 @@ ghost use Rattle.xs_trace.specs.PlayLaws.{PlayOfCaptured, CapturesFrom, PlayGrow
 ghost use Rattle.xs_trace.specs.Run.{LimitedLaws, FoldLaws};
 ghost use Rattle.xs_trace.specs.Keeping.{ToldIsCut, NeedComesFromNeed, PackedOnce};
 ghost use Rattle.xs_trace.specs.Fill.{FillLaws};
+ghost use Rattle.xs_trace.specs.PieceLaws.{CutServes, CutsTellSame, NumberedLaws};
 
 /// Parts joined by `then` may be grouped in any way, and the empty trace changes nothing.
 pub fn then_joins<H>()
@@ -108,4 +109,20 @@ pub fn packed_once<H>()
 /// Holes are filled part by part.
 pub fn fill_laws<H, K>()
     ensures { FillLaws H K }
+{}
+
+/// What passed a cut of a trace with holes, and its end, give the cut at all limits that are no
+/// higher, whatever fills the holes and whatever follows.
+pub fn cut_serves<H, K>()
+    ensures { CutServes H K }
+{}
+
+/// What is recorded of two traces is the same where their cuts are.
+pub fn cuts_tell_same<H>()
+    ensures { CutsTellSame H }
+{}
+
+/// Holes are numbered before or after the cut.
+pub fn numbered_laws<H>()
+    ensures { NumberedLaws H }
 {}
