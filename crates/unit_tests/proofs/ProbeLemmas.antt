@@ -1,22 +1,13 @@
 -- Lemmas of the small evaluation.
-use Rattle.std.proofs.Common.{◌≡◌, ℕ, ◌+◌, ◌/◌, length, List, [], ◌∷◌, Option, Some, None, Result, Ok, Err, IfOk, refl, sym, ap, subst, ◌∙◌}
+use Rattle.std.proofs.Common.{◌≡◌, ℕ, ◌/◌, length, List, [], ◌∷◌, Option, Some, None, sym, ap, ◌∙◌, refl}
 use Rattle.xs_trace.specs.Event.{text_of}
 use Rattle.xs_trace.specs.Mark.{Tick, Put, Hole, Trace, NeedsNothing, ticks, captured}
 use Rattle.xs_trace.specs.State.{State, opened, popped, top}
-use Rattle.xs_trace.specs.Play.{goes, and_then, ticked, ticked_by, put, put_at, play, IsStep}
-use Rattle.xs_trace.specs.Probe.{tiny, replayed, hole_for, hole_steps, replay_steps, content_steps, taken_steps, tiny_steps}
+use Rattle.xs_trace.specs.Play.{goes, and_then, ticked, ticked_by, put, put_at, play}
+use Rattle.unit_tests.specs.Probe.{tiny, replayed, hole_for, hole_steps, replay_steps, content_steps, taken_steps, tiny_steps}
 use Rattle.xs_trace.specs.declared.event.Event.{Event}
 use Rattle.xs_trace.specs.declared.event.Event.TheVariants.{End}
 use Rattle.xs_trace.specs.declared.item.Site.{Site}
-use Rattle.xs_trace.specs.Cut.{cut}
-use Rattle.xs_trace.specs.PlayLaws.{begin}
-use Rattle.xs_trace.specs.Kept.{Keeps}
-use Rattle.xs_trace.specs.Keeping.{KeepsAny}
-use Rattle.xs_trace.specs.Piece.{Paid, started, IsPiece, IsPieceOf}
-use Rattle.xs_trace.specs.declared.item.Limits.{Limits}
-use Rattle.xs_trace.specs.declared.piece.KeptPiece.{KeptPiece}
-use Rattle.xs_trace.specs.declared.recorder.Halt.{Halt}
-use Rattle.xs_trace.specs.declared.whole.Kept.{Kept}
 use Rattle.xs_trace.proofs.KeptLemmas.{needs-ticks, needs-then, needs-captured}
 use Rattle.xs_trace.proofs.GrowthLemmas.{Grows, grows-then, goes-grows, shown-grows, put-grows, ticked-grows, by-grows, put_at-grows}
 use Rattle.xs_trace.proofs.PlayLemmas.{then-same, then-then, then-goes, play-then, play-ticks, play-put, play-captured}
@@ -91,22 +82,3 @@ pub tiny-needs : (p : Site) (n : ℕ) (e v : Event) (k : Option ℕ) → NeedsNo
 tiny-needs p n e v k =
     needs-then (ticks p (length (text_of e) / 256) (Put e ∷ [])) _ (needs-ticks p (length (text_of e) / 256) (Put e ∷ []) tt)
     (needs-ticks p n _ (needs-captured (Tick p ∷ Put v ∷ []) (replayed k) tt (replay-needs k)))
-
--- a run from its start
-pub whole-is : {K R : Type 0} (r : Result K R) (x : Trace ℕ) (l l1 : Limits) (told : Result (Unit {0}) Halt) (s0 s1 : State ℕ) (kept : K → Kept) → l1 ≡ l →
-    s0 ≡ begin l.ticks l.events → IsStep (play x s0) told s1 → IfOk r (λ k. KeepsAny l1 told s1 (kept k)) →
-    IfOk r (λ k. Keeps (cut x l.ticks l.events) (kept k))
-whole-is (Ok k) x l l1 told s0 s1 kept e b q h =
-    subst (λ (z : Limits). Keeps (cut x z.ticks z.events) (kept k)) e
-    (h x (subst (λ (z : Limits). IsStep (play x (begin z.ticks z.events)) told s1) (sym e) (subst (λ m. IsStep (play x m) told s1) b q)))
-whole-is (Err f) x l l1 told s0 s1 kept e b q h = tt
-
-pub piece-is : {P R : Type 0} (r : Result P R) (x : Trace ℕ) (paid : Paid) (l : Limits) (o : Option ℕ) (before : ℕ) (told : Result (Unit {0}) Halt)
-    (s0 s1 : State ℕ) (added : P → ℕ) (last : P → Option ℕ) (kept : P → KeptPiece ℕ) →
-    paid ≡ record { limits = l; all = before + l.ticks } → s0 ≡ started l o → IsStep (play x s0) told s1 →
-    IfOk r (λ p. IsPieceOf paid told s1 (added p) (last p) (kept p)) → IfOk r (λ p. IsPiece x l before (added p) (last p) (kept p))
-piece-is (Ok p) x paid l o before told s0 s1 added last kept e b q h =
-    subst (λ (z : Limits). IsPiece x z before (added p) (last p) (kept p)) (ap (λ z. z.limits) e)
-    (h x o before (subst (λ (z : Limits). IsStep (play x (started z o)) told s1) (sym (ap (λ z. z.limits) e))
-    (subst (λ m. IsStep (play x m) told s1) b q)) (ap (λ z. z.all) e ∙ ap (λ (z : Paid). before + z.limits.ticks) (sym e)))
-piece-is (Err f) x paid l o before told s0 s1 added last kept e b q h = tt

@@ -1,16 +1,14 @@
 -- Small evaluations, as traces, and the same step by step.
-use Rattle.std.specs.Prelude.{◌≡◌, ℕ, ◌+◌, ◌-◌, ◌^◌, ◌/◌, nat_lt, length, List, [], ◌∷◌, Option, Some, None, Result, if◌then◌else◌}
+use Rattle.std.specs.Prelude.{ℕ, ◌+◌, ◌^◌, ◌/◌, nat_lt, length, List, [], ◌∷◌, Option, Some, None, if◌then◌else◌}
 use Rattle.xs_trace.specs.Event.{text_of}
-use Rattle.xs_trace.specs.Mark.{Tick, Put, Need, Hole, Trace, ◌⨾◌, ticks, tick_count, captured}
-use Rattle.xs_trace.specs.Cut.{cut}
-use Rattle.xs_trace.specs.State.{State, Nothing, All, alone, opened, popped, top, shown}
+use Rattle.xs_trace.specs.Mark.{Tick, Put, Hole, Trace, ◌⨾◌, ticks, captured}
+use Rattle.xs_trace.specs.State.{State, Nothing, alone, opened, popped, top, shown}
 use Rattle.xs_trace.specs.Play.{Told, goes, and_then, ticked, ticked_by, put_at, put}
 use Rattle.xs_trace.specs.Run.{Run, tick, give, fail}
-use Rattle.xs_trace.specs.Keeping.{IsCutOf}
+use Rattle.xs_trace.specs.declared.fault.Fault.TheVariants as fault
 use Rattle.xs_trace.specs.declared.event.Event.{Event}
 use Rattle.xs_trace.specs.declared.event.Event.TheVariants.{End}
 use Rattle.xs_trace.specs.declared.item.Site.{Site}
-use Rattle.xs_trace.specs.declared.recorder.Halt.{Halt}
 
 -- a hole, where there is a task
 abbrev pub hole_for : Option ℕ → Trace ℕ
@@ -47,21 +45,9 @@ taken_steps p v k s = and_then (content_steps p v (opened s)) (λ u m. replay_st
 abbrev pub tiny_steps : Site → ℕ → Event → Event → Option ℕ → State ℕ → Told ℕ
 tiny_steps p n e v k s = and_then (ticked p s) (λ u m. and_then (put_at p e m) (λ u m. and_then (ticked_by n p m) (λ u m. taken_steps p v k m)))
 
--- a tick, and the need of a global, if one is given
-abbrev pub wanting : {H : Type 0} → Site → Option ℕ → Trace H
-wanting p None = Tick p ∷ []
-wanting p (Some g) = Tick p ∷ Need g p ∷ []
-
--- What an attempt leaves: all that passed the cut, how many ticks, and the cut's end.
-abbrev pub told_of_attempt : ℕ → Trace ℕ → ℕ → State ℕ
-told_of_attempt b t n = record { told = All t; captures = []; at = None; room = None; left = Some (b - n); shared = alone }
-
-abbrev pub IsAttempt : Trace ℕ → ℕ → Trace ℕ → ℕ → Result (Unit {0}) Halt → Type 0
-IsAttempt x b t n told = (n ≡ tick_count t) × IsCutOf (All []) told b (cut x b None) (told_of_attempt b t n)
-
 -- a number more, for a tick
 abbrev pub adding : ℕ → ℕ → Run ℕ
-adding s n = tick (if nat_lt (s + n) (2 ^ 64) then give (s + n) else fail 52)
+adding s n = tick (if nat_lt (s + n) (2 ^ 64) then give (s + n) else fail fault.Range)
 
 -- a state of which nothing is seen
 abbrev pub unwatched : {H : Type 0} → State H

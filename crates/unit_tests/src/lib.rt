@@ -14,6 +14,7 @@ mod ledgers;
 mod loads;
 #[cfg(test)]
 mod numbers;
+mod probe;
 #[cfg(test)]
 mod recorders;
 mod trace_laws;

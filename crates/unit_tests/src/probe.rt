@@ -1,29 +1,29 @@
 //! Small callers of the traits: what an evaluation, a piece, a whole run, an attempt, a loop under
 //! a meter and a pool of blocks say with them.
-ghost use Rattle.std.specs.Prelude.{◌≡◌, ℕ, ◌+◌, ◌<◌, ◌^◌, Some, None, true, IsSome, IfOk};
-ghost use Rattle.xs_trace.specs.Cut.{Allows, cut};
+ghost use Rattle.std.specs.Prelude.{◌≡◌, ℕ, ◌+◌, ◌<◌, ◌≤◌, ◌^◌, Some, None, true, IsSome, IfOk};
+ghost use Rattle.xs_trace.specs.Cut.{Allows};
 ghost use Rattle.xs_trace.specs.Play.{IsStep, play};
 ghost use Rattle.xs_trace.specs.Run.{fold, limited};
 ghost use Rattle.xs_trace.specs.Meter.{IsMetered};
-ghost use Rattle.xs_trace.specs.Kept.{Keeps, marks_of, timed};
-ghost use Rattle.xs_trace.specs.Total.{over};
-ghost use Rattle.xs_trace.specs.Piece.{IsPiece};
-ghost use Rattle.xs_trace.specs.Probe.{tiny, content_steps, taken_steps, tiny_steps, replay_steps};
-ghost use Rattle.xs_trace.specs.Probe.{end_steps, hole_steps, wanting, adding};
-ghost use Rattle.xs_trace.specs.Probe.{IsAttempt, unwatched};
+ghost use Rattle.xs_record.specs.Outcome.{IsOutcome};
+ghost use Rattle.xs_record.specs.Piece.{IsPiece, started};
+ghost use Rattle.unit_tests.specs.Probe.{tiny, content_steps, taken_steps, tiny_steps, replay_steps};
+ghost use Rattle.unit_tests.specs.Probe.{end_steps, hole_steps, adding, unwatched};
 
-use crate::event::{Event, Fragment};
-use crate::item::{Entry, Item, Limits, Site};
-use crate::meter::Meter;
-use crate::piece::{KeptPiece, PieceRecorder};
-use crate::recorder::{Halt, Recorder, Tally, put_event, tick_several};
-use crate::total::Total;
-use crate::whole::{Kept, Whole};
 use std::alloc::{AllocError, Global};
 use std::convert::Infallible;
+use xs_block::pool::Pool;
+use xs_record::outcome::Outcome;
+use xs_record::piece::{Finished, PieceRecorder};
+use xs_trace::event::{Event, Fragment};
+use xs_trace::fault::Fault;
+use xs_trace::item::{Limits, Site};
+use xs_trace::meter::Meter;
+use xs_trace::recorder::{Halt, Recorder, Tally, put_event, tick_several};
+use xs_trace::total::{LocalTotal, Total};
 
 /// A tick, an event, some ticks, and captured content whose value decides what follows.
-pub fn evaluate<R: Recorder<Task = u64>>(
+pub(crate) fn evaluate<R: Recorder<Task = u64>>(
     recorder: &mut R,
     site: Site,
     count: u64,
@@ -132,102 +132,51 @@ fn leave<R: Recorder<Task = u64>>(recorder: &mut R, task: Option<u64>) -> Result
 }
 
 /// A piece with a share in a total: what a runner of pieces says.
-pub fn run_piece<T: Total + Drop>(
-    alloc: Global,
-    total: T,
-    events: Option<u64>,
+pub(crate) fn run_piece<T: Total + Drop>(
+    mut recorder: PieceRecorder<T, u64>,
     site: Site,
     count: u64,
     event: Event,
     value: Event,
-    task: u64,
-) -> Result<(KeptPiece<u64>, T), AllocError>
-    requires open { over (T.most total) (T.last total) ≡ None }
-    ensures piece { IfOk result (λ r.
-        IsPiece (tiny site count event value (Some task))
-        (record { ticks = T.most total; events = events })
-        (T.added total) (T.added r.1) (T.last r.1) r.0) }
+    children: &mut Vec<u64>,
+) -> Finished<T>
+    requires begins { ⟦<PieceRecorder<T, u64> as Tally>⟧.state recorder
+        ≡ started (⟦<PieceRecorder<T, u64> as Tally>⟧.kept recorder).limits
+        (⟦<PieceRecorder<T, u64> as Tally>⟧.kept recorder).most 0 }
+    ensures piece { IfOk result.outcome (λ o. (before : ℕ) →
+        (⟦<PieceRecorder<T, u64> as Tally>⟧.kept recorder).all
+        ≡ before + (⟦<PieceRecorder<T, u64> as Tally>⟧.kept recorder).limits.ticks →
+        IsPiece (tiny site count event value (Some 7))
+        (⟦<PieceRecorder<T, u64> as Tally>⟧.kept recorder).limits
+        (⟦<PieceRecorder<T, u64> as Tally>⟧.kept recorder).most before
+        (T.added result.total) (T.last result.total)
+        children.old.items children.new.items o) }
 {
-    let mut recorder = PieceRecorder::new(alloc, events, total);
-    let told = evaluate(&mut recorder, site, count, event, value, Some(task));
-    recorder.finish(told)
+    let told = evaluate(&mut recorder, site, count, event, value, Some(7));
+    recorder.finish(told, children)
 }
 
 /// The same evaluation as a whole run, without holes.
-pub fn run_whole(
+pub(crate) fn run_whole(
     alloc: Global,
     limits: Limits,
     site: Site,
     count: u64,
     event: Event,
     value: Event,
-) -> Result<Kept, AllocError>
-    ensures cut { IfOk result (λ kept.
-        Keeps (cut (tiny site count event value None) limits.ticks limits.events) kept) }
+) -> Result<Outcome, AllocError>
+    requires small { limits.ticks ≤ 2 ^ 40 }
+    ensures outcome { IfOk result (IsOutcome (tiny site count event value None) limits) }
 {
-    let mut whole: Whole<u64> = Whole::new(alloc, limits);
-    let told = evaluate(&mut whole, site, count, event, value, None);
-    whole.keep(told)
+    let total = LocalTotal::new(limits.ticks, 0);
+    let mut recorder = PieceRecorder::new(alloc, limits, total, Pool::new(alloc));
+    let told = evaluate(&mut recorder, site, count, event, value, None);
+    let mut children = Vec::new(alloc);
+    recorder.finish(told, &mut children).outcome
 }
 
-/// A tick, and then the need of a global, if one is given.
-fn want<T: Tally>(tally: &mut T, site: Site, global: Option<u32>) -> Result<(), Halt>
-    ensures told { IsStep (play (wanting site global) (T.state tally.old))
-        result (T.state tally.new) }
-    ensures kept { T.kept tally.new ≡ T.kept tally.old }
-{
-    tally.tick(site)?;
-    match global {
-        None => Ok(()),
-        Some(global) => Err(Halt::Needs(global, site)),
-    }
-}
-
-/// What an attempt of a global leaves.
-#[derive(Debug, Drop)]
-pub struct Tried {
-    /// Its events and messages, in order.
-    pub items: Vec<Item>,
-    /// Its ticks, in order, and the places of the items among them.
-    pub timeline: Vec<Entry>,
-    /// How many ticks it took.
-    pub ticks: u64,
-    /// How it ended.
-    pub told: Result<(), Halt>,
-}
-
-/// An attempt of a global: its trace, cut at what is left of a limit, with a need among its ends.
-pub fn attempt(
-    alloc: Global,
-    limit: u64,
-    site: Site,
-    global: Option<u32>,
-) -> Result<Tried, AllocError>
-    ensures cut { IfOk result (λ a.
-        IsAttempt (wanting site global) limit (timed a.timeline.items (marks_of a.items.items))
-        a.ticks a.told) }
-{
-    let limits = Limits {
-        ticks: limit,
-        events: None,
-    };
-    let mut whole: Whole<u64> = Whole::new(alloc, limits);
-    let told = want(&mut whole, site, global);
-    if let Err(Halt::NoMemory) = told {
-        return Err(AllocError);
-    }
-    let ticks = limit.saturating_sub(whole.left());
-    let (timeline, items) = whole.finish()?;
-    Ok(Tried {
-        items,
-        timeline,
-        ticks,
-        told,
-    })
-}
-
-/// The sum of some numbers, a tick each; a sum past 64 bits is the fault 52.
-pub fn add_up<T: Tally>(tally: &mut T, site: Site, numbers: &[u64]) -> Result<u64, Halt>
+/// The sum of some numbers, a tick each; a sum past 64 bits is the fault Range.
+pub(crate) fn add_up<T: Tally>(tally: &mut T, site: Site, numbers: &[u64]) -> Result<u64, Halt>
     ensures told { IsStep (limited site (fold adding 0 numbers.now) (T.state tally.old))
         result (T.state tally.new) }
     ensures kept { T.kept tally.new ≡ T.kept tally.old }
@@ -248,12 +197,12 @@ fn add_one<T: Tally>(tally: &mut T, site: Site, sum: u64, number: u64) -> Result
     tally.tick(site)?;
     match sum.checked_add(number) {
         Some(sum) => Ok(sum),
-        None => Err(Halt::Fault(52, site)),
+        None => Err(Halt::Fault(Fault::Range, site)),
     }
 }
 
 /// The same under a meter, as a sort or a pattern has one: what it spent is the cost.
-pub fn add_up_metered(meter: &mut Meter, site: Site, numbers: &[u64]) -> Result<u64, Halt>
+pub(crate) fn add_up_metered(meter: &mut Meter, site: Site, numbers: &[u64]) -> Result<u64, Halt>
     requires within { Allows meter.old.limit meter.old.spent }
     ensures spent { IsMetered (λ x. x) site (fold adding 0 numbers.now) result meter.old meter.new }
 {
@@ -262,7 +211,7 @@ pub fn add_up_metered(meter: &mut Meter, site: Site, numbers: &[u64]) -> Result<
 
 /// A tally that takes a block of a pool for each 64 ticks, and lets the others lie.
 #[derive(Clone, Copy, Debug)]
-pub struct Pooled {
+pub(crate) struct Pooled {
     /// How many blocks are free.
     pub free: u64,
     /// How many blocks were taken.
@@ -297,7 +246,7 @@ impl Tally for Pooled {
 }
 
 /// A run with a pool: whatever it answers, no block is lost.
-pub fn add_up_pooled(pool: &mut Pooled, site: Site, numbers: &[u64]) -> Result<u64, Halt>
+pub(crate) fn add_up_pooled(pool: &mut Pooled, site: Site, numbers: &[u64]) -> Result<u64, Halt>
     ensures blocks { pool.new.free + pool.new.taken ≡ pool.old.free + pool.old.taken }
 {
     add_up(pool, site, numbers)

@@ -78,7 +78,11 @@ impl<'a> Total for LedgerTotal<'a> {
 
     /// The last answer.
     fn above(&self) -> Option<u64> {
-        if self.last > self.limit { Some(self.last) } else { None }
+        if self.last > self.limit {
+            Some(self.last)
+        } else {
+            None
+        }
     }
 
     /// One addition to the ledger.

@@ -2,10 +2,10 @@ use Rattle.std.proofs.Common.{ap, ◌∙◌, ◌+◌, drop}
 use Rattle.std.proofs.lemmas.Result.{err_from_is_err_and}
 use Rattle.xs_trace.specs.Play.{and_then}
 use Rattle.xs_trace.specs.Run.{fold, limited}
-use Rattle.xs_trace.specs.Probe.{adding}
+use Rattle.unit_tests.specs.Probe.{adding}
 use Rattle.xs_trace.proofs.GrowthLemmas.{passes}
 use Rattle.xs_trace.proofs.RunLemmas.{fold-at, limited-grows}
-use Rattle.xs_trace.proofs.probe.add_up.Goals as goal
+use Rattle.unit_tests.proofs.probe.add_up.Goals as goal
 
 pub returns-in_err-sum-clause-told : goal.returns-in_err-sum-clause-told
 returns-in_err-sum-clause-told g c =

@@ -1,7 +1,7 @@
 use Rattle.std.proofs.Common.{◌≡◌, drop}
 use Rattle.xs_trace.specs.Run.{fold, limited}
-use Rattle.xs_trace.specs.Probe.{adding}
-use Rattle.xs_trace.proofs.probe.add_up.Given as goal
+use Rattle.unit_tests.specs.Probe.{adding}
+use Rattle.unit_tests.proofs.probe.add_up.Given as goal
 
 abbrev pub invariant-loop-number : goal.invariant-loop-number
 invariant-loop-number g l =

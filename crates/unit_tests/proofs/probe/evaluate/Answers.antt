@@ -1,7 +1,7 @@
 use Rattle.std.proofs.Common.{subst}
 use Rattle.xs_trace.specs.Play.{IsStep}
-use Rattle.xs_trace.proofs.ProbeLemmas.{tiny-play}
-use Rattle.xs_trace.proofs.probe.evaluate.Goals as goal
+use Rattle.unit_tests.proofs.ProbeLemmas.{tiny-play}
+use Rattle.unit_tests.proofs.probe.evaluate.Goals as goal
 
 pub returns-clause-told : goal.returns-clause-told
 returns-clause-told g c =

@@ -2,7 +2,7 @@ use Rattle.std.proofs.Common.{refl}
 use Rattle.std.proofs.lemmas.Result.{err_from_is_err_and}
 use Rattle.xs_trace.specs.Play.{put}
 use Rattle.xs_trace.proofs.GrowthLemmas.{passes, put-grows}
-use Rattle.xs_trace.proofs.probe.put_content.Goals as goal
+use Rattle.unit_tests.proofs.probe.put_content.Goals as goal
 
 pub returns-in_err-tick-clause-told : goal.returns-in_err-tick-clause-told
 returns-in_err-tick-clause-told g c =

@@ -1,9 +1,9 @@
 use Rattle.std.proofs.Common.{refl}
 use Rattle.std.proofs.lemmas.Result.{err_from_is_err_and}
-use Rattle.xs_trace.specs.Probe.{hole_steps}
+use Rattle.unit_tests.specs.Probe.{hole_steps}
 use Rattle.xs_trace.proofs.GrowthLemmas.{passes}
-use Rattle.xs_trace.proofs.ProbeLemmas.{hole-grows}
-use Rattle.xs_trace.proofs.probe.put_end.Goals as goal
+use Rattle.unit_tests.proofs.ProbeLemmas.{hole-grows}
+use Rattle.unit_tests.proofs.probe.put_end.Goals as goal
 
 pub returns-in_err-put-clause-told : goal.returns-in_err-put-clause-told
 returns-in_err-put-clause-told g c =

@@ -1,10 +1,10 @@
 use Rattle.std.proofs.Common.{refl, ap, ◌∙◌}
 use Rattle.std.proofs.lemmas.Result.{err_from_is_err_and}
 use Rattle.xs_trace.specs.Play.{and_then, put_at, ticked_by}
-use Rattle.xs_trace.specs.Probe.{taken_steps}
+use Rattle.unit_tests.specs.Probe.{taken_steps}
 use Rattle.xs_trace.proofs.GrowthLemmas.{passes}
-use Rattle.xs_trace.proofs.ProbeLemmas.{most-grows, rest-grows, taken-grows}
-use Rattle.xs_trace.proofs.probe.steps.Goals as goal
+use Rattle.unit_tests.proofs.ProbeLemmas.{most-grows, rest-grows, taken-grows}
+use Rattle.unit_tests.proofs.probe.steps.Goals as goal
 
 pub returns-in_err-tick-clause-told : goal.returns-in_err-tick-clause-told
 returns-in_err-tick-clause-told g c =

@@ -2,10 +2,10 @@ use Rattle.std.proofs.Common.{refl, ap}
 use Rattle.std.proofs.lemmas.Result.{err_from_is_err_and}
 use Rattle.xs_trace.specs.State.{top, popped}
 use Rattle.xs_trace.specs.Play.{and_then}
-use Rattle.xs_trace.specs.Probe.{content_steps, replay_steps}
+use Rattle.unit_tests.specs.Probe.{content_steps, replay_steps}
 use Rattle.xs_trace.proofs.GrowthLemmas.{passes}
-use Rattle.xs_trace.proofs.ProbeLemmas.{content-closing-grows, closing-grows}
-use Rattle.xs_trace.proofs.probe.take.Goals as goal
+use Rattle.unit_tests.proofs.ProbeLemmas.{content-closing-grows, closing-grows}
+use Rattle.unit_tests.proofs.probe.take.Goals as goal
 
 pub returns-in_err-open_capture-clause-told : goal.returns-in_err-open_capture-clause-told
 returns-in_err-open_capture-clause-told g c =
