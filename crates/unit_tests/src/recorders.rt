@@ -77,11 +77,19 @@ fn places(rt: HostRuntime) -> Result<(), Fail> {
 
 // A name in no namespace.
 fn label(alloc: Global) -> Result<Label, AllocError> {
-    Ok(Label {
-        uri: TextBuf::of(alloc, "")?,
-        local: TextBuf::of(alloc, "a")?,
-        prefix: TextBuf::of(alloc, "")?,
-    })
+    let uri = TextBuf::of(alloc, "")?;
+    let local = TextBuf::of(alloc, "a")?;
+    let prefix = TextBuf::of(alloc, "p")?;
+    Label::of(alloc, uri, local, prefix)
+}
+
+#[test]
+fn labels(rt: HostRuntime) -> Result<(), Fail> {
+    let copy = label(rt.alloc())?.copy()?;
+    assert_eq!(rt; copy.uri(), "");
+    assert_eq!(rt; copy.local(), "a");
+    assert_eq!(rt; copy.prefix(), "p");
+    Ok(())
 }
 
 // An attribute with the copy of a name.

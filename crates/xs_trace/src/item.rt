@@ -32,7 +32,7 @@ pub enum Item {
 }
 
 // A loop keeps an item or two for each of its nodes, so what a large run keeps is what these take.
-const _: () = prove!(size_of::<Item>() <= 48);
+const _: () = prove!(size_of::<Item>() <= 32);
 
 /// How a run ended.
 #[derive(Clone, Copy, Debug)]
