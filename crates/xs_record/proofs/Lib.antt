@@ -1,3 +1,4 @@
+pub mod BlockLemmas
 pub mod StoreLemmas
 pub mod BriefLemmas
 pub mod SectionLemmas

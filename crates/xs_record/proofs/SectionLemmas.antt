@@ -1,5 +1,5 @@
 -- A store after the marks of its sections.
-use Rattle.std.proofs.Common.{◌≡◌, ℕ, suc, ◌+◌, List, [], ◌∷◌, ◌++◌, length, Some, None, refl, sym, ap, ◌∙◌, append_assoc, append-nil, arith}
+use Rattle.std.proofs.Common.{◌≡◌, ℕ, zero, suc, ◌+◌, List, [], ◌∷◌, ◌++◌, length, Some, None, refl, sym, ap, ◌∙◌, append_assoc, append-nil, length-append, subst, arith}
 use Rattle.xs_block.specs.Chain.{items_of}
 use Rattle.xs_trace.specs.Mark.{Tick, Put, Hole, Trace, ticks}
 use Rattle.xs_trace.specs.Fill.{numbered, tasks_of}
@@ -67,7 +67,7 @@ are-parts n (q ∷ r ∷ ps) p h e k = (h.0, (h.1.0, are-parts (suc n) (r ∷ ps
 
 -- marks without holes keep their form
 ticks-numbered : {H : Type 0} → (n : ℕ) (p : Site) (k : ℕ) (x : Trace H) → numbered n (ticks p k [] ++ x) ≡ ticks p k [] ++ numbered n x
-ticks-numbered n p 0 x = refl
+ticks-numbered n p zero x = refl
 ticks-numbered n p (suc k) x = ap (λ t. Tick p ∷ t) (ticks-numbered n p k x)
 
 item-numbered : {H : Type 0} → (n : ℕ) (i : Item) (x : Trace H) → numbered n (item_marks i ++ x) ≡ item_marks i ++ numbered n x
@@ -82,7 +82,7 @@ items-numbered n (i ∷ is) x =
     ∙ ap (λ t. item_marks i ++ t) (items-numbered n is x) ∙ sym (append_assoc (item_marks i) (marks_of is) (numbered n x))
 
 ticks-tasks : {H : Type 0} → (p : Site) (k : ℕ) (x : Trace H) → tasks_of (ticks p k [] ++ x) ≡ tasks_of x
-ticks-tasks p 0 x = refl
+ticks-tasks p zero x = refl
 ticks-tasks p (suc k) x = ticks-tasks p k x
 
 item-tasks : {H : Type 0} → (i : Item) (x : Trace H) → tasks_of (item_marks i ++ x) ≡ tasks_of x
@@ -123,3 +123,21 @@ section-tasks (q ∷ ps) [] is l = absurd (omega (arith, l))
 section-tasks (q ∷ ps) (u ∷ ts) is l =
     ap tasks_of (section-front q ps u ts (marks_of is)) ∙ items-tasks (items_of q.items) (Hole u ∷ (section_marks ps ts ++ marks_of is))
     ∙ ap (λ x. u ∷ x) (section-tasks ps ts is (omega (arith, l)))
+
+-- a section more, by what the pushes say
+pub holes-pushed : {H : Type 0} (ps rs qs : List Part) (p : Part) (ts us vs : List H) (t : H) (n : ℕ) → rs ≡ ps → qs ≡ rs ++ p ∷ [] → us ≡ ts →
+    vs ≡ us ++ t ∷ [] → AreSections 0 ps → p.hole ≡ Some n → n ≡ length rs → IsPacked (items_of p.items) → length ts ≡ length ps →
+    AreSections 0 qs × (length vs ≡ length qs)
+holes-pushed ps rs qs p ts us vs t n a b d e h i j k l =
+    let q : qs ≡ ps ++ p ∷ [] = b ∙ ap (λ xs. xs ++ p ∷ []) a in
+    let v : vs ≡ ts ++ t ∷ [] = e ∙ ap (λ xs. xs ++ t ∷ []) d in
+    let m : n ≡ 0 + length ps = j ∙ ap length a in (
+      subst (AreSections 0) (sym q) (are-pushed 0 ps p h (i ∙ ap Some m) k),
+      ap length v ∙ length-append ts (t ∷ []) ∙ ap (λ k. k + 1) l ∙ sym (length-append ps (p ∷ [])) ∙ sym (ap length q),
+    )
+
+pub hole-told : {H : Type 0} (ps rs qs : List Part) (p : Part) (ts us vs : List H) (t : H) (m k n : Store H) → rs ≡ ps → qs ≡ rs ++ p ∷ [] → us ≡ ts →
+    vs ≡ us ++ t ∷ [] → length ts ≡ length ps → behind (section_marks ps ts) m ≡ n → marks_of (items_of p.items) ≡ m.told → k ≡ told_nothing m →
+    behind (section_marks qs vs) k ≡ marked (Hole t ∷ []) n
+hole-told ps rs qs p ts us vs t m k n a b d e l v i r =
+    hole-marked ps qs ts vs p t m k n v i r (b ∙ ap (λ xs. xs ++ p ∷ []) a) (e ∙ ap (λ xs. xs ++ t ∷ []) d) l

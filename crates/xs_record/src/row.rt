@@ -1,6 +1,6 @@
 //! Rows of items: what is recorded lies in one.
 ghost use Rattle.std.specs.Prelude.{◌≡◌, ◌+◌, ◌<◌, ◌≤◌, ℕ, List, [], ◌∷◌, ◌++◌, OnOk};
-ghost use Rattle.xs_block.specs.Chain.{items_of};
+ghost use Rattle.xs_block.specs.Chain.{items_of, most_blocks};
 ghost use Rattle.xs_trace.specs.declared.item.Item.{Item};
 
 use std::alloc::{AllocError, Global};

@@ -4,8 +4,8 @@ use Rattle.xs_record.specs.Store.{pending}
 use Rattle.xs_record.proofs.StoreLemmas.{takes-any, push-marked}
 use Rattle.xs_record.proofs.marks.Marks.push.Goals as goal
 
-pub invariant_of-self : goal.invariant_of-self
-invariant_of-self g c =
+pub invariant_of-self-2 : goal.invariant_of-self-2
+invariant_of-self-2 g c =
     λ q. subst (λ js. IsPacked (js ++ pending q 1))
     (sym (c.push.ensures.items ∙ ap (λ js. js ++ c.args.item ∷ []) (c.push_run.ensures.items
     ∙ ap (λ js. js ++ pending c.self.inside.at c.self.inside.run) c.in_ok-reserve.ensures.items)))
