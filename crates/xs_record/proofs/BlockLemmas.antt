@@ -53,3 +53,19 @@ loop-back held ps qs p pool back a b f n le k =
 pub end-back : (held : ℕ) (ps : List Part) (pool : ℕ) → length ps ≡ 0 → Gives held (part_blocks ps + pool) → Gives held pool
 end-back held [] pool e f n le k = let h : n ≤ 0 + pool = f n le k in omega (arith, h)
 end-back held (p ∷ ps) pool e f n le k = absurd (omega (arith, e))
+
+-- ---- the end of a store
+
+pub finish-blocks : (ps rs qs : List Part) (p : Part) (marks new row pool now : ℕ) → rs ≡ ps → qs ≡ rs ++ p ∷ [] → part_blocks ps + marks ≡ now →
+    marks ≤ new + length p.items → row ≡ new → Gives row pool → Gives now (part_blocks qs + pool)
+finish-blocks ps rs qs p marks new row pool now a b v h e f n le k =
+    let q : part_blocks qs ≡ part_blocks ps + length p.items = ap part_blocks b ∙ blocks-pushed rs p ∙ ap (λ xs. part_blocks xs + length p.items) a in
+    let g : n ≤ (part_blocks ps + length p.items) + pool =
+    taken-back (part_blocks ps) marks new (length p.items) row pool h e f n le (omega (arith, k, v)) in
+    omega (arith, g, q)
+
+pub refused-back : (ps rs : List Part) (marks new row pool now back : ℕ) → rs ≡ ps → part_blocks ps + marks ≡ now → marks ≤ new → row ≡ new →
+    Gives row pool → Gives (part_blocks rs + pool) back → Gives now back
+refused-back ps rs marks new row pool now back a v h e f g n le k =
+    let q : part_blocks rs ≡ part_blocks ps = ap part_blocks a in
+    all-back (part_blocks rs) marks new row pool back h e f g n le (omega (arith, k, v, q))

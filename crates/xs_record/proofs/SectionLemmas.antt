@@ -141,3 +141,23 @@ pub hole-told : {H : Type 0} (ps rs qs : List Part) (p : Part) (ts us vs : List 
     behind (section_marks qs vs) k ≡ marked (Hole t ∷ []) n
 hole-told ps rs qs p ts us vs t m k n a b d e l v i r =
     hole-marked ps qs ts vs p t m k n v i r (b ∙ ap (λ xs. xs ++ p ∷ []) a) (e ∙ ap (λ xs. xs ++ t ∷ []) d) l
+
+-- ---- the end of a store
+
+pub finish-marks : {H : Type 0} (ps rs qs : List Part) (p : Part) (ts : List H) (m n : Store H) → rs ≡ ps → qs ≡ rs ++ p ∷ [] → AreSections 0 ps →
+    length ts ≡ length ps → p.hole ≡ None → behind (section_marks ps ts) m ≡ n → marks_of (items_of p.items) ≡ m.told →
+    part_marks qs ≡ numbered 0 n.told
+finish-marks ps rs qs p ts m n a b h l e v i =
+    ap part_marks (b ∙ ap (λ xs. xs ++ p ∷ []) a) ∙ parts-numbered 0 ps ts p h l e ∙ ap (λ x. numbered 0 (section_marks ps ts ++ x)) i
+    ∙ ap (λ (z : Store _). numbered 0 z.told) v
+
+pub finish-parts : (ps rs qs : List Part) (p : Part) → rs ≡ ps → qs ≡ rs ++ p ∷ [] → AreSections 0 ps → p.hole ≡ None → IsPacked (items_of p.items) →
+    AreParts 0 qs
+finish-parts ps rs qs p a b h e k = subst (AreParts 0) (sym (b ∙ ap (λ xs. xs ++ p ∷ []) a)) (are-parts 0 ps p h e k)
+
+pub finish-tasks : {H : Type 0} (old new : List H) (ps : List Part) (is : List Item) (ts : List H) (m n : Store H) → new ≡ old ++ ts →
+    length ts ≡ length ps → behind (section_marks ps ts) m ≡ n → marks_of is ≡ m.told → new ≡ old ++ tasks_of n.told
+finish-tasks old new ps is ts m n a l v i =
+    a
+    ∙ ap (λ x. old ++ x)
+    (sym (section-tasks ps ts is l) ∙ ap (λ x. tasks_of (section_marks ps ts ++ x)) i ∙ ap (λ (z : Store _). tasks_of z.told) v)
