@@ -1,5 +1,5 @@
 -- What a piece of a run gives.
-use Rattle.std.proofs.Common.{◌≡◌, ℕ, ◌+◌, ◌-◌, ◌*◌, ◌<◌, ◌≤◌, List, ◌++◌, [], Option, Some, None, Result, Ok, Err, Bool, true, false, cond, nat_lt}
+use Rattle.std.proofs.Common.{◌≡◌, ℕ, ◌+◌, ◌-◌, ◌*◌, ◌<◌, ◌≤◌, List, ◌++◌, [], Option, Some, None, Result, Ok, Err, Bool, true, false, cond, nat_lt, IfOk, OnErr}
 use Rattle.std.proofs.Common.{refl, sym, ap, subst, ◌∙◌, arith, append-nil}
 use Rattle.std.proofs.lemmas.Bool.Decides.{nat_tests}
 use Rattle.xs_trace.specs.Mark.{Trace, tick_count}
@@ -219,3 +219,15 @@ by-end x l after last old new o (Some t) q h a c e =
 
 pub never-over : (H : Type 0) → NeverOver H
 never-over H x l after last old new o h i = by-end x l after last old new o (over l.ticks last) refl h i.added i.ticks i.ends
+
+-- ---- what is said of an answer
+
+pub of-ok : {A E : Type 0} (r : Result A E) (x : A) (P : A → Type 0) → r ≡ Ok x → IfOk r P → P x
+of-ok r x P e h = subst (λ q. IfOk q P) e h
+
+pub of-err : {A E : Type 0} (r : Result A E) (x : E) (Q : Type 0) → r ≡ Err x → OnErr r Q → Q
+of-err r x Q e h = subst (λ q. OnErr q Q) e h
+
+pub if-map : {A E : Type 0} (r : Result A E) (P Q : A → Type 0) → ((x : A) → P x → Q x) → IfOk r P → IfOk r Q
+if-map (Ok x) P Q f h = f x h
+if-map (Err e) P Q f h = tt

@@ -131,7 +131,8 @@ pub holes-pushed : {H : Type 0} (ps rs qs : List Part) (p : Part) (ts us vs : Li
 holes-pushed ps rs qs p ts us vs t n a b d e h i j k l =
     let q : qs ≡ ps ++ p ∷ [] = b ∙ ap (λ xs. xs ++ p ∷ []) a in
     let v : vs ≡ ts ++ t ∷ [] = e ∙ ap (λ xs. xs ++ t ∷ []) d in
-    let m : n ≡ 0 + length ps = j ∙ ap length a in (
+    let z : length ps ≡ 0 + length ps = omega arith in
+    let m : n ≡ 0 + length ps = j ∙ ap length a ∙ z in (
       subst (AreSections 0) (sym q) (are-pushed 0 ps p h (i ∙ ap Some m) k),
       ap length v ∙ length-append ts (t ∷ []) ∙ ap (λ k. k + 1) l ∙ sym (length-append ps (p ∷ [])) ∙ sym (ap length q),
     )
