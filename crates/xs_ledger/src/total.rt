@@ -45,9 +45,9 @@ impl<'a> LedgerTotal<'a> {
 
     /// The share, with all its additions.
     pub fn into_share(self) -> Share
-        ensures share { result ≡ self.share }
-        ensures of_ledger { IsShareOf (ledger_id self.ledger.now) result }
-        ensures within { AreWithin self.limit (additions result) }
+        ensures share { result ≡ self.entry.share }
+        ensures of_ledger { IsShareOf (ledger_id self.entry.ledger.now) result }
+        ensures within { AreWithin self.entry.limit (additions result) }
     {
         let LedgerTotal { share, .. } = self;
         share
