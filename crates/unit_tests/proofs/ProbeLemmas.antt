@@ -1,5 +1,5 @@
 -- Lemmas of the small evaluation.
-use Rattle.std.proofs.Common.{◌≡◌, ℕ, ◌/◌, length, List, [], ◌∷◌, Option, Some, None, sym, ap, ◌∙◌, refl}
+use Rattle.std.proofs.Common.{◌≡◌, ℕ, ◌+◌, ◌≤◌, ◌/◌, length, List, [], ◌∷◌, Option, Some, None, Result, Ok, Err, IfOk, sym, ap, subst, ◌∙◌, refl, arith}
 use Rattle.xs_trace.specs.Event.{text_of}
 use Rattle.xs_trace.specs.Mark.{Tick, Put, Hole, Trace, NeedsNothing, ticks, captured}
 use Rattle.xs_trace.specs.State.{State, opened, popped, top}
@@ -8,6 +8,13 @@ use Rattle.unit_tests.specs.Probe.{tiny, replayed, hole_for, hole_steps, replay_
 use Rattle.xs_trace.specs.declared.event.Event.{Event}
 use Rattle.xs_trace.specs.declared.event.Event.TheVariants.{End}
 use Rattle.xs_trace.specs.declared.item.Site.{Site}
+use Rattle.xs_trace.specs.Play.{IsStep}
+use Rattle.xs_trace.specs.declared.item.Limits.{Limits}
+use Rattle.xs_trace.specs.declared.recorder.Halt.{Halt}
+use Rattle.xs_record.specs.Outcome.{IsOutcome}
+use Rattle.xs_record.specs.Piece.{IsPiece, IsPieceOf, IsWhole, Paid, started}
+use Rattle.xs_record.specs.declared.outcome.Outcome.{Outcome}
+use Rattle.xs_record.proofs.PieceLemmas.{never-over}
 use Rattle.xs_trace.proofs.KeptLemmas.{needs-ticks, needs-then, needs-captured}
 use Rattle.xs_trace.proofs.GrowthLemmas.{Grows, grows-then, goes-grows, shown-grows, put-grows, ticked-grows, by-grows, put_at-grows}
 use Rattle.xs_trace.proofs.PlayLemmas.{then-same, then-then, then-goes, play-then, play-ticks, play-put, play-captured}
@@ -82,3 +89,25 @@ pub tiny-needs : (p : Site) (n : ℕ) (e v : Event) (k : Option ℕ) → NeedsNo
 tiny-needs p n e v k =
     needs-then (ticks p (length (text_of e) / 256) (Put e ∷ [])) _ (needs-ticks p (length (text_of e) / 256) (Put e ∷ []) tt)
     (needs-ticks p n _ (needs-captured (Tick p ∷ Put v ∷ []) (replayed k) tt (replay-needs k)))
+
+-- a piece from its start
+pub piece-is : {K E : Type 0} (r : Result Outcome E) (x : Trace ℕ) (paid paid1 : Paid K) (told : Result (Unit {0}) Halt) (s0 s1 : State ℕ)
+    (first after last : ℕ) (old new : List ℕ) → paid1 ≡ paid → s0 ≡ started paid.limits paid.most first → IsStep (play x s0) told s1 →
+    IfOk r (IsPieceOf paid1 told s1 after last old new) →
+    IfOk r (λ o. (before : ℕ) → paid.all ≡ before + paid.limits.ticks → IsPiece x paid.limits paid.most before after last old new o)
+piece-is (Ok o) x paid paid1 told s0 s1 first after last old new e b q h = λ before a.
+    (subst (λ z. IsPieceOf z told s1 after last old new o) e h) x first before (subst (λ m. IsStep (play x m) told s1) b q) a
+piece-is (Err f) x paid paid1 told s0 s1 first after last old new e b q h = tt
+
+-- a whole run from its start, with a total of its own
+pub whole-is : {K E : Type 0} (r : Result Outcome E) (x : Trace ℕ) (l : Limits) (paid paid1 : Paid K) (told : Result (Unit {0}) Halt) (s0 s1 : State ℕ)
+    (first after last : ℕ) (old new : List ℕ) → paid1 ≡ paid → paid.limits ≡ l → paid.most ≡ l.ticks → paid.all ≡ 0 + l.ticks → last ≤ after →
+    s0 ≡ started paid.limits paid.most first → IsStep (play x s0) told s1 → IfOk r (IsPieceOf paid1 told s1 after last old new) → IfOk r (IsOutcome x l)
+whole-is (Ok o) x l paid paid1 told s0 s1 first after last old new e f m a le b q h =
+    let p : IsPiece x paid.limits paid.most 0 after last old new o =
+    (subst (λ z. IsPieceOf z told s1 after last old new o) e h) x first 0 (subst (λ n. IsStep (play x n) told s1) b q)
+    (a ∙ ap (λ z. 0 + z.ticks) (sym f)) in
+    let w : IsPiece x l l.ticks 0 after last old new o =
+    subst (λ n. IsPiece x l n 0 after last old new o) m (subst (λ z. IsPiece x z paid.most 0 after last old new o) f p) in
+    (never-over ℕ x l after last old new o le w).outcome
+whole-is (Err g) x l paid paid1 told s0 s1 first after last old new e f m a le b q h = tt
