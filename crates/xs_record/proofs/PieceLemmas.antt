@@ -7,7 +7,6 @@ use Rattle.xs_trace.specs.Cut.{End, Whole, Fault, Needs, Spent, Full, Cut, cut, 
 use Rattle.xs_trace.specs.Fill.{numbered, tasks_of}
 use Rattle.xs_trace.specs.State.{State, All, Above, adds}
 use Rattle.xs_trace.specs.Play.{Told, play, told_of, left_of, end_of, raised, Before, IsStep}
-use Rattle.xs_trace.specs.PieceLaws.{NumberedLaws}
 use Rattle.xs_trace.specs.PlayLaws.{TellsCut}
 use Rattle.xs_trace.specs.Kept.{ended_by, IsEnded}
 use Rattle.xs_trace.specs.Total.{over}
@@ -19,9 +18,9 @@ use Rattle.xs_trace.proofs.CutLemmas.{cut-longest, parts-join}
 use Rattle.xs_trace.proofs.PlayLemmas.{play-cut}
 use Rattle.xs_trace.proofs.KeptLemmas.{some_same, all_same}
 use Rattle.xs_trace.proofs.KnownLemmas.{numbered-laws}
-use Rattle.xs_record.specs.Outcome.{part_marks, AreParts, IsOutcome}
+use Rattle.xs_record.specs.Outcome.{part_marks, AreParts}
 use Rattle.xs_record.specs.Paying.{ended_in}
-use Rattle.xs_record.specs.Piece.{above_at, held, started, HasAdded, EndsBy, IsBeginning, IsPiece, IsPieceOf, IsWhole, NeverOver, Paid}
+use Rattle.xs_record.specs.Piece.{above_at, held, started, HasAdded, EndsBy, IsBeginning, IsPieceOf, IsWhole, NeverOver}
 use Rattle.xs_record.specs.Store.{Store, limited_to}
 use Rattle.xs_record.specs.declared.outcome.Outcome.{Outcome}
 

@@ -1,5 +1,5 @@
 -- A piece of a run that is recorded.
-use Rattle.std.specs.Prelude.{◌≡◌, ℕ, ◌+◌, ◌*◌, ◌<◌, ◌≤◌, List, [], ◌++◌, Option, Some, None, Result, Ok, Err}
+use Rattle.std.specs.Prelude.{◌≡◌, ℕ, ◌+◌, ◌*◌, ◌<◌, ◌≤◌, List, [], ◌++◌, Option, Some, None, Result}
 use Rattle.xs_trace.specs.Mark.{Trace, tick_count}
 use Rattle.xs_trace.specs.Cut.{cut, nowhere}
 use Rattle.xs_trace.specs.Fill.{numbered, tasks_of}

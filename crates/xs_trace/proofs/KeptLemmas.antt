@@ -1,15 +1,14 @@
 -- What was recorded of a run is the cut of its trace.
-use Rattle.std.proofs.Common.{◌≡◌, ℕ, zero, suc, ◌-◌, ◌≤◌, List, [], ◌∷◌, Option, Some, None, Result, Ok, Err, Bool, true, false, cond, refl, sym, ap}
-use Rattle.std.proofs.Common.{subst, ◌∙◌, arith}
-use Rattle.xs_trace.specs.Mark.{Tick, Put, Say, Stop, Need, Hole, Trace, ◌⨾◌, NeedsNothing, ticks, tick_count, events_of, messages_of, untimed, without_puts, captured}
-use Rattle.xs_trace.specs.State.{State, Log, Nothing, All, Untimed, alone, adds, allows, said, shown, passed, IsAbove}
-use Rattle.xs_trace.specs.Cut.{End, Whole, Fault, Needs, Spent, Full, Cut, cut, nowhere}
-use Rattle.xs_trace.specs.Play.{Step, Goes, Ends, Told, stops, and_then, ticked, put, put_in, play, told_of, left_of, end_of, number, IsStep}
+use Rattle.std.proofs.Common.{◌≡◌, ℕ, zero, suc, ◌-◌, List, [], ◌∷◌, Option, Some, None, Ok, Err, Bool, true, false, cond, refl, sym, ap}
+use Rattle.std.proofs.Common.{subst, ◌∙◌}
+use Rattle.xs_trace.specs.Mark.{Tick, Put, Say, Stop, Need, Hole, Trace, ◌⨾◌, NeedsNothing, ticks, events_of, messages_of, untimed, without_puts, captured}
+use Rattle.xs_trace.specs.State.{State, Log, Nothing, All, Untimed, alone, allows, said, shown, passed, IsAbove}
+use Rattle.xs_trace.specs.Cut.{End, Whole, Fault, Needs, Spent, Full, cut, nowhere}
+use Rattle.xs_trace.specs.Play.{Step, Goes, Ends, Told, stops, and_then, ticked, put, put_in, play, told_of, left_of, end_of}
 use Rattle.xs_trace.specs.PlayLaws.{TellsCut, begun}
-use Rattle.xs_trace.specs.Keeping.{IsCutAt, IsCutOf, ToldIsCut, NeedComesFromNeed}
+use Rattle.xs_trace.specs.Keeping.{IsCutAt, ToldIsCut, NeedComesFromNeed}
 use Rattle.xs_trace.specs.declared.event.Event.{Event}
 use Rattle.xs_trace.specs.declared.item.Site.{Site}
-use Rattle.xs_trace.specs.declared.recorder.Halt.{Halt}
 use Rattle.xs_trace.specs.declared.recorder.Halt.TheVariants as halt
 use Rattle.xs_trace.proofs.PlayLemmas.{play-cut}
 use Rattle.xs_trace.proofs.GrowthLemmas.{play-grows}

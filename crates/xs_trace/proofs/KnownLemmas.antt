@@ -1,12 +1,12 @@
 -- What is known of a cut trace serves all smaller remainders; and what is told of a trace is told by its cut.
-use Rattle.std.proofs.Common.{◌≡◌, ◌≤◌, ℕ, zero, suc, ◌-◌, List, [], ◌∷◌, ◌++◌, length, Option, Some, None, Bool, true, false, cond, nat_le}
+use Rattle.std.proofs.Common.{◌≡◌, ◌≤◌, ℕ, zero, suc, ◌-◌, [], ◌∷◌, length, Option, Some, None, true, cond, nat_le}
 use Rattle.std.proofs.Common.{refl, sym, ap, ◌∙◌, arith}
 use Rattle.std.proofs.lemmas.Bool.Decides.{nat_tests}
 use Rattle.xs_trace.specs.Mark.{Mark, Tick, Put, Say, Stop, Need, Hole, Trace, ◌⨾◌, tick_count, events_of, last_site}
-use Rattle.xs_trace.specs.Cut.{End, Whole, Fault, Needs, Spent, Full, Cut, after_mark, cut_from, less, Within, follow, followed}
+use Rattle.xs_trace.specs.Cut.{End, Whole, Fault, Needs, Spent, Full, Cut, after_mark, cut_from, less, Within, followed}
 use Rattle.xs_trace.specs.Fill.{fill, numbered}
-use Rattle.xs_trace.specs.State.{State, Log, Shared, adds, after_tick, after_put, shown}
-use Rattle.xs_trace.specs.Play.{Told, Goes, Ends, goes, and_then, play}
+use Rattle.xs_trace.specs.State.{Log, Shared, adds}
+use Rattle.xs_trace.specs.Play.{Told, Ends, goes, and_then, play}
 use Rattle.xs_trace.specs.declared.item.Site.{Site}
 use Rattle.xs_trace.proofs.CutLemmas.{then-assoc, cut-then}
 use Rattle.xs_trace.proofs.GrowthLemmas.{adds-nil, adds-adds}

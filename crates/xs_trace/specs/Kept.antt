@@ -1,5 +1,5 @@
 -- The marks that kept items stand for.
-use Rattle.std.specs.Prelude.{◌≡◌, ◌<◌, ℕ, List, [], ◌∷◌, ◌++◌, Option, Some, None, Result, Ok, Err}
+use Rattle.std.specs.Prelude.{◌≡◌, ◌<◌, List, [], ◌∷◌, ◌++◌, Option, Some, None, Result, Ok, Err}
 use Rattle.xs_trace.specs.Mark.{Put, Say, Trace, ticks}
 use Rattle.xs_trace.specs.Cut.{End, Whole, Fault, Needs, Spent, Full}
 use Rattle.xs_trace.specs.declared.item.Item.{Item}

@@ -1,7 +1,7 @@
 -- Laws of the cuts of traces with holes.
 use Rattle.std.specs.Prelude.{◌≡◌, ◌≤◌, ℕ, [], Option, Some}
 use Rattle.xs_trace.specs.Mark.{Trace, ◌⨾◌, tick_count}
-use Rattle.xs_trace.specs.Cut.{Cut, cut_from, Within}
+use Rattle.xs_trace.specs.Cut.{cut_from, Within}
 use Rattle.xs_trace.specs.Fill.{fill, numbered}
 use Rattle.xs_trace.specs.Known.{known}
 use Rattle.xs_trace.specs.State.{State, Log, Shared}

@@ -1,5 +1,5 @@
 -- A total of ticks that several runs share.
-use Rattle.std.specs.Prelude.{◌≡◌, ℕ, nat_lt, Option, Some, None, if◌then◌else◌}
+use Rattle.std.specs.Prelude.{ℕ, nat_lt, Option, Some, None, if◌then◌else◌}
 
 -- a total, where it is above the most
 abbrev pub over : ℕ → ℕ → Option ℕ
