@@ -1,5 +1,5 @@
 -- Lemmas of the small evaluation.
-use Rattle.std.proofs.Common.{◌≡◌, ℕ, ◌+◌, ◌≤◌, ◌/◌, length, List, [], ◌∷◌, Option, Some, None, Result, Ok, Err, IfOk, sym, ap, subst, ◌∙◌, refl, arith}
+use Rattle.std.proofs.Common.{◌≡◌, ℕ, ◌+◌, ◌≤◌, ◌/◌, length, List, [], ◌∷◌, Option, Some, None, Result, Ok, Err, IfOk, sym, ap, subst, ◌∙◌, refl}
 use Rattle.xs_trace.specs.Event.{text_of}
 use Rattle.xs_trace.specs.Mark.{Tick, Put, Hole, Trace, NeedsNothing, ticks, captured}
 use Rattle.xs_trace.specs.State.{State, opened, popped, top}
@@ -12,7 +12,7 @@ use Rattle.xs_trace.specs.Play.{IsStep}
 use Rattle.xs_trace.specs.declared.item.Limits.{Limits}
 use Rattle.xs_trace.specs.declared.recorder.Halt.{Halt}
 use Rattle.xs_record.specs.Outcome.{IsOutcome}
-use Rattle.xs_record.specs.Piece.{IsPiece, IsPieceOf, IsWhole, Paid, started}
+use Rattle.xs_record.specs.Piece.{IsPiece, IsPieceOf, Paid, started}
 use Rattle.xs_record.specs.declared.outcome.Outcome.{Outcome}
 use Rattle.xs_record.proofs.PieceLemmas.{never-over}
 use Rattle.xs_trace.proofs.KeptLemmas.{needs-ticks, needs-then, needs-captured}
