@@ -2,8 +2,8 @@
 
 ghost use Rattle.std.specs.Prelude.{◌≡◌, ◌≤◌, ◌^◌};
 ghost use Rattle.atomic_table.specs.Seated.{TableId};
-ghost use Rattle.xs_ledger.specs.Additions.{last_answer};
-ghost use Rattle.xs_ledger.specs.Shares.{additions, ledger_id, own, share_ledger_id, IsShareOf};
+ghost use Rattle.xs_ledger.specs.Additions.{last_answer, ticks_above};
+ghost use Rattle.xs_ledger.specs.Shares.{additions, ledger_id, own, share_ledger_id, weight, IsShareOf};
 ghost use Rattle.xs_ledger.specs.Totals.{answer_before, AreWithin};
 
 use crate::ledger::{Ledger, Share};
@@ -43,11 +43,12 @@ impl<'a> LedgerTotal<'a> {
         }
     }
 
-    /// The share, with all its additions.
+    /// The share, with all its additions. At most 1,024 ticks of them were answered above the limit.
     pub fn into_share(self) -> Share
         ensures share { result ≡ self.entry.share }
         ensures of_ledger { IsShareOf (ledger_id self.entry.ledger.now) result }
         ensures within { AreWithin self.entry.limit (additions result) }
+        ensures above { weight (ticks_above self.entry.limit) result ≤ 1024 }
     {
         let LedgerTotal { share, .. } = self;
         share
