@@ -1,6 +1,7 @@
 //! Recorders, meters and totals up to each of their limits, and what they record.
 
 ghost use Rattle.std.specs.Prelude.{◌≡◌, true};
+ghost use Rattle.xs_trace.specs.Kept.{NeedsNone};
 
 use std::alloc::{AllocError, Global};
 use std::cmp::Ordering;
@@ -254,6 +255,20 @@ fn record_piece<R: Recorder<Task = u64>>(
     recorder.say(TextBuf::of(alloc, "hi")?)
 }
 
+// How a run ended that needs no global.
+fn needing_none(told: Result<(), Halt>) -> Result<(), Halt>
+    ensures { NeedsNone result }
+{
+    match told {
+        Ok(()) => Ok(()),
+        Err(Halt::Fault(fault, site)) => Err(Halt::Fault(fault, site)),
+        Err(Halt::Needs(_, site) | Halt::Spent(site)) => Err(Halt::Spent(site)),
+        Err(Halt::Full(site)) => Err(Halt::Full(site)),
+        Err(Halt::Over { total }) => Err(Halt::Over { total }),
+        Err(Halt::NoMemory) => Err(Halt::NoMemory),
+    }
+}
+
 // A piece of so many ticks, over a total of which others had added so much.
 fn piece(alloc: Global, others: u16, ticks: u64, children: &mut Vec<u64>) -> Finished<LocalTotal> {
     let limits = Limits {
@@ -262,7 +277,7 @@ fn piece(alloc: Global, others: u16, ticks: u64, children: &mut Vec<u64>) -> Fin
     };
     let mut piece = recorder(alloc, limits, 2000, others);
     let told = record_piece(alloc, &mut piece, ticks);
-    piece.finish(told, children)
+    piece.finish(needing_none(told), children)
 }
 
 // Whether an outcome has five ticks, a part before the hole 0, and one after it.

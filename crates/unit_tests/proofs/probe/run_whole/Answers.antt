@@ -1,13 +1,19 @@
 use Rattle.std.proofs.Common.{◌≡◌, ◌≤◌, ◌+◌, None, ◌∙◌, ap, refl, arith}
 use Rattle.unit_tests.specs.Probe.{tiny}
+use Rattle.xs_record.specs.Piece.{held}
+use Rattle.xs_record.specs.Store.{limited_to}
 use Rattle.xs_trace.proofs.KeptLemmas.{need-comes-from-need}
 use Rattle.unit_tests.proofs.ProbeLemmas.{tiny-needs, whole-is}
 use Rattle.unit_tests.proofs.probe.run_whole.Goals as goal
 
 pub finish-requires : goal.finish-requires
 finish-requires c =
+    let from = c.new-recorder.result in
+    let to = c.evaluate-told.new.recorder in
     record {
-      settled = need-comes-from-need _ (tiny c.args.site c.args.count c.args.event c.args.value None) _ _ c.evaluate-told.result
+      settled = need-comes-from-need _ (tiny c.args.site c.args.count c.args.event c.args.value None)
+          (limited_to from.room from.left (held from.total.most from.total.last from.left) from.parts.store)
+          (limited_to to.room to.left (held to.total.most to.total.last to.left) to.parts.store) c.evaluate-told.result
           (tiny-needs c.args.site c.args.count c.args.event c.args.value None) c.evaluate-told.ensures.told;
     }
 
