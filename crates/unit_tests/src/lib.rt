@@ -16,6 +16,7 @@ mod loads;
 mod machine;
 #[cfg(test)]
 mod numbers;
+mod probe;
 #[cfg(test)]
 mod recorders;
 mod trace_laws;

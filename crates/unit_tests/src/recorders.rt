@@ -1,20 +1,23 @@
 //! Recorders, meters and totals up to each of their limits, and what they record.
 
+ghost use Rattle.std.specs.Prelude.{◌≡◌, true};
+ghost use Rattle.xs_trace.specs.Kept.{NeedsNone};
+
 use std::alloc::{AllocError, Global};
 use std::cmp::Ordering;
 use std::test::Fail;
-use xs_trace::brief::Brief;
+use xs_block::pool::Pool;
+use xs_record::brief::Brief;
+use xs_record::outcome::{Outcome, Part};
+use xs_record::piece::{Finished, PieceRecorder};
 use xs_trace::event::{Event, Fragment, Label, text_ticks};
-use xs_trace::item::{Ended, Entry, Item, Limits, Site};
+use xs_trace::fault::Fault;
+use xs_trace::item::{Ended, Item, Limits, Site};
 use xs_trace::meter::Meter;
-use xs_trace::piece::{KeptPiece, PieceRecorder};
 use xs_trace::place::{Claim, Place, compare_places};
-use xs_trace::probe::{Pooled, add_up_metered, add_up_pooled, attempt, run_piece, run_whole};
 use xs_trace::recorder::{Halt, Recorder, Tally, put_event, say_message, tick_several};
-use xs_trace::sections::Section;
 use xs_trace::text::TextBuf;
 use xs_trace::total::{LocalTotal, Total};
-use xs_trace::whole::{Kept, Whole};
 
 // What only types whose values cross threads are given to.
 fn crosses_threads<T: Send + Sync>() {}
@@ -75,11 +78,19 @@ fn places(rt: HostRuntime) -> Result<(), Fail> {
 
 // A name in no namespace.
 fn label(alloc: Global) -> Result<Label, AllocError> {
-    Ok(Label {
-        uri: TextBuf::of(alloc, "")?,
-        local: TextBuf::of(alloc, "a")?,
-        prefix: TextBuf::of(alloc, "")?,
-    })
+    let uri = TextBuf::of(alloc, "")?;
+    let local = TextBuf::of(alloc, "a")?;
+    let prefix = TextBuf::of(alloc, "p")?;
+    Label::of(alloc, uri, local, prefix)
+}
+
+#[test]
+fn labels(rt: HostRuntime) -> Result<(), Fail> {
+    let copy = label(rt.alloc())?.copy()?;
+    assert_eq!(rt; copy.uri(), "");
+    assert_eq!(rt; copy.local(), "a");
+    assert_eq!(rt; copy.prefix(), "p");
+    Ok(())
 }
 
 // An attribute with the copy of a name.
@@ -151,46 +162,63 @@ fn are_both(items: &[Item]) -> bool {
     matches!(items, [Item::Put(_), Item::Say(_)])
 }
 
+// A recorder with a total of its own, to which others had added so much.
+fn recorder(
+    alloc: Global,
+    limits: Limits,
+    most: u16,
+    others: u16,
+) -> PieceRecorder<LocalTotal, u64> {
+    let total = LocalTotal::new(u64::from(most), u64::from(others));
+    PieceRecorder::new(alloc, limits, total, Pool::new(alloc))
+}
+
+// Whether a part has three ticks, an event and a message.
+fn is_full_part(part: &Part) -> bool {
+    let mut items = part.items.items();
+    matches!(
+        items.next(),
+        Some(Item::Run {
+            line: 7,
+            ticks: 3,
+            ..
+        })
+    ) && matches!(items.next(), Some(Item::Put(Event::End)))
+        && matches!(items.next(), Some(Item::Say(_)))
+        && items.next().is_none()
+        && part.hole.is_none()
+}
+
 // Whether a run has three ticks, an event and a message, and ended at a second event.
-fn is_full_run(kept: &Kept) -> bool {
-    let is_timely = matches!(
-        kept.timeline.as_slice(),
-        [
-            Entry::Ticks {
-                module: 0,
-                line: 7,
-                count: 3,
-            },
-            Entry::Item,
-            Entry::Item,
-        ]
-    );
-    is_timely
-        && are_both(kept.items.as_slice())
-        && kept.ticks == 3
-        && matches!(&kept.ended, Ended::Full(_))
+fn is_full_run(outcome: &Outcome) -> bool {
+    outcome.parts.len() == 1
+        && matches!(outcome.parts.first(), Some(part) if is_full_part(part))
+        && outcome.ticks == 3
+        && matches!(&outcome.ended, Ended::Full(spot) if spot.fault == Fault::TooManyEvents)
 }
 
 #[test]
-fn keeps_a_run(rt: HostRuntime) -> Result<(), Fail> {
-    let mut whole: Whole<u64> = Whole::new(rt.alloc(), ONE_EVENT);
-    assert_eq!(rt; record(rt.alloc(), &mut whole), Ok(1));
-    assert_eq!(rt; whole.left(), 6);
-    assert_eq!(rt; whole.put(Event::End), Err(Halt::Full(SITE)));
-    let kept = whole.keep(Err(Halt::Full(SITE)))?;
-    assert!(rt; is_full_run(&kept));
+fn records_a_run(rt: HostRuntime) -> Result<(), Fail> {
+    let mut run = recorder(rt.alloc(), ONE_EVENT, 9, 0);
+    assert_eq!(rt; record(rt.alloc(), &mut run), Ok(1));
+    assert_eq!(rt; run.put(Event::End), Err(Halt::Full(SITE)));
+    let mut children = Vec::new(rt.alloc());
+    let finished = run.finish(Err(Halt::Full(SITE)), &mut children);
+    assert!(rt; is_full_run(&finished.outcome?));
+    assert_eq!(rt; finished.total.above(), None);
+    assert!(rt; children.is_empty());
     Ok(())
 }
 
 #[test]
 fn stops_at_its_limit(rt: HostRuntime) -> Result<(), Fail> {
-    let mut whole: Whole<u64> = Whole::new(rt.alloc(), TWO_TICKS);
-    assert_eq!(rt; whole.hole(7), Err(Halt::NoMemory));
-    assert_eq!(rt; whole.ticks(SITE, 3), Err(Halt::Spent(SITE)));
-    assert_eq!(rt; whole.tick(SITE), Err(Halt::Spent(SITE)));
-    let (timeline, items) = whole.finish()?;
-    assert!(rt; items.is_empty());
-    assert!(rt; matches!(timeline.as_slice(), [Entry::Ticks { count: 2, .. }]));
+    let mut run = recorder(rt.alloc(), TWO_TICKS, 2, 0);
+    assert_eq!(rt; run.ticks(SITE, 3), Err(Halt::Spent(SITE)));
+    assert_eq!(rt; run.tick(SITE), Err(Halt::Spent(SITE)));
+    let mut children = Vec::new(rt.alloc());
+    let outcome = run.finish(Err(Halt::Spent(SITE)), &mut children).outcome?;
+    assert_eq!(rt; outcome.ticks, 2);
+    assert!(rt; matches!(&outcome.ended, Ended::Spent(spot) if spot.fault == Fault::Budget));
     Ok(())
 }
 
@@ -213,78 +241,87 @@ fn spends_without_keeping(rt: HostRuntime) {
     assert!(rt; brief.finish().is_empty());
 }
 
-// Whether a piece has five ticks and all that it did is before one hole.
-fn is_whole_piece(kept: &KeptPiece<u64>) -> bool {
-    kept.sections.len() == 1
-        && matches!(kept.sections.first(), Some(Section { task: 7, .. }))
-        && kept.items.is_empty()
-        && kept.ticks == 5
-        && matches!(&kept.ended, Ended::Whole)
-}
-
-// Whether a piece ended in a total above the most, at its first addition.
-fn is_over(kept: &KeptPiece<u64>) -> bool {
-    kept.ticks == 1024 && matches!(&kept.ended, Ended::Over { total: 2524 })
-}
-
-// A piece of some ticks, an end and a hole, over a total of which so much was added before; and the
-// total.
-fn piece(
+// Some ticks, an end, a hole and a message.
+fn record_piece<R: Recorder<Task = u64>>(
     alloc: Global,
-    added: u16,
+    recorder: &mut R,
     ticks: u64,
-) -> Result<(KeptPiece<u64>, LocalTotal), AllocError> {
-    let total = LocalTotal::new(2000, u64::from(added));
-    run_piece(alloc, total, None, SITE, ticks, Event::End, Event::End, 7)
+) -> Result<(), Halt>
+    requires holes { R.takes_holes ≡ true }
+{
+    recorder.ticks(SITE, ticks)?;
+    recorder.put(Event::End)?;
+    recorder.hole(7)?;
+    recorder.say(TextBuf::of(alloc, "hi")?)
+}
+
+// How a run ended that needs no global.
+fn needing_none(told: Result<(), Halt>) -> Result<(), Halt>
+    ensures { NeedsNone result }
+{
+    match told {
+        Ok(()) => Ok(()),
+        Err(Halt::Fault(fault, site)) => Err(Halt::Fault(fault, site)),
+        Err(Halt::Needs(_, site) | Halt::Spent(site)) => Err(Halt::Spent(site)),
+        Err(Halt::Full(site)) => Err(Halt::Full(site)),
+        Err(Halt::Over { total }) => Err(Halt::Over { total }),
+        Err(Halt::NoMemory) => Err(Halt::NoMemory),
+    }
+}
+
+// A piece of so many ticks, over a total of which others had added so much.
+fn piece(alloc: Global, others: u16, ticks: u64, children: &mut Vec<u64>) -> Finished<LocalTotal> {
+    let limits = Limits {
+        ticks: 2000,
+        events: None,
+    };
+    let mut piece = recorder(alloc, limits, 2000, others);
+    let told = record_piece(alloc, &mut piece, ticks);
+    piece.finish(needing_none(told), children)
+}
+
+// Whether an outcome has five ticks, a part before the hole 0, and one after it.
+fn has_a_hole(outcome: &Outcome) -> bool {
+    matches!(
+        outcome.parts.as_slice(),
+        [Part { hole: Some(0), .. }, Part { hole: None, .. }]
+    ) && outcome.ticks == 5
+        && matches!(&outcome.ended, Ended::Whole)
 }
 
 #[test]
-fn keeps_a_piece(rt: HostRuntime) -> Result<(), Fail> {
-    let (kept, total) = piece(rt.alloc(), 0, 3)?;
-    assert!(rt; is_whole_piece(&kept));
-    assert_eq!(rt; total.above(), None);
+fn records_a_piece(rt: HostRuntime) -> Result<(), Fail> {
+    let mut children = Vec::new(rt.alloc());
+    let finished = piece(rt.alloc(), 0, 5, &mut children);
+    assert!(rt; has_a_hole(&finished.outcome?));
+    assert_eq!(rt; finished.total.above(), None);
+    assert!(rt; children.as_slice() == [7].as_slice());
     Ok(())
 }
 
 #[test]
 fn ends_over_a_total(rt: HostRuntime) -> Result<(), Fail> {
-    let (kept, total) = piece(rt.alloc(), 1500, 1500)?;
-    assert!(rt; is_over(&kept));
-    assert_eq!(rt; total.above(), Some(2524));
-    assert_eq!(rt; total.limit(), 2000);
+    let mut children = Vec::new(rt.alloc());
+    let finished = piece(rt.alloc(), 1500, 1500, &mut children);
+    let outcome = finished.outcome?;
+    assert_eq!(rt; outcome.ticks, 1024);
+    assert!(rt; matches!(&outcome.ended, Ended::Over { total: 2524 }));
+    assert_eq!(rt; finished.total.above(), Some(2524));
+    assert_eq!(rt; finished.total.limit(), 2000);
+    assert!(rt; children.is_empty());
     Ok(())
 }
 
 #[test]
 fn adds_its_ticks(rt: HostRuntime) {
-    let total = LocalTotal::new(2000, 0);
-    let mut piece: PieceRecorder<LocalTotal, u64> = PieceRecorder::new(rt.alloc(), None, total);
+    let limits = Limits {
+        ticks: 2000,
+        events: None,
+    };
+    let mut piece = recorder(rt.alloc(), limits, 2000, 0);
     assert_eq!(rt; piece.ticks(SITE, 1025), Ok(()));
     assert_eq!(rt; piece.due(), 1);
     assert_eq!(rt; piece.total().above(), None);
-}
-
-#[test]
-fn takes_no_holes(rt: HostRuntime) -> Result<(), Fail> {
-    let limits = Limits {
-        ticks: 4,
-        events: None,
-    };
-    let kept = run_whole(rt.alloc(), limits, SITE, 1, Event::End, Event::End)?;
-    assert_eq!(rt; kept.items.len(), 2);
-    assert_eq!(rt; kept.timeline.len(), 4);
-    assert!(rt; matches!(&kept.ended, Ended::Whole));
-    Ok(())
-}
-
-#[test]
-fn attempts_a_global(rt: HostRuntime) -> Result<(), Fail> {
-    let tried = attempt(rt.alloc(), 5, SITE, Some(3))?;
-    assert_eq!(rt; tried.told, Err(Halt::Needs(3, SITE)));
-    assert_eq!(rt; tried.ticks, 1);
-    let spent = attempt(rt.alloc(), 0, SITE, Some(3))?;
-    assert_eq!(rt; spent.told, Err(Halt::Spent(SITE)));
-    Ok(())
 }
 
 #[test]
@@ -296,23 +333,4 @@ fn meters(rt: HostRuntime) {
     assert_eq!(rt; tick_several(&mut meter, SITE, 2), Ok(()));
     assert_eq!(rt; meter.tick(SITE), Err(Halt::Spent(SITE)));
     assert_eq!(rt; meter.spent, 2);
-    let mut meter = Meter {
-        limit: Some(9),
-        spent: 0,
-    };
-    assert_eq!(rt; add_up_metered(&mut meter, SITE, &[1, 2]), Ok(3));
-    let fault = add_up_metered(&mut meter, SITE, &[1, 2, u64::MAX, 4]);
-    assert_eq!(rt; fault, Err(Halt::Fault(52, SITE)));
-    assert_eq!(rt; meter.spent, 5);
-}
-
-#[test]
-fn adds_up_with_a_pool(rt: HostRuntime) {
-    let mut pool = Pooled {
-        free: 1,
-        taken: 0,
-        slots: 1,
-    };
-    assert_eq!(rt; add_up_pooled(&mut pool, SITE, &[1, 2]), Ok(3));
-    assert_eq!(rt; pool.taken, 1);
 }

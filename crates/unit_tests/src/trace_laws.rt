@@ -31,3 +31,13 @@ pub(crate) fn limits_and_needs() {
     laws::need_comes_from_need::<u8>();
     laws::fill_laws::<u8, bool>();
 }
+
+/// The laws of items, of cuts with holes, and of outcomes.
+pub(crate) fn pieces() {
+    laws::packed_once::<u8>();
+    laws::cut_serves::<u8, bool>();
+    laws::cuts_tell_same::<u8>();
+    laws::numbered_laws::<u8>();
+    xs_record::laws::outcomes_agree::<u8>();
+    xs_record::laws::never_over::<u8>();
+}

@@ -169,7 +169,12 @@ then-exit v w g f (Needs n p) s k q = ap (λ j. and_then j f) q
 then-exit v w g f (Spent p) s k q = ap (λ j. and_then j f) q
 then-exit v w g f (Full p) s k q = ap (λ j. and_then j f) q
 then-exit v w g f (Over t) s k q =
-    record { above = q.above; shared = q.shared ∙ ap (passed t) (sym (shared-then g f k)); before = before-then s g f q.before k }
+    record {
+      above = q.above;
+      first = ap (λ h. h.above) (shared-then g f k) ∙ q.first;
+      shared = q.shared ∙ ap (passed t s.left) (sym (shared-then g f k));
+      before = before-then s g f q.before k;
+    }
 then-exit v w g f NoMemory s k q = tt
 
 pub because : {H : Type 0} → {A B : Type 0} (v : B → A) (g : Step H A) (s : State H) (result : Result B Halt) (y h : Halt) → result ≡ Err y → y ≡ h →

@@ -1,19 +1,15 @@
--- What is kept of a run is the cut of its trace.
-use Rattle.std.proofs.Common.{◌≡◌, ℕ, zero, suc, ◌-◌, ◌≤◌, List, [], ◌∷◌, Option, Some, None, Result, Ok, Err, Bool, true, false, cond, refl, sym, ap}
-use Rattle.std.proofs.Common.{subst, ◌∙◌, arith}
-use Rattle.xs_trace.specs.Mark.{Tick, Put, Say, Stop, Need, Hole, Trace, ◌⨾◌, NeedsNothing, ticks, tick_count, events_of, messages_of, untimed, without_puts, captured}
-use Rattle.xs_trace.specs.State.{State, Log, Nothing, All, Untimed, alone, adds, allows, said, shown, passed, IsAbove}
-use Rattle.xs_trace.specs.Cut.{End, Whole, Fault, Needs, Spent, Full, Cut, cut, nowhere}
-use Rattle.xs_trace.specs.Play.{Step, Goes, Ends, Told, stops, and_then, ticked, put, put_in, play, told_of, left_of, end_of, number, IsStep}
-use Rattle.xs_trace.specs.PlayLaws.{TellsCut, begin, begun}
-use Rattle.xs_trace.specs.Kept.{marks_of, timed, ended_by, IsEnded, IsFewest, Keeps}
-use Rattle.xs_trace.specs.Keeping.{IsCutAt, IsCutOf, ToldIsCut, NeedComesFromNeed}
+-- What was recorded of a run is the cut of its trace.
+use Rattle.std.proofs.Common.{◌≡◌, ℕ, zero, suc, ◌-◌, List, [], ◌∷◌, Option, Some, None, Ok, Err, Bool, true, false, cond, refl, sym, ap}
+use Rattle.std.proofs.Common.{subst, ◌∙◌}
+use Rattle.xs_trace.specs.Mark.{Tick, Put, Say, Stop, Need, Hole, Trace, ◌⨾◌, NeedsNothing, ticks, events_of, messages_of, untimed, without_puts, captured}
+use Rattle.xs_trace.specs.State.{State, Log, Nothing, All, Untimed, alone, allows, said, shown, passed, IsAbove}
+use Rattle.xs_trace.specs.Cut.{End, Whole, Fault, Needs, Spent, Full, cut, nowhere}
+use Rattle.xs_trace.specs.Play.{Step, Goes, Ends, Told, stops, and_then, ticked, put, put_in, play, told_of, left_of, end_of}
+use Rattle.xs_trace.specs.PlayLaws.{TellsCut, begun}
+use Rattle.xs_trace.specs.Keeping.{IsCutAt, ToldIsCut, NeedComesFromNeed}
 use Rattle.xs_trace.specs.declared.event.Event.{Event}
 use Rattle.xs_trace.specs.declared.item.Site.{Site}
-use Rattle.xs_trace.specs.declared.recorder.Halt.{Halt}
 use Rattle.xs_trace.specs.declared.recorder.Halt.TheVariants as halt
-use Rattle.xs_trace.specs.declared.whole.Kept.{Kept}
-use Rattle.xs_trace.proofs.CutLemmas.{cut-longest}
 use Rattle.xs_trace.proofs.PlayLemmas.{play-cut}
 use Rattle.xs_trace.proofs.GrowthLemmas.{play-grows}
 
@@ -69,7 +65,7 @@ told-is-cut H l x b m (Err (halt.Fault f p)) s q = cut-at l x b m (Fault f p) s 
 told-is-cut H l x b m (Err (halt.Needs g p)) s q = cut-at l x b m (Needs g p) s q
 told-is-cut H l x b m (Err (halt.Spent p)) s q = cut-at l x b m (Spent p) s q
 told-is-cut H l x b m (Err (halt.Full p)) s q = cut-at l x b m (Full p) s q
-told-is-cut H l x b m (Err (halt.Over n)) s q = subst (λ h. IsAbove h.most n) (q.shared ∙ ap (passed n) (play-grows x (begun l b m)).shared) q.above
+told-is-cut H l x b m (Err (halt.Over n)) s q = subst (λ h. IsAbove h.most n) (q.shared ∙ ap (passed n s.left) (play-grows x (begun l b m)).shared) q.above
 told-is-cut H l x b m (Err halt.NoMemory) s q = tt
 
 -- what a log keeps
@@ -85,43 +81,6 @@ all_same p = ap marks_in p
 pub untimed_same : {H : Type 0} {a b : Trace H} → Untimed a ≡ Untimed b → a ≡ b
 unfolding marks_in
 untimed_same p = ap marks_in p
-
--- An end, and how many ticks passed, of a state at the end of a run that was no want of memory.
-record Ending {H : Type 0} (l : Log H) (c : Cut H) (s : State H) (k : Kept) : Type 0 where
-  pub told : s.told ≡ adds l c.passed
-  pub ended : ended_by c.end ≡ Some k.ended
-  pub ticks : k.ticks ≡ tick_count c.passed
-
-ending-at : {H : Type 0} (l : Log H) (b : ℕ) (c : Cut H) (e : End) (s : State H) (k : Kept) → tick_count c.passed ≤ b → IsCutAt l e b c s →
-    ended_by e ≡ Some k.ended → k.ticks ≡ b - number s.left → Ending l c s k
-ending-at l b c e s k le h en ti =
-    let d : b - (b - tick_count c.passed) ≡ tick_count c.passed = omega (arith, le) in
-    record { told = h.told; ended = ap ended_by h.end ∙ en; ticks = ti ∙ ap (λ o. b - number o) h.left ∙ d }
-
-ending-by : {H : Type 0} (l : Log H) (b : ℕ) (c : Cut H) (result : Result (Unit {0}) Halt) (s : State H) (k : Kept) → tick_count c.passed ≤ b →
-    IsCutOf l result b c s → IsEnded result k.ended → k.ticks ≡ b - number s.left → Ending l c s k
-ending-by l b c (Ok u) s k le h en ti = ending-at l b c Whole s k le h en ti
-ending-by l b c (Err (halt.Fault f p)) s k le h en ti = ending-at l b c (Fault f p) s k le h en ti
-ending-by l b c (Err (halt.Needs g p)) s k le h en ti = absurd en
-ending-by l b c (Err (halt.Spent p)) s k le h en ti = ending-at l b c (Spent p) s k le h en ti
-ending-by l b c (Err (halt.Full p)) s k le h en ti = ending-at l b c (Full p) s k le h en ti
-ending-by l b c (Err (halt.Over n)) s k le h en ti = absurd h
-ending-by l b c (Err halt.NoMemory) s k le h en ti = absurd en
-
-ending : {H : Type 0} (l : Log H) (x : Trace H) (b : ℕ) (m : Option ℕ) (result : Result (Unit {0}) Halt) (s : State H) (k : Kept) →
-    IsEnded result k.ended → k.ticks ≡ b - number s.left → IsStep (play x (begun l b m)) result s → Ending l (cut x b m) s k
-ending {H} l x b m result s k en ti q =
-    ending-by l b (cut x b m) result s k (cut-longest x nowhere b m).within (told-is-cut H l x b m result s q) en ti
-
--- what is kept
-pub keeps : {H : Type 0} (x : Trace H) (b : ℕ) (m : Option ℕ) (result : Result (Unit {0}) Halt) (s : State H) (k : Kept) → IsEnded result k.ended →
-    s.told ≡ All (timed k.timeline.items (marks_of k.items.items)) →
-    untimed {H = H} (timed k.timeline.items (marks_of k.items.items)) ≡ marks_of k.items.items → IsFewest k.timeline.items k.items.items →
-    k.ticks ≡ b - number s.left → IsStep (play x (begin b m)) result s → Keeps (cut x b m) k
-keeps {H} x b m result s k en t u f ti q =
-    let h : Ending (All []) (cut x b m) s k = ending (All []) x b m result s k en ti q in
-    let e : timed {H = H} k.timeline.items (marks_of k.items.items) ≡ (cut x b m).passed = all_same (sym t ∙ h.told) in
-    record { marks = e; items = sym u ∙ ap untimed e; fewest = f; ended = h.ended; ticks = h.ticks }
 
 -- what marks give without ticks
 pub untimed-events : {H : Type 0} (x : Trace H) → events_of (untimed x) ≡ events_of x

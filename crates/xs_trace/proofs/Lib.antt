@@ -2,13 +2,8 @@ pub mod CutLemmas
 pub mod GrowthLemmas
 pub mod PlayLemmas
 pub mod KeptLemmas
-pub mod StoreLemmas
-pub mod KeptOnceLemmas
-pub mod TimedLemmas
-pub mod BriefLemmas
-pub mod SectionLemmas
-pub mod PieceLemmas
+pub mod PackedLemmas
 pub mod RunLemmas
 pub mod MeterLemmas
 pub mod FillLemmas
-pub mod ProbeLemmas
+pub mod KnownLemmas

@@ -1,12 +1,13 @@
 -- What is seen of a trace under limits.
 use Rattle.std.specs.Prelude.{◌≡◌, ℕ, zero, suc, ◌-◌, ◌≤◌, [], ◌∷◌, ◌++◌, length, Option, Some, None}
 use Rattle.xs_trace.specs.Mark.{Mark, Tick, Put, Say, Stop, Need, Hole, Trace, GoesOn, tick_count, events_of, last_site}
+use Rattle.xs_trace.specs.declared.fault.Fault.{Fault as RunFault}
 use Rattle.xs_trace.specs.declared.item.Site.{Site}
 
 -- how a cut trace ends
 pub data End : Type 0 where
   Whole : End
-  Fault : (fault : ℕ) (site : Site) → End
+  Fault : (fault : RunFault) (site : Site) → End
   Needs : (global : ℕ) (site : Site) → End
   -- a tick was too many; its place
   Spent : (site : Site) → End

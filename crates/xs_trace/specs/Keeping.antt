@@ -1,30 +1,14 @@
--- What a recorder of a whole run gives at its end.
-use Rattle.std.specs.Prelude.{◌≡◌, ℕ, ◌-◌, Option, Some, Result, Ok, Err}
+-- What was recorded of a run by its end.
+use Rattle.std.specs.Prelude.{◌≡◌, ℕ, ◌-◌, List, Option, Some, Result, Ok, Err}
 use Rattle.xs_trace.specs.Mark.{Trace, NeedsNothing, tick_count}
 use Rattle.xs_trace.specs.Cut.{End, Whole, Fault, Needs, Spent, Full, Cut, cut}
 use Rattle.xs_trace.specs.State.{State, Log, adds}
 use Rattle.xs_trace.specs.Play.{IsStep, play}
-use Rattle.xs_trace.specs.PlayLaws.{begin, begun}
-use Rattle.xs_trace.specs.Kept.{Keeps, NeedsNone}
-use Rattle.xs_trace.specs.declared.item.Limits.{Limits}
+use Rattle.xs_trace.specs.PlayLaws.{begun}
+use Rattle.xs_trace.specs.Kept.{IsPacked, NeedsNone, marks_of}
+use Rattle.xs_trace.specs.declared.item.Item.{Item}
 use Rattle.xs_trace.specs.declared.recorder.Halt.{Halt}
 use Rattle.xs_trace.specs.declared.recorder.Halt.TheVariants as halt
-use Rattle.xs_trace.specs.declared.whole.Kept.{Kept}
-
--- The cut of whatever trace was told, under limits, by a run that ended so.
-abbrev pub KeepsAny : {H : Type 0} → Limits → Result (Unit {0}) Halt → State H → Kept → Type 0
-KeepsAny {H = H} l told s k = (x : Trace H) → IsStep (play x (begin l.ticks l.events)) told s → Keeps (cut x l.ticks l.events) k
-
--- the same is kept
-pub record KeepsSame (j k : Kept) : Type 0 where
-  pub items : j.items.items ≡ k.items.items
-  pub timeline : j.timeline.items ≡ k.timeline.items
-  pub ended : j.ended ≡ k.ended
-  pub ticks : j.ticks ≡ k.ticks
-
--- what is kept of a cut is one thing alone
-abbrev pub KeepsOne : Type 0 → Type 0
-KeepsOne H = (c : Cut H) (j k : Kept) → Keeps c j → Keeps c k → KeepsSame j k
 
 -- A state in which all that passed a cut was told, after what was kept before, at an end, with b ticks at the start.
 pub record IsCutAt {H : Type 0} (l : Log H) (e : End) (b : ℕ) (c : Cut H) (s : State H) : Type 0 where
@@ -49,3 +33,7 @@ ToldIsCut H = (l : Log H) (x : Trace H) (b : ℕ) (m : Option ℕ) (told : Resul
 -- from whatever state, and from whatever view of what it gives
 abbrev pub NeedComesFromNeed : Type 0 → Type 0
 NeedComesFromNeed H = (x : Trace H) (s m : State H) (told : Result (Unit {0}) Halt) → NeedsNothing x → IsStep (play x s) told m → NeedsNone told
+
+-- packed items with the same marks are the same
+abbrev pub PackedOnce : Type 0 → Type 0
+PackedOnce H = (is js : List Item) → IsPacked is → IsPacked js → marks_of {H = H} is ≡ marks_of js → is ≡ js

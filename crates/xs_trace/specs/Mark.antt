@@ -1,6 +1,7 @@
 -- The marks of a run, in order, with no limit.
 use Rattle.std.specs.Prelude.{ℕ, zero, suc, List, [], ◌∷◌}
 use Rattle.xs_trace.specs.declared.event.Event.{Event}
+use Rattle.xs_trace.specs.declared.fault.Fault.{Fault as RunFault}
 use Rattle.xs_trace.specs.declared.item.Site.{Site}
 
 -- One thing that a run does: a step of its work at an instruction, an event put into the result, a message said to the
@@ -10,7 +11,7 @@ pub data Mark (H : Type 0) : Type 0 where
   Tick : (site : Site) → Mark H
   Put : (event : Event) → Mark H
   Say : (text : List ℕ) → Mark H
-  Stop : (fault : ℕ) (site : Site) → Mark H
+  Stop : (fault : RunFault) (site : Site) → Mark H
   Need : (global : ℕ) (site : Site) → Mark H
   Hole : (task : H) → Mark H
 

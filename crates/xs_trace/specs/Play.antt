@@ -93,10 +93,11 @@ pub record Before {H : Type 0} {A : Type 0} (s : State H) (g : Step H A) : Type 
   pub told : told_of g ≡ adds s.told rest
   pub left : s.left ≡ raised (left_of g) (tick_count rest)
 
--- A recorder was told a total above the most, and nothing after that.
+-- A total above the most was answered in this call: none before it, and no tick came after that answer.
 pub record IsOver {H : Type 0} {A : Type 0} (g : Step H A) (t : ℕ) (s : State H) : Type 0 where
   pub above : IsAbove s.shared.most t
-  pub shared : s.shared ≡ passed t (shared_of g)
+  pub first : (shared_of g).above ≡ None
+  pub shared : s.shared ≡ passed t s.left (shared_of g)
   pub before : Before s g
 
 -- What a call gave, and the state that it left. A lack of memory is free.

@@ -4,12 +4,13 @@ use Rattle.xs_trace.specs.Mark.{Trace, Stop, Need, ticks}
 use Rattle.xs_trace.specs.Cut.{Fault, Needs}
 use Rattle.xs_trace.specs.State.{State}
 use Rattle.xs_trace.specs.Play.{Step, Goes, stops, and_then, ticked, ticked_by, play}
+use Rattle.xs_trace.specs.declared.fault.Fault.{Fault as RunFault}
 use Rattle.xs_trace.specs.declared.item.Site.{Site}
 
 -- a value, a fault, or the want of a global variable that has no value yet
 pub data Answer (A : Type 0) : Type 0 where
   Gives : (value : A) → Answer A
-  Faults : (fault : ℕ) → Answer A
+  Faults : (fault : RunFault) → Answer A
   Lacks : (global : ℕ) → Answer A
 
 pub record Run (A : Type 0) : Type 0 where
@@ -23,7 +24,7 @@ costs n r = record { cost = n + r.cost; end = r.end }
 abbrev pub give : {A : Type 0} → A → Run A
 give x = record { cost = 0; end = Gives x }
 
-abbrev pub fail : {A : Type 0} → ℕ → Run A
+abbrev pub fail : {A : Type 0} → RunFault → Run A
 fail f = record { cost = 0; end = Faults f }
 
 abbrev pub lack : {A : Type 0} → ℕ → Run A
@@ -73,7 +74,7 @@ evaluated p r f = ticks p r.cost (on_answer p r.end f)
 -- the state that its first part left.
 pub record LimitedLaws (H A B : Type 0) : Type 0 where
   pub gives : (p : Site) (x : A) (s : State H) → limited p (give x) s ≡ Goes x s
-  pub fails : (p : Site) (f : ℕ) (s : State H) → limited {A = A} p (fail f) s ≡ stops (Fault f p) s
+  pub fails : (p : Site) (f : RunFault) (s : State H) → limited {A = A} p (fail f) s ≡ stops (Fault f p) s
   pub lacks : (p : Site) (g : ℕ) (s : State H) → limited {A = A} p (lack g) s ≡ stops (Needs g p) s
   pub ticks : (p : Site) (r : Run A) (s : State H) → limited p (tick r) s ≡ and_then (ticked p s) (λ u m. limited p r m)
   pub more : (p : Site) (n : ℕ) (r : Run A) (s : State H) → limited p (costs n r) s ≡ and_then (ticked_by n p s) (λ u m. limited p r m)

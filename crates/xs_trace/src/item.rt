@@ -1,6 +1,7 @@
 //! Items: what is kept of a run, and how a run ends.
 
 use crate::event::Event;
+use crate::fault::Fault;
 use crate::text::TextBuf;
 use std::mem::size_of;
 
@@ -11,10 +12,10 @@ pub struct Site {
     pub line: u32,
 }
 
-/// A fault, by its number, and where it came.
+/// A fault, and where it came.
 #[derive(Clone, Copy, PartialEq, Eq, Debug)]
 pub struct Spot {
-    pub fault: u8,
+    pub fault: Fault,
     pub module: u32,
     pub line: u32,
 }
@@ -31,19 +32,7 @@ pub enum Item {
 }
 
 // A loop keeps an item or two for each of its nodes, so what a large run keeps is what these take.
-const _: () = prove!(size_of::<Item>() <= 48);
-
-/// What comes next in a run whose ticks are kept apart from its events and messages.
-#[derive(Clone, Copy, PartialEq, Eq, Debug)]
-pub enum Entry {
-    /// That many ticks, one after another at one place.
-    Ticks { module: u32, line: u32, count: u64 },
-    /// The next of its events and messages.
-    Item,
-}
-
-// A run that calls itself a million times has an entry for each change of instruction.
-const _: () = prove!(size_of::<Entry>() <= 24);
+const _: () = prove!(size_of::<Item>() <= 32);
 
 /// How a run ended.
 #[derive(Clone, Copy, Debug)]

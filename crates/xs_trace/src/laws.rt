@@ -4,8 +4,9 @@ ghost use Rattle.xs_trace.specs.Laws.{CutOfThen, CutOfCut, CutWithoutPuts, Parts
 ghost use Rattle.xs_trace.specs.PlayLaws.{PlayOfThen, PlayOfTicks, PlayOfPut, PlayOfSay};
 ghost use Rattle.xs_trace.specs.PlayLaws.{PlayOfCaptured, CapturesFrom, PlayGrows, PlayIsCut};
 ghost use Rattle.xs_trace.specs.Run.{LimitedLaws, FoldLaws};
-ghost use Rattle.xs_trace.specs.Keeping.{ToldIsCut, NeedComesFromNeed, KeepsOne};
+ghost use Rattle.xs_trace.specs.Keeping.{ToldIsCut, NeedComesFromNeed, PackedOnce};
 ghost use Rattle.xs_trace.specs.Fill.{FillLaws};
+ghost use Rattle.xs_trace.specs.PieceLaws.{CutServes, CutsTellSame, NumberedLaws};
 
 /// Parts joined by `then` may be grouped in any way, and the empty trace changes nothing.
 pub fn then_joins<H>()
@@ -93,18 +94,35 @@ pub fn fold_laws<H, A, B>()
     ensures { FoldLaws H A B }
 {}
 
-/// What a recorder of a whole run was told, and how that ended, is the cut of the trace at its
-/// limits.
+/// What was recorded of a trace from the start on, and how that ended, is the cut of the trace at
+/// the limits.
 pub fn told_is_cut<H>()
     ensures { ToldIsCut H }
 {}
 
-/// What is kept of a cut is one thing alone: its items, its timeline, its end and its ticks.
-pub fn keeps_one<H>()
-    ensures { KeepsOne H }
+/// Packed items with the same marks are the same: ticks side by side at one place are one run, and
+/// no run is empty.
+pub fn packed_once<H>()
+    ensures { PackedOnce H }
 {}
 
 /// Holes are filled part by part.
 pub fn fill_laws<H, K>()
     ensures { FillLaws H K }
+{}
+
+/// What passed a cut of a trace with holes, and its end, give the cut at all limits that are no
+/// higher, whatever fills the holes and whatever follows.
+pub fn cut_serves<H, K>()
+    ensures { CutServes H K }
+{}
+
+/// What is recorded of two traces is the same where their cuts are.
+pub fn cuts_tell_same<H>()
+    ensures { CutsTellSame H }
+{}
+
+/// Holes are numbered before or after the cut.
+pub fn numbered_laws<H>()
+    ensures { NumberedLaws H }
 {}

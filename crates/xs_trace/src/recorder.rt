@@ -6,6 +6,7 @@ ghost use Rattle.xs_trace.specs.Play.{IsStep, ticked, ticked_by, put, put_at, sa
 ghost use Rattle.xs_trace.specs.declared.recorder.Halt.TheVariants.{NoMemory};
 
 use crate::event::{Event, Fragment, text_ticks};
+use crate::fault::Fault;
 use crate::item::Site;
 use crate::text::TextBuf;
 use std::alloc::{AllocError, AllocFailed};
@@ -13,8 +14,8 @@ use std::alloc::{AllocError, AllocFailed};
 /// How a run ends that does not finish.
 #[derive(Clone, Copy, PartialEq, Eq, Debug)]
 pub enum Halt {
-    /// In a fault, by its number, at an instruction.
-    Fault(u8, Site),
+    /// In a fault, at an instruction.
+    Fault(Fault, Site),
     /// At an instruction that needs a global variable, by its number, that has no value yet.
     Needs(u32, Site),
     /// At a tick past the limit.

@@ -1,24 +1,26 @@
 //! Totals of ticks that several runs share.
-ghost use Rattle.std.specs.Prelude.{◌≡◌, ℕ, ◌+◌, ◌≤◌, ◌^◌, Option, Some, None};
-ghost use Rattle.xs_trace.specs.Play.{number};
-ghost use Rattle.xs_trace.specs.Total.{over, IsOpen, IsPaid, ended_in, total_of};
+ghost use Rattle.std.specs.Prelude.{◌≡◌, ℕ, ◌+◌, ◌≤◌, ◌^◌};
+ghost use Rattle.xs_trace.specs.Total.{over};
 
-use crate::item::Ended;
-use crate::recorder::Halt;
-
-/// A run's share in a total. No addition comes after one that was answered with more than the most.
+/// A share in a total. No addition follows one that was answered with more than the most.
 pub trait Total {
+    /// What no addition changes.
+    ghost Kept: { Type 0 };
+
+    /// That, of this one.
+    ghost kept: { Self → Self.Kept };
+
     /// The most that the total may come to.
     ghost most: { Self → ℕ };
-
-    /// What others had added when this share was made.
-    ghost others: { Self → ℕ };
 
     /// What was added through this share.
     ghost added: { Self → ℕ };
 
-    /// The total that the last addition was answered with.
-    ghost last: { Self → Option ℕ };
+    /// The total that the last addition was answered with; 0 where there was none.
+    ghost last: { Self → ℕ };
+
+    /// The total that the addition before the last one was answered with; 0 where there was none.
+    ghost before: { Self → ℕ };
 
     /// The most that the total may come to.
     fn limit(&self) -> u64
@@ -31,63 +33,38 @@ pub trait Total {
     /// Adds ticks to the total, and answers what it came to.
     fn add(&mut self, count: u64) -> u64
         requires few { count ≤ 1024 }
-        requires open { over (most self.old) (last self.old) ≡ None }
+        requires open { last self.old ≤ most self.old }
+        ensures kept { Self.kept self.new ≡ Self.kept self.old }
         ensures most { most self.new ≡ most self.old }
-        ensures others { others self.new ≡ others self.old }
         ensures added { added self.new ≡ added self.old + count }
-        ensures last { last self.new ≡ Some result }
-        ensures grows { number (last self.old) + count ≤ result }
-        ensures covers { others self.new + added self.new ≤ result };
-}
+        ensures last { last self.new ≡ result }
+        ensures before { before self.new ≡ last self.old }
+        ensures grows { last self.old + count ≤ result };
 
-/// Adds ticks, and ends the run where the total is above the most.
-pub fn pay<T: Total>(total: &mut T, count: u64) -> Result<(), Halt>
-    requires few { count ≤ 1024 }
-    requires open { over (T.most total.old) (T.last total.old) ≡ None }
-    ensures most { T.most total.new ≡ T.most total.old }
-    ensures others { T.others total.new ≡ T.others total.old }
-    ensures added { T.added total.new ≡ T.added total.old + count }
-    ensures paid { IsPaid (T.most total.old) (T.last total.old) result (T.last total.new) }
-{
-    let limit = total.limit();
-    let sum = total.add(count);
-    if sum > limit {
-        return Err(Halt::Over { total: sum });
-    }
-    Ok(())
-}
+    /// What was added is in the last answer.
+    ghost seen: { (t : Self) → added t ≤ last t };
 
-/// Adds what is due at the end of a run, and answers how it ended.
-pub fn settle<T: Total>(total: &mut T, due: u64, ended: Ended) -> Ended
-    requires few { due ≤ 1024 }
-    requires open { IsOpen (T.most total.old) (T.last total.old) due }
-    ensures most { T.most total.new ≡ T.most total.old }
-    ensures others { T.others total.new ≡ T.others total.old }
-    ensures added { T.added total.new ≡ T.added total.old + due }
-    ensures stays { (t : ℕ) →
-        over (T.most total.old) (T.last total.old) ≡ Some t →
-        over (T.most total.old) (T.last total.new) ≡ Some t }
-    ensures ended { result ≡ ended_in (over (T.most total.old) (T.last total.new)) ended }
-{
-    if due > 0 {
-        let _sum = total.add(due);
-    }
-    match total.above() {
-        Some(total) => Ended::Over { total },
-        None => ended,
-    }
+    /// Every addition but the last one was answered with at most the most: answers grow, and the one
+    /// before the last is within it.
+    ghost within: { (t : Self) → before t ≤ most t };
 }
 
 /// A total to which nobody else adds while this run lasts.
 #[derive(Clone, Copy, Debug)]
 pub struct LocalTotal {
     most: u64,
-    // What others had added before, and what this run added, if it did.
+    // What others had added before, and what this run has.
     others: u64,
-    added: Option<u64>,
+    added: u64,
+    // The last two answers.
+    last: u64,
+    before: u64,
     ghost most_bounded: { most ≤ 2 ^ 40 },
     ghost others_bounded: { others ≤ 2 ^ 40 },
-    ghost added_bounded: { number added ≤ 2 ^ 41 },
+    ghost last_bounded: { last ≤ 2 ^ 42 },
+    pub ghost exact: { last ≤ others + added },
+    pub ghost seen: { added ≤ last },
+    pub ghost within: { before ≤ most },
 }
 
 impl LocalTotal {
@@ -95,64 +72,57 @@ impl LocalTotal {
     pub fn new(most: u64, others: u64) -> LocalTotal
         requires most { most ≤ 2 ^ 40 }
         requires others { others ≤ 2 ^ 40 }
+        ensures kept { ⟦<LocalTotal as Total>⟧.kept result ≡ others }
         ensures most { ⟦<LocalTotal as Total>⟧.most result ≡ most }
-        ensures others { ⟦<LocalTotal as Total>⟧.others result ≡ others }
         ensures added { ⟦<LocalTotal as Total>⟧.added result ≡ 0 }
-        ensures last { ⟦<LocalTotal as Total>⟧.last result ≡ None }
+        ensures last { ⟦<LocalTotal as Total>⟧.last result ≡ 0 }
     {
         LocalTotal {
             most,
             others,
-            added: None,
+            added: 0,
+            last: 0,
+            before: 0,
         }
     }
 }
 
 impl Total for LocalTotal {
+    ghost Kept = { ℕ };
+
+    ghost kept = { λ t. t.others };
+
     ghost most = { λ t. t.most };
 
-    ghost others = { λ t. t.others };
+    ghost added = { λ t. t.added };
 
-    ghost added = { λ t. number t.added };
+    ghost last = { λ t. t.last };
 
-    ghost last = { λ t. total_of t.others t.added };
+    ghost before = { λ t. t.before };
+
+    ghost seen = { λ t. t.seen };
+
+    ghost within = { λ t. t.within };
 
     /// As made.
     fn limit(&self) -> u64 {
         self.most
     }
 
-    /// The sum of all, where this run added.
+    /// The last answer.
     fn above(&self) -> Option<u64> {
-        match self.added {
-            Some(added) => above_most(self.most, self.others + added),
-            None => None,
+        if self.last > self.most {
+            Some(self.last)
+        } else {
+            None
         }
     }
 
-    /// Adds to what this run added.
+    /// The sum of what all have added.
     fn add(&mut self, count: u64) -> u64 {
-        let added = before(self.most, self.others, self.added) + count;
-        self.added = Some(added);
-        self.others + added
-    }
-}
-
-/// A total, if it is above the most.
-fn above_most(most: u64, sum: u64) -> Option<u64>
-    ensures above { result ≡ over most (Some sum) }
-{
-    if sum > most { Some(sum) } else { None }
-}
-
-/// What was added so far, where the total is not above the most.
-fn before(most: u64, others: u64, added: Option<u64>) -> u64
-    requires open { over most (total_of others added) ≡ None }
-    ensures sum { result ≡ number added }
-    ensures bounded { result ≤ most }
-{
-    match added {
-        Some(added) => added,
-        None => 0,
+        self.before = self.last;
+        self.added += count;
+        self.last = self.others + self.added;
+        self.last
     }
 }

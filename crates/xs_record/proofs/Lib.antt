@@ -1,0 +1,6 @@
+pub mod BlockLemmas
+pub mod StoreLemmas
+pub mod BriefLemmas
+pub mod SectionLemmas
+pub mod OutcomeLemmas
+pub mod PieceLemmas

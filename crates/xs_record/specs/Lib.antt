@@ -1,0 +1,4 @@
+pub mod Store
+pub mod Paying
+pub mod Outcome
+pub mod Piece
