@@ -4,7 +4,7 @@ use Rattle.std.specs.List.{All}
 use Rattle.std.proofs.lemmas.List.Elements.{All-head, All-tail}
 use Rattle.xs_sheet.specs.declared.body.Binding.{Binding}
 use Rattle.xs_sheet.specs.Sets.{is_same_label}
-use Rattle.xs_trace.specs.declared.event.Label.{Label}
+use Rattle.xs_trace.specs.Label.{Label}
 use Rattle.xs_value.specs.declared.value.Value.{Value}
 use Rattle.xs_body.specs.Tasks.{Params, last_passed, value_passed}
 

@@ -14,7 +14,7 @@ use Rattle.xs_trace.specs.Cut.{Cut, End, Whole, Fault, Needs, Spent, Full, cut}
 use Rattle.xs_trace.specs.Kept.{spot}
 use Rattle.xs_trace.specs.Mark.{Trace, events_of, messages_of, tick_count}
 use Rattle.xs_trace.specs.Run.{Answer, Gives, Faults, Lacks}
-use Rattle.xs_trace.specs.declared.event.Label.{Label}
+use Rattle.xs_trace.specs.Label.{Label}
 use Rattle.xs_trace.specs.declared.item.Site.{Site}
 use Rattle.xs_trace.specs.declared.item.Spot.{Spot}
 use Rattle.xs_value.specs.declared.value.Value.{Value}

@@ -47,7 +47,7 @@ use Rattle.std.proofs.lemmas.List.Folds.{list_any-append}
 use Rattle.xs_static.specs.Modules.{Place, all_contents, contents, is_mentioned_by, is_same_place, is_top_level_element, mentioned, records_at, top_level}
 use Rattle.xs_static.specs.Names.{declares}
 use Rattle.xs_static.specs.Sets.{attribute_sets, is_part, named_sets, sets_of, sets_within, used_by}
-use Rattle.xs_trace.specs.declared.event.Label.{Label}
+use Rattle.xs_trace.specs.Label.{Label}
 use Rattle.xs_tree.specs.Kinds.{is_element_kind}
 use Rattle.xs_tree.specs.Record.{at, children, is_inside, places}
 use Rattle.xs_tree.specs.Shape.{IsTree}

@@ -32,7 +32,7 @@ use Rattle.xs_sheet.specs.declared.scoped.ValueTemplate.{ValueTemplate}
 use Rattle.xs_sheet.specs.declared.sheet.Sheet.{Sheet}
 use Rattle.xs_static.specs.Modules.{Place, records_at}
 use Rattle.xs_trace.proofs.KeptLemmas.{some_same}
-use Rattle.xs_trace.specs.declared.event.Label.{Label}
+use Rattle.xs_trace.specs.Label.{Label}
 use Rattle.xs_tree.specs.Record.{at}
 use Rattle.xs_declared.specs.Counted.{globals, templates}
 use Rattle.xs_declared.specs.Labels.{IsMode, mode_at}

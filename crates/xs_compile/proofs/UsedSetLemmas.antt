@@ -40,7 +40,7 @@ use Rattle.xs_static.specs.Faults.{IsFirstFault, bad_root, is_misspelled, of_for
 use Rattle.xs_static.specs.Modules.{Place, records_at}
 use Rattle.xs_static.specs.Sets.{is_part, listed, named_sets, names_in, sets_value, sets_within}
 use Rattle.xs_text.specs.Names.{QName, qname_of}
-use Rattle.xs_trace.specs.declared.event.Label.{Label}
+use Rattle.xs_trace.specs.Label.{Label}
 use Rattle.xs_tree.proofs.WalkLemmas.{IsWithin}
 use Rattle.xs_tree.specs.Kinds.{is_element_kind}
 use Rattle.xs_tree.specs.Record.{Record, at, attributes, children, is_inside, local_at, places, uri_at}

@@ -29,7 +29,7 @@ use Rattle.xs_static.specs.Expressions.{has_parse_fault, is_fault}
 use Rattle.xs_static.specs.Faults.{Fault, Holds, IsFirstFault, arg_count, bad_attribute, bad_literal, bad_root, bad_syntax, is_misspelled, is_missing, lacks_both, lacks_some, missing_attribute, not_pattern, of_form, shows, some_value, too_nested, unbound_prefix, unknown_function}
 use Rattle.xs_static.specs.Modules.{Place, records_at}
 use Rattle.xs_text.specs.Names.{QName, qname_of}
-use Rattle.xs_trace.specs.declared.event.Label.{Label}
+use Rattle.xs_trace.specs.Label.{Label}
 use Rattle.xs_tree.specs.Kinds.{is_element_kind}
 use Rattle.xs_tree.specs.Record.{Record, at, attributes, is_attribute, local_at, uri_at}
 use Rattle.xs_xpath.specs.declared.fault.Fault.{Fault as ParseFault}

@@ -35,7 +35,7 @@ use Rattle.xs_static.specs.Bindings.{is_known}
 use Rattle.xs_static.specs.Expressions.{expressions_of, has_unknown}
 use Rattle.xs_static.specs.Faults.{IsFirstFault, of_form, unknown_variable}
 use Rattle.xs_static.specs.Modules.{Place, records_at}
-use Rattle.xs_trace.specs.declared.event.Label.{Label}
+use Rattle.xs_trace.specs.Label.{Label}
 use Rattle.xs_tree.specs.Record.{Record, at, attributes, is_attribute, local_at, places, uri_at}
 use Rattle.xs_tree.specs.Shape.{IsTree}
 

@@ -30,7 +30,7 @@ use Rattle.xs_sheet.specs.declared.body.When.{When, When'}
 use Rattle.xs_sheet.specs.declared.scoped.ScopedExpr.{ScopedExpr}
 use Rattle.xs_sheet.specs.declared.scoped.ValueTemplate.{ValueTemplate}
 use Rattle.xs_static.specs.Modules.{Place, records_at}
-use Rattle.xs_trace.specs.declared.event.Label.{Label}
+use Rattle.xs_trace.specs.Label.{Label}
 use Rattle.xs_tree.specs.Record.{at, attributes, uri_at}
 use Rattle.xs_declared.specs.Counted.{template_number}
 use Rattle.xs_scopes.specs.Excluded.{copied_spaces}

@@ -3,7 +3,7 @@ use Rattle.std.proofs.Common.{◌≡◌, ◌∙◌, ap, append_assoc, refl, sym,
 use Rattle.std.specs.List.{filter_map}
 use Rattle.std.specs.Option.{option_to_list}
 use Rattle.xs_declared.specs.Labels.{label_in}
-use Rattle.xs_trace.specs.declared.event.Label.{Label}
+use Rattle.xs_trace.specs.Label.{Label}
 
 first-of : (f : List ℕ → Option Label) (word : List ℕ) (more : List (List ℕ)) (o : Option Label) → f word ≡ o
     → filter_map f (word ∷ more) ≡ option_to_list o ++ filter_map f more

@@ -7,7 +7,7 @@ use Rattle.xs_elements.specs.Nodes.{Name, expanded, is_same_name}
 use Rattle.xs_elements.specs.WhiteSpace.{words}
 use Rattle.xs_static.specs.Modules.{Place}
 use Rattle.xs_text.specs.Names.{QName, qname_of}
-use Rattle.xs_trace.specs.declared.event.Label.{Label}
+use Rattle.xs_trace.specs.Label.{Label}
 use Rattle.xs_tree.specs.Record.{Record, uri_at, local_at, prefix_at}
 use Rattle.xs_xpath.specs.Names.{uri_of}
 use Rattle.xs_declared.specs.Parts.{pairs_at, value_at}

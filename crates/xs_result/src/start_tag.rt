@@ -4,7 +4,7 @@ ghost use Rattle.std.specs.Prelude.{◌≡◌, ◌++◌, ◌∷◌, [], IfOk, No
 ghost use Rattle.xs_result.specs.steps.Building.{is_open};
 ghost use Rattle.xs_result.specs.steps.Places.{is_attribute, is_named, place_of, revalued};
 ghost use Rattle.xs_result.specs.steps.Places.{with_attribute};
-ghost use Rattle.xs_trace.specs.declared.event.Label.{Label};
+ghost use Rattle.xs_trace.specs.Label.{Label};
 
 use indexmap::IndexMap;
 use std::alloc::{AllocError, Global};

@@ -2,7 +2,7 @@
 use Rattle.std.specs.Prelude.{ℕ, zero, suc, ◌&&◌, not, Bool, List, [], ◌++◌, length, filter}
 use Rattle.std.specs.List.{flat_map, list_any}
 use Rattle.std.specs.Str.{bytes_eq}
-use Rattle.xs_trace.specs.declared.event.Label.{Label}
+use Rattle.xs_trace.specs.Label.{Label}
 use Rattle.xs_sheet.specs.declared.body.Body.{Body, Body', Row_of-Instr, end_of-Instr, more_of-Instr}
 use Rattle.xs_sheet.specs.declared.body.Choice.{Choice, Choice', Row_of-When, end_of-When, more_of-When}
 use Rattle.xs_sheet.specs.declared.body.Content.{Content}

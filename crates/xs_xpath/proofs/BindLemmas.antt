@@ -5,7 +5,7 @@ use Rattle.std.proofs.Math.ListN.{set}
 use Rattle.std.proofs.lemmas.List.{append-nil, map-set, length-map, get_or-map, take_all, drop_all}
 use Rattle.std.proofs.lemmas.List.Edits.{map_over_more}
 use Rattle.std.specs.Str.{bytes_eq}
-use Rattle.xs_trace.specs.declared.event.Label.{Label}
+use Rattle.xs_trace.specs.Label.{Label}
 use Rattle.xs_xpath.specs.declared.expr.Expr.{Expr}
 use Rattle.xs_xpath.specs.declared.name.Slot.{Slot}
 use Rattle.xs_xpath.specs.Binding.{bound, bounds, slot_in}

@@ -2,7 +2,7 @@
 use Rattle.std.specs.Prelude.{ℕ, ◌&&◌, if◌then◌else◌, List, [], ◌∷◌, Option, Some, None}
 use Rattle.std.specs.HashMap.{get_by}
 use Rattle.std.specs.Str.{bytes_eq}
-use Rattle.xs_trace.specs.declared.event.Label.{Label}
+use Rattle.xs_trace.specs.Label.{Label}
 use Rattle.xs_xpath.specs.declared.bind.Slots.{Slots}
 use Rattle.xs_xpath.specs.declared.name.Slot.{Slot}
 use Rattle.xs_xpath.specs.Names.{or_else}
