@@ -167,7 +167,7 @@ fn evaluate_chain<K: KeyFinder, T: Tally>(
     }
 }
 
-// A left operand, joined with each operand behind it.
+// A left operand, joined with each operand after it.
 #[cycle(evaluate)]
 fn join_all<K: KeyFinder, T: Tally>(
     alloc: Global,

@@ -64,7 +64,7 @@ abbrev pub pending : Site → ℕ → List Item
 pending p zero = []
 pending p (suc n) = item.Run p.«module» p.line (suc n) ∷ []
 
--- Items behind which so many ticks at a place may stand, and where there are none yet, any ticks.
+-- Items after which so many ticks at a place may stand, and where there are none yet, any ticks.
 abbrev pub TakesRun : List Item → Site → ℕ → Type 0
 TakesRun is p zero = (q : Site) → IsPacked (is ++ pending q 1)
 TakesRun is p (suc n) = IsPacked (is ++ pending p (suc n))

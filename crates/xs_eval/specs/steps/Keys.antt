@@ -27,7 +27,7 @@ abbrev pub FindsNodes : Context → Table → List (List ℕ) → Result (List �
 FindsNodes c t texts (Ok ns) = (t.fault ≡ None) × (ns ≡ found c t texts)
 FindsNodes c t texts (Err e) = HasFault t e
 
--- for a text, behind others
+-- for a text, after others
 abbrev pub AddsNodes : Context → Table → List ℕ → List ℕ → Result (List ℕ) KeyEnd → Type 0
 AddsNodes c t text before (Ok ns) = (t.fault ≡ None) × (ns ≡ before ++ found_for c t text)
 AddsNodes c t text before (Err e) = HasFault t e
