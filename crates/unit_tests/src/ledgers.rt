@@ -1,15 +1,12 @@
-//! Ledgers: shares that add in turn, a share as a total, two threads that add at once, refused
-//! memory.
+//! Ledgers: shares that add in turn, two threads that add at once, refused memory.
 
-ghost use Rattle.std.specs.Prelude.{◌≡◌, ◌≤◌, IfOk};
-ghost use Rattle.xs_ledger.specs.Shares.{ledger_id, seats_of, share_ledger_id, IsShareOf, IsUnused};
+ghost use Rattle.std.specs.Prelude.{◌≡◌, IfOk};
+ghost use Rattle.xs_ledger.specs.Shares.{ledger_id, seats_of, IsShareOf, IsUnused};
 
 use std::alloc::{AllocError, Global};
 use std::test::Fail;
 use std::thread;
 use xs_ledger::ledger::{Ledger, Share};
-use xs_ledger::total::LedgerTotal;
-use xs_trace::total::Total;
 
 // A ledger and its two shares.
 fn ledger_for_two(alloc: Global) -> Result<(Ledger, Share, Share), AllocError>
@@ -54,33 +51,6 @@ fn answers_the_word_after_each_addition(rt: HostRuntime) -> Result<(), Fail> {
     assert_eq!(rt; ledger.add(&mut one, 10), 10);
     assert_eq!(rt; ledger.add(&mut two, 10), 20);
     assert_eq!(rt; total_of_two(rt.alloc(), ledger, one, two)?, 20);
-    Ok(())
-}
-
-// One addition, unless the last answer was above the limit.
-fn add_within(total: &mut LedgerTotal<'_>, count: u64) -> Option<u64>
-    requires few { count ≤ 1024 }
-    ensures ledger { share_ledger_id total.new.share ≡ share_ledger_id total.old.share }
-{
-    match total.above() {
-        Some(_) => None,
-        None => Some(total.add(count)),
-    }
-}
-
-#[test]
-fn a_share_as_a_total_goes_above_its_limit_once(rt: HostRuntime) -> Result<(), Fail> {
-    let (ledger, one, mut two) = ledger_for_two(rt.alloc())?;
-    let mut total = LedgerTotal::new(&ledger, one, 1030, 0);
-    assert_eq!(rt; total.limit(), 1030);
-    assert_eq!(rt; add_within(&mut total, 1024), Some(1024));
-    assert_eq!(rt; total.above(), None);
-    assert_eq!(rt; ledger.add(&mut two, 6), 1030);
-    assert_eq!(rt; add_within(&mut total, 1), Some(1031));
-    assert_eq!(rt; total.above(), Some(1031));
-    assert_eq!(rt; add_within(&mut total, 1), None);
-    let one = total.into_share();
-    assert_eq!(rt; total_of_two(rt.alloc(), ledger, one, two)?, 1031);
     Ok(())
 }
 
