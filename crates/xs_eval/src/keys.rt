@@ -16,10 +16,10 @@ ghost use Rattle.xs_eval.specs.Conditions.{IsContext};
 
 use crate::arguments::text_at;
 use crate::context::Context;
-use crate::fault::Fault;
 use crate::names::expanded_name;
 use crate::predicates::kept_if;
 use std::alloc::{AllocError, Global};
+use xs_trace::fault::Fault;
 use xs_trace::item::Site;
 use xs_trace::recorder::{Halt, Tally, tick_several};
 use xs_tree::{Node, Tree};
@@ -51,7 +51,7 @@ pub(crate) fn find_by_key<K: KeyFinder, T: Tally>(
     let name = text_at(alloc, context.tree, values, 0)?;
     match number_of(keys, context.scope, name.as_str()) {
         Some(key) => look_up(alloc, context, keys, key, values, site, tally),
-        None => Err(Fault::NoKey.at(site)),
+        None => Err(Halt::Fault(Fault::NoKey, site)),
     }
 }
 
@@ -214,7 +214,7 @@ fn found_for_index<K: KeyFinder>(
     Ok(NodeSet::of_list(nodes)?)
 }
 
-// The nodes that a key gives for a text, of those that are in a document, behind others.
+// The nodes that a key gives for a text, of those that are in a document, after others.
 fn add_found<K: KeyFinder>(
     alloc: Global,
     context: &Context<'_>,
@@ -235,7 +235,7 @@ fn add_found<K: KeyFinder>(
     Ok(add_held(document, found.nodes(), before)?)
 }
 
-// Those nodes that are in a document, behind others.
+// Those nodes that are in a document, after others.
 fn add_held(document: &Document, found: &[Node], nodes: NodeList) -> Result<NodeList, AllocError>
     ensures nodes { IfOk result (λ ns. ns ≡ nodes ++ filter (holds document.now) found.now) }
 {
@@ -251,7 +251,7 @@ fn add_held(document: &Document, found: &[Node], nodes: NodeList) -> Result<Node
 struct Document {
     // The root.
     root: Node,
-    // The place behind the last node.
+    // The place after the last node.
     end: u32,
 }
 

@@ -1,11 +1,10 @@
-//! The evaluation of XPath 1.0: expressions over a tree, which tell their ticks to a tally.
+//! The evaluation of XPath 1.0: expressions over a tree, which report their ticks to a tally.
 #![tactic(auto)]
 
 mod arguments;
 mod calls;
 pub mod context;
 pub mod evaluate;
-pub mod fault;
 mod keys;
 mod languages;
 mod names;
@@ -15,4 +14,5 @@ mod operators;
 mod predicates;
 mod strings;
 pub mod templates;
+mod trouble;
 mod variables;

@@ -10,7 +10,7 @@ ghost use Rattle.xs_rules.specs.Ranks.{outranks};
 ghost use Rattle.xs_rules.specs.Rules.{candidate, candidates_of, rank_of};
 ghost use Rattle.xs_rules.specs.steps.Candidates.{best_before, is_matching, looks_at, passes};
 ghost use Rattle.xs_rules.specs.steps.Candidates.{rule_of_best};
-ghost use Rattle.xs_rules.specs.steps.Index.{IsTable, IsTableOf, nth_of, scope_of};
+ghost use Rattle.xs_rules.specs.steps.Index.{IsTable, IsTableOf, nth_of};
 
 use crate::choice::Rule;
 use crate::ranks::{Rank, default_priority};
@@ -54,7 +54,7 @@ impl Looked {
     }
 }
 
-/// The best rule of a template with a number, before the best one behind it.
+/// The best rule of a template with a number, before the best one after it.
 pub(crate) fn best_of_template<K: KeyFinder>(
     alloc: Global,
     number: u32,
@@ -95,7 +95,7 @@ pub(crate) fn nth_alternative(pattern: &ScopedPattern, place: usize) -> Option<&
     pattern.pattern.alternatives().get(place)
 }
 
-// The best of the alternatives of a pattern that match, before the best rule behind it.
+// The best of the alternatives of a pattern that match, before the best rule after it.
 fn best_of_pattern<K: KeyFinder>(
     alloc: Global,
     number: u32,
@@ -133,7 +133,7 @@ fn best_of_pattern<K: KeyFinder>(
     Ok(best)
 }
 
-// An alternative where it matches and is above the best rule behind it; otherwise that one.
+// An alternative where it matches and is above the best rule after it; otherwise that one.
 fn best_of_alternative<K: KeyFinder>(
     alloc: Global,
     number: u32,
@@ -149,7 +149,7 @@ fn best_of_alternative<K: KeyFinder>(
     requires node { node < length tree.now }
     requires tables { TablesIn tree.now (K.tables keys.now) }
     requires table { IfSome table (λ t. IsTable tree.now
-        (scope_of pattern.now) (tree_from alternative.now) t.now) }
+        pattern.now.scope (tree_from alternative.now) t.now) }
     ensures best { IfOk result (λ found. found
         ≡ best_before (is_matching (K.tables keys.now) tree.now node)
         (candidate number template.now pattern.now (tree_from alternative.now) ∷ []) best) }
@@ -158,7 +158,15 @@ fn best_of_alternative<K: KeyFinder>(
     if !is_above(rank, best) {
         return Ok(best);
     }
-    if matches_by(alloc, alternative, pattern.scope.scope(), tree, node, keys, table)? {
+    if matches_by(
+        alloc,
+        alternative,
+        pattern.scope.scope(),
+        tree,
+        node,
+        keys,
+        table,
+    )? {
         return Ok(Some(Best {
             template: number,
             rank,
@@ -167,7 +175,7 @@ fn best_of_alternative<K: KeyFinder>(
     Ok(best)
 }
 
-// Whether there is no rule behind, or one that is outranked.
+// Whether there is no later rule, or one that is outranked.
 fn is_above(rank: Rank, best: Option<Best>) -> bool
     ensures { result ≡ option_map_or (λ b. outranks rank b.rank) best true }
 {
@@ -202,7 +210,7 @@ pub(crate) fn rule_of_best(best: Option<Best>) -> Rule
     }
 }
 
-/// The rule of one of a template's alternatives, by its number, before the best one behind it.
+/// The rule of one of a template's alternatives, by its number, before the best one after it.
 pub(crate) fn best_of_nth<K: KeyFinder>(
     alloc: Global,
     number: u32,
@@ -247,7 +255,7 @@ pub(crate) fn best_of_nth<K: KeyFinder>(
     }
 }
 
-// An alternative where it is looked at, is of the mode, matches, and is above the best rule behind
+// An alternative where it is looked at, is of the mode, matches, and is above the best rule after
 // it; otherwise that one.
 fn best_of_rule<K: KeyFinder>(
     alloc: Global,
@@ -266,7 +274,7 @@ fn best_of_rule<K: KeyFinder>(
     requires node { node < length tree.now }
     requires tables { TablesIn tree.now (K.tables keys.now) }
     requires table { IfSome table (λ t. IsTable tree.now
-        (scope_of pattern.now) (tree_from alternative.now) t.now) }
+        pattern.now.scope (tree_from alternative.now) t.now) }
     ensures best { IfOk result (λ found. found
         ≡ best_before (passes looked (K.tables keys.now) tree.now mode node)
         (candidate number template.now pattern.now (tree_from alternative.now) ∷ []) best) }

@@ -115,7 +115,7 @@ pub record IsIndexed (ts : List Template) (cs : List Candidate) (entries : List 
   pub previous : (i : ℕ) (e : Entry) → slice_get entries i ≡ Some e → e.previous ≡ last_below (has_key (map key_of cs) (key_at (map key_of cs) i)) i
   pub last_is : (q : Key) → found q ≡ last_below (has_key (map key_of cs) q) (length cs)
 
--- the later of two places, and a place's chain behind one that was passed
+-- the later of two places, and a place's chain after one that was passed
 abbrev pub later : Option ℕ → Option ℕ → Option ℕ
 later None b = b
 later (Some i) None = Some i
@@ -135,9 +135,6 @@ table_at tables place = option_and_then (λ o. o) (slice_get tables place)
 abbrev pub IsTable : List Record → (scope : List (List ℕ × List ℕ)) → Tree → RuleTable → Type 0
 IsTable rs scope e (Above t) = IsAbove rs e t.items
 IsTable rs scope e (Matches t) = AreMarks rs scope e t.items
-
-abbrev pub scope_of : ScopedPattern → List (List ℕ × List ℕ)
-scope_of p = p.scope
 
 -- a table, if there is one, is that of a rule's alternative
 abbrev pub IsTableOf : List Record → Option Candidate → Option RuleTable → Type 0
