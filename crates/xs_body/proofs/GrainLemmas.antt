@@ -5,6 +5,7 @@ use Rattle.xs_sheet.specs.declared.body.Body.{Body}
 use Rattle.xs_trace.specs.Fill.{fill, tasks_of}
 use Rattle.xs_trace.specs.Mark.{Tick, Put, Say, Stop, Need, Hole, Trace, ◌⨾◌, without_puts, events_of, captured}
 use Rattle.xs_trace.specs.declared.event.Event.{Event}
+use Rattle.xs_trace.specs.declared.fault.Fault.{Fault}
 use Rattle.xs_trace.specs.declared.item.Site.{Site}
 use Rattle.xs_trace.proofs.CutLemmas.{then-assoc, then-nil}
 use Rattle.xs_trace.proofs.FillLemmas.{fill-laws}
@@ -121,7 +122,7 @@ module _ (f : Task → Trace Task) where
   says-fill true t = (refl, tt)
   says-fill false t = refl
 
-  stops-fill : (b : Bool) (n : ℕ) (p : Site) → Fills f b (Stop n p ∷ []) (Stop n p ∷ [])
+  stops-fill : (b : Bool) (n : Fault) (p : Site) → Fills f b (Stop n p ∷ []) (Stop n p ∷ [])
   stops-fill true n p = (refl, tt)
   stops-fill false n p = refl
 

@@ -3,6 +3,7 @@ use Rattle.std.specs.Prelude.{◌≡◌, ℕ, List, Option, Some, None}
 use Rattle.xs_trace.specs.Cut.{Cut, End, Whole, Fault, Needs, Spent, Full}
 use Rattle.xs_trace.specs.Kept.{spot}
 use Rattle.xs_trace.specs.Mark.{Trace, messages_of, tick_count}
+use Rattle.xs_trace.specs.declared.fault.Fault.TheVariants as fault
 use Rattle.xs_trace.specs.declared.item.Spot.{Spot}
 use Rattle.xs_value.specs.declared.value.Value.{Value}
 use Rattle.xs_body.specs.Tasks.{Task}
@@ -12,12 +13,12 @@ use Rattle.xs_body.specs.declared.settling.Settled.{Settled}
 use Rattle.xs_body.specs.declared.attempts.Attempt.{Attempt}
 use Rattle.xs_body.specs.declared.attempts.Attempt.TheVariants as attempt
 
--- a fault, or a tick past the limit, which is the fault 50
+-- a fault, or a tick past the limit, which is the fault Budget
 abbrev pub EndsAt : End → Spot → Type 0
 EndsAt Whole s = ⊥
 EndsAt (Fault f p) s = s ≡ spot f p
 EndsAt (Needs g p) s = ⊥
-EndsAt (Spent p) s = s ≡ spot 50 p
+EndsAt (Spent p) s = s ≡ spot fault.Budget p
 EndsAt (Full p) s = ⊥
 
 -- the messages and the ticks that passed a cut
