@@ -6,7 +6,7 @@ use Rattle.xs_trace.specs.Cut.{Cut, End, Whole, Fault, Needs, Spent, Full, cut, 
 use Rattle.xs_trace.specs.Keeping.{IsCutAt}
 use Rattle.xs_trace.specs.Kept.{item_marks, marks_of, spot}
 use Rattle.xs_trace.specs.Mark.{Trace, messages_of, tick_count, ticks, untimed}
-use Rattle.xs_trace.specs.Play.{Step, Goes, Ends, Told, goes, and_then, IsStep, IsOver, Before, play}
+use Rattle.xs_trace.specs.Play.{Step, Goes, Ends, Told, goes, and_then, IsStep, play}
 use Rattle.xs_trace.specs.PlayLaws.{begun}
 use Rattle.xs_trace.specs.State.{State, Log, Untimed}
 use Rattle.xs_trace.specs.declared.event.Event.{Event}

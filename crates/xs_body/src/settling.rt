@@ -397,6 +397,13 @@ fn attempt_over<K: KeyFinder>(
         (slice_get world.now.sheet.globals global))) }
     ensures inside { IfOk result (IsAttemptIn world.now.tree) }
 {
-    let runner = SheetRunner::new(world.sheet, world.index, world.tree, world.keys, values);
+    let runner = SheetRunner::new(
+        world.sheet,
+        world.index,
+        world.tree,
+        world.keys,
+        values,
+        None,
+    );
     runner.attempt(alloc, global, limit)
 }
