@@ -191,7 +191,8 @@ one-marks p e =
 pub whole-run : (x : Trace Task) (l : Limits) (o : Outcome) → HasNoHole x → IsOutcome x l o → IsWholeRun (cut x l.ticks l.events) o
 whole-run x l o none h =
     let c : Cut Task = cut x l.ticks l.events in
-    let n : cut (numbered 0 x) l.ticks l.events ≡ record { passed = numbered 0 c.passed; end = c.end } = (numbered-laws Task).cuts x nowhere l.ticks l.events 0 in
+    let n : cut (numbered 0 x) l.ticks l.events ≡ record { passed = numbered 0 c.passed; end = c.end }
+    = (numbered-laws Task).cuts x nowhere l.ticks l.events 0 in
     let m : part_marks o.parts.items ≡ numbered 0 c.passed = h.marks ∙ ap (λ (z : Cut ℕ). z.passed) n in
     let some : HasNoHole c.passed = none-cut x none nowhere l.ticks l.events in
     let one : IsOne o.parts.items = parts-one 0 o.parts.items h.parts (subst HasNoHole (sym m) (none-numbered 0 c.passed some)) in

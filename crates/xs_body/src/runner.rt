@@ -120,9 +120,9 @@ impl<'a, K: KeyFinder> SheetRunner<'a, K> {
         })
     }
 
-    /// What a task does itself, cut at the limits, with a hole for each task that it leaves. Its
-    /// ticks are added to a total, and the tasks of its holes are appended to the children. The share
-    /// in the total and the pool come back whatever the answer.
+    /// What a task does itself, cut at the limits, with a hole for each task that it leaves; these
+    /// are appended to the children. Its ticks are added to a total. The share in the total and the
+    /// pool come back whatever the answer.
     pub fn run<T: Total + Drop>(
         &self,
         alloc: Global,
