@@ -40,7 +40,7 @@ enum Reached<'a> {
 /// Whether a node matches a pattern, under the namespace declarations in scope for the pattern.
 ///
 /// A pattern has no variables, and does not call `current` (XSLT 1.0, 5.3 and 12.4). No fault is
-/// told: a predicate that ends in one is false, and a path that begins with a key that there is
+/// reported: a predicate that ends in one is false, and a path that begins with a key that there is
 /// not, or whose table has a fault, has no node.
 pub fn matches<K: KeyFinder>(
     alloc: Global,

@@ -10,7 +10,7 @@ use Rattle.xs_trace.specs.declared.item.Item.TheVariants as item
 use Rattle.xs_trace.specs.declared.item.Site.{Site}
 
 pub record Store (H : Type 0) : Type 0 where
-  -- the marks that were told
+  -- the marks that were recorded
   pub told : Trace H
   -- the events of the captures that are open, the innermost first
   pub captures : List (List Event)

@@ -34,7 +34,7 @@ steps_in (tested which preds steps) = Some (step Child which (trees preds) ∷ s
 steps_in (stepped first steps) = Some (first ∷ steps)
 steps_in (complete e) = None
 
--- the predicates and steps that stand there, if nothing stands in front of them
+-- the predicates and steps that stand there, if nothing stands before them
 abbrev pub tail_in : Ahead → Option (List Tree × List Tree)
 tail_in (tail preds steps) = Some (preds, steps)
 tail_in _ = None

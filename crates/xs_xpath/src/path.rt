@@ -66,7 +66,7 @@ fn steps_in(ahead: Ahead) -> Result<Option<Vec<Expr>>, AllocError>
     }
 }
 
-/// The predicates and steps that stand there, if nothing stands in front of them.
+/// The predicates and steps that stand there, if nothing stands before them.
 fn tail_in(ahead: Ahead) -> Option<(Vec<Expr>, Vec<Expr>)>
     ensures tail { option_map tail_of result ≡ tail_in (ahead_of ahead) }
 {
@@ -171,7 +171,7 @@ fn with_dots(alloc: Global, axis: Axis, ahead: Ahead) -> Option<Ahead>
     }
 }
 
-/// With a slash in front of steps.
+/// With a slash before steps.
 fn behind_slash(alloc: Global, ahead: Ahead) -> Result<Option<Ahead>, AllocError>
     ensures ahead { IfOk result (λ r. option_map ahead_of r ≡ behind_slash (ahead_of ahead)) }
 {

@@ -17,7 +17,7 @@ holds d k = nat_le d.root k && nat_lt k d.end
 abbrev pub IsDocumentOf : List Record → ℕ → Document → Type 0
 IsDocumentOf rs n d = (k : ℕ) → k < length rs → is_same_document rs n k ≡ holds d k
 
--- why a table gives no nodes: its fault, or want of memory
+-- why a table gives no nodes: its fault, or out of memory
 abbrev pub HasFault : Table → KeyEnd → Type 0
 HasFault t (Fault f) = t.fault ≡ Some f
 HasFault t NoMemory = Unit {0}
