@@ -158,7 +158,15 @@ fn best_of_alternative<K: KeyFinder>(
     if !is_above(rank, best) {
         return Ok(best);
     }
-    if matches_by(alloc, alternative, pattern.scope.scope(), tree, node, keys, table)? {
+    if matches_by(
+        alloc,
+        alternative,
+        pattern.scope.scope(),
+        tree,
+        node,
+        keys,
+        table,
+    )? {
         return Ok(Some(Best {
             template: number,
             rank,
