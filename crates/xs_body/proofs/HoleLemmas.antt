@@ -146,18 +146,18 @@ without_holes (Stop f p ∷ x) = Stop f p ∷ without_holes x
 without_holes (Need g p ∷ x) = Need g p ∷ without_holes x
 without_holes (Hole k ∷ x) = without_holes x
 
-ticks-stay : {H K : Type 0} (p : Site) (n : ℕ) (x : Trace H) → without_holes {H = H} {K = K} (ticks p n [] ++ x) ≡ ticks p n [] ++ without_holes x
-ticks-stay p zero x = refl
-ticks-stay p (suc n) x = ap (λ y. Tick p ∷ y) (ticks-stay p n x)
+ticks-stay : (H K : Type 0) (p : Site) (n : ℕ) (x : Trace H) → without_holes {H = H} {K = K} (ticks p n [] ++ x) ≡ ticks p n [] ++ without_holes x
+ticks-stay H K p zero x = refl
+ticks-stay H K p (suc n) x = ap (λ y. Tick p ∷ y) (ticks-stay H K p n x)
 
-item-stays : {H K : Type 0} (i : Item) (x : Trace H) → without_holes {H = H} {K = K} (item_marks i ++ x) ≡ item_marks i ++ without_holes x
-item-stays (item.Run m l n) x = ticks-stay (record { «module» = m; line = l }) n x
-item-stays (item.Put e) x = refl
-item-stays (item.Say t) x = refl
+item-stays : (H K : Type 0) (i : Item) (x : Trace H) → without_holes {H = H} {K = K} (item_marks i ++ x) ≡ item_marks i ++ without_holes x
+item-stays H K (item.Run m l n) x = ticks-stay H K (record { «module» = m; line = l }) n x
+item-stays H K (item.Put e) x = refl
+item-stays H K (item.Say t) x = refl
 
-items-stay : {H K : Type 0} (is : List Item) → without_holes {H = H} {K = K} (marks_of is) ≡ marks_of is
-items-stay [] = refl
-items-stay {H} {K} (i ∷ is) = item-stays i (marks_of is) ∙ ap (λ x. item_marks i ++ x) (items-stay {H} {K} is)
+items-stay : (H K : Type 0) (is : List Item) → without_holes {H = H} {K = K} (marks_of is) ≡ marks_of is
+items-stay H K [] = refl
+items-stay H K (i ∷ is) = item-stays H K i (marks_of is) ∙ ap (λ x. item_marks i ++ x) (items-stay H K is)
 
 numbers-go : {H : Type 0} (n : ℕ) (x : Trace H) → HasNoHole x → without_holes {H = ℕ} {K = H} (numbered n x) ≡ x
 numbers-go n [] h = refl
@@ -178,7 +178,8 @@ parts-one : (n : ℕ) (ps : List Part) → AreParts n ps → HasNoHole (part_mar
 parts-one n [] h k = absurd h
 parts-one n (p ∷ []) h k = record { part = p; only = refl; hole = h.0 }
 parts-one n (p ∷ q ∷ ps) h k =
-    let a : HasNoHole (marks_of {H = ℕ} (items_of p.items) ++ hole_mark p.hole) = none-first _ (part_marks (q ∷ ps)) k in
+    let a : HasNoHole (marks_of {H = ℕ} (items_of p.items) ++ hole_mark p.hole) =
+    none-first (marks_of {H = ℕ} (items_of p.items) ++ hole_mark p.hole) (part_marks (q ∷ ps)) k in
     let b : HasNoHole (hole_mark p.hole) = none-last (marks_of (items_of p.items)) (hole_mark p.hole) a in
     absurd (subst (λ (o : Option ℕ). HasNoHole (hole_mark o)) h.0 b)
 
@@ -201,7 +202,7 @@ whole-run x l o none h =
     record {
       part = one.part;
       only = one.only;
-      marks = sym (items-stay {ℕ} {Task} is) ∙ ap (λ (y : Trace ℕ). without_holes {H = ℕ} {K = Task} y) same ∙ numbers-go 0 c.passed some;
+      marks = sym (items-stay ℕ Task is) ∙ ap (λ (y : Trace ℕ). without_holes {H = ℕ} {K = Task} y) same ∙ numbers-go 0 c.passed some;
       ended = sym (ap (λ (z : Cut ℕ). ended_by z.end) n) ∙ h.ended;
       ticks = h.ticks ∙ ap (λ (z : Cut ℕ). tick_count z.passed) n ∙ (numbered-laws Task).ticks 0 c.passed;
     }

@@ -1,11 +1,14 @@
 -- Runs, from their start.
-use Rattle.std.proofs.Common.{◌≡◌, ◌+◌, ◌≤◌, ℕ, List, Option, Some, None, Result, Ok, Err, Bool, true, false, IfOk, OnErr, refl, sym, ap, subst, ◌∙◌}
+use Rattle.std.proofs.Common.{◌≡◌, ◌+◌, ◌≤◌, ℕ, List, Option, Some, None, Result, Ok, Err, Bool, true, false, IfOk, OnOk, OnErr, refl, sym, ap, subst, ◌∙◌}
 use Rattle.std.proofs.lemmas.Bool.{true≢false}
 use Rattle.std.specs.List.{All}
 use Rattle.std.specs.Option.{IsSome, is_some}
+use Rattle.xs_block.specs.Chain.{most_blocks}
 use Rattle.xs_record.specs.Outcome.{IsOutcome, part_blocks}
 use Rattle.xs_record.specs.Piece.{EndsBy, IsPiece, IsPieceOf, Paid, started}
 use Rattle.xs_record.specs.declared.outcome.Outcome.{Outcome}
+use Rattle.xs_record.proofs.PieceLemmas.{of-ok}
+use Rattle.xs_trace.specs.Cut.{cut}
 use Rattle.xs_trace.specs.Kept.{NeedsNone}
 use Rattle.xs_trace.specs.Mark.{Trace}
 use Rattle.xs_trace.specs.Play.{IsStep, play}
@@ -15,10 +18,12 @@ use Rattle.xs_trace.specs.declared.item.Limits.{Limits}
 use Rattle.xs_trace.specs.declared.recorder.Halt.{Halt}
 use Rattle.xs_trace.proofs.KeptLemmas.{need-comes-from-need}
 use Rattle.xs_body.specs.Inside.{IsWorld}
+use Rattle.xs_body.specs.Results.{IsWholeRun}
 use Rattle.xs_body.specs.Tasks.{Task}
 use Rattle.xs_body.specs.Trace.{task_trace}
 use Rattle.xs_body.specs.World.{World, with_grain}
 use Rattle.xs_body.specs.steps.Runs.{is_over}
+use Rattle.xs_body.proofs.HoleLemmas.{task-alone, whole-run}
 use Rattle.xs_body.proofs.NeedLemmas.{settled-needs, task-needs}
 
 -- where there is no grain
@@ -41,13 +46,14 @@ abbrev pub paid_at : {K : Type 0} → Limits → K → (most before free : ℕ) 
 paid_at l total most before free = record { limits = l; total = total; most = most; all = before + l.ticks; free = free }
 
 -- a piece, from its start
-pub piece-is : {H K E : Type 0} (r : Result Outcome E) (x : Trace H) (l : Limits) (total : K) (most first before free : ℕ) (paid : Paid K)
-    (told : Result (Unit {0}) Halt) (s0 s1 : State H) (after last : ℕ) (old new : List H) → paid ≡ paid_at l total most before free →
+pub piece-is : {H K E : Type 0} (r : Result Outcome E) (x : Trace H) (l : Limits) (total : K) (most first before free : ℕ) (paid start : Paid K)
+    (told : Result (Unit {0}) Halt) (s0 s1 : State H) (after last : ℕ) (old new : List H) → paid ≡ start →
+    start ≡ paid_at l total most before free →
     s0 ≡ started l most first → IsStep (play x s0) told s1 → IfOk r (IsPieceOf paid told s1 after last old new) →
     IfOk r (IsPiece x l most before after last old new)
-piece-is {K = K} (Ok o) x l total most first before free paid told s0 s1 after last old new e b q h =
-    (subst (λ (z : Paid K). IsPieceOf z told s1 after last old new o) e h) x first before (subst (λ m. IsStep (play x m) told s1) b q) refl
-piece-is (Err f) x l total most first before free paid told s0 s1 after last old new e b q h = tt
+piece-is {K = K} (Ok o) x l total most first before free paid start told s0 s1 after last old new d e b q h =
+    (subst (λ (z : Paid K). IsPieceOf z told s1 after last old new o) (d ∙ e) h) x first before (subst (λ m. IsStep (play x m) told s1) b q) refl
+piece-is (Err f) x l total most first before free paid start told s0 s1 after last old new d e b q h = tt
 
 -- a piece that did not end in its total
 pub outcome-is : {H : Type 0} (x : Trace H) (l : Limits) (most before after last : ℕ) (old new : List H) (o : Outcome) →
@@ -57,3 +63,28 @@ outcome-is {H} x l most before after last old new o h e = by_last (over most las
     by_last : (n : Option ℕ) → EndsBy n x l old new o → IsOutcome x l o
     by_last None w = w.outcome
     by_last (Some t) w = absurd (true≢false (sym (ap is_over w.0) ∙ e))
+
+-- ---- a whole run
+
+pub whole-outcome : {E F : Type 0} (r : Result Outcome E) (q : Result Outcome F) (o : Outcome) (v w : World) (t : Task) (l : Limits)
+    (most before after last : ℕ) (old new : List Task) → v ≡ w → q ≡ Ok o → IfOk q (IsPiece (task_trace v t) l most before after last old new) →
+    IfOk r (λ z. z ≡ o) → OnOk r (is_over o.ended ≡ false) → IfOk r (IsOutcome (task_trace w t) l)
+whole-outcome (Ok z) q o v w t l most before after last old new e a h b k =
+    let piece : IsPiece (task_trace v t) l most before after last old new o = of-ok q o (IsPiece (task_trace v t) l most before after last old new) a h in
+    let outcome : IsOutcome (task_trace v t) l o = outcome-is (task_trace v t) l most before after last old new o piece k in
+    subst (λ (y : Outcome). IsOutcome (task_trace w t) l y) (sym b) (subst (λ (x : World). IsOutcome (task_trace x t) l o) e outcome)
+whole-outcome (Err f) q o v w t l most before after last old new e a h b k = tt
+
+pub whole-one : {E : Type 0} (r : Result Outcome E) (w : World) (t : Task) (l : Limits) → IfOk r (IsOutcome (task_trace (with_grain None w) t) l) →
+    IfOk r (IsWholeRun (cut (task_trace (with_grain None w) t) l.ticks l.events))
+whole-one (Ok o) w t l h = whole-run (task_trace (with_grain None w) t) l o (task-alone w t) h
+whole-one (Err f) w t l h = tt
+
+-- blocks that come back
+pub blocks-back : {E F : Type 0} (r : Result Outcome E) (q : Result Outcome F) (o : Outcome) (pool free blocks left back : ℕ) → free ≡ pool →
+    free ≤ most_blocks → blocks ≡ pool → q ≡ Ok o → IfOk q (λ z. blocks ≤ part_blocks z.parts.items + left) →
+    OnErr r ((n : ℕ) → n ≤ most_blocks → n ≤ part_blocks o.parts.items + left → n ≤ back) → OnErr r (pool ≤ back)
+blocks-back (Ok z) q o pool free blocks left back a m b e h k = tt
+blocks-back (Err f) q o pool free blocks left back a m b e h k =
+    let there : blocks ≤ part_blocks o.parts.items + left = of-ok q o (λ z. blocks ≤ part_blocks z.parts.items + left) e h in
+    k pool (subst (λ n. n ≤ most_blocks) a m) (subst (λ n. n ≤ part_blocks o.parts.items + left) b there)

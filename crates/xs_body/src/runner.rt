@@ -145,7 +145,9 @@ impl<'a, K: KeyFinder> SheetRunner<'a, K> {
             pool ≤ part_blocks o.parts.items + result.pool) }
         ensures free { OnErr result.outcome (pool ≤ result.pool) }
     {
-        let mut recorder = PieceRecorder::new(alloc, limits, total, pool);
+        let mut recorder: PieceRecorder<T, Task<'a>> = PieceRecorder::new(
+            alloc, limits, total, pool,
+        );
         let told = tell_task(alloc, &self.world, task, &mut recorder);
         recorder.finish(told, children)
     }
@@ -175,7 +177,7 @@ impl<'a, K: KeyFinder> SheetRunner<'a, K> {
         let _free = pool.free_blocks();
         let blocks = replace(pool, Pool::new(alloc));
         let total = LocalTotal::new(MOST_TICKS, 0);
-        let mut children = Vec::new(alloc);
+        let mut children: Vec<Task<'a>> = Vec::new(alloc);
         let finished = runner.run(alloc, task, limits, total, blocks, &mut children);
         *pool = finished.pool;
         unless_over(finished.outcome?, pool)

@@ -1,7 +1,6 @@
-use Rattle.std.proofs.Common.{◌≡◌, ℕ, ◌+◌, ◌≤◌, IfOk, OnErr, ap, refl, rules, subst, sym, ◌∙◌}
+use Rattle.std.proofs.Common.{◌≡◌, IfOk, refl, rules, subst, sym}
 use Rattle.std.specs.List.{All}
 use Rattle.std.specs.Option.{IsSome}
-use Rattle.xs_record.specs.Outcome.{part_blocks}
 use Rattle.xs_record.specs.Piece.{IsPiece}
 use Rattle.xs_body.specs.Inside.{IsTaskIn, IsWorld}
 use Rattle.xs_body.specs.Trace.{task_trace}
@@ -29,22 +28,12 @@ finish-requires g c =
     let all : All IsSome w.globals = subst (λ (x : World). All IsSome x.globals) (sym v) c.requires.settled in
     record { settled = task-settled w c.args.task.now _ _ c.tell_task-told.result all c.tell_task-told.ensures.told }
 
-pub returns : goal.returns
-returns g c =
+pub returns-clause-piece : goal.returns-clause-piece
+returns-clause-piece g c =
     let v : c.self.inside.world ≡ c.args.self.now = c.self.view_is in
-    let w : World = c.self.inside.world in
-    let e = c.tell_task-told.ensures.kept ∙ c.new-recorder.ensures.kept in
-    record {
-      piece = subst (λ (x : World). IfOk c.finish.result.outcome (λ o. IsPiece (task_trace x c.args.task.now) c.args.limits
-          (g.T.Total.most c.args.total) (g.T.Total.added c.args.total) (g.T.Total.added c.finish.result.total) (g.T.Total.last c.finish.result.total)
-          c.args.children.now.items c.finish.new.children.items o)) v
-          (piece-is c.finish.result.outcome (task_trace w c.args.task.now) c.args.limits (g.T.Total.kept c.args.total) (g.T.Total.most c.args.total)
-          (g.T.Total.last c.args.total) (g.T.Total.added c.args.total) c.args.pool _ c.tell_task-told.result _ _ _ _ _ _ e c.new-recorder.ensures.begins
-          c.tell_task-told.ensures.told c.finish.ensures.piece);
-      refused = c.finish.ensures.refused;
-      kept = c.finish.ensures.kept ∙ ap (λ z. z.total) e;
-      most = c.finish.ensures.most ∙ ap (λ z. z.most) e;
-      blocks = subst (λ (n : ℕ). IfOk c.finish.result.outcome (λ o. n ≤ part_blocks o.parts.items + c.finish.result.pool)) (ap (λ z. z.free) e)
-          c.finish.ensures.blocks;
-      free = subst (λ (n : ℕ). OnErr c.finish.result.outcome (n ≤ c.finish.result.pool)) (ap (λ z. z.free) e) c.finish.ensures.free;
-    }
+    subst (λ (x : World). IfOk c.finish.result.outcome (λ o. IsPiece (task_trace x c.args.task.now) c.args.limits (g.T.Total.most c.args.total)
+    (g.T.Total.added c.args.total) (g.T.Total.added c.finish.result.total) (g.T.Total.last c.finish.result.total) c.args.children.now.items
+    c.finish.new.children.items o)) v
+    (piece-is c.finish.result.outcome (task_trace c.self.inside.world c.args.task.now) c.args.limits (g.T.Total.kept c.args.total)
+    (g.T.Total.most c.args.total) (g.T.Total.last c.args.total) (g.T.Total.added c.args.total) c.args.pool _ _ c.tell_task-told.result _ _ _ _ _ _
+    c.tell_task-told.ensures.kept c.new-recorder.ensures.kept c.new-recorder.ensures.begins c.tell_task-told.ensures.told c.finish.ensures.piece)
