@@ -1,7 +1,7 @@
 -- What a function answers that has outcomes one after another.
 use Rattle.std.proofs.Common.{◌≡◌, Result, Ok, Err, sym, subst, ap, ◌∙◌}
-use Rattle.xs_eval.specs.declared.fault.Trouble.{Trouble}
-use Rattle.xs_eval.specs.declared.fault.Trouble.TheVariants as trouble
+use Rattle.xs_eval.specs.declared.trouble.Trouble.{Trouble}
+use Rattle.xs_eval.specs.declared.trouble.Trouble.TheVariants as trouble
 use Rattle.xs_eval.specs.Results.{Outcome, AnswersBy, ◌>>=◌}
 
 -- where one has no value, the whole has none

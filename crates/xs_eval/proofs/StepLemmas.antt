@@ -18,12 +18,12 @@ use Rattle.xs_value.specs.declared.value.Value.{Value}
 use Rattle.xs_value.specs.Tables.{Table}
 use Rattle.xs_xpath.specs.declared.expr.Expr.{Expr}
 use Rattle.xs_xpath.specs.declared.token.Operator.{Operator}
-use Rattle.xs_eval.specs.declared.fault.Trouble.{Trouble}
-use Rattle.xs_eval.specs.declared.fault.Trouble.TheVariants as trouble
+use Rattle.xs_eval.specs.declared.trouble.Trouble.{Trouble}
+use Rattle.xs_eval.specs.declared.trouble.Trouble.TheVariants as trouble
 use Rattle.xs_eval.specs.Context.{Context}
 use Rattle.xs_eval.specs.Evaluation.{joined, joined_from, run_of}
 use Rattle.xs_eval.specs.Paths.{Meaning}
-use Rattle.xs_eval.specs.Results.{Outcome, AnswersBy, given, number_of_fault, settled}
+use Rattle.xs_eval.specs.Results.{Outcome, AnswersBy, given, settled}
 
 -- what follows a value
 pub goes_on : {H : Type 0} → {A B : Type 0} (p : Site) (r : Run A) (f : A → Run B) (x : A) (s m : State H) → limited p r s ≡ Goes x m
@@ -75,7 +75,7 @@ continues {H} {A} w k j result s e h = subst (λ (i : Step H A). IsStepBy w i re
 pub given_settled : {H : Type 0} → {A B : Type 0} (v : B → A) (p : Site) (due : Outcome A) (r : Result B Trouble) (s : State H) → AnswersBy v due r
     → IsStepBy v (limited p (given due) s) (settled p r) s
 given_settled v p due (Ok x) s h = ap (λ d. limited p (given d) s) h ∙ gives p (v x) s
-given_settled v p due (Err (trouble.Fault f)) s h = ap (λ d. limited p (given d) s) h ∙ limited-end p (Faults (number_of_fault f)) s
+given_settled v p due (Err (trouble.Fault f)) s h = ap (λ d. limited p (given d) s) h ∙ limited-end p (Faults f) s
 given_settled v p due (Err trouble.NoMemory) s h = tt
 
 pub closes : {H : Type 0} → {A B : Type 0} (v : B → A) (p : Site) (due : Outcome A) (r : Result B Trouble) (k : Step H A) (result : Result B Halt) (s : State H)

@@ -2,6 +2,8 @@
 use Rattle.std.specs.Prelude.{ℕ, List, [], ◌∷◌, filter, map, length, position, Option, Some, None}
 use Rattle.std.specs.List.{flat_map}
 use Rattle.xs_trace.specs.Run.{Run, give, fail, costs}
+use Rattle.xs_trace.specs.declared.fault.Fault.{Fault}
+use Rattle.xs_trace.specs.declared.fault.Fault.TheVariants.{NoKey}
 use Rattle.xs_tree.specs.Axis.{is_same_document}
 use Rattle.xs_tree.specs.Record.{string_value}
 use Rattle.xs_value.specs.declared.value.Value.{Value}
@@ -11,8 +13,6 @@ use Rattle.xs_value.specs.NodeSet.{in_order}
 use Rattle.xs_value.specs.Tables.{Table, is_named, nodes_of, table_at}
 use Rattle.xs_eval.specs.Context.{Context}
 use Rattle.xs_eval.specs.Names.{ExpandedName, expanded_name}
-use Rattle.xs_eval.specs.Results.{number_of_fault}
-use Rattle.xs_eval.specs.declared.fault.Fault.TheVariants.{NoKey}
 
 -- the texts that are looked up: of a node-set the string-value of each node, of any other value its string
 abbrev pub sought : Context → Value → List (List ℕ)
@@ -31,7 +31,7 @@ abbrev pub found : Context → Table → List (List ℕ) → List ℕ
 found c t texts = in_order (flat_map (found_for c t) texts)
 
 -- the nodes of a table, a tick for each; where the table has a fault, each call has it
-abbrev pub from_table : Context → Table → Option ℕ → List (List ℕ) → Run Value
+abbrev pub from_table : Context → Table → Option Fault → List (List ℕ) → Run Value
 from_table c t None texts = let ns = found c t texts in costs (length ns) (give (Nodes ns))
 from_table c t (Some fault) texts = fail fault
 
@@ -41,7 +41,7 @@ number_of keys None = None
 number_of keys (Some name) = position (is_named name.0 name.1) keys
 
 abbrev pub looked_up : List Table → Context → Option ℕ → List (List ℕ) → Run Value
-looked_up keys c None texts = fail (number_of_fault NoKey)
+looked_up keys c None texts = fail NoKey
 looked_up keys c (Some k) texts = from_table c (table_at keys k) (table_at keys k).fault texts
 
 -- `key`

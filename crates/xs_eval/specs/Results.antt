@@ -5,22 +5,15 @@ use Rattle.xs_num.specs.declared.number.Number.{Number}
 use Rattle.xs_num.specs.declared.number.NumFault.{NumFault}
 use Rattle.xs_num.specs.declared.number.NumFault.TheVariants as number
 use Rattle.xs_trace.specs.Run.{Run, give, fail}
+use Rattle.xs_trace.specs.declared.fault.Fault.{Fault}
+use Rattle.xs_trace.specs.declared.fault.Fault.TheVariants.{Fraction, Range, NotNodes}
 use Rattle.xs_trace.specs.declared.item.Site.{Site}
 use Rattle.xs_trace.specs.declared.recorder.Halt.{Halt}
 use Rattle.xs_trace.specs.declared.recorder.Halt.TheVariants as halt
 use Rattle.xs_value.specs.declared.value.Value.{Value}
 use Rattle.xs_value.specs.declared.value.Value.TheVariants.{Bool as Boolean, Number as Numeral, Chars, Nodes, Piece}
-use Rattle.xs_eval.specs.declared.fault.Fault.{Fault}
-use Rattle.xs_eval.specs.declared.fault.Fault.TheVariants.{Fraction, Range, NotNodes, NoKey}
-use Rattle.xs_eval.specs.declared.fault.Trouble.{Trouble}
-use Rattle.xs_eval.specs.declared.fault.Trouble.TheVariants as trouble
-
--- the faults by their numbers
-abbrev pub number_of_fault : Fault → ℕ
-number_of_fault Fraction = 51
-number_of_fault Range = 52
-number_of_fault NotNodes = 53
-number_of_fault NoKey = 54
+use Rattle.xs_eval.specs.declared.trouble.Trouble.{Trouble}
+use Rattle.xs_eval.specs.declared.trouble.Trouble.TheVariants as trouble
 
 abbrev pub fault_of : NumFault → Fault
 fault_of number.Fraction = Fraction
@@ -55,7 +48,7 @@ nodes_in (Piece events) = Err NotNodes
 -- an outcome as a run, which takes no ticks
 abbrev pub given : {A : Type 0} → Outcome A → Run A
 given (Ok x) = give x
-given (Err f) = fail (number_of_fault f)
+given (Err f) = fail f
 
 -- what a function of the code answers: what is due, or that memory ran out
 abbrev pub AnswersBy : {A B : Type 0} → (B → A) → Outcome A → Result B Trouble → Type 0
@@ -68,7 +61,7 @@ Answers = AnswersBy (λ x. x)
 
 -- how a run ends in a trouble at an instruction
 abbrev pub halted : Trouble → Site → Halt
-halted (trouble.Fault f) p = halt.Fault (number_of_fault f) p
+halted (trouble.Fault f) p = halt.Fault f p
 halted trouble.NoMemory p = halt.NoMemory
 
 -- what the code answers at an instruction, of what a function of it answers

@@ -12,11 +12,12 @@ ghost use Rattle.xs_eval.specs.Results.{Answers, AnswersBy, natural, nodes_in, n
 ghost use Rattle.xs_value.specs.declared.value.Value.TheVariants.{Bool, Number, Chars, Nodes};
 
 use crate::context::Context;
-use crate::fault::{Fault, Trouble, computed};
+use crate::trouble::{Trouble, computed};
 use std::alloc::{AllocError, Global};
 use std::borrow::CowStr;
 use xs_num::number::{Num, NumFault};
 use xs_num::reading::read_num;
+use xs_trace::fault::Fault;
 use xs_trace::text::TextBuf;
 use xs_tree::{Node, Tree};
 use xs_value::conversion::{lend_text, node_text, to_bool, to_number};

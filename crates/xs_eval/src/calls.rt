@@ -16,10 +16,10 @@ ghost use Rattle.xs_eval.specs.Results.{Answers};
 
 use crate::arguments::{chars, number_at, number_or_node, single, text_at, truth_at};
 use crate::context::Context;
-use crate::fault::{Trouble, settled};
 use crate::keys::find_by_key;
 use crate::languages::is_in_language;
 use crate::names::{is_element_available, is_function_available, system_property};
+use crate::trouble::{Trouble, settled};
 use crate::{nodes, strings};
 use std::alloc::Global;
 use xs_num::number::Num;

@@ -16,10 +16,10 @@ ghost use Rattle.xs_eval.specs.Conditions.{IsContext};
 
 use crate::arguments::text_at;
 use crate::context::Context;
-use crate::fault::Fault;
 use crate::names::expanded_name;
 use crate::predicates::kept_if;
 use std::alloc::{AllocError, Global};
+use xs_trace::fault::Fault;
 use xs_trace::item::Site;
 use xs_trace::recorder::{Halt, Tally, tick_several};
 use xs_tree::{Node, Tree};
@@ -51,7 +51,7 @@ pub(crate) fn find_by_key<K: KeyFinder, T: Tally>(
     let name = text_at(alloc, context.tree, values, 0)?;
     match number_of(keys, context.scope, name.as_str()) {
         Some(key) => look_up(alloc, context, keys, key, values, site, tally),
-        None => Err(Fault::NoKey.at(site)),
+        None => Err(Halt::Fault(Fault::NoKey, site)),
     }
 }
 

@@ -15,7 +15,7 @@ ghost use Rattle.xs_eval.specs.Results.{Answers};
 
 use crate::arguments::{chars, chars_of, natural, node_or_first, nodes_at};
 use crate::context::Context;
-use crate::fault::{Trouble, computed};
+use crate::trouble::{Trouble, computed};
 use std::alloc::{AllocError, Global};
 use xs_num::arithmetic::add;
 use xs_num::number::Num;

@@ -8,10 +8,11 @@ ghost use Rattle.xs_eval.specs.Operators.{numbers, operated, union};
 ghost use Rattle.xs_eval.specs.Results.{Answers};
 
 use crate::arguments::{number_of, set_of};
-use crate::fault::{Fault, Trouble};
+use crate::trouble::Trouble;
 use std::alloc::Global;
 use xs_num::arithmetic::{add, div, mul, neg, rem, sub};
 use xs_num::number::{Num, NumFault};
+use xs_trace::fault::Fault;
 use xs_tree::Tree;
 use xs_value::comparison::{CompareOp, compare_values};
 use xs_value::conversion::to_bool;

@@ -15,7 +15,7 @@ ghost use Rattle.xs_eval.specs.Results.{Answers, AnswersBy};
 
 use crate::arguments::{chars_of, natural, number_at, number_of, text_at, text_or_node};
 use crate::context::Context;
-use crate::fault::Trouble;
+use crate::trouble::Trouble;
 use std::alloc::Global;
 use xs_num::number::Num;
 use xs_strings::{normalization, positions, searching, translation};

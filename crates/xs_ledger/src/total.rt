@@ -3,7 +3,8 @@
 ghost use Rattle.std.specs.Prelude.{◌≡◌, ◌≤◌, ◌^◌};
 ghost use Rattle.atomic_table.specs.Seated.{TableId};
 ghost use Rattle.xs_ledger.specs.Additions.{last_answer, ticks_above};
-ghost use Rattle.xs_ledger.specs.Shares.{additions, ledger_id, own, share_ledger_id, weight, IsShareOf};
+ghost use Rattle.xs_ledger.specs.Shares.{additions, ledger_id, own, share_ledger_id, weight};
+ghost use Rattle.xs_ledger.specs.Shares.{IsShareOf};
 ghost use Rattle.xs_ledger.specs.Totals.{answer_before, AreWithin};
 
 use crate::ledger::{Ledger, Share};
@@ -43,7 +44,8 @@ impl<'a> LedgerTotal<'a> {
         }
     }
 
-    /// The share, with all its additions. At most 1,024 ticks of them were answered above the limit.
+    /// The share, with all its additions. Of their ticks at most 1,024 were answered above the
+    /// limit.
     pub fn into_share(self) -> Share
         ensures share { result ≡ self.entry.share }
         ensures of_ledger { IsShareOf (ledger_id self.entry.ledger.now) result }

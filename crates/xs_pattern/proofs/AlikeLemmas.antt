@@ -185,7 +185,8 @@ module _ (keys others : List Table) where
 
   -- what is sought is any two things that find the calls
   mutual
-    without : (s t : _) → ((f : Function) → is_sought_call s f ≡ false → is_key f ≡ false) → ((f : Function) → is_sought_call t f ≡ false → is_current f ≡ false)
+    without : (s t : _) → ((f : Function) → is_sought_call s f ≡ false → is_key f ≡ false)
+        → ((f : Function) → is_sought_call t f ≡ false → is_current f ≡ false)
         → (e : Tree) → uses s e ≡ false → uses t e ≡ false → Alike (run_of_tree keys e) (run_of_tree others e)
     without s t key current (syntax.number i) k h c x y = refl
     without s t key current (syntax.literal text) k h c x y = refl

@@ -4,6 +4,7 @@ use Rattle.std.proofs.lemmas.Bool.{true≢false}
 use Rattle.std.specs.List.{enumerate_from}
 use Rattle.std.specs.Option.{option_map_or}
 use Rattle.xs_trace.specs.Run.{Answer, Gives, Faults, Lacks, Run, costs, fold, give, go_on, tick, ◌>>=◌}
+use Rattle.xs_trace.specs.declared.fault.Fault.{Fault}
 use Rattle.xs_tree.specs.declared.axes.Axis.{Axis}
 use Rattle.xs_tree.specs.declared.axes.Axis.TheVariants.{DescendantOrSelf}
 use Rattle.xs_value.specs.NodeSet.{in_order}
@@ -163,7 +164,7 @@ sought-same c n p k q j (Numeral i) = refl
 sought-same c n p k q j (Chars text) = refl
 sought-same c n p k q j (Piece events) = refl
 
-table-same : (c : Context) (n p k q j : ℕ) (t : Table) (fault : Option ℕ) (texts : List (List ℕ))
+table-same : (c : Context) (n p k q j : ℕ) (t : Table) (fault : Option Fault) (texts : List (List ℕ))
     → from_table (at_node c n p k) t fault texts ≡ from_table (at_node c n q j) t fault texts
 table-same c n p k q j t None texts = refl
 table-same c n p k q j t (Some fault) texts = refl

@@ -185,7 +185,7 @@ impl<T: Total + Drop, H: Drop> PieceRecorder<T, H> {
     }
 
     /// What a piece gave that ended so, and needed no global, after its last addition. The tasks of
-    /// its holes are appended to the children. The share and the pool come back whatever the answer.
+    /// its holes are appended to the children. The share and the pool come back in each case.
     pub fn finish(self, told: Result<(), Halt>, children: &mut Vec<H>) -> Finished<T>
         requires settled { NeedsNone told }
         ensures piece { IfOk result.outcome

@@ -10,7 +10,7 @@ ghost use Rattle.xs_rules.specs.Ranks.{outranks};
 ghost use Rattle.xs_rules.specs.Rules.{candidate, candidates_of, rank_of};
 ghost use Rattle.xs_rules.specs.steps.Candidates.{best_before, is_matching, looks_at, passes};
 ghost use Rattle.xs_rules.specs.steps.Candidates.{rule_of_best};
-ghost use Rattle.xs_rules.specs.steps.Index.{IsTable, IsTableOf, nth_of, scope_of};
+ghost use Rattle.xs_rules.specs.steps.Index.{IsTable, IsTableOf, nth_of};
 
 use crate::choice::Rule;
 use crate::ranks::{Rank, default_priority};
@@ -149,7 +149,7 @@ fn best_of_alternative<K: KeyFinder>(
     requires node { node < length tree.now }
     requires tables { TablesIn tree.now (K.tables keys.now) }
     requires table { IfSome table (λ t. IsTable tree.now
-        (scope_of pattern.now) (tree_from alternative.now) t.now) }
+        pattern.now.scope (tree_from alternative.now) t.now) }
     ensures best { IfOk result (λ found. found
         ≡ best_before (is_matching (K.tables keys.now) tree.now node)
         (candidate number template.now pattern.now (tree_from alternative.now) ∷ []) best) }
@@ -158,7 +158,15 @@ fn best_of_alternative<K: KeyFinder>(
     if !is_above(rank, best) {
         return Ok(best);
     }
-    if matches_by(alloc, alternative, pattern.scope.scope(), tree, node, keys, table)? {
+    if matches_by(
+        alloc,
+        alternative,
+        pattern.scope.scope(),
+        tree,
+        node,
+        keys,
+        table,
+    )? {
         return Ok(Some(Best {
             template: number,
             rank,
@@ -266,7 +274,7 @@ fn best_of_rule<K: KeyFinder>(
     requires node { node < length tree.now }
     requires tables { TablesIn tree.now (K.tables keys.now) }
     requires table { IfSome table (λ t. IsTable tree.now
-        (scope_of pattern.now) (tree_from alternative.now) t.now) }
+        pattern.now.scope (tree_from alternative.now) t.now) }
     ensures best { IfOk result (λ found. found
         ≡ best_before (passes looked (K.tables keys.now) tree.now mode node)
         (candidate number template.now pattern.now (tree_from alternative.now) ∷ []) best) }

@@ -60,14 +60,7 @@ impl<'a> StripIndex<'a> {
                 Ok(())
             }
             NameTest::Uri(uri) => add_uri(&mut self.uris, uri.as_str(), rule),
-            NameTest::Name(name) => {
-                add_name(
-                    &mut self.names,
-                    name.uri.as_str(),
-                    name.local.as_str(),
-                    rule,
-                )
-            }
+            NameTest::Name(name) => add_name(&mut self.names, name.uri(), name.local(), rule),
         }
     }
 

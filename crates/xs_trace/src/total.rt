@@ -44,8 +44,8 @@ pub trait Total {
     /// What was added is in the last answer.
     ghost seen: { (t : Self) → added t ≤ last t };
 
-    /// Every addition but the last one was answered with at most the most: answers grow, and the one
-    /// before the last is within it.
+    /// Every addition but the last one was answered with at most the most: answers grow, and the
+    /// one before the last is within it.
     ghost within: { (t : Self) → before t ≤ most t };
 }
 

@@ -6,6 +6,7 @@ ghost use Rattle.xs_value.specs.Keys.{Finds, found_nodes};
 ghost use Rattle.std.proofs.Common.{rules};
 
 use std::alloc::{AllocError, Global};
+use xs_trace::fault::Fault;
 use xs_tree::Node;
 
 /// The nodes that a key gives for a text, in document order.
@@ -33,7 +34,7 @@ impl Found<'_> {
 #[derive(Clone, Copy, PartialEq, Eq, Debug)]
 pub enum KeyEnd {
     /// The key's table has this fault.
-    Fault(u8),
+    Fault(Fault),
     /// Memory ran out.
     NoMemory,
 }

@@ -25,7 +25,7 @@ impl<'a> Slots<'a> {
         let mut slots = HashMap::new(alloc);
         let mut rest = entries;
         while let Some(((name, slot), behind)) = rest.split_first() {
-            slots.insert((name.uri.as_str(), name.local.as_str()), *slot)?;
+            slots.insert((name.uri(), name.local()), *slot)?;
             rest = behind;
         }
         Ok(Slots { slots })

@@ -136,9 +136,6 @@ abbrev pub IsTable : List Record → (scope : List (List ℕ × List ℕ)) → T
 IsTable rs scope e (Above t) = IsAbove rs e t.items
 IsTable rs scope e (Matches t) = AreMarks rs scope e t.items
 
-abbrev pub scope_of : ScopedPattern → List (List ℕ × List ℕ)
-scope_of p = p.scope
-
 -- a table, if there is one, is that of a rule's alternative
 abbrev pub IsTableOf : List Record → Option Candidate → Option RuleTable → Type 0
 IsTableOf rs o table = IfSome table (λ t. IfSome o (λ c. IsTable rs c.scope c.alternative t))

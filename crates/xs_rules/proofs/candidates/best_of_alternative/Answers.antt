@@ -22,8 +22,8 @@ returns-then-not-is_above g c = record {
 
 pub matches_by-requires-clause-table : goal.matches_by-requires-clause-table
 matches_by-requires-clause-table g c κs within =
-    subst (λ (ps : List (List ℕ × List ℕ)). IfSome c.args.table (λ t. IsTable c.args.tree.now ps (tree_from c.args.alternative.now) t.now)) (sym c.scope.ensures)
-    c.requires.table
+    subst (λ (ps : List (List ℕ × List ℕ)). IfSome c.args.table (λ t. IsTable c.args.tree.now ps (tree_from c.args.alternative.now) t.now))
+    (sym c.scope.ensures) c.requires.table
 
 pub returns-then-branch : goal.returns-then-branch
 returns-then-branch g c = record {

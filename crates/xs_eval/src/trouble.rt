@@ -1,40 +1,14 @@
 //! Why an evaluation has no value.
 
 ghost use Rattle.std.specs.Prelude.{◌≡◌};
-ghost use Rattle.xs_eval.specs.Results.{Answers, halted, number_of_fault, numeric, settled};
-ghost use Rattle.xs_eval.specs.declared.fault.Trouble.TheVariants.{NoMemory};
+ghost use Rattle.xs_eval.specs.Results.{Answers, halted, numeric, settled};
+ghost use Rattle.xs_eval.specs.declared.trouble.Trouble.TheVariants.{NoMemory};
 
 use std::alloc::{AllocError, AllocFailed};
 use xs_num::number::{Num, NumFault};
+use xs_trace::fault::Fault;
 use xs_trace::item::Site;
 use xs_trace::recorder::Halt;
-
-/// A fault of an expression.
-#[derive(Clone, Copy, PartialEq, Eq, Debug)]
-pub enum Fault {
-    /// A number is no whole number.
-    Fraction,
-    /// A number is too large.
-    Range,
-    /// A value is no node-set where one is needed.
-    NotNodes,
-    /// A name is that of no key.
-    NoKey,
-}
-
-impl Fault {
-    /// Its number among the faults of a run.
-    pub fn number(self) -> u8
-        ensures { result ≡ number_of_fault self }
-    {
-        match self {
-            Fault::Fraction => 51,
-            Fault::Range => 52,
-            Fault::NotNodes => 53,
-            Fault::NoKey => 54,
-        }
-    }
-}
 
 /// Why a function has no value.
 #[derive(Clone, Copy, PartialEq, Eq, Debug)]
@@ -74,22 +48,13 @@ pub(crate) fn computed(operation: Result<Num, NumFault>) -> Result<Num, Trouble>
     }
 }
 
-impl Fault {
-    /// The end of a run in this fault, at an instruction.
-    pub(crate) fn at(self, site: Site) -> Halt
-        ensures { result ≡ Halt.Fault (number_of_fault self) site }
-    {
-        Halt::Fault(self.number(), site)
-    }
-}
-
 impl Trouble {
     /// The end of a run in this trouble, at an instruction.
     pub(crate) fn at(self, site: Site) -> Halt
         ensures { result ≡ halted self site }
     {
         match self {
-            Trouble::Fault(fault) => fault.at(site),
+            Trouble::Fault(fault) => Halt::Fault(fault, site),
             Trouble::NoMemory => Halt::NoMemory,
         }
     }
