@@ -74,7 +74,7 @@ fn are_in_if(tree: &Tree, values: &[Option<Value>]) -> bool
 // Appends how an evaluation without a value ended.
 fn add_halt(out: &mut Answer, halt: Halt) -> Result<(), RowError> {
     let (kind, number) = match halt {
-        Halt::Fault(number, _) => ("fault ", u64::from(number)),
+        Halt::Fault(fault, _) => ("fault ", u64::from(fault.number())),
         Halt::Needs(global, _) => ("needs ", u64::from(global)),
         Halt::Spent(_) => {
             out.put("spent");

@@ -65,11 +65,10 @@ fn fragment(alloc: Global, lines: &str) -> Result<Value, RowError> {
 
 /// A name, without a prefix.
 pub(crate) fn label(alloc: Global, uri: &str, local: &str) -> Result<Label, AllocError> {
-    Ok(Label {
-        uri: TextBuf::of(alloc, uri)?,
-        local: TextBuf::of(alloc, local)?,
-        prefix: TextBuf::of(alloc, "")?,
-    })
+    let uri = TextBuf::of(alloc, uri)?;
+    let local = TextBuf::of(alloc, local)?;
+    let prefix = TextBuf::of(alloc, "")?;
+    Label::of(alloc, uri, local, prefix)
 }
 
 // The event of a line.

@@ -9,11 +9,10 @@ use xs_trace::text::TextBuf;
 
 /// A name without a namespace.
 fn label(alloc: Global, name: &str) -> Result<Label, AllocError> {
-    Ok(Label {
-        uri: TextBuf::of(alloc, "")?,
-        local: TextBuf::of(alloc, name)?,
-        prefix: TextBuf::of(alloc, "")?,
-    })
+    let uri = TextBuf::of(alloc, "")?;
+    let local = TextBuf::of(alloc, name)?;
+    let prefix = TextBuf::of(alloc, "")?;
+    Label::of(alloc, uri, local, prefix)
 }
 
 /// The event that a line says, in the letters of PYX lines; `:` begins a namespace node.
@@ -51,9 +50,9 @@ fn named_event(alloc: Global, name: &str, value: &str) -> Result<Event, AllocErr
 /// Adds the line that says an event.
 fn put_event(out: &mut Answer, event: &Event) {
     match event {
-        Event::Start(name) => put_named(out, "(", name.local.as_str()),
+        Event::Start(name) => put_named(out, "(", name.local()),
         Event::Attr { name, value } => {
-            put_named(out, "A", name.local.as_str());
+            put_named(out, "A", name.local());
             put_named(out, " ", value.as_str());
         }
         Event::Space { prefix, uri } => {
