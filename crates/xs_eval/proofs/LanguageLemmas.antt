@@ -80,7 +80,7 @@ pub nearest-first : (rs : List Record) (left : List ℕ) (k : ℕ) (rest : List 
 nearest-first rs left k rest a all e s h =
     first-stays (langs rs k) (flat_map (langs rs) rest) a h ∙ ap (λ (xs : List ℕ). slice_get xs 0) (sym (e ∙ ap (flat_map (langs rs)) s))
 
--- and behind one that has none
+-- and after one that has none
 pub nearest-later : (rs : List Record) (left : List ℕ) (k : ℕ) (rest all : List ℕ) → all ≡ flat_map (langs rs) left → left ≡ k ∷ rest
     → None ≡ slice_get (langs rs k) 0 → all ≡ flat_map (langs rs) rest
 nearest-later rs left k rest all e s h =

@@ -15,7 +15,7 @@ pub fails : {A B C D : Type 0} (v : C → A) (w : D → B) (due : Outcome A) (f 
 fails {A} {B} {C} {D} v w due f result y t a b h =
     subst (λ (r : Result D Trouble). AnswersBy w (due >>= f) r) (sym (a ∙ ap (λ z. Err z) b)) (fails-at v w due f t h)
 
--- behind a value comes what follows it
+-- after a value comes what follows it
 pub follows : {A B D : Type 0} (w : D → B) (due : Outcome A) (f : A → Outcome B) (x : A) (result : Result D Trouble) → due ≡ Ok x
     → AnswersBy w (f x) result → AnswersBy w (due >>= f) result
 follows {A} {B} {D} w due f x result e h = subst (λ (o : Outcome A). AnswersBy w (o >>= f) result) (sym e) h

@@ -79,7 +79,7 @@ its-position p = grind (arith, nat_tests)
 no-position : (k j : ℕ) → int_eq (negsuc k) (pos j) ≡ false
 no-position k j = grind (arith, nat_tests)
 
--- the node that is so many places behind the first one
+-- the node that is so many places after the first one
 picked-at : (k i : ℕ) (ns : List ℕ) → option_to_list (slice_get ns k) ≡ picked (Whole (pos (i + k))) i ns
 picked-at k i [] = refl
 picked-at zero i (x ∷ xs) =

@@ -192,7 +192,7 @@ exits_in_parts v w p f h xs k a b r u s m whole result y g i lt e d c j q =
     passes v w whole (limited p r s) (λ x n. Rest p f h xs (k + 1) (u x) n) m result y g (i ∙ part_first p f h xs k a b r u s lt e d)
     (λ x. rest-grows p f h xs (k + 1) (u x)) c j q
 
--- behind the last item
+-- after the last item
 pub items_done : {H A B C : Type 0} (p : Site) (f : B → A → Run B) (h : B → Run C) (xs : List A) (k : ℕ) (b : B) (s : State H) → length xs ≤ k
     → Rest p f h xs k b s ≡ limited p (h b) s
 items_done p f h xs k b s le =

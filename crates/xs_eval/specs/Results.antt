@@ -50,7 +50,7 @@ abbrev pub given : {A : Type 0} → Outcome A → Run A
 given (Ok x) = give x
 given (Err f) = fail f
 
--- what a function of the code answers: what is due, or that memory ran out
+-- what a function of the code answers: what is expected, or that memory ran out
 abbrev pub AnswersBy : {A B : Type 0} → (B → A) → Outcome A → Result B Trouble → Type 0
 AnswersBy view due (Ok x) = due ≡ Ok (view x)
 AnswersBy view due (Err (trouble.Fault f)) = due ≡ Err f

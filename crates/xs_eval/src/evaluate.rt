@@ -32,7 +32,7 @@ use xs_xpath::expr::Expr;
 use xs_xpath::name::{Function, NodeTest};
 use xs_xpath::token::Operator;
 
-/// The value of an expression in a context, at an instruction. The tally is told a tick for each
+/// The value of an expression in a context, at an instruction. The tally gets a tick for each
 /// call of a function, for each node that passes the node test of a step, and for each node that a
 /// key gives; it may end the evaluation.
 #[cycle(evaluate)]
@@ -167,7 +167,7 @@ fn evaluate_chain<K: KeyFinder, T: Tally>(
     }
 }
 
-// A left operand, joined with each operand behind it.
+// A left operand, joined with each operand after it.
 #[cycle(evaluate)]
 fn join_all<K: KeyFinder, T: Tally>(
     alloc: Global,

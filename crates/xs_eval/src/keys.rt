@@ -214,7 +214,7 @@ fn found_for_index<K: KeyFinder>(
     Ok(NodeSet::of_list(nodes)?)
 }
 
-// The nodes that a key gives for a text, of those that are in a document, behind others.
+// The nodes that a key gives for a text, of those that are in a document, after others.
 fn add_found<K: KeyFinder>(
     alloc: Global,
     context: &Context<'_>,
@@ -235,7 +235,7 @@ fn add_found<K: KeyFinder>(
     Ok(add_held(document, found.nodes(), before)?)
 }
 
-// Those nodes that are in a document, behind others.
+// Those nodes that are in a document, after others.
 fn add_held(document: &Document, found: &[Node], nodes: NodeList) -> Result<NodeList, AllocError>
     ensures nodes { IfOk result (λ ns. ns ≡ nodes ++ filter (holds document.now) found.now) }
 {
@@ -251,7 +251,7 @@ fn add_held(document: &Document, found: &[Node], nodes: NodeList) -> Result<Node
 struct Document {
     // The root.
     root: Node,
-    // The place behind the last node.
+    // The place after the last node.
     end: u32,
 }
 

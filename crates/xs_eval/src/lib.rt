@@ -1,4 +1,4 @@
-//! The evaluation of XPath 1.0: expressions over a tree, which tell their ticks to a tally.
+//! The evaluation of XPath 1.0: expressions over a tree, which report their ticks to a tally.
 #![tactic(auto)]
 
 mod arguments;

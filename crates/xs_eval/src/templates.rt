@@ -72,7 +72,7 @@ fn evaluate_parts<K: KeyFinder, T: Tally>(
     Ok(TextBuf::from_string(text)?)
 }
 
-// The text of a part, behind what is before it.
+// The text of a part, after what is before it.
 fn add_part<K: KeyFinder, T: Tally>(
     alloc: Global,
     part: &AvtPart,
@@ -98,7 +98,7 @@ fn add_part<K: KeyFinder, T: Tally>(
     }
 }
 
-// A text and more behind it.
+// A text and more after it.
 fn with_text(text: String, more: &str) -> Result<String, AllocError>
     ensures text { IfOk result (λ t. string_bytes t ≡ string_bytes text ++ more.now) }
 {

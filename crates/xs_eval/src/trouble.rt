@@ -22,7 +22,7 @@ pub(crate) enum Trouble {
 impl From<AllocError> for Trouble {
     ghost from_gives = { λ _ made. made ≡ NoMemory };
 
-    /// Want of memory.
+    /// Out of memory.
     fn from(_refused: AllocError) -> Trouble {
         Trouble::NoMemory
     }
@@ -31,7 +31,7 @@ impl From<AllocError> for Trouble {
 impl<T: Drop> From<AllocFailed<T>> for Trouble {
     ghost from_gives = { λ _ made. made ≡ NoMemory };
 
-    /// Want of memory; what there was no room for is dropped.
+    /// Out of memory; what there was no room for is dropped.
     fn from(_refused: AllocFailed<T>) -> Trouble {
         Trouble::NoMemory
     }

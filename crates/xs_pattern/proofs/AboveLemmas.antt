@@ -75,7 +75,7 @@ ends-roots rs t tree e = λ keys scope m n h.
     mark-at (is_root_at rs) t (length rs) n e h
     ∙ sym (ends-start keys (pattern_context rs scope m) root n ∙ root-among rs n tree)
 
--- behind a `//`
+-- after a `//`
 pub ends-below : (rs : List Record) (marks t : List Bool) → t ≡ map (is_below marks rs) (places rs) → (start : Tree) (steps : List Tree)
     → EndsBy rs start steps marks → EndsBy rs start (descend ∷ steps) t
 ends-below rs marks t e start steps ends = λ keys scope m n h.
@@ -120,7 +120,7 @@ led-path keys c start steps axis which marks n t h ends = by_parent (at c.tree n
         ∙ sym (ends-parent keys c start (step axis which no_trees) steps n p (stands_on axis (at c.tree n).kind && passes axis which (at c.tree n)) refl e
         (plain-among axis which c p n h e))
 
--- behind a step
+-- after a step
 pub ends-led : (rs : List Record) (axis : Axis) (which : NodeTest) (marks t : List Bool) → IsTree rs → t ≡ map (is_led axis which marks rs) (places rs)
     → (start : Tree) (steps : List Tree) → EndsBy rs start steps marks → EndsBy rs start (step axis which no_trees ∷ steps) t
 ends-led rs axis which marks t tree e start steps ends = λ keys scope m n h.

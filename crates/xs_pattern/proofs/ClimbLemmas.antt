@@ -153,7 +153,7 @@ pub sunk : (keys : List Table) (c : Context) (start s : Tree) (before : List Tre
     → ends_above keys c start (s ∷ before) n ≡ true → ends_above keys c start before n ≡ true
 sunk keys c start s before n t d h up = sunk-in keys c start s before t d n n (omega arith) h up
 
--- ---- the loop over the steps behind the last `//`
+-- ---- the loop over the steps after the last `//`
 
 -- What was gone over so far: the path ends at the first node where its rest ends at this one, and so it is above them. There was no `//`.
 pub record Gone (keys : List Table) (c : Context) (start : Tree) (all rest : List Tree) (first n : ℕ) : Type 0 where

@@ -107,7 +107,7 @@ selected-parent keys _ c n lt h = absurd (true≢false (sym h))
 
 -- ---- where paths end
 
--- behind a step
+-- after a step
 pub ends-selected : (rs : List Record) (scope : List (List ℕ × List ℕ)) (s : Tree) (marks t : List Bool) → IsTree rs → is_descend s ≡ false
     → ((n : ℕ) → n < length rs → get_or t n false ≡ list_any (is_selected rs scope s marks n) (places rs)) → IsNextIn rs scope s marks t
 ends-selected rs scope s marks t tree d made free start steps ends keys m n h = made n h ∙ by_parent (at rs n).parent refl
@@ -136,7 +136,7 @@ ends-selected rs scope s marks t tree d made free start steps ends keys m n h = 
         ∙ swap (ends_path keys c start steps p) (is_among n (selected [] s (pattern_context rs scope p)))
         ∙ sym (ends-parent keys c start s steps n p (is_among n (selected [] s (pattern_context rs scope p))) d e (sym one))
 
--- behind a `//`
+-- after a `//`
 pub ends-behind : (rs : List Record) (scope : List (List ℕ × List ℕ)) (s : Tree) (marks t : List Bool) → is_descend s ≡ true
     → t ≡ map (is_below marks rs) (places rs) → IsNextIn rs scope s marks t
 ends-behind rs scope s marks t d made free start steps ends keys m n h =

@@ -16,7 +16,7 @@ or-none false = refl
 pub here-among : (n : ℕ) → is_among n (n ∷ []) ≡ true
 here-among n = or-none (n == n) ∙ eq-eqb n n refl
 
--- a root, behind a slash
+-- a root, after a slash
 pub root-among : (rs : List Record) (n : ℕ) → IsTree rs → is_among n (root_of rs n ∷ []) ≡ is_root_kind (at rs n).kind
 root-among rs zero t = sym (ap (λ (r : Record). is_root_kind r.kind) t.first)
 root-among rs (suc k) t = by_kind (is_root_kind (at rs (suc k)).kind)

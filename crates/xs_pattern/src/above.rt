@@ -216,7 +216,7 @@ fn is_led(axis: Axis, test: &NodeTest, marks: &[bool], tree: &Tree, node: Node) 
     }
 }
 
-/// Whether a node is marked, which none is behind the last mark.
+/// Whether a node is marked, which none is after the last mark.
 pub fn is_marked(marks: &[bool], node: Node) -> bool
     ensures { result ≡ get_or marks.now node false }
 {

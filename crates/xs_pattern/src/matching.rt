@@ -25,14 +25,14 @@ use xs_xpath::expr::Expr;
 use xs_xpath::pattern::Pattern;
 use xs_xpath::scope::Scope;
 
-/// What the steps behind the last `//` of a path come to, gone over from a node backwards.
+/// What the steps after the last `//` of a path come to, gone over from a node backwards.
 #[derive(Drop)]
 enum Reached<'a> {
     /// There is no `//`, and the path ends at the node.
     Fits,
     /// The path does not end at the node.
     Differs,
-    /// The steps before the `//`, and the place of the node from which those behind it lead to the
+    /// The steps before the `//`, and the place of the node from which those after it lead to the
     /// node.
     Below(&'a [Expr], u32),
 }
@@ -40,7 +40,7 @@ enum Reached<'a> {
 /// Whether a node matches a pattern, under the namespace declarations in scope for the pattern.
 ///
 /// A pattern has no variables, and does not call `current` (XSLT 1.0, 5.3 and 12.4). No fault is
-/// told: a predicate that ends in one is false, and a path that begins with a key that there is
+/// reported: a predicate that ends in one is false, and a path that begins with a key that there is
 /// not, or whose table has a fault, has no node.
 pub fn matches<K: KeyFinder>(
     alloc: Global,
@@ -147,7 +147,7 @@ fn ends_path<K: KeyFinder>(
 }
 
 // Whether a node or one of its ancestors is at the end of a path. It is gone up from node to node
-// until the steps behind the last `//` fit, and from there on those before it are looked at: where
+// until the steps after the last `//` fit, and from there on those before it are looked at: where
 // they fit above a higher node, they fit above this one too.
 fn ends_above<K: KeyFinder>(
     alloc: Global,
@@ -181,7 +181,7 @@ fn ends_above<K: KeyFinder>(
     }
 }
 
-// The steps behind the last `//` of a path, gone over from a node to its parents.
+// The steps after the last `//` of a path, gone over from a node to its parents.
 fn climb<'a, K: KeyFinder>(
     alloc: Global,
     start: &Expr,
@@ -219,7 +219,7 @@ fn climb<'a, K: KeyFinder>(
     Ok(Reached::Differs)
 }
 
-// What a `//` comes to, behind which steps lead to a node. Where it stands at the head of a
+// What a `//` comes to, after which steps lead to a node. Where it stands at the head of a
 // pattern, there is always a node above at which the path begins.
 fn behind_slashes<'a>(start: &Expr, before: &'a [Expr], node: Node) -> Reached<'a>
     ensures { IsBehind (tree_from start.now) before.entry.now node result }

@@ -1,4 +1,4 @@
-//! Values of expressions whose faults are not told.
+//! Values of expressions whose faults are not reported.
 
 ghost use Rattle.std.specs.Prelude.{◌≡◌, ◌<◌, [], false, IfOk, length};
 ghost use Rattle.std.specs.Option.{option_map_or};
@@ -23,7 +23,7 @@ use xs_value::value::Value;
 use xs_xpath::expr::Expr;
 use xs_xpath::uses::uses_place;
 
-// Where a pattern is evaluated: its ticks and faults are told to nobody.
+// Where a pattern is evaluated: its ticks and faults are reported to nobody.
 const NOWHERE: Site = Site { module: 0, line: 0 };
 
 /// The value of an expression in a context; none where it ends in a fault.

@@ -35,13 +35,13 @@ pub record Paid (K : Type 0) : Type 0 where
   pub all : ℕ
   pub free : ℕ
 
--- So many ticks are due where so many are left of a limit: what was told is some full 1,024s, which were added, and these.
+-- So many ticks are due where so many are left of a limit: what was recorded is some full 1,024s, which were added, and these.
 pub record IsDue (due left limit : ℕ) : Type 0 where
   pub additions : ℕ
   pub few : due < 1024
   pub all : left + (1024 * additions + due) ≡ limit
 
--- So much was added where so many are left: all that was told but what is due.
+-- So much was added where so many are left: all that was recorded but what is due.
 pub record HasAdded (all limit left added : ℕ) : Type 0 where
   pub due : ℕ
   pub is_due : IsDue due left limit
@@ -74,7 +74,7 @@ pub record IsPiece {H : Type 0} (x : Trace H) (l : Limits) (most before after la
   pub parts : AreParts 0 o.parts.items
   pub ends : EndsBy (over most last) x l old new o
 
--- the same of whatever trace was told, by a piece that ended so
+-- the same of whatever trace was recorded, by a piece that ended so
 abbrev pub IsPieceOf : {H K : Type 0} → Paid K → Result (Unit {0}) Halt → State H → ℕ → ℕ → List H → List H → Outcome → Type 0
 IsPieceOf {H = H} paid told s after last old new o = (x : Trace H) (first before : ℕ) →
     IsStep (play x (started paid.limits paid.most first)) told s → paid.all ≡ before + paid.limits.ticks →

@@ -10,7 +10,7 @@ use Rattle.xs_trace.specs.declared.item.Item.TheVariants as item
 use Rattle.xs_trace.specs.declared.item.Site.{Site}
 
 pub record Store (H : Type 0) : Type 0 where
-  -- the marks that were told
+  -- the marks that were recorded
   pub told : Trace H
   -- the events of the captures that are open, the innermost first
   pub captures : List (List Event)
@@ -64,7 +64,7 @@ abbrev pub pending : Site → ℕ → List Item
 pending p zero = []
 pending p (suc n) = item.Run p.«module» p.line (suc n) ∷ []
 
--- Items behind which so many ticks at a place may stand, and where there are none yet, any ticks.
+-- Items after which so many ticks at a place may stand, and where there are none yet, any ticks.
 abbrev pub TakesRun : List Item → Site → ℕ → Type 0
 TakesRun is p zero = (q : Site) → IsPacked (is ++ pending q 1)
 TakesRun is p (suc n) = IsPacked (is ++ pending p (suc n))

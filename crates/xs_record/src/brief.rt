@@ -15,7 +15,7 @@ use xs_trace::item::{Item, Limits, Site};
 use xs_trace::recorder::{Halt, Recorder, Tally};
 use xs_trace::text::TextBuf;
 
-/// Keeps the events and messages that it is told, in order, up to its limits, and counts ticks: so
+/// Keeps the events and messages that it gets, in order, up to its limits, and counts ticks: so
 /// its memory is that of what it answers with, however long a run is. An attempt of a global
 /// variable has one, since only its messages and the number of its ticks are asked for. It takes no
 /// holes; `T` is what would fill them.
@@ -77,7 +77,7 @@ impl<T: Drop> Recorder for Brief<T> {
         Ok(())
     }
 
-    /// Behind what was told.
+    /// After what was recorded.
     fn say(&mut self, text: TextBuf) -> Result<(), Halt> {
         self.marks.push(Item::Say(text))?;
         Ok(())
@@ -103,7 +103,7 @@ impl<T: Drop> Recorder for Brief<T> {
 }
 
 impl<T: Drop> Brief<T> {
-    /// Nothing was told yet.
+    /// Nothing was recorded yet.
     pub fn new(alloc: Global, limits: Limits) -> Brief<T>
         ensures begins { ⟦<Brief<T> as Tally>⟧.state result
             ≡ begun (Untimed []) limits.ticks limits.events }
@@ -122,7 +122,7 @@ impl<T: Drop> Brief<T> {
         self.left
     }
 
-    /// What was told, but for ticks: no item is a run of them.
+    /// What was recorded, but for ticks: no item is a run of them.
     pub fn finish(self) -> Vec<Item>
         ensures items { (⟦<Brief<T> as Tally>⟧.state self).told ≡ Untimed (marks_of result.items) }
         ensures single { All IsSingle result.items }

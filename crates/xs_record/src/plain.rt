@@ -11,7 +11,7 @@ use std::marker::{Model, PhantomData};
 use xs_trace::event::{Event, Fragment};
 use xs_trace::item::{Item, Site};
 
-/// What was told but for ticks, in order, and the captures that are open. `T` is what fills the
+/// What was recorded but for ticks, in order, and the captures that are open. `T` is what fills the
 /// holes of the traces.
 #[derive(Drop)]
 pub struct Plain<T> {
@@ -37,7 +37,7 @@ impl<T> Model for Plain<T> {
 }
 
 impl<T> Plain<T> {
-    /// Nothing was told yet.
+    /// Nothing was recorded yet.
     pub fn new(alloc: Global) -> Plain<T>
         ensures empty { result ≡ empty }
     {
@@ -71,7 +71,7 @@ impl<T> Plain<T> {
         self.at = last_place(site, count, self.at);
     }
 
-    /// An event, to the innermost capture or else behind what was told.
+    /// An event, to the innermost capture or else after what was recorded.
     pub fn put(&mut self, event: Event) -> Result<(), AllocError>
         ensures told { OnOk result (self.new ≡ put_into self.old.captures event self.old) }
         ensures refused { OnErr result
@@ -119,7 +119,7 @@ impl<T> Plain<T> {
         }
     }
 
-    /// What was told, in items that are no runs of ticks.
+    /// What was recorded, in items that are no runs of ticks.
     pub fn finish(self) -> Vec<Item>
         ensures items { marks_of result.items ≡ self.told }
         ensures single { All IsSingle result.items }

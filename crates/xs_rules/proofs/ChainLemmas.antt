@@ -62,7 +62,7 @@ pub last-some : (t : ℕ → Bool) (i k : ℕ) → last_below t i ≡ Some k →
 last-some t zero k e = cc
 last-some t (suc i) k e = some-by t i k (t i) refl e (λ q. last-some t i k q)
 
--- ---- a chain, moved back behind a place
+-- ---- a chain, moved back after a place
 
 pub moved-is : (t u : ℕ → Bool) (i j : ℕ) (o previous : Option ℕ) → o ≡ last_below t i → j < i → ((k : ℕ) → o ≡ Some k → k ≤ j)
     → previous ≡ last_below u j → (o ≡ Some j → (m : ℕ) → u m ≡ t m) → moved_back o j previous ≡ last_below t j

@@ -8,7 +8,7 @@ pub no_items : {A : Type 0} (xs : List A) → length xs ≡ 0 → xs ≡ []
 no_items [] e = refl
 no_items (x ∷ xs) e = absurd (omega (arith, e))
 
--- the highest of those that pass, before what stands behind them
+-- the highest of those that pass, before what stands after them
 abbrev pub highest_before : {A : Type 0} → (A → Rank) → (A → Bool) → List A → Option A → Option A
 highest_before rank p [] o = o
 highest_before rank p (x ∷ xs) o = cond (p x) (or_above rank x (highest_before rank p xs o)) (highest_before rank p xs o)
@@ -22,7 +22,7 @@ highest-before {A} rank p (x ∷ xs) = by_test (p x) (highest-before rank p xs)
     by_test true e = ap (or_above rank x) e
     by_test false e = e
 
--- one more in front of those that were gone over
+-- one more before those that were gone over
 pub before-push : {A : Type 0} (rank : A → Rank) (p : A → Bool) (xs : List A) (x : A) (o : Option A)
     → highest_before rank p (xs ++ x ∷ []) o ≡ highest_before rank p xs (cond (p x) (or_above rank x o) o)
 before-push rank p [] x o = refl

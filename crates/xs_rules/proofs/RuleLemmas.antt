@@ -16,7 +16,7 @@ use Rattle.xs_rules.specs.Ranks.{highest, or_above, outranks}
 use Rattle.xs_rules.specs.Rules.{Candidate, candidate, candidates, candidates_of, chosen_among, rule_of, takes}
 use Rattle.xs_rules.specs.steps.Candidates.{best_before, best_of, is_matching, looks_at, or_best, passes, rule_of_best}
 
--- ---- what stands behind others
+-- ---- what stands after others
 
 pub before-append : (p : Candidate → Bool) (cs ds : List Candidate) (o : Option Best) → best_before p (cs ++ ds) o ≡ best_before p cs (best_before p ds o)
 unfolding best_before
@@ -86,7 +86,7 @@ candidates-push ts t =
     ∙ flat-append candidates_of (enumerate_from 0 ts) (0 + length ts, t)
     ∙ ap (λ k. candidates ts ++ candidates_of (k, t)) e
 
--- one template more in front of those that were gone over
+-- one template more before those that were gone over
 pub template-on : (p : Candidate → Bool) (ts before : List Template) (t : Template) (o b whole : Option Best) → ts ≡ before ++ t ∷ []
     → best_before p (candidates ts) o ≡ whole → b ≡ best_before p (candidates_of (length before, t)) o
     → best_before p (candidates before) b ≡ whole
@@ -138,7 +138,7 @@ pub not_looked-at : (looked : Looked) (keys : List Table) (rs : List Record) (mo
 not_looked-at looked keys rs mode n number t p es o l =
     none-passes (passes looked keys rs mode n) number t p es o (λ e. ap (λ b. b && takes keys rs mode n (candidate number t p e)) l)
 
--- one alternative more in front of those that were gone over
+-- one alternative more before those that were gone over
 map-push : {A B : Type 0} (f : A → B) (xs : List A) (x : A) → map f (xs ++ x ∷ []) ≡ map f xs ++ f x ∷ []
 map-push f [] x = refl
 map-push f (y ∷ ys) x = ap (λ l. f y ∷ l) (map-push f ys x)
@@ -152,7 +152,7 @@ alternative-on p f es before e o b whole s i q =
     ∙ ap (λ l. best_before p (map f l) o) (sym s)
     ∙ i
 
--- one rule in front of the best one behind it: it is above that, or there is none; or it is not, or does not match
+-- one rule before the best one after it: it is above that, or there is none; or it is not, or does not match
 above-best : (c : Candidate) (o : Option Best) → option_map_or (λ (b : Best). outranks c.rank b.rank) o true ≡ true → or_best c o ≡ Some (best_of c)
 above-best c None e = refl
 above-best c (Some b) e = ap (λ t. cond t (Some (best_of c)) (Some b)) e

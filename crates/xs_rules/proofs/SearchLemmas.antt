@@ -9,7 +9,7 @@ use Rattle.xs_rules.specs.steps.Candidates.{best_before}
 use Rattle.xs_rules.specs.steps.Index.{last_below, later, moved_back}
 use Rattle.xs_rules.proofs.ChainLemmas.{last-none, last-some, later-either, later-first, later-none, later-second, moved-is}
 
--- what stands at a place, and behind it
+-- what stands at a place, and after it
 drop-at : (cs : List Candidate) (j : ℕ) → j < length cs → (c : Candidate) × (slice_get cs j ≡ Some c) × (drop j cs ≡ c ∷ drop (j + 1) cs)
 drop-at [] j lt = absurd (omega (arith, lt))
 drop-at (c ∷ cs) zero lt = (c, refl, refl)

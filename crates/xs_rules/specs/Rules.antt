@@ -1,4 +1,4 @@
--- Which template rule a node takes (XSLT 1.0, 5.5), and which one behind it (5.6).
+-- Which template rule a node takes (XSLT 1.0, 5.5), and which one after it (5.6).
 use Rattle.std.specs.Prelude.{ℕ, ◌==◌, ◌&&◌, Bool, true, false, nat_le, nat_lt, List, [], map, filter, Option, Some, None, slice_get, unwrap_or}
 use Rattle.std.specs.List.{enumerate_from, flat_map}
 use Rattle.std.specs.Option.{option_map_or}

@@ -54,7 +54,7 @@ impl Looked {
     }
 }
 
-/// The best rule of a template with a number, before the best one behind it.
+/// The best rule of a template with a number, before the best one after it.
 pub(crate) fn best_of_template<K: KeyFinder>(
     alloc: Global,
     number: u32,
@@ -95,7 +95,7 @@ pub(crate) fn nth_alternative(pattern: &ScopedPattern, place: usize) -> Option<&
     pattern.pattern.alternatives().get(place)
 }
 
-// The best of the alternatives of a pattern that match, before the best rule behind it.
+// The best of the alternatives of a pattern that match, before the best rule after it.
 fn best_of_pattern<K: KeyFinder>(
     alloc: Global,
     number: u32,
@@ -133,7 +133,7 @@ fn best_of_pattern<K: KeyFinder>(
     Ok(best)
 }
 
-// An alternative where it matches and is above the best rule behind it; otherwise that one.
+// An alternative where it matches and is above the best rule after it; otherwise that one.
 fn best_of_alternative<K: KeyFinder>(
     alloc: Global,
     number: u32,
@@ -175,7 +175,7 @@ fn best_of_alternative<K: KeyFinder>(
     Ok(best)
 }
 
-// Whether there is no rule behind, or one that is outranked.
+// Whether there is no later rule, or one that is outranked.
 fn is_above(rank: Rank, best: Option<Best>) -> bool
     ensures { result ≡ option_map_or (λ b. outranks rank b.rank) best true }
 {
@@ -210,7 +210,7 @@ pub(crate) fn rule_of_best(best: Option<Best>) -> Rule
     }
 }
 
-/// The rule of one of a template's alternatives, by its number, before the best one behind it.
+/// The rule of one of a template's alternatives, by its number, before the best one after it.
 pub(crate) fn best_of_nth<K: KeyFinder>(
     alloc: Global,
     number: u32,
@@ -255,7 +255,7 @@ pub(crate) fn best_of_nth<K: KeyFinder>(
     }
 }
 
-// An alternative where it is looked at, is of the mode, matches, and is above the best rule behind
+// An alternative where it is looked at, is of the mode, matches, and is above the best rule after
 // it; otherwise that one.
 fn best_of_rule<K: KeyFinder>(
     alloc: Global,

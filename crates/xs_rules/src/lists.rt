@@ -53,7 +53,7 @@ impl<'a> Lists<'a> {
         }
     }
 
-    /// Adds the rules of a template with a number behind those that are there.
+    /// Adds the rules of a template with a number after those that are there.
     pub(crate) fn add_template(
         &mut self,
         number: u32,
@@ -153,7 +153,7 @@ impl<'a> Lists<'a> {
     }
 }
 
-// The rule of an entry before the best one behind it, where it is looked at and matches.
+// The rule of an entry before the best one after it, where it is looked at and matches.
 fn best_at<K: KeyFinder>(
     alloc: Global,
     templates: &[Template],

@@ -100,7 +100,7 @@ fn bare_test(step: &Expr) -> Option<&NodeTest>
     }
 }
 
-// A node test, where there are no predicates behind it.
+// A node test, where there are no predicates after it.
 fn bare_of<'a>(test: &'a NodeTest, predicates: &[Expr]) -> Option<&'a NodeTest>
     ensures { option_copied result ≡ bare_of test.now (trees (trees_from predicates.now)) }
 {

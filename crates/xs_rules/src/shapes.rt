@@ -96,7 +96,7 @@ fn alternative_of<'a>(templates: &'a [Template], entry: &Entry) -> Option<&'a Ex
     }
 }
 
-// Whether a `//` stands behind the first of some steps.
+// Whether a `//` stands after the first of some steps.
 fn has_slashes(steps: &[Expr]) -> bool {
     match steps.split_first() {
         None => false,

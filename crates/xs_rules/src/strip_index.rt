@@ -48,7 +48,7 @@ impl<'a> StripIndex<'a> {
         Ok(index)
     }
 
-    /// Adds a rule in front of those that were added.
+    /// Adds a rule before those that were added.
     fn add(&mut self, rule: &'a StripRule) -> Result<(), AllocError>
         ensures found { OnOk result ((q : Tested) → found self.new q
             ≡ with_rule q rule.entry.now (found self.old q)) }
@@ -134,7 +134,7 @@ fn add_name<'a>(
     Ok(())
 }
 
-/// A rule where it is above another one that stands behind it, if there is one; else that one.
+/// A rule where it is above another one that stands after it, if there is one; else that one.
 fn above<'a>(rule: &'a StripRule, other: Option<&'a StripRule>) -> &'a StripRule
     ensures { Some result.now ≡ or_above rank_of rule.entry.now (option_copied other.entry) }
 {

@@ -24,7 +24,7 @@ use xs_value::keys::KeyFinder;
 use xs_xpath::expr::Expr;
 use xs_xpath::scope::Scope;
 
-/// The most tables: each takes a byte a node, and the rules behind it go without.
+/// The most tables: each takes a byte a node, and the rules after it go without.
 const MOST: usize = 64;
 
 /// A table beside a rule.
@@ -115,7 +115,7 @@ fn first_tables(
     Ok(tables)
 }
 
-// How many more tables there may be behind one that may be there.
+// How many more tables there may be after one that may be there.
 fn left_behind(left: usize, table: &Option<RuleTable>) -> usize {
     match table {
         Some(_) => left.saturating_sub(1),

@@ -24,7 +24,7 @@ pub fn normalize_space(out: &mut Vec<u8>, s: &str) -> Result<(), AllocError>
 }
 
 /// Appends the words of `s` with a space between each two. After a refusal more than `out` had may
-/// stand behind it.
+/// stand after it.
 fn append_words(out: &mut Vec<u8>, s: &str) -> Result<(), AllocError>
     ensures ok { OnOk result
         (out.new.items ≡ out.old.items ++ encode_utf8_all (normalized (chars s.now))) }
@@ -42,7 +42,7 @@ fn append_words(out: &mut Vec<u8>, s: &str) -> Result<(), AllocError>
     Ok(())
 }
 
-/// Appends a word, behind a space unless it is the first one.
+/// Appends a word, after a space unless it is the first one.
 fn push_word(out: &mut Vec<u8>, word: &[u8], is_first: bool) -> Result<(), AllocError>
     ensures ok { OnOk result
         (out.new.items ≡ out.old.items ++ (if is_first then word.now else 32 ∷ word.now)) }

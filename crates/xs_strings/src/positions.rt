@@ -42,7 +42,7 @@ pub fn substring(
 }
 
 /// Appends the characters at the positions that are kept. After a refusal more than `out` had may
-/// stand behind it.
+/// stand after it.
 fn append_kept(out: &mut Vec<u8>, s: &str, first: Num, count: Option<Num>) -> Result<(), AllocError>
     ensures ok { OnOk result
         (out.new.items

@@ -39,7 +39,7 @@ escaped-at_pair xs i d l lt pair h =
     ∙ ap (λ w. w ++ escaped (drop i xs)) h
     ∙ ap (λ w. take i xs ++ w) (ap escaped (drop_more xs i d lt) ∙ escaped-cons b rest ∙ ap (λ o. written_by o b ++ escaped rest) pair)
 
--- what stood at the front still does, behind an append
+-- what stood at the front still does, after an append
 pub front-append : (front now more : List ℕ) → take (length front) now ≡ front → take (length front) (now ++ more) ≡ front
 front-append front now more h =
     let n : length front ≤ length now = omega (arith, length-take (length front) now, ap length h) in

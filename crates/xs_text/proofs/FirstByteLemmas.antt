@@ -1,4 +1,4 @@
--- The first byte that passes a test: what stands before it and behind it.
+-- The first byte that passes a test: what stands before it and after it.
 use Rattle.std.proofs.Common.{◌≡◌, ℕ, suc, ◌+◌, ◌<◌, add-one, Bool, true, false, ◌||◌, List, [], ◌∷◌, ◌++◌, eqb, length, get_or, take, drop, refl, ◌∙◌, ap, inl, inr, arith}
 use Rattle.std.specs.List.{list_any, position_or_len, before_first, after_first}
 use Rattle.std.proofs.lemmas.Bool.{cases_Bool, or_parts, or_from, false_from_ne_true}

@@ -47,7 +47,7 @@ behind-parts front (Some more) read e = (more, refl, cc)
 byte_of-ascii : (l b : ℕ) → byte_of l ≡ Some b → (l < 128) × (b < 128)
 byte_of-ascii l b e = (grind (arith, nat_tests), grind (arith, nat_tests))
 
--- the letter behind a backslash, where it and the backslash are a pair
+-- the letter after a backslash, where it and the backslash are a pair
 letter_cut : (xs rest read : List ℕ) (c : ℕ) → xs ≡ encode_utf8 c ++ rest → unescaped (92 ∷ xs) ≡ Some read → (b : ℕ) × (more : List ℕ) × (b < 128)
     × (unescaped rest ≡ Some more) × (b ∷ more ≡ read)
 letter_cut [] rest read c cut e = let said : None ≡ Some read = sym unescaped-last ∙ e in absurd (cc)

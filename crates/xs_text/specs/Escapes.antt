@@ -3,7 +3,7 @@
 use Rattle.std.specs.Prelude.{ℕ, ◌≡◌, ◌≢◌, ◌==◌, List, [], ◌∷◌, ◌++◌, Option, Some, None, if◌then◌else◌}
 use Rattle.std.specs.List.{flat_map}
 
--- a byte, and the letter that it is written with behind a backslash
+-- a byte, and the letter that it is written with after a backslash
 pub record EscapePair : Type 0 where
   pub byte : ℕ
   pub letter : ℕ
@@ -41,7 +41,7 @@ abbrev pub byte_in : List EscapePair → ℕ → Option ℕ
 byte_in [] l = None
 byte_in (p ∷ ps) l = if p.letter == l then Some p.byte else byte_in ps l
 
--- the byte that a letter stands for behind a backslash, if it is one of the four letters
+-- the byte that a letter stands for after a backslash, if it is one of the four letters
 abbrev pub byte_of : ℕ → Option ℕ
 byte_of l = byte_in escape_pairs l
 
@@ -57,7 +57,7 @@ unescaped (b ∷ []) = if b == 92 then None else Some (b ∷ [])
 unescaped (b ∷ l ∷ rest) =
     if b == 92 then first_and_rest (byte_of l) (unescaped rest) else first_and_rest (Some b) (unescaped (l ∷ rest))
 
--- data behind a front, if there is data
+-- data after a front, if there is data
 abbrev pub behind : List ℕ → Option (List ℕ) → Option (List ℕ)
 behind front None = None
 behind front (Some more) = Some (front ++ more)

@@ -33,7 +33,7 @@ name_start_ranges =
     ∷ record { first = 0x1_0000; last = 0xE_FFFF }
     ∷ []
 
--- XML 1.0, 2.3, production 4a: what a name may have behind its first character besides those
+-- XML 1.0, 2.3, production 4a: what a name may have after its first character besides those
 abbrev pub name_more_ranges : List CharRange
 name_more_ranges =
     record { first = 0x2D; last = 0x2D }

@@ -20,7 +20,7 @@ pub enum TextFault {
     NoMemory,
 }
 
-/// The letter that a byte is written with behind a backslash, if it is one of the four.
+/// The letter that a byte is written with after a backslash, if it is one of the four.
 fn escape_letter(byte: u8) -> Option<u8>
     ensures { result ≡ letter_of byte }
 {
@@ -49,7 +49,7 @@ fn first_escape(text: &[u8]) -> Option<(&[u8], u8, &[u8])>
     None
 }
 
-/// Appends the escaped text. After a refusal more than `out` had may stand behind it.
+/// Appends the escaped text. After a refusal more than `out` had may stand after it.
 fn append_escaped(out: &mut Vec<u8>, text: &[u8]) -> Result<(), AllocError>
     ensures ok { OnOk result (out.new.items ≡ out.old.items ++ escaped text.now) }
     ensures kept { take (vec_len out.old) out.new.items ≡ out.old.items }
@@ -82,7 +82,7 @@ pub fn escape_into(out: &mut Vec<u8>, s: &str) -> Result<(), AllocError>
     outcome
 }
 
-/// The byte that a letter stands for behind a backslash, if it is one of the four.
+/// The byte that a letter stands for after a backslash, if it is one of the four.
 fn escaped_byte(letter: u8) -> Option<u8>
     ensures { result ≡ byte_of letter }
 {
@@ -134,7 +134,7 @@ pub fn is_well_escaped(text: &[u8]) -> bool
     }
 }
 
-/// Appends the data that `text` stands for. After an error more than `out` had may stand behind it.
+/// Appends the data that `text` stands for. After an error more than `out` had may stand after it.
 fn append_unescaped(out: &mut Vec<u8>, text: &[u8]) -> Result<(), TextFault>
     ensures ok { OnOk result (behind out.old.items (unescaped text.now) ≡ Some out.new.items) }
     ensures kept { take (vec_len out.old) out.new.items ≡ out.old.items }

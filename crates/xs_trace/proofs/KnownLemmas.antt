@@ -39,7 +39,7 @@ cut-serves f (Stop n p ∷ x) y from at b r m s le w = refl
 cut-serves f (Need g p ∷ x) y from at b r m s le w = refl
 cut-serves {H} {K} f (Hole k ∷ x) y from at b r m s le w =
     let i = cut-serves f x y from (last_site at (f k)) b (r - tick_count (f k)) m (less s (length (events_of (f k)))) (omega (arith, le))
-        (less-within s m _ w) in
+    (less-within s m _ w) in
     split (known (cut_from x from b m)) ∙ ap (followed (cut_from (f k) at r s)) i ∙ sym (split x)
   where
     split : (z : Trace H) → cut_from ((f k ⨾ fill f z) ⨾ y) at r s ≡

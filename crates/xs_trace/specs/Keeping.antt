@@ -10,13 +10,13 @@ use Rattle.xs_trace.specs.declared.item.Item.{Item}
 use Rattle.xs_trace.specs.declared.recorder.Halt.{Halt}
 use Rattle.xs_trace.specs.declared.recorder.Halt.TheVariants as halt
 
--- A state in which all that passed a cut was told, after what was kept before, at an end, with b ticks at the start.
+-- A state in which all that passed a cut was recorded, after what was kept before, at an end, with b ticks at the start.
 pub record IsCutAt {H : Type 0} (l : Log H) (e : End) (b : ℕ) (c : Cut H) (s : State H) : Type 0 where
   pub told : s.told ≡ adds l c.passed
   pub end : c.end ≡ e
   pub left : s.left ≡ Some (b - tick_count c.passed)
 
--- The cut that a run was told, by what its last call gave.
+-- The cut that was recorded of a run, by what its last call gave.
 abbrev pub IsCutOf : {H : Type 0} → Log H → Result (Unit {0}) Halt → ℕ → Cut H → State H → Type 0
 IsCutOf l (Ok u) b c s = IsCutAt l Whole b c s
 IsCutOf l (Err (halt.Fault f p)) b c s = IsCutAt l (Fault f p) b c s

@@ -55,7 +55,7 @@ ended_by (Needs g p) = None
 ended_by (Spent p) = Some (ended.Spent (spot fault.Budget p))
 ended_by (Full p) = Some (ended.Full (spot fault.TooManyEvents p))
 
--- what was told is no need of a global
+-- what was answered is no need of a global
 abbrev pub NeedsNone : Result (Unit {0}) Halt → Type 0
 NeedsNone (Ok u) = Unit {0}
 NeedsNone (Err (halt.Fault f p)) = Unit {0}

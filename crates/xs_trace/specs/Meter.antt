@@ -21,7 +21,7 @@ pub record Stock : Type 0 where
 abbrev pub stock : Meter → Stock
 stock m = record { limit = m.limit; all = m.spent + number (less m.limit m.spent) }
 
--- a result that is no want of memory
+-- a result other than out of memory
 abbrev pub HasMemory : Result (Unit {0}) Halt → Type 0
 HasMemory (Ok u) = Unit {0}
 HasMemory (Err (halt.Fault f p)) = Unit {0}
@@ -36,7 +36,7 @@ abbrev pub spends : Option ℕ → ℕ → ℕ → ℕ
 spends None n spent = spent
 spends (Some m) n spent = spent + n
 
--- How a run at an instruction ended that a meter was told, from a state of it to another.
+-- How a run at an instruction ended that a meter counted, from a state of it to another.
 abbrev pub IsMetered : {A B : Type 0} → (B → A) → Site → Run A → Result B Halt → Meter → Meter → Type 0
 IsMetered view p r (Ok x) m k = (r.end ≡ Gives (view x)) × ((k.limit ≡ m.limit) × (k.spent ≡ spends m.limit r.cost m.spent))
 IsMetered view p r (Err (halt.Fault f q)) m k = (r.end ≡ Faults f) × ((k.limit ≡ m.limit) × (k.spent ≡ spends m.limit r.cost m.spent))

@@ -17,7 +17,7 @@ CutServes H K = (f : H → Trace K) (x : Trace H) (y : Trace K) (from at : Site)
 abbrev pub plain : {H : Type 0} → Log H → Site → ℕ → Option ℕ → Shared → State H
 plain l at b m h = record { told = l; captures = []; at = Some at; room = m; left = Some b; shared = h }
 
--- What is told of two traces is the same where their cuts are.
+-- What is recorded of two traces is the same where their cuts are.
 abbrev pub CutsTellSame : Type 0 → Type 0
 CutsTellSame H = (x z : Trace H) (l : Log H) (at : Site) (b : ℕ) (m : Option ℕ) (h : Shared) → cut_from x at b m ≡ cut_from z at b m →
     play x (plain l at b m h) ≡ play z (plain l at b m h)

@@ -1,4 +1,4 @@
--- A trace that is told to a recorder, mark by mark, under its limits.
+-- A trace that is recorded, mark by mark, under the limits of its recorder.
 use Rattle.std.specs.Prelude.{◌≡◌, ℕ, ◌+◌, ◌/◌, length, List, [], ◌∷◌, ◌++◌, Option, Some, None, Result, Ok, Err, if◌then◌else◌}
 use Rattle.xs_trace.specs.Event.{text_of}
 use Rattle.xs_trace.specs.Mark.{Tick, Put, Say, Stop, Need, Hole, Trace, ticks, tick_count}
@@ -9,7 +9,7 @@ use Rattle.xs_trace.specs.declared.item.Site.{Site}
 use Rattle.xs_trace.specs.declared.recorder.Halt.{Halt}
 use Rattle.xs_trace.specs.declared.recorder.Halt.TheVariants as halt
 
--- It goes on with a value, from a state; or it has ended, with what was told, what is left of the ticks, and what is shared.
+-- It goes on with a value, from a state; or it has ended, with what was recorded, what is left of the ticks, and what is shared.
 pub data Step (H A : Type 0) : Type 0 where
   Goes : (value : A) (state : State H) → Step H A
   Ends : (end : End) (told : Log H) (left : Option ℕ) (shared : Shared) → Step H A
@@ -87,7 +87,7 @@ abbrev pub raised : Option ℕ → ℕ → Option ℕ
 raised None n = None
 raised (Some m) n = Some (m + n)
 
--- What was told in a state is a beginning of what is told in all, and what is left there is more by the ticks of the rest.
+-- What was recorded in a state is a beginning of what is recorded in all, and what is left there is more by the ticks of the rest.
 pub record Before {H : Type 0} {A : Type 0} (s : State H) (g : Step H A) : Type 0 where
   pub rest : Trace H
   pub told : told_of g ≡ adds s.told rest

@@ -7,7 +7,7 @@ use Rattle.xs_trace.specs.Play.{Step, Goes, stops, and_then, ticked, ticked_by, 
 use Rattle.xs_trace.specs.declared.fault.Fault.{Fault as RunFault}
 use Rattle.xs_trace.specs.declared.item.Site.{Site}
 
--- a value, a fault, or the want of a global variable that has no value yet
+-- a value, a fault, or the need of a global variable that has no value yet
 pub data Answer (A : Type 0) : Type 0 where
   Gives : (value : A) → Answer A
   Faults : (fault : RunFault) → Answer A
@@ -56,7 +56,7 @@ answered p (Gives x) s = Goes x s
 answered p (Faults f) s = stops (Fault f p) s
 answered p (Lacks g) s = stops (Needs g p) s
 
--- a run at an instruction, told to a recorder under its limits
+-- a run at an instruction, as a recorder gets it under its limits
 abbrev pub limited : {H : Type 0} → {A : Type 0} → Site → Run A → State H → Step H A
 limited p r s = and_then (ticked_by r.cost p s) (λ u m. answered p r.end m)
 

@@ -40,12 +40,12 @@ pub fn parts_of_joined<H>()
     ensures { PartsOfJoined H }
 {}
 
-/// Two traces are told one after the other.
+/// Two traces are recorded one after the other.
 pub fn play_of_then<H>()
     ensures { PlayOfThen H }
 {}
 
-/// Many ticks at one place may be told at once.
+/// Many ticks at one place may be recorded at once.
 pub fn play_of_ticks<H>()
     ensures { PlayOfTicks H }
 {}
@@ -68,12 +68,12 @@ pub fn captures_from<H>()
     ensures { CapturesFrom H }
 {}
 
-/// What was told stays at the beginning of what is told.
+/// What was recorded stays at the beginning of what is.
 pub fn play_grows<H>()
     ensures { PlayGrows H }
 {}
 
-/// What is told of a trace, and how that ends, is the cut of the trace at the limits.
+/// What is recorded of a trace, and how that ends, is the cut of the trace at the limits.
 pub fn play_is_cut<H>()
     ensures { PlayIsCut H }
 {}

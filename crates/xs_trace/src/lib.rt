@@ -1,4 +1,4 @@
-//! What a run of a stylesheet leaves behind, and the texts and places that it speaks of.
+//! What a run of a stylesheet does, and the texts, names, faults and places that it speaks of.
 #![tactic(auto)]
 
 pub mod event;

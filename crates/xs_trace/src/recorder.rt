@@ -1,4 +1,4 @@
-//! What a run tells of its work, step by step, and how it may be ended.
+//! What a run reports of its work, step by step, and how it may be ended.
 ghost use Rattle.std.specs.Prelude.{◌≡◌, true, Bool};
 ghost use Rattle.xs_trace.specs.State.{State, said, opened, popped, top, shown};
 ghost use Rattle.xs_trace.specs.Mark.{Hole};
@@ -31,7 +31,7 @@ pub enum Halt {
 impl From<AllocError> for Halt {
     ghost from_gives = { λ _ e. e ≡ NoMemory };
 
-    /// Want of memory.
+    /// Out of memory.
     fn from(_e: AllocError) -> Halt {
         Halt::NoMemory
     }
@@ -40,13 +40,13 @@ impl From<AllocError> for Halt {
 impl<T: Drop> From<AllocFailed<T>> for Halt {
     ghost from_gives = { λ _ e. e ≡ NoMemory };
 
-    /// Want of memory; what there was no room for is dropped.
+    /// Out of memory; what there was no room for is dropped.
     fn from(_e: AllocFailed<T>) -> Halt {
         Halt::NoMemory
     }
 }
 
-/// Is told of each tick, and may end the run.
+/// Gets each tick, and may end the run.
 pub trait Tally {
     /// What fills a hole.
     type Task;
@@ -57,7 +57,7 @@ pub trait Tally {
     /// That, of this one.
     ghost kept: { Self → Self.Kept };
 
-    /// What it was told, what is left of its limits, and the total that it shares.
+    /// What was recorded, what is left of its limits, and the total that it shares.
     ghost state: { Self → State Self.Task };
 
     /// One tick at an instruction.
@@ -66,7 +66,7 @@ pub trait Tally {
         ensures kept { kept self.new ≡ kept self.old };
 }
 
-/// Is told what a run does, in order, and may end it.
+/// Records what a run does, in order, and may end it.
 pub trait Recorder: Tally {
     /// Whether it takes holes.
     ghost takes_holes: { Bool };
@@ -108,7 +108,7 @@ pub trait Recorder: Tally {
         ensures kept { Self.kept self.new ≡ Self.kept self.old };
 }
 
-/// Some ticks at one instruction, told one by one.
+/// Some ticks at one instruction, one by one.
 pub fn tick_several<T: Tally>(tally: &mut T, site: Site, count: u64) -> Result<(), Halt>
     ensures told { IsStep (ticked_by count site (T.state tally.old)) result (T.state tally.new) }
     ensures kept { T.kept tally.new ≡ T.kept tally.old }

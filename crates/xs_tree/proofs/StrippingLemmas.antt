@@ -145,7 +145,7 @@ module _ (marks : List Bool) (rs : List Record) where
           outside = λ b q. each_new (λ i. i ≡ new e → HasParentFrom (new n) (at (without marks rs) i) → ⊥) out (new e) b refl q;
         }
       where
-        -- behind the end no node has its parent inside
+        -- after the end no node has its parent inside
         past : (k q : ℕ) → k < length rs → stays marks rs k ≡ true → new k ≡ new e → e < k → (at rs k).parent ≡ Some q → n ≤ q → ⊥
         past k q v p same gt f le =
             let placed : IsPlaced rs k q = IsPlaced-at rs k q t v f in

@@ -5,7 +5,7 @@ use Rattle.std.specs.Option.{option_map}
 use Rattle.xs_tree.specs.Kinds.{is_text_kind}
 use Rattle.xs_tree.specs.Record.{Record, at}
 
--- whether the node at k stays: only a text node that is marked does not; behind the end of the marks none is marked
+-- whether the node at k stays: only a text node that is marked does not; after the end of the marks none is marked
 abbrev pub stays : List Bool → List Record → ℕ → Bool
 stays marks rs k = not (get_or marks k false && is_text_kind (at rs k).kind)
 

@@ -10,7 +10,7 @@ abbrev pub as_value_fault : NumFault → ValueFault
 as_value_fault due.Fraction = Fraction
 as_value_fault due.Range = Range
 
--- the result or the fault that is due, or want of memory
+-- the result or the fault that is expected, or out of memory
 abbrev pub Answers : {A : Type 0} → Result A NumFault → Result A ValueFault → Type 0
 Answers of (Ok x) = of ≡ Ok x
 Answers of (Err Fraction) = of ≡ Err due.Fraction

@@ -45,7 +45,7 @@ impl From<AllocError> for KeyEnd {
 
     ghost from_gives = { λ _ made. made ≡ NoMemory };
 
-    /// Want of memory.
+    /// Out of memory.
     fn from(_refused: AllocError) -> KeyEnd {
         KeyEnd::NoMemory
     }

@@ -78,7 +78,7 @@ impl NodeList {
         self.as_slice().len()
     }
 
-    /// Adds a node behind the others.
+    /// Adds a node after the others.
     #[inline(always)]
     pub fn push(&mut self, node: Node) -> Result<(), AllocError>
         ensures nodes { OnOk result (self.new ≡ self.old ++ node ∷ []) }
@@ -101,7 +101,7 @@ impl NodeList {
         }
     }
 
-    /// Adds nodes behind the others.
+    /// Adds nodes after the others.
     #[inline(always)]
     pub fn extend_from_slice(&mut self, more: &[Node]) -> Result<(), AllocError>
         ensures nodes { OnOk result (self.new ≡ self.old ++ more.now) }
@@ -144,7 +144,7 @@ fn gathered_of(alloc: Global, nodes: &[Node]) -> Result<Gathered, AllocError>
     }
 }
 
-// A node, and others behind it.
+// A node, and others after it.
 fn with_first(alloc: Global, first: Node, more: &[Node]) -> Result<Vec<Node>, AllocError>
     ensures { IfOk result (λ nodes. nodes.items ≡ first ∷ more.now) }
 {

@@ -70,7 +70,7 @@ impl From<NumFault> for ValueFault {
 impl From<AllocError> for ValueFault {
     ghost from_gives = { λ _ made. made ≡ NoMemory };
 
-    /// Want of memory.
+    /// Out of memory.
     fn from(_refused: AllocError) -> ValueFault {
         ValueFault::NoMemory
     }
@@ -79,7 +79,7 @@ impl From<AllocError> for ValueFault {
 impl<T: Drop> From<AllocFailed<T>> for ValueFault {
     ghost from_gives = { λ _ made. made ≡ NoMemory };
 
-    /// Want of memory; what there was no room for is dropped.
+    /// Out of memory; what there was no room for is dropped.
     fn from(_refused: AllocFailed<T>) -> ValueFault {
         ValueFault::NoMemory
     }

@@ -20,7 +20,7 @@ none-some : {A : Type 0} (a : A) (o : Option A) → o ≡ None → o ≡ Some a 
 none-some a o h k = cc
 
 -- ---- paths
--- steps behind a slash, where a path begins with it or goes on behind it
+-- steps after a slash, where a path begins with it or goes on after it
 slash-behind : (ahead : Ahead) (steps : List Tree) → steps_in ahead ≡ Some steps → with_slash ahead ≡ Some (tail [] steps)
 slash-behind (tail preds more) steps h = absurd (cc)
 slash-behind (tested which preds more) steps h = ap (option_map (λ (ss : List Tree). tail [] ss)) h
@@ -51,7 +51,7 @@ root-of-steps (stepped first more) steps h = go (first ∷ more) steps (some-sam
     go ss ts is k = subst (λ all. path_from (tail [] all) ≡ Some (path root (trees all))) is k
 root-of-steps (complete e) steps h = absurd (cc)
 
--- a minus sign is in front of no path
+-- a minus sign is before no path
 path-minus : (parts : List Part) → path_of (plain Negate ∷ parts) ≡ None
 path-minus parts = go (backwards parts (tail [] []))
   where

@@ -25,7 +25,7 @@ no-number false false true v e g h = cc
 no-number false false false true e g h = cc
 no-number false false false false e g h = cc
 
--- digits that stop at once, with no point behind them, are no number
+-- digits that stop at once, with no point after them, are no number
 whole-some : (rest : List ℕ) → kind rest ≡ ANumber → ((b : ℕ) (bs : List ℕ) → rest ≡ b ∷ bs → is_digit b ≡ false) → strip 46 rest ≡ None → ⊥
 whole-some [] k stops none = cc
 whole-some (b ∷ bs) k stops none = go (b == 46) refl none

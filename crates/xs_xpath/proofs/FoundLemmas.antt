@@ -29,7 +29,7 @@ and-then-some : {A B : Type 0} (f : A → Option B) (o : Option A) (b : B) → o
 and-then-some f None b h = absurd (none-some b h)
 and-then-some f (Some a) b h = (a, refl, h)
 
--- a text in front of what is left is a token by the rules
+-- a text before what is left is a token by the rules
 abbrev pub Told : Before → List ℕ → Found → Type 0
 Told before bytes f = (text : List ℕ) × (bytes ≡ text ++ f.rest) × IsToken before text f.rest f.lexeme f.after
 
@@ -111,7 +111,7 @@ if-true : {A : Type 0} (t : Bool) (o : Option A) (a : A) → (if t then o else N
 if-true true o a h = (refl, h)
 if-true false o a h = absurd (none-some a h)
 
--- a literal and what is behind it
+-- a literal and what is after it
 abbrev QuoteTold : List ℕ → List ℕ × List ℕ → Type 0
 QuoteTold bytes q = (quote : ℕ) × (is_quote quote ≡ true) × (bytes ≡ quote ∷ (q.0 ++ quote ∷ q.1)) × AllPass (Until quote) q.0
 
@@ -157,7 +157,7 @@ variable-told before (b ∷ bs) f k h =
     subst (Told before (b ∷ bs)) m.2 (36 ∷ n.0, ap (λ x. x ∷ bs) is ∙ ap (λ xs. 36 ∷ xs) n.1, a_variable before n.0 m.0.1 m.0.0 n.2)
 
 -- ---- names
--- what was found behind a name, where the name and what is behind it are all the bytes
+-- what was found after a name, where the name and what is after it are all the bytes
 abbrev Behind : Before → List ℕ → List ℕ → Found → Type 0
 Behind before text rest f = (more : List ℕ) × (rest ≡ more ++ f.rest) × IsToken before (text ++ more) f.rest f.lexeme f.after
 
@@ -188,7 +188,7 @@ star-told before text rest q more f k name is star h =
     let kinds : kind ((text ++ 58 ∷ 42 ∷ []) ++ more) ≡ AName = subst (λ all. kind all ≡ AName) (name-parts text rest (58 ∷ 42 ∷ []) more parts) k in
     subst (Behind before text rest) same (58 ∷ 42 ∷ [], parts, any_of before text more kinds is n)
 
--- white space, and what is behind it
+-- white space, and what is after it
 abbrev Blank : List ℕ → List ℕ → Type 0
 Blank rest more = (spaces : List ℕ) × (rest ≡ spaces ++ more) × AllPass Space spaces
 
@@ -229,7 +229,7 @@ pi-is Comment h = absurd (cc)
 pi-is Pi h = refl
 pi-is (Target target) h = absurd (cc)
 
--- a bracket behind a name, and what is behind it
+-- a bracket after a name, and what is after it
 bracket-told : (before : Before) (text rest spaces inside : List ℕ) (q : QName) (f : Found) → kind (text ++ rest) ≡ AName → IsName text rest q
     → is_operand before ≡ false → rest ≡ spaces ++ 40 ∷ inside → AllPass Space spaces
     → bracketed q inside (unprefixed kind_named q) ≡ Some f → Behind before text rest f

@@ -72,7 +72,7 @@ last p r ops es front = rw append-nil (go (p front))
     go None = refl
     go (Some e) = rw (append-nil ops) refl
 
--- ---- the tree behind the minus signs
+-- ---- the tree after the minus signs
 one-more : (m : ℕ) (o : Option Tree) → option_map {U = ℕ × Tree} (λ (found : ℕ × Tree). (suc found.0, found.1))
     (option_map {U = ℕ × Tree} (λ e. (m, e)) o) ≡ option_map {U = ℕ × Tree} (λ e. (suc m, e)) o
 one-more m None = refl

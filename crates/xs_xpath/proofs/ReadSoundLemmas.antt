@@ -48,7 +48,7 @@ held-open : (k : Tree → Tree) (frames : List Frame) (parts : List Part) (brack
     → Held k (frame bracket parts ∷ frames) [] (ts ++ us)
 held-open k frames parts bracket ts us h o = (ts, us, [], sym (append-nil (ts ++ us)), h, o, refl)
 
--- where the token behind is moved to what stands before it
+-- where the later token is moved to what stands before it
 assoc-end : (us vs ws ts : List Token) (t : Token) → ts ≡ us ++ vs ++ ws → us ++ (vs ++ ws ++ t ∷ []) ≡ ts ++ t ∷ []
 assoc-end us vs ws ts t h =
     sym (ap (λ all. all ++ t ∷ []) h ∙ append_assoc (us ++ vs) ws (t ∷ []) ∙ append_assoc us vs (ws ++ t ∷ [])

@@ -12,7 +12,7 @@ unless : {A : Type 0} → (test : Bool) (a : A) (x y z : Option A) → x ≡ or_
 unless true a x y z e = refl
 unless false a x y z e = e
 
--- of two tables, one behind the other
+-- of two tables, one after the other
 named-append : {A : Type 0} → (front back : List (List ℕ × A)) (name : List ℕ)
     → first_named (front ++ back) name ≡ or_else (first_named front name) (first_named back name)
 named-append [] back name = refl

@@ -51,7 +51,7 @@ run-boundary Digit bs cut utf8 = behind-ascii is_digit bs (prefix_len is_digit b
 run-boundary NameByte bs cut utf8 = before-ascii continues_name bs name-ascii
 run-boundary (Until quote) bs cut utf8 = before-ascii (is_other quote) bs (λ b h. other-ascii quote b cut h)
 
--- behind one ASCII byte
+-- after one ASCII byte
 pub one-boundary : (bs : List ℕ) → IsUtf8 bs → 0 < first bs → first bs < 128 → IsCharBoundary bs 1
 one-boundary [] utf8 some small = absurd (omega arith)
 one-boundary (b ∷ bs) utf8 some small =

@@ -16,7 +16,7 @@ use Rattle.xs_xpath.specs.Tree.{Tree, root, step, descend, path, trees, chained,
 use Rattle.xs_xpath.specs.Grammar.{minus_signs, Spells, operands, signs, relative, only_root, absolute, anywhere, primary, Links, no_links, link, Steps, child_step, axis_step, dotted_step, Behind, nothing, a_predicate, next_step, next_anywhere, Primary}
 use Rattle.xs_xpath.specs.Reading.{Part, plain, whole, predicate, Ahead, tail, tested, stepped, complete, steps_in, with_predicate, with_whole, with_test, with_axis, with_dots, behind_slash, with_slash, with_slashes, front, backwards, path_from, path_of, cut, placed, pieces, both, links_of, joined, negated, signed, operand, level}
 
--- ---- what stands behind an option
+-- ---- what stands after an option
 pub none-some : {A : Type 0} (a : A) → None ≡ Some a → ⊥
 none-some a h = cc
 

@@ -115,12 +115,12 @@ space-no-colon b h = grind (arith, nat_tests)
 no-star-first : (b : ℕ) (bs : List ℕ) → (b == 58) ≡ false → star_at (b ∷ bs) ≡ None
 no-star-first b bs h = ap (λ (t : Bool). if t && first bs == 42 then Some (drop 1 bs) else None) h
 
--- no star is behind white space, or what is no colon
+-- no star is after white space, or what is no colon
 no-star : (spaces : List ℕ) (c : ℕ) (rest : List ℕ) → AllPass Space spaces → star_at (c ∷ rest) ≡ None → star_at (spaces ++ c ∷ rest) ≡ None
 no-star [] c rest h none = none
 no-star (b ∷ spaces) c rest h none = no-star-first b (spaces ++ c ∷ rest) (space-no-colon b h.0)
 
--- ---- a name and what is behind it
+-- ---- a name and what is after it
 -- a name at the front of bytes
 name-starts : (before : Before) (text rest bytes : List ℕ) (q : QName) (o : Option Found) → bytes ≡ text ++ rest → kind bytes ≡ AName → IsName text rest q
     → named before q rest ≡ o → begun before bytes ≡ o
@@ -195,7 +195,7 @@ target-found before q quote spaces more target last rest is blank white end quot
     ∙ ap (closed Pi literal) (quote-no-end quote (target ++ quote ∷ (last ++ 41 ∷ rest)) quotes)
     ∙ ap target_found (quoted-is quote target (last ++ 41 ∷ rest) quotes inside) ∙ target-is target last rest end
 
--- ---- the text of a token and what is behind it, by their parts
+-- ---- the text of a token and what is after it, by their parts
 two-parts : (text spaces tail rest : List ℕ) → (text ++ (spaces ++ tail)) ++ rest ≡ text ++ (spaces ++ (tail ++ rest))
 two-parts text spaces tail rest = append_assoc text (spaces ++ tail) rest ∙ ap (λ xs. text ++ xs) (append_assoc spaces tail rest)
 

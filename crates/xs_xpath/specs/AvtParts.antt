@@ -22,7 +22,7 @@ abbrev pub IsTemplateFault : ℕ → ℕ → Result (List Part) Fault → Type 0
 IsTemplateFault number at (Ok parts) = ⊥
 IsTemplateFault number at (Err fault) = (number ≡ number_of_fault fault) × (at ≡ place_of_fault fault)
 
--- an answer says what the outcome is, want of memory apart
+-- an answer says what the outcome is, but for out of memory
 abbrev pub IsTemplateParsed : Result (Vec AvtPart Global) ParseFault → Result (List Part) Fault → Type 0
 IsTemplateParsed (Ok parts) outcome = outcome ≡ Ok (parts_from parts.items)
 IsTemplateParsed (Err (Bad number at)) outcome = IsTemplateFault number at outcome

@@ -52,7 +52,7 @@ abbrev pub inner_brackets : Lexeme → ℕ
 inner_brackets (Ready (Test which)) = if has_brackets which then 1 else 0
 inner_brackets _ = 0
 
--- the open brackets and the minus signs behind a lexeme
+-- the open brackets and the minus signs after a lexeme
 abbrev pub nested : Lexeme → ℕ → ℕ → ℕ × ℕ
 nested (Called q) brackets signs = (brackets + 1, 0)
 nested (Ready Round) brackets signs = (brackets + 1, 0)
@@ -168,7 +168,7 @@ abbrev pub ends : List Placed → Bool
 ends [] = true
 ends (p ∷ ps) = closes p.lexeme
 
--- the arguments of a call, from behind its bracket on: one more than its commas, or none where the bracket closes at once
+-- the arguments of a call, from after its bracket on: one more than its commas, or none where the bracket closes at once
 abbrev pub arguments_in : List Placed → ℕ
 arguments_in ps = if ends ps then 0 else suc (first_count (own_commas ps))
 

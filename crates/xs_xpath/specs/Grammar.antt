@@ -35,17 +35,17 @@ mutual
     only_root : Spells keep 0 (Slash ∷ []) root
     absolute : (ts : List Token) (steps : List Tree) → Steps keep ts steps → Spells keep 0 (Slash ∷ ts) (path root (trees steps))
     anywhere : (ts : List Token) (steps : List Tree) → Steps keep ts steps → Spells keep 0 (Slashes ∷ ts) (path root (trees (descend ∷ steps)))
-    -- [19] [20] a primary expression, its predicates, and steps behind it
+    -- [19] [20] a primary expression, its predicates, and steps after it
     primary : (ts us : List Token) (e : Tree) (preds steps : List Tree) → Primary keep ts e → Behind keep us preds steps
         → Spells keep 0 (ts ++ us) (followed (filtered e preds) steps)
 
-  -- operators of the level n + 1, each with an operand of the level n behind it
+  -- operators of the level n + 1, each with an operand of the level n after it
   pub data Links (keep : Tree → Tree) : ℕ → List Token → List (Operator × Tree) → Type 0 where
     no_links : (n : ℕ) → Links keep n [] []
     link : (n : ℕ) (op : Operator) (ts us : List Token) (e : Tree) (links : List (Operator × Tree)) → rank op ≡ suc n → Spells keep n ts e
         → Links keep n us links → Links keep n (Infix op ∷ ts ++ us) ((op, e) ∷ links)
 
-  -- [4] a step and those behind it: [5] [7] a node test, with the child axis where none is written [13]; [12] `.` and `..`
+  -- [4] a step and those after it: [5] [7] a node test, with the child axis where none is written [13]; [12] `.` and `..`
   pub data Steps (keep : Tree → Tree) : List Token → List Tree → Type 0 where
     child_step : (which : NodeTest) (ts : List Token) (preds steps : List Tree) → Behind keep ts preds steps
         → Steps keep (Test which ∷ ts) (step Child which (trees preds) ∷ steps)
@@ -54,7 +54,7 @@ mutual
     dotted_step : (axis : Axis) (ts : List Token) (steps : List Tree) → Behind keep ts [] steps
         → Steps keep (Dots axis ∷ ts) (step axis Node (trees []) ∷ steps)
 
-  -- [8] predicates, and [3] [11] steps behind them
+  -- [8] predicates, and [3] [11] steps after them
   pub data Behind (keep : Tree → Tree) : List Token → List Tree → List Tree → Type 0 where
     nothing : Behind keep [] [] []
     a_predicate : (ts us : List Token) (e : Tree) (preds steps : List Tree) → Spells keep expr_level ts e → Behind keep us preds steps
@@ -71,7 +71,7 @@ mutual
     arguments : (function : Function) (ts us : List Token) (es : List Tree) (e : Tree) → Commas keep ts es → Spells keep expr_level us e
         → Primary keep (Call function ∷ ts ++ us ++ EndRound ∷ []) (call function (trees (es ++ keep e ∷ [])))
 
-  -- arguments, each with a comma behind it
+  -- arguments, each with a comma after it
   pub data Commas (keep : Tree → Tree) : List Token → List Tree → Type 0 where
     no_commas : Commas keep [] []
     argument : (ts us : List Token) (es : List Tree) (e : Tree) → Commas keep ts es → Spells keep expr_level us e

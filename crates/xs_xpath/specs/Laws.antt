@@ -29,12 +29,12 @@ StandsFor pairs text e = (ps : List Placed) × Lexes 0 NoOperand text ps × Spel
 abbrev pub OneTreeOfText : Type 0
 OneTreeOfText = (pairs : List (List ℕ × List ℕ)) (text : List ℕ) (e f : Tree) → StandsFor pairs text e → StandsFor pairs text f → e ≡ f
 
--- a text, wanted as a pattern or not, is told to be in no spelling of the grammar exactly where it stands for no tree
+-- a text, wanted as a pattern or not, is reported to be in no spelling of the grammar exactly where it represents no tree
 abbrev pub SyntaxIsTold : Type 0
 SyntaxIsTold =
     (wanted : Bool) (pairs : List (List ℕ × List ℕ)) (text : List ℕ) → (outcome_in wanted pairs text ≡ Err Syntax) ↔ ((e : Tree) → StandsFor pairs text e → ⊥)
 
--- of a text whose tokens spell a tree, the least of the other faults is told, or else the tree
+-- of a text whose tokens spell a tree, the least of the other faults is reported, or else the tree
 abbrev pub OutcomeIsTold : Type 0
 OutcomeIsTold =
     (wanted : Bool) (pairs : List (List ℕ × List ℕ)) (text : List ℕ) (ps : List Placed) (e : Tree) → Lexes 0 NoOperand text ps

@@ -68,14 +68,14 @@ first (b ∷ bs) = b
 abbrev pub second : List ℕ → ℕ
 second bytes = first (drop 1 bytes)
 
--- the longest run of a class at the front, and what is behind it
+-- the longest run of a class at the front, and what is after it
 abbrev pub run : Class → List ℕ → List ℕ
 run class bytes = take (prefix_len (passes class) bytes) bytes
 
 abbrev pub behind : Class → List ℕ → List ℕ
 behind class bytes = drop (prefix_len (passes class) bytes) bytes
 
--- what is behind a byte
+-- what is after a byte
 abbrev pub strip : ℕ → List ℕ → Option (List ℕ)
 strip b bytes = if first bytes == b then Some (drop 1 bytes) else None
 
@@ -100,7 +100,7 @@ minus_behind NoOperand = Negate
 minus_behind MaybeRoot = Infix Minus
 minus_behind Operand = Infix Minus
 
--- A star multiplies behind an operand, and is a node test elsewhere.
+-- A star multiplies after an operand, and is a node test elsewhere.
 abbrev pub star_behind : Before → Token × Before
 star_behind NoOperand = (Test Any, Operand)
 star_behind MaybeRoot = (Test Any, Operand)
@@ -159,7 +159,7 @@ pointed whole rest (Some more) = found (Number (whole ++ 46 ∷ run Digit more))
 abbrev pub number_found : List ℕ → Found
 number_found bytes = pointed (run Digit bytes) (behind Digit bytes) (strip 46 (behind Digit bytes))
 
--- a literal's text, and what is behind its second quote
+-- a literal's text, and what is after its second quote
 abbrev pub quoted_in : ℕ → List ℕ → Option (List ℕ × List ℕ)
 quoted_in quote bytes = option_map (λ rest. (run (Until quote) bytes, rest)) (strip quote (behind (Until quote) bytes))
 
@@ -176,7 +176,7 @@ is_ncname text = spells_ncname (chars text)
 abbrev pub qname : List ℕ → List ℕ → QName
 qname prefix local = record { prefix = prefix; local = local }
 
--- what is behind a colon, where a name begins there
+-- what is after a colon, where a name begins there
 abbrev pub local_at : List ℕ → Option (List ℕ)
 local_at bytes = if first bytes == 58 && starts_name (second bytes) then Some (drop 1 bytes) else None
 
@@ -184,7 +184,7 @@ abbrev pub with_local : List ℕ → List ℕ → Option (List ℕ) → Option (
 with_local name rest None = Some (qname [] name, rest)
 with_local name rest (Some more) = if is_ncname (run NameByte more) then Some (qname name (run NameByte more), behind NameByte more) else None
 
--- a QName (Namespaces in XML 1.0, 4), and what is behind it
+-- a QName (Namespaces in XML 1.0, 4), and what is after it
 abbrev pub qualified : List ℕ → Option (QName × List ℕ)
 qualified bytes = if is_ncname (run NameByte bytes) then with_local (run NameByte bytes) (behind NameByte bytes) (local_at (behind NameByte bytes)) else None
 
@@ -239,12 +239,12 @@ abbrev pub is_pi : NodeTest → Bool
 is_pi Pi = true
 is_pi _ = false
 
--- `processing-instruction` with a literal, from behind it
+-- `processing-instruction` with a literal, from after it
 abbrev pub target_found : Option (List ℕ × List ℕ) → Option Found
 target_found None = None
 target_found (Some q) = option_map (λ rest. found (Ready (Test (Target q.0))) rest Operand) (strip 41 (behind Space q.1))
 
--- a node type, from the white space behind its bracket on
+-- a node type, from the white space after its bracket on
 abbrev pub closed : NodeTest → List ℕ → Option (List ℕ) → Option Found
 closed which bytes (Some rest) = Some (found (Ready (Test which)) rest Operand)
 closed which bytes None = if is_pi which then target_found (quoted bytes) else None
@@ -266,7 +266,7 @@ abbrev pub before_bracket : QName → List ℕ → Option (List ℕ) → Option 
 before_bracket q rest (Some inside) = bracketed q inside (unprefixed kind_named q)
 before_bracket q rest None = before_colons q rest (colons_at (behind Space rest))
 
--- `:*` behind a prefix
+-- `:*` after a prefix
 abbrev pub star_at : List ℕ → Option (List ℕ)
 star_at bytes = if first bytes == 58 && second bytes == 42 then Some (drop 1 (drop 1 bytes)) else None
 
@@ -277,7 +277,7 @@ before_star q rest None = before_bracket q rest (strip 40 (behind Space rest))
 abbrev pub operator_found : QName → List ℕ → Option Found
 operator_found q rest = option_map (λ op. found (Ready (Infix op)) rest NoOperand) (unprefixed operator_named q)
 
--- 3.7's first rule: behind an operand a name is an operator's
+-- 3.7's first rule: after an operand a name is an operator's
 abbrev pub named : Before → QName → List ℕ → Option Found
 named before q rest = if is_operand before then operator_found q rest else before_star q rest (star_at rest)
 

@@ -37,7 +37,7 @@ abbrev pub IsFault : ℕ → ℕ → Result Tree Fault → Type 0
 IsFault number at (Ok e) = ⊥
 IsFault number at (Err fault) = (number ≡ number_of_fault fault) × (at ≡ place_of_fault fault)
 
--- an answer says what the outcome is, want of memory apart
+-- an answer says what the outcome is, but for out of memory
 abbrev pub IsParsed : Result Expr ParseFault → Result Tree Fault → Type 0
 IsParsed (Ok e) outcome = outcome ≡ Ok (tree_from e)
 IsParsed (Err (Bad number at)) outcome = IsFault number at outcome

@@ -20,7 +20,7 @@ pub data Part : Type 0 where
   predicate : Tree → Part
 
 -- ---- paths, which are read from the right
--- what stands at the right: predicates and steps; a node test with such; a step and steps behind it; a whole path
+-- what stands at the right: predicates and steps; a node test with such; a step and steps after it; a whole path
 pub data Ahead : Type 0 where
   tail : List Tree → List Tree → Ahead
   tested : NodeTest → List Tree → List Tree → Ahead
@@ -34,7 +34,7 @@ steps_in (tested which preds steps) = Some (step Child which (trees preds) ∷ s
 steps_in (stepped first steps) = Some (first ∷ steps)
 steps_in (complete e) = None
 
--- the predicates and steps that stand there, if nothing stands in front of them
+-- the predicates and steps that stand there, if nothing stands before them
 abbrev pub tail_in : Ahead → Option (List Tree × List Tree)
 tail_in (tail preds steps) = Some (preds, steps)
 tail_in _ = None
@@ -59,7 +59,7 @@ with_dots axis _ = None
 abbrev pub behind_slash : Ahead → Option Ahead
 behind_slash ahead = option_map (λ steps. tail [] steps) (steps_in ahead)
 
--- a slash with nothing behind it is the root
+-- a slash with nothing after it is the root
 abbrev pub with_slash : Ahead → Option Ahead
 with_slash (tail [] []) = Some (complete root)
 with_slash ahead = behind_slash ahead
@@ -103,7 +103,7 @@ abbrev pub placed : Option Operator → Part → List Part × List (Operator × 
 placed None part pieces = (part ∷ pieces.0, pieces.1)
 placed (Some op) part pieces = ([], (op, pieces.0) ∷ pieces.1)
 
--- the parts before the first operator of a rank, and each such operator with the parts behind it
+-- the parts before the first operator of a rank, and each such operator with the parts after it
 abbrev pub pieces : ℕ → List Part → List Part × List (Operator × List Part)
 pieces r [] = ([], [])
 pieces r (part ∷ parts) = placed (cut r part) part (pieces r parts)
@@ -127,7 +127,7 @@ abbrev pub negated : ℕ → Tree → Tree
 negated zero e = e
 negated (suc m) e = negative (suc m) e
 
--- how many minus signs are in front, and the tree behind them
+-- how many minus signs come first, and the tree after them
 abbrev pub signed : (List Part → Option Tree) → List Part → Option (ℕ × Tree)
 signed p [] = option_map (λ e. (0, e)) (p [])
 signed p (part ∷ parts) = if is_minus part then option_map (λ found. (suc found.0, found.1)) (signed p parts) else option_map (λ e. (0, e)) (p (part ∷ parts))
@@ -155,7 +155,7 @@ pub record Frame : Type 0 where
   pub bracket : Bracket
   pub before : List Part
 
--- the open brackets, innermost first, and the parts behind the innermost
+-- the open brackets, innermost first, and the parts after the innermost
 pub record State : Type 0 where
   pub frames : List Frame
   pub parts : List Part

@@ -37,7 +37,7 @@ pub data IsName : List ℕ → List ℕ → QName → Type 0 where
       → starts_name (first local) ≡ true → Stops NameByte rest
       → IsName (prefix ++ 58 ∷ local) rest (qname prefix local)
 
--- A text that stands behind something, and before a rest, is a token, and what this is before the next one.
+-- A text that stands after something, and before a rest, is a token, and what this is before the next one.
 pub data IsToken : Before → List ℕ → List ℕ → Lexeme → Before → Type 0 where
   one_sign : (before after : Before) (b : ℕ) (rest : List ℕ) (t : Token) → kind (b ∷ rest) ≡ ASign → two b (first rest) ≡ None
       → one before b ≡ Some (t, after) → IsToken before (b ∷ []) rest (Ready t) after
@@ -72,7 +72,7 @@ pub data IsToken : Before → List ℕ → List ℕ → Lexeme → Before → Ty
   a_call : (before : Before) (text spaces rest : List ℕ) (q : QName) → kind ((text ++ (spaces ++ 40 ∷ [])) ++ rest) ≡ AName → is_operand before ≡ false
       → IsName text (spaces ++ 40 ∷ rest) q → AllPass Space spaces → unprefixed kind_named q ≡ None
       → IsToken before (text ++ (spaces ++ 40 ∷ [])) rest (Called q) NoOperand
-  -- [7] [38], with both brackets: behind the name, white space, a bracket, white space and a bracket
+  -- [7] [38], with both brackets: after the name, white space, a bracket, white space and a bracket
   a_kind : (before : Before) (text spaces more rest : List ℕ) (q : QName) (test : NodeTest)
       → kind ((text ++ (spaces ++ 40 ∷ (more ++ 41 ∷ []))) ++ rest) ≡ AName → is_operand before ≡ false → IsName text (spaces ++ 40 ∷ (more ++ 41 ∷ rest)) q
       → AllPass Space spaces → AllPass Space more → unprefixed kind_named q ≡ Some test
@@ -84,7 +84,7 @@ pub data IsToken : Before → List ℕ → List ℕ → Lexeme → Before → Ty
       → AllPass Space last → is_quote quote ≡ true → AllPass (Until quote) target → unprefixed kind_named q ≡ Some Pi
       → IsToken before (text ++ (spaces ++ 40 ∷ (more ++ quote ∷ (target ++ quote ∷ (last ++ 41 ∷ []))))) rest (Ready (Test (Target target))) Operand
 
--- the place behind bytes that begin at a place
+-- the place after bytes that begin at a place
 abbrev pub past : List ℕ → ℕ → ℕ
 past [] at = at
 past (b ∷ bs) at = past bs (suc at)

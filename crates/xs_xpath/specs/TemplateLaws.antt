@@ -11,11 +11,11 @@ TemplatesAreCut = (text : List ℕ) (ps : List Piece) → Pieces 0 text ps ↔ (
 abbrev pub StandsForParts : List (List ℕ × List ℕ) → List ℕ → List Part → Type 0
 StandsForParts pairs text qs = (ps : List Piece) × Pieces 0 text ps × AllStand pairs ps qs
 
--- a text is told to be no value template exactly where it stands for no parts
+-- a text is reported to be no value template exactly where it represents no parts
 abbrev pub TemplateSyntaxIsTold : Type 0
 TemplateSyntaxIsTold =
     (pairs : List (List ℕ × List ℕ)) (text : List ℕ) → (template_in pairs text ≡ Err Syntax) ↔ ((qs : List Part) → StandsForParts pairs text qs → ⊥)
 
--- of a text with pieces, the least of their faults is told, or else their parts
+-- of a text with pieces, the least of their faults is reported, or else their parts
 abbrev pub TemplateIsTold : Type 0
 TemplateIsTold = (pairs : List (List ℕ × List ℕ)) (text : List ℕ) (ps : List Piece) → Pieces 0 text ps → (template_in pairs text ≡ parts_in pairs ps)

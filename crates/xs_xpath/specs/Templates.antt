@@ -72,7 +72,7 @@ pub data AllStand (pairs : List (List ℕ × List ℕ)) : List Piece → List Pa
       → AllStand pairs (piece_of at Braced bytes ∷ ps) (computed e ∷ qs)
 
 -- ---- the same as functions
--- how many bytes stand before the right bracket that ends an expression; behind a quote a literal is open
+-- how many bytes stand before the right bracket that ends an expression; after a quote a literal is open
 abbrev pub ends : Option ℕ → ℕ → Bool
 ends None b = b == 125
 ends (Some quote) b = false
@@ -85,7 +85,7 @@ abbrev pub inside : Option ℕ → List ℕ → Option ℕ
 inside quote [] = None
 inside quote (b ∷ bs) = if ends quote b then Some 0 else option_map suc (inside (open_behind quote b) bs)
 
--- how a piece is written, its text, and what is behind it
+-- how a piece is written, its text, and what is after it
 abbrev pub fixed_at : List ℕ → Written × List ℕ × List ℕ
 fixed_at bytes = (Plain, take (prefix_len is_fixed bytes) bytes, drop (prefix_len is_fixed bytes) bytes)
 
@@ -96,7 +96,7 @@ abbrev pub braced_at : List ℕ → Option ℕ → Option (Written × List ℕ �
 braced_at bytes None = None
 braced_at bytes (Some n) = Some (Braced, take n bytes, drop 1 (drop n bytes))
 
--- a bracket with what is behind it
+-- a bracket with what is after it
 abbrev pub bracket_at : List ℕ → Option (Written × List ℕ × List ℕ)
 bracket_at bytes =
     if second bytes == first bytes then Some (doubled_at (drop 1 bytes))

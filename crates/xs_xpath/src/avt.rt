@@ -79,7 +79,7 @@ fn ends(quote: Option<u8>, b: u8) -> bool
     }
 }
 
-/// The quote whose literal is open behind a byte.
+/// The quote whose literal is open after a byte.
 fn open_behind(quote: Option<u8>, b: u8) -> Option<u8>
     ensures quote { result ≡ open_behind quote b }
 {
@@ -118,7 +118,7 @@ fn inside(bytes: &[u8]) -> Option<usize>
     None
 }
 
-/// An expression up to its right bracket, and what is behind that.
+/// An expression up to its right bracket, and what is after that.
 fn braced_at(text: &str) -> Option<(Written, &str, &str)>
     ensures piece { option_map (λ p. (p.0, p.1.now, p.2.now)) result
         ≡ braced_at text.now (inside None text.now) }
@@ -146,7 +146,7 @@ fn doubled_at(text: &str) -> (Written, &str, &str)
     (Written::Plain, bracket, behind)
 }
 
-/// A bracket with what is behind it.
+/// A bracket with what is after it.
 fn bracket_at(text: &str) -> Option<(Written, &str, &str)>
     requires bracket { is_bracket (first text.now) ≡ true }
     ensures piece { option_map (λ p. (p.0, p.1.now, p.2.now)) result ≡ bracket_at text.now }
@@ -163,7 +163,7 @@ fn bracket_at(text: &str) -> Option<(Written, &str, &str)>
     None
 }
 
-/// Fixed text, and what is behind it.
+/// Fixed text, and what is after it.
 fn fixed_at(text: &str) -> (Written, &str, &str)
     ensures piece { (result.0, result.1.now, result.2.now) ≡ fixed_at text.now }
     ensures within { brackets result.0 + length result.1.now + length result.2.now
@@ -173,7 +173,7 @@ fn fixed_at(text: &str) -> (Written, &str, &str)
     (Written::Plain, fixed, behind)
 }
 
-/// The piece at the front: how it is written, its text, and what is behind it.
+/// The piece at the front: how it is written, its text, and what is after it.
 #[tactic(auto, unfolding(crate::specs::Templates::piece_at))]
 fn piece_at(text: &str) -> Option<(Written, &str, &str)>
     ensures piece { option_map (λ p. (p.0, p.1.now, p.2.now)) result ≡ piece_at text.now }

@@ -104,7 +104,7 @@ pub fn first(text: &str) -> u8
     first_byte(text.as_bytes())
 }
 
-/// What is behind the first byte, which is ASCII.
+/// What is after the first byte, which is ASCII.
 pub fn skip_one(text: &str) -> &str
     requires some { 0 < first text.now }
     requires ascii { first text.now < 128 }
@@ -131,7 +131,7 @@ pub fn second(text: &str) -> u8
     second_byte(text.as_bytes())
 }
 
-/// The longest run of a class at the front, and what is behind it.
+/// The longest run of a class at the front, and what is after it.
 pub fn split_run(text: &str, class: Class) -> (&str, &str)
     requires cut { IsCut class }
     ensures run { result.0.now ≡ take (prefix_len (passes class) text.now) text.now }
@@ -140,7 +140,7 @@ pub fn split_run(text: &str, class: Class) -> (&str, &str)
     text.split_at(run_len(text.as_bytes(), class))
 }
 
-/// What is behind an ASCII byte, where the text begins with it.
+/// What is after an ASCII byte, where the text begins with it.
 pub fn strip(text: &str, b: u8) -> Option<&str>
     requires some { 0 < b }
     requires ascii { b < 128 }
@@ -153,7 +153,7 @@ pub fn strip(text: &str, b: u8) -> Option<&str>
     }
 }
 
-/// What is behind a colon, where a name begins there.
+/// What is after a colon, where a name begins there.
 pub fn local_at(text: &str) -> Option<&str>
     ensures rest { option_map (λ rest. rest.now) result ≡ local_at text.now }
 {
@@ -165,7 +165,7 @@ pub fn local_at(text: &str) -> Option<&str>
     None
 }
 
-/// What is behind two colons.
+/// What is after two colons.
 pub fn colons_at(text: &str) -> Option<&str>
     ensures rest { option_map (λ rest. rest.now) result ≡ colons_at text.now }
 {
@@ -177,7 +177,7 @@ pub fn colons_at(text: &str) -> Option<&str>
     None
 }
 
-/// What is behind a colon and a star.
+/// What is after a colon and a star.
 pub fn star_at(text: &str) -> Option<&str>
     ensures rest { option_map (λ rest. rest.now) result ≡ star_at text.now }
 {
@@ -216,7 +216,7 @@ pub fn kind_at(text: &str) -> Kind
     Kind::ASign
 }
 
-/// A literal's text from behind its first quote on, and what is behind its second.
+/// A literal's text from after its first quote on, and what is after its second.
 fn quoted_in(text: &str, quote: u8) -> Option<(&str, &str)>
     requires some { 0 < quote }
     requires ascii { quote < 128 }
@@ -229,7 +229,7 @@ fn quoted_in(text: &str, quote: u8) -> Option<(&str, &str)>
     }
 }
 
-/// A literal's text, and what is behind its second quote.
+/// A literal's text, and what is after its second quote.
 pub fn quoted(text: &str) -> Option<(&str, &str)>
     ensures parts { option_map (λ q. (q.0.now, q.1.now)) result ≡ quoted text.now }
 {

@@ -62,7 +62,7 @@ pub(crate) fn descend() -> Expr
     Expr::Descend
 }
 
-/// An operand behind so many minus signs.
+/// An operand after so many minus signs.
 pub(crate) fn negated(alloc: Global, signs: usize, operand: Expr) -> Result<Expr, AllocError>
     ensures tree { IfOk result (λ e. tree_from e ≡ negated signs (tree_from operand)) }
 {

@@ -25,12 +25,12 @@ pub fn one_tree_of_text()
     ensures { OneTreeOfText }
 {}
 
-/// Which texts are told to be in no spelling of the grammar.
+/// Which texts are reported to be in no spelling of the grammar.
 pub fn syntax_is_told()
     ensures { SyntaxIsTold }
 {}
 
-/// What is told of the others.
+/// What is reported of the others.
 pub fn outcome_is_told()
     ensures { OutcomeIsTold }
 {}
@@ -40,12 +40,12 @@ pub fn templates_are_cut()
     ensures { TemplatesAreCut }
 {}
 
-/// Which texts are told to be no value templates.
+/// Which texts are reported to be no value templates.
 pub fn template_syntax_is_told()
     ensures { TemplateSyntaxIsTold }
 {}
 
-/// What is told of the others.
+/// What is reported of the others.
 pub fn template_is_told()
     ensures { TemplateIsTold }
 {}

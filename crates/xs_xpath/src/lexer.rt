@@ -120,7 +120,7 @@ fn operator_found(name: QName, rest: &str) -> Option<(Lexeme, &str, Before)>
     }
 }
 
-/// `processing-instruction` with a literal, from behind it.
+/// `processing-instruction` with a literal, from after it.
 fn target_found<'a>(
     alloc: Global,
     parts: Option<(&'a str, &'a str)>,
@@ -143,7 +143,7 @@ fn target_found<'a>(
     }
 }
 
-/// A node type, from the white space behind its bracket on.
+/// A node type, from the white space after its bracket on.
 fn closed<'a>(
     alloc: Global,
     test: NodeTest,

@@ -29,7 +29,7 @@ fn qname(alloc: Global, prefix: &str, local: &str) -> Result<QName, AllocError>
     })
 }
 
-/// A name, where a local part is behind a colon behind it, and what is behind both.
+/// A name, where a local part is after a colon after it, and what is after both.
 fn with_local<'a>(
     alloc: Global,
     name: &str,
@@ -51,7 +51,7 @@ fn with_local<'a>(
     }
 }
 
-/// A qualified name at the front, and what is behind it.
+/// A qualified name at the front, and what is after it.
 pub fn qualified(alloc: Global, text: &str) -> Result<Option<(QName, &str)>, AllocError>
     ensures name { IfOk result (λ r. option_map (λ q. (q.0, q.1.now)) r ≡ qualified text.now) }
 {

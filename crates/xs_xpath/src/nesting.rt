@@ -22,7 +22,7 @@ fn has_brackets(test: &NodeTest) -> bool
     }
 }
 
-/// The open brackets and the minus signs in a row behind a token.
+/// The open brackets and the minus signs in a row after a token.
 fn nested_token(token: &Token, brackets: u32, signs: u32) -> (u32, u32)
     requires brackets { brackets ≤ 64 }
     requires signs { signs ≤ 64 }
@@ -61,7 +61,7 @@ fn nested_token(token: &Token, brackets: u32, signs: u32) -> (u32, u32)
     }
 }
 
-/// The open brackets and the minus signs in a row behind a lexeme.
+/// The open brackets and the minus signs in a row after a lexeme.
 fn nested(lexeme: &Lexeme, brackets: u32, signs: u32) -> (u32, u32)
     requires brackets { brackets ≤ 64 }
     requires signs { signs ≤ 64 }

@@ -72,7 +72,7 @@ fn gather(operators: Vec<Operator>, mut operands: Vec<Expr>) -> Expr
     chain(operators, operands)
 }
 
-/// What was cut off: operators, the operands before them, and the parts behind the last operator.
+/// What was cut off: operators, the operands before them, and the parts after the last operator.
 #[derive(Drop)]
 pub struct Cutting {
     operators: Vec<Operator>,
@@ -80,7 +80,7 @@ pub struct Cutting {
     front: Vec<Part>,
 }
 
-/// With a part more behind the last operator.
+/// With a part more after the last operator.
 fn with_front(state: Cutting, part: Part) -> Result<Cutting, AllocError>
     ensures cutting { IfOk result (λ s. cutting_of s
         ≡ with_front (part_of part) (cutting_of state)) }
@@ -98,7 +98,7 @@ fn with_front(state: Cutting, part: Part) -> Result<Cutting, AllocError>
     })
 }
 
-/// With an operand and the operator behind it.
+/// With an operand and the operator after it.
 fn with_operand(
     alloc: Global,
     mut operators: Vec<Operator>,

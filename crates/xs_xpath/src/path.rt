@@ -15,7 +15,7 @@ use std::alloc::{AllocError, Global};
 use xs_tree::Axis;
 
 /// What stands at the right of a path: predicates and steps; a node test with such; a step and
-/// steps behind it; a whole path.
+/// steps after it; a whole path.
 /// The last of a list stands first in the path.
 #[derive(Drop)]
 pub enum Ahead {
@@ -66,7 +66,7 @@ fn steps_in(ahead: Ahead) -> Result<Option<Vec<Expr>>, AllocError>
     }
 }
 
-/// The predicates and steps that stand there, if nothing stands in front of them.
+/// The predicates and steps that stand there, if nothing stands before them.
 fn tail_in(ahead: Ahead) -> Option<(Vec<Expr>, Vec<Expr>)>
     ensures tail { option_map tail_of result ≡ tail_in (ahead_of ahead) }
 {
@@ -153,7 +153,7 @@ fn with_axis(axis: Axis, ahead: Ahead) -> Option<Ahead>
     }
 }
 
-/// With `.` or `..` in front, behind which no predicate stands.
+/// With `.` or `..` first, after which no predicate stands.
 fn with_dots(alloc: Global, axis: Axis, ahead: Ahead) -> Option<Ahead>
     ensures ahead { option_map ahead_of result ≡ with_dots axis (ahead_of ahead) }
 {
@@ -171,7 +171,7 @@ fn with_dots(alloc: Global, axis: Axis, ahead: Ahead) -> Option<Ahead>
     }
 }
 
-/// With a slash in front of steps.
+/// With a slash before steps.
 fn behind_slash(alloc: Global, ahead: Ahead) -> Result<Option<Ahead>, AllocError>
     ensures ahead { IfOk result (λ r. option_map ahead_of r ≡ behind_slash (ahead_of ahead)) }
 {
@@ -181,7 +181,7 @@ fn behind_slash(alloc: Global, ahead: Ahead) -> Result<Option<Ahead>, AllocError
     }
 }
 
-/// With a slash in front, which is the root where nothing is behind it.
+/// With a slash first, which is the root where nothing is after it.
 fn with_slash(alloc: Global, ahead: Ahead) -> Result<Option<Ahead>, AllocError>
     ensures ahead { IfOk result (λ r. option_map ahead_of r ≡ with_slash (ahead_of ahead)) }
 {

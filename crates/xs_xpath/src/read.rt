@@ -28,7 +28,7 @@ pub struct Frame {
     before: Vec<Part>,
 }
 
-/// What was read: the open brackets, and the parts behind the last one.
+/// What was read: the open brackets, and the parts after the last one.
 #[derive(Drop)]
 pub struct State {
     frames: Vec<Frame>,
@@ -179,7 +179,7 @@ fn argued(
     }
 }
 
-/// The state behind a bracket that ended as a part.
+/// The state after a bracket that ended as a part.
 fn behind_bracket(
     frames: Vec<Frame>,
     mut before: Vec<Part>,
@@ -201,7 +201,7 @@ fn behind_bracket(
     }
 }
 
-/// The state behind a round bracket that closes.
+/// The state after a round bracket that closes.
 fn end_round(alloc: Global, is_deep: bool, state: State) -> Result<Option<State>, AllocError>
     ensures state { IfOk result (λ s. option_map state_of s
         ≡ taken (expr (kept is_deep)) EndRound (state_of state)) }
@@ -217,7 +217,7 @@ fn end_round(alloc: Global, is_deep: bool, state: State) -> Result<Option<State>
     }
 }
 
-/// The state behind a square bracket that closes.
+/// The state after a square bracket that closes.
 fn end_square(alloc: Global, is_deep: bool, state: State) -> Result<Option<State>, AllocError>
     ensures state { IfOk result (λ s. option_map state_of s
         ≡ taken (expr (kept is_deep)) EndSquare (state_of state)) }
@@ -233,7 +233,7 @@ fn end_square(alloc: Global, is_deep: bool, state: State) -> Result<Option<State
     }
 }
 
-/// The state behind a comma.
+/// The state after a comma.
 fn next_argument(alloc: Global, is_deep: bool, state: State) -> Result<Option<State>, AllocError>
     ensures state { IfOk result (λ s. option_map state_of s
         ≡ taken (expr (kept is_deep)) Comma (state_of state)) }
@@ -257,7 +257,7 @@ fn next_argument(alloc: Global, is_deep: bool, state: State) -> Result<Option<St
     }
 }
 
-/// The state behind a token that opens a bracket.
+/// The state after a token that opens a bracket.
 fn begin(alloc: Global, state: State, bracket: Bracket) -> Result<Option<State>, AllocError>
     ensures state { IfOk result (λ s. option_map state_of s
         ≡ Some (opened (bracket_of bracket) (state_of state))) }
@@ -265,7 +265,7 @@ fn begin(alloc: Global, state: State, bracket: Bracket) -> Result<Option<State>,
     Ok(Some(open_bracket(alloc, state, bracket)?))
 }
 
-/// The state behind a part more.
+/// The state after a part more.
 fn add(state: State, part: Part) -> Result<Option<State>, AllocError>
     ensures state { IfOk result (λ s. option_map state_of s
         ≡ Some (with_part (part_of part) (state_of state))) }
@@ -273,7 +273,7 @@ fn add(state: State, part: Part) -> Result<Option<State>, AllocError>
     Ok(Some(with_part(state, part)?))
 }
 
-/// The state behind a token.
+/// The state after a token.
 fn take(
     alloc: Global,
     is_deep: bool,

@@ -49,7 +49,7 @@ fn star_behind(before: Before) -> (Token, Before)
     }
 }
 
-/// An operator, behind which no operand stands.
+/// An operator, after which no operand stands.
 fn infix(operator: Operator) -> Option<(Token, Before)>
     ensures sign { result ≡ Some (Infix operator, NoOperand) }
 {

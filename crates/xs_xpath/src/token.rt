@@ -32,7 +32,7 @@ pub enum Atom {
     Variable(TextBuf, TextBuf),
 }
 
-/// A token whose names are resolved. A function's name and the bracket behind it are one token,
+/// A token whose names are resolved. A function's name and the bracket after it are one token,
 /// and so are an axis' name and
 /// its colons, a node type and its brackets, and a variable and its dollar sign. A minus sign
 /// before an operand is `Negate`.
@@ -65,7 +65,7 @@ pub enum Lexeme {
     AnyOf(TextBuf),
     /// A name test.
     Named(QName),
-    /// A function's name and the bracket behind it.
+    /// A function's name and the bracket after it.
     Called(QName),
     /// A variable.
     Variable(QName),

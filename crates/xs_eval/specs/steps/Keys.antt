@@ -17,7 +17,7 @@ holds d k = nat_le d.root k && nat_lt k d.end
 abbrev pub IsDocumentOf : List Record → ℕ → Document → Type 0
 IsDocumentOf rs n d = (k : ℕ) → k < length rs → is_same_document rs n k ≡ holds d k
 
--- why a table gives no nodes: its fault, or want of memory
+-- why a table gives no nodes: its fault, or out of memory
 abbrev pub HasFault : Table → KeyEnd → Type 0
 HasFault t (Fault f) = t.fault ≡ Some f
 HasFault t NoMemory = Unit {0}
@@ -27,7 +27,7 @@ abbrev pub FindsNodes : Context → Table → List (List ℕ) → Result (List �
 FindsNodes c t texts (Ok ns) = (t.fault ≡ None) × (ns ≡ found c t texts)
 FindsNodes c t texts (Err e) = HasFault t e
 
--- for a text, behind others
+-- for a text, after others
 abbrev pub AddsNodes : Context → Table → List ℕ → List ℕ → Result (List ℕ) KeyEnd → Type 0
 AddsNodes c t text before (Ok ns) = (t.fault ≡ None) × (ns ≡ before ++ found_for c t text)
 AddsNodes c t text before (Err e) = HasFault t e

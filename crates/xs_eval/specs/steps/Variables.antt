@@ -6,7 +6,7 @@ use Rattle.xs_trace.specs.declared.recorder.Halt.{Halt}
 use Rattle.xs_trace.specs.declared.recorder.Halt.TheVariants as halt
 use Rattle.xs_value.specs.declared.value.Value.{Value}
 
--- the value, or the need of a global variable, at an instruction; want of memory is free
+-- the value, or the need of a global variable, at an instruction; out of memory is free
 abbrev pub Finds : Site → Run Value → Result Value Halt → Type 0
 Finds p r (Ok v) = r ≡ give v
 Finds p r (Err (halt.Needs g q)) = (q ≡ p) × (r ≡ lack g)

@@ -34,7 +34,7 @@ abbrev pub before_slashes : List Tree → List Tree
 before_slashes [] = []
 before_slashes (s ∷ before) = if is_descend s then before else before_slashes before
 
--- The steps behind the last `//` lead from the node at top to the node at n. So does the path end there where it ends at top or above,
+-- The steps after the last `//` lead from the node at top to the node at n. So does the path end there where it ends at top or above,
 -- and it ends above n where it does so.
 pub record IsBelow (keys : List Table) (c : Context) (start : Tree) (steps before : List Expr) (n top : ℕ) : Type 0 where
   pub here : ends_path keys c start (backwards steps) n ≡ ends_above keys c start (backwards before) top
@@ -43,7 +43,7 @@ pub record IsBelow (keys : List Table) (c : Context) (start : Tree) (steps befor
   pub shorter : length before < length steps
   pub within : top ≤ n
 
--- what the steps behind the last `//`, gone over from a node, come to
+-- what the steps after the last `//`, gone over from a node, come to
 abbrev pub IsReached : List Table → Context → Tree → List Expr → ℕ → Reached → Type 0
 IsReached keys c start steps n Fits = ends_path keys c start (backwards steps) n ≡ true
 IsReached keys c start steps n Differs = ends_path keys c start (backwards steps) n ≡ false
@@ -55,7 +55,7 @@ is_anywhere here = true
 is_anywhere root = true
 is_anywhere _ = false
 
--- what a `//` comes to, behind which steps lead to the node at n
+-- what a `//` comes to, after which steps lead to the node at n
 abbrev pub IsBehind : Tree → List Expr → ℕ → Reached → Type 0
 IsBehind start before n Fits = (before ≡ []) × (is_anywhere start ≡ true)
 IsBehind start before n Differs = ⊥

@@ -32,7 +32,7 @@ is_matching keys rs n c = matches_path keys (pattern_context rs c.scope n) c.alt
 abbrev pub passes : Looked → List Table → List Record → (mode n : ℕ) → Candidate → Bool
 passes looked keys rs mode n c = looks_at looked c.rank.precedence && takes keys rs mode n c
 
--- the best of candidates that pass, before what stands behind them
+-- the best of candidates that pass, before what stands after them
 unfoldable pub best_before : (Candidate → Bool) → List Candidate → Option Best → Option Best
 best_before p [] o = o
 best_before p (c ∷ cs) o = if p c then or_best c (best_before p cs o) else best_before p cs o

@@ -115,7 +115,7 @@ pub record IsIndexed (ts : List Template) (cs : List Candidate) (entries : List 
   pub previous : (i : ℕ) (e : Entry) → slice_get entries i ≡ Some e → e.previous ≡ last_below (has_key (map key_of cs) (key_at (map key_of cs) i)) i
   pub last_is : (q : Key) → found q ≡ last_below (has_key (map key_of cs) q) (length cs)
 
--- the later of two places, and a place's chain behind one that was passed
+-- the later of two places, and a place's chain after one that was passed
 abbrev pub later : Option ℕ → Option ℕ → Option ℕ
 later None b = b
 later (Some i) None = Some i

@@ -78,7 +78,7 @@ impl Tree {
     }
 }
 
-// Whether a place is marked, which none is behind the last mark.
+// Whether a place is marked, which none is after the last mark.
 fn is_marked(marked: &[bool], place: usize) -> bool
     ensures { result ≡ get_or marked.now place false }
 {

@@ -7,7 +7,7 @@ use Rattle.xs_xpath.specs.steps.Parts.{gathered, parts_of, resumed}
 use Rattle.xs_xpath.specs.Reading.{Part}
 use Rattle.xs_xpath.specs.Tree.{Tree}
 
--- operators, the operands before them, and the parts behind the last operator
+-- operators, the operands before them, and the parts after the last operator
 pub record Cutting : Type 0 where
   pub operators : List Operator
   pub operands : List Tree

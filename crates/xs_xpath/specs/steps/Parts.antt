@@ -35,7 +35,7 @@ gathered ops [] = here
 gathered ops (e ∷ []) = e
 gathered ops (e ∷ f ∷ es) = chain ops (trees (e ∷ f ∷ es))
 
--- what the parts that are left give, where operators and the operands before them were found, and parts behind the last one
+-- what the parts that are left give, where operators and the operands before them were found, and parts after the last one
 unfoldable pub resumed : (List Part → Option Tree) → ℕ → List Operator → List Tree → List Part → List Part → Option Tree
 resumed p r ops es front rest =
     both (λ e links. gathered (ops ++ map (λ l. l.0) links) (es ++ e ∷ map (λ l. l.1) links)) (p (front ++ (pieces r rest).0)) (links_of p (pieces r rest).1)

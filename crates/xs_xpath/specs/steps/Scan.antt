@@ -1,4 +1,4 @@
--- The numbers of arguments, as the code finds them: from the right, by what is known of the lexemes behind.
+-- The numbers of arguments, as the code finds them: from the right, by what is known of later lexemes.
 use Rattle.std.specs.Prelude.{ℕ, suc, Bool, if◌then◌else◌, List, [], ◌∷◌, Option, Some}
 use Rattle.xs_xpath.specs.declared.token.Placed.{Placed}
 use Rattle.xs_xpath.specs.Faults.{closes, commas_by, first_count, is_wrong}

@@ -39,7 +39,7 @@ abbrev pub with_part : Option Fault → List Part → Result Part Fault → Resu
 with_part fault parts (Ok part) = unless fault (parts ++ part ∷ [])
 with_part fault parts (Err g) = Err (earlier fault g)
 
--- parts, and those behind them
+-- parts, and those after them
 abbrev pub followed_by : Result (List Part) Fault → Result (List Part) Fault → Result (List Part) Fault
 followed_by (Ok parts) (Ok more) = Ok (parts ++ more)
 followed_by (Ok parts) (Err g) = Err g

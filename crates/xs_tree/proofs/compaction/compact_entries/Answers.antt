@@ -1,4 +1,4 @@
--- What is behind the last that has moved goes.
+-- What is after the last that has moved goes.
 use Rattle.std.proofs.Common.{◌≡◌, ◌∙◌, ap, get_or, length, subst, sym, take}
 use Rattle.xs_tree.specs.steps.Compaction.{HaveMoved, entry_after}
 use Rattle.xs_tree.proofs.CompactionLemmas.{moved-end, written_back}
