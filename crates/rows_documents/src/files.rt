@@ -1,8 +1,9 @@
 //! Row files, line by line.
 
-use crate::documents::{Row, put_before};
-use crate::subjects::Subject;
-use std::alloc::{AllocError, Global};
+use crate::buffer::Buffer;
+use crate::documents::{Row, put_start};
+use crate::subjects::put_answer;
+use std::alloc::Global;
 
 /// What a line that is no setting is part of.
 #[derive(Clone, Copy, PartialEq, Eq)]
@@ -21,106 +22,101 @@ enum Part {
 
 /// A row file that is being written again.
 #[derive(Drop)]
-struct RowFile {
-    out: String,
-    subject: Subject,
-    start: Vec<u8>,
+struct RowFile<'t> {
+    alloc: Global,
+    subject: &'t str,
+    start: Buffer,
     part: Part,
-    row: Row,
+    row: Row<'t>,
 }
 
-/// The row file with each of its answers computed anew.
-pub(crate) fn rewrite(alloc: Global, text: &str) -> Result<String, AllocError> {
+/// Adds a row file with each of its answers computed anew.
+pub(crate) fn put_rows(out: &mut Buffer, alloc: Global, text: &str) {
     let mut file = RowFile {
-        out: String::new(alloc),
-        subject: Subject::Unknown,
-        start: Vec::new(alloc),
+        alloc,
+        subject: "",
+        start: Buffer::new(alloc),
         part: Part::Lines,
         row: Row::new(alloc),
     };
     for line in text.lines() {
-        file.take(alloc, line)?;
+        file.take(out, line);
     }
-    file.end_row(alloc)?;
-    Ok(file.out)
+    file.end_row(out);
 }
 
-impl RowFile {
+impl<'t> RowFile<'t> {
     // Takes a line.
-    fn take(&mut self, alloc: Global, line: &str) -> Result<(), AllocError> {
+    fn take(&mut self, out: &mut Buffer, line: &'t str) {
         if line.is_empty() || line.starts_with('#') {
-            self.end_row(alloc)?;
-            return self.copy(line);
-        }
-        match line.strip_prefix("= ") {
-            Some(setting) => self.take_setting(alloc, line, setting),
-            None => self.take_line(alloc, line),
+            self.end_row(out);
+            out.put_line(line);
+        } else if let Some(setting) = line.strip_prefix("= ") {
+            let (word, value) = setting.split_once(' ').unwrap_or((setting, ""));
+            if self.set(out, word, value) {
+                out.put_line(line);
+            } else {
+                self.put_answer(out);
+            }
+        } else {
+            self.take_line(out, line);
         }
     }
 
-    // Takes a setting, or a line that begins a row or a part of one.
-    fn take_setting(&mut self, alloc: Global, line: &str, setting: &str) -> Result<(), AllocError> {
-        let (word, value) = setting.split_once(' ').unwrap_or((setting, ""));
+    // Takes a setting, or the word that begins a row or a part of its input, and says whether it is
+    // one of these.
+    fn set(&mut self, out: &mut Buffer, word: &str, value: &'t str) -> bool {
         match word {
-            "subject" => self.subject = Subject::of(value),
-            "start" => put_before(alloc, &mut self.start, value)?,
-            "row" => self.end_row(alloc)?,
+            "subject" => self.subject = value,
+            "start" => put_start(&mut self.start, value),
+            "row" => self.end_row(out),
             "document" => self.part = Part::Document,
             "nodes" => self.part = Part::Nodes,
             "then" => self.part = Part::LaterNodes,
-            "marks" => self.row.mark(value)?,
-            _ => return self.answer(alloc),
+            "marks" => self.row.marks = value,
+            _ => return false,
         }
-        self.copy(line)
+        true
     }
 
     // Takes a line of a part, or a row of one line.
-    fn take_line(&mut self, alloc: Global, line: &str) -> Result<(), AllocError> {
+    fn take_line(&mut self, out: &mut Buffer, line: &str) {
         match self.part {
-            Part::Lines => return self.answer_line(alloc, line),
-            Part::Document => self.row.put_line(line)?,
-            Part::Nodes => self.row.put_node(line)?,
-            Part::LaterNodes => self.row.put_later_node(line)?,
-            Part::Answer => return Ok(()),
+            Part::Lines => return self.put_row(out, line),
+            Part::Document => self.row.put_line(line),
+            Part::Nodes => self.row.nodes.put_line(line),
+            Part::LaterNodes => self.row.later_nodes.put_line(line),
+            Part::Answer => return,
         }
-        self.copy(line)
+        out.put_line(line);
     }
 
-    // Writes a row of one line with its answer.
-    fn answer_line(&mut self, alloc: Global, line: &str) -> Result<(), AllocError> {
+    // Adds a row of one line with its answer.
+    fn put_row(&self, out: &mut Buffer, line: &str) {
         let (input, _) = line.split_once(" ==> ").unwrap_or((line, ""));
-        self.out.push_str(input)?;
-        self.out.push_str(" ==> ")?;
-        self.subject
-            .answer(alloc, self.start.as_slice(), input, &mut self.out)?;
-        self.out.push('\n')
+        out.put(input);
+        out.put(" ==> ");
+        put_answer(out, self.alloc, self.subject, &self.start, input);
+        out.put("\n");
     }
 
-    // Writes the answer of a row of several lines, if it has none yet.
-    fn answer(&mut self, alloc: Global) -> Result<(), AllocError> {
+    // Adds the answer of a row of several lines, if it has none yet.
+    fn put_answer(&mut self, out: &mut Buffer) {
         match self.part {
-            Part::Lines => self.out.push_str("unknown setting\n")?,
-            Part::Document => self.row.answer_document(alloc, &mut self.out)?,
-            Part::Nodes | Part::LaterNodes => self.row.answer_nodes(alloc, &mut self.out)?,
-            Part::Answer => return Ok(()),
+            Part::Lines => out.put("unknown setting\n"),
+            Part::Document => self.row.put_document(out),
+            Part::Nodes | Part::LaterNodes => self.row.put_nodes(out),
+            Part::Answer => return,
         }
         self.part = Part::Answer;
-        Ok(())
     }
 
     // Ends a row of several lines, where there is one.
-    fn end_row(&mut self, alloc: Global) -> Result<(), AllocError> {
+    fn end_row(&mut self, out: &mut Buffer) {
         if self.part != Part::Lines {
-            self.answer(alloc)?;
+            self.put_answer(out);
         }
         self.part = Part::Lines;
-        self.row = Row::new(alloc);
-        Ok(())
-    }
-
-    // Writes a line as it is.
-    fn copy(&mut self, line: &str) -> Result<(), AllocError> {
-        self.out.push_str(line)?;
-        self.out.push('\n')
+        self.row.clear();
     }
 }

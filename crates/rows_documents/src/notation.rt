@@ -1,72 +1,57 @@
 //! How a row writes bytes: `;` is a line feed, `\x{HH}` the byte of that number, `\x{}` no byte,
 //! and any other character itself.
 
-use std::alloc::{AllocError, Global};
+use crate::buffer::Buffer;
 use std::str::from_utf8;
 
-/// Appends the bytes that a text of a row represents.
-pub(crate) fn decode_into(bytes: &mut Vec<u8>, written: &str) -> Result<(), AllocError> {
-    for (index, piece) in written.split("\\x{").enumerate() {
-        let mut plain = piece;
-        if index > 0 {
-            let (digits, after) = piece.split_once('}').unwrap_or(("", piece));
-            if let Ok(byte) = u8::from_str_radix(digits, 16) {
-                bytes.push(byte)?;
-            }
-            plain = after;
-        }
-        for byte in plain.as_bytes() {
-            bytes.push(if *byte == b';' { b'\n' } else { *byte })?;
-        }
+/// Adds the bytes that a text of a row represents.
+pub(crate) fn put_decoded(out: &mut Buffer, written: &str) {
+    let mut is_first = true;
+    for piece in written.split("\\x{") {
+        let plain = if is_first {
+            piece
+        } else {
+            put_numbered(out, piece)
+        };
+        put_plain(out, plain);
+        is_first = false;
     }
-    Ok(())
 }
 
-/// The bytes that a text of a row represents.
-pub(crate) fn decode(alloc: Global, written: &str) -> Result<Vec<u8>, AllocError> {
-    let mut bytes = Vec::new(alloc);
-    decode_into(&mut bytes, written)?;
-    Ok(bytes)
+// Adds the byte with the number before a bracket, and says what is after the bracket.
+fn put_numbered<'t>(out: &mut Buffer, piece: &'t str) -> &'t str {
+    let (digits, after) = piece.split_once('}').unwrap_or(("", piece));
+    if let Ok(byte) = u8::from_str_radix(digits, 16) {
+        out.put_byte(byte);
+    }
+    after
 }
 
-/// Appends bytes in quotes. Of bytes that are not UTF-8 each that is not ASCII is written as its
+// Adds a text without numbers.
+fn put_plain(out: &mut Buffer, text: &str) {
+    for byte in text.as_bytes() {
+        out.put_byte(if *byte == b';' { b'\n' } else { *byte });
+    }
+}
+
+/// Adds bytes in quotes. Of bytes that are not UTF-8 each that is not ASCII is written as its
 /// number.
-pub(crate) fn quote(out: &mut String, bytes: &[u8]) -> Result<(), AllocError> {
-    out.push('"')?;
-    match from_utf8(bytes) {
-        Ok(text) => {
-            for c in text.chars() {
-                show(out, c)?;
-            }
-        }
-        Err(_) => {
-            for byte in bytes {
-                show_byte(out, *byte)?;
-            }
+pub(crate) fn quote(out: &mut Buffer, bytes: &[u8]) {
+    let is_text = from_utf8(bytes).is_ok();
+    out.put("\"");
+    for byte in bytes {
+        match *byte {
+            b'\n' => out.put(";"),
+            b';' | ..=0x1f | 0x7f => out.put_number(*byte),
+            0x80.. if !is_text => out.put_number(*byte),
+            _ => out.put_byte(*byte),
         }
     }
-    out.push('"')
+    out.put("\"");
 }
 
-// Appends a character of a text.
-fn show(out: &mut String, c: char) -> Result<(), AllocError> {
-    match c {
-        '\n' => out.push(';'),
-        ';' | '\0'..='\x1f' | '\x7f' => show_number(out, u32::from(c)),
-        _ => out.push(c),
-    }
-}
-
-// Appends a byte of what is not UTF-8.
-fn show_byte(out: &mut String, byte: u8) -> Result<(), AllocError> {
-    if byte < 0x80 {
-        show(out, char::from(byte))
-    } else {
-        show_number(out, u32::from(byte))
-    }
-}
-
-// Appends a byte by its number.
-fn show_number(out: &mut String, number: u32) -> Result<(), AllocError> {
-    write!(out, "\\x{{{number:x}}}")
+/// Adds a text in quotes, after a word.
+pub(crate) fn put_quoted(out: &mut Buffer, word: &str, text: &str) {
+    out.put(word);
+    quote(out, text.as_bytes());
 }

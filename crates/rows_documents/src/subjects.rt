@@ -1,86 +1,51 @@
 //! What the rows of one line ask.
 
-use crate::notation::decode;
+use crate::buffer::Buffer;
+use crate::notation::put_decoded;
 use crate::{documents, lines, texts};
-use std::alloc::{AllocError, Global};
+use std::alloc::Global;
 use std::str::from_utf8;
 
-/// What a row of one line asks of its input.
-#[derive(Clone, Copy)]
-pub(crate) enum Subject {
-    /// A text as PYX data.
-    Escapes,
-    /// The text that PYX data shows.
-    Data,
-    /// The parts of a qualified name.
-    Names,
-    /// Where code points may be in a name.
-    NameCharacters,
-    /// Whether code points are white space.
-    WhiteSpace,
-    /// Whether a text is nothing but white space.
-    BlankTexts,
-    /// The first line of some bytes.
-    Lines,
-    /// All lines of some bytes, as they are in them.
-    Views,
-    /// The first fault of a document.
-    Documents,
-    /// No subject.
-    Unknown,
+/// Adds the answer to an input, by the subject of its rows. A document begins with `start`.
+pub(crate) fn put_answer(
+    out: &mut Buffer,
+    alloc: Global,
+    subject: &str,
+    start: &Buffer,
+    input: &str,
+) {
+    match subject {
+        "documents" => documents::put_fault_of(out, alloc, start, input),
+        "name characters" => texts::put_name_characters(out, alloc, input),
+        "white space" => texts::put_white_space(out, input),
+        _ => put_decoded_answer(out, alloc, subject, input),
+    }
 }
 
-impl Subject {
-    /// The subject with this name.
-    pub(crate) fn of(name: &str) -> Subject {
-        match name {
-            "escapes" => Subject::Escapes,
-            "data" => Subject::Data,
-            "names" => Subject::Names,
-            "name characters" => Subject::NameCharacters,
-            "white space" => Subject::WhiteSpace,
-            "blank texts" => Subject::BlankTexts,
-            "lines" => Subject::Lines,
-            "views" => Subject::Views,
-            "documents" => Subject::Documents,
-            _ => Subject::Unknown,
-        }
-    }
+// Adds the answer to an input that represents bytes.
+fn put_decoded_answer(out: &mut Buffer, alloc: Global, subject: &str, input: &str) {
+    let mut decoded = Buffer::new(alloc);
+    put_decoded(&mut decoded, input);
+    let bytes = decoded.held(out);
+    put_answer_to_bytes(out, alloc, subject, bytes);
+}
 
-    /// Appends the answer to an input. A document begins with `start`.
-    pub(crate) fn answer(
-        self,
-        alloc: Global,
-        start: &[u8],
-        input: &str,
-        out: &mut String,
-    ) -> Result<(), AllocError> {
-        match self {
-            Subject::NameCharacters => return texts::answer_name_characters(alloc, input, out),
-            Subject::WhiteSpace => return texts::answer_white_space(input, out),
-            Subject::Documents => return documents::answer_line(alloc, start, input, out),
-            Subject::Unknown => return out.push_str("unknown subject"),
-            _ => (),
-        }
-        let bytes = decode(alloc, input)?;
-        match self {
-            Subject::Lines => lines::answer_line(alloc, &bytes, out),
-            Subject::Views => lines::answer_views(alloc, &bytes, out),
-            _ => self.answer_text(alloc, &bytes, out),
-        }
+// Adds the answer to bytes.
+fn put_answer_to_bytes(out: &mut Buffer, alloc: Global, subject: &str, bytes: &[u8]) {
+    match subject {
+        "lines" => lines::put_first(out, alloc, bytes),
+        "views" => lines::put_views(out, alloc, bytes),
+        _ => put_answer_to_text(out, alloc, subject, from_utf8(bytes).unwrap_or("not UTF-8")),
     }
+}
 
-    // Appends the answer to a text.
-    fn answer_text(self, alloc: Global, bytes: &[u8], out: &mut String) -> Result<(), AllocError> {
-        let Ok(text) = from_utf8(bytes) else {
-            return out.push_str("not UTF-8");
-        };
-        match self {
-            Subject::Escapes => texts::answer_escapes(alloc, text, out),
-            Subject::Data => texts::answer_data(alloc, text, out),
-            Subject::Names => texts::answer_name(text, out),
-            Subject::BlankTexts => texts::answer_blank(text, out),
-            _ => Ok(()),
-        }
+// Adds the answer to a text.
+fn put_answer_to_text(out: &mut Buffer, alloc: Global, subject: &str, text: &str) {
+    match subject {
+        "escapes" => texts::put_escapes(out, alloc, text),
+        "data" => texts::put_data(out, alloc, text),
+        "names" => texts::put_name(out, text),
+        "blank texts" => texts::put_blank(out, text),
+        _ => out.put("unknown subject"),
     }
 }

@@ -1,71 +1,78 @@
 //! Rows on escapes, names and white space.
 
+use crate::buffer::Buffer;
 use crate::notation::quote;
-use std::alloc::{AllocError, Global};
+use std::alloc::Global;
 use xs_text::{
     TextFault, escape_into, is_blank, is_ncname, is_space, is_well_escaped, split_qname,
     unescape_into,
 };
 
-/// Appends a text as PYX data.
-pub(crate) fn answer_escapes(
-    alloc: Global,
-    text: &str,
-    out: &mut String,
-) -> Result<(), AllocError> {
+/// Adds a text as PYX data.
+pub(crate) fn put_escapes(out: &mut Buffer, alloc: Global, text: &str) {
     let mut escaped = Vec::new(alloc);
-    escape_into(&mut escaped, text)?;
-    quote(out, &escaped)
+    let outcome = escape_into(&mut escaped, text);
+    out.note(outcome);
+    quote(out, &escaped);
 }
 
-/// Appends whether a text is PYX data, and the text that it shows.
-pub(crate) fn answer_data(alloc: Global, data: &str, out: &mut String) -> Result<(), AllocError> {
+/// Adds whether a text is PYX data, and the text that it shows.
+pub(crate) fn put_data(out: &mut Buffer, alloc: Global, data: &str) {
     if is_well_escaped(data.as_bytes()) {
-        out.push_str("well escaped, ")?;
+        out.put("well escaped, ");
     }
     let mut text = Vec::new(alloc);
     match unescape_into(&mut text, data) {
         Ok(()) => quote(out, &text),
-        Err(TextFault::BadEscape) => out.push_str("bad escape"),
-        Err(TextFault::NoMemory) => Err(AllocError),
+        Err(TextFault::BadEscape) => out.put("bad escape"),
+        Err(TextFault::NoMemory) => out.refuse(),
     }
 }
 
-/// Appends the prefix and the local part of a qualified name.
-pub(crate) fn answer_name(text: &str, out: &mut String) -> Result<(), AllocError> {
+/// Adds the prefix and the local part of a qualified name.
+pub(crate) fn put_name(out: &mut Buffer, text: &str) {
     match split_qname(text) {
-        Some((prefix, local)) => write!(out, "prefix \"{prefix}\", local \"{local}\""),
-        None => out.push_str("no name"),
-    }
-}
-
-/// Appends where each of some code points may be in a name without a colon.
-pub(crate) fn answer_name_characters(
-    alloc: Global,
-    codes: &str,
-    out: &mut String,
-) -> Result<(), AllocError> {
-    for (index, code) in codes.split(' ').enumerate() {
-        if index > 0 {
-            out.push(' ')?;
+        Some((prefix, local)) => {
+            out.put("prefix \"");
+            out.put(prefix);
+            out.put("\", local \"");
+            out.put(local);
+            out.put("\"");
         }
-        out.push_str(place_in_names(alloc, code)?)?;
+        None => out.put("no name"),
     }
-    Ok(())
 }
 
-// Where the character with a code point may be in a name without a colon.
-fn place_in_names(alloc: Global, code: &str) -> Result<&'static str, AllocError> {
+/// Adds where each of some code points may be in a name without a colon.
+pub(crate) fn put_name_characters(out: &mut Buffer, alloc: Global, codes: &str) {
+    let mut between = "";
+    for code in codes.split(' ') {
+        out.put(between);
+        put_place_in_names(out, alloc, code);
+        between = " ";
+    }
+}
+
+// Adds where the character with a code point may be in a name without a colon.
+fn put_place_in_names(out: &mut Buffer, alloc: Global, code: &str) {
     let Some(c) = character(code) else {
-        return Ok("none");
+        return out.put("none");
     };
-    if is_ncname(format!(in alloc; "{c}")?.as_str()) {
-        return Ok("first");
+    match format!(in alloc; "a{c}") {
+        Ok(name) => out.put(place_in_names(name.as_str())),
+        Err(_) => out.refuse(),
     }
-    if is_ncname(format!(in alloc; "a{c}")?.as_str()) {
-        return Ok("later");
+}
+
+// Where the character after the letter a may be in a name without a colon.
+fn place_in_names(name: &str) -> &'static str {
+    if name.strip_prefix('a').is_some_and(|first| is_ncname(first)) {
+        "first"
+    } else if is_ncname(name) {
+        "later"
+    } else {
+        "none"
     }
-    Ok("none")
 }
 
 // The character with a hexadecimal code point, which a surrogate has not.
@@ -73,23 +80,22 @@ fn character(code: &str) -> Option<char> {
     char::from_u32(u32::from_str_radix(code, 16).ok()?)
 }
 
-/// Appends which of some code points are white space.
-pub(crate) fn answer_white_space(codes: &str, out: &mut String) -> Result<(), AllocError> {
-    for (index, code) in codes.split(' ').enumerate() {
-        if index > 0 {
-            out.push(' ')?;
-        }
-        out.push_str(yes_or_no(character(code).is_some_and(|c| is_space(c))))?;
+/// Adds which of some code points are white space.
+pub(crate) fn put_white_space(out: &mut Buffer, codes: &str) {
+    let mut between = "";
+    for code in codes.split(' ') {
+        out.put(between);
+        put_truth(out, character(code).is_some_and(|c| is_space(c)));
+        between = " ";
     }
-    Ok(())
 }
 
-/// Appends whether a text is nothing but white space.
-pub(crate) fn answer_blank(text: &str, out: &mut String) -> Result<(), AllocError> {
-    out.push_str(yes_or_no(is_blank(text.as_bytes())))
+/// Adds whether a text is nothing but white space.
+pub(crate) fn put_blank(out: &mut Buffer, text: &str) {
+    put_truth(out, is_blank(text.as_bytes()));
 }
 
-// A truth value in a word.
-fn yes_or_no(truth: bool) -> &'static str {
-    if truth { "yes" } else { "no" }
+// Adds a truth value in a word.
+fn put_truth(out: &mut Buffer, truth: bool) {
+    out.put(if truth { "yes" } else { "no" });
 }

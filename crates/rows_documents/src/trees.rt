@@ -2,46 +2,42 @@
 
 ghost use Rattle.std.specs.Prelude.{◌<◌, length};
 
+use crate::buffer::Buffer;
+use crate::documents::Row;
 use crate::notation::quote;
 use std::alloc::{AllocError, Global};
 use xs_build::Built;
 use xs_tree::{Kind, Name, NameText, Node, Tree, TreeFault};
 
-/// All kinds of node.
-const KINDS: [Kind; 7] = [
-    Kind::Root,
-    Kind::Element,
-    Kind::Attribute,
-    Kind::Space,
-    Kind::Text,
-    Kind::Comment,
-    Kind::Pi,
+/// All kinds of node, with their words.
+const KINDS: &[(&str, Kind)] = &[
+    ("root", Kind::Root),
+    ("element", Kind::Element),
+    ("attribute", Kind::Attribute),
+    ("namespace", Kind::Space),
+    ("text", Kind::Text),
+    ("comment", Kind::Comment),
+    ("instruction", Kind::Pi),
 ];
 
 // The word for a kind of node.
 fn word_of(kind: Kind) -> &'static str {
-    match kind {
-        Kind::Root => "root",
-        Kind::Element => "element",
-        Kind::Attribute => "attribute",
-        Kind::Space => "namespace",
-        Kind::Text => "text",
-        Kind::Comment => "comment",
-        Kind::Pi => "instruction",
+    for (word, other) in KINDS {
+        if *other == kind {
+            return word;
+        }
     }
+    ""
 }
 
 // The kind of node with a word.
 fn kind_of(word: &str) -> Option<Kind> {
-    KINDS.into_iter().find(|kind| word_of(*kind) == word)
-}
-
-/// The tree of a root alone.
-pub(crate) fn root_alone(alloc: Global) -> Result<Built, AllocError> {
-    Ok(Built {
-        tree: Tree::new(alloc)?,
-        lines: vec![in alloc; 0]?,
-    })
+    for (other, kind) in KINDS {
+        if *other == word {
+            return Some(*kind);
+        }
+    }
+    None
 }
 
 /// A node as a row writes it.
@@ -78,120 +74,134 @@ fn local_name(alloc: Global, local: &str) -> Result<Option<Name>, AllocError> {
     }))
 }
 
-/// Adds the nodes that lines write, and appends the lines whose node can't be added.
-pub(crate) fn add_nodes(
-    alloc: Global,
-    built: &mut Built,
-    lines: &str,
-    out: &mut String,
-) -> Result<(), AllocError> {
-    for line in lines.lines() {
-        if !add_node(alloc, built, line)? {
-            writeln!(out, "= refused {line}")?;
+/// Adds the nodes of a row that can't be added to a tree, and the tree with the others and without
+/// the marked text nodes.
+pub(crate) fn put_tree_of(out: &mut Buffer, alloc: Global, row: &Row<'_>, built: &mut Built) {
+    add_nodes(out, alloc, built, &row.nodes);
+    strip(out, alloc, built, row.marks);
+    add_nodes(out, alloc, built, &row.later_nodes);
+    out.put("= tree\n");
+    for place in 0..built.tree.len() {
+        put_node(out, alloc, built, Node::at(place as u32));
+    }
+}
+
+// Adds the nodes that lines write to a tree, and to the answer the lines whose node can't be added.
+fn add_nodes(out: &mut Buffer, alloc: Global, built: &mut Built, lines: &Buffer) {
+    for line in lines.text(out).lines() {
+        if !add_node(out, alloc, built, line) {
+            out.put("= refused ");
+            out.put_line(line);
         }
     }
-    Ok(())
 }
 
-// Adds the node that a line writes, and answers whether it can be added. Its line is the place that
-// it has now.
-fn add_node(alloc: Global, built: &mut Built, line: &str) -> Result<bool, AllocError> {
+// Adds the node that a line writes to a tree, and says whether it can be added.
+fn add_node(out: &mut Buffer, alloc: Global, built: &mut Built, line: &str) -> bool {
     let Some(written) = read_node(line) else {
-        return Ok(false);
+        return false;
     };
-    let name = local_name(alloc, written.local)?;
+    match local_name(alloc, written.local) {
+        Ok(name) => add_written(out, built, written, name),
+        Err(_) => {
+            out.refuse();
+            true
+        }
+    }
+}
+
+// Adds a node to a tree, and says whether it can be added. Its line is the place that it has now.
+fn add_written(out: &mut Buffer, built: &mut Built, node: Written<'_>, name: Option<Name>) -> bool {
     let tree = &mut built.tree;
-    if !tree.can_add(written.kind, &name, written.text, written.parent) {
-        return Ok(false);
+    if !tree.can_add(node.kind, &name, node.text, node.parent) {
+        return false;
     }
-    built.lines.push(tree.len() as u32)?;
-    match tree.add(written.kind, name, written.text, written.parent) {
-        Ok(_) => Ok(true),
-        Err(TreeFault::TooLarge) => Ok(false),
-        Err(TreeFault::NoMemory) => Err(AllocError),
+    if built.lines.push(tree.len() as u32).is_err() {
+        out.refuse();
+    }
+    match tree.add(node.kind, name, node.text, node.parent) {
+        Ok(_) => true,
+        Err(TreeFault::TooLarge) => false,
+        Err(TreeFault::NoMemory) => {
+            out.refuse();
+            true
+        }
     }
 }
 
-/// Strips the marked text nodes, with their lines.
-pub(crate) fn strip(built: &mut Built, marks: &[bool]) -> Result<(), AllocError> {
+// Strips the marked text nodes, with their lines.
+fn strip(out: &mut Buffer, alloc: Global, built: &mut Built, marks: &str) {
+    let mut marked = Vec::new(alloc);
+    for mark in marks.as_bytes() {
+        if marked.push(*mark == b'x').is_err() {
+            out.refuse();
+        }
+    }
     if built.lines.len() == built.tree.len() {
-        built.tree.strip_numbers(marks, &mut built.lines)?;
+        out.note(built.tree.strip_numbers(&marked, &mut built.lines));
     }
-    built.tree.strip(marks)
+    out.note(built.tree.strip(&marked));
 }
 
-/// Appends a tree, a line for each node.
-pub(crate) fn show_tree(alloc: Global, built: &Built, out: &mut String) -> Result<(), AllocError> {
-    out.push_str("= tree\n")?;
-    for place in 0..built.tree.len() {
-        show_node(alloc, built, Node::at(place as u32), out)?;
-    }
-    Ok(())
-}
-
-// Appends a node: where it is, its kind, its name and its text.
-fn show_node(alloc: Global, built: &Built, node: Node, out: &mut String) -> Result<(), AllocError>
+// Adds a node: where it is, its kind, its name and its text.
+fn put_node(out: &mut Buffer, alloc: Global, built: &Built, node: Node)
     requires { node < length built.now.tree }
 {
-    show_place(built, node, out)?;
+    put_place(out, built, node);
     let tree = &built.tree;
-    let word = word_of(tree.kind(node));
-    write!(out, ": {word} ")?;
+    out.put(": ");
+    out.put(word_of(tree.kind(node)));
+    out.put(" ");
     if let Some(name) = tree.name(node) {
-        show_name(name, out)?;
+        put_name(out, name);
     }
-    show_text(alloc, tree, node, out)
+    put_text(out, alloc, tree, node);
+    out.put("\n");
 }
 
-// Appends the place of a node, for a root or an element where its subtree ends, its parent and its
+// Adds the place of a node, for a root or an element where its subtree ends, its parent and its
 // line.
-fn show_place(built: &Built, node: Node, out: &mut String) -> Result<(), AllocError>
+fn put_place(out: &mut Buffer, built: &Built, node: Node)
     requires { node < length built.now.tree }
 {
     let tree = &built.tree;
-    let place = node.place();
-    write!(out, "{place}")?;
+    out.put_count("", u64::from(node.place()));
     if tree.kind(node).has_content() {
-        let end = tree.subtree_end(node);
-        write!(out, "..{end}")?;
+        out.put_count("..", u64::from(tree.subtree_end(node)));
     }
     if let Some(parent) = tree.parent(node) {
-        let parent = parent.place();
-        write!(out, " in {parent}")?;
+        out.put_count(" in ", u64::from(parent.place()));
     }
-    match built.lines.get(place as usize) {
-        Some(line) => write!(out, ", line {line}"),
-        None => Ok(()),
+    if let Some(line) = built.lines.get(node.place() as usize) {
+        out.put_count(", line ", u64::from(*line));
     }
 }
 
-// Appends the text of a node, for a root or an element its string value.
-fn show_text(alloc: Global, tree: &Tree, node: Node, out: &mut String) -> Result<(), AllocError>
+// Adds the text of a node, for a root or an element its string value.
+fn put_text(out: &mut Buffer, alloc: Global, tree: &Tree, node: Node)
     requires { node < length tree.now }
 {
-    if tree.kind(node).has_content() {
-        let mut value = Vec::new(alloc);
-        tree.string_value_into(node, &mut value)?;
-        quote(out, &value)?;
-    } else {
-        quote(out, tree.text(node).as_bytes())?;
+    if !tree.kind(node).has_content() {
+        return quote(out, tree.text(node).as_bytes());
     }
-    out.push('\n')
+    let mut value = Vec::new(alloc);
+    let outcome = tree.string_value_into(node, &mut value);
+    out.note(outcome);
+    quote(out, &value);
 }
 
-// Appends a name with its prefix, and its URI in braces.
-fn show_name(name: &Name, out: &mut String) -> Result<(), AllocError> {
-    let prefix = name.prefix.as_str();
-    let local = name.local.as_str();
-    let uri = name.uri.as_str();
-    if !prefix.is_empty() {
-        write!(out, "{prefix}:")?;
+// Adds a name with its prefix, and its URI in braces.
+fn put_name(out: &mut Buffer, name: &Name) {
+    put_part(out, "", name.prefix.as_str(), ":");
+    put_part(out, "", name.local.as_str(), " ");
+    put_part(out, "{", name.uri.as_str(), "} ");
+}
+
+// Adds a part of a name between two texts, if it is not empty.
+fn put_part(out: &mut Buffer, before: &str, part: &str, after: &str) {
+    if !part.is_empty() {
+        out.put(before);
+        out.put(part);
+        out.put(after);
     }
-    if !local.is_empty() {
-        write!(out, "{local} ")?;
-    }
-    if !uri.is_empty() {
-        write!(out, "{{{uri}}} ")?;
-    }
-    Ok(())
 }

@@ -3,7 +3,6 @@
 use crate::error::RowError;
 use crate::fields::add_repeated;
 use std::fs;
-use std::rt::Files;
 use xs_build::build_tree;
 use xs_tree::Tree;
 
@@ -12,13 +11,13 @@ const MOST: u64 = 10_000_000;
 
 /// The tree of a document: of a file of PYX lines, or of lines that a setting says by how many
 /// times a piece comes.
-pub(crate) fn document<R: Files + AllocGlobal>(rt: &R, text: &str) -> Result<Tree, RowError> {
+pub(crate) fn document(rt: &HostRuntime, text: &str) -> Result<Tree, RowError> {
     let lines = lines(rt, text)?;
     Ok(build_tree(rt.alloc(), lines.as_bytes(), MOST)?.tree)
 }
 
 // The PYX lines of a document.
-fn lines<R: Files + AllocGlobal>(rt: &R, text: &str) -> Result<String, RowError> {
+fn lines(rt: &HostRuntime, text: &str) -> Result<String, RowError> {
     if !text.contains('*') {
         return Ok(fs::read_to_string(rt, text)?);
     }

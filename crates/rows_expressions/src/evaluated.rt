@@ -74,7 +74,7 @@ fn are_in_if(tree: &Tree, values: &[Option<Value>]) -> bool
 // Appends how an evaluation without a value ended.
 fn add_halt(out: &mut Answer, halt: Halt) -> Result<(), RowError> {
     let (kind, number) = match halt {
-        Halt::Fault(number, _) => ("fault ", u64::from(number)),
+        Halt::Fault(fault, _) => ("fault ", u64::from(fault.number())),
         Halt::Needs(global, _) => ("needs ", u64::from(global)),
         Halt::Spent(_) => {
             out.put("spent");
@@ -234,7 +234,7 @@ fn compare(out: &mut Answer, settings: &Settings, place: u32, text: &str) -> Res
     Ok(ticks)
 }
 
-// Appends the letter of how a comparison ends, and says its ticks.
+// Appends the letter of how two operands compare under an operator, and says its ticks.
 fn add_operated(
     out: &mut Answer,
     settings: &Settings,
@@ -245,8 +245,18 @@ fn add_operated(
 ) -> Result<u64, RowError> {
     let text = format!(in settings.alloc; "{left} {operator} {right}")?;
     let asked = parsed_as(settings, Call::Value, text.as_str())?;
+    add_letter(out, settings, &asked, place)
+}
+
+// Appends the letter of how a comparison ends, and says its ticks.
+fn add_letter(
+    out: &mut Answer,
+    settings: &Settings,
+    asked: &Asked,
+    place: u32,
+) -> Result<u64, RowError> {
     let mut end = Answer::new(settings.alloc);
-    let ticks = add_tried(&mut end, settings, &asked, place)?;
+    let ticks = add_tried(&mut end, settings, asked, place)?;
     out.put(letter(end.text()?));
     Ok(ticks)
 }

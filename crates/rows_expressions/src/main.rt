@@ -22,13 +22,24 @@ mod values;
 
 use answer::Answer;
 use std::io::Write;
-use std::{env, io};
+use std::{env, fs, io};
 
 // Writes each row file that the arguments name, after a line with its name.
 fn main(rt: HostRuntime) -> io::Result<()> {
     let mut out = Answer::new(rt.alloc());
     for name in env::args(&rt)?.skip(1) {
-        rows::add_file(&mut out, &rt, name.as_str())?;
+        add_file(&mut out, &rt, name.as_str());
     }
     io::writer(&rt).write_all(out.text()?)
+}
+
+// Adds a line with the name of a row file, and the file with the answers of its rows computed.
+fn add_file(out: &mut Answer, rt: &HostRuntime, name: &str) {
+    out.put("== ");
+    out.put(name);
+    out.put("\n");
+    match fs::read_to_string(rt, name) {
+        Ok(text) => rows::add_rows(out, rt, text.as_str()),
+        Err(_) => out.put("no such file\n"),
+    }
 }

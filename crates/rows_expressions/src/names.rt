@@ -42,75 +42,98 @@ pub(crate) fn axis_name(axis: Axis) -> &'static str {
     ""
 }
 
+// The operators that compare.
+const COMPARISONS: &[(&str, CompareOp)] = &[
+    ("=", CompareOp::Eq),
+    ("!=", CompareOp::Ne),
+    ("<", CompareOp::Lt),
+    ("<=", CompareOp::Le),
+    (">", CompareOp::Gt),
+    (">=", CompareOp::Ge),
+];
+
 /// The operator that compares, as it is written.
 pub(crate) fn comparison_named(name: &str) -> Option<CompareOp> {
-    match name {
-        "=" => Some(CompareOp::Eq),
-        "!=" => Some(CompareOp::Ne),
-        "<" => Some(CompareOp::Lt),
-        "<=" => Some(CompareOp::Le),
-        ">" => Some(CompareOp::Gt),
-        ">=" => Some(CompareOp::Ge),
-        _ => None,
+    for (other, operator) in COMPARISONS {
+        if *other == name {
+            return Some(*operator);
+        }
     }
+    None
 }
+
+// The operators (XPath 1.0, 3.3 to 3.5).
+const OPERATORS: &[(&str, Operator)] = &[
+    ("or", Operator::Or),
+    ("and", Operator::And),
+    ("=", Operator::Equal),
+    ("!=", Operator::Unequal),
+    ("<", Operator::Less),
+    ("<=", Operator::LessEqual),
+    (">", Operator::Greater),
+    (">=", Operator::GreaterEqual),
+    ("+", Operator::Plus),
+    ("-", Operator::Minus),
+    ("*", Operator::Times),
+    ("div", Operator::Div),
+    ("mod", Operator::Mod),
+    ("|", Operator::Union),
+];
 
 /// An operator, as it is written.
 pub(crate) fn operator_name(operator: Operator) -> &'static str {
-    match operator {
-        Operator::Or => "or",
-        Operator::And => "and",
-        Operator::Equal => "=",
-        Operator::Unequal => "!=",
-        Operator::Less => "<",
-        Operator::LessEqual => "<=",
-        Operator::Greater => ">",
-        Operator::GreaterEqual => ">=",
-        Operator::Plus => "+",
-        Operator::Minus => "-",
-        Operator::Times => "*",
-        Operator::Div => "div",
-        Operator::Mod => "mod",
-        Operator::Union => "|",
+    for (name, other) in OPERATORS {
+        if *other as u8 == operator as u8 {
+            return name;
+        }
     }
+    ""
 }
 
-/// The name of a function (XPath 1.0, 4; XSLT 1.0, 12).
+// The functions (XPath 1.0, 4; XSLT 1.0, 12).
+const FUNCTIONS: &[(&str, Function)] = &[
+    ("last", Function::Last),
+    ("position", Function::Position),
+    ("count", Function::Count),
+    ("id", Function::Id),
+    ("local-name", Function::LocalName),
+    ("namespace-uri", Function::NamespaceUri),
+    ("name", Function::Name),
+    ("string", Function::String),
+    ("concat", Function::Concat),
+    ("starts-with", Function::StartsWith),
+    ("contains", Function::Contains),
+    ("substring-before", Function::SubstringBefore),
+    ("substring-after", Function::SubstringAfter),
+    ("substring", Function::Substring),
+    ("string-length", Function::StringLength),
+    ("normalize-space", Function::NormalizeSpace),
+    ("translate", Function::Translate),
+    ("boolean", Function::Boolean),
+    ("not", Function::Not),
+    ("true", Function::True),
+    ("false", Function::False),
+    ("lang", Function::Lang),
+    ("number", Function::Number),
+    ("sum", Function::Sum),
+    ("floor", Function::Floor),
+    ("ceiling", Function::Ceiling),
+    ("round", Function::Round),
+    ("key", Function::Key),
+    ("current", Function::Current),
+    ("generate-id", Function::GenerateId),
+    ("system-property", Function::SystemProperty),
+    ("element-available", Function::ElementAvailable),
+    ("function-available", Function::FunctionAvailable),
+    ("unparsed-entity-uri", Function::UnparsedEntityUri),
+];
+
+/// The name of a function.
 pub(crate) fn function_name(function: Function) -> &'static str {
-    match function {
-        Function::Last => "last",
-        Function::Position => "position",
-        Function::Count => "count",
-        Function::Id => "id",
-        Function::LocalName => "local-name",
-        Function::NamespaceUri => "namespace-uri",
-        Function::Name => "name",
-        Function::String => "string",
-        Function::Concat => "concat",
-        Function::StartsWith => "starts-with",
-        Function::Contains => "contains",
-        Function::SubstringBefore => "substring-before",
-        Function::SubstringAfter => "substring-after",
-        Function::Substring => "substring",
-        Function::StringLength => "string-length",
-        Function::NormalizeSpace => "normalize-space",
-        Function::Translate => "translate",
-        Function::Boolean => "boolean",
-        Function::Not => "not",
-        Function::True => "true",
-        Function::False => "false",
-        Function::Lang => "lang",
-        Function::Number => "number",
-        Function::Sum => "sum",
-        Function::Floor => "floor",
-        Function::Ceiling => "ceiling",
-        Function::Round => "round",
-        Function::Key => "key",
-        Function::Current => "current",
-        Function::GenerateId => "generate-id",
-        Function::SystemProperty => "system-property",
-        Function::ElementAvailable => "element-available",
-        Function::FunctionAvailable => "function-available",
-        Function::UnparsedEntityUri => "unparsed-entity-uri",
+    for (name, other) in FUNCTIONS {
+        if *other as u8 == function as u8 {
+            return name;
+        }
     }
+    ""
 }

@@ -5,40 +5,17 @@ use crate::answers::add_answer;
 use crate::error::RowError;
 use crate::settings::Settings;
 use std::alloc::AllocError;
-use std::rt::Files;
-use std::{fs, io};
 
-/// Adds a line with the name of a row file, and the file with the answers of its rows computed.
-pub(crate) fn add_file<R: Files + AllocGlobal>(
-    out: &mut Answer,
-    rt: &R,
-    name: &str,
-) -> io::Result<()> {
-    let text = fs::read_to_string(rt, name)?;
-    out.put("== ");
-    out.put(name);
-    out.put("\n");
-    Ok(add_rows(out, rt, text.as_str())?)
-}
-
-// Adds the rows of a file.
-fn add_rows<R: Files + AllocGlobal>(
-    out: &mut Answer,
-    rt: &R,
-    text: &str,
-) -> Result<(), AllocError> {
-    let mut settings = Settings::new(rt.alloc())?;
-    add_lines(out, rt, &mut settings, text);
-    Ok(())
+/// Adds the rows of a file.
+pub(crate) fn add_rows(out: &mut Answer, rt: &HostRuntime, text: &str) {
+    match Settings::new(rt.alloc()) {
+        Ok(mut settings) => add_lines(out, rt, &mut settings, text),
+        Err(refused) => out.note(Err(refused)),
+    }
 }
 
 // Adds lines, each as it stands or with its answer.
-fn add_lines<R: Files + AllocGlobal>(
-    out: &mut Answer,
-    rt: &R,
-    settings: &mut Settings,
-    text: &str,
-) {
+fn add_lines(out: &mut Answer, rt: &HostRuntime, settings: &mut Settings, text: &str) {
     for line in text.lines() {
         if let Some(setting) = line.strip_prefix("= ") {
             add_setting(out, rt, settings, setting);
@@ -52,12 +29,7 @@ fn add_lines<R: Files + AllocGlobal>(
 }
 
 // Sets what a setting says, and adds its line.
-fn add_setting<R: Files + AllocGlobal>(
-    out: &mut Answer,
-    rt: &R,
-    settings: &mut Settings,
-    setting: &str,
-) {
+fn add_setting(out: &mut Answer, rt: &HostRuntime, settings: &mut Settings, setting: &str) {
     out.put("= ");
     out.put(setting);
     if let Err(error) = settings.set(rt, setting) {

@@ -5,7 +5,6 @@ use crate::error::RowError;
 use crate::fields::{unescaped, word};
 use crate::values::{label, operand};
 use std::alloc::{AllocError, Global};
-use std::rt::Files;
 use xs_trace::event::Label;
 use xs_trace::text::TextBuf;
 use xs_tree::Tree;
@@ -53,13 +52,14 @@ impl Settings {
     }
 
     /// Sets what a setting says.
-    pub(crate) fn set<R: Files + AllocGlobal>(
-        &mut self,
-        rt: &R,
-        setting: &str,
-    ) -> Result<(), RowError> {
+    pub(crate) fn set(&mut self, rt: &HostRuntime, setting: &str) -> Result<(), RowError> {
         let setting = unescaped(self.alloc, setting)?;
         let (name, rest) = word(setting.as_str());
+        self.set_named(rt, name, rest)
+    }
+
+    // Sets what a setting with a name says.
+    fn set_named(&mut self, rt: &HostRuntime, name: &str, rest: &str) -> Result<(), RowError> {
         match name {
             "clear" => self.clear(),
             "document" => self.set_document(rt, rest),
@@ -78,7 +78,7 @@ impl Settings {
     }
 
     // Sets the document.
-    fn set_document<R: Files + AllocGlobal>(&mut self, rt: &R, text: &str) -> Result<(), RowError> {
+    fn set_document(&mut self, rt: &HostRuntime, text: &str) -> Result<(), RowError> {
         self.tree = Box::new(self.alloc, document(rt, text)?)?;
         Ok(())
     }

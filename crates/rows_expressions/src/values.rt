@@ -65,11 +65,10 @@ fn fragment(alloc: Global, lines: &str) -> Result<Value, RowError> {
 
 /// A name, without a prefix.
 pub(crate) fn label(alloc: Global, uri: &str, local: &str) -> Result<Label, AllocError> {
-    Ok(Label {
-        uri: TextBuf::of(alloc, uri)?,
-        local: TextBuf::of(alloc, local)?,
-        prefix: TextBuf::of(alloc, "")?,
-    })
+    let uri = TextBuf::of(alloc, uri)?;
+    let local = TextBuf::of(alloc, local)?;
+    let prefix = TextBuf::of(alloc, "")?;
+    Label::of(alloc, uri, local, prefix)
 }
 
 // The event of a line.
@@ -157,22 +156,22 @@ fn compared(out: &mut Answer, settings: &Settings, text: &str) -> Result<(), Row
     let (name, right) = cut(rest)?;
     let op = comparison_named(name).ok_or(RowError::Unreadable)?;
     let left = operand(settings.alloc, left)?;
-    add_compared(out, &settings.tree, op, &left, right)
+    let right = operand(settings.alloc, right)?;
+    add_compared(out, &settings.tree, op, &left, &right)
 }
 
-// Appends whether a value compares so with the one that a row writes.
+// Appends whether two values compare so.
 fn add_compared(
     out: &mut Answer,
     tree: &Tree,
     op: CompareOp,
     left: &Value,
-    right: &str,
+    right: &Value,
 ) -> Result<(), RowError> {
-    let right = operand(*out.bytes.allocator(), right)?;
-    if !is_in(tree, left) || !is_in(tree, &right) {
+    if !is_in(tree, left) || !is_in(tree, right) {
         return Err(RowError::Unreadable);
     }
-    match compare_values(*out.bytes.allocator(), tree, op, left, &right) {
+    match compare_values(*out.bytes.allocator(), tree, op, left, right) {
         Ok(holds) => out.put_bool(holds),
         Err(refused) => add_outcome(out, Err(fault(refused)?)),
     }
@@ -199,26 +198,18 @@ fn join(out: &mut Answer, alloc: Global, text: &str) -> Result<(), RowError> {
 fn gather(out: &mut Answer, alloc: Global, text: &str) -> Result<(), RowError> {
     let (first, rest) = cut(text)?;
     let (next, last) = cut(rest)?;
-    let first = nodes(alloc, first)?;
-    let next = nodes(alloc, next)?;
-    let last = nodes(alloc, last)?;
-    let list = gathered(alloc, &first, &next, &last)?;
+    let mut list = NodeList::from_slice(alloc, &nodes(alloc, first)?)?;
+    push_nodes(&mut list, next)?;
+    list.extend_from_slice(&nodes(alloc, last)?)?;
     Ok(add_gathered(out, list)?)
 }
 
-// The list of these nodes.
-fn gathered(
-    alloc: Global,
-    first: &[Node],
-    next: &[Node],
-    last: &[Node],
-) -> Result<NodeList, AllocError> {
-    let mut list = NodeList::from_slice(alloc, first)?;
-    for node in next {
-        list.push(*node)?;
+// Adds the nodes at some places one by one.
+fn push_nodes(list: &mut NodeList, places: &str) -> Result<(), RowError> {
+    for place in places.split_whitespace() {
+        list.push(Node::at(place.parse::<u32>()?))?;
     }
-    list.extend_from_slice(last)?;
-    Ok(list)
+    Ok(())
 }
 
 // Appends a list of nodes, how many it has, and its set.

@@ -18,6 +18,11 @@ impl Answer {
         }
     }
 
+    /// Takes note that memory was refused.
+    pub(crate) fn refuse(&mut self) {
+        self.is_refused = true;
+    }
+
     /// Takes note of whether memory was refused.
     pub(crate) fn note(&mut self, outcome: Result<(), AllocError>) {
         self.is_refused = self.is_refused || outcome.is_err();
@@ -44,8 +49,35 @@ impl Answer {
     pub(crate) fn put_count(&mut self, text: &str, count: u64) {
         match format!(in *self.bytes.allocator(); "{text}{count}") {
             Ok(text) => self.put(text.as_str()),
-            Err(refused) => self.note(Err(refused)),
+            Err(_) => self.refuse(),
         }
+    }
+
+    /// Adds what another answer has.
+    pub(crate) fn put_answer(&mut self, other: &Answer) {
+        let bytes = other.held(self);
+        self.put_bytes(bytes);
+    }
+
+    /// Whether both have the same bytes.
+    pub(crate) fn is_same(&self, other: &Answer) -> bool {
+        self.bytes == other.bytes
+    }
+
+    /// The bytes so far, of which something else is written: it is refused where they were.
+    pub(crate) fn held(&self, out: &mut Answer) -> &[u8] {
+        if self.is_refused {
+            out.refuse();
+        }
+        &self.bytes
+    }
+
+    /// The bytes so far, when no more come.
+    pub(crate) fn into_held(self, out: &mut Answer) -> Vec<u8> {
+        if self.is_refused {
+            out.refuse();
+        }
+        self.bytes
     }
 
     /// The bytes so far.
@@ -54,19 +86,6 @@ impl Answer {
             return Err(AllocError);
         }
         Ok(&self.bytes)
-    }
-
-    /// The bytes, when no more come.
-    pub(crate) fn into_bytes(self) -> Result<Vec<u8>, AllocError> {
-        if self.is_refused {
-            return Err(AllocError);
-        }
-        Ok(self.bytes)
-    }
-
-    /// The bytes, as a text.
-    pub(crate) fn text(&self) -> Result<&str, AllocError> {
-        Ok(text_of(self.bytes()?))
     }
 }
 

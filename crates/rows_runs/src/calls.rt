@@ -2,20 +2,19 @@
 
 use crate::answer::Answer;
 use crate::texts::push_words;
-use std::alloc::{AllocError, Global};
+use std::alloc::Global;
 use xs_trace::text::TextBuf;
 use xs_words::{Job, Options, WordsEnd, read_words};
 
 /// Adds what a command line asks for, or that it is refused.
-pub(crate) fn put_options(out: &mut Answer, alloc: Global, line: &str) -> Result<(), AllocError> {
+pub(crate) fn put_options(out: &mut Answer, alloc: Global, line: &str) {
     let mut words = Vec::new(alloc);
-    push_words(alloc, &mut words, line)?;
+    push_words(out, alloc, &mut words, line);
     match read_words(alloc, &words) {
         Ok(options) => put_asked(out, &options),
         Err(WordsEnd::Usage) => out.put("refused"),
-        Err(WordsEnd::NoMemory) => return Err(AllocError),
+        Err(WordsEnd::NoMemory) => out.refuse(),
     }
-    Ok(())
 }
 
 /// Adds what a command line asks for.

@@ -9,11 +9,10 @@ use xs_trace::text::TextBuf;
 
 /// A name without a namespace.
 fn label(alloc: Global, name: &str) -> Result<Label, AllocError> {
-    Ok(Label {
-        uri: TextBuf::of(alloc, "")?,
-        local: TextBuf::of(alloc, name)?,
-        prefix: TextBuf::of(alloc, "")?,
-    })
+    let uri = TextBuf::of(alloc, "")?;
+    let local = TextBuf::of(alloc, name)?;
+    let prefix = TextBuf::of(alloc, "")?;
+    Label::of(alloc, uri, local, prefix)
 }
 
 /// The event that a line says, in the letters of PYX lines; `:` begins a namespace node.
@@ -51,9 +50,9 @@ fn named_event(alloc: Global, name: &str, value: &str) -> Result<Event, AllocErr
 /// Adds the line that says an event.
 fn put_event(out: &mut Answer, event: &Event) {
     match event {
-        Event::Start(name) => put_named(out, "(", name.local.as_str()),
+        Event::Start(name) => put_named(out, "(", name.local()),
         Event::Attr { name, value } => {
-            put_named(out, "A", name.local.as_str());
+            put_named(out, "A", name.local());
             put_named(out, " ", value.as_str());
         }
         Event::Space { prefix, uri } => {
@@ -76,23 +75,36 @@ fn put_named(out: &mut Answer, sign: &str, text: &str) {
     out.put(text);
 }
 
-/// The events that lines say, which stand between slashes.
-fn events(alloc: Global, lines: &str) -> Result<Vec<Event>, AllocError> {
-    let mut all = Vec::new(alloc);
-    for line in lines.split('/') {
-        if !line.is_empty() {
-            all.push(event(alloc, line)?)?;
+/// Takes the event that a line says, if there is one.
+fn push_event(out: &mut Answer, alloc: Global, all: &mut Vec<Event>, line: &str) {
+    if !line.is_empty() {
+        match event(alloc, line) {
+            Ok(event) => {
+                if all.push(event).is_err() {
+                    out.refuse();
+                }
+            }
+            Err(_) => out.refuse(),
         }
     }
-    Ok(all)
+}
+
+/// The events that lines say, which stand between slashes.
+fn events(out: &mut Answer, alloc: Global, lines: &str) -> Vec<Event> {
+    let mut all = Vec::new(alloc);
+    for line in lines.split('/') {
+        push_event(out, alloc, &mut all, line);
+    }
+    all
 }
 
 /// Adds what stays of events.
-pub(crate) fn put_fragment(out: &mut Answer, alloc: Global, lines: &str) -> Result<(), AllocError> {
-    let put = events(alloc, lines)?;
-    let fragment = build(alloc, put.iter())?;
-    put_events(out, fragment.events());
-    Ok(())
+pub(crate) fn put_fragment(out: &mut Answer, alloc: Global, lines: &str) {
+    let put = events(out, alloc, lines);
+    match build(alloc, put.iter()) {
+        Ok(fragment) => put_events(out, fragment.events()),
+        Err(_) => out.refuse(),
+    }
 }
 
 /// Adds the lines that say events, with slashes between them.
@@ -111,10 +123,17 @@ fn put_events(out: &mut Answer, events: &[Event]) {
 }
 
 /// Adds the text of events, which is put after another text.
-pub(crate) fn put_text(out: &mut Answer, alloc: Global, lines: &str) -> Result<(), AllocError> {
-    let put = events(alloc, lines)?;
+pub(crate) fn put_text(out: &mut Answer, alloc: Global, lines: &str) {
+    let put = events(out, alloc, lines);
+    match text(alloc, &put) {
+        Ok(text) => put_escaped(out, text_of(&text)),
+        Err(_) => out.refuse(),
+    }
+}
+
+/// The text of events, which is put after another text.
+fn text(alloc: Global, put: &[Event]) -> Result<Vec<u8>, AllocError> {
     let mut text = Vec::from_slice(alloc, b"> ")?;
     write_text(&mut text, put.iter())?;
-    put_escaped(out, text_of(&text));
-    Ok(())
+    Ok(text)
 }

@@ -18,11 +18,18 @@ use std::{env, fs, io};
 fn main(rt: HostRuntime) -> io::Result<()> {
     let mut out = Answer::new(rt.alloc());
     for name in env::args(&rt)?.skip(1) {
-        let file = fs::read_to_string(&rt, name.as_str())?;
-        out.put("== ");
-        out.put(name.as_str());
-        out.put("\n");
-        rows::put_rows(&mut out, &rt, rt.alloc(), file.as_str());
+        put_file(&mut out, &rt, name.as_str());
     }
     io::writer(&rt).write_all(out.bytes()?)
+}
+
+// Writes a row file, after a line with its name.
+fn put_file(out: &mut Answer, rt: &HostRuntime, name: &str) {
+    out.put("== ");
+    out.put(name);
+    out.put("\n");
+    match fs::read_to_string(rt, name) {
+        Ok(file) => rows::put_rows(out, rt, rt.alloc(), file.as_str()),
+        Err(_) => out.put("no such file\n"),
+    }
 }

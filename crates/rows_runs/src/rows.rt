@@ -4,9 +4,9 @@ use crate::answer::Answer;
 use crate::answers::{put_fields, put_parts, put_pieces};
 use crate::calls::put_options;
 use crate::events::{put_fragment, put_text};
-use crate::setup::Setup;
-use crate::texts::{push_words, put_decoded};
-use std::alloc::{AllocError, Global};
+use crate::setup::{Outcome, Setup};
+use crate::texts::{push_word, push_words, put_decoded};
+use std::alloc::Global;
 use std::thread::Threads;
 
 /// The arguments of a run that says none.
@@ -59,11 +59,9 @@ pub(crate) fn put_rows<R: Threads + Sync>(out: &mut Answer, rt: &R, alloc: Globa
         call: "",
     };
     for line in file.lines() {
-        let taken = rows.take_line(out, rt, line);
-        out.note(taken);
+        rows.take_line(out, rt, line);
     }
-    let ended = rows.end_row(out, rt);
-    out.note(ended);
+    rows.end_row(out, rt);
 }
 
 /// Adds a line as it is.
@@ -74,45 +72,29 @@ fn copy(out: &mut Answer, line: &str) {
 
 impl<'t> Rows<'t> {
     /// Takes a line.
-    fn take_line<R: Threads + Sync>(
-        &mut self,
-        out: &mut Answer,
-        rt: &R,
-        line: &'t str,
-    ) -> Result<(), AllocError> {
+    fn take_line<R: Threads + Sync>(&mut self, out: &mut Answer, rt: &R, line: &'t str) {
         if line.is_empty() || line.starts_with('#') {
-            self.end_row(out, rt)?;
+            self.end_row(out, rt);
             self.in_file = false;
             copy(out, line);
         } else if let Some(part) = line.strip_prefix("= ") {
             self.in_file = false;
-            let (word, rest) = part.split_once(' ').unwrap_or((part, ""));
-            if ANSWERS.contains(&word) {
-                return self.answer(out, rt);
-            }
-            self.take_part(out, rt, word, rest)?;
-            copy(out, line);
+            self.take_part(out, rt, line, part);
         } else if self.in_file {
             self.setup.put_line(line);
             copy(out, line);
         } else if !matches!(self.at, At::Answer) {
-            return self.take_row(out, rt, line);
+            self.take_row(out, rt, line);
         }
-        Ok(())
     }
 
     /// Takes a row in one line.
-    fn take_row<R: Threads + Sync>(
-        &self,
-        out: &mut Answer,
-        rt: &R,
-        line: &str,
-    ) -> Result<(), AllocError> {
+    fn take_row<R: Threads + Sync>(&self, out: &mut Answer, rt: &R, line: &str) {
         match line.split_once(" ==>") {
             Some((input, _)) => {
                 out.put(input);
                 out.put(" ==> ");
-                self.put_called(out, rt, input)?;
+                self.put_called(out, rt, input);
                 out.put("\n");
             }
             None => {
@@ -120,7 +102,6 @@ impl<'t> Rows<'t> {
                 copy(out, line);
             }
         }
-        Ok(())
     }
 
     /// Takes the line that begins a part.
@@ -128,30 +109,51 @@ impl<'t> Rows<'t> {
         &mut self,
         out: &mut Answer,
         rt: &R,
+        line: &str,
+        part: &'t str,
+    ) {
+        let (word, rest) = part.split_once(' ').unwrap_or((part, ""));
+        if ANSWERS.contains(&word) {
+            self.answer(out, rt);
+        } else {
+            self.take_input(out, rt, word, rest);
+            copy(out, line);
+        }
+    }
+
+    /// Takes a part that is no answer.
+    fn take_input<R: Threads + Sync>(
+        &mut self,
+        out: &mut Answer,
+        rt: &R,
         word: &str,
         rest: &'t str,
-    ) -> Result<(), AllocError> {
+    ) {
         match word {
             "row" => {
-                self.end_row(out, rt)?;
+                self.end_row(out, rt);
                 self.take_arguments("", PLAIN);
                 self.at = At::Input;
             }
-            "args" | "budget" => {
-                if let At::Arguments = self.at {
-                    self.answer(out, rt)?;
-                }
-                if word == "args" {
-                    self.take_arguments("", rest);
-                } else {
-                    self.take_arguments(rest, PLAIN);
-                }
-            }
-            "sheet" | "module" | "source" | "file" => return self.take_file(word, rest),
-            "failing" => return self.setup.add_failing(rest),
+            "args" => self.take_run(out, rt, "", rest),
+            "budget" => self.take_run(out, rt, rest, PLAIN),
+            "sheet" | "module" | "source" | "file" => self.take_file(out, word, rest),
             _ => self.take_setting(out, word, rest),
         }
-        Ok(())
+    }
+
+    /// Takes the arguments of another run, and the budget before them, if there is one.
+    fn take_run<R: Threads + Sync>(
+        &mut self,
+        out: &mut Answer,
+        rt: &R,
+        budget: &'t str,
+        words: &'t str,
+    ) {
+        if let At::Arguments = self.at {
+            self.answer(out, rt);
+        }
+        self.take_arguments(budget, words);
     }
 
     /// Takes the arguments of a run, and the budget before them, if there is one.
@@ -167,88 +169,102 @@ impl<'t> Rows<'t> {
             "with" => self.with = rest,
             "call" => self.call = rest,
             "most" => self.setup.set_most(rest),
+            "failing" => out.note(self.setup.add_failing(rest)),
             _ => out.put("= no part has this word:\n"),
         }
     }
 
     /// Begins a file: of the row, or outside of a row one of all rows that follow.
-    fn take_file(&mut self, word: &str, rest: &'t str) -> Result<(), AllocError> {
+    fn take_file(&mut self, out: &mut Answer, word: &str, rest: &'t str) {
         if let At::Answer = self.at {
             self.at = At::Outside;
             self.setup.clear();
         }
         let is_shared = matches!(self.at, At::Outside);
-        self.in_file = self.setup.add_file(word, rest, is_shared)?;
-        Ok(())
+        self.in_file = self.setup.add_file(out, word, rest, is_shared);
     }
 
     /// Ends a row; a run that has no answer yet gets one.
-    fn end_row<R: Threads + Sync>(&mut self, out: &mut Answer, rt: &R) -> Result<(), AllocError> {
-        self.answer(out, rt)?;
+    fn end_row<R: Threads + Sync>(&mut self, out: &mut Answer, rt: &R) {
+        self.answer(out, rt);
         self.setup.clear();
         self.at = At::Outside;
-        Ok(())
     }
 
-    /// Adds the answer of the run that has none yet.
-    fn answer<R: Threads + Sync>(&mut self, out: &mut Answer, rt: &R) -> Result<(), AllocError> {
+    /// Adds the answer of the run that has none yet: what it gives with the first of the options,
+    /// and with each that gives something else.
+    fn answer<R: Threads + Sync>(&mut self, out: &mut Answer, rt: &R) {
         if let At::Outside | At::Answer = self.at {
-            return Ok(());
+            return;
         }
         self.at = At::Answer;
-        self.put_all_parts(out, rt)
+        let (options, others) = match self.with.split_once(" | ") {
+            Some((options, others)) => (options, Some(others)),
+            None => (self.with, None),
+        };
+        let mut first = Answer::new(self.alloc);
+        self.put_run(&mut first, rt, options);
+        out.put_answer(&first);
+        if let Some(others) = others {
+            self.put_others(out, rt, &first, others);
+        }
     }
 
-    /// Adds what a run gives with the first of the options, and with each that gives something
-    /// else.
-    fn put_all_parts<R: Threads + Sync>(&self, out: &mut Answer, rt: &R) -> Result<(), AllocError> {
-        let mut first = Answer::new(self.alloc);
-        let mut is_first = true;
-        for options in self.with.split(" | ") {
-            let mut parts = Answer::new(self.alloc);
-            self.put_run(&mut parts, rt, options)?;
-            if is_first {
-                out.put_bytes(parts.bytes()?);
-                first = parts;
-                is_first = false;
-            } else if first.bytes()? != parts.bytes()? {
-                out.put("= differs ");
-                copy(out, options);
-                out.put_bytes(parts.bytes()?);
-            }
+    /// Adds what a run gives with each of the options that gives something else than the first.
+    fn put_others<R: Threads + Sync>(
+        &self,
+        out: &mut Answer,
+        rt: &R,
+        first: &Answer,
+        others: &str,
+    ) {
+        for options in others.split(" | ") {
+            self.put_other(out, rt, first, options);
         }
-        Ok(())
+    }
+
+    /// Adds what a run gives with these options, where it is something else than the first.
+    fn put_other<R: Threads + Sync>(
+        &self,
+        out: &mut Answer,
+        rt: &R,
+        first: &Answer,
+        options: &str,
+    ) {
+        let mut parts = Answer::new(self.alloc);
+        self.put_run(&mut parts, rt, options);
+        if !parts.is_same(first) {
+            out.put("= differs ");
+            copy(out, options);
+            out.put_answer(&parts);
+        }
     }
 
     /// Adds what a run gives with these options.
-    fn put_run<R: Threads + Sync>(
-        &self,
-        out: &mut Answer,
-        rt: &R,
-        options: &str,
-    ) -> Result<(), AllocError> {
+    fn put_run<R: Threads + Sync>(&self, out: &mut Answer, rt: &R, options: &str) {
         let mut words = Vec::new(self.alloc);
-        push_words(self.alloc, &mut words, options)?;
+        push_words(out, self.alloc, &mut words, options);
         if !self.budget.is_empty() {
-            push_words(self.alloc, &mut words, "--budget")?;
-            push_words(self.alloc, &mut words, self.budget)?;
+            push_words(out, self.alloc, &mut words, "--budget");
+            push_words(out, self.alloc, &mut words, self.budget);
         }
-        push_words(self.alloc, &mut words, self.words)?;
-        let outcome = self.setup.run(rt, &words, b"")?;
-        put_parts(out, &outcome);
+        push_words(out, self.alloc, &mut words, self.words);
+        match self.setup.run(out, rt, &words, b"") {
+            Ok(outcome) => self.put_outcome(out, &outcome),
+            Err(_) => out.refuse(),
+        }
+    }
+
+    /// Adds what a run gave.
+    fn put_outcome(&self, out: &mut Answer, outcome: &Outcome) {
+        put_parts(out, outcome);
         if self.with.is_empty() {
             put_pieces(out, &outcome.report);
         }
-        Ok(())
     }
 
     /// Adds the answer of a row in one line.
-    fn put_called<R: Threads + Sync>(
-        &self,
-        out: &mut Answer,
-        rt: &R,
-        input: &str,
-    ) -> Result<(), AllocError> {
+    fn put_called<R: Threads + Sync>(&self, out: &mut Answer, rt: &R, input: &str) {
         match self.call {
             "read_words" => put_options(out, self.alloc, input),
             "build" => put_fragment(out, self.alloc, input),
@@ -256,41 +272,35 @@ impl<'t> Rows<'t> {
             "transform args" | "transform budget" | "transform text" => {
                 self.put_transformed(out, rt, input)
             }
-            _ => {
-                out.put("no such call");
-                Ok(())
-            }
+            _ => out.put("no such call"),
         }
     }
 
     /// Adds the answer of a run in one line, of which the row says the arguments, the budget, or a
     /// text of the files.
-    fn put_transformed<R: Threads + Sync>(
-        &self,
-        out: &mut Answer,
-        rt: &R,
-        input: &str,
-    ) -> Result<(), AllocError> {
+    fn put_transformed<R: Threads + Sync>(&self, out: &mut Answer, rt: &R, input: &str) {
         let mut text = Answer::new(self.alloc);
         put_decoded(&mut text, input);
-        let words = self.words_of(input, text.text()?)?;
-        let outcome = self.setup.run(rt, &words, text.bytes()?)?;
-        put_fields(out, &outcome);
-        Ok(())
+        let words = self.words_of(out, input);
+        let text = text.held(out);
+        match self.setup.run(out, rt, &words, text) {
+            Ok(outcome) => put_fields(out, &outcome),
+            Err(_) => out.refuse(),
+        }
     }
 
     /// The arguments of a run that a row in one line says.
-    fn words_of(&self, input: &str, text: &str) -> Result<Vec<String>, AllocError> {
+    fn words_of(&self, out: &mut Answer, input: &str) -> Vec<String> {
         let mut words = Vec::new(self.alloc);
         if self.call == "transform args" {
-            push_words(self.alloc, &mut words, input)?;
-            return Ok(words);
+            push_words(out, self.alloc, &mut words, input);
+            return words;
         }
         if self.call == "transform budget" {
-            push_words(self.alloc, &mut words, "--budget")?;
-            words.push(String::from_str(self.alloc, text)?)?;
+            push_words(out, self.alloc, &mut words, "--budget");
+            push_word(out, self.alloc, &mut words, input);
         }
-        push_words(self.alloc, &mut words, PLAIN)?;
-        Ok(words)
+        push_words(out, self.alloc, &mut words, PLAIN);
+        words
     }
 }

@@ -1,6 +1,6 @@
 //! What a run is made of: files, and what fails of them and of the sinks.
 
-use crate::answer::Answer;
+use crate::answer::{Answer, text_of};
 use crate::texts::put_decoded;
 use std::alloc::{AllocError, Global};
 use std::thread::Threads;
@@ -88,10 +88,11 @@ impl<'t> Setup<'t> {
     /// of all rows that follow. Whether its lines follow.
     pub(crate) fn add_file(
         &mut self,
+        out: &mut Answer,
         word: &str,
         rest: &'t str,
         is_shared: bool,
-    ) -> Result<bool, AllocError> {
+    ) -> bool {
         let (name, line) = match word {
             "sheet" => ("s.pyx", ""),
             "source" => ("src.pyx", rest),
@@ -107,11 +108,13 @@ impl<'t> Setup<'t> {
         if word == "sheet" && !rest.is_empty() {
             put_method(&mut text, rest);
         }
-        self.files.push(File { name, text, form })?;
+        if self.files.push(File { name, text, form }).is_err() {
+            out.refuse();
+        }
         if is_shared {
             self.shared = self.files.len();
         }
-        Ok(!matches!(form, Form::Escaped))
+        !matches!(form, Form::Escaped)
     }
 
     /// Adds a line to the last file.
@@ -140,15 +143,12 @@ impl<'t> Setup<'t> {
     }
 
     /// The library of the files, in which a text takes its place.
-    fn library(&self, text: &[u8]) -> Result<MemLibrary, AllocError> {
+    fn library(&self, out: &mut Answer, text: &[u8]) -> Result<MemLibrary, AllocError> {
+        let failing = Vec::from_slice(self.alloc, &self.failing_fetches)?;
         let mut files = Vec::new(self.alloc);
         for file in self.files.iter().rev() {
-            let mut bytes = Answer::new(self.alloc);
-            put_file(&mut bytes, file.form, file.text.text()?, text);
-            let name = String::from_str(self.alloc, file.name)?;
-            files.push((name, bytes.into_bytes()?))?;
+            push_file(out, self.alloc, &mut files, file, text);
         }
-        let failing = Vec::from_slice(self.alloc, &self.failing_fetches)?;
         Ok(MemLibrary::new(self.alloc, files, failing))
     }
 
@@ -160,16 +160,18 @@ impl<'t> Setup<'t> {
         Ok(sink)
     }
 
-    /// A run with these arguments, where a text takes its place in the files.
+    /// A run with these arguments, where a text takes its place in the files; where a file was
+    /// refused memory, what is written of the run is refused.
     pub(crate) fn run<R: Threads + Sync>(
         &self,
+        written: &mut Answer,
         rt: &R,
         words: &[String],
         text: &[u8],
     ) -> Result<Outcome, AllocError> {
-        let mut library = self.library(text)?;
         let mut out = self.sink(&self.failing_results)?;
         let mut err = self.sink(&self.failing_lines)?;
+        let mut library = self.library(written, text)?;
         let report = transform(
             rt,
             self.alloc,
@@ -184,6 +186,27 @@ impl<'t> Setup<'t> {
             result: out,
             lines: err,
         })
+    }
+}
+
+/// Takes a file of a library, in which a text takes its place.
+fn push_file(
+    out: &mut Answer,
+    alloc: Global,
+    files: &mut Vec<(String, Vec<u8>)>,
+    file: &File<'_>,
+    text: &[u8],
+) {
+    let mut bytes = Answer::new(alloc);
+    put_file(&mut bytes, file.form, text_of(file.text.held(out)), text);
+    let bytes = bytes.into_held(out);
+    match String::from_str(alloc, file.name) {
+        Ok(name) => {
+            if files.push((name, bytes)).is_err() {
+                out.refuse();
+            }
+        }
+        Err(_) => out.refuse(),
     }
 }
 

@@ -1,7 +1,7 @@
 //! Texts that are written in one line.
 
-use crate::answer::Answer;
-use std::alloc::{AllocError, Global};
+use crate::answer::{Answer, text_of};
+use std::alloc::Global;
 
 /// Adds the bytes that a text in one line means: `\n`, `\t`, `\r` and `\\` as in PYX lines, `\s` a
 /// space, `\?` a byte that UTF-8 does not have, and `<<3:ab>>` the same as `ababab`.
@@ -65,19 +65,25 @@ pub(crate) fn put_escaped(out: &mut Answer, text: &str) {
     }
 }
 
-/// Adds the words of a line, which are separated by single spaces; an empty line has none.
-pub(crate) fn push_words(
-    alloc: Global,
-    words: &mut Vec<String>,
-    line: &str,
-) -> Result<(), AllocError> {
-    if line.is_empty() {
-        return Ok(());
+/// Takes the words of a line, which are separated by single spaces; an empty line has none.
+pub(crate) fn push_words(out: &mut Answer, alloc: Global, words: &mut Vec<String>, line: &str) {
+    if !line.is_empty() {
+        for word in line.split(' ') {
+            push_word(out, alloc, words, word);
+        }
     }
-    for word in line.split(' ') {
-        let mut text = Answer::new(alloc);
-        put_decoded(&mut text, word);
-        words.push(String::from_str(alloc, text.text()?)?)?;
+}
+
+/// Takes a word.
+pub(crate) fn push_word(out: &mut Answer, alloc: Global, words: &mut Vec<String>, word: &str) {
+    let mut text = Answer::new(alloc);
+    put_decoded(&mut text, word);
+    match String::from_str(alloc, text_of(text.held(out))) {
+        Ok(word) => {
+            if words.push(word).is_err() {
+                out.refuse();
+            }
+        }
+        Err(_) => out.refuse(),
     }
-    Ok(())
 }

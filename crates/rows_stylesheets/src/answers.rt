@@ -66,9 +66,7 @@ fn put_of_tree(out: &mut Answer, alloc: Global, settings: &Settings<'_>, tree: &
 
 /// The answer to a row of modules.
 fn put_of_modules(out: &mut Answer, alloc: Global, settings: &Settings<'_>, input: &str) {
-    let Ok(mut library) = library(alloc, input) else {
-        return out.refuse();
-    };
+    let mut library = library(out, alloc, input);
     match read_modules(alloc, &mut library, "s") {
         Ok(modules) => put_of_read(out, alloc, settings, &modules),
         Err(end) => put_end(out, &end),

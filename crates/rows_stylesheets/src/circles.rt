@@ -1,7 +1,7 @@
 //! The first circle among declarations of attribute sets (XSLT 1.0, 7.1.4).
 
 use crate::answer::Answer;
-use std::alloc::{AllocError, Global};
+use std::alloc::Global;
 use xs_circles::{Declaration, Name, Place, first_circle};
 
 /// A name with its URI, if it has one.
@@ -18,54 +18,50 @@ fn place_of(text: &str) -> Place {
     }
 }
 
-/// Adds names with spaces between them.
-fn push_names<'a>(names: &mut Vec<Name<'a>>, text: &'a str) -> Result<(), AllocError> {
-    for word in text.split(' ') {
-        if !word.is_empty() {
-            names.push(name_of(word))?;
-        }
+/// Takes a name that a declaration uses.
+fn push_name<'a>(out: &mut Answer, names: &mut Vec<Name<'a>>, word: &'a str) {
+    if !word.is_empty() && names.push(name_of(word)).is_err() {
+        out.refuse();
     }
-    Ok(())
 }
 
 /// A declaration: its place, its name and the names that it uses.
-fn declaration(alloc: Global, text: &str) -> Result<Declaration<'_>, AllocError> {
+fn declaration<'a>(out: &mut Answer, alloc: Global, text: &'a str) -> Declaration<'a> {
     let (place, rest) = text.split_once(' ').unwrap_or((text, ""));
     let (name, used) = rest.split_once(' ').unwrap_or((rest, ""));
     let mut sets = Vec::new(alloc);
-    push_names(&mut sets, used)?;
-    Ok(Declaration {
+    for word in used.split(' ') {
+        push_name(out, &mut sets, word);
+    }
+    Declaration {
         place: place_of(place),
         name: name_of(name),
         sets,
-    })
+    }
 }
 
-/// Adds declarations with commas between them.
-fn push_all<'a>(
-    declarations: &mut Vec<Declaration<'a>>,
+/// Takes a declaration.
+fn push_declaration<'a>(
+    out: &mut Answer,
     alloc: Global,
-    input: &'a str,
-) -> Result<(), AllocError> {
-    for text in input.split(',') {
-        if !text.is_empty() {
-            let declaration = declaration(alloc, text)?;
-            declarations.push(declaration)?;
+    declarations: &mut Vec<Declaration<'a>>,
+    text: &'a str,
+) {
+    if !text.is_empty() {
+        let declaration = declaration(out, alloc, text);
+        if declarations.push(declaration).is_err() {
+            out.refuse();
         }
     }
-    Ok(())
-}
-
-/// The place of the first circular one of declarations with commas between them.
-fn circle_of(alloc: Global, input: &str) -> Result<Option<Place>, AllocError> {
-    let mut declarations = Vec::new(alloc);
-    push_all(&mut declarations, alloc, input)?;
-    first_circle(alloc, &declarations)
 }
 
 /// Adds the place of the first circular one of declarations with commas between them.
 pub(crate) fn put_first_circle(out: &mut Answer, alloc: Global, input: &str) {
-    match circle_of(alloc, input) {
+    let mut declarations = Vec::new(alloc);
+    for text in input.split(',') {
+        push_declaration(out, alloc, &mut declarations, text);
+    }
+    match first_circle(alloc, &declarations) {
         Ok(Some(place)) => out.put_pair(place.module, ".", place.line),
         Ok(None) => (),
         Err(_) => out.refuse(),

@@ -87,32 +87,48 @@ pub(crate) fn module(alloc: Global, lines: &str) -> Result<String, AllocError> {
     out.finish()
 }
 
-/// Adds a module to files.
+/// A file with a module.
+fn file(alloc: Global, name: &str, lines: &str) -> Result<(String, Vec<u8>), AllocError> {
+    let bytes = module(alloc, lines)?.into_bytes();
+    Ok((String::from_str(alloc, name)?, bytes))
+}
+
+/// Takes a file with a module.
 fn push_file(
-    files: &mut Vec<(String, Vec<u8>)>,
+    out: &mut Answer,
     alloc: Global,
+    files: &mut Vec<(String, Vec<u8>)>,
     name: &str,
     lines: &str,
-) -> Result<(), AllocError> {
-    let bytes = module(alloc, lines)?.into_bytes();
-    files.push((String::from_str(alloc, name)?, bytes))?;
-    Ok(())
+) {
+    match file(alloc, name, lines) {
+        Ok(file) => {
+            if files.push(file).is_err() {
+                out.refuse();
+            }
+        }
+        Err(_) => out.refuse(),
+    }
+}
+
+/// The name of a module and its lines, with a colon between them.
+fn named(module: &str) -> (&str, &str) {
+    module.split_once(':').unwrap_or(("s", module))
 }
 
 /// A library of modules: the first one is `s`, and each other one, after a `^`, begins with its
 /// name and a colon.
-pub(crate) fn library(alloc: Global, modules: &str) -> Result<MemLibrary, AllocError> {
+pub(crate) fn library(out: &mut Answer, alloc: Global, modules: &str) -> MemLibrary {
     let mut files = Vec::new(alloc);
     let mut is_first = true;
-    for lines in modules.split('^') {
-        let named = if is_first {
-            None
+    for module in modules.split('^') {
+        let (name, lines) = if is_first {
+            ("s", module)
         } else {
-            lines.split_once(':')
+            named(module)
         };
-        let (name, lines) = named.unwrap_or(("s", lines));
-        push_file(&mut files, alloc, name, lines)?;
+        push_file(out, alloc, &mut files, name, lines);
         is_first = false;
     }
-    Ok(MemLibrary::new(alloc, files, Vec::new(alloc)))
+    MemLibrary::new(alloc, files, Vec::new(alloc))
 }

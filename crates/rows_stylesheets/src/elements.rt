@@ -107,21 +107,29 @@ pub(crate) fn put_elements(out: &mut Answer, tree: &Tree) {
     }
 }
 
+// The contents of elements, by their names.
+const CONTENTS: &[(&str, Content)] = &[
+    ("nothing", Content::Nothing),
+    ("declarations", Content::TopLevel),
+    ("attributes", Content::Attributes),
+    ("sorts and parameters", Content::SortsAndParameters),
+    ("parameters", Content::Parameters),
+    ("branches", Content::Branches),
+    ("text alone", Content::TextAlone),
+    ("body", Content::Body),
+    ("parameters and body", Content::ParametersAndBody),
+    ("sorts and body", Content::SortsAndBody),
+    ("unread", Content::Unread),
+];
+
 /// The name of a content.
 fn content_name(content: Content) -> &'static str {
-    match content {
-        Content::Nothing => "nothing",
-        Content::TopLevel => "declarations",
-        Content::Attributes => "attributes",
-        Content::SortsAndParameters => "sorts and parameters",
-        Content::Parameters => "parameters",
-        Content::Branches => "branches",
-        Content::TextAlone => "text alone",
-        Content::Body => "body",
-        Content::ParametersAndBody => "parameters and body",
-        Content::SortsAndBody => "sorts and body",
-        Content::Unread => "unread",
+    for (name, other) in CONTENTS {
+        if *other == content {
+            return name;
+        }
     }
+    ""
 }
 
 /// Adds the content of the document element, and whether each element in it may stand there.
@@ -148,27 +156,35 @@ pub(crate) fn put_contents(out: &mut Answer, tree: &Tree) {
     }
 }
 
+// The forms of values, by their names.
+const FORMS: &[(&str, Form)] = &[
+    ("anything", Form::Anything),
+    ("version", Form::Version),
+    ("expression", Form::Expression),
+    ("expression of a key", Form::KeyUse),
+    ("pattern of a template", Form::TemplatePattern),
+    ("pattern of a key", Form::KeyPattern),
+    ("pattern of a number", Form::NumberPattern),
+    ("value template", Form::ValueTemplate),
+    ("yes or no", Form::YesOrNo),
+    ("level", Form::Level),
+    ("name", Form::Name),
+    ("names", Form::Names),
+    ("sets", Form::Sets),
+    ("name tests", Form::Tests),
+    ("prefix", Form::Prefix),
+    ("prefixes", Form::Prefixes),
+    ("priority", Form::Priority),
+];
+
 /// The name of a form.
 fn form_name(form: Form) -> &'static str {
-    match form {
-        Form::Anything => "anything",
-        Form::Version => "version",
-        Form::Expression => "expression",
-        Form::KeyUse => "expression of a key",
-        Form::TemplatePattern => "pattern of a template",
-        Form::KeyPattern => "pattern of a key",
-        Form::NumberPattern => "pattern of a number",
-        Form::ValueTemplate => "value template",
-        Form::YesOrNo => "yes or no",
-        Form::Level => "level",
-        Form::Name => "name",
-        Form::Names => "names",
-        Form::Sets => "sets",
-        Form::Tests => "name tests",
-        Form::Prefix => "prefix",
-        Form::Prefixes => "prefixes",
-        Form::Priority => "priority",
+    for (name, other) in FORMS {
+        if *other == form {
+            return name;
+        }
     }
+    ""
 }
 
 /// Adds a form, and what its values may not have.

@@ -24,11 +24,18 @@ use std::{env, fs, io};
 fn main(rt: HostRuntime) -> io::Result<()> {
     let mut out = Answer::new(rt.alloc());
     for name in env::args(&rt)?.skip(1) {
-        let text = fs::read_to_string(&rt, name.as_str())?;
-        out.put("== ");
-        out.put(name.as_str());
-        out.put("\n");
-        put_file(&mut out, rt.alloc(), text.as_str());
+        put_named_file(&mut out, &rt, name.as_str());
     }
     rt.print(out.finish()?.as_str())
+}
+
+/// Adds a file with its answers computed, after a line with its name.
+fn put_named_file(out: &mut Answer, rt: &HostRuntime, name: &str) {
+    out.put("== ");
+    out.put(name);
+    out.put("\n");
+    match fs::read_to_string(rt, name) {
+        Ok(text) => put_file(out, rt.alloc(), text.as_str()),
+        Err(_) => out.put("no such file\n"),
+    }
 }

@@ -58,19 +58,23 @@ impl<'t> Settings<'t> {
     /// Takes a setting: its word and its text, with a space between them.
     pub(crate) fn set(&mut self, setting: &'t str) -> Result<(), AllocError> {
         let (word, text) = setting.split_once(' ').unwrap_or((setting, ""));
-        if word == "rows" {
-            self.rows = text;
-            self.form = "";
-        } else if word == "form" {
-            self.form = text;
-        } else if word == "document" {
-            self.document = text;
-        } else if word == "repeat" {
-            let repeat = text.split_once(' ').unwrap_or((text, ""));
-            self.repeats.push(repeat)?;
-        } else {
-            self.rows = "";
+        match word {
+            "rows" => {
+                self.rows = text;
+                self.form = "";
+            }
+            "form" => self.form = text,
+            "document" => self.document = text,
+            "repeat" => return self.add_repeat(text),
+            _ => self.rows = "",
         }
+        Ok(())
+    }
+
+    /// Takes a name, and what is repeated for it.
+    fn add_repeat(&mut self, text: &'t str) -> Result<(), AllocError> {
+        let repeat = text.split_once(' ').unwrap_or((text, ""));
+        self.repeats.push(repeat)?;
         Ok(())
     }
 

@@ -20,11 +20,11 @@ fn put_expanded(out: &mut Answer, uri: &str, local: &str) {
 
 /// Adds a name: its prefix with a colon, its local part, its URI in square brackets.
 pub(crate) fn put_label(out: &mut Answer, name: &Label) {
-    if !name.prefix.as_str().is_empty() {
-        out.put(name.prefix.as_str());
+    if !name.prefix().is_empty() {
+        out.put(name.prefix());
         out.put(":");
     }
-    put_expanded(out, name.uri.as_str(), name.local.as_str());
+    put_expanded(out, name.uri(), name.local());
 }
 
 /// Adds names, each after this text.

@@ -42,20 +42,18 @@ fn holds_65_items_in_two_blocks(rt: HostRuntime) -> Result<(), Fail> {
     let mut pool = Pool::new(rt.alloc());
     let mut chain = Chain::new(rt.alloc());
     pool.reserve(&chain, 65)?;
-    assert_eq!(rt; (pool.free_blocks(), pool.spare(&chain)), (2, 128));
+    assert!(rt; pool.free_blocks() == 2 && pool.spare(&chain) == 128);
     for n in 0..65u64 {
         pool.push(&mut chain, n);
     }
-    assert_eq!(rt;
-        (chain.blocks(), pool.free_blocks(), pool.spare(&chain)),
-        (2, 0, 63)
-    );
+    assert!(rt; chain.blocks() == 2 && pool.free_blocks() == 0);
+    assert!(rt; pool.spare(&chain) == 63);
     let mut wanted = 0..65;
     for n in chain.items() {
-        assert_eq!(rt; wanted.next(), Some(*n));
+        assert!(rt; wanted.next() == Some(*n));
     }
     pool.give_back(chain);
-    assert_eq!(rt; pool.free_blocks(), 2);
+    assert!(rt; pool.free_blocks() == 2);
     Ok(())
 }
 
@@ -66,17 +64,15 @@ fn joins_and_cuts(rt: HostRuntime) -> Result<(), Fail> {
     let more = numbers(rt.alloc(), &mut pool, 70, 75)?;
     assert!(rt; !more.is_empty() && chain.can_append(&more));
     append_chain(&mut chain, more);
-    assert_eq!(rt; (chain.blocks(), pool.spare(&chain)), (3, 59));
+    assert!(rt; chain.blocks() == 3 && pool.spare(&chain) == 59);
     assert!(rt; counts_to(&chain, 75));
     pool.truncate(&mut chain, 66);
-    assert_eq!(rt;
-        (chain.blocks(), pool.free_blocks(), pool.spare(&chain)),
-        (2, 1, 126)
-    );
+    assert!(rt; chain.blocks() == 2 && pool.free_blocks() == 1);
+    assert!(rt; pool.spare(&chain) == 126);
     assert!(rt; counts_to(&chain, 66));
     let mut wanted = 0..66;
     for item in chain.into_items() {
-        assert_eq!(rt; wanted.next(), Some(*item));
+        assert!(rt; wanted.next() == Some(*item));
     }
     Ok(())
 }
@@ -96,9 +92,9 @@ fn keeps_its_blocks_where_memory_is_refused(rt: HostRuntime) -> Result<(), Fail>
         pushed = n + 1;
     }
     assert!(rt; refused || pushed == 200);
-    assert_eq!(rt; pool.free_blocks() + chain.blocks(), made);
+    assert!(rt; pool.free_blocks() + chain.blocks() == made);
     pool.truncate(&mut chain, 64);
     pool.give_back(chain);
-    assert_eq!(rt; pool.free_blocks(), made);
+    assert!(rt; pool.free_blocks() == made);
     Ok(())
 }

@@ -1,12 +1,14 @@
 //! Ledgers: shares that add in turn, two threads that add at once, refused memory.
 
-ghost use Rattle.std.specs.Prelude.{◌≡◌, IfOk};
+ghost use Rattle.std.specs.Prelude.{◌≡◌, ◌≤◌, IfOk};
 ghost use Rattle.xs_ledger.specs.Shares.{ledger_id, seats_of, IsShareOf, IsUnused};
 
 use std::alloc::{AllocError, Global};
 use std::test::Fail;
 use std::thread;
 use xs_ledger::ledger::{Ledger, Share};
+use xs_ledger::total::LedgerTotal;
+use xs_trace::total::Total;
 
 // A ledger and its two shares.
 fn ledger_for_two(alloc: Global) -> Result<(Ledger, Share, Share), AllocError>
@@ -48,9 +50,33 @@ fn add_once(ledger: &Ledger, mut share: Share, n: u32) -> Share
 #[test]
 fn answers_the_word_after_each_addition(rt: HostRuntime) -> Result<(), Fail> {
     let (ledger, mut one, mut two) = ledger_for_two(rt.alloc())?;
-    assert_eq!(rt; ledger.add(&mut one, 10), 10);
-    assert_eq!(rt; ledger.add(&mut two, 10), 20);
-    assert_eq!(rt; total_of_two(rt.alloc(), ledger, one, two)?, 20);
+    assert!(rt; ledger.add(&mut one, 10) == 10);
+    assert!(rt; ledger.add(&mut two, 10) == 20);
+    assert!(rt; total_of_two(rt.alloc(), ledger, one, two)? == 20);
+    Ok(())
+}
+
+// What a total answers to an addition of 1,000, and to a second one where that is within its limit.
+fn add_twice<T: Total>(total: &mut T) -> (u64, u64)
+    requires within { T.last total.old ≤ T.most total.old }
+{
+    let first = total.add(1000);
+    if total.above().is_some() {
+        return (first, 0);
+    }
+    (first, total.add(1000))
+}
+
+#[test]
+fn adds_to_a_ledger_up_to_a_limit(rt: HostRuntime) -> Result<(), Fail> {
+    let (ledger, mut one, two) = ledger_for_two(rt.alloc())?;
+    ledger.add(&mut one, 10);
+    let mut total = LedgerTotal::new(&ledger, two, 2000, 0);
+    assert!(rt; total.above().is_none() && total.limit() == 2000);
+    assert!(rt; add_twice(&mut total) == (1010, 2010));
+    assert!(rt; total.above() == Some(2010));
+    let two = total.into_share();
+    assert!(rt; total_of_two(rt.alloc(), ledger, one, two)? == 2010);
     Ok(())
 }
 
@@ -63,7 +89,7 @@ fn counts_what_two_threads_add(rt: HostRuntime) -> Result<(), Fail> {
         move || add_once(counted, one, 1024),
         move || add_once(counted, two, 3),
     );
-    assert_eq!(rt; total_of_two(rt.alloc(), ledger, one, two)?, 1027);
+    assert!(rt; total_of_two(rt.alloc(), ledger, one, two)? == 1027);
     Ok(())
 }
 
@@ -72,8 +98,8 @@ fn makes_all_shares_or_refuses(rt: HostRuntime) {
     let made = Ledger::new(rt.alloc(), 64);
     match made {
         Ok((ledger, shares)) => {
-            assert_eq!(rt; shares.len(), 64);
-            assert_eq!(rt; ledger.close(shares), 0);
+            assert!(rt; shares.len() == 64);
+            assert!(rt; ledger.close(shares) == 0);
         }
         Err(AllocError) => {}
     }

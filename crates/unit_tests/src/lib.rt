@@ -5,6 +5,7 @@
 mod axes;
 #[cfg(test)]
 mod blocks;
+#[cfg(test)]
 mod document_laws;
 #[cfg(test)]
 mod edges;
@@ -16,7 +17,9 @@ mod loads;
 mod machine;
 #[cfg(test)]
 mod numbers;
+#[cfg(test)]
 mod probe;
 #[cfg(test)]
 mod recorders;
+#[cfg(test)]
 mod trace_laws;

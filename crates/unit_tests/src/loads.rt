@@ -8,14 +8,14 @@ fn makes_a_load_of_four(rt: HostRuntime) -> Result<(), Fail> {
     let (sheet, source) = load_case(rt.alloc(), 4)?;
     let wanted =
         "(r\n(i\nAk 31\n-1\n)i\n(i\nAk 62\n-2\n)i\n(i\nAk 93\n-3\n)i\n(i\nAk 27\n-4\n)i\n)r\n";
-    assert_eq!(rt; source.as_slice(), wanted.as_bytes());
-    assert_eq!(rt;
+    assert!(rt; source.as_slice() == wanted.as_bytes());
+    assert!(rt;
         sheet
             .as_slice()
             .iter()
             .filter(|byte| **byte == b'\n')
-            .count(),
-        36
+            .count()
+            == 36
     );
     Ok(())
 }

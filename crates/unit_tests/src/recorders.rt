@@ -35,14 +35,14 @@ const LONG: &str = "the whole of this text is longer than thirty-two bytes";
 #[test]
 fn short_text(rt: HostRuntime) -> Result<(), Fail> {
     let copy = TextBuf::of(rt.alloc(), "pi")?.copy()?;
-    assert_eq!(rt; copy.as_str(), "pi");
+    assert!(rt; copy.as_str() == "pi");
     Ok(())
 }
 
 #[test]
 fn long_text(rt: HostRuntime) -> Result<(), Fail> {
     let copy = TextBuf::from_string(String::from_str(rt.alloc(), LONG)?)?.copy()?;
-    assert_eq!(rt; copy.as_str(), LONG);
+    assert!(rt; copy.as_str() == LONG);
     Ok(())
 }
 
@@ -71,8 +71,8 @@ fn has_numbers(alloc: Global, numbers: &[u64]) -> Result<bool, AllocError> {
 #[test]
 fn places(rt: HostRuntime) -> Result<(), Fail> {
     assert!(rt; has_numbers(rt.alloc(), &[3, 1])?);
-    assert_eq!(rt; compared(rt.alloc(), &[], &[3, 1])?, Ordering::Less);
-    assert_eq!(rt; compared(rt.alloc(), &[3, 1], &[2])?, Ordering::Greater);
+    assert!(rt; compared(rt.alloc(), &[], &[3, 1])? == Ordering::Less);
+    assert!(rt; compared(rt.alloc(), &[3, 1], &[2])? == Ordering::Greater);
     Ok(())
 }
 
@@ -87,9 +87,9 @@ fn label(alloc: Global) -> Result<Label, AllocError> {
 #[test]
 fn labels(rt: HostRuntime) -> Result<(), Fail> {
     let copy = label(rt.alloc())?.copy()?;
-    assert_eq!(rt; copy.uri(), "");
-    assert_eq!(rt; copy.local(), "a");
-    assert_eq!(rt; copy.prefix(), "p");
+    assert!(rt; copy.uri() == "");
+    assert!(rt; copy.local() == "a");
+    assert!(rt; copy.prefix() == "p");
     Ok(())
 }
 
@@ -200,12 +200,12 @@ fn is_full_run(outcome: &Outcome) -> bool {
 #[test]
 fn records_a_run(rt: HostRuntime) -> Result<(), Fail> {
     let mut run = recorder(rt.alloc(), ONE_EVENT, 9, 0);
-    assert_eq!(rt; record(rt.alloc(), &mut run), Ok(1));
-    assert_eq!(rt; run.put(Event::End), Err(Halt::Full(SITE)));
+    assert!(rt; record(rt.alloc(), &mut run) == Ok(1));
+    assert!(rt; run.put(Event::End) == Err(Halt::Full(SITE)));
     let mut children = Vec::new(rt.alloc());
     let finished = run.finish(Err(Halt::Full(SITE)), &mut children);
     assert!(rt; is_full_run(&finished.outcome?));
-    assert_eq!(rt; finished.total.above(), None);
+    assert!(rt; finished.total.above() == None);
     assert!(rt; children.is_empty());
     Ok(())
 }
@@ -213,11 +213,11 @@ fn records_a_run(rt: HostRuntime) -> Result<(), Fail> {
 #[test]
 fn stops_at_its_limit(rt: HostRuntime) -> Result<(), Fail> {
     let mut run = recorder(rt.alloc(), TWO_TICKS, 2, 0);
-    assert_eq!(rt; run.ticks(SITE, 3), Err(Halt::Spent(SITE)));
-    assert_eq!(rt; run.tick(SITE), Err(Halt::Spent(SITE)));
+    assert!(rt; run.ticks(SITE, 3) == Err(Halt::Spent(SITE)));
+    assert!(rt; run.tick(SITE) == Err(Halt::Spent(SITE)));
     let mut children = Vec::new(rt.alloc());
     let outcome = run.finish(Err(Halt::Spent(SITE)), &mut children).outcome?;
-    assert_eq!(rt; outcome.ticks, 2);
+    assert!(rt; outcome.ticks == 2);
     assert!(rt; matches!(&outcome.ended, Ended::Spent(spot) if spot.fault == Fault::Budget));
     Ok(())
 }
@@ -225,9 +225,9 @@ fn stops_at_its_limit(rt: HostRuntime) -> Result<(), Fail> {
 #[test]
 fn keeps_no_ticks(rt: HostRuntime) -> Result<(), Fail> {
     let mut brief: Brief<u64> = Brief::new(rt.alloc(), ONE_EVENT);
-    assert_eq!(rt; record(rt.alloc(), &mut brief), Ok(1));
-    assert_eq!(rt; brief.left(), 6);
-    assert_eq!(rt; brief.put(Event::End), Err(Halt::Full(SITE)));
+    assert!(rt; record(rt.alloc(), &mut brief) == Ok(1));
+    assert!(rt; brief.left() == 6);
+    assert!(rt; brief.put(Event::End) == Err(Halt::Full(SITE)));
     assert!(rt; are_both(brief.finish().as_slice()));
     Ok(())
 }
@@ -235,9 +235,9 @@ fn keeps_no_ticks(rt: HostRuntime) -> Result<(), Fail> {
 #[test]
 fn spends_without_keeping(rt: HostRuntime) {
     let mut brief: Brief<u64> = Brief::new(rt.alloc(), TWO_TICKS);
-    assert_eq!(rt; brief.ticks(SITE, 3), Err(Halt::Spent(SITE)));
-    assert_eq!(rt; brief.tick(SITE), Err(Halt::Spent(SITE)));
-    assert_eq!(rt; brief.hole(7), Err(Halt::NoMemory));
+    assert!(rt; brief.ticks(SITE, 3) == Err(Halt::Spent(SITE)));
+    assert!(rt; brief.tick(SITE) == Err(Halt::Spent(SITE)));
+    assert!(rt; brief.hole(7) == Err(Halt::NoMemory));
     assert!(rt; brief.finish().is_empty());
 }
 
@@ -294,7 +294,7 @@ fn records_a_piece(rt: HostRuntime) -> Result<(), Fail> {
     let mut children = Vec::new(rt.alloc());
     let finished = piece(rt.alloc(), 0, 5, &mut children);
     assert!(rt; has_a_hole(&finished.outcome?));
-    assert_eq!(rt; finished.total.above(), None);
+    assert!(rt; finished.total.above() == None);
     assert!(rt; children.as_slice() == [7].as_slice());
     Ok(())
 }
@@ -304,10 +304,10 @@ fn ends_over_a_total(rt: HostRuntime) -> Result<(), Fail> {
     let mut children = Vec::new(rt.alloc());
     let finished = piece(rt.alloc(), 1500, 1500, &mut children);
     let outcome = finished.outcome?;
-    assert_eq!(rt; outcome.ticks, 1024);
+    assert!(rt; outcome.ticks == 1024);
     assert!(rt; matches!(&outcome.ended, Ended::Over { total: 2524 }));
-    assert_eq!(rt; finished.total.above(), Some(2524));
-    assert_eq!(rt; finished.total.limit(), 2000);
+    assert!(rt; finished.total.above() == Some(2524));
+    assert!(rt; finished.total.limit() == 2000);
     assert!(rt; children.is_empty());
     Ok(())
 }
@@ -319,9 +319,9 @@ fn adds_its_ticks(rt: HostRuntime) {
         events: None,
     };
     let mut piece = recorder(rt.alloc(), limits, 2000, 0);
-    assert_eq!(rt; piece.ticks(SITE, 1025), Ok(()));
-    assert_eq!(rt; piece.due(), 1);
-    assert_eq!(rt; piece.total().above(), None);
+    assert!(rt; piece.ticks(SITE, 1025) == Ok(()));
+    assert!(rt; piece.due() == 1);
+    assert!(rt; piece.total().above() == None);
 }
 
 #[test]
@@ -330,7 +330,7 @@ fn meters(rt: HostRuntime) {
         limit: Some(2),
         spent: 0,
     };
-    assert_eq!(rt; tick_several(&mut meter, SITE, 2), Ok(()));
-    assert_eq!(rt; meter.tick(SITE), Err(Halt::Spent(SITE)));
-    assert_eq!(rt; meter.spent, 2);
+    assert!(rt; tick_several(&mut meter, SITE, 2) == Ok(()));
+    assert!(rt; meter.tick(SITE) == Err(Halt::Spent(SITE)));
+    assert!(rt; meter.spent == 2);
 }

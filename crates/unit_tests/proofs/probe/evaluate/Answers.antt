@@ -1,9 +1,20 @@
-use Rattle.std.proofs.Common.{subst}
-use Rattle.xs_trace.specs.Play.{IsStep}
-use Rattle.unit_tests.proofs.ProbeLemmas.{tiny-play}
+use Rattle.std.proofs.Common.{◌∷◌, refl, ap}
+use Rattle.std.proofs.lemmas.Result.{err_from_is_err_and}
+use Rattle.xs_trace.specs.Mark.{Put}
+use Rattle.xs_trace.specs.Play.{and_then, play}
+use Rattle.unit_tests.specs.Probe.{hole_for}
+use Rattle.xs_trace.proofs.GrowthLemmas.{passes, play-grows}
 use Rattle.unit_tests.proofs.probe.evaluate.Goals as goal
 
-pub returns-clause-told : goal.returns-clause-told
-returns-clause-told g c =
-    subst (λ j. IsStep j c.steps.result (g.R.Tally.state c.steps.new.recorder))
-    (tiny-play c.args.site c.args.count c.args.event c.args.value c.args.task (g.R.Tally.state c.args.recorder.now)) c.steps.ensures.told
+pub returns-in_err-tick-clause-told : goal.returns-in_err-tick-clause-told
+returns-in_err-tick-clause-told g c =
+    let p = err_from_is_err_and c.from_residual.result c.from_residual.ensures.1 in
+    passes (λ x. x) (λ x. x) _ _ (λ u m. play (Put c.args.event ∷ hole_for c.args.task) m) (g.R.Tally.state c.tick.new.self) c.from_residual.result _ _
+    refl (λ u. play-grows (Put c.args.event ∷ hole_for c.args.task)) p.1 p.2 c.in_err-tick.ensures.told
+
+pub returns-in_err-put-clause-told : goal.returns-in_err-put-clause-told
+returns-in_err-put-clause-told g c =
+    let p = err_from_is_err_and c.from_residual-in_err-put.result c.from_residual-in_err-put.ensures.1 in
+    let e = ap (λ j. and_then j (λ u m. play (Put c.args.event ∷ hole_for c.args.task) m)) c.in_ok-tick.ensures.told in
+    passes (λ x. x) (λ x. x) _ _ (λ u m. play (hole_for c.args.task) m) (g.R.Tally.state c.put.new.self) c.from_residual-in_err-put.result _ _ e
+    (λ u. play-grows (hole_for c.args.task)) p.1 p.2 c.in_err-put.ensures.told

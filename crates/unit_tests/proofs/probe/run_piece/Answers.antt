@@ -11,15 +11,15 @@ finish-requires g c =
     let from = c.args.recorder in
     let to = c.evaluate-told.new.recorder in
     record {
-      settled = need-comes-from-need _ (tiny c.args.site c.args.count c.args.event c.args.value (Some 7))
+      settled = need-comes-from-need _ (tiny c.args.site c.args.event (Some 7))
           (limited_to from.room from.left (held (g.T.Total.most from.total) (g.T.Total.last from.total) from.left) from.parts.store)
           (limited_to to.room to.left (held (g.T.Total.most to.total) (g.T.Total.last to.total) to.left) to.parts.store) c.evaluate-told.result
-          (tiny-needs c.args.site c.args.count c.args.event c.args.value (Some 7)) c.evaluate-told.ensures.told;
+          (tiny-needs c.args.site c.args.event (Some 7)) c.evaluate-told.ensures.told;
     }
 
 pub returns : goal.returns
 returns g c =
     record {
-      piece = piece-is c.finish.result.outcome (tiny c.args.site c.args.count c.args.event c.args.value (Some 7)) _ _ c.evaluate-told.result _ _ 0 _ _ _ _
+      piece = piece-is c.finish.result.outcome (tiny c.args.site c.args.event (Some 7)) _ _ c.evaluate-told.result _ _ 0 _ _ _ _
           c.evaluate-told.ensures.kept c.requires.begins c.evaluate-told.ensures.told c.finish.ensures.piece;
     }

@@ -11,10 +11,10 @@ finish-requires c =
     let from = c.new-recorder.result in
     let to = c.evaluate-told.new.recorder in
     record {
-      settled = need-comes-from-need _ (tiny c.args.site c.args.count c.args.event c.args.value None)
+      settled = need-comes-from-need _ (tiny c.args.site c.args.event None)
           (limited_to from.room from.left (held from.total.most from.total.last from.left) from.parts.store)
           (limited_to to.room to.left (held to.total.most to.total.last to.left) to.parts.store) c.evaluate-told.result
-          (tiny-needs c.args.site c.args.count c.args.event c.args.value None) c.evaluate-told.ensures.told;
+          (tiny-needs c.args.site c.args.event None) c.evaluate-told.ensures.told;
     }
 
 pub returns : goal.returns
@@ -23,7 +23,7 @@ returns c =
     let o : c.finish.result.total.others ≡ 0 = c.finish.ensures.kept ∙ ap (λ z. z.total) e ∙ c.new-total.ensures.kept in
     let le : c.finish.result.total.last ≤ c.finish.result.total.added = omega (arith, o, c.finish.result.total.exact) in
     record {
-      outcome = whole-is c.finish.result.outcome (tiny c.args.site c.args.count c.args.event c.args.value None) c.args.limits _ _ c.evaluate-told.result _ _ _
+      outcome = whole-is c.finish.result.outcome (tiny c.args.site c.args.event None) c.args.limits _ _ c.evaluate-told.result _ _ _
           _ _ _ _ e refl c.new-total.ensures.most (ap (λ n. n + c.args.limits.ticks) c.new-total.ensures.added) le c.new-recorder.ensures.begins
           c.evaluate-told.ensures.told c.finish.ensures.piece;
     }
