@@ -1,7 +1,8 @@
-//! Ledgers: shares that add in turn, two threads that add at once, refused memory.
+//! Ledgers: shares that add in turn, a share as a total, two threads that add at once, refused
+//! memory.
 
 ghost use Rattle.std.specs.Prelude.{◌≡◌, ◌≤◌, IfOk};
-ghost use Rattle.xs_ledger.specs.Shares.{ledger_id, seats_of, IsShareOf, IsUnused};
+ghost use Rattle.xs_ledger.specs.Shares.{ledger_id, seats_of, share_ledger_id, IsShareOf, IsUnused};
 
 use std::alloc::{AllocError, Global};
 use std::test::Fail;
@@ -56,27 +57,30 @@ fn answers_the_word_after_each_addition(rt: HostRuntime) -> Result<(), Fail> {
     Ok(())
 }
 
-// What a total answers to an addition of 1,000, and to a second one where that is within its limit.
-fn add_twice<T: Total>(total: &mut T) -> (u64, u64)
-    requires within { T.last total.old ≤ T.most total.old }
+// One addition, unless the last answer was above the limit.
+fn add_within(total: &mut LedgerTotal<'_>, count: u64) -> Option<u64>
+    requires few { count ≤ 1024 }
+    ensures ledger { share_ledger_id total.new.share ≡ share_ledger_id total.old.share }
 {
-    let first = total.add(1000);
-    if total.above().is_some() {
-        return (first, 0);
+    match total.above() {
+        Some(_) => None,
+        None => Some(total.add(count)),
     }
-    (first, total.add(1000))
 }
 
 #[test]
-fn adds_to_a_ledger_up_to_a_limit(rt: HostRuntime) -> Result<(), Fail> {
-    let (ledger, mut one, two) = ledger_for_two(rt.alloc())?;
-    ledger.add(&mut one, 10);
-    let mut total = LedgerTotal::new(&ledger, two, 2000, 0);
-    assert!(rt; total.above().is_none() && total.limit() == 2000);
-    assert!(rt; add_twice(&mut total) == (1010, 2010));
-    assert!(rt; total.above() == Some(2010));
-    let two = total.into_share();
-    assert!(rt; total_of_two(rt.alloc(), ledger, one, two)? == 2010);
+fn a_share_as_a_total_goes_above_its_limit_once(rt: HostRuntime) -> Result<(), Fail> {
+    let (ledger, one, mut two) = ledger_for_two(rt.alloc())?;
+    let mut total = LedgerTotal::new(&ledger, one, 1030, 0);
+    assert!(rt; total.limit() == 1030);
+    assert!(rt; add_within(&mut total, 1024) == Some(1024));
+    assert!(rt; total.above() == None);
+    assert!(rt; ledger.add(&mut two, 6) == 1030);
+    assert!(rt; add_within(&mut total, 1) == Some(1031));
+    assert!(rt; total.above() == Some(1031));
+    assert!(rt; add_within(&mut total, 1) == None);
+    let one = total.into_share();
+    assert!(rt; total_of_two(rt.alloc(), ledger, one, two)? == 1031);
     Ok(())
 }
 
