@@ -4,6 +4,7 @@
 ghost use Rattle.std.specs.Prelude.{◌≡◌, ◌≤◌, IfOk};
 ghost use Rattle.xs_ledger.specs.Shares.{ledger_id, seats_of, share_ledger_id, IsShareOf, IsUnused};
 
+use crate::check;
 use std::alloc::{AllocError, Global};
 use std::test::Fail;
 use std::thread;
@@ -51,9 +52,14 @@ fn add_once(ledger: &Ledger, mut share: Share, n: u32) -> Share
 #[test]
 fn answers_the_word_after_each_addition(rt: HostRuntime) -> Result<(), Fail> {
     let (ledger, mut one, mut two) = ledger_for_two(rt.alloc())?;
-    assert!(rt; ledger.add(&mut one, 10) == 10);
-    assert!(rt; ledger.add(&mut two, 10) == 20);
-    assert!(rt; total_of_two(rt.alloc(), ledger, one, two)? == 20);
+    check(
+        &rt,
+        &[
+            ledger.add(&mut one, 10) == 10,
+            ledger.add(&mut two, 10) == 20,
+            total_of_two(rt.alloc(), ledger, one, two)? == 20,
+        ],
+    );
     Ok(())
 }
 
@@ -72,13 +78,18 @@ fn add_within(total: &mut LedgerTotal<'_>, count: u64) -> Option<u64>
 fn a_share_as_a_total_goes_above_its_limit_once(rt: HostRuntime) -> Result<(), Fail> {
     let (ledger, one, mut two) = ledger_for_two(rt.alloc())?;
     let mut total = LedgerTotal::new(&ledger, one, 1030, 0);
-    assert!(rt; total.limit() == 1030);
-    assert!(rt; add_within(&mut total, 1024) == Some(1024));
-    assert!(rt; total.above() == None);
-    assert!(rt; ledger.add(&mut two, 6) == 1030);
-    assert!(rt; add_within(&mut total, 1) == Some(1031));
-    assert!(rt; total.above() == Some(1031));
-    assert!(rt; add_within(&mut total, 1) == None);
+    check(
+        &rt,
+        &[
+            total.limit() == 1030,
+            add_within(&mut total, 1024) == Some(1024),
+            total.above() == None,
+            ledger.add(&mut two, 6) == 1030,
+            add_within(&mut total, 1) == Some(1031),
+            total.above() == Some(1031),
+            add_within(&mut total, 1) == None,
+        ],
+    );
     let one = total.into_share();
     assert!(rt; total_of_two(rt.alloc(), ledger, one, two)? == 1031);
     Ok(())
@@ -102,8 +113,7 @@ fn makes_all_shares_or_refuses(rt: HostRuntime) {
     let made = Ledger::new(rt.alloc(), 64);
     match made {
         Ok((ledger, shares)) => {
-            assert!(rt; shares.len() == 64);
-            assert!(rt; ledger.close(shares) == 0);
+            check(&rt, &[shares.len() == 64, ledger.close(shares) == 0]);
         }
         Err(AllocError) => {}
     }
