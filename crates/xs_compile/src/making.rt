@@ -139,11 +139,10 @@ impl<'m> Compiler<'m> {
             ≡ own_label (records_at (modules_of self.now) «number») n) }
     {
         let tree = tree_of(self.modules, number);
-        Ok(Label {
-            uri: TextBuf::of(self.alloc, tree.uri(n))?,
-            local: TextBuf::of(self.alloc, tree.local(n))?,
-            prefix: TextBuf::of(self.alloc, tree.prefix(n))?,
-        })
+        let uri = TextBuf::of(self.alloc, tree.uri(n))?;
+        let local = TextBuf::of(self.alloc, tree.local(n))?;
+        let prefix = TextBuf::of(self.alloc, tree.prefix(n))?;
+        Label::of(self.alloc, uri, local, prefix)
     }
 
     /// The namespace nodes of a literal element that are copied.

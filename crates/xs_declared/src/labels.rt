@@ -37,7 +37,7 @@ pub fn label_in(alloc: Global, scope: &Scope, text: &str) -> Result<Option<Label
     let uri = TextBuf::of(alloc, uri_of(scope, prefix))?;
     let local = TextBuf::of(alloc, local)?;
     let prefix = TextBuf::of(alloc, prefix)?;
-    Ok(Some(Label { uri, local, prefix }))
+    Ok(Some(Label::of(alloc, uri, local, prefix)?))
 }
 
 /// Adds a name, if there is one.

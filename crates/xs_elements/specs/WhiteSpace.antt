@@ -1,8 +1,8 @@
 -- White space of a stylesheet (XSLT 1.0, 3.4), and words with white space between them.
-use Rattle.std.specs.Prelude.{ℕ, ◌&&◌, ◌||◌, not, Bool, true, false, List, [], ◌∷◌, filter, Option, Some, None, option_map, codes}
+use Rattle.std.specs.Prelude.{ℕ, ◌&&◌, ◌||◌, not, Bool, true, false, List, [], ◌∷◌, filter, Option, Some, None, codes, if◌then◌else◌}
 use Rattle.std.specs.Borrow.{Bor}
 use Rattle.std.specs.List.{slice_split}
-use Rattle.std.specs.Option.{unwrap_or}
+use Rattle.std.specs.Option.{option_and_then, unwrap_or}
 use Rattle.std.specs.Str.{bytes_eq}
 use Rattle.xs_elements.specs.declared.rows.Row.{Row}
 use Rattle.xs_elements.specs.declared.rows.Row.TheVariants.{Text}
@@ -16,16 +16,20 @@ use Rattle.xs_tree.specs.Record.{Record, at}
 abbrev pub xml_uri : List ℕ
 xml_uri = codes "http://www.w3.org/XML/1998/namespace"
 
--- whether an element says by `xml:space` that white space is preserved, if it has that attribute
+-- whether white space is preserved, by the value of an `xml:space`: `preserve` and `default` say so, any other says nothing
+abbrev pub space_value : List ℕ → Option Bool
+space_value value = if bytes_eq value (codes "preserve") then Some true else if bytes_eq value (codes "default") then Some false else None
+
+-- what an element says by its own `xml:space`
 abbrev pub own_space : List Record → ℕ → Option Bool
-own_space rs n = option_map (λ value. bytes_eq value (codes "preserve")) (value_of rs n xml_uri (codes "space"))
+own_space rs n = option_and_then space_value (value_of rs n xml_uri (codes "space"))
 
 -- what the first node of a list says that says anything
 abbrev pub first_said : List Record → List ℕ → Bool
 first_said rs [] = false
 first_said rs (n ∷ ns) = unwrap_or (own_space rs n) (first_said rs ns)
 
--- white space is preserved in an element where the nearest `xml:space` is `preserve`
+-- white space is preserved in an element where the nearest `xml:space` of `preserve` or `default` is `preserve`
 abbrev pub preserves : List Record → ℕ → Bool
 preserves rs n = first_said rs (ancestors_or_self rs n)
 

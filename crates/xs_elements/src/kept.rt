@@ -1,7 +1,7 @@
 //! Which texts of a stylesheet are kept (XSLT 1.0, 3.4).
 
 ghost use Rattle.std.specs.Prelude.{◌≡◌, ◌<◌, ◌||◌, not, length};
-ghost use Rattle.xs_elements.specs.WhiteSpace.{is_text_row, own_space};
+ghost use Rattle.xs_elements.specs.WhiteSpace.{is_text_row, own_space, space_value};
 ghost use Rattle.xs_text.specs.WhiteSpace.{is_blank};
 ghost use Rattle.xs_tree.specs.Record.{at};
 
@@ -13,16 +13,26 @@ use xs_tree::{Node, Tree};
 /// The namespace of `xml:space` (Namespaces in XML 1.0, 3).
 const XML_URI: &str = "http://www.w3.org/XML/1998/namespace";
 
-/// What an element says of white space by `xml:space`, if it has that attribute: whether it is
-/// preserved.
+/// What an element says of white space by `xml:space`: whether it is preserved, or nothing.
 pub fn own_space(tree: &Tree, n: Node) -> Option<bool>
     requires { n < length tree.now }
     ensures { result ≡ own_space tree.now n }
 {
-    match value_of(tree, n, XML_URI, "space") {
-        Some(value) => Some(value == "preserve"),
-        None => None,
+    let value = value_of(tree, n, XML_URI, "space")?;
+    space_value(value)
+}
+
+/// What the value of an `xml:space` says; one other than `preserve` and `default` says nothing.
+fn space_value(value: &str) -> Option<bool>
+    ensures { result ≡ space_value value.now }
+{
+    if value == "preserve" {
+        return Some(true);
     }
+    if value == "default" {
+        return Some(false);
+    }
+    None
 }
 
 /// Whether a text node is kept, inside a parent where white space is preserved or not.

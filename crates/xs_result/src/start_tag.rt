@@ -72,7 +72,7 @@ impl<'e> StartTag<'e> {
     pub(crate) fn put(&mut self, name: &'e Label, value: &TextBuf) -> Result<(), AllocError>
         ensures { OnOk result (self.new ≡ with_attribute name.now value.now self.old) }
     {
-        let expanded = (name.uri.as_str(), name.local.as_str());
+        let expanded = (name.uri(), name.local());
         match self.places.get(&expanded) {
             Some(place) => {
                 let place = *place;

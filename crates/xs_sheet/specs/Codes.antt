@@ -39,7 +39,8 @@ abbrev mutual
   pub tree_code : Tree → Gv
   tree_code (number a) = gcons (gnum 0) (of_number.the_row.coded.code a)
   tree_code (literal a) = gcons (gnum 1) ((coded_list coded_ℕ).code a)
-  tree_code (variable a b c) = gcons (gnum 2) (gcons ((coded_list coded_ℕ).code a) (gcons ((coded_list coded_ℕ).code b) ((coded_option of_slot.the_row.coded).code c)))
+  tree_code (variable a b c) =
+      gcons (gnum 2) (gcons ((coded_list coded_ℕ).code a) (gcons ((coded_list coded_ℕ).code b) ((coded_option of_slot.the_row.coded).code c)))
   tree_code (call a b) = gcons (gnum 3) (gcons (of_function.the_row.coded.code a) (trees_code b))
   tree_code (negative a b) = gcons (gnum 4) (gcons (coded_ℕ.code a) (tree_code b))
   tree_code (chain a b) = gcons (gnum 5) (gcons ((coded_list of_operator.the_row.coded).code a) (trees_code b))
@@ -127,7 +128,9 @@ mutual
       o (sym (ap (λ g. num (head g)) p)) p
   tree_inj (variable a b c) o p =
       by-variable (λ z. tree_code (variable a b c) ≡ tree_code z → (variable a b c) ≡ z)
-      (λ x y z q i. variable ((coded_list coded_ℕ).inj a x (ap (λ g. head (tail g)) q) i) ((coded_list coded_ℕ).inj b y (ap (λ g. head (tail (tail g))) q) i) ((coded_option of_slot.the_row.coded).inj c z (ap (λ g. tail (tail (tail g))) q) i))
+      (λ x y z q i. variable ((coded_list coded_ℕ).inj a x (ap (λ g. head (tail g)) q) i)
+      ((coded_list coded_ℕ).inj b y (ap (λ g. head (tail (tail g))) q) i)
+      ((coded_option of_slot.the_row.coded).inj c z (ap (λ g. tail (tail (tail g))) q) i))
       o (sym (ap (λ g. num (head g)) p)) p
   tree_inj (call a b) o p =
       by-call (λ z. tree_code (call a b) ≡ tree_code z → (call a b) ≡ z)
@@ -149,7 +152,8 @@ mutual
   tree_inj root o p = by-root (λ z. root ≡ z) refl o (sym (ap (λ g. num (head g)) p))
   tree_inj (step a b c) o p =
       by-step (λ z. tree_code (step a b c) ≡ tree_code z → (step a b c) ≡ z)
-      (λ x y z q i. step (of_axis.the_row.coded.inj a x (ap (λ g. head (tail g)) q) i) (of_test.the_row.coded.inj b y (ap (λ g. head (tail (tail g))) q) i) (trees_inj c z (ap (λ g. tail (tail (tail g))) q) i))
+      (λ x y z q i. step (of_axis.the_row.coded.inj a x (ap (λ g. head (tail g)) q) i)
+      (of_test.the_row.coded.inj b y (ap (λ g. head (tail (tail g))) q) i) (trees_inj c z (ap (λ g. tail (tail (tail g))) q) i))
       o (sym (ap (λ g. num (head g)) p)) p
   tree_inj descend o p = by-descend (λ z. descend ≡ z) refl o (sym (ap (λ g. num (head g)) p))
   tree_inj (filter a b) o p =

@@ -10,7 +10,7 @@ replace-requires c =
       first = (
         name,
         ap (place_of name.uri name.local) (sym c.self.view_is) ∙ sym (c.self.invariant name.uri name.local)
-            ∙ ap (λ u. place_in places u name.local) (sym c.as_str.ensures.text) ∙ ap (place_in places c.as_str.result.now) (sym c.as_str-2.ensures.text)
+            ∙ ap (λ u. place_in places u name.local) (sym c.uri.ensures.text) ∙ ap (place_in places c.uri.result.now) (sym c.local.ensures.text)
             ∙ sym c.in-Some.ensures.value,
       );
     }
@@ -21,5 +21,5 @@ returns-in_ok-replace-in-Some c =
     let places = c.self.inside.places in
     c.in_ok-replace-in-Some.ensures name
     (ap (place_of name.uri name.local) (sym c.self.view_is) ∙ sym (c.self.invariant name.uri name.local)
-    ∙ ap (λ u. place_in places u name.local) (sym c.as_str.ensures.text) ∙ ap (place_in places c.as_str.result.now) (sym c.as_str-2.ensures.text)
+    ∙ ap (λ u. place_in places u name.local) (sym c.uri.ensures.text) ∙ ap (place_in places c.uri.result.now) (sym c.local.ensures.text)
     ∙ sym c.in-Some.ensures.value)
