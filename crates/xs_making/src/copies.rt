@@ -130,21 +130,21 @@ fn put_inside(tree: &Tree, node: Node, out: &mut Vec<Event>) -> Result<(), Alloc
     ensures put { OnOk result (out.new.items ≡ out.old.items ++ inside tree.now node) }
     ensures kept { take (vec_len out.old) out.new.items ≡ out.old.items }
 {
-    let mut open = node;
+    let mut holder = node;
     let mut from = next_place(tree, node);
     loop {
-        if let Some(child) = tree.child_from(open, from) {
+        if let Some(child) = tree.child_from(holder, from) {
             put_opening(tree, child, out)?;
             from = next_place(tree, child);
-            open = opened(tree, open, child);
+            holder = holder_after(tree, holder, child);
             continue;
         }
-        if open == node {
+        if holder == node {
             return Ok(());
         }
         out.push(Event::End)?;
-        from = Node::at(tree.subtree_end(open));
-        open = parent_of(tree, open);
+        from = Node::at(tree.subtree_end(holder));
+        holder = parent_of(tree, holder);
     }
 }
 
@@ -157,15 +157,15 @@ fn next_place(tree: &Tree, n: Node) -> Node
     Node::at(n.place() + 1)
 }
 
-/// Which node is open after a child of one was put: the child where it is an element.
-fn opened(tree: &Tree, open: Node, child: Node) -> Node
+/// The node whose children come next after a child was put: the child itself where it is an element.
+fn holder_after(tree: &Tree, holder: Node, child: Node) -> Node
     requires { child < length tree.now }
-    ensures { result ≡ (if is_element_kind (at tree.now child).kind then child else open) }
+    ensures { result ≡ (if is_element_kind (at tree.now child).kind then child else holder) }
 {
     if tree.kind(child) == Kind::Element {
         child
     } else {
-        open
+        holder
     }
 }
 

@@ -4,7 +4,7 @@ ghost use Rattle.xs_tree.specs.Record.{at};
 ghost use Rattle.xs_making.specs.Copies.{attribute_events, label_of, leaf_events};
 ghost use Rattle.xs_making.specs.Copies.{space_events, text_events};
 ghost use Rattle.xs_making.specs.Texts.{is_empty};
-ghost use Rattle.xs_making.specs.Names.{xml_uri};
+ghost use Rattle.xs_making.specs.Labels.{xml_uri};
 
 use crate::labels::{XML_URI, put_label};
 use std::alloc::{AllocError, Global};

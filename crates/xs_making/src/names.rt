@@ -60,7 +60,7 @@ pub fn pi_target(alloc: Global, text: &str) -> Result<TextBuf, MakeEnd>
 fn is_forbidden(text: &str, uri: Option<&str>, is_attribute: bool) -> bool
     ensures { result ≡ is_forbidden is_attribute (option_map (λ u. u.now) uri) text.now }
 {
-    is_attribute && text == "xmlns" || uri.unwrap_or("") == XMLNS_URI
+    (is_attribute && text == "xmlns") || uri.unwrap_or("") == XMLNS_URI
 }
 
 /// The namespace of a name: the one that is given, and else that of its prefix or the default one;

@@ -1,6 +1,7 @@
 //! The texts of comments and processing instructions that `xsl:comment` and
 //! `xsl:processing-instruction` put.
-ghost use Rattle.std.specs.Prelude.{◌≡◌, ◌∷◌, ◌++◌, [], if◌then◌else◌, string_bytes, IfOk, OnOk};
+ghost use Rattle.std.specs.Prelude.{◌≡◌, ◌<◌, ◌∷◌, ◌++◌, [], if◌then◌else◌, IfOk, OnOk};
+ghost use Rattle.std.specs.Prelude.{string_bytes};
 ghost use Rattle.xs_making.specs.Texts.{begins_with, comment_text, ends_or_hyphen};
 ghost use Rattle.xs_making.specs.Texts.{instruction_text};
 
@@ -38,12 +39,7 @@ pub fn pi_text(alloc: Global, text: &str) -> Result<TextBuf, AllocError>
 
 /// Appends what stands before an ASCII character, that character, and a space where one is asked
 /// for.
-fn push_part(
-    out: &mut String,
-    before: &str,
-    mark: char,
-    is_spaced: bool,
-) -> Result<(), AllocError>
+fn push_part(out: &mut String, before: &str, mark: char, is_spaced: bool) -> Result<(), AllocError>
     requires { mark < 128 }
     ensures { OnOk result (string_bytes out.new
         ≡ string_bytes out.old ++ (before.now

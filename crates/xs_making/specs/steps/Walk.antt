@@ -1,5 +1,5 @@
 -- A walk through what is in a node, from place to place.
-use Rattle.std.specs.Prelude.{ℕ, List}
+use Rattle.std.specs.Prelude.{ℕ, ◌+◌, List}
 use Rattle.std.specs.List.{flat_map}
 use Rattle.xs_trace.specs.declared.event.Event.{Event}
 use Rattle.xs_tree.specs.declared.kinds.Kind.{Kind}

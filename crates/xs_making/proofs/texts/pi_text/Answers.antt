@@ -1,0 +1,19 @@
+use Rattle.std.proofs.Common.{◌∙◌, lit<, rules, string_bytes}
+use Rattle.xs_making.specs.Texts.{begins_with, instruction_text}
+use Rattle.xs_making.proofs.SpacingLemmas.{spaced-end, spaced-shorter, spaced-step}
+use Rattle.xs_making.proofs.texts.pi_text.Goals as goal
+
+pub loop-before-preserved : goal.loop-before-preserved
+loop-before-preserved c =
+    let cut = c.in-Some.ensures.byte (lit< tt) (λ w o h. h) in
+    record {
+      text = search rules;
+      made =
+          spaced-step 63 (begins_with 62) (instruction_text c.args.text.now) (string_bytes c.loop-before.out) (string_bytes c.in_ok-push_part.new.out)
+          c.loop-before.rest.now c.in-Some.before.now c.in-Some.after.now cut.0 cut.1 cut.2 ? c.loop-before.invariant.made;
+    }
+
+pub loop-before-smaller : goal.loop-before-smaller
+loop-before-smaller c =
+    let cut = c.in-Some.ensures.byte (lit< tt) (λ w o h. h) in
+    spaced-shorter 63 c.loop-before.rest.now c.in-Some.before.now c.in-Some.after.now cut.0 cut.1 cut.2
