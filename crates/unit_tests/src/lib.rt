@@ -15,6 +15,8 @@ mod loads;
 #[cfg(test)]
 mod machine;
 #[cfg(test)]
+mod making;
+#[cfg(test)]
 mod numbers;
 mod probe;
 #[cfg(test)]
