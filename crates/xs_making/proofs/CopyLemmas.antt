@@ -76,6 +76,15 @@ is_leaf Text = true
 is_leaf Comment = true
 is_leaf Pi = true
 
+pub leaf-other : (kind : Kind) → (kind ≡ Root → ⊥) → (kind ≡ Element → ⊥) → is_leaf kind ≡ true
+leaf-other Root no_root no_element = absurd (no_root refl)
+leaf-other Element no_root no_element = absurd (no_element refl)
+leaf-other Attribute no_root no_element = refl
+leaf-other Space no_root no_element = refl
+leaf-other Text no_root no_element = refl
+leaf-other Comment no_root no_element = refl
+leaf-other Pi no_root no_element = refl
+
 whole-leaf : (kind : Kind) (rs : List Record) (n : ℕ) (xs : List Event) → is_leaf kind ≡ true → whole_as kind rs n xs ≡ leaf_events kind (at rs n)
 whole-leaf Root rs n xs e = absurd (cc)
 whole-leaf Element rs n xs e = absurd (cc)

@@ -1,5 +1,6 @@
 -- A walk through what is in a node puts the copies of its children.
-use Rattle.std.proofs.Common.{◌≡◌, ℕ, zero, suc, ◌+◌, ◌-◌, ◌*◌, ◌<◌, ◌≤◌, Bool, true, false, if◌then◌else◌, List, [], ◌∷◌, ◌++◌, Option, Some, None, All, IsSome, IsTrue, filter, length, take, refl, sym, ap, subst, ◌∙◌, append_assoc, arith, ◌⊎◌, inl, inr}
+use Rattle.std.proofs.Common.{◌≡◌, ℕ, ◌+◌, ◌-◌, ◌*◌, ◌<◌, ◌≤◌, Bool, true, false, if◌then◌else◌, List, [], ◌∷◌, ◌++◌, Option, Some, None, All, IsSome, Result, Ok, Err, OnOk, OnErr}
+use Rattle.std.proofs.Common.{filter, length, take, refl, sym, ap, subst, ◌∙◌, append_assoc, arith, inl, inr}
 use Rattle.std.proofs.Math.Nat.{eq-or-lt_of_le, mul_comm}
 use Rattle.std.proofs.lemmas.Nat.{mul-add-lt, mul-le}
 use Rattle.std.proofs.lemmas.List.{append-nil, take-append-le, take-take, take_all}
@@ -58,7 +59,7 @@ range-from k n =
 
 pub record IsNext (rs : List Record) (holder from child : ℕ) : Type 0 where
   pub is_child : is_child rs holder child ≡ true
-  pub from : from ≤ child
+  pub later : from ≤ child
 
 pub next_is : (rs : List Record) (holder from child : ℕ) (more : List ℕ) → children_from rs holder from ≡ child ∷ more → IsNext rs holder from child
 next_is rs holder from child more e = record {
@@ -66,7 +67,7 @@ next_is rs holder from child more e = record {
       All-head (λ k. is_child rs holder k ≡ true) child more
       (All-same (λ k. is_child rs holder k ≡ true) (child ∷ more) (children_from rs holder from) (sym e)
       (filter_passes (is_child rs holder) (range_with_len from (length rs - from))));
-  from =
+  later =
       All-head (λ k. from ≤ k) child more
       (All-same (λ k. from ≤ k) (child ∷ more) (children_from rs holder from) (sym e)
       (All-filter (is_child rs holder) (λ k. from ≤ k) (range_with_len from (length rs - from)) (range-from from (length rs - from))));
@@ -74,7 +75,7 @@ next_is rs holder from child more e = record {
 
 rests-after : (rs : List Record) (top n : ℕ) (rest : List Event) → Rests rs top n rest → top ≤ n
 rests-after rs top n rest at_top = omega arith
-rests-after rs top n rest (below n p more after parent more_rests) = omega (arith, after)
+rests-after rs top n rest (below m p more after parent more_rests) = omega (arith, after)
 
 -- all up to a child is in its parent
 up_to : (rs : List Record) (holder child : ℕ) → IsTree rs → child < length rs → (at rs child).parent ≡ Some holder
@@ -170,20 +171,28 @@ copying-child rs top old out new holder from child t w after c next put =
     by_kind Pi is held =
         subst (λ k. IsCopying rs top old new (if is_element_kind k then child else holder) (child + 1)) (sym is) (leaf Pi is refl refl)
 
+pub copying-next : (rs : List Record) (top : ℕ) (old out new : List Event) (holder from child place after : ℕ) → IsTree rs → child < length rs → holder < child
+    → IsCopying rs top old out holder from → children_from rs holder from ≡ child ∷ children_from rs holder (child + 1)
+    → new ≡ out ++ opening rs child → after ≡ (if is_element_kind (at rs child).kind then child else holder) → place ≡ child + 1
+    → IsCopying rs top old new after place
+copying-next rs top old out new holder from child place after t w gt c next put is at_place =
+    subst (λ k. IsCopying rs top old new after k) (sym at_place)
+    (subst (λ k. IsCopying rs top old new k (child + 1)) (sym is) (copying-child rs top old out new holder from child t w gt c next put))
+
 -- ---- no child is left
 -- below the top an element ends
 pub copying-parent : (rs : List Record) (top : ℕ) (old out : List Event) (holder from : ℕ) → IsCopying rs top old out holder from → (holder ≡ top → ⊥)
-    → (p : ℕ) × ((at rs holder).parent ≡ Some p)
+    → IsSome (at rs holder).parent
 copying-parent rs top old out holder from c other = by_rests holder c.rest c.rests other
   where
-    by_rests : (n : ℕ) (rest : List Event) → Rests rs top n rest → (n ≡ top → ⊥) → (p : ℕ) × ((at rs n).parent ≡ Some p)
+    by_rests : (n : ℕ) (rest : List Event) → Rests rs top n rest → (n ≡ top → ⊥) → IsSome (at rs n).parent
     by_rests n rest at_top no_top = absurd (no_top refl)
-    by_rests n rest (below n p more after parent more_rests) no_top = (p, parent)
+    by_rests n rest (below m p more after parent more_rests) no_top = rw parent tt
 
 pub copying-end : (rs : List Record) (top : ℕ) (old out new : List Event) (holder from p e : ℕ) → IsTree rs → IsCopying rs top old out holder from
     → (holder ≡ top → ⊥) → children_from rs holder from ≡ [] → (at rs holder).parent ≡ Some p → EndsAt rs holder e → new ≡ out ++ End ∷ []
     → IsCopying rs top old new p e
-copying-end rs top old out new holder from p e t c other none parent ends put = by_rests c.rest c.rests c.whole
+copying-end rs top old out new holder from p e t c other none parent ends put = by_rests holder c.rest c.rests refl c.whole
   where
     placed : IsPlaced rs holder p
     placed = IsPlaced-at rs holder p t c.within parent
@@ -195,20 +204,23 @@ copying-end rs top old out new holder from p e t c other none parent ends put = 
           | inr gt ↦ from_earlier (at rs j).parent p holder (omega (arith, placed.before)) (ends.inside j gt b)
         ]
 
-    by_rests : (rest : List Event) → Rests rs top holder rest → c.done ++ (copies_from rs holder from ++ rest) ≡ inside rs top → IsCopying rs top old new p e
-    by_rests rest at_top whole = absurd (other refl)
-    by_rests rest (below n q more after held more_rests) whole =
-        let same : q ≡ p = (let both : Some q ≡ Some p = sym held ∙ parent in cc) in
-        let later : copies_from rs q (holder + 1) ≡ copies_from rs p e =
-        ap (λ m. copies_from rs m (holder + 1)) same ∙ ap (flat_map (deep_copy rs)) (children-next rs p holder e placed.before ends) in
+    by_rests : (n : ℕ) (rest : List Event) → Rests rs top n rest → n ≡ holder → c.done ++ (copies_from rs holder from ++ rest) ≡ inside rs top
+        → IsCopying rs top old new p e
+    by_rests n rest at_top is whole = absurd (other (sym is))
+    by_rests n rest (below m q more after held more_rests) is whole =
+        let own : (at rs holder).parent ≡ Some q = subst (λ k. (at rs k).parent ≡ Some q) is held in
+        let same : q ≡ p = (let both : Some q ≡ Some p = sym own ∙ parent in cc) in
+        let later : copies_from rs q (m + 1) ≡ copies_from rs p e =
+        ap (λ k. copies_from rs q (k + 1)) is ∙ ap (λ k. copies_from rs k (holder + 1)) same
+        ∙ ap (flat_map (deep_copy rs)) (children-next rs p holder e placed.before ends) in
         record {
           done = c.done ++ End ∷ [];
           rest = more;
           added = put ∙ ap (λ xs. xs ++ End ∷ []) c.added ∙ append_assoc old c.done (End ∷ []);
-          rests = subst (λ m. Rests rs top m more) same more_rests;
+          rests = subst (λ k. Rests rs top k more) same more_rests;
           whole =
               append_assoc c.done (End ∷ []) (copies_from rs p e ++ more) ∙ ap (λ xs. c.done ++ (End ∷ (xs ++ more))) (sym later)
-              ∙ ap (λ ks. c.done ++ (flat_map (deep_copy rs) ks ++ (End ∷ (copies_from rs q (holder + 1) ++ more)))) (sym none) ∙ whole;
+              ∙ ap (λ ks. c.done ++ (flat_map (deep_copy rs) ks ++ (End ∷ (copies_from rs q (m + 1) ++ more)))) (sym none) ∙ whole;
           within = omega (arith, placed.before, c.within);
           before = omega (arith, placed.before, ends.after);
           near = ends.within;
@@ -216,17 +228,17 @@ copying-end rs top old out new holder from p e t c other none parent ends put = 
         }
 
 -- at the top all is put
-pub copying-all : (rs : List Record) (top : ℕ) (old out : List Event) (from : ℕ) → IsCopying rs top old out top from → children_from rs top from ≡ []
-    → out ≡ old ++ inside rs top
-copying-all rs top old out from c none = by_rests top c.rest c.rests refl c.whole
+pub copying-all : (rs : List Record) (top : ℕ) (old out : List Event) (holder from : ℕ) → IsCopying rs top old out holder from → holder ≡ top
+    → children_from rs holder from ≡ [] → out ≡ old ++ inside rs top
+copying-all rs top old out holder from c is none = by_rests holder c.rest c.rests is c.whole
   where
-    by_rests : (n : ℕ) (rest : List Event) → Rests rs top n rest → n ≡ top → c.done ++ (copies_from rs top from ++ rest) ≡ inside rs top
-        → out ≡ old ++ inside rs top
+    by_rests : (n : ℕ) (rest : List Event) → Rests rs top n rest → n ≡ top
+        → c.done ++ (copies_from rs holder from ++ rest) ≡ inside rs top → out ≡ old ++ inside rs top
     by_rests n rest at_top same whole =
         c.added
         ∙ ap (λ xs. old ++ xs)
         (sym (append-nil c.done) ∙ ap (λ ks. c.done ++ (flat_map (deep_copy rs) ks ++ [])) (sym none) ∙ whole)
-    by_rests n rest (below n p more after parent more_rests) same whole = absurd (omega (arith, after, same))
+    by_rests n rest (below m p more after parent more_rests) same whole = absurd (omega (arith, after, same))
 
 -- what was there before is untouched
 pub kept-more : (old new more : List Event) → new ≡ old ++ more → take (length old) new ≡ old
@@ -245,24 +257,48 @@ kept-twice a b d e f =
 pub kept-appended : (old out new more : List Event) → take (length old) out ≡ old → new ≡ out ++ more → take (length old) new ≡ old
 kept-appended old out new more e is = kept-twice old out new e (kept-more out new more is)
 
+pub kept-result : {T E : Type 0} (r : Result T E) (old new more : List Event) → OnOk r (new ≡ old ++ more) → OnErr r (new ≡ old) → take (length old) new ≡ old
+kept-result (Ok x) old new more put refused = kept-more old new more put
+kept-result (Err x) old new more put refused = ap (take (length old)) refused ∙ take_all (length old) old (omega arith)
+
 -- ---- it ends
 -- a number of two digits
 lexical : (a b m x y : ℕ) → a < b → x ≤ m → a * (m + 1) + x < b * (m + 1) + y
 lexical a b m x y lt le = omega (arith, mul-add-lt a (m + 1) x b lt (omega (arith, le)), mul_comm (m + 1) b)
 
-pub smaller-child : (rs : List Record) (holder from child next : ℕ) → from ≤ child → child < length rs → next ≤ length rs
+smaller-child : (rs : List Record) (holder from child next : ℕ) → from ≤ child → child < length rs → next ≤ length rs
     → (length rs - (child + 1)) * (length rs + 1) + next < (length rs - from) * (length rs + 1) + holder
 smaller-child rs holder from child next le w small = lexical (length rs - (child + 1)) (length rs - from) (length rs) next holder (omega (arith, le, w)) small
 
+within_either : (b : Bool) (n child holder : ℕ) → child ≤ n → holder ≤ n → (if b then child else holder) ≤ n
+within_either true n child holder a b = a
+within_either false n child holder a b = b
+
+pub smaller-next : (rs : List Record) (top : ℕ) (old out : List Event) (holder from child place after : ℕ) → IsCopying rs top old out holder from
+    → child < length rs → children_from rs holder from ≡ child ∷ children_from rs holder (child + 1)
+    → after ≡ (if is_element_kind (at rs child).kind then child else holder) → place ≡ child + 1
+    → (length rs - place) * (length rs + 1) + after < (length rs - from) * (length rs + 1) + holder
+smaller-next rs top old out holder from child place after c w next is at_place =
+    let most : (if is_element_kind (at rs child).kind then child else holder) ≤ length rs =
+    within_either (is_element_kind (at rs child).kind) (length rs) child holder (omega (arith, w)) (omega (arith, c.within)) in
+    let small : after ≤ length rs = subst (λ k. k ≤ length rs) (sym is) most in
+    subst (λ k. (length rs - k) * (length rs + 1) + after < (length rs - from) * (length rs + 1) + holder) (sym at_place)
+    (smaller-child rs holder from child after (next_is rs holder from child (children_from rs holder (child + 1)) next).later w small)
+
 -- an element ends at a place from which on its children are put, or later
-pub from-end : (rs : List Record) (top : ℕ) (old out : List Event) (holder from e : ℕ) → IsCopying rs top old out holder from → EndsAt rs holder e → from ≤ e
+from-end : (rs : List Record) (top : ℕ) (old out : List Event) (holder from e : ℕ) → IsCopying rs top old out holder from → EndsAt rs holder e → from ≤ e
 from-end rs top old out holder from e c ends =
     elim (le_or_gt from e) [
       | inl le ↦ le
       | inr gt ↦ absurd (ends.outside (omega (arith, gt, c.near)) (c.between e ends.after gt))
     ]
 
-pub smaller-end : (rs : List Record) (holder from p e : ℕ) → from ≤ e → p < holder
+pub smaller-end : (rs : List Record) (top : ℕ) (old out : List Event) (holder from p e : ℕ) → IsTree rs → IsCopying rs top old out holder from
+    → (at rs holder).parent ≡ Some p → EndsAt rs holder e
     → (length rs - e) * (length rs + 1) + p < (length rs - from) * (length rs + 1) + holder
-smaller-end rs holder from p e le lt =
-    omega (arith, lt, mul-le (length rs - e) (length rs + 1) (length rs - from) (length rs + 1) (omega (arith, le)) (omega arith))
+smaller-end rs top old out holder from p e t c parent ends =
+    let le : from ≤ e = from-end rs top old out holder from e c ends in
+    let lt : p < holder = (IsPlaced-at rs holder p t c.within parent).before in
+    let less : (length rs - e) * (length rs + 1) ≤ (length rs - from) * (length rs + 1) =
+    mul-le (length rs - e) (length rs + 1) (length rs - from) (length rs + 1) (omega (arith, le)) (omega arith) in
+    omega (arith, lt, less)

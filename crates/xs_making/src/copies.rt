@@ -1,9 +1,10 @@
 //! Copies of the nodes of a tree: of a node alone, or with all that is in it.
-ghost use Rattle.std.specs.Prelude.{◌≡◌, ◌<◌, ◌∷◌, ◌++◌, [], length, take, vec_len, OnOk, OnErr};
-ghost use Rattle.std.specs.Prelude.{◌+◌, if◌then◌else◌, IsSome, Some};
+ghost use Rattle.std.specs.Prelude.{◌≡◌, ◌<◌, ◌∷◌, ◌++◌, [], length};
+ghost use Rattle.std.specs.Prelude.{◌+◌, if◌then◌else◌, take, IsSome, OnErr, OnOk, Some};
 ghost use Rattle.xs_trace.specs.declared.event.Event.TheVariants.{End};
 ghost use Rattle.xs_tree.specs.Kinds.{is_element_kind};
 ghost use Rattle.xs_tree.specs.Record.{at};
+ghost use Rattle.xs_tree.specs.Shape.{IsTree};
 ghost use Rattle.xs_making.specs.Copies.{copy_of, deep_copy, shallow_copy, start_events};
 ghost use Rattle.xs_making.specs.Copies.{tag_events};
 ghost use Rattle.xs_making.specs.steps.Walk.{inside, opening};
@@ -45,7 +46,7 @@ pub fn copy_events(
 fn put_alone(tree: &Tree, node: Node, out: &mut Vec<Event>) -> Result<(), AllocError>
     requires { node < length tree.now }
     ensures put { OnOk result (out.new.items ≡ out.old.items ++ shallow_copy tree.now node) }
-    ensures kept { take (vec_len out.old) out.new.items ≡ out.old.items }
+    ensures kept { take (length out.old.items) out.new.items ≡ out.old.items }
 {
     if tree.kind(node) == Kind::Element {
         put_start(tree, node, out)
@@ -58,8 +59,9 @@ fn put_alone(tree: &Tree, node: Node, out: &mut Vec<Event>) -> Result<(), AllocE
 fn put_whole(tree: &Tree, node: Node, out: &mut Vec<Event>) -> Result<(), AllocError>
     requires { node < length tree.now }
     ensures put { OnOk result (out.new.items ≡ out.old.items ++ deep_copy tree.now node) }
-    ensures kept { take (vec_len out.old) out.new.items ≡ out.old.items }
+    ensures kept { take (length out.old.items) out.new.items ≡ out.old.items }
 {
+    let _count = tree.len();
     match tree.kind(node) {
         Kind::Root => put_inside(tree, node, out),
         Kind::Element => put_element(tree, node, out),
@@ -72,7 +74,7 @@ fn put_element(tree: &Tree, n: Node, out: &mut Vec<Event>) -> Result<(), AllocEr
     requires { n < length tree.now }
     ensures put { OnOk result (out.new.items
         ≡ out.old.items ++ (tag_events tree.now n ++ (inside tree.now n ++ End ∷ []))) }
-    ensures kept { take (vec_len out.old) out.new.items ≡ out.old.items }
+    ensures kept { take (length out.old.items) out.new.items ≡ out.old.items }
 {
     put_tag(tree, n, out)?;
     put_inside(tree, n, out)?;
@@ -84,7 +86,7 @@ fn put_element(tree: &Tree, n: Node, out: &mut Vec<Event>) -> Result<(), AllocEr
 fn put_start(tree: &Tree, n: Node, out: &mut Vec<Event>) -> Result<(), AllocError>
     requires { n < length tree.now }
     ensures put { OnOk result (out.new.items ≡ out.old.items ++ start_events tree.now n) }
-    ensures kept { take (vec_len out.old) out.new.items ≡ out.old.items }
+    ensures kept { take (length out.old.items) out.new.items ≡ out.old.items }
 {
     let name = label_of(*out.allocator(), tree, n)?;
     out.push(Event::Start(name))?;
@@ -98,7 +100,7 @@ fn put_start(tree: &Tree, n: Node, out: &mut Vec<Event>) -> Result<(), AllocErro
 fn put_tag(tree: &Tree, n: Node, out: &mut Vec<Event>) -> Result<(), AllocError>
     requires { n < length tree.now }
     ensures put { OnOk result (out.new.items ≡ out.old.items ++ tag_events tree.now n) }
-    ensures kept { take (vec_len out.old) out.new.items ≡ out.old.items }
+    ensures kept { take (length out.old.items) out.new.items ≡ out.old.items }
 {
     put_start(tree, n, out)?;
     for attribute in tree.attributes(n) {
@@ -112,7 +114,7 @@ fn put_tag(tree: &Tree, n: Node, out: &mut Vec<Event>) -> Result<(), AllocError>
 fn put_opening(tree: &Tree, n: Node, out: &mut Vec<Event>) -> Result<(), AllocError>
     requires { n < length tree.now }
     ensures put { OnOk result (out.new.items ≡ out.old.items ++ opening tree.now n) }
-    ensures kept { take (vec_len out.old) out.new.items ≡ out.old.items }
+    ensures kept { take (length out.old.items) out.new.items ≡ out.old.items }
 {
     if tree.kind(n) == Kind::Element {
         put_tag(tree, n, out)
@@ -128,7 +130,7 @@ fn put_opening(tree: &Tree, n: Node, out: &mut Vec<Event>) -> Result<(), AllocEr
 fn put_inside(tree: &Tree, node: Node, out: &mut Vec<Event>) -> Result<(), AllocError>
     requires { node < length tree.now }
     ensures put { OnOk result (out.new.items ≡ out.old.items ++ inside tree.now node) }
-    ensures kept { take (vec_len out.old) out.new.items ≡ out.old.items }
+    ensures kept { take (length out.old.items) out.new.items ≡ out.old.items }
 {
     let mut holder = node;
     let mut from = next_place(tree, node);
@@ -151,13 +153,14 @@ fn put_inside(tree: &Tree, node: Node, out: &mut Vec<Event>) -> Result<(), Alloc
 /// The place after a node.
 fn next_place(tree: &Tree, n: Node) -> Node
     requires { n < length tree.now }
-    ensures { result ≡ n + 1 }
+    ensures place { result ≡ n + 1 }
+    ensures tree { IsTree tree.now }
 {
     let _count = tree.len();
     Node::at(n.place() + 1)
 }
 
-/// The node whose children come next after a child was put: the child itself where it is an element.
+/// The node whose children come next after a child was put: the child where it is an element.
 fn holder_after(tree: &Tree, holder: Node, child: Node) -> Node
     requires { child < length tree.now }
     ensures { result ≡ (if is_element_kind (at tree.now child).kind then child else holder) }

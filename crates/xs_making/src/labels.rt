@@ -24,8 +24,8 @@ pub(crate) fn put_label(
     Label::of(alloc, uri, local, prefix)
 }
 
-/// The prefix that a name is put with: none in no namespace, `xml` in that of `xml`, and no reserved
-/// one in any other.
+/// The prefix that a name is put with: none in no namespace, `xml` in that of `xml`, and no
+/// reserved one in any other.
 fn put_prefix<'a>(uri: &str, prefix: &'a str) -> &'a str
     ensures { result.now ≡ put_prefix uri.now prefix.now }
 {

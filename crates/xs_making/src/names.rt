@@ -31,7 +31,7 @@ pub fn result_name(
     is_attribute: bool,
 ) -> Result<Label, MakeEnd>
     ensures { IsMade (result_name scope.now.pairs.items is_attribute
-        (option_map (λ u. u.now) uri) text.now) result }
+        (option_map (λ u. u.now) uri.entry) text.now) result }
 {
     if is_forbidden(text, uri, is_attribute) {
         return Err(MakeEnd::Fault(Fault::BadResultName));
@@ -58,7 +58,7 @@ pub fn pi_target(alloc: Global, text: &str) -> Result<TextBuf, MakeEnd>
 
 /// Whether an attribute is named `xmlns`, or a name is given the namespace of that prefix.
 fn is_forbidden(text: &str, uri: Option<&str>, is_attribute: bool) -> bool
-    ensures { result ≡ is_forbidden is_attribute (option_map (λ u. u.now) uri) text.now }
+    ensures { result ≡ is_forbidden is_attribute (option_map (λ u. u.now) uri.entry) text.now }
 {
     (is_attribute && text == "xmlns") || uri.unwrap_or("") == XMLNS_URI
 }
@@ -72,7 +72,7 @@ fn uri_for<'a>(
     is_attribute: bool,
 ) -> Option<&'a str>
     ensures { option_map (λ u. u.now) result ≡ uri_for scope.now.pairs.items is_attribute
-        (option_map (λ u. u.now) uri) prefix.now }
+        (option_map (λ u. u.now) uri.entry) prefix.now }
 {
     if uri.is_some() {
         return uri;

@@ -9,8 +9,8 @@ loop-before-preserved c =
     record {
       text = search rules;
       made =
-          spaced-step 63 (begins_with 62) (instruction_text c.args.text.now) (string_bytes c.loop-before.out) (string_bytes c.in_ok-push_part.new.out)
-          c.loop-before.rest.now c.in-Some.before.now c.in-Some.after.now cut.0 cut.1 cut.2 ? c.loop-before.invariant.made;
+          spaced-step 63 (begins_with 62) (instruction_text c.args.text.now) (string_bytes c.loop-before.out) (string_bytes c.push_part.new.out)
+          c.loop-before.rest.now c.in-Some.before.now c.in-Some.after.now cut.0 cut.1 cut.2 c.in_ok-push_part.ensures c.loop-before.invariant.made;
     }
 
 pub loop-before-smaller : goal.loop-before-smaller
