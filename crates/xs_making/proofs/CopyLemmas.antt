@@ -1,5 +1,5 @@
 -- The copy of a node, by those of its children.
-use Rattle.std.proofs.Common.{◌≡◌, ℕ, zero, suc, ◌+◌, ◌<◌, ◌≤◌, ◌==◌, ◌&&◌, Bool, true, false, List, [], ◌∷◌, ◌++◌, Option, Some, None, length, refl, sym, ap, ◌∙◌, append_assoc, arith}
+use Rattle.std.proofs.Common.{◌≡◌, ℕ, zero, suc, ◌+◌, ◌<◌, ◌≤◌, Bool, true, false, List, [], ◌∷◌, ◌++◌, Option, Some, None, length, refl, sym, ap, ◌∙◌, append_assoc, arith}
 use Rattle.std.proofs.lemmas.Bool.{and_parts, eqb-true}
 use Rattle.std.specs.List.{flat_map}
 use Rattle.xs_trace.specs.declared.event.Event.{Event}
@@ -8,10 +8,10 @@ use Rattle.xs_tree.specs.declared.kinds.Kind.{Kind}
 use Rattle.xs_tree.specs.declared.kinds.Kind.TheVariants.{Root, Element, Attribute, Space, Text, Comment, Pi}
 use Rattle.xs_tree.specs.Kinds.{is_child_kind}
 use Rattle.xs_tree.specs.Record.{Record, at, children, is_child, is_place}
-use Rattle.xs_tree.specs.Shape.{IsPlaced, IsTree}
+use Rattle.xs_tree.specs.Shape.{IsTree}
 use Rattle.xs_tree.proofs.WalkLemmas.{IsPlaced-at, child-within, children-after, passing-passes}
 use Rattle.xs_making.specs.Copies.{copy_within, deep_copy, leaf_events, tag_events, whole_as}
-use Rattle.xs_making.specs.steps.Walk.{copies_from, inside, opening}
+use Rattle.xs_making.specs.steps.Walk.{inside}
 
 -- two functions that agree on the items of a list
 flat_map-same : (f g : ℕ → List Event) (all before xs : List ℕ) → ((before after : List ℕ) (k : ℕ) → all ≡ before ++ k ∷ after → f k ≡ g k)

@@ -1,5 +1,5 @@
 -- A text is cut at each byte that may get a space.
-use Rattle.std.proofs.Common.{◌≡◌, ℕ, suc, ◌+◌, ◌<◌, ◌==◌, ◌&&◌, Bool, true, false, if◌then◌else◌, List, [], ◌∷◌, ◌++◌, length, refl, sym, ap, ◌∙◌, append_assoc, length-append, arith}
+use Rattle.std.proofs.Common.{◌≡◌, ℕ, ◌+◌, ◌<◌, ◌==◌, Bool, true, false, if◌then◌else◌, List, [], ◌∷◌, ◌++◌, length, refl, sym, ap, ◌∙◌, append_assoc, length-append, arith}
 use Rattle.std.proofs.lemmas.Bool.{or_parts, eq-eqb}
 use Rattle.std.specs.List.{list_any, position_or_len, before_first, after_first}
 use Rattle.xs_text.proofs.FirstByteLemmas.{after-at, before-at, first_of_any, is_the}
@@ -52,16 +52,18 @@ cut_is byte text front back before after lt =
       none = ap (list_any (λ b. b == byte)) front_is ∙ cut.none;
     }
 
-pub spaced-step : (byte : ℕ) (asks : List ℕ → Bool) (whole out new text front back : List ℕ) → front ≡ before_first (λ b. b == byte) text
-    → back ≡ after_first (λ b. b == byte) text → position_or_len (λ b. b == byte) text < length text
-    → new ≡ out ++ (front ++ (if asks back then byte ∷ 32 ∷ [] else byte ∷ [])) → out ++ spaced byte asks text ≡ whole → new ++ spaced byte asks back ≡ whole
-spaced-step byte asks whole out new text front back before after lt pushed so_far =
+pub spaced-step : (byte : ℕ) (asks : List ℕ → Bool) (is_spaced : Bool) (whole out new text front back : List ℕ)
+    → front ≡ before_first (λ b. b == byte) text → back ≡ after_first (λ b. b == byte) text → position_or_len (λ b. b == byte) text < length text
+    → is_spaced ≡ asks back → new ≡ out ++ (front ++ (if is_spaced then byte ∷ 32 ∷ [] else byte ∷ []))
+    → out ++ spaced byte asks text ≡ whole → new ++ spaced byte asks back ≡ whole
+spaced-step byte asks is_spaced whole out new text front back before after lt tested pushed so_far =
     let cut = cut_is byte text front back before after lt in
     let mark : List ℕ = if asks back then byte ∷ 32 ∷ [] else byte ∷ [] in
     let text_is : spaced byte asks text ≡ front ++ (mark ++ spaced byte asks back) =
     ap (spaced byte asks) cut.whole ∙ spaced-front byte asks front (byte ∷ back) cut.none
     ∙ ap (λ xs. front ++ xs) (spaced-byte byte asks back) in
-    ap (λ xs. xs ++ spaced byte asks back) pushed ∙ append_assoc out (front ++ mark) (spaced byte asks back)
+    let new_is : new ≡ out ++ (front ++ mark) = pushed ∙ ap (λ b. out ++ (front ++ (if b then byte ∷ 32 ∷ [] else byte ∷ []))) tested in
+    ap (λ xs. xs ++ spaced byte asks back) new_is ∙ append_assoc out (front ++ mark) (spaced byte asks back)
     ∙ ap (λ xs. out ++ xs) (append_assoc front mark (spaced byte asks back)) ∙ ap (λ xs. out ++ xs) (sym text_is) ∙ so_far
 
 pub spaced-shorter : (byte : ℕ) (text front back : List ℕ) → front ≡ before_first (λ b. b == byte) text → back ≡ after_first (λ b. b == byte) text

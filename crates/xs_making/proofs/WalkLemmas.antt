@@ -1,6 +1,6 @@
 -- A walk through what is in a node puts the copies of its children.
-use Rattle.std.proofs.Common.{◌≡◌, ℕ, ◌+◌, ◌-◌, ◌*◌, ◌<◌, ◌≤◌, Bool, true, false, if◌then◌else◌, List, [], ◌∷◌, ◌++◌, Option, Some, None, All, IsSome, Result, Ok, Err, OnOk, OnErr}
-use Rattle.std.proofs.Common.{filter, length, take, refl, sym, ap, subst, ◌∙◌, append_assoc, arith, inl, inr}
+use Rattle.std.proofs.Common.{◌≡◌, ℕ, ◌+◌, ◌-◌, ◌*◌, ◌<◌, ◌≤◌, Bool, true, false, if◌then◌else◌, List, [], ◌∷◌, ◌++◌, Some, All, IsSome, Result, Ok, Err, OnOk, OnErr}
+use Rattle.std.proofs.Common.{length, take, refl, sym, ap, subst, ◌∙◌, append_assoc, arith, inl, inr}
 use Rattle.std.proofs.Math.Nat.{eq-or-lt_of_le, mul_comm}
 use Rattle.std.proofs.lemmas.Nat.{mul-add-lt, mul-le}
 use Rattle.std.proofs.lemmas.List.{append-nil, take-append-le, take-take, take_all}
@@ -12,7 +12,7 @@ use Rattle.xs_trace.specs.declared.event.Event.TheVariants.{End}
 use Rattle.xs_tree.specs.declared.kinds.Kind.{Kind}
 use Rattle.xs_tree.specs.declared.kinds.Kind.TheVariants.{Root, Element, Attribute, Space, Text, Comment, Pi}
 use Rattle.xs_tree.specs.Kinds.{is_child_kind, is_element_kind}
-use Rattle.xs_tree.specs.Record.{Record, at, is_child, is_place}
+use Rattle.xs_tree.specs.Record.{Record, at, is_child}
 use Rattle.xs_tree.specs.Shape.{EndsAt, HasParentFrom, IsPlaced, IsTree}
 use Rattle.xs_tree.specs.Walk.{children_from}
 use Rattle.xs_tree.proofs.WalkLemmas.{HasParentFrom-own, IsPlaced-at, children-next, from_earlier, le_or_gt}
@@ -187,7 +187,7 @@ copying-parent rs top old out holder from c other = by_rests holder c.rest c.res
   where
     by_rests : (n : ℕ) (rest : List Event) → Rests rs top n rest → (n ≡ top → ⊥) → IsSome (at rs n).parent
     by_rests n rest at_top no_top = absurd (no_top refl)
-    by_rests n rest (below m p more after parent more_rests) no_top = rw parent tt
+    by_rests n rest (below m p more after parent more_rests) no_top = rw parent refl
 
 pub copying-end : (rs : List Record) (top : ℕ) (old out new : List Event) (holder from p e : ℕ) → IsTree rs → IsCopying rs top old out holder from
     → (holder ≡ top → ⊥) → children_from rs holder from ≡ [] → (at rs holder).parent ≡ Some p → EndsAt rs holder e → new ≡ out ++ End ∷ []

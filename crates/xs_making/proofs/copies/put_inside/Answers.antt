@@ -49,7 +49,8 @@ parent_of-holder-requires-clause-inside c =
 
 pub loop-child-smaller : goal.loop-child-smaller
 loop-child-smaller c =
-    subst (λ k. (length c.args.tree.now - k) * (length c.args.tree.now + 1) + c.parent_of-holder.result < (length c.args.tree.now - c.loop-child.from) * (length c.args.tree.now + 1) + c.loop-child.holder) (sym c.at-from.ensures)
+    let n = length c.args.tree.now in
+    subst (λ k. (n - k) * (n + 1) + c.parent_of-holder.result < (n - c.loop-child.from) * (n + 1) + c.loop-child.holder) (sym c.at-from.ensures)
     (smaller-end c.args.tree.now c.args.node c.args.out.now.items c.loop-child.out.items c.loop-child.holder c.loop-child.from c.parent_of-holder.result
     c.subtree_end.result c.subtree_end.ensures.tree c.loop-child.invariant c.parent_of-holder.ensures c.subtree_end.ensures.end)
 

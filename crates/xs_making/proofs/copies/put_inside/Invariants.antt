@@ -1,4 +1,4 @@
-use Rattle.std.proofs.Common.{ℕ, ◌+◌, ◌-◌, ◌*◌, length}
+use Rattle.std.proofs.Common.{◌+◌, ◌-◌, ◌*◌, length}
 use Rattle.xs_making.proofs.WalkLemmas.{IsCopying}
 use Rattle.xs_making.proofs.copies.put_inside.Given as goal
 
