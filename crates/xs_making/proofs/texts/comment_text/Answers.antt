@@ -9,7 +9,8 @@ loop-before-preserved c =
     record {
       text = search rules;
       made =
-          spaced-step 45 ends_or_hyphen c.ends_or_hyphen.result (comment_text c.args.text.now) (string_bytes c.loop-before.out) (string_bytes c.push_part.new.out)
+          spaced-step 45 ends_or_hyphen c.ends_or_hyphen.result (comment_text c.args.text.now) (string_bytes c.loop-before.out)
+          (string_bytes c.push_part.new.out)
           c.loop-before.rest.now c.in-Some.before.now c.in-Some.after.now cut.0 cut.1 cut.2
           c.ends_or_hyphen.ensures c.in_ok-push_part.ensures c.loop-before.invariant.made;
     }
@@ -22,7 +23,11 @@ loop-before-smaller c =
 pub returns : goal.returns
 returns c =
     let past = c.in_default.ensures.byte (lit< tt) (λ w o h. h) in
-    subst (λ xs. IfOk c.from_string.result (λ made. made ≡ xs))
-    (c.in_ok-push_str.ensures.bytes
-    ∙ spaced-end 45 ends_or_hyphen (comment_text c.args.text.now) (string_bytes c.loop-before.out) c.loop-before.rest.now past c.loop-before.invariant.made)
-    c.from_string.ensures.text
+    record {
+      text =
+          subst (λ xs. IfOk c.from_string.result (λ made. made ≡ xs))
+          (c.in_ok-push_str.ensures.bytes
+          ∙ spaced-end 45 ends_or_hyphen (comment_text c.args.text.now) (string_bytes c.loop-before.out) c.loop-before.rest.now past
+          c.loop-before.invariant.made)
+          c.from_string.ensures.text;
+    }
