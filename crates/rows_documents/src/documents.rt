@@ -33,9 +33,9 @@ pub(crate) fn put_fault_of(out: &mut Buffer, alloc: Global, start: &Buffer, inpu
     bytes.put_bytes(start.held(out));
     put_decoded(&mut bytes, document);
     let limit = limit.parse::<u16>().unwrap_or(LIMIT);
-    match build_tree(alloc, bytes.held(out), u64::from(limit)) {
-        Ok(_) => out.put("no fault"),
-        Err(fault) => put_fault(out, fault),
+    match build_tree(alloc, bytes.held(out), u64::from(limit)).err() {
+        None => out.put("no fault"),
+        Some(fault) => put_fault(out, fault),
     }
 }
 
@@ -48,6 +48,13 @@ fn put_fault(out: &mut Buffer, fault: BuildFault) {
         }
         BuildFault::NoMemory => out.refuse(),
     }
+}
+
+// Adds a line with a fault.
+fn put_fault_line(out: &mut Buffer, fault: BuildFault) {
+    out.put("= ");
+    put_fault(out, fault);
+    out.put("\n");
 }
 
 /// The input of a row of several lines.
@@ -93,19 +100,15 @@ impl<'t> Row<'t> {
     /// Adds the tree of the document, or its fault.
     pub(crate) fn put_document(&self, out: &mut Buffer) {
         match build_tree(self.alloc, self.document.held(out), u64::from(LIMIT)) {
-            Ok(mut built) => put_tree_of(out, self.alloc, self, &mut built),
-            Err(fault) => {
-                out.put("= ");
-                put_fault(out, fault);
-                out.put("\n");
-            }
+            Ok(built) => put_tree_of(out, self.alloc, self, built),
+            Err(fault) => put_fault_line(out, fault),
         }
     }
 
     /// Adds the tree of the nodes.
     pub(crate) fn put_nodes(&self, out: &mut Buffer) {
         match root_alone(self.alloc) {
-            Ok(mut built) => put_tree_of(out, self.alloc, self, &mut built),
+            Ok(built) => put_tree_of(out, self.alloc, self, built),
             Err(_) => out.refuse(),
         }
     }
@@ -113,9 +116,10 @@ impl<'t> Row<'t> {
 
 // The tree of a root alone.
 fn root_alone(alloc: Global) -> Result<Built, AllocError> {
-    let tree = Tree::new(alloc)?;
+    let mut lines = Vec::new(alloc);
+    lines.push(0)?;
     Ok(Built {
-        tree,
-        lines: vec![in alloc; 0]?,
+        tree: Tree::new(alloc)?,
+        lines,
     })
 }

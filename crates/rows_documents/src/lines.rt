@@ -11,10 +11,9 @@ use xs_pyx::{Data, Line, LineFault, LineView, Rest, next_line, skip_line, write_
 /// what it leaves.
 pub(crate) fn put_first(out: &mut Buffer, alloc: Global, bytes: &[u8]) {
     match next_line(alloc, bytes) {
-        Ok(Some((line, size))) => put_found(out, alloc, &line, size),
+        Ok(Some((line, size))) => put_found(out, alloc, line, size),
         Ok(None) => out.put("nothing"),
-        Err(LineFault::Bad { number }) => out.put_count("fault ", u64::from(number)),
-        Err(LineFault::NoMemory) => out.refuse(),
+        Err(fault) => put_fault(out, fault),
     }
     let rest = skip_line(bytes);
     if !rest.is_empty() {
@@ -23,13 +22,21 @@ pub(crate) fn put_first(out: &mut Buffer, alloc: Global, bytes: &[u8]) {
     }
 }
 
+// Adds a fault.
+fn put_fault(out: &mut Buffer, fault: LineFault) {
+    match fault {
+        LineFault::Bad { number } => out.put_count("fault ", u64::from(number)),
+        LineFault::NoMemory => out.refuse(),
+    }
+}
+
 // Adds what a line says, how many bytes it took, and how it is written.
-fn put_found(out: &mut Buffer, alloc: Global, line: &Line, size: usize) {
-    put_line(out, line);
+fn put_found(out: &mut Buffer, alloc: Global, line: Line, size: usize) {
+    put_line(out, &line);
     out.put_count(", ", size as u64);
     out.put(" bytes, written ");
     let mut written = Vec::new(alloc);
-    let outcome = write_line(&mut written, line);
+    let outcome = write_line(&mut written, &line);
     out.note(outcome);
     quote(out, &written);
 }

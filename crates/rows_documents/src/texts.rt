@@ -45,11 +45,13 @@ pub(crate) fn put_name(out: &mut Buffer, text: &str) {
 
 /// Adds where each of some code points may be in a name without a colon.
 pub(crate) fn put_name_characters(out: &mut Buffer, alloc: Global, codes: &str) {
-    let mut between = "";
+    let mut is_first = true;
     for code in codes.split(' ') {
-        out.put(between);
+        if !is_first {
+            out.put(" ");
+        }
         put_place_in_names(out, alloc, code);
-        between = " ";
+        is_first = false;
     }
 }
 
@@ -82,11 +84,13 @@ fn character(code: &str) -> Option<char> {
 
 /// Adds which of some code points are white space.
 pub(crate) fn put_white_space(out: &mut Buffer, codes: &str) {
-    let mut between = "";
+    let mut is_first = true;
     for code in codes.split(' ') {
-        out.put(between);
+        if !is_first {
+            out.put(" ");
+        }
         put_truth(out, character(code).is_some_and(|c| is_space(c)));
-        between = " ";
+        is_first = false;
     }
 }
 

@@ -51,14 +51,14 @@ struct Written<'a> {
 
 // The node that a line such as `attribute in 1: x "y"` writes.
 fn read_node(line: &str) -> Option<Written<'_>> {
-    let (word, rest) = line.split_once(" in ")?;
-    let (parent, rest) = rest.split_once(": ")?;
-    let (local, rest) = rest.split_once('"')?;
+    let (place, content) = line.split_once(": ")?;
+    let (word, parent) = place.split_once(" in ")?;
+    let (local, text) = content.split_once('"')?;
     Some(Written {
         kind: kind_of(word)?,
-        parent: Node::at(parent.parse::<u32>().ok()?),
+        parent: Node::at(parent.parse::<u32>().unwrap_or(u32::MAX)),
         local: local.trim_end(),
-        text: rest.strip_suffix('"')?,
+        text: text.strip_suffix('"').unwrap_or(text),
     })
 }
 
@@ -76,10 +76,16 @@ fn local_name(alloc: Global, local: &str) -> Result<Option<Name>, AllocError> {
 
 /// Adds the nodes of a row that can't be added to a tree, and the tree with the others and without
 /// the marked text nodes.
-pub(crate) fn put_tree_of(out: &mut Buffer, alloc: Global, row: &Row<'_>, built: &mut Built) {
-    add_nodes(out, alloc, built, &row.nodes);
-    strip(out, alloc, built, row.marks);
-    add_nodes(out, alloc, built, &row.later_nodes);
+pub(crate) fn put_tree_of(out: &mut Buffer, alloc: Global, row: &Row<'_>, built: Built) {
+    let mut built = built;
+    add_nodes(out, alloc, &mut built, &row.nodes);
+    strip(out, alloc, &mut built, row.marks);
+    add_nodes(out, alloc, &mut built, &row.later_nodes);
+    put_tree(out, alloc, &built);
+}
+
+// Adds a tree, a line for each node.
+fn put_tree(out: &mut Buffer, alloc: Global, built: &Built) {
     out.put("= tree\n");
     for place in 0..built.tree.len() {
         put_node(out, alloc, built, Node::at(place as u32));

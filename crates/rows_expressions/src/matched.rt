@@ -120,8 +120,16 @@ fn is_in_value(
         spent: 0,
     };
     match evaluate(settings.alloc, expr, &context, &NoKeys, site, &mut meter) {
-        Ok(Value::Nodes(nodes)) => Ok(nodes.nodes().contains(&node)),
-        Ok(_) | Err(_) => Err(RowError::Unreadable),
+        Ok(value) => has_node(&value, node),
+        Err(_) => Err(RowError::Unreadable),
+    }
+}
+
+// Whether a node is in a node-set.
+fn has_node(value: &Value, node: Node) -> Result<bool, RowError> {
+    match value {
+        Value::Nodes(nodes) => Ok(nodes.nodes().contains(&node)),
+        _ => Err(RowError::Unreadable),
     }
 }
 

@@ -159,15 +159,19 @@ impl Settings {
 
     // Adds a variable with its slot.
     fn add_slot(&mut self, name: &str, slot: Slot) -> Result<(), AllocError> {
-        let scope = self.scope()?;
-        let label = match name.split_once(':') {
-            Some((prefix, local)) => {
-                label(self.alloc, scope.uri_in(prefix).unwrap_or(""), local)?
-            }
-            None => label(self.alloc, "", name)?,
-        };
+        let label = self.expanded(name)?;
         self.slots.push((label, slot))?;
         Ok(())
+    }
+
+    // The name of a variable.
+    fn expanded(&self, name: &str) -> Result<Label, AllocError> {
+        let (prefix, local) = name.split_once(':').unwrap_or(("", name));
+        if prefix.is_empty() {
+            return label(self.alloc, "", local);
+        }
+        let scope = self.scope()?;
+        label(self.alloc, scope.uri_in(prefix).unwrap_or(""), local)
     }
 }
 

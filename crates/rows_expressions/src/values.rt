@@ -57,10 +57,16 @@ fn nodes(alloc: Global, places: &str) -> Result<Vec<Node>, RowError> {
 // The fragment of some lines.
 fn fragment(alloc: Global, lines: &str) -> Result<Value, RowError> {
     let mut fragment = Fragment::of(Vec::new(alloc));
+    push_events(&mut fragment, alloc, lines)?;
+    Ok(Value::Piece(SharedFragment::of(alloc, fragment)?))
+}
+
+// Adds the events of some lines.
+fn push_events(fragment: &mut Fragment, alloc: Global, lines: &str) -> Result<(), RowError> {
     for line in lines.lines() {
         fragment.push(event(alloc, line)?)?;
     }
-    Ok(Value::Piece(SharedFragment::of(alloc, fragment)?))
+    Ok(())
 }
 
 /// A name, without a prefix.
@@ -155,9 +161,19 @@ fn compared(out: &mut Answer, settings: &Settings, text: &str) -> Result<(), Row
     let (left, rest) = cut(text)?;
     let (name, right) = cut(rest)?;
     let op = comparison_named(name).ok_or(RowError::Unreadable)?;
-    let left = operand(settings.alloc, left)?;
-    let right = operand(settings.alloc, right)?;
-    add_compared(out, &settings.tree, op, &left, &right)
+    let mut operands = Vec::new(settings.alloc);
+    push_operand(&mut operands, left)?;
+    push_operand(&mut operands, right)?;
+    match operands.as_slice() {
+        [left, right] => add_compared(out, &settings.tree, op, left, right),
+        _ => Err(RowError::Unreadable),
+    }
+}
+
+// Adds the value that a row writes.
+fn push_operand(operands: &mut Vec<Value>, text: &str) -> Result<(), RowError> {
+    operands.push(operand(*operands.allocator(), text)?)?;
+    Ok(())
 }
 
 // Appends whether two values compare so.
@@ -198,10 +214,20 @@ fn join(out: &mut Answer, alloc: Global, text: &str) -> Result<(), RowError> {
 fn gather(out: &mut Answer, alloc: Global, text: &str) -> Result<(), RowError> {
     let (first, rest) = cut(text)?;
     let (next, last) = cut(rest)?;
-    let mut list = NodeList::from_slice(alloc, &nodes(alloc, first)?)?;
+    let mut list = listed(alloc, first)?;
     push_nodes(&mut list, next)?;
-    list.extend_from_slice(&nodes(alloc, last)?)?;
+    extend(&mut list, alloc, last)?;
     Ok(add_gathered(out, list)?)
+}
+
+// The list of the nodes at some places.
+fn listed(alloc: Global, places: &str) -> Result<NodeList, RowError> {
+    Ok(NodeList::from_slice(alloc, &nodes(alloc, places)?)?)
+}
+
+// Adds the nodes at some places at once.
+fn extend(list: &mut NodeList, alloc: Global, places: &str) -> Result<(), RowError> {
+    Ok(list.extend_from_slice(&nodes(alloc, places)?)?)
 }
 
 // Adds the nodes at some places one by one.
@@ -218,9 +244,14 @@ fn add_gathered(out: &mut Answer, list: NodeList) -> Result<(), AllocError> {
     out.put(" | ");
     out.put_count(list.len() as u64);
     out.put(" | ");
-    let set = NodeSet::of_list(list)?.copy()?;
+    let set = set_of(list)?;
     add_places(out, set.nodes());
     Ok(())
+}
+
+// A copy of the set of a list.
+fn set_of(list: NodeList) -> Result<NodeSet, AllocError> {
+    NodeSet::of_list(list)?.copy()
 }
 
 /// Appends a value: nodes by their places, any other by its kind and its string.

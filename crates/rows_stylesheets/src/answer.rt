@@ -30,6 +30,19 @@ impl Answer {
         }
     }
 
+    /// Adds a text between two others.
+    pub(crate) fn put_in(&mut self, before: &str, text: &str, after: &str) {
+        self.put(before);
+        self.put(text);
+        self.put(after);
+    }
+
+    /// Adds a number after a text.
+    pub(crate) fn put_after(&mut self, before: &str, number: i64) {
+        self.put(before);
+        self.put_number(number);
+    }
+
     /// Adds a number.
     pub(crate) fn put_number(&mut self, number: i64) {
         if write!(self.text, "{number}").is_err() {

@@ -2,7 +2,7 @@
 
 use crate::answer::Answer;
 use crate::values::{
-    put_label, put_labels, put_pattern, put_scoped, put_template, put_template_if,
+    put_label, put_labels, put_pattern_if, put_scoped, put_scoped_if, put_template, put_template_if,
 };
 use xs_sheet::body::{
     Applied, Binding, Body, Choice, Content, Instr, InstrKind, Level, LiteralStart, MadeName,
@@ -29,8 +29,7 @@ pub(crate) fn put_instr(out: &mut Answer, instr: &Instr) {
 
 /// Adds a line.
 fn put_line(out: &mut Answer, line: u32) {
-    out.put(" ");
-    out.put_number(i64::from(line));
+    out.put_after(" ", i64::from(line));
     out.put(":");
 }
 
@@ -43,8 +42,7 @@ fn put_kind(out: &mut Answer, kind: &InstrKind) {
             put_passed(out, passed);
         }
         InstrKind::CallTemplate { template, passed } => {
-            out.put("call ");
-            out.put_number(i64::from(*template));
+            out.put_after("call ", i64::from(*template));
             put_passed(out, passed);
         }
         InstrKind::ForEach {
@@ -123,9 +121,7 @@ fn put_simple(out: &mut Answer, kind: &InstrKind) {
         InstrKind::CopyOf(select) => put_tested(out, "copy-of", select),
         InstrKind::Number(number) => put_number(out, number),
         InstrKind::Text(text) => {
-            out.put("'");
-            out.put(text.as_str());
-            out.put("'");
+            out.put_in("'", text.as_str(), "'");
         }
         _ => (),
     }
@@ -174,14 +170,16 @@ fn put_tested(out: &mut Answer, word: &str, e: &ScopedExpr) {
 /// Adds the nodes to which templates are applied.
 fn put_nodes(out: &mut Answer, nodes: &Applied) {
     out.put("apply");
-    if let Some(select) = &nodes.select {
-        put_scoped(out, select);
-    }
-    if nodes.mode != 0 {
-        out.put(" mode ");
-        out.put_number(i64::from(nodes.mode));
-    }
+    put_scoped_if(out, "", &nodes.select);
+    put_mode(out, nodes.mode);
     put_sorts(out, nodes.sorts.as_slice());
+}
+
+/// Adds a mode, except that of templates without one.
+pub(crate) fn put_mode(out: &mut Answer, mode: u32) {
+    if mode != 0 {
+        out.put_after(" mode ", i64::from(mode));
+    }
 }
 
 /// Adds sort keys.
@@ -200,17 +198,9 @@ fn put_number(out: &mut Answer, number: &NumberDecl) {
         Level::Multiple => "number multiple",
         Level::Any => "number any",
     });
-    if let Some(count) = &number.count {
-        out.put(" count");
-        put_pattern(out, count);
-    }
-    if let Some(from) = &number.from {
-        out.put(" from");
-        put_pattern(out, from);
-    }
-    if let Some(value) = &number.value {
-        put_tested(out, " value", value);
-    }
+    put_pattern_if(out, " count", &number.count);
+    put_pattern_if(out, " from", &number.from);
+    put_scoped_if(out, " value", &number.value);
     put_template_if(out, " format ", &number.format);
     put_template_if(out, " separator ", &number.grouping_separator);
     put_template_if(out, " size ", &number.grouping_size);
@@ -228,9 +218,7 @@ fn put_start(out: &mut Answer, start: &LiteralStart) {
     out.put("<");
     put_label(out, &start.name);
     for (prefix, uri) in start.spaces.as_slice() {
-        out.put(" ");
-        out.put(prefix.as_str());
-        out.put("=");
+        out.put_in(" ", prefix.as_str(), "=");
         out.put(uri.as_str());
     }
     put_labels(out, " uses ", start.sets.as_slice());

@@ -15,17 +15,10 @@ const SHORT: &[(char, &str, &str)] = &[
     ('~', "(xsl:template\nAmatch ", "\n)xsl:template\n"),
 ];
 
-/// Adds three texts.
-fn put_three(out: &mut Answer, first: &str, second: &str, third: &str) {
-    out.put(first);
-    out.put(second);
-    out.put(third);
-}
-
 /// Adds the end of the last element that is open.
 fn put_end(out: &mut Answer, open: &mut Vec<&str>) {
     if let Some(name) = open.pop() {
-        put_three(out, ")", name, "\n");
+        out.put_in(")", name, "\n");
     }
 }
 
@@ -40,7 +33,7 @@ fn begin<'t>(out: &mut Answer, open: &mut Vec<&'t str>, name: &'t str) {
 fn put_short(out: &mut Answer, line: &str) -> bool {
     for (sign, start, end) in SHORT {
         if let Some(text) = line.strip_prefix(*sign) {
-            put_three(out, start, text, end);
+            out.put_in(start, text, end);
             return true;
         }
     }
@@ -53,7 +46,7 @@ fn put_line<'t>(out: &mut Answer, open: &mut Vec<&'t str>, line: &'t str) {
     if line == ")" {
         put_end(out, open);
     } else if !line.is_empty() && !put_short(out, line) {
-        put_three(out, line, "\n", "");
+        out.put_in("", line, "\n");
         if let Some(name) = line.strip_prefix('(') {
             begin(out, open, name);
         }

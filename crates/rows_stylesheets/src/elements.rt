@@ -20,9 +20,7 @@ fn put_expanded(out: &mut Answer, name: Option<Expanded<'_>>) {
         Some((uri, local)) => {
             out.put(local);
             if !uri.is_empty() {
-                out.put("[");
-                out.put(uri);
-                out.put("]");
+                out.put_in("[", uri, "]");
             }
         }
         None => out.put("?"),
@@ -263,9 +261,7 @@ pub(crate) fn put_first_words(out: &mut Answer, tree: &Tree) {
         if tree.kind(node) == Kind::Attribute
             && let Some((word, rest)) = first_word(tree.text(node))
         {
-            out.put("'");
-            out.put(word);
-            out.put("' and '");
+            out.put_in("'", word, "' and '");
             out.put(rest);
             out.put("'");
         }

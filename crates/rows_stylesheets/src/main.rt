@@ -31,9 +31,7 @@ fn main(rt: HostRuntime) -> io::Result<()> {
 
 /// Adds a file with its answers computed, after a line with its name.
 fn put_named_file(out: &mut Answer, rt: &HostRuntime, name: &str) {
-    out.put("== ");
-    out.put(name);
-    out.put("\n");
+    out.put_in("== ", name, "\n");
     match fs::read_to_string(rt, name) {
         Ok(text) => put_file(out, rt.alloc(), text.as_str()),
         Err(_) => out.put("no such file\n"),

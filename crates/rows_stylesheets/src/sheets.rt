@@ -1,8 +1,8 @@
 //! Declarations of compiled stylesheets, as texts.
 
 use crate::answer::Answer;
-use crate::bodies::{put_binding, put_body, put_instr};
-use crate::values::{put_label, put_labels, put_pattern, put_scoped};
+use crate::bodies::{put_binding, put_body, put_instr, put_mode};
+use crate::values::{put_label, put_labels, put_pattern, put_pattern_if, put_scoped};
 use xs_sheet::declarations::{AttrSet, Global, KeyDecl, Method, NameTest, StripRule, Template};
 use xs_sheet::sheet::Sheet;
 use xs_trace::item::Site;
@@ -27,22 +27,15 @@ fn put_site(out: &mut Answer, word: &str, site: Site) {
 fn put_template(out: &mut Answer, template: &Template) {
     put_site(out, "T ", template.site);
     out.put_pair(template.imports_from, "-", template.precedence);
-    if let Some(pattern) = &template.pattern {
-        out.put(" match");
-        put_pattern(out, pattern);
-    }
+    put_pattern_if(out, " match", &template.pattern);
     if let Some(name) = &template.name {
         out.put(" name ");
         put_label(out, name);
     }
     if let Some(priority) = template.priority {
-        out.put(" priority ");
-        out.put_number(priority);
+        out.put_after(" priority ", priority);
     }
-    if template.mode != 0 {
-        out.put(" mode ");
-        out.put_number(i64::from(template.mode));
-    }
+    put_mode(out, template.mode);
     for param in template.params.as_slice() {
         out.put(" ");
         put_binding(out, param);
@@ -85,14 +78,11 @@ fn put_rule(out: &mut Answer, rule: &StripRule) {
     match &rule.test {
         NameTest::Any => out.put("*"),
         NameTest::Uri(uri) => {
-            out.put("[");
-            out.put(uri.as_str());
-            out.put("]*");
+            out.put_in("[", uri.as_str(), "]*");
         }
         NameTest::Name(name) => put_label(out, name),
     }
-    out.put(" ");
-    out.put_number(i64::from(rule.precedence));
+    out.put_after(" ", i64::from(rule.precedence));
 }
 
 /// Adds all of a stylesheet.

@@ -12,9 +12,7 @@ use xs_xpath::name::{NodeTest, Slot};
 fn put_expanded(out: &mut Answer, uri: &str, local: &str) {
     out.put(local);
     if !uri.is_empty() {
-        out.put("[");
-        out.put(uri);
-        out.put("]");
+        out.put_in("[", uri, "]");
     }
 }
 
@@ -40,9 +38,7 @@ pub(crate) fn put_test(out: &mut Answer, test: &NodeTest) {
     match test {
         NodeTest::Any => out.put("*"),
         NodeTest::Uri(uri) => {
-            out.put("[");
-            out.put(uri.as_str());
-            out.put("]*");
+            out.put_in("[", uri.as_str(), "]*");
         }
         NodeTest::Name(uri, local) => put_expanded(out, uri.as_str(), local.as_str()),
         NodeTest::Node => out.put("node()"),
@@ -50,9 +46,7 @@ pub(crate) fn put_test(out: &mut Answer, test: &NodeTest) {
         NodeTest::Comment => out.put("comment()"),
         NodeTest::Pi => out.put("pi()"),
         NodeTest::Target(target) => {
-            out.put("pi(");
-            out.put(target.as_str());
-            out.put(")");
+            out.put_in("pi(", target.as_str(), ")");
         }
     }
 }
@@ -61,12 +55,10 @@ pub(crate) fn put_test(out: &mut Answer, test: &NodeTest) {
 fn put_slot(out: &mut Answer, slot: Option<Slot>) {
     match slot {
         Some(Slot::Local(number)) => {
-            out.put("L");
-            out.put_number(i64::from(number));
+            out.put_after("L", i64::from(number));
         }
         Some(Slot::Global(number)) => {
-            out.put("G");
-            out.put_number(i64::from(number));
+            out.put_after("G", i64::from(number));
         }
         None => out.put("?"),
     }
@@ -120,9 +112,7 @@ fn put_leaf(out: &mut Answer, e: &Expr) {
     match e {
         Expr::Number(number) => put_number(out, *number),
         Expr::Literal(text) => {
-            out.put("'");
-            out.put(text.as_str());
-            out.put("'");
+            out.put_in("'", text.as_str(), "'");
         }
         Expr::Variable(_, _, slot) => put_slot(out, *slot),
         Expr::Root => out.put("/"),
@@ -136,6 +126,22 @@ pub(crate) fn put_scoped(out: &mut Answer, e: &ScopedExpr) {
     out.put("(");
     put_expr(out, e.expr.expr());
     out.put(" )");
+}
+
+/// Adds an expression in round brackets after a word, if it is there.
+pub(crate) fn put_scoped_if(out: &mut Answer, before: &str, e: &Option<ScopedExpr>) {
+    if let Some(e) = e {
+        out.put(before);
+        put_scoped(out, e);
+    }
+}
+
+/// Adds a pattern after a word, if it is there.
+pub(crate) fn put_pattern_if(out: &mut Answer, before: &str, p: &Option<ScopedPattern>) {
+    if let Some(p) = p {
+        out.put(before);
+        put_pattern(out, p);
+    }
 }
 
 /// Adds the alternatives of a pattern, in round brackets.

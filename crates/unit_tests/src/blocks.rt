@@ -1,5 +1,6 @@
 //! Chains of blocks and their pool: 65 items in two blocks, joined and cut chains, refused memory.
 
+use crate::check;
 use std::alloc::{AllocError, Global};
 use std::test::Fail;
 use xs_block::chain::{Chain, append_chain};
@@ -42,12 +43,18 @@ fn holds_65_items_in_two_blocks(rt: HostRuntime) -> Result<(), Fail> {
     let mut pool = Pool::new(rt.alloc());
     let mut chain = Chain::new(rt.alloc());
     pool.reserve(&chain, 65)?;
-    assert!(rt; pool.free_blocks() == 2 && pool.spare(&chain) == 128);
+    check(&rt, &[pool.free_blocks() == 2, pool.spare(&chain) == 128]);
     for n in 0..65u64 {
         pool.push(&mut chain, n);
     }
-    assert!(rt; chain.blocks() == 2 && pool.free_blocks() == 0);
-    assert!(rt; pool.spare(&chain) == 63);
+    check(
+        &rt,
+        &[
+            chain.blocks() == 2,
+            pool.free_blocks() == 0,
+            pool.spare(&chain) == 63,
+        ],
+    );
     let mut wanted = 0..65;
     for n in chain.items() {
         assert!(rt; wanted.next() == Some(*n));
@@ -64,12 +71,24 @@ fn joins_and_cuts(rt: HostRuntime) -> Result<(), Fail> {
     let more = numbers(rt.alloc(), &mut pool, 70, 75)?;
     assert!(rt; !more.is_empty() && chain.can_append(&more));
     append_chain(&mut chain, more);
-    assert!(rt; chain.blocks() == 3 && pool.spare(&chain) == 59);
-    assert!(rt; counts_to(&chain, 75));
+    check(
+        &rt,
+        &[
+            chain.blocks() == 3,
+            pool.spare(&chain) == 59,
+            counts_to(&chain, 75),
+        ],
+    );
     pool.truncate(&mut chain, 66);
-    assert!(rt; chain.blocks() == 2 && pool.free_blocks() == 1);
-    assert!(rt; pool.spare(&chain) == 126);
-    assert!(rt; counts_to(&chain, 66));
+    check(
+        &rt,
+        &[
+            chain.blocks() == 2,
+            pool.free_blocks() == 1,
+            pool.spare(&chain) == 126,
+            counts_to(&chain, 66),
+        ],
+    );
     let mut wanted = 0..66;
     for item in chain.into_items() {
         assert!(rt; wanted.next() == Some(*item));
@@ -91,8 +110,13 @@ fn keeps_its_blocks_where_memory_is_refused(rt: HostRuntime) -> Result<(), Fail>
         pool.push(&mut chain, n);
         pushed = n + 1;
     }
-    assert!(rt; refused || pushed == 200);
-    assert!(rt; pool.free_blocks() + chain.blocks() == made);
+    check(
+        &rt,
+        &[
+            refused || pushed == 200,
+            pool.free_blocks() + chain.blocks() == made,
+        ],
+    );
     pool.truncate(&mut chain, 64);
     pool.give_back(chain);
     assert!(rt; pool.free_blocks() == made);

@@ -1,5 +1,6 @@
 //! Each kind of library and sink once, and a sink that fails in mid-piece.
 
+use crate::check;
 use std::alloc::{AllocError, Global};
 use std::fmt::Display;
 use std::test::Fail;
@@ -37,10 +38,15 @@ fn fails<L: Library>(alloc: Global, library: &mut L, name: &str) -> bool {
 fn files_in_memory(rt: HostRuntime) -> Result<(), Fail> {
     let alloc = rt.alloc();
     let mut library = one_file(alloc)?;
-    assert!(rt; has_sheet(alloc, &mut library, "s.pyx", 100));
-    assert!(rt; fails(alloc, &mut library, "s.pyx"));
-    assert!(rt; fails(alloc, &mut library, "lib.pyx"));
-    assert!(rt; has_sheet(alloc, &mut library, "s.pyx", 2));
+    check(
+        &rt,
+        &[
+            has_sheet(alloc, &mut library, "s.pyx", 100),
+            fails(alloc, &mut library, "s.pyx"),
+            fails(alloc, &mut library, "lib.pyx"),
+            has_sheet(alloc, &mut library, "s.pyx", 2),
+        ],
+    );
     Ok(())
 }
 
@@ -67,11 +73,21 @@ fn files_of_the_system(rt: HostRuntime) -> Result<(), Fail> {
 fn bytes_in_memory(rt: HostRuntime) -> Result<(), Fail> {
     let alloc = rt.alloc();
     let mut sink = MemSink::new(alloc, 4, vec![in alloc; 4]?);
-    assert!(rt; matches!(sink.write(b""), Ok(0)));
-    assert!(rt; sink.write(b"text").is_err());
+    check(
+        &rt,
+        &[
+            matches!(sink.write(b""), Ok(0)),
+            sink.write(b"text").is_err(),
+        ],
+    );
     sink.reserve(100)?;
-    assert!(rt; write_whole(&mut sink, b"(o\nAxmlns:p u1\n").is_err());
-    assert!(rt; sink.held() == b"(o\nA".as_slice());
+    check(
+        &rt,
+        &[
+            write_whole(&mut sink, b"(o\nAxmlns:p u1\n").is_err(),
+            sink.held() == b"(o\nA".as_slice(),
+        ],
+    );
     write_whole(&mut sink, b"xmlns")?;
     assert!(rt; sink.held() == b"(o\nAxmlns".as_slice());
     Ok(())
@@ -82,8 +98,13 @@ fn no_more_than_the_room(rt: HostRuntime) -> Result<(), Fail> {
     let alloc = rt.alloc();
     let mut sink = MemSink::new(alloc, 4, Vec::new(alloc));
     sink.reserve(2)?;
-    assert!(rt; matches!(sink.write(b"text"), Ok(2)));
-    assert!(rt; sink.held() == b"te".as_slice());
+    check(
+        &rt,
+        &[
+            matches!(sink.write(b"text"), Ok(2)),
+            sink.held() == b"te".as_slice(),
+        ],
+    );
     Ok(())
 }
 
@@ -113,12 +134,22 @@ impl Print for Stuck {
 fn streams(rt: HostRuntime) -> Result<(), Fail> {
     let mut out = OutSink::new(rt.stdout());
     let mut err = ErrSink::new(rt.stderr());
-    assert!(rt; matches!(out.write(b"result\n"), Ok(7)));
-    assert!(rt; matches!(err.write(b"line\n"), Ok(5)));
+    check(
+        &rt,
+        &[
+            matches!(out.write(b"result\n"), Ok(7)),
+            matches!(err.write(b"line\n"), Ok(5)),
+        ],
+    );
     write_whole(&mut out, b"")?;
     let mut stuck = StreamSink::new(Stuck);
-    assert!(rt; matches!(stuck.write(b""), Ok(0)));
-    assert!(rt; stuck.write(b"text").is_err());
+    check(
+        &rt,
+        &[
+            matches!(stuck.write(b""), Ok(0)),
+            stuck.write(b"text").is_err(),
+        ],
+    );
     Ok(())
 }
 

@@ -1,8 +1,10 @@
-//! Ledgers: shares that add in turn, two threads that add at once, refused memory.
+//! Ledgers: shares that add in turn, a share as a total, two threads that add at once, refused
+//! memory.
 
 ghost use Rattle.std.specs.Prelude.{◌≡◌, ◌≤◌, IfOk};
-ghost use Rattle.xs_ledger.specs.Shares.{ledger_id, seats_of, IsShareOf, IsUnused};
+ghost use Rattle.xs_ledger.specs.Shares.{ledger_id, seats_of, share_ledger_id, IsShareOf, IsUnused};
 
+use crate::check;
 use std::alloc::{AllocError, Global};
 use std::test::Fail;
 use std::thread;
@@ -50,33 +52,46 @@ fn add_once(ledger: &Ledger, mut share: Share, n: u32) -> Share
 #[test]
 fn answers_the_word_after_each_addition(rt: HostRuntime) -> Result<(), Fail> {
     let (ledger, mut one, mut two) = ledger_for_two(rt.alloc())?;
-    assert!(rt; ledger.add(&mut one, 10) == 10);
-    assert!(rt; ledger.add(&mut two, 10) == 20);
-    assert!(rt; total_of_two(rt.alloc(), ledger, one, two)? == 20);
+    check(
+        &rt,
+        &[
+            ledger.add(&mut one, 10) == 10,
+            ledger.add(&mut two, 10) == 20,
+            total_of_two(rt.alloc(), ledger, one, two)? == 20,
+        ],
+    );
     Ok(())
 }
 
-// What a total answers to an addition of 1,000, and to a second one where that is within its limit.
-fn add_twice<T: Total>(total: &mut T) -> (u64, u64)
-    requires within { T.last total.old ≤ T.most total.old }
+// One addition, unless the last answer was above the limit.
+fn add_within(total: &mut LedgerTotal<'_>, count: u64) -> Option<u64>
+    requires few { count ≤ 1024 }
+    ensures ledger { share_ledger_id total.new.share ≡ share_ledger_id total.old.share }
 {
-    let first = total.add(1000);
-    if total.above().is_some() {
-        return (first, 0);
+    match total.above() {
+        Some(_) => None,
+        None => Some(total.add(count)),
     }
-    (first, total.add(1000))
 }
 
 #[test]
-fn adds_to_a_ledger_up_to_a_limit(rt: HostRuntime) -> Result<(), Fail> {
-    let (ledger, mut one, two) = ledger_for_two(rt.alloc())?;
-    ledger.add(&mut one, 10);
-    let mut total = LedgerTotal::new(&ledger, two, 2000, 0);
-    assert!(rt; total.above().is_none() && total.limit() == 2000);
-    assert!(rt; add_twice(&mut total) == (1010, 2010));
-    assert!(rt; total.above() == Some(2010));
-    let two = total.into_share();
-    assert!(rt; total_of_two(rt.alloc(), ledger, one, two)? == 2010);
+fn a_share_as_a_total_goes_above_its_limit_once(rt: HostRuntime) -> Result<(), Fail> {
+    let (ledger, one, mut two) = ledger_for_two(rt.alloc())?;
+    let mut total = LedgerTotal::new(&ledger, one, 1030, 0);
+    check(
+        &rt,
+        &[
+            total.limit() == 1030,
+            add_within(&mut total, 1024) == Some(1024),
+            total.above() == None,
+            ledger.add(&mut two, 6) == 1030,
+            add_within(&mut total, 1) == Some(1031),
+            total.above() == Some(1031),
+            add_within(&mut total, 1) == None,
+        ],
+    );
+    let one = total.into_share();
+    assert!(rt; total_of_two(rt.alloc(), ledger, one, two)? == 1031);
     Ok(())
 }
 
@@ -98,8 +113,7 @@ fn makes_all_shares_or_refuses(rt: HostRuntime) {
     let made = Ledger::new(rt.alloc(), 64);
     match made {
         Ok((ledger, shares)) => {
-            assert!(rt; shares.len() == 64);
-            assert!(rt; ledger.close(shares) == 0);
+            check(&rt, &[shares.len() == 64, ledger.close(shares) == 0]);
         }
         Err(AllocError) => {}
     }

@@ -16,6 +16,8 @@ mod loads;
 #[cfg(test)]
 mod machine;
 #[cfg(test)]
+mod making;
+#[cfg(test)]
 mod numbers;
 #[cfg(test)]
 mod probe;
@@ -23,3 +25,13 @@ mod probe;
 mod recorders;
 #[cfg(test)]
 mod trace_laws;
+
+/// Fails where one of some checks does not hold, and says its number, from 1.
+#[cfg(test)]
+pub(crate) fn check(rt: &HostRuntime, checks: &[bool]) {
+    let mut number = 1_u32;
+    for holds in checks {
+        assert!(rt; *holds, "check {number} fails");
+        number = number.wrapping_add(1);
+    }
+}

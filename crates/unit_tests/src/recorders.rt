@@ -3,6 +3,7 @@
 ghost use Rattle.std.specs.Prelude.{◌≡◌, true};
 ghost use Rattle.xs_trace.specs.Kept.{NeedsNone};
 
+use crate::check;
 use std::alloc::{AllocError, Global};
 use std::cmp::Ordering;
 use std::test::Fail;
@@ -70,9 +71,14 @@ fn has_numbers(alloc: Global, numbers: &[u64]) -> Result<bool, AllocError> {
 
 #[test]
 fn places(rt: HostRuntime) -> Result<(), Fail> {
-    assert!(rt; has_numbers(rt.alloc(), &[3, 1])?);
-    assert!(rt; compared(rt.alloc(), &[], &[3, 1])? == Ordering::Less);
-    assert!(rt; compared(rt.alloc(), &[3, 1], &[2])? == Ordering::Greater);
+    check(
+        &rt,
+        &[
+            has_numbers(rt.alloc(), &[3, 1])?,
+            compared(rt.alloc(), &[], &[3, 1])? == Ordering::Less,
+            compared(rt.alloc(), &[3, 1], &[2])? == Ordering::Greater,
+        ],
+    );
     Ok(())
 }
 
@@ -87,9 +93,10 @@ fn label(alloc: Global) -> Result<Label, AllocError> {
 #[test]
 fn labels(rt: HostRuntime) -> Result<(), Fail> {
     let copy = label(rt.alloc())?.copy()?;
-    assert!(rt; copy.uri() == "");
-    assert!(rt; copy.local() == "a");
-    assert!(rt; copy.prefix() == "p");
+    check(
+        &rt,
+        &[copy.uri() == "", copy.local() == "a", copy.prefix() == "p"],
+    );
     Ok(())
 }
 
@@ -200,45 +207,75 @@ fn is_full_run(outcome: &Outcome) -> bool {
 #[test]
 fn records_a_run(rt: HostRuntime) -> Result<(), Fail> {
     let mut run = recorder(rt.alloc(), ONE_EVENT, 9, 0);
-    assert!(rt; record(rt.alloc(), &mut run) == Ok(1));
-    assert!(rt; run.put(Event::End) == Err(Halt::Full(SITE)));
+    check(
+        &rt,
+        &[
+            record(rt.alloc(), &mut run) == Ok(1),
+            run.put(Event::End) == Err(Halt::Full(SITE)),
+        ],
+    );
     let mut children = Vec::new(rt.alloc());
     let finished = run.finish(Err(Halt::Full(SITE)), &mut children);
-    assert!(rt; is_full_run(&finished.outcome?));
-    assert!(rt; finished.total.above() == None);
-    assert!(rt; children.is_empty());
+    check(
+        &rt,
+        &[
+            is_full_run(&finished.outcome?),
+            finished.total.above() == None,
+            children.is_empty(),
+        ],
+    );
     Ok(())
 }
 
 #[test]
 fn stops_at_its_limit(rt: HostRuntime) -> Result<(), Fail> {
     let mut run = recorder(rt.alloc(), TWO_TICKS, 2, 0);
-    assert!(rt; run.ticks(SITE, 3) == Err(Halt::Spent(SITE)));
-    assert!(rt; run.tick(SITE) == Err(Halt::Spent(SITE)));
+    check(
+        &rt,
+        &[
+            run.ticks(SITE, 3) == Err(Halt::Spent(SITE)),
+            run.tick(SITE) == Err(Halt::Spent(SITE)),
+        ],
+    );
     let mut children = Vec::new(rt.alloc());
     let outcome = run.finish(Err(Halt::Spent(SITE)), &mut children).outcome?;
-    assert!(rt; outcome.ticks == 2);
-    assert!(rt; matches!(&outcome.ended, Ended::Spent(spot) if spot.fault == Fault::Budget));
+    check(
+        &rt,
+        &[
+            outcome.ticks == 2,
+            matches!(&outcome.ended, Ended::Spent(spot) if spot.fault == Fault::Budget),
+        ],
+    );
     Ok(())
 }
 
 #[test]
 fn keeps_no_ticks(rt: HostRuntime) -> Result<(), Fail> {
     let mut brief: Brief<u64> = Brief::new(rt.alloc(), ONE_EVENT);
-    assert!(rt; record(rt.alloc(), &mut brief) == Ok(1));
-    assert!(rt; brief.left() == 6);
-    assert!(rt; brief.put(Event::End) == Err(Halt::Full(SITE)));
-    assert!(rt; are_both(brief.finish().as_slice()));
+    check(
+        &rt,
+        &[
+            record(rt.alloc(), &mut brief) == Ok(1),
+            brief.left() == 6,
+            brief.put(Event::End) == Err(Halt::Full(SITE)),
+            are_both(brief.finish().as_slice()),
+        ],
+    );
     Ok(())
 }
 
 #[test]
 fn spends_without_keeping(rt: HostRuntime) {
     let mut brief: Brief<u64> = Brief::new(rt.alloc(), TWO_TICKS);
-    assert!(rt; brief.ticks(SITE, 3) == Err(Halt::Spent(SITE)));
-    assert!(rt; brief.tick(SITE) == Err(Halt::Spent(SITE)));
-    assert!(rt; brief.hole(7) == Err(Halt::NoMemory));
-    assert!(rt; brief.finish().is_empty());
+    check(
+        &rt,
+        &[
+            brief.ticks(SITE, 3) == Err(Halt::Spent(SITE)),
+            brief.tick(SITE) == Err(Halt::Spent(SITE)),
+            brief.hole(7) == Err(Halt::NoMemory),
+            brief.finish().is_empty(),
+        ],
+    );
 }
 
 // Some ticks, an end, a hole and a message.
@@ -293,9 +330,14 @@ fn has_a_hole(outcome: &Outcome) -> bool {
 fn records_a_piece(rt: HostRuntime) -> Result<(), Fail> {
     let mut children = Vec::new(rt.alloc());
     let finished = piece(rt.alloc(), 0, 5, &mut children);
-    assert!(rt; has_a_hole(&finished.outcome?));
-    assert!(rt; finished.total.above() == None);
-    assert!(rt; children.as_slice() == [7].as_slice());
+    check(
+        &rt,
+        &[
+            has_a_hole(&finished.outcome?),
+            finished.total.above() == None,
+            children.as_slice() == [7].as_slice(),
+        ],
+    );
     Ok(())
 }
 
@@ -304,11 +346,16 @@ fn ends_over_a_total(rt: HostRuntime) -> Result<(), Fail> {
     let mut children = Vec::new(rt.alloc());
     let finished = piece(rt.alloc(), 1500, 1500, &mut children);
     let outcome = finished.outcome?;
-    assert!(rt; outcome.ticks == 1024);
-    assert!(rt; matches!(&outcome.ended, Ended::Over { total: 2524 }));
-    assert!(rt; finished.total.above() == Some(2524));
-    assert!(rt; finished.total.limit() == 2000);
-    assert!(rt; children.is_empty());
+    check(
+        &rt,
+        &[
+            outcome.ticks == 1024,
+            matches!(&outcome.ended, Ended::Over { total: 2524 }),
+            finished.total.above() == Some(2524),
+            finished.total.limit() == 2000,
+            children.is_empty(),
+        ],
+    );
     Ok(())
 }
 
@@ -319,9 +366,14 @@ fn adds_its_ticks(rt: HostRuntime) {
         events: None,
     };
     let mut piece = recorder(rt.alloc(), limits, 2000, 0);
-    assert!(rt; piece.ticks(SITE, 1025) == Ok(()));
-    assert!(rt; piece.due() == 1);
-    assert!(rt; piece.total().above() == None);
+    check(
+        &rt,
+        &[
+            piece.ticks(SITE, 1025) == Ok(()),
+            piece.due() == 1,
+            piece.total().above() == None,
+        ],
+    );
 }
 
 #[test]
@@ -330,7 +382,12 @@ fn meters(rt: HostRuntime) {
         limit: Some(2),
         spent: 0,
     };
-    assert!(rt; tick_several(&mut meter, SITE, 2) == Ok(()));
-    assert!(rt; meter.tick(SITE) == Err(Halt::Spent(SITE)));
-    assert!(rt; meter.spent == 2);
+    check(
+        &rt,
+        &[
+            tick_several(&mut meter, SITE, 2) == Ok(()),
+            meter.tick(SITE) == Err(Halt::Spent(SITE)),
+            meter.spent == 2,
+        ],
+    );
 }

@@ -1,6 +1,6 @@
 -- What an evaluation owes, by what was settled and kept.
 use Rattle.std.proofs.Common.{◌≡◌, ◌<◌, ◌≤◌, ◌∙◌, ◌+◌, ◌-◌, ◌++◌, ◌∷◌, ℕ, arith, [], List, length, get_or, Result, Ok, Err, Option, Some, None, IfOk}
-use Rattle.std.proofs.Common.{ap, sym, subst, append-nil}
+use Rattle.std.proofs.Common.{ap, sym, subst, append-nil, vec_len}
 use Rattle.xs_block.specs.Chain.{items_of}
 use Rattle.xs_body.specs.Globals.{SettlesAll, with_globals}
 use Rattle.xs_body.specs.Results.{IsWholeRun, settled_by, settled_of, told_in}
@@ -36,8 +36,8 @@ pub run_within : (x : Trace Task) (b : ℕ) (m : Option ℕ) (o : Outcome) → I
 run_within x b m o run = let l = cut-longest x nowhere b m in omega (arith, run.ticks, l.within)
 
 -- it has one part
-pub has_part : (c : Cut Task) (o : Outcome) → IsWholeRun c o → 0 < length o.parts.items
-has_part c o run = let e : length o.parts.items ≡ 1 = ap length run.only in omega (arith, e)
+pub has_part : (c : Cut Task) (o : Outcome) → IsWholeRun c o → 0 < vec_len o.parts
+has_part c o run = let e : length o.parts.items ≡ 1 = ap length run.only in omega (arith, e, o.parts.ok.0)
 
 -- and the marks of the items of its first part are all that passed
 marks-passed : (c : Cut Task) (o : Outcome) (p : Part) → IsWholeRun c o → p ≡ get_or o.parts.items 0 p → marks_of (items_of p.items) ≡ c.passed

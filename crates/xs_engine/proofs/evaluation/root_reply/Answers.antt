@@ -1,4 +1,4 @@
-use Rattle.std.proofs.Common.{◌∙◌, [], None, absurd, ap, arith}
+use Rattle.std.proofs.Common.{◌∙◌, [], None, ap, arith}
 use Rattle.xs_body.specs.Globals.{with_globals}
 use Rattle.xs_body.specs.World.{ground, with_grain}
 use Rattle.xs_engine.specs.Reply.{job_data}
@@ -8,8 +8,8 @@ use Rattle.xs_engine.proofs.evaluation.root_reply.Goals as goal
 pub overflow_add-ticks : goal.overflow_add-ticks
 overflow_add-ticks c = let few = run_within _ _ _ _ c.in_ok-outcome.ensures.whole in omega arith
 
-pub bounds-outcome-parts-0 : goal.bounds-outcome-parts-0
-bounds-outcome-parts-0 c = has_part _ _ c.in_ok-outcome.ensures.whole
+pub index-part-requires : goal.index-part-requires
+index-part-requires c = has_part _ _ c.in_ok-outcome.ensures.whole
 
 pub returns-in-Whole-clause-answer : goal.returns-in-Whole-clause-answer
 returns-in-Whole-clause-answer c =

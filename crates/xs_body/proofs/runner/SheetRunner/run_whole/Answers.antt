@@ -6,22 +6,6 @@ use Rattle.xs_body.specs.World.{World, with_grain}
 use Rattle.xs_body.proofs.WholeLemmas.{alone-world, blocks-back, whole-one, whole-outcome}
 use Rattle.xs_body.proofs.runner.SheetRunner.run_whole.Goals as goal
 
-pub run-finished-requires-sync-K : goal.run-finished-requires-sync-K
-run-finished-requires-sync-K g c κs within =
-    let e : c.without_grain-runner.result ≡ with_grain None c.args.self.now = c.without_grain-runner.ensures ∙ ap (with_grain None) c.self.view_is in (
-      search rules,
-      (
-        (refl, tt),
-        (
-          subst (λ (x : World). IsWorld x) (sym e) (alone-world c.args.self.now c.requires.world),
-          (
-            subst (λ (x : World). All IsSome x.globals) (sym e) c.requires.settled,
-            subst (λ (x : World). IsTaskIn x.tree c.args.task.now) (sym e) c.requires.task,
-          ),
-        ),
-      ),
-    )
-
 pub returns-clause-outcome : goal.returns-clause-outcome
 returns-clause-outcome g c =
     let e : c.without_grain-runner.result ≡ with_grain None c.args.self.now = c.without_grain-runner.ensures ∙ ap (with_grain None) c.self.view_is in

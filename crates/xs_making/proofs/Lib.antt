@@ -1,0 +1,3 @@
+mod SpacingLemmas
+mod CopyLemmas
+mod WalkLemmas
