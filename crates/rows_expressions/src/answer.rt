@@ -27,10 +27,15 @@ impl Answer {
         self.is_refused = self.is_refused || outcome.is_err();
     }
 
+    /// Adds bytes.
+    pub(crate) fn put_bytes(&mut self, bytes: &[u8]) {
+        let outcome = self.bytes.extend_from_slice(bytes);
+        self.note(outcome);
+    }
+
     /// Adds a text.
     pub(crate) fn put(&mut self, text: &str) {
-        let outcome = self.bytes.extend_from_slice(text.as_bytes());
-        self.note(outcome);
+        self.put_bytes(text.as_bytes());
     }
 
     /// Adds a text in quotes.

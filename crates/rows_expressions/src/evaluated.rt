@@ -203,11 +203,23 @@ pub(crate) fn answer(
     let (place, text) = cut_place(rest)?;
     let ticks = match call {
         Call::Compare => compare(out, settings, place, text)?,
-        _ => add_tried(out, settings, &parsed_as(settings, call, text)?, place)?,
+        _ => add_parsed(out, settings, call, text, place)?,
     };
     out.put(" | ");
     out.put_count(ticks);
     Ok(())
+}
+
+// Appends the value or the text that a row asks for, and says its ticks.
+fn add_parsed(
+    out: &mut Answer,
+    settings: &Settings,
+    call: Call,
+    text: &str,
+    place: u32,
+) -> Result<u64, RowError> {
+    let asked = parsed_as(settings, call, text)?;
+    add_tried(out, settings, &asked, place)
 }
 
 // What a row asks for: the value of an expression, or the text of a value template.
@@ -244,19 +256,18 @@ fn add_operated(
     right: &str,
 ) -> Result<u64, RowError> {
     let text = format!(in settings.alloc; "{left} {operator} {right}")?;
-    let asked = parsed_as(settings, Call::Value, text.as_str())?;
-    add_letter(out, settings, &asked, place)
+    add_letter(out, settings, text.as_str(), place)
 }
 
 // Appends the letter of how a comparison ends, and says its ticks.
 fn add_letter(
     out: &mut Answer,
     settings: &Settings,
-    asked: &Asked,
+    text: &str,
     place: u32,
 ) -> Result<u64, RowError> {
     let mut end = Answer::new(settings.alloc);
-    let ticks = add_tried(&mut end, settings, asked, place)?;
+    let ticks = add_parsed(&mut end, settings, Call::Value, text, place)?;
     out.put(letter(end.text()?));
     Ok(ticks)
 }

@@ -171,10 +171,14 @@ fn add_both(out: &mut Answer, settings: &Settings, text: &str) -> Result<(), Row
     add_matching(out, settings, text)?;
     let mut selected = Answer::new(settings.alloc);
     add_selected(&mut selected, settings, text)?;
-    let selected = selected.finish()?;
-    if out.text()? != selected.as_str().as_bytes() {
+    add_other(out, &selected)
+}
+
+// Appends what was selected, where that is another answer.
+fn add_other(out: &mut Answer, selected: &Answer) -> Result<(), RowError> {
+    if out.text()? != selected.text()? {
         out.put(", as expressions ");
-        out.put(selected.as_str());
+        out.put_bytes(&selected.bytes);
     }
     Ok(())
 }

@@ -116,14 +116,12 @@ impl Settings {
     fn add_prefixes(&mut self, numbers: &str) -> Result<(), RowError> {
         let (first, last) = word(numbers);
         let (first, last) = (first.parse::<u32>()?, last.parse::<u32>()?);
-        if first <= last {
-            for number in first..=last {
-                self.add_numbered(number)?;
-            }
-        } else {
-            for number in (last..=first).rev() {
-                self.add_numbered(number)?;
-            }
+        for step in 0..=first.abs_diff(last) {
+            self.add_numbered(if first <= last {
+                first.saturating_add(step)
+            } else {
+                first.saturating_sub(step)
+            })?;
         }
         Ok(())
     }

@@ -66,12 +66,23 @@ pub(crate) fn answer(
     call: Call,
     rest: &str,
 ) -> Result<(), RowError> {
-    let pattern = parsed_pattern(settings, rest)?;
     let scope = settings.scope()?;
+    let pattern = parsed_pattern(settings, rest)?;
+    add_answer(out, settings, call, &pattern, &scope)
+}
+
+// Appends the answer of a call that makes tables for a pattern.
+fn add_answer(
+    out: &mut Answer,
+    settings: &Settings,
+    call: Call,
+    pattern: &Pattern,
+    scope: &Scope,
+) -> Result<(), RowError> {
     match call {
-        Call::Count => out.put_count(found(settings.alloc, &settings.tree, &pattern, &scope)?),
-        Call::Marks => out.put(marks(settings.alloc, &settings.tree, &pattern, &scope)?),
-        _ => out.put(table(settings.alloc, &settings.tree, &pattern, &scope)?),
+        Call::Count => out.put_count(found(settings.alloc, &settings.tree, pattern, scope)?),
+        Call::Marks => out.put(marks(settings.alloc, &settings.tree, pattern, scope)?),
+        _ => out.put(table(settings.alloc, &settings.tree, pattern, scope)?),
     }
     Ok(())
 }
