@@ -1,5 +1,5 @@
 -- What an evaluation owes, by what was settled and kept.
-use Rattle.std.proofs.Common.{◌≡◌, ◌<◌, ◌≤◌, ◌∙◌, ◌+◌, ◌-◌, ◌++◌, ◌∷◌, ℕ, arith, [], List, length, get_or, Result, Ok, Err, Option, Some, None, IfOk}
+use Rattle.std.proofs.Common.{◌≡◌, ◌<◌, ◌≤◌, ◌∙◌, ◌+◌, ◌-◌, ◌++◌, ℕ, arith, [], List, length, get_or, Result, Ok, Err, Option, Some, None, IfOk}
 use Rattle.std.proofs.Common.{ap, sym, subst, append-nil, vec_len}
 use Rattle.xs_block.specs.Chain.{items_of}
 use Rattle.xs_body.specs.Globals.{SettlesAll, with_globals}
@@ -105,13 +105,6 @@ module _ (job : Job) (w : World) (z : Settled) (settles : SettlesAll w job.given
         from_root (reply_of reply) (subst (IsCutAnswer w.sheet.modules (told_in z) c) (sym all)
         (reported w.sheet.modules c.passed (z.says.items ++ messages_of c.passed) (z.ticks + tick_count c.passed) c.end ended.Whole
         (ends_as ended.Whole is)))
-
-    -- it did not end in a total above the limit
-    pub never_over : (total : ℕ) → o.ended ≡ ended.Over total → ⊥
-    never_over total is =
-        let c = root_cut job w (told_in z) in
-        reported w.sheet.modules c.passed (z.says.items ++ messages_of c.passed) (z.ticks + tick_count c.passed) c.end (ended.Over total)
-        (ends_as (ended.Over total) is)
 
     -- or it ended in a fault, or at a limit
     pub stopped_in_root : {E : Type 0} (r : Result Reply E) (s : Spot)
