@@ -12,6 +12,8 @@ mod texts;
 
 use answer::Answer;
 use std::io::Write;
+use std::rt::Files;
+use std::thread::Threads;
 use std::{env, fs, io};
 
 // Writes the row files that the arguments name.
@@ -24,7 +26,7 @@ fn main(rt: HostRuntime) -> io::Result<()> {
 }
 
 // Writes a row file, after a line with its name.
-fn put_file(out: &mut Answer, rt: &HostRuntime, name: &str) {
+fn put_file<R: Files + Threads + Sync + AllocGlobal>(out: &mut Answer, rt: &R, name: &str) {
     out.put("== ");
     out.put(name);
     out.put("\n");

@@ -105,7 +105,7 @@ pub(crate) fn put_elements(out: &mut Answer, tree: &Tree) {
     }
 }
 
-// The contents of elements, by their names.
+/// The contents of elements, by their names.
 const CONTENTS: &[(&str, Content)] = &[
     ("nothing", Content::Nothing),
     ("declarations", Content::TopLevel),
@@ -154,7 +154,7 @@ pub(crate) fn put_contents(out: &mut Answer, tree: &Tree) {
     }
 }
 
-// The forms of values, by their names.
+/// The forms of values, by their names.
 const FORMS: &[(&str, Form)] = &[
     ("anything", Form::Anything),
     ("version", Form::Version),
