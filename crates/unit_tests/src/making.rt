@@ -3,7 +3,7 @@
 use std::alloc::{AllocError, Global};
 use std::test::Fail;
 use xs_build::build_tree;
-use xs_making::{MakeEnd, comment_text, copy_events, pi_target, pi_text, result_name};
+use xs_making::{MakeEnd, comment_text, copy_events, laws, pi_target, pi_text, result_name};
 use xs_trace::event::{Event, Label};
 use xs_trace::fault::Fault;
 use xs_trace::text::TextBuf;
@@ -145,4 +145,11 @@ fn copies_nodes(rt: HostRuntime) -> Result<(), Fail> {
         "({}:r/:p u/A{u}p:x 1/"
     );
     Ok(())
+}
+
+#[test]
+fn laws_of_what_is_made_hold() {
+    laws::comments_fit();
+    laws::instructions_fit();
+    laws::names_are_well();
 }

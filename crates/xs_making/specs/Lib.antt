@@ -3,4 +3,5 @@ pub mod Labels
 pub mod Names
 pub mod Results
 pub mod Copies
+pub mod Laws
 pub mod steps

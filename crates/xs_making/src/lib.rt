@@ -4,6 +4,7 @@
 mod copies;
 mod ends;
 mod labels;
+pub mod laws;
 mod leaves;
 mod names;
 mod texts;
