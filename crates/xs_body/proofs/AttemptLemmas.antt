@@ -6,10 +6,11 @@ use Rattle.xs_trace.specs.Cut.{Cut, End, Whole, Fault, Needs, Spent, Full, cut, 
 use Rattle.xs_trace.specs.Keeping.{IsCutAt}
 use Rattle.xs_trace.specs.Kept.{item_marks, marks_of, spot}
 use Rattle.xs_trace.specs.Mark.{Trace, messages_of, tick_count, ticks, untimed}
-use Rattle.xs_trace.specs.Play.{Step, Goes, Ends, Told, goes, and_then, IsStep, IsOver, Before, play}
+use Rattle.xs_trace.specs.Play.{Step, Goes, Ends, Told, goes, and_then, IsStep, play}
 use Rattle.xs_trace.specs.PlayLaws.{begun}
 use Rattle.xs_trace.specs.State.{State, Log, Untimed}
 use Rattle.xs_trace.specs.declared.event.Event.{Event}
+use Rattle.xs_trace.specs.declared.fault.Fault.{Fault as RunFault}
 use Rattle.xs_trace.specs.declared.item.Item.{Item}
 use Rattle.xs_trace.specs.declared.item.Item.TheVariants as item
 use Rattle.xs_trace.specs.declared.item.Site.{Site}
@@ -70,7 +71,7 @@ module _ (w : World) (g : Option Global) (b : ℕ) where
   done-cut : (v : Value) (m : State Task) → Tells (Ok v) m → IsCutAt no_marks Whole b C m
   done-cut v m q = told-is-cut Task no_marks X b None (Ok tt) m (behind (play X (begun no_marks b None)) (attempt_value w g) (Goes v m) q)
 
-  fault-cut : (n : ℕ) (p : Site) (m : State Task) → Tells (Err (halt.Fault n p)) m → IsCutAt no_marks (Fault n p) b C m
+  fault-cut : (n : RunFault) (p : Site) (m : State Task) → Tells (Err (halt.Fault n p)) m → IsCutAt no_marks (Fault n p) b C m
   fault-cut n p m q = told-is-cut Task no_marks X b None (Err (halt.Fault n p)) m
       (behind (play X (begun no_marks b None)) (attempt_value w g) (Ends (Fault n p) m.told m.left m.shared) q)
 

@@ -5,6 +5,7 @@ use Rattle.xs_sheet.specs.declared.body.Body.{Body}
 use Rattle.xs_trace.specs.Fill.{fill, tasks_of}
 use Rattle.xs_trace.specs.Mark.{Tick, Put, Say, Stop, Need, Hole, Trace, ◌⨾◌, without_puts, events_of, captured}
 use Rattle.xs_trace.specs.declared.event.Event.{Event}
+use Rattle.xs_trace.specs.declared.fault.Fault.{Fault}
 use Rattle.xs_trace.specs.declared.item.Site.{Site}
 use Rattle.xs_trace.proofs.CutLemmas.{then-assoc, then-nil}
 use Rattle.xs_trace.proofs.FillLemmas.{fill-laws}
@@ -13,44 +14,8 @@ use Rattle.xs_body.specs.declared.focus.Focus.{Focus}
 use Rattle.xs_body.specs.World.{World, at_node, captured_in, with_grain}
 use Rattle.xs_body.specs.Tasks.{Job, Task, with_node, task_behind, shared, tasks_for, below}
 use Rattle.xs_body.specs.Trace.{each, spread_by, spread, body_trace, called, job_trace, task_trace}
+use Rattle.xs_body.proofs.HoleLemmas.{HasNoHole, none-then, none-captured, none-tasks}
 use Rattle.xs_body.proofs.SideLemmas.{IsKept, body-keeps, calls-keep, task-keeps}
-
--- no hole is in it
-abbrev HasNoHole : Trace Task → Type 0
-HasNoHole [] = Unit {0}
-HasNoHole (Tick p ∷ x) = HasNoHole x
-HasNoHole (Put e ∷ x) = HasNoHole x
-HasNoHole (Say t ∷ x) = HasNoHole x
-HasNoHole (Stop n p ∷ x) = HasNoHole x
-HasNoHole (Need g p ∷ x) = HasNoHole x
-HasNoHole (Hole k ∷ x) = ⊥
-
-none-then : (x y : Trace Task) → HasNoHole x → HasNoHole y → HasNoHole (x ⨾ y)
-none-then [] y h k = k
-none-then (Tick p ∷ x) y h k = none-then x y h k
-none-then (Put e ∷ x) y h k = none-then x y h k
-none-then (Say t ∷ x) y h k = none-then x y h k
-none-then (Stop n p ∷ x) y h k = h
-none-then (Need g p ∷ x) y h k = h
-none-then (Hole t ∷ x) y h k = absurd h
-
-none-captured : (x : Trace Task) → HasNoHole x → HasNoHole (without_puts x)
-none-captured [] h = tt
-none-captured (Tick p ∷ x) h = none-captured x h
-none-captured (Put e ∷ x) h = none-captured x h
-none-captured (Say t ∷ x) h = none-captured x h
-none-captured (Stop n p ∷ x) h = none-captured x h
-none-captured (Need g p ∷ x) h = none-captured x h
-none-captured (Hole t ∷ x) h = absurd h
-
-none-tasks : (x : Trace Task) → HasNoHole x → tasks_of x ≡ []
-none-tasks [] h = refl
-none-tasks (Tick p ∷ x) h = none-tasks x h
-none-tasks (Put e ∷ x) h = none-tasks x h
-none-tasks (Say t ∷ x) h = none-tasks x h
-none-tasks (Stop n p ∷ x) h = none-tasks x h
-none-tasks (Need g p ∷ x) h = none-tasks x h
-none-tasks (Hole t ∷ x) h = absurd h
 
 none-filled : (f : Task → Trace Task) (x : Trace Task) → HasNoHole x → fill f x ≡ x
 none-filled f [] h = refl
@@ -121,7 +86,7 @@ module _ (f : Task → Trace Task) where
   says-fill true t = (refl, tt)
   says-fill false t = refl
 
-  stops-fill : (b : Bool) (n : ℕ) (p : Site) → Fills f b (Stop n p ∷ []) (Stop n p ∷ [])
+  stops-fill : (b : Bool) (n : Fault) (p : Site) → Fills f b (Stop n p ∷ []) (Stop n p ∷ [])
   stops-fill true n p = (refl, tt)
   stops-fill false n p = refl
 

@@ -16,6 +16,7 @@ use Rattle.xs_trace.specs.State.{State, opened, popped, top}
 use Rattle.xs_trace.specs.Play.{Step, Goes, Told, and_then, goes, ticked, put, put_at, said_at, stops, play}
 use Rattle.xs_trace.specs.PlayLaws.{Extends}
 use Rattle.xs_trace.specs.declared.event.Event.TheVariants.{Start, Space, Chars, End}
+use Rattle.xs_trace.specs.declared.fault.Fault.TheVariants as fault
 use Rattle.xs_trace.specs.declared.item.Site.{Site}
 use Rattle.xs_trace.proofs.GrowthLemmas.{Grows, same, grows-then, stops-grow, goes-grows, ticked-grows, put-grows, put_at-grows, said_at-grows, play-grows}
 use Rattle.xs_trace.proofs.RunLemmas.{limited-grows}
@@ -65,7 +66,7 @@ literal-grows start s = grows-then s (put (Start start.name) s) (λ u m. space_s
     (λ u. spaces-grow start.spaces)
 
 pub ended-grows : (terminate : Bool) (p : Site) → Grows (ended terminate p)
-ended-grows terminate p = if-grows terminate (stops (Fault 57 p)) goes (stops-grow (Fault 57 p)) (goes-grows tt)
+ended-grows terminate p = if-grows terminate (stops (Fault fault.Terminated p)) goes (stops-grow (Fault fault.Terminated p)) (goes-grows tt)
 
 pub message-grows : (p : Site) (terminate : Bool) (text : List ℕ) → Grows (message_steps p terminate text)
 message-grows p terminate text s = grows-then s (said_at p text s) (λ u m. ended terminate p m) (said_at-grows p text s) (λ u. ended-grows terminate p)
@@ -106,7 +107,7 @@ entry-grows (overridden current) w p f t = rule-grows (import_for w current f) w
 
 pub entering-grows : (e : Entry) (w : World) (p : Site) (f : Focus) (t : Stack) → Grows (entering e w p f t)
 entering-grows e w p f t =
-    if-grows (f.depth == 0) (stops (Fault 55 p)) (entry_begun e w p (with_depth (f.depth - 1) f) t) (stops-grow (Fault 55 p))
+    if-grows (f.depth == 0) (stops (Fault fault.TooDeep p)) (entry_begun e w p (with_depth (f.depth - 1) f) t) (stops-grow (Fault fault.TooDeep p))
     (entry-grows e w p (with_depth (f.depth - 1) f) t)
 
 pub call-grows : (w : World) (callee : Called) (ps : Params) (p : Site) (f : Focus) (t : Stack) → Grows (call_begun w callee ps p f t)
@@ -115,7 +116,7 @@ call-grows w (by_number i) ps p f t s = grows-then s (ticked p s) (λ u m. enter
 call-grows w (by_rules mode ns) ps p f t s = applied-grows w mode ps p f ns t s
 
 imports-grow : (w : World) (p : Site) (f : Focus) (o : Option ℕ) (t : Stack) → Grows (imports_begun w p f o t)
-imports-grow w p f None t s = stops-grow (Fault 56 p) s
+imports-grow w p f None t s = stops-grow (Fault fault.NoRule p) s
 imports-grow w p f (Some rule) t s = grows-then s (ticked p s) (λ u m. entering (overridden rule) w p f t m) (ticked-grows p s)
     (λ u. entering-grows (overridden rule) w p f t)
 
@@ -136,7 +137,7 @@ pass-grows w (Select e) left all us callee p c t =
 pass-grows w (Fragment body) left all us callee p c t = opened-grows _
 
 fallbacks-grow : (bs : List Body) (p : Site) (c : Scope) (t : Stack) → Grows (fallbacks_begun bs p c t)
-fallbacks-grow [] p c t = stops-grow (Fault 58 p)
+fallbacks-grow [] p c t = stops-grow (Fault fault.NoExtension p)
 fallbacks-grow (b ∷ bs) p c t = goes-grows _
 
 pub loop-grows : (w : World) (body : Body) (p : Site) (c : Scope) (ns : List ℕ) (t : Stack) → Grows (loop_begun w body p c ns t)

@@ -7,6 +7,7 @@ use Rattle.xs_trace.specs.Cut.{Cut, End, Whole, Fault, Needs, Spent, cut}
 use Rattle.xs_trace.specs.Kept.{spot}
 use Rattle.xs_trace.specs.Mark.{Tick, Put, Say, Stop, Need, Hole, Trace, ◌⨾◌, without_puts, events_of, captured}
 use Rattle.xs_trace.specs.declared.event.Event.{Event}
+use Rattle.xs_trace.specs.declared.fault.Fault.TheVariants as fault
 use Rattle.xs_trace.specs.declared.item.Site.{Site}
 use Rattle.xs_value.specs.declared.value.Value.{Value}
 use Rattle.xs_value.specs.declared.value.Value.TheVariants.{Piece}
@@ -102,9 +103,9 @@ module _ (w : World) (index : RuleIndex) (budget : ℕ) where
   settles-same {under = under} {g = g} {t = t} (settles.faults {f = f} {p = p} e) =
       subst (λ (u : Table). Settles U budget under g t (ended u (spot f p))) (passed-same t g) (settles.faults (end-same t g (Fault f p) e))
   settles-same {under = under} {g = g} {t = t} (settles.spends {p = p} e) =
-      subst (λ (u : Table). Settles U budget under g t (ended u (spot 50 p))) (passed-same t g) (settles.spends (end-same t g (Spent p) e))
+      subst (λ (u : Table). Settles U budget under g t (ended u (spot fault.Budget p))) (passed-same t g) (settles.spends (end-same t g (Spent p) e))
   settles-same {under = under} {g = g} {t = t} (settles.circular {h = h} {p = p} e n) =
-      subst (λ (u : Table). Settles U budget under g t (ended u (spot 59 p))) (passed-same t g) (settles.circular (end-same t g (Needs h p) e) n)
+      subst (λ (u : Table). Settles U budget under g t (ended u (spot fault.Circular p))) (passed-same t g) (settles.circular (end-same t g (Needs h p) e) n)
   settles-same {g = g} {t = t} (settles.needs {h = h} {p = p} e n k m) =
       settles.needs (end-same t g (Needs h p) e) n (settles-same k) (settles-same m)
   settles-same {g = g} {t = t} (settles.stops {h = h} {p = p} e n k) = settles.stops (end-same t g (Needs h p) e) n (settles-same k)

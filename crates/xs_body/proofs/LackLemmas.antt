@@ -2,6 +2,7 @@
 use Rattle.std.proofs.Common.{◌≡◌, ℕ, ◌++◌, List, [], ◌∷◌, Bool, true, false, cond, length, Option, Some, None, Ok, Err, slice_get, refl, sym, ap, ◌∙◌}
 use Rattle.std.specs.List.{enumerate_from}
 use Rattle.xs_trace.specs.Run.{Run, Answer, Gives, Faults, Lacks, go_on, give, fail, fold}
+use Rattle.xs_trace.specs.declared.fault.Fault.{Fault}
 use Rattle.xs_value.specs.declared.value.Value.{Value}
 use Rattle.xs_value.specs.declared.value.Value.TheVariants.{Nodes}
 use Rattle.xs_value.specs.NodeSet.{in_order}
@@ -86,7 +87,7 @@ module _ (gs : List (Option Value)) where
       value-then (and_argument c vs m) (λ ws. fold (and_argument c) ws ms) (value-then (m c) (λ v. give (vs ++ v ∷ [])) (h.0 c e) (λ v. tt))
       (λ ws. arguments-value ms h.1 c e ws)
 
-  table-value : (c : Context) (t : Table) (fault : Option ℕ) (texts : List (List ℕ)) → HasValue (from_table c t fault texts).end
+  table-value : (c : Context) (t : Table) (fault : Option Fault) (texts : List (List ℕ)) → HasValue (from_table c t fault texts).end
   table-value c t None texts = tt
   table-value c t (Some f) texts = tt
 

@@ -9,6 +9,7 @@ pub mod GlobalLemmas
 pub mod SharingLemmas
 pub mod LackLemmas
 pub mod SideLemmas
+pub mod HoleLemmas
 pub mod GrainLemmas
 pub mod NeedLemmas
 pub mod CapturedLemmas

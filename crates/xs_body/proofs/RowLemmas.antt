@@ -11,6 +11,7 @@ use Rattle.xs_sheet.specs.declared.body.Passed.{Passed, Passed', Row_of-Binding,
 use Rattle.xs_sheet.specs.declared.body.Passed.{items_shown-the_row-Binding-3, outs-Passed'}
 use Rattle.xs_sheet.specs.declared.body.When.{When, When', out-When}
 use Rattle.xs_trace.specs.Mark.{Trace, Tick, Stop, ◌⨾◌}
+use Rattle.xs_trace.specs.declared.fault.Fault.TheVariants as fault
 use Rattle.xs_trace.specs.declared.item.Site.{Site}
 use Rattle.xs_value.specs.declared.value.Value.{Value}
 use Rattle.xs_body.specs.declared.focus.Focus.{Focus}
@@ -49,7 +50,7 @@ row-bodies (more_of-Body body rest) w k f vs = ap (λ x. body_trace body w k f v
 
 -- the fallbacks of an extension element, or that there are none
 abbrev pub fallback_trace : List Body → Site → World → Calls → Focus → List Value → Trace Task
-fallback_trace [] p w k f vs = Stop 58 p ∷ []
+fallback_trace [] p w k f vs = Stop fault.NoExtension p ∷ []
 fallback_trace (b ∷ bs) p w k f vs = all_bodies (b ∷ bs) w k f vs
 
 row-fallbacks : {m : _} (row : Row_of-Body m) (p : Site) (w : World) (k : Calls) (f : Focus) (vs : List Value) →

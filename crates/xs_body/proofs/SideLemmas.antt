@@ -21,6 +21,8 @@ use Rattle.xs_trace.specs.Mark as mark
 use Rattle.xs_trace.specs.Run.{Run, Answer, Gives, Faults, Lacks, give, on_answer, evaluated}
 use Rattle.xs_trace.specs.declared.event.Event.{Event}
 use Rattle.xs_trace.specs.declared.event.Event.TheVariants.{Start, Space, Chars, End}
+use Rattle.xs_trace.specs.declared.fault.Fault.{Fault}
+use Rattle.xs_trace.specs.declared.fault.Fault.TheVariants as fault
 use Rattle.xs_trace.specs.declared.item.Site.{Site}
 use Rattle.xs_tree.specs.Kinds.{has_content, is_attribute_kind, is_text_kind}
 use Rattle.xs_tree.specs.Record.{Record, at, children}
@@ -53,7 +55,7 @@ pub record IsKept (w : World) (grain : Option ℕ) (index : RuleIndex) (R : Bool
   pub ticks : (b : Bool) (p : Site) (x v : Trace Task) → R b x v → R b (Tick p ∷ x) (Tick p ∷ v)
   pub puts : (b : Bool) (e : Event) → R b (Put e ∷ []) (Put e ∷ [])
   pub says : (b : Bool) (t : List ℕ) → R b (Say t ∷ []) (Say t ∷ [])
-  pub stops : (b : Bool) (n : ℕ) (p : Site) → R b (Stop n p ∷ []) (Stop n p ∷ [])
+  pub stops : (b : Bool) (n : Fault) (p : Site) → R b (Stop n p ∷ []) (Stop n p ∷ [])
   pub needs : (b : Bool) (g : ℕ) (p : Site) → slice_get w.globals g ≡ Some None → R b (Need g p ∷ []) (Need g p ∷ [])
   pub captures : (b : Bool) (x v : Trace Task) (h k : List Event → Trace Task) → R true x v → ((es : List Event) → R b (h es) (k es)) →
       R b (captured x h) (captured v k)
@@ -135,7 +137,7 @@ module _ (w : World) (grain : Option ℕ) (index : RuleIndex) (R : Bool → Trac
       (ticks-keep b p (length t / 256) (Say t ∷ []) (Say t ∷ []) (keeps.says b t)) (end terminate)
     where
       end : (q : Bool) → R b (ended_if q p) (ended_if q p)
-      end true = keeps.stops b 57 p
+      end true = keeps.stops b fault.Terminated p
       end false = keeps.nothing b
 
   -- an expression, and what follows its value
@@ -169,11 +171,11 @@ module _ (w : World) (grain : Option ℕ) (index : RuleIndex) (R : Bool → Trac
   call-keeps (by_rules mode ns) ps p f d = applied-keeps mode ps p f d ns
 
   imports-keep : (p : Site) (f : Focus) → CallsKeep f.depth → (o : Option ℕ) → Both f (λ u k. imports k p f o)
-  imports-keep p f d None = keeps.stops f.is_captured 56 p
+  imports-keep p f d None = keeps.stops f.is_captured fault.NoRule p
   imports-keep p f d (Some rule) = ticked f p (λ u k. k (overridden rule) p f) (d (overridden rule) p f)
 
   unless-keeps : {m : _} (row : Row_of-Body m) (p : Site) (f : Focus) (x : World → Calls → Trace Task) → Both f x → Both f (λ u k. unless_none row p (x u k))
-  unless-keeps end_of-Body p f x e = keeps.stops f.is_captured 58 p
+  unless-keeps end_of-Body p f x e = keeps.stops f.is_captured fault.NoExtension p
   unless-keeps (more_of-Body body others) p f x e = e
 
   -- instructions
@@ -317,7 +319,7 @@ module _ (w : World) (grain : Option ℕ) (index : RuleIndex) (R : Bool → Trac
   entry-keeps (overridden current) p f d = rule-keeps (import_for w current f) f.mode no_params p f d
 
   pub calls-keep : (d : ℕ) → CallsKeep d
-  calls-keep zero e p f = keeps.stops f.is_captured 55 p
+  calls-keep zero e p f = keeps.stops f.is_captured fault.TooDeep p
   calls-keep (suc d) e p f = entry-keeps e p (with_depth d f) (calls-keep d)
 
   -- tasks

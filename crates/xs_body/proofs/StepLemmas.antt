@@ -23,6 +23,7 @@ use Rattle.xs_trace.specs.State.{State, opened, popped, top}
 use Rattle.xs_trace.specs.Play.{Step, Goes, Ends, Told, and_then, goes, ticked, put, put_at, said_at, stops, play}
 use Rattle.xs_trace.specs.declared.event.Event.{Event}
 use Rattle.xs_trace.specs.declared.event.Event.TheVariants.{Start, Space, Chars, End}
+use Rattle.xs_trace.specs.declared.fault.Fault.TheVariants as fault
 use Rattle.xs_trace.specs.declared.item.Site.{Site}
 use Rattle.xs_trace.proofs.PlayLemmas.{then-same, then-then, then-goes, play-then, play-put, play-say, play-captured}
 use Rattle.xs_trace.proofs.RunLemmas.{limited-bind, limited-end, play-evaluated}
@@ -233,14 +234,14 @@ module _ (w : World) where
 
   -- one level deeper
   enters-at : (depth : ℕ) (e : Entry) (p : Site) (f : Focus) (t : Stack) (s : State Task) →
-      Then (called w depth e p f) t s ≡ and_then (cond (depth == 0) (stops (Fault 55 p) s) (entry_begun e w p (with_depth (depth - 1) f) t s)) Go
+      Then (called w depth e p f) t s ≡ and_then (cond (depth == 0) (stops (Fault fault.TooDeep p) s) (entry_begun e w p (with_depth (depth - 1) f) t s)) Go
   enters-at zero e p f t s = refl
   enters-at (suc d) e p f t s =
       let q : (suc d == 0) ≡ false = grind (arith, nat_tests) in
       let k : d ≡ suc d - 1 = omega arith in
       entry-begins e p (with_depth d f) t s
       ∙ ap (λ n. and_then (entry_begun e w p (with_depth n f) t s) Go) k
-      ∙ ap (λ b. and_then (cond b (stops (Fault 55 p) s) (entry_begun e w p (with_depth (suc d - 1) f) t s)) Go) (sym q)
+      ∙ ap (λ b. and_then (cond b (stops (Fault fault.TooDeep p) s) (entry_begun e w p (with_depth (suc d - 1) f) t s)) Go) (sym q)
 
   enters : (e : Entry) (p : Site) (f : Focus) (t : Stack) (s : State Task) → Then (calls_at w f e p f) t s ≡ and_then (entering e w p f t s) Go
   enters e p f t s = enters-at f.depth e p f t s

@@ -15,6 +15,8 @@ use Rattle.xs_trace.specs.Kept.{spot}
 use Rattle.xs_trace.specs.Mark.{Trace, events_of, messages_of, tick_count}
 use Rattle.xs_trace.specs.Run.{Answer, Gives, Faults, Lacks}
 use Rattle.xs_trace.specs.Label.{Label}
+use Rattle.xs_trace.specs.declared.fault.Fault.{Fault as RunFault}
+use Rattle.xs_trace.specs.declared.fault.Fault.TheVariants as fault
 use Rattle.xs_trace.specs.declared.item.Site.{Site}
 use Rattle.xs_trace.specs.declared.item.Spot.{Spot}
 use Rattle.xs_value.specs.declared.value.Value.{Value}
@@ -64,7 +66,7 @@ pub record Table : Type 0 where
   pub ticks : ℕ
   pub thrown : ℕ
 
--- it goes on from a table, or the run has ended there: in a fault, or at a tick past the budget, which is the fault 50
+-- it goes on from a table, or the run has ended there: in a fault, or at a tick past the budget, which is the fault Budget
 pub data Settled : Type 0 where
   settled : Table → Settled
   ended : Table → Spot → Settled
@@ -99,17 +101,17 @@ abbrev pub is_under : List ℕ → ℕ → Bool
 is_under [] h = false
 is_under (g ∷ gs) h = (g == h) || is_under gs h
 
--- A global is settled, with those under attempt above which it stands: 59 is Circular. An attempt that needs another global leaves
+-- A global is settled, with those under attempt above which it stands. An attempt that needs another global leaves
 -- nothing; that one is settled first, and then the attempt is made again.
 pub data Settles (w : World) (budget : ℕ) : (under : List ℕ) (g : ℕ) → Table → Settled → Type 0 where
   whole : {under : List ℕ} {g : ℕ} {t : Table} → (tried w budget t g).end ≡ Whole →
       Settles w budget under g t (settled (with_value w g (with_passed (tried w budget t g) t)))
-  faults : {under : List ℕ} {g : ℕ} {t : Table} {f : ℕ} {p : Site} → (tried w budget t g).end ≡ Fault f p →
+  faults : {under : List ℕ} {g : ℕ} {t : Table} {f : RunFault} {p : Site} → (tried w budget t g).end ≡ Fault f p →
       Settles w budget under g t (ended (with_passed (tried w budget t g) t) (spot f p))
   spends : {under : List ℕ} {g : ℕ} {t : Table} {p : Site} → (tried w budget t g).end ≡ Spent p →
-      Settles w budget under g t (ended (with_passed (tried w budget t g) t) (spot 50 p))
+      Settles w budget under g t (ended (with_passed (tried w budget t g) t) (spot fault.Budget p))
   circular : {under : List ℕ} {g : ℕ} {t : Table} {h : ℕ} {p : Site} → (tried w budget t g).end ≡ Needs h p → is_under (g ∷ under) h ≡ true →
-      Settles w budget under g t (ended (with_passed (tried w budget t g) t) (spot 59 p))
+      Settles w budget under g t (ended (with_passed (tried w budget t g) t) (spot fault.Circular p))
   needs : {under : List ℕ} {g : ℕ} {t u : Table} {h : ℕ} {p : Site} {r : Settled} → (tried w budget t g).end ≡ Needs h p → is_under (g ∷ under) h ≡ false →
       Settles w budget (g ∷ under) h (once_more t) (settled u) → Settles w budget under g u r → Settles w budget under g t r
   stops : {under : List ℕ} {g : ℕ} {t u : Table} {h : ℕ} {p : Site} {s : Spot} → (tried w budget t g).end ≡ Needs h p → is_under (g ∷ under) h ≡ false →

@@ -19,6 +19,7 @@ use Rattle.xs_trace.specs.Mark.{Tick, Put, Say, Stop, Hole, Trace, ◌⨾◌, ti
 use Rattle.xs_trace.specs.Run.{evaluated}
 use Rattle.xs_trace.specs.declared.event.Event.{Event}
 use Rattle.xs_trace.specs.declared.event.Event.TheVariants.{Start, Space, Chars, End}
+use Rattle.xs_trace.specs.declared.fault.Fault.TheVariants as fault
 use Rattle.xs_trace.specs.declared.item.Site.{Site}
 use Rattle.xs_tree.specs.Kinds.{has_content, is_attribute_kind, is_text_kind}
 use Rattle.xs_tree.specs.Record.{Record, at, children}
@@ -41,9 +42,9 @@ puts p e = ticks p (length (text_of e) / 256) (Put e ∷ [])
 abbrev pub chars : Site → List ℕ → Trace Task
 chars p t = if length t == 0 then [] else puts p (Chars t)
 
--- a message, after a tick for each full 256 bytes; it may end the run (13): 57 is Terminated
+-- a message, after a tick for each full 256 bytes; it may end the run (13)
 abbrev pub ended_if : Bool → Site → Trace Task
-ended_if terminate p = if terminate then Stop 57 p ∷ [] else []
+ended_if terminate p = if terminate then Stop fault.Terminated p ∷ [] else []
 
 abbrev pub says : Site → List ℕ → Trace Task
 says p t = ticks p (length t / 256) (Say t ∷ [])
@@ -96,9 +97,9 @@ abbrev pub called_with : World → Calls → Called → Params → Site → Focu
 called_with w k (by_number template) params p f = Tick p ∷ k (named template params) p f
 called_with w k (by_rules mode ns) params p f = applied w k mode params p f ns
 
--- the rule that the current one overrides (5.6): 56 is NoRule
+-- the rule that the current one overrides (5.6)
 abbrev pub imports : Calls → Site → Focus → Option ℕ → Trace Task
-imports k p f None = Stop 56 p ∷ []
+imports k p f None = Stop fault.NoRule p ∷ []
 imports k p f (Some rule) = Tick p ∷ k (overridden rule) p f
 
 -- ---- instructions
@@ -167,12 +168,12 @@ abbrev mutual
   whens_trace (more_of-When (When' test body) rest) p w k f vs otherwise =
       evaluated p (test_run w test f vs) (λ b. if b then body_trace body w k f vs else whens_trace rest p w k f vs otherwise)
 
-  -- the contents of the fallbacks, one after another (15); without any, 58 is NoExtension
+  -- the contents of the fallbacks, one after another (15)
   pub fallbacks_trace : Fallbacks → Site → World → Calls → Focus → List Value → Trace Task
   fallbacks_trace (Fallbacks' n row) p w k f vs = unless_none row p (bodies_trace row w k f vs)
 
   pub unless_none : {m : _} → Row_of-Body m → Site → Trace Task → Trace Task
-  unless_none end_of-Body p x = Stop 58 p ∷ []
+  unless_none end_of-Body p x = Stop fault.NoExtension p ∷ []
   unless_none (more_of-Body body rest) p x = x
 
   pub bodies_trace : {m : _} → Row_of-Body m → World → Calls → Focus → List Value → Trace Task
@@ -213,9 +214,9 @@ entered (named template ps) w k p f = template_trace (slice_get w.sheet.template
 entered (fitting mode ps) w k p f = ruled (rule_for w mode f.node) mode ps w k p f
 entered (overridden current) w k p f = ruled (import_for w current f) f.mode no_params w k p f
 
--- what templates do where so many levels of them may be begun: 55 is TooDeep
+-- what templates do where so many levels of them may be begun
 abbrev pub called : World → (depth : ℕ) → Calls
-called w zero e p f = Stop 55 p ∷ []
+called w zero e p f = Stop fault.TooDeep p ∷ []
 called w (suc depth) e p f = entered e w (called w depth) p (with_depth depth f)
 
 -- the most levels of templates (this project's own)

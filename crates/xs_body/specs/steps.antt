@@ -3,4 +3,5 @@ pub mod Jobs
 pub mod Sharing
 pub mod Frames
 pub mod Attempts
+pub mod Runs
 pub mod Settling

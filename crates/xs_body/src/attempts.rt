@@ -26,9 +26,10 @@ use crate::stack::Stack;
 use crate::task::Task;
 use crate::world::World;
 use std::alloc::{AllocError, Global};
+use xs_record::brief::Brief;
 use xs_sheet::body::{Binding, Body, Content};
 use xs_sheet::scoped::ScopedExpr;
-use xs_trace::brief::Brief;
+use xs_trace::fault::Fault;
 use xs_trace::item::{Item, Limits, Site, Spot};
 use xs_trace::recorder::{Halt, Recorder};
 use xs_trace::text::TextBuf;
@@ -93,7 +94,7 @@ fn attempt_of(
     match told {
         Ok(value) => Ok(Attempt::Done { value, says, ticks }),
         Err(Halt::Fault(fault, site)) => Ok(stopped(fault, site, says, ticks)),
-        Err(Halt::Spent(site)) => Ok(stopped(50, site, says, ticks)),
+        Err(Halt::Spent(site)) => Ok(stopped(Fault::Budget, site, says, ticks)),
         Err(Halt::Needs(global, site)) => Ok(Attempt::Needs {
             global,
             site,
@@ -105,7 +106,7 @@ fn attempt_of(
 }
 
 /// An attempt that ended in a fault at an instruction.
-fn stopped(fault: u8, site: Site, says: Vec<TextBuf>, ticks: u64) -> Attempt
+fn stopped(fault: Fault, site: Site, says: Vec<TextBuf>, ticks: u64) -> Attempt
     ensures { result ≡ Stopped says ticks (spot fault site) }
 {
     let spot = Spot {

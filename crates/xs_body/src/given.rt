@@ -62,7 +62,7 @@ fn text_given<'g>(name: &Label, given: &'g [(TextBuf, TextBuf)]) -> Option<&'g T
 fn is_name(name: &Label, local: &TextBuf) -> bool
     ensures { result ≡ (bytes_eq name.now.uri [] && bytes_eq name.now.local local.now) }
 {
-    name.uri.as_str() == "" && name.local.as_str() == local.as_str()
+    name.uri() == "" && name.local() == local.as_str()
 }
 
 /// No attempt at any of the globals was begun.

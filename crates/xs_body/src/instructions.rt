@@ -20,6 +20,7 @@ use crate::templates::enter_overridden;
 use crate::world::World;
 use std::alloc::{AllocError, Global};
 use xs_sheet::body::{Body, Fallbacks, InstrKind, LiteralStart};
+use xs_trace::fault::Fault;
 use xs_trace::item::Site;
 use xs_trace::recorder::{Halt, Recorder, say_message};
 use xs_tree::Tree;
@@ -112,7 +113,7 @@ fn begin_imports<'a, K: KeyFinder, R: Recorder<Task = Task<'a>>>(
     ensures inside { OnOk result (AreIn world.now.tree stack.new) }
 {
     match scope.focus.rule {
-        None => Err(Halt::Fault(56, site)),
+        None => Err(Halt::Fault(Fault::NoRule, site)),
         Some(rule) => import_behind(alloc, world, rule, site, scope.focus, stack, recorder),
     }
 }
@@ -183,7 +184,7 @@ pub(crate) fn end_message<'a, R: Recorder<Task = Task<'a>>>(
     let text = events_text(alloc, tree, fragment)?;
     say_message(recorder, site, text)?;
     if terminate {
-        return Err(Halt::Fault(57, site));
+        return Err(Halt::Fault(Fault::Terminated, site));
     }
     Ok(())
 }
@@ -231,7 +232,7 @@ fn begin_fallbacks<'a, K: KeyFinder, R: Recorder<Task = Task<'a>>>(
 {
     let _recorder = recorder;
     if fallbacks.bodies.as_slice().is_empty() {
-        return Err(Halt::Fault(58, site));
+        return Err(Halt::Fault(Fault::NoExtension, site));
     }
     stack.push(
         world,

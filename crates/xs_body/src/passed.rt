@@ -129,5 +129,5 @@ fn value_if<'v>(is_wanted: bool, value: &'v Value, found: Option<&'v Value>) -> 
 fn is_same_label(left: &Label, right: &Label) -> bool
     ensures { result ≡ is_same_label left.now right.now }
 {
-    left.uri.as_str() == right.uri.as_str() && left.local.as_str() == right.local.as_str()
+    left.uri() == right.uri() && left.local() == right.local()
 }

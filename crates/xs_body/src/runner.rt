@@ -1,13 +1,18 @@
-//! Whole runs of a stylesheet.
+//! Runs of a stylesheet: a piece with holes, and a whole run.
 
 ghost use Rattle.std.specs.List.{All};
-ghost use Rattle.std.specs.Prelude.{◌≡◌, true, IfOk, IsSome, None};
+ghost use Rattle.std.specs.Prelude.{◌≡◌, ◌+◌, ◌≤◌, ℕ, false, true, IfOk, IsSome, None, OnErr};
+ghost use Rattle.std.specs.Prelude.{OnOk};
+ghost use Rattle.xs_block.specs.Chain.{most_blocks};
 ghost use Rattle.xs_body.specs.Inside.{AreIn, IsTaskIn, IsWorld};
-ghost use Rattle.xs_body.specs.Tasks.{Task};
+ghost use Rattle.xs_body.specs.Results.{IsWholeRun};
 ghost use Rattle.xs_body.specs.Trace.{root_task, task_trace};
+ghost use Rattle.xs_body.specs.World.{with_grain};
 ghost use Rattle.xs_body.specs.steps.Frames.{begun_with, stack_of};
+ghost use Rattle.xs_body.specs.steps.Runs.{is_over};
+ghost use Rattle.xs_record.specs.Outcome.{IsOutcome, part_blocks};
+ghost use Rattle.xs_record.specs.Piece.{IsPiece};
 ghost use Rattle.xs_trace.specs.Cut.{cut};
-ghost use Rattle.xs_trace.specs.Kept.{Keeps};
 ghost use Rattle.xs_trace.specs.Play.{IsStep, play};
 
 use crate::focus::Focus;
@@ -21,17 +26,24 @@ use crate::tasks::copied_values;
 use crate::world::World;
 use std::alloc::{AllocError, Global};
 use std::marker::Model;
+use std::mem::replace;
+use xs_block::pool::Pool;
+use xs_record::outcome::{Outcome, Part};
+use xs_record::piece::{Finished, PieceRecorder};
 use xs_rules::index::RuleIndex;
 use xs_sheet::sheet::Sheet;
-use xs_trace::item::{Limits, Site};
+use xs_trace::item::{Ended, Item, Limits, Site};
 use xs_trace::recorder::{Halt, Recorder};
-use xs_trace::whole::{Kept, Whole};
+use xs_trace::total::{LocalTotal, Total};
 use xs_tree::{Node, Tree};
 use xs_value::keys::KeyFinder;
 use xs_value::value::Value;
 
 /// The most levels of templates.
 pub const MOST_DEPTH: u32 = 16384;
+
+/// The most ticks of a run with a total of its own: 2^40.
+const MOST_TICKS: u64 = 1_099_511_627_776;
 
 /// Runs a stylesheet. Contracts see it as what it runs over.
 #[derive(Drop)]
@@ -58,14 +70,15 @@ impl<'a, K: KeyFinder> Model for SheetRunner<'a, K> {
 }
 
 impl<'a, K: KeyFinder> SheetRunner<'a, K> {
-    /// A runner over these. Runs over more nodes than the grain are left to tasks, where pieces are
-    /// run.
+    /// A runner over these. Where there is a grain, `run` leaves runs over more nodes than that to
+    /// tasks.
     pub fn new(
         sheet: &'a Sheet,
         index: &'a RuleIndex<'a>,
         tree: &'a Tree,
         keys: &'a K,
         globals: &'a [Option<Value>],
+        grain: Option<u32>,
     ) -> SheetRunner<'a, K>
         ensures { result ≡ record {
           sheet = sheet.now;
@@ -73,7 +86,7 @@ impl<'a, K: KeyFinder> SheetRunner<'a, K> {
           tree = tree.now;
           keys = K.tables keys.now;
           globals = globals.now;
-          grain = None;
+          grain = grain;
         } }
     {
         SheetRunner {
@@ -83,7 +96,7 @@ impl<'a, K: KeyFinder> SheetRunner<'a, K> {
                 tree,
                 keys,
                 globals,
-                grain: None,
+                grain,
             },
         }
     }
@@ -107,24 +120,119 @@ impl<'a, K: KeyFinder> SheetRunner<'a, K> {
         })
     }
 
-    /// All that a task does, cut at the limits: its events and messages, its ticks among them, its
-    /// end, and the number of its ticks.
+    /// What a task does itself, cut at the limits, with a hole for each task that it leaves; these
+    /// are appended to the children. Its ticks are added to a total. The share in the total and the
+    /// pool come back whatever the answer.
+    pub fn run(
+        &self,
+        alloc: Global,
+        task: &Task<'a>,
+        limits: Limits,
+        total: LocalTotal,
+        pool: Pool<Item>,
+        children: &mut Vec<Task<'a>>,
+    ) -> Finished<LocalTotal>
+        requires world { IsWorld self.now }
+        requires settled { All IsSome self.now.globals }
+        requires task { IsTaskIn self.now.tree task.now }
+        ensures piece { IfOk result.outcome (IsPiece (task_trace self.now task.now) limits
+            (⟦<LocalTotal as Total>⟧.most total) (⟦<LocalTotal as Total>⟧.added total)
+            (⟦<LocalTotal as Total>⟧.added result.total)
+            (⟦<LocalTotal as Total>⟧.last result.total)
+            children.old.items children.new.items) }
+        ensures refused { OnErr result.outcome (children.new.items ≡ children.old.items) }
+        ensures kept { ⟦<LocalTotal as Total>⟧.kept result.total
+            ≡ ⟦<LocalTotal as Total>⟧.kept total }
+        ensures most { ⟦<LocalTotal as Total>⟧.most result.total
+            ≡ ⟦<LocalTotal as Total>⟧.most total }
+        ensures blocks { IfOk result.outcome (λ o.
+            pool ≤ part_blocks o.parts.items + result.pool) }
+        ensures free { OnErr result.outcome (pool ≤ result.pool) }
+    {
+        let mut recorder: PieceRecorder<LocalTotal, Task<'a>> = PieceRecorder::new(
+            alloc, limits, total, pool,
+        );
+        let told = tell_task(alloc, &self.world, task, &mut recorder);
+        recorder.finish(told, children)
+    }
+
+    /// All that a task does, cut at the limits, with what it would leave to others: its ticks,
+    /// events and messages in one part, how it ended, and the number of its ticks. The blocks come
+    /// from the pool. A run of more than 2^40 ticks is out of memory.
     pub fn run_whole(
         &self,
         alloc: Global,
         task: &Task<'a>,
         limits: Limits,
-    ) -> Result<Kept, AllocError>
+        pool: &mut Pool<Item>,
+    ) -> Result<Outcome, AllocError>
         requires world { IsWorld self.now }
-        requires whole { self.now.grain ≡ None }
         requires settled { All IsSome self.now.globals }
         requires task { IsTaskIn self.now.tree task.now }
-        ensures cut { IfOk result (λ kept.
-            Keeps (cut (task_trace self.now task.now) limits.ticks limits.events) kept) }
+        ensures outcome { IfOk result
+            (IsOutcome (task_trace (with_grain None self.now) task.now) limits) }
+        ensures whole { IfOk result (IsWholeRun
+            (cut (task_trace (with_grain None self.now) task.now) limits.ticks limits.events)) }
+        ensures blocks { IfOk result (λ o.
+            pool.old ≤ part_blocks o.parts.items + pool.new) }
+        ensures free { OnErr result (pool.old ≤ pool.new) }
     {
-        let mut whole: Whole<Task<'a>> = Whole::new(alloc, limits);
-        let told = tell_task(alloc, &self.world, task, &mut whole);
-        whole.keep(told)
+        let runner = without_grain(&self.world);
+        let _free = pool.free_blocks();
+        let blocks = replace(pool, Pool::new(alloc));
+        let total = LocalTotal::new(MOST_TICKS, 0);
+        let mut children: Vec<Task<'a>> = Vec::new(alloc);
+        let finished = runner.run(alloc, task, limits, total, blocks, &mut children);
+        *pool = finished.pool;
+        unless_over(finished.outcome?, pool)
+    }
+}
+
+/// A runner over the same that leaves nothing to tasks.
+fn without_grain<'a, K: KeyFinder>(world: &World<'a, K>) -> SheetRunner<'a, K>
+    ensures { result ≡ with_grain None world.now }
+{
+    SheetRunner::new(
+        world.sheet,
+        world.index,
+        world.tree,
+        world.keys,
+        world.globals,
+        None,
+    )
+}
+
+/// An outcome that did not end in the total of its run. One that did is out of memory, and its
+/// blocks are free.
+fn unless_over(outcome: Outcome, pool: &mut Pool<Item>) -> Result<Outcome, AllocError>
+    ensures same { IfOk result (λ o. o ≡ outcome) }
+    ensures within { OnOk result (is_over outcome.ended ≡ false) }
+    ensures kept { OnOk result (pool.new ≡ pool.old) }
+    ensures free { OnErr result ((n : ℕ) → n ≤ most_blocks →
+        n ≤ part_blocks outcome.parts.items + pool.old → n ≤ pool.new) }
+{
+    if is_over(outcome.ended) {
+        give_back(outcome.parts, pool);
+        return Err(AllocError);
+    }
+    Ok(outcome)
+}
+
+/// Whether a run ended in its total.
+fn is_over(ended: Ended) -> bool
+    ensures { result ≡ is_over ended }
+{
+    matches!(ended, Ended::Over { .. })
+}
+
+/// The blocks of some parts are free again.
+fn give_back(parts: Vec<Part>, pool: &mut Pool<Item>)
+    ensures blocks { (n : ℕ) → n ≤ most_blocks → n ≤ part_blocks parts.items + pool.old →
+        n ≤ pool.new }
+{
+    let mut parts = parts;
+    while let Some(part) = parts.pop() {
+        pool.give_back(part.items);
     }
 }
 

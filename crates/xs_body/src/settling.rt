@@ -27,6 +27,7 @@ use crate::world::World;
 use std::alloc::{AllocError, Global};
 use xs_rules::index::RuleIndex;
 use xs_sheet::sheet::Sheet;
+use xs_trace::fault::Fault;
 use xs_trace::item::{Site, Spot};
 use xs_trace::text::TextBuf;
 use xs_tree::Tree;
@@ -130,7 +131,7 @@ impl Table {
         if is_begun(begun, other) {
             self.add(says, ticks)?;
             Ok(Turn::Ends(Spot {
-                fault: 59,
+                fault: Fault::Circular,
                 module: site.module,
                 line: site.line,
             }))
@@ -396,6 +397,13 @@ fn attempt_over<K: KeyFinder>(
         (slice_get world.now.sheet.globals global))) }
     ensures inside { IfOk result (IsAttemptIn world.now.tree) }
 {
-    let runner = SheetRunner::new(world.sheet, world.index, world.tree, world.keys, values);
+    let runner = SheetRunner::new(
+        world.sheet,
+        world.index,
+        world.tree,
+        world.keys,
+        values,
+        None,
+    );
     runner.attempt(alloc, global, limit)
 }

@@ -25,6 +25,7 @@ use crate::task::Task;
 use crate::world::World;
 use std::alloc::{AllocError, Global};
 use xs_sheet::body::{Binding, Body};
+use xs_trace::fault::Fault;
 use xs_trace::item::Site;
 use xs_trace::recorder::{Halt, Recorder};
 use xs_trace::text::TextBuf;
@@ -50,7 +51,7 @@ pub(crate) fn enter_named<'a, K: KeyFinder, R: Recorder<Task = Task<'a>>>(
     ensures inside { OnOk result (AreIn world.now.tree stack.new) }
 {
     if focus.depth == 0 {
-        return Err(Halt::Fault(55, site));
+        return Err(Halt::Fault(Fault::TooDeep, site));
     }
     let _recorder = recorder;
     let focus = focus.with_depth(focus.depth - 1);
@@ -82,7 +83,7 @@ pub(crate) fn enter_fitting<'a, K: KeyFinder, R: Recorder<Task = Task<'a>>>(
     ensures inside { OnOk result (AreIn world.now.tree stack.new) }
 {
     if focus.depth == 0 {
-        return Err(Halt::Fault(55, site));
+        return Err(Halt::Fault(Fault::TooDeep, site));
     }
     let focus = focus.with_depth(focus.depth - 1);
     let rule = rule_for(alloc, world, mode, focus.node)?;
@@ -112,7 +113,7 @@ pub(crate) fn enter_overridden<'a, K: KeyFinder, R: Recorder<Task = Task<'a>>>(
     ensures inside { OnOk result (AreIn world.now.tree stack.new) }
 {
     if focus.depth == 0 {
-        return Err(Halt::Fault(55, site));
+        return Err(Halt::Fault(Fault::TooDeep, site));
     }
     let focus = focus.with_depth(focus.depth - 1);
     let rule = import_for(alloc, world, current, focus)?;

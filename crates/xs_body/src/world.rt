@@ -13,10 +13,10 @@ use std::alloc::Global;
 use std::marker::Model;
 use xs_eval::context::Context;
 use xs_eval::evaluate::evaluate;
-use xs_eval::fault::Fault;
 use xs_rules::index::RuleIndex;
 use xs_sheet::scoped::ScopedExpr;
 use xs_sheet::sheet::Sheet;
+use xs_trace::fault::Fault;
 use xs_trace::item::Site;
 use xs_trace::recorder::{Halt, Tally};
 use xs_trace::text::TextBuf;
@@ -121,7 +121,7 @@ impl<'a, K: KeyFinder> World<'a, K> {
     {
         match self.value(alloc, expr, focus, locals, site, tally)? {
             Value::Nodes(nodes) => Ok(nodes),
-            _ => Err(Halt::Fault(Fault::NotNodes.number(), site)),
+            _ => Err(Halt::Fault(Fault::NotNodes, site)),
         }
     }
 

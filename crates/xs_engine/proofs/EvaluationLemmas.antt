@@ -1,43 +1,48 @@
 -- What an evaluation owes, by what was settled and kept.
-use Rattle.std.proofs.Common.{◌≡◌, ◌≤◌, ◌∙◌, ◌+◌, ◌-◌, ◌++◌, ℕ, arith, [], List, Result, Ok, Err, Option, Some, None, IfOk, ap, sym, subst, append-nil}
+use Rattle.std.proofs.Common.{◌≡◌, ◌<◌, ◌≤◌, ◌∙◌, ◌+◌, ◌-◌, ◌++◌, ℕ, arith, [], List, length, get_or, Result, Ok, Err, Option, Some, None, IfOk}
+use Rattle.std.proofs.Common.{ap, sym, subst, append-nil, vec_len}
+use Rattle.xs_block.specs.Chain.{items_of}
 use Rattle.xs_body.specs.Globals.{SettlesAll, with_globals}
-use Rattle.xs_body.specs.Results.{settled_by, settled_of, told_in}
+use Rattle.xs_body.specs.Results.{IsWholeRun, settled_by, settled_of, told_in}
 use Rattle.xs_body.specs.Tasks.{Task}
 use Rattle.xs_body.specs.Trace.{root_task, task_trace}
-use Rattle.xs_body.specs.World.{World, ground}
+use Rattle.xs_body.specs.World.{World, ground, with_grain}
 use Rattle.xs_body.specs.declared.settling.Settled.{Settled}
 use Rattle.xs_engine.proofs.EndLemmas.{reported}
 use Rattle.xs_engine.specs.Answer.{Answer, stopped_answer, whole_answer}
 use Rattle.xs_engine.specs.Evaluation.{IsCutAnswer, IsEndAnswer, IsEvaluated, IsEvaluatedFrom, IsEvaluatedOn, in_globals, in_root, root_cut}
+use Rattle.xs_engine.specs.Items.{events_in, messages_in}
 use Rattle.xs_engine.specs.Job.{Job}
 use Rattle.xs_engine.specs.Reply.{reply_of}
 use Rattle.xs_engine.specs.declared.reply.Reply.{Reply}
+use Rattle.xs_record.specs.declared.outcome.Outcome.{Outcome}
+use Rattle.xs_record.specs.declared.outcome.Part.{Part}
 use Rattle.xs_rules.specs.WhiteSpace.{stripped}
 use Rattle.xs_rules.specs.declared.index.RuleIndex.{RuleIndex}
 use Rattle.xs_sheet.specs.declared.declarations.StripRule.{StripRule}
 use Rattle.xs_sheet.specs.declared.sheet.Sheet.{Sheet}
 use Rattle.xs_trace.proofs.CutLemmas.{cut-longest}
-use Rattle.xs_trace.proofs.KeptLemmas.{untimed-events, untimed-messages}
 use Rattle.xs_trace.specs.Cut.{Cut, cut, nowhere}
-use Rattle.xs_trace.specs.Kept.{Keeps, ended_by, marks_of}
+use Rattle.xs_trace.specs.Kept.{ended_by, marks_of}
 use Rattle.xs_trace.specs.Mark.{Trace, events_of, messages_of, tick_count}
 use Rattle.xs_trace.specs.declared.item.Ended.{Ended}
 use Rattle.xs_trace.specs.declared.item.Ended.TheVariants as ended
 use Rattle.xs_trace.specs.declared.item.Spot.{Spot}
-use Rattle.xs_trace.specs.declared.whole.Kept.{Kept}
 use Rattle.xs_tree.specs.Record.{Record}
 use Rattle.xs_tree.specs.Stripping.{without}
 
--- a run that is kept takes no more ticks than its limit
-pub kept_within : {H : Type 0} (x : Trace H) (b : ℕ) (m : Option ℕ) (k : Kept) → Keeps (cut x b m) k → k.ticks ≤ b
-kept_within x b m k keeps = let l = cut-longest x nowhere b m in omega (arith, keeps.ticks, l.within)
+-- a whole run takes no more ticks than its limit
+pub run_within : (x : Trace Task) (b : ℕ) (m : Option ℕ) (o : Outcome) → IsWholeRun (cut x b m) o → o.ticks ≤ b
+run_within x b m o run = let l = cut-longest x nowhere b m in omega (arith, run.ticks, l.within)
 
--- the events and messages of the items are those of all that passed
-events-kept : {H : Type 0} (c : Cut H) (k : Kept) → Keeps c k → events_of {H = H} (marks_of k.items.items) ≡ events_of c.passed
-events-kept c k keeps = ap events_of keeps.items ∙ untimed-events c.passed
+-- it has one part
+pub has_part : (c : Cut Task) (o : Outcome) → IsWholeRun c o → 0 < vec_len o.parts
+has_part c o run = let e : length o.parts.items ≡ 1 = ap length run.only in omega (arith, e, o.parts.ok.0)
 
-messages-kept : {H : Type 0} (c : Cut H) (k : Kept) → Keeps c k → messages_of {H = H} (marks_of k.items.items) ≡ messages_of c.passed
-messages-kept c k keeps = ap messages_of keeps.items ∙ untimed-messages c.passed
+-- and the marks of the items of its first part are all that passed
+marks-passed : (c : Cut Task) (o : Outcome) (p : Part) → IsWholeRun c o → p ≡ get_or o.parts.items 0 p → marks_of (items_of p.items) ≡ c.passed
+marks-passed c o p run first =
+    ap (λ (q : Part). marks_of (items_of q.items)) (first ∙ ap (λ (ps : List Part). get_or ps 0 p) run.only) ∙ run.marks
 
 -- a source that is stripped, by the rules of the stylesheet
 pub from_stripped : {E : Type 0} (r : Result Reply E) (job : Job) (sheet : Sheet) (rules : List StripRule) (source tree : List Record)
@@ -52,12 +57,13 @@ pub over_index : {E : Type 0} (r : Result Reply E) (job : Job) (sheet : Sheet) (
 over_index (Err e) job sheet index tree is = tt
 over_index (Ok reply) job sheet index tree is = (index, is)
 
--- what the runner kept of the root's task is the cut of the root's trace
-pub root_kept : (job : Job) (w : World) (z : Settled) (runner : World) (task : Task) (k : Kept) → runner ≡ with_globals w z.values.items
-    → task ≡ root_task runner → Keeps (cut (task_trace runner task) (job.budget - z.ticks) job.most_events) k → Keeps (root_cut job w (told_in z)) k
-root_kept job w z runner task k same is keeps =
-    subst (λ r. Keeps (cut (task_trace r (root_task r)) (job.budget - z.ticks) job.most_events) k) same
-    (subst (λ t. Keeps (cut (task_trace runner t) (job.budget - z.ticks) job.most_events) k) is keeps)
+-- what the runner gave of the root's task is the cut of the root's trace
+pub root_run : (job : Job) (w : World) (z : Settled) (runner : World) (task : Task) (o : Outcome) → with_grain None runner ≡ with_globals w z.values.items
+    → task ≡ root_task runner → IsWholeRun (cut (task_trace (with_grain None runner) task) (job.budget - z.ticks) job.most_events) o
+    → IsWholeRun (root_cut job w (told_in z)) o
+root_run job w z runner task o same is run =
+    subst (λ r. IsWholeRun (cut (task_trace r (root_task r)) (job.budget - z.ticks) job.most_events) o) same
+    (subst (λ t. IsWholeRun (cut (task_trace (with_grain None runner) t) (job.budget - z.ticks) job.most_events) o) is run)
 
 module _ (job : Job) (w : World) (z : Settled) (settles : SettlesAll w job.given job.budget (settled_of z)) where
   -- the run ended in a global
@@ -69,26 +75,33 @@ module _ (job : Job) (w : World) (z : Settled) (settles : SettlesAll w job.given
       in_globals {t = told_in z} {s = s} (subst (λ e. SettlesAll w job.given job.budget (settled_by e (told_in z))) is settles)
       (same ∙ ap (λ says. stopped_answer w.sheet.modules s says z.ticks) (append-nil z.says.items))
 
-  module _ (k : Kept) (none : z.end ≡ None) (keeps : Keeps (root_cut job w (told_in z)) k) where
+  module _ (o : Outcome) (p : Part) (none : z.end ≡ None) (run : IsWholeRun (root_cut job w (told_in z)) o) (first : p ≡ get_or o.parts.items 0 p) where
     from_root : (a : Answer) → IsCutAnswer w.sheet.modules (told_in z) (root_cut job w (told_in z)) a → IsEvaluated job w a
     from_root a is = in_root {t = told_in z} (subst (λ e. SettlesAll w job.given job.budget (settled_by e (told_in z))) none settles) is
 
-    -- the cut of the root's trace ended as the run that was kept
-    pub ends_as : (e : Ended) → k.ended ≡ e → ended_by (root_cut job w (told_in z)).end ≡ Some e
-    ends_as e is = keeps.ended ∙ ap (λ x. Some x) is
+    -- the cut of the root's trace ended as the run
+    ends_as : (e : Ended) → o.ended ≡ e → ended_by (root_cut job w (told_in z)).end ≡ Some e
+    ends_as e is = run.ended ∙ ap (λ x. Some x) is
+
+    -- the events and messages of the items are those of all that passed
+    events-passed : events_in (items_of p.items) ≡ events_of (root_cut job w (told_in z)).passed
+    events-passed = ap events_of (marks-passed (root_cut job w (told_in z)) o p run first)
+
+    messages-passed : messages_in (items_of p.items) ≡ messages_of (root_cut job w (told_in z)).passed
+    messages-passed = ap messages_of (marks-passed (root_cut job w (told_in z)) o p run first)
 
     -- the root came to its end
-    pub whole_in_root : {E : Type 0} (r : Result Reply E) → k.ended ≡ ended.Whole
-        → IfOk r (λ reply. reply_of reply ≡ whole_answer (z.says.items ++ messages_of {H = Task} (marks_of k.items.items))
-        (events_of {H = Task} (marks_of k.items.items)) (z.ticks + k.ticks))
+    pub whole_in_root : {E : Type 0} (r : Result Reply E) → o.ended ≡ ended.Whole
+        → IfOk r (λ reply. reply_of reply ≡ whole_answer (z.says.items ++ messages_in (items_of p.items))
+        (events_in (items_of p.items)) (z.ticks + o.ticks))
         → IfOk r (λ reply. IsEvaluated job w (reply_of reply))
     whole_in_root (Err e) is same = tt
     whole_in_root (Ok reply) is same =
         let c = root_cut job w (told_in z) in
         let all : reply_of reply ≡ whole_answer (z.says.items ++ messages_of c.passed) (events_of c.passed) (z.ticks + tick_count c.passed) =
-        same ∙ ap (λ ms. whole_answer (z.says.items ++ ms) (events_of {H = Task} (marks_of k.items.items)) (z.ticks + k.ticks)) (messages-kept c k keeps)
-        ∙ ap (λ es. whole_answer (z.says.items ++ messages_of c.passed) es (z.ticks + k.ticks)) (events-kept c k keeps)
-        ∙ ap (λ n. whole_answer (z.says.items ++ messages_of c.passed) (events_of c.passed) (z.ticks + n)) keeps.ticks in
+        same ∙ ap (λ ms. whole_answer (z.says.items ++ ms) (events_in (items_of p.items)) (z.ticks + o.ticks)) messages-passed
+        ∙ ap (λ es. whole_answer (z.says.items ++ messages_of c.passed) es (z.ticks + o.ticks)) events-passed
+        ∙ ap (λ n. whole_answer (z.says.items ++ messages_of c.passed) (events_of c.passed) (z.ticks + n)) run.ticks in
         from_root (reply_of reply) (subst (IsCutAnswer w.sheet.modules (told_in z) c) (sym all)
         (reported w.sheet.modules c.passed (z.says.items ++ messages_of c.passed) (z.ticks + tick_count c.passed) c.end ended.Whole
         (ends_as ended.Whole is)))
@@ -99,39 +112,39 @@ module _ (job : Job) (w : World) (z : Settled) (settles : SettlesAll w job.given
         (z.says.items ++ messages_of (root_cut job w (told_in z)).passed) (z.ticks + tick_count (root_cut job w (told_in z)).passed)
         (stopped_answer w.sheet.modules s (z.says.items ++ messages_of (root_cut job w (told_in z)).passed)
         (z.ticks + tick_count (root_cut job w (told_in z)).passed))
-        → IfOk r (λ reply. reply_of reply ≡ stopped_answer w.sheet.modules s (z.says.items ++ messages_of {H = Task} (marks_of k.items.items))
-        (z.ticks + k.ticks))
+        → IfOk r (λ reply. reply_of reply ≡ stopped_answer w.sheet.modules s (z.says.items ++ messages_in (items_of p.items))
+        (z.ticks + o.ticks))
         → IfOk r (λ reply. IsEvaluated job w (reply_of reply))
     stopped_in_root (Err e) s is same = tt
     stopped_in_root (Ok reply) s is same =
         let c = root_cut job w (told_in z) in
         let names = w.sheet.modules in
         let all : reply_of reply ≡ stopped_answer names s (z.says.items ++ messages_of c.passed) (z.ticks + tick_count c.passed) =
-        same ∙ ap (λ ms. stopped_answer names s (z.says.items ++ ms) (z.ticks + k.ticks)) (messages-kept c k keeps)
-        ∙ ap (λ n. stopped_answer names s (z.says.items ++ messages_of c.passed) (z.ticks + n)) keeps.ticks in
+        same ∙ ap (λ ms. stopped_answer names s (z.says.items ++ ms) (z.ticks + o.ticks)) messages-passed
+        ∙ ap (λ n. stopped_answer names s (z.says.items ++ messages_of c.passed) (z.ticks + n)) run.ticks in
         from_root (reply_of reply) (subst (IsCutAnswer names (told_in z) c) (sym all) is)
 
-    pub fault_in_root : {E : Type 0} (r : Result Reply E) (s : Spot) → k.ended ≡ ended.Fault s
-        → IfOk r (λ reply. reply_of reply ≡ stopped_answer w.sheet.modules s (z.says.items ++ messages_of {H = Task} (marks_of k.items.items))
-        (z.ticks + k.ticks))
+    pub fault_in_root : {E : Type 0} (r : Result Reply E) (s : Spot) → o.ended ≡ ended.Fault s
+        → IfOk r (λ reply. reply_of reply ≡ stopped_answer w.sheet.modules s (z.says.items ++ messages_in (items_of p.items))
+        (z.ticks + o.ticks))
         → IfOk r (λ reply. IsEvaluated job w (reply_of reply))
     fault_in_root r s is same =
         let c = root_cut job w (told_in z) in
         stopped_in_root r s (reported w.sheet.modules c.passed (z.says.items ++ messages_of c.passed) (z.ticks + tick_count c.passed) c.end
         (ended.Fault s) (ends_as (ended.Fault s) is)) same
 
-    pub spent_in_root : {E : Type 0} (r : Result Reply E) (s : Spot) → k.ended ≡ ended.Spent s
-        → IfOk r (λ reply. reply_of reply ≡ stopped_answer w.sheet.modules s (z.says.items ++ messages_of {H = Task} (marks_of k.items.items))
-        (z.ticks + k.ticks))
+    pub spent_in_root : {E : Type 0} (r : Result Reply E) (s : Spot) → o.ended ≡ ended.Spent s
+        → IfOk r (λ reply. reply_of reply ≡ stopped_answer w.sheet.modules s (z.says.items ++ messages_in (items_of p.items))
+        (z.ticks + o.ticks))
         → IfOk r (λ reply. IsEvaluated job w (reply_of reply))
     spent_in_root r s is same =
         let c = root_cut job w (told_in z) in
         stopped_in_root r s (reported w.sheet.modules c.passed (z.says.items ++ messages_of c.passed) (z.ticks + tick_count c.passed) c.end
         (ended.Spent s) (ends_as (ended.Spent s) is)) same
 
-    pub full_in_root : {E : Type 0} (r : Result Reply E) (s : Spot) → k.ended ≡ ended.Full s
-        → IfOk r (λ reply. reply_of reply ≡ stopped_answer w.sheet.modules s (z.says.items ++ messages_of {H = Task} (marks_of k.items.items))
-        (z.ticks + k.ticks))
+    pub full_in_root : {E : Type 0} (r : Result Reply E) (s : Spot) → o.ended ≡ ended.Full s
+        → IfOk r (λ reply. reply_of reply ≡ stopped_answer w.sheet.modules s (z.says.items ++ messages_in (items_of p.items))
+        (z.ticks + o.ticks))
         → IfOk r (λ reply. IsEvaluated job w (reply_of reply))
     full_in_root r s is same =
         let c = root_cut job w (told_in z) in

@@ -1,5 +1,5 @@
--- What items give one by one is what the marks give that they stand for.
-use Rattle.std.proofs.Common.{◌≡◌, ℕ, zero, suc, List, [], ◌∷◌, ◌++◌, map, refl, ap, ◌∙◌, sym, append_assoc}
+-- What items give one by one is what their marks give.
+use Rattle.std.proofs.Common.{◌≡◌, ℕ, zero, suc, List, [], ◌∷◌, ◌++◌, map, refl, ap, ◌∙◌, sym, append_assoc, append-nil}
 use Rattle.std.proofs.lemmas.Iterator.{items_from_drains}
 use Rattle.std.proofs.lemmas.Iterator.Consumers.{YieldsList-from_first}
 use Rattle.std.specs.Iterator.{Drains, DrainsIf, YieldsFirstBy}
@@ -15,7 +15,7 @@ use Rattle.xs_trace.specs.Kept.{marks_of, item_marks}
 use Rattle.xs_result.specs.Built.{built}
 use Rattle.xs_result.specs.Text.{text_in}
 use Rattle.xs_engine.specs.Answer.{message_line, message_lines}
-use Rattle.xs_engine.specs.Items.{events_in, item_event, item_line}
+use Rattle.xs_engine.specs.Items.{events_in, item_event, item_line, messages_in}
 
 events-past_ticks : (p : Site) (n : ℕ) (x : Trace Task) → events_of (ticks p n [] ++ x) ≡ events_of x
 events-past_ticks p zero x = refl
@@ -25,22 +25,35 @@ messages-past_ticks : (p : Site) (n : ℕ) (x : Trace Task) → messages_of (tic
 messages-past_ticks p zero x = refl
 messages-past_ticks p (suc n) x = messages-past_ticks p n x
 
--- the events of an item and of those behind it
-pub events_behind : (i : Item) (is : List Item) → events_in (i ∷ is) ≡ cons_option (item_event i) (events_in is)
-events_behind (Run m l n) is = events-past_ticks (record { «module» = m; line = l }) n (marks_of is)
-events_behind (Put e) is = refl
-events_behind (Say t) is = refl
+-- the events of an item and of those after it
+pub events_after : (i : Item) (is : List Item) → events_in (i ∷ is) ≡ cons_option (item_event i) (events_in is)
+events_after (Run m l n) is = events-past_ticks (record { «module» = m; line = l }) n (marks_of is)
+events_after (Put e) is = refl
+events_after (Say t) is = refl
 
 line-past_item : (i : Item) (x : Trace Task) → message_lines (messages_of (item_marks i ++ x)) ≡ item_line i ++ message_lines (messages_of x)
 line-past_item (Run m l n) x = ap message_lines (messages-past_ticks (record { «module» = m; line = l }) n x)
 line-past_item (Put e) x = refl
 line-past_item (Say t) x = refl
 
-pub lines_of_items : (items : List Item) → message_lines (messages_of {H = Task} (marks_of items)) ≡ flat_map item_line items
+pub lines_of_items : (items : List Item) → message_lines (messages_in items) ≡ flat_map item_line items
 lines_of_items [] = refl
 lines_of_items (i ∷ is) = line-past_item i (marks_of is) ∙ ap (λ t. item_line i ++ t) (lines_of_items is)
 
--- the lines of messages, and of others behind them
+-- the lines so far and those of the items that are left: after one more item
+pub lines_more : (before after : List ℕ) (i : Item) (left more : List Item) (all : List ℕ) → before ++ flat_map item_line left ≡ all → left ≡ i ∷ more
+    → after ≡ before ++ item_line i → after ++ flat_map item_line more ≡ all
+lines_more before after i left more all whole is grew =
+    ap (λ t. t ++ flat_map item_line more) grew ∙ append_assoc before (item_line i) (flat_map item_line more)
+    ∙ ap (λ is. before ++ flat_map item_line is) (sym is) ∙ whole
+
+-- and where none is left
+pub lines_end : (lines before : List ℕ) (left items : List Item) → lines ++ flat_map item_line left ≡ before ++ flat_map item_line items → left ≡ []
+    → lines ≡ before ++ message_lines (messages_in items)
+lines_end lines before left items whole none =
+    sym (append-nil lines) ∙ ap (λ is. lines ++ flat_map item_line is) (sym none) ∙ whole ∙ ap (λ t. before ++ t) (sym (lines_of_items items))
+
+-- the lines of messages, and of others after them
 pub lines_joined : (says more : List (List ℕ)) → message_lines (says ++ more) ≡ message_lines says ++ message_lines more
 lines_joined [] more = refl
 lines_joined (t ∷ ts) more = ap (λ x. message_line t ++ x) (lines_joined ts more) ∙ sym (append_assoc (message_line t) (message_lines ts) (message_lines more))

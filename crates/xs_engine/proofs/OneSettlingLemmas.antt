@@ -2,6 +2,7 @@
 use Rattle.std.proofs.Common.{◌≡◌, ◌⊎◌, inl, inr, ⊎_elim, ℕ, ◌-◌, List, [], ◌∷◌, Bool, true, false, refl, sym, subst}
 use Rattle.xs_trace.specs.Cut.{End, Whole, Fault, Needs, Spent, Full}
 use Rattle.xs_trace.specs.Kept.{spot}
+use Rattle.xs_trace.specs.declared.fault.Fault.TheVariants.{Budget, Circular}
 use Rattle.xs_trace.specs.declared.item.Spot.{Spot}
 use Rattle.xs_body.specs.World.{World}
 use Rattle.xs_body.specs.Globals.{Table, Settled, settled, ended, Settles, AllSettle, SettlesAll, IsUnsettled, at_first}
@@ -28,9 +29,9 @@ module _ (w : World) (budget : ℕ) where
   abbrev By : End → (under : List ℕ) (g : ℕ) → Table → Settled → Type 0
   By Whole under g t r = r ≡ settled (with_value w g (with_passed (tried w budget t g) t))
   By (Fault f p) under g t r = r ≡ ended (with_passed (tried w budget t g) t) (spot f p)
-  By (Spent p) under g t r = r ≡ ended (with_passed (tried w budget t g) t) (spot 50 p)
+  By (Spent p) under g t r = r ≡ ended (with_passed (tried w budget t g) t) (spot Budget p)
   By (Full p) under g t r = ⊥
-  By (Needs h p) under g t r = OrCircle (is_under (g ∷ under) h) under g h t (with_passed (tried w budget t g) t) (spot 59 p) r
+  By (Needs h p) under g t r = OrCircle (is_under (g ∷ under) h) under g h t (with_passed (tried w budget t g) t) (spot Circular p) r
 
   by-end : {under : List ℕ} {g : ℕ} {t : Table} {r : Settled} → Settles w budget under g t r → By (tried w budget t g).end under g t r
   by-end {under = under} {g = g} {t = t} (settles.whole e) =
@@ -38,18 +39,18 @@ module _ (w : World) (budget : ℕ) where
   by-end {under = under} {g = g} {t = t} (settles.faults {f = f} {p = p} e) =
       subst (λ z. By z under g t (ended (with_passed (tried w budget t g) t) (spot f p))) (sym e) refl
   by-end {under = under} {g = g} {t = t} (settles.spends {p = p} e) =
-      subst (λ z. By z under g t (ended (with_passed (tried w budget t g) t) (spot 50 p))) (sym e) refl
+      subst (λ z. By z under g t (ended (with_passed (tried w budget t g) t) (spot Budget p))) (sym e) refl
   by-end {under = under} {g = g} {t = t} (settles.circular {h = h} {p = p} e n) =
-      subst (λ z. By z under g t (ended (with_passed (tried w budget t g) t) (spot 59 p))) (sym e)
-      (subst (λ b. OrCircle b under g h t (with_passed (tried w budget t g) t) (spot 59 p) (ended (with_passed (tried w budget t g) t) (spot 59 p)))
+      subst (λ z. By z under g t (ended (with_passed (tried w budget t g) t) (spot Circular p))) (sym e)
+      (subst (λ b. OrCircle b under g h t (with_passed (tried w budget t g) t) (spot Circular p) (ended (with_passed (tried w budget t g) t) (spot Circular p)))
       (sym n) refl)
   by-end {under = under} {g = g} {t = t} (settles.needs {u = u} {h = h} {p = p} {r = r} e n k m) =
       subst (λ z. By z under g t r) (sym e)
-      (subst (λ b. OrCircle b under g h t (with_passed (tried w budget t g) t) (spot 59 p) r) (sym n)
+      (subst (λ b. OrCircle b under g h t (with_passed (tried w budget t g) t) (spot Circular p) r) (sym n)
       (record { end = settled u; is_settled = k; after = m }))
   by-end {under = under} {g = g} {t = t} (settles.stops {u = u} {h = h} {p = p} {s = s} e n k) =
       subst (λ z. By z under g t (ended u s)) (sym e)
-      (subst (λ b. OrCircle b under g h t (with_passed (tried w budget t g) t) (spot 59 p) (ended u s)) (sym n)
+      (subst (λ b. OrCircle b under g h t (with_passed (tried w budget t g) t) (spot Circular p) (ended u s)) (sym n)
       (record { end = ended u s; is_settled = k; after = refl }))
 
   one-settled : {under : List ℕ} {g : ℕ} {t : Table} {r : Settled} → Settles w budget under g t r → (s : Settled) → Settles w budget under g t s → r ≡ s
@@ -57,15 +58,15 @@ module _ (w : World) (budget : ℕ) where
   one-settled {under = under} {g = g} {t = t} (settles.faults e) s x = sym (subst (λ z. By z under g t s) e (by-end x))
   one-settled {under = under} {g = g} {t = t} (settles.spends e) s x = sym (subst (λ z. By z under g t s) e (by-end x))
   one-settled {under = under} {g = g} {t = t} (settles.circular {h = h} {p = p} e n) s x =
-      sym (subst (λ b. OrCircle b under g h t (with_passed (tried w budget t g) t) (spot 59 p) s) n (subst (λ z. By z under g t s) e (by-end x)))
+      sym (subst (λ b. OrCircle b under g h t (with_passed (tried w budget t g) t) (spot Circular p) s) n (subst (λ z. By z under g t s) e (by-end x)))
   one-settled {under = under} {g = g} {t = t} (settles.needs {u = u} {h = h} {p = p} e n k m) s x =
       let y : Needed under g h t s =
-      subst (λ b. OrCircle b under g h t (with_passed (tried w budget t g) t) (spot 59 p) s) n (subst (λ z. By z under g t s) e (by-end x)) in
+      subst (λ b. OrCircle b under g h t (with_passed (tried w budget t g) t) (spot Circular p) s) n (subst (λ z. By z under g t s) e (by-end x)) in
       let same : settled u ≡ y.end = one-settled k y.end y.is_settled in
       one-settled m s (subst (λ v. After under g v s) (sym same) y.after)
   one-settled {under = under} {g = g} {t = t} (settles.stops {u = u} {h = h} {p = p} {s = o} e n k) s x =
       let y : Needed under g h t s =
-      subst (λ b. OrCircle b under g h t (with_passed (tried w budget t g) t) (spot 59 p) s) n (subst (λ z. By z under g t s) e (by-end x)) in
+      subst (λ b. OrCircle b under g h t (with_passed (tried w budget t g) t) (spot Circular p) s) n (subst (λ z. By z under g t s) e (by-end x)) in
       let same : ended u o ≡ y.end = one-settled k y.end y.is_settled in
       sym (subst (λ v. After under g v s) (sym same) y.after)
 

@@ -10,7 +10,7 @@ use Rattle.xs_sheet.specs.declared.declarations.StripRule.{StripRule}
 use Rattle.xs_text.specs.WhiteSpace.{is_blank}
 use Rattle.xs_tree.specs.Kinds.{is_element_kind, is_text_kind}
 use Rattle.xs_tree.specs.Record.{Record, at, places, root_record}
-use Rattle.xs_tree.specs.Stripping.{new_place, renumbered, stays, staying, without}
+use Rattle.xs_tree.specs.Stripping.{new_place, renumbered, stays, without}
 
 -- ---- lists
 

@@ -7,10 +7,11 @@ use Rattle.xs_text.specs.Escapes.{escaped}
 use Rattle.xs_result.specs.Built.{built}
 use Rattle.xs_result.specs.Text.{text_in}
 use Rattle.xs_trace.specs.declared.event.Event.{Event}
+use Rattle.xs_trace.specs.Fault.{fault_number}
 use Rattle.xs_trace.specs.declared.item.Spot.{Spot}
 use Rattle.xs_engine.specs.declared.faults.TheConstants.{NOT_BUILT, UNREADABLE}
 use Rattle.xs_engine.specs.declared.status.TheConstants.{OK, USAGE, READ_FAULT, REFUSED, RUN_FAULT}
-use Rattle.xs_engine.specs.Faults.{fault_name}
+use Rattle.xs_engine.specs.Faults.{fault_name, run_fault_name}
 
 -- its status, the bytes of the result, the bytes of the lines for the user, and the ticks that it spent
 pub record Answer : Type 0 where
@@ -26,9 +27,13 @@ usage_line =
     ++ codes "[--check] [--load N] SHEET SOURCE [name=text]... [@name=path]..." ++ 10 ∷ []
 
 -- the line of a fault: its number and name, the module, written as PYX data, and the line in it; line 0 is the module as a whole
-abbrev pub fault_line : ℕ → List ℕ → ℕ → List ℕ
-fault_line fault name line =
-    codes "fault " ++ decimal fault ++ codes " " ++ fault_name fault ++ codes " " ++ escaped name ++ codes " " ++ decimal line ++ 10 ∷ []
+abbrev pub fault_line : (number : ℕ) → (fault : List ℕ) → (name : List ℕ) → (line : ℕ) → List ℕ
+fault_line number fault name line =
+    codes "fault " ++ decimal number ++ codes " " ++ fault ++ codes " " ++ escaped name ++ codes " " ++ decimal line ++ 10 ∷ []
+
+-- that of a fault of a file
+abbrev pub file_fault_line : (fault : ℕ) → (name : List ℕ) → (line : ℕ) → List ℕ
+file_fault_line fault name line = fault_line fault (fault_name fault) name line
 
 -- the line of a message, its text written as PYX data
 abbrev pub message_line : List ℕ → List ℕ
@@ -40,11 +45,11 @@ usage = record { status = USAGE; result = []; lines = usage_line; ticks = 0 }
 
 -- a name could not be read
 abbrev pub read_fault : List ℕ → Answer
-read_fault name = record { status = READ_FAULT; result = []; lines = fault_line UNREADABLE name 0; ticks = 0 }
+read_fault name = record { status = READ_FAULT; result = []; lines = file_fault_line UNREADABLE name 0; ticks = 0 }
 
 -- a file is refused: it has this fault at this line
 abbrev pub refused_file : ℕ → List ℕ → ℕ → Answer
-refused_file fault name line = record { status = REFUSED; result = []; lines = fault_line fault name line; ticks = 0 }
+refused_file fault name line = record { status = REFUSED; result = []; lines = file_fault_line fault name line; ticks = 0 }
 
 -- a stylesheet that was only checked has no fault
 abbrev pub faultless : Answer
@@ -71,6 +76,7 @@ abbrev pub stopped_answer : (names : List (List ℕ)) → Spot → (says : List 
 stopped_answer names spot says ticks = record {
   status = RUN_FAULT;
   result = [];
-  lines = message_lines says ++ fault_line spot.fault (name_in names spot.«module») spot.line;
+  lines = message_lines says
+      ++ fault_line (fault_number spot.fault) (run_fault_name spot.fault) (name_in names spot.«module») spot.line;
   ticks = ticks;
 }

@@ -6,13 +6,13 @@ use Rattle.xs_body.specs.Trace.{root_task, task_trace}
 use Rattle.xs_body.specs.World.{World, ground}
 use Rattle.xs_engine.specs.Answer.{Answer, stopped_answer, whole_answer}
 use Rattle.xs_engine.specs.Job.{Job}
-use Rattle.xs_engine.specs.declared.faults.TheConstants.{BUDGET, TOO_MANY_EVENTS}
 use Rattle.xs_rules.specs.WhiteSpace.{stripped}
 use Rattle.xs_rules.specs.declared.index.RuleIndex.{RuleIndex}
 use Rattle.xs_sheet.specs.declared.sheet.Sheet.{Sheet}
 use Rattle.xs_trace.specs.Cut.{Cut, End, Whole, Fault, Needs, Spent, Full, cut}
 use Rattle.xs_trace.specs.Kept.{spot}
 use Rattle.xs_trace.specs.Mark.{Trace, events_of, messages_of, tick_count}
+use Rattle.xs_trace.specs.declared.fault.Fault.TheVariants.{Budget, TooManyEvents}
 use Rattle.xs_trace.specs.declared.item.Spot.{Spot}
 use Rattle.xs_tree.specs.Record.{Record}
 use Rattle.xs_tree.specs.Stripping.{without}
@@ -22,8 +22,8 @@ abbrev pub IsEndAnswer : (names : List (List ℕ)) → End → Trace Task → (s
 IsEndAnswer names Whole passed says ticks answer = answer ≡ whole_answer says (events_of passed) ticks
 IsEndAnswer names (Fault fault site) passed says ticks answer = answer ≡ stopped_answer names (spot fault site) says ticks
 IsEndAnswer names (Needs global site) passed says ticks answer = ⊥
-IsEndAnswer names (Spent site) passed says ticks answer = answer ≡ stopped_answer names (spot BUDGET site) says ticks
-IsEndAnswer names (Full site) passed says ticks answer = answer ≡ stopped_answer names (spot TOO_MANY_EVENTS site) says ticks
+IsEndAnswer names (Spent site) passed says ticks answer = answer ≡ stopped_answer names (spot Budget site) says ticks
+IsEndAnswer names (Full site) passed says ticks answer = answer ≡ stopped_answer names (spot TooManyEvents site) says ticks
 
 -- behind what was said and taken for the globals
 abbrev pub IsCutAnswer : (names : List (List ℕ)) → Table → Cut Task → Answer → Type 0

@@ -1,6 +1,9 @@
--- The faults that a run tells its user: 1 to 12 of a document, 20 to 25 and 32 to 46 of a stylesheet, 30 and 31 of a mention of a
--- module, 49 of a stylesheet that is not built, 50 to 63 of an evaluation, 70 of a file that could not be read.
+-- The names of the faults that a run reports to its user: 1 to 12 of a document, 20 to 25 and 32 to 46 of a stylesheet, 30 and 31 of
+-- a mention of a module, 49 of a stylesheet that is not supported, 70 of a file that could not be read; and those of an evaluation.
 use Rattle.std.specs.Prelude.{ℕ, List, [], codes, if◌then◌else◌, ◌==◌, nat_le}
+use Rattle.xs_trace.specs.declared.fault.Fault.{Fault}
+use Rattle.xs_trace.specs.declared.fault.Fault.TheVariants.{Budget, Fraction, Range, NotNodes, NoKey, TooDeep, NoRule, Terminated, NoExtension, Circular}
+use Rattle.xs_trace.specs.declared.fault.Fault.TheVariants.{BadResultName, UnboundResultPrefix, BadValue, TooManyEvents, NoDocument}
 
 -- the name of a fault of a document; none of another number
 unfoldable pub document_fault_name : ℕ → List ℕ
@@ -47,27 +50,31 @@ stylesheet_fault_name fault =
     if fault == 46 then codes "ModuleTooDeep" else (
     [])))))))))))))))))))))))
 
--- that of a run
-unfoldable pub run_fault_name : ℕ → List ℕ
-run_fault_name fault =
+-- that of a stylesheet that is not supported, and of a file that could not be read
+unfoldable pub file_fault_name : ℕ → List ℕ
+file_fault_name fault =
     if fault == 49 then codes "NotBuilt" else (
-    if fault == 50 then codes "Budget" else (
-    if fault == 51 then codes "Fraction" else (
-    if fault == 52 then codes "Range" else (
-    if fault == 53 then codes "NotNodes" else (
-    if fault == 54 then codes "NoKey" else (
-    if fault == 55 then codes "TooDeep" else (
-    if fault == 56 then codes "NoRule" else (
-    if fault == 57 then codes "Terminated" else (
-    if fault == 58 then codes "NoExtension" else (
-    if fault == 59 then codes "Circular" else (
-    if fault == 60 then codes "BadResultName" else (
-    if fault == 61 then codes "UnboundResultPrefix" else (
-    if fault == 62 then codes "BadValue" else (
-    if fault == 63 then codes "TooManyEvents" else (
     if fault == 70 then codes "ReadFault" else (
-    []))))))))))))))))
+    []))
 
--- the name of a fault, which its line bears; none of another number
+-- the name of a fault of a file, which its line bears; none of another number
 abbrev pub fault_name : ℕ → List ℕ
-fault_name fault = if nat_le fault 12 then document_fault_name fault else (if nat_le fault 46 then stylesheet_fault_name fault else run_fault_name fault)
+fault_name fault = if nat_le fault 12 then document_fault_name fault else (if nat_le fault 46 then stylesheet_fault_name fault else file_fault_name fault)
+
+-- the name of a fault of an evaluation
+abbrev pub run_fault_name : Fault → List ℕ
+run_fault_name Budget = codes "Budget"
+run_fault_name Fraction = codes "Fraction"
+run_fault_name Range = codes "Range"
+run_fault_name NotNodes = codes "NotNodes"
+run_fault_name NoKey = codes "NoKey"
+run_fault_name TooDeep = codes "TooDeep"
+run_fault_name NoRule = codes "NoRule"
+run_fault_name Terminated = codes "Terminated"
+run_fault_name NoExtension = codes "NoExtension"
+run_fault_name Circular = codes "Circular"
+run_fault_name BadResultName = codes "BadResultName"
+run_fault_name UnboundResultPrefix = codes "UnboundResultPrefix"
+run_fault_name BadValue = codes "BadValue"
+run_fault_name TooManyEvents = codes "TooManyEvents"
+run_fault_name NoDocument = codes "NoDocument"

@@ -1,8 +1,8 @@
--- What the items that a run kept give, one by one.
-use Rattle.std.specs.Prelude.{◌≡◌, ℕ, List, [], ◌∷◌, Option, Some, None}
+-- What the items of a run give, one by one.
+use Rattle.std.specs.Prelude.{ℕ, List, [], Option, Some, None}
 use Rattle.xs_body.specs.Tasks.{Task}
 use Rattle.xs_trace.specs.Kept.{marks_of}
-use Rattle.xs_trace.specs.Mark.{events_of}
+use Rattle.xs_trace.specs.Mark.{events_of, messages_of}
 use Rattle.xs_trace.specs.declared.event.Event.{Event}
 use Rattle.xs_trace.specs.declared.item.Item.{Item}
 use Rattle.xs_trace.specs.declared.item.Item.TheVariants.{Run, Put, Say}
@@ -20,11 +20,9 @@ item_event (Run m l n) = None
 item_event (Put event) = Some event
 item_event (Say text) = None
 
--- the events among some items
+-- the events among some items, and the messages
 abbrev pub events_in : List Item → List Event
 events_in items = events_of {H = Task} (marks_of items)
 
--- the first of them, and the items behind it
-abbrev pub IsFirstEvent : List Item → Option (Event × List Item) → Type 0
-IsFirstEvent items None = events_in items ≡ []
-IsFirstEvent items (Some p) = events_in items ≡ p.0 ∷ events_in p.1
+abbrev pub messages_in : List Item → List (List ℕ)
+messages_in items = messages_of {H = Task} (marks_of items)

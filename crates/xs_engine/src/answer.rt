@@ -148,8 +148,8 @@ fn static_reply(alloc: Global, modules: &Modules, fault: StaticFault) -> Result<
 }
 
 /// The answer of a run of a compiled stylesheet on a source, which is read where the stylesheet is
-/// built.
-fn run_reply<L: Library>(
+/// supported.
+pub fn run_reply<L: Library>(
     alloc: Global,
     job: &Job,
     source: &TextBuf,

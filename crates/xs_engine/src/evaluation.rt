@@ -17,6 +17,8 @@ ghost use Rattle.xs_tree.specs.Stripping.{without};
 use crate::job::Job;
 use crate::reply::{Reply, stopped_reply, whole_reply};
 use std::alloc::{AllocError, Global};
+use xs_block::chain::Chain;
+use xs_block::pool::Pool;
 use xs_body::runner::SheetRunner;
 use xs_body::settling::{Settled, settle};
 use xs_rules::index::RuleIndex;
@@ -66,7 +68,10 @@ fn evaluate_over(alloc: Global, job: &Job, sheet: &Sheet, tree: &Tree) -> Result
     let index = index_for(alloc, sheet, tree)?;
     let settled = settle(alloc, sheet, &index, tree, &NoKeys, &job.given, job.budget)?;
     match settled.end {
-        Some(spot) => stopped_reply(alloc, sheet, spot, &settled.says, &[], settled.ticks),
+        Some(spot) => {
+            let nothing = Chain::new(alloc);
+            stopped_reply(alloc, sheet, spot, &settled.says, &nothing, settled.ticks)
+        }
         None => root_reply(alloc, job, sheet, &index, tree, &settled),
     }
 }
@@ -109,19 +114,21 @@ fn root_reply(
         (reply.status ≡ OK) ⊎ (reply.status ≡ RUN_FAULT)) }
     ensures whole_only { IfOk result IsWholeOrEmpty }
 {
-    let runner = SheetRunner::new(sheet, index, tree, &NoKeys, &settled.values);
+    let runner = SheetRunner::new(sheet, index, tree, &NoKeys, &settled.values, None);
     let task = runner.root_task(alloc)?;
     let limits = Limits {
         ticks: job.budget - settled.ticks,
         events: job.most_events,
     };
-    let kept = runner.run_whole(alloc, &task, limits)?;
-    let ticks = settled.ticks + kept.ticks;
-    match kept.ended {
-        Ended::Whole => whole_reply(alloc, &settled.says, &kept.items, ticks),
-        Ended::Fault(spot) => stopped_reply(alloc, sheet, spot, &settled.says, &kept.items, ticks),
-        Ended::Spent(spot) => stopped_reply(alloc, sheet, spot, &settled.says, &kept.items, ticks),
-        Ended::Full(spot) => stopped_reply(alloc, sheet, spot, &settled.says, &kept.items, ticks),
+    let mut pool = Pool::new(alloc);
+    let outcome = runner.run_whole(alloc, &task, limits, &mut pool)?;
+    let part = &outcome.parts[0];
+    let ticks = settled.ticks + outcome.ticks;
+    match outcome.ended {
+        Ended::Whole => whole_reply(alloc, &settled.says, &part.items, ticks),
+        Ended::Fault(spot) => stopped_reply(alloc, sheet, spot, &settled.says, &part.items, ticks),
+        Ended::Spent(spot) => stopped_reply(alloc, sheet, spot, &settled.says, &part.items, ticks),
+        Ended::Full(spot) => stopped_reply(alloc, sheet, spot, &settled.says, &part.items, ticks),
         Ended::Over { .. } => unreachable!(),
     }
 }

@@ -1,13 +1,14 @@
-//! The faults that a run tells its user, by number and name.
+//! The faults that a run reports to its user: those of files by number, and the names of all.
 
 ghost use Rattle.std.specs.Prelude.{◌≡◌};
-ghost use Rattle.xs_engine.specs.Faults.{document_fault_name, fault_name, run_fault_name};
-ghost use Rattle.xs_engine.specs.Faults.{stylesheet_fault_name};
+ghost use Rattle.xs_engine.specs.Faults.{document_fault_name, fault_name, file_fault_name};
+ghost use Rattle.xs_engine.specs.Faults.{run_fault_name, stylesheet_fault_name};
 
 use xs_build::fault::{
     BAD_ESCAPE, BAD_LINE, BAD_NAME, BAD_NAMESPACE, BAD_UTF8, DOUBLE_ATTRIBUTE, NO_FINAL_LINE_FEED,
     NO_ROOT, TOO_LARGE, TRUNCATED, UNBALANCED, UNBOUND_PREFIX,
 };
+use xs_trace::fault::Fault;
 
 /// A text is in no spelling of its grammar.
 pub const SYNTAX: u8 = 20;
@@ -78,55 +79,13 @@ pub const FORBIDDEN: u8 = 45;
 /// An element stands too deep.
 pub const MODULE_TOO_DEEP: u8 = 46;
 
-/// A stylesheet holds what is not built.
+/// A stylesheet has what is not supported.
 pub const NOT_BUILT: u8 = 49;
-
-/// The budget is spent.
-pub const BUDGET: u8 = 50;
-
-/// A quotient is not whole.
-pub const FRACTION: u8 = 51;
-
-/// A number is out of range.
-pub const RANGE: u8 = 52;
-
-/// A value is no node-set.
-pub const NOT_NODES: u8 = 53;
-
-/// No key has the name.
-pub const NO_KEY: u8 = 54;
-
-/// Templates call each other too deep.
-pub const TOO_DEEP: u8 = 55;
-
-/// No rule matches.
-pub const NO_RULE: u8 = 56;
-
-/// A message ends the run.
-pub const TERMINATED: u8 = 57;
-
-/// An extension is not there.
-pub const NO_EXTENSION: u8 = 58;
-
-/// A global variable needs itself.
-pub const CIRCULAR: u8 = 59;
-
-/// A name for the result is none.
-pub const BAD_RESULT_NAME: u8 = 60;
-
-/// A prefix of the result is bound to no namespace.
-pub const UNBOUND_RESULT_PREFIX: u8 = 61;
-
-/// An attribute of an instruction has no value that it may have.
-pub const BAD_VALUE: u8 = 62;
-
-/// The result has too many events.
-pub const TOO_MANY_EVENTS: u8 = 63;
 
 /// A file could not be read.
 pub const UNREADABLE: u8 = 70;
 
-/// The name of a fault; none of another number.
+/// The name of a fault of a file; none of another number.
 pub fn fault_name(fault: u8) -> &'static str
     ensures { result.now ≡ fault_name fault }
 {
@@ -135,7 +94,7 @@ pub fn fault_name(fault: u8) -> &'static str
     } else if fault <= MODULE_TOO_DEEP {
         stylesheet_fault_name(fault)
     } else {
-        run_fault_name(fault)
+        file_fault_name(fault)
     }
 }
 
@@ -194,28 +153,37 @@ fn stylesheet_fault_name(fault: u8) -> &'static str
     }
 }
 
-/// The name of a fault of a run.
-#[tactic(auto, unfolding(crate::specs::Faults::run_fault_name))]
-fn run_fault_name(fault: u8) -> &'static str
-    ensures { result.now ≡ run_fault_name fault }
+/// The name of a fault of a stylesheet that is not supported, or of a file that could not be read.
+#[tactic(auto, unfolding(crate::specs::Faults::file_fault_name))]
+fn file_fault_name(fault: u8) -> &'static str
+    ensures { result.now ≡ file_fault_name fault }
 {
     match fault {
         NOT_BUILT => "NotBuilt",
-        BUDGET => "Budget",
-        FRACTION => "Fraction",
-        RANGE => "Range",
-        NOT_NODES => "NotNodes",
-        NO_KEY => "NoKey",
-        TOO_DEEP => "TooDeep",
-        NO_RULE => "NoRule",
-        TERMINATED => "Terminated",
-        NO_EXTENSION => "NoExtension",
-        CIRCULAR => "Circular",
-        BAD_RESULT_NAME => "BadResultName",
-        UNBOUND_RESULT_PREFIX => "UnboundResultPrefix",
-        BAD_VALUE => "BadValue",
-        TOO_MANY_EVENTS => "TooManyEvents",
         UNREADABLE => "ReadFault",
         _ => "",
+    }
+}
+
+/// The name of a fault of an evaluation.
+pub fn run_fault_name(fault: Fault) -> &'static str
+    ensures { result.now ≡ run_fault_name fault }
+{
+    match fault {
+        Fault::Budget => "Budget",
+        Fault::Fraction => "Fraction",
+        Fault::Range => "Range",
+        Fault::NotNodes => "NotNodes",
+        Fault::NoKey => "NoKey",
+        Fault::TooDeep => "TooDeep",
+        Fault::NoRule => "NoRule",
+        Fault::Terminated => "Terminated",
+        Fault::NoExtension => "NoExtension",
+        Fault::Circular => "Circular",
+        Fault::BadResultName => "BadResultName",
+        Fault::UnboundResultPrefix => "UnboundResultPrefix",
+        Fault::BadValue => "BadValue",
+        Fault::TooManyEvents => "TooManyEvents",
+        Fault::NoDocument => "NoDocument",
     }
 }

@@ -1,17 +1,17 @@
-//! The text and the messages that a run kept.
+//! The text and the messages of a run, by its items.
 
 ghost use Rattle.std.specs.Iterator.{YieldsFirstBy, item_count};
 ghost use Rattle.std.specs.Prelude.{◌≡◌, ◌++◌, IfOk, OnOk, option_map};
-ghost use Rattle.xs_trace.specs.Kept.{marks_of};
-ghost use Rattle.xs_trace.specs.Mark.{events_of, messages_of};
+ghost use Rattle.xs_block.specs.Chain.{items_of};
 ghost use Rattle.xs_result.specs.Built.{built};
 ghost use Rattle.xs_result.specs.Text.{text_in};
-ghost use Rattle.xs_body.specs.Tasks.{Task};
 ghost use Rattle.xs_engine.specs.Answer.{message_line, message_lines};
-ghost use Rattle.xs_engine.specs.Items.{IsFirstEvent, item_event, item_line};
+ghost use Rattle.xs_engine.specs.Items.{events_in, item_event, item_line, messages_in};
 
 use std::alloc::{AllocError, Global};
 use std::marker::Model;
+use xs_block::chain::Chain;
+use xs_block::items::Items;
 use xs_result::write_text;
 use xs_text::escape_into;
 use xs_trace::event::Event;
@@ -21,19 +21,17 @@ use xs_trace::text::TextBuf;
 /// The events among some items that are still to come. Contracts see it as the list of them.
 #[derive(Drop)]
 struct Events<'a> {
-    left: &'a [Item],
+    left: Items<'a, Item>,
 }
 
 impl<'a> Model for Events<'a> {
     ghost use Rattle.std.specs.Prelude.{List};
-    ghost use Rattle.xs_body.specs.Tasks.{Task};
-    ghost use Rattle.xs_trace.specs.Kept.{marks_of};
-    ghost use Rattle.xs_trace.specs.Mark.{events_of};
     ghost use Rattle.xs_trace.specs.declared.event.Event.{Event};
+    ghost use Rattle.xs_engine.specs.Items.{events_in};
 
     ghost Value = { List Event };
 
-    ghost view = { λ e. events_of {H = Task} (marks_of e.left.now) };
+    ghost view = { λ e. events_in e.left };
 }
 
 impl<'a> Iterator for Events<'a> {
@@ -43,10 +41,14 @@ impl<'a> Iterator for Events<'a> {
 
     ghost remaining = { item_count (λ a. a) };
 
+    #[tactic(auto, using(crate::proofs::ItemLemmas::events_after))]
     fn next(&mut self) -> Option<&'a Event> {
-        let (event, left) = first_event(self.left)?;
-        self.left = left;
-        Some(event)
+        while let Some(item) = self.left.next() {
+            if let Some(event) = event_of(item) {
+                return Some(event);
+            }
+        }
+        None
     }
 }
 
@@ -60,35 +62,25 @@ fn event_of(item: &Item) -> Option<&Event>
     }
 }
 
-/// The first event among some items, and what stands behind it.
-#[tactic(auto, using(crate::proofs::ItemLemmas::events_behind))]
-fn first_event<'a>(items: &'a [Item]) -> Option<(&'a Event, &'a [Item])>
-    ensures { IsFirstEvent items.now (option_map (λ p. (p.0.now, p.1.now)) result) }
-{
-    let mut left = items;
-    while let Some((item, others)) = left.split_first() {
-        if let Some(event) = event_of(item) {
-            return Some((event, others));
-        }
-        left = others;
-    }
-    None
-}
-
 /// The text of a result: of the text nodes that stay of the events among the items.
-pub fn result_text(alloc: Global, items: &[Item]) -> Result<Vec<u8>, AllocError>
+pub fn result_text(alloc: Global, items: &Chain<Item>) -> Result<Vec<u8>, AllocError>
     ensures { IfOk result (λ text. text.items
-        ≡ text_in (built (events_of {H = Task} (marks_of items.now)))) }
+        ≡ text_in (built (events_in (items_of items.now)))) }
 {
     let mut text = Vec::new(alloc);
-    write_text(&mut text, Events { left: items })?;
+    let left = items.items();
+    write_text(&mut text, Events { left })?;
     Ok(text)
 }
 
 /// The lines of messages, and then of those among the items.
-pub fn message_lines(alloc: Global, says: &[TextBuf], items: &[Item]) -> Result<Vec<u8>, AllocError>
+pub fn message_lines(
+    alloc: Global,
+    says: &[TextBuf],
+    items: &Chain<Item>,
+) -> Result<Vec<u8>, AllocError>
     ensures { IfOk result (λ lines. lines.items
-        ≡ message_lines (says.now ++ messages_of {H = Task} (marks_of items.now))) }
+        ≡ message_lines (says.now ++ messages_in (items_of items.now))) }
 {
     let mut lines = Vec::new(alloc);
     for text in says {
@@ -99,11 +91,11 @@ pub fn message_lines(alloc: Global, says: &[TextBuf], items: &[Item]) -> Result<
 }
 
 /// Appends the lines of the messages among the items.
-fn append_said(lines: &mut Vec<u8>, items: &[Item]) -> Result<(), AllocError>
+fn append_said(lines: &mut Vec<u8>, items: &Chain<Item>) -> Result<(), AllocError>
     ensures { OnOk result (lines.new.items ≡ lines.old.items
-        ++ message_lines (messages_of {H = Task} (marks_of items.now))) }
+        ++ message_lines (messages_in (items_of items.now))) }
 {
-    for item in items {
+    for item in items.items() {
         append_line(lines, item)?;
     }
     Ok(())

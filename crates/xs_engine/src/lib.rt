@@ -13,6 +13,9 @@ mod reply;
 pub mod status;
 mod top;
 
+pub use answer::run_reply;
+pub use job::Job;
+pub use reply::Reply;
 pub use top::{Report, transform};
 pub use xs_outside as outside;
 pub use xs_trace::place::{Claim, Place};

@@ -2,18 +2,19 @@
 
 ghost use Rattle.std.specs.Prelude.{◌≡◌, ◌++◌, IfOk, OnOk};
 ghost use Rattle.std.specs.Fmt.{decimal};
-ghost use Rattle.xs_trace.specs.Kept.{marks_of};
-ghost use Rattle.xs_trace.specs.Mark.{events_of, messages_of};
-ghost use Rattle.xs_body.specs.Tasks.{Task};
-ghost use Rattle.xs_engine.specs.Answer.{fault_line, faultless, name_in, read_fault};
-ghost use Rattle.xs_engine.specs.Answer.{refused_file, stopped_answer, usage, whole_answer};
+ghost use Rattle.xs_block.specs.Chain.{items_of};
+ghost use Rattle.xs_engine.specs.Answer.{fault_line, faultless, file_fault_line, name_in};
+ghost use Rattle.xs_engine.specs.Answer.{read_fault, refused_file, stopped_answer, usage};
+ghost use Rattle.xs_engine.specs.Answer.{whole_answer};
+ghost use Rattle.xs_engine.specs.Items.{events_in, messages_in};
 ghost use Rattle.xs_engine.specs.Reply.{reply_of};
 
-use crate::faults::{UNREADABLE, fault_name};
+use crate::faults::{UNREADABLE, fault_name, run_fault_name};
 use crate::items::{message_lines, result_text};
 use crate::status::{OK, READ_FAULT, REFUSED, RUN_FAULT, USAGE};
 use itoa::Buffer;
 use std::alloc::{AllocError, Global};
+use xs_block::chain::Chain;
 use xs_sheet::sheet::Sheet;
 use xs_text::escape_into;
 use xs_trace::item::{Item, Spot};
@@ -52,7 +53,7 @@ pub fn usage_reply(alloc: Global) -> Result<Reply, AllocError>
 pub fn read_fault_reply(alloc: Global, name: &TextBuf) -> Result<Reply, AllocError>
     ensures { IfOk result (λ reply. reply_of reply ≡ read_fault name.now) }
 {
-    let lines = append_fault(Vec::new(alloc), UNREADABLE, name.as_str(), 0)?;
+    let lines = file_fault(alloc, UNREADABLE, name, 0)?;
     Ok(Reply {
         status: READ_FAULT,
         result: Vec::new(alloc),
@@ -70,7 +71,7 @@ pub fn refused_reply(
 ) -> Result<Reply, AllocError>
     ensures { IfOk result (λ reply. reply_of reply ≡ refused_file fault name.now line) }
 {
-    let lines = append_fault(Vec::new(alloc), fault, name.as_str(), line)?;
+    let lines = file_fault(alloc, fault, name, line)?;
     Ok(Reply {
         status: REFUSED,
         result: Vec::new(alloc),
@@ -95,12 +96,12 @@ pub fn faultless_reply(alloc: Global) -> Reply
 pub fn whole_reply(
     alloc: Global,
     says: &[TextBuf],
-    items: &[Item],
+    items: &Chain<Item>,
     ticks: u64,
 ) -> Result<Reply, AllocError>
     ensures { IfOk result (λ reply. reply_of reply
-        ≡ whole_answer (says.now ++ messages_of (marks_of {H = Task} items.now))
-        (events_of (marks_of {H = Task} items.now)) ticks) }
+        ≡ whole_answer (says.now ++ messages_in (items_of items.now))
+        (events_in (items_of items.now)) ticks) }
 {
     Ok(Reply {
         status: OK,
@@ -116,17 +117,18 @@ pub fn stopped_reply(
     sheet: &Sheet,
     spot: Spot,
     says: &[TextBuf],
-    items: &[Item],
+    items: &Chain<Item>,
     ticks: u64,
 ) -> Result<Reply, AllocError>
     ensures { IfOk result (λ reply. reply_of reply ≡ stopped_answer sheet.now.modules spot
-        (says.now ++ messages_of (marks_of {H = Task} items.now)) ticks) }
+        (says.now ++ messages_in (items_of items.now)) ticks) }
 {
     let result = Vec::new(alloc);
     let messages = message_lines(alloc, says, items)?;
     let lines = append_fault(
         messages,
-        spot.fault,
+        spot.fault.number(),
+        run_fault_name(spot.fault),
         module_name(sheet, spot.module),
         spot.line,
     )?;
@@ -148,15 +150,35 @@ fn module_name(sheet: &Sheet, number: u32) -> &str
     }
 }
 
-/// Appends the line of a fault to other lines.
-fn append_fault(lines: Vec<u8>, fault: u8, name: &str, line: u32) -> Result<Vec<u8>, AllocError>
-    ensures { IfOk result (λ all. all.items ≡ lines.items ++ fault_line fault name.now line) }
+/// The line of a fault of a file.
+fn file_fault(alloc: Global, fault: u8, name: &TextBuf, line: u32) -> Result<Vec<u8>, AllocError>
+    ensures { IfOk result (λ lines. lines.items ≡ file_fault_line fault name.now line) }
+{
+    append_fault(
+        Vec::new(alloc),
+        fault,
+        fault_name(fault),
+        name.as_str(),
+        line,
+    )
+}
+
+/// Appends the line of a fault, by its number and name, to other lines.
+fn append_fault(
+    lines: Vec<u8>,
+    number: u8,
+    fault: &str,
+    name: &str,
+    line: u32,
+) -> Result<Vec<u8>, AllocError>
+    ensures { IfOk result (λ all.
+        all.items ≡ lines.items ++ fault_line number fault.now name.now line) }
 {
     let mut all = lines;
     all.extend_from_slice(b"fault ")?;
-    append_number(&mut all, u32::from(fault))?;
+    append_number(&mut all, u32::from(number))?;
     all.extend_from_slice(b" ")?;
-    all.extend_from_slice(fault_name(fault).as_bytes())?;
+    all.extend_from_slice(fault.as_bytes())?;
     all.extend_from_slice(b" ")?;
     escape_into(&mut all, name)?;
     all.extend_from_slice(b" ")?;

@@ -6,6 +6,7 @@ use Rattle.xs_sheet.specs.declared.declarations.Global.{Global}
 use Rattle.xs_trace.specs.Play.{Step, Goes, and_then, play}
 use Rattle.xs_trace.specs.State.{State, opened, popped}
 use Rattle.xs_trace.specs.Kept.{spot}
+use Rattle.xs_trace.specs.declared.fault.Fault.TheVariants as fault
 use Rattle.xs_trace.specs.declared.item.Spot.{Spot}
 use Rattle.xs_trace.specs.declared.recorder.Halt.{Halt}
 use Rattle.xs_trace.specs.declared.recorder.Halt.TheVariants as halt
@@ -34,7 +35,7 @@ abbrev pub StopsAt : Result Value Halt → Spot → Type 0
 StopsAt (Ok v) q = ⊥
 StopsAt (Err (halt.Fault f p)) q = q ≡ spot f p
 StopsAt (Err (halt.Needs g p)) q = ⊥
-StopsAt (Err (halt.Spent p)) q = q ≡ spot 50 p
+StopsAt (Err (halt.Spent p)) q = q ≡ spot fault.Budget p
 StopsAt (Err (halt.Full p)) q = ⊥
 StopsAt (Err (halt.Over t)) q = ⊥
 StopsAt (Err halt.NoMemory) q = ⊥

@@ -24,6 +24,7 @@ use Rattle.xs_trace.specs.Run.{Run, give, limited, ◌>>=◌}
 use Rattle.xs_trace.specs.State.{State, opened, popped, top}
 use Rattle.xs_trace.specs.Play.{Step, Goes, Told, and_then, goes, ticked, put, put_at, said_at, stops, play}
 use Rattle.xs_trace.specs.declared.event.Event.TheVariants.{Start, Space, Chars, End}
+use Rattle.xs_trace.specs.declared.fault.Fault.TheVariants as fault
 use Rattle.xs_trace.specs.declared.item.Site.{Site}
 use Rattle.xs_tree.specs.Kinds.{has_content, is_attribute_kind, is_text_kind}
 use Rattle.xs_tree.specs.Record.{Record, at, children}
@@ -134,7 +135,7 @@ abbrev pub filled : Trace Task → List Value → State Task → Step Task (List
 filled x vs s = and_then (play x s) (λ u m. Goes vs m)
 
 abbrev pub ended : Bool → Site → State Task → Told Task
-ended terminate p s = if terminate then stops (Fault 57 p) s else goes s
+ended terminate p s = if terminate then stops (Fault fault.Terminated p) s else goes s
 
 abbrev pub message_steps : Site → Bool → List ℕ → State Task → Told Task
 message_steps p terminate text s = and_then (said_at p text s) (λ u m. ended terminate p m)
@@ -228,14 +229,14 @@ entry_begun (fitting mode ps) w p f t s = rule_begun (rule_for w mode f.node) w 
 entry_begun (overridden current) w p f t s = rule_begun (import_for w current f) w f.mode no_params p f t s
 
 abbrev pub entering : Entry → World → Site → Focus → Stack → State Task → Step Task Stack
-entering e w p f t s = if f.depth == 0 then stops (Fault 55 p) s else entry_begun e w p (with_depth (f.depth - 1) f) t s
+entering e w p f t s = if f.depth == 0 then stops (Fault fault.TooDeep p) s else entry_begun e w p (with_depth (f.depth - 1) f) t s
 
 abbrev pub call_begun : World → Called → Params → Site → Focus → Stack → State Task → Step Task Stack
 call_begun w (by_number i) ps p f t s = and_then (ticked p s) (λ u m. entering (named i ps) w p f t m)
 call_begun w (by_rules mode ns) ps p f t s = applied_begun w mode ps p f ns t s
 
 abbrev pub imports_begun : World → Site → Focus → Option ℕ → Stack → State Task → Step Task Stack
-imports_begun w p f None t s = stops (Fault 56 p) s
+imports_begun w p f None t s = stops (Fault fault.NoRule p) s
 imports_begun w p f (Some rule) t s = and_then (ticked p s) (λ u m. entering (overridden rule) w p f t m)
 
 -- the value of a binding, which fills a slot
@@ -258,7 +259,7 @@ param_begun None w content p c t s = content_begun w content p c t s
 param_begun (Some v) w content p c t s = Goes (filled_up (v ∷ []) t) s
 
 abbrev pub fallbacks_begun : List Body → Site → Scope → Stack → State Task → Step Task Stack
-fallbacks_begun [] p c t s = stops (Fault 58 p) s
+fallbacks_begun [] p c t s = stops (Fault fault.NoExtension p) s
 fallbacks_begun (b ∷ bs) p c t s = Goes (pushed (bodies_left (b ∷ bs) (inner c) ∷ []) t) s
 
 -- the next of some bodies

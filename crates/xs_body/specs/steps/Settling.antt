@@ -3,6 +3,7 @@ use Rattle.std.specs.Prelude.{◌≡◌, ◌⊎◌, ℕ, ◌+◌, ◌*◌, ◌<�
 use Rattle.std.specs.List.{All, sum_by}
 use Rattle.xs_trace.specs.Cut.{Cut, End, Whole, Fault, Needs, Spent, Full}
 use Rattle.xs_trace.specs.Kept.{spot}
+use Rattle.xs_trace.specs.declared.fault.Fault.TheVariants as fault
 use Rattle.xs_trace.specs.declared.item.Site.{Site}
 use Rattle.xs_trace.specs.declared.item.Spot.{Spot}
 use Rattle.xs_value.specs.declared.value.Value.{Value}
@@ -42,8 +43,8 @@ pub record IsGoing (w : World) (budget : ℕ) (begun : List Bool) (t : Table) : 
 abbrev pub EndsSo : List Bool → End → Spot → Type 0
 EndsSo begun Whole s = ⊥
 EndsSo begun (Fault f p) s = s ≡ spot f p
-EndsSo begun (Needs h p) s = (slice_get begun h ≡ Some true) × (s ≡ spot 59 p)
-EndsSo begun (Spent p) s = s ≡ spot 50 p
+EndsSo begun (Needs h p) s = (slice_get begun h ≡ Some true) × (s ≡ spot fault.Circular p)
+EndsSo begun (Spent p) s = s ≡ spot fault.Budget p
 EndsSo begun (Full p) s = ⊥
 
 -- what an attempt at a global did to a table
@@ -56,7 +57,7 @@ IsTurn w budget begun g t u (turn.Needs h) =
 -- what an attempt did that needs another global
 abbrev pub IsNeed : List Bool → (other : ℕ) → Site → List (List ℕ) → ℕ → Table → Table → Turn → Type 0
 IsNeed begun other p says ticks t u turn.Done = ⊥
-IsNeed begun other p says ticks t u (turn.Ends s) = (slice_get begun other ≡ Some true) × ((s ≡ spot 59 p) × (u ≡ added says ticks t))
+IsNeed begun other p says ticks t u (turn.Ends s) = (slice_get begun other ≡ Some true) × ((s ≡ spot fault.Circular p) × (u ≡ added says ticks t))
 IsNeed begun other p says ticks t u (turn.Needs h) = (h ≡ other) × ((slice_get begun other ≡ Some true → ⊥) × (u ≡ once_more t))
 
 -- what comes of a table, with globals under attempt, the innermost first

@@ -9,7 +9,7 @@ returns-in-Some-clause-answer c =
     over_index c.stopped_reply.result (job_data c.args.job.now) c.args.sheet.now c.in_ok-index.index c.args.tree.now
     (ended_in_globals (job_data c.args.job.now) (ground c.args.sheet.now c.in_ok-index.index c.args.tree.now []) c.in_ok-settled.settled
     (rw c.deref.ensures.value at c.in_ok-settled.ensures.settles) c.stopped_reply.result c.in-Some.spot c.in-Some.is
-    (rw c.deref-in-Some.ensures.value at c.stopped_reply.ensures))
+    (rw (c.deref-in-Some.ensures.value, c.new-nothing.ensures.empty) at c.stopped_reply.ensures))
 
 pub returns-clause-answer : goal.returns-clause-answer
 returns-clause-answer c =

@@ -1,0 +1,39 @@
+use Rattle.std.proofs.Common.{◌≡◌, IfOk, refl, rules, subst, sym}
+use Rattle.std.specs.List.{All}
+use Rattle.std.specs.Option.{IsSome}
+use Rattle.xs_record.specs.Piece.{IsPiece}
+use Rattle.xs_body.specs.Inside.{IsTaskIn, IsWorld}
+use Rattle.xs_body.specs.Trace.{task_trace}
+use Rattle.xs_body.specs.World.{World}
+use Rattle.xs_body.proofs.WholeLemmas.{piece-is, task-settled}
+use Rattle.xs_body.proofs.runner.SheetRunner.run.Goals as goal
+
+pub tell_task-told-requires-sync-K : goal.tell_task-told-requires-sync-K
+tell_task-told-requires-sync-K g c κs within =
+    let v : c.self.inside.world ≡ c.args.self.now = c.self.view_is in (
+      search rules,
+      (
+        (refl, tt),
+        (
+          subst (λ (x : World). IsWorld x) (sym v) c.requires.world,
+          (λ some. refl, subst (λ (x : World). IsTaskIn x.tree c.args.task.now) (sym v) c.requires.task),
+        ),
+      ),
+    )
+
+pub finish-requires : goal.finish-requires
+finish-requires g c =
+    let v : c.self.inside.world ≡ c.args.self.now = c.self.view_is in
+    let w : World = c.self.inside.world in
+    let all : All IsSome w.globals = subst (λ (x : World). All IsSome x.globals) (sym v) c.requires.settled in
+    record { settled = task-settled w c.args.task.now _ _ c.tell_task-told.result all c.tell_task-told.ensures.told }
+
+pub returns-clause-piece : goal.returns-clause-piece
+returns-clause-piece g c =
+    let v : c.self.inside.world ≡ c.args.self.now = c.self.view_is in
+    subst (λ (x : World). IfOk c.finish.result.outcome (λ o. IsPiece (task_trace x c.args.task.now) c.args.limits c.args.total.most
+    c.args.total.added c.finish.result.total.added c.finish.result.total.last c.args.children.now.items
+    c.finish.new.children.items o)) v
+    (piece-is c.finish.result.outcome (task_trace c.self.inside.world c.args.task.now) c.args.limits c.args.total.others
+    c.args.total.most c.args.total.last c.args.total.added c.args.pool _ _ c.tell_task-told.result _ _ _ _ _ _
+    c.tell_task-told.ensures.kept c.new-recorder.ensures.kept c.new-recorder.ensures.begins c.tell_task-told.ensures.told c.finish.ensures.piece)
