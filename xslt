@@ -36,7 +36,8 @@ say_crates() {
         folder=$top/crates/$crate/out/rlib
         [ ! -d "$folder" ] || [ -e "$folder/$crate.rlib" ] || at="$at $crate"
     done
-    if [ -n "$at" ] && [ "$at, $2" != "$said" ]; then
+    # (a crate that ended meanwhile has said so already: that is read first)
+    if [ -n "$at" ] && [ "$at, $2" != "$said" ] && ! read -r -t 0; then
         said="$at, $2"
         echo "xslt: proving$at; $2 of $3 crates left" >&2
     fi
