@@ -1,17 +1,41 @@
 -- What a run is to do, of what its words ask for.
-use Rattle.std.specs.Prelude.{ℕ, ◌&&◌, ◌||◌, Bool, true, false, not, List, [], ◌∷◌, Option, Some, None, is_none}
+use Rattle.std.specs.Prelude.{ℕ, ◌&&◌, ◌||◌, Bool, true, false, not, List, [], ◌∷◌, map, Option, Some, None, is_none}
 use Rattle.xs_words.specs.Choice.{Choice, Pair, Job as Work, files, check, load}
 use Rattle.xs_words.specs.Options.{options_of}
 use Rattle.xs_words.specs.Steps.{given, where_it_holds}
 
--- the names of its stylesheet and its source, none where the stylesheet is only checked; the names and texts that are given for
--- parameters of the stylesheet (XSLT 1.0, 11.4); how many ticks it may take, and how many events it may put, where there is a limit
 pub record Job : Type 0 where
+  -- the name of its stylesheet
   pub sheet : List ℕ
+  -- the name of its source, none where the stylesheet is only checked
   pub source : Option (List ℕ)
+  -- the names of further documents, each with the name of its file
+  pub documents : List Pair
+  -- the names and texts that are given for parameters of the stylesheet (XSLT 1.0, 11.4)
   pub given : List Pair
+  -- how many ticks it may take, and how many events it may put, where there is a limit
   pub budget : ℕ
   pub most_events : Option ℕ
+  -- how many elements the source has that it makes, with a stylesheet; none where its files are those of the library
+  pub made : Option ℕ
+  -- whether the result is written while the evaluation goes on
+  pub stream : Bool
+
+abbrev pub file_of : Pair → List ℕ
+file_of input = input.1
+
+-- the inputs of a run on a source, each with its file: the source, which has no name, and then the documents
+abbrev pub inputs_on : Job → (source : List ℕ) → List Pair
+inputs_on job source = ([], source) ∷ job.documents
+
+-- their files
+abbrev pub files_on : Job → (source : List ℕ) → List (List ℕ)
+files_on job source = map file_of (inputs_on job source)
+
+-- Refused words stream nothing.
+abbrev pub is_streamed : Option Job → Bool
+is_streamed None = false
+is_streamed (Some job) = job.stream
 
 abbrev pub has_none : List Pair → Bool
 has_none [] = true
@@ -24,10 +48,26 @@ is_built choice = not (choice.stats || (choice.profile || choice.stream)) && (is
 
 -- A stylesheet on a source, or a stylesheet alone; the made input is not built. The workers and the grain change nothing.
 abbrev pub files_job : Choice → Work → Option Job
-files_job choice (files sheet source texts) =
-    Some (record { sheet = sheet; source = Some source; given = texts; budget = choice.budget; most_events = choice.max_events })
-files_job choice (check sheet) =
-    Some (record { sheet = sheet; source = None; given = []; budget = choice.budget; most_events = choice.max_events })
+files_job choice (files sheet source texts) = Some (record {
+  sheet = sheet;
+  source = Some source;
+  documents = [];
+  given = texts;
+  budget = choice.budget;
+  most_events = choice.max_events;
+  made = None;
+  stream = false;
+})
+files_job choice (check sheet) = Some (record {
+  sheet = sheet;
+  source = None;
+  documents = [];
+  given = [];
+  budget = choice.budget;
+  most_events = choice.max_events;
+  made = None;
+  stream = false;
+})
 files_job choice (load rows) = None
 
 abbrev pub built_job : Choice → Option Job

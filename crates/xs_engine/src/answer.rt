@@ -12,7 +12,7 @@ ghost use Rattle.xs_engine.specs.Built.{is_built};
 ghost use Rattle.xs_engine.specs.Due.{IsAnswer, IsDue, IsModulesAnswer, IsSheetAnswer, Owed};
 ghost use Rattle.xs_engine.specs.Fetches.{Fetches, GoesOn, Grew, JobFetches};
 ghost use Rattle.xs_engine.specs.Headline.{HasTicks};
-ghost use Rattle.xs_engine.specs.Job.{job_of};
+ghost use Rattle.xs_engine.specs.Job.{inputs_on, job_of};
 ghost use Rattle.xs_engine.specs.Reply.{AsksSource, GoesTo, IsChecked, IsWholeOrEmpty};
 ghost use Rattle.xs_engine.specs.Reply.{job_data, reply_of};
 ghost use Rattle.xs_engine.specs.Run.{module_name};
@@ -96,7 +96,8 @@ fn modules_reply<L: Library>(
 ) -> Result<Reply, AllocError>
     requires { IsSound (modules_data modules.now) }
     ensures files { L.files library.new ≡ L.files library.old }
-    ensures asks { Grew (AsksSource (GoesOn (job_data job.now) (modules_data modules.now)))
+    ensures asks { Grew (AsksSource (GoesOn (job_data job.now) (modules_data modules.now))
+        (L.files library.old) (job_data job.now))
         (L.asked library.old) (L.asked library.new) (L.failed library.old) (L.failed library.new) }
     ensures due { IfOk result (λ reply. Owed
         (IsModulesAnswer (L.files library.old) (job_data job.now) (modules_data modules.now))
@@ -158,10 +159,12 @@ pub fn run_reply<L: Library>(
 ) -> Result<Reply, AllocError>
     requires sound { SheetIsSound sheet.now }
     ensures files { L.files library.new ≡ L.files library.old }
-    ensures asks { Grew (AsksSource (GoesTo sheet.now source.now))
+    ensures asks { Grew (AsksSource (GoesTo sheet.now source.now)
+        (L.files library.old) (job_data job.now))
         (L.asked library.old) (L.asked library.new) (L.failed library.old) (L.failed library.new) }
     ensures due { IfOk result (λ reply. Owed (IsSheetAnswer (is_built sheet.now)
-        (L.files library.old) (job_data job.now) sheet.now source.now)
+        (L.files library.old) (job_data job.now) sheet.now
+        (inputs_on (job_data job.now) source.now))
         (L.failed library.old) (L.failed library.new) (reply_of reply)) }
     ensures read_fault_only { IfOk result (λ reply. reply.status ≡ READ_FAULT
         → length (L.failed library.old) < length (L.failed library.new)) }
