@@ -14,8 +14,7 @@ use Rattle.xs_static.specs.declared.fault.StaticFault.{StaticFault}
 use Rattle.xs_static.specs.Faults.{IsFirstFault}
 use Rattle.xs_engine.specs.declared.reply.Reply.{Reply}
 use Rattle.xs_engine.specs.Answer.{Answer, usage, read_fault, not_built, refused_file}
-use Rattle.xs_engine.specs.Job.{Job, inputs_on}
-use Rattle.xs_engine.specs.Made.{files_of}
+use Rattle.xs_engine.specs.Job.{Job, Request, inputs_on, plain}
 use Rattle.xs_engine.specs.Read.{Read, read, bad}
 use Rattle.xs_compile.proofs.OneSheetLemmas.{one_sheet}
 use Rattle.xs_compile.specs.StandsFor.{StandsFor}
@@ -163,20 +162,17 @@ modules_owed (Ok reply) files job found modules asked middle failed failing fail
     record { names = comes.names; end = whole found; reads = comes.reads; answers = subst (λ ms. IsModulesAnswer files job ms b) are over }) owed)
 
 -- the words are refused
-pub usage_owed : {E : Type 0} (r : Result Reply E) (files : Option Files) (job : Option Job) (failed : List (List ℕ)) → job ≡ None
-    → IfOk r (λ reply. reply_of reply ≡ usage) → IfOk r (λ reply. IsDue files job failed failed (reply_of reply))
-usage_owed (Err e) files job failed none is = tt
-usage_owed (Ok reply) files job failed none is = subst (λ j. IsDue files j failed failed (reply_of reply)) (sym none) (refl, is)
+pub usage_owed : {E : Type 0} (r : Result Reply E) (files : Option Files) (request : Option Request) (failed : List (List ℕ)) → request ≡ None
+    → IfOk r (λ reply. reply_of reply ≡ usage) → IfOk r (λ reply. IsDue files request failed failed (reply_of reply))
+usage_owed (Err e) files request failed none is = tt
+usage_owed (Ok reply) files request failed none is = subst (λ q. IsDue files q failed failed (reply_of reply)) (sym none) (refl, is)
 
--- the words ask for this job, which makes no files
-pub job_owed : {E : Type 0} (r : Result Reply E) (files : Option Files) (job : Option Job) (given : Job) (failed failed' : List (List ℕ))
-    → job ≡ Some given → given.made ≡ None → IfOk r (λ reply. Owed (IsAnswer files given) failed failed' (reply_of reply))
-    → IfOk r (λ reply. IsDue files job failed failed' (reply_of reply))
-job_owed (Err e) files job given failed failed' is none owed = tt
-job_owed (Ok reply) files job given failed failed' is none owed =
-    let over : Owed (IsAnswer (files_of given.made files) given) failed failed' (reply_of reply) =
-    subst (λ m. Owed (IsAnswer (files_of m files) given) failed failed' (reply_of reply)) (sym none) owed in
-    subst (λ j. IsDue files j failed failed' (reply_of reply)) (sym is) over
+-- the words ask for this job
+pub job_owed : {E : Type 0} (r : Result Reply E) (files : Option Files) (request : Option Request) (job : Job) (failed failed' : List (List ℕ))
+    → request ≡ Some (plain job) → IfOk r (λ reply. Owed (IsAnswer files job) failed failed' (reply_of reply))
+    → IfOk r (λ reply. IsDue files request failed failed' (reply_of reply))
+job_owed (Err e) files request job failed failed' is owed = tt
+job_owed (Ok reply) files request job failed failed' is owed = subst (λ q. IsDue files q failed failed' (reply_of reply)) (sym is) owed
 
 -- one name was added, and none
 not_both : (xs ys : List (List ℕ)) (name : List ℕ) → ys ≡ xs ++ name ∷ [] → ys ≡ xs → ⊥
@@ -273,11 +269,12 @@ one_owed files job failed failed' a b (own e p) (fault n f q) = absurd (not_both
 one_owed files job failed failed' a b (own e p) (own f q) = one_answer files job a b p q
 
 -- where the files of a run are known
-one_due : (files : Option Files) (known : Files) (job : Option Job) (failed failed' : List (List ℕ)) (a b : Answer) → files_for job files ≡ Some known
-    → IsDue files job failed failed' a → IsDue files job failed failed' b → a ≡ b
+one_due : (files : Option Files) (known : Files) (request : Option Request) (failed failed' : List (List ℕ)) (a b : Answer) → files_for request files ≡ Some known
+    → IsDue files request failed failed' a → IsDue files request failed failed' b → a ≡ b
 one_due files known None failed failed' a b is p q = p.1 ∙ sym q.1
-one_due files known (Some job) failed failed' a b is p q =
-    one_owed known job failed failed' a b (subst (λ f. Owed (IsAnswer f job) failed failed' a) is p) (subst (λ f. Owed (IsAnswer f job) failed failed' b) is q)
+one_due files known (Some request) failed failed' a b is p q =
+    one_owed known request.job failed failed' a b (subst (λ f. Owed (IsAnswer f request.job) failed failed' a) is p)
+    (subst (λ f. Owed (IsAnswer f request.job) failed failed' b) is q)
 
 where_known : (files : Option Files) (D P : Answer → Type 0) (a : Answer) → ((known : Files) → files ≡ Some known → (b : Answer) → D b → a ≡ b) → P a
     → WhereKnown files D P
@@ -289,12 +286,12 @@ each_known None D P p = tt
 each_known (Some known) D P p = λ a due. p a
 
 -- what holds of an answer that is due holds of each
-pub only_due : (files : Option Files) (job : Option Job) (failed failed' : List (List ℕ)) (a : Answer) (P : Answer → Type 0)
-    → IsDue files job failed failed' a → P a → OnlyDue files job failed failed' P
-only_due files job failed failed' a P due p =
-    where_known (files_for job files) (IsDue files job failed failed') P a (λ known is b. one_due files known job failed failed' a b is due) p
+pub only_due : (files : Option Files) (request : Option Request) (failed failed' : List (List ℕ)) (a : Answer) (P : Answer → Type 0)
+    → IsDue files request failed failed' a → P a → OnlyDue files request failed failed' P
+only_due files request failed failed' a P due p =
+    where_known (files_for request files) (IsDue files request failed failed') P a (λ known is b. one_due files known request failed failed' a b is due) p
 
 -- and what holds of all answers
-pub each_due : (files : Option Files) (job : Option Job) (failed failed' : List (List ℕ)) (P : Answer → Type 0) → ((a : Answer) → P a)
-    → OnlyDue files job failed failed' P
-each_due files job failed failed' P p = each_known (files_for job files) (IsDue files job failed failed') P p
+pub each_due : (files : Option Files) (request : Option Request) (failed failed' : List (List ℕ)) (P : Answer → Type 0) → ((a : Answer) → P a)
+    → OnlyDue files request failed failed' P
+each_due files request failed failed' P p = each_known (files_for request files) (IsDue files request failed failed') P p

@@ -11,7 +11,7 @@ use Rattle.xs_modules.specs.Results.{ComesTo}
 use Rattle.xs_static.specs.Faults.{IsFirstFault}
 use Rattle.xs_engine.specs.Built.{is_built}
 use Rattle.xs_engine.specs.Inputs.{AsksInputs, no_more, last, failed, next}
-use Rattle.xs_engine.specs.Job.{Job, files_on}
+use Rattle.xs_engine.specs.Job.{Job, Request, files_on, plain}
 use Rattle.xs_compile.specs.StandsFor.{StandsFor}
 use Rattle.xs_sheet.specs.declared.sheet.Sheet.{Sheet}
 use Rattle.xs_engine.specs.Fetches.{ReadsSheet, sheet_asked, inputs_asked, Grew, JobFetches, FetchesOver, Fetches, GoesOn}
@@ -27,19 +27,14 @@ nothing_over None job files asked faults =
     record { names = []; faults = []; asked = stays asked asked refl; failed = stays faults faults refl; asks = sheet_asked {end = out_of_memory} out_before }
 nothing_over (Some count) job files asked faults = (refl, refl)
 
-pub nothing_asked : (job : Option Job) (files : Option Files) (asked faults : List (List ℕ)) → Fetches job files asked asked faults faults
+pub nothing_asked : (request : Option Request) (files : Option Files) (asked faults : List (List ℕ)) → Fetches request files asked asked faults faults
 nothing_asked None files asked faults = (refl, refl)
-nothing_asked (Some job) files asked faults = nothing_over job.made job files asked faults
+nothing_asked (Some request) files asked faults = nothing_over request.made request.job files asked faults
 
--- what a run of a job asked for that makes no files is what the run asked for whose words ask for that job
-fetches_over : (made : Option ℕ) (job : Job) (files : Option Files) (a b f g : List (List ℕ)) → made ≡ None → JobFetches job files a b f g
-    → FetchesOver made job files a b f g
-fetches_over made job files a b f g none fetches = subst (λ m. FetchesOver m job files a b f g) (sym none) fetches
-
-pub job_asked : (job : Option Job) (own : Job) (files : Option Files) (a b f g : List (List ℕ)) → job ≡ Some own → own.made ≡ None
-    → JobFetches own files a b f g → Fetches job files a b f g
-job_asked job own files a b f g is none fetches =
-    subst (λ j. Fetches j files a b f g) (sym is) (fetches_over own.made own files a b f g none fetches)
+-- what a run of a job asked for is what the run asked for whose words ask for that job
+pub job_asked : (request : Option Request) (job : Job) (files : Option Files) (a b f g : List (List ℕ)) → request ≡ Some (plain job)
+    → JobFetches job files a b f g → Fetches request files a b f g
+job_asked request job files a b f g is fetches = subst (λ r. Fetches r files a b f g) (sym is) fetches
 
 -- what comes of a stylesheet, by its name in the job
 pub named : (end : End) (files : Option Files) (name sheet : List ℕ) (a b f g : List (List ℕ)) → name ≡ sheet

@@ -3,7 +3,7 @@ use Rattle.std.proofs.Common.{◌≡◌, ◌≢◌, ℕ, ◌⊎◌, Bool, false,
 use Rattle.xs_outside.specs.Edge.{Files}
 use Rattle.xs_engine.specs.declared.status.TheConstants.{NO_MEMORY, OK, WRITE_FAULT}
 use Rattle.xs_engine.specs.Answer.{Answer, Place}
-use Rattle.xs_engine.specs.Job.{Job}
+use Rattle.xs_engine.specs.Job.{Request}
 use Rattle.xs_engine.specs.Headline.{Account, AreClaimed, AreSome, AtOnce, Gained, Gives, IsCutShort, IsWritten, OneFault, OnlyDue, Writes, claimed_places, none}
 use Rattle.xs_engine.specs.Due.{IsDue}
 use Rattle.xs_engine.proofs.DueLemmas.{each_due, only_due}
@@ -60,19 +60,19 @@ nothing_given streamed answer account out err e = record {
 }
 
 -- and so it is whatever is due
-pub gives_nothing : (files : Option Files) (job : Option Job) (failed failed' : List (List ℕ)) (streamed : Bool) (account : Account)
+pub gives_nothing : (files : Option Files) (request : Option Request) (failed failed' : List (List ℕ)) (streamed : Bool) (account : Account)
     (out err : Option (List ℕ)) → account.status ≡ NO_MEMORY
-    → OnlyDue files job failed failed' (λ due. Gives streamed due account out out err err)
-gives_nothing files job failed failed' streamed account out err e =
-    each_due files job failed failed' (λ due. Gives streamed due account out out err err)
+    → OnlyDue files request failed failed' (λ due. Gives streamed due account out out err err)
+gives_nothing files request failed failed' streamed account out err e =
+    each_due files request failed failed' (λ due. Gives streamed due account out out err err)
     (λ due. nothing_given streamed due account out err e)
 
 -- what was given is all that is due
-pub gives_only : (files : Option Files) (job : Option Job) (failed failed' : List (List ℕ)) (a : Answer) (streamed : Bool) (account : Account)
-    (out out' err err' : Option (List ℕ)) → IsDue files job failed failed' a → Gives streamed a account out out' err err'
-    → OnlyDue files job failed failed' (λ due. Gives streamed due account out out' err err')
-gives_only files job failed failed' a streamed account out out' err err' due given =
-    only_due files job failed failed' a (λ due. Gives streamed due account out out' err err') due given
+pub gives_only : (files : Option Files) (request : Option Request) (failed failed' : List (List ℕ)) (a : Answer) (streamed : Bool) (account : Account)
+    (out out' err err' : Option (List ℕ)) → IsDue files request failed failed' a → Gives streamed a account out out' err err'
+    → OnlyDue files request failed failed' (λ due. Gives streamed due account out out' err err')
+gives_only files request failed failed' a streamed account out out' err err' due given =
+    only_due files request failed failed' a (λ due. Gives streamed due account out out' err err') due given
 
 -- what holds of a result that is written at once
 pub at_once : (ended ended' : ℕ) (out out' : Option (List ℕ)) (f f' g g' : ℕ) → ended' ≡ ended → (ended ≢ OK → ended ≢ WRITE_FAULT → out' ≡ out)

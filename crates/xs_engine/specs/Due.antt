@@ -13,7 +13,7 @@ use Rattle.xs_engine.specs.Built.{is_built}
 use Rattle.xs_engine.specs.Evaluation.{IsEvaluatedOver}
 use Rattle.xs_engine.specs.Fetches.{ReadsSheet}
 use Rattle.xs_engine.specs.Inputs.{Document, named_document}
-use Rattle.xs_engine.specs.Job.{Job, inputs_on}
+use Rattle.xs_engine.specs.Job.{Job, Request, inputs_on}
 use Rattle.xs_engine.specs.Made.{files_of}
 use Rattle.xs_engine.specs.Read.{Read, read, bad}
 use Rattle.xs_engine.specs.Run.{module_name, source_of}
@@ -92,6 +92,6 @@ pub data Owed (P : Answer → Type 0) (failed failed_after : List (List ℕ)) (a
 
 -- The answer that a run owes over these files of its library, where the library's list of failed names was so before and after:
 -- refused words have theirs whatever the files, and a run that makes its files has its own over these.
-abbrev pub IsDue : Option Files → Option Job → (failed failed_after : List (List ℕ)) → Answer → Type 0
+abbrev pub IsDue : Option Files → Option Request → (failed failed_after : List (List ℕ)) → Answer → Type 0
 IsDue files None failed failed_after answer = (failed_after ≡ failed) × (answer ≡ usage)
-IsDue files (Some job) failed failed_after answer = Owed (IsAnswer (files_of job.made files) job) failed failed_after answer
+IsDue files (Some request) failed failed_after answer = Owed (IsAnswer (files_of request.made files) request.job) failed failed_after answer

@@ -7,7 +7,7 @@ use Rattle.xs_modules.specs.Numbering.{ModuleData, numbered}
 use Rattle.xs_modules.specs.Reading.{End, whole, Reads, failed_names}
 use Rattle.xs_static.specs.Faults.{IsFirstFault}
 use Rattle.xs_engine.specs.Inputs.{AsksInputs}
-use Rattle.xs_engine.specs.Job.{Job, files_on}
+use Rattle.xs_engine.specs.Job.{Job, Request, files_on}
 use Rattle.xs_engine.specs.Built.{is_built}
 use Rattle.xs_sheet.specs.declared.sheet.Sheet.{Sheet}
 use Rattle.xs_compile.specs.StandsFor.{StandsFor}
@@ -54,6 +54,7 @@ FetchesOver None job files asked asked_after failed failed_after = JobFetches jo
 FetchesOver (Some count) job files asked asked_after failed failed_after = IsUnasked asked asked_after failed failed_after
 
 -- Refused words ask for nothing.
-abbrev pub Fetches : Option Job → Option Files → (asked asked_after failed failed_after : List (List ℕ)) → Type 0
+abbrev pub Fetches : Option Request → Option Files → (asked asked_after failed failed_after : List (List ℕ)) → Type 0
 Fetches None files asked asked_after failed failed_after = IsUnasked asked asked_after failed failed_after
-Fetches (Some job) files asked asked_after failed failed_after = FetchesOver job.made job files asked asked_after failed failed_after
+Fetches (Some request) files asked asked_after failed failed_after =
+    FetchesOver request.made request.job files asked asked_after failed failed_after

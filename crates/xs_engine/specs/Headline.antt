@@ -5,19 +5,19 @@ use Rattle.xs_engine.specs.declared.reply.ReportedFault.{ReportedFault}
 use Rattle.xs_engine.specs.declared.status.TheConstants.{OK, RUN_FAULT, WRITE_FAULT, NO_MEMORY}
 use Rattle.xs_engine.specs.Answer.{Answer, Place}
 use Rattle.xs_engine.specs.Due.{IsDue}
-use Rattle.xs_engine.specs.Job.{Job}
+use Rattle.xs_engine.specs.Job.{Request}
 use Rattle.xs_engine.specs.Made.{files_of}
 use Rattle.xs_trace.specs.declared.place.Claim.{Claim}
 
 -- P of an answer that is due. Where the library tells its files there is one alone (`OnlyDue`); where it tells none, these are some
 -- files of which it is due.
-abbrev pub OfDue : Option Files → Option Job → (failed failed_after : List (List ℕ)) → (Answer → Type 0) → Type 0
-OfDue files job failed failed_after P = (answer : Answer) × IsDue files job failed failed_after answer × P answer
+abbrev pub OfDue : Option Files → Option Request → (failed failed_after : List (List ℕ)) → (Answer → Type 0) → Type 0
+OfDue files request failed failed_after P = (answer : Answer) × IsDue files request failed failed_after answer × P answer
 
 -- the files of a run, where they are known: those that it makes, or those that its library tells
-abbrev pub files_for : Option Job → Option Files → Option Files
+abbrev pub files_for : Option Request → Option Files → Option Files
 files_for None files = files
-files_for (Some job) files = files_of job.made files
+files_for (Some request) files = files_of request.made files
 
 -- where files are known, P of each answer for which D holds
 abbrev pub WhereKnown : Option Files → (D P : Answer → Type 0) → Type 0
@@ -25,8 +25,8 @@ WhereKnown None D P = Unit {0}
 WhereKnown (Some files) D P = (answer : Answer) → D answer → P answer
 
 -- where the files of a run are known, P of whatever answer is due
-abbrev pub OnlyDue : Option Files → Option Job → (failed failed_after : List (List ℕ)) → (Answer → Type 0) → Type 0
-OnlyDue files job failed failed_after P = WhereKnown (files_for job files) (IsDue files job failed failed_after) P
+abbrev pub OnlyDue : Option Files → Option Request → (failed failed_after : List (List ℕ)) → (Answer → Type 0) → Type 0
+OnlyDue files request failed failed_after P = WhereKnown (files_for request files) (IsDue files request failed failed_after) P
 
 -- A sink that tells its bytes holds what it held and then this many more.
 abbrev pub Gained : Option (List ℕ) → Option (List ℕ) → (List ℕ → Type 0) → Type 0

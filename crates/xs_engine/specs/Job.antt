@@ -1,4 +1,4 @@
--- What a run is to do, of what its words ask for.
+-- What a run is to do, by what its words ask for.
 use Rattle.std.specs.Prelude.{ℕ, ◌&&◌, ◌||◌, Bool, true, false, not, List, [], ◌∷◌, map, Option, Some, None, is_none}
 use Rattle.xs_words.specs.Choice.{Choice, Pair, Job as Work, files, check, load}
 use Rattle.xs_words.specs.Options.{options_of}
@@ -16,10 +16,6 @@ pub record Job : Type 0 where
   -- how many ticks it may take, and how many events it may put, where there is a limit
   pub budget : ℕ
   pub most_events : Option ℕ
-  -- how many elements the source has that it makes, with a stylesheet; none where its files are those of the library
-  pub made : Option ℕ
-  -- whether the result is written while the evaluation goes on
-  pub stream : Bool
 
 abbrev pub file_of : Pair → List ℕ
 file_of input = input.1
@@ -32,10 +28,22 @@ inputs_on job source = ([], source) ∷ job.documents
 abbrev pub files_on : Job → (source : List ℕ) → List (List ℕ)
 files_on job source = map file_of (inputs_on job source)
 
+-- What words ask for: a job, where its files come from, and how its result is written.
+pub record Request : Type 0 where
+  pub job : Job
+  -- how many elements the source has that the run makes, with a stylesheet; none where the files are those of the library
+  pub made : Option ℕ
+  -- whether the result is written while the evaluation goes on
+  pub stream : Bool
+
+-- a job over the files of the library, whose result is written once the evaluation has ended
+abbrev pub plain : Job → Request
+plain job = record { job = job; made = None; stream = false }
+
 -- Refused words stream nothing.
-abbrev pub is_streamed : Option Job → Bool
+abbrev pub is_streamed : Option Request → Bool
 is_streamed None = false
-is_streamed (Some job) = job.stream
+is_streamed (Some request) = request.stream
 
 abbrev pub has_none : List Pair → Bool
 has_none [] = true
@@ -46,33 +54,37 @@ has_none (pair ∷ pairs) = false
 abbrev pub is_built : Choice → Bool
 is_built choice = not (choice.stats || (choice.profile || choice.stream)) && (is_none choice.at && has_none choice.documents)
 
--- A stylesheet on a source, or a stylesheet alone; the made input is not built. The workers and the grain change nothing.
-abbrev pub files_job : Choice → Work → Option Job
-files_job choice (files sheet source texts) = Some (record {
+-- a stylesheet on a source
+abbrev pub source_job : Choice → (sheet source : List ℕ) → List Pair → Job
+source_job choice sheet source texts = record {
   sheet = sheet;
   source = Some source;
   documents = [];
   given = texts;
   budget = choice.budget;
   most_events = choice.max_events;
-  made = None;
-  stream = false;
-})
-files_job choice (check sheet) = Some (record {
+}
+
+-- a stylesheet alone
+abbrev pub check_job : Choice → (sheet : List ℕ) → Job
+check_job choice sheet = record {
   sheet = sheet;
   source = None;
   documents = [];
   given = [];
   budget = choice.budget;
   most_events = choice.max_events;
-  made = None;
-  stream = false;
-})
-files_job choice (load rows) = None
+}
 
-abbrev pub built_job : Choice → Option Job
-built_job choice = where_it_holds (is_built choice) (files_job choice choice.job)
+-- The made input is not built. The workers and the grain change nothing.
+abbrev pub work_request : Choice → Work → Option Request
+work_request choice (files sheet source texts) = Some (plain (source_job choice sheet source texts))
+work_request choice (check sheet) = Some (plain (check_job choice sheet))
+work_request choice (load rows) = None
 
--- The job that words ask for; none where they are refused, or ask for what is not built.
-abbrev pub job_of : List (List ℕ) → Option Job
-job_of words = given (options_of words) built_job
+abbrev pub built_request : Choice → Option Request
+built_request choice = where_it_holds (is_built choice) (work_request choice choice.job)
+
+-- What words ask for; none where they are refused, or ask for what is not built.
+abbrev pub request_of : List (List ℕ) → Option Request
+request_of words = given (options_of words) built_request

@@ -1,5 +1,5 @@
 -- A reply as an answer, a job and a stylesheet as the code has them, and what the reading of a source gives.
-use Rattle.std.specs.Prelude.{◌≡◌, ◌≢◌, ℕ, true, false, List, [], ◌∷◌, ◌++◌, ◌⊎◌, Option, Some, None, Result, Ok, Err}
+use Rattle.std.specs.Prelude.{◌≡◌, ◌≢◌, ℕ, true, List, [], ◌∷◌, ◌++◌, ◌⊎◌, Option, Some, None, Result, Ok, Err}
 use Rattle.xs_outside.specs.Edge.{Files}
 use Rattle.xs_outside.specs.declared.edge.FetchEnd.{FetchEnd}
 use Rattle.xs_outside.specs.declared.edge.FetchEnd.TheVariants.{Failed, NoMemory}
@@ -17,7 +17,7 @@ use Rattle.xs_engine.specs.Built.{is_built}
 use Rattle.xs_sheet.specs.declared.sheet.Sheet.{Sheet}
 use Rattle.xs_engine.specs.Headline.{Account}
 use Rattle.xs_engine.specs.Inputs.{AsksInputs}
-use Rattle.xs_engine.specs.Job.{Job, files_on}
+use Rattle.xs_engine.specs.Job.{Job, Request, files_on, plain}
 use Rattle.xs_engine.specs.Read.{Read}
 
 abbrev pub job_data : CodeJob → Job
@@ -28,9 +28,10 @@ job_data job = record {
   given = job.given.items;
   budget = job.budget;
   most_events = job.most_events;
-  made = None;
-  stream = false;
 }
+
+abbrev pub request_data : CodeJob → Request
+request_data job = plain (job_data job)
 
 abbrev pub reply_of : Reply → Answer
 reply_of reply = record {

@@ -12,7 +12,7 @@ ghost use Rattle.xs_engine.specs.Built.{is_built};
 ghost use Rattle.xs_engine.specs.Due.{IsAnswer, IsDue, IsModulesAnswer, IsSheetAnswer, Owed};
 ghost use Rattle.xs_engine.specs.Fetches.{Fetches, GoesOn, Grew, JobFetches};
 ghost use Rattle.xs_engine.specs.Headline.{HasTicks};
-ghost use Rattle.xs_engine.specs.Job.{inputs_on, job_of};
+ghost use Rattle.xs_engine.specs.Job.{inputs_on, request_of};
 ghost use Rattle.xs_engine.specs.Reply.{AsksSource, GoesTo, IsChecked, IsWholeOrEmpty};
 ghost use Rattle.xs_engine.specs.Reply.{job_data, reply_of};
 ghost use Rattle.xs_engine.specs.Run.{module_name};
@@ -39,12 +39,12 @@ pub fn reply_to<L: Library>(
     library: &mut L,
 ) -> Result<Reply, AllocError>
     ensures files { L.files library.new ≡ L.files library.old }
-    ensures fetches { Fetches (job_of (texts words.now)) (L.files library.old)
+    ensures fetches { Fetches (request_of (texts words.now)) (L.files library.old)
         (L.asked library.old) (L.asked library.new) (L.failed library.old) (L.failed library.new) }
-    ensures due { IfOk result (λ reply. IsDue (L.files library.old) (job_of (texts words.now))
+    ensures due { IfOk result (λ reply. IsDue (L.files library.old) (request_of (texts words.now))
         (L.failed library.old) (L.failed library.new) (reply_of reply)) }
     ensures usage_only { IfOk result (λ reply.
-        reply.status ≡ USAGE → job_of (texts words.now) ≡ None) }
+        reply.status ≡ USAGE → request_of (texts words.now) ≡ None) }
     ensures read_fault_only { IfOk result (λ reply. reply.status ≡ READ_FAULT
         → length (L.failed library.old) < length (L.failed library.new)) }
     ensures status { IfOk result (λ reply. reply.status < WRITE_FAULT) }

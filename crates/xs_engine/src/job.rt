@@ -2,8 +2,8 @@
 
 ghost use Rattle.std.specs.Prelude.{◌≡◌, option_map};
 ghost use Rattle.xs_words.specs.Results.{Gives, job_told, texts, told};
-ghost use Rattle.xs_engine.specs.Job.{built_job, files_job, is_built, job_of};
-ghost use Rattle.xs_engine.specs.Reply.{job_data};
+ghost use Rattle.xs_engine.specs.Job.{built_request, is_built, request_of, work_request};
+ghost use Rattle.xs_engine.specs.Reply.{request_data};
 
 use std::alloc::Global;
 use xs_trace::text::TextBuf;
@@ -26,7 +26,7 @@ pub struct Job {
 
 /// What the words ask for. `Usage` exactly where they are refused, or ask for what is not built.
 pub fn read_job(alloc: Global, words: &[String]) -> Result<Job, WordsEnd>
-    ensures { Gives job_data (job_of (texts words.now)) result }
+    ensures { Gives request_data (request_of (texts words.now)) result }
 {
     match read_words(alloc, words) {
         Ok(options) => match built_job(alloc, options) {
@@ -39,7 +39,7 @@ pub fn read_job(alloc: Global, words: &[String]) -> Result<Job, WordsEnd>
 
 /// What options ask for; `None` where that is not built.
 fn built_job(alloc: Global, options: Options) -> Option<Job>
-    ensures { option_map job_data result ≡ built_job (told options) }
+    ensures { option_map request_data result ≡ built_request (told options) }
 {
     if is_built(&options) {
         files_job(alloc, options)
@@ -59,7 +59,8 @@ fn is_built(options: &Options) -> bool
 
 /// A stylesheet on a source, or one that is only checked, where that is what options ask for.
 fn files_job(alloc: Global, options: Options) -> Option<Job>
-    ensures { option_map job_data result ≡ files_job (told options) (job_told options.job) }
+    ensures { option_map request_data result
+        ≡ work_request (told options) (job_told options.job) }
 {
     let Options {
         budget,

@@ -1,6 +1,6 @@
 use Rattle.std.proofs.Common.{refl}
 use Rattle.xs_words.specs.Results.{texts}
-use Rattle.xs_engine.specs.Job.{is_streamed, job_of}
+use Rattle.xs_engine.specs.Job.{is_streamed, request_of}
 use Rattle.xs_engine.specs.Reply.{account_of, reply_of}
 use Rattle.xs_engine.proofs.GivesLemmas.{at_once, gives, gives_nothing, gives_only, nothing_at_once}
 use Rattle.xs_engine.proofs.JobLemmas.{never_streamed}
@@ -11,7 +11,7 @@ pub returns-in-Ok-clause-gives : goal.returns-in-Ok-clause-gives
 returns-in-Ok-clause-gives g c = λ _. (
   reply_of c.in-Ok.reply,
   c.in-Ok.ensures.due,
-  gives (is_streamed (job_of (texts c.args.words.now))) (account_of c.report_of.result)
+  gives (is_streamed (request_of (texts c.args.words.now))) (account_of c.report_of.result)
       (g.O.Sink.held c.args.out.now) (g.O.Sink.held c.deliver-status.new.out) (g.E.Sink.held c.args.err.now) (g.E.Sink.held c.deliver-status.new.err)
       (reply_of c.in-Ok.reply) c.deliver-status.result c.report_of.ensures.status c.report_of.ensures.ticks c.report_of.ensures.fault refl
       c.report_of.ensures.pieces c.deliver-status.ensures.writes,
@@ -20,10 +20,10 @@ returns-in-Ok-clause-gives g c = λ _. (
 pub returns-in-Ok-clause-only : goal.returns-in-Ok-clause-only
 returns-in-Ok-clause-only g c =
     gives_only (g.L.Library.files c.args.library.now) _ (g.L.Library.failed c.args.library.now) (g.L.Library.failed c.reply_to.new.library)
-    (reply_of c.in-Ok.reply) (is_streamed (job_of (texts c.args.words.now))) (account_of c.report_of.result)
+    (reply_of c.in-Ok.reply) (is_streamed (request_of (texts c.args.words.now))) (account_of c.report_of.result)
     (g.O.Sink.held c.args.out.now) (g.O.Sink.held c.deliver-status.new.out) (g.E.Sink.held c.args.err.now) (g.E.Sink.held c.deliver-status.new.err)
     c.in-Ok.ensures.due
-    (gives (is_streamed (job_of (texts c.args.words.now))) (account_of c.report_of.result)
+    (gives (is_streamed (request_of (texts c.args.words.now))) (account_of c.report_of.result)
     (g.O.Sink.held c.args.out.now) (g.O.Sink.held c.deliver-status.new.out) (g.E.Sink.held c.args.err.now) (g.E.Sink.held c.deliver-status.new.err)
     (reply_of c.in-Ok.reply) c.deliver-status.result c.report_of.ensures.status c.report_of.ensures.ticks c.report_of.ensures.fault refl
     c.report_of.ensures.pieces c.deliver-status.ensures.writes)
@@ -42,7 +42,7 @@ returns-in-Ok-clause-unstreamed g c = never_streamed (texts c.args.words.now)
 pub returns-in-Err-clause-only : goal.returns-in-Err-clause-only
 returns-in-Err-clause-only g c =
     gives_nothing (g.L.Library.files c.args.library.now) _ (g.L.Library.failed c.args.library.now) (g.L.Library.failed c.reply_to.new.library)
-    (is_streamed (job_of (texts c.args.words.now))) (account_of c.report_of-in-Err.result) (g.O.Sink.held c.args.out.now)
+    (is_streamed (request_of (texts c.args.words.now))) (account_of c.report_of-in-Err.result) (g.O.Sink.held c.args.out.now)
     (g.E.Sink.held c.args.err.now) c.report_of-in-Err.ensures.status
 
 pub returns-in-Err-clause-at_once : goal.returns-in-Err-clause-at_once
