@@ -10,8 +10,8 @@ use Rattle.xs_modules.specs.Reading.{End, whole, out_of_memory, out_before, fail
 use Rattle.xs_modules.specs.Results.{ComesTo}
 use Rattle.xs_static.specs.Faults.{IsFirstFault}
 use Rattle.xs_engine.specs.Built.{is_built}
-use Rattle.xs_engine.specs.Inputs.{AsksInputs, no_more, last, failed, next}
-use Rattle.xs_engine.specs.Job.{Job, Request, files_on, plain}
+use Rattle.xs_engine.specs.Inputs.{last, failed}
+use Rattle.xs_engine.specs.Job.{Job, Request, plain}
 use Rattle.xs_compile.specs.StandsFor.{StandsFor}
 use Rattle.xs_sheet.specs.declared.sheet.Sheet.{Sheet}
 use Rattle.xs_engine.specs.Fetches.{ReadsSheet, sheet_asked, inputs_asked, Grew, JobFetches, FetchesOver, Fetches, GoesOn}

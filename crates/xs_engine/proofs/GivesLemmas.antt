@@ -1,5 +1,5 @@
 -- What the report and the sinks of a run gain.
-use Rattle.std.proofs.Common.{◌≡◌, ◌≢◌, ℕ, ◌⊎◌, Bool, false, List, [], map, length, Option, Some, None, refl, sym, ap, ◌∙◌, subst, inl, inr, append-nil, arith}
+use Rattle.std.proofs.Common.{◌≡◌, ◌≢◌, ℕ, ◌⊎◌, Bool, List, [], length, Option, Some, None, refl, sym, ap, ◌∙◌, subst, inl, inr, append-nil, arith}
 use Rattle.xs_outside.specs.Edge.{Files}
 use Rattle.xs_engine.specs.declared.status.TheConstants.{NO_MEMORY, OK, WRITE_FAULT}
 use Rattle.xs_engine.specs.Answer.{Answer, Place}
