@@ -3,7 +3,7 @@
 ghost use Rattle.std.specs.Prelude.{◌≡◌, ◌+◌, ◌≤◌, [], length, take, IfOk, MatchOption, Some};
 ghost use Rattle.std.specs.Prelude.{option_map};
 ghost use Rattle.xs_engine.specs.Made.{two_files};
-ghost use Rattle.xs_outside.specs.Edge.{asked_after};
+ghost use Rattle.xs_outside.specs.Edge.{asked_after, failed_after};
 
 use std::alloc::Global;
 use std::marker::Model;
@@ -61,6 +61,7 @@ impl Library for MadeFiles {
         ensures sheet { self.new.sheet ≡ self.old.sheet }
         ensures source { self.new.source ≡ self.old.source }
         ensures asked { self.new.asked ≡ asked_after result name.now self.old.asked }
+        ensures failed { [] ≡ failed_after result name.now [] }
         ensures cut { IfOk result (λ v. length v.items ≤ limit + 1) }
         ensures bytes { IfOk result (λ v.
             MatchOption (two_files self.old.sheet self.old.source name.now) ⊥
