@@ -21,12 +21,12 @@ words_refused words Usage is = ap (λ o. given o built_request) is
 words_refused words NoMemory is = tt
 
 -- no result is streamed
-by_work : (choice : Choice) (w : Work) → is_streamed (work_request choice w) ≡ false
+by_work : (choice : Choice) (w : Work) → is_streamed (Some (work_request choice w)) ≡ false
 by_work choice (files sheet source texts) = refl
 by_work choice (check sheet) = refl
 by_work choice (load rows) = refl
 
-by_test : (choice : Choice) (b : Bool) → is_streamed (where_it_holds b (work_request choice choice.job)) ≡ false
+by_test : (choice : Choice) (b : Bool) → is_streamed (where_it_holds b (Some (work_request choice choice.job))) ≡ false
 by_test choice true = by_work choice choice.job
 by_test choice false = refl
 

@@ -3,6 +3,7 @@ use Rattle.std.specs.Prelude.{ℕ, ◌&&◌, ◌||◌, Bool, true, false, not, L
 use Rattle.xs_words.specs.Choice.{Choice, Pair, Job as Work, files, check, load}
 use Rattle.xs_words.specs.Options.{options_of}
 use Rattle.xs_words.specs.Steps.{given, where_it_holds}
+use Rattle.xs_engine.specs.Made.{made_sheet, made_source}
 
 pub record Job : Type 0 where
   -- the name of its stylesheet
@@ -76,14 +77,14 @@ check_job choice sheet = record {
   most_events = choice.max_events;
 }
 
--- The made input is not built. The workers and the grain change nothing.
-abbrev pub work_request : Choice → Work → Option Request
-work_request choice (files sheet source texts) = Some (plain (source_job choice sheet source texts))
-work_request choice (check sheet) = Some (plain (check_job choice sheet))
-work_request choice (load rows) = None
+-- The workers and the grain change nothing.
+abbrev pub work_request : Choice → Work → Request
+work_request choice (files sheet source texts) = plain (source_job choice sheet source texts)
+work_request choice (check sheet) = plain (check_job choice sheet)
+work_request choice (load count) = record (plain (source_job choice made_sheet made_source [])) { made = Some count }
 
 abbrev pub built_request : Choice → Option Request
-built_request choice = where_it_holds (is_built choice) (work_request choice choice.job)
+built_request choice = where_it_holds (is_built choice) (Some (work_request choice choice.job))
 
 -- What words ask for; none where they are refused, or ask for what is not built.
 abbrev pub request_of : List (List ℕ) → Option Request

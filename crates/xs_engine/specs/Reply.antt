@@ -5,6 +5,7 @@ use Rattle.xs_outside.specs.declared.edge.FetchEnd.{FetchEnd}
 use Rattle.xs_outside.specs.declared.edge.FetchEnd.TheVariants.{Failed, NoMemory}
 use Rattle.xs_modules.specs.Reading.{Holds}
 use Rattle.xs_engine.specs.declared.job.Job.{Job as CodeJob}
+use Rattle.xs_engine.specs.declared.job.Request.{Request as CodeRequest}
 use Rattle.xs_engine.specs.declared.reply.Reply.{Reply}
 use Rattle.xs_engine.specs.declared.top.Report.{Report}
 use Rattle.xs_engine.specs.declared.status.TheConstants.{OK}
@@ -30,8 +31,8 @@ job_data job = record {
   most_events = job.most_events;
 }
 
-abbrev pub request_data : CodeJob → Request
-request_data job = plain (job_data job)
+abbrev pub request_data : CodeRequest → Request
+request_data request = record (plain (job_data request.job)) { made = request.made }
 
 abbrev pub reply_of : Reply → Answer
 reply_of reply = record {

@@ -1,6 +1,6 @@
 //! The answer of a run, before anything of it is written.
 
-ghost use Rattle.std.specs.Prelude.{◌≡◌, ◌≢◌, ◌<◌, ◌⊎◌, IfOk, None, length};
+ghost use Rattle.std.specs.Prelude.{◌≡◌, ◌≢◌, ◌<◌, ◌⊎◌, IfOk, None, Some, length};
 ghost use Rattle.xs_modules.specs.Results.{modules_data};
 ghost use Rattle.xs_modules.specs.Sound.{IsSound};
 ghost use Rattle.xs_sheet.specs.Sound.{IsSound as SheetIsSound};
@@ -13,6 +13,7 @@ ghost use Rattle.xs_engine.specs.Due.{IsAnswer, IsDue, IsModulesAnswer, IsSheetA
 ghost use Rattle.xs_engine.specs.Fetches.{Fetches, GoesOn, Grew, JobFetches};
 ghost use Rattle.xs_engine.specs.Headline.{HasTicks};
 ghost use Rattle.xs_engine.specs.Job.{inputs_on, request_of};
+ghost use Rattle.xs_engine.specs.Made.{made_files};
 ghost use Rattle.xs_engine.specs.Reply.{AsksSource, GoesTo, IsChecked, IsWholeOrEmpty};
 ghost use Rattle.xs_engine.specs.Reply.{job_data, reply_of};
 ghost use Rattle.xs_engine.specs.Run.{module_name};
@@ -20,11 +21,13 @@ ghost use Rattle.xs_engine.specs.Run.{module_name};
 use crate::built::is_built;
 use crate::evaluation::evaluate;
 use crate::faults::NOT_BUILT;
-use crate::job::{Job, read_job};
+use crate::job::{Job, read_request};
+use crate::made::MadeFiles;
 use crate::reading::read_source;
 use crate::reply::{Reply, faultless_reply, read_fault_reply, refused_reply, usage_reply};
 use std::alloc::{AllocError, Global};
 use xs_compile::{CompileEnd, compile};
+use xs_load::load_case;
 use xs_modules::{Modules, ModulesEnd, read_modules};
 use xs_outside::{FetchEnd, Library};
 use xs_sheet::sheet::Sheet;
@@ -51,11 +54,29 @@ pub fn reply_to<L: Library>(
     ensures ticks { IfOk result (λ reply. HasTicks reply.status ⊎ (reply.ticks ≡ 0)) }
     ensures whole_only { IfOk result IsWholeOrEmpty }
 {
-    match read_job(alloc, words) {
-        Ok(job) => job_reply(alloc, &job, library),
+    match read_request(alloc, words) {
+        Ok(request) => match request.made {
+            None => job_reply(alloc, &request.job, library),
+            Some(count) => made_reply(alloc, &request.job, count),
+        },
         Err(WordsEnd::Usage) => usage_reply(alloc),
         Err(WordsEnd::NoMemory) => Err(AllocError),
     }
+}
+
+/// The answer of a run over the files that it makes, of which the source has so many elements.
+fn made_reply(alloc: Global, job: &Job, count: u32) -> Result<Reply, AllocError>
+    ensures answer { IfOk result (λ reply.
+        IsAnswer (Some (made_files count)) (job_data job.now) (reply_of reply)) }
+    ensures read { IfOk result (λ reply. reply.status ≢ READ_FAULT) }
+    ensures status { IfOk result (λ reply.
+        (reply.status ≢ USAGE) × (reply.status < WRITE_FAULT)) }
+    ensures ticks { IfOk result (λ reply. HasTicks reply.status ⊎ (reply.ticks ≡ 0)) }
+    ensures whole_only { IfOk result IsWholeOrEmpty }
+{
+    let (sheet, source) = load_case(alloc, count)?;
+    let mut made = MadeFiles::new(alloc, sheet, source);
+    job_reply(alloc, job, &mut made)
 }
 
 /// The answer of a run over a stylesheet, with all the modules that it mentions, and a source.
