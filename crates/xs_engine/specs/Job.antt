@@ -85,11 +85,22 @@ check_job choice sheet = record {
   most_events = choice.max_events;
 }
 
+-- a stylesheet on a source, both of which are made
+abbrev pub made_job : (budget : ℕ) → (most_events : Option ℕ) → Job
+made_job budget most_events = record {
+  sheet = made_sheet;
+  source = Some made_source;
+  documents = [];
+  given = [];
+  budget = budget;
+  most_events = most_events;
+}
+
 -- The workers and the grain change nothing.
 abbrev pub work_request : Choice → Work → Request
 work_request choice (files sheet source texts) = plain (source_job choice sheet source texts)
 work_request choice (check sheet) = plain (check_job choice sheet)
-work_request choice (load count) = record (plain (source_job choice made_sheet made_source [])) { made = Some count }
+work_request choice (load count) = record (plain (made_job choice.budget choice.max_events)) { made = Some count }
 
 abbrev pub built_request : Choice → Option Request
 built_request choice = where_it_holds (is_built choice) (Some (work_request choice choice.job))

@@ -2,8 +2,8 @@
 
 ghost use Rattle.std.specs.Prelude.{◌≡◌, IfOk};
 ghost use Rattle.xs_words.specs.Results.{Gives, job_told, texts, told};
-ghost use Rattle.xs_engine.specs.Job.{is_built, makes_none, request_of, work_request};
-ghost use Rattle.xs_engine.specs.Reply.{request_data};
+ghost use Rattle.xs_engine.specs.Job.{is_built, made_job, makes_none, request_of, work_request};
+ghost use Rattle.xs_engine.specs.Reply.{job_data, request_data};
 
 use crate::made::{MADE_SHEET, MADE_SOURCE};
 use std::alloc::{AllocError, Global};
@@ -111,14 +111,21 @@ fn work_request(alloc: Global, options: Options) -> Result<Request, AllocError>
             made: None,
         }),
         Work::Load(count) => Ok(Request {
-            job: Job {
-                sheet: TextBuf::of(alloc, MADE_SHEET)?,
-                source: Some(TextBuf::of(alloc, MADE_SOURCE)?),
-                given: Vec::new(alloc),
-                budget,
-                most_events: max_events,
-            },
+            job: made_job(alloc, budget, max_events)?,
             made: Some(count),
         }),
     }
+}
+
+/// A stylesheet on a source, both of which are made.
+fn made_job(alloc: Global, budget: u64, most_events: Option<u64>) -> Result<Job, AllocError>
+    ensures { IfOk result (λ job. job_data job ≡ made_job budget most_events) }
+{
+    Ok(Job {
+        sheet: TextBuf::of(alloc, MADE_SHEET)?,
+        source: Some(TextBuf::of(alloc, MADE_SOURCE)?),
+        given: Vec::new(alloc),
+        budget,
+        most_events,
+    })
 }
