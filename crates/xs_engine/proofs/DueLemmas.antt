@@ -14,20 +14,22 @@ use Rattle.xs_static.specs.declared.fault.StaticFault.{StaticFault}
 use Rattle.xs_static.specs.Faults.{IsFirstFault}
 use Rattle.xs_engine.specs.declared.reply.Reply.{Reply}
 use Rattle.xs_engine.specs.Answer.{Answer, usage, read_fault, not_built, refused_file}
-use Rattle.xs_engine.specs.Job.{Job}
+use Rattle.xs_engine.specs.Job.{Job, Request, inputs_on, plain}
 use Rattle.xs_engine.specs.Read.{Read, read, bad}
 use Rattle.xs_compile.proofs.OneSheetLemmas.{one_sheet}
 use Rattle.xs_compile.specs.StandsFor.{StandsFor}
 use Rattle.xs_sheet.specs.declared.sheet.Sheet.{Sheet}
 use Rattle.xs_engine.specs.Built.{is_built}
-use Rattle.xs_engine.specs.Evaluation.{IsEvaluatedFrom}
+use Rattle.xs_engine.specs.Evaluation.{IsEvaluatedOver}
+use Rattle.xs_engine.specs.Inputs.{Document, named_document}
 use Rattle.xs_engine.specs.Run.{source_of, module_name}
-use Rattle.xs_engine.specs.Due.{IsFile, IsReadAnswer, IsBytesAnswer, IsSheetAnswer, IsFaultlessAnswer, IsStaticAnswer, IsModulesAnswer, IsEndAnswer}
+use Rattle.xs_engine.specs.Due.{IsFile, IsReadAnswer, IsBytesAnswer, IsInputsAnswer, IsSheetAnswer, IsFaultlessAnswer, IsStaticAnswer, IsModulesAnswer, IsEndAnswer}
 use Rattle.xs_engine.specs.Due.{IsAnswer, IsRunAnswer, Owed, fault, own, IsDue}
 use Rattle.xs_engine.proofs.FirstFaultLemmas.{one_fault}
 use Rattle.xs_engine.proofs.OneAnswerLemmas.{one-evaluated}
-use Rattle.xs_engine.specs.Headline.{OnlyDue}
+use Rattle.xs_engine.specs.Headline.{OnlyDue, WhereKnown, files_for}
 use Rattle.xs_engine.specs.Reply.{FileGives, IsCheckAnswer, IsChecked, reply_of}
+use Rattle.xs_words.specs.Choice.{Pair}
 
 -- what follows of an answer that is owed
 owed_same : (P Q : Answer → Type 0) (failed failed' : List (List ℕ)) (a : Answer) → ((b : Answer) → P b → Q b) → Owed P failed failed' a
@@ -61,39 +63,46 @@ read_file : (files : Option Files) (name bytes : List ℕ) → Holds files name 
 read_file None name bytes holds = tt
 read_file (Some map) name bytes holds = holds
 
--- an answer of a compiled stylesheet, whose source was read to this
+-- an answer of a compiled stylesheet on its only input, whose bytes were read to this
 read_answer : (files : Option Files) (job : Job) (sheet : Sheet) (source name : List ℕ) (found : Read (List Record)) (a : Answer) → name ≡ source
-    → is_built sheet ≡ true → FileGives source_of files name found → IsReadAnswer job sheet source found a
-    → IsSheetAnswer (is_built sheet) files job sheet source a
+    → is_built sheet ≡ true → FileGives source_of files name found
+    → IsReadAnswer source found (λ records. IsInputsAnswer files job sheet job.documents (named_document [] records ∷ []) a) a
+    → IsSheetAnswer (is_built sheet) files job sheet (inputs_on job source) a
 read_answer files job sheet source name found a same built given is =
     let bytes = given.bytes in
     let holds : Holds files source bytes = subst (λ n. Holds files n bytes) same given.holds in
-    let over : IsBytesAnswer job sheet source (Some bytes) a = subst (λ f. IsReadAnswer job sheet source f a) given.gives is in
-    subst (λ b. IsSheetAnswer b files job sheet source a) (sym built) (Some bytes, read_file files source bytes holds, over)
+    let over : IsBytesAnswer source (Some bytes) (λ records. IsInputsAnswer files job sheet job.documents (named_document [] records ∷ []) a) a =
+    subst (λ f. IsReadAnswer source f (λ records. IsInputsAnswer files job sheet job.documents (named_document [] records ∷ []) a) a) given.gives is in
+    subst (λ b. IsSheetAnswer b files job sheet (inputs_on job source) a) (sym built) (Some bytes, read_file files source bytes holds, over)
 
 module _ (files : Option Files) (job : Job) (sheet : Sheet) (source : List ℕ) (failed failed' : List (List ℕ)) where
+  abbrev pub Owes : Answer → Type 0
+  Owes answer = Owed (IsSheetAnswer (is_built sheet) files job sheet (inputs_on job source)) failed failed' answer
+
   -- the stylesheet is not built
   pub unbuilt_owed : {E : Type 0} (r : Result Reply E) → is_built sheet ≡ false → failed' ≡ failed → IfOk r (λ reply. reply_of reply ≡ not_built job.sheet)
-      → IfOk r (λ reply. Owed (IsSheetAnswer (is_built sheet) files job sheet source) failed failed' (reply_of reply))
+      → IfOk r (λ reply. Owes (reply_of reply))
   unbuilt_owed r built stays same =
-      reply_owed r (IsSheetAnswer (is_built sheet) files job sheet source) failed failed' (not_built job.sheet)
-      (own stays (subst (λ b. IsSheetAnswer b files job sheet source (not_built job.sheet)) (sym built) refl)) same
+      reply_owed r (IsSheetAnswer (is_built sheet) files job sheet (inputs_on job source)) failed failed' (not_built job.sheet)
+      (own stays (subst (λ b. IsSheetAnswer b files job sheet (inputs_on job source) (not_built job.sheet)) (sym built) refl)) same
 
   -- the source is no document
   pub refused_owed : {E : Type 0} (r : Result Reply E) (number line : ℕ) (name : List ℕ) → name ≡ source → is_built sheet ≡ true → failed' ≡ failed
       → FileGives source_of files name (bad number line) → IfOk r (λ reply. reply_of reply ≡ refused_file number source line)
-      → IfOk r (λ reply. Owed (IsSheetAnswer (is_built sheet) files job sheet source) failed failed' (reply_of reply))
+      → IfOk r (λ reply. Owes (reply_of reply))
   refused_owed r number line name same built stays given is =
-      reply_owed r (IsSheetAnswer (is_built sheet) files job sheet source) failed failed' (refused_file number source line)
+      reply_owed r (IsSheetAnswer (is_built sheet) files job sheet (inputs_on job source)) failed failed' (refused_file number source line)
       (own stays (read_answer files job sheet source name (bad number line) (refused_file number source line) same built given refl)) is
 
-  -- it is read, and the stylesheet is evaluated from it
-  pub evaluated_owed : {E : Type 0} (r : Result Reply E) (records : List Record) (name : List ℕ) → name ≡ source → is_built sheet ≡ true
-      → failed' ≡ failed → FileGives source_of files name (read records) → IfOk r (λ reply. IsEvaluatedFrom job sheet records (reply_of reply))
-      → IfOk r (λ reply. Owed (IsSheetAnswer (is_built sheet) files job sheet source) failed failed' (reply_of reply))
-  evaluated_owed (Err e) records name same built stays given is = tt
-  evaluated_owed (Ok reply) records name same built stays given is =
-      own stays (read_answer files job sheet source name (read records) (reply_of reply) same built given is)
+  -- it is read, it is the only input, and the stylesheet is evaluated from it
+  pub evaluated_owed : {E : Type 0} (r : Result Reply E) (records : List Record) (name : List ℕ) → job.documents ≡ [] → name ≡ source
+      → is_built sheet ≡ true → failed' ≡ failed → FileGives source_of files name (read records)
+      → IfOk r (λ reply. IsEvaluatedOver job sheet (named_document [] records ∷ []) (reply_of reply)) → IfOk r (λ reply. Owes (reply_of reply))
+  evaluated_owed (Err e) records name none same built stays given is = tt
+  evaluated_owed (Ok reply) records name none same built stays given is =
+      let all : IsInputsAnswer files job sheet job.documents (named_document [] records ∷ []) (reply_of reply) =
+      subst (λ left. IsInputsAnswer files job sheet left (named_document [] records ∷ []) (reply_of reply)) (sym none) is in
+      own stays (read_answer files job sheet source name (read records) (reply_of reply) same built given all)
 
 -- a stylesheet that is only checked
 checked_answer : (files : Option Files) (job : Job) (modules : List ModuleData) (a : Answer) → job.source ≡ None → (f : Option StaticFault)
@@ -120,11 +129,12 @@ module _ (files : Option Files) (job : Job) (modules : List ModuleData) (failed 
 
   -- a run of a compiled stylesheet that stands for them
   pub run_owed : {E : Type 0} (r : Result Reply E) (sheet : Sheet) (source : List ℕ) → job.source ≡ Some source → IsFirstFault modules None
-      → StandsFor modules sheet → IfOk r (λ reply. Owed (IsSheetAnswer (is_built sheet) files job sheet source) failed failed' (reply_of reply))
+      → StandsFor modules sheet
+      → IfOk r (λ reply. Owed (IsSheetAnswer (is_built sheet) files job sheet (inputs_on job source)) failed failed' (reply_of reply))
       → IfOk r (λ reply. Owed (IsModulesAnswer files job modules) failed failed' (reply_of reply))
   run_owed (Err e) sheet source run first stands owed = tt
   run_owed (Ok reply) sheet source run first stands owed =
-      owed_same (IsSheetAnswer (is_built sheet) files job sheet source) (IsModulesAnswer files job modules) failed failed' (reply_of reply)
+      owed_same (IsSheetAnswer (is_built sheet) files job sheet (inputs_on job source)) (IsModulesAnswer files job modules) failed failed' (reply_of reply)
       (λ a is. record {
         fault = None;
         first = first;
@@ -152,17 +162,17 @@ modules_owed (Ok reply) files job found modules asked middle failed failing fail
     record { names = comes.names; end = whole found; reads = comes.reads; answers = subst (λ ms. IsModulesAnswer files job ms b) are over }) owed)
 
 -- the words are refused
-pub usage_owed : {E : Type 0} (r : Result Reply E) (files : Option Files) (job : Option Job) (failed : List (List ℕ)) → job ≡ None
-    → IfOk r (λ reply. reply_of reply ≡ usage) → IfOk r (λ reply. IsDue files job failed failed (reply_of reply))
-usage_owed (Err e) files job failed none is = tt
-usage_owed (Ok reply) files job failed none is = subst (λ j. IsDue files j failed failed (reply_of reply)) (sym none) (refl, is)
+pub usage_owed : {E : Type 0} (r : Result Reply E) (files : Option Files) (request : Option Request) (failed : List (List ℕ)) → request ≡ None
+    → IfOk r (λ reply. reply_of reply ≡ usage) → IfOk r (λ reply. IsDue files request failed failed (reply_of reply))
+usage_owed (Err e) files request failed none is = tt
+usage_owed (Ok reply) files request failed none is = subst (λ q. IsDue files q failed failed (reply_of reply)) (sym none) (refl, is)
 
 -- the words ask for this job
-pub job_owed : {E : Type 0} (r : Result Reply E) (files : Option Files) (job : Option Job) (given : Job) (failed failed' : List (List ℕ))
-    → job ≡ Some given → IfOk r (λ reply. Owed (IsAnswer files given) failed failed' (reply_of reply))
-    → IfOk r (λ reply. IsDue files job failed failed' (reply_of reply))
-job_owed (Err e) files job given failed failed' is owed = tt
-job_owed (Ok reply) files job given failed failed' is owed = subst (λ j. IsDue files j failed failed' (reply_of reply)) (sym is) owed
+pub job_owed : {E : Type 0} (r : Result Reply E) (files : Option Files) (request : Option Request) (job : Job) (failed failed' : List (List ℕ))
+    → request ≡ Some (plain job) → IfOk r (λ reply. Owed (IsAnswer files job) failed failed' (reply_of reply))
+    → IfOk r (λ reply. IsDue files request failed failed' (reply_of reply))
+job_owed (Err e) files request job failed failed' is owed = tt
+job_owed (Ok reply) files request job failed failed' is owed = subst (λ q. IsDue files q failed failed' (reply_of reply)) (sym is) owed
 
 -- one name was added, and none
 not_both : (xs ys : List (List ℕ)) (name : List ℕ) → ys ≡ xs ++ name ∷ [] → ys ≡ xs → ⊥
@@ -180,34 +190,46 @@ one_name xs ys m n e f =
 
 -- ---- files give one answer alone
 
--- a compiled stylesheet has one on a source
-module _ (files : Files) (job : Job) (source : List ℕ) (sheet : Sheet) (a b : Answer) where
-  over_read : (found : Read (List Record)) → IsReadAnswer job sheet source found a → IsReadAnswer job sheet source found b → a ≡ b
-  over_read (read records) p q = one-evaluated job sheet records a b p q
+-- by what follows of the records of an input
+module _ (a b : Answer) (name : List ℕ) (P Q : List Record → Type 0) (one : (records : List Record) → P records → Q records → a ≡ b) where
+  over_read : (found : Read (List Record)) → IsReadAnswer name found P a → IsReadAnswer name found Q b → a ≡ b
+  over_read (read records) p q = one records p q
   over_read (bad number line) p q = p ∙ sym q
 
-  over_bytes : (bytes : Option (List ℕ)) → IsBytesAnswer job sheet source bytes a → IsBytesAnswer job sheet source bytes b → a ≡ b
+  over_bytes : (bytes : Option (List ℕ)) → IsBytesAnswer name bytes P a → IsBytesAnswer name bytes Q b → a ≡ b
   over_bytes None p q = p ∙ sym q
   over_bytes (Some bytes) p q = over_read (source_of bytes) p q
 
-  over_sheet : (built : Bool) → IsSheetAnswer built (Some files) job sheet source a → IsSheetAnswer built (Some files) job sheet source b → a ≡ b
-  over_sheet false p q = p ∙ sym q
-  over_sheet true p q =
+-- a compiled stylesheet has one on its inputs
+module _ (files : Files) (job : Job) (sheet : Sheet) (a b : Answer) where
+  over_inputs : (left : List Pair) (ds : List Document) → IsInputsAnswer (Some files) job sheet left ds a → IsInputsAnswer (Some files) job sheet left ds b
+      → a ≡ b
+  over_inputs [] ds p q = one-evaluated job sheet ds a b p q
+  over_inputs (input ∷ left) ds p q =
       let same : p.0 ≡ q.0 = sym p.1 ∙ q.1 in
-      over_bytes q.0 (subst (λ bytes. IsBytesAnswer job sheet source bytes a) same p.2) q.2
+      over_bytes a b input.1 (λ records. IsInputsAnswer (Some files) job sheet left (ds ++ named_document input.0 records ∷ []) a)
+      (λ records. IsInputsAnswer (Some files) job sheet left (ds ++ named_document input.0 records ∷ []) b)
+      (λ records. over_inputs left (ds ++ named_document input.0 records ∷ [])) q.0
+      (subst (λ bytes. IsBytesAnswer input.1 bytes
+      (λ records. IsInputsAnswer (Some files) job sheet left (ds ++ named_document input.0 records ∷ []) a) a) same p.2) q.2
+
+  over_sheet : (built : Bool) (inputs : List Pair) → IsSheetAnswer built (Some files) job sheet inputs a
+      → IsSheetAnswer built (Some files) job sheet inputs b → a ≡ b
+  over_sheet false inputs p q = p ∙ sym q
+  over_sheet true inputs p q = over_inputs inputs [] p q
 
 -- and modules have one compiled stylesheet
-over_run : (files : Files) (job : Job) (modules : List ModuleData) (source : List ℕ) (a b : Answer) → IsRunAnswer (Some files) job modules source a
-    → IsRunAnswer (Some files) job modules source b → a ≡ b
-over_run files job modules source a b p q =
+over_run : (files : Files) (job : Job) (modules : List ModuleData) (inputs : List Pair) (a b : Answer) → IsRunAnswer (Some files) job modules inputs a
+    → IsRunAnswer (Some files) job modules inputs b → a ≡ b
+over_run files job modules inputs a b p q =
     let same : p.sheet ≡ q.sheet = one_sheet modules p.sheet q.sheet p.stands q.stands in
-    over_sheet files job source q.sheet a b (is_built q.sheet)
-    (subst (λ (s : Sheet). IsSheetAnswer (is_built s) (Some files) job s source a) same p.answers) q.answers
+    over_sheet files job q.sheet a b (is_built q.sheet) inputs
+    (subst (λ (s : Sheet). IsSheetAnswer (is_built s) (Some files) job s inputs a) same p.answers) q.answers
 
 over_source : (files : Files) (job : Job) (modules : List ModuleData) (a b : Answer) (s : Option (List ℕ)) → IsFaultlessAnswer s (Some files) job modules a
     → IsFaultlessAnswer s (Some files) job modules b → a ≡ b
 over_source files job modules a b None p q = p ∙ sym q
-over_source files job modules a b (Some source) p q = over_run files job modules source a b p q
+over_source files job modules a b (Some source) p q = over_run files job modules (inputs_on job source) a b p q
 
 over_fault : (files : Files) (job : Job) (modules : List ModuleData) (a b : Answer) (f : Option StaticFault) → IsStaticAnswer f (Some files) job modules a
     → IsStaticAnswer f (Some files) job modules b → a ≡ b
@@ -246,19 +268,30 @@ one_owed files job failed failed' a b (fault m e p) (own f q) = absurd (not_both
 one_owed files job failed failed' a b (own e p) (fault n f q) = absurd (not_both failed failed' n f e)
 one_owed files job failed failed' a b (own e p) (own f q) = one_answer files job a b p q
 
-one_due : (files : Files) (job : Option Job) (failed failed' : List (List ℕ)) (a b : Answer) → IsDue (Some files) job failed failed' a
-    → IsDue (Some files) job failed failed' b → a ≡ b
-one_due files None failed failed' a b p q = p.1 ∙ sym q.1
-one_due files (Some job) failed failed' a b p q = one_owed files job failed failed' a b p q
+-- where the files of a run are known
+one_due : (files : Option Files) (known : Files) (request : Option Request) (failed failed' : List (List ℕ)) (a b : Answer) → files_for request files ≡ Some known
+    → IsDue files request failed failed' a → IsDue files request failed failed' b → a ≡ b
+one_due files known None failed failed' a b is p q = p.1 ∙ sym q.1
+one_due files known (Some request) failed failed' a b is p q =
+    one_owed known request.job failed failed' a b (subst (λ f. Owed (IsAnswer f request.job) failed failed' a) is p)
+    (subst (λ f. Owed (IsAnswer f request.job) failed failed' b) is q)
+
+where_known : (files : Option Files) (D P : Answer → Type 0) (a : Answer) → ((known : Files) → files ≡ Some known → (b : Answer) → D b → a ≡ b) → P a
+    → WhereKnown files D P
+where_known None D P a one p = tt
+where_known (Some known) D P a one p = λ b other. subst P (one known refl b other) p
+
+each_known : (files : Option Files) (D P : Answer → Type 0) → ((a : Answer) → P a) → WhereKnown files D P
+each_known None D P p = tt
+each_known (Some known) D P p = λ a due. p a
 
 -- what holds of an answer that is due holds of each
-pub only_due : (files : Option Files) (job : Option Job) (failed failed' : List (List ℕ)) (a : Answer) (P : Answer → Type 0)
-    → IsDue files job failed failed' a → P a → OnlyDue files job failed failed' P
-only_due None job failed failed' a P due p = tt
-only_due (Some files) job failed failed' a P due p = λ b other. subst P (one_due files job failed failed' a b due other) p
+pub only_due : (files : Option Files) (request : Option Request) (failed failed' : List (List ℕ)) (a : Answer) (P : Answer → Type 0)
+    → IsDue files request failed failed' a → P a → OnlyDue files request failed failed' P
+only_due files request failed failed' a P due p =
+    where_known (files_for request files) (IsDue files request failed failed') P a (λ known is b. one_due files known request failed failed' a b is due) p
 
 -- and what holds of all answers
-pub each_due : (files : Option Files) (job : Option Job) (failed failed' : List (List ℕ)) (P : Answer → Type 0) → ((a : Answer) → P a)
-    → OnlyDue files job failed failed' P
-each_due None job failed failed' P p = tt
-each_due (Some files) job failed failed' P p = λ a due. p a
+pub each_due : (files : Option Files) (request : Option Request) (failed failed' : List (List ℕ)) (P : Answer → Type 0) → ((a : Answer) → P a)
+    → OnlyDue files request failed failed' P
+each_due files request failed failed' P p = each_known (files_for request files) (IsDue files request failed failed') P p

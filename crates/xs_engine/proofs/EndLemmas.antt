@@ -1,6 +1,7 @@
 -- The answer of a cut, by the end that was reported of it.
 use Rattle.std.proofs.Common.{◌≡◌, ℕ, List, Option, Some, None, refl, subst}
 use Rattle.xs_body.specs.Tasks.{Task}
+use Rattle.xs_sheet.specs.declared.sheet.Sheet.{Sheet}
 use Rattle.xs_trace.specs.Mark.{Trace, events_of}
 use Rattle.xs_trace.specs.Cut.{End, Whole, Fault, Needs, Spent, Full}
 use Rattle.xs_trace.specs.Kept.{ended_by}
@@ -9,12 +10,12 @@ use Rattle.xs_trace.specs.declared.item.Ended.TheVariants as ended
 use Rattle.xs_engine.specs.Answer.{stopped_answer, whole_answer}
 use Rattle.xs_engine.specs.Evaluation.{IsEndAnswer}
 
-module _ (names : List (List ℕ)) (passed : Trace Task) (says : List (List ℕ)) (ticks : ℕ) where
+module _ (sheet : Sheet) (passed : Trace Task) (says : List (List ℕ)) (ticks : ℕ) where
   abbrev pub Reported : End → Ended → Type 0
-  Reported e ended.Whole = IsEndAnswer names e passed says ticks (whole_answer says (events_of passed) ticks)
-  Reported e (ended.Fault spot) = IsEndAnswer names e passed says ticks (stopped_answer names spot says ticks)
-  Reported e (ended.Spent spot) = IsEndAnswer names e passed says ticks (stopped_answer names spot says ticks)
-  Reported e (ended.Full spot) = IsEndAnswer names e passed says ticks (stopped_answer names spot says ticks)
+  Reported e ended.Whole = IsEndAnswer sheet e passed says ticks (whole_answer sheet.method says (events_of passed) ticks)
+  Reported e (ended.Fault spot) = IsEndAnswer sheet e passed says ticks (stopped_answer sheet.modules spot says ticks)
+  Reported e (ended.Spent spot) = IsEndAnswer sheet e passed says ticks (stopped_answer sheet.modules spot says ticks)
+  Reported e (ended.Full spot) = IsEndAnswer sheet e passed says ticks (stopped_answer sheet.modules spot says ticks)
   Reported e (ended.Over total) = ⊥
 
   abbrev ReportedIf : End → Option Ended → Type 0

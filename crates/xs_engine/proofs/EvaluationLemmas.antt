@@ -1,5 +1,5 @@
 -- What an evaluation owes, by what was settled and kept.
-use Rattle.std.proofs.Common.{◌≡◌, ◌<◌, ◌≤◌, ◌∙◌, ◌+◌, ◌-◌, ◌++◌, ℕ, arith, [], List, length, get_or, Result, Ok, Err, Option, Some, None, IfOk}
+use Rattle.std.proofs.Common.{◌≡◌, ◌<◌, ◌≤◌, ◌∙◌, ◌+◌, ◌-◌, ◌++◌, ℕ, arith, [], ◌∷◌, List, length, get_or, Result, Ok, Err, Option, Some, None, IfOk}
 use Rattle.std.proofs.Common.{ap, sym, subst, append-nil, vec_len}
 use Rattle.xs_block.specs.Chain.{items_of}
 use Rattle.xs_body.specs.Globals.{SettlesAll, with_globals}
@@ -10,7 +10,8 @@ use Rattle.xs_body.specs.World.{World, ground, with_grain}
 use Rattle.xs_body.specs.declared.settling.Settled.{Settled}
 use Rattle.xs_engine.proofs.EndLemmas.{reported}
 use Rattle.xs_engine.specs.Answer.{Answer, stopped_answer, whole_answer}
-use Rattle.xs_engine.specs.Evaluation.{IsCutAnswer, IsEndAnswer, IsEvaluated, IsEvaluatedFrom, IsEvaluatedOn, in_globals, in_root, root_cut}
+use Rattle.xs_engine.specs.Evaluation.{IsCutAnswer, IsEndAnswer, IsEvaluated, IsEvaluatedFrom, IsEvaluatedOn, IsEvaluatedOver, in_globals, in_root, root_cut}
+use Rattle.xs_engine.specs.Inputs.{joined, joined_later, named_document}
 use Rattle.xs_engine.specs.Items.{events_in, messages_in}
 use Rattle.xs_engine.specs.Job.{Job}
 use Rattle.xs_engine.specs.Reply.{reply_of}
@@ -44,12 +45,19 @@ marks-passed : (c : Cut Task) (o : Outcome) (p : Part) → IsWholeRun c o → p 
 marks-passed c o p run first =
     ap (λ (q : Part). marks_of (items_of q.items)) (first ∙ ap (λ (ps : List Part). get_or ps 0 p) run.only) ∙ run.marks
 
+-- the source alone is all documents
+one_document : (source : List Record) → joined (named_document [] source ∷ []) ≡ source
+unfolding joined joined_later
+one_document source = append-nil source
+
 -- a source that is stripped, by the rules of the stylesheet
 pub from_stripped : {E : Type 0} (r : Result Reply E) (job : Job) (sheet : Sheet) (rules : List StripRule) (source tree : List Record)
     → rules ≡ sheet.strips → tree ≡ without (stripped rules source) source → IfOk r (λ reply. IsEvaluatedOn job sheet tree (reply_of reply))
-    → IfOk r (λ reply. IsEvaluatedFrom job sheet source (reply_of reply))
+    → IfOk r (λ reply. IsEvaluatedOver job sheet (named_document [] source ∷ []) (reply_of reply))
 from_stripped r job sheet rules source tree same is over =
-    subst (λ t. IfOk r (λ reply. IsEvaluatedOn job sheet t (reply_of reply))) (is ∙ ap (λ rs. without (stripped rs source) source) same) over
+    let stripped_all : tree ≡ without (stripped sheet.strips source) source = is ∙ ap (λ rs. without (stripped rs source) source) same in
+    subst (λ rs. IfOk r (λ reply. IsEvaluatedFrom job sheet rs (reply_of reply))) (sym (one_document source))
+    (subst (λ t. IfOk r (λ reply. IsEvaluatedOn job sheet t (reply_of reply))) stripped_all over)
 
 -- over some index
 pub over_index : {E : Type 0} (r : Result Reply E) (job : Job) (sheet : Sheet) (index : RuleIndex) (tree : List Record)
@@ -76,7 +84,7 @@ module _ (job : Job) (w : World) (z : Settled) (settles : SettlesAll w job.given
       (same ∙ ap (λ says. stopped_answer w.sheet.modules s says z.ticks) (append-nil z.says.items))
 
   module _ (o : Outcome) (p : Part) (none : z.end ≡ None) (run : IsWholeRun (root_cut job w (told_in z)) o) (first : p ≡ get_or o.parts.items 0 p) where
-    from_root : (a : Answer) → IsCutAnswer w.sheet.modules (told_in z) (root_cut job w (told_in z)) a → IsEvaluated job w a
+    from_root : (a : Answer) → IsCutAnswer w.sheet (told_in z) (root_cut job w (told_in z)) a → IsEvaluated job w a
     from_root a is = in_root {t = told_in z} (subst (λ e. SettlesAll w job.given job.budget (settled_by e (told_in z))) none settles) is
 
     -- the cut of the root's trace ended as the run
@@ -92,23 +100,23 @@ module _ (job : Job) (w : World) (z : Settled) (settles : SettlesAll w job.given
 
     -- the root came to its end
     pub whole_in_root : {E : Type 0} (r : Result Reply E) → o.ended ≡ ended.Whole
-        → IfOk r (λ reply. reply_of reply ≡ whole_answer (z.says.items ++ messages_in (items_of p.items))
+        → IfOk r (λ reply. reply_of reply ≡ whole_answer w.sheet.method (z.says.items ++ messages_in (items_of p.items))
         (events_in (items_of p.items)) (z.ticks + o.ticks))
         → IfOk r (λ reply. IsEvaluated job w (reply_of reply))
     whole_in_root (Err e) is same = tt
     whole_in_root (Ok reply) is same =
         let c = root_cut job w (told_in z) in
-        let all : reply_of reply ≡ whole_answer (z.says.items ++ messages_of c.passed) (events_of c.passed) (z.ticks + tick_count c.passed) =
-        same ∙ ap (λ ms. whole_answer (z.says.items ++ ms) (events_in (items_of p.items)) (z.ticks + o.ticks)) messages-passed
-        ∙ ap (λ es. whole_answer (z.says.items ++ messages_of c.passed) es (z.ticks + o.ticks)) events-passed
-        ∙ ap (λ n. whole_answer (z.says.items ++ messages_of c.passed) (events_of c.passed) (z.ticks + n)) run.ticks in
-        from_root (reply_of reply) (subst (IsCutAnswer w.sheet.modules (told_in z) c) (sym all)
-        (reported w.sheet.modules c.passed (z.says.items ++ messages_of c.passed) (z.ticks + tick_count c.passed) c.end ended.Whole
+        let all : reply_of reply ≡ whole_answer w.sheet.method (z.says.items ++ messages_of c.passed) (events_of c.passed) (z.ticks + tick_count c.passed) =
+        same ∙ ap (λ ms. whole_answer w.sheet.method (z.says.items ++ ms) (events_in (items_of p.items)) (z.ticks + o.ticks)) messages-passed
+        ∙ ap (λ es. whole_answer w.sheet.method (z.says.items ++ messages_of c.passed) es (z.ticks + o.ticks)) events-passed
+        ∙ ap (λ n. whole_answer w.sheet.method (z.says.items ++ messages_of c.passed) (events_of c.passed) (z.ticks + n)) run.ticks in
+        from_root (reply_of reply) (subst (IsCutAnswer w.sheet (told_in z) c) (sym all)
+        (reported w.sheet c.passed (z.says.items ++ messages_of c.passed) (z.ticks + tick_count c.passed) c.end ended.Whole
         (ends_as ended.Whole is)))
 
     -- or it ended in a fault, or at a limit
     pub stopped_in_root : {E : Type 0} (r : Result Reply E) (s : Spot)
-        → IsEndAnswer w.sheet.modules (root_cut job w (told_in z)).end (root_cut job w (told_in z)).passed
+        → IsEndAnswer w.sheet (root_cut job w (told_in z)).end (root_cut job w (told_in z)).passed
         (z.says.items ++ messages_of (root_cut job w (told_in z)).passed) (z.ticks + tick_count (root_cut job w (told_in z)).passed)
         (stopped_answer w.sheet.modules s (z.says.items ++ messages_of (root_cut job w (told_in z)).passed)
         (z.ticks + tick_count (root_cut job w (told_in z)).passed))
@@ -122,7 +130,7 @@ module _ (job : Job) (w : World) (z : Settled) (settles : SettlesAll w job.given
         let all : reply_of reply ≡ stopped_answer names s (z.says.items ++ messages_of c.passed) (z.ticks + tick_count c.passed) =
         same ∙ ap (λ ms. stopped_answer names s (z.says.items ++ ms) (z.ticks + o.ticks)) messages-passed
         ∙ ap (λ n. stopped_answer names s (z.says.items ++ messages_of c.passed) (z.ticks + n)) run.ticks in
-        from_root (reply_of reply) (subst (IsCutAnswer names (told_in z) c) (sym all) is)
+        from_root (reply_of reply) (subst (IsCutAnswer w.sheet (told_in z) c) (sym all) is)
 
     pub fault_in_root : {E : Type 0} (r : Result Reply E) (s : Spot) → o.ended ≡ ended.Fault s
         → IfOk r (λ reply. reply_of reply ≡ stopped_answer w.sheet.modules s (z.says.items ++ messages_in (items_of p.items))
@@ -130,7 +138,7 @@ module _ (job : Job) (w : World) (z : Settled) (settles : SettlesAll w job.given
         → IfOk r (λ reply. IsEvaluated job w (reply_of reply))
     fault_in_root r s is same =
         let c = root_cut job w (told_in z) in
-        stopped_in_root r s (reported w.sheet.modules c.passed (z.says.items ++ messages_of c.passed) (z.ticks + tick_count c.passed) c.end
+        stopped_in_root r s (reported w.sheet c.passed (z.says.items ++ messages_of c.passed) (z.ticks + tick_count c.passed) c.end
         (ended.Fault s) (ends_as (ended.Fault s) is)) same
 
     pub spent_in_root : {E : Type 0} (r : Result Reply E) (s : Spot) → o.ended ≡ ended.Spent s
@@ -139,7 +147,7 @@ module _ (job : Job) (w : World) (z : Settled) (settles : SettlesAll w job.given
         → IfOk r (λ reply. IsEvaluated job w (reply_of reply))
     spent_in_root r s is same =
         let c = root_cut job w (told_in z) in
-        stopped_in_root r s (reported w.sheet.modules c.passed (z.says.items ++ messages_of c.passed) (z.ticks + tick_count c.passed) c.end
+        stopped_in_root r s (reported w.sheet c.passed (z.says.items ++ messages_of c.passed) (z.ticks + tick_count c.passed) c.end
         (ended.Spent s) (ends_as (ended.Spent s) is)) same
 
     pub full_in_root : {E : Type 0} (r : Result Reply E) (s : Spot) → o.ended ≡ ended.Full s
@@ -148,5 +156,5 @@ module _ (job : Job) (w : World) (z : Settled) (settles : SettlesAll w job.given
         → IfOk r (λ reply. IsEvaluated job w (reply_of reply))
     full_in_root r s is same =
         let c = root_cut job w (told_in z) in
-        stopped_in_root r s (reported w.sheet.modules c.passed (z.says.items ++ messages_of c.passed) (z.ticks + tick_count c.passed) c.end
+        stopped_in_root r s (reported w.sheet c.passed (z.says.items ++ messages_of c.passed) (z.ticks + tick_count c.passed) c.end
         (ended.Full s) (ends_as (ended.Full s) is)) same

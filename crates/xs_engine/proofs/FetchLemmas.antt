@@ -10,26 +10,31 @@ use Rattle.xs_modules.specs.Reading.{End, whole, out_of_memory, out_before, fail
 use Rattle.xs_modules.specs.Results.{ComesTo}
 use Rattle.xs_static.specs.Faults.{IsFirstFault}
 use Rattle.xs_engine.specs.Built.{is_built}
-use Rattle.xs_engine.specs.Job.{Job}
+use Rattle.xs_engine.specs.Inputs.{last, failed}
+use Rattle.xs_engine.specs.Job.{Job, Request, plain}
 use Rattle.xs_compile.specs.StandsFor.{StandsFor}
 use Rattle.xs_sheet.specs.declared.sheet.Sheet.{Sheet}
-use Rattle.xs_engine.specs.Fetches.{ReadsSheet, sheet_asked, source_asked, source_failed, Grew, JobFetches, Fetches, GoesOn}
-use Rattle.xs_engine.specs.Reply.{AsksFor, AsksSource, GoesTo, unasked, fetched, failed}
+use Rattle.xs_engine.specs.Fetches.{ReadsSheet, sheet_asked, inputs_asked, Grew, JobFetches, FetchesOver, Fetches, GoesOn}
+use Rattle.xs_engine.specs.Reply.{AsksFor, AsksSource, GoesTo, unasked, asked_for}
 
 -- the names of a list that stays
 stays : (xs ys : List (List ℕ)) → ys ≡ xs → ys ≡ xs ++ []
 stays xs ys e = e ∙ sym (append-nil xs)
 
 -- nothing was asked for
-pub nothing_asked : (job : Option Job) (files : Option Files) (asked faults : List (List ℕ)) → Fetches job files asked asked faults faults
-nothing_asked None files asked faults = (refl, refl)
-nothing_asked (Some job) files asked faults =
+nothing_over : (made : Option ℕ) (job : Job) (files : Option Files) (asked faults : List (List ℕ)) → FetchesOver made job files asked asked faults faults
+nothing_over None job files asked faults =
     record { names = []; faults = []; asked = stays asked asked refl; failed = stays faults faults refl; asks = sheet_asked {end = out_of_memory} out_before }
+nothing_over (Some count) job files asked faults = (refl, refl)
+
+pub nothing_asked : (request : Option Request) (files : Option Files) (asked faults : List (List ℕ)) → Fetches request files asked asked faults faults
+nothing_asked None files asked faults = (refl, refl)
+nothing_asked (Some request) files asked faults = nothing_over request.made request.job files asked faults
 
 -- what a run of a job asked for is what the run asked for whose words ask for that job
-pub job_asked : (job : Option Job) (own : Job) (files : Option Files) (a b f g : List (List ℕ)) → job ≡ Some own → JobFetches own files a b f g
-    → Fetches job files a b f g
-job_asked job own files a b f g is fetches = subst (λ j. Fetches j files a b f g) (sym is) fetches
+pub job_asked : (request : Option Request) (job : Job) (files : Option Files) (a b f g : List (List ℕ)) → request ≡ Some (plain job)
+    → JobFetches job files a b f g → Fetches request files a b f g
+job_asked request job files a b f g is fetches = subst (λ r. Fetches r files a b f g) (sym is) fetches
 
 -- what comes of a stylesheet, by its name in the job
 pub named : (end : End) (files : Option Files) (name sheet : List ℕ) (a b f g : List (List ℕ)) → name ≡ sheet
@@ -49,7 +54,7 @@ joined xs ms ys first second e f = f ∙ ap (λ m. m ++ second) e ∙ append_ass
 module _ (job : Job) (files : Option Files) (read : Mentioned) (a m b f n g : List (List ℕ)) where
   -- by the names of the modules, and then by these
   both_asked : (names later faults : List (List ℕ)) → ReadsSheet files job.sheet names (whole read) → m ≡ a ++ names → n ≡ f ++ []
-      → b ≡ m ++ later → g ≡ n ++ faults → AsksSource (GoesOn job (numbered read)) later faults → JobFetches job files a b f g
+      → b ≡ m ++ later → g ≡ n ++ faults → AsksSource (GoesOn job (numbered read)) files job later faults → JobFetches job files a b f g
   both_asked names later faults reads ma nf bm gn unasked = record {
     names = names;
     faults = [];
@@ -57,48 +62,43 @@ module _ (job : Job) (files : Option Files) (read : Mentioned) (a m b f n g : Li
     failed = gn ∙ append-nil n ∙ nf;
     asks = sheet_asked reads;
   }
-  both_asked names later faults reads ma nf bm gn (fetched is) = record {
-    names = names ++ later;
-    faults = [];
-    asked = joined a m b names later ma bm;
-    failed = gn ∙ append-nil n ∙ nf;
-    asks = source_asked reads is;
-  }
-  both_asked names later faults reads ma nf bm gn (failed is) = record {
+  both_asked names later faults reads ma nf bm gn (asked_for is inputs) = record {
     names = names ++ later;
     faults = faults;
     asked = joined a m b names later ma bm;
     failed = joined f n g [] faults nf gn;
-    asks = source_failed reads is;
+    asks = inputs_asked reads is inputs;
   }
 
--- the modules were read, and then the source was asked for or not
+-- the modules were read, and then the inputs were asked for or not
 pub all_asked : (job : Job) (files : Option Files) (read : Mentioned) (modules : List ModuleData) (a m b f n g : List (List ℕ))
     → ComesTo (whole read) files [] 0 (named_by_words job.sheet ∷ []) a m f n → modules ≡ numbered read
-    → Grew (AsksSource (GoesOn job modules)) m b n g → JobFetches job files a b f g
+    → Grew (AsksSource (GoesOn job modules) files job) m b n g → JobFetches job files a b f g
 all_asked job files read modules a m b f n g comes are grew =
     both_asked job files read a m b f n g comes.names grew.names grew.faults comes.reads comes.asks comes.fails grew.asked grew.failed
-    (subst (λ ms. AsksSource (GoesOn job ms) grew.names grew.faults) are grew.asks)
+    (subst (λ ms. AsksSource (GoesOn job ms) files job grew.names grew.faults) are grew.asks)
 
--- the source was not asked for
-pub source_left : (P : List ℕ → Type 0) (a b f g : List (List ℕ)) → b ≡ a → g ≡ f → Grew (AsksSource P) a b f g
-source_left P a b f g asked faults = record { names = []; faults = []; asked = stays a b asked; failed = stays f g faults; asks = unasked }
+-- no input was asked for
+pub source_left : (P : List ℕ → Type 0) (files : Option Files) (job : Job) (a b f g : List (List ℕ)) → b ≡ a → g ≡ f → Grew (AsksSource P files job) a b f g
+source_left P files job a b f g asked faults = record { names = []; faults = []; asked = stays a b asked; failed = stays f g faults; asks = unasked }
 
-asks_as : {A : Type 0} (r : Result A FetchEnd) (name : List ℕ) (P : List ℕ → Type 0) (a b f g : List (List ℕ)) → P name → AsksFor r name a b
-    → g ≡ failed_after r name f → Grew (AsksSource P) a b f g
-asks_as (Ok x) name P a b f g is asked faults =
-    record { names = name ∷ []; faults = []; asked = asked; failed = stays f g faults; asks = fetched is }
-asks_as (Err Failed) name P a b f g is asked faults =
-    record { names = name ∷ []; faults = name ∷ []; asked = asked; failed = faults; asks = failed is }
-asks_as (Err NoMemory) name P a b f g is (inl asked) faults =
+-- the source was, which is the first input
+asks_as : {A : Type 0} (r : Result A FetchEnd) (name : List ℕ) (P : List ℕ → Type 0) (files : Option Files) (job : Job) (a b f g : List (List ℕ))
+    → P name → AsksFor r name a b → g ≡ failed_after r name f → Grew (AsksSource P files job) a b f g
+asks_as (Ok x) name P files job a b f g is asked faults =
+    record { names = name ∷ []; faults = []; asked = asked; failed = stays f g faults; asks = asked_for is last }
+asks_as (Err Failed) name P files job a b f g is asked faults =
+    record { names = name ∷ []; faults = name ∷ []; asked = asked; failed = faults; asks = asked_for is failed }
+asks_as (Err NoMemory) name P files job a b f g is (inl asked) faults =
     record { names = []; faults = []; asked = stays a b asked; failed = stays f g faults; asks = unasked }
-asks_as (Err NoMemory) name P a b f g is (inr asked) faults =
-    record { names = name ∷ []; faults = []; asked = asked; failed = stays f g faults; asks = fetched is }
+asks_as (Err NoMemory) name P files job a b f g is (inr asked) faults =
+    record { names = name ∷ []; faults = []; asked = asked; failed = stays f g faults; asks = asked_for is last }
 
 -- the source of a stylesheet that is built was asked for
-pub after_source : {A : Type 0} (r : Result A FetchEnd) (name source : List ℕ) (sheet : Sheet) (a b f g : List (List ℕ)) → name ≡ source
-    → is_built sheet ≡ true → AsksFor r name a b → g ≡ failed_after r name f → Grew (AsksSource (GoesTo sheet source)) a b f g
-after_source r name source sheet a b f g same built asked faults = asks_as r name (GoesTo sheet source) a b f g (same, built) asked faults
+pub after_source : {A : Type 0} (r : Result A FetchEnd) (name source : List ℕ) (sheet : Sheet) (files : Option Files) (job : Job)
+    (a b f g : List (List ℕ)) → name ≡ source → is_built sheet ≡ true → AsksFor r name a b → g ≡ failed_after r name f
+    → Grew (AsksSource (GoesTo sheet source) files job) a b f g
+after_source r name source sheet files job a b f g same built asked faults = asks_as r name (GoesTo sheet source) files job a b f g (same, built) asked faults
 
 -- a run on a source goes on to it, where the stylesheet has no static fault and what stands for it is built
 going_on : (job : Job) (modules : List ModuleData) (sheet : Sheet) (source name : List ℕ) → job.source ≡ Some source → IsFirstFault modules None
@@ -106,21 +106,20 @@ going_on : (job : Job) (modules : List ModuleData) (sheet : Sheet) (source name 
 going_on job modules sheet source name run none stands is =
     record { run = run ∙ ap Some (sym is.0); faultless = none; sheet = sheet; stands = stands; built = is.1 }
 
-still_asks : (P Q : List ℕ → Type 0) (names faults : List (List ℕ)) → ((name : List ℕ) → P name → Q name) → AsksSource P names faults
-    → AsksSource Q names faults
-still_asks P Q names faults h unasked = unasked
-still_asks P Q names faults h (fetched {source} is) = fetched (h source is)
-still_asks P Q names faults h (failed {source} is) = failed (h source is)
+still_asks : (P Q : List ℕ → Type 0) (files : Option Files) (job : Job) (names faults : List (List ℕ)) → ((name : List ℕ) → P name → Q name)
+    → AsksSource P files job names faults → AsksSource Q files job names faults
+still_asks P Q files job names faults h unasked = unasked
+still_asks P Q files job names faults h (asked_for {source} is inputs) = asked_for (h source is) inputs
 
 -- what a run of a compiled stylesheet asked for
-pub sheet_asked_for : (job : Job) (modules : List ModuleData) (sheet : Sheet) (source : List ℕ) (a b f g : List (List ℕ))
-    → job.source ≡ Some source → IsFirstFault modules None → StandsFor modules sheet → Grew (AsksSource (GoesTo sheet source)) a b f g
-    → Grew (AsksSource (GoesOn job modules)) a b f g
-sheet_asked_for job modules sheet source a b f g run none stands grew = record {
+pub sheet_asked_for : (files : Option Files) (job : Job) (modules : List ModuleData) (sheet : Sheet) (source : List ℕ) (a b f g : List (List ℕ))
+    → job.source ≡ Some source → IsFirstFault modules None → StandsFor modules sheet → Grew (AsksSource (GoesTo sheet source) files job) a b f g
+    → Grew (AsksSource (GoesOn job modules) files job) a b f g
+sheet_asked_for files job modules sheet source a b f g run none stands grew = record {
   names = grew.names;
   faults = grew.faults;
   asked = grew.asked;
   failed = grew.failed;
-  asks = still_asks (GoesTo sheet source) (GoesOn job modules) grew.names grew.faults (λ name. going_on job modules sheet source name run none stands)
-      grew.asks;
+  asks = still_asks (GoesTo sheet source) (GoesOn job modules) files job grew.names grew.faults
+      (λ name. going_on job modules sheet source name run none stands) grew.asks;
 }

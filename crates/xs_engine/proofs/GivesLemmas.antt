@@ -1,13 +1,13 @@
--- What the sinks of a run gain.
-use Rattle.std.proofs.Common.{◌≡◌, ℕ, List, [], Option, Some, None, refl, sym, ap, subst, inl, inr, append-nil}
+-- What the report and the sinks of a run gain.
+use Rattle.std.proofs.Common.{◌≡◌, ◌≢◌, ℕ, ◌⊎◌, Bool, List, [], length, Option, Some, None, refl, sym, ap, ◌∙◌, subst, inl, inr, append-nil, arith}
 use Rattle.xs_outside.specs.Edge.{Files}
-use Rattle.xs_engine.specs.declared.reply.ReportedFault.{ReportedFault}
-use Rattle.xs_engine.specs.declared.status.TheConstants.{NO_MEMORY}
-use Rattle.xs_engine.specs.Answer.{Answer}
-use Rattle.xs_engine.specs.Job.{Job}
-use Rattle.xs_engine.specs.Headline.{Gained, IsWritten, Gives, OnlyDue}
+use Rattle.xs_engine.specs.declared.status.TheConstants.{NO_MEMORY, OK, WRITE_FAULT}
+use Rattle.xs_engine.specs.Answer.{Answer, Place}
+use Rattle.xs_engine.specs.Job.{Request}
+use Rattle.xs_engine.specs.Headline.{Account, AreClaimed, AreSome, AtOnce, Gained, Gives, IsCutShort, IsWritten, OneFault, OnlyDue, Writes, claimed_places, none}
 use Rattle.xs_engine.specs.Due.{IsDue}
 use Rattle.xs_engine.proofs.DueLemmas.{each_due, only_due}
+use Rattle.xs_trace.specs.declared.place.Claim.{Claim}
 
 -- a sink that was not written to holds what it held, and nothing more
 pub stays : (held : Option (List ℕ)) (P : List ℕ → Type 0) → P [] → Gained held held P
@@ -19,32 +19,73 @@ pub gains : (before after : Option (List ℕ)) (P : List ℕ → Type 0) → Gai
 gains None after P h = tt
 gains (Some b) after P h = (h.0, h.1, tt)
 
--- without memory nothing is written
-nothing_given : (answer : Answer) (status ticks : ℕ) (reports : Option ReportedFault) (out err : Option (List ℕ)) → status ≡ NO_MEMORY
-    → Gives answer status ticks reports out out err err
-nothing_given answer status ticks reports out err e = record {
+-- a run that has no pieces has no claims
+no_claims : (places : List Place) (claims : List Claim) → claims ≡ [] → places ≡ [] → AreSome (claimed_places claims) places
+no_claims places claims c p = subst (λ cs. AreSome (claimed_places cs) places) (sym c) (subst (λ ps. AreSome [] ps) (sym p) none)
+
+claimed : (a : Answer) (account : Account) → a.places ≡ [] → (account.pieces ≡ 0) × (account.inline ≡ 0) × (account.claims ≡ [])
+    → AreClaimed a account
+claimed a account p u = record {
+  number = u.0 ∙ sym (ap length u.2);
+  claimed = no_claims a.places account.claims u.2 p;
+  whole = λ ok. (ap claimed_places u.2 ∙ sym p, u.1);
+}
+
+module _ (streamed : Bool) (account : Account) (out out' err err' : Option (List ℕ)) where
+  -- what was written of an answer, with this account
+  pub gives : (a : Answer) (ended : ℕ) → account.status ≡ ended → account.ticks ≡ a.ticks → account.fault ≡ a.fault → a.places ≡ []
+      → (account.pieces ≡ 0) × (account.inline ≡ 0) × (account.claims ≡ []) → Writes a ended out out' err err'
+      → Gives streamed a account out out' err err'
+  gives a ended e t f p u w = record {
+    status = subst (λ s. (s ≡ a.status) ⊎ IsCutShort s) (sym e) w.status;
+    result = subst (λ s. Gained out out' (IsWritten a.result s)) (sym e) w.result;
+    lines = subst (λ s. Gained err err' (IsWritten a.lines s)) (sym e) w.lines;
+    lines_first = λ _. w.lines_first;
+    ticks = λ _. t;
+    fault = λ _. f;
+    pieces = λ _. claimed a account p u;
+  }
+
+-- out of memory nothing is written
+nothing_given : (streamed : Bool) (answer : Answer) (account : Account) (out err : Option (List ℕ)) → account.status ≡ NO_MEMORY
+    → Gives streamed answer account out out err err
+nothing_given streamed answer account out err e = record {
   status = inr (inr e);
-  result = stays out (IsWritten answer.result status) ((answer.result, refl), inl (inr e));
-  lines = stays err (IsWritten answer.lines status) ((answer.lines, refl), inl (inr e));
-  lines_first = stays out (λ taken. _) (inl refl);
+  result = stays out (IsWritten answer.result account.status) ((answer.result, refl), inl (inr e));
+  lines = stays err (IsWritten answer.lines account.status) ((answer.lines, refl), inl (inr e));
+  lines_first = λ _. stays out (λ taken. _) (inl refl);
   ticks = λ other. absurd (other e);
   fault = λ other. absurd (other e);
+  pieces = λ other. absurd (other e);
 }
 
 -- and so it is whatever is due
-pub gives_nothing : (files : Option Files) (job : Option Job) (failed failed' : List (List ℕ)) (status ticks : ℕ)
-    (reports : Option ReportedFault) (out err : Option (List ℕ))
-    → status ≡ NO_MEMORY → OnlyDue files job failed failed' (λ due. Gives due status ticks reports out out err err)
-gives_nothing files job failed failed' status ticks reports out err e =
-    each_due files job failed failed' (λ due. Gives due status ticks reports out out err err)
-    (λ due. nothing_given due status ticks reports out err e)
+pub gives_nothing : (files : Option Files) (request : Option Request) (failed failed' : List (List ℕ)) (streamed : Bool) (account : Account)
+    (out err : Option (List ℕ)) → account.status ≡ NO_MEMORY
+    → OnlyDue files request failed failed' (λ due. Gives streamed due account out out err err)
+gives_nothing files request failed failed' streamed account out err e =
+    each_due files request failed failed' (λ due. Gives streamed due account out out err err)
+    (λ due. nothing_given streamed due account out err e)
 
 -- what was given is all that is due
-pub gives_only : (files : Option Files) (job : Option Job) (failed failed' : List (List ℕ)) (a : Answer) (status status' ticks ticks' : ℕ)
-    (reports reports' : Option ReportedFault) (out out' err err' : Option (List ℕ)) → IsDue files job failed failed' a
-    → status' ≡ status → ticks' ≡ ticks → reports' ≡ reports
-    → Gives a status ticks reports out out' err err' → OnlyDue files job failed failed' (λ due. Gives due status' ticks' reports' out out' err err')
-gives_only files job failed failed' a status status' ticks ticks' reports reports' out out' err err' due e f h gives =
-    only_due files job failed failed' a (λ due. Gives due status' ticks' reports' out out' err err') due
-    (subst (λ s. Gives a s ticks' reports' out out' err err') (sym e) (subst (λ t. Gives a status t reports' out out' err err') (sym f)
-    (subst (λ r. Gives a status ticks r out out' err err') (sym h) gives)))
+pub gives_only : (files : Option Files) (request : Option Request) (failed failed' : List (List ℕ)) (a : Answer) (streamed : Bool) (account : Account)
+    (out out' err err' : Option (List ℕ)) → IsDue files request failed failed' a → Gives streamed a account out out' err err'
+    → OnlyDue files request failed failed' (λ due. Gives streamed due account out out' err err')
+gives_only files request failed failed' a streamed account out out' err err' due given =
+    only_due files request failed failed' a (λ due. Gives streamed due account out out' err err') due given
+
+-- what holds of a result that is written at once
+pub at_once : (ended ended' : ℕ) (out out' : Option (List ℕ)) (f f' g g' : ℕ) → ended' ≡ ended → (ended ≢ OK → ended ≢ WRITE_FAULT → out' ≡ out)
+    → (ended ≡ WRITE_FAULT → OneFault f f' g g') → (ended ≢ WRITE_FAULT → (f' ≡ f) × (g' ≡ g)) → AtOnce ended' out out' f f' g g'
+at_once ended ended' out out' f f' g g' e u w n =
+    subst (λ s. AtOnce s out out' f f' g g') (sym e) (record { untouched = u; write_fault = w; no_fault = n })
+
+other_status : (ended : ℕ) → ended ≡ NO_MEMORY → ended ≡ WRITE_FAULT → ⊥
+other_status ended e w = omega (arith, e, w)
+
+pub nothing_at_once : (ended : ℕ) (out : Option (List ℕ)) (f g : ℕ) → ended ≡ NO_MEMORY → AtOnce ended out out f f g g
+nothing_at_once ended out f g e = record {
+  untouched = λ ok failed. refl;
+  write_fault = λ w. absurd (other_status ended e w);
+  no_fault = λ w. (refl, refl);
+}

@@ -14,7 +14,8 @@ use Rattle.xs_body.specs.Trace.{root_task}
 use Rattle.xs_body.specs.World.{ground}
 use Rattle.xs_body.proofs.IndexLemmas.{settling-same, task-same}
 use Rattle.xs_engine.specs.Answer.{Answer, stopped_answer}
-use Rattle.xs_engine.specs.Evaluation.{IsCutAnswer, IsEndAnswer, IsEvaluated, IsEvaluatedFrom, in_globals, in_root, root_cut}
+use Rattle.xs_engine.specs.Evaluation.{IsCutAnswer, IsEndAnswer, IsEvaluated, IsEvaluatedOver, in_globals, in_root, root_cut}
+use Rattle.xs_engine.specs.Inputs.{Document, joined}
 use Rattle.xs_engine.specs.Job.{Job}
 use Rattle.xs_engine.proofs.OneSettlingLemmas.{one-settling}
 
@@ -32,16 +33,16 @@ table_of (settled t) = t
 table_of (ended t s) = t
 
 -- ---- an end has one answer
-one-end : (names : List (List ℕ)) (e : End) (passed : Trace Task) (says : List (List ℕ)) (ticks : ℕ) (x y : Answer) →
-    IsEndAnswer names e passed says ticks x → IsEndAnswer names e passed says ticks y → x ≡ y
-one-end names Whole passed says ticks x y p q = p ∙ sym q
-one-end names (Fault f s) passed says ticks x y p q = p ∙ sym q
-one-end names (Needs g s) passed says ticks x y p q = absurd p
-one-end names (Spent s) passed says ticks x y p q = p ∙ sym q
-one-end names (Full s) passed says ticks x y p q = p ∙ sym q
+one-end : (sheet : Sheet) (e : End) (passed : Trace Task) (says : List (List ℕ)) (ticks : ℕ) (x y : Answer) →
+    IsEndAnswer sheet e passed says ticks x → IsEndAnswer sheet e passed says ticks y → x ≡ y
+one-end sheet Whole passed says ticks x y p q = p ∙ sym q
+one-end sheet (Fault f s) passed says ticks x y p q = p ∙ sym q
+one-end sheet (Needs g s) passed says ticks x y p q = absurd p
+one-end sheet (Spent s) passed says ticks x y p q = p ∙ sym q
+one-end sheet (Full s) passed says ticks x y p q = p ∙ sym q
 
-one-cut : (names : List (List ℕ)) (t : Table) (c : Cut Task) (x y : Answer) → IsCutAnswer names t c x → IsCutAnswer names t c y → x ≡ y
-one-cut names t c x y p q = one-end names c.end c.passed _ _ x y p q
+one-cut : (sheet : Sheet) (t : Table) (c : Cut Task) (x y : Answer) → IsCutAnswer sheet t c x → IsCutAnswer sheet t c y → x ≡ y
+one-cut sheet t c x y p q = one-end sheet c.end c.passed _ _ x y p q
 
 -- ---- two indexes
 module _ (job : Job) (a : Sheet) (i j : RuleIndex) (rs : List Record) where
@@ -60,8 +61,8 @@ module _ (job : Job) (a : Sheet) (i j : RuleIndex) (rs : List Record) where
   one-run x y (in_root {t = t} k e) (in_globals {t = u} {s = v} l o) = absurd (true≢false (sym (ap has_ended (settling-one (settled t) (ended u v) k l))))
   one-run x y (in_root {t = t} k e) (in_root {t = u} l o) =
       let same : t ≡ u = ap table_of (settling-one (settled t) (settled u) k l) in
-      one-cut a.modules u (root_cut job (ground a j rs []) u) x y
-      (subst (λ z. IsCutAnswer a.modules z (root_cut job (ground a j rs []) z) x) same (subst (λ c. IsCutAnswer a.modules t c x) (cut-same t) e)) o
+      one-cut a u (root_cut job (ground a j rs []) u) x y
+      (subst (λ z. IsCutAnswer a z (root_cut job (ground a j rs []) z) x) same (subst (λ c. IsCutAnswer a t c x) (cut-same t) e)) o
 
-pub one-evaluated : (job : Job) (sheet : Sheet) (rs : List Record) (x y : Answer) → IsEvaluatedFrom job sheet rs x → IsEvaluatedFrom job sheet rs y → x ≡ y
-one-evaluated job sheet rs x y p q = one-run job sheet p.0 q.0 (without (stripped sheet.strips rs) rs) x y p.1 q.1
+pub one-evaluated : (job : Job) (sheet : Sheet) (ds : List Document) (x y : Answer) → IsEvaluatedOver job sheet ds x → IsEvaluatedOver job sheet ds y → x ≡ y
+one-evaluated job sheet ds x y p q = one-run job sheet p.0 q.0 (without (stripped sheet.strips (joined ds)) (joined ds)) x y p.1 q.1

@@ -6,6 +6,8 @@ use Rattle.std.specs.Option.{unwrap_or}
 use Rattle.xs_text.specs.Escapes.{escaped}
 use Rattle.xs_result.specs.Built.{built}
 use Rattle.xs_result.specs.Text.{text_in}
+use Rattle.xs_sheet.specs.declared.declarations.Method.{Method}
+use Rattle.xs_sheet.specs.declared.declarations.Method.TheVariants.{Pyx, Text}
 use Rattle.xs_trace.specs.declared.event.Event.{Event}
 use Rattle.xs_trace.specs.Fault.{fault_number}
 use Rattle.xs_trace.specs.declared.item.Spot.{Spot}
@@ -14,13 +16,19 @@ use Rattle.xs_engine.specs.declared.reply.ReportedFault.{ReportedFault}
 use Rattle.xs_engine.specs.declared.status.TheConstants.{OK, USAGE, READ_FAULT, REFUSED, RUN_FAULT}
 use Rattle.xs_engine.specs.Faults.{fault_name, run_fault_name}
 
--- its status, the bytes of the result, the bytes of the lines for the user, the fault that ended it, and the ticks that it spent
+-- a place in a run: the numbers of the holes that lead to it
+abbrev pub Place : Type 0
+Place = List ℕ
+
+-- its status, the bytes of the result, the bytes of the lines for the user, the fault that ended it, the ticks that it spent, and the
+-- places of its pieces, in order; none where it does not come to pieces
 pub record Answer : Type 0 where
   pub status : ℕ
   pub result : List ℕ
   pub lines : List ℕ
   pub fault : Option ReportedFault
   pub ticks : ℕ
+  pub places : List Place
 
 -- the line that refuses the words
 abbrev pub usage_line : List ℕ
@@ -47,7 +55,7 @@ message_line text = codes "message " ++ escaped text ++ 10 ∷ []
 
 -- the words are refused
 abbrev pub usage : Answer
-usage = record { status = USAGE; result = []; lines = usage_line; fault = None; ticks = 0 }
+usage = record { status = USAGE; result = []; lines = usage_line; fault = None; ticks = 0; places = [] }
 
 -- a name could not be read
 abbrev pub read_fault : List ℕ → Answer
@@ -57,6 +65,7 @@ read_fault name = record {
   lines = file_fault_line UNREADABLE name 0;
   fault = Some (reported UNREADABLE name 0);
   ticks = 0;
+  places = [];
 }
 
 -- a file is refused: it has this fault at this line
@@ -67,11 +76,12 @@ refused_file fault name line = record {
   lines = file_fault_line fault name line;
   fault = Some (reported fault name line);
   ticks = 0;
+  places = [];
 }
 
 -- a stylesheet that was only checked has no fault
 abbrev pub faultless : Answer
-faultless = record { status = OK; result = []; lines = []; fault = None; ticks = 0 }
+faultless = record { status = OK; result = []; lines = []; fault = None; ticks = 0; places = [] }
 
 -- a file holds what is not built
 abbrev pub not_built : List ℕ → Answer
@@ -81,14 +91,21 @@ not_built name = refused_file NOT_BUILT name 0
 abbrev pub message_lines : List (List ℕ) → List ℕ
 message_lines texts = flat_map message_line texts
 
--- The evaluation came to its end: the result is the text of the text nodes that stay of these events (XSLT 1.0, 16.3).
-abbrev pub whole_answer : (says : List (List ℕ)) → List Event → (ticks : ℕ) → Answer
-whole_answer says events ticks = record {
+-- The bytes of a result, of the events that stay of these, as a method writes them: the text of the text nodes (XSLT 1.0, 16.3). PYX
+-- lines are not supported, and no run comes to them.
+abbrev pub result_of : Method → List Event → List ℕ
+result_of Pyx events = []
+result_of Text events = text_in (built events)
+
+-- The evaluation came to its end: the result is that of these events.
+abbrev pub whole_answer : Method → (says : List (List ℕ)) → List Event → (ticks : ℕ) → Answer
+whole_answer method says events ticks = record {
   status = OK;
-  result = text_in (built events);
+  result = result_of method events;
   lines = message_lines says;
   fault = None;
   ticks = ticks;
+  places = [];
 }
 
 -- the name of the module of this number
@@ -104,4 +121,5 @@ stopped_answer names spot says ticks = record {
       ++ fault_line (fault_number spot.fault) (run_fault_name spot.fault) (name_in names spot.«module») spot.line;
   fault = Some (reported (fault_number spot.fault) (name_in names spot.«module») spot.line);
   ticks = ticks;
+  places = [];
 }

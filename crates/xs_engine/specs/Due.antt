@@ -10,42 +10,52 @@ use Rattle.xs_tree.specs.Record.{Record}
 use Rattle.xs_sheet.specs.declared.sheet.Sheet.{Sheet}
 use Rattle.xs_engine.specs.Answer.{Answer, usage, read_fault, refused_file, faultless, not_built}
 use Rattle.xs_engine.specs.Built.{is_built}
-use Rattle.xs_engine.specs.Evaluation.{IsEvaluatedFrom}
+use Rattle.xs_engine.specs.Evaluation.{IsEvaluatedOver}
 use Rattle.xs_engine.specs.Fetches.{ReadsSheet}
-use Rattle.xs_engine.specs.Job.{Job}
+use Rattle.xs_engine.specs.Inputs.{Document, named_document}
+use Rattle.xs_engine.specs.Job.{Job, Request, inputs_on}
+use Rattle.xs_engine.specs.Made.{files_of}
 use Rattle.xs_engine.specs.Read.{Read, read, bad}
 use Rattle.xs_engine.specs.Run.{module_name, source_of}
+use Rattle.xs_words.specs.Choice.{Pair}
 
 -- these are the bytes of a file, None where there is none; any, where the library tells no files
 abbrev pub IsFile : Option Files → List ℕ → Option (List ℕ) → Type 0
 IsFile files name bytes = IfSome files (λ map. map name ≡ bytes)
 
--- the answer over what the bytes of a source stand for
-abbrev pub IsReadAnswer : Job → Sheet → (source : List ℕ) → Read (List Record) → Answer → Type 0
-IsReadAnswer job sheet source (read records) answer = IsEvaluatedFrom job sheet records answer
-IsReadAnswer job sheet source (bad number line) answer = answer ≡ refused_file number source line
+-- the answer over what the bytes of an input stand for, by what follows of its records
+abbrev pub IsReadAnswer : (name : List ℕ) → Read (List Record) → (next : List Record → Type 0) → Answer → Type 0
+IsReadAnswer name (read records) next answer = next records
+IsReadAnswer name (bad number line) next answer = answer ≡ refused_file number name line
 
--- the answer over the bytes of a source, or the fault that there is no file of that name
-abbrev pub IsBytesAnswer : Job → Sheet → (source : List ℕ) → Option (List ℕ) → Answer → Type 0
-IsBytesAnswer job sheet source None answer = answer ≡ read_fault source
-IsBytesAnswer job sheet source (Some bytes) answer = IsReadAnswer job sheet source (source_of bytes) answer
+-- over its bytes, or the fault that there is no file of that name
+abbrev pub IsBytesAnswer : (name : List ℕ) → Option (List ℕ) → (next : List Record → Type 0) → Answer → Type 0
+IsBytesAnswer name None next answer = answer ≡ read_fault name
+IsBytesAnswer name (Some bytes) next answer = IsReadAnswer name (source_of bytes) next answer
 
--- the answer of a compiled stylesheet on a source, which is read where the stylesheet is built
-abbrev pub IsSheetAnswer : (built : Bool) → Option Files → Job → Sheet → (source : List ℕ) → Answer → Type 0
-IsSheetAnswer false files job sheet source answer = answer ≡ not_built job.sheet
-IsSheetAnswer true files job sheet source answer =
-    (bytes : Option (List ℕ)) × IsFile files source bytes × IsBytesAnswer job sheet source bytes answer
+-- The answer of a compiled stylesheet on the inputs that are left, after those that were read to these documents. The first input
+-- that can't be read, or is no document, is reported.
+abbrev pub IsInputsAnswer : Option Files → Job → Sheet → (left : List Pair) → List Document → Answer → Type 0
+IsInputsAnswer files job sheet [] documents answer = IsEvaluatedOver job sheet documents answer
+IsInputsAnswer files job sheet (input ∷ left) documents answer =
+    (bytes : Option (List ℕ)) × IsFile files input.1 bytes
+    × IsBytesAnswer input.1 bytes (λ records. IsInputsAnswer files job sheet left (documents ++ named_document input.0 records ∷ []) answer) answer
 
--- The answer of a run on a source: that of a compiled stylesheet that stands for the modules.
-pub record IsRunAnswer (files : Option Files) (job : Job) (modules : List ModuleData) (source : List ℕ) (answer : Answer) : Type 0 where
+-- on all its inputs, which are read where the stylesheet is built
+abbrev pub IsSheetAnswer : (built : Bool) → Option Files → Job → Sheet → (inputs : List Pair) → Answer → Type 0
+IsSheetAnswer false files job sheet inputs answer = answer ≡ not_built job.sheet
+IsSheetAnswer true files job sheet inputs answer = IsInputsAnswer files job sheet inputs [] answer
+
+-- The answer of a run on inputs: that of a compiled stylesheet that stands for the modules.
+pub record IsRunAnswer (files : Option Files) (job : Job) (modules : List ModuleData) (inputs : List Pair) (answer : Answer) : Type 0 where
   pub sheet : Sheet
   pub stands : StandsFor modules sheet
-  pub answers : IsSheetAnswer (is_built sheet) files job sheet source answer
+  pub answers : IsSheetAnswer (is_built sheet) files job sheet inputs answer
 
 -- the answer over modules without a static fault; where the stylesheet is only checked, it has none
 abbrev pub IsFaultlessAnswer : (source : Option (List ℕ)) → Option Files → Job → List ModuleData → Answer → Type 0
 IsFaultlessAnswer None files job modules answer = answer ≡ faultless
-IsFaultlessAnswer (Some source) files job modules answer = IsRunAnswer files job modules source answer
+IsFaultlessAnswer (Some source) files job modules answer = IsRunAnswer files job modules (inputs_on job source) answer
 
 -- by their first static fault, told by the module that has it
 abbrev pub IsStaticAnswer : Option StaticFault → Option Files → Job → List ModuleData → Answer → Type 0
@@ -53,7 +63,7 @@ IsStaticAnswer None files job modules answer = IsFaultlessAnswer job.source file
 IsStaticAnswer (Some fault) files job modules answer =
     answer ≡ refused_file fault.number (module_name modules fault.«module») fault.line
 
--- The answer over the modules of a stylesheet. A static fault is told before the source is read, and so is a stylesheet that is not
+-- The answer over the modules of a stylesheet. A static fault is told before an input is read, and so is a stylesheet that is not
 -- built; a stylesheet that is only checked need not be built.
 pub record IsModulesAnswer (files : Option Files) (job : Job) (modules : List ModuleData) (answer : Answer) : Type 0 where
   pub fault : Option StaticFault
@@ -80,8 +90,8 @@ pub data Owed (P : Answer → Type 0) (failed failed_after : List (List ℕ)) (a
   fault : (name : List ℕ) → failed_after ≡ failed ++ name ∷ [] → answer ≡ read_fault name → Owed P failed failed_after answer
   own : failed_after ≡ failed → P answer → Owed P failed failed_after answer
 
--- The answer that a run owes over these files, where its library's list of failed names was so before and after: refused words
--- have theirs whatever the files.
-abbrev pub IsDue : Option Files → Option Job → (failed failed_after : List (List ℕ)) → Answer → Type 0
+-- The answer that a run owes over these files of its library, where the library's list of failed names was so before and after:
+-- refused words have theirs whatever the files, and a run that makes its files has its own over these.
+abbrev pub IsDue : Option Files → Option Request → (failed failed_after : List (List ℕ)) → Answer → Type 0
 IsDue files None failed failed_after answer = (failed_after ≡ failed) × (answer ≡ usage)
-IsDue files (Some job) failed failed_after answer = Owed (IsAnswer files job) failed failed_after answer
+IsDue files (Some request) failed failed_after answer = Owed (IsAnswer (files_of request.made files) request.job) failed failed_after answer

@@ -6,7 +6,8 @@ use Rattle.xs_modules.specs.Mentioned.{Mentioned}
 use Rattle.xs_modules.specs.Numbering.{ModuleData, numbered}
 use Rattle.xs_modules.specs.Reading.{End, whole, Reads, failed_names}
 use Rattle.xs_static.specs.Faults.{IsFirstFault}
-use Rattle.xs_engine.specs.Job.{Job}
+use Rattle.xs_engine.specs.Inputs.{AsksInputs}
+use Rattle.xs_engine.specs.Job.{Job, Request, files_on}
 use Rattle.xs_engine.specs.Built.{is_built}
 use Rattle.xs_sheet.specs.declared.sheet.Sheet.{Sheet}
 use Rattle.xs_compile.specs.StandsFor.{StandsFor}
@@ -24,14 +25,12 @@ pub record GoesOn (job : Job) (modules : List ModuleData) (source : List ℕ) : 
   pub built : is_built sheet ≡ true
 
 -- The names that a job asked for, in order, and those of them whose fetch failed: the modules of its stylesheet, as far as the
--- reading came; and, once all were read and have no static fault, and the stylesheet is built, the source. So nothing is asked for
--- after a failure.
+-- reading came; and, once all were read and have no static fault, and the stylesheet is built, its inputs, as far as their reading
+-- came. So nothing is asked for after a failure.
 pub data Asks (job : Job) (files : Option Files) : List (List ℕ) → List (List ℕ) → Type 0 where
   sheet_asked : {names : List (List ℕ)} {end : End} → ReadsSheet files job.sheet names end → Asks job files names (failed_names end)
-  source_asked : {names : List (List ℕ)} {read : Mentioned} {source : List ℕ} → ReadsSheet files job.sheet names (whole read)
-      → GoesOn job (numbered read) source → Asks job files (names ++ source ∷ []) []
-  source_failed : {names : List (List ℕ)} {read : Mentioned} {source : List ℕ} → ReadsSheet files job.sheet names (whole read)
-      → GoesOn job (numbered read) source → Asks job files (names ++ source ∷ []) (source ∷ [])
+  inputs_asked : {names later faults : List (List ℕ)} {read : Mentioned} {source : List ℕ} → ReadsSheet files job.sheet names (whole read)
+      → GoesOn job (numbered read) source → AsksInputs files (files_on job source) later faults → Asks job files (names ++ later) faults
 
 -- both lists of a library grew, by names of which P says what was asked for and what failed
 pub record Grew (P : List (List ℕ) → List (List ℕ) → Type 0) (before after failed_before failed_after : List (List ℕ)) : Type 0 where
@@ -45,7 +44,17 @@ pub record Grew (P : List (List ℕ) → List (List ℕ) → Type 0) (before aft
 abbrev pub JobFetches : Job → Option Files → (asked asked_after failed failed_after : List (List ℕ)) → Type 0
 JobFetches job files asked asked_after failed failed_after = Grew (Asks job files) asked asked_after failed failed_after
 
+-- nothing was asked for
+abbrev pub IsUnasked : (asked asked_after failed failed_after : List (List ℕ)) → Type 0
+IsUnasked asked asked_after failed failed_after = (asked_after ≡ asked) × (failed_after ≡ failed)
+
+-- A run that makes its files asks for nothing.
+abbrev pub FetchesOver : (made : Option ℕ) → Job → Option Files → (asked asked_after failed failed_after : List (List ℕ)) → Type 0
+FetchesOver None job files asked asked_after failed failed_after = JobFetches job files asked asked_after failed failed_after
+FetchesOver (Some count) job files asked asked_after failed failed_after = IsUnasked asked asked_after failed failed_after
+
 -- Refused words ask for nothing.
-abbrev pub Fetches : Option Job → Option Files → (asked asked_after failed failed_after : List (List ℕ)) → Type 0
-Fetches None files asked asked_after failed failed_after = (asked_after ≡ asked) × (failed_after ≡ failed)
-Fetches (Some job) files asked asked_after failed failed_after = JobFetches job files asked asked_after failed failed_after
+abbrev pub Fetches : Option Request → Option Files → (asked asked_after failed failed_after : List (List ℕ)) → Type 0
+Fetches None files asked asked_after failed failed_after = IsUnasked asked asked_after failed failed_after
+Fetches (Some request) files asked asked_after failed failed_after =
+    FetchesOver request.made request.job files asked asked_after failed failed_after

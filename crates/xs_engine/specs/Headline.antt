@@ -1,21 +1,32 @@
 -- What holds after a run, whatever its words, files, sinks, workers and schedule.
-use Rattle.std.specs.Prelude.{◌≡◌, ◌≢◌, ℕ, ◌⊎◌, List, [], ◌++◌, Option, Some, None, IfSome}
+use Rattle.std.specs.Prelude.{◌≡◌, ◌≢◌, ℕ, ◌⊎◌, Bool, false, List, [], ◌∷◌, ◌++◌, map, length, Option, Some, None, IfSome}
 use Rattle.xs_outside.specs.Edge.{Files, IsBeginning, raised}
 use Rattle.xs_engine.specs.declared.reply.ReportedFault.{ReportedFault}
 use Rattle.xs_engine.specs.declared.status.TheConstants.{OK, RUN_FAULT, WRITE_FAULT, NO_MEMORY}
-use Rattle.xs_engine.specs.Answer.{Answer}
+use Rattle.xs_engine.specs.Answer.{Answer, Place}
 use Rattle.xs_engine.specs.Due.{IsDue}
-use Rattle.xs_engine.specs.Job.{Job}
+use Rattle.xs_engine.specs.Job.{Request}
+use Rattle.xs_engine.specs.Made.{files_of}
+use Rattle.xs_trace.specs.declared.place.Claim.{Claim}
 
 -- P of an answer that is due. Where the library tells its files there is one alone (`OnlyDue`); where it tells none, these are some
 -- files of which it is due.
-abbrev pub OfDue : Option Files → Option Job → (failed failed_after : List (List ℕ)) → (Answer → Type 0) → Type 0
-OfDue files job failed failed_after P = (answer : Answer) × IsDue files job failed failed_after answer × P answer
+abbrev pub OfDue : Option Files → Option Request → (failed failed_after : List (List ℕ)) → (Answer → Type 0) → Type 0
+OfDue files request failed failed_after P = (answer : Answer) × IsDue files request failed failed_after answer × P answer
 
--- where the library tells its files, P of whatever answer is due
-abbrev pub OnlyDue : Option Files → Option Job → (failed failed_after : List (List ℕ)) → (Answer → Type 0) → Type 0
-OnlyDue None job failed failed_after P = Unit {0}
-OnlyDue (Some files) job failed failed_after P = (answer : Answer) → IsDue (Some files) job failed failed_after answer → P answer
+-- the files of a run, where they are known: those that it makes, or those that its library tells
+abbrev pub files_for : Option Request → Option Files → Option Files
+files_for None files = files
+files_for (Some request) files = files_of request.made files
+
+-- where files are known, P of each answer for which D holds
+abbrev pub WhereKnown : Option Files → (D P : Answer → Type 0) → Type 0
+WhereKnown None D P = Unit {0}
+WhereKnown (Some files) D P = (answer : Answer) → D answer → P answer
+
+-- where the files of a run are known, P of whatever answer is due
+abbrev pub OnlyDue : Option Files → Option Request → (failed failed_after : List (List ℕ)) → (Answer → Type 0) → Type 0
+OnlyDue files request failed failed_after P = WhereKnown (files_for request files) (IsDue files request failed failed_after) P
 
 -- A sink that tells its bytes holds what it held and then this many more.
 abbrev pub Gained : Option (List ℕ) → Option (List ℕ) → (List ℕ → Type 0) → Type 0
@@ -29,21 +40,60 @@ IsCutShort status = (status ≡ WRITE_FAULT) ⊎ (status ≡ NO_MEMORY)
 abbrev pub IsWritten : List ℕ → ℕ → List ℕ → Type 0
 IsWritten bytes status taken = IsBeginning taken bytes × (IsCutShort status ⊎ (taken ≡ bytes))
 
--- A run gave what is due: it ended with this status after so many ticks and reported this fault, and the sinks hold these bytes before
--- it and after.
-pub record Gives (due : Answer) (ended spent : ℕ) (reports : Option ReportedFault) (out out_after err err_after : Option (List ℕ)) : Type 0 where
-  -- the status is the one that is due, unless the run was cut short
+-- no byte of a result comes before all lines
+abbrev pub LinesFirst : List ℕ → (out out_after err err_after : Option (List ℕ)) → Type 0
+LinesFirst lines out out_after err err_after =
+    Gained out out_after (λ taken. (taken ≡ []) ⊎ Gained err err_after (λ told. told ≡ lines))
+
+-- An answer was written: the run ended with this status, and the sinks hold these bytes before it and after.
+pub record Writes (due : Answer) (ended : ℕ) (out out_after err err_after : Option (List ℕ)) : Type 0 where
   pub status : (ended ≡ due.status) ⊎ IsCutShort ended
-  -- `out` holds what it held, and then a beginning of the result; all of it, unless the run was cut short
   pub result : Gained out out_after (IsWritten due.result ended)
-  -- the same of `err` and the lines
   pub lines : Gained err err_after (IsWritten due.lines ended)
-  -- no byte of the result comes before all lines
-  pub lines_first : Gained out out_after (λ taken. (taken ≡ []) ⊎ Gained err err_after (λ told. told ≡ due.lines))
+  pub lines_first : LinesFirst due.lines out out_after err err_after
+
+-- What a report says besides what was written: the status, the ticks, the fault, the number of pieces, how many of them were evaluated
+-- again in their place, and the claims.
+pub record Account : Type 0 where
+  pub status : ℕ
+  pub ticks : ℕ
+  pub fault : Option ReportedFault
+  pub pieces : ℕ
+  pub inline : ℕ
+  pub claims : List Claim
+
+-- some of these, in their order
+pub data AreSome {A : Type 0} : List A → List A → Type 0 where
+  none : AreSome [] []
+  skipped : {x : A} {xs ys : List A} → AreSome ys xs → AreSome ys (x ∷ xs)
+  taken : {x : A} {xs ys : List A} → AreSome ys xs → AreSome (x ∷ ys) (x ∷ xs)
+
+abbrev pub claimed_places : List Claim → List Place
+claimed_places claims = map (λ claim. claim.place) claims
+
+-- The pieces of a run, by their places in order: as many as claims; each was claimed at most once, in that order, and no other place
+-- was; where the run came to its end, each was, and none was evaluated again.
+pub record AreClaimed (due : Answer) (account : Account) : Type 0 where
+  pub number : account.pieces ≡ length account.claims
+  pub claimed : AreSome (claimed_places account.claims) due.places
+  pub whole : due.status ≡ OK → (claimed_places account.claims ≡ due.places) × (account.inline ≡ 0)
+
+-- A run gave what is due: the report has this account, and the sinks hold these bytes before the run and after.
+pub record Gives (streamed : Bool) (due : Answer) (account : Account) (out out_after err err_after : Option (List ℕ)) : Type 0 where
+  -- the status is the one that is due, unless the run was cut short
+  pub status : (account.status ≡ due.status) ⊎ IsCutShort account.status
+  -- `out` holds what it held, and then a beginning of the result; all of it, unless the run was cut short
+  pub result : Gained out out_after (IsWritten due.result account.status)
+  -- the same of `err` and the lines
+  pub lines : Gained err err_after (IsWritten due.lines account.status)
+  -- no byte of the result comes before all lines, where it is not streamed
+  pub lines_first : streamed ≡ false → LinesFirst due.lines out out_after err err_after
   -- the ticks are those that are due, also where a write failed
-  pub ticks : ended ≢ NO_MEMORY → spent ≡ due.ticks
+  pub ticks : account.status ≢ NO_MEMORY → account.ticks ≡ due.ticks
   -- and so is the fault
-  pub fault : ended ≢ NO_MEMORY → reports ≡ due.fault
+  pub fault : account.status ≢ NO_MEMORY → account.fault ≡ due.fault
+  -- and the claims are of the pieces that are due
+  pub pieces : account.status ≢ NO_MEMORY → AreClaimed due account
 
 -- only these statuses come with ticks
 abbrev pub HasTicks : ℕ → Type 0
@@ -53,3 +103,12 @@ HasTicks status = (status ≡ OK) ⊎ ((status ≡ RUN_FAULT) ⊎ (status ≡ WR
 abbrev pub OneFault : (out out_after err err_after : ℕ) → Type 0
 OneFault out out_after err err_after =
     ((out_after ≡ raised out) × (err_after ≡ err)) ⊎ ((out_after ≡ out) × (err_after ≡ raised err))
+
+-- What holds of a run whose result is written once the evaluation has ended: by its status, what `out` holds before it and after, and
+-- the counts of faults of both sinks.
+pub record AtOnce (ended : ℕ) (out out_after : Option (List ℕ)) (faults faults_after err_faults err_faults_after : ℕ) : Type 0 where
+  -- `out` gains nothing with most statuses
+  pub untouched : ended ≢ OK → ended ≢ WRITE_FAULT → out_after ≡ out
+  -- one write failed, or none
+  pub write_fault : ended ≡ WRITE_FAULT → OneFault faults faults_after err_faults err_faults_after
+  pub no_fault : ended ≢ WRITE_FAULT → (faults_after ≡ faults) × (err_faults_after ≡ err_faults)

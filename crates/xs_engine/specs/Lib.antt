@@ -6,7 +6,9 @@ pub mod Faults
 pub mod Fetches
 pub mod Headline
 pub mod Items
+pub mod Inputs
 pub mod Job
+pub mod Made
 pub mod Read
 pub mod Reply
 pub mod Run

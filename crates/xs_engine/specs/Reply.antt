@@ -5,7 +5,9 @@ use Rattle.xs_outside.specs.declared.edge.FetchEnd.{FetchEnd}
 use Rattle.xs_outside.specs.declared.edge.FetchEnd.TheVariants.{Failed, NoMemory}
 use Rattle.xs_modules.specs.Reading.{Holds}
 use Rattle.xs_engine.specs.declared.job.Job.{Job as CodeJob}
+use Rattle.xs_engine.specs.declared.job.Request.{Request as CodeRequest}
 use Rattle.xs_engine.specs.declared.reply.Reply.{Reply}
+use Rattle.xs_engine.specs.declared.top.Report.{Report}
 use Rattle.xs_engine.specs.declared.status.TheConstants.{OK}
 use Rattle.xs_modules.specs.Numbering.{ModuleData}
 use Rattle.xs_static.specs.Faults.{IsFirstFault}
@@ -14,11 +16,23 @@ use Rattle.xs_engine.specs.Answer.{Answer, faultless, refused_file}
 use Rattle.xs_engine.specs.Run.{module_name}
 use Rattle.xs_engine.specs.Built.{is_built}
 use Rattle.xs_sheet.specs.declared.sheet.Sheet.{Sheet}
-use Rattle.xs_engine.specs.Job.{Job}
+use Rattle.xs_engine.specs.Headline.{Account}
+use Rattle.xs_engine.specs.Inputs.{AsksInputs}
+use Rattle.xs_engine.specs.Job.{Job, Request, files_on, plain}
 use Rattle.xs_engine.specs.Read.{Read}
 
 abbrev pub job_data : CodeJob → Job
-job_data job = record { sheet = job.sheet; source = job.source; given = job.given.items; budget = job.budget; most_events = job.most_events }
+job_data job = record {
+  sheet = job.sheet;
+  source = job.source;
+  documents = [];
+  given = job.given.items;
+  budget = job.budget;
+  most_events = job.most_events;
+}
+
+abbrev pub request_data : CodeRequest → Request
+request_data request = record (plain (job_data request.job)) { made = request.made }
 
 abbrev pub reply_of : Reply → Answer
 reply_of reply = record {
@@ -27,6 +41,17 @@ reply_of reply = record {
   lines = reply.lines.items;
   fault = reply.fault;
   ticks = reply.ticks;
+  places = [];
+}
+
+abbrev pub account_of : Report → Account
+account_of report = record {
+  status = report.status;
+  ticks = report.ticks;
+  fault = report.fault;
+  pieces = report.pieces;
+  inline = report.inline;
+  claims = report.claims.items;
 }
 
 -- only a status of 0 has a result
@@ -45,11 +70,11 @@ AsksFor (Ok read) name asked asked_after = asked_after ≡ asked ++ name ∷ []
 AsksFor (Err Failed) name asked asked_after = asked_after ≡ asked ++ name ∷ []
 AsksFor (Err NoMemory) name asked asked_after = (asked_after ≡ asked) ⊎ (asked_after ≡ asked ++ name ∷ [])
 
--- The source was asked for, of which P says that the run goes on to it, or, where memory was wanting or it does not, nothing.
-pub data AsksSource (P : List ℕ → Type 0) : List (List ℕ) → List (List ℕ) → Type 0 where
-  unasked : AsksSource P [] []
-  fetched : {source : List ℕ} → P source → AsksSource P (source ∷ []) []
-  failed : {source : List ℕ} → P source → AsksSource P (source ∷ []) (source ∷ [])
+-- The inputs of a run on a source were asked for, of which P says that the run goes on to it, or, where it does not, nothing.
+pub data AsksSource (P : List ℕ → Type 0) (files : Option Files) (job : Job) : List (List ℕ) → List (List ℕ) → Type 0 where
+  unasked : AsksSource P files job [] []
+  asked_for : {source : List ℕ} {names faults : List (List ℕ)} → P source → AsksInputs files (files_on job source) names faults
+      → AsksSource P files job names faults
 
 -- a run of a compiled stylesheet on a source goes on to it: the stylesheet is built
 abbrev pub GoesTo : Sheet → (source name : List ℕ) → Type 0

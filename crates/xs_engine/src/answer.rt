@@ -1,6 +1,6 @@
 //! The answer of a run, before anything of it is written.
 
-ghost use Rattle.std.specs.Prelude.{◌≡◌, ◌≢◌, ◌<◌, ◌⊎◌, IfOk, None, length};
+ghost use Rattle.std.specs.Prelude.{◌≡◌, ◌≢◌, ◌<◌, ◌⊎◌, IfOk, None, Some, length};
 ghost use Rattle.xs_modules.specs.Results.{modules_data};
 ghost use Rattle.xs_modules.specs.Sound.{IsSound};
 ghost use Rattle.xs_sheet.specs.Sound.{IsSound as SheetIsSound};
@@ -12,7 +12,8 @@ ghost use Rattle.xs_engine.specs.Built.{is_built};
 ghost use Rattle.xs_engine.specs.Due.{IsAnswer, IsDue, IsModulesAnswer, IsSheetAnswer, Owed};
 ghost use Rattle.xs_engine.specs.Fetches.{Fetches, GoesOn, Grew, JobFetches};
 ghost use Rattle.xs_engine.specs.Headline.{HasTicks};
-ghost use Rattle.xs_engine.specs.Job.{job_of};
+ghost use Rattle.xs_engine.specs.Job.{inputs_on, request_of};
+ghost use Rattle.xs_engine.specs.Made.{made_files};
 ghost use Rattle.xs_engine.specs.Reply.{AsksSource, GoesTo, IsChecked, IsWholeOrEmpty};
 ghost use Rattle.xs_engine.specs.Reply.{job_data, reply_of};
 ghost use Rattle.xs_engine.specs.Run.{module_name};
@@ -20,11 +21,13 @@ ghost use Rattle.xs_engine.specs.Run.{module_name};
 use crate::built::is_built;
 use crate::evaluation::evaluate;
 use crate::faults::NOT_BUILT;
-use crate::job::{Job, read_job};
+use crate::job::{Job, read_request};
+use crate::made::MadeFiles;
 use crate::reading::read_source;
 use crate::reply::{Reply, faultless_reply, read_fault_reply, refused_reply, usage_reply};
 use std::alloc::{AllocError, Global};
 use xs_compile::{CompileEnd, compile};
+use xs_load::load_case;
 use xs_modules::{Modules, ModulesEnd, read_modules};
 use xs_outside::{FetchEnd, Library};
 use xs_sheet::sheet::Sheet;
@@ -39,23 +42,41 @@ pub fn reply_to<L: Library>(
     library: &mut L,
 ) -> Result<Reply, AllocError>
     ensures files { L.files library.new ≡ L.files library.old }
-    ensures fetches { Fetches (job_of (texts words.now)) (L.files library.old)
+    ensures fetches { Fetches (request_of (texts words.now)) (L.files library.old)
         (L.asked library.old) (L.asked library.new) (L.failed library.old) (L.failed library.new) }
-    ensures due { IfOk result (λ reply. IsDue (L.files library.old) (job_of (texts words.now))
+    ensures due { IfOk result (λ reply. IsDue (L.files library.old) (request_of (texts words.now))
         (L.failed library.old) (L.failed library.new) (reply_of reply)) }
     ensures usage_only { IfOk result (λ reply.
-        reply.status ≡ USAGE → job_of (texts words.now) ≡ None) }
+        reply.status ≡ USAGE → request_of (texts words.now) ≡ None) }
     ensures read_fault_only { IfOk result (λ reply. reply.status ≡ READ_FAULT
         → length (L.failed library.old) < length (L.failed library.new)) }
     ensures status { IfOk result (λ reply. reply.status < WRITE_FAULT) }
     ensures ticks { IfOk result (λ reply. HasTicks reply.status ⊎ (reply.ticks ≡ 0)) }
     ensures whole_only { IfOk result IsWholeOrEmpty }
 {
-    match read_job(alloc, words) {
-        Ok(job) => job_reply(alloc, &job, library),
+    match read_request(alloc, words) {
+        Ok(request) => match request.made {
+            None => job_reply(alloc, &request.job, library),
+            Some(count) => made_reply(alloc, &request.job, count),
+        },
         Err(WordsEnd::Usage) => usage_reply(alloc),
         Err(WordsEnd::NoMemory) => Err(AllocError),
     }
+}
+
+/// The answer of a run over the files that it makes, of which the source has so many elements.
+fn made_reply(alloc: Global, job: &Job, count: u32) -> Result<Reply, AllocError>
+    ensures answer { IfOk result (λ reply.
+        IsAnswer (Some (made_files count)) (job_data job.now) (reply_of reply)) }
+    ensures read { IfOk result (λ reply. reply.status ≢ READ_FAULT) }
+    ensures status { IfOk result (λ reply.
+        (reply.status ≢ USAGE) × (reply.status < WRITE_FAULT)) }
+    ensures ticks { IfOk result (λ reply. HasTicks reply.status ⊎ (reply.ticks ≡ 0)) }
+    ensures whole_only { IfOk result IsWholeOrEmpty }
+{
+    let (sheet, source) = load_case(alloc, count)?;
+    let mut made = MadeFiles::new(alloc, sheet, source);
+    job_reply(alloc, job, &mut made)
 }
 
 /// The answer of a run over a stylesheet, with all the modules that it mentions, and a source.
@@ -96,7 +117,8 @@ fn modules_reply<L: Library>(
 ) -> Result<Reply, AllocError>
     requires { IsSound (modules_data modules.now) }
     ensures files { L.files library.new ≡ L.files library.old }
-    ensures asks { Grew (AsksSource (GoesOn (job_data job.now) (modules_data modules.now)))
+    ensures asks { Grew (AsksSource (GoesOn (job_data job.now) (modules_data modules.now))
+        (L.files library.old) (job_data job.now))
         (L.asked library.old) (L.asked library.new) (L.failed library.old) (L.failed library.new) }
     ensures due { IfOk result (λ reply. Owed
         (IsModulesAnswer (L.files library.old) (job_data job.now) (modules_data modules.now))
@@ -158,10 +180,12 @@ pub fn run_reply<L: Library>(
 ) -> Result<Reply, AllocError>
     requires sound { SheetIsSound sheet.now }
     ensures files { L.files library.new ≡ L.files library.old }
-    ensures asks { Grew (AsksSource (GoesTo sheet.now source.now))
+    ensures asks { Grew (AsksSource (GoesTo sheet.now source.now)
+        (L.files library.old) (job_data job.now))
         (L.asked library.old) (L.asked library.new) (L.failed library.old) (L.failed library.new) }
     ensures due { IfOk result (λ reply. Owed (IsSheetAnswer (is_built sheet.now)
-        (L.files library.old) (job_data job.now) sheet.now source.now)
+        (L.files library.old) (job_data job.now) sheet.now
+        (inputs_on (job_data job.now) source.now))
         (L.failed library.old) (L.failed library.new) (reply_of reply)) }
     ensures read_fault_only { IfOk result (λ reply. reply.status ≡ READ_FAULT
         → length (L.failed library.old) < length (L.failed library.new)) }

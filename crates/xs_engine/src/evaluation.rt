@@ -1,13 +1,14 @@
 //! What a stylesheet makes of a source, cut at the limits of a job.
 
 ghost use Rattle.std.specs.List.{All};
-ghost use Rattle.std.specs.Prelude.{◌≡◌, ◌≤◌, ◌⊎◌, [], IfOk, IsSome, None, OnOk};
+ghost use Rattle.std.specs.Prelude.{◌≡◌, ◌≤◌, ◌⊎◌, [], ◌∷◌, IfOk, IsSome, None, OnOk};
 ghost use Rattle.xs_body.specs.Globals.{SettlesAll};
 ghost use Rattle.xs_body.specs.Results.{settled_of};
 ghost use Rattle.xs_body.specs.World.{ground};
 ghost use Rattle.xs_eval.specs.Conditions.{IsInIf};
 ghost use Rattle.xs_engine.specs.declared.status.TheConstants.{OK, RUN_FAULT};
-ghost use Rattle.xs_engine.specs.Evaluation.{IsEvaluated, IsEvaluatedFrom, IsEvaluatedOn};
+ghost use Rattle.xs_engine.specs.Evaluation.{IsEvaluated, IsEvaluatedOn, IsEvaluatedOver};
+ghost use Rattle.xs_engine.specs.Inputs.{named_document};
 ghost use Rattle.xs_engine.specs.Reply.{IsWholeOrEmpty, job_data, reply_of};
 ghost use Rattle.xs_rules.specs.Indexed.{IsIndex, IsPrepared};
 ghost use Rattle.xs_rules.specs.WhiteSpace.{stripped};
@@ -34,7 +35,8 @@ use xs_value::keys::NoKeys;
 pub fn evaluate(alloc: Global, job: &Job, sheet: &Sheet, source: Tree) -> Result<Reply, AllocError>
     requires sound { IsSound sheet.now }
     ensures answer { IfOk result (λ reply.
-        IsEvaluatedFrom (job_data job.now) sheet.now source (reply_of reply)) }
+        IsEvaluatedOver (job_data job.now) sheet.now (named_document [] source ∷ [])
+        (reply_of reply)) }
     ensures status { IfOk result (λ reply.
         (reply.status ≡ OK) ⊎ (reply.status ≡ RUN_FAULT)) }
     ensures whole_only { IfOk result IsWholeOrEmpty }
@@ -125,7 +127,7 @@ fn root_reply(
     let part = &outcome.parts[0];
     let ticks = settled.ticks + outcome.ticks;
     match outcome.ended {
-        Ended::Whole => whole_reply(alloc, &settled.says, &part.items, ticks),
+        Ended::Whole => whole_reply(alloc, sheet.method, &settled.says, &part.items, ticks),
         Ended::Fault(spot) => stopped_reply(alloc, sheet, spot, &settled.says, &part.items, ticks),
         Ended::Spent(spot) => stopped_reply(alloc, sheet, spot, &settled.says, &part.items, ticks),
         Ended::Full(spot) => stopped_reply(alloc, sheet, spot, &settled.says, &part.items, ticks),

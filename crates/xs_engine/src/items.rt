@@ -5,7 +5,7 @@ ghost use Rattle.std.specs.Prelude.{◌≡◌, ◌++◌, IfOk, OnOk, option_map}
 ghost use Rattle.xs_block.specs.Chain.{items_of};
 ghost use Rattle.xs_result.specs.Built.{built};
 ghost use Rattle.xs_result.specs.Text.{text_in};
-ghost use Rattle.xs_engine.specs.Answer.{message_line, message_lines};
+ghost use Rattle.xs_engine.specs.Answer.{message_line, message_lines, result_of};
 ghost use Rattle.xs_engine.specs.Items.{events_in, item_event, item_line, messages_in};
 
 use std::alloc::{AllocError, Global};
@@ -13,6 +13,7 @@ use std::marker::Model;
 use xs_block::chain::Chain;
 use xs_block::items::Items;
 use xs_result::write_text;
+use xs_sheet::declarations::Method;
 use xs_text::escape_into;
 use xs_trace::event::Event;
 use xs_trace::item::Item;
@@ -62,8 +63,24 @@ fn event_of(item: &Item) -> Option<&Event>
     }
 }
 
+/// The bytes of a result, of the events among the items, as a method writes them. PYX lines are not
+/// supported, and no run comes to them.
+pub fn result_bytes(
+    alloc: Global,
+    method: Method,
+    items: &Chain<Item>,
+) -> Result<Vec<u8>, AllocError>
+    ensures { IfOk result (λ bytes. bytes.items
+        ≡ result_of method (events_in (items_of items.now))) }
+{
+    match method {
+        Method::Pyx => Ok(Vec::new(alloc)),
+        Method::Text => result_text(alloc, items),
+    }
+}
+
 /// The text of a result: of the text nodes that stay of the events among the items.
-pub fn result_text(alloc: Global, items: &Chain<Item>) -> Result<Vec<u8>, AllocError>
+fn result_text(alloc: Global, items: &Chain<Item>) -> Result<Vec<u8>, AllocError>
     ensures { IfOk result (λ text. text.items
         ≡ text_in (built (events_in (items_of items.now)))) }
 {

@@ -1,11 +1,12 @@
 //! What a run is to do, of what its words ask for.
 
-ghost use Rattle.std.specs.Prelude.{◌≡◌, option_map};
+ghost use Rattle.std.specs.Prelude.{◌≡◌, IfOk};
 ghost use Rattle.xs_words.specs.Results.{Gives, job_told, texts, told};
-ghost use Rattle.xs_engine.specs.Job.{built_job, files_job, is_built, job_of};
-ghost use Rattle.xs_engine.specs.Reply.{job_data};
+ghost use Rattle.xs_engine.specs.Job.{is_built, made_job, makes_none, request_of, work_request};
+ghost use Rattle.xs_engine.specs.Reply.{job_data, request_data};
 
-use std::alloc::Global;
+use crate::made::{MADE_SHEET, MADE_SOURCE};
+use std::alloc::{AllocError, Global};
 use xs_trace::text::TextBuf;
 use xs_words::{Job as Work, Options, WordsEnd, read_words};
 
@@ -24,27 +25,32 @@ pub struct Job {
     pub most_events: Option<u64>,
 }
 
-/// What the words ask for. `Usage` exactly where they are refused, or ask for what is not built.
-pub fn read_job(alloc: Global, words: &[String]) -> Result<Job, WordsEnd>
-    ensures { Gives job_data (job_of (texts words.now)) result }
-{
-    match read_words(alloc, words) {
-        Ok(options) => match built_job(alloc, options) {
-            Some(job) => Ok(job),
-            None => Err(WordsEnd::Usage),
-        },
-        Err(end) => Err(end),
-    }
+/// What the words of a run ask for.
+#[derive(Debug, Drop)]
+pub struct Request {
+    /// What is to be done.
+    pub job: Job,
+    /// How many elements the source has that the run makes, with a stylesheet; none where its files
+    /// are those of the library.
+    pub made: Option<u32>,
 }
 
-/// What options ask for; `None` where that is not built.
-fn built_job(alloc: Global, options: Options) -> Option<Job>
-    ensures { option_map job_data result ≡ built_job (told options) }
+/// What the words ask for. `Usage` exactly where they are refused, or ask for what is not built.
+pub fn read_request(alloc: Global, words: &[String]) -> Result<Request, WordsEnd>
+    ensures { Gives request_data (request_of (texts words.now)) result }
 {
-    if is_built(&options) {
-        files_job(alloc, options)
-    } else {
-        None
+    match read_words(alloc, words) {
+        Ok(options) => {
+            if is_built(&options) {
+                match work_request(alloc, options) {
+                    Ok(request) => Ok(request),
+                    Err(_) => Err(WordsEnd::NoMemory),
+                }
+            } else {
+                Err(WordsEnd::Usage)
+            }
+        }
+        Err(end) => Err(end),
     }
 }
 
@@ -55,11 +61,23 @@ fn is_built(options: &Options) -> bool
     !(options.stats || options.profile || options.stream)
         && options.at.is_none()
         && options.documents.is_empty()
+        && makes_none(&options.job)
 }
 
-/// A stylesheet on a source, or one that is only checked, where that is what options ask for.
-fn files_job(alloc: Global, options: Options) -> Option<Job>
-    ensures { option_map job_data result ≡ files_job (told options) (job_told options.job) }
+/// Whether the files of a run are those of the library.
+fn makes_none(work: &Work) -> bool
+    ensures { result ≡ makes_none (job_told work.now) }
+{
+    match work {
+        Work::Files { .. } | Work::Check { .. } => true,
+        Work::Load(_) => false,
+    }
+}
+
+/// What options ask for: a stylesheet on a source, one that is only checked, or files that are made.
+fn work_request(alloc: Global, options: Options) -> Result<Request, AllocError>
+    ensures { IfOk result (λ request. request_data request
+        ≡ work_request (told options) (job_told options.job)) }
 {
     let Options {
         budget,
@@ -72,20 +90,42 @@ fn files_job(alloc: Global, options: Options) -> Option<Job>
             sheet,
             source,
             given,
-        } => Some(Job {
-            sheet,
-            source: Some(source),
-            given,
-            budget,
-            most_events: max_events,
+        } => Ok(Request {
+            job: Job {
+                sheet,
+                source: Some(source),
+                given,
+                budget,
+                most_events: max_events,
+            },
+            made: None,
         }),
-        Work::Check { sheet } => Some(Job {
-            sheet,
-            source: None,
-            given: Vec::new(alloc),
-            budget,
-            most_events: max_events,
+        Work::Check { sheet } => Ok(Request {
+            job: Job {
+                sheet,
+                source: None,
+                given: Vec::new(alloc),
+                budget,
+                most_events: max_events,
+            },
+            made: None,
         }),
-        Work::Load(_) => None,
+        Work::Load(count) => Ok(Request {
+            job: made_job(alloc, budget, max_events)?,
+            made: Some(count),
+        }),
     }
+}
+
+/// A stylesheet on a source, both of which are made.
+fn made_job(alloc: Global, budget: u64, most_events: Option<u64>) -> Result<Job, AllocError>
+    ensures { IfOk result (λ job. job_data job ≡ made_job budget most_events) }
+{
+    Ok(Job {
+        sheet: TextBuf::of(alloc, MADE_SHEET)?,
+        source: Some(TextBuf::of(alloc, MADE_SOURCE)?),
+        given: Vec::new(alloc),
+        budget,
+        most_events,
+    })
 }

@@ -8,6 +8,7 @@ mod evaluation;
 mod faults;
 mod items;
 mod job;
+mod made;
 mod reading;
 mod reply;
 pub mod status;

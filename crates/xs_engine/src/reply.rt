@@ -11,11 +11,12 @@ ghost use Rattle.xs_engine.specs.Items.{events_in, messages_in};
 ghost use Rattle.xs_engine.specs.Reply.{reply_of};
 
 use crate::faults::{UNREADABLE, fault_name, run_fault_name};
-use crate::items::{message_lines, result_text};
+use crate::items::{message_lines, result_bytes};
 use crate::status::{OK, READ_FAULT, REFUSED, RUN_FAULT, USAGE};
 use itoa::Buffer;
 use std::alloc::{AllocError, Global};
 use xs_block::chain::Chain;
+use xs_sheet::declarations::Method;
 use xs_sheet::sheet::Sheet;
 use xs_text::escape_into;
 use xs_trace::item::{Item, Spot};
@@ -110,20 +111,22 @@ pub fn faultless_reply(alloc: Global) -> Reply
     }
 }
 
-/// An evaluation that ended whole: the messages and ticks of the globals come first.
+/// An evaluation that ended whole, and the method that writes its result: the messages and ticks of
+/// the globals come first.
 pub fn whole_reply(
     alloc: Global,
+    method: Method,
     says: &[TextBuf],
     items: &Chain<Item>,
     ticks: u64,
 ) -> Result<Reply, AllocError>
     ensures { IfOk result (λ reply. reply_of reply
-        ≡ whole_answer (says.now ++ messages_in (items_of items.now))
+        ≡ whole_answer method (says.now ++ messages_in (items_of items.now))
         (events_in (items_of items.now)) ticks) }
 {
     Ok(Reply {
         status: OK,
-        result: result_text(alloc, items)?,
+        result: result_bytes(alloc, method, items)?,
         lines: message_lines(alloc, says, items)?,
         fault: None,
         ticks,

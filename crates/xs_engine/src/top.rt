@@ -1,12 +1,12 @@
 //! The top call.
 
-ghost use Rattle.std.specs.Prelude.{◌≡◌, ◌≢◌, ◌<◌, ◌≤◌, ◌⊎◌, [], length, None};
-ghost use Rattle.xs_engine.specs.declared.status.TheConstants.{NO_MEMORY, OK, READ_FAULT, USAGE};
-ghost use Rattle.xs_engine.specs.declared.status.TheConstants.{WRITE_FAULT};
+ghost use Rattle.std.specs.Prelude.{◌≡◌, ◌≢◌, ◌<◌, ◌≤◌, ◌⊎◌, [], false, length, None};
+ghost use Rattle.xs_engine.specs.declared.status.TheConstants.{NO_MEMORY, READ_FAULT, USAGE};
 ghost use Rattle.xs_words.specs.Results.{texts};
 ghost use Rattle.xs_engine.specs.Fetches.{Fetches};
-ghost use Rattle.xs_engine.specs.Headline.{Gained, Gives, HasTicks, OfDue, OneFault, OnlyDue};
-ghost use Rattle.xs_engine.specs.Job.{job_of};
+ghost use Rattle.xs_engine.specs.Headline.{AtOnce, Gained, Gives, HasTicks, OfDue, OnlyDue};
+ghost use Rattle.xs_engine.specs.Job.{is_streamed, request_of};
+ghost use Rattle.xs_engine.specs.Reply.{account_of};
 
 use crate::answer::reply_to;
 use crate::deliver::deliver;
@@ -50,40 +50,40 @@ pub fn transform<R: Threads + Sync, L: Library, O: Sink, E: Sink, G: Gate>(
 ) -> Report
     // Which names are asked for, and which of them may fail.
     ensures files { L.files library.new ≡ L.files library.old }
-    ensures fetches { Fetches (job_of (texts words.now)) (L.files library.old)
+    ensures fetches { Fetches (request_of (texts words.now)) (L.files library.old)
         (L.asked library.old) (L.asked library.new) (L.failed library.old) (L.failed library.new) }
 
     // What the words and the files define is what the report and the sinks get.
     ensures gives { result.status ≢ NO_MEMORY
-        → OfDue (L.files library.old) (job_of (texts words.now))
+        → OfDue (L.files library.old) (request_of (texts words.now))
         (L.failed library.old) (L.failed library.new)
-        (λ due. Gives due result.status result.ticks result.fault
+        (λ due. Gives (is_streamed (request_of (texts words.now))) due (account_of result)
         (O.held out.old) (O.held out.new) (E.held err.old) (E.held err.new)) }
 
-    // Where the library tells its files, the words and these files define one answer alone.
-    ensures only { OnlyDue (L.files library.old) (job_of (texts words.now))
+    // Where the files are known, the words and these files define one answer alone.
+    ensures only { OnlyDue (L.files library.old) (request_of (texts words.now))
         (L.failed library.old) (L.failed library.new)
-        (λ due. Gives due result.status result.ticks result.fault
+        (λ due. Gives (is_streamed (request_of (texts words.now))) due (account_of result)
         (O.held out.old) (O.held out.new) (E.held err.old) (E.held err.new)) }
 
     // What a status says, whatever the files.
     ensures status { result.status ≤ NO_MEMORY }
-    ensures usage_only { result.status ≡ USAGE → job_of (texts words.now) ≡ None }
+    ensures usage_only { result.status ≡ USAGE → request_of (texts words.now) ≡ None }
     ensures read_fault_only { result.status ≡ READ_FAULT
         → length (L.failed library.old) < length (L.failed library.new) }
-    ensures write_fault { result.status ≡ WRITE_FAULT → OneFault
-        (O.faults out.old) (O.faults out.new) (E.faults err.old) (E.faults err.new) }
-    ensures no_fault { result.status ≢ WRITE_FAULT →
-        (O.faults out.new ≡ O.faults out.old) × (E.faults err.new ≡ E.faults err.old) }
     ensures ticks { HasTicks result.status ⊎ (result.ticks ≡ 0) }
     ensures unexplained { result.status ≡ NO_MEMORY → result.fault ≡ None }
     ensures pieces { (result.pieces ≡ 0) × (result.inline ≡ 0) × (result.claims.items ≡ []) }
 
-    // The sinks keep what they hold, and gain nothing with most statuses.
+    // The result is written once the evaluation has ended, which is so of every run, as yet.
+    ensures at_once { is_streamed (request_of (texts words.now)) ≡ false → AtOnce result.status
+        (O.held out.old) (O.held out.new)
+        (O.faults out.old) (O.faults out.new) (E.faults err.old) (E.faults err.new) }
+    ensures unstreamed { is_streamed (request_of (texts words.now)) ≡ false }
+
+    // The sinks keep what they hold.
     ensures out_extends { Gained (O.held out.old) (O.held out.new) (λ _. Unit {0}) }
     ensures err_extends { Gained (E.held err.old) (E.held err.new) (λ _. Unit {0}) }
-    ensures untouched { result.status ≢ OK → result.status ≢ WRITE_FAULT
-        → O.held out.new ≡ O.held out.old }
     ensures no_memory { result.status ≡ NO_MEMORY → E.held err.new ≡ E.held err.old }
 {
     let _workers = rt;

@@ -12,7 +12,7 @@ returns-in-Ok-clause-fetches g c =
     (g.L.Library.asked c.args.library.now) (g.L.Library.asked c.read_modules.new.library) (g.L.Library.asked c.modules_reply.new.library)
     (g.L.Library.failed c.args.library.now) (g.L.Library.failed c.read_modules.new.library) (g.L.Library.failed c.modules_reply.new.library)
     (named _ _ c.as_str.result.now c.args.job.now.sheet _ _ _ _ c.as_str.ensures.text c.in-Ok.ensures.modules.1)
-    c.in-Ok.ensures.modules.2 c.modules_reply.ensures.asks
+    c.in-Ok.ensures.modules.2 (rw c.in-Ok.ensures.files at c.modules_reply.ensures.asks)
 
 pub returns-in-Ok-clause-due : goal.returns-in-Ok-clause-due
 returns-in-Ok-clause-due g c =

@@ -8,7 +8,7 @@ use Rattle.xs_engine.proofs.answer.modules_reply.Goals as goal
 -- A run of a compiled stylesheet.
 pub returns-in-Ok-clause-asks : goal.returns-in-Ok-clause-asks
 returns-in-Ok-clause-asks g c =
-    sheet_asked_for (job_data c.args.job.now) (modules_data c.args.modules.now) c.in-Ok.sheet _
+    sheet_asked_for (g.L.Library.files c.args.library.now) (job_data c.args.job.now) (modules_data c.args.modules.now) c.in-Ok.sheet _
     (g.L.Library.asked c.args.library.now) (g.L.Library.asked c.run_reply.new.library)
     (g.L.Library.failed c.args.library.now) (g.L.Library.failed c.run_reply.new.library) c.in-Some.is
     c.in-Ok.ensures.accepted c.in-Ok.ensures.stands c.run_reply.ensures.asks
@@ -21,7 +21,7 @@ returns-in-Ok-clause-due g c =
 
 -- A static fault, or want of memory.
 pub returns-in-Err-Refused-clause-asks : goal.returns-in-Err-Refused-clause-asks
-returns-in-Err-Refused-clause-asks g c = source_left _ _ _ _ _ refl refl
+returns-in-Err-Refused-clause-asks g c = source_left _ _ _ _ _ _ _ refl refl
 
 pub returns-in-Err-Refused-clause-due : goal.returns-in-Err-Refused-clause-due
 returns-in-Err-Refused-clause-due g c =
@@ -31,11 +31,11 @@ returns-in-Err-Refused-clause-due g c =
     (rw c.in-Err-Refused.fault-is at c.static_reply.ensures.answer)
 
 pub returns-in-Err-NoMemory-clause-asks : goal.returns-in-Err-NoMemory-clause-asks
-returns-in-Err-NoMemory-clause-asks g c = source_left _ _ _ _ _ refl refl
+returns-in-Err-NoMemory-clause-asks g c = source_left _ _ _ _ _ _ _ refl refl
 
 -- The stylesheet is only checked.
 pub returns-in-None-clause-asks : goal.returns-in-None-clause-asks
-returns-in-None-clause-asks g c = source_left _ _ _ _ _ refl refl
+returns-in-None-clause-asks g c = source_left _ _ _ _ _ _ _ refl refl
 
 pub returns-in-None-clause-due : goal.returns-in-None-clause-due
 returns-in-None-clause-due g c =

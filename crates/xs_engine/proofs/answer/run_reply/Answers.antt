@@ -6,7 +6,7 @@ use Rattle.xs_engine.proofs.answer.run_reply.Goals as goal
 
 -- The stylesheet is not built: nothing is asked for.
 pub returns-then-not-is_built-clause-asks : goal.returns-then-not-is_built-clause-asks
-returns-then-not-is_built-clause-asks g c = source_left _ _ _ _ _ refl refl
+returns-then-not-is_built-clause-asks g c = source_left _ _ _ _ _ _ _ refl refl
 
 pub returns-then-not-is_built-clause-due : goal.returns-then-not-is_built-clause-due
 returns-then-not-is_built-clause-due g c =
@@ -17,22 +17,22 @@ returns-then-not-is_built-clause-due g c =
 -- It is built, and the source is asked for.
 pub returns-in-Ok-Ok-clause-asks : goal.returns-in-Ok-Ok-clause-asks
 returns-in-Ok-Ok-clause-asks g c =
-    after_source c.read_source.result c.as_str.result.now c.args.source.now c.args.sheet.now _ _ _ _ c.as_str.ensures.text
+    after_source c.read_source.result c.as_str.result.now c.args.source.now c.args.sheet.now _ _ _ _ _ _ c.as_str.ensures.text
     (sym c.is_built.ensures ∙ c.if-not-is_built.false) c.read_source.ensures.asked c.read_source.ensures.failed
 
 pub returns-in-Ok-Err-clause-asks : goal.returns-in-Ok-Err-clause-asks
 returns-in-Ok-Err-clause-asks g c =
-    after_source c.read_source.result c.as_str.result.now c.args.source.now c.args.sheet.now _ _ _ _ c.as_str.ensures.text
+    after_source c.read_source.result c.as_str.result.now c.args.source.now c.args.sheet.now _ _ _ _ _ _ c.as_str.ensures.text
     (sym c.is_built.ensures ∙ c.if-not-is_built.false) c.read_source.ensures.asked c.read_source.ensures.failed
 
 pub returns-in-Err-Failed-clause-asks : goal.returns-in-Err-Failed-clause-asks
 returns-in-Err-Failed-clause-asks g c =
-    after_source c.read_source.result c.as_str.result.now c.args.source.now c.args.sheet.now _ _ _ _ c.as_str.ensures.text
+    after_source c.read_source.result c.as_str.result.now c.args.source.now c.args.sheet.now _ _ _ _ _ _ c.as_str.ensures.text
     (sym c.is_built.ensures ∙ c.if-not-is_built.false) c.read_source.ensures.asked c.read_source.ensures.failed
 
 pub returns-in-Err-NoMemory-clause-asks : goal.returns-in-Err-NoMemory-clause-asks
 returns-in-Err-NoMemory-clause-asks g c =
-    after_source c.read_source.result c.as_str.result.now c.args.source.now c.args.sheet.now _ _ _ _ c.as_str.ensures.text
+    after_source c.read_source.result c.as_str.result.now c.args.source.now c.args.sheet.now _ _ _ _ _ _ c.as_str.ensures.text
     (sym c.is_built.ensures ∙ c.if-not-is_built.false) c.read_source.ensures.asked c.read_source.ensures.failed
 
 pub returns-in-Ok-Ok-clause-due : goal.returns-in-Ok-Ok-clause-due
@@ -40,7 +40,7 @@ returns-in-Ok-Ok-clause-due g c =
     let gives = rw c.in-Ok-Ok.field-0-is at c.in-Ok-Ok.ensures.tree in
     evaluated_owed (g.L.Library.files c.args.library.now) (job_data c.args.job.now) c.args.sheet.now c.args.source.now
     (g.L.Library.failed c.args.library.now) (g.L.Library.failed c.read_source.new.library)
-    c.evaluate.result c.in-Ok-Ok.tree c.as_str.result.now c.as_str.ensures.text (sym c.is_built.ensures ∙ c.if-not-is_built.false)
+    c.evaluate.result c.in-Ok-Ok.tree c.as_str.result.now refl c.as_str.ensures.text (sym c.is_built.ensures ∙ c.if-not-is_built.false)
     c.in-Ok-Ok.ensures.failed gives c.evaluate.ensures.answer
 
 pub returns-in-Ok-Err-clause-due : goal.returns-in-Ok-Err-clause-due

@@ -1,11 +1,54 @@
-use Rattle.xs_engine.specs.Reply.{reply_of}
-use Rattle.xs_engine.proofs.GivesLemmas.{gives_only}
+use Rattle.std.proofs.Common.{refl}
+use Rattle.xs_words.specs.Results.{texts}
+use Rattle.xs_engine.specs.Job.{is_streamed, request_of}
+use Rattle.xs_engine.specs.Reply.{account_of, reply_of}
+use Rattle.xs_engine.proofs.GivesLemmas.{at_once, gives, gives_nothing, gives_only, nothing_at_once}
+use Rattle.xs_engine.proofs.JobLemmas.{never_streamed}
 use Rattle.xs_engine.proofs.top.transform.Goals as goal
+
+-- There is a reply, and it was written.
+pub returns-in-Ok-clause-gives : goal.returns-in-Ok-clause-gives
+returns-in-Ok-clause-gives g c = λ _. (
+  reply_of c.in-Ok.reply,
+  c.in-Ok.ensures.due,
+  gives (is_streamed (request_of (texts c.args.words.now))) (account_of c.report_of.result)
+      (g.O.Sink.held c.args.out.now) (g.O.Sink.held c.deliver-status.new.out) (g.E.Sink.held c.args.err.now) (g.E.Sink.held c.deliver-status.new.err)
+      (reply_of c.in-Ok.reply) c.deliver-status.result c.report_of.ensures.status c.report_of.ensures.ticks c.report_of.ensures.fault refl
+      c.report_of.ensures.pieces c.deliver-status.ensures.writes,
+)
 
 pub returns-in-Ok-clause-only : goal.returns-in-Ok-clause-only
 returns-in-Ok-clause-only g c =
     gives_only (g.L.Library.files c.args.library.now) _ (g.L.Library.failed c.args.library.now) (g.L.Library.failed c.reply_to.new.library)
-    (reply_of c.in-Ok.reply) c.deliver-status.result c.report_of.result.status c.in-Ok.reply.ticks c.report_of.result.ticks
-    c.in-Ok.reply.fault c.report_of.result.fault
+    (reply_of c.in-Ok.reply) (is_streamed (request_of (texts c.args.words.now))) (account_of c.report_of.result)
     (g.O.Sink.held c.args.out.now) (g.O.Sink.held c.deliver-status.new.out) (g.E.Sink.held c.args.err.now) (g.E.Sink.held c.deliver-status.new.err)
-    c.in-Ok.ensures.due c.report_of.ensures.status c.report_of.ensures.ticks c.report_of.ensures.fault c.deliver-status.ensures.gives
+    c.in-Ok.ensures.due
+    (gives (is_streamed (request_of (texts c.args.words.now))) (account_of c.report_of.result)
+    (g.O.Sink.held c.args.out.now) (g.O.Sink.held c.deliver-status.new.out) (g.E.Sink.held c.args.err.now) (g.E.Sink.held c.deliver-status.new.err)
+    (reply_of c.in-Ok.reply) c.deliver-status.result c.report_of.ensures.status c.report_of.ensures.ticks c.report_of.ensures.fault refl
+    c.report_of.ensures.pieces c.deliver-status.ensures.writes)
+
+pub returns-in-Ok-clause-at_once : goal.returns-in-Ok-clause-at_once
+returns-in-Ok-clause-at_once g c = λ _.
+    at_once c.deliver-status.result c.report_of.result.status (g.O.Sink.held c.args.out.now) (g.O.Sink.held c.deliver-status.new.out)
+    (g.O.Sink.faults c.args.out.now) (g.O.Sink.faults c.deliver-status.new.out)
+    (g.E.Sink.faults c.args.err.now) (g.E.Sink.faults c.deliver-status.new.err) c.report_of.ensures.status
+    c.deliver-status.ensures.untouched c.deliver-status.ensures.write_fault c.deliver-status.ensures.no_fault
+
+pub returns-in-Ok-clause-unstreamed : goal.returns-in-Ok-clause-unstreamed
+returns-in-Ok-clause-unstreamed g c = never_streamed (texts c.args.words.now)
+
+-- Memory ran out.
+pub returns-in-Err-clause-only : goal.returns-in-Err-clause-only
+returns-in-Err-clause-only g c =
+    gives_nothing (g.L.Library.files c.args.library.now) _ (g.L.Library.failed c.args.library.now) (g.L.Library.failed c.reply_to.new.library)
+    (is_streamed (request_of (texts c.args.words.now))) (account_of c.report_of-in-Err.result) (g.O.Sink.held c.args.out.now)
+    (g.E.Sink.held c.args.err.now) c.report_of-in-Err.ensures.status
+
+pub returns-in-Err-clause-at_once : goal.returns-in-Err-clause-at_once
+returns-in-Err-clause-at_once g c = λ _.
+    nothing_at_once c.report_of-in-Err.result.status (g.O.Sink.held c.args.out.now) (g.O.Sink.faults c.args.out.now)
+    (g.E.Sink.faults c.args.err.now) c.report_of-in-Err.ensures.status
+
+pub returns-in-Err-clause-unstreamed : goal.returns-in-Err-clause-unstreamed
+returns-in-Err-clause-unstreamed g c = never_streamed (texts c.args.words.now)
