@@ -2,3 +2,14 @@
 #![tactic(auto)]
 
 pub mod laws;
+mod least;
+mod names;
+mod scope;
+mod tag;
+mod tag_bindings;
+mod text_key;
+mod write;
+mod writer;
+
+pub use write::write_pyx;
+pub use writer::PyxWriter;
