@@ -1,1 +1,6 @@
 mod LineLemmas
+mod OpenLemmas
+mod OrderLemmas
+mod ScopeLemmas
+mod TableLemmas
+mod TagLemmas
