@@ -18,9 +18,12 @@ drop-front [] ys = refl
 drop-front (x ∷ xs) ys = drop-front xs ys
 
 -- the bindings in force in the innermost open element
-pub scope-opened : (fs : List Frame) (ds : List Binding) → AreTheirs fs ds → scope_of (opened fs ds) ≡ ds ++ outermost
+scope-opened : (fs : List Frame) (ds : List Binding) → AreTheirs fs ds → scope_of (opened fs ds) ≡ ds ++ outermost
 scope-opened [] ds theirs = ap (λ xs. xs ++ outermost) (sym theirs)
 scope-opened (f ∷ fs) ds theirs = refl
+
+pub scope_is : (around : List OpenElement) (fs : List Frame) (ds : List Binding) → opened fs ds ≡ around → AreTheirs fs ds → scope_of around ≡ ds ++ outermost
+scope_is around fs ds view theirs = ap scope_of (sym view) ∙ scope-opened fs ds theirs
 
 one_opened : (fs : List Frame) (f : Frame) (ds more : List Binding) → f.declared ≡ length more → AreTheirs fs ds
     → opened (f ∷ fs) (more ++ ds) ≡ record { name = f.name; scope = more ++ scope_of (opened fs ds) } ∷ opened fs ds

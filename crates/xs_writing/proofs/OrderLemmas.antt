@@ -42,3 +42,14 @@ uri_in-first b bs q = ap (λ t. cond t (Some b.1) (lookup (is_at (order_of_prefi
 -- a table that has another URI for a prefix
 abbrev pub Rebinds : List Binding → List Binding → List ℕ → Option (List ℕ) → Type 0
 Rebinds old new p o = (q : List ℕ) → uri_in new q ≡ cond (is_at (order_of_prefixes p) q) o (uri_in old q)
+
+pub rebinds-updated : (old new : List Binding) (p : List ℕ) (o : Option (List ℕ))
+    → ((q : List ℕ) → lookup (is_at (order_of_prefixes q)) new ≡ cond (is_at (order_of_prefixes p) q) o (lookup (is_at (order_of_prefixes q)) old))
+    → Rebinds old new p o
+unfolding uri_in
+rebinds-updated old new p o h = h
+
+pub rebinds-as : (old new : List Binding) (key value p uri : List ℕ) → key ≡ p → value ≡ uri → Rebinds old new key (Some value) → Rebinds old new p (Some uri)
+rebinds-as old new key value p uri k v h =
+    λ q. h q ∙ ap (λ x. cond (is_at (order_of_prefixes x) q) (Some value) (uri_in old q)) k
+    ∙ ap (λ x. cond (is_at (order_of_prefixes p) q) (Some x) (uri_in old q)) v

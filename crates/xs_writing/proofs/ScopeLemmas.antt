@@ -1,8 +1,9 @@
 -- The bindings in force: one declaration more, and one less.
 use Rattle.std.proofs.Common.{◌≡◌, ℕ, zero, suc, ◌-◌, ◌<◌, List, [], ◌∷◌, ◌++◌, Bool, true, false, Option, None, Some, cond, drop, refl, sym, ◌∙◌, ap, subst, arith, reverse}
 use Rattle.std.proofs.lemmas.List.{reverse-append}
-use Rattle.std.specs.BTreeMap.{is_at}
-use Rattle.xs_writing.specs.Bindings.{Binding, order_of_prefixes, outermost, uri_in}
+use Rattle.std.specs.Prelude.{codes}
+use Rattle.std.specs.BTreeMap.{insert_entry, is_at}
+use Rattle.xs_writing.specs.Bindings.{Binding, order_of_prefixes, outermost, uri_in, xml_uri}
 use Rattle.xs_writing.specs.declared.scope.Undo.{Undo}
 use Rattle.xs_writing.specs.steps.Open.{IsCurrent, KnowBefore, logged}
 use Rattle.xs_writing.proofs.OrderLemmas.{Rebinds, same_at, uri_in-first}
@@ -45,9 +46,15 @@ pub left_kept : (table now : List Binding) (items all : List Undo) (u : Undo) �
 left_kept table now items all u is rebinds kept =
     left_one table now (reverse items) u rebinds (subst (IsKept table) (last_first items all u is) kept)
 
-pub outermost_kept : (table : List Binding) (items : List Undo) → table ≡ outermost → items ≡ [] → IsKept table (reverse items)
+outermost_kept : (table : List Binding) (items : List Undo) → table ≡ outermost → items ≡ [] → IsKept table (reverse items)
 outermost_kept table items is none =
     subst (λ us. IsKept table (reverse us)) (sym none) (subst (λ es. IsKept es []) (sym is) ((λ q. refl), tt))
+
+pub outermost_made : (table empty : List Binding) (items : List Undo) (key text uri : List ℕ) → empty ≡ [] → table ≡ insert_entry order_of_prefixes empty key uri
+    → key ≡ text → text ≡ codes "xml" → uri ≡ xml_uri → items ≡ [] → IsKept table (reverse items)
+outermost_made table empty items key text uri none is k t u no_items =
+    outermost_kept table items
+    (is ∙ ap (λ es. insert_entry order_of_prefixes es key uri) none ∙ ap (λ x. (x, uri) ∷ []) (k ∙ t) ∙ ap (λ x. (codes "xml", x) ∷ []) u) no_items
 
 -- ---- several declarations less
 drop-nil : (n : ℕ) → drop {A = Binding} n [] ≡ []

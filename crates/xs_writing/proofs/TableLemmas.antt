@@ -1,6 +1,6 @@
 -- The tables of a start tag, with a binding more.
-use Rattle.std.proofs.Common.{◌≡◌, ℕ, zero, suc, ◌+◌, ◌<◌, ◌≤◌, List, [], ◌∷◌, Bool, true, false, if◌then◌else◌, Option, None, Some, cond, refl, sym, ◌∙◌, ap, subst, arith, length, below_more}
-use Rattle.std.specs.Prelude.{◌&&◌, is_some, not}
+use Rattle.std.proofs.Common.{◌≡◌, ℕ, zero, suc, ◌+◌, ◌<◌, ◌≤◌, List, [], ◌∷◌, Bool, true, false, if◌then◌else◌, Option, None, Some, Result, Ok, Err, IfOk, cond, refl, sym, ◌∙◌, ap, subst, arith, length, below_more}
+use Rattle.std.specs.Prelude.{◌==◌, ◌&&◌, is_some, not}
 use Rattle.std.specs.BTreeMap.{insert_entry, is_at}
 use Rattle.std.specs.List.{AllByRecursion}
 use Rattle.std.specs.List.Sorted.{IsStrictlySortedBy}
@@ -15,7 +15,7 @@ use Rattle.std.proofs.lemmas.Slice.Eq.{bytes_eq-Decides}
 use Rattle.xs_result.specs.Built.{is_empty}
 use Rattle.xs_writing.specs.Bindings.{Binding, binds, first_new, new_from, new_prefix, order_of_prefixes, prefix_for, uri_in}
 use Rattle.xs_writing.specs.steps.Tables.{AreBound, HasLeast, is_less, least_with, lesser}
-use Rattle.xs_writing.proofs.OrderLemmas.{Rebinds, at_itself, same_at}
+use Rattle.xs_writing.proofs.OrderLemmas.{Rebinds, at_itself, rebinds-as, same_at}
 
 -- ---- new prefixes
 some_more : (t : Bool) (uri : List ℕ) (o : Option (List ℕ)) → is_some o ≡ true → is_some (cond t (Some uri) o) ≡ true
@@ -184,13 +184,30 @@ noted_less old new p uri some full less rebinds = rebinds some ∙ by_place (is_
         sym (ap (λ t. cond (not (is_empty p) && t) (lesser p (uri_in old some)) (uri_in old some)) (elsewhere uri some at)
         ∙ and_false (not (is_empty p)) (lesser p (uri_in old some)) (uri_in old some))
 
+empty_by_length : (xs : List ℕ) (t : Bool) → t ≡ (length xs == 0) → t ≡ false → is_empty xs ≡ false
+empty_by_length [] t is no_item = absurd (let no_bool : true ≡ false = sym is ∙ no_item in cc)
+empty_by_length (x ∷ xs) t is no_item = refl
+
+-- what is noted of a binding whose prefix is less
+pub noted_made : {X E : Type 0} (entries : X → List Binding) (r : Result X E) (old : List Binding) (p uri key : List ℕ) (none less : Bool) (least : Option (List ℕ))
+    → none ≡ (length p == 0) → none ≡ false → key ≡ uri → least ≡ uri_in old key → less ≡ is_less p least → less ≡ true
+    → IfOk r (λ t. Rebinds old (entries t) key (Some p))
+    → IfOk r (λ t. (some : List ℕ) → uri_in (entries t) some ≡ least_with p uri (uri_in old some) some)
+noted_made entries (Err e) old p uri key none less least a b k l f g h = tt
+noted_made entries (Ok t) old p uri key none less least a b k l f g h = λ some.
+    noted_less old (entries t) p uri some (empty_by_length p none a b)
+    (ap (λ x. is_less p (uri_in old x)) (sym k) ∙ ap (is_less p) (sym l) ∙ sym f ∙ g)
+    (subst (λ x. Rebinds old (entries t) x (Some p)) k h)
+
 -- ---- both tables with a binding more
-pub with_kept : (m now old table : List Binding) (next : ℕ) (p uri : List ℕ) → now ≡ insert_entry order_of_prefixes m p uri → Rebinds m now p (Some uri)
+pub with_kept : (m now old table : List Binding) (next : ℕ) (key value p uri : List ℕ) → key ≡ p → value ≡ uri
+    → now ≡ insert_entry order_of_prefixes m key value → Rebinds m now key (Some value)
     → IsStrictlySortedBy order_of_prefixes (keys_of m) → binds m p ≡ false
     → ((some : List ℕ) → uri_in table some ≡ least_with p uri (uri_in old some) some)
     → AreBound m next × HasLeast old m → AreBound now next × HasLeast table now
-with_kept m now old table next p uri is rebinds sorted free least kept = (
-  bound_more m now p uri next rebinds kept.0,
+with_kept m now old table next key value p uri k v is rebinds sorted free least kept = (
+  bound_more m now p uri next (rebinds-as m now key value p uri k v rebinds) kept.0,
   λ some. least some ∙ ap (λ o. least_with p uri o some) (kept.1 some)
-      ∙ sym (ap (λ es. prefix_for es some) is ∙ least_more m p uri some (rises_sorted m sorted) free),
+      ∙ sym (ap (λ es. prefix_for es some) (is ∙ ap (λ x. insert_entry order_of_prefixes m x value) k ∙ ap (insert_entry order_of_prefixes m p) v)
+      ∙ least_more m p uri some (rises_sorted m sorted) free),
 )
