@@ -2,5 +2,6 @@ mod LineLemmas
 mod OpenLemmas
 mod OrderLemmas
 mod ScopeLemmas
+mod StreamLemmas
 mod TableLemmas
 mod TagLemmas

@@ -9,7 +9,7 @@ use Rattle.xs_trace.specs.Label.{Label}
 use Rattle.xs_trace.specs.declared.event.Event.{Event}
 use Rattle.xs_trace.specs.declared.event.Event.TheVariants.{Start, Space, Attr, Chars, End, Comment, Pi}
 use Rattle.xs_writing.specs.Bindings.{attribute_of, attributes_in, bindings, bindings_before, is_in_tag, space_of, spaces_in, with_attributes, with_spaces, own_binding}
-use Rattle.xs_writing.specs.Laws.{LinesGoOn, begins_in_tag}
+use Rattle.xs_writing.specs.Laws.{ElementsGoOn, LinesGoOn, begins_in_tag}
 use Rattle.xs_writing.specs.Lines.{OpenElement, declared_in, entered, lines, open_after, tag_lines}
 
 -- what follows does not belong to the start tag
@@ -64,3 +64,16 @@ lines_go_on [] (End ∷ es) more h = lines_go_on [] es more h
 lines_go_on (o ∷ os) (End ∷ es) more h = ap (λ ls. line.End o.name ∷ ls) (lines_go_on os es more h)
 lines_go_on around (Comment text ∷ es) more h = ap (λ ls. line.Comment text ∷ ls) (lines_go_on around es more h)
 lines_go_on around (Pi target value ∷ es) more h = ap (λ ls. line.Pi target value ∷ ls) (lines_go_on around es more h)
+
+pub elements_go_on : ElementsGoOn
+unfolding open_after
+elements_go_on around [] more h = refl
+elements_go_on around (Start name ∷ es) more h =
+    ap (λ os. open_after os (es ++ more)) (entered-before around name es more h) ∙ elements_go_on (entered around name es) es more h
+elements_go_on around (Space prefix uri ∷ es) more h = elements_go_on around es more h
+elements_go_on around (Attr name value ∷ es) more h = elements_go_on around es more h
+elements_go_on around (Chars text ∷ es) more h = elements_go_on around es more h
+elements_go_on [] (End ∷ es) more h = elements_go_on [] es more h
+elements_go_on (o ∷ os) (End ∷ es) more h = elements_go_on os es more h
+elements_go_on around (Comment text ∷ es) more h = elements_go_on around es more h
+elements_go_on around (Pi target value ∷ es) more h = elements_go_on around es more h

@@ -19,6 +19,11 @@ abbrev pub LinesGoOn : Type 0
 LinesGoOn = (around : List OpenElement) (es more : List Event) → begins_in_tag more ≡ false
     → lines around (es ++ more) ≡ lines around es ++ lines (open_after around es) more
 
+-- and the elements that are open likewise
+abbrev pub ElementsGoOn : Type 0
+ElementsGoOn = (around : List OpenElement) (es more : List Event) → begins_in_tag more ≡ false
+    → open_after around (es ++ more) ≡ open_after (open_after around es) more
+
 -- ---- worked examples
 abbrev pub label : List ℕ → List ℕ → List ℕ → Label
 label uri prefix local = record { uri = uri; local = local; prefix = prefix }
