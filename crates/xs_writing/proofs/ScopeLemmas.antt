@@ -50,7 +50,8 @@ outermost_kept : (table : List Binding) (items : List Undo) → table ≡ outerm
 outermost_kept table items is none =
     subst (λ us. IsKept table (reverse us)) (sym none) (subst (λ es. IsKept es []) (sym is) ((λ q. refl), tt))
 
-pub outermost_made : (table empty : List Binding) (items : List Undo) (key text uri : List ℕ) → empty ≡ [] → table ≡ insert_entry order_of_prefixes empty key uri
+pub outermost_made : (table empty : List Binding) (items : List Undo) (key text uri : List ℕ) → empty ≡ []
+    → table ≡ insert_entry order_of_prefixes empty key uri
     → key ≡ text → text ≡ codes "xml" → uri ≡ xml_uri → items ≡ [] → IsKept table (reverse items)
 outermost_made table empty items key text uri none is k t u no_items =
     outermost_kept table items

@@ -5,7 +5,7 @@ use Rattle.std.proofs.lemmas.List.Concat.{flat_map-append}
 use Rattle.xs_pyx.specs.Writing.{written}
 use Rattle.xs_pyx.specs.declared.line.Line.{Line}
 use Rattle.xs_result.specs.Built.{built, is_empty}
-use Rattle.xs_result.specs.steps.Building.{State, ended, flushed, forgotten, is_open, nothing, tagged, taken, taken_all, text_events}
+use Rattle.xs_result.specs.steps.Building.{State, ended, flushed, forgotten, is_open, nothing, spoken, tagged, taken, taken_all, text_events}
 use Rattle.xs_result.specs.steps.Places.{is_attribute_of, revalued, with_attribute}
 use Rattle.xs_result.proofs.BuiltLemmas.{built_is, taken_behind}
 use Rattle.xs_trace.specs.Label.{Label}
@@ -39,8 +39,7 @@ tagged-after settled s tag true = refl
 tagged-after settled s tag false = refl
 
 spoken-after : (settled : List Event) (s : State) (text : List ℕ) (t : Bool)
-    → (if t then after settled s else record { closed = (settled ++ s.closed) ++ s.tag; tag = []; text = s.text ++ text; depth = s.depth })
-    ≡ after settled (if t then s else record { closed = s.closed ++ s.tag; tag = []; text = s.text ++ text; depth = s.depth })
+    → (if t then after settled s else spoken text (after settled s)) ≡ after settled (if t then s else spoken text s)
 spoken-after settled s text true = refl
 spoken-after settled s text false =
     ap (λ xs. record { closed = xs; tag = []; text = s.text ++ text; depth = s.depth }) (append_assoc settled s.closed s.tag)
@@ -104,7 +103,7 @@ begins-settled s (Attr name value) h = by_test (is_open s.tag)
     by_test false = ap begins_in_tag h.forgotten
 begins-settled s (Chars text) h = by_test (is_empty text)
   where
-    by_test : (t : Bool) → begins_in_tag (if t then s else record { closed = s.closed ++ s.tag; tag = []; text = s.text ++ text; depth = s.depth }).closed ≡ false
+    by_test : (t : Bool) → begins_in_tag (if t then s else spoken text s).closed ≡ false
     by_test true = ap begins_in_tag h.forgotten
     by_test false = begins-joined s.closed s.tag (ap begins_in_tag h.forgotten) h.begins
 begins-settled s End h = begins-ended s s.depth h
@@ -153,7 +152,7 @@ begins-tag s (Attr name value) h = by_test (is_open s.tag) refl
     by_test false at = h.begins
 begins-tag s (Chars text) h = by_test (is_empty text)
   where
-    by_test : (t : Bool) → begins_in_tag (if t then s else record { closed = s.closed ++ s.tag; tag = []; text = s.text ++ text; depth = s.depth }).tag ≡ false
+    by_test : (t : Bool) → begins_in_tag (if t then s else spoken text s).tag ≡ false
     by_test true = h.begins
     by_test false = refl
 begins-tag s End h = begins-tag-ended s s.depth h

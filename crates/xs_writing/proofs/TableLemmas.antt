@@ -189,7 +189,8 @@ empty_by_length [] t is no_item = absurd (let no_bool : true ≡ false = sym is 
 empty_by_length (x ∷ xs) t is no_item = refl
 
 -- what is noted of a binding whose prefix is less
-pub noted_made : {X E : Type 0} (entries : X → List Binding) (r : Result X E) (old : List Binding) (p uri key : List ℕ) (none less : Bool) (least : Option (List ℕ))
+pub noted_made : {X E : Type 0} (entries : X → List Binding) (r : Result X E) (old : List Binding) (p uri key : List ℕ) (none less : Bool)
+    (least : Option (List ℕ))
     → none ≡ (length p == 0) → none ≡ false → key ≡ uri → least ≡ uri_in old key → less ≡ is_less p least → less ≡ true
     → IfOk r (λ t. Rebinds old (entries t) key (Some p))
     → IfOk r (λ t. (some : List ℕ) → uri_in (entries t) some ≡ least_with p uri (uri_in old some) some)
