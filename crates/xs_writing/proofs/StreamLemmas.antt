@@ -1,6 +1,7 @@
 -- What stays for good is handed on step by step.
-use Rattle.std.proofs.Common.{◌≡◌, ℕ, zero, suc, Bool, true, false, if◌then◌else◌, List, [], ◌∷◌, ◌++◌, refl, sym, ◌∙◌, ap, append_assoc}
-use Rattle.std.proofs.lemmas.List.{append-nil}
+use Rattle.std.proofs.Common.{◌≡◌, ℕ, zero, suc, Bool, true, false, if◌then◌else◌, List, [], ◌∷◌, ◌++◌, Result, Ok, Err, OnOk, arith, inl, inr, length, refl, sym, take, ◌∙◌, ap, append_assoc}
+use Rattle.std.proofs.lemmas.Bool.Decides.{leb_tells}
+use Rattle.std.proofs.lemmas.List.{append-nil, take-take, take_all}
 use Rattle.std.proofs.lemmas.List.Concat.{flat_map-append}
 use Rattle.xs_pyx.specs.Writing.{written}
 use Rattle.xs_pyx.specs.declared.line.Line.{Line}
@@ -211,3 +212,20 @@ stream_end s around out new rest is put old es h =
     let stays : h.settled ++ rest ≡ built es =
     ap (λ xs. h.settled ++ xs) is ∙ sym (flushed-after h.settled s) ∙ ap flushed (sym h.taken) ∙ built_is es in
     written-more old out new h.settled rest around whole h.written h.opened put ∙ ap (λ xs. old ++ bytes_of (lines [] xs)) stays
+
+-- ---- for calls one after another
+pub kept-twice : (a b d : List ℕ) → take (length a) b ≡ a → take (length b) d ≡ b → take (length a) d ≡ a
+kept-twice a b d e f =
+    elim (leb_tells (length a) (length b)) [
+      | inl h ↦ sym (take-take (length a) (length b) d h.1) ∙ ap (take (length a)) f ∙ e
+      | inr h ↦
+          let same : b ≡ a = (sym (take_all (length a) b (omega (arith, h.1))) ∙ e) in
+          ap (λ n. take n d) (ap length (sym same)) ∙ f ∙ same
+    ]
+
+pub kept_whole : (a : List ℕ) → take (length a) a ≡ a
+kept_whole a = take_all (length a) a (omega arith)
+
+pub on_ok : {T E P Q : Type 0} (r : Result T E) → (P → Q) → OnOk r P → OnOk r Q
+on_ok (Ok x) f h = f h
+on_ok (Err e) f h = tt
