@@ -13,7 +13,7 @@ use Rattle.std.proofs.lemmas.Cmp.{nat_list_cmp_total}
 use Rattle.std.proofs.lemmas.Map.Keys.{sorted_head, sorted_tail}
 use Rattle.std.proofs.lemmas.Slice.Eq.{bytes_eq-Decides}
 use Rattle.xs_result.specs.Built.{is_empty}
-use Rattle.xs_writing.specs.Bindings.{Binding, binds, first_new, new_from, new_prefix, order_of_prefixes, prefix_for, uri_in}
+use Rattle.xs_writing.specs.Bindings.{Binding, binds, new_from, new_prefix, order_of_prefixes, prefix_for, uri_in}
 use Rattle.xs_writing.specs.steps.Tables.{AreBound, HasLeast, is_less, least_with, lesser}
 use Rattle.xs_writing.proofs.OrderLemmas.{Rebinds, at_itself, rebinds-as, same_at}
 

@@ -1,10 +1,9 @@
 -- What is true of the lines of a result.
-use Rattle.std.specs.Prelude.{◌≡◌, List, [], ◌∷◌, ◌++◌, Bool, false, codes, length, ℕ}
-use Rattle.xs_pyx.specs.declared.line.Line.{Line}
+use Rattle.std.specs.Prelude.{◌≡◌, List, [], ◌∷◌, ◌++◌, Bool, false, codes, ℕ}
 use Rattle.xs_pyx.specs.declared.line.Line.TheVariants as line
 use Rattle.xs_trace.specs.Label.{Label}
 use Rattle.xs_trace.specs.declared.event.Event.{Event}
-use Rattle.xs_trace.specs.declared.event.Event.TheVariants.{Start, Space, Attr, Chars, End, Comment, Pi}
+use Rattle.xs_trace.specs.declared.event.Event.TheVariants.{Start, Space, Attr, End}
 use Rattle.xs_writing.specs.Bindings.{is_in_tag}
 use Rattle.xs_writing.specs.Lines.{OpenElement, lines, open_after}
 
