@@ -4,7 +4,7 @@ use std::alloc::{AllocError, Global};
 use std::test::Fail;
 use xs_trace::event::{Event, Label};
 use xs_trace::text::TextBuf;
-use xs_writing::{PyxStream, write_pyx};
+use xs_writing::{PyxStream, laws, write_pyx};
 
 // The name `{URI}prefix:local`; the URI, and the prefix with its colon, may be left out.
 fn label(alloc: Global, name: &str) -> Result<Label, AllocError> {
@@ -91,4 +91,11 @@ fn a_stream_keeps_what_may_change(rt: HostRuntime) -> Result<(), Fail> {
     stream.finish(&mut out)?;
     assert_eq!(rt; out.as_slice(), b"(o\n-ab\n(e\nAx v\n)e\n");
     Ok(())
+}
+
+#[test]
+fn laws_of_lines_hold() {
+    laws::lines_go_on();
+    laws::names_resolve();
+    laws::worked_examples();
 }

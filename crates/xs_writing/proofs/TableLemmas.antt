@@ -60,10 +60,10 @@ bound_below m n k le bound j less = bound j (omega (arith, le, less))
 
 -- ---- the least prefix of each URI
 -- each of these bindings has a greater prefix
-abbrev AllAfter : List ℕ → List Binding → Type 0
+abbrev pub AllAfter : List ℕ → List Binding → Type 0
 AllAfter p m = AllByRecursion (λ (b : Binding). order_of_prefixes p b.0 ≡ Less) m
 
-abbrev Rises : List Binding → Type 0
+abbrev pub Rises : List Binding → Type 0
 Rises [] = Unit {0}
 Rises (b ∷ bs) = AllAfter b.0 bs × Rises bs
 
@@ -78,7 +78,7 @@ rises_sorted (b ∷ bs) h = (
   rises_sorted bs (sorted_tail order_of_prefixes b.0 (keys_of bs) h),
 )
 
-after_twice : (p : List ℕ) (b : Binding) (bs : List Binding) → order_of_prefixes p b.0 ≡ Less → AllAfter b.0 bs → AllAfter p bs
+pub after_twice : (p : List ℕ) (b : Binding) (bs : List Binding) → order_of_prefixes p b.0 ≡ Less → AllAfter b.0 bs → AllAfter p bs
 after_twice p b [] less h = tt
 after_twice p b (e ∷ es) less h = (nat_list_cmp_total.trans p b.0 e.0 less h.0, after_twice p b es less h.1)
 

@@ -1,10 +1,12 @@
 -- What is true of the lines of a result.
-use Rattle.std.specs.Prelude.{◌≡◌, List, [], ◌∷◌, ◌++◌, Bool, false, codes, ℕ}
+use Rattle.std.specs.Prelude.{◌≡◌, ℕ, ◌<◌, ◌^◌, List, [], ◌∷◌, ◌++◌, Bool, true, false, codes, length, unwrap_or}
 use Rattle.xs_pyx.specs.declared.line.Line.TheVariants as line
 use Rattle.xs_trace.specs.Label.{Label}
 use Rattle.xs_trace.specs.declared.event.Event.{Event}
 use Rattle.xs_trace.specs.declared.event.Event.TheVariants.{Start, Space, Attr, End}
-use Rattle.xs_writing.specs.Bindings.{is_in_tag}
+use Rattle.xs_result.specs.Built.{is_empty}
+use Rattle.xs_writing.specs.Bindings.{Attribute, Binding, attribute_prefix, attributes_in, bindings, bindings_before, declared, is_in_tag, needs_prefix, uri_in}
+use Rattle.xs_writing.specs.Bindings.{with_attribute}
 use Rattle.xs_writing.specs.Lines.{OpenElement, lines, open_after}
 
 -- ---- the lines of a list go part by part
@@ -22,6 +24,31 @@ LinesGoOn = (around : List OpenElement) (es more : List Event) → begins_in_tag
 abbrev pub ElementsGoOn : Type 0
 ElementsGoOn = (around : List OpenElement) (es more : List Event) → begins_in_tag more ≡ false
     → open_after around (es ++ more) ≡ open_after (open_after around es) more
+
+-- ---- names resolve
+-- the URI that a prefix stands for in these bindings, empty for none
+abbrev pub resolved : List Binding → List ℕ → List ℕ
+resolved scope prefix = unwrap_or (uri_in scope prefix) []
+
+-- each attribute in a namespace is written with a prefix that stands for it, where these bindings are there before the first
+abbrev pub AttributesResolve : List Binding → List Binding → List Attribute → Type 0
+AttributesResolve scope m [] = Unit {0}
+AttributesResolve scope m (a ∷ more) =
+    (needs_prefix a.name ≡ true → (resolved scope (attribute_prefix m a.name) ≡ a.name.uri) × (is_empty (attribute_prefix m a.name) ≡ false))
+    × AttributesResolve scope (with_attribute m a.name) more
+
+abbrev pub scope_in : List Binding → Label → List Event → List Binding
+scope_in around name es = declared around (bindings name es) ++ around
+
+-- Inside its own start tag the name of an element and those of its attributes stand for the namespaces that they were put with
+-- (Namespaces in XML 1.0, 5 and 6).
+pub record Resolves (around : List Binding) (name : Label) (es : List Event) : Type 0 where
+  pub element : resolved (scope_in around name es) name.prefix ≡ name.uri
+  pub attributes : AttributesResolve (scope_in around name es) (bindings_before name es) (attributes_in es)
+
+-- as any program has fewer bindings than this
+abbrev pub NamesResolve : Type 0
+NamesResolve = (around : List Binding) (name : Label) (es : List Event) → length (bindings name es) < 2 ^ 64 → Resolves around name es
 
 -- ---- worked examples
 abbrev pub label : List ℕ → List ℕ → List ℕ → Label
