@@ -1,4 +1,4 @@
--- The names of a start tag stand for the namespaces that they were put with.
+-- The names of a start tag resolve to the namespaces that they were put with.
 use Rattle.std.proofs.Common.{◌≡◌, ℕ, zero, suc, ◌+◌, ◌<◌, ◌≤◌, ◌^◌, Bool, true, false, if◌then◌else◌, List, [], ◌∷◌, ◌++◌, Option, None, Some, arith, below_more, cond, length, refl, sym, ◌∙◌, ap, subst, unwrap_or}
 use Rattle.std.specs.Prelude.{◌&&◌, codes, filter, is_some, not}
 use Rattle.std.specs.BTreeMap.{insert_entry, is_at}

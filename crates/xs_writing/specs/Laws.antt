@@ -26,11 +26,11 @@ ElementsGoOn = (around : List OpenElement) (es more : List Event) → begins_in_
     → open_after around (es ++ more) ≡ open_after (open_after around es) more
 
 -- ---- names resolve
--- the URI that a prefix stands for in these bindings, empty for none
+-- the URI that a prefix resolves to in these bindings, empty for none
 abbrev pub resolved : List Binding → List ℕ → List ℕ
 resolved scope prefix = unwrap_or (uri_in scope prefix) []
 
--- each attribute in a namespace is written with a prefix that stands for it, where these bindings are there before the first
+-- each attribute in a namespace is written with a prefix that resolves to it, where these bindings are there before the first
 abbrev pub AttributesResolve : List Binding → List Binding → List Attribute → Type 0
 AttributesResolve scope m [] = Unit {0}
 AttributesResolve scope m (a ∷ more) =
@@ -40,7 +40,7 @@ AttributesResolve scope m (a ∷ more) =
 abbrev pub scope_in : List Binding → Label → List Event → List Binding
 scope_in around name es = declared around (bindings name es) ++ around
 
--- Inside its own start tag the name of an element and those of its attributes stand for the namespaces that they were put with
+-- Inside its own start tag the name of an element and those of its attributes resolve to the namespaces that they were put with
 -- (Namespaces in XML 1.0, 5 and 6).
 pub record Resolves (around : List Binding) (name : Label) (es : List Event) : Type 0 where
   pub element : resolved (scope_in around name es) name.prefix ≡ name.uri

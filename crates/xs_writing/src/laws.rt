@@ -9,7 +9,7 @@ pub fn lines_go_on()
     ensures elements { ElementsGoOn }
 {}
 
-/// Inside its own start tag the name of an element and those of its attributes stand for the
+/// Inside its own start tag the name of an element and those of its attributes resolve to the
 /// namespaces that they were put with (Namespaces in XML 1.0, 5 and 6).
 pub fn names_resolve()
     ensures { NamesResolve }
