@@ -1,9 +1,8 @@
 -- The names of a start tag resolve to the namespaces that they were put with.
 use Rattle.std.proofs.Common.{◌≡◌, ℕ, zero, suc, ◌+◌, ◌<◌, ◌≤◌, ◌^◌, Bool, true, false, if◌then◌else◌, List, [], ◌∷◌, ◌++◌, Option, None, Some, arith, below_more, cond, length, refl, sym, ◌∙◌, ap, subst, unwrap_or}
-use Rattle.std.specs.Prelude.{◌&&◌, codes, filter, is_some, not}
+use Rattle.std.specs.Prelude.{◌&&◌, filter, is_some, not}
 use Rattle.std.specs.BTreeMap.{insert_entry, is_at}
 use Rattle.std.specs.Fmt.{decimal}
-use Rattle.std.specs.List.{AllByRecursion}
 use Rattle.std.specs.Ordering.{is_eq, match_ordering, ordering_reverse}
 use Rattle.std.specs.Str.{bytes_eq}
 use Rattle.std.specs.declared.cmp.Ordering.{Ordering}
@@ -14,11 +13,10 @@ use Rattle.std.proofs.lemmas.Fmt.{decimal_injective}
 use Rattle.std.proofs.lemmas.Slice.Eq.{bytes_eq-Decides}
 use Rattle.xs_result.specs.Built.{is_empty}
 use Rattle.xs_trace.specs.Label.{Label}
-use Rattle.xs_trace.specs.declared.event.Event.{Event}
 use Rattle.xs_writing.specs.Bindings.{Attribute, Binding, added, attribute_prefix, attributes_in, bindings, bindings_before, binds, chosen_prefix, declared, first_new}
 use Rattle.xs_writing.specs.Bindings.{is_new, keeps_prefix, needs_prefix, new_from, new_prefix, order_of_prefixes, own_binding, prefix_for, spaces_in, uri_in}
 use Rattle.xs_writing.specs.Bindings.{with_attribute, with_attributes, with_spaces}
-use Rattle.xs_writing.specs.Laws.{AttributesResolve, NamesResolve, Resolves, resolved, scope_in}
+use Rattle.xs_writing.specs.Laws.{AttributesResolve, NamesResolve, resolved}
 use Rattle.xs_writing.proofs.OrderLemmas.{at_itself, same_at, uri_in-first}
 use Rattle.xs_writing.proofs.TableLemmas.{AllAfter, Rises, after_twice}
 
