@@ -1,5 +1,5 @@
 -- The events of copies can be written.
-use Rattle.std.proofs.Common.{◌≡◌, ℕ, zero, suc, ◌<◌, ◌&&◌, ◌||◌, Bool, true, false, if◌then◌else◌, List, [], ◌∷◌, ◌++◌, All, length, refl, sym, ◌∙◌, ap, append_assoc, codes}
+use Rattle.std.proofs.Common.{◌≡◌, ℕ, zero, suc, ◌<◌, ◌&&◌, ◌||◌, Bool, true, false, if◌then◌else◌, List, [], ◌∷◌, ◌++◌, All, length, refl, sym, ◌∙◌, append_assoc, codes}
 use Rattle.std.proofs.lemmas.Bool.{and_parts, or_parts}
 use Rattle.std.proofs.lemmas.List.Elements.{All-append, All-cons, All-nil}
 use Rattle.std.specs.List.{flat_map}
@@ -11,7 +11,7 @@ use Rattle.xs_tree.specs.declared.kinds.Kind.TheVariants.{Root, Element, Attribu
 use Rattle.xs_tree.specs.Kinds.{is_attribute_kind, is_namespace_kind}
 use Rattle.xs_tree.specs.Record.{Record, at, attributes, children, is_attribute, is_child, is_namespace, is_place, name_local, name_prefix, name_uri, namespaces}
 use Rattle.xs_tree.proofs.WalkLemmas.{passing-passes, passing-within}
-use Rattle.xs_making.specs.Copies.{attribute_events, copy_of, copy_within, deep_copy, label_of, leaf_events, shallow_as, shallow_copy, space_events, start_events, tag_events, text_events, whole_as}
+use Rattle.xs_making.specs.Copies.{attribute_events, copy_within, deep_copy, label_of, leaf_events, shallow_as, space_events, start_events, tag_events, text_events, whole_as}
 use Rattle.xs_making.specs.Labels.{is_reserved, xml_uri}
 use Rattle.xs_making.specs.Laws.{AreWell, CopiesAreWell, IsNamed, IsSpace, IsWellAs, IsWellNamed, IsWellPut}
 use Rattle.xs_making.specs.Texts.{is_empty}
@@ -46,11 +46,11 @@ space-well r h = by_test (is_empty r.text || bytes_eq r.text xml_uri) refl
     by_test false at =
         let parts = or_parts (is_empty r.text) (bytes_eq r.text xml_uri) at in
         All-cons IsWellPut (SpaceEvent (name_local r) r.text) [] (record {
-          prefix = h.prefix;
+          spelled = h.prefix;
           free = not_reserved (is_reserved (name_local r)) (bytes_eq r.text xml_uri) h.reserved parts.1;
           full = parts.0;
-          other = parts.1;
-          uri = h.uri;
+          not_xml = parts.1;
+          not_xmlns = h.uri;
         }) (All-nil IsWellPut)
 
 text-well : (r : Record) → All IsWellPut (text_events r)

@@ -64,11 +64,11 @@ NamesAreWell = (scope : List (List ℕ × List ℕ)) (is_attribute : Bool) (uri 
 -- ---- copies
 -- a namespace node that can be declared (Namespaces in XML 1.0, 2.2 and 3)
 pub record IsWellSpace (prefix uri : List ℕ) : Type 0 where
-  pub prefix : is_prefix prefix ≡ true
+  pub spelled : is_prefix prefix ≡ true
   pub free : is_reserved prefix ≡ false
   pub full : is_empty uri ≡ false
-  pub other : bytes_eq uri xml_uri ≡ false
-  pub uri : bytes_eq uri xmlns_uri ≡ false
+  pub not_xml : bytes_eq uri xml_uri ≡ false
+  pub not_xmlns : bytes_eq uri xmlns_uri ≡ false
 
 -- an event that can be written
 abbrev pub IsWellPut : Event → Type 0
