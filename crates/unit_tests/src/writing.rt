@@ -89,7 +89,7 @@ fn a_stream_keeps_what_may_change(rt: HostRuntime) -> Result<(), Fail> {
         assert_eq!(rt; out.len(), *length);
     }
     stream.finish(&mut out)?;
-    assert_eq!(rt; out.as_slice(), b"(o\n-ab\n(e\nAx v\n)e\n");
+    assert_eq!(rt; out.as_slice(), b"(o\n-ab\n(e\nAx v\n)e\n".as_slice());
     Ok(())
 }
 
