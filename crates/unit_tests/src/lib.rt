@@ -25,6 +25,8 @@ mod probe;
 mod recorders;
 #[cfg(test)]
 mod trace_laws;
+#[cfg(test)]
+mod writing;
 
 #[cfg(test)]
 use std::process::Abort;

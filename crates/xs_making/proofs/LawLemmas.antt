@@ -62,7 +62,7 @@ instructions_stay text fits = spaced-stays 63 (begins_with 62) text fits
 
 -- ---- names
 -- a prefix that fits is kept
-put_prefix-twice : (uri prefix : List ℕ) → put_prefix uri (put_prefix uri prefix) ≡ put_prefix uri prefix
+pub put_prefix-twice : (uri prefix : List ℕ) → put_prefix uri (put_prefix uri prefix) ≡ put_prefix uri prefix
 put_prefix-twice uri prefix = by_tests (is_empty uri) (bytes_eq uri xml_uri) (is_reserved prefix) refl
   where
     by_tests : (a b r : Bool) → is_reserved prefix ≡ r
@@ -81,7 +81,7 @@ xml_is_name : is_ncname (codes "xml") ≡ true
 unfolding chars
 xml_is_name = refl
 
-is_prefix-put : (uri prefix : List ℕ) → is_prefix prefix ≡ true → is_prefix (put_prefix uri prefix) ≡ true
+pub is_prefix-put : (uri prefix : List ℕ) → is_prefix prefix ≡ true → is_prefix (put_prefix uri prefix) ≡ true
 is_prefix-put uri prefix h = by_tests (is_empty uri) (bytes_eq uri xml_uri) (is_reserved prefix)
   where
     by_tests : (a b r : Bool) → is_prefix (if a then [] else if b then codes "xml" else if r then [] else prefix) ≡ true

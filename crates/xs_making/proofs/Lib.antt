@@ -2,3 +2,4 @@ mod SpacingLemmas
 mod CopyLemmas
 mod LawLemmas
 mod WalkLemmas
+mod WellLemmas

@@ -1,11 +1,17 @@
 -- What is made can stand in a document.
-use Rattle.std.specs.Prelude.{◌≡◌, ℕ, Bool, true, false, not, ◌==◌, ◌&&◌, ◌||◌, List, [], ◌∷◌, Option, Some, Ok}
+use Rattle.std.specs.Prelude.{All, codes, length, ◌<◌, ◌≡◌, ℕ, Bool, true, false, not, ◌==◌, ◌&&◌, ◌||◌, List, [], ◌∷◌, Option, Some, Ok}
 use Rattle.std.specs.Str.{bytes_eq}
 use Rattle.xs_text.specs.Names.{is_ncname}
 use Rattle.xs_trace.specs.Label.{Label}
+use Rattle.xs_trace.specs.declared.event.Event.{Event}
+use Rattle.xs_trace.specs.declared.event.Event.TheVariants.{Start, Space as SpaceEvent, Attr, Chars, End, Comment as CommentEvent, Pi as PiEvent}
+use Rattle.xs_tree.specs.declared.kinds.Kind.{Kind}
+use Rattle.xs_tree.specs.declared.kinds.Kind.TheVariants.{Root, Element, Attribute, Space, Text, Comment, Pi}
+use Rattle.xs_tree.specs.Record.{Record, at, name_local, name_prefix, name_uri}
 use Rattle.xs_xpath.specs.Names.{uri_in}
-use Rattle.xs_making.specs.Labels.{put_prefix, xmlns_uri}
-use Rattle.xs_making.specs.Names.{result_name}
+use Rattle.xs_making.specs.Copies.{copy_of}
+use Rattle.xs_making.specs.Labels.{is_reserved, put_prefix, xml_uri, xmlns_uri}
+use Rattle.xs_making.specs.Names.{is_target, result_name}
 use Rattle.xs_making.specs.Texts.{begins_with, comment_text, ends_or_hyphen, instruction_text, is_empty}
 
 -- ---- texts
@@ -54,3 +60,50 @@ BindsNoXmlns scope = (prefix uri : List ℕ) → uri_in scope prefix ≡ Some ur
 abbrev pub NamesAreWell : Type 0
 NamesAreWell = (scope : List (List ℕ × List ℕ)) (is_attribute : Bool) (uri : Option (List ℕ)) (text : List ℕ) (name : Label) → BindsNoXmlns scope
     → result_name scope is_attribute uri text ≡ Ok name → IsWellNamed name
+
+-- ---- copies
+-- a namespace node that can be declared (Namespaces in XML 1.0, 2.2 and 3)
+pub record IsWellSpace (prefix uri : List ℕ) : Type 0 where
+  pub spelled : is_prefix prefix ≡ true
+  pub free : is_reserved prefix ≡ false
+  pub full : is_empty uri ≡ false
+  pub not_xml : bytes_eq uri xml_uri ≡ false
+  pub not_xmlns : bytes_eq uri xmlns_uri ≡ false
+
+-- an event that can be written
+abbrev pub IsWellPut : Event → Type 0
+IsWellPut (Start name) = IsWellNamed name
+IsWellPut (SpaceEvent prefix uri) = IsWellSpace prefix uri
+IsWellPut (Attr name value) = IsWellNamed name × ((is_empty name.uri && bytes_eq name.local (codes "xmlns")) ≡ false)
+IsWellPut (Chars text) = is_empty text ≡ false
+IsWellPut End = Unit {0}
+IsWellPut (CommentEvent text) = Unit {0}
+IsWellPut (PiEvent target value) = is_target target ≡ true
+
+-- the name of an element or an attribute of a document
+pub record IsNamed (r : Record) : Type 0 where
+  pub local : is_ncname (name_local r) ≡ true
+  pub prefix : is_prefix (name_prefix r) ≡ true
+  pub uri : bytes_eq (name_uri r) xmlns_uri ≡ false
+
+-- a namespace node of a document: a reserved prefix is `xml`, with its own URI
+pub record IsSpace (r : Record) : Type 0 where
+  pub prefix : is_prefix (name_local r) ≡ true
+  pub uri : bytes_eq r.text xmlns_uri ≡ false
+  pub reserved : is_reserved (name_local r) ≡ true → bytes_eq r.text xml_uri ≡ true
+
+-- a node that has a name as those of documents
+abbrev pub IsWellAs : Kind → Record → Type 0
+IsWellAs Root r = Unit {0}
+IsWellAs Element r = IsNamed r
+IsWellAs Attribute r = IsNamed r
+IsWellAs Space r = IsSpace r
+IsWellAs Text r = Unit {0}
+IsWellAs Comment r = Unit {0}
+IsWellAs Pi r = is_target (name_local r) ≡ true
+
+abbrev pub AreWell : List Record → Type 0
+AreWell rs = (k : ℕ) → k < length rs → IsWellAs (at rs k).kind (at rs k)
+
+abbrev pub CopiesAreWell : Type 0
+CopiesAreWell = (rs : List Record) (n : ℕ) (deep : Bool) → AreWell rs → n < length rs → All IsWellPut (copy_of deep rs n)

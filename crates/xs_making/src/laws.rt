@@ -1,6 +1,6 @@
 //! What is made can stand in a document. The functions do nothing: their contracts are the laws.
 ghost use Rattle.xs_making.specs.Laws.{CommentsFit, FitCommentsStay, FitInstructionsStay};
-ghost use Rattle.xs_making.specs.Laws.{InstructionsFit, NamesAreWell};
+ghost use Rattle.xs_making.specs.Laws.{CopiesAreWell, InstructionsFit, NamesAreWell};
 
 /// What is made of any text can stand in a comment (XML 1.0, 2.5), and a text that can is not
 /// changed.
@@ -19,4 +19,10 @@ pub fn instructions_fit()
 /// `xmlns` (Namespaces in XML 1.0, 3 and 4).
 pub fn names_are_well()
     ensures { NamesAreWell }
+{}
+
+/// The events of a copy can be written, where the nodes of the tree have names as those of
+/// documents have.
+pub fn copies_are_well()
+    ensures { CopiesAreWell }
 {}

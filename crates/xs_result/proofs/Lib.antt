@@ -1,3 +1,3 @@
-mod BuiltLemmas
+pub mod BuiltLemmas
 mod PlaceLemmas
 mod TextLemmas

@@ -1,8 +1,8 @@
 //! The events that stay, as one comes after the other.
 
 ghost use Rattle.std.specs.Prelude.{◌≡◌, ◌++◌, ◌∷◌, [], IfOk, OnOk};
-ghost use Rattle.xs_result.specs.steps.Building.{began, behind, ended, flushed, if_open};
-ghost use Rattle.xs_result.specs.steps.Building.{if_text, nothing, tagged, taken};
+ghost use Rattle.xs_result.specs.steps.Building.{began, behind, ended, flushed, forgotten};
+ghost use Rattle.xs_result.specs.steps.Building.{if_open, if_text, nothing, tagged, taken};
 ghost use Rattle.xs_result.specs.steps.Places.{with_attribute};
 ghost use Rattle.xs_result.specs.steps.Views.{state};
 ghost use Rattle.xs_trace.specs.declared.event.Event.TheVariants.{Space};
@@ -14,8 +14,11 @@ use xs_trace::event::{Event, Fragment, Label};
 use xs_trace::text::TextBuf;
 
 /// What stays of the events that came.
+///
+/// A caller may use what stays for good while more events come, and have it forgotten, so that the
+/// last start tag and the last text alone are kept.
 #[derive(Drop)]
-pub(crate) struct Builder<'e> {
+pub struct Builder<'e> {
     alloc: Global,
     /// What stays as it is.
     events: Vec<Event>,
@@ -29,7 +32,7 @@ pub(crate) struct Builder<'e> {
 
 impl<'e> Builder<'e> {
     /// Before the first event.
-    pub(crate) fn new(alloc: Global) -> Builder<'e>
+    pub fn new(alloc: Global) -> Builder<'e>
         ensures { state result ≡ nothing }
     {
         Builder {
@@ -43,7 +46,7 @@ impl<'e> Builder<'e> {
 
     /// One event more.
     #[tactic(auto, unfolding(crate::specs::steps::Building::taken))]
-    pub(crate) fn take(&mut self, event: &'e Event) -> Result<(), AllocError>
+    pub fn take(&mut self, event: &'e Event) -> Result<(), AllocError>
         ensures { OnOk result (state self.new ≡ taken (state self.old) event.now) }
     {
         match event {
@@ -139,8 +142,22 @@ impl<'e> Builder<'e> {
         Ok(())
     }
 
-    /// All that stays.
-    pub(crate) fn finish(mut self) -> Result<Fragment, AllocError>
+    /// What stays for good, whatever comes, but for what was forgotten.
+    pub fn settled(&self) -> &[Event]
+        ensures { result.now ≡ (state self.now).closed }
+    {
+        self.events.as_slice()
+    }
+
+    /// Forgets what stays for good.
+    pub fn forget(&mut self)
+        ensures { state self.new ≡ forgotten (state self.old) }
+    {
+        self.events.clear();
+    }
+
+    /// All that stays, but for what was forgotten.
+    pub fn finish(mut self) -> Result<Fragment, AllocError>
         ensures { IfOk result (λ fragment. fragment ≡ flushed (state self.entry)) }
     {
         self.flush()?;

@@ -28,6 +28,10 @@ text_events text = if is_empty text then [] else Chars text ∷ []
 unfoldable pub flushed : State → List Event
 flushed s = s.closed ++ (s.tag ++ text_events s.text)
 
+-- without what stays for good
+abbrev pub forgotten : State → State
+forgotten s = record { closed = []; tag = s.tag; text = s.text; depth = s.depth }
+
 abbrev pub is_open : List Event → Bool
 is_open [] = false
 is_open (e ∷ es) = true

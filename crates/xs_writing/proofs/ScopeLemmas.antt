@@ -1,0 +1,68 @@
+-- The bindings in force: one declaration more, and one less.
+use Rattle.std.proofs.Common.{◌≡◌, ℕ, zero, suc, ◌-◌, ◌<◌, List, [], ◌∷◌, ◌++◌, Bool, true, false, Option, Some, cond, drop, refl, sym, ◌∙◌, ap, subst, arith, reverse}
+use Rattle.std.proofs.lemmas.List.{reverse-append}
+use Rattle.std.specs.Prelude.{codes}
+use Rattle.std.specs.BTreeMap.{insert_entry, is_at}
+use Rattle.xs_writing.specs.Bindings.{Binding, order_of_prefixes, outermost, uri_in, xml_uri}
+use Rattle.xs_writing.specs.declared.scope.Undo.{Undo}
+use Rattle.xs_writing.specs.steps.Open.{IsCurrent, KnowBefore, logged}
+use Rattle.xs_writing.proofs.OrderLemmas.{Rebinds, same_at, uri_in-first}
+
+abbrev pub IsKept : List Binding → List Undo → Type 0
+IsKept table us = IsCurrent table us × KnowBefore us
+
+declared_one : (table now : List Binding) (us : List Undo) (u : Undo) → Rebinds table now u.prefix (Some u.uri) → u.before ≡ uri_in table u.prefix
+    → IsKept table us → IsKept now (u ∷ us)
+declared_one table now us u rebinds before kept = (
+  λ q. rebinds q ∙ ap (cond (is_at (order_of_prefixes u.prefix) q) (Some u.uri)) (kept.0 q)
+      ∙ sym (uri_in-first (u.prefix, u.uri) (logged us ++ outermost) q),
+  (before ∙ kept.0 u.prefix, kept.1),
+)
+
+-- the prefix has what it had before, and the others stay
+back : (p uri q : List ℕ) (before : Option (List ℕ)) (table rest : List Binding) → before ≡ uri_in rest p → uri_in table q ≡ uri_in ((p, uri) ∷ rest) q
+    → cond (is_at (order_of_prefixes p) q) before (uri_in table q) ≡ uri_in rest q
+back p uri q before table rest knew now = by_place (is_at (order_of_prefixes p) q) refl
+  where
+    by_place : (t : Bool) → is_at (order_of_prefixes p) q ≡ t → cond t before (uri_in table q) ≡ uri_in rest q
+    by_place true at = knew ∙ ap (uri_in rest) (same_at p q at)
+    by_place false at = now ∙ uri_in-first (p, uri) rest q ∙ ap (λ t. cond t (Some uri) (uri_in rest q)) at
+
+left_one : (table now : List Binding) (us : List Undo) (u : Undo) → Rebinds table now u.prefix u.before → IsKept table (u ∷ us) → IsKept now us
+left_one table now us u rebinds kept =
+    (λ q. rebinds q ∙ back u.prefix u.uri q u.before table (logged us ++ outermost) kept.1.0 (kept.0 q), kept.1.1)
+
+-- ---- as a vector has them, the nearest last
+last_first : (items now : List Undo) (u : Undo) → now ≡ items ++ u ∷ [] → reverse now ≡ u ∷ reverse items
+last_first items now u h = ap reverse h ∙ reverse-append items (u ∷ [])
+
+pub declared_kept : (table now : List Binding) (items all : List Undo) (u : Undo) → all ≡ items ++ u ∷ [] → Rebinds table now u.prefix (Some u.uri)
+    → u.before ≡ uri_in table u.prefix → IsKept table (reverse items) → IsKept now (reverse all)
+declared_kept table now items all u is rebinds before kept =
+    subst (IsKept now) (sym (last_first items all u is)) (declared_one table now (reverse items) u rebinds before kept)
+
+pub left_kept : (table now : List Binding) (items all : List Undo) (u : Undo) → all ≡ items ++ u ∷ [] → Rebinds table now u.prefix u.before
+    → IsKept table (reverse all) → IsKept now (reverse items)
+left_kept table now items all u is rebinds kept =
+    left_one table now (reverse items) u rebinds (subst (IsKept table) (last_first items all u is) kept)
+
+outermost_kept : (table : List Binding) (items : List Undo) → table ≡ outermost → items ≡ [] → IsKept table (reverse items)
+outermost_kept table items is none =
+    subst (λ us. IsKept table (reverse us)) (sym none) (subst (λ es. IsKept es []) (sym is) ((λ q. refl), tt))
+
+pub outermost_made : (table empty : List Binding) (items : List Undo) (key text uri : List ℕ) → empty ≡ []
+    → table ≡ insert_entry order_of_prefixes empty key uri
+    → key ≡ text → text ≡ codes "xml" → uri ≡ xml_uri → items ≡ [] → IsKept table (reverse items)
+outermost_made table empty items key text uri none is k t u no_items =
+    outermost_kept table items
+    (is ∙ ap (λ es. insert_entry order_of_prefixes es key uri) none ∙ ap (λ x. (x, uri) ∷ []) (k ∙ t) ∙ ap (λ x. (codes "xml", x) ∷ []) u) no_items
+
+-- ---- several declarations less
+drop-nil : (n : ℕ) → drop {A = Binding} n [] ≡ []
+drop-nil zero = refl
+drop-nil (suc n) = refl
+
+pub drop-one : (n : ℕ) (xs : List Binding) → 0 < n → drop n xs ≡ drop (n - 1) (drop 1 xs)
+drop-one zero xs h = absurd (omega arith)
+drop-one (suc n) [] h = sym (drop-nil (suc n - 1))
+drop-one (suc n) (x ∷ xs) h = let e : n ≡ suc n - 1 = omega arith in ap (λ i. drop i xs) e

@@ -1,0 +1,4 @@
+pub mod Bindings
+pub mod Lines
+pub mod Laws
+pub mod steps

@@ -1,0 +1,4 @@
+pub mod Stream
+pub mod Tables
+pub mod Open
+pub mod Tags

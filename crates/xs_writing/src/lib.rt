@@ -1,0 +1,17 @@
+//! The result of a run as the lines of a document.
+#![tactic(auto)]
+
+pub mod laws;
+mod least;
+mod names;
+mod scope;
+mod stream;
+mod tag;
+mod tag_bindings;
+mod text_key;
+mod write;
+mod writer;
+
+pub use stream::PyxStream;
+pub use write::write_pyx;
+pub use writer::PyxWriter;

@@ -1,0 +1,217 @@
+//! The bindings that are in force.
+ghost use Rattle.std.specs.Prelude.{◌≡◌, ◌∷◌, ◌++◌, [], ℕ, if◌then◌else◌, IfOk, List, OnOk};
+ghost use Rattle.std.specs.Prelude.{drop, filter};
+ghost use Rattle.std.specs.BTreeMap.{is_at};
+ghost use Rattle.xs_writing.specs.Bindings.{Binding, declared, is_new, order_of_prefixes};
+ghost use Rattle.xs_writing.specs.Bindings.{outermost, uri_in};
+ghost use Rattle.xs_writing.specs.steps.Open.{binding, bindings_of};
+
+use crate::tag_bindings::{TagBindings, XML_URI};
+use crate::text_key::TextKey;
+use std::alloc::{AllocError, Global};
+use std::collections::BTreeMap;
+use std::marker::Model;
+use xs_trace::text::TextBuf;
+
+/// A declaration: a prefix, empty for the default namespace, and its URI.
+#[derive(Drop)]
+pub(crate) struct Declared {
+    pub(crate) prefix: TextBuf,
+    pub(crate) uri: TextBuf,
+}
+
+/// A declaration that is in force, and the URI that its prefix was bound to before.
+#[derive(Drop)]
+struct Undo {
+    prefix: TextBuf,
+    uri: TextBuf,
+    before: Option<TextBuf>,
+}
+
+/// The declarations that are in force. Contracts see them as a list, the nearest first.
+#[derive(Drop)]
+pub(crate) struct Scope {
+    /// The URI of each prefix.
+    current: BTreeMap<TextKey, TextBuf>,
+    /// What was declared, the nearest last.
+    log: Vec<Undo>,
+}
+
+impl Model for Scope {
+    ghost use Rattle.std.specs.Prelude.{List, reverse};
+    ghost use Rattle.xs_writing.specs.Bindings.{Binding};
+    ghost use Rattle.xs_writing.specs.steps.Open.{IsCurrent, KnowBefore, logged};
+
+    ghost Value = { List Binding };
+
+    ghost view = { λ s. logged (reverse s.log.items) };
+
+    ghost invariant = { λ s. IsCurrent s.current.entries (reverse s.log.items)
+        × KnowBefore (reverse s.log.items) };
+}
+
+impl Scope {
+    /// Nothing is declared; `xml` is bound.
+    pub(crate) fn outermost(alloc: Global) -> Result<Scope, AllocError>
+        ensures { IfOk result (λ scope. scope ≡ []) }
+    {
+        let mut current = BTreeMap::new(alloc);
+        let xml = TextBuf::of(alloc, "xml")?;
+        let _ = current.insert(TextKey::of(&xml)?, TextBuf::of(alloc, XML_URI)?)?;
+        Ok(Scope {
+            current,
+            log: Vec::new(alloc),
+        })
+    }
+
+    /// The bindings of a start tag that are new here, in their order.
+    #[tactic(auto, unfolding(crate::specs::Bindings::declared))]
+    pub(crate) fn declared(
+        &self,
+        alloc: Global,
+        tag: &TagBindings,
+    ) -> Result<Vec<Declared>, AllocError>
+        ensures { IfOk result (λ all.
+            bindings_of all.items ≡ declared (self.now ++ outermost) tag.now) }
+    {
+        let mut all = Vec::new(alloc);
+        for (prefix, uri) in tag.entries() {
+            self.push_new(&mut all, prefix, uri)?;
+        }
+        Ok(all)
+    }
+
+    /// Adds a binding, if it is new here.
+    fn push_new(
+        &self,
+        all: &mut Vec<Declared>,
+        prefix: &TextKey,
+        uri: &TextBuf,
+    ) -> Result<(), AllocError>
+        ensures { OnOk result ((more : List Binding) → bindings_of all.new.items
+            ++ filter (is_new (self.now ++ outermost)) more
+            ≡ bindings_of all.old.items
+            ++ filter (is_new (self.now ++ outermost)) ((prefix.now, uri.now) ∷ more)) }
+    {
+        if self.is_new(prefix, uri) {
+            all.push(Declared {
+                prefix: prefix.text().copy()?,
+                uri: uri.copy()?,
+            })?;
+        }
+        Ok(())
+    }
+
+    /// Whether a prefix is bound to another URI here, or to none.
+    #[tactic(auto, unfolding(crate::specs::Bindings::uri_in))]
+    fn is_new(&self, prefix: &TextKey, uri: &TextBuf) -> bool
+        ensures { result ≡ is_new (self.now ++ outermost) (prefix.now, uri.now) }
+    {
+        match self.current.get(prefix) {
+            Some(other) => other.as_str() != uri.as_str(),
+            None => !uri.as_str().is_empty(),
+        }
+    }
+
+    /// These declarations are in force too, the first of them nearest.
+    pub(crate) fn enter(self, declared: Vec<Declared>) -> Result<Scope, AllocError>
+        ensures { IfOk result (λ scope. scope ≡ bindings_of declared.items ++ self) }
+    {
+        let mut scope = self;
+        let mut left = declared;
+        while let Some(last) = left.pop() {
+            scope = scope.declare(last)?;
+        }
+        Ok(scope)
+    }
+
+    /// One declaration more.
+    fn declare(self, declared: Declared) -> Result<Scope, AllocError>
+        ensures { IfOk result (λ scope. scope ≡ binding declared ∷ self) }
+    {
+        let Scope {
+            mut current,
+            mut log,
+        } = self;
+        let before = uri_of(&current, &declared.prefix)?;
+        let Declared { prefix, uri } = declared;
+        let _ = current.insert(TextKey::of(&prefix)?, uri.copy()?)?;
+        log.push(Undo {
+            prefix,
+            uri,
+            before,
+        })?;
+        Ok(Scope { current, log })
+    }
+
+    /// So many declarations, the nearest, are no longer in force.
+    pub(crate) fn leave(self, count: usize) -> Result<Scope, AllocError>
+        ensures { IfOk result (λ scope. scope ≡ drop count self) }
+    {
+        let mut scope = self;
+        let mut left = count;
+        while left > 0 {
+            scope = scope.leave_one()?;
+            left -= 1;
+        }
+        Ok(scope)
+    }
+
+    /// The nearest declaration is no longer in force.
+    fn leave_one(self) -> Result<Scope, AllocError>
+        ensures { IfOk result (λ scope. scope ≡ drop 1 self) }
+    {
+        let Scope { current, mut log } = self;
+        match log.pop() {
+            Some(last) => Ok(Scope {
+                current: undone(current, last)?,
+                log,
+            }),
+            None => Ok(Scope { current, log }),
+        }
+    }
+}
+
+/// The URI that a table has for a prefix.
+#[tactic(auto, unfolding(crate::specs::Bindings::uri_in))]
+fn uri_of(
+    current: &BTreeMap<TextKey, TextBuf>,
+    prefix: &TextBuf,
+) -> Result<Option<TextBuf>, AllocError>
+    ensures { IfOk result (λ uri. uri ≡ uri_in current.now.entries prefix.now) }
+{
+    let key = TextKey::of(prefix)?;
+    match current.get(&key) {
+        Some(uri) => Ok(Some(uri.copy()?)),
+        None => Ok(None),
+    }
+}
+
+/// A table as it was before a declaration.
+#[tactic(auto, unfolding(crate::specs::Bindings::uri_in))]
+fn undone(
+    current: BTreeMap<TextKey, TextBuf>,
+    last: Undo,
+) -> Result<BTreeMap<TextKey, TextBuf>, AllocError>
+    ensures { IfOk result (λ table. (some : List ℕ) → uri_in table.entries some
+        ≡ (if is_at (order_of_prefixes last.prefix) some then last.before
+        else uri_in current.entries some)) }
+{
+    let mut table = current;
+    let Undo {
+        prefix,
+        uri,
+        before,
+    } = last;
+    let _uri = uri;
+    let key = TextKey::of(&prefix)?;
+    match before {
+        Some(uri) => {
+            let _ = table.insert(key, uri)?;
+        }
+        None => {
+            let _ = table.remove(&key);
+        }
+    }
+    Ok(table)
+}
