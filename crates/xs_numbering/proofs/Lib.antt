@@ -1,0 +1,4 @@
+mod BoundaryLemmas
+mod GroupLemmas
+mod LetterLemmas
+mod PieceLemmas

@@ -1,0 +1,6 @@
+//! The texts of numbers that `xsl:number` puts (XSLT 1.0, 7.7).
+#![tactic(auto)]
+
+mod formats;
+pub mod formatting;
+mod numerals;
