@@ -2,4 +2,6 @@
 pub mod Numerals
 pub mod Formats
 pub mod Numbers
+pub mod Counting
+pub mod Examples
 pub mod steps

@@ -3,4 +3,5 @@
 
 mod formats;
 pub mod formatting;
+pub mod laws;
 mod numerals;
