@@ -1,4 +1,6 @@
 mod BoundaryLemmas
 mod GroupLemmas
 mod LetterLemmas
+mod PassLemmas
 mod PieceLemmas
+mod SiblingLemmas

@@ -5,3 +5,4 @@ mod formats;
 pub mod formatting;
 pub mod laws;
 mod numerals;
+pub mod passes;
