@@ -1,6 +1,7 @@
 mod BoundaryLemmas
 mod GroupLemmas
 mod LetterLemmas
+mod LevelLemmas
 mod PassLemmas
 mod PieceLemmas
 mod SiblingLemmas

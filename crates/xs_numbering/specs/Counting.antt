@@ -47,7 +47,7 @@ single counts from rs n = map (sibling_number counts rs) (take 1 (counted counts
 
 -- the number of each of them, the outermost first
 abbrev pub multiple : (counts from : ℕ → Bool) → List Record → ℕ → List ℕ
-multiple counts from rs n = map (sibling_number counts rs) (reverse (counted counts from rs n))
+multiple counts from rs n = reverse (map (sibling_number counts rs) (counted counts from rs n))
 
 -- whether a node has a place at some level: it is no attribute and no namespace node
 abbrev pub has_level : Record → Bool

@@ -1,6 +1,9 @@
 -- The text of a list of numbers (XSLT 1.0, 7.7.1).
-use Rattle.std.specs.Prelude.{◌≡◌, ℕ, ◌<◌, ◌==◌, Bool, true, List, [], ◌∷◌, ◌++◌, length, codes, Option, None, Some, if◌then◌else◌}
+use Rattle.std.specs.Prelude.{◌≡◌, ℕ, ◌<◌, ◌==◌, Bool, true, List, [], ◌∷◌, ◌++◌, length, codes, Option, None, Some, pos, negsuc, if◌then◌else◌}
 use Rattle.std.specs.Str.{chars}
+use Rattle.xs_num.specs.Text.{text_of}
+use Rattle.xs_num.specs.declared.number.Number.{Number}
+use Rattle.xs_num.specs.declared.number.Number.TheVariants.{Whole, NaN}
 use Rattle.xs_numbering.specs.Formats.{Piece, pieces, prefix, without_prefix, first_token, after_token, following, suffix, style_of}
 use Rattle.xs_numbering.specs.Numerals.{styled}
 
@@ -29,3 +32,14 @@ numbers_text group ps n ns =
 unfoldable pub list_text : Option (List ℕ × ℕ) → (format : List ℕ) → List ℕ → List ℕ
 list_text group format [] = []
 list_text group format (n ∷ ns) = prefix (pieces format) ++ numbers_text (group_of group) (without_prefix (pieces format)) n ns
+
+-- a text in the place of a number
+abbrev pub text_alone : (format text : List ℕ) → List ℕ
+text_alone format text = prefix (pieces format) ++ (text ++ suffix (after_token (without_prefix (pieces format))))
+
+-- The text of a number that is given by `value`: that of a list of it alone. One below 0 and NaN are written as `string` writes them,
+-- whatever the token (this project's own).
+abbrev pub value_text : Option (List ℕ × ℕ) → (format : List ℕ) → Number → List ℕ
+value_text group format (Whole (pos n)) = list_text group format (n ∷ [])
+value_text group format (Whole (negsuc n)) = text_alone format (text_of (Whole (negsuc n)))
+value_text group format NaN = text_alone format (text_of NaN)

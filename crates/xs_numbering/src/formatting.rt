@@ -4,12 +4,14 @@ ghost use Rattle.std.specs.Prelude.{◌≡◌, ◌++◌, codes, true, IfOk, OnEr
 ghost use Rattle.std.specs.Str.{IsUtf8};
 ghost use Rattle.xs_numbering.specs.Formats.{following, is_apart, pieces, suffix};
 ghost use Rattle.xs_numbering.specs.Numbers.{group_of, list_text, number_text, numbers_text};
-ghost use Rattle.xs_numbering.specs.Numbers.{others_text};
+ghost use Rattle.xs_numbering.specs.Numbers.{others_text, text_alone, value_text};
 ghost use Rattle.xs_numbering.specs.steps.Pairs.{IsNext};
 
 use crate::formats::{split_first_token, split_pair, split_prefix, style_of, suffix};
 use crate::numerals::append_styled;
+use itoa::Buffer;
 use std::alloc::{AllocError, Global};
+use xs_num::number::{Num, Number};
 use xs_strings::positions::char_count;
 
 /// Appends the text of a list of numbers under a format (XSLT 1.0, 7.7.1). Numbers in decimal have
@@ -47,6 +49,41 @@ pub fn list_text(
         out.push_str(prefix)?;
         append_numbers(&mut out, *first, others, format, group_of(group))?;
     }
+    Ok(out)
+}
+
+/// The text of the number that `value` gives, under a format.
+pub fn value_text(
+    alloc: Global,
+    value: Num,
+    format: &str,
+    group: Option<(&str, u32)>,
+) -> Result<String, AllocError>
+    ensures { IfOk result (λ text. string_bytes text
+        ≡ value_text (option_map (λ g. (g.0.now, g.1)) group.entry) format.now value) }
+{
+    match value.get() {
+        Number::Whole(whole) => {
+            if whole >= 0 {
+                return list_text(alloc, &[whole as u64], format, group);
+            }
+            let mut buffer = Buffer::new();
+            text_alone(alloc, buffer.format(whole), format)
+        }
+        Number::NaN => text_alone(alloc, "NaN", format),
+    }
+}
+
+/// A text under a format, in the place of a number.
+fn text_alone(alloc: Global, text: &str, format: &str) -> Result<String, AllocError>
+    ensures { IfOk result (λ made. string_bytes made ≡ text_alone format.now text.now) }
+{
+    let (prefix, format) = split_prefix(format);
+    let (_token, rest) = split_first_token(format);
+    let mut out = String::new(alloc);
+    out.push_str(prefix)?;
+    out.push_str(text)?;
+    out.push_str(suffix(rest))?;
     Ok(out)
 }
 

@@ -4,5 +4,6 @@
 mod formats;
 pub mod formatting;
 pub mod laws;
+pub mod levels;
 mod numerals;
 pub mod passes;

@@ -1,6 +1,6 @@
 //! The numbers of all nodes of a tree, counted in one pass (XSLT 1.0, 7.7).
 
-ghost use Rattle.std.specs.Prelude.{◌≡◌, ◌<◌, ◌+◌, ◌^◌, IfOk, IfSome, if◌then◌else◌, length, map};
+ghost use Rattle.std.specs.Prelude.{◌≡◌, ◌<◌, ◌+◌, ◌^◌, IfOk, IfSome, Some, get_or, if◌then◌else◌, length, map};
 ghost use Rattle.xs_tree.specs.Kinds.{is_root_kind};
 ghost use Rattle.xs_tree.specs.Record.{at, places};
 ghost use Rattle.xs_numbering.specs.Counting.{any_number, has_level, sibling_number};
@@ -40,9 +40,8 @@ pub fn sibling_numbers(alloc: Global, counts: &[bool], tree: &Tree) -> Result<Ve
     let mut seen = vec![in alloc; 0u32; tree.len()]?;
     for place in 0..tree.len() as u32 {
         let node = Node::at(place);
-        let parent = held_by(tree, node);
-        numbers.push(seen_at(&seen, parent) + 1)?;
-        see(&mut seen, parent, is_marked(counts, node));
+        let number = next_number(&mut seen, tree, node, is_marked(counts, node));
+        numbers.push(number)?;
     }
     Ok(numbers)
 }
@@ -59,32 +58,39 @@ fn held_by(tree: &Tree, node: Node) -> Option<Node>
     }
 }
 
-/// How many children of a parent were counted so far.
-fn seen_at(seen: &[u32], parent: Option<Node>) -> u32
-    requires { IfSome parent (λ p. p < length seen.now) }
-    ensures { result ≡ seen_at seen.now parent }
+/// The number of a node among its siblings, by how many children of each node were counted before
+/// it; then it is counted itself, if it is to be.
+fn next_number(seen: &mut Vec<u32>, tree: &Tree, node: Node, is_counted: bool) -> u32
+    requires node { node < length tree.now }
+    requires within { IfSome (held_by (at tree.now node)) (λ p. p < length seen.old.items) }
+    requires few { seen_at seen.old.items (held_by (at tree.now node)) + 1 < 2 ^ 32 }
+    ensures number { result ≡ seen_at seen.old.items (held_by (at tree.now node)) + 1 }
+    ensures seen { seen.new.items
+        ≡ seen_with is_counted (held_by (at tree.now node)) seen.old.items }
 {
-    match parent {
-        None => 0,
-        Some(parent) => seen[parent.place() as usize],
+    match held_by(tree, node) {
+        None => 1,
+        Some(parent) => next_child(seen, parent, is_counted),
     }
 }
 
-/// Counts one more child of a parent, if it is to be counted.
-fn see(seen: &mut Vec<u32>, parent: Option<Node>, is_counted: bool)
-    requires within { IfSome parent (λ p. p < length seen.old.items) }
-    requires few { seen_at seen.old.items parent + 1 < 2 ^ 32 }
-    ensures { seen.new.items ≡ seen_with is_counted parent seen.old.items }
+/// The number of the next child of a node, which then is counted, if it is to be.
+fn next_child(seen: &mut Vec<u32>, parent: Node, is_counted: bool) -> u32
+    requires within { parent < length seen.old.items }
+    requires few { get_or seen.old.items parent 0 + 1 < 2 ^ 32 }
+    ensures number { result ≡ get_or seen.old.items parent 0 + 1 }
+    ensures seen { seen.new.items ≡ seen_with is_counted (Some parent) seen.old.items }
 {
-    if let Some(parent) = parent {
-        if is_counted {
-            seen[parent.place() as usize] += 1;
-        }
+    let place = parent.place() as usize;
+    let number = seen[place] + 1;
+    if is_counted {
+        seen[place] = number;
     }
+    number
 }
 
 /// Whether a node is marked, which none is after the last mark.
-fn is_marked(marks: &[bool], node: Node) -> bool
+pub(crate) fn is_marked(marks: &[bool], node: Node) -> bool
     ensures { result ≡ is_marked marks.now node }
 {
     let place = node.place() as usize;
