@@ -3,7 +3,7 @@ use Rattle.std.proofs.Common.{◌≡◌, ℕ, zero, suc, ◌+◌, ◌-◌, ◌<�
 use Rattle.std.specs.List.{range_with_len}
 use Rattle.std.proofs.lemmas.List.{append-nil, get_or-reverse, length-reverse, map-append}
 use Rattle.std.proofs.lemmas.List.Elements.{All-cons, All-filter, All-from_get_or, All-get_or, All-head, All-nil, All-tail, filter-append}
-use Rattle.std.proofs.lemmas.List.FromFn.{get_or-map-range_with_len}
+use Rattle.std.proofs.lemmas.List.FromFn.{get_or-map-range_with_len, length-map-range_with_len}
 use Rattle.std.proofs.lemmas.List.Sums.{take_while-cons}
 use Rattle.xs_tree.specs.declared.axes.Axis.TheVariants.{Ancestor}
 use Rattle.xs_tree.specs.Axis.{axis_list, is_on}
@@ -40,6 +40,9 @@ ancestor-within rs n front rest k whole =
 -- the number of a node in a table of all
 pub number-in : (f : ℕ → ℕ) (numbers : List ℕ) (rs : List Record) (n : ℕ) → numbers ≡ map f (places rs) → n < length rs → get_or numbers n 0 ≡ f n
 number-in f numbers rs n is lt = ap (λ xs. get_or xs n 0) is ∙ get_or-map-range_with_len f 0 (length rs) n n 0 lt (omega arith)
+
+pub table-long : (f : ℕ → ℕ) (numbers : List ℕ) (rs : List Record) → numbers ≡ map f (places rs) → length numbers ≡ length rs
+table-long f numbers rs is = ap length is ∙ length-map-range_with_len f 0 (length rs)
 
 -- one ancestor more
 

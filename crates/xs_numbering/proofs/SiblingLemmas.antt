@@ -3,7 +3,7 @@ use Rattle.std.proofs.Common.{◌≡◌, ◌≢◌, ℕ, zero, suc, ◌+◌, ◌
 use Rattle.std.specs.List.{range_with_len}
 use Rattle.std.specs.Option.{option_map_or}
 use Rattle.std.proofs.lemmas.Bool.Decides.{eqb_tells}
-use Rattle.std.proofs.lemmas.List.{append-nil, get_or-set_other, get_or-set_same}
+use Rattle.std.proofs.lemmas.List.{append-nil, get_or-set_other, get_or-set_same, length-set}
 use Rattle.std.proofs.lemmas.List.Elements.{filter-append}
 use Rattle.std.proofs.lemmas.List.FromFn.{length-range_with_len}
 use Rattle.xs_tree.specs.Kinds.{is_child_kind}
@@ -149,3 +149,8 @@ next_sibling counts rs was now seen after place node x parent m tree lt same so_
       seen = λ p inside_p.
           ap (λ xs. get_or xs p 0) after-is ∙ seen-next counts rs seen place facts len within p inside_p;
     }
+
+pub seen-long : (c : Bool) (o : Option ℕ) (seen after : List ℕ) (n : ℕ) → after ≡ seen_with c o seen → length seen ≡ n → length after ≡ n
+seen-long c None seen after n is len = ap length is ∙ len
+seen-long false (Some p) seen after n is len = ap length is ∙ len
+seen-long true (Some p) seen after n is len = ap length is ∙ length-set seen p (get_or seen p 0 + 1) ∙ len
