@@ -95,8 +95,8 @@ before-is counts from rs n carried is = by (is_root_kind (at rs n).kind) refl
     by false at = later n refl at
 
 -- the numbers so far
-pub numbers-more : (f : ℕ → ℕ) (was now : List ℕ) (place x : ℕ) → now ≡ was ++ x ∷ [] → was ≡ map f (range_with_len 0 place) → x ≡ f place
-    → now ≡ map f (range_with_len 0 (place + 1))
+pub numbers-more : {X : Type 0} (f : ℕ → X) (was now : List X) (place : ℕ) (x : X) → now ≡ was ++ x ∷ []
+    → was ≡ map f (range_with_len 0 place) → x ≡ f place → now ≡ map f (range_with_len 0 (place + 1))
 numbers-more f was now place x pushed so_far is =
     pushed ∙ ap (λ xs. xs ++ x ∷ []) so_far ∙ ap (λ y. map f (range_with_len 0 place) ++ y ∷ []) is
     ∙ sym (map-range_with_len_more f 0 place place (omega arith))

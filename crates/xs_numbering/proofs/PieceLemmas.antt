@@ -162,7 +162,8 @@ pub apart_after : (bs : List ℕ) → is_apart (rest_of is_ascii_alphanumeric bs
 apart_after [] = refl
 apart_after (b ∷ bs) = ap is_apart (rest_of-cons is_ascii_alphanumeric b bs) ∙ by (apart_after bs) (is_ascii_alphanumeric b) refl
   where
-    by : is_apart (rest_of is_ascii_alphanumeric bs) ≡ true → (t : Bool) → is_ascii_alphanumeric b ≡ t → is_apart (cond t (rest_of is_ascii_alphanumeric bs) (b ∷ bs)) ≡ true
+    by : is_apart (rest_of is_ascii_alphanumeric bs) ≡ true → (t : Bool) → is_ascii_alphanumeric b ≡ t
+        → is_apart (cond t (rest_of is_ascii_alphanumeric bs) (b ∷ bs)) ≡ true
     by rest true at = rest
     by rest false at = ap not at
 

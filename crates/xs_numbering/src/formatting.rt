@@ -1,6 +1,7 @@
 //! The text of a list of numbers under a format (XSLT 1.0, 7.7.1).
 
-ghost use Rattle.std.specs.Prelude.{◌≡◌, ◌++◌, codes, true, IfOk, OnErr, OnOk, option_map, string_bytes};
+ghost use Rattle.std.specs.Prelude.{◌≡◌, ◌++◌, codes, true, IfOk, OnErr, OnOk, option_map};
+ghost use Rattle.std.specs.Prelude.{string_bytes};
 ghost use Rattle.std.specs.Str.{IsUtf8};
 ghost use Rattle.xs_numbering.specs.Formats.{following, is_apart, pieces, suffix};
 ghost use Rattle.xs_numbering.specs.Numbers.{group_of, list_text, number_text, numbers_text};

@@ -1,10 +1,13 @@
 //! The numbers of all nodes of a tree, counted in one pass (XSLT 1.0, 7.7).
 
-ghost use Rattle.std.specs.Prelude.{◌≡◌, ◌<◌, ◌+◌, ◌^◌, IfOk, IfSome, Some, get_or, if◌then◌else◌, length, map};
+ghost use Rattle.std.specs.Prelude.{◌≡◌, ◌<◌, ◌+◌, ◌^◌, IfOk, IfSome, Some, get_or, if◌then◌else◌};
+ghost use Rattle.std.specs.Prelude.{length, map};
 ghost use Rattle.xs_tree.specs.Kinds.{is_root_kind};
 ghost use Rattle.xs_tree.specs.Record.{at, places};
-ghost use Rattle.xs_numbering.specs.Counting.{any_number, has_level, sibling_number};
-ghost use Rattle.xs_numbering.specs.steps.Passes.{carried_on, counted_on, held_by, is_marked, seen_at, seen_with};
+ghost use Rattle.xs_numbering.specs.Counting.{any_number, has_level, is_alike, kind_number};
+ghost use Rattle.xs_numbering.specs.Counting.{sibling_number};
+ghost use Rattle.xs_numbering.specs.steps.Passes.{carried_on, counted_on, held_by, is_marked};
+ghost use Rattle.xs_numbering.specs.steps.Passes.{seen_at, seen_with};
 
 use std::alloc::{AllocError, Global};
 use xs_tree::{Kind, Node, Tree};
@@ -44,6 +47,46 @@ pub fn sibling_numbers(alloc: Global, counts: &[bool], tree: &Tree) -> Result<Ve
         numbers.push(number)?;
     }
     Ok(numbers)
+}
+
+/// For each node whether it has the kind of a node and, if that has one, its expanded name: what
+/// matches where `count` is absent.
+pub fn marks_alike(alloc: Global, tree: &Tree, like: Node) -> Result<Vec<bool>, AllocError>
+    requires { like < length tree.now }
+    ensures { IfOk result (λ t. t.items
+        ≡ map (λ k. is_alike (at tree.now k) (at tree.now like)) (places tree.now)) }
+{
+    let mut marks = Vec::new(alloc);
+    for place in 0..tree.len() as u32 {
+        marks.push(is_alike(tree, Node::at(place), like))?;
+    }
+    Ok(marks)
+}
+
+/// Whether two nodes have one kind and one expanded name.
+fn is_alike(tree: &Tree, node: Node, like: Node) -> bool
+    requires node { node < length tree.now }
+    requires like { like < length tree.now }
+    ensures { result ≡ is_alike (at tree.now node) (at tree.now like) }
+{
+    kind_number(tree.kind(node)) == kind_number(tree.kind(like))
+        && tree.uri(node) == tree.uri(like)
+        && tree.local(node) == tree.local(like)
+}
+
+/// A number for each kind of node.
+fn kind_number(kind: Kind) -> u32
+    ensures { result ≡ kind_number kind }
+{
+    match kind {
+        Kind::Root => 0,
+        Kind::Element => 1,
+        Kind::Attribute => 2,
+        Kind::Space => 3,
+        Kind::Text => 4,
+        Kind::Comment => 5,
+        Kind::Pi => 6,
+    }
 }
 
 /// The parent of a node that is a child.
