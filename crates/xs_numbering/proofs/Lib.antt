@@ -5,3 +5,4 @@ mod LevelLemmas
 mod PassLemmas
 mod PieceLemmas
 mod SiblingLemmas
+mod TableLemmas

@@ -9,6 +9,8 @@ use Rattle.xs_tree.specs.declared.kinds.Kind.TheVariants as kind
 use Rattle.xs_tree.specs.Kinds.{is_attribute_kind, is_namespace_kind}
 use Rattle.xs_tree.specs.Axis.{axis_list, is_sibling, root_of}
 use Rattle.xs_tree.specs.Record.{Record, at, name_local, name_uri}
+use Rattle.xs_numbering.specs.declared.tables.Level.{Level}
+use Rattle.xs_numbering.specs.declared.tables.Level.TheVariants.{Single, Multiple, Any}
 
 -- a number for each kind of node
 abbrev pub kind_number : Kind → ℕ
@@ -68,3 +70,9 @@ any_number counts from rs n = length (filter counts (n ∷ looked_at from rs (ro
 
 abbrev pub any : (counts from : ℕ → Bool) → List Record → ℕ → List ℕ
 any counts from rs n = any_number counts from rs n ∷ []
+
+-- the list at a level
+abbrev pub list_at : Level → (counts from : ℕ → Bool) → List Record → ℕ → List ℕ
+list_at Single counts from rs n = single counts from rs n
+list_at Multiple counts from rs n = multiple counts from rs n
+list_at Any counts from rs n = any counts from rs n

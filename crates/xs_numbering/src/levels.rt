@@ -132,7 +132,7 @@ fn add_number(
 }
 
 /// The number of a node in a table.
-fn number_at(numbers: &[u32], node: Node) -> u64
+pub(crate) fn number_at(numbers: &[u32], node: Node) -> u64
     requires { node < length numbers.now }
     ensures { result ≡ get_or numbers.now node 0 }
 {

@@ -7,3 +7,4 @@ pub mod laws;
 pub mod levels;
 mod numerals;
 pub mod passes;
+pub mod tables;
