@@ -1,0 +1,4 @@
+use Rattle.xs_numbering.proofs.numerals.+append_letters.Given as goal
+
+abbrev pub decreases-append_letters : goal.decreases-append_letters
+decreases-append_letters l = l.number

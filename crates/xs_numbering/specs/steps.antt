@@ -1,0 +1,4 @@
+-- What the code mirrors.
+pub mod Pairs
+pub mod Passes
+pub mod Tables

@@ -1,0 +1,5 @@
+//! Sorting nodes (XSLT 1.0, 10).
+#![tactic(auto)]
+
+pub mod keys;
+pub mod rows;
