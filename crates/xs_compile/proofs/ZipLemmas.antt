@@ -6,7 +6,7 @@ use Rattle.std.specs.List.{AllZip}
 use Rattle.std.proofs.lemmas.Option.{none-some}
 use Rattle.std.specs.Prelude.{slice_get, if◌then◌else◌}
 use Rattle.xs_modules.specs.Numbering.{ModuleData}
-use Rattle.xs_static.specs.Modules.{Place, records_at}
+use Rattle.xs_structure.specs.Modules.{Place, records_at}
 
 pub taken-more : {A : Type 0} (xs : List A) (i : ℕ) (x : A) → i < length xs → x ≡ get_or xs i x → take (i + 1) xs ≡ take i xs ++ x ∷ []
 taken-more [] i x lt e = absurd (omega (arith, lt))

@@ -3,14 +3,14 @@ use Rattle.std.proofs.lemmas.List.{length-map}
 use Rattle.std.specs.List.{AllZip}
 use Rattle.std.specs.Option.{option_map_or}
 use Rattle.std.specs.Prelude.{slice_get}
-use Rattle.xs_declared.proofs.PassingLemmas.{get_map}
-use Rattle.xs_compile.proofs.StateLemmas.{settings-in}
+use Rattle.xs_structure.proofs.PassingLemmas.{get_map}
+use Rattle.xs_compile.proofs.StateLemmas.{standings-in}
 use Rattle.xs_compile.proofs.ZipLemmas.{zip-more}
-use Rattle.xs_scopes.specs.Setting.{setting_of}
+use Rattle.xs_structure.specs.Standing.{standing_of}
 use Rattle.xs_compile.specs.steps.Tables.{HasLocals}
 use Rattle.xs_modules.specs.Numbering.{ModuleData}
 use Rattle.xs_modules.specs.Results.{module_data, modules_data}
-use Rattle.xs_static.specs.Modules.{records_at}
+use Rattle.xs_structure.specs.Modules.{records_at}
 use Rattle.xs_tree.specs.Record.{Record, places}
 use Rattle.xs_compile.proofs.compiler.all_locals.Goals as goal
 
@@ -24,8 +24,8 @@ of-requires c =
     let records : records_at ms i ≡ c.index.result.now.tree =
     ap (λ (o : Option ModuleData). option_map_or (λ d. d.records) o []) (get_map module_data list i c.index.result.now lt c.index.ensures) in
     c.deref.ensures.value
-    ∙ settings-in (λ table. table.items) ms c.args.settings.now c.requires i inside c.index-settings-number.result c.index-settings-number.is
-    ∙ ap (λ (rs : List Record). map (setting_of rs) (places rs)) records
+    ∙ standings-in (λ table. table.items) ms c.args.standings.now c.requires i inside c.index-standings-number.result c.index-standings-number.is
+    ∙ ap (λ (rs : List Record). map (standing_of rs) (places rs)) records
 
 pub loop-number-preserved : goal.loop-number-preserved
 loop-number-preserved c =
