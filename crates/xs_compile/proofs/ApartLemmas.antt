@@ -1,6 +1,6 @@
 -- No attribute set uses itself, where there is no static fault.
-use Rattle.std.proofs.Common.{◌≡◌, ◌∙◌, ◌<◌, ◌==◌, ℕ, zero, suc, ap, refl, sym, subst, All, List, [], ◌∷◌, ◌++◌, cond, filter, length, Bool, true, false, Option, Some, None, inl, inr, eq-eqb, eqb-true}
-use Rattle.std.proofs.lemmas.Bool.{and_from, and_parts, false≢true, or_cases, or_left, or_parts, true≢false}
+use Rattle.std.proofs.Common.{◌≡◌, ◌∙◌, ◌<◌, ◌==◌, ℕ, zero, suc, ap, refl, sym, subst, All, List, [], ◌∷◌, ◌++◌, cond, filter, length, Bool, true, false, Option, Some, None, inl, inr, eq-eqb}
+use Rattle.std.proofs.lemmas.Bool.{and_from, false≢true, or_cases, or_left, or_parts, true≢false}
 use Rattle.std.proofs.lemmas.List.Elements.{All-head, All-tail}
 use Rattle.std.proofs.lemmas.Option.{none-some}
 use Rattle.std.proofs.lemmas.Slice.Eq.{bytes_eq-Decides}
@@ -10,6 +10,7 @@ use Rattle.std.specs.Prelude.{◌||◌, codes, not, option_map, if◌then◌else
 use Rattle.std.specs.Str.{bytes_eq}
 use Rattle.xs_static.specs.Circles.{IsAmong, SomeLeads, itself, by_use}
 use Rattle.xs_structure.proofs.DeclarationLemmas.{IsDeclared, all-declared}
+use Rattle.xs_static.proofs.SameNameLemmas.{same-true}
 use Rattle.xs_compile.proofs.AmongLemmas.{all-among, among-all, among-filter, among-flat, among-flattened, among-kept, among-left, among-mapped, among-right}
 use Rattle.xs_structure.proofs.TopLemmas.{declaration-seen, seen-child}
 use Rattle.xs_compile.proofs.ShownLemmas.{IsChildOf, all-children}
@@ -27,7 +28,7 @@ use Rattle.xs_elements.specs.declared.reading.Reading.{Reading}
 use Rattle.xs_elements.specs.declared.reading.Reading.TheVariants.{Known}
 use Rattle.xs_elements.specs.declared.rows.Row.{Row}
 use Rattle.xs_elements.specs.declared.rows.Row.TheVariants.{Attribute, AttributeSet}
-use Rattle.xs_elements.specs.Nodes.{Name, expanded, if_bound, is_named, is_same_name, own_name, scope_at}
+use Rattle.xs_elements.specs.Nodes.{Name, expanded, if_bound, is_named, own_name, scope_at}
 use Rattle.xs_elements.specs.Reading.{form_by, is_in_extension, is_seen, reading_by, shows}
 use Rattle.xs_elements.specs.Rows.{is_attribute_set, is_top_level, row_of}
 use Rattle.xs_modules.specs.Sound.{IsSound}
@@ -39,26 +40,12 @@ use Rattle.xs_text.specs.Names.{QName, qname_of}
 use Rattle.xs_xpath.specs.Names.{is_bound, uri_of}
 use Rattle.xs_elements.specs.Values.{is_unbound, is_unbound_name}
 use Rattle.std.proofs.lemmas.List.Folds.{list_any-append}
-use Rattle.xs_structure.specs.Modules.{Place, is_same_place, records_at}
+use Rattle.xs_structure.specs.Modules.{Place, records_at}
 use Rattle.xs_static.specs.Sets.{attribute_sets, is_part, named_sets, sets_of, sets_within, used_by}
 use Rattle.xs_trace.specs.Label.{Label}
 use Rattle.xs_tree.specs.Kinds.{is_element_kind}
-use Rattle.xs_tree.specs.Record.{at, children, is_inside, places}
+use Rattle.xs_tree.specs.Record.{at, children, is_inside}
 use Rattle.xs_tree.specs.Shape.{IsTree}
-
--- ---- names and places that are told to be one
-same-name : (a b : Name) → is_same_name a b ≡ true → a ≡ b
-same-name a b e =
-    let both = and_parts (bytes_eq a.0 b.0) (bytes_eq a.1 b.1) e in
-    ap {B = Name} (λ (x : List ℕ). (x, a.1)) ((bytes_eq-Decides a.0 b.0).0 both.0)
-    ∙ ap {B = Name} (λ (x : List ℕ). (b.0, x)) ((bytes_eq-Decides a.1 b.1).0 both.1)
-
-same-turned : (p q : Place) → is_same_place p q ≡ true → q ≡ p
-same-turned p q h =
-    let both = and_parts (p.0 == q.0) (p.1 == q.1) h in
-    let first : q.0 ≡ p.0 = sym (eqb-true p.0 q.0 both.0) in
-    let second : q.1 ≡ p.1 = sym (eqb-true p.1 q.1 both.1) in
-    ap {B = Place} (λ (a : ℕ). (a, q.1)) first ∙ ap {B = Place} (λ (b : ℕ). (p.0, b)) second
 
 -- ---- what a declaration of a set uses
 attribute-row : (row : Row) → is_attribute row ≡ true → row ≡ Attribute
@@ -208,7 +195,7 @@ module _ (s : Source) (trees : (m : ℕ) → m < length s.modules → IsTree (re
     Leads names = SomeLeads (used_by s.modules) names (name_of_label goal)
 
     same-label : (a b : Label) → is_same_label a b ≡ true → name_of_label b ≡ name_of_label a
-    same-label a b e = sym (same-name (name_of_label a) (name_of_label b) e)
+    same-label a b e = sym (same-true (name_of_label a) (name_of_label b) e)
 
     found-leads : (names : List Name) (ls : List Label) → Covers names ls → list_any (is_same_label goal) ls ≡ true → Leads names
     found-leads names [] c h = absurd (false≢true h)

@@ -1,10 +1,7 @@
 -- The name by which a template is called.
 use Rattle.std.proofs.Common.{◌≡◌, ◌∙◌, ap, refl, sym, ℕ, List, Bool, true, false, Option, Some, None}
-use Rattle.std.proofs.lemmas.Bool.{and_parts}
-use Rattle.std.proofs.lemmas.Slice.Eq.{bytes_eq-Decides}
 use Rattle.std.specs.Option.{option_map_or}
 use Rattle.std.specs.Prelude.{◌&&◌, if◌then◌else◌}
-use Rattle.std.specs.Str.{bytes_eq}
 use Rattle.xs_compile.specs.Counted.{counted, named}
 use Rattle.xs_compile.specs.declared.counted.Kind.{Kind}
 use Rattle.xs_compile.specs.declared.counted.Kind.TheVariants.{Template}
@@ -16,12 +13,7 @@ use Rattle.xs_elements.specs.Rows.{is_template}
 use Rattle.xs_modules.specs.Numbering.{ModuleData}
 use Rattle.xs_structure.specs.Modules.{Place, is_same_place}
 use Rattle.xs_structure.specs.Order.{declares}
-
-pub same-name : (a b : Name) → is_same_name a b ≡ true → a ≡ b
-same-name a b e =
-    let both = and_parts (bytes_eq a.0 b.0) (bytes_eq a.1 b.1) e in
-    ap {B = Name} (λ (x : List ℕ). (x, a.1)) ((bytes_eq-Decides a.0 b.0).0 both.0)
-    ∙ ap {B = Name} (λ (x : List ℕ). (b.0, x)) ((bytes_eq-Decides a.1 b.1).0 both.1)
+use Rattle.xs_static.proofs.SameNameLemmas.{same-true}
 
 and-true : (t : Bool) → t ≡ (t && true)
 and-true true = refl
@@ -50,7 +42,7 @@ module _ (ms : List ModuleData) (p : Place) where
     if-counted name own t false e = and-false t
 
     both : (name own : Name) (t c : Bool) → is_same_name name own ≡ t → counts own ≡ c → (is_same_name name own && counts name) ≡ (t && c)
-    both name own true c e f = ap (λ (b : Bool). b && counts name) e ∙ ap counts (same-name name own e) ∙ f
+    both name own true c e f = ap (λ (b : Bool). b && counts name) e ∙ ap counts (same-true name own e) ∙ f
     both name own false c e f = ap (λ (b : Bool). b && counts name) e
 
     called : (name : Name) → (is_named name (name_of ms Template p) && counts name) ≡ is_called ms name p

@@ -1,30 +1,25 @@
 -- Names that are declared have a number.
 use Rattle.std.proofs.Common.{◌≡◌, ◌∙◌, ℕ, zero, suc, ◌<◌, ap, refl, sym, subst, List, [], ◌∷◌, ◌++◌, cond, filter, length, Bool, true, false, Option, Some, None, inl, inr}
 use Rattle.std.proofs.lemmas.Bool.{and_parts, false≢true, or_cases, or_left, or_right}
-use Rattle.std.proofs.lemmas.List.Folds.{list_any-append}
 use Rattle.std.proofs.lemmas.Option.{none-some}
-use Rattle.std.specs.List.{flat_map, list_any, position}
+use Rattle.std.specs.List.{list_any, position}
 use Rattle.std.specs.Option.{option_and_then, option_map_or}
 use Rattle.std.specs.Prelude.{◌&&◌, ◌||◌, nat_lt, if◌then◌else◌}
-use Rattle.xs_compile.proofs.CalledLemmas.{same-name}
+use Rattle.xs_static.proofs.SameNameLemmas.{same-true}
 use Rattle.xs_compile.proofs.ModeLemmas.{position_found}
 use Rattle.xs_compile.proofs.TemplateNumberLemmas.{counted-passes, same-self, same-turned}
 use Rattle.xs_compile.specs.Counted.{counted, global_number, globals, greater, is_global, named, template_number, templates}
-use Rattle.xs_structure.specs.Order.{is_template_place, declarations, declarations_from, is_declaration, is_simplified, declares}
+use Rattle.xs_structure.specs.Order.{is_template_place, declarations, is_simplified, declares}
 use Rattle.xs_structure.specs.Parts.{name_at, row_at}
 use Rattle.xs_elements.specs.declared.rows.Row.{Row}
 use Rattle.xs_elements.specs.Nodes.{Name, is_named}
 use Rattle.xs_elements.specs.Rows.{is_template, is_variable}
 use Rattle.xs_modules.specs.Numbering.{ModuleData}
-use Rattle.xs_structure.specs.Modules.{Place, is_same_place, is_top_level_element, mentioned, records_at}
+use Rattle.xs_structure.specs.Modules.{Place, is_same_place, records_at}
 use Rattle.xs_static.specs.Names.{is_declared, is_global as has_global, is_template_name}
-use Rattle.xs_tree.specs.Record.{places}
 
 -- ---- one of a list passes a test
 module _ {X : Type 0} (test : X → Bool) where
-  any-join : (xs ys : List X) → (list_any test xs || list_any test ys) ≡ true → list_any test (xs ++ ys) ≡ true
-  any-join xs ys h = list_any-append test xs ys ∙ h
-
   -- of those that pass another test
   kept-next : (x : X) (xs kept : List X) (b : Bool) → (list_any test kept ≡ true → list_any test xs ≡ true)
       → list_any test (cond b (x ∷ kept) kept) ≡ true → (test x || list_any test xs) ≡ true
@@ -37,56 +32,6 @@ module _ {X : Type 0} (test : X → Bool) where
   any-kept : (other : X → Bool) (xs : List X) → list_any test (filter other xs) ≡ true → list_any test xs ≡ true
   any-kept other [] h = h
   any-kept other (x ∷ xs) h = kept-next x xs (filter other xs) (other x) (any-kept other xs) h
-
-  -- of lists of what passes a test, where those of more are longer
-  module _ {Y : Type 0} (fewer more : Y → Bool) (f g : Y → List X) (wide : (y : Y) → fewer y ≡ true → more y ≡ true)
-      (long : (y : Y) → list_any test (f y) ≡ true → list_any test (g y) ≡ true) where
-    any-flat : (ys : List Y) → list_any test (flat_map f (filter fewer ys)) ≡ true → list_any test (flat_map g (filter more ys)) ≡ true
-    any-flat [] h = h
-    any-flat (y ∷ ys) h = by (fewer y) refl h (any-flat ys)
-      where
-        skip : (c : Bool) → list_any test (flat_map g (filter more ys)) ≡ true
-            → list_any test (flat_map g (cond c (y ∷ filter more ys) (filter more ys))) ≡ true
-        skip true e =
-            any-join (g y) (flat_map g (filter more ys)) (or_right (list_any test (g y)) (list_any test (flat_map g (filter more ys))) e)
-        skip false e = e
-
-        take-it : (c : Bool) → c ≡ true → (list_any test (g y) || list_any test (flat_map g (filter more ys))) ≡ true
-            → list_any test (flat_map g (cond c (y ∷ filter more ys) (filter more ys))) ≡ true
-        take-it true e d = any-join (g y) (flat_map g (filter more ys)) d
-        take-it false e d = absurd (false≢true e)
-
-        by : (b : Bool) → fewer y ≡ b → list_any test (flat_map f (cond b (y ∷ filter fewer ys) (filter fewer ys))) ≡ true
-            → (list_any test (flat_map f (filter fewer ys)) ≡ true → list_any test (flat_map g (filter more ys)) ≡ true)
-            → list_any test (flat_map g (cond (more y) (y ∷ filter more ys) (filter more ys))) ≡ true
-        by true e d again =
-            elim (or_cases (list_any test (f y)) (list_any test (flat_map f (filter fewer ys)))
-            (sym (list_any-append test (f y) (flat_map f (filter fewer ys))) ∙ d)) [
-              | inl own ↦ take-it (more y) (wide y e) (or_left (list_any test (g y)) (list_any test (flat_map g (filter more ys))) (long y own))
-              | inr rest ↦ skip (more y) (again rest)
-            ]
-        by false e d again = skip (more y) (again d)
-
--- ---- what stands at the top level is declared
-module _ (ms : List ModuleData) (test : Place → Bool) where
-  content_in : (most : ℕ) (o : Option ℕ) (p : Place)
-      → ((m : ℕ) → list_any test (declarations_from most ms m) ≡ true → list_any test (declarations_from most ms m) ≡ true)
-      → list_any test (option_map_or (declarations_from most ms) o (p ∷ [])) ≡ true → list_any test (option_map_or (declarations_from most ms) o (p ∷ [])) ≡ true
-  content_in most None p again h = h
-  content_in most (Some m) p again h = again m h
-
-  contents_in : (most m : ℕ) → list_any test (declarations_from most ms m) ≡ true → list_any test (declarations_from most ms m) ≡ true
-  unfolding declarations_from declarations_from
-  contents_in zero m h = h
-  contents_in (suc most) m h =
-      let rs = records_at ms m in
-      any-flat test (is_top_level_element rs) (is_declaration rs)
-      (λ n. option_map_or (declarations_from most ms) (mentioned ms (m, n)) ((m, n) ∷ []))
-      (λ n. option_map_or (declarations_from most ms) (mentioned ms (m, n)) ((m, n) ∷ []))
-      (λ n e. or_left (is_top_level_element rs n) _ e) (λ n. content_in most (mentioned ms (m, n)) (m, n) (contents_in most)) (places rs) h
-
-  all_declared : list_any test (declarations ms) ≡ true → list_any test (declarations ms) ≡ true
-  all_declared h = contents_in (length ms) 0 h
 
 -- ---- the one that counts
 module _ (ms : List ModuleData) where
@@ -146,7 +91,7 @@ module _ (ms : List ModuleData) where
   has_counted : (kind : Row → Bool) (name : Name) → is_declared kind ms name ≡ true → HasCounted kind name
   has_counted kind name h =
       let test = declares kind ms name in
-      let found = some_counts test (declarations ms) (all_declared ms test h) in
+      let found = some_counts test (declarations ms) h in
       record {
         place = found.0;
         counts = found.1;
@@ -160,7 +105,7 @@ module _ (ms : List ModuleData) where
       → (if kind then option_map_or (λ own. option_map_or (is_same_place c) (counted ms (named is_variable ms own)) false) o false else false) ≡ true
   counts-global true None name c h e = absurd (false≢true h)
   counts-global true (Some own) name c h e =
-      ap (λ (n : Name). option_map_or (is_same_place c) (counted ms (named is_variable ms n)) false) (sym (same-name name own h))
+      ap (λ (n : Name). option_map_or (is_same_place c) (counted ms (named is_variable ms n)) false) (sym (same-true name own h))
       ∙ ap (λ (o : Option Place). option_map_or (is_same_place c) o false) e ∙ same-self c
   counts-global false o name c h e = absurd (false≢true h)
 

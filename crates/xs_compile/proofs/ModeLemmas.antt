@@ -5,12 +5,18 @@ use Rattle.std.proofs.lemmas.List.{drop-map, map-append}
 use Rattle.std.proofs.lemmas.List.FromFn.{map-range_with_len_more}
 use Rattle.std.proofs.lemmas.Option.{none-some}
 use Rattle.std.proofs.lemmas.Slice.Eq.{bytes_eq-Decides}
-use Rattle.std.specs.List.{list_any, position, position_or_len, range_with_len}
-use Rattle.std.specs.Option.{option_map_or}
-use Rattle.std.specs.Prelude.{◌||◌, nat_lt, not, option_map, if◌then◌else◌}
+use Rattle.std.specs.List.{find, list_any, position, position_or_len, range_with_len}
+use Rattle.std.specs.Option.{option_and_then, option_map_or}
+use Rattle.std.specs.Prelude.{◌||◌, codes, nat_lt, not, option_map, if◌then◌else◌}
 use Rattle.std.specs.Str.{bytes_eq}
-use Rattle.xs_elements.specs.Nodes.{Name, is_same_name}
-use Rattle.xs_compile.specs.Modes.{with_mode, with_modes}
+use Rattle.xs_elements.specs.Nodes.{Name, bears, expanded, is_same_name, scope_at}
+use Rattle.xs_compile.specs.Modes.{tree_mode, with_mode, with_modes}
+use Rattle.xs_structure.proofs.AttributeLemmas.{no-attributes}
+use Rattle.xs_tree.specs.declared.kinds.Kind.{Kind}
+use Rattle.xs_tree.specs.declared.kinds.Kind.TheVariants.{Root, Element, Attribute, Space, Text, Comment, Pi}
+use Rattle.xs_tree.specs.Kinds.{is_element_kind}
+use Rattle.xs_tree.specs.Record.{Record, at}
+use Rattle.xs_tree.specs.Shape.{IsTree}
 use Rattle.xs_compile.proofs.CountedLemmas.{drop_next}
 use Rattle.xs_compile.proofs.NumberLemmas.{number_from, position_is}
 
@@ -103,3 +109,18 @@ pub with_modes_more : (names : List Name) (mode : ℕ → Option Name) (n : ℕ)
     → with_modes names (map mode (range_with_len 0 (n + 1))) ≡ with_mode (with_modes names (map mode (range_with_len 0 n))) (mode n)
 with_modes_more names mode n =
     ap (with_modes names) (map-range_with_len_more mode 0 n n (omega arith)) ∙ with_modes_append names (map mode (range_with_len 0 n)) (mode n ∷ [])
+
+-- ---- a node that is no element names no mode
+not-element : (k : Kind) → (k ≡ Element → ⊥) → is_element_kind k ≡ false
+not-element Element other = absurd (other refl)
+not-element Root other = refl
+not-element Attribute other = refl
+not-element Space other = refl
+not-element Text other = refl
+not-element Comment other = refl
+not-element Pi other = refl
+
+pub no-mode : (rs : List Record) → IsTree rs → (n : ℕ) → ((at rs n).kind ≡ Element → ⊥) → None ≡ tree_mode rs n
+no-mode rs tree n other =
+    sym (ap (λ (l : List ℕ). option_and_then (expanded (scope_at rs n)) (option_map (λ a. (at rs a).text) (find (bears rs [] (codes "mode")) l)))
+    (no-attributes rs tree n (not-element (at rs n).kind other)))

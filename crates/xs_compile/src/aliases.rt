@@ -15,12 +15,12 @@ ghost use Rattle.xs_structure.specs.Places.{IsIn};
 ghost use Rattle.xs_modules.specs.Results.{modules_data};
 
 use crate::counted::Counted;
-use xs_structure::places::{Place, row_at, said_at, tree_of};
 use std::alloc::{AllocError, Global};
 use xs_elements::rows::Row;
 use xs_elements::scope::uri_of;
 use xs_modules::Modules;
 use xs_sheet::declarations::Alias;
+use xs_structure::places::{Place, row_at, said_at, tree_of};
 use xs_trace::text::TextBuf;
 use xs_tree::Node;
 
@@ -156,7 +156,11 @@ fn push_alias(
 }
 
 /// The aliases that count.
-pub fn aliases(alloc: Global, modules: &Modules, places: &[Place]) -> Result<Vec<Alias>, AllocError>
+pub(crate) fn aliases(
+    alloc: Global,
+    modules: &Modules,
+    places: &[Place],
+) -> Result<Vec<Alias>, AllocError>
     requires inside { All (IsIn (modules_data modules.now)) places.now }
     requires all { places.now ≡ declarations (modules_data modules.now) }
     ensures { IfOk result (λ found. found.items ≡ aliases (modules_data modules.now)) }

@@ -14,11 +14,11 @@ use crate::compiler::Compiler;
 use crate::parts::Part;
 use std::alloc::AllocError;
 use std::sync::Arc;
-use xs_structure::places::{said_at, text_at, value_at};
 use xs_elements::rows::Row;
 use xs_sheet::body::{Applied, InstrKind, Level, NumberDecl, SortDecl};
 use xs_sheet::items::Items;
 use xs_sheet::scoped::ScopedExpr;
+use xs_structure::places::{said_at, text_at, value_at};
 use xs_tree::Node;
 use xs_xpath::scope::Scope;
 

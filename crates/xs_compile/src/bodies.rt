@@ -18,11 +18,11 @@ ghost use Rattle.xs_structure.specs.Modules.{records_at};
 use crate::compiler::Compiler;
 use crate::parts::Part;
 use std::alloc::AllocError;
-use xs_structure::places::{row_at, said_at, site_at};
 use xs_elements::reading::Reading;
 use xs_elements::rows::Row;
 use xs_sheet::body::{Binding, Body, Choice, Content, Fallbacks, Instr, InstrKind, Passed, When};
 use xs_sheet::items::Items;
+use xs_structure::places::{row_at, said_at, site_at};
 use xs_trace::item::Site;
 use xs_tree::Node;
 

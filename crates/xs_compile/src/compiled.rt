@@ -18,20 +18,20 @@ ghost use Rattle.xs_modules.specs.Results.{modules_data};
 ghost use Rattle.xs_modules.specs.Sound.{IsSound};
 ghost use Rattle.xs_tree.specs.Record.{places};
 
+use crate::aliases::aliases;
 use crate::compiler::Compiler;
+use crate::counted::{Counted, Kind as Declared, counted_of};
+use crate::output::method;
+use crate::spaces::strips;
 use std::alloc::{AllocError, AllocFailed, Global};
 use thiserror::Error;
-use crate::aliases::aliases;
-use crate::counted::{Counted, Kind as Declared, counted_of};
-use xs_structure::declarations::declarations;
-use crate::output::method;
-use xs_structure::places::Place;
-use crate::spaces::strips;
 use xs_modules::Modules;
-use xs_structure::standing::is_element;
 use xs_sheet::items::Items;
 use xs_sheet::sheet::Sheet;
 use xs_static::{StaticFault, first_fault};
+use xs_structure::declarations::declarations;
+use xs_structure::places::Place;
+use xs_structure::standing::is_element;
 use xs_trace::text::TextBuf;
 use xs_tree::{Node, Tree};
 

@@ -17,19 +17,19 @@ ghost use Rattle.xs_elements.specs.Rows.{is_template, is_variable};
 ghost use Rattle.xs_modules.specs.Results.{modules_data};
 ghost use Rattle.xs_structure.specs.Modules.{is_same_place};
 
-use xs_structure::places::{Place, is_template, name_at, precedence_at, row_at};
 use std::alloc::{AllocError, Global};
 use std::collections::HashMap;
 use xs_elements::rows::Row;
 use xs_elements::scope::Expanded;
 use xs_modules::Modules;
+use xs_structure::places::{Place, is_template, name_at, precedence_at, row_at};
 use xs_tree::Node;
 
 /// The declarations that count, by their names: the number of the module and the place there.
 #[derive(Drop)]
-pub struct Counted<'m> {
+pub(crate) struct Counted<'m> {
     /// Of each name the one that counts.
-    pub places: HashMap<Expanded<'m>, (u32, u32)>,
+    pub(crate) places: HashMap<Expanded<'m>, (u32, u32)>,
 }
 
 impl<'m> Counted<'m> {
@@ -87,7 +87,7 @@ impl<'m> Counted<'m> {
 
 /// The kinds of declarations whose names are told apart.
 #[derive(Clone, Copy)]
-pub enum Kind {
+pub(crate) enum Kind {
     /// Global variables and parameters (11.4).
     Global,
     /// Templates (6).
@@ -137,7 +137,7 @@ fn note<'m>(
 }
 
 /// The declarations of a kind that count, each for another name.
-pub fn counted_of<'m>(
+pub(crate) fn counted_of<'m>(
     alloc: Global,
     modules: &'m Modules,
     places: &[Place],
@@ -157,7 +157,7 @@ pub fn counted_of<'m>(
 }
 
 /// Whether a declaration is the global variable or parameter that counts for its name.
-pub fn is_global(modules: &Modules, found: &Counted<'_>, number: u32, n: Node) -> bool
+pub(crate) fn is_global(modules: &Modules, found: &Counted<'_>, number: u32, n: Node) -> bool
     requires at { IsIn (modules_data modules.now) («number», n) }
     requires globals { (uri local : List ℕ) → place_in found.now uri local
         ≡ counted (modules_data modules.now)
@@ -173,9 +173,9 @@ pub fn is_global(modules: &Modules, found: &Counted<'_>, number: u32, n: Node) -
 
 /// The numbers of declarations, by their names.
 #[derive(Drop)]
-pub struct Numbers<'m> {
+pub(crate) struct Numbers<'m> {
     /// Of each name its number.
-    pub numbers: HashMap<Expanded<'m>, u32>,
+    pub(crate) numbers: HashMap<Expanded<'m>, u32>,
 }
 
 impl<'m> Numbers<'m> {
@@ -189,7 +189,7 @@ impl<'m> Numbers<'m> {
     }
 
     /// The number of a name.
-    pub fn get(&self, uri: &str, local: &str) -> Option<u32>
+    pub(crate) fn get(&self, uri: &str, local: &str) -> Option<u32>
         ensures { result ≡ number_in self.now uri.now local.now }
     {
         self.numbers.get(&(uri, local)).copied()
@@ -250,7 +250,7 @@ fn number_global<'m>(
 }
 
 /// The numbers of the globals that count, by their names.
-pub fn global_numbers<'m>(
+pub(crate) fn global_numbers<'m>(
     alloc: Global,
     modules: &'m Modules,
     places: &[Place],
@@ -302,7 +302,7 @@ fn number_template<'m>(
 
 /// The numbers of the templates that are called, by their names. Each template has a number, also
 /// one without a name.
-pub fn template_numbers<'m>(
+pub(crate) fn template_numbers<'m>(
     alloc: Global,
     modules: &'m Modules,
     places: &[Place],

@@ -28,7 +28,11 @@ pub(crate) fn uri_of<'s>(scope: &'s Scope, prefix: &str) -> &'s str
 
 /// A name with its prefix, which is in no namespace without one (XSLT 1.0, 2.4); none where the
 /// text is no name.
-pub fn label_in(alloc: Global, scope: &Scope, text: &str) -> Result<Option<Label>, AllocError>
+pub(crate) fn label_in(
+    alloc: Global,
+    scope: &Scope,
+    text: &str,
+) -> Result<Option<Label>, AllocError>
     ensures { IfOk result (λ label. label ≡ label_in scope.now.pairs.items text.now) }
 {
     let Some((prefix, local)) = split_qname(text) else {
@@ -54,7 +58,7 @@ fn push_label(label: Option<Label>, labels: &mut Vec<Label>) -> Result<(), Alloc
 }
 
 /// Names with white space between them.
-pub fn labels_in(alloc: Global, scope: &Scope, text: &str) -> Result<Vec<Label>, AllocError>
+pub(crate) fn labels_in(alloc: Global, scope: &Scope, text: &str) -> Result<Vec<Label>, AllocError>
     ensures { IfOk result (λ labels. labels.items
         ≡ labels_in scope.now.pairs.items (Some text.now)) }
 {

@@ -22,16 +22,16 @@ ghost use Rattle.xs_structure.specs.Modules.{records_at};
 ghost use Rattle.xs_tree.specs.Record.{at, attributes, is_attribute, is_namespace, uri_at};
 
 use crate::compiler::Compiler;
+use crate::labels::labels_in;
 use std::alloc::{AllocError, Global};
 use std::sync::Arc;
-use crate::labels::labels_in;
-use xs_structure::places::tree_of;
 use xs_elements::rows::XSLT_URI;
 use xs_elements::scope::value_of;
 use xs_modules::Modules;
 use xs_sheet::body::{LiteralStart, MadeName};
 use xs_sheet::items::Items;
 use xs_sheet::scoped::{Namespaces, ValueTemplate};
+use xs_structure::places::tree_of;
 use xs_trace::event::Label;
 use xs_trace::text::TextBuf;
 use xs_tree::{Node, Tree};

@@ -18,13 +18,13 @@ use xs_tree::{Kind, Node, Tree};
 
 /// The modes that a stylesheet names, by first use in the order of its modules and their nodes.
 #[derive(Drop)]
-pub struct Modes<'m> {
+pub(crate) struct Modes<'m> {
     /// Each name once.
-    pub names: IndexSet<Expanded<'m>>,
+    pub(crate) names: IndexSet<Expanded<'m>>,
 }
 
 /// The mode that an element names, if it does.
-pub fn mode_at(tree: &Tree, n: Node) -> Option<Expanded<'_>>
+pub(crate) fn mode_at(tree: &Tree, n: Node) -> Option<Expanded<'_>>
     requires { n < length tree.now }
     ensures { option_map name_data result ≡ tree_mode tree.now n }
 {
@@ -48,7 +48,7 @@ fn noted_at(tree: &Tree, n: Node) -> Option<Expanded<'_>>
 impl<'m> Modes<'m> {
     /// Those of all modules.
     #[tactic(auto, unfolding(crate::specs::Modes::modes_of))]
-    pub fn of(alloc: Global, modules: &'m Modules) -> Result<Modes<'m>, AllocError>
+    pub(crate) fn of(alloc: Global, modules: &'m Modules) -> Result<Modes<'m>, AllocError>
         ensures modes { IfOk result (HaveModes (modules_data modules.now)) }
         ensures order { IfOk result (λ m. modes_in m ≡ modes_of (modules_data modules.now)) }
     {
@@ -90,7 +90,7 @@ impl<'m> Modes<'m> {
     }
 
     /// The number of a mode, from 1 on.
-    pub fn number(&self, name: Expanded<'m>) -> Result<u32, AllocError>
+    pub(crate) fn number(&self, name: Expanded<'m>) -> Result<u32, AllocError>
         requires { has_mode self.now (Some (name_data name)) ≡ true }
         ensures { IfOk result (IsMode (modes_in self.now) (Some (name_data name.entry))) }
     {

@@ -8,10 +8,10 @@ ghost use Rattle.xs_compile.specs.steps.Output.{of_two, output_in, said_method};
 ghost use Rattle.xs_structure.specs.Places.{IsIn};
 ghost use Rattle.xs_modules.specs.Results.{modules_data};
 
-use xs_structure::places::{Place, precedence_at, row_at, value_at};
 use xs_elements::rows::Row;
 use xs_modules::Modules;
 use xs_sheet::declarations::Method;
+use xs_structure::places::{Place, precedence_at, row_at, value_at};
 use xs_tree::Node;
 
 /// The method of this name: `text` writes text, and any other method PYX lines.
@@ -74,7 +74,7 @@ fn of_two(precedence: u32, so_far: Option<(u32, Method)>, said: Method) -> (u32,
 
 /// The method of a stylesheet: of the values of `method` that of the highest import precedence, and
 /// of several such the last.
-pub fn method(modules: &Modules, places: &[Place]) -> Method
+pub(crate) fn method(modules: &Modules, places: &[Place]) -> Method
     requires inside { All (IsIn (modules_data modules.now)) places.now }
     requires all { places.now ≡ declarations (modules_data modules.now) }
     ensures { result ≡ method (modules_data modules.now) }

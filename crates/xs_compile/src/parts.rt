@@ -15,9 +15,9 @@ ghost use Rattle.xs_structure.specs.Modules.{records_at};
 
 use crate::compiler::Compiler;
 use std::alloc::{AllocError, Global};
-use xs_structure::places::{Place, is_in_body, row_at, tree_of};
 use xs_elements::rows::Row;
 use xs_modules::Modules;
+use xs_structure::places::{Place, is_in_body, row_at, tree_of};
 use xs_tree::Node;
 
 /// The parts of elements that are told by their kind (XSLT 1.0, 5.3, 7.1.4, 9.2, 10, 11.6 and 15).

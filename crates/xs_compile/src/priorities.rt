@@ -9,7 +9,7 @@ ghost use Rattle.xs_xpath.specs.Lexing.{is_digit};
 
 /// A priority in ten-thousandths (XSLT 1.0, 5.5): a number of at most nine digits before its point
 /// and four behind it, perhaps behind a minus sign.
-pub fn priority_in(text: &str) -> i64
+pub(crate) fn priority_in(text: &str) -> i64
     requires { is_number (unsigned text.now) ≡ true }
     ensures { result ≡ priority_in text.now }
 {

@@ -15,14 +15,14 @@ ghost use Rattle.xs_xpath.specs.Names.{uri_of};
 ghost use Rattle.xs_xpath.specs.Templates.{template_in};
 
 use crate::compiler::Compiler;
+use crate::labels::{label_in, labels_in};
 use crate::parsed;
 use std::alloc::AllocError;
 use std::sync::Arc;
-use crate::labels::{label_in, labels_in};
-use xs_structure::places::{said_at, value_at};
 use xs_sheet::scoped::{
     Namespaces, ParsedExpr, ParsedPattern, Parts, ScopedExpr, ScopedPattern, ValueTemplate,
 };
+use xs_structure::places::{said_at, value_at};
 use xs_trace::event::Label;
 use xs_tree::Node;
 use xs_xpath::scope::Scope;

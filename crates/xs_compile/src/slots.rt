@@ -11,21 +11,23 @@ ghost use Rattle.xs_elements.specs.Reading.{is_seen};
 ghost use Rattle.xs_structure.specs.Bindings.{is_local};
 ghost use Rattle.xs_tree.specs.Record.{places};
 
-use xs_structure::standing::Standing;
+use crate::counted::following;
 use std::alloc::{AllocError, Global};
 use std::collections::HashMap;
-use xs_elements::rows::{Row, is_top_level, row_of};
+use xs_elements::rows::row_of;
 use xs_elements::scope::{Expanded, own_name};
+use xs_structure::bindings::is_local;
+use xs_structure::standing::{Standing, standing_in};
 use xs_tree::{Node, Tree};
 use xs_xpath::name::Slot;
 
 /// From where on a local binding is visible, and its slot.
 #[derive(Clone, Copy)]
-pub struct Local {
+pub(crate) struct Local {
     /// The place behind its element.
-    pub from: u32,
+    pub(crate) from: u32,
     /// The number of the local bindings that are visible at it.
-    pub slot: u32,
+    pub(crate) slot: u32,
 }
 
 impl Local {
@@ -43,9 +45,9 @@ impl Local {
 /// The local bindings of a module, by their parents and their names: no two bindings in one
 /// element have the same name, since one would shadow the other.
 #[derive(Drop)]
-pub struct Locals<'m> {
+pub(crate) struct Locals<'m> {
     /// The bindings, by the parent and the name.
-    pub entries: HashMap<(u32, Expanded<'m>), Local>,
+    pub(crate) entries: HashMap<(u32, Expanded<'m>), Local>,
 }
 
 /// How many local bindings are visible at a node, by how many are visible to the next child of
@@ -90,40 +92,13 @@ fn count(
     }
 }
 
-/// The number behind another one; past 2^32 there is no memory for what is numbered.
-fn following(number: u32) -> Result<u32, AllocError>
-    ensures { IfOk result (λ next. next ≡ «number» + 1) }
-{
-    match number.checked_add(1) {
-        Some(next) => Ok(next),
-        None => Err(AllocError),
-    }
-}
-
-/// Whether a node binds a local variable.
-fn is_local(tree: &Tree, n: Node, seen: bool) -> bool
-    requires inside { n < length tree.now }
-    requires seen { seen ≡ is_seen tree.now n }
-    ensures { result ≡ is_local tree.now n }
-{
-    if !matches!(row_of(tree, n), Row::Variable | Row::Param) {
-        return false;
-    }
-    !is_top_level(tree, n) && seen
-}
-
-/// Whether a node is looked at, by how the nodes of its module stand.
-fn is_seen(standings: &[Standing], tree: &Tree, n: Node) -> bool
-    requires inside { n < length tree.now }
-    requires standings { standings.now ≡ map (standing_of tree.now) (places tree.now) }
-    ensures { result ≡ is_seen tree.now n }
-{
-    standings[n.place() as usize].is_seen
-}
-
 impl<'m> Locals<'m> {
     /// The local bindings of a module.
-    pub fn of(alloc: Global, tree: &'m Tree, standings: &[Standing]) -> Result<Locals<'m>, AllocError>
+    pub(crate) fn of(
+        alloc: Global,
+        tree: &'m Tree,
+        standings: &[Standing],
+    ) -> Result<Locals<'m>, AllocError>
         requires { standings.now ≡ map (standing_of tree.now) (places tree.now) }
         ensures { IfOk result (AreLocals tree.now (length tree.now)) }
     {
@@ -133,7 +108,7 @@ impl<'m> Locals<'m> {
         let mut counts = Vec::new(alloc);
         for place in 0..tree.len() as u32 {
             let n = Node::at(place);
-            let seen = is_seen(standings, tree, n);
+            let seen = standing_in(standings, tree, n).is_seen;
             locals.pass(tree, n, seen, &mut counts)?;
         }
         Ok(locals)
@@ -154,7 +129,7 @@ impl<'m> Locals<'m> {
         ensures locals { OnOk result (AreLocals tree.now (n + 1) self.new) }
         ensures counts { OnOk result (AreCounts tree.now (n + 1) counts.new.items) }
     {
-        let binds = is_local(tree, n, seen);
+        let binds = is_local(tree, n, row_of(tree, n), seen);
         let visible = visible_at(counts, tree, n);
         count(counts, tree, n, visible, binds)?;
         if binds {
@@ -220,7 +195,7 @@ impl<'m> Locals<'m> {
 
     /// The slot of the local binding of a name that is visible at a node: it stands in one of the
     /// elements around it.
-    pub fn slot_at(&self, tree: &Tree, n: Node, uri: &str, local: &str) -> Option<Slot>
+    pub(crate) fn slot_at(&self, tree: &Tree, n: Node, uri: &str, local: &str) -> Option<Slot>
         requires inside { n < length tree.now }
         requires locals { AreLocals tree.now (length tree.now) self.now }
         requires apart { IsApart tree.now }

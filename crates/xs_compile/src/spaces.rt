@@ -11,12 +11,12 @@ ghost use Rattle.xs_elements.specs.Values.{prefix_of_test};
 ghost use Rattle.xs_modules.specs.Results.{modules_data};
 
 use crate::labels::{label_in, uri_of};
-use xs_structure::places::{Place, pairs_at, precedence_at, row_at, said_at};
 use std::alloc::{AllocError, Global};
 use xs_elements::rows::Row;
 use xs_elements::words::first_word;
 use xs_modules::Modules;
 use xs_sheet::declarations::{NameTest, StripRule};
+use xs_structure::places::{Place, pairs_at, precedence_at, row_at, said_at};
 use xs_trace::text::TextBuf;
 use xs_tree::Node;
 use xs_xpath::scope::Scope;
@@ -117,7 +117,7 @@ fn push_declared(
 }
 
 /// The name tests of `xsl:strip-space` and `xsl:preserve-space`, one rule each.
-pub fn strips(
+pub(crate) fn strips(
     alloc: Global,
     modules: &Modules,
     places: &[Place],

@@ -18,18 +18,18 @@ ghost use Rattle.xs_modules.specs.Results.{modules_data};
 ghost use Rattle.xs_structure.specs.Modules.{records_at};
 
 use crate::compiler::Compiler;
-use crate::parts::Part;
-use std::alloc::AllocError;
 use crate::counted::{Counted, is_global};
-use xs_structure::places::{
-    Place, imports_from_at, is_template, precedence_at, row_at, site_at, value_at,
-};
+use crate::parts::Part;
 use crate::priorities::priority_in;
+use std::alloc::AllocError;
 use xs_elements::rows::Row;
 use xs_modules::Modules;
 use xs_sheet::body::{Binding, Body, Instr};
 use xs_sheet::declarations::{AttrSet, Global, KeyDecl, Template};
 use xs_sheet::items::Items;
+use xs_structure::places::{
+    Place, imports_from_at, is_template, precedence_at, row_at, site_at, value_at,
+};
 use xs_tree::Node;
 
 /// Whether a declaration is one of a key.

@@ -15,7 +15,7 @@ mod ModuleLemmas
 mod NameFaultLemmas
 mod PlacingLemmas
 mod RankLemmas
-mod SameNameLemmas
+pub mod SameNameLemmas
 mod SearchLemmas
 mod SetLemmas
 mod TableLemmas

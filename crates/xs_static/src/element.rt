@@ -229,12 +229,7 @@ impl Element<'_> {
             return false;
         }
         let has_namespace = !self.tree.uri(child).is_empty();
-        !may_stand(
-            content,
-            row_of(self.tree, child),
-            has_namespace,
-            before,
-        )
+        !may_stand(content, row_of(self.tree, child), has_namespace, before)
     }
 
     /// Whether a child is a text that is kept.

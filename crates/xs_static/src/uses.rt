@@ -56,7 +56,12 @@ impl<'a> Uses<'a> {
     }
 
     /// The names that one declaration more of a name uses.
-    fn add(&mut self, alloc: Global, name: Expanded<'a>, sets: &[Expanded<'a>]) -> Result<(), AllocError>
+    fn add(
+        &mut self,
+        alloc: Global,
+        name: Expanded<'a>,
+        sets: &[Expanded<'a>],
+    ) -> Result<(), AllocError>
         ensures { OnOk result ((n : Name) → uses_in self.new n
             ≡ uses_in self.old n
             ++ (if is_same_name (name_data name.entry) n then map name_data sets.now else [])) }

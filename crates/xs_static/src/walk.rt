@@ -177,12 +177,7 @@ impl<'w, 'm> Site<'w, 'm> {
     }
 
     /// Meets the faults of the next node, before which the local bindings are these.
-    fn visit(
-        &self,
-        n: Node,
-        locals: &mut Locals<'m>,
-        least: &mut Least,
-    ) -> Result<(), AllocError>
+    fn visit(&self, n: Node, locals: &mut Locals<'m>, least: &mut Least) -> Result<(), AllocError>
         requires site { IsSite self.now }
         requires inside { n < length self.now.tree.now }
         requires locals { AreLocals self.now.tree.now n locals.old }

@@ -1,5 +1,5 @@
 use Rattle.std.proofs.Common.{◌≡◌, ◌∙◌}
-use Rattle.xs_structure.proofs.AttributeLemmas.{no-mode}
+use Rattle.xs_compile.proofs.ModeLemmas.{no-mode}
 use Rattle.xs_compile.proofs.modes.noted_at.Goals as goal
 
 pub returns-in_default : goal.returns-in_default
