@@ -97,7 +97,8 @@ module _ (ms : List ModuleData) (trees : AreTrees ms) where
   unfolding names_faults
   names-sound done [] e all = tt
   names-sound done (p ∷ ps) e all =
-      are_in_append (IsStaticFault ms) (name_faults ms done p) (names_faults ms (done ++ p ∷ []) ps) (name-sound done ps p e (All-head (IsDeclared ms) p ps all))
+      are_in_append (IsStaticFault ms) (name_faults ms done p) (names_faults ms (done ++ p ∷ []) ps)
+      (name-sound done ps p e (All-head (IsDeclared ms) p ps all))
       (names-sound (done ++ p ∷ []) ps (e ∙ sym (append_assoc done (p ∷ []) ps)) (All-tail (IsDeclared ms) p ps all))
 
   pub names_sound : 0 < length ms → AreIn (IsStaticFault ms) (names_faults ms [] (declarations ms))
