@@ -34,7 +34,7 @@ use xs_elements::rows::Row;
 use xs_modules::Modules;
 use xs_structure::places::{Place, name_at, tree_of};
 use xs_structure::scopes::Scopes;
-use xs_structure::standing::{Standing, standings};
+use xs_structure::standing::{Standing, standings_by};
 use xs_tree::Node;
 use xs_xpath::name::Slot;
 use xs_xpath::scope::Scope;
@@ -59,18 +59,6 @@ pub(crate) struct Compiler<'m> {
     locals: Vec<Locals<'m>>,
 }
 
-/// How the nodes of all modules stand.
-fn all_standings(alloc: Global, modules: &Modules) -> Result<Vec<Vec<Standing>>, AllocError>
-    ensures { IfOk result (λ all. map (λ table. table.items) all.items
-        ≡ map (λ d. map (standing_of d.records) (places d.records)) (modules_data modules.now)) }
-{
-    let mut all = Vec::new(alloc);
-    for module in &modules.list {
-        all.push(standings(alloc, &module.tree)?)?;
-    }
-    Ok(all)
-}
-
 /// The namespaces in scope at the nodes of all modules.
 fn all_scopes(alloc: Global, modules: &Modules) -> Result<Vec<Scopes>, AllocError>
     ensures { IfOk result (λ all. map scopes_in all.items
@@ -79,6 +67,25 @@ fn all_scopes(alloc: Global, modules: &Modules) -> Result<Vec<Scopes>, AllocErro
     let mut all = Vec::new(alloc);
     for module in &modules.list {
         all.push(Scopes::of(alloc, &module.tree)?)?;
+    }
+    Ok(all)
+}
+
+/// How the nodes of all modules stand, by the namespaces in scope at them.
+fn all_standings(
+    alloc: Global,
+    modules: &Modules,
+    scopes: &[Scopes],
+) -> Result<Vec<Vec<Standing>>, AllocError>
+    requires { map scopes_in scopes.now
+        ≡ map (λ d. scopes_of d.records) (modules_data modules.now) }
+    ensures { IfOk result (λ all. map (λ table. table.items) all.items
+        ≡ map (λ d. map (standing_of d.records) (places d.records)) (modules_data modules.now)) }
+{
+    let mut all = Vec::new(alloc);
+    for number in 0..modules.list.len() {
+        let tree = &modules.list[number].tree;
+        all.push(standings_by(alloc, tree, &scopes[number])?)?;
     }
     Ok(all)
 }
@@ -124,8 +131,8 @@ impl<'m> Compiler<'m> {
         let globals = global_numbers(alloc, modules, declared, globals)?;
         let templates = template_numbers(alloc, modules, declared)?;
         let modes = Modes::of(alloc, modules)?;
-        let standings = all_standings(alloc, modules)?;
         let scopes = all_scopes(alloc, modules)?;
+        let standings = all_standings(alloc, modules, &scopes)?;
         let locals = all_locals(alloc, modules, &standings)?;
         Ok(Compiler {
             alloc,

@@ -1,12 +1,12 @@
 -- A name that comes into force.
-use Rattle.std.proofs.Common.{◌≡◌, ◌∙◌, ◌<◌, ◌≤◌, ℕ, ap, refl, sym, subst, arith, Bool, true, false, List, Option, None, Some, ◌⊎◌, inl, inr}
-use Rattle.std.proofs.lemmas.Bool.{and_parts, cases_Bool, ltb-true, ltb-false, lt-ltb, le-ltb, or_cases}
+use Rattle.std.proofs.Common.{◌≡◌, ◌∙◌, ◌<◌, ◌≤◌, ℕ, ap, refl, arith, Bool, true, false, List, Option, None, Some, ◌⊎◌, inl, inr}
+use Rattle.std.proofs.lemmas.Bool.{and_parts, ltb-true, ltb-false, lt-ltb, or_cases}
 use Rattle.std.proofs.lemmas.Slice.Eq.{bytes_eq-Decides}
 use Rattle.std.specs.Option.{option_map_or}
 use Rattle.std.specs.Prelude.{◌&&◌, ◌||◌, nat_lt, max, if◌then◌else◌}
 use Rattle.std.specs.Str.{bytes_eq}
 use Rattle.xs_elements.specs.Nodes.{is_same_name}
-use Rattle.xs_structure.proofs.NameLemmas.{bool_same, bytes-same, name-sym}
+use Rattle.xs_structure.proofs.NameLemmas.{bool_same, name-sym}
 
 abbrev before_end : ℕ → Option ℕ → Bool
 before_end place o = option_map_or (λ end. nat_lt place end) o false

@@ -1,5 +1,5 @@
 -- The document's element, the elements of the top level and the children that an element shows are looked at.
-use Rattle.std.proofs.Common.{◌≡◌, ◌∙◌, ◌<◌, ◌==◌, ℕ, ap, refl, sym, arith, Bool, true, false, List, length, Option, Some, None, ⊎_elim, eqb-true}
+use Rattle.std.proofs.Common.{◌≡◌, ◌∙◌, ◌<◌, ◌==◌, ℕ, ap, refl, arith, Bool, true, false, List, length, Option, Some, None, ⊎_elim, eqb-true}
 use Rattle.std.proofs.lemmas.Bool.{and_from, and_parts, false≢true, or_cases, or_left, or_right}
 use Rattle.std.specs.List.{list_all}
 use Rattle.std.specs.Option.{option_map_or}

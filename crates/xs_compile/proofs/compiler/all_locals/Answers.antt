@@ -5,7 +5,7 @@ use Rattle.std.specs.Option.{option_map_or}
 use Rattle.std.specs.Prelude.{slice_get}
 use Rattle.xs_structure.proofs.PassingLemmas.{get_map}
 use Rattle.xs_compile.proofs.StateLemmas.{standings-in}
-use Rattle.xs_compile.proofs.ZipLemmas.{zip-more}
+use Rattle.xs_compile.proofs.ZipLemmas.{item-got, zip-more}
 use Rattle.xs_structure.specs.Standing.{standing_of}
 use Rattle.xs_compile.specs.steps.Tables.{HasLocals}
 use Rattle.xs_modules.specs.Numbering.{ModuleData}
@@ -37,10 +37,5 @@ loop-number-preserved c =
     let inside : i < length ms = omega (arith, lt, length-map list module_data) in
     subst (λ found. AllZip HasLocals (take (i + 1) ms) found) (sym c.in_ok-push.ensures.items)
     (zip-more HasLocals ms c.loop-number.all.items i d c.in_ok-of.field-0 inside
-    (got ms i d (get_map module_data list i c.index.result.now lt c.index.ensures)) c.loop-number.invariant
+    (item-got ms i d (get_map module_data list i c.index.result.now lt c.index.ensures)) c.loop-number.invariant
     (record { tree = c.len-count.ensures.tree; locals = c.in_ok-of.ensures }))
-  where
-    got : (ms : List ModuleData) (i : ℕ) (d : ModuleData) → slice_get ms i ≡ Some d → d ≡ get_or ms i d
-    got [] i d e = refl
-    got (x ∷ xs) zero d e = cc (e)
-    got (x ∷ xs) (suc i) d e = got xs i d e

@@ -23,6 +23,7 @@ returns c =
     let size = length-map items (λ scope. pairs_in (arc_value scope)) in
     let whole = ap length c.requires.scopes ∙ length-map-range_with_len (scope_at rs) 0 (length rs) in
     let inside : c.place.result < length items = omega (arith, size, whole, c.requires.inside, c.place.ensures) in
-    scope-got (λ scope. pairs_in (arc_value scope)) items c.place.result c.args.n c.index.result.now inside c.place.ensures c.index.ensures
+    ap pairs_in c.deref.ensures
+    ∙ scope-got (λ scope. pairs_in (arc_value scope)) items c.place.result c.args.n c.index.result.now inside c.place.ensures c.index.ensures
     ∙ ap (λ (ps : List (List (List ℕ × List ℕ))). get_or ps c.args.n []) c.requires.scopes
     ∙ get_or-map-range_with_len (scope_at rs) 0 (length rs) c.args.n c.args.n [] c.requires.inside (omega arith)
