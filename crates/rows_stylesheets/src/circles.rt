@@ -2,10 +2,11 @@
 
 use crate::answer::Answer;
 use std::alloc::Global;
-use xs_circles::{Declaration, Name, Place, first_circle};
+use xs_elements::scope::Expanded;
+use xs_static::circles::{Declaration, Place, first_circle};
 
 /// A name with its URI, if it has one.
-fn name_of(text: &str) -> Name<'_> {
+fn name_of(text: &str) -> Expanded<'_> {
     text.split_once(':').unwrap_or(("", text))
 }
 
@@ -19,7 +20,7 @@ fn place_of(text: &str) -> Place {
 }
 
 /// Takes a name that a declaration uses.
-fn push_name<'a>(out: &mut Answer, names: &mut Vec<Name<'a>>, word: &'a str) {
+fn push_name<'a>(out: &mut Answer, names: &mut Vec<Expanded<'a>>, word: &'a str) {
     if !word.is_empty() && names.push(name_of(word)).is_err() {
         out.refuse();
     }

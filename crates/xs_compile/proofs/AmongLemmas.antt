@@ -3,7 +3,7 @@ use Rattle.std.proofs.Common.{◌≡◌, ◌∙◌, ◌<◌, ◌≤◌, ◌+◌,
 use Rattle.std.proofs.lemmas.Bool.{and_parts, false≢true}
 use Rattle.std.proofs.lemmas.List.Elements.{All-cons, All-head, All-nil, All-tail}
 use Rattle.std.specs.List.{flat_map, list_all, range_with_len}
-use Rattle.xs_circles.specs.Circles.{IsIn as IsAmong}
+use Rattle.xs_static.specs.Circles.{IsAmong}
 use Rattle.xs_tree.proofs.WalkLemmas.{le_or_gt}
 use Rattle.xs_tree.specs.Record.{Record, places}
 

@@ -1,28 +1,26 @@
 -- No attribute set uses itself, where there is no static fault.
-use Rattle.std.proofs.Common.{◌≡◌, ◌∙◌, ◌<◌, ◌==◌, ℕ, zero, suc, ap, refl, sym, subst, All, List, [], ◌∷◌, ◌++◌, cond, filter, length, Bool, true, false, Option, Some, None, inl, inr, eq-eqb, eqb-true}
-use Rattle.std.proofs.lemmas.Bool.{and_from, and_parts, false≢true, or_cases, or_left, or_parts, true≢false}
+use Rattle.std.proofs.Common.{◌≡◌, ◌∙◌, ◌<◌, ◌==◌, ℕ, zero, suc, ap, refl, sym, subst, All, List, [], ◌∷◌, ◌++◌, cond, filter, length, Bool, true, false, Option, Some, None, inl, inr, eq-eqb}
+use Rattle.std.proofs.lemmas.Bool.{and_from, false≢true, or_cases, or_left, or_parts, true≢false}
 use Rattle.std.proofs.lemmas.List.Elements.{All-head, All-tail}
 use Rattle.std.proofs.lemmas.Option.{none-some}
 use Rattle.std.proofs.lemmas.Slice.Eq.{bytes_eq-Decides}
-use Rattle.std.specs.List.{AllZip, find, flat_map, list_all, list_any, range_with_len, slice_get}
+use Rattle.std.specs.List.{AllZip, flat_map, list_all, list_any}
 use Rattle.std.specs.Option.{option_and_then, option_map_or}
 use Rattle.std.specs.Prelude.{◌||◌, codes, not, option_map, if◌then◌else◌}
 use Rattle.std.specs.Str.{bytes_eq}
-use Rattle.xs_circles.specs.Circles.{IsIn as IsAmong, SomeLeads, itself, by_use}
-use Rattle.xs_declared.proofs.DeclarationLemmas.{declared_inside}
-use Rattle.xs_compile.proofs.AmongLemmas.{all-among, among-all, among-filter, among-flat, among-flattened, among-kept, among-left, among-mapped, among-right, place-below}
-use Rattle.xs_compile.proofs.TopLemmas.{top_seen}
-use Rattle.xs_declared.specs.Places.{IsIn as IsInModules}
-use Rattle.xs_compile.proofs.ShownLemmas.{IsChildOf, all-children, seen-child}
+use Rattle.xs_static.specs.Circles.{IsAmong, SomeLeads, itself, by_use}
+use Rattle.xs_structure.proofs.DeclarationLemmas.{IsDeclared, all-declared}
+use Rattle.xs_static.proofs.SameNameLemmas.{same-true}
+use Rattle.xs_compile.proofs.AmongLemmas.{all-among, among-all, among-filter, among-flat, among-flattened, among-kept, among-left, among-mapped, among-right}
+use Rattle.xs_structure.proofs.TopLemmas.{declaration-seen, seen-child}
+use Rattle.xs_compile.proofs.ShownLemmas.{IsChildOf, all-children}
 use Rattle.xs_compile.proofs.CleanLemmas.{attribute-clean, no-fault, read-known, shows-none, value-clean}
-use Rattle.xs_compile.proofs.MentionedLemmas.{mention_names, mention_no_literal}
 use Rattle.xs_compile.proofs.UsedSetLemmas.{Covers, Held, covers-append, covers-wider, element_covers, kind-covers, name_of_label, row-element}
 use Rattle.xs_compile.specs.Bodies.{Source}
 use Rattle.xs_compile.specs.Declarations.{IsInstr, IsSet, is_attribute}
-use Rattle.xs_declared.specs.Order.{all_with}
-use Rattle.xs_declared.specs.Labels.{label_at, label_in, label_of}
-use Rattle.xs_declared.specs.Order.{declarations, declarations_from, declares as is_declaration, is_simplified}
-use Rattle.xs_declared.specs.Parts.{children_at, children_with, pairs_at, reading_at, row_at, value_at}
+use Rattle.xs_structure.specs.Order.{all_with, declarations, declares}
+use Rattle.xs_compile.specs.Labels.{label_at, label_in, label_of}
+use Rattle.xs_structure.specs.Parts.{children_at, children_with, pairs_at, reading_at, row_at, value_at}
 use Rattle.xs_elements.specs.Contents.{is_attribute as is_attribute_row}
 use Rattle.xs_elements.specs.declared.forms.Form.{Form}
 use Rattle.xs_elements.specs.declared.forms.Form.TheVariants.{Name as NameForm}
@@ -30,129 +28,24 @@ use Rattle.xs_elements.specs.declared.reading.Reading.{Reading}
 use Rattle.xs_elements.specs.declared.reading.Reading.TheVariants.{Known}
 use Rattle.xs_elements.specs.declared.rows.Row.{Row}
 use Rattle.xs_elements.specs.declared.rows.Row.TheVariants.{Attribute, AttributeSet}
-use Rattle.xs_elements.specs.Nodes.{Name, expanded, if_bound, is_named, is_same_name, own_name, scope_at}
+use Rattle.xs_elements.specs.Nodes.{Name, expanded, if_bound, is_named, own_name, scope_at}
 use Rattle.xs_elements.specs.Reading.{form_by, is_in_extension, is_seen, reading_by, shows}
-use Rattle.xs_elements.specs.Rows.{is_attribute_set, is_document_element, is_other, is_top_level, row_of}
-use Rattle.xs_modules.specs.Numbering.{ModuleData}
+use Rattle.xs_elements.specs.Rows.{is_attribute_set, is_top_level, row_of}
 use Rattle.xs_modules.specs.Sound.{IsSound}
 use Rattle.xs_sheet.specs.declared.body.Instr.{Instr}
 use Rattle.xs_sheet.specs.declared.declarations.AttrSet.{AttrSet}
-use Rattle.xs_sheet.specs.Sets.{is_apart, is_same_label, kind_sets, reached}
-use Rattle.xs_sheet.specs.Sets.{sets_of as sheet_sets, used_by as sheet_used}
+use Rattle.xs_sheet.specs.Sets.{is_apart, is_same_label, kind_sets, reached, sets_of as sheet_sets, used_by as sheet_used}
 use Rattle.xs_static.specs.Faults.{IsFirstFault, circular_set, is_misspelled, some_value, unbound_prefix}
 use Rattle.xs_text.specs.Names.{QName, qname_of}
 use Rattle.xs_xpath.specs.Names.{is_bound, uri_of}
 use Rattle.xs_elements.specs.Values.{is_unbound, is_unbound_name}
 use Rattle.std.proofs.lemmas.List.Folds.{list_any-append}
-use Rattle.xs_static.specs.Modules.{Place, all_contents, contents, is_mentioned_by, is_same_place, is_top_level_element, mentioned, records_at, top_level}
-use Rattle.xs_static.specs.Names.{declares}
+use Rattle.xs_structure.specs.Modules.{Place, records_at}
 use Rattle.xs_static.specs.Sets.{attribute_sets, is_part, named_sets, sets_of, sets_within, used_by}
 use Rattle.xs_trace.specs.Label.{Label}
 use Rattle.xs_tree.specs.Kinds.{is_element_kind}
-use Rattle.xs_tree.specs.Record.{at, children, is_inside, places}
+use Rattle.xs_tree.specs.Record.{at, children, is_inside}
 use Rattle.xs_tree.specs.Shape.{IsTree}
-
--- ---- names and places that are told to be one
-same-name : (a b : Name) → is_same_name a b ≡ true → a ≡ b
-same-name a b e =
-    let both = and_parts (bytes_eq a.0 b.0) (bytes_eq a.1 b.1) e in
-    ap {B = Name} (λ (x : List ℕ). (x, a.1)) ((bytes_eq-Decides a.0 b.0).0 both.0)
-    ∙ ap {B = Name} (λ (x : List ℕ). (b.0, x)) ((bytes_eq-Decides a.1 b.1).0 both.1)
-
-same-turned : (p q : Place) → is_same_place p q ≡ true → q ≡ p
-same-turned p q h =
-    let both = and_parts (p.0 == q.0) (p.1 == q.1) h in
-    let first : q.0 ≡ p.0 = sym (eqb-true p.0 q.0 both.0) in
-    let second : q.1 ≡ p.1 = sym (eqb-true p.1 q.1 both.1) in
-    ap {B = Place} (λ (a : ℕ). (a, q.1)) first ∙ ap {B = Place} (λ (b : ℕ). (p.0, b)) second
-
--- ---- the sets of the stylesheet are among the elements of its top level
-module _ (ms : List ModuleData) (sound : IsSound ms) where
-  -- what mentions a module is no literal element
-  found-mention : (p : Place) (xs : List ℕ) (k : ℕ) → find (is_mentioned_by ms p) xs ≡ Some k → is_mentioned_by ms p k ≡ true
-  found-mention p [] k h = absurd (none-some k h)
-  found-mention p (x ∷ xs) k h = by (is_mentioned_by ms p x) refl h (found-mention p xs k)
-    where
-      by : (b : Bool) → is_mentioned_by ms p x ≡ b → cond b (Some x) (find (is_mentioned_by ms p) xs) ≡ Some k
-          → (find (is_mentioned_by ms p) xs ≡ Some k → is_mentioned_by ms p k ≡ true) → is_mentioned_by ms p k ≡ true
-      by true e g again = let same : x ≡ k = cc (g) in subst (λ y. is_mentioned_by ms p y ≡ true) same e
-      by false e g again = again g
-
-  mention-is : (p : Place) (k : ℕ) → is_mentioned_by ms p k ≡ true → is_other (row_at ms p) ≡ false
-  mention-is p k h = by (slice_get ms k) refl h
-    where
-      by-mention : (d : ModuleData) → slice_get ms k ≡ Some d → (o : Option (ℕ × ℕ)) → d.mention ≡ o → option_map_or (is_same_place p) o false ≡ true
-          → is_other (row_at ms p) ≡ false
-      by-mention d e None f g = absurd (false≢true g)
-      by-mention d e (Some q) f g =
-          mention_no_literal (records_at ms p.0) p.1
-          (mention_names ms sound k d p.0 p.1 e (f ∙ ap Some (same-turned p q g)))
-
-      by : (o : Option ModuleData) → slice_get ms k ≡ o → option_map_or (λ d. option_map_or (is_same_place p) d.mention false) o false ≡ true
-          → is_other (row_at ms p) ≡ false
-      by None e g = absurd (false≢true g)
-      by (Some d) e g = by-mention d e d.mention refl g
-
-  -- a declaration that is no literal element
-  pub record InContents (most m : ℕ) (p : Place) : Type 0 where
-    pub among : IsAmong p (contents most ms m)
-    pub top : is_top_level_element (records_at ms p.0) p.1 ≡ true
-    pub inside : p.1 < length (records_at ms p.0)
-
-  -- a declaration at the top level of a module, with all that it stands for
-  top-in : (most m n : ℕ) (p : Place) → n < length (records_at ms m) → is_top_level_element (records_at ms m) n ≡ true → (o : Option ℕ) → mentioned ms (m, n)
-      ≡ o
-      → ((k : ℕ) → IsAmong p (declarations_from most ms k) → InContents most k p)
-      → IsAmong p (option_map_or (declarations_from most ms) o ((m, n) ∷ []))
-      → (IsAmong p (option_map_or (contents most ms) o ((m, n) ∷ []))) × (is_top_level_element (records_at ms p.0) p.1 ≡ true) ×
-      (p.1 < length (records_at ms p.0))
-  top-in most m n p lt top None e again (inl same) = (
-    inl same,
-    subst (λ (q : Place). is_top_level_element (records_at ms q.0) q.1 ≡ true) same top,
-    subst (λ (q : Place). q.1 < length (records_at ms q.0)) same lt,
-  )
-  top-in most m n p lt top None e again (inr h) = absurd h
-  top-in most m n p lt top (Some k) e again h = let r = again k h in (r.among, r.top, r.inside)
-
-  other-none : (m n : ℕ) → is_other (row_of (records_at ms m) n) ≡ true → (o : Option ℕ) → mentioned ms (m, n) ≡ o → o ≡ None
-  other-none m n h None e = refl
-  other-none m n h (Some k) e =
-      absurd (true≢false (sym h ∙ mention-is (m, n) k (found-mention (m, n) (range_with_len 0 (length ms)) k e)))
-
-  simple-in : (most m n : ℕ) (p : Place) → is_other (row_at ms p) ≡ false → is_other (row_of (records_at ms m) n) ≡ true → (o : Option ℕ)
-      → mentioned ms (m, n) ≡ o → IsAmong p (option_map_or (declarations_from most ms) o ((m, n) ∷ [])) → ⊥
-  simple-in most m n p other literal None e (inl same) =
-      true≢false (sym literal ∙ ap (λ (q : Place). is_other (row_at ms q)) same ∙ other)
-  simple-in most m n p other literal None e (inr h) = absurd h
-  simple-in most m n p other literal (Some k) e h = none-some k (sym (other-none m n literal (Some k) e))
-
-  element-in : (most m n : ℕ) (p : Place) → is_other (row_at ms p) ≡ false → IsAmong n (places (records_at ms m)) → is_declaration (records_at ms m) n ≡ true
-      → IsAmong p (option_map_or (declarations_from most ms) (mentioned ms (m, n)) ((m, n) ∷ []))
-      → ((k : ℕ) → IsAmong p (declarations_from most ms k) → InContents most k p) → InContents (suc most) m p
-  unfolding contents
-  element-in most m n p other among declared inside again =
-      let rs = records_at ms m in
-      elim (or_cases (is_top_level_element rs n) (is_simplified rs n) declared) [
-        | inl top ↦ (let r = top-in most m n p (place-below rs n among) top (mentioned ms (m, n)) refl again inside in
-            record {
-              among = among-flat (λ k. option_map_or (contents most ms) (mentioned ms (m, k)) ((m, k) ∷ [])) n p (top_level rs)
-                  (among-filter (is_top_level_element rs) n (places rs) among top) r.0;
-              top = r.1;
-              inside = r.2;
-            })
-        | inr simple ↦ absurd (simple-in most m n p other (and_parts (is_other (row_of rs n)) (is_document_element rs n) simple).0 (mentioned ms (m, n)) refl
-            inside)
-      ]
-
-  pub declared_in : (most m : ℕ) (p : Place) → is_other (row_at ms p) ≡ false → IsAmong p (declarations_from most ms m) → InContents most m p
-  unfolding declarations_from
-  declared_in zero m p other h = absurd h
-  declared_in (suc most) m p other h =
-      let rs = records_at ms m in
-      let r = among-flattened (λ n. option_map_or (declarations_from most ms) (mentioned ms (m, n)) ((m, n) ∷ [])) p (filter (is_declaration rs) (places rs))
-      h in
-      let kept = among-kept (is_declaration rs) r.item (places rs) r.among in
-      element-in most m r.item p other kept.0 kept.1 r.inside (λ k. declared_in most k p other)
 
 -- ---- what a declaration of a set uses
 attribute-row : (row : Row) → is_attribute row ≡ true → row ≡ Attribute
@@ -170,7 +63,7 @@ module _ (s : Source) (trees : (m : ℕ) → m < length s.modules → IsTree (re
     pub inside : p.1 < length (records_at s.modules p.0)
     pub seen : is_seen (records_at s.modules p.0) p.1 ≡ true
     pub row : row_at s.modules p ≡ AttributeSet
-    pub declared : IsAmong p (all_contents s.modules)
+    pub declared : IsAmong p (declarations s.modules)
 
   set-read : (p : Place) → IsSetAt p → reading_at s.modules p ≡ Known
   set-read p h =
@@ -291,8 +184,8 @@ module _ (s : Source) (trees : (m : ℕ) → m < length s.modules → IsTree (re
           let name = name_of_label l in
           covers-append (used_by ms name) (sheet_sets d) (sheet_used ds l)
           (covers-wider (sets_of ms q) (used_by ms name)
-          (λ n g. among-flat (sets_of ms) q n (filter (declares is_attribute_set ms name) (all_contents ms))
-          (among-filter (declares is_attribute_set ms name) q (all_contents ms) h.declared (set-declares q h l d.name z.0.name e)) g)
+          (λ n g. among-flat (sets_of ms) q n (filter (declares is_attribute_set ms name) (declarations ms))
+          (among-filter (declares is_attribute_set ms name) q (declarations ms) h.declared (set-declares q h l d.name z.0.name e)) g)
           (sheet_sets d) (set_covers q d h z.0)) rest
       by_name false e rest = rest
 
@@ -302,7 +195,7 @@ module _ (s : Source) (trees : (m : ℕ) → m < length s.modules → IsTree (re
     Leads names = SomeLeads (used_by s.modules) names (name_of_label goal)
 
     same-label : (a b : Label) → is_same_label a b ≡ true → name_of_label b ≡ name_of_label a
-    same-label a b e = sym (same-name (name_of_label a) (name_of_label b) e)
+    same-label a b e = sym (same-true (name_of_label a) (name_of_label b) e)
 
     found-leads : (names : List Name) (ls : List Label) → Covers names ls → list_any (is_same_label goal) ls ≡ true → Leads names
     found-leads names [] c h = absurd (false≢true h)
@@ -367,15 +260,13 @@ module _ (s : Source) (trees : (m : ℕ) → m < length s.modules → IsTree (re
   set-at sound p among h =
       let ms = s.modules in
       let row = set-row (row_at ms p) h in
-      let within = among-all (IsInModules ms) (declarations ms) p (declared_inside ms (length ms) 0 sound.some) among in
-      let r = declared_in ms sound (length ms) 0 p (ap is_other row) among in
+      let is = among-all (IsDeclared ms) (declarations ms) p (all-declared ms sound.some) among in
       record {
-        known = within.«module»;
-        inside = within.node;
-        seen = top_seen (records_at ms p.0) (trees p.0 within.«module») p.1 within.node
-            (and_parts (is_element_kind (at (records_at ms p.0) p.1).kind) (is_top_level (records_at ms p.0) p.1) r.top).1;
+        known = is.within.«module»;
+        inside = is.within.node;
+        seen = declaration-seen (records_at ms p.0) (trees p.0 is.within.«module») p.1 is.within.node is.declares;
         row = row;
-        declared = r.among;
+        declared = among;
       }
 
   pub sets-apart : IsSound s.modules → (ds : List AttrSet) → AllZip (IsSet s) (all_with is_attribute_set s.modules) ds → list_all (is_apart ds) ds ≡ true

@@ -8,7 +8,7 @@ use Rattle.xs_compile.specs.Bodies.{AreBindings, AreBodies, AreFallbacks, AreIns
 use Rattle.xs_compile.specs.Declarations.{IsBinding, IsInstr}
 use Rattle.xs_compile.specs.Parsed.{Both, IsExpr}
 use Rattle.xs_compile.specs.steps.Gains.{Gains, GainsInstr}
-use Rattle.xs_declared.specs.Parts.{body_at, children_with, site_at}
+use Rattle.xs_structure.specs.Parts.{body_at, children_with, site_at}
 use Rattle.xs_elements.specs.Nodes.{attribute_of}
 use Rattle.xs_elements.specs.Rows.{is_when}
 use Rattle.xs_sheet.specs.declared.body.Body.{Body, Body', Row_of-Instr, end_of-Instr, more_of-Instr, items-the_row-Instr, items_shown-the_row-Instr-0, out-Body, outs-Body'}
@@ -18,7 +18,7 @@ use Rattle.xs_sheet.specs.declared.body.Passed.{Passed, Passed', Row_of-Binding,
 use Rattle.xs_sheet.specs.declared.body.Instr.{Instr}
 use Rattle.xs_sheet.specs.declared.body.InstrKind.{InstrKind}
 use Rattle.xs_sheet.specs.declared.scoped.ScopedExpr.{ScopedExpr}
-use Rattle.xs_static.specs.Modules.{Place, records_at}
+use Rattle.xs_structure.specs.Modules.{Place, records_at}
 use Rattle.xs_trace.specs.declared.item.Site.{Site}
 use Rattle.xs_tree.specs.Record.{at}
 

@@ -6,13 +6,12 @@ use Rattle.std.specs.List.{list_all, list_any}
 use Rattle.std.specs.Option.{option_or}
 use Rattle.std.specs.Prelude.{◌&&◌, ◌||◌, not, find, option_map, if◌then◌else◌}
 use Rattle.std.specs.Result.{result_ok}
-use Rattle.xs_declared.proofs.KnownLemmas.{known_global}
-use Rattle.xs_scopes.proofs.OpenLemmas.{slot-below}
-use Rattle.xs_declared.specs.Counted.{globals}
+use Rattle.xs_compile.proofs.KnownLemmas.{known_global}
+use Rattle.xs_compile.proofs.OpenLemmas.{slot-below}
+use Rattle.xs_compile.specs.Counted.{globals}
 use Rattle.xs_compile.specs.Parsed.{IsExpr, IsValueTemplate, bound_part}
-use Rattle.xs_declared.specs.Parts.{pairs_at}
-use Rattle.xs_compile.specs.Slots.{global_slot, slot_at}
-use Rattle.xs_scopes.specs.Slots.{is_visible as is_seen_from, slot_of, visible_at}
+use Rattle.xs_structure.specs.Parts.{pairs_at}
+use Rattle.xs_compile.specs.Slots.{global_slot, slot_at, is_visible as is_seen_from, slot_of, visible_at}
 use Rattle.xs_elements.specs.declared.forms.Form.{Form}
 use Rattle.xs_elements.specs.declared.forms.Form.TheVariants.{Expression, ValueTemplate}
 use Rattle.xs_elements.specs.Forms.{sees_locals}
@@ -21,10 +20,10 @@ use Rattle.xs_modules.specs.Numbering.{ModuleData}
 use Rattle.xs_sheet.specs.declared.scoped.ScopedExpr.{ScopedExpr}
 use Rattle.xs_sheet.specs.declared.scoped.ValueTemplate.{ValueTemplate as Template}
 use Rattle.xs_sheet.specs.Standing.{Counts, expr_stands, part_stands, slot_stands, template_stands, tree_stands, trees_stand}
-use Rattle.xs_static.specs.Bindings.{is_known, is_visible}
+use Rattle.xs_static.specs.Names.{is_known, is_global as has_global}
+use Rattle.xs_structure.specs.Bindings.{is_visible}
 use Rattle.xs_static.specs.Expressions.{any_unknown, expressions, expressions_if, expressions_of, has_unknown, trees_if}
-use Rattle.xs_static.specs.Modules.{Place, records_at}
-use Rattle.xs_static.specs.Names.{is_global as has_global}
+use Rattle.xs_structure.specs.Modules.{Place, records_at}
 use Rattle.xs_tree.specs.Record.{places}
 use Rattle.xs_tree.specs.Shape.{IsTree}
 use Rattle.xs_xpath.specs.Binding.{bound, bounds}

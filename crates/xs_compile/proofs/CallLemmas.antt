@@ -4,13 +4,13 @@ use Rattle.std.proofs.lemmas.Bool.{or_parts, true≢false}
 use Rattle.std.proofs.lemmas.Option.{none-some}
 use Rattle.std.specs.Option.{option_and_then, option_map_or}
 use Rattle.std.specs.Prelude.{◌&&◌, not, codes, is_some, if◌then◌else◌}
-use Rattle.xs_declared.proofs.KnownLemmas.{known_template}
+use Rattle.xs_compile.proofs.KnownLemmas.{known_template}
 use Rattle.xs_compile.proofs.RowLemmas.{row-known}
 use Rattle.xs_compile.proofs.ValidLemmas.{clean-all, clean-known, needed, value-of}
 use Rattle.xs_compile.specs.declared.compiler.Compiler.{Compiler}
-use Rattle.xs_declared.specs.Counted.{template_number}
-use Rattle.xs_declared.specs.Parts.{name_at, pairs_at, reading_at, row_at}
-use Rattle.xs_declared.specs.Tables.{number_in}
+use Rattle.xs_compile.specs.Counted.{template_number}
+use Rattle.xs_structure.specs.Parts.{name_at, pairs_at, reading_at, row_at}
+use Rattle.xs_compile.specs.Tables.{number_in}
 use Rattle.xs_compile.specs.steps.Rows.{needs}
 use Rattle.xs_compile.specs.steps.State.{IsReady, modules_of}
 use Rattle.xs_elements.specs.declared.forms.Form.{Form}
@@ -23,7 +23,7 @@ use Rattle.xs_elements.specs.Reading.{allowed_form}
 use Rattle.xs_elements.specs.Rows.{is_call_template}
 use Rattle.xs_elements.specs.Values.{is_bad, is_qname, is_unbound, is_unbound_name}
 use Rattle.xs_static.specs.Faults.{bad_attribute, is_misspelled, some_value, unbound_prefix, unknown_template}
-use Rattle.xs_static.specs.Modules.{Place, records_at}
+use Rattle.xs_structure.specs.Modules.{Place, records_at}
 use Rattle.xs_static.specs.Names.{is_template_name}
 use Rattle.xs_text.specs.Names.{QName, qname_of}
 use Rattle.xs_xpath.specs.Names.{is_bound, uri_of}

@@ -4,12 +4,13 @@ use Rattle.std.proofs.lemmas.Bool.{and_parts, or_parts, or_right, false≢true, 
 use Rattle.std.proofs.lemmas.List.Elements.{All-filter, All-map, filter_passes}
 use Rattle.std.specs.Prelude.{◌||◌, not, codes, if◌then◌else◌}
 use Rattle.std.specs.Str.{bytes_eq}
-use Rattle.xs_compile.proofs.ShownLemmas.{IsChildOf, all-children, child-behind, child-stands, inner-child, seen-child}
+use Rattle.xs_compile.proofs.ShownLemmas.{IsChildOf, all-children, child-behind, child-stands, inner-child}
+use Rattle.xs_structure.proofs.TopLemmas.{seen-child}
 use Rattle.xs_compile.proofs.StateLemmas.{tree-at}
 use Rattle.xs_compile.specs.declared.compiler.Compiler.{Compiler}
 use Rattle.xs_compile.specs.declared.parts.Part.{Part}
 use Rattle.xs_compile.specs.declared.parts.Part.TheVariants.{Attribute as AttributePart, Fallback as FallbackPart, Otherwise as OtherwisePart, Param as ParamPart, Sort as SortPart, When as WhenPart, WithParam as WithParamPart}
-use Rattle.xs_declared.specs.Parts.{body_at, children_at, children_with, is_in_body, reading_at, row_at}
+use Rattle.xs_structure.specs.Parts.{body_at, children_at, children_with, is_in_body, reading_at, row_at, is_content}
 use Rattle.xs_compile.specs.steps.Rows.{holds_body, is_body_row, is_text_node, part_row, part_test}
 use Rattle.xs_compile.specs.steps.State.{IsInBody, IsPartOf, IsReady, modules_of}
 use Rattle.xs_elements.specs.declared.contents.Content.{Content}
@@ -23,8 +24,8 @@ use Rattle.xs_elements.specs.Nodes.{has as has_attribute}
 use Rattle.xs_elements.specs.Reading.{content_at, content_by, is_in_extension, is_none, reading_by, reading_of, shows}
 use Rattle.xs_elements.specs.Rows.{is_param, is_sort, is_stylesheet, is_top_level, row_named, row_of, xslt_uri}
 use Rattle.xs_modules.specs.Numbering.{ModuleData}
-use Rattle.xs_static.specs.Modules.{Place, records_at}
-use Rattle.xs_static.specs.Placing.{content_before, is_content}
+use Rattle.xs_structure.specs.Modules.{Place, records_at}
+use Rattle.xs_static.specs.Placing.{content_before}
 use Rattle.xs_tree.specs.Kinds.{is_element_kind}
 use Rattle.xs_tree.specs.Record.{Record, at, children, local_at, uri_at}
 

@@ -9,7 +9,7 @@ use Rattle.std.specs.List.{list_any, range_with_len}
 use Rattle.std.specs.Option.{option_map_or}
 use Rattle.std.specs.Prelude.{◌&&◌, ◌||◌, not, find, option_map, if◌then◌else◌}
 use Rattle.std.specs.Str.{bytes_eq}
-use Rattle.xs_declared.specs.Places.{IsIn}
+use Rattle.xs_structure.specs.Places.{IsIn}
 use Rattle.xs_elements.specs.declared.forms.Form.{Form}
 use Rattle.xs_elements.specs.declared.reading.Reading.{Reading}
 use Rattle.xs_elements.specs.declared.reading.Reading.TheVariants.{Known, Literal}
@@ -18,7 +18,7 @@ use Rattle.xs_elements.specs.Reading.{form_by, form_of, has_read_attributes, has
 use Rattle.xs_elements.specs.Rows.{is_document_element, row_of}
 use Rattle.xs_modules.specs.Numbering.{ModuleData}
 use Rattle.xs_static.specs.Faults.{Fault, Holds, IsFirstFault, is_bad_root, number_of, of_form, shows, some_value}
-use Rattle.xs_static.specs.Modules.{Place, line_at, records_at}
+use Rattle.xs_structure.specs.Modules.{Place, line_at, records_at}
 use Rattle.xs_tree.proofs.PlaceLemmas.{range-more}
 use Rattle.xs_tree.proofs.WalkLemmas.{le_or_gt}
 use Rattle.xs_tree.specs.Kinds.{is_element_kind}

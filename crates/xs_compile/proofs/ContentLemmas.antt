@@ -4,11 +4,12 @@ use Rattle.std.proofs.lemmas.Bool.{and_from, and_parts, false≢true, lt-ltb, or
 use Rattle.std.specs.List.{list_all}
 use Rattle.std.specs.Option.{option_map_or}
 use Rattle.std.specs.Prelude.{◌&&◌, ◌||◌, codes, nat_lt, not}
-use Rattle.xs_scopes.proofs.AroundLemmas.{around-some}
+use Rattle.xs_structure.proofs.AroundLemmas.{around-some}
 use Rattle.xs_compile.proofs.AmongLemmas.{all-of, among-filter, among-map, place-among}
 use Rattle.xs_compile.proofs.CleanLemmas.{shows-none}
 use Rattle.xs_compile.proofs.LevelLemmas.{is_own}
-use Rattle.xs_scopes.proofs.ReachLemmas.{is_place-true, place-is}
+use Rattle.xs_structure.proofs.TopLemmas.{is_place-true}
+use Rattle.xs_compile.proofs.ReachLemmas.{place-is}
 use Rattle.xs_compile.proofs.ShownLemmas.{child-stands, root-other}
 use Rattle.xs_compile.proofs.ValidLemmas.{read-element}
 use Rattle.xs_elements.specs.declared.contents.Content.{Content}
@@ -23,10 +24,11 @@ use Rattle.xs_elements.specs.Reading.{content_at, content_by, has_version, has_v
 use Rattle.xs_elements.specs.Rows.{is_document_element, is_param, is_sheet, is_sort, is_top_level, is_variable, row_of}
 use Rattle.xs_elements.specs.WhiteSpace.{is_kept_text}
 use Rattle.xs_modules.specs.Numbering.{ModuleData}
-use Rattle.xs_static.specs.Bindings.{is_local}
+use Rattle.xs_structure.specs.Bindings.{is_local}
 use Rattle.xs_static.specs.Faults.{IsFirstFault, bad_root}
-use Rattle.xs_static.specs.Modules.{records_at}
-use Rattle.xs_static.specs.Placing.{content_before, is_content}
+use Rattle.xs_structure.specs.Modules.{records_at}
+use Rattle.xs_static.specs.Placing.{content_before}
+use Rattle.xs_structure.specs.Parts.{is_content}
 use Rattle.xs_tree.specs.declared.kinds.Kind.{Kind}
 use Rattle.xs_tree.specs.declared.kinds.Kind.TheVariants.{Element as ElementKind}
 use Rattle.xs_tree.specs.Kinds.{is_child_kind, is_element_kind}

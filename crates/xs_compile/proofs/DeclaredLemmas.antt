@@ -1,28 +1,26 @@
 -- What a stylesheet declares can be compiled.
-use Rattle.std.proofs.Common.{◌≡◌, ◌∙◌, ◌<◌, ◌≤◌, ◌+◌, ◌++◌, ℕ, ap, refl, sym, subst, Bool, true, false, List, [], ◌∷◌, filter, get_or, length, Option, None, inl, inr, take}
-use Rattle.std.proofs.lemmas.Bool.{and_parts, false≢true, or_cases}
+use Rattle.std.proofs.Common.{◌≡◌, ◌∙◌, ◌<◌, ◌≤◌, ◌+◌, ◌++◌, ℕ, ap, refl, sym, subst, Bool, true, false, List, [], ◌∷◌, filter, get_or, length, Option, None, take}
+use Rattle.std.proofs.lemmas.Bool.{and_parts, false≢true}
 use Rattle.std.proofs.lemmas.List.{take_all}
 use Rattle.std.specs.List.{AllZip}
 use Rattle.std.specs.Option.{option_map_or}
 use Rattle.std.specs.Prelude.{◌&&◌}
-use Rattle.xs_declared.proofs.DeclarationLemmas.{IsDeclared, all-declared}
-use Rattle.xs_scopes.proofs.ReachLemmas.{is_place-true}
+use Rattle.xs_structure.proofs.DeclarationLemmas.{IsDeclared, all-declared}
+use Rattle.xs_structure.proofs.TopLemmas.{is_place-true, declaration-seen}
 use Rattle.xs_compile.proofs.StateLemmas.{tree-at}
-use Rattle.xs_compile.proofs.TopLemmas.{simple-seen, top_seen}
 use Rattle.xs_compile.proofs.ZipLemmas.{item-of, taken-more, zip-if, zip-skip}
 use Rattle.xs_compile.specs.declared.compiler.Compiler.{Compiler}
-use Rattle.xs_declared.specs.Order.{declarations, declares, is_simplified}
+use Rattle.xs_structure.specs.Order.{declarations, is_simplified}
 use Rattle.xs_compile.specs.Bodies.{Source}
 use Rattle.xs_compile.specs.Declarations.{IsRuleOrModule, IsTemplate, IsWholeModule}
 use Rattle.xs_sheet.specs.declared.declarations.Template.{Template}
-use Rattle.xs_declared.specs.Parts.{imports_from_at, row_at, site_at}
+use Rattle.xs_structure.specs.Parts.{imports_from_at, row_at, site_at}
 use Rattle.xs_compile.specs.steps.State.{IsInstruction, IsReady, IsState, modules_of}
 use Rattle.xs_compile.specs.steps.Rows.{is_body_row}
 use Rattle.xs_elements.specs.declared.rows.Row.{Row}
 use Rattle.xs_elements.specs.declared.rows.Row.TheVariants.{Other}
 use Rattle.xs_elements.specs.Rows.{is_document_element, is_other, is_sheet, is_stylesheet, is_template, is_top_level, row_of}
-use Rattle.xs_static.specs.Modules.{Place, is_top_level_element, precedence_at, records_at}
-use Rattle.xs_tree.specs.Kinds.{is_element_kind}
+use Rattle.xs_structure.specs.Modules.{Place, precedence_at, records_at}
 use Rattle.xs_tree.specs.Record.{Record, at, is_place}
 use Rattle.xs_tree.specs.Shape.{IsTree}
 
@@ -48,10 +46,7 @@ module _ (c : Compiler) (state : IsState c) where
       record {
         state = state;
         within = h.within;
-        seen = elim (or_cases (is_top_level_element rs p.1) (is_simplified rs p.1) h.declares) [
-          | inl top ↦ top_seen rs tree p.1 h.within.node (and_parts (is_element_kind (at rs p.1).kind) (is_top_level rs p.1) top).1
-          | inr simple ↦ simple-seen rs tree p.1 h.within.node (and_parts (is_other (row_of rs p.1)) (is_document_element rs p.1) simple).1
-        ];
+        seen = declaration-seen rs tree p.1 h.within.node h.declares;
       }
 
   -- one of those that were found

@@ -6,11 +6,12 @@ use Rattle.std.specs.Prelude.{◌&&◌, ◌||◌, not}
 use Rattle.xs_compile.proofs.BoundLemmas.{locals_at}
 use Rattle.xs_compile.proofs.ContentLemmas.{IsOwn, element-child, own-parts, params-before, variable-element}
 use Rattle.xs_compile.proofs.LevelLemmas.{is_own, passing-behind, passing-either, passing-fewer-places, passing-none, visible-few}
-use Rattle.xs_scopes.proofs.OpenLemmas.{one_if, passing-more}
-use Rattle.xs_scopes.proofs.ReachLemmas.{is_place-true, parent-before, place-is}
-use Rattle.xs_compile.proofs.ShownLemmas.{IsChildOf, seen-child}
-use Rattle.xs_declared.specs.Parts.{body_at, children_with, is_in_body, reading_at, row_at}
-use Rattle.xs_declared.specs.Places.{IsIn}
+use Rattle.xs_compile.proofs.OpenLemmas.{one_if, passing-more}
+use Rattle.xs_structure.proofs.TopLemmas.{is_place-true, seen-child}
+use Rattle.xs_compile.proofs.ReachLemmas.{parent-before, place-is}
+use Rattle.xs_compile.proofs.ShownLemmas.{IsChildOf}
+use Rattle.xs_structure.specs.Parts.{body_at, children_with, is_in_body, reading_at, row_at, is_content}
+use Rattle.xs_structure.specs.Places.{IsIn}
 use Rattle.xs_elements.specs.declared.contents.Content.TheVariants.{ParametersAndBody}
 use Rattle.xs_elements.specs.declared.rows.Row.{Row}
 use Rattle.xs_elements.specs.declared.rows.Row.TheVariants.{Variable, Param}
@@ -19,8 +20,7 @@ use Rattle.xs_elements.specs.Rows.{is_param, is_sort, is_variable, row_of}
 use Rattle.xs_elements.specs.WhiteSpace.{is_kept_text}
 use Rattle.xs_modules.specs.Numbering.{ModuleData}
 use Rattle.xs_static.specs.Faults.{IsFirstFault}
-use Rattle.xs_static.specs.Modules.{Place, records_at}
-use Rattle.xs_static.specs.Placing.{is_content}
+use Rattle.xs_structure.specs.Modules.{Place, records_at}
 use Rattle.xs_tree.specs.Kinds.{is_child_kind, is_element_kind}
 use Rattle.xs_tree.specs.Record.{Record, at, is_child, is_place}
 use Rattle.xs_tree.specs.Shape.{IsTree}

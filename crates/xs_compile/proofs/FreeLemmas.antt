@@ -8,9 +8,9 @@ use Rattle.std.specs.Prelude.{◌&&◌, ◌||◌, codes, not, option_map}
 use Rattle.std.specs.Result.{result_ok}
 use Rattle.xs_compile.proofs.CleanLemmas.{shows-none, value-clean}
 use Rattle.xs_compile.specs.Parsed.{Both, IsExpr, IsPattern}
-use Rattle.xs_declared.specs.Parts.{pairs_at, reading_at, row_at, value_at}
+use Rattle.xs_structure.specs.Parts.{pairs_at, reading_at, row_at, value_at}
 use Rattle.xs_compile.specs.Slots.{slot_at}
-use Rattle.xs_declared.specs.Places.{IsIn}
+use Rattle.xs_structure.specs.Places.{IsIn}
 use Rattle.xs_elements.specs.declared.forms.Form.{Form}
 use Rattle.xs_elements.specs.declared.forms.Form.TheVariants.{KeyPattern, KeyUse, NumberPattern, TemplatePattern}
 use Rattle.xs_elements.specs.declared.reading.Reading.{Reading}
@@ -24,7 +24,7 @@ use Rattle.xs_sheet.specs.Sound.{holds_no_key}
 use Rattle.xs_sheet.specs.Standing.{is_free, pattern_is_free, pattern_is_free_if}
 use Rattle.xs_static.specs.Expressions.{expressions_of, is_forbidden_in, trees_if}
 use Rattle.xs_static.specs.Faults.{IsFirstFault, forbidden, of_form}
-use Rattle.xs_static.specs.Modules.{Place, records_at}
+use Rattle.xs_structure.specs.Modules.{Place, records_at}
 use Rattle.xs_tree.specs.Kinds.{is_element_kind}
 use Rattle.xs_tree.specs.Record.{Record, at, attributes}
 use Rattle.xs_xpath.specs.declared.fault.Fault.{Fault as ParseFault}

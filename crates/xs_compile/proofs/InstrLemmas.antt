@@ -8,12 +8,12 @@ use Rattle.std.specs.Option.{option_and_then}
 use Rattle.std.specs.Prelude.{◌&&◌, codes, nat_lt}
 use Rattle.xs_compile.proofs.FitLemmas.{Along, At, Opens, body-along}
 use Rattle.xs_compile.proofs.KeyLemmas.{site-stands}
-use Rattle.xs_scopes.proofs.OpenLemmas.{one_if}
+use Rattle.xs_compile.proofs.OpenLemmas.{one_if}
 use Rattle.xs_compile.proofs.OpeningLemmas.{Part, binding-known, extension-other, extension-parts, known-row, literal-other, loop-sorts, opens-binding, opens-literal, opens-row, parts-without}
 use Rattle.xs_compile.proofs.ValueLemmas.{expr-if, expr-of, name-stands, number-stands, puts-stand, selected, sort-stands, template-of, zip-all}
 use Rattle.xs_compile.specs.Bodies.{AreBindings, AreBodies, AreFallbacks, AreInstrs, AreSorts, AreWhens, IsApplied, IsBody, IsChoice, IsContent, IsExprOf, IsKind, IsMadeName, IsPassed, IsSort, Source, first_body, is_otherwise, is_text_or_element}
-use Rattle.xs_declared.specs.Counted.{counted, globals, named, template_number, templates}
-use Rattle.xs_declared.specs.Parts.{body_at, children_with, name_at, row_at}
+use Rattle.xs_compile.specs.Counted.{counted, globals, named, template_number, templates}
+use Rattle.xs_structure.specs.Parts.{body_at, children_with, name_at, row_at}
 use Rattle.xs_compile.specs.steps.Rows.{is_binding, needs}
 use Rattle.xs_elements.specs.declared.forms.Form.TheVariants.{Expression, ValueTemplate}
 use Rattle.xs_elements.specs.declared.reading.Reading.TheVariants.{Known}
@@ -39,7 +39,7 @@ use Rattle.xs_sheet.specs.declared.scoped.ScopedExpr.{ScopedExpr}
 use Rattle.xs_sheet.specs.Slots.{slots_taken}
 use Rattle.xs_sheet.specs.Standing.{Counts, bindings_stand, bodies_stand, body_stands, choice_stands, content_stands, expr_stands, expr_stands_if, fallbacks_stand, instrs_stand, kind_stands, name_stands, nodes_stand, passed_stands, site_stands, sort_stands, template_stands, whens_stand}
 use Rattle.xs_static.specs.Faults.{IsFirstFault}
-use Rattle.xs_static.specs.Modules.{Place, is_same_place, records_at}
+use Rattle.xs_structure.specs.Modules.{Place, is_same_place, records_at}
 use Rattle.xs_tree.specs.Shape.{IsTree}
 
 -- ---- what is found in a list has its number below the length

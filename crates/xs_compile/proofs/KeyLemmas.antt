@@ -10,8 +10,8 @@ use Rattle.xs_compile.proofs.UsedSetLemmas.{row-element}
 use Rattle.xs_compile.specs.Bodies.{Source}
 use Rattle.xs_compile.specs.Declarations.{IsKey}
 use Rattle.xs_compile.specs.Parsed.{IsExpr, IsPattern}
-use Rattle.xs_declared.specs.Parts.{reading_at, row_at, site_at, value_at}
-use Rattle.xs_declared.specs.Places.{IsIn}
+use Rattle.xs_structure.specs.Parts.{reading_at, row_at, site_at, value_at}
+use Rattle.xs_structure.specs.Places.{IsIn}
 use Rattle.xs_elements.specs.declared.reading.Reading.TheVariants.{Known}
 use Rattle.xs_elements.specs.declared.rows.Row.{Row}
 use Rattle.xs_elements.specs.declared.rows.Row.TheVariants.{Key}
@@ -22,7 +22,7 @@ use Rattle.xs_sheet.specs.declared.declarations.KeyDecl.{KeyDecl}
 use Rattle.xs_sheet.specs.Sound.{holds_no_key, key_is_sound}
 use Rattle.xs_sheet.specs.Standing.{Counts, pattern_is_free, site_stands}
 use Rattle.xs_static.specs.Faults.{IsFirstFault}
-use Rattle.xs_static.specs.Modules.{Place, records_at}
+use Rattle.xs_structure.specs.Modules.{Place, records_at}
 use Rattle.xs_trace.specs.declared.item.Site.{Site}
 use Rattle.xs_tree.specs.Shape.{IsTree}
 use Rattle.xs_xpath.specs.Uses.{uses_variables}

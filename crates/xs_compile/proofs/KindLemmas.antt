@@ -5,17 +5,13 @@ use Rattle.std.proofs.lemmas.Bool.{true≢false}
 use Rattle.xs_elements.specs.declared.reading.Reading.{Reading}
 use Rattle.xs_elements.specs.declared.reading.Reading.TheVariants.{Known as KnownReading, Literal as LiteralReading, Extension as ExtensionReading, Unread as UnreadReading}
 use Rattle.xs_elements.specs.declared.rows.Row.{Row}
-use Rattle.xs_elements.specs.declared.rows.Row.TheVariants.{Variable as VariableRow, ApplyTemplates as ApplyTemplatesRow, CallTemplate as CallTemplateRow, ApplyImports as ApplyImportsRow}
-use Rattle.xs_elements.specs.declared.rows.Row.TheVariants.{ForEach as ForEachRow, ValueOf as ValueOfRow, CopyOf as CopyOfRow, Copy as CopyRow, Number as NumberRow, Choose as ChooseRow}
-use Rattle.xs_elements.specs.declared.rows.Row.TheVariants.{If as IfRow, Text as TextRow, Element as ElementRow, Attribute as AttributeRow, Comment as CommentRow}
-use Rattle.xs_elements.specs.declared.rows.Row.TheVariants.{ProcessingInstruction as PiRow, Message as MessageRow, Other, NoElement}
+use Rattle.xs_elements.specs.declared.rows.Row.TheVariants.{Variable as VariableRow, ApplyTemplates as ApplyTemplatesRow, CallTemplate as CallTemplateRow, ApplyImports as ApplyImportsRow, ForEach as ForEachRow, ValueOf as ValueOfRow, CopyOf as CopyOfRow, Copy as CopyRow, Number as NumberRow, Choose as ChooseRow, If as IfRow, Text as TextRow, Element as ElementRow, Attribute as AttributeRow, Comment as CommentRow, ProcessingInstruction as PiRow, Message as MessageRow, Other, NoElement}
 use Rattle.xs_elements.specs.Reading.{reading_by, is_in_extension}
 use Rattle.xs_elements.specs.Rows.{is_top_level}
 use Rattle.xs_sheet.specs.declared.body.InstrKind.{InstrKind, Variable'}
-use Rattle.xs_sheet.specs.declared.body.InstrKind.TheVariants.{ApplyTemplates, CallTemplate, ApplyImports, ForEach, ValueOf, CopyOf, Copy, Number, Choose, If}
-use Rattle.xs_sheet.specs.declared.body.InstrKind.TheVariants.{Text, Element, Attribute, Comment, Pi, Message, Literal, Extension}
-use Rattle.xs_static.specs.Modules.{Place, records_at}
-use Rattle.xs_declared.specs.Parts.{reading_at, row_at}
+use Rattle.xs_sheet.specs.declared.body.InstrKind.TheVariants.{ApplyTemplates, CallTemplate, ApplyImports, ForEach, ValueOf, CopyOf, Copy, Number, Choose, If, Text, Element, Attribute, Comment, Pi, Message, Literal, Extension}
+use Rattle.xs_structure.specs.Modules.{Place, records_at}
+use Rattle.xs_structure.specs.Parts.{reading_at, row_at}
 use Rattle.xs_compile.specs.Bodies.{Source, IsKind, is_text_or_element}
 
 -- the kinds of instructions, numbered

@@ -3,10 +3,10 @@ use Rattle.std.proofs.Common.{◌≡◌, ◌∙◌, ◌<◌, ◌≤◌, ◌+◌,
 use Rattle.std.proofs.lemmas.Bool.{and_from, and_parts, false_from_ne_true, false≢true}
 use Rattle.std.specs.List.{range_with_len}
 use Rattle.std.specs.Prelude.{◌&&◌}
-use Rattle.xs_scopes.proofs.OpenLemmas.{one_if, passing-more, visible-before}
-use Rattle.xs_scopes.proofs.ReachLemmas.{parent-before, place-is, reaches-inner, reaches-of, reaches-to}
-use Rattle.xs_scopes.specs.Slots.{is_visible, visible_at}
-use Rattle.xs_static.specs.Bindings.{is_local, reaches}
+use Rattle.xs_compile.proofs.OpenLemmas.{one_if, passing-more, visible-before}
+use Rattle.xs_compile.proofs.ReachLemmas.{parent-before, place-is, reaches-inner, reaches-of, reaches-to}
+use Rattle.xs_compile.specs.Slots.{is_visible, visible_at}
+use Rattle.xs_structure.specs.Bindings.{is_local, reaches}
 use Rattle.xs_tree.proofs.WalkLemmas.{le_or_gt}
 use Rattle.xs_tree.specs.Record.{Record, at, is_place}
 use Rattle.xs_tree.specs.Shape.{IsTree}

@@ -4,10 +4,10 @@ use Rattle.std.proofs.lemmas.Bool.{and_parts, false≢true}
 use Rattle.std.proofs.lemmas.List.Elements.{All-filter, filter_passes}
 use Rattle.std.specs.Prelude.{◌&&◌, not, if◌then◌else◌}
 use Rattle.xs_compile.proofs.ShownLemmas.{places-within}
-use Rattle.xs_scopes.proofs.ReachLemmas.{is_place-true}
-use Rattle.xs_scopes.proofs.SettingLemmas.{left_out_of_parent}
-use Rattle.xs_scopes.specs.Excluded.{is_left_out}
-use Rattle.xs_scopes.specs.Setting.{is_space_left_out}
+use Rattle.xs_structure.proofs.TopLemmas.{is_place-true}
+use Rattle.xs_structure.proofs.StandingLemmas.{left_out_of_parent}
+use Rattle.xs_structure.specs.Excluded.{is_left_out}
+use Rattle.xs_structure.specs.Standing.{is_space_left_out}
 use Rattle.xs_elements.specs.Reading.{is_xslt}
 use Rattle.xs_tree.specs.declared.kinds.Kind.{Kind}
 use Rattle.xs_tree.specs.declared.kinds.Kind.TheVariants.{Space}

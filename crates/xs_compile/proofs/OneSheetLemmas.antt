@@ -30,23 +30,21 @@ use Rattle.xs_sheet.specs.declared.scoped.ScopedExpr.{ScopedExpr}
 use Rattle.xs_sheet.specs.declared.scoped.ScopedPattern.{ScopedPattern}
 use Rattle.xs_sheet.specs.declared.scoped.ValueTemplate.{ValueTemplate}
 use Rattle.xs_sheet.specs.declared.sheet.Sheet.{Sheet}
-use Rattle.xs_static.specs.Modules.{Place, records_at}
+use Rattle.xs_structure.specs.Modules.{Place, records_at}
 use Rattle.xs_trace.proofs.KeptLemmas.{some_same}
 use Rattle.xs_trace.specs.Label.{Label}
 use Rattle.xs_tree.specs.Record.{at}
-use Rattle.xs_declared.specs.Counted.{globals, templates}
-use Rattle.xs_declared.specs.Labels.{IsMode, mode_at}
-use Rattle.xs_declared.specs.Modes.{modes_of}
-use Rattle.xs_declared.specs.Order.{all_with}
-use Rattle.xs_declared.specs.Parts.{body_at, children_with, row_at, said_at, value_at}
-use Rattle.xs_compile.specs.Bodies.{Source, AreBindings, AreBodies, AreFallbacks, AreInstrs, AreWhens, IsApplied, IsBody, IsChoice, IsContent, IsKind}
-use Rattle.xs_compile.specs.Bodies.{IsLiteralStart, IsMadeName, IsNumber, IsPassed, IsPutAttribute, IsSort, first_body, is_otherwise, put_attributes}
+use Rattle.xs_compile.specs.Counted.{globals, templates}
+use Rattle.xs_compile.specs.Labels.{IsMode, mode_at}
+use Rattle.xs_compile.specs.Modes.{modes_of}
+use Rattle.xs_structure.specs.Order.{all_with}
+use Rattle.xs_structure.specs.Parts.{body_at, children_with, row_at, said_at, value_at}
+use Rattle.xs_compile.specs.Bodies.{Source, AreBindings, AreBodies, AreFallbacks, AreInstrs, AreWhens, IsApplied, IsBody, IsChoice, IsContent, IsKind, IsLiteralStart, IsMadeName, IsNumber, IsPassed, IsPutAttribute, IsSort, first_body, is_otherwise, put_attributes}
 use Rattle.xs_compile.specs.Declarations.{IsBinding, IsGlobal, IsInstr, IsKey, IsRuleOrModule, IsSet, IsTemplate, is_attribute, is_key}
 use Rattle.xs_compile.specs.Laws.{OneSheet}
 use Rattle.xs_compile.specs.Parsed.{Both, IsExpr, IsPattern, IsValueTemplate}
 use Rattle.xs_compile.specs.StandsFor.{IsSheet}
-use Rattle.xs_compile.proofs.KindLemmas.{kind-tag, by-applies, by-calls, by-imports, by-each, by-value, by-copy-of, by-copy, by-number, by-choose, by-if}
-use Rattle.xs_compile.proofs.KindLemmas.{by-text, by-element, by-attribute, by-comment, by-pi, by-message, by-variable, by-literal, by-extension}
+use Rattle.xs_compile.proofs.KindLemmas.{kind-tag, by-applies, by-calls, by-imports, by-each, by-value, by-copy-of, by-copy, by-number, by-choose, by-if, by-text, by-element, by-attribute, by-comment, by-pi, by-message, by-variable, by-literal, by-extension}
 
 -- ---- a relation that pins, over options and lists
 module _ {A B : Type 0} (R : A → B → Type 0) (one : (a : A) (b c : B) → R a b → R a c → b ≡ c) where

@@ -5,10 +5,11 @@ use Rattle.xs_compile.proofs.AmongLemmas.{all-among, among-all, among-kept, amon
 use Rattle.xs_compile.proofs.ContentLemmas.{is_plain, is_without, no-param, none-before-sort, none-held, none-in-extension}
 use Rattle.xs_compile.proofs.FitLemmas.{At, Opens, is_param_in}
 use Rattle.xs_compile.proofs.LevelLemmas.{is_own, passing-none, visible-same}
-use Rattle.xs_scopes.proofs.ReachLemmas.{is_place-true, parent-before}
-use Rattle.xs_compile.proofs.ShownLemmas.{IsChildOf, all-children, seen-child}
+use Rattle.xs_structure.proofs.TopLemmas.{is_place-true, seen-child}
+use Rattle.xs_compile.proofs.ReachLemmas.{parent-before}
+use Rattle.xs_compile.proofs.ShownLemmas.{IsChildOf, all-children}
 use Rattle.xs_compile.specs.Bodies.{Source, has_select}
-use Rattle.xs_declared.specs.Parts.{children_at, children_with, reading_at, row_at}
+use Rattle.xs_structure.specs.Parts.{children_at, children_with, reading_at, row_at}
 use Rattle.xs_compile.specs.steps.Rows.{is_binding}
 use Rattle.xs_elements.specs.declared.contents.Content.TheVariants.{SortsAndBody}
 use Rattle.xs_elements.specs.declared.reading.Reading.{Reading}
@@ -19,7 +20,7 @@ use Rattle.xs_elements.specs.Contents.{content_of}
 use Rattle.xs_elements.specs.Reading.{content_at, content_by, is_in_extension, is_seen, reading_by, shows}
 use Rattle.xs_elements.specs.Rows.{is_fallback, is_param, is_sort, is_top_level, row_of}
 use Rattle.xs_static.specs.Faults.{IsFirstFault}
-use Rattle.xs_static.specs.Modules.{Place, records_at}
+use Rattle.xs_structure.specs.Modules.{Place, records_at}
 use Rattle.xs_tree.specs.Kinds.{is_child_kind}
 use Rattle.xs_tree.specs.Record.{at, children, is_child, is_place}
 use Rattle.xs_tree.specs.Shape.{IsTree}

@@ -4,7 +4,7 @@ use Rattle.std.proofs.lemmas.Bool.{false≢true}
 use Rattle.std.proofs.lemmas.Option.{none-some}
 use Rattle.std.specs.Prelude.{codes, slice_get}
 use Rattle.xs_compile.specs.Bodies.{Source, first_body}
-use Rattle.xs_declared.specs.Parts.{body_at, reading_at, row_at}
+use Rattle.xs_structure.specs.Parts.{body_at, reading_at, row_at}
 use Rattle.xs_compile.specs.steps.Rows.{has_name, holds_body, is_binding, is_body_row, takes_expression}
 use Rattle.xs_elements.specs.declared.reading.Reading.{Reading}
 use Rattle.xs_elements.specs.declared.reading.Reading.TheVariants.{Known, Literal, Extension}
@@ -14,7 +14,7 @@ use Rattle.xs_elements.specs.Nodes.{has}
 use Rattle.xs_elements.specs.Reading.{content_at, content_by, is_in_extension, reading_by, reading_of}
 use Rattle.xs_elements.specs.Rows.{is_top_level, row_of}
 use Rattle.xs_modules.specs.Numbering.{ModuleData}
-use Rattle.xs_static.specs.Modules.{Place, records_at}
+use Rattle.xs_structure.specs.Modules.{Place, records_at}
 use Rattle.xs_tree.specs.Record.{Record}
 
 -- a test of an element's kind

@@ -1,23 +1,21 @@
 -- The children that an element shows, and where they stand.
 use Rattle.std.proofs.Common.{◌≡◌, ◌∙◌, ◌<◌, ◌==◌, ℕ, ap, refl, sym, subst, arith, All, Bool, true, false, List, length, Option, None, Some, eqb-true}
-use Rattle.std.proofs.lemmas.Bool.{and_from, and_parts, or_parts, or_right, true≢false}
+use Rattle.std.proofs.lemmas.Bool.{and_parts, or_parts, true≢false}
 use Rattle.std.proofs.lemmas.List.Elements.{All-filter, filter_passes}
 use Rattle.std.proofs.lemmas.List.FromFn.{get_or-range_with_len, length-range_with_len}
-use Rattle.std.specs.List.{list_all}
 use Rattle.std.specs.Option.{option_map_or}
 use Rattle.std.specs.Prelude.{◌&&◌, ◌||◌, not, if◌then◌else◌}
 use Rattle.std.specs.Str.{bytes_eq}
-use Rattle.xs_scopes.proofs.AroundLemmas.{around-some}
 use Rattle.xs_compile.proofs.CleanLemmas.{shows-none}
-use Rattle.xs_scopes.proofs.ReachLemmas.{is_place-true}
-use Rattle.xs_declared.specs.Places.{IsIn}
+use Rattle.xs_structure.proofs.TopLemmas.{is_place-true}
+use Rattle.xs_structure.specs.Places.{IsIn}
 use Rattle.xs_elements.specs.declared.rows.Row.{Row}
 use Rattle.xs_elements.specs.declared.rows.Row.TheVariants.{Other, NoElement}
-use Rattle.xs_elements.specs.Reading.{is_seen, is_shown, reading_of, shows, shows_at}
+use Rattle.xs_elements.specs.Reading.{is_seen, shows}
 use Rattle.xs_elements.specs.Rows.{is_document_element, is_sheet, is_stylesheet, is_top_level, row_named, row_of, xslt_uri}
 use Rattle.xs_modules.specs.Numbering.{ModuleData}
 use Rattle.xs_static.specs.Faults.{IsFirstFault, misplaced}
-use Rattle.xs_static.specs.Modules.{records_at}
+use Rattle.xs_structure.specs.Modules.{records_at}
 use Rattle.xs_static.specs.Placing.{has_misplaced_text, is_misplaced_element, lacks_branch, stands_in}
 use Rattle.xs_tree.proofs.WalkLemmas.{IsPlaced-at}
 use Rattle.xs_tree.specs.Kinds.{is_child_kind, is_element_kind}
@@ -25,14 +23,6 @@ use Rattle.xs_tree.specs.Record.{Record, at, children, is_child, is_place, local
 use Rattle.xs_tree.specs.Shape.{IsTree}
 
 -- ---- what is looked at
-pub seen-child : (rs : List Record) → IsTree rs → (n k : ℕ) → k < length rs → (at rs k).parent ≡ Some n
-    → shows (reading_of rs n) (row_of rs k) ≡ true → is_seen rs n ≡ true → is_seen rs k ≡ true
-seen-child rs tree n k inside parent shown seen =
-    ap (list_all (is_shown rs)) (around-some rs tree k n inside parent)
-    ∙ and_from (is_shown rs k) (is_seen rs n)
-    (ap (λ (o : Option ℕ). option_map_or (λ p. shows_at rs p k) o true) parent
-    ∙ or_right (is_document_element rs k) (shows (reading_of rs n) (row_of rs k)) shown) seen
-
 pub places-within : (rs : List Record) → All (λ k. k < length rs) (places rs)
 places-within rs = λ i d h.
     rw (get_or-range_with_len 0 (length rs) i d (omega (arith, h, length-range_with_len 0 (length rs)))) (omega (arith, h, length-range_with_len 0 (length rs)))

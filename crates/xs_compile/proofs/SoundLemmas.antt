@@ -10,30 +10,29 @@ use Rattle.std.specs.Prelude.{◌&&◌, codes, if◌then◌else◌}
 use Rattle.xs_compile.proofs.ApartLemmas.{sets-apart}
 use Rattle.xs_compile.proofs.BoundLemmas.{locals_at}
 use Rattle.xs_compile.proofs.ContentLemmas.{none-in-root, none-in-sheet, param-variable}
-use Rattle.xs_declared.proofs.DeclarationLemmas.{IsDeclared, all-declared, both}
+use Rattle.xs_structure.proofs.DeclarationLemmas.{IsDeclared, all-declared, both}
 use Rattle.xs_compile.proofs.FitLemmas.{Along, At, Opens, body-along, is_param_in, params-along, params-many}
 use Rattle.xs_compile.proofs.FreeLemmas.{root_is_free, template_pattern_free}
 use Rattle.xs_compile.proofs.InstrLemmas.{body-stands, content-stands, kind-stands}
 use Rattle.xs_compile.proofs.OpeningLemmas.{Part, known-row, parts-without}
 use Rattle.xs_compile.proofs.KeyLemmas.{key-sound, site-stands}
 use Rattle.xs_compile.proofs.LevelLemmas.{visible-same}
-use Rattle.xs_scopes.proofs.OpenLemmas.{none-visible, one_if, passing-few}
-use Rattle.xs_scopes.proofs.ReachLemmas.{is_place-true, parent-before}
-use Rattle.xs_compile.proofs.TopLemmas.{simple-seen, top_seen}
+use Rattle.xs_compile.proofs.OpenLemmas.{none-visible, one_if, passing-few}
+use Rattle.xs_structure.proofs.TopLemmas.{is_place-true, declaration-seen}
+use Rattle.xs_compile.proofs.ReachLemmas.{parent-before}
 use Rattle.xs_compile.proofs.ValidLemmas.{clean-known, needed, read-element}
 use Rattle.xs_compile.proofs.ValueLemmas.{zip-all}
 use Rattle.xs_compile.specs.Bodies.{Source, has_select}
-use Rattle.xs_declared.specs.Counted.{globals, is_global, is_template_place, templates}
+use Rattle.xs_compile.specs.Counted.{globals, is_global, templates}
+use Rattle.xs_structure.specs.Order.{is_template_place, all_with, declarations, is_declaration, is_simplified}
 use Rattle.xs_compile.specs.Declarations.{IsBinding, IsGlobal, IsInstr, IsKey, IsRule, IsRuleOrModule, IsSet, IsTemplate, IsWholeModule, is_attribute, is_key}
-use Rattle.xs_declared.specs.Order.{all_with}
-use Rattle.xs_declared.specs.Order.{declarations, declares, is_simplified}
 use Rattle.xs_compile.specs.Parsed.{Both, IsPattern}
-use Rattle.xs_declared.specs.Parts.{body_at, children_at, children_with, reading_at, row_at, site_at}
+use Rattle.xs_structure.specs.Parts.{body_at, children_at, children_with, reading_at, row_at, site_at}
 use Rattle.xs_compile.specs.StandsFor.{IsSheet, StandsFor}
-use Rattle.xs_declared.specs.Modes.{modes_of}
+use Rattle.xs_compile.specs.Modes.{modes_of}
 use Rattle.xs_compile.specs.steps.Rows.{is_binding, needs}
 use Rattle.xs_compile.specs.steps.Trees.{AreTrees, HasTree}
-use Rattle.xs_declared.specs.Places.{IsIn}
+use Rattle.xs_structure.specs.Places.{IsIn}
 use Rattle.xs_elements.specs.declared.reading.Reading.{Reading}
 use Rattle.xs_elements.specs.declared.reading.Reading.TheVariants.{Known}
 use Rattle.xs_elements.specs.declared.rows.Row.{Row}
@@ -55,7 +54,7 @@ use Rattle.xs_sheet.specs.Sets.{is_apart}
 use Rattle.xs_sheet.specs.Sound.{IsSound, attribute_stands, counts_of, global_is_sound, key_is_sound, params_stand, set_is_sound, template_is_sound}
 use Rattle.xs_sheet.specs.Standing.{Counts, body_stands, content_stands, kind_stands, pattern_is_free_if, site_stands}
 use Rattle.xs_static.specs.Faults.{IsFirstFault}
-use Rattle.xs_static.specs.Modules.{Place, is_top_level_element, records_at}
+use Rattle.xs_structure.specs.Modules.{Place, is_top_level_element, records_at}
 use Rattle.xs_trace.specs.declared.item.Site.{Site}
 use Rattle.xs_tree.specs.Kinds.{is_element_kind}
 use Rattle.xs_tree.specs.Limits.{most_nodes}
@@ -120,7 +119,7 @@ module _ (s : Source) (trees : (m : ℕ) → m < length s.modules → IsTree (re
     (small : (m : ℕ) → m < length s.modules → length (records_at s.modules m) + length (records_at s.modules m) < counts.bound)
     (sound : AreSound s.modules) where
   -- ---- at a declaration no local binding is visible
-  none-at : (m n : ℕ) → IsIn s.modules (m, n) → declares (records_at s.modules m) n ≡ true → locals_at s.modules (m, n) ≤ 0
+  none-at : (m n : ℕ) → IsIn s.modules (m, n) → is_declaration (records_at s.modules m) n ≡ true → locals_at s.modules (m, n) ≤ 0
   none-at m n within declared =
       elim (or_cases (is_top_level_element rs n) (is_simplified rs n) declared) [
         | inl top ↦ by_parent (at rs n).parent refl (and_parts (is_element_kind (at rs n).kind) (is_top_level rs n) top).1
@@ -156,10 +155,7 @@ module _ (s : Source) (trees : (m : ℕ) → m < length s.modules → IsTree (re
       let tree = trees p.0 d.within.«module» in
       record {
         within = d.within;
-        seen = elim (or_cases (is_top_level_element rs p.1) (is_simplified rs p.1) d.declares) [
-          | inl top ↦ top_seen rs tree p.1 d.within.node (and_parts (is_element_kind (at rs p.1).kind) (is_top_level rs p.1) top).1
-          | inr simple ↦ simple-seen rs tree p.1 d.within.node (and_parts (is_other (row_of rs p.1)) (is_document_element rs p.1) simple).1
-        ];
+        seen = declaration-seen rs tree p.1 d.within.node d.declares;
         enough = none-at p.0 p.1 d.within d.declares;
         few = omega arith;
       }

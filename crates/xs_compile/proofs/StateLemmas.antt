@@ -6,18 +6,18 @@ use Rattle.std.specs.List.{AllZip}
 use Rattle.std.specs.Option.{option_map_or}
 use Rattle.std.specs.Prelude.{◌&&◌, not}
 use Rattle.xs_compile.proofs.CleanLemmas.{no-fault}
-use Rattle.xs_scopes.specs.declared.setting.Setting.{Setting}
-use Rattle.xs_scopes.specs.declared.slots.Locals.{Locals}
-use Rattle.xs_scopes.specs.Setting.{setting_of}
-use Rattle.xs_scopes.specs.Locals.{AreLocals, IsApart}
+use Rattle.xs_structure.specs.declared.standing.Standing.{Standing}
+use Rattle.xs_compile.specs.declared.slots.Locals.{Locals}
+use Rattle.xs_structure.specs.Standing.{standing_of}
+use Rattle.xs_compile.specs.Locals.{AreLocals, IsApart}
 use Rattle.xs_compile.specs.steps.Tables.{HasLocals}
 use Rattle.xs_elements.specs.Nodes.{own_name}
 use Rattle.xs_elements.specs.Reading.{is_seen}
 use Rattle.xs_elements.specs.Rows.{is_top_level, is_variable, row_of}
 use Rattle.xs_modules.specs.Numbering.{ModuleData}
-use Rattle.xs_static.specs.Bindings.{is_local, is_visible, shadows}
+use Rattle.xs_structure.specs.Bindings.{is_local, is_visible, shadows}
 use Rattle.xs_static.specs.Faults.{IsFirstFault, shadowing}
-use Rattle.xs_static.specs.Modules.{records_at}
+use Rattle.xs_structure.specs.Modules.{records_at}
 use Rattle.xs_tree.specs.Kinds.{is_element_kind}
 use Rattle.xs_tree.specs.Record.{Record, at, places}
 use Rattle.xs_tree.specs.Shape.{IsTree}
@@ -46,15 +46,15 @@ module _ {T X : Type 0} (of : List Record → List X) (items : T → List X) whe
   table-in (d ∷ ds) (x ∷ xs) h (suc m) lt t e = table-in ds xs (ap (λ (tables : List (List X)). drop 1 tables) h) m (omega (arith, lt)) t e
 
 -- how a node stands
-pub settings-in : {T : Type 0} (items : T → List Setting) (ms : List ModuleData) (all : List T)
-    → map items all ≡ map (λ (d : ModuleData). map (setting_of d.records) (places d.records)) ms → (m : ℕ) → m < length ms → (t : T) → t ≡ get_or all m t
-    → items t ≡ map (setting_of (records_at ms m)) (places (records_at ms m))
-settings-in items = table-in (λ rs. map (setting_of rs) (places rs)) items
+pub standings-in : {T : Type 0} (items : T → List Standing) (ms : List ModuleData) (all : List T)
+    → map items all ≡ map (λ (d : ModuleData). map (standing_of d.records) (places d.records)) ms → (m : ℕ) → m < length ms → (t : T) → t ≡ get_or all m t
+    → items t ≡ map (standing_of (records_at ms m)) (places (records_at ms m))
+standings-in items = table-in (λ rs. map (standing_of rs) (places rs)) items
 
-pub settings-many : {T : Type 0} (items : T → List Setting) (ms : List ModuleData) (all : List T)
-    → map items all ≡ map (λ (d : ModuleData). map (setting_of d.records) (places d.records)) ms → length all ≡ length ms
-settings-many items ms all h =
-    sym (length-map all items) ∙ ap length h ∙ length-map ms (λ (d : ModuleData). map (setting_of d.records) (places d.records))
+pub standings-many : {T : Type 0} (items : T → List Standing) (ms : List ModuleData) (all : List T)
+    → map items all ≡ map (λ (d : ModuleData). map (standing_of d.records) (places d.records)) ms → length all ≡ length ms
+standings-many items ms all h =
+    sym (length-map all items) ∙ ap length h ∙ length-map ms (λ (d : ModuleData). map (standing_of d.records) (places d.records))
 
 -- ---- no local binding shadows another one
 -- an element that binds a variable is one

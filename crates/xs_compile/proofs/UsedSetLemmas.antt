@@ -6,14 +6,15 @@ use Rattle.std.specs.List.{filter_map, flat_map, list_any}
 use Rattle.std.specs.Option.{option_and_then, option_map_or}
 use Rattle.std.specs.Prelude.{◌&&◌, ◌||◌, codes, not, option_map, if◌then◌else◌}
 use Rattle.std.specs.Str.{bytes_eq}
-use Rattle.xs_circles.specs.Circles.{IsIn as IsAmong}
+use Rattle.xs_static.specs.Circles.{IsAmong}
 use Rattle.xs_compile.proofs.AmongLemmas.{among-filter, among-flat, place-among}
-use Rattle.xs_compile.proofs.ShownLemmas.{IsChildOf, all-children, seen-child}
+use Rattle.xs_compile.proofs.ShownLemmas.{IsChildOf, all-children}
+use Rattle.xs_structure.proofs.TopLemmas.{seen-child}
 use Rattle.xs_compile.proofs.CleanLemmas.{read-known, read-literal, shows-none, value-clean}
-use Rattle.xs_scopes.proofs.ReachLemmas.{inside-of, inside-to, within-more, within-parent}
+use Rattle.xs_compile.proofs.ReachLemmas.{inside-of, inside-to, within-more, within-parent}
 use Rattle.xs_compile.specs.Bodies.{AreBindings, AreBodies, AreFallbacks, AreInstrs, AreWhens, IsBody, IsChoice, IsContent, IsKind, IsPassed, Source, first_body, is_otherwise}
-use Rattle.xs_declared.specs.Labels.{label_in, label_of, labels_in}
-use Rattle.xs_declared.specs.Parts.{body_at, children_at, children_with, is_in_body, pairs_at, reading_at, row_at}
+use Rattle.xs_compile.specs.Labels.{label_in, label_of, labels_in}
+use Rattle.xs_structure.specs.Parts.{body_at, children_at, children_with, is_in_body, pairs_at, reading_at, row_at}
 use Rattle.xs_elements.specs.declared.forms.Form.{Form}
 use Rattle.xs_elements.specs.declared.forms.Form.TheVariants.{Sets}
 use Rattle.xs_elements.specs.declared.reading.Reading.{Reading}
@@ -37,7 +38,7 @@ use Rattle.xs_sheet.specs.declared.body.Passed.{Passed, Passed', Row_of-Binding,
 use Rattle.xs_sheet.specs.declared.body.When.{When'}
 use Rattle.xs_sheet.specs.Sets.{bindings_sets, bodies_sets, body_sets, choice_sets, content_sets, fallbacks_sets, instrs_sets, kind_sets, passed_sets, whens_sets}
 use Rattle.xs_static.specs.Faults.{IsFirstFault, bad_root, is_misspelled, of_form, some_value, unbound_prefix}
-use Rattle.xs_static.specs.Modules.{Place, records_at}
+use Rattle.xs_structure.specs.Modules.{Place, records_at}
 use Rattle.xs_static.specs.Sets.{is_part, listed, named_sets, names_in, sets_value, sets_within}
 use Rattle.xs_text.specs.Names.{QName, qname_of}
 use Rattle.xs_trace.specs.Label.{Label}

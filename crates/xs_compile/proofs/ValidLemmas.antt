@@ -9,9 +9,9 @@ use Rattle.std.specs.Prelude.{◌&&◌, not, option_map, codes, is_some, IsOk, i
 use Rattle.std.specs.Str.{bytes_eq}
 use Rattle.xs_compile.proofs.CleanLemmas.{attribute-clean, find-any, none-passing, read-known, read-literal, shows-none, value-clean}
 use Rattle.xs_compile.specs.steps.Rows.{has_name, is_name, needs, takes_expression, takes_pattern, takes_template}
-use Rattle.xs_declared.specs.Places.{IsIn}
-use Rattle.xs_declared.specs.Labels.{label_at, label_in, label_of}
-use Rattle.xs_declared.specs.Parts.{pairs_at, reading_at, row_at, said_at, value_at}
+use Rattle.xs_structure.specs.Places.{IsIn}
+use Rattle.xs_compile.specs.Labels.{label_at, label_in, label_of}
+use Rattle.xs_structure.specs.Parts.{pairs_at, reading_at, row_at, said_at, value_at}
 use Rattle.xs_elements.specs.Attributes.{Allowed, allowed, attributes_of, is_allowed_name}
 use Rattle.xs_elements.specs.declared.forms.Form.{Form}
 use Rattle.xs_elements.specs.declared.forms.Form.TheVariants.{Version, Expression, KeyUse, TemplatePattern, KeyPattern, NumberPattern, ValueTemplate, Name, Sets, Prefixes, Priority}
@@ -27,7 +27,7 @@ use Rattle.xs_elements.specs.Values.{is_bad, is_number, is_qname, is_unbound, un
 use Rattle.xs_modules.specs.Numbering.{ModuleData}
 use Rattle.xs_static.specs.Expressions.{has_parse_fault, is_fault}
 use Rattle.xs_static.specs.Faults.{Fault, Holds, IsFirstFault, arg_count, bad_attribute, bad_literal, bad_root, bad_syntax, is_misspelled, is_missing, lacks_both, lacks_some, missing_attribute, not_pattern, of_form, shows, some_value, too_nested, unbound_prefix, unknown_function}
-use Rattle.xs_static.specs.Modules.{Place, records_at}
+use Rattle.xs_structure.specs.Modules.{Place, records_at}
 use Rattle.xs_text.specs.Names.{QName, qname_of}
 use Rattle.xs_trace.specs.Label.{Label}
 use Rattle.xs_tree.specs.Kinds.{is_element_kind}

@@ -13,9 +13,9 @@ use Rattle.xs_compile.proofs.FitLemmas.{At}
 use Rattle.xs_compile.proofs.FreeLemmas.{number_pattern_free}
 use Rattle.xs_compile.proofs.ValidLemmas.{clean-all, clean-known, clean-literal, needed, read-element, value-of}
 use Rattle.xs_compile.specs.Bodies.{IsExprIf, IsExprOf, IsMadeName, IsNumber, IsPutAttribute, IsSort, IsTemplateIf, IsTemplateOf, Source, put_attributes}
-use Rattle.xs_declared.specs.Counted.{globals}
+use Rattle.xs_compile.specs.Counted.{globals}
 use Rattle.xs_compile.specs.Parsed.{Both, IsExpr, IsValueTemplate}
-use Rattle.xs_declared.specs.Parts.{pairs_at, reading_at, row_at, said_at, value_at}
+use Rattle.xs_structure.specs.Parts.{pairs_at, reading_at, row_at, said_at, value_at}
 use Rattle.xs_compile.specs.steps.Rows.{needs}
 use Rattle.xs_elements.specs.declared.forms.Form.{Form}
 use Rattle.xs_elements.specs.declared.forms.Form.TheVariants.{Expression, ValueTemplate}
@@ -31,10 +31,10 @@ use Rattle.xs_sheet.specs.declared.body.SortDecl.{SortDecl}
 use Rattle.xs_sheet.specs.declared.scoped.ScopedExpr.{ScopedExpr}
 use Rattle.xs_sheet.specs.declared.scoped.ValueTemplate.{ValueTemplate as Template}
 use Rattle.xs_sheet.specs.Standing.{Counts, expr_stands, expr_stands_if, name_stands, number_stands, pattern_is_free_if, sort_stands, template_stands, template_stands_if}
-use Rattle.xs_static.specs.Bindings.{is_known}
+use Rattle.xs_static.specs.Names.{is_known}
 use Rattle.xs_static.specs.Expressions.{expressions_of, has_unknown}
 use Rattle.xs_static.specs.Faults.{IsFirstFault, of_form, unknown_variable}
-use Rattle.xs_static.specs.Modules.{Place, records_at}
+use Rattle.xs_structure.specs.Modules.{Place, records_at}
 use Rattle.xs_trace.specs.Label.{Label}
 use Rattle.xs_tree.specs.Record.{Record, at, attributes, is_attribute, local_at, places, uri_at}
 use Rattle.xs_tree.specs.Shape.{IsTree}

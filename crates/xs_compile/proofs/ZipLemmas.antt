@@ -1,12 +1,12 @@
 -- Two lists that are related place by place, one place more.
-use Rattle.std.proofs.Common.{◌≡◌, ◌∙◌, ◌<◌, ◌≤◌, ◌+◌, ◌-◌, ◌*◌, ℕ, zero, suc, ap, sym, subst, arith, List, [], ◌∷◌, ◌++◌, length, take, get_or, All, Bool, Some, true, false, filter}
-use Rattle.std.proofs.lemmas.List.{take_all, append-nil}
+use Rattle.std.proofs.Common.{◌≡◌, ◌∙◌, ◌<◌, ◌≤◌, ◌+◌, ◌-◌, ◌*◌, ℕ, zero, suc, ap, refl, sym, subst, arith, List, [], ◌∷◌, ◌++◌, length, map, take, get_or, All, Bool, Some, true, false, filter}
+use Rattle.std.proofs.lemmas.List.{take_all, append-nil, map_push}
 use Rattle.std.proofs.lemmas.List.Elements.{filter-append}
 use Rattle.std.specs.List.{AllZip}
 use Rattle.std.proofs.lemmas.Option.{none-some}
 use Rattle.std.specs.Prelude.{slice_get, if◌then◌else◌}
 use Rattle.xs_modules.specs.Numbering.{ModuleData}
-use Rattle.xs_static.specs.Modules.{Place, records_at}
+use Rattle.xs_structure.specs.Modules.{Place, records_at}
 
 pub taken-more : {A : Type 0} (xs : List A) (i : ℕ) (x : A) → i < length xs → x ≡ get_or xs i x → take (i + 1) xs ≡ take i xs ++ x ∷ []
 taken-more [] i x lt e = absurd (omega (arith, lt))
@@ -14,6 +14,12 @@ taken-more (z ∷ zs) zero x lt e = ap (λ w. w ∷ []) (sym e)
 taken-more (z ∷ zs) (suc i) x lt e =
     let next : suc i + 1 ≡ suc (i + 1) = omega arith in
     ap (λ k. take k (z ∷ zs)) next ∙ ap (λ ws. z ∷ ws) (taken-more zs i x (omega (arith, lt)) e)
+
+-- the item that is found is the one that is read
+pub item-got : (ms : List ModuleData) (i : ℕ) (d : ModuleData) → slice_get ms i ≡ Some d → d ≡ get_or ms i d
+item-got [] i d e = refl
+item-got (x ∷ xs) zero d e = cc (e)
+item-got (x ∷ xs) (suc i) d e = item-got xs i d e
 
 module _ {A B : Type 0} (R : A → B → Type 0) where
   pub zip-push : (xs : List A) (ys : List B) (x : A) (y : B) → AllZip R xs ys → R x y → AllZip R (xs ++ x ∷ []) (ys ++ y ∷ [])
@@ -63,3 +69,11 @@ pub behind-falls : (ms : List ModuleData) (inside q : Place) (r s t : ℕ) → 8
 behind-falls ms inside q r s t entered same behind within small =
     subst (λ m. 8 * (length (records_at ms q.0) - q.1) + r < m) entered
     (falls (length (records_at ms q.0)) (length (records_at ms inside.0)) inside.1 q.1 r s (ap (λ m. length (records_at ms m)) same) behind within small)
+
+-- ---- what the tables of modules have, one module more
+module _ {T X : Type 0} (of : ModuleData → X) (items : T → X) where
+  pub tables-more : (ms : List ModuleData) (all : List T) (i : ℕ) (d : ModuleData) (t : T) → i < length ms → slice_get ms i ≡ Some d
+      → map items all ≡ map of (take i ms) → items t ≡ of d → map items (all ++ t ∷ []) ≡ map of (take (i + 1) ms)
+  tables-more ms all i d t lt e before h =
+      map_push items all t ∙ ap (λ (xs : List X). xs ++ items t ∷ []) before ∙ ap (λ (x : X). map of (take i ms) ++ x ∷ []) h
+      ∙ sym (map_push of (take i ms) d) ∙ ap (map of) (sym (taken-more ms i d lt (item-got ms i d e)))

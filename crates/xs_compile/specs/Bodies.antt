@@ -29,14 +29,14 @@ use Rattle.xs_sheet.specs.declared.body.SortDecl.{SortDecl}
 use Rattle.xs_sheet.specs.declared.body.When.{When, When'}
 use Rattle.xs_sheet.specs.declared.scoped.ScopedExpr.{ScopedExpr}
 use Rattle.xs_sheet.specs.declared.scoped.ValueTemplate.{ValueTemplate}
-use Rattle.xs_static.specs.Modules.{Place, records_at}
+use Rattle.xs_structure.specs.Modules.{Place, records_at}
 use Rattle.xs_trace.specs.Label.{Label}
 use Rattle.xs_tree.specs.Record.{at, attributes, uri_at}
-use Rattle.xs_declared.specs.Counted.{template_number}
-use Rattle.xs_scopes.specs.Excluded.{copied_spaces}
-use Rattle.xs_declared.specs.Labels.{IsMode, label_at, labels_in, mode_at, own_label}
+use Rattle.xs_compile.specs.Counted.{template_number}
+use Rattle.xs_structure.specs.Excluded.{copied_spaces}
+use Rattle.xs_compile.specs.Labels.{IsMode, label_at, labels_in, mode_at, own_label}
 use Rattle.xs_compile.specs.Parsed.{Both, IsExpr, IsPattern, IsValueTemplate}
-use Rattle.xs_declared.specs.Parts.{body_at, children_with, name_at, pairs_at, reading_at, row_at, said_at, site_at, text_at, value_at}
+use Rattle.xs_structure.specs.Parts.{body_at, children_with, name_at, pairs_at, reading_at, row_at, said_at, site_at, text_at, value_at}
 
 -- The modules of a stylesheet, and its modes in the order that gives their numbers.
 pub record Source : Type 0 where

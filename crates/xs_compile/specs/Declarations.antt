@@ -10,10 +10,10 @@ use Rattle.xs_sheet.specs.declared.declarations.AttrSet.{AttrSet}
 use Rattle.xs_sheet.specs.declared.declarations.Global.{Global}
 use Rattle.xs_sheet.specs.declared.declarations.KeyDecl.{KeyDecl}
 use Rattle.xs_sheet.specs.declared.declarations.Template.{Template}
-use Rattle.xs_static.specs.Modules.{Place, precedence_at}
-use Rattle.xs_declared.specs.Labels.{IsMode, label_at, mode_at}
-use Rattle.xs_declared.specs.Parts.{body_at, children_with, imports_from_at, row_at, said_at, site_at, value_at}
-use Rattle.xs_declared.specs.Priorities.{priority_in}
+use Rattle.xs_structure.specs.Modules.{Place, precedence_at}
+use Rattle.xs_compile.specs.Labels.{IsMode, label_at, mode_at}
+use Rattle.xs_structure.specs.Parts.{body_at, children_with, imports_from_at, row_at, said_at, site_at, value_at}
+use Rattle.xs_compile.specs.Priorities.{priority_in}
 use Rattle.xs_compile.specs.Bodies.{Source, AreSets, IsBody, IsContent, IsExprOf, IsKind}
 use Rattle.xs_compile.specs.Parsed.{Both, IsPattern}
 

@@ -1,8 +1,17 @@
+pub mod Aliases
 pub mod Answers
 pub mod Bodies
+pub mod Counted
 pub mod Declarations
+pub mod Labels
 pub mod Laws
+pub mod Locals
+pub mod Modes
+pub mod Output
 pub mod Parsed
+pub mod Priorities
 pub mod Slots
+pub mod Spaces
 pub mod StandsFor
+pub mod Tables
 pub mod steps

@@ -5,14 +5,14 @@ use Rattle.xs_modules.specs.Numbering.{ModuleData}
 use Rattle.xs_sheet.specs.declared.scoped.ScopedExpr.{ScopedExpr}
 use Rattle.xs_sheet.specs.declared.scoped.ScopedPattern.{ScopedPattern}
 use Rattle.xs_sheet.specs.declared.scoped.ValueTemplate.{ValueTemplate}
-use Rattle.xs_static.specs.Modules.{Place}
+use Rattle.xs_structure.specs.Modules.{Place}
 use Rattle.xs_xpath.specs.declared.name.Slot.{Slot}
 use Rattle.xs_xpath.specs.declared.scope.Scope.{Scope}
 use Rattle.xs_xpath.specs.Binding.{bound}
 use Rattle.xs_xpath.specs.Faults.{expr_in, pattern_in}
 use Rattle.xs_xpath.specs.Outcome.{alternatives}
 use Rattle.xs_xpath.specs.Templates.{Part, text, computed, template_in}
-use Rattle.xs_declared.specs.Parts.{pairs_at}
+use Rattle.xs_structure.specs.Parts.{pairs_at}
 use Rattle.xs_compile.specs.Slots.{slot_at}
 
 abbrev pub IsScope : List ModuleData → Place → Scope → Type 0

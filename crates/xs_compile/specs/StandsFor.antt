@@ -5,17 +5,17 @@ use Rattle.std.specs.Option.{option_map_or}
 use Rattle.xs_modules.specs.Numbering.{ModuleData}
 use Rattle.xs_elements.specs.Rows.{is_attribute_set, is_document_element}
 use Rattle.xs_sheet.specs.declared.sheet.Sheet.{Sheet}
-use Rattle.xs_static.specs.Modules.{line_at, records_at}
+use Rattle.xs_structure.specs.Modules.{line_at, records_at}
 use Rattle.xs_tree.specs.Kinds.{is_element_kind}
 use Rattle.xs_tree.specs.Record.{Record, at, places}
 use Rattle.xs_compile.specs.Bodies.{Source}
-use Rattle.xs_declared.specs.Counted.{globals, templates}
+use Rattle.xs_compile.specs.Counted.{globals, templates}
 use Rattle.xs_compile.specs.Declarations.{IsGlobal, IsKey, IsSet, IsTemplate, is_key}
-use Rattle.xs_declared.specs.Aliases.{aliases}
-use Rattle.xs_declared.specs.Modes.{modes_of}
-use Rattle.xs_declared.specs.Order.{all_with}
-use Rattle.xs_declared.specs.Output.{method}
-use Rattle.xs_declared.specs.Spaces.{strip_rules}
+use Rattle.xs_compile.specs.Aliases.{aliases}
+use Rattle.xs_compile.specs.Modes.{modes_of}
+use Rattle.xs_structure.specs.Order.{all_with}
+use Rattle.xs_compile.specs.Output.{method}
+use Rattle.xs_compile.specs.Spaces.{strip_rules}
 
 -- the line of the first module's element
 abbrev pub is_root_element : List Record → ℕ → Bool

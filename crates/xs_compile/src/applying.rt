@@ -6,7 +6,7 @@ ghost use Rattle.std.specs.Option.{unwrap_or};
 ghost use Rattle.xs_compile.specs.Bodies.{AreSorts, IsApplied, IsKind, IsNumber, IsRow, IsSort};
 ghost use Rattle.xs_compile.specs.Bodies.{is_text_or_element, level_named};
 ghost use Rattle.xs_compile.specs.Parsed.{IsExpr, IsScope};
-ghost use Rattle.xs_declared.specs.Parts.{reading_at, row_at, value_at};
+ghost use Rattle.xs_structure.specs.Parts.{reading_at, row_at, value_at};
 ghost use Rattle.xs_compile.specs.steps.State.{IsReady, modules_of, source_of};
 ghost use Rattle.xs_elements.specs.declared.reading.Reading.TheVariants.{Known};
 
@@ -14,11 +14,11 @@ use crate::compiler::Compiler;
 use crate::parts::Part;
 use std::alloc::AllocError;
 use std::sync::Arc;
-use xs_declared::places::{said_at, text_at, value_at};
 use xs_elements::rows::Row;
 use xs_sheet::body::{Applied, InstrKind, Level, NumberDecl, SortDecl};
 use xs_sheet::items::Items;
 use xs_sheet::scoped::ScopedExpr;
+use xs_structure::places::{said_at, text_at, value_at};
 use xs_tree::Node;
 use xs_xpath::scope::Scope;
 

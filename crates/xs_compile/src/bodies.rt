@@ -2,10 +2,10 @@
 
 ghost use Rattle.std.specs.Prelude.{◌≡◌, false, true, IfOk};
 ghost use Rattle.std.specs.List.{AllZip};
-ghost use Rattle.xs_compile.specs.Bodies.{AreFallbacks, IsBody, IsContent, IsKind, IsPassed};
-ghost use Rattle.xs_compile.specs.Bodies.{IsRow, IsWhen, first_body, has_select, is_otherwise};
+ghost use Rattle.xs_compile.specs.Bodies.{AreFallbacks, IsBody, IsContent, IsKind, IsPassed, IsRow};
+ghost use Rattle.xs_compile.specs.Bodies.{IsWhen, first_body, has_select, is_otherwise};
 ghost use Rattle.xs_compile.specs.Declarations.{IsBinding};
-ghost use Rattle.xs_declared.specs.Parts.{body_at, children_with, reading_at, row_at};
+ghost use Rattle.xs_structure.specs.Parts.{body_at, children_with, reading_at, row_at};
 ghost use Rattle.xs_compile.specs.steps.Gains.{Gains, GainsInstr};
 ghost use Rattle.xs_compile.specs.steps.Rows.{holds_body, is_binding};
 ghost use Rattle.xs_compile.specs.steps.State.{IsInstruction, IsReady, modules_of, source_of};
@@ -13,16 +13,16 @@ ghost use Rattle.xs_elements.specs.declared.reading.Reading.TheVariants.{Extensi
 ghost use Rattle.xs_elements.specs.Contents.{is_with_param};
 ghost use Rattle.xs_elements.specs.Reading.{content_at};
 ghost use Rattle.xs_elements.specs.Rows.{is_fallback, is_when};
-ghost use Rattle.xs_static.specs.Modules.{records_at};
+ghost use Rattle.xs_structure.specs.Modules.{records_at};
 
 use crate::compiler::Compiler;
 use crate::parts::Part;
 use std::alloc::AllocError;
-use xs_declared::places::{row_at, said_at, site_at};
 use xs_elements::reading::Reading;
 use xs_elements::rows::Row;
 use xs_sheet::body::{Binding, Body, Choice, Content, Fallbacks, Instr, InstrKind, Passed, When};
 use xs_sheet::items::Items;
+use xs_structure::places::{row_at, said_at, site_at};
 use xs_trace::item::Site;
 use xs_tree::Node;
 
@@ -319,7 +319,7 @@ impl<'m> Compiler<'m> {
         requires row { IsRow (source_of self.now) («number», n) Row.Other }
         ensures { IfOk result (IsKind (source_of self.now) («number», n)) }
     {
-        match self.setting(number, n).reading {
+        match self.standing(number, n).reading {
             Reading::Literal => {
                 let body = self.body(number, n)?;
                 let start = self.literal_start(number, n)?;

@@ -1,37 +1,37 @@
 //! A stylesheet, compiled.
 
 ghost use Rattle.std.specs.List.{All};
-ghost use Rattle.std.specs.Prelude.{◌≡◌, ◌<◌, ◌^◌, ℕ, List, None, find, length, map, IfOk};
-ghost use Rattle.std.specs.Prelude.{IfSome, OnOk};
+ghost use Rattle.std.specs.Prelude.{◌≡◌, ◌<◌, ◌^◌, ℕ, List, None, find, length, map, IfOk, IfSome};
+ghost use Rattle.std.specs.Prelude.{OnOk};
 ghost use Rattle.xs_compile.specs.StandsFor.{StandsFor, is_root_element, root_line};
 ghost use Rattle.xs_static.specs.Faults.{IsFirstFault};
 ghost use Rattle.xs_compile.specs.Answers.{Answers};
 ghost use Rattle.xs_compile.specs.declared.compiled.CompileEnd.TheVariants.{NoMemory};
 ghost use Rattle.xs_compile.specs.steps.State.{IsState, modules_of};
 ghost use Rattle.xs_compile.specs.steps.Trees.{AreTrees};
-ghost use Rattle.xs_declared.specs.Counted.{counted, named};
-ghost use Rattle.xs_declared.specs.Order.{declarations};
-ghost use Rattle.xs_declared.specs.Places.{IsIn};
-ghost use Rattle.xs_declared.specs.Tables.{place_in};
+ghost use Rattle.xs_compile.specs.Counted.{counted, named};
+ghost use Rattle.xs_structure.specs.Order.{declarations};
+ghost use Rattle.xs_structure.specs.Places.{IsIn};
+ghost use Rattle.xs_compile.specs.Tables.{place_in};
 ghost use Rattle.xs_elements.specs.Rows.{is_variable};
 ghost use Rattle.xs_modules.specs.Results.{modules_data};
 ghost use Rattle.xs_modules.specs.Sound.{IsSound};
 ghost use Rattle.xs_tree.specs.Record.{places};
 
+use crate::aliases::aliases;
 use crate::compiler::Compiler;
+use crate::counted::{Counted, Kind as Declared, counted_of};
+use crate::output::method;
+use crate::spaces::strips;
 use std::alloc::{AllocError, AllocFailed, Global};
 use thiserror::Error;
-use xs_declared::aliases::aliases;
-use xs_declared::counted::{Counted, Kind as Declared, counted_of};
-use xs_declared::declarations::declarations;
-use xs_declared::output::method;
-use xs_declared::places::Place;
-use xs_declared::spaces::strips;
 use xs_modules::Modules;
-use xs_scopes::setting::is_element;
 use xs_sheet::items::Items;
 use xs_sheet::sheet::Sheet;
 use xs_static::{StaticFault, first_fault};
+use xs_structure::declarations::declarations;
+use xs_structure::places::Place;
+use xs_structure::standing::is_element;
 use xs_trace::text::TextBuf;
 use xs_tree::{Node, Tree};
 

@@ -5,35 +5,36 @@ ghost use Rattle.std.specs.Arc.{arc_value};
 ghost use Rattle.std.specs.List.{All, AllZip};
 ghost use Rattle.std.specs.Option.{option_and_then};
 ghost use Rattle.xs_compile.specs.Bodies.{IsRow};
-ghost use Rattle.xs_declared.specs.Counted.{counted, named, template_number};
-ghost use Rattle.xs_declared.specs.Labels.{IsMode, mode_at};
-ghost use Rattle.xs_declared.specs.Order.{declarations};
-ghost use Rattle.xs_declared.specs.Parts.{name_at};
+ghost use Rattle.xs_compile.specs.Counted.{counted, named, template_number};
+ghost use Rattle.xs_compile.specs.Labels.{IsMode, mode_at};
+ghost use Rattle.xs_structure.specs.Order.{declarations};
+ghost use Rattle.xs_structure.specs.Parts.{name_at};
 ghost use Rattle.xs_compile.specs.Parsed.{IsScope};
 ghost use Rattle.xs_compile.specs.Slots.{slot_at};
-ghost use Rattle.xs_declared.specs.Tables.{place_in};
-ghost use Rattle.xs_declared.specs.Modes.{modes_of};
-ghost use Rattle.xs_scopes.specs.Setting.{setting_of};
+ghost use Rattle.xs_compile.specs.Tables.{place_in};
+ghost use Rattle.xs_compile.specs.Modes.{modes_of};
+ghost use Rattle.xs_structure.specs.Standing.{standing_of};
 ghost use Rattle.xs_compile.specs.steps.State.{IsReady, IsState, modules_of, source_of};
-ghost use Rattle.xs_compile.specs.steps.Tables.{HasLocals, scopes_in, scopes_of};
-ghost use Rattle.xs_declared.specs.Places.{IsIn};
+ghost use Rattle.xs_compile.specs.steps.Tables.{HasLocals};
+ghost use Rattle.xs_structure.specs.Scopes.{scopes_in, scopes_of};
+ghost use Rattle.xs_structure.specs.Places.{IsIn};
 ghost use Rattle.xs_elements.specs.Rows.{is_variable};
 ghost use Rattle.xs_modules.specs.Results.{modules_data};
 ghost use Rattle.xs_modules.specs.Sound.{IsSound};
 ghost use Rattle.xs_static.specs.Faults.{IsFirstFault};
-ghost use Rattle.xs_static.specs.Modules.{records_at};
+ghost use Rattle.xs_structure.specs.Modules.{records_at};
 ghost use Rattle.xs_tree.specs.Record.{places};
 
-use crate::scopes::Scopes;
+use crate::counted::{Counted, Numbers, global_numbers, template_numbers};
+use crate::modes::{Modes, mode_at};
+use crate::slots::Locals;
 use std::alloc::{AllocError, Global};
 use std::sync::Arc;
-use xs_declared::counted::{Counted, Numbers, global_numbers, template_numbers};
-use xs_declared::modes::{Modes, mode_at};
-use xs_declared::places::{Place, name_at, tree_of};
 use xs_elements::rows::Row;
 use xs_modules::Modules;
-use xs_scopes::setting::{Setting, settings};
-use xs_scopes::slots::Locals;
+use xs_structure::places::{Place, name_at, tree_of};
+use xs_structure::scopes::Scopes;
+use xs_structure::standing::{Standing, standings_by};
 use xs_tree::Node;
 use xs_xpath::name::Slot;
 use xs_xpath::scope::Scope;
@@ -51,23 +52,11 @@ pub(crate) struct Compiler<'m> {
     templates: Numbers<'m>,
     modes: Modes<'m>,
     /// Of each module, how its nodes stand.
-    settings: Vec<Vec<Setting>>,
+    standings: Vec<Vec<Standing>>,
     /// Of each module, the namespaces in scope at its nodes.
     scopes: Vec<Scopes>,
     /// Of each module, its local bindings.
     locals: Vec<Locals<'m>>,
-}
-
-/// How the nodes of all modules stand.
-fn all_settings(alloc: Global, modules: &Modules) -> Result<Vec<Vec<Setting>>, AllocError>
-    ensures { IfOk result (λ all. map (λ table. table.items) all.items
-        ≡ map (λ d. map (setting_of d.records) (places d.records)) (modules_data modules.now)) }
-{
-    let mut all = Vec::new(alloc);
-    for module in &modules.list {
-        all.push(settings(alloc, &module.tree)?)?;
-    }
-    Ok(all)
 }
 
 /// The namespaces in scope at the nodes of all modules.
@@ -82,21 +71,40 @@ fn all_scopes(alloc: Global, modules: &Modules) -> Result<Vec<Scopes>, AllocErro
     Ok(all)
 }
 
+/// How the nodes of all modules stand, by the namespaces in scope at them.
+fn all_standings(
+    alloc: Global,
+    modules: &Modules,
+    scopes: &[Scopes],
+) -> Result<Vec<Vec<Standing>>, AllocError>
+    requires { map scopes_in scopes.now
+        ≡ map (λ d. scopes_of d.records) (modules_data modules.now) }
+    ensures { IfOk result (λ all. map (λ table. table.items) all.items
+        ≡ map (λ d. map (standing_of d.records) (places d.records)) (modules_data modules.now)) }
+{
+    let mut all = Vec::new(alloc);
+    for number in 0..modules.list.len() {
+        let tree = &modules.list[number].tree;
+        all.push(standings_by(alloc, tree, &scopes[number])?)?;
+    }
+    Ok(all)
+}
+
 /// The local bindings of all modules, whose nodes stand so.
 fn all_locals<'m>(
     alloc: Global,
     modules: &'m Modules,
-    settings: &[Vec<Setting>],
+    standings: &[Vec<Standing>],
 ) -> Result<Vec<Locals<'m>>, AllocError>
-    requires { map (λ table. table.items) settings.now
-        ≡ map (λ d. map (setting_of d.records) (places d.records)) (modules_data modules.now) }
+    requires { map (λ table. table.items) standings.now
+        ≡ map (λ d. map (standing_of d.records) (places d.records)) (modules_data modules.now) }
     ensures { IfOk result (λ all. AllZip HasLocals (modules_data modules.now) all.items) }
 {
     let mut all = Vec::new(alloc);
     for number in 0..modules.list.len() {
         let tree = &modules.list[number].tree;
         let _count = tree.len();
-        all.push(Locals::of(alloc, tree, &settings[number])?)?;
+        all.push(Locals::of(alloc, tree, &standings[number])?)?;
     }
     Ok(all)
 }
@@ -123,28 +131,28 @@ impl<'m> Compiler<'m> {
         let globals = global_numbers(alloc, modules, declared, globals)?;
         let templates = template_numbers(alloc, modules, declared)?;
         let modes = Modes::of(alloc, modules)?;
-        let settings = all_settings(alloc, modules)?;
         let scopes = all_scopes(alloc, modules)?;
-        let locals = all_locals(alloc, modules, &settings)?;
+        let standings = all_standings(alloc, modules, &scopes)?;
+        let locals = all_locals(alloc, modules, &standings)?;
         Ok(Compiler {
             alloc,
             modules,
             globals,
             templates,
             modes,
-            settings,
+            standings,
             scopes,
             locals,
         })
     }
 
     /// How a node stands.
-    pub(crate) fn setting(&self, number: u32, n: Node) -> Setting
+    pub(crate) fn standing(&self, number: u32, n: Node) -> Standing
         requires state { IsState self.now }
         requires at { IsIn (modules_of self.now) («number», n) }
-        ensures { result ≡ setting_of (records_at (modules_of self.now) «number») n }
+        ensures { result ≡ standing_of (records_at (modules_of self.now) «number») n }
     {
-        self.settings[number as usize][n.place() as usize]
+        self.standings[number as usize][n.place() as usize]
     }
 
     /// The namespaces that are in scope at a node.

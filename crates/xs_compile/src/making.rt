@@ -1,38 +1,37 @@
 //! Parts of instructions that make elements and attributes, but for their content.
 
 ghost use Rattle.std.specs.Prelude.{◌≡◌, ◌<◌, ◌++◌, ◌∷◌, [], true, false, codes, length, IfOk};
-ghost use Rattle.std.specs.Prelude.{OnOk};
-ghost use Rattle.std.specs.Prelude.{filter, not, option_map, if◌then◌else◌};
+ghost use Rattle.std.specs.Prelude.{OnOk, filter, not, option_map, if◌then◌else◌};
 ghost use Rattle.std.specs.Arc.{arc_value};
 ghost use Rattle.std.specs.List.{AllZip};
 ghost use Rattle.xs_compile.specs.Bodies.{IsLiteralStart, IsMadeName, IsPutAttribute};
 ghost use Rattle.xs_compile.specs.Bodies.{put_attributes};
-ghost use Rattle.xs_scopes.specs.Excluded.{copied_spaces, is_left_out};
-ghost use Rattle.xs_declared.specs.Labels.{labels_in, own_label};
+ghost use Rattle.xs_structure.specs.Excluded.{copied_spaces, is_left_out};
+ghost use Rattle.xs_compile.specs.Labels.{labels_in, own_label};
 ghost use Rattle.xs_compile.specs.Parsed.{IsScope};
-ghost use Rattle.xs_declared.specs.Parts.{pairs_at, reading_at, row_at};
+ghost use Rattle.xs_structure.specs.Parts.{pairs_at, reading_at, row_at};
 ghost use Rattle.xs_compile.specs.steps.Rows.{is_making_named};
 ghost use Rattle.xs_compile.specs.steps.State.{IsReady, modules_of, source_of};
-ghost use Rattle.xs_declared.specs.Places.{IsIn};
+ghost use Rattle.xs_structure.specs.Places.{IsIn};
 ghost use Rattle.xs_elements.specs.declared.reading.Reading.TheVariants.{Literal};
 ghost use Rattle.xs_elements.specs.Nodes.{pair_at, value_of};
 ghost use Rattle.xs_elements.specs.Reading.{is_xslt};
 ghost use Rattle.xs_elements.specs.Rows.{xslt_uri};
 ghost use Rattle.xs_modules.specs.Results.{modules_data};
-ghost use Rattle.xs_static.specs.Modules.{records_at};
+ghost use Rattle.xs_structure.specs.Modules.{records_at};
 ghost use Rattle.xs_tree.specs.Record.{at, attributes, is_attribute, is_namespace, uri_at};
 
 use crate::compiler::Compiler;
+use crate::labels::labels_in;
 use std::alloc::{AllocError, Global};
 use std::sync::Arc;
-use xs_declared::labels::labels_in;
-use xs_declared::places::tree_of;
 use xs_elements::rows::XSLT_URI;
 use xs_elements::scope::value_of;
 use xs_modules::Modules;
 use xs_sheet::body::{LiteralStart, MadeName};
 use xs_sheet::items::Items;
 use xs_sheet::scoped::{Namespaces, ValueTemplate};
+use xs_structure::places::tree_of;
 use xs_trace::event::Label;
 use xs_trace::text::TextBuf;
 use xs_tree::{Node, Tree};
@@ -176,7 +175,7 @@ impl<'m> Compiler<'m> {
             else spaces.old.items
             ++ pair_at (records_at (modules_of self.now) «number») space ∷ [])) }
     {
-        if self.setting(number, space).is_left_out {
+        if self.standing(number, space).is_left_out {
             return Ok(());
         }
         let pair = self.space_pair(number, space)?;

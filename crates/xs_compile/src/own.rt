@@ -2,8 +2,8 @@
 
 ghost use Rattle.std.specs.Prelude.{◌≡◌, true, Some, IfOk};
 ghost use Rattle.xs_compile.specs.Bodies.{AreSets, IsExprIf, IsExprOf, IsTemplateOf};
-ghost use Rattle.xs_declared.specs.Labels.{label_at};
-ghost use Rattle.xs_declared.specs.Parts.{row_at};
+ghost use Rattle.xs_compile.specs.Labels.{label_at};
+ghost use Rattle.xs_structure.specs.Parts.{row_at};
 ghost use Rattle.xs_compile.specs.steps.Rows.{has_name, needs, takes_expression, takes_template};
 ghost use Rattle.xs_compile.specs.steps.State.{IsReady, modules_of, source_of};
 

@@ -3,21 +3,21 @@
 ghost use Rattle.std.specs.Prelude.{◌≡◌, ◌++◌, ◌∷◌, [], ℕ, List, true, map, IfOk, OnOk};
 ghost use Rattle.std.specs.Prelude.{if◌then◌else◌};
 ghost use Rattle.std.specs.List.{All};
-ghost use Rattle.xs_declared.specs.Parts.{body_at, children_with, is_in_body, reading_at, row_at};
+ghost use Rattle.xs_structure.specs.Parts.{body_at, children_with, is_in_body, reading_at, row_at};
 ghost use Rattle.xs_compile.specs.steps.Rows.{holds_body, part_test};
 ghost use Rattle.xs_compile.specs.steps.State.{IsInBody, IsPartOf, IsReady, modules_of};
-ghost use Rattle.xs_declared.specs.Places.{IsIn};
+ghost use Rattle.xs_structure.specs.Places.{IsIn};
 ghost use Rattle.xs_elements.specs.declared.rows.Row.{Row};
 ghost use Rattle.xs_elements.specs.Reading.{content_at, shows};
 ghost use Rattle.xs_elements.specs.WhiteSpace.{preserves};
 ghost use Rattle.xs_modules.specs.Results.{modules_data};
-ghost use Rattle.xs_static.specs.Modules.{records_at};
+ghost use Rattle.xs_structure.specs.Modules.{records_at};
 
 use crate::compiler::Compiler;
 use std::alloc::{AllocError, Global};
-use xs_declared::places::{Place, is_in_body, row_at, tree_of};
 use xs_elements::rows::Row;
 use xs_modules::Modules;
+use xs_structure::places::{Place, is_in_body, row_at, tree_of};
 use xs_tree::Node;
 
 /// The parts of elements that are told by their kind (XSLT 1.0, 5.3, 7.1.4, 9.2, 10, 11.6 and 15).
@@ -152,7 +152,7 @@ impl<'m> Compiler<'m> {
         ensures body { IfOk result (λ places.
             All (IsInBody self.now («number», n)) places.items) }
     {
-        let preserved = self.setting(number, n).preserves;
+        let preserved = self.standing(number, n).preserves;
         body_at(self.alloc, self.modules, number, n, preserved)
     }
 }

@@ -3,26 +3,26 @@
 ghost use Rattle.std.specs.Prelude.{◌≡◌, true, Some, IfOk, IsOk};
 ghost use Rattle.std.specs.Arc.{arc_value};
 ghost use Rattle.xs_compile.specs.Bodies.{AreSets};
-ghost use Rattle.xs_declared.specs.Labels.{label_at, label_in, labels_in};
+ghost use Rattle.xs_compile.specs.Labels.{label_at, label_in, labels_in};
 ghost use Rattle.xs_compile.specs.Parsed.{Both, IsExpr, IsPattern, IsScope, IsValueTemplate};
-ghost use Rattle.xs_declared.specs.Parts.{pairs_at, row_at, said_at, value_at};
-ghost use Rattle.xs_compile.specs.steps.Rows.{has_name, needs};
-ghost use Rattle.xs_compile.specs.steps.Rows.{takes_expression, takes_pattern, takes_template};
+ghost use Rattle.xs_structure.specs.Parts.{pairs_at, row_at, said_at, value_at};
+ghost use Rattle.xs_compile.specs.steps.Rows.{has_name, needs, takes_expression, takes_pattern};
+ghost use Rattle.xs_compile.specs.steps.Rows.{takes_template};
 ghost use Rattle.xs_compile.specs.steps.State.{IsReady, modules_of, source_of};
-ghost use Rattle.xs_declared.specs.Places.{IsIn};
+ghost use Rattle.xs_structure.specs.Places.{IsIn};
 ghost use Rattle.xs_xpath.specs.Faults.{expr_in, pattern_in};
 ghost use Rattle.xs_xpath.specs.Names.{uri_of};
 ghost use Rattle.xs_xpath.specs.Templates.{template_in};
 
 use crate::compiler::Compiler;
+use crate::labels::{label_in, labels_in};
 use crate::parsed;
 use std::alloc::AllocError;
 use std::sync::Arc;
-use xs_declared::labels::{label_in, labels_in};
-use xs_declared::places::{said_at, value_at};
 use xs_sheet::scoped::{
     Namespaces, ParsedExpr, ParsedPattern, Parts, ScopedExpr, ScopedPattern, ValueTemplate,
 };
+use xs_structure::places::{said_at, value_at};
 use xs_trace::event::Label;
 use xs_tree::Node;
 use xs_xpath::scope::Scope;

@@ -3,35 +3,33 @@
 ghost use Rattle.std.specs.Prelude.{◌≡◌, ℕ, List, true, codes, IfOk, option_map};
 ghost use Rattle.std.specs.List.{AllZip};
 ghost use Rattle.xs_compile.specs.Bodies.{IsRow};
-ghost use Rattle.xs_declared.specs.Counted.{counted, globals, is_template_place, named};
-ghost use Rattle.xs_declared.specs.Counted.{templates};
+ghost use Rattle.xs_compile.specs.Counted.{counted, globals, named, templates};
+ghost use Rattle.xs_structure.specs.Order.{is_template_place, all_with, declarations};
+ghost use Rattle.xs_structure.specs.Order.{is_simplified};
 ghost use Rattle.xs_compile.specs.Declarations.{IsBinding, IsGlobal, IsInstr, IsKey, IsSet};
-ghost use Rattle.xs_compile.specs.Declarations.{IsTemplate};
-ghost use Rattle.xs_declared.specs.Order.{all_with};
-ghost use Rattle.xs_compile.specs.Declarations.{is_attribute, is_key};
-ghost use Rattle.xs_declared.specs.Priorities.{priority_in};
-ghost use Rattle.xs_declared.specs.Order.{declarations, is_simplified};
-ghost use Rattle.xs_declared.specs.Parts.{children_with, row_at, value_at};
-ghost use Rattle.xs_declared.specs.Tables.{place_in};
+ghost use Rattle.xs_compile.specs.Declarations.{IsTemplate, is_attribute, is_key};
+ghost use Rattle.xs_compile.specs.Priorities.{priority_in};
+ghost use Rattle.xs_structure.specs.Parts.{children_with, row_at, value_at};
+ghost use Rattle.xs_compile.specs.Tables.{place_in};
 ghost use Rattle.xs_compile.specs.steps.State.{IsReady, IsState, modules_of, source_of};
 ghost use Rattle.xs_elements.specs.Rows.{is_attribute_set, is_param, is_variable};
-ghost use Rattle.xs_declared.specs.Places.{IsIn};
+ghost use Rattle.xs_structure.specs.Places.{IsIn};
 ghost use Rattle.xs_modules.specs.Results.{modules_data};
-ghost use Rattle.xs_static.specs.Modules.{records_at};
+ghost use Rattle.xs_structure.specs.Modules.{records_at};
 
 use crate::compiler::Compiler;
+use crate::counted::{Counted, is_global};
 use crate::parts::Part;
+use crate::priorities::priority_in;
 use std::alloc::AllocError;
-use xs_declared::counted::{Counted, is_global};
-use xs_declared::places::{
-    Place, imports_from_at, is_template, precedence_at, row_at, site_at, value_at,
-};
-use xs_declared::priorities::priority_in;
 use xs_elements::rows::Row;
 use xs_modules::Modules;
 use xs_sheet::body::{Binding, Body, Instr};
 use xs_sheet::declarations::{AttrSet, Global, KeyDecl, Template};
 use xs_sheet::items::Items;
+use xs_structure::places::{
+    Place, imports_from_at, is_template, precedence_at, row_at, site_at, value_at,
+};
 use xs_tree::Node;
 
 /// Whether a declaration is one of a key.

@@ -6,7 +6,8 @@ use Rattle.std.proofs.lemmas.List.Elements.{filter-append}
 use Rattle.std.specs.List.{range_with_len}
 use Rattle.std.specs.Prelude.{◌&&◌, nat_lt}
 use Rattle.xs_elements.specs.Rows.{row_of}
-use Rattle.xs_static.specs.Placing.{content_before, is_content}
+use Rattle.xs_static.specs.Placing.{content_before}
+use Rattle.xs_structure.specs.Parts.{is_content}
 use Rattle.xs_static.specs.steps.Misplaced.{rows_among}
 use Rattle.xs_tree.specs.Record.{Record, children, is_child}
 

@@ -14,16 +14,17 @@ use Rattle.xs_modules.specs.declared.modules.Module.{Module}
 use Rattle.xs_modules.specs.Numbering.{ModuleData}
 use Rattle.xs_modules.specs.Results.{module_data}
 use Rattle.xs_static.proofs.MeetLemmas.{least_append}
-use Rattle.xs_static.proofs.NameLemmas.{name-sym}
+use Rattle.xs_structure.proofs.NameLemmas.{name-sym}
 use Rattle.xs_static.specs.declared.fault.StaticFault.{StaticFault}
 use Rattle.xs_static.specs.declared.names.Declared.{Declared}
 use Rattle.xs_static.specs.declared.names.Names.{Names}
-use Rattle.xs_static.specs.Modules.{Place, line_at, precedence_at, records_at}
-use Rattle.xs_static.specs.Names.{declares, declares_again}
+use Rattle.xs_structure.specs.Modules.{Place, line_at, precedence_at, records_at}
+use Rattle.xs_structure.specs.Order.{declares}
+use Rattle.xs_static.specs.Names.{declares_again}
 use Rattle.xs_static.specs.steps.Declared.{AreDeclared, HasDeclared, Noted, declares_at, is_ranked, name_faults, names_faults, repeats}
 use Rattle.xs_static.specs.steps.InForce.{is_among}
 use Rattle.xs_static.specs.steps.Least.{fault_where, least_of}
-use Rattle.xs_static.specs.steps.Whole.{HaveLines, IsPlaceOf}
+use Rattle.xs_structure.specs.Places.{HaveLines, IsIn}
 
 -- ---- a name is put into a set
 cond-or : (b x : Bool) → cond b true x ≡ (b || x)
@@ -124,7 +125,7 @@ pub record SoFar (ms : List ModuleData) (all : List Place) (start least : Option
   pub done : List Place
   pub whole : all ≡ done ++ rest
   pub declared : AreDeclared ms done names
-  pub inside : All (IsPlaceOf ms) rest
+  pub inside : All (IsIn ms) rest
   pub faults : least_of least (names_faults ms done rest) ≡ least_of start (names_faults ms [] all)
 
 none-declared : (kind : Row → Bool) (ms : List ModuleData) (d : Declared) → d.names.keys ≡ [] → d.ranked.keys ≡ [] → HasDeclared kind ms [] d
@@ -134,7 +135,7 @@ none-declared kind ms d names ranked = record {
 }
 
 pub starts : (ms : List ModuleData) (all : List Place) (start : Option StaticFault) (n : Names) → n.globals.names.keys ≡ [] → n.globals.ranked.keys ≡ []
-    → n.templates.names.keys ≡ [] → n.templates.ranked.keys ≡ [] → All (IsPlaceOf ms) all → SoFar ms all start start n all
+    → n.templates.names.keys ≡ [] → n.templates.ranked.keys ≡ [] → All (IsIn ms) all → SoFar ms all start start n all
 starts ms all start n a b c d inside = record {
   done = [];
   whole = refl;
@@ -152,15 +153,15 @@ goes_on ms all start least now old new rest behind p e s declared h = record {
   done = s.done ++ p ∷ [];
   whole = s.whole ∙ ap (λ xs. s.done ++ xs) e ∙ sym (append_assoc s.done (p ∷ []) behind);
   declared = declared;
-  inside = All-tail (IsPlaceOf ms) p behind (subst (All (IsPlaceOf ms)) e s.inside);
+  inside = All-tail (IsIn ms) p behind (subst (All (IsIn ms)) e s.inside);
   faults =
       ap (λ x. least_of x (names_faults ms (s.done ++ p ∷ []) behind)) h
       ∙ least_append least (name_faults ms s.done p) (names_faults ms (s.done ++ p ∷ []) behind)
       ∙ ap (λ xs. least_of least (names_faults ms s.done xs)) (sym e) ∙ s.faults;
 }
 
-pub first-inside : (ms : List ModuleData) (rest behind : List Place) (p : Place) → rest ≡ p ∷ behind → All (IsPlaceOf ms) rest → IsPlaceOf ms p
-first-inside ms rest behind p e inside = All-head (IsPlaceOf ms) p behind (subst (All (IsPlaceOf ms)) e inside)
+pub first-inside : (ms : List ModuleData) (rest behind : List Place) (p : Place) → rest ≡ p ∷ behind → All (IsIn ms) rest → IsIn ms p
+first-inside ms rest behind p e inside = All-head (IsIn ms) p behind (subst (All (IsIn ms)) e inside)
 
 empty : (xs : List Place) → length xs ≡ 0 → xs ≡ []
 empty [] h = refl

@@ -1,8 +1,6 @@
 -- All faults that are met cover the static faults, so that the least of them is the first.
 use Rattle.std.proofs.Common.{◌≡◌, ◌∙◌, ℕ, ◌<◌, ap, refl, sym, subst, inl, List, [], ◌∷◌, ◌++◌, length, true, Option, Some, None}
 use Rattle.std.proofs.lemmas.Bool.{and_parts}
-use Rattle.std.proofs.lemmas.List.Elements.{All-cons, All-nil}
-use Rattle.std.specs.List.{All}
 use Rattle.std.specs.Option.{option_to_list}
 use Rattle.std.specs.Prelude.{◌&&◌}
 use Rattle.xs_elements.specs.Nodes.{Name}
@@ -11,24 +9,25 @@ use Rattle.xs_elements.specs.Rows.{is_template, is_variable}
 use Rattle.xs_modules.specs.Numbering.{ModuleData}
 use Rattle.xs_static.proofs.CoveringLemmas.{are_in_append, at_most_left, at_most_right, least_of_covering}
 use Rattle.xs_static.proofs.MeetLemmas.{least_append}
-use Rattle.xs_static.proofs.NameFaultLemmas.{AllTop, all_top, globals_met, names_sound, templates_met}
+use Rattle.xs_static.proofs.NameFaultLemmas.{globals_met, names_sound, templates_met}
 use Rattle.xs_static.proofs.WalkFaultLemmas.{is_walked, walk_complete, walk_sound}
 use Rattle.xs_static.specs.declared.fault.StaticFault.{StaticFault}
 use Rattle.xs_static.specs.declared.names.Names.{Names}
 use Rattle.xs_static.specs.Faults.{Fault, double_global, double_template, circular_set, number_of, Holds, IsFirstFault, IsLeastOf, IsStaticFault}
-use Rattle.xs_static.specs.Modules.{Place, all_contents, line_at, records_at}
+use Rattle.xs_structure.specs.Modules.{Place, line_at, records_at}
+use Rattle.xs_structure.specs.Order.{declarations}
 use Rattle.xs_static.specs.Names.{is_double, is_global, is_template_name}
 use Rattle.xs_static.specs.steps.Covering.{AreIn, HasAtMost}
 use Rattle.xs_static.specs.steps.Declared.{AreDeclared, names_faults}
 use Rattle.xs_static.specs.steps.Found.{has_global, has_template, modules_faults}
 use Rattle.xs_static.specs.steps.Least.{fault_of, least_of}
-use Rattle.xs_static.specs.steps.Whole.{AreTrees, IsPlaceOf}
+use Rattle.xs_static.specs.steps.Whole.{AreTrees}
 
 -- the faults of circles
 abbrev pub IsCircleFault : List ModuleData → StaticFault → Type 0
 IsCircleFault ms f = IsStaticFault ms f × (f.number ≡ 44)
 
-module _ (ms : List ModuleData) (names : Names) (trees : AreTrees ms) (some : 0 < length ms) (declared : AreDeclared ms (all_contents ms) names) where
+module _ (ms : List ModuleData) (names : Names) (trees : AreTrees ms) (some : 0 < length ms) (declared : AreDeclared ms (declarations ms) names) where
   globals : (uri local : List ℕ) → has_global names uri local ≡ is_global ms (uri, local)
   globals = declared.globals.names
 
@@ -44,7 +43,7 @@ module _ (ms : List ModuleData) (names : Names) (trees : AreTrees ms) (some : 0 
   circle-complete (Some g) least f is = inl (least.1 f is)
 
   abbrev by_names : List StaticFault
-  by_names = names_faults ms [] (all_contents ms)
+  by_names = names_faults ms [] (declarations ms)
 
   abbrev by_walk : List StaticFault
   by_walk = modules_faults ms names (length ms)
@@ -94,15 +93,8 @@ module _ (ms : List ModuleData) (names : Names) (trees : AreTrees ms) (some : 0 
       (least_of_covering (IsStaticFault ms) (all_faults circle) (all-sound circle least) (λ f s. by-fault circle least s.fault f s refl))
 
 -- ---- the same of the places that were collected
-tops-inside : (ms : List ModuleData) (ps : List Place) → AllTop ms ps → All (IsPlaceOf ms) ps
-tops-inside ms [] tops = All-nil (IsPlaceOf ms)
-tops-inside ms (p ∷ ps) tops = All-cons (IsPlaceOf ms) p ps (tops.0.0, tops.0.1) (tops-inside ms ps tops.1)
-
-pub places_inside : (ms : List ModuleData) (ps : List Place) → 0 < length ms → ps ≡ all_contents ms → All (IsPlaceOf ms) ps
-places_inside ms ps some same = subst (All (IsPlaceOf ms)) (sym same) (tops-inside ms (all_contents ms) (all_top ms some))
-
 pub first_in_places : (ms : List ModuleData) (names : Names) (ps : List Place) (o circle : Option StaticFault) → AreTrees ms → 0 < length ms
-    → ps ≡ all_contents ms → AreDeclared ms ps names → IsLeastOf (IsCircleFault ms) circle
+    → ps ≡ declarations ms → AreDeclared ms ps names → IsLeastOf (IsCircleFault ms) circle
     → o ≡ least_of (least_of (least_of None (names_faults ms [] ps)) (modules_faults ms names (length ms))) (option_to_list circle)
     → IsFirstFault ms o
 first_in_places ms names ps o circle trees some same declared least e =

@@ -1,7 +1,6 @@
 -- What the walk meets, put together.
-use Rattle.std.proofs.Common.{◌≡◌, ◌∙◌, ◌<◌, ◌≤◌, ◌+◌, ℕ, zero, suc, ap, refl, sym, subst, arith, Bool, true, false, List, [], ◌∷◌, ◌++◌, length, map, Option, None, Some, Bor}
+use Rattle.std.proofs.Common.{◌≡◌, ◌∙◌, ◌<◌, ◌≤◌, ◌+◌, ℕ, zero, suc, ap, refl, sym, subst, arith, Bool, true, false, List, [], ◌∷◌, ◌++◌, Option, None, Some, Bor}
 use Rattle.std.proofs.Math.Path.{fun_ext}
-use Rattle.std.specs.List.{range_with_len}
 use Rattle.std.specs.Option.{option_map_or}
 use Rattle.std.proofs.lemmas.Bool.{not-false}
 use Rattle.std.specs.Prelude.{◌==◌, ◌&&◌, ◌||◌, not, if◌then◌else◌}
@@ -10,23 +9,22 @@ use Rattle.xs_elements.specs.Forms.{sees_locals}
 use Rattle.xs_elements.specs.Nodes.{Name, own_name}
 use Rattle.xs_elements.specs.Reading.{is_seen}
 use Rattle.xs_static.proofs.MeetLemmas.{least_append}
-use Rattle.xs_static.specs.Bindings.{is_local, is_visible, shadows}
+use Rattle.xs_structure.specs.Bindings.{is_local, is_visible, shadows, local_name}
 use Rattle.xs_static.specs.declared.fault.StaticFault.{StaticFault}
-use Rattle.xs_static.specs.declared.in_force.InForce.{InForce}
+use Rattle.xs_structure.specs.declared.in_force.InForce.{InForce}
 use Rattle.xs_static.specs.declared.names.Names.{Names}
 use Rattle.xs_static.specs.declared.variables.Visible.{Visible}
-use Rattle.xs_static.specs.declared.extensions.Extensions.{Extensions}
 use Rattle.xs_static.specs.declared.locals.Locals.{Locals}
-use Rattle.xs_static.specs.declared.standing.Standing.{Standing}
+use Rattle.xs_structure.specs.declared.standing.Standing.{Standing}
 use Rattle.xs_static.specs.Faults.{is_too_deep}
 use Rattle.xs_static.specs.steps.Elements.{attributes_least, known_by, own_least}
-use Rattle.xs_static.specs.steps.Extensions.{AreExtensions, any_around}
 use Rattle.xs_static.specs.steps.Found.{calls_other, deep_faults, element_faults, has_global, line_in, known_at, node_faults, nodes_faults, seen_faults}
-use Rattle.xs_static.specs.steps.InForce.{in_force_at, is_among, visible_in}
+use Rattle.xs_structure.specs.InForce.{in_force_at}
+use Rattle.xs_static.specs.steps.InForce.{is_among, visible_in}
 use Rattle.xs_static.specs.steps.Least.{any_fault, fault_where, least_of}
-use Rattle.xs_static.specs.steps.Locals.{AreLocals, AreNested, any_visible, bound_at, local_name, open_in}
+use Rattle.xs_static.specs.steps.Locals.{AreLocals, AreNested, any_visible, bound_at, open_in}
 use Rattle.xs_static.specs.steps.Misplaced.{misplaced_faults}
-use Rattle.xs_static.specs.steps.Standing.{standing_of}
+use Rattle.xs_structure.specs.Standing.{standing_of}
 use Rattle.xs_tree.specs.Kinds.{is_element_kind}
 use Rattle.xs_tree.specs.Record.{Record, at}
 
@@ -133,10 +131,6 @@ pub seen-of : (rs : List Record) (n : ℕ) (s : Standing) → s ≡ standing_of 
 seen-of rs n s e h = sym (ap (λ s. s.is_seen) e) ∙ not-false s.is_seen h
 
 -- ---- before the first node
-pub no-extensions : (rs : List Record) (e : Extensions) → ((uri : List ℕ) (k : ℕ) → in_force_at e.in_force uri [] k ≡ false) → AreExtensions rs 0 e
-unfolding any_around
-no-extensions rs e none = λ uri k from inside. none uri k
-
 pub no-locals : (rs : List Record) (l : Locals) → ((uri local : List ℕ) (k : ℕ) → bound_at l uri local k ≡ false) → open_in l ≡ [] → AreLocals rs 0 l
 unfolding any_visible AreNested
 no-locals rs l none empty = record {

@@ -1,6 +1,4 @@
-mod AroundLemmas
 mod BooleanLemmas
-mod AttributeLemmas
 mod CircleLemmas
 mod ContentLemmas
 mod CoveringLemmas
@@ -8,17 +6,19 @@ mod DeclaredLemmas
 mod ElementLemmas
 mod ExpressionLemmas
 mod FirstFaultLemmas
+mod FirstLemmas
 mod FoundLemmas
-mod InForceLemmas
 mod LeastLemmas
 mod LocalsLemmas
 mod MeetLemmas
 mod ModuleLemmas
 mod NameFaultLemmas
-mod NameLemmas
-mod OrderLemmas
 mod PlacingLemmas
+mod RankLemmas
+pub mod SameNameLemmas
+mod SearchLemmas
 mod SetLemmas
-mod StandingLemmas
+mod TableLemmas
+mod UsedLemmas
 mod ValueLemmas
 mod WalkFaultLemmas

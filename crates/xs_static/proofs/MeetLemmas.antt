@@ -1,6 +1,6 @@
 -- Meeting the faults at some nodes, and the least of numbers.
 use Rattle.std.proofs.Common.{◌≡◌, ◌∙◌, ℕ, ap, refl, arith, List, [], ◌∷◌, ◌++◌, filter, map, cond, Bool, true, false, Option, Some, None}
-use Rattle.std.specs.Prelude.{if◌then◌else◌, get_or}
+use Rattle.std.specs.Prelude.{if◌then◌else◌, get_or, Result, Ok, Err, OnOk}
 use Rattle.xs_static.specs.declared.fault.StaticFault.{StaticFault}
 use Rattle.xs_static.specs.steps.Least.{earlier, fault_where, least_of, lesser}
 use Rattle.xs_static.specs.steps.Misplaced.{misplaced_fault}
@@ -54,3 +54,8 @@ met_all m lines ks n holds least =
     least_append least (map (misplaced_fault m lines) ks) (fault_where holds m (get_or lines n 0) 37)
     ∙ ap (λ (fs : List StaticFault). least_of least (map (misplaced_fault m lines) ks ++ fs)) (own-fault m lines n holds)
     ∙ ap (least_of least) (map-joined (misplaced_fault m lines) ks (if holds then n ∷ [] else []))
+
+-- ---- what holds of a result where another thing does
+pub on_ok : {X E : Type 0} (r : Result X E) (P Q : Type 0) → (P → Q) → OnOk r P → OnOk r Q
+on_ok (Ok x) P Q f h = f h
+on_ok (Err e) P Q f h = h

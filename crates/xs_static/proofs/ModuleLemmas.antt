@@ -11,11 +11,12 @@ use Rattle.xs_modules.specs.Sound.{HasLines, IsSound}
 use Rattle.xs_static.proofs.MeetLemmas.{least_append}
 use Rattle.xs_static.specs.declared.fault.StaticFault.{StaticFault}
 use Rattle.xs_static.specs.declared.names.Names.{Names}
-use Rattle.xs_static.specs.declared.standing.Standing.{Standing}
-use Rattle.xs_static.specs.Modules.{records_at}
+use Rattle.xs_structure.specs.declared.standing.Standing.{Standing}
+use Rattle.xs_structure.specs.Modules.{records_at}
 use Rattle.xs_static.specs.steps.Found.{module_faults, modules_faults}
 use Rattle.xs_static.specs.steps.Least.{least_of}
-use Rattle.xs_static.specs.steps.Whole.{AreStandings, HaveLines, standings_of}
+use Rattle.xs_static.specs.steps.Whole.{AreStandings, standings_of}
+use Rattle.xs_structure.specs.Places.{HaveLines}
 use Rattle.xs_tree.specs.Shape.{IsTree}
 
 -- each node has a line

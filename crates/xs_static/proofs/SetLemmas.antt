@@ -7,19 +7,17 @@ use Rattle.std.proofs.lemmas.Bool.{eq-eqb, ne_eqb}
 use Rattle.std.proofs.lemmas.Bool.Decides.{leb_tells}
 use Rattle.std.proofs.lemmas.List.{append-nil, length-map, get_or-map, take_more}
 use Rattle.std.proofs.lemmas.List.Concat.{flat_map-append}
-use Rattle.std.proofs.lemmas.List.FromFn.{get_or-map-range_with_len, length-map-range_with_len}
 use Rattle.std.proofs.lemmas.Option.{slice_get-map, slice_get_read}
-use Rattle.xs_circles.specs.Circles.{Declared}
+use Rattle.xs_static.specs.Circles.{Declared}
 use Rattle.xs_elements.specs.Nodes.{Name}
 use Rattle.xs_elements.specs.Reading.{is_seen}
 use Rattle.xs_modules.specs.declared.modules.Module.{Module}
 use Rattle.xs_modules.specs.Numbering.{ModuleData}
 use Rattle.xs_modules.specs.Results.{module_data}
-use Rattle.xs_static.specs.declared.standing.Standing.{Standing}
-use Rattle.xs_static.specs.Modules.{Place}
+use Rattle.xs_structure.specs.declared.standing.Standing.{Standing}
+use Rattle.xs_structure.specs.Modules.{Place}
 use Rattle.xs_static.specs.Sets.{is_part, named_sets, sets_within}
 use Rattle.xs_static.specs.steps.Circles.{declaration_at, declaration_from, declarations_of, seen_sets}
-use Rattle.xs_static.specs.steps.Standing.{standing_of}
 use Rattle.xs_static.specs.steps.Whole.{standings_of}
 use Rattle.xs_tree.proofs.WalkLemmas.{climbs-within, is_inside-within}
 use Rattle.xs_tree.specs.Record.{Record, is_inside, places}
@@ -155,15 +153,6 @@ pub child-more : (f : ℕ → List Name) (child : ℕ) (behind : List ℕ) (old 
 child-more f child behind old new whole is was = ap (λ xs. xs ++ flat_map f behind) is ∙ append_assoc old (f child) (flat_map f behind) ∙ was
 
 -- ---- what is known of one node
-pub standing-length : (rs : List Record) (table : List Standing) → table ≡ map (standing_of rs) (places rs) → length table ≡ length rs
-standing-length rs table is = ap length is ∙ length-map-range_with_len (standing_of rs) 0 (length rs)
-
-pub standing-at : (rs : List Record) (table : List Standing) (k : ℕ) (d : Standing) → table ≡ map (standing_of rs) (places rs) → k < length rs
-    → get_or table k d ≡ standing_of rs k
-standing-at rs table k d is lt =
-    let here : 0 + k ≡ k = omega arith in
-    ap (λ xs. get_or xs k d) is ∙ get_or-map-range_with_len (standing_of rs) 0 (length rs) k k d lt here
-
 pub seen-yes : (rs : List Record) (k : ℕ) → is_seen rs k ≡ true → named_sets rs k ≡ seen_sets rs k
 seen-yes rs k seen = sym (ap (λ b. if b then named_sets rs k else []) seen)
 

@@ -14,12 +14,12 @@ use Rattle.xs_static.proofs.BooleanLemmas.{both-true, or-left, or-right}
 use Rattle.xs_static.proofs.CoveringLemmas.{are_in_append, at_most_left, at_most_right, by_number, same_number}
 use Rattle.xs_static.proofs.ElementLemmas.{attributes_are_least, own_is_least}
 use Rattle.xs_static.proofs.PlacingLemmas.{has_place, misplaced_complete, misplaced_sound}
-use Rattle.xs_static.specs.Bindings.{is_known, is_visible, shadows}
+use Rattle.xs_static.specs.Names.{is_known, calls_unknown, is_global, is_template_name}
+use Rattle.xs_structure.specs.Bindings.{is_visible, shadows}
 use Rattle.xs_static.specs.declared.fault.StaticFault.{StaticFault}
 use Rattle.xs_static.specs.declared.names.Names.{Names}
 use Rattle.xs_static.specs.Faults.{Fault, bad_syntax, unknown_function, arg_count, bad_literal, too_nested, not_pattern, bad_root, unsupported, missing_attribute, unknown_attribute, bad_attribute, misplaced, unbound_prefix, unknown_variable, shadowing, double_global, double_template, unknown_template, circular_set, forbidden, module_too_deep, number_of, shows, Holds, IsStaticFault, is_at_most, is_too_deep, some_value}
-use Rattle.xs_static.specs.Modules.{line_at, records_at}
-use Rattle.xs_static.specs.Names.{calls_unknown, is_global, is_template_name}
+use Rattle.xs_structure.specs.Modules.{line_at, records_at}
 use Rattle.xs_static.specs.Placing.{is_misplaced}
 use Rattle.xs_static.specs.steps.Covering.{AreIn, HasAtMost}
 use Rattle.xs_static.specs.steps.Elements.{attributes_least, own_least}

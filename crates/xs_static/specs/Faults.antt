@@ -6,10 +6,10 @@ use Rattle.xs_modules.specs.Numbering.{ModuleData}
 use Rattle.xs_static.specs.declared.fault.StaticFault.{StaticFault}
 use Rattle.xs_elements.specs.declared.forms.Form.{Form}
 use Rattle.xs_elements.specs.Attributes.{Allowed, attributes_of}
-use Rattle.xs_static.specs.Bindings.{is_known, shadows}
+use Rattle.xs_static.specs.Names.{is_known, is_double, calls_unknown}
+use Rattle.xs_structure.specs.Bindings.{shadows}
 use Rattle.xs_static.specs.Expressions.{has_parse_fault, expressions_of, has_unknown, is_forbidden_in}
-use Rattle.xs_static.specs.Modules.{Place, records_at, line_at}
-use Rattle.xs_static.specs.Names.{is_double, calls_unknown}
+use Rattle.xs_structure.specs.Modules.{Place, records_at, line_at}
 use Rattle.xs_elements.specs.Nodes.{ancestors_or_self, has, scope_at}
 use Rattle.xs_static.specs.Placing.{is_misplaced}
 use Rattle.xs_elements.specs.Reading.{form_of, has_read_attributes, has_version, is_seen}

@@ -1,7 +1,7 @@
-pub mod Bindings
+pub mod Circles
+pub mod Declarations
 pub mod Expressions
 pub mod Faults
-pub mod Modules
 pub mod Names
 pub mod Placing
 pub mod Sets

@@ -1,20 +1,20 @@
 -- The names of global variables and of templates.
-use Rattle.std.specs.Prelude.{ℕ, ◌==◌, ◌&&◌, ◌||◌, not, Bool, true, false, List, [], ◌∷◌, Option, Some, None}
+use Rattle.std.specs.Prelude.{ℕ, ◌==◌, ◌&&◌, ◌||◌, not, Bool, false, List, [], ◌∷◌}
 use Rattle.std.specs.List.{list_any}
 use Rattle.std.specs.Option.{option_map_or}
 use Rattle.xs_modules.specs.Numbering.{ModuleData}
 use Rattle.xs_elements.specs.declared.rows.Row.{Row}
-use Rattle.xs_static.specs.Modules.{Place, records_at, precedence_at, all_contents, is_same_place}
-use Rattle.xs_elements.specs.Nodes.{Name, is_named, own_name}
-use Rattle.xs_elements.specs.Rows.{row_of, is_variable, is_template, is_call_template, is_top_level}
+use Rattle.xs_structure.specs.Modules.{Place, records_at, precedence_at, is_same_place}
+use Rattle.xs_structure.specs.Bindings.{is_visible}
+use Rattle.xs_structure.specs.Order.{declarations, declares}
+use Rattle.xs_elements.specs.declared.forms.Form.{Form}
+use Rattle.xs_elements.specs.Forms.{sees_locals}
+use Rattle.xs_elements.specs.Nodes.{Name, own_name}
+use Rattle.xs_elements.specs.Rows.{row_of, is_variable, is_template, is_call_template}
 
--- an element of this kind with this name
-abbrev pub declares : (Row → Bool) → List ModuleData → Name → Place → Bool
-declares kind ms name p = kind (row_of (records_at ms p.0) p.1) && is_named name (own_name (records_at ms p.0) p.1)
-
--- whether an element of the top level, anywhere in the stylesheet, is one
+-- whether a declaration, anywhere in the stylesheet, is of this kind and has this name
 abbrev pub is_declared : (Row → Bool) → List ModuleData → Name → Bool
-is_declared kind ms name = list_any (declares kind ms name) (all_contents ms)
+is_declared kind ms name = list_any (declares kind ms name) (declarations ms)
 
 -- a global variable or parameter of this name (XSLT 1.0, 11.4), and a template (6)
 abbrev pub is_global : List ModuleData → Name → Bool
@@ -36,10 +36,14 @@ stands_behind test p (q ∷ qs) = (test q && list_any (is_same_place p) qs) || s
 abbrev pub is_double : (Row → Bool) → List ModuleData → Place → Bool
 is_double kind ms p =
     kind (row_of (records_at ms p.0) p.1)
-    && option_map_or (λ name. stands_behind (declares_again kind ms p name) p (all_contents ms)) (own_name (records_at ms p.0) p.1) false
+    && option_map_or (λ name. stands_behind (declares_again kind ms p name) p (declarations ms)) (own_name (records_at ms p.0) p.1) false
 
 -- a template is called that the stylesheet does not have (XSLT 1.0, 6)
 abbrev pub calls_unknown : List ModuleData → Place → Bool
 calls_unknown ms p =
     is_call_template (row_of (records_at ms p.0) p.1)
     && option_map_or (λ name. not (is_template_name ms name)) (own_name (records_at ms p.0) p.1) false
+
+-- the variables that are known to a value of this form: the global ones, and local ones where it sees those
+abbrev pub is_known : List ModuleData → Form → Place → List ℕ → List ℕ → Bool
+is_known ms form p uri local = is_global ms (uri, local) || (sees_locals form && is_visible (records_at ms p.0) p.1 (uri, local))

@@ -1,20 +1,16 @@
 -- Elements and texts that stand where none may.
-use Rattle.std.specs.Prelude.{ℕ, ◌&&◌, ◌||◌, not, nat_lt, Bool, true, false, List, map, filter}
-use Rattle.std.specs.List.{list_all, list_any}
+use Rattle.std.specs.Prelude.{ℕ, ◌&&◌, ◌||◌, not, nat_lt, Bool, false, List, map, filter}
+use Rattle.std.specs.List.{list_any}
 use Rattle.std.specs.Option.{option_map_or}
 use Rattle.xs_elements.specs.declared.rows.Row.{Row}
 use Rattle.xs_elements.specs.Contents.{may_stand, holds_text, are_branches}
 use Rattle.xs_elements.specs.Reading.{content_at, is_none}
 use Rattle.xs_elements.specs.Rows.{row_of, is_document_element, is_when}
 use Rattle.xs_elements.specs.WhiteSpace.{is_kept_text}
-use Rattle.xs_tree.specs.Kinds.{is_element_kind}
+use Rattle.xs_structure.specs.Parts.{is_content}
 use Rattle.xs_tree.specs.Record.{Record, at, children, uri_at}
 
--- the content of an element: its elements, and the texts that are kept
-abbrev pub is_content : List Record → (inside : ℕ) → ℕ → Bool
-is_content rs inside k = is_element_kind (at rs k).kind || is_kept_text rs inside k
-
--- what of it stands before a node: elements by their kinds, and texts
+-- what of the content of an element stands before a node: elements by their kinds, and texts
 abbrev pub content_before : List Record → (inside : ℕ) → ℕ → List Row
 content_before rs inside n = map (row_of rs) (filter (λ k. nat_lt k n && is_content rs inside k) (children rs inside))
 

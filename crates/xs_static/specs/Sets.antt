@@ -2,7 +2,7 @@
 use Rattle.std.specs.Prelude.{◌≡◌, ℕ, ◌==◌, ◌&&◌, ◌||◌, Bool, true, List, [], ◌∷◌, ◌++◌, filter, Option, Some, None, codes, if◌then◌else◌}
 use Rattle.std.specs.List.{flat_map}
 use Rattle.std.specs.Option.{option_map_or}
-use Rattle.xs_circles.specs.Circles.{IsIn, SomeLeads}
+use Rattle.xs_static.specs.Circles.{IsAmong, SomeLeads}
 use Rattle.xs_elements.specs.Contents.{is_attribute}
 use Rattle.xs_elements.specs.declared.rows.Row.{Row}
 use Rattle.xs_elements.specs.declared.rows.Row.TheVariants.{AttributeSet, Element, Copy, Other}
@@ -11,8 +11,8 @@ use Rattle.xs_elements.specs.Reading.{is_seen}
 use Rattle.xs_elements.specs.Rows.{row_of, is_attribute_set, xslt_uri}
 use Rattle.xs_elements.specs.WhiteSpace.{words}
 use Rattle.xs_modules.specs.Numbering.{ModuleData}
-use Rattle.xs_static.specs.Modules.{Place, records_at, all_contents}
-use Rattle.xs_static.specs.Names.{declares}
+use Rattle.xs_structure.specs.Modules.{Place, records_at}
+use Rattle.xs_structure.specs.Order.{declarations, declares}
 use Rattle.xs_tree.specs.Record.{Record, children, is_inside, places}
 
 -- the attribute that names the sets that an element uses
@@ -54,9 +54,9 @@ sets_of ms p = own_sets (records_at ms p.0) p.1
 
 -- those that all declarations of a name use
 abbrev pub used_by : List ModuleData → Name → List Name
-used_by ms name = flat_map (sets_of ms) (filter (declares is_attribute_set ms name) (all_contents ms))
+used_by ms name = flat_map (sets_of ms) (filter (declares is_attribute_set ms name) (declarations ms))
 
 -- a declaration of a set whose own sets lead back to its name
 abbrev pub IsCircular : List ModuleData → Place → Type 0
-IsCircular ms p = IsIn p (all_contents ms)
+IsCircular ms p = IsAmong p (declarations ms)
     × ((name : Name) × (declares is_attribute_set ms name p ≡ true) × SomeLeads (used_by ms) (sets_of ms p) name)

@@ -1,12 +1,12 @@
 //! The faults of one element: of its name and place as a module's element, of its attributes and
 //! of its content.
 
-ghost use Rattle.std.specs.Prelude.{◌≡◌, ℕ, ◌<◌, length, if◌then◌else◌, Some, None, IfOk};
+ghost use Rattle.std.specs.Prelude.{◌≡◌, ℕ, ◌<◌, length, if◌then◌else◌, Some, None, IfOk, List, []};
+ghost use Rattle.std.specs.Prelude.{◌∷◌, ◌++◌, ◌||◌, get_or, map};
 ghost use Rattle.std.specs.List.{list_any};
-ghost use Rattle.std.specs.Prelude.{List, [], ◌∷◌, ◌++◌, ◌||◌, get_or, map};
 ghost use Rattle.xs_static.specs.Faults.{is_missing, lacks_both, lacks_some};
-ghost use Rattle.xs_static.specs.Placing.{content_before, has_misplaced_text, is_content};
-ghost use Rattle.xs_static.specs.Placing.{lacks_branch};
+ghost use Rattle.xs_static.specs.Placing.{content_before, has_misplaced_text, lacks_branch};
+ghost use Rattle.xs_structure.specs.Parts.{is_content};
 ghost use Rattle.xs_elements.specs.WhiteSpace.{is_kept_text};
 ghost use Rattle.xs_elements.specs.Contents.{before_of};
 ghost use Rattle.xs_static.specs.steps.Least.{fault_where, least_of};
@@ -14,8 +14,8 @@ ghost use Rattle.xs_static.specs.steps.Misplaced.{is_refused, misplaced_fault, m
 ghost use Rattle.xs_static.specs.steps.Misplaced.{refused, rows_among};
 ghost use Rattle.xs_elements.specs.Nodes.{has, scope_at};
 ghost use Rattle.xs_elements.specs.Reading.{content_at, form_of, has_read_attributes, has_version};
-ghost use Rattle.xs_static.specs.steps.Elements.{IsAt, attribute_least, attributes_least};
-ghost use Rattle.xs_static.specs.steps.Elements.{known_by, own_least, records_of, value_least};
+ghost use Rattle.xs_static.specs.steps.Elements.{IsAt, attribute_least, attributes_least, known_by};
+ghost use Rattle.xs_static.specs.steps.Elements.{own_least, records_of, value_least};
 ghost use Rattle.xs_elements.specs.Attributes.{allowed_data, attributes_of};
 ghost use Rattle.xs_elements.specs.Rows.{row_of};
 ghost use Rattle.xs_tree.specs.Record.{at};
@@ -34,7 +34,7 @@ use xs_elements::forms::Form;
 use xs_elements::kept::is_kept;
 use xs_elements::reading::Reading;
 use xs_elements::rows::{Row, XSLT_URI, is_document_element, row_of};
-use xs_elements::scope::{has, scope_at, value_of};
+use xs_elements::scope::{has, value_of};
 use xs_elements::value::{is_bad, is_unbound, is_unsupported};
 use xs_tree::{Kind, Node, Tree};
 use xs_xpath::scope::Scope;
@@ -181,23 +181,24 @@ impl Element<'_> {
         self.lacks_required() || self.lacks_both()
     }
 
-    /// The least fault of the attributes.
+    /// The least fault of the attributes, by the namespaces in scope.
     pub(crate) fn attributes_fault(
         &self,
         alloc: Global,
+        scope: &Scope,
         visible: &Visible<'_, '_>,
     ) -> Result<Option<u8>, AllocError>
-        requires { IsAt self.now }
+        requires at { IsAt self.now }
+        requires scope { scope.now.pairs.items ≡ scope_at (records_of self.now) self.now.node }
         ensures { IfOk result (λ fault. fault ≡ attributes_least (records_of self.now)
             self.now.node (known_by visible.now)) }
     {
         if !self.has_read_attributes() {
             return Ok(None);
         }
-        let scope = scope_at(alloc, self.tree, self.node)?;
         let mut least = where_holds(self.lacks_attribute(), MISSING_ATTRIBUTE);
         for attribute in self.tree.attributes(self.node) {
-            let fault = self.attribute_fault(alloc, attribute, &scope, visible)?;
+            let fault = self.attribute_fault(alloc, attribute, scope, visible)?;
             least = lesser(least, fault);
         }
         Ok(least)
@@ -214,9 +215,11 @@ impl Element<'_> {
         }
     }
 
-    /// Whether a child is an element that may not stand there, behind what stands before it.
-    fn is_refused(&self, child: Node, before: Before) -> bool
+    /// Whether a child is an element that may not stand in this content, after what stands before
+    /// it.
+    fn is_refused(&self, content: Content, child: Node, before: Before) -> bool
         requires at { IsAt self.now }
+        requires content { content ≡ content_at (records_of self.now) self.now.node }
         requires inside { child < length (records_of self.now) }
         requires before { before ≡ before_of (content_before (records_of self.now)
             self.now.node child) }
@@ -226,12 +229,7 @@ impl Element<'_> {
             return false;
         }
         let has_namespace = !self.tree.uri(child).is_empty();
-        !may_stand(
-            self.content(),
-            row_of(self.tree, child),
-            has_namespace,
-            before,
-        )
+        !may_stand(content, row_of(self.tree, child), has_namespace, before)
     }
 
     /// Whether a child is a text that is kept.
@@ -274,9 +272,10 @@ impl Element<'_> {
         ensures { least.new.fault ≡ least_of least.old.fault (map (misplaced_fault «module»
             lines.now) (refused (records_of self.now) self.now.node)) }
     {
+        let content = self.content();
         let mut before = Before::none();
         for child in self.tree.children(self.node) {
-            let is_refused = self.is_refused(child, before);
+            let is_refused = self.is_refused(content, child, before);
             meet_where(is_refused, module, line_of(lines, child), least);
             before = self.with_child(before, child);
         }

@@ -8,15 +8,16 @@ ghost use Rattle.xs_modules.specs.Sound.{IsSound};
 ghost use Rattle.xs_static.specs.Faults.{IsFirstFault, is_at_most};
 ghost use Rattle.xs_static.specs.steps.Found.{modules_faults};
 ghost use Rattle.xs_static.specs.steps.Least.{any_fault, earlier, fault_of, fault_where, least_of};
-ghost use Rattle.xs_static.specs.steps.Whole.{AreStandings, AreTrees, HaveLines};
+ghost use Rattle.xs_static.specs.steps.Whole.{AreStandings, AreTrees};
+ghost use Rattle.xs_structure.specs.Places.{HaveLines};
 
 use crate::names::Names;
-use crate::order::contents;
 use crate::sets::first_circle;
-use crate::standing::Standing;
 use crate::walk::walk_module;
 use std::alloc::{AllocError, Global};
 use xs_modules::{Module, Modules};
+use xs_structure::declarations::declarations;
+use xs_structure::standing::Standing;
 
 /// A static fault: the number of its module, its line there, and its own number.
 #[derive(Clone, Copy, PartialEq, Eq, Debug)]
@@ -143,9 +144,9 @@ pub fn first_fault(alloc: Global, modules: &Modules) -> Result<Option<StaticFaul
     ensures first { IfOk result (λ fault. IsFirstFault (modules_data modules.now) fault) }
 {
     let mut least = Least::none();
-    let contents = contents(alloc, modules)?;
-    let names = Names::of(alloc, modules, &contents, &mut least)?;
+    let declared = declarations(alloc, modules)?;
+    let names = Names::of(alloc, modules, &declared, &mut least)?;
     let standings = walk_modules(alloc, &modules.list, &names, &mut least)?;
-    least.meet_fault(first_circle(alloc, modules, &contents, &standings)?);
+    least.meet_fault(first_circle(alloc, modules, &declared, &standings)?);
     Ok(least.fault)
 }

@@ -1,17 +1,18 @@
 //! The static faults of a stylesheet: for what it is refused before anything is transformed.
 #![tactic(auto)]
 
+pub mod circles;
 mod element;
 mod expressions;
-mod extensions;
 mod fault;
-mod in_force;
 mod locals;
+mod name_numbers;
 mod names;
 mod numbers;
-mod order;
+mod ranks;
+mod search;
 mod sets;
-mod standing;
+mod uses;
 mod variables;
 mod walk;
 

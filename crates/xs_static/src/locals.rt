@@ -1,13 +1,14 @@
 //! The local bindings of variables that are visible (XSLT 1.0, 11.5).
 
-ghost use Rattle.std.specs.Prelude.{◌≡◌, ℕ, ◌+◌, ◌<◌, List, [], length, false, Some};
-ghost use Rattle.std.specs.Prelude.{OnOk, option_map};
+ghost use Rattle.std.specs.Prelude.{◌≡◌, ℕ, ◌+◌, ◌<◌, List, [], length, false, Some, OnOk};
+ghost use Rattle.std.specs.Prelude.{option_map};
 ghost use Rattle.xs_elements.specs.Nodes.{name_data};
-ghost use Rattle.xs_static.specs.steps.Locals.{AreLocals, EndFrom, bound_at, local_name, open_in};
+ghost use Rattle.xs_static.specs.steps.Locals.{AreLocals, EndFrom, bound_at, open_in};
+ghost use Rattle.xs_structure.specs.Bindings.{local_name};
 
-use crate::in_force::InForce;
 use std::alloc::{AllocError, Global};
 use xs_elements::scope::Expanded;
+use xs_structure::in_force::InForce;
 use xs_tree::{Node, Tree};
 
 /// A binding whose element is open: it is visible from the end of that on to the end of the parent.

@@ -7,22 +7,22 @@ ghost use Rattle.std.specs.Option.{option_map_or};
 ghost use Rattle.xs_elements.specs.Nodes.{is_same_name, name_data};
 ghost use Rattle.xs_elements.specs.Rows.{is_template, is_variable};
 ghost use Rattle.xs_modules.specs.Results.{modules_data};
-ghost use Rattle.xs_static.specs.Modules.{Place};
-ghost use Rattle.xs_static.specs.steps.Declared.{AreDeclared, Noted, is_ranked};
-ghost use Rattle.xs_static.specs.steps.Declared.{name_faults, names_faults};
+ghost use Rattle.xs_structure.specs.Modules.{Place};
+ghost use Rattle.xs_static.specs.steps.Declared.{AreDeclared, Noted, is_ranked, name_faults};
+ghost use Rattle.xs_static.specs.steps.Declared.{names_faults};
 ghost use Rattle.xs_static.specs.steps.Found.{has_template};
 ghost use Rattle.xs_static.specs.steps.InForce.{is_among};
 ghost use Rattle.xs_static.specs.steps.Least.{least_of};
-ghost use Rattle.xs_static.specs.steps.Whole.{HaveLines, IsPlaceOf};
+ghost use Rattle.xs_structure.specs.Places.{HaveLines, IsIn};
 
 use crate::fault::Least;
 use crate::numbers::{DOUBLE_GLOBAL, DOUBLE_TEMPLATE};
-use crate::order::Place;
 use std::alloc::{AllocError, Global};
 use std::collections::HashSet;
 use xs_elements::rows::{Row, row_of};
 use xs_elements::scope::{Expanded, own_name};
 use xs_modules::Modules;
+use xs_structure::places::Place;
 use xs_tree::Node;
 
 /// Names of one kind.
@@ -126,18 +126,18 @@ impl<'m> Names<'m> {
     pub(crate) fn of(
         alloc: Global,
         modules: &'m Modules,
-        contents: &[Place],
+        declared: &[Place],
         least: &mut Least,
     ) -> Result<Names<'m>, AllocError>
-        requires inside { All (IsPlaceOf (modules_data modules.now)) contents.now }
+        requires inside { All (IsIn (modules_data modules.now)) declared.now }
         requires lines { HaveLines (modules_data modules.now) }
         ensures names { IfOk result (λ names.
-            AreDeclared (modules_data modules.now) contents.now names) }
+            AreDeclared (modules_data modules.now) declared.now names) }
         ensures faults { OnOk result (least.new.fault ≡ least_of least.old.fault
-            (names_faults (modules_data modules.now) [] contents.now)) }
+            (names_faults (modules_data modules.now) [] declared.now)) }
     {
         let mut names = Names::new(alloc);
-        let mut rest = contents;
+        let mut rest = declared;
         while let Some((place, behind)) = rest.split_first() {
             let (number, element) = *place;
             names.declare(modules, number, element, least)?;
@@ -168,7 +168,7 @@ impl<'m> Names<'m> {
         element: Node,
         least: &mut Least,
     ) -> Result<(), AllocError>
-        requires inside { IsPlaceOf (modules_data modules.now) («number», element) }
+        requires inside { IsIn (modules_data modules.now) («number», element) }
         requires lines { HaveLines (modules_data modules.now) }
         ensures names { OnOk result ((done : List Place)
             → AreDeclared (modules_data modules.now) done self.old

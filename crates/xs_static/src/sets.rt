@@ -1,34 +1,36 @@
 //! Attribute sets that use themselves (XSLT 1.0, 7.1.4).
 
-ghost use Rattle.std.specs.Prelude.{◌≡◌, ◌<◌, ◌++◌, length, map, option_map, slice_index};
-ghost use Rattle.std.specs.Prelude.{IfOk, OnOk};
+ghost use Rattle.std.specs.Prelude.{◌≡◌, ◌<◌, ◌++◌, length, map, option_map, slice_index, IfOk};
+ghost use Rattle.std.specs.Prelude.{OnOk};
 ghost use Rattle.std.specs.List.{All};
-ghost use Rattle.xs_circles.specs.Declarations.{declared};
+ghost use Rattle.xs_static.specs.Declarations.{declared};
 ghost use Rattle.xs_elements.specs.Contents.{is_attribute};
 ghost use Rattle.xs_elements.specs.Nodes.{name_data};
 ghost use Rattle.xs_elements.specs.Rows.{is_attribute_set, row_of};
 ghost use Rattle.xs_elements.specs.Reading.{is_seen};
 ghost use Rattle.xs_modules.specs.Results.{modules_data};
 ghost use Rattle.xs_static.specs.Faults.{IsLeastOf, IsStaticFault};
-ghost use Rattle.xs_static.specs.Modules.{Place, all_contents};
+ghost use Rattle.xs_structure.specs.Modules.{Place};
+ghost use Rattle.xs_structure.specs.Order.{declarations};
 ghost use Rattle.xs_static.specs.Sets.{attribute_sets, listed, named_sets, names_in, own_sets};
 ghost use Rattle.xs_static.specs.Sets.{sets_value, sets_within};
 ghost use Rattle.xs_static.specs.steps.Circles.{circle_at, declaration_at, declaration_from};
 ghost use Rattle.xs_static.specs.steps.Circles.{declarations_of, declared_as, seen_sets};
-ghost use Rattle.xs_static.specs.steps.Standing.{standing_of};
-ghost use Rattle.xs_static.specs.steps.Whole.{AreStandings, HaveLines, IsPlaceOf};
+ghost use Rattle.xs_structure.specs.Standing.{standing_of};
+ghost use Rattle.xs_static.specs.steps.Whole.{AreStandings};
+ghost use Rattle.xs_structure.specs.Places.{HaveLines, IsIn};
 ghost use Rattle.xs_tree.specs.Record.{places};
 
+use crate::circles::Declaration;
 use crate::fault::StaticFault;
 use crate::numbers::CIRCULAR_SET;
-use crate::order::Place;
-use crate::standing::Standing;
 use std::alloc::{AllocError, Global};
-use xs_circles::Declaration;
 use xs_elements::rows::{Row, XSLT_URI, row_of};
 use xs_elements::scope::{Expanded, expanded, own_name, value_of};
 use xs_elements::words::first_word;
 use xs_modules::{Module, Modules};
+use xs_structure::places::Place;
+use xs_structure::standing::{Standing, standing_in};
 use xs_tree::{Node, Tree};
 
 /// The value of the attribute that names the sets that an element uses, if it has one.
@@ -101,8 +103,7 @@ fn is_seen(tree: &Tree, standings: &[Standing], n: Node) -> bool
     requires table { standings.now ≡ map (standing_of tree.now) (places tree.now) }
     ensures { result ≡ is_seen tree.now n }
 {
-    let _count = tree.len();
-    standings[n.place() as usize].is_seen
+    standing_in(standings, tree, n).is_seen
 }
 
 /// Adds the sets that a node names, if it is looked at.
@@ -215,7 +216,7 @@ fn push_named<'m>(
         return Ok(());
     };
     let sets = own_sets(alloc, &module.tree, standings, n)?;
-    let place = xs_circles::Place {
+    let place = crate::circles::Place {
         module: number,
         line: module.lines[n.place() as usize],
     };
@@ -255,7 +256,7 @@ fn push_declaration<'m>(
     place: Place,
     out: &mut Vec<Declaration<'m>>,
 ) -> Result<(), AllocError>
-    requires inside { IsPlaceOf (modules_data modules.now) place }
+    requires inside { IsIn (modules_data modules.now) place }
     requires lines { HaveLines (modules_data modules.now) }
     requires standings { AreStandings (modules_data modules.now) standings.now }
     ensures { OnOk result (map declared out.new.items ≡ map declared out.old.items
@@ -271,45 +272,44 @@ fn push_declaration<'m>(
 fn declarations<'m>(
     alloc: Global,
     modules: &'m Modules,
-    contents: &[Place],
+    places: &[Place],
     standings: &[Vec<Standing>],
 ) -> Result<Vec<Declaration<'m>>, AllocError>
-    requires inside { All (IsPlaceOf (modules_data modules.now)) contents.now }
+    requires inside { All (IsIn (modules_data modules.now)) places.now }
     requires lines { HaveLines (modules_data modules.now) }
     requires standings { AreStandings (modules_data modules.now) standings.now }
     ensures { IfOk result (λ found. map declared found.items
-        ≡ declarations_of (modules_data modules.now) contents.now) }
+        ≡ declarations_of (modules_data modules.now) places.now) }
 {
     let mut found = Vec::new(alloc);
-    for place in contents {
+    for place in places {
         push_declaration(alloc, modules, standings, *place, &mut found)?;
     }
     Ok(found)
 }
 
 /// The least fault of a declaration of an attribute set whose own sets lead back to its name, by
-/// the elements of the top level in the order of the stylesheet and how the nodes of each module
-/// stand.
+/// the declarations of the stylesheet and how the nodes of each module stand.
 pub(crate) fn first_circle(
     alloc: Global,
     modules: &Modules,
-    contents: &[Place],
+    places: &[Place],
     standings: &[Vec<Standing>],
 ) -> Result<Option<StaticFault>, AllocError>
-    requires contents { contents.now ≡ all_contents (modules_data modules.now) }
-    requires inside { All (IsPlaceOf (modules_data modules.now)) contents.now }
+    requires all { places.now ≡ declarations (modules_data modules.now) }
+    requires inside { All (IsIn (modules_data modules.now)) places.now }
     requires lines { HaveLines (modules_data modules.now) }
     requires standings { AreStandings (modules_data modules.now) standings.now }
     ensures { IfOk result (λ fault. IsLeastOf
         (λ f. IsStaticFault (modules_data modules.now) f × (f.number ≡ 44)) fault) }
 {
-    let declarations = declarations(alloc, modules, contents, standings)?;
-    let place = xs_circles::first_circle(alloc, &declarations)?;
+    let declarations = declarations(alloc, modules, places, standings)?;
+    let place = crate::circles::first_circle(alloc, &declarations)?;
     Ok(circle_at(place))
 }
 
 /// The fault of a circular declaration at a place, if there is one.
-fn circle_at(place: Option<xs_circles::Place>) -> Option<StaticFault>
+fn circle_at(place: Option<crate::circles::Place>) -> Option<StaticFault>
     ensures { result ≡ circle_at place }
 {
     match place {

@@ -9,10 +9,10 @@ ghost use Rattle.xs_xpath.specs.AvtParts.{parts_from};
 ghost use Rattle.xs_xpath.specs.Exprs.{tree_from, trees_from};
 ghost use Rattle.xs_xpath.specs.Tree.{trees};
 
-use crate::in_force::InForce;
 use std::collections::HashSet;
 use xs_elements::forms::{Form, sees_locals};
 use xs_elements::scope::Expanded;
+use xs_structure::in_force::InForce;
 use xs_xpath::avt::AvtPart;
 use xs_xpath::expr::Expr;
 

@@ -2,102 +2,46 @@
 
 ghost use Rattle.std.specs.Prelude.{◌≡◌, ◌+◌, ◌<◌, length, map, option_map, IfOk, OnOk};
 ghost use Rattle.xs_elements.specs.Nodes.{name_data};
-ghost use Rattle.xs_elements.specs.Reading.{is_in_extension, is_seen, reading_of, reading_of_other};
-ghost use Rattle.xs_elements.specs.Rows.{is_top_level, row_of};
-ghost use Rattle.xs_static.specs.Bindings.{shadows};
+ghost use Rattle.xs_elements.specs.Rows.{row_of};
 ghost use Rattle.xs_static.specs.steps.Elements.{IsAt};
-ghost use Rattle.xs_static.specs.steps.Extensions.{AreExtensions};
-ghost use Rattle.xs_static.specs.steps.Found.{calls_other, element_faults, line_in};
-ghost use Rattle.xs_static.specs.steps.Found.{node_faults, nodes_faults, seen_faults};
+ghost use Rattle.xs_static.specs.steps.Found.{calls_other, element_faults, line_in, node_faults};
+ghost use Rattle.xs_static.specs.steps.Found.{nodes_faults, seen_faults};
 ghost use Rattle.xs_static.specs.steps.Least.{least_of};
-ghost use Rattle.xs_static.specs.steps.Locals.{AreLocals, EndFrom, local_name, open_in};
-ghost use Rattle.xs_static.specs.steps.Standing.{standing_of};
-ghost use Rattle.xs_static.specs.steps.Walk.{IsSite, IsState};
+ghost use Rattle.xs_static.specs.steps.Locals.{AreLocals, EndFrom, open_in};
+ghost use Rattle.xs_static.specs.steps.Walk.{IsSite};
+ghost use Rattle.xs_structure.specs.Bindings.{local_name, shadows};
+ghost use Rattle.xs_structure.specs.Standing.{standing_of};
 ghost use Rattle.xs_tree.specs.Record.{places};
 
 use crate::element::Element;
-use crate::extensions::Extensions;
 use crate::fault::Least;
 use crate::locals::Locals;
 use crate::names::Names;
 use crate::numbers::{MODULE_TOO_DEEP, SHADOWING, UNKNOWN_TEMPLATE};
-use crate::standing::{Standing, is_element, parent_standing, standing_at};
 use crate::variables::Visible;
 use std::alloc::{AllocError, Global};
-use xs_elements::reading::Reading;
-use xs_elements::rows::{Row, is_top_level, row_of};
+use xs_elements::rows::{Row, row_of};
 use xs_elements::scope::{Expanded, own_name};
 use xs_modules::Module;
+use xs_structure::bindings::local_name;
+use xs_structure::scopes::Scopes;
+use xs_structure::standing::{Standing, is_element, standing_in, standings_by};
 use xs_tree::{Node, Tree};
 
 /// How many nodes are around an element that stands in 256 others, itself among them; the root
 /// is one of them.
 const TOO_DEEP: u32 = 258;
 
-/// The module that is walked, and the names that its stylesheet declares.
+/// The module that is walked, with what its nodes have, and the names that its stylesheet declares.
 #[derive(Clone, Copy)]
 struct Site<'w, 'm> {
     alloc: Global,
     number: u32,
     tree: &'m Tree,
     lines: &'m [u32],
+    standings: &'w [Standing],
+    scopes: &'w Scopes,
     names: &'w Names<'m>,
-}
-
-/// What the walk knows at a place.
-#[derive(Drop)]
-struct State<'m> {
-    /// How each node stands that came so far.
-    standings: Vec<Standing>,
-    extensions: Extensions<'m>,
-    locals: Locals<'m>,
-}
-
-/// How an element that is not XSLT's is read.
-fn reading_of_other(tree: &Tree, n: Node, extensions: &Extensions<'_>) -> Reading
-    requires inside { n < length tree.now }
-    requires extensions { AreExtensions tree.now (n + 1) extensions.now }
-    ensures { result ≡ reading_of_other (is_top_level tree.now n) (is_in_extension tree.now n) }
-{
-    if is_top_level(tree, n) {
-        return Reading::Unread;
-    }
-    if extensions.has(tree, n) {
-        return Reading::Extension;
-    }
-    Reading::Literal
-}
-
-/// How a node is read.
-fn reading_of(tree: &Tree, n: Node, row: Row, extensions: &Extensions<'_>) -> Reading
-    requires inside { n < length tree.now }
-    requires row { row ≡ row_of tree.now n }
-    requires extensions { AreExtensions tree.now (n + 1) extensions.now }
-    ensures { result ≡ reading_of tree.now n }
-{
-    match row {
-        Row::Other => reading_of_other(tree, n, extensions),
-        Row::DecimalFormat | Row::Unknown | Row::NoElement => Reading::Unread,
-        _ => Reading::Known,
-    }
-}
-
-/// The name of the local binding that a node is, if it is one.
-fn local_name(tree: &Tree, n: Node, row: Row, seen: bool) -> Option<Expanded<'_>>
-    requires inside { n < length tree.now }
-    requires row { row ≡ row_of tree.now n }
-    requires seen { seen ≡ is_seen tree.now n }
-    ensures { option_map name_data result ≡ local_name tree.now n }
-{
-    match row {
-        Row::Variable | Row::Param => {
-            if is_top_level(tree, n) || !seen {
-                return None;
-            }
-            own_name(tree, n)
-        }
-        _ => None,
-    }
 }
 
 impl<'w, 'm> Site<'w, 'm> {
@@ -161,7 +105,8 @@ impl<'w, 'm> Site<'w, 'm> {
         let line = self.line(element.node);
         let visible = Visible::all(self.names.globals(), &locals.in_force, element.node.place());
         least.meet_any(self.number, line, element.own_fault());
-        let fault = element.attributes_fault(self.alloc, &visible)?;
+        let scope = self.scopes.get(self.tree, element.node);
+        let fault = element.attributes_fault(self.alloc, scope, &visible)?;
         least.meet_any(self.number, line, fault);
         element.meet_misplaced(self.number, self.lines, least);
         let calls_other = self.calls_other(element.node, element.row);
@@ -231,26 +176,36 @@ impl<'w, 'm> Site<'w, 'm> {
         Ok(())
     }
 
-    /// Meets the faults of the next node.
-    fn visit(&self, n: Node, state: &mut State<'m>, least: &mut Least) -> Result<(), AllocError>
+    /// Meets the faults of the next node, before which the local bindings are these.
+    fn visit(&self, n: Node, locals: &mut Locals<'m>, least: &mut Least) -> Result<(), AllocError>
         requires site { IsSite self.now }
         requires inside { n < length self.now.tree.now }
-        requires state { IsState self.now.tree.now n state.old }
-        ensures state { OnOk result (IsState self.now.tree.now (n + 1) state.new) }
+        requires locals { AreLocals self.now.tree.now n locals.old }
+        ensures locals { OnOk result (AreLocals self.now.tree.now (n + 1) locals.new) }
         ensures faults { OnOk result (least.new.fault ≡ least_of least.old.fault
             (node_faults self.now.number self.now.tree.now self.now.lines.now
             self.now.names.now n)) }
     {
         let row = row_of(self.tree, n);
-        state.extensions.enter(self.tree, n, row)?;
-        state.locals.pass(self.tree, n)?;
-        let parent = parent_standing(&state.standings, self.tree, n);
-        let reading = reading_of(self.tree, n, row, &state.extensions);
-        let standing = standing_at(self.tree, n, row, reading, parent);
-        self.meet_node(n, row, standing, &state.locals, least)?;
+        locals.pass(self.tree, n)?;
+        let standing = standing_in(self.standings, self.tree, n);
+        self.meet_node(n, row, standing, locals, least)?;
         let name = local_name(self.tree, n, row, standing.is_seen);
-        state.locals.note(self.tree, n, name)?;
-        state.standings.push(standing)?;
+        locals.note(self.tree, n, name)?;
+        Ok(())
+    }
+
+    /// Meets the faults of all nodes.
+    fn visit_all(&self, least: &mut Least) -> Result<(), AllocError>
+        requires { IsSite self.now }
+        ensures { OnOk result (least.new.fault ≡ least_of least.old.fault
+            (nodes_faults self.now.number self.now.tree.now self.now.lines.now
+            self.now.names.now (length self.now.tree.now))) }
+    {
+        let mut locals = Locals::new(self.alloc);
+        for place in 0..self.tree.len() as u32 {
+            self.visit(Node::at(place), &mut locals, least)?;
+        }
         Ok(())
     }
 }
@@ -271,20 +226,17 @@ pub(crate) fn walk_module<'m>(
         (nodes_faults number module.now.tree module.now.lines.items names.now
         (length module.now.tree))) }
 {
+    let scopes = Scopes::of(alloc, &module.tree)?;
+    let standings = standings_by(alloc, &module.tree, &scopes)?;
     let site = Site {
         alloc,
         number,
         tree: &module.tree,
         lines: &module.lines,
+        standings: &standings,
+        scopes: &scopes,
         names,
     };
-    let mut state = State {
-        standings: Vec::new(alloc),
-        extensions: Extensions::new(alloc),
-        locals: Locals::new(alloc),
-    };
-    for place in 0..module.tree.len() as u32 {
-        site.visit(Node::at(place), &mut state, least)?;
-    }
-    Ok(state.standings)
+    site.visit_all(least)?;
+    Ok(standings)
 }

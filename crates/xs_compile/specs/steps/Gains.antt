@@ -4,7 +4,7 @@ use Rattle.xs_compile.specs.Bodies.{Source}
 use Rattle.xs_compile.specs.Declarations.{IsInstr}
 use Rattle.xs_sheet.specs.declared.body.Instr.{Instr}
 use Rattle.xs_sheet.specs.declared.body.InstrKind.{InstrKind}
-use Rattle.xs_static.specs.Modules.{Place}
+use Rattle.xs_structure.specs.Modules.{Place}
 use Rattle.xs_trace.specs.declared.item.Site.{Site}
 
 -- one at a line that does this, where it was compiled

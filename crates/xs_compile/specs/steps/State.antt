@@ -4,21 +4,22 @@ use Rattle.std.specs.List.{AllZip}
 use Rattle.xs_compile.specs.declared.compiler.Compiler.{Compiler}
 use Rattle.xs_compile.specs.declared.parts.Part.{Part}
 use Rattle.xs_compile.specs.Bodies.{Source}
-use Rattle.xs_declared.specs.Counted.{global_number, template_number}
-use Rattle.xs_declared.specs.Parts.{row_at}
-use Rattle.xs_declared.specs.Tables.{number_in}
-use Rattle.xs_declared.specs.Modes.{HaveModes, modes_in, modes_of}
+use Rattle.xs_compile.specs.Counted.{global_number, template_number}
+use Rattle.xs_structure.specs.Parts.{row_at}
+use Rattle.xs_compile.specs.Tables.{number_in}
+use Rattle.xs_compile.specs.Modes.{HaveModes, modes_in, modes_of}
 use Rattle.xs_compile.specs.steps.Rows.{is_body_row, part_row}
-use Rattle.xs_scopes.specs.Setting.{setting_of}
-use Rattle.xs_compile.specs.steps.Tables.{HasLocals, scopes_in, scopes_of}
-use Rattle.xs_declared.specs.Places.{IsIn}
+use Rattle.xs_structure.specs.Standing.{standing_of}
+use Rattle.xs_compile.specs.steps.Tables.{HasLocals}
+use Rattle.xs_structure.specs.Scopes.{scopes_in, scopes_of}
+use Rattle.xs_structure.specs.Places.{IsIn}
 use Rattle.xs_elements.specs.Reading.{is_seen}
 use Rattle.xs_elements.specs.Rows.{is_top_level}
 use Rattle.xs_modules.specs.Numbering.{ModuleData}
 use Rattle.xs_modules.specs.Results.{modules_data}
 use Rattle.xs_modules.specs.Sound.{IsSound}
 use Rattle.xs_static.specs.Faults.{IsFirstFault}
-use Rattle.xs_static.specs.Modules.{Place, records_at}
+use Rattle.xs_structure.specs.Modules.{Place, records_at}
 use Rattle.xs_tree.specs.Record.{at, places}
 
 abbrev pub modules_of : Compiler → List ModuleData
@@ -35,7 +36,7 @@ pub record IsState (c : Compiler) : Type 0 where
   pub templates : (uri local : List ℕ) → number_in c.templates uri local ≡ template_number (modules_of c) (uri, local)
   pub modes : HaveModes (modules_of c) c.modes
   pub order : modes_in c.modes ≡ modes_of (modules_of c)
-  pub settings : map (λ table. table.items) c.settings.items ≡ map (λ d. map (setting_of d.records) (places d.records)) (modules_of c)
+  pub standings : map (λ table. table.items) c.standings.items ≡ map (λ d. map (standing_of d.records) (places d.records)) (modules_of c)
   pub scopes : map scopes_in c.scopes.items ≡ map (λ d. scopes_of d.records) (modules_of c)
   pub locals : AllZip HasLocals (modules_of c) c.locals.items
 

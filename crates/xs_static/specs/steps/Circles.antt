@@ -1,14 +1,14 @@
 -- The declarations of attribute sets as the code collects them.
 use Rattle.std.specs.Prelude.{ℕ, List, [], ◌∷◌, Option, Some, None, if◌then◌else◌}
 use Rattle.std.specs.List.{flat_map}
-use Rattle.xs_circles.specs.declared.circles.Place.{Place as CirclePlace}
-use Rattle.xs_circles.specs.Circles.{Declared}
+use Rattle.xs_static.specs.declared.circles.Place.{Place as CirclePlace}
+use Rattle.xs_static.specs.Circles.{Declared}
 use Rattle.xs_elements.specs.Nodes.{Name, own_name}
 use Rattle.xs_elements.specs.Reading.{is_seen}
 use Rattle.xs_elements.specs.Rows.{is_attribute_set, row_of}
 use Rattle.xs_modules.specs.Numbering.{ModuleData}
 use Rattle.xs_static.specs.declared.fault.StaticFault.{StaticFault}
-use Rattle.xs_static.specs.Modules.{Place, line_at, records_at}
+use Rattle.xs_structure.specs.Modules.{Place, line_at, records_at}
 use Rattle.xs_static.specs.Sets.{named_sets, own_sets}
 use Rattle.xs_tree.specs.Record.{Record}
 

@@ -10,8 +10,9 @@ use Rattle.xs_elements.specs.Rows.{row_of, is_variable, is_template}
 use Rattle.xs_static.specs.declared.fault.StaticFault.{StaticFault}
 use Rattle.xs_static.specs.declared.names.Declared.{Declared}
 use Rattle.xs_static.specs.declared.names.Names.{Names}
-use Rattle.xs_static.specs.Modules.{Place, line_at, precedence_at, records_at}
-use Rattle.xs_static.specs.Names.{declares, declares_again}
+use Rattle.xs_structure.specs.Modules.{Place, line_at, precedence_at, records_at}
+use Rattle.xs_structure.specs.Order.{declares}
+use Rattle.xs_static.specs.Names.{declares_again}
 use Rattle.xs_static.specs.steps.InForce.{is_among}
 use Rattle.xs_static.specs.steps.Least.{fault_where}
 

@@ -7,7 +7,7 @@ use Rattle.xs_elements.specs.Forms.{sees_locals}
 use Rattle.xs_elements.specs.Nodes.{Name, ancestors_or_self, own_name}
 use Rattle.xs_elements.specs.Reading.{is_seen}
 use Rattle.xs_elements.specs.Rows.{row_of, is_call_template}
-use Rattle.xs_static.specs.Bindings.{is_visible, shadows}
+use Rattle.xs_structure.specs.Bindings.{is_visible, shadows}
 use Rattle.xs_static.specs.declared.fault.StaticFault.{StaticFault}
 use Rattle.xs_static.specs.declared.names.Names.{Names}
 use Rattle.xs_static.specs.Faults.{is_too_deep}

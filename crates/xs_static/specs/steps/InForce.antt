@@ -1,21 +1,11 @@
--- What is in force where the walk is.
-use Rattle.std.specs.Prelude.{ℕ, suc, zero, ◌≡◌, ◌<◌, ◌≤◌, ◌&&◌, ◌||◌, ◌==◌, nat_le, nat_lt, Bool, false, List, [], ◌∷◌, length, reverse, Option, Some, None}
+-- Which names are visible where the walk is.
+use Rattle.std.specs.Prelude.{ℕ, ◌||◌, Bool, false, List}
 use Rattle.std.specs.Borrow.{Bor}
-use Rattle.std.specs.HashMap.{get_by}
 use Rattle.std.specs.List.{list_any}
 use Rattle.std.specs.Option.{option_map_or}
-use Rattle.std.specs.Str.{bytes_eq}
-use Rattle.xs_static.specs.declared.in_force.InForce.{InForce}
-use Rattle.xs_static.specs.declared.variables.Visible.{Visible}
 use Rattle.xs_elements.specs.Nodes.{Name, is_same_name, name_data}
-
--- the place before which a name is in force
-abbrev pub end_of : InForce → List ℕ → List ℕ → Option ℕ
-end_of s uri local = get_by (λ k. bytes_eq uri k.0.now && bytes_eq local k.1.now) s.ends
-
--- a name is in force at a place
-abbrev pub in_force_at : InForce → List ℕ → List ℕ → ℕ → Bool
-in_force_at s uri local place = option_map_or (λ end. nat_lt place end) (end_of s uri local) false
+use Rattle.xs_static.specs.declared.variables.Visible.{Visible}
+use Rattle.xs_structure.specs.InForce.{in_force_at}
 
 -- one of these names is this one
 abbrev pub is_among : List (Bor (List ℕ) × Bor (List ℕ)) → Name → Bool

@@ -1,17 +1,13 @@
 -- The local bindings that are visible where the walk is.
-use Rattle.std.specs.Prelude.{◌≡◌, ℕ, zero, suc, ◌<◌, ◌≤◌, ◌&&◌, ◌||◌, nat_le, nat_lt, Bool, false, List, [], ◌∷◌, length, reverse, Option, None, if◌then◌else◌}
+use Rattle.std.specs.Prelude.{◌≡◌, ℕ, zero, suc, ◌<◌, ◌≤◌, ◌&&◌, ◌||◌, nat_le, nat_lt, Bool, false, List, [], ◌∷◌, length, reverse}
 use Rattle.std.specs.List.{list_any}
 use Rattle.xs_static.specs.declared.locals.Locals.{Locals}
 use Rattle.xs_static.specs.declared.locals.OpenBinding.{OpenBinding}
-use Rattle.xs_static.specs.Bindings.{is_local, is_visible_as}
-use Rattle.xs_elements.specs.Nodes.{Name, is_same_name, name_data, own_name}
-use Rattle.xs_static.specs.steps.InForce.{in_force_at}
+use Rattle.xs_structure.specs.Bindings.{is_visible_as}
+use Rattle.xs_elements.specs.Nodes.{Name, is_same_name, name_data}
+use Rattle.xs_structure.specs.InForce.{in_force_at}
 use Rattle.xs_tree.specs.Record.{Record}
 use Rattle.xs_tree.specs.Shape.{EndsAt}
-
--- the name of the local binding that a node is, if it is one
-abbrev pub local_name : List Record → ℕ → Option Name
-local_name rs n = if is_local rs n then own_name rs n else None
 
 -- the bindings that are open, the innermost first
 abbrev pub open_in : Locals → List OpenBinding

@@ -3,7 +3,8 @@ use Rattle.std.specs.Prelude.{ℕ, ◌&&◌, ◌||◌, not, Bool, List, [], ◌�
 use Rattle.xs_elements.specs.declared.rows.Row.{Row}
 use Rattle.xs_elements.specs.Rows.{row_of}
 use Rattle.xs_static.specs.declared.fault.StaticFault.{StaticFault}
-use Rattle.xs_static.specs.Placing.{has_misplaced_text, is_content, lacks_branch, stands_in}
+use Rattle.xs_static.specs.Placing.{has_misplaced_text, lacks_branch, stands_in}
+use Rattle.xs_structure.specs.Parts.{is_content}
 use Rattle.xs_static.specs.steps.Least.{fault_of}
 use Rattle.xs_tree.specs.Kinds.{is_element_kind}
 use Rattle.xs_tree.specs.Record.{Record, at, children}

@@ -1,19 +1,12 @@
--- What the walk knows at a place.
-use Rattle.std.specs.Prelude.{◌≡◌, ℕ, List, length, map}
-use Rattle.std.specs.List.{range_with_len}
+-- What the walk knows of a module.
+use Rattle.std.specs.Prelude.{◌≡◌, length, map}
 use Rattle.xs_static.specs.declared.walk.Site.{Site}
-use Rattle.xs_static.specs.declared.walk.State.{State}
-use Rattle.xs_static.specs.steps.Extensions.{AreExtensions}
-use Rattle.xs_static.specs.steps.Locals.{AreLocals}
-use Rattle.xs_static.specs.steps.Standing.{standing_of}
-use Rattle.xs_tree.specs.Record.{Record}
+use Rattle.xs_structure.specs.Scopes.{scopes_in, scopes_of}
+use Rattle.xs_structure.specs.Standing.{standing_of}
+use Rattle.xs_tree.specs.Record.{places}
 
--- each node has a line
-abbrev pub IsSite : Site → Type 0
-IsSite s = length s.lines.now ≡ length s.tree.now
-
--- the nodes before this place were visited
-pub record IsState (rs : List Record) (count : ℕ) (s : State) : Type 0 where
-  pub standings : s.standings.items ≡ map (standing_of rs) (range_with_len 0 count)
-  pub extensions : AreExtensions rs count s.extensions
-  pub locals : AreLocals rs count s.locals
+-- each node has a line, and the tables are those of the module
+pub record IsSite (s : Site) : Type 0 where
+  pub lines : length s.lines.now ≡ length s.tree.now
+  pub standings : s.standings.now ≡ map (standing_of s.tree.now) (places s.tree.now)
+  pub scopes : scopes_in s.scopes.now ≡ scopes_of s.tree.now

@@ -1,9 +1,9 @@
 use Rattle.std.proofs.Common.{◌∙◌, ◌<◌, ◌^◌, None, length, subst, List}
 use Rattle.xs_compile.proofs.SoundLemmas.{sheet_sound}
-use Rattle.xs_declared.specs.Order.{declarations}
+use Rattle.xs_structure.specs.Order.{declarations}
 use Rattle.xs_modules.specs.Results.{modules_data}
 use Rattle.xs_static.specs.Faults.{IsFirstFault}
-use Rattle.xs_static.specs.Modules.{Place}
+use Rattle.xs_structure.specs.Modules.{Place}
 use Rattle.xs_compile.proofs.compiled.compile.Goals as goal
 
 -- what stands for modules without a fault is sound

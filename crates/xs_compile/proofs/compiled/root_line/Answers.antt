@@ -1,6 +1,6 @@
 use Rattle.std.proofs.Common.{◌∙◌, ◌<◌, ap, arith, get_or, length, ℕ}
 use Rattle.std.proofs.lemmas.List.{length-map}
-use Rattle.xs_declared.proofs.PassingLemmas.{get_map}
+use Rattle.xs_structure.proofs.PassingLemmas.{get_map}
 use Rattle.xs_compile.proofs.RootLemmas.{first_is, no_root_line, root_line_is}
 use Rattle.xs_modules.specs.Numbering.{ModuleData}
 use Rattle.xs_modules.specs.Results.{module_data, modules_data}

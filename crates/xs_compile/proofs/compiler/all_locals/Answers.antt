@@ -3,14 +3,14 @@ use Rattle.std.proofs.lemmas.List.{length-map}
 use Rattle.std.specs.List.{AllZip}
 use Rattle.std.specs.Option.{option_map_or}
 use Rattle.std.specs.Prelude.{slice_get}
-use Rattle.xs_declared.proofs.PassingLemmas.{get_map}
-use Rattle.xs_compile.proofs.StateLemmas.{settings-in}
-use Rattle.xs_compile.proofs.ZipLemmas.{zip-more}
-use Rattle.xs_scopes.specs.Setting.{setting_of}
+use Rattle.xs_structure.proofs.PassingLemmas.{get_map}
+use Rattle.xs_compile.proofs.StateLemmas.{standings-in}
+use Rattle.xs_compile.proofs.ZipLemmas.{item-got, zip-more}
+use Rattle.xs_structure.specs.Standing.{standing_of}
 use Rattle.xs_compile.specs.steps.Tables.{HasLocals}
 use Rattle.xs_modules.specs.Numbering.{ModuleData}
 use Rattle.xs_modules.specs.Results.{module_data, modules_data}
-use Rattle.xs_static.specs.Modules.{records_at}
+use Rattle.xs_structure.specs.Modules.{records_at}
 use Rattle.xs_tree.specs.Record.{Record, places}
 use Rattle.xs_compile.proofs.compiler.all_locals.Goals as goal
 
@@ -24,8 +24,8 @@ of-requires c =
     let records : records_at ms i ≡ c.index.result.now.tree =
     ap (λ (o : Option ModuleData). option_map_or (λ d. d.records) o []) (get_map module_data list i c.index.result.now lt c.index.ensures) in
     c.deref.ensures.value
-    ∙ settings-in (λ table. table.items) ms c.args.settings.now c.requires i inside c.index-settings-number.result c.index-settings-number.is
-    ∙ ap (λ (rs : List Record). map (setting_of rs) (places rs)) records
+    ∙ standings-in (λ table. table.items) ms c.args.standings.now c.requires i inside c.index-standings-number.result c.index-standings-number.is
+    ∙ ap (λ (rs : List Record). map (standing_of rs) (places rs)) records
 
 pub loop-number-preserved : goal.loop-number-preserved
 loop-number-preserved c =
@@ -37,10 +37,5 @@ loop-number-preserved c =
     let inside : i < length ms = omega (arith, lt, length-map list module_data) in
     subst (λ found. AllZip HasLocals (take (i + 1) ms) found) (sym c.in_ok-push.ensures.items)
     (zip-more HasLocals ms c.loop-number.all.items i d c.in_ok-of.field-0 inside
-    (got ms i d (get_map module_data list i c.index.result.now lt c.index.ensures)) c.loop-number.invariant
+    (item-got ms i d (get_map module_data list i c.index.result.now lt c.index.ensures)) c.loop-number.invariant
     (record { tree = c.len-count.ensures.tree; locals = c.in_ok-of.ensures }))
-  where
-    got : (ms : List ModuleData) (i : ℕ) (d : ModuleData) → slice_get ms i ≡ Some d → d ≡ get_or ms i d
-    got [] i d e = refl
-    got (x ∷ xs) zero d e = cc (e)
-    got (x ∷ xs) (suc i) d e = got xs i d e

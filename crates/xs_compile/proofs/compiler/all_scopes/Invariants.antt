@@ -1,5 +1,5 @@
 use Rattle.std.proofs.Common.{◌≡◌, ◌++◌, drop, map}
-use Rattle.xs_compile.specs.steps.Tables.{scopes_in, scopes_of}
+use Rattle.xs_structure.specs.Scopes.{scopes_in, scopes_of}
 use Rattle.xs_modules.specs.Results.{module_data}
 use Rattle.xs_compile.proofs.compiler.all_scopes.Given as goal
 

@@ -1,8 +1,8 @@
 use Rattle.std.proofs.Common.{◌∙◌, ◌++◌, ◌∷◌, [], ap, append_assoc, filter, sym, map, ℕ, List}
 use Rattle.xs_compile.proofs.PartLemmas.{part_more}
-use Rattle.xs_declared.specs.Parts.{is_in_body}
+use Rattle.xs_structure.specs.Parts.{is_in_body}
 use Rattle.xs_modules.specs.Results.{modules_data}
-use Rattle.xs_static.specs.Modules.{Place, records_at}
+use Rattle.xs_structure.specs.Modules.{Place, records_at}
 use Rattle.xs_tree.proofs.WalkLemmas.{child-within}
 use Rattle.xs_compile.proofs.parts.body_at.Goals as goal
 

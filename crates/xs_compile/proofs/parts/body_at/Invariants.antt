@@ -1,7 +1,7 @@
 use Rattle.std.proofs.Common.{◌≡◌, ◌++◌, filter, map}
-use Rattle.xs_declared.specs.Parts.{body_at, is_in_body}
+use Rattle.xs_structure.specs.Parts.{body_at, is_in_body}
 use Rattle.xs_modules.specs.Results.{modules_data}
-use Rattle.xs_static.specs.Modules.{records_at}
+use Rattle.xs_structure.specs.Modules.{records_at}
 use Rattle.xs_tree.specs.Record.{children}
 use Rattle.xs_compile.proofs.parts.body_at.Given as goal
 

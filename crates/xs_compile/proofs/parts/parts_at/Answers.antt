@@ -1,9 +1,9 @@
 use Rattle.std.proofs.Common.{◌∙◌, ◌++◌, ◌∷◌, [], ap, append_assoc, filter, sym, map, ℕ, List}
 use Rattle.xs_compile.proofs.PartLemmas.{part_more}
-use Rattle.xs_declared.specs.Parts.{row_at}
+use Rattle.xs_structure.specs.Parts.{row_at}
 use Rattle.xs_compile.specs.steps.Rows.{part_test}
 use Rattle.xs_modules.specs.Results.{modules_data}
-use Rattle.xs_static.specs.Modules.{Place, records_at}
+use Rattle.xs_structure.specs.Modules.{Place, records_at}
 use Rattle.xs_tree.proofs.WalkLemmas.{child-within}
 use Rattle.xs_compile.proofs.parts.parts_at.Goals as goal
 

@@ -1,8 +1,8 @@
 use Rattle.std.proofs.Common.{◌≡◌, ◌++◌, filter, map}
-use Rattle.xs_declared.specs.Parts.{children_with, row_at}
+use Rattle.xs_structure.specs.Parts.{children_with, row_at}
 use Rattle.xs_compile.specs.steps.Rows.{part_test}
 use Rattle.xs_modules.specs.Results.{modules_data}
-use Rattle.xs_static.specs.Modules.{records_at}
+use Rattle.xs_structure.specs.Modules.{records_at}
 use Rattle.xs_tree.specs.Record.{children}
 use Rattle.xs_compile.proofs.parts.parts_at.Given as goal
 

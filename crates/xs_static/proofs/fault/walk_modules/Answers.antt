@@ -4,7 +4,7 @@ use Rattle.std.specs.Prelude.{slice_get}
 use Rattle.xs_modules.specs.Numbering.{ModuleData}
 use Rattle.xs_modules.specs.Results.{module_data}
 use Rattle.xs_static.proofs.ModuleLemmas.{all_at, faults_next, faults_none, items_of, standings_next, trees_next}
-use Rattle.xs_static.proofs.OrderLemmas.{get_map}
+use Rattle.xs_structure.proofs.PassingLemmas.{get_map}
 use Rattle.xs_tree.specs.Shape.{IsTree}
 use Rattle.xs_static.proofs.fault.walk_modules.Goals as goal
 

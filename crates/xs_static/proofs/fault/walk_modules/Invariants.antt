@@ -1,6 +1,6 @@
 use Rattle.std.proofs.Common.{◌≡◌, ◌<◌, ℕ, map, take}
 use Rattle.xs_modules.specs.Results.{module_data}
-use Rattle.xs_static.specs.Modules.{records_at}
+use Rattle.xs_structure.specs.Modules.{records_at}
 use Rattle.xs_static.specs.steps.Found.{modules_faults}
 use Rattle.xs_static.specs.steps.Least.{least_of}
 use Rattle.xs_static.specs.steps.Whole.{AreStandings}

@@ -6,8 +6,8 @@ use Rattle.xs_compile.proofs.RowLemmas.{binding-named, binding-takes, body-row-i
 use Rattle.xs_compile.proofs.ZipLemmas.{behind-falls, first-of, item-of, zip-end, zip-more}
 use Rattle.xs_compile.specs.Bodies.{IsBody, IsWhen, first_body, is_otherwise}
 use Rattle.xs_compile.specs.Declarations.{IsBinding, IsInstr}
-use Rattle.xs_declared.specs.Parts.{body_at, children_with}
-use Rattle.xs_scopes.specs.declared.setting.Setting.{Setting}
+use Rattle.xs_structure.specs.Parts.{body_at, children_with}
+use Rattle.xs_structure.specs.declared.standing.Standing.{Standing}
 use Rattle.xs_compile.specs.declared.parts.Part.TheVariants.{Fallback as FallbackPart, Otherwise as OtherwisePart, When as WhenPart, WithParam as WithParamPart}
 use Rattle.xs_compile.specs.steps.Rows.{is_binding}
 use Rattle.xs_compile.specs.steps.State.{IsInBody, IsPartOf, modules_of, source_of}
@@ -16,7 +16,7 @@ use Rattle.xs_elements.specs.declared.rows.Row.TheVariants.{Choose, Fallback, Fo
 use Rattle.xs_elements.specs.Contents.{is_with_param}
 use Rattle.xs_elements.specs.Reading.{shows}
 use Rattle.xs_elements.specs.Rows.{is_fallback, is_when}
-use Rattle.xs_static.specs.Modules.{Place, records_at}
+use Rattle.xs_structure.specs.Modules.{Place, records_at}
 use Rattle.xs_sheet.specs.declared.body.Body.{out-Body, out-roll-Body, roll-Body}
 use Rattle.xs_sheet.specs.declared.body.Choice.{out-roll-Choice, roll-Choice}
 use Rattle.xs_sheet.specs.declared.body.Fallbacks.{out-roll-Fallbacks, roll-Fallbacks}
@@ -248,13 +248,13 @@ kind-unreachable-requires t c =
     })
 
 pub other-literal_start-requires-clause-literal : goal.other-literal_start-requires-clause-literal
-other-literal_start-requires-clause-literal t c = sym (ap (λ (s : Setting). s.reading) c.setting.ensures) ∙ c.in-Literal.is
+other-literal_start-requires-clause-literal t c = sym (ap (λ (s : Standing). s.reading) c.standing.ensures) ∙ c.in-Literal.is
 
 pub other-unreachable-requires : goal.other-unreachable-requires
 other-unreachable-requires t c =
     other-reading (records_at (modules_of c.args.self.now) c.args.number) c.args.n c.requires.row c.requires.instruction.inner
-    (λ e. c.in_default.not-Literal (ap (λ (s : Setting). s.reading) c.setting.ensures
-    ∙ e)) (λ e. c.in_default.not-Extension (ap (λ (s : Setting). s.reading) c.setting.ensures ∙ e))
+    (λ e. c.in_default.not-Literal (ap (λ (s : Standing). s.reading) c.standing.ensures
+    ∙ e)) (λ e. c.in_default.not-Extension (ap (λ (s : Standing). s.reading) c.standing.ensures ∙ e))
 
 pub choose-returns : goal.choose-returns
 choose-returns t c =

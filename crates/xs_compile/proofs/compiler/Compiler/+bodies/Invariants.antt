@@ -2,9 +2,9 @@ use Rattle.std.proofs.Common.{◌+◌, ◌-◌, ◌*◌, length, take}
 use Rattle.std.specs.List.{AllZip}
 use Rattle.xs_compile.specs.Bodies.{IsBody, IsWhen}
 use Rattle.xs_compile.specs.Declarations.{IsBinding, IsInstr}
-use Rattle.xs_declared.specs.Parts.{body_at}
+use Rattle.xs_structure.specs.Parts.{body_at}
 use Rattle.xs_compile.specs.steps.State.{modules_of, source_of}
-use Rattle.xs_static.specs.Modules.{Place, records_at}
+use Rattle.xs_structure.specs.Modules.{Place, records_at}
 use Rattle.xs_compile.proofs.compiler.Compiler.+bodies.Given as goal
 
 -- how many nodes come behind the element, and of one element the order of the calls

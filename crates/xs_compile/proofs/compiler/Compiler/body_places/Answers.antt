@@ -1,9 +1,9 @@
 use Rattle.std.proofs.Common.{◌≡◌, subst, sym, All, List}
 use Rattle.std.proofs.lemmas.Result.{IfOk-weaker}
 use Rattle.xs_compile.proofs.ChildLemmas.{all-body}
-use Rattle.xs_declared.specs.Parts.{body_at}
+use Rattle.xs_structure.specs.Parts.{body_at}
 use Rattle.xs_compile.specs.steps.State.{IsInBody, modules_of}
-use Rattle.xs_static.specs.Modules.{Place}
+use Rattle.xs_structure.specs.Modules.{Place}
 use Rattle.xs_compile.proofs.compiler.Compiler.body_places.Goals as goal
 
 pub returns-clause-body : goal.returns-clause-body

@@ -3,7 +3,7 @@ use Rattle.std.specs.List.{AllZip}
 use Rattle.xs_compile.proofs.DeclaredLemmas.{declared-item, no-more, one-more}
 use Rattle.xs_compile.specs.Declarations.{IsGlobal}
 use Rattle.xs_compile.specs.steps.State.{modules_of, source_of}
-use Rattle.xs_declared.specs.Counted.{is_global}
+use Rattle.xs_compile.specs.Counted.{is_global}
 use Rattle.xs_compile.proofs.compiler.Compiler.globals.Goals as goal
 
 pub is_global-requires-clause-at : goal.is_global-requires-clause-at

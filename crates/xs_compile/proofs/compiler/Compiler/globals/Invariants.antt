@@ -1,6 +1,6 @@
 use Rattle.std.proofs.Common.{filter, take}
 use Rattle.std.specs.List.{AllZip}
-use Rattle.xs_declared.specs.Counted.{is_global}
+use Rattle.xs_compile.specs.Counted.{is_global}
 use Rattle.xs_compile.specs.Declarations.{IsGlobal}
 use Rattle.xs_compile.specs.steps.State.{modules_of, source_of}
 use Rattle.xs_compile.proofs.compiler.Compiler.globals.Given as goal

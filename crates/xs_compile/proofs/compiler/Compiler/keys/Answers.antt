@@ -1,11 +1,10 @@
 use Rattle.std.proofs.Common.{◌∙◌, ◌+◌, filter, subst, sym, take}
 use Rattle.std.specs.List.{AllZip}
 use Rattle.xs_compile.proofs.DeclaredLemmas.{declared-item, one-more}
-use Rattle.xs_compile.specs.Declarations.{IsKey}
+use Rattle.xs_compile.specs.Declarations.{IsKey, is_key}
 use Rattle.xs_compile.specs.steps.State.{modules_of, source_of}
-use Rattle.xs_compile.specs.Declarations.{is_key}
-use Rattle.xs_declared.specs.Parts.{row_at}
-use Rattle.xs_static.specs.Modules.{Place}
+use Rattle.xs_structure.specs.Parts.{row_at}
+use Rattle.xs_structure.specs.Modules.{Place}
 use Rattle.xs_compile.proofs.compiler.Compiler.keys.Goals as goal
 
 pub is_key-requires : goal.is_key-requires

@@ -1,10 +1,10 @@
 use Rattle.std.proofs.Common.{◌≡◌, ◌∙◌, List, Option, None, Some, ap, refl, subst, sym}
 use Rattle.std.specs.Prelude.{option_map, IfOk}
-use Rattle.xs_declared.specs.Labels.{IsMode, mode_at}
-use Rattle.xs_declared.specs.Modes.{has_mode, modes_in, modes_of, tree_mode}
+use Rattle.xs_compile.specs.Labels.{IsMode, mode_at}
+use Rattle.xs_compile.specs.Modes.{has_mode, modes_in, modes_of, tree_mode}
 use Rattle.xs_compile.specs.steps.State.{modules_of}
 use Rattle.xs_elements.specs.Nodes.{Name, name_data}
-use Rattle.xs_static.specs.Modules.{records_at}
+use Rattle.xs_structure.specs.Modules.{records_at}
 use Rattle.xs_tree.specs.Record.{Record}
 use Rattle.xs_compile.proofs.compiler.Compiler.mode.Goals as goal
 

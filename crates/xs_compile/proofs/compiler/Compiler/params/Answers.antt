@@ -5,7 +5,7 @@ use Rattle.xs_compile.specs.declared.parts.Part.TheVariants.{Param}
 use Rattle.xs_compile.specs.Declarations.{IsBinding}
 use Rattle.xs_compile.specs.steps.Rows.{is_binding}
 use Rattle.xs_compile.specs.steps.State.{IsPartOf, source_of}
-use Rattle.xs_static.specs.Modules.{Place}
+use Rattle.xs_structure.specs.Modules.{Place}
 use Rattle.xs_compile.proofs.compiler.Compiler.params.Goals as goal
 
 pub binding-requires-clause-row : goal.binding-requires-clause-row

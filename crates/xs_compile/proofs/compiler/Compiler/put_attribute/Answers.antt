@@ -1,8 +1,8 @@
 use Rattle.std.proofs.Common.{subst, sym, IsOk}
 use Rattle.xs_compile.proofs.ValidLemmas.{valid_put}
-use Rattle.xs_declared.specs.Parts.{pairs_at}
+use Rattle.xs_structure.specs.Parts.{pairs_at}
 use Rattle.xs_compile.specs.steps.State.{modules_of}
-use Rattle.xs_static.specs.Modules.{Place}
+use Rattle.xs_structure.specs.Modules.{Place}
 use Rattle.xs_xpath.specs.Templates.{template_in}
 use Rattle.xs_compile.proofs.compiler.Compiler.put_attribute.Goals as goal
 

@@ -6,7 +6,7 @@ use Rattle.xs_compile.proofs.ZipLemmas.{item-of, zip-end, zip-more}
 use Rattle.xs_compile.specs.Bodies.{IsPutAttribute}
 use Rattle.xs_compile.specs.steps.State.{modules_of, source_of}
 use Rattle.xs_elements.specs.Reading.{is_xslt}
-use Rattle.xs_static.specs.Modules.{Place, records_at}
+use Rattle.xs_structure.specs.Modules.{Place, records_at}
 use Rattle.xs_tree.specs.Record.{Record, attributes, uri_at}
 use Rattle.xs_compile.proofs.compiler.Compiler.put_attributes.Goals as goal
 

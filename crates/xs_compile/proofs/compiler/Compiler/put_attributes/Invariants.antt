@@ -2,7 +2,7 @@ use Rattle.std.proofs.Common.{take}
 use Rattle.std.specs.List.{AllZip}
 use Rattle.xs_compile.specs.Bodies.{IsPutAttribute}
 use Rattle.xs_compile.specs.steps.State.{source_of}
-use Rattle.xs_static.specs.Modules.{Place}
+use Rattle.xs_structure.specs.Modules.{Place}
 use Rattle.xs_compile.proofs.compiler.Compiler.put_attributes.Given as goal
 
 -- those of the attributes that were passed

@@ -4,9 +4,9 @@ use Rattle.std.specs.Arc.{arc_value}
 use Rattle.std.specs.Prelude.{IfOk}
 use Rattle.xs_compile.proofs.StateLemmas.{table-in}
 use Rattle.xs_compile.specs.steps.State.{modules_of}
-use Rattle.xs_compile.specs.steps.Tables.{pairs_in, scopes_in, scopes_of}
+use Rattle.xs_structure.specs.Scopes.{pairs_in, scopes_in, scopes_of}
 use Rattle.xs_elements.specs.Nodes.{scope_at}
-use Rattle.xs_static.specs.Modules.{records_at}
+use Rattle.xs_structure.specs.Modules.{records_at}
 use Rattle.xs_compile.proofs.compiler.Compiler.scope.Goals as goal
 
 pub at-requires : goal.at-requires

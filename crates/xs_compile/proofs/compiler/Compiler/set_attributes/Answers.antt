@@ -7,7 +7,7 @@ use Rattle.xs_compile.specs.Declarations.{IsInstr}
 use Rattle.xs_compile.specs.steps.Rows.{is_body_row}
 use Rattle.xs_compile.specs.steps.State.{IsPartOf, modules_of, source_of}
 use Rattle.xs_elements.specs.Rows.{is_stylesheet, is_top_level}
-use Rattle.xs_static.specs.Modules.{Place, records_at}
+use Rattle.xs_structure.specs.Modules.{Place, records_at}
 use Rattle.xs_compile.proofs.compiler.Compiler.set_attributes.Goals as goal
 
 pub add_instr-requires : goal.add_instr-requires

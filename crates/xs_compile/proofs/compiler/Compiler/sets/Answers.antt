@@ -3,9 +3,9 @@ use Rattle.std.specs.List.{AllZip}
 use Rattle.xs_compile.proofs.DeclaredLemmas.{declared-item, one-more}
 use Rattle.xs_compile.specs.Declarations.{IsSet}
 use Rattle.xs_compile.specs.steps.State.{modules_of, source_of}
-use Rattle.xs_declared.specs.Parts.{row_at}
+use Rattle.xs_structure.specs.Parts.{row_at}
 use Rattle.xs_elements.specs.Rows.{is_attribute_set}
-use Rattle.xs_static.specs.Modules.{Place}
+use Rattle.xs_structure.specs.Modules.{Place}
 use Rattle.xs_compile.proofs.compiler.Compiler.sets.Goals as goal
 
 pub is_set-requires : goal.is_set-requires

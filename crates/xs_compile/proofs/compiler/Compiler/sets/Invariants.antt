@@ -1,7 +1,7 @@
 use Rattle.std.proofs.Common.{filter, take}
 use Rattle.std.specs.List.{AllZip}
 use Rattle.xs_compile.specs.Declarations.{IsSet}
-use Rattle.xs_declared.specs.Parts.{row_at}
+use Rattle.xs_structure.specs.Parts.{row_at}
 use Rattle.xs_elements.specs.Rows.{is_attribute_set}
 use Rattle.xs_compile.specs.steps.State.{modules_of, source_of}
 use Rattle.xs_compile.proofs.compiler.Compiler.sets.Given as goal

@@ -2,7 +2,7 @@ use Rattle.std.proofs.Common.{sym, subst, arith, length, List}
 use Rattle.std.proofs.lemmas.Slice.Zip.{AllZip-long}
 use Rattle.xs_compile.proofs.StateLemmas.{apart-at, locals-at}
 use Rattle.xs_compile.specs.steps.State.{modules_of}
-use Rattle.xs_scopes.specs.Locals.{AreLocals, IsApart}
+use Rattle.xs_compile.specs.Locals.{AreLocals, IsApart}
 use Rattle.xs_compile.specs.steps.Tables.{HasLocals}
 use Rattle.xs_tree.specs.Record.{Record}
 use Rattle.xs_compile.proofs.compiler.Compiler.slot_at.Goals as goal

@@ -2,11 +2,11 @@ use Rattle.std.proofs.Common.{ap, sym}
 use Rattle.std.specs.Prelude.{codes}
 use Rattle.xs_compile.proofs.DotLemmas.{dot-ok}
 use Rattle.xs_compile.proofs.ValidLemmas.{valid_expr}
-use Rattle.xs_declared.specs.Parts.{pairs_at}
+use Rattle.xs_structure.specs.Parts.{pairs_at}
 use Rattle.xs_compile.specs.steps.Rows.{takes_expression}
 use Rattle.xs_compile.specs.steps.State.{modules_of}
 use Rattle.xs_elements.specs.declared.rows.Row.{Row}
-use Rattle.xs_static.specs.Modules.{Place}
+use Rattle.xs_structure.specs.Modules.{Place}
 use Rattle.xs_compile.proofs.compiler.Compiler.sort_select.Goals as goal
 
 pub expr-requires-clause-valid : goal.expr-requires-clause-valid

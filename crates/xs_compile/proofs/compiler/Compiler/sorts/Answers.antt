@@ -6,7 +6,7 @@ use Rattle.xs_compile.specs.declared.parts.Part.TheVariants.{Sort as SortPart}
 use Rattle.xs_compile.specs.steps.State.{IsPartOf, source_of}
 use Rattle.xs_elements.specs.declared.reading.Reading.{Reading}
 use Rattle.xs_elements.specs.Reading.{shows}
-use Rattle.xs_static.specs.Modules.{Place}
+use Rattle.xs_structure.specs.Modules.{Place}
 use Rattle.xs_compile.proofs.compiler.Compiler.sorts.Goals as goal
 
 pub parts-requires-clause-shown : goal.parts-requires-clause-shown

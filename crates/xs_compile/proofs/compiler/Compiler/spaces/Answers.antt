@@ -1,10 +1,10 @@
 use Rattle.std.proofs.Common.{◌∙◌, ◌++◌, ◌∷◌, [], ap, append_assoc, filter, map, sym, ℕ, List}
 use Rattle.std.specs.Prelude.{not}
 use Rattle.xs_compile.proofs.MakingLemmas.{spaces-more}
-use Rattle.xs_scopes.specs.Excluded.{is_left_out}
+use Rattle.xs_structure.specs.Excluded.{is_left_out}
 use Rattle.xs_compile.specs.steps.State.{modules_of}
 use Rattle.xs_elements.specs.Nodes.{pair_at}
-use Rattle.xs_static.specs.Modules.{records_at}
+use Rattle.xs_structure.specs.Modules.{records_at}
 use Rattle.xs_tree.proofs.WalkLemmas.{passing-passes, passing-within}
 use Rattle.xs_tree.specs.Record.{at, is_namespace}
 use Rattle.xs_compile.proofs.compiler.Compiler.spaces.Goals as goal

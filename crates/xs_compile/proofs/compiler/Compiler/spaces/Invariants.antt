@@ -1,9 +1,9 @@
 use Rattle.std.proofs.Common.{◌≡◌, ◌++◌, filter, map}
 use Rattle.std.specs.Prelude.{not}
-use Rattle.xs_scopes.specs.Excluded.{copied_spaces, is_left_out}
+use Rattle.xs_structure.specs.Excluded.{copied_spaces, is_left_out}
 use Rattle.xs_compile.specs.steps.State.{modules_of}
 use Rattle.xs_elements.specs.Nodes.{pair_at}
-use Rattle.xs_static.specs.Modules.{records_at}
+use Rattle.xs_structure.specs.Modules.{records_at}
 use Rattle.xs_tree.specs.Record.{at, namespaces}
 use Rattle.xs_compile.proofs.compiler.Compiler.spaces.Given as goal
 

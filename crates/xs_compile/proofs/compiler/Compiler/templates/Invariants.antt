@@ -1,6 +1,6 @@
 use Rattle.std.proofs.Common.{filter, take}
 use Rattle.std.specs.List.{AllZip}
-use Rattle.xs_declared.specs.Counted.{is_template_place}
+use Rattle.xs_structure.specs.Order.{is_template_place}
 use Rattle.xs_compile.specs.Declarations.{IsTemplate}
 use Rattle.xs_compile.specs.steps.State.{modules_of, source_of}
 use Rattle.xs_compile.proofs.compiler.Compiler.templates.Given as goal

@@ -5,10 +5,10 @@ use Rattle.xs_compile.proofs.BodyLemmas.{body-is}
 use Rattle.xs_compile.proofs.DeclaredLemmas.{simple-instruction, whole-is}
 use Rattle.xs_compile.proofs.FreeLemmas.{slash}
 use Rattle.xs_compile.specs.Declarations.{IsInstr}
-use Rattle.xs_declared.specs.Parts.{pairs_at}
+use Rattle.xs_structure.specs.Parts.{pairs_at}
 use Rattle.xs_compile.specs.steps.State.{modules_of, source_of}
 use Rattle.xs_sheet.specs.declared.body.Body.{out-roll-Body}
-use Rattle.xs_static.specs.Modules.{Place}
+use Rattle.xs_structure.specs.Modules.{Place}
 use Rattle.xs_compile.proofs.compiler.Compiler.whole_module.Goals as goal
 
 pub add_instr-requires : goal.add_instr-requires

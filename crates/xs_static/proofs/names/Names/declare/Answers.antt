@@ -5,7 +5,7 @@ use Rattle.xs_elements.specs.Rows.{is_template, is_variable, row_of}
 use Rattle.xs_modules.specs.Numbering.{ModuleData}
 use Rattle.xs_modules.specs.Results.{module_data, modules_data}
 use Rattle.xs_static.proofs.DeclaredLemmas.{answer-as, line-of, met-names, module-of, noted, noted-as}
-use Rattle.xs_static.specs.Modules.{line_at, precedence_at, records_at}
+use Rattle.xs_structure.specs.Modules.{line_at, precedence_at, records_at}
 use Rattle.xs_tree.specs.Record.{Record}
 use Rattle.xs_static.proofs.names.Names.declare.Goals as goal
 
@@ -14,7 +14,7 @@ returns-clause-names c = λ done declared.
     let ms = modules_data c.args.modules.now in
     let n = c.args.element in
     let m = c.index-module.result.now in
-    let found = module-of c.args.modules.now.list.items c.args.number m c.requires.inside.0 c.index-module.ensures in
+    let found = module-of c.args.modules.now.list.items c.args.number m c.requires.inside.«module» c.index-module.ensures in
     let records = sym (ap (λ (o : Option ModuleData). option_map_or (λ d. d.records) o []) found) in
     let row = c.row_of-row.ensures.row ∙ ap (λ (r : List Record). row_of r n) records in
     let rank = sym (ap (λ (o : Option ModuleData). option_map_or (λ d. d.rank.precedence) o 0) found) in
@@ -32,7 +32,7 @@ returns-clause-faults c = λ done declared.
     let ms = modules_data c.args.modules.now in
     let n = c.args.element in
     let m = c.index-module.result.now in
-    let found = module-of c.args.modules.now.list.items c.args.number m c.requires.inside.0 c.index-module.ensures in
+    let found = module-of c.args.modules.now.list.items c.args.number m c.requires.inside.«module» c.index-module.ensures in
     let records = sym (ap (λ (o : Option ModuleData). option_map_or (λ d. d.records) o []) found) in
     let row = c.row_of-row.ensures.row ∙ ap (λ (r : List Record). row_of r n) records in
     let rank = sym (ap (λ (o : Option ModuleData). option_map_or (λ d. d.rank.precedence) o 0) found) in
@@ -40,7 +40,7 @@ returns-clause-faults c = λ done declared.
     met-names ms done (c.args.number, n) c.args.self.now c.args.least.now.fault c.meet_where.new.self.fault c.meet_where-2.new.self.fault
     c.in_ok-is_double.is_double
     c.in_ok-is_again.is_again _ declared
-    (line-of ms c.args.number n c.place.result c.index-line.result.now (module_data m) c.requires.lines found c.requires.inside.1 c.place.ensures
+    (line-of ms c.args.number n c.place.result c.index-line.result.now (module_data m) c.requires.lines found c.requires.inside.node c.place.ensures
     c.index-line.ensures)
     (answer-as c.args.self.now.globals _ _ _ _ _ _ _ (c.is_variable.ensures ∙ ap is_variable row) rank name c.in_ok-is_double.ensures.answer)
     (answer-as c.args.self.now.templates _ _ _ _ _ _ _ (c.is_template.ensures ∙ ap is_template row) rank name c.in_ok-is_again.ensures.answer)

@@ -2,12 +2,12 @@ use Rattle.std.proofs.Common.{◌≡◌, ◌∙◌, ◌∷◌, [], ap, refl, sym
 use Rattle.std.proofs.lemmas.Grind.{common_steps}
 use Rattle.xs_modules.specs.Results.{modules_data}
 use Rattle.xs_static.proofs.DeclaredLemmas.{ends_with, first-inside, goes_on, starts}
-use Rattle.xs_static.specs.Modules.{Place}
+use Rattle.xs_structure.specs.Modules.{Place}
 use Rattle.xs_static.proofs.names.Names.of.Goals as goal
 
 pub loop-place-init : goal.loop-place-init
 loop-place-init c =
-    starts (modules_data c.args.modules.now) c.args.contents.now c.args.least.now.fault c.new-names.result c.new-names.ensures.globals
+    starts (modules_data c.args.modules.now) c.args.declared.now c.args.least.now.fault c.new-names.result c.new-names.ensures.globals
     c.new-names.ensures.ranked_globals
     c.new-names.ensures.templates c.new-names.ensures.ranked_templates c.requires.inside
 
@@ -22,18 +22,18 @@ loop-place-preserved c =
     let ms = modules_data c.args.modules.now in
     let next : c.loop-place.rest.now ≡ c.in-Some.place.now ∷ c.in-Some.behind.now = first_of (cc, search rules, grind common_steps) in
     let s = c.loop-place.invariant in
-    goes_on ms c.args.contents.now c.args.least.now.fault c.loop-place.least.fault c.declare.new.least.fault c.loop-place.names c.declare.new.self
+    goes_on ms c.args.declared.now c.args.least.now.fault c.loop-place.least.fault c.declare.new.least.fault c.loop-place.names c.declare.new.self
     c.loop-place.rest.now
     c.in-Some.behind.now c.in-Some.place.now next s (c.in_ok-declare.ensures.names s.done s.declared) (c.in_ok-declare.ensures.faults s.done s.declared)
 
 pub returns-clause-names : goal.returns-clause-names
 returns-clause-names c =
-    (ends_with (modules_data c.args.modules.now) c.args.contents.now c.args.least.now.fault c.loop-place.least.fault c.loop-place.names c.loop-place.rest.now
+    (ends_with (modules_data c.args.modules.now) c.args.declared.now c.args.least.now.fault c.loop-place.least.fault c.loop-place.names c.loop-place.rest.now
     c.in_default.ensures.cases
     c.loop-place.invariant).0
 
 pub returns-clause-faults : goal.returns-clause-faults
 returns-clause-faults c =
-    (ends_with (modules_data c.args.modules.now) c.args.contents.now c.args.least.now.fault c.loop-place.least.fault c.loop-place.names c.loop-place.rest.now
+    (ends_with (modules_data c.args.modules.now) c.args.declared.now c.args.least.now.fault c.loop-place.least.fault c.loop-place.names c.loop-place.rest.now
     c.in_default.ensures.cases
     c.loop-place.invariant).1

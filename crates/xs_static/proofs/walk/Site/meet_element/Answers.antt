@@ -1,6 +1,6 @@
 use Rattle.std.proofs.Common.{◌≡◌, ◌∙◌, ap, refl, sym}
 use Rattle.xs_elements.specs.Reading.{is_seen}
-use Rattle.xs_static.proofs.AroundLemmas.{on_ok}
+use Rattle.xs_static.proofs.MeetLemmas.{on_ok}
 use Rattle.xs_static.proofs.FoundLemmas.{met-deep, met-seen, seen-of}
 use Rattle.xs_static.specs.steps.Found.{deep_faults}
 use Rattle.xs_static.proofs.walk.Site.meet_element.Goals as goal

@@ -2,9 +2,21 @@ use Rattle.std.proofs.Common.{◌≡◌, ◌∙◌, ◌<◌, ◌≤◌, ap, refl
 use Rattle.xs_static.proofs.FoundLemmas.{known-is, met-in-element}
 use Rattle.xs_static.proofs.LocalsLemmas.{in_force-is}
 use Rattle.xs_static.specs.steps.Elements.{known_by}
-use Rattle.xs_static.specs.steps.InForce.{in_force_at}
+use Rattle.xs_structure.specs.InForce.{in_force_at}
 use Rattle.xs_static.specs.steps.Locals.{open_in}
+use Rattle.xs_elements.specs.Nodes.{scope_at}
+use Rattle.xs_tree.specs.Record.{Record}
 use Rattle.xs_static.proofs.walk.Site.meet_seen.Goals as goal
+
+pub get-scope-requires-clause-inside : goal.get-scope-requires-clause-inside
+get-scope-requires-clause-inside c =
+    let n = c.args.element.now.node in
+    subst (λ (rs : List Record). n < length rs) (ap (λ t. t.now) c.requires.same) c.requires.element.within
+
+pub attributes_fault-requires-clause-scope : goal.attributes_fault-requires-clause-scope
+attributes_fault-requires-clause-scope c =
+    let n = c.args.element.now.node in
+    c.get-scope.ensures ∙ ap (λ (rs : List Record). scope_at rs n) (sym (ap (λ t. t.now) c.requires.same))
 
 pub returns : goal.returns
 returns c =

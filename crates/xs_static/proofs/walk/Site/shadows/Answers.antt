@@ -3,7 +3,7 @@ use Rattle.std.specs.Prelude.{option_map}
 use Rattle.xs_elements.specs.Nodes.{name_data}
 use Rattle.xs_static.proofs.FoundLemmas.{shadows-some}
 use Rattle.xs_static.proofs.LocalsLemmas.{in_force-is}
-use Rattle.xs_static.specs.steps.InForce.{in_force_at}
+use Rattle.xs_structure.specs.InForce.{in_force_at}
 use Rattle.xs_static.specs.steps.Locals.{open_in}
 use Rattle.xs_static.proofs.walk.Site.shadows.Goals as goal
 

@@ -1,8 +1,0 @@
-use Rattle.std.proofs.Common.{◌≡◌, filter}
-use Rattle.std.specs.List.{range_with_len}
-use Rattle.xs_declared.specs.Order.{declares}
-use Rattle.xs_declared.proofs.declarations.own_declarations.Given as goal
-
--- those of the places that were passed
-abbrev pub invariant-loop-place : goal.invariant-loop-place
-invariant-loop-place l = l.found.items ≡ filter (declares l.tree) (range_with_len 0 l.place)

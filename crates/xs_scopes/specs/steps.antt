@@ -1,3 +1,0 @@
--- What the code mirrors. No public contract cites these files.
-pub mod Locals
-pub mod Namespaces

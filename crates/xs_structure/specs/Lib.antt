@@ -1,0 +1,10 @@
+pub mod Bindings
+pub mod Excluded
+pub mod InForce
+pub mod Modules
+pub mod Order
+pub mod Parts
+pub mod Places
+pub mod Scopes
+pub mod Standing
+pub mod steps
