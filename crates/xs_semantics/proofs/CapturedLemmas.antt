@@ -1,6 +1,6 @@
 -- What captured content does besides its value.
-use Rattle.std.proofs.Common.{◌≡◌, ℕ, ◌+◌, List, [], ◌∷◌, ◌++◌, refl, ap, arith}
-use Rattle.xs_trace.specs.Mark.{Tick, Put, Say, Stop, Need, Hole, Trace, ◌⨾◌, GoesOn, captured, events_of, messages_of, tick_count, without_puts}
+use Rattle.std.proofs.Common.{◌≡◌, ◌+◌, [], ◌∷◌, ◌++◌, refl, ap, arith}
+use Rattle.xs_trace.specs.Mark.{Tick, Put, Say, Stop, Need, Hole, Trace, ◌⨾◌, GoesOn, events_of, messages_of, tick_count, without_puts}
 use Rattle.xs_semantics.specs.Laws.{CapturedSays, CapturedTakesTicks}
 use Rattle.xs_semantics.specs.Tasks.{Task}
 

@@ -12,7 +12,7 @@ use Rattle.xs_trace.proofs.FillLemmas.{fill-laws}
 use Rattle.xs_value.specs.declared.value.Value.{Value}
 use Rattle.xs_semantics.specs.declared.focus.Focus.{Focus}
 use Rattle.xs_semantics.specs.World.{World, at_node, captured_in, with_grain}
-use Rattle.xs_semantics.specs.Tasks.{Job, Task, with_node, task_behind, shared, tasks_for, below}
+use Rattle.xs_semantics.specs.Tasks.{Job, Task, with_node, task_behind, shared, below}
 use Rattle.xs_semantics.specs.Trace.{each, spread_by, spread, body_trace, called, job_trace, task_trace}
 use Rattle.xs_semantics.proofs.HoleLemmas.{HasNoHole, none-then, none-captured, none-tasks}
 use Rattle.xs_semantics.proofs.SideLemmas.{IsKept, body-keeps, calls-keep, task-keeps}

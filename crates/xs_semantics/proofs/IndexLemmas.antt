@@ -1,12 +1,11 @@
 -- Nothing that a stylesheet does depends on the index by which its rules are found.
-use Rattle.std.proofs.Common.{◌≡◌, ℕ, ◌+◌, ◌-◌, length, List, [], ◌∷◌, ◌++◌, map, slice_get, Option, Some, None, Bool, true, false, refl, sym, ap, subst, ◌∙◌}
+use Rattle.std.proofs.Common.{◌≡◌, ℕ, ◌+◌, ◌-◌, length, List, [], ◌∷◌, slice_get, Option, Some, None, Bool, refl, sym, ap, subst, ◌∙◌}
 use Rattle.xs_sheet.specs.declared.body.Content.{Content}
 use Rattle.xs_sheet.specs.declared.body.Content.TheVariants.{Empty, Select, Body as Fragment}
 use Rattle.xs_sheet.specs.declared.declarations.Global.{Global}
 use Rattle.xs_trace.specs.Cut.{Cut, End, Whole, Fault, Needs, Spent, cut}
 use Rattle.xs_trace.specs.Kept.{spot}
-use Rattle.xs_trace.specs.Mark.{Tick, Put, Say, Stop, Need, Hole, Trace, ◌⨾◌, without_puts, events_of, captured}
-use Rattle.xs_trace.specs.declared.event.Event.{Event}
+use Rattle.xs_trace.specs.Mark.{Tick, Trace, ◌⨾◌, without_puts, events_of, captured}
 use Rattle.xs_trace.specs.declared.fault.Fault.TheVariants as fault
 use Rattle.xs_trace.specs.declared.item.Site.{Site}
 use Rattle.xs_value.specs.declared.value.Value.{Value}
@@ -14,8 +13,8 @@ use Rattle.xs_value.specs.declared.value.Value.TheVariants.{Piece}
 use Rattle.xs_rules.specs.declared.index.RuleIndex.{RuleIndex}
 use Rattle.xs_semantics.specs.declared.focus.Focus.{Focus}
 use Rattle.xs_semantics.specs.World.{World, at_node, with_index}
-use Rattle.xs_semantics.specs.Tasks.{Job, Task, tasks_for, grain_over}
-use Rattle.xs_semantics.specs.Trace.{each, spread_by, spread, called, body_trace, fragment_of, job_trace, task_trace, most_depth}
+use Rattle.xs_semantics.specs.Tasks.{Job, Task, grain_over}
+use Rattle.xs_semantics.specs.Trace.{each, spread_by, fragment_of, task_trace, most_depth}
 use Rattle.xs_semantics.specs.Globals.{Table, Settled, settled, ended, Settles, AllSettle, SettlesAll, tried, with_globals, with_passed, with_value}
 use Rattle.xs_semantics.specs.Globals.{attempt_trace, attempt_value, content_value, global_focus}
 use Rattle.xs_semantics.specs.Globals as settles

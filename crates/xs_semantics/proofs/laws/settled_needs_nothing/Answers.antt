@@ -1,4 +1,3 @@
-use Rattle.xs_trace.specs.Mark.{NeedsNothing}
 use Rattle.xs_semantics.specs.Trace.{task_trace}
 use Rattle.xs_semantics.proofs.NeedLemmas.{settled-needs, task-needs}
 use Rattle.xs_semantics.proofs.laws.settled_needs_nothing.Goals as goal
