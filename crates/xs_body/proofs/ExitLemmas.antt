@@ -8,9 +8,9 @@ use Rattle.xs_trace.specs.declared.item.Site.{Site}
 use Rattle.xs_trace.specs.declared.recorder.Halt.{Halt}
 use Rattle.xs_trace.proofs.GrowthLemmas.{Grows, passes, then-exit, goes-grows}
 use Rattle.xs_value.specs.declared.value.Value.{Value}
-use Rattle.xs_body.specs.declared.focus.Focus.{Focus}
-use Rattle.xs_body.specs.World.{World}
-use Rattle.xs_body.specs.Tasks.{Job, Task, tasks_for, grain_over}
+use Rattle.xs_semantics.specs.declared.focus.Focus.{Focus}
+use Rattle.xs_semantics.specs.World.{World}
+use Rattle.xs_semantics.specs.Tasks.{Job, Task, tasks_for, grain_over}
 use Rattle.xs_body.specs.steps.Frames.{Work, Stack, run_by, run_begun, stays, value_steps}
 use Rattle.xs_sheet.specs.declared.scoped.ScopedExpr.{ScopedExpr}
 

@@ -23,14 +23,15 @@ use Rattle.xs_tree.specs.Kinds.{has_content, is_attribute_kind, is_text_kind}
 use Rattle.xs_tree.specs.Record.{Record, at, children}
 use Rattle.xs_value.specs.declared.value.Value.{Value}
 use Rattle.xs_value.specs.Conversion.{fragment_text}
-use Rattle.xs_body.specs.declared.focus.Focus.{Focus}
+use Rattle.xs_semantics.specs.declared.focus.Focus.{Focus}
 use Rattle.xs_body.specs.declared.frames.Scope.{Scope}
-use Rattle.xs_body.specs.World.{World, in_list, with_depth, value_run, nodes_run, text_run, test_run, nodes_or_children}
-use Rattle.xs_body.specs.Tasks.{Params, no_params, Job, body_job, rules_job, Task, tasks_for, grain_over}
-use Rattle.xs_body.specs.Rules.{rule_for, import_for}
-use Rattle.xs_body.specs.Trace.{Entry, named, fitting, overridden, Called, by_number, by_rules, each, body_trace, params_trace}
+use Rattle.xs_semantics.specs.World.{World, in_list, with_depth, value_run, nodes_run, text_run, test_run, nodes_or_children}
+use Rattle.xs_semantics.specs.Tasks.{Params, no_params, Job, body_job, rules_job, Task, tasks_for, grain_over}
+use Rattle.xs_semantics.specs.Rules.{rule_for, import_for}
+use Rattle.xs_semantics.specs.Trace.{Entry, named, fitting, overridden, Called, by_number, by_rules, each, body_trace, params_trace}
 use Rattle.xs_body.specs.steps.Frames.{Work, rest, fill, each_left, apply_left, bodies_left, end_element, say, pass, take_value, params_left, Stack, last}
-use Rattle.xs_body.specs.steps.Frames.{inner, over, bindings_of, instrs_of, bodies_of, chosen, calls_at, instrs_trace, all_bodies, without, filled, ended}
+use Rattle.xs_body.specs.steps.Frames.{inner, over, bindings_of, instrs_of, bodies_of, chosen, instrs_trace, all_bodies, without, filled, ended}
+use Rattle.xs_semantics.specs.Trace.{calls_at}
 use Rattle.xs_body.specs.steps.Frames.{message_steps, message_ended, fragment_at, passing_left, work_steps, stack_steps, pushed, filled_up, stays}
 use Rattle.xs_body.specs.steps.Frames.{chars_steps, space_steps, literal_steps, run_by, run_begun, applied_begun, built_in_begun, rule_begun, entry_begun}
 use Rattle.xs_body.specs.steps.Frames.{entering, call_begun, imports_begun, content_begun, pass_begun, param_begun, fallbacks_begun, looping, loop_begun}

@@ -7,15 +7,7 @@ pub mod StepLemmas
 pub mod LoopLemmas
 pub mod GlobalLemmas
 pub mod SharingLemmas
-pub mod LackLemmas
-pub mod SideLemmas
-pub mod HoleLemmas
-pub mod GrainLemmas
-pub mod NeedLemmas
-pub mod CapturedLemmas
 pub mod AttemptLemmas
-pub mod SettlingLemmas
 pub mod PassedLemmas
+pub mod PartLemmas
 pub mod WholeLemmas
-pub mod SettledLemmas
-pub mod IndexLemmas

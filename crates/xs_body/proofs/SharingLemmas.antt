@@ -4,7 +4,7 @@ use Rattle.std.proofs.lemmas.Bool.Decides.{nat_tests}
 use Rattle.xs_trace.specs.Mark.{Hole}
 use Rattle.xs_trace.specs.Play.{Step, Goes, and_then, play}
 use Rattle.xs_trace.specs.State.{State, shown}
-use Rattle.xs_body.specs.Tasks.{Task, with_node, task_behind, shared}
+use Rattle.xs_semantics.specs.Tasks.{Task, with_node, task_behind, shared}
 use Rattle.xs_body.specs.steps.Sharing.{Share, share_step, shares}
 
 by-room : (grain room : ℕ) (t : Task) (n : ℕ) (ns : List ℕ) (s : State Task) →

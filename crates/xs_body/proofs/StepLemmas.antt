@@ -32,18 +32,19 @@ use Rattle.xs_tree.specs.Record.{Record, at, children}
 use Rattle.xs_value.specs.declared.value.Value.{Value}
 use Rattle.xs_value.specs.declared.value.Value.TheVariants.{Chars as String, Piece}
 use Rattle.xs_value.specs.Conversion.{fragment_text}
-use Rattle.xs_body.specs.declared.focus.Focus.{Focus}
+use Rattle.xs_semantics.specs.declared.focus.Focus.{Focus}
 use Rattle.xs_body.specs.declared.frames.Scope.{Scope}
-use Rattle.xs_body.specs.World.{World, at_node, in_list, captured_in, with_depth, by_rule, without_rule, value_run, nodes_run, text_run, test_run}
-use Rattle.xs_body.specs.World.{nodes_or_children}
-use Rattle.xs_body.specs.Tasks.{Params, no_params, value_passed, Job, body_job, rules_job, Task, tasks_for, grain_over}
-use Rattle.xs_body.specs.Rules.{rule_for, import_for}
-use Rattle.xs_body.specs.Trace.{Entry, named, fitting, overridden, Calls, each, spread_by, spread, applied, Called, by_number, by_rules, called_with}
-use Rattle.xs_body.specs.Trace.{passing, imports, puts, chars, says, ended_if, begins, fragment_of, instr_trace, body_trace, content_trace, choice_trace}
-use Rattle.xs_body.specs.Trace.{whens_trace, fallbacks_trace, param_trace, params_trace, template_trace, built_in, ruled, entered, called}
+use Rattle.xs_semantics.specs.World.{World, at_node, in_list, captured_in, with_depth, by_rule, without_rule, value_run, nodes_run, text_run, test_run}
+use Rattle.xs_semantics.specs.World.{nodes_or_children}
+use Rattle.xs_semantics.specs.Tasks.{Params, no_params, value_passed, Job, body_job, rules_job, Task, tasks_for, grain_over}
+use Rattle.xs_semantics.specs.Rules.{rule_for, import_for}
+use Rattle.xs_semantics.specs.Trace.{Entry, named, fitting, overridden, Calls, each, spread_by, spread, applied, Called, by_number, by_rules, called_with}
+use Rattle.xs_semantics.specs.Trace.{passing, imports, puts, chars, says, ended_if, begins, fragment_of, instr_trace, body_trace, content_trace, choice_trace}
+use Rattle.xs_semantics.specs.Trace.{whens_trace, fallbacks_trace, param_trace, params_trace, template_trace, built_in, ruled, entered, called}
 use Rattle.xs_body.specs.steps.Frames.{Work, rest, fill, each_left, apply_left, bodies_left, end_element, say, pass, take_value, params_left, Stack, last}
 use Rattle.xs_body.specs.steps.Frames.{without, inner, over, captured_scope, more, bound, after, bindings_of, instrs_of, bodies_of, instrs_trace}
-use Rattle.xs_body.specs.steps.Frames.{all_bodies, chosen_of, chosen, calls_at, filled, ended, message_steps, message_ended, fragment_at}
+use Rattle.xs_body.specs.steps.Frames.{all_bodies, chosen_of, chosen, filled, ended, message_steps, message_ended, fragment_at}
+use Rattle.xs_semantics.specs.Trace.{calls_at}
 use Rattle.xs_body.specs.steps.Frames.{passing_left, work_steps, stack_steps, stack_told, pushed, slots_are, filled_up, stays, chars_steps, space_steps}
 use Rattle.xs_body.specs.steps.Frames.{literal_steps, run_by, run_begun, applied_begun, template_begun, built_in_begun, rule_begun, entry_begun, entering}
 use Rattle.xs_body.specs.steps.Frames.{call_begun, imports_begun, content_begun, pass_begun, param_begun, fallbacks_begun}

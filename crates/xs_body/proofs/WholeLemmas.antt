@@ -19,12 +19,13 @@ use Rattle.xs_trace.specs.declared.recorder.Halt.{Halt}
 use Rattle.xs_trace.proofs.KeptLemmas.{need-comes-from-need}
 use Rattle.xs_body.specs.Inside.{IsWorld}
 use Rattle.xs_body.specs.Results.{IsWholeRun}
-use Rattle.xs_body.specs.Tasks.{Task}
-use Rattle.xs_body.specs.Trace.{task_trace}
-use Rattle.xs_body.specs.World.{World, with_grain}
+use Rattle.xs_semantics.specs.Tasks.{Task}
+use Rattle.xs_semantics.specs.Trace.{task_trace}
+use Rattle.xs_semantics.specs.World.{World, with_grain}
 use Rattle.xs_body.specs.steps.Runs.{is_over}
-use Rattle.xs_body.proofs.HoleLemmas.{task-alone, whole-run}
-use Rattle.xs_body.proofs.NeedLemmas.{settled-needs, task-needs}
+use Rattle.xs_semantics.proofs.HoleLemmas.{task-alone}
+use Rattle.xs_body.proofs.PartLemmas.{whole-run}
+use Rattle.xs_semantics.proofs.NeedLemmas.{settled-needs, task-needs}
 
 -- where there is no grain
 pub no-grain : {A : Type 0} (o : Option ℕ) → o ≡ None → IsSome o → A

@@ -1,21 +1,10 @@
--- What is true of the evaluation, and of its steps on the stack.
-use Rattle.std.specs.Prelude.{◌≡◌, ℕ, ◌+◌, List, [], ◌∷◌, ◌++◌, slice_get, Option, Some, None}
-use Rattle.std.specs.List.{All}
-use Rattle.std.specs.Option.{IsSome}
-use Rattle.xs_sheet.specs.declared.body.Body.{Body}
-use Rattle.xs_sheet.specs.declared.declarations.Global.{Global}
-use Rattle.xs_trace.specs.Fill.{fill, tasks_of}
-use Rattle.xs_trace.specs.Mark.{Tick, Put, Say, Stop, Need, Hole, Trace, GoesOn, NeedsNothing, captured, events_of, messages_of, tick_count}
+-- What is true of the steps on the stack.
+use Rattle.std.specs.Prelude.{◌≡◌, [], ◌∷◌}
 use Rattle.xs_trace.specs.State.{State}
 use Rattle.xs_trace.specs.Play.{and_then, play}
-use Rattle.xs_trace.specs.declared.event.Event.{Event}
-use Rattle.xs_value.specs.declared.value.Value.{Value}
-use Rattle.xs_rules.specs.declared.index.RuleIndex.{RuleIndex}
-use Rattle.xs_body.specs.declared.focus.Focus.{Focus}
-use Rattle.xs_body.specs.World.{World, captured_in, with_grain, with_index}
-use Rattle.xs_body.specs.Tasks.{Task}
-use Rattle.xs_body.specs.Trace.{body_trace, called, task_trace}
-use Rattle.xs_body.specs.Globals.{Settled, SettlesAll, attempt_trace, attempt_value}
+use Rattle.xs_semantics.specs.World.{World}
+use Rattle.xs_semantics.specs.Tasks.{Task}
+use Rattle.xs_semantics.specs.Trace.{task_trace}
 use Rattle.xs_body.specs.steps.Frames.{Work, Stack, advanced, begun_with, pushed, stack_told}
 
 abbrev pub StepsAgree : Type 0
@@ -23,53 +12,3 @@ StepsAgree = (w : World) (b : Work) (t : Stack) (s : State Task) → stack_told 
 
 abbrev pub TasksBegin : Type 0
 TasksBegin = (w : World) (t : Task) (s : State Task) → play (task_trace w t) s ≡ stack_told w (begun_with t) s
-
--- the trace with a grain, each hole filled by the trace of its task, is the trace without one
-abbrev pub TasksFill : Type 0
-TasksFill = (w : World) (t : Task) → fill (task_trace (with_grain None w)) (task_trace w t) ≡ task_trace (with_grain None w) t
-
--- nothing of captured content is left to tasks
-abbrev pub CapturedLeavesNothing : Type 0
-CapturedLeavesNothing = (w : World) (body : Body) (f : Focus) (vs : List Value) → tasks_of (body_trace body w (called w f.depth) (captured_in f) vs) ≡ []
-
--- Captured content takes its ticks and says its messages as content does that is not captured; what follows comes behind it
--- (XSLT 1.0, 11.2, 13).
-abbrev pub CapturedTakesTicks : Type 0
-CapturedTakesTicks = (x : Trace Task) (f : List Event → Trace Task) → GoesOn x →
-    tick_count (captured x f) ≡ tick_count x + tick_count (f (events_of x))
-
-abbrev pub CapturedSays : Type 0
-CapturedSays = (x : Trace Task) (f : List Event → Trace Task) → GoesOn x →
-    messages_of (captured x f) ≡ messages_of x ++ messages_of (f (events_of x))
-
--- a need is of a global that has no value yet
-abbrev pub NeedsOnly : List (Option Value) → Trace Task → Type 0
-NeedsOnly gs [] = Unit {0}
-NeedsOnly gs (Tick p ∷ x) = NeedsOnly gs x
-NeedsOnly gs (Put e ∷ x) = NeedsOnly gs x
-NeedsOnly gs (Say t ∷ x) = NeedsOnly gs x
-NeedsOnly gs (Stop n p ∷ x) = NeedsOnly gs x
-NeedsOnly gs (Need g p ∷ x) = slice_get gs g ≡ Some None
-NeedsOnly gs (Hole t ∷ x) = NeedsOnly gs x
-
-abbrev pub TasksNeed : Type 0
-TasksNeed = (w : World) (t : Task) → NeedsOnly w.globals (task_trace w t)
-
-abbrev pub AttemptsNeed : Type 0
-AttemptsNeed = (w : World) (g : Option Global) → NeedsOnly w.globals (attempt_trace w g)
-
--- where all globals have values, nothing is needed
-abbrev pub SettledNeedsNothing : Type 0
-SettledNeedsNothing = (w : World) (t : Task) → All IsSome w.globals → NeedsNothing (task_trace w t)
-
--- nothing that is done depends on the index by which rules are found
-abbrev pub TasksAreTheSame : Type 0
-TasksAreTheSame = (w : World) (index : RuleIndex) (t : Task) → task_trace (with_index index w) t ≡ task_trace w t
-
-abbrev pub AttemptsAreTheSame : Type 0
-AttemptsAreTheSame = (w : World) (index : RuleIndex) (g : Option Global) →
-    (attempt_trace (with_index index w) g ≡ attempt_trace w g) × (attempt_value (with_index index w) g ≡ attempt_value w g)
-
-abbrev pub SettlingIsTheSame : Type 0
-SettlingIsTheSame = (w : World) (index : RuleIndex) (given : List (List ℕ × List ℕ)) (budget : ℕ) (r : Settled) →
-    SettlesAll w given budget r → SettlesAll (with_index index w) given budget r

@@ -1,10 +1,4 @@
--- In the order in which they are read: what a transformation is evaluated over; runs that are left to tasks; rules; what it does;
--- attempts at globals. steps says what the code mirrors.
-pub mod World
-pub mod Tasks
-pub mod Rules
-pub mod Trace
-pub mod Globals
+-- What is in the tree; what whole runs and attempts at globals answer; laws. steps says what the code mirrors.
 pub mod Inside
 pub mod Results
 pub mod steps

@@ -1,5 +1,5 @@
--- What a whole run and an attempt at a global answer, and what settling all globals comes to.
-use Rattle.std.specs.Prelude.{◌≡◌, ℕ, List, [], ◌∷◌, Option, Some, None}
+-- What a whole run and an attempt at a global answer.
+use Rattle.std.specs.Prelude.{◌≡◌, ℕ, List, [], ◌∷◌, Some}
 use Rattle.xs_block.specs.Chain.{items_of}
 use Rattle.xs_record.specs.declared.outcome.Outcome.{Outcome}
 use Rattle.xs_record.specs.declared.outcome.Part.{Part}
@@ -9,10 +9,7 @@ use Rattle.xs_trace.specs.Mark.{messages_of, tick_count}
 use Rattle.xs_trace.specs.declared.fault.Fault.TheVariants as fault
 use Rattle.xs_trace.specs.declared.item.Spot.{Spot}
 use Rattle.xs_value.specs.declared.value.Value.{Value}
-use Rattle.xs_body.specs.Tasks.{Task}
-use Rattle.xs_body.specs.Globals.{Table, settled, ended}
-use Rattle.xs_body.specs.Globals as globals
-use Rattle.xs_body.specs.declared.settling.Settled.{Settled}
+use Rattle.xs_semantics.specs.Tasks.{Task}
 use Rattle.xs_body.specs.declared.attempts.Attempt.{Attempt}
 use Rattle.xs_body.specs.declared.attempts.Attempt.TheVariants as attempt
 
@@ -42,14 +39,3 @@ abbrev pub IsAttempt : Cut Task → Value → Attempt → Type 0
 IsAttempt c v (attempt.Done value says ticks) = (c.end ≡ Whole) × ((value ≡ v) × Passed c says.items ticks)
 IsAttempt c v (attempt.Stopped says ticks s) = EndsAt c.end s × Passed c says.items ticks
 IsAttempt c v (attempt.Needs g p says ticks) = (c.end ≡ Needs g p) × Passed c says.items ticks
-
--- its table, and whether it goes on with that or has ended
-abbrev pub told_in : Settled → Table
-told_in z = record { values = z.values.items; says = z.says.items; ticks = z.ticks; thrown = z.thrown }
-
-abbrev pub settled_by : Option Spot → Table → globals.Settled
-settled_by None t = settled t
-settled_by (Some s) t = ended t s
-
-abbrev pub settled_of : Settled → globals.Settled
-settled_of z = settled_by z.end (told_in z)

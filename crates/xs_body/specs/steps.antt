@@ -4,4 +4,3 @@ pub mod Sharing
 pub mod Frames
 pub mod Attempts
 pub mod Runs
-pub mod Settling

@@ -3,7 +3,7 @@
 ghost use Rattle.std.specs.Prelude.{◌≡◌, ◌<◌, ◌+◌, ◌∷◌, drop, length, true, IfOk, IsSome, OnOk};
 ghost use Rattle.std.specs.List.{All};
 ghost use Rattle.xs_body.specs.Inside.{AreIn, IsWorld};
-ghost use Rattle.xs_body.specs.World.{nodes_or_children};
+ghost use Rattle.xs_semantics.specs.World.{nodes_or_children};
 ghost use Rattle.xs_body.specs.steps.Frames.{advanced, applied_begun, apply_begun, apply_left};
 ghost use Rattle.xs_body.specs.steps.Frames.{bindings_of, each_begun, each_left, loop_begun};
 ghost use Rattle.xs_body.specs.steps.Frames.{stack_of};
@@ -14,7 +14,6 @@ ghost use Rattle.xs_tree.specs.Record.{children};
 ghost use Rattle.xs_value.specs.Conversion.{IsIn};
 
 use crate::calls::begin_call;
-use crate::focus::Focus;
 use crate::frames::{Callee, Frame, Scope};
 use crate::lists::{NodeList, children_of};
 use crate::passed::Passed;
@@ -24,6 +23,7 @@ use crate::tasks::{leave, shared_values};
 use crate::templates::enter_fitting;
 use crate::world::World;
 use std::alloc::{AllocError, Global};
+use xs_semantics::focus::Focus;
 use xs_sheet::body::{Applied, Body, Passed as PassedParams};
 use xs_sheet::scoped::ScopedExpr;
 use xs_trace::item::Site;

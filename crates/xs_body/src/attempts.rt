@@ -2,11 +2,11 @@
 
 ghost use Rattle.std.specs.Prelude.{◌≡◌, ◌<◌, ◌++◌, [], ◌∷◌, length, slice_get};
 ghost use Rattle.std.specs.Prelude.{true, IfOk, IsSome, None, OnOk};
-ghost use Rattle.xs_body.specs.Globals.{attempt_cut, attempt_value, global_focus};
+ghost use Rattle.xs_semantics.specs.Globals.{attempt_cut, attempt_value, global_focus};
 ghost use Rattle.xs_body.specs.Inside.{AreIn, IsAttemptIn, IsWorld};
 ghost use Rattle.xs_body.specs.Results.{IsAttempt};
-ghost use Rattle.xs_body.specs.Tasks.{Task};
-ghost use Rattle.xs_body.specs.World.{value_run};
+ghost use Rattle.xs_semantics.specs.Tasks.{Task};
+ghost use Rattle.xs_semantics.specs.World.{value_run};
 ghost use Rattle.xs_body.specs.steps.Attempts.{attempt_steps, binding_steps, fragment_steps};
 ghost use Rattle.xs_body.specs.steps.Attempts.{IsAttemptOf};
 ghost use Rattle.xs_body.specs.steps.Frames.{instrs_of, outer, pushed, rest, stack_of};
@@ -18,7 +18,6 @@ ghost use Rattle.xs_trace.specs.Run.{limited};
 ghost use Rattle.xs_value.specs.Conversion.{IsIn};
 
 use crate::bindings::fragment_value;
-use crate::focus::Focus;
 use crate::frames::{Frame, Scope};
 use crate::run::finish;
 use crate::runner::{MOST_DEPTH, SheetRunner};
@@ -27,6 +26,7 @@ use crate::task::Task;
 use crate::world::World;
 use std::alloc::{AllocError, Global};
 use xs_record::brief::Brief;
+use xs_semantics::focus::Focus;
 use xs_sheet::body::{Binding, Body, Content};
 use xs_sheet::scoped::ScopedExpr;
 use xs_trace::fault::Fault;
@@ -189,7 +189,7 @@ fn tell_binding<'a, K: KeyFinder, R: Recorder<Task = Task<'a>>>(
 }
 
 /// The focus of a global's content.
-#[tactic(auto, unfolding(crate::specs::Trace::most_depth))]
+#[tactic(auto, unfolding(xs_semantics::specs::Trace::most_depth))]
 fn global_focus() -> Focus
     ensures { result ≡ global_focus }
 {

@@ -2,7 +2,7 @@
 
 ghost use Rattle.std.specs.Prelude.{◌≡◌, ◌<◌, ◌∷◌, [], length, true, IfOk, IsSome, OnOk};
 ghost use Rattle.xs_body.specs.Inside.{AreIn, IsWorld};
-ghost use Rattle.xs_body.specs.Trace.{fragment_of};
+ghost use Rattle.xs_semantics.specs.Trace.{fragment_of};
 ghost use Rattle.xs_body.specs.steps.Frames.{advanced};
 ghost use Rattle.xs_body.specs.steps.Frames.{captured_scope, content_begun, fill, instrs_of};
 ghost use Rattle.xs_body.specs.steps.Frames.{pushed, rest, stack_of};

@@ -3,7 +3,7 @@
 ghost use Rattle.std.specs.Prelude.{◌≡◌, ◌<◌, ◌∷◌, ◌++◌, [], length, true, IsSome, OnOk};
 ghost use Rattle.std.specs.List.{All};
 ghost use Rattle.xs_body.specs.Inside.{AreCallees, AreIn, IsWorld};
-ghost use Rattle.xs_body.specs.Trace.{by_number};
+ghost use Rattle.xs_semantics.specs.Trace.{by_number};
 ghost use Rattle.xs_body.specs.steps.Frames.{advanced, bindings_of, call_begun, called_of};
 ghost use Rattle.xs_body.specs.steps.Frames.{captured_scope, instrs_of};
 ghost use Rattle.xs_body.specs.steps.Frames.{pass, pass_begun, pushed, rest, stack_of};
@@ -15,7 +15,6 @@ ghost use Rattle.xs_value.specs.Conversion.{IsIn};
 
 use crate::applying::apply;
 use crate::bindings::fragment_value;
-use crate::focus::Focus;
 use crate::frames::{Callee, Frame, Scope};
 use crate::passed::Passed;
 use crate::stack::Stack;
@@ -23,6 +22,7 @@ use crate::task::Task;
 use crate::templates::enter_named;
 use crate::world::World;
 use std::alloc::{AllocError, Global};
+use xs_semantics::focus::Focus;
 use xs_sheet::body::{Binding, Body, Content, Passed as PassedParams};
 use xs_sheet::scoped::ScopedExpr;
 use xs_trace::item::Site;

@@ -8,12 +8,12 @@ ghost use Rattle.xs_trace.specs.Play.{IsStepBy};
 ghost use Rattle.xs_trace.specs.Run.{limited};
 ghost use Rattle.xs_value.specs.Conversion.{IsIn};
 
-use crate::focus::Focus;
 use crate::frames::{Frame, Scope};
 use crate::stack::Stack;
 use crate::task::Task;
 use crate::world::World;
 use std::alloc::Global;
+use xs_semantics::focus::Focus;
 use xs_sheet::body::{Body, Choice, When};
 use xs_sheet::scoped::ScopedExpr;
 use xs_trace::item::Site;

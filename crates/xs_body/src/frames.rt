@@ -1,8 +1,8 @@
 //! What is still to be done: frames.
 
-use crate::focus::Focus;
 use crate::lists::NodeList;
 use crate::passed::Passed;
+use xs_semantics::focus::Focus;
 use xs_sheet::body::{Binding, Body, Instr};
 use xs_trace::item::Site;
 use xs_value::value::Value;

@@ -1,7 +1,7 @@
 //! Parameters that are passed to a template (XSLT 1.0, 11.6).
 
 ghost use Rattle.std.specs.Prelude.{◌≡◌, IfOk, option_map, None, Some, if◌then◌else◌};
-ghost use Rattle.xs_body.specs.Tasks.{last_passed, no_params, value_passed};
+ghost use Rattle.xs_semantics.specs.Tasks.{last_passed, no_params, value_passed};
 ghost use Rattle.xs_sheet.specs.Sets.{is_same_label};
 
 use std::alloc::{AllocError, Global};
@@ -25,7 +25,7 @@ impl<'a> Model for Passed<'a> {
     ghost use Rattle.std.specs.Option.{option_map_or};
     ghost use Rattle.std.specs.Coded.{codes};
     ghost use Rattle.xs_sheet.specs.contracts.body.Content as content;
-    ghost use Rattle.xs_body.specs.Tasks.{Params};
+    ghost use Rattle.xs_semantics.specs.Tasks.{Params};
 
     ghost Value = { Params };
 

@@ -9,10 +9,10 @@ ghost use Rattle.xs_trace.specs.Play.{IsStep, put};
 ghost use Rattle.xs_trace.specs.declared.event.Event.TheVariants.{Space};
 ghost use Rattle.xs_value.specs.Conversion.{IsIn, fragment_text};
 
-use crate::focus::Focus;
 use crate::task::Task;
 use crate::world::World;
 use std::alloc::{AllocError, Global};
+use xs_semantics::focus::Focus;
 use xs_sheet::body::LiteralStart;
 use xs_sheet::scoped::ScopedExpr;
 use xs_trace::event::{Event, Fragment};

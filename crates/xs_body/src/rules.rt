@@ -2,13 +2,13 @@
 
 ghost use Rattle.std.specs.Prelude.{◌≡◌, ◌<◌, length, IfOk};
 ghost use Rattle.xs_body.specs.Inside.{IsWorld};
-ghost use Rattle.xs_body.specs.Rules.{import_for, rule_for, template_of};
+ghost use Rattle.xs_semantics.specs.Rules.{import_for, rule_for, template_of};
 
-use crate::focus::Focus;
 use crate::world::World;
 use std::alloc::{AllocError, Global};
 use xs_rules::choice::Rule;
 use xs_rules::index::{choose_import_with, choose_with};
+use xs_semantics::focus::Focus;
 use xs_tree::Node;
 use xs_value::keys::KeyFinder;
 

@@ -6,8 +6,8 @@ ghost use Rattle.std.specs.Prelude.{OnOk};
 ghost use Rattle.xs_block.specs.Chain.{most_blocks};
 ghost use Rattle.xs_body.specs.Inside.{AreIn, IsTaskIn, IsWorld};
 ghost use Rattle.xs_body.specs.Results.{IsWholeRun};
-ghost use Rattle.xs_body.specs.Trace.{root_task, task_trace};
-ghost use Rattle.xs_body.specs.World.{with_grain};
+ghost use Rattle.xs_semantics.specs.Trace.{root_task, task_trace};
+ghost use Rattle.xs_semantics.specs.World.{with_grain};
 ghost use Rattle.xs_body.specs.steps.Frames.{begun_with, stack_of};
 ghost use Rattle.xs_body.specs.steps.Runs.{is_over};
 ghost use Rattle.xs_record.specs.Outcome.{IsOutcome, part_blocks};
@@ -15,7 +15,6 @@ ghost use Rattle.xs_record.specs.Piece.{IsPiece};
 ghost use Rattle.xs_trace.specs.Cut.{cut};
 ghost use Rattle.xs_trace.specs.Play.{IsStep, play};
 
-use crate::focus::Focus;
 use crate::frames::{Frame, Scope};
 use crate::lists::NodeList;
 use crate::passed::Passed;
@@ -31,6 +30,7 @@ use xs_block::pool::Pool;
 use xs_record::outcome::{Outcome, Part};
 use xs_record::piece::{Finished, PieceRecorder};
 use xs_rules::index::RuleIndex;
+use xs_semantics::focus::Focus;
 use xs_sheet::sheet::Sheet;
 use xs_trace::item::{Ended, Item, Limits, Site};
 use xs_trace::recorder::{Halt, Recorder};
@@ -56,7 +56,7 @@ impl<'a, K: KeyFinder> Model for SheetRunner<'a, K> {
     ghost use denote.Signature.{static_lft};
     ghost use Rattle.xs_rules.specs.contracts.index.RuleIndex as of_index;
     ghost use Rattle.xs_sheet.specs.contracts.sheet.Sheet as of_sheet;
-    ghost use Rattle.xs_body.specs.World.{World};
+    ghost use Rattle.xs_semantics.specs.World.{World};
 
     ghost Value = { World };
 
@@ -102,7 +102,7 @@ impl<'a, K: KeyFinder> SheetRunner<'a, K> {
     }
 
     /// What a transformation begins with (XSLT 1.0, 5.1).
-    #[tactic(auto, unfolding(crate::specs::Trace::most_depth))]
+    #[tactic(auto, unfolding(xs_semantics::specs::Trace::most_depth))]
     pub fn root_task(&self, alloc: Global) -> Result<Task<'a>, AllocError>
         ensures task { IfOk result (λ task. task ≡ root_task self.now) }
         ensures inside { IfOk result (IsTaskIn self.now.tree) }

@@ -4,9 +4,9 @@ ghost use Rattle.std.specs.Prelude.{◌≡◌, IfOk};
 ghost use Rattle.xs_body.specs.steps.Frames.{after, bound, captured_scope, inner, last, outer};
 ghost use Rattle.xs_body.specs.steps.Frames.{over};
 
-use crate::focus::Focus;
 use crate::frames::Scope;
 use std::alloc::AllocError;
+use xs_semantics::focus::Focus;
 use xs_sheet::body::InstrKind;
 use xs_value::value::Value;
 

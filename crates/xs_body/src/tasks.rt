@@ -2,17 +2,17 @@
 
 ghost use Rattle.std.specs.Prelude.{◌≡◌, map, true, IfOk, IsSome};
 ghost use Rattle.std.specs.Arc.{arc_value};
-ghost use Rattle.xs_body.specs.Tasks.{grain_over, task_behind, tasks_for};
+ghost use Rattle.xs_semantics.specs.Tasks.{grain_over, task_behind, tasks_for};
 ghost use Rattle.xs_body.specs.steps.Jobs.{job_of};
 ghost use Rattle.xs_body.specs.steps.Sharing.{share_of, share_step};
 ghost use Rattle.xs_trace.specs.Mark.{Hole};
 ghost use Rattle.xs_trace.specs.Play.{IsStep, IsStepBy, play};
 
-use crate::focus::Focus;
 use crate::task::{Job, Task};
 use crate::world::World;
 use std::alloc::{AllocError, Global};
 use std::sync::Arc;
+use xs_semantics::focus::Focus;
 use xs_trace::item::Site;
 use xs_trace::recorder::{Halt, Recorder};
 use xs_tree::Node;

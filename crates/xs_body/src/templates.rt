@@ -3,8 +3,8 @@
 ghost use Rattle.std.specs.Prelude.{◌≡◌, ◌<◌, ◌∷◌, length, slice_get, true, IsSome, OnOk};
 ghost use Rattle.std.specs.List.{All};
 ghost use Rattle.xs_body.specs.Inside.{AreIn, IsWorld};
-ghost use Rattle.xs_body.specs.Trace.{fitting, named, overridden};
-ghost use Rattle.xs_body.specs.Tasks.{no_params};
+ghost use Rattle.xs_semantics.specs.Trace.{fitting, named, overridden};
+ghost use Rattle.xs_semantics.specs.Tasks.{no_params};
 ghost use Rattle.xs_body.specs.steps.Frames.{advanced, applied_begun, built_in_begun};
 ghost use Rattle.xs_body.specs.steps.Frames.{chars_steps, entering, params_left, rule_begun};
 ghost use Rattle.xs_body.specs.steps.Frames.{stack_of, stays, template_begun};
@@ -14,7 +14,6 @@ ghost use Rattle.xs_value.specs.Conversion.{IsIn};
 
 use crate::applying::apply;
 use crate::bindings::bind;
-use crate::focus::Focus;
 use crate::frames::{Frame, Scope};
 use crate::lists::{NodeList, children_of};
 use crate::passed::Passed;
@@ -24,6 +23,7 @@ use crate::stack::Stack;
 use crate::task::Task;
 use crate::world::World;
 use std::alloc::{AllocError, Global};
+use xs_semantics::focus::Focus;
 use xs_sheet::body::{Binding, Body};
 use xs_trace::fault::Fault;
 use xs_trace::item::Site;

@@ -3,17 +3,17 @@
 ghost use Rattle.std.specs.Prelude.{◌≡◌, ◌<◌, IfOk, length};
 ghost use Rattle.std.specs.List.{All};
 ghost use Rattle.xs_body.specs.Inside.{IsWorld};
-ghost use Rattle.xs_body.specs.World.{nodes_run, test_run, text_run, value_run};
+ghost use Rattle.xs_semantics.specs.World.{nodes_run, test_run, text_run, value_run};
 ghost use Rattle.xs_trace.specs.Play.{IsStep, IsStepBy};
 ghost use Rattle.xs_trace.specs.Run.{limited};
 ghost use Rattle.xs_value.specs.Conversion.{IsIn};
 
-use crate::focus::Focus;
 use std::alloc::Global;
 use std::marker::Model;
 use xs_eval::context::Context;
 use xs_eval::evaluate::evaluate;
 use xs_rules::index::RuleIndex;
+use xs_semantics::focus::Focus;
 use xs_sheet::scoped::ScopedExpr;
 use xs_sheet::sheet::Sheet;
 use xs_trace::fault::Fault;
@@ -48,7 +48,7 @@ impl<'a, K: KeyFinder> Model for World<'a, K> {
     ghost use denote.Signature.{static_lft};
     ghost use Rattle.xs_rules.specs.contracts.index.RuleIndex as of_index;
     ghost use Rattle.xs_sheet.specs.contracts.sheet.Sheet as of_sheet;
-    ghost use Rattle.xs_body.specs.World.{World};
+    ghost use Rattle.xs_semantics.specs.World.{World};
 
     ghost Value = { World };
 

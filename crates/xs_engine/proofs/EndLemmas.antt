@@ -1,6 +1,6 @@
 -- The answer of a cut, by the end that was reported of it.
 use Rattle.std.proofs.Common.{◌≡◌, ℕ, List, Option, Some, None, refl, subst}
-use Rattle.xs_body.specs.Tasks.{Task}
+use Rattle.xs_semantics.specs.Tasks.{Task}
 use Rattle.xs_sheet.specs.declared.sheet.Sheet.{Sheet}
 use Rattle.xs_trace.specs.Mark.{Trace, events_of}
 use Rattle.xs_trace.specs.Cut.{End, Whole, Fault, Needs, Spent, Full}

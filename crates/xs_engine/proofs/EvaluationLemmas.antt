@@ -2,12 +2,13 @@
 use Rattle.std.proofs.Common.{◌≡◌, ◌<◌, ◌≤◌, ◌∙◌, ◌+◌, ◌-◌, ◌++◌, ℕ, arith, [], ◌∷◌, List, length, get_or, Result, Ok, Err, Option, Some, None, IfOk}
 use Rattle.std.proofs.Common.{ap, sym, subst, append-nil, vec_len}
 use Rattle.xs_block.specs.Chain.{items_of}
-use Rattle.xs_body.specs.Globals.{SettlesAll, with_globals}
-use Rattle.xs_body.specs.Results.{IsWholeRun, settled_by, settled_of, told_in}
-use Rattle.xs_body.specs.Tasks.{Task}
-use Rattle.xs_body.specs.Trace.{root_task, task_trace}
-use Rattle.xs_body.specs.World.{World, ground, with_grain}
-use Rattle.xs_body.specs.declared.settling.Settled.{Settled}
+use Rattle.xs_semantics.specs.Globals.{SettlesAll, with_globals}
+use Rattle.xs_body.specs.Results.{IsWholeRun}
+use Rattle.xs_globals.specs.Results.{settled_by, settled_of, told_in}
+use Rattle.xs_semantics.specs.Tasks.{Task}
+use Rattle.xs_semantics.specs.Trace.{root_task, task_trace}
+use Rattle.xs_semantics.specs.World.{World, ground, with_grain}
+use Rattle.xs_globals.specs.declared.settled.Settled.{Settled}
 use Rattle.xs_engine.proofs.EndLemmas.{reported}
 use Rattle.xs_engine.specs.Answer.{Answer, stopped_answer, whole_answer}
 use Rattle.xs_engine.specs.Evaluation.{IsCutAnswer, IsEndAnswer, IsEvaluated, IsEvaluatedFrom, IsEvaluatedOn, IsEvaluatedOver, in_globals, in_root, root_cut}

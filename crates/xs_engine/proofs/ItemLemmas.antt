@@ -5,7 +5,7 @@ use Rattle.std.proofs.lemmas.Iterator.Consumers.{YieldsList-from_first}
 use Rattle.std.specs.Iterator.{Drains, DrainsIf, YieldsFirstBy}
 use Rattle.std.specs.List.{cons_option, flat_map}
 use denote.Ref.{Bor}
-use Rattle.xs_body.specs.Tasks.{Task}
+use Rattle.xs_semantics.specs.Tasks.{Task}
 use Rattle.xs_trace.specs.declared.event.Event.{Event}
 use Rattle.xs_trace.specs.declared.item.Item.{Item}
 use Rattle.xs_trace.specs.declared.item.Item.TheVariants.{Run, Put, Say}

@@ -8,11 +8,11 @@ use Rattle.xs_trace.specs.Cut.{Cut, End, Whole, Fault, Needs, Spent, Full, cut}
 use Rattle.xs_trace.specs.Mark.{Trace}
 use Rattle.xs_tree.specs.Record.{Record}
 use Rattle.xs_tree.specs.Stripping.{without}
-use Rattle.xs_body.specs.Globals.{Settled, SettlesAll, Table, ended, settled, with_globals}
-use Rattle.xs_body.specs.Tasks.{Task}
-use Rattle.xs_body.specs.Trace.{root_task}
-use Rattle.xs_body.specs.World.{ground}
-use Rattle.xs_body.proofs.IndexLemmas.{settling-same, task-same}
+use Rattle.xs_semantics.specs.Globals.{Settled, SettlesAll, Table, ended, settled, with_globals}
+use Rattle.xs_semantics.specs.Tasks.{Task}
+use Rattle.xs_semantics.specs.Trace.{root_task}
+use Rattle.xs_semantics.specs.World.{ground}
+use Rattle.xs_semantics.proofs.IndexLemmas.{settling-same, task-same}
 use Rattle.xs_engine.specs.Answer.{Answer, stopped_answer}
 use Rattle.xs_engine.specs.Evaluation.{IsCutAnswer, IsEndAnswer, IsEvaluated, IsEvaluatedOver, in_globals, in_root, root_cut}
 use Rattle.xs_engine.specs.Inputs.{Document, joined}

@@ -10,7 +10,7 @@ use Rattle.std.specs.Ordering.{is_gt, is_lt, nat_cmp, ordering_reverse, ordering
 use Rattle.std.specs.declared.cmp.Ordering.{Ordering}
 use Rattle.std.specs.declared.cmp.Ordering.TheVariants.{Less, Equal, Greater}
 use Rattle.xs_sheet.specs.declared.declarations.Global.{Global}
-use Rattle.xs_body.specs.Globals.{IsInOrder, by_place, placed}
+use Rattle.xs_semantics.specs.Globals.{IsInOrder, by_place, placed}
 
 -- ---- one rising list
 module _ {X : Type 0} (lt : X → X → Bool) (itself : (x : X) → lt x x ≡ false) (chain : (x y z : X) → lt x y ≡ false → lt y z ≡ false → lt x z ≡ false)

@@ -4,10 +4,10 @@ use Rattle.xs_trace.specs.Cut.{End, Whole, Fault, Needs, Spent, Full}
 use Rattle.xs_trace.specs.Kept.{spot}
 use Rattle.xs_trace.specs.declared.fault.Fault.TheVariants.{Budget, Circular}
 use Rattle.xs_trace.specs.declared.item.Spot.{Spot}
-use Rattle.xs_body.specs.World.{World}
-use Rattle.xs_body.specs.Globals.{Table, Settled, settled, ended, Settles, AllSettle, SettlesAll, IsUnsettled, at_first}
-use Rattle.xs_body.specs.Globals.{is_under, once_more, tried, with_passed, with_value}
-use Rattle.xs_body.specs.Globals as settles
+use Rattle.xs_semantics.specs.World.{World}
+use Rattle.xs_semantics.specs.Globals.{Table, Settled, settled, ended, Settles, AllSettle, SettlesAll, IsUnsettled, at_first}
+use Rattle.xs_semantics.specs.Globals.{is_under, once_more, tried, with_passed, with_value}
+use Rattle.xs_semantics.specs.Globals as settles
 use Rattle.xs_engine.proofs.OneOrderLemmas.{one-order}
 
 module _ (w : World) (budget : ℕ) where

@@ -1,9 +1,9 @@
 -- What a compiled stylesheet makes of a source, cut at the limits of a job.
 use Rattle.std.specs.Prelude.{◌≡◌, ℕ, ◌+◌, ◌-◌, List, [], ◌++◌}
-use Rattle.xs_body.specs.Globals.{SettlesAll, Table, ended, settled, with_globals}
-use Rattle.xs_body.specs.Tasks.{Task}
-use Rattle.xs_body.specs.Trace.{root_task, task_trace}
-use Rattle.xs_body.specs.World.{World, ground}
+use Rattle.xs_semantics.specs.Globals.{SettlesAll, Table, ended, settled, with_globals}
+use Rattle.xs_semantics.specs.Tasks.{Task}
+use Rattle.xs_semantics.specs.Trace.{root_task, task_trace}
+use Rattle.xs_semantics.specs.World.{World, ground}
 use Rattle.xs_engine.specs.Answer.{Answer, stopped_answer, whole_answer}
 use Rattle.xs_engine.specs.Inputs.{Document, joined}
 use Rattle.xs_engine.specs.Job.{Job}

@@ -1,6 +1,6 @@
 -- What the items of a run give, one by one.
 use Rattle.std.specs.Prelude.{ℕ, List, [], Option, Some, None}
-use Rattle.xs_body.specs.Tasks.{Task}
+use Rattle.xs_semantics.specs.Tasks.{Task}
 use Rattle.xs_trace.specs.Kept.{marks_of}
 use Rattle.xs_trace.specs.Mark.{events_of, messages_of}
 use Rattle.xs_trace.specs.declared.event.Event.{Event}

@@ -2,9 +2,9 @@
 
 ghost use Rattle.std.specs.List.{All};
 ghost use Rattle.std.specs.Prelude.{◌≡◌, ◌≤◌, ◌⊎◌, [], ◌∷◌, IfOk, IsSome, None, OnOk};
-ghost use Rattle.xs_body.specs.Globals.{SettlesAll};
-ghost use Rattle.xs_body.specs.Results.{settled_of};
-ghost use Rattle.xs_body.specs.World.{ground};
+ghost use Rattle.xs_semantics.specs.Globals.{SettlesAll};
+ghost use Rattle.xs_globals.specs.Results.{settled_of};
+ghost use Rattle.xs_semantics.specs.World.{ground};
 ghost use Rattle.xs_eval.specs.Conditions.{IsInIf};
 ghost use Rattle.xs_engine.specs.declared.status.TheConstants.{OK, RUN_FAULT};
 ghost use Rattle.xs_engine.specs.Evaluation.{IsEvaluated, IsEvaluatedOn, IsEvaluatedOver};
@@ -21,7 +21,8 @@ use std::alloc::{AllocError, Global};
 use xs_block::chain::Chain;
 use xs_block::pool::Pool;
 use xs_body::runner::SheetRunner;
-use xs_body::settling::{Settled, settle};
+use xs_globals::settled::Settled;
+use xs_globals::settling::settle;
 use xs_rules::index::RuleIndex;
 use xs_rules::white_space::strip_space;
 use xs_sheet::declarations::StripRule;

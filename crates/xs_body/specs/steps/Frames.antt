@@ -31,19 +31,19 @@ use Rattle.xs_tree.specs.Record.{Record, at, children}
 use Rattle.xs_value.specs.declared.value.Value.{Value}
 use Rattle.xs_value.specs.declared.value.Value.TheVariants.{Chars as String, Piece}
 use Rattle.xs_value.specs.Conversion.{fragment_text}
-use Rattle.xs_body.specs.declared.focus.Focus.{Focus}
+use Rattle.xs_semantics.specs.declared.focus.Focus.{Focus}
 use Rattle.xs_body.specs.declared.frames.Callee as code_callee
 use Rattle.xs_body.specs.declared.frames.Callee.TheVariants as callee
 use Rattle.xs_body.specs.declared.frames.Frame.{Frame}
 use Rattle.xs_body.specs.declared.frames.Frame.TheVariants as frame
 use Rattle.xs_body.specs.declared.frames.Scope.{Scope}
 use Rattle.xs_body.specs.declared.stack.Stack as code
-use Rattle.xs_body.specs.World.{World, at_node, in_list, captured_in, with_depth, by_rule, without_rule, value_run, nodes_run, text_run, test_run}
-use Rattle.xs_body.specs.World.{nodes_or_children}
-use Rattle.xs_body.specs.Tasks.{Params, no_params, value_passed, Job, body_job, rules_job, Task, tasks_for, grain_over}
-use Rattle.xs_body.specs.Rules.{rule_for, import_for}
-use Rattle.xs_body.specs.Trace.{Entry, named, fitting, overridden, Calls, each, Called, by_number, by_rules, called_with, fragment_of, instr_trace}
-use Rattle.xs_body.specs.Trace.{body_trace, content_trace, params_trace, called}
+use Rattle.xs_semantics.specs.World.{World, at_node, in_list, captured_in, with_depth, by_rule, without_rule, value_run, nodes_run, text_run, test_run}
+use Rattle.xs_semantics.specs.World.{nodes_or_children}
+use Rattle.xs_semantics.specs.Tasks.{Params, no_params, value_passed, Job, body_job, rules_job, Task, tasks_for, grain_over}
+use Rattle.xs_semantics.specs.Rules.{rule_for, import_for}
+use Rattle.xs_semantics.specs.Trace.{Entry, named, fitting, overridden, Calls, each, Called, by_number, by_rules, called_with, fragment_of, instr_trace}
+use Rattle.xs_semantics.specs.Trace.{body_trace, content_trace, params_trace, calls_at}
 use Rattle.xs_body.specs.steps.Lists.{nodes_in}
 
 -- ---- rows of the stylesheet as lists
@@ -128,9 +128,6 @@ abbrev pub after : InstrKind → Scope → Scope
 after kind c = more (slots_taken kind) c
 
 -- ---- what works stand for
-abbrev pub calls_at : World → Focus → Calls
-calls_at w f = called w f.depth
-
 abbrev pub filled : Trace Task → List Value → State Task → Step Task (List Value)
 filled x vs s = and_then (play x s) (λ u m. Goes vs m)
 

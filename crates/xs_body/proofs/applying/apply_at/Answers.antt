@@ -1,8 +1,8 @@
 use Rattle.std.proofs.lemmas.Result.{err_from_is_err_and}
 use Rattle.std.proofs.Common.{◌+◌, drop, ◌∷◌, []}
 use Rattle.xs_trace.specs.Play.{ticked}
-use Rattle.xs_body.specs.World.{at_node}
-use Rattle.xs_body.specs.Trace.{fitting}
+use Rattle.xs_semantics.specs.World.{at_node}
+use Rattle.xs_semantics.specs.Trace.{fitting}
 use Rattle.xs_body.specs.steps.Frames.{apply_left, entering, pushed, stack_of}
 use Rattle.xs_body.specs.steps.Lists.{nodes_in}
 use Rattle.xs_body.proofs.ExitLemmas.{stack-exit}
@@ -10,8 +10,8 @@ use Rattle.xs_body.proofs.GrowthLemmas.{entering-grows}
 use Rattle.std.proofs.Common.{◌<◌, length, refl, sym, ap, subst, rules}
 use Rattle.std.proofs.lemmas.List.Elements.{All-same}
 use Rattle.xs_value.specs.Conversion.{IsIn}
-use Rattle.xs_body.specs.declared.focus.Focus.{Focus}
-use Rattle.xs_body.specs.Tasks.{Params}
+use Rattle.xs_semantics.specs.declared.focus.Focus.{Focus}
+use Rattle.xs_semantics.specs.Tasks.{Params}
 use Rattle.xs_body.proofs.applying.apply_at.Goals as goal
 
 pub returns-in_err-tick-clause-told : goal.returns-in_err-tick-clause-told

@@ -4,8 +4,8 @@ use Rattle.xs_trace.specs.Play.{Goes}
 use Rattle.xs_trace.proofs.GrowthLemmas.{goes-grows}
 use Rattle.xs_body.proofs.ExitLemmas.{run-exit}
 use Rattle.std.proofs.Common.{[], ◌∷◌}
-use Rattle.xs_body.specs.World.{nodes_or_children}
-use Rattle.xs_body.specs.Trace.{by_rules}
+use Rattle.xs_semantics.specs.World.{nodes_or_children}
+use Rattle.xs_semantics.specs.Trace.{by_rules}
 use Rattle.xs_body.specs.steps.Frames.{bindings_of, last, pass, pushed, stack_of}
 use Rattle.xs_body.specs.steps.Lists.{nodes_in}
 use Rattle.xs_body.proofs.applying.begin_apply.Goals as goal

@@ -2,7 +2,7 @@ use Rattle.std.proofs.lemmas.Result.{err_from_is_err_and}
 use Rattle.std.proofs.Common.{◌+◌, drop, ◌∷◌, []}
 use Rattle.xs_trace.specs.Play.{Goes, ticked}
 use Rattle.xs_trace.proofs.GrowthLemmas.{goes-grows}
-use Rattle.xs_body.specs.World.{at_node}
+use Rattle.xs_semantics.specs.World.{at_node}
 use Rattle.xs_body.specs.steps.Frames.{each_left, instrs_of, over, pushed, rest, stack_of}
 use Rattle.xs_body.specs.steps.Lists.{nodes_in}
 use Rattle.xs_body.proofs.ExitLemmas.{stack-exit}

@@ -3,7 +3,7 @@ use Rattle.std.proofs.Common.{ap, ◌∙◌, ◌∷◌, []}
 use Rattle.xs_trace.specs.Play.{Goes}
 use Rattle.xs_trace.proofs.GrowthLemmas.{goes-grows}
 use Rattle.xs_body.proofs.ExitLemmas.{run-exit}
-use Rattle.xs_body.specs.World.{value_run}
+use Rattle.xs_semantics.specs.World.{value_run}
 use Rattle.xs_body.specs.steps.Frames.{filled_up, last, stack_of}
 use Rattle.xs_body.proofs.bindings.bind_selected.Goals as goal
 

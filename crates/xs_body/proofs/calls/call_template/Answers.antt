@@ -1,6 +1,6 @@
 use Rattle.std.proofs.lemmas.Result.{err_from_is_err_and}
 use Rattle.xs_trace.specs.Play.{ticked}
-use Rattle.xs_body.specs.Trace.{named}
+use Rattle.xs_semantics.specs.Trace.{named}
 use Rattle.xs_body.specs.steps.Frames.{entering, stack_of}
 use Rattle.xs_body.proofs.ExitLemmas.{stack-exit}
 use Rattle.xs_body.proofs.GrowthLemmas.{entering-grows}

@@ -4,7 +4,7 @@ use Rattle.xs_trace.specs.Play.{Goes}
 use Rattle.xs_trace.proofs.GrowthLemmas.{goes-grows}
 use Rattle.xs_body.proofs.ExitLemmas.{run-exit}
 use Rattle.std.proofs.Common.{◌++◌}
-use Rattle.xs_body.specs.World.{value_run}
+use Rattle.xs_semantics.specs.World.{value_run}
 use Rattle.xs_body.specs.steps.Frames.{called_of, last, pass, pushed, stack_of}
 use Rattle.xs_body.proofs.calls.pass_selected.Goals as goal
 

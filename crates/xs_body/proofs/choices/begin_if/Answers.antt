@@ -4,7 +4,7 @@ use Rattle.xs_trace.specs.Play.{Goes}
 use Rattle.xs_trace.proofs.GrowthLemmas.{goes-grows}
 use Rattle.xs_body.proofs.ExitLemmas.{run-exit}
 use Rattle.std.proofs.Common.{cond, []}
-use Rattle.xs_body.specs.World.{test_run}
+use Rattle.xs_semantics.specs.World.{test_run}
 use Rattle.xs_body.specs.steps.Frames.{inner, instrs_of, last, pushed, rest, stack_of}
 use Rattle.xs_body.proofs.choices.begin_if.Goals as goal
 

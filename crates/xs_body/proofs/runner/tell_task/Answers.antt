@@ -1,6 +1,6 @@
 use Rattle.std.proofs.Common.{refl, rules, subst, sym}
 use Rattle.xs_trace.specs.Play.{IsStep, Told}
-use Rattle.xs_body.specs.Tasks.{Task}
+use Rattle.xs_semantics.specs.Tasks.{Task}
 use Rattle.xs_body.specs.steps.Frames.{stack_of}
 use Rattle.xs_body.proofs.LoopLemmas.{task-starts}
 use Rattle.xs_body.proofs.runner.tell_task.Goals as goal

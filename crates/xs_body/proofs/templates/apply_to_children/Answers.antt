@@ -1,10 +1,10 @@
 use Rattle.std.proofs.Common.{◌≡◌, ℕ, List, [], refl, ap, ◌∙◌, subst, rules}
 use Rattle.std.proofs.lemmas.List.Elements.{All-nil, All-same}
 use Rattle.xs_value.specs.Conversion.{IsIn}
-use Rattle.xs_body.specs.Tasks.{Params, no_params}
+use Rattle.xs_semantics.specs.Tasks.{Params, no_params}
 use Rattle.xs_trace.specs.Play.{IsStepBy}
 use Rattle.xs_tree.specs.Record.{children}
-use Rattle.xs_body.specs.World.{World}
+use Rattle.xs_semantics.specs.World.{World}
 use Rattle.xs_body.specs.steps.Frames.{Stack, applied_begun, stack_of}
 use Rattle.xs_body.proofs.templates.apply_to_children.Goals as goal
 

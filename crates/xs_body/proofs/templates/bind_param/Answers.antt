@@ -1,7 +1,7 @@
 use Rattle.std.proofs.Common.{◌∷◌, []}
 use Rattle.std.proofs.lemmas.Result.{err_from_is_err_and}
 use Rattle.xs_trace.specs.Play.{ticked}
-use Rattle.xs_body.specs.Tasks.{value_passed}
+use Rattle.xs_semantics.specs.Tasks.{value_passed}
 use Rattle.xs_body.specs.steps.Frames.{bound, param_begun, params_left, pushed, stack_of}
 use Rattle.xs_body.proofs.ExitLemmas.{stack-exit}
 use Rattle.xs_body.proofs.GrowthLemmas.{param-grows}

@@ -1,5 +1,5 @@
 use Rattle.std.proofs.Common.{◌<◌, length, refl, sym, subst, rules}
-use Rattle.xs_body.specs.declared.focus.Focus.{Focus}
+use Rattle.xs_semantics.specs.declared.focus.Focus.{Focus}
 use Rattle.xs_body.proofs.templates.enter_fitting.Goals as goal
 
 pub begin_rule-requires-sync-K : goal.begin_rule-requires-sync-K

@@ -1,7 +1,7 @@
 use Rattle.std.proofs.Common.{◌≡◌, ℕ, List, refl, ap, ◌∙◌, subst}
 use Rattle.xs_trace.specs.Play.{IsStep}
 use Rattle.xs_tree.specs.Record.{at}
-use Rattle.xs_body.specs.World.{World}
+use Rattle.xs_semantics.specs.World.{World}
 use Rattle.xs_body.specs.steps.Frames.{chars_steps, stack_of}
 use Rattle.xs_body.proofs.ExitLemmas.{stays-told}
 use Rattle.xs_body.proofs.templates.put_own_text.Goals as goal

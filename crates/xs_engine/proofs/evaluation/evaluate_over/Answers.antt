@@ -1,5 +1,5 @@
 use Rattle.std.proofs.Common.{[]}
-use Rattle.xs_body.specs.World.{ground}
+use Rattle.xs_semantics.specs.World.{ground}
 use Rattle.xs_engine.specs.Reply.{job_data}
 use Rattle.xs_engine.proofs.EvaluationLemmas.{ended_in_globals, over_index}
 use Rattle.xs_engine.proofs.evaluation.evaluate_over.Goals as goal

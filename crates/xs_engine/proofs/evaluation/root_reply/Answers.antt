@@ -1,6 +1,6 @@
 use Rattle.std.proofs.Common.{◌∙◌, [], None, ap, arith}
-use Rattle.xs_body.specs.Globals.{with_globals}
-use Rattle.xs_body.specs.World.{ground, with_grain}
+use Rattle.xs_semantics.specs.Globals.{with_globals}
+use Rattle.xs_semantics.specs.World.{ground, with_grain}
 use Rattle.xs_engine.specs.Reply.{job_data}
 use Rattle.xs_engine.proofs.EvaluationLemmas.{fault_in_root, full_in_root, has_part, root_run, run_within, spent_in_root, whole_in_root}
 use Rattle.xs_engine.proofs.evaluation.root_reply.Goals as goal

@@ -3,7 +3,7 @@ use Rattle.xs_eval.specs.Results.{given, nodes_in}
 use Rattle.xs_trace.specs.Run.{limited}
 use Rattle.xs_trace.proofs.GrowthLemmas.{passes}
 use Rattle.xs_trace.proofs.RunLemmas.{limited-bind, limited-grows}
-use Rattle.xs_body.specs.World.{value_run}
+use Rattle.xs_semantics.specs.World.{value_run}
 use Rattle.xs_body.proofs.world.World.nodes.Goals as goal
 
 pub returns-in_err-nodes-clause-told : goal.returns-in_err-nodes-clause-told

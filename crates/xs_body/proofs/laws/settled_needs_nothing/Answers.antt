@@ -1,7 +1,0 @@
-use Rattle.xs_trace.specs.Mark.{NeedsNothing}
-use Rattle.xs_body.specs.Trace.{task_trace}
-use Rattle.xs_body.proofs.NeedLemmas.{settled-needs, task-needs}
-use Rattle.xs_body.proofs.laws.settled_needs_nothing.Goals as goal
-
-pub returns : goal.returns
-returns c = λ w t a. settled-needs w.globals (task_trace w t) a (task-needs w t)

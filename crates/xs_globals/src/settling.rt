@@ -1,0 +1,268 @@
+//! The globals of a stylesheet are settled, one after another (XSLT 1.0, 11.4).
+
+ghost use Rattle.std.specs.Prelude.{◌≡◌, ◌<◌, ◌≤◌, ◌∷◌, ◌++◌, ℕ, ◌+◌, ◌*◌, [], length, reverse};
+ghost use Rattle.std.specs.Prelude.{slice_get, slice_set, None, Some, true};
+ghost use Rattle.std.specs.Prelude.{IfOk, OnOk, IsSome};
+ghost use Rattle.std.specs.List.{All};
+ghost use Rattle.xs_body.specs.Inside.{IsAttemptIn, IsWorld};
+ghost use Rattle.xs_body.specs.Results.{IsAttempt};
+ghost use Rattle.xs_eval.specs.Conditions.{IsInIf};
+ghost use Rattle.xs_globals.specs.Results.{settled_by, settled_of};
+ghost use Rattle.xs_globals.specs.steps.Settling.{Continues, GoesOn, IsGoing, IsMarked, IsTurn};
+ghost use Rattle.xs_globals.specs.steps.Settling.{IsUnderWay, left_over, table_of};
+ghost use Rattle.xs_rules.specs.Indexed.{IsIndex, IsPrepared};
+ghost use Rattle.xs_semantics.specs.Globals.{Table as InTable};
+ghost use Rattle.xs_semantics.specs.Globals.{AllSettle, Settles, SettlesAll, attempt_cut};
+ghost use Rattle.xs_semantics.specs.Globals.{attempt_value, with_globals};
+ghost use Rattle.xs_semantics.specs.World.{ground};
+ghost use Rattle.xs_sheet.specs.Sound.{IsSound};
+ghost use Rattle.xs_value.specs.Tables.{TablesIn};
+
+use crate::given::{in_order, none_begun, values_given};
+use crate::settled::{Settled, Table, Turn};
+use std::alloc::{AllocError, Global};
+use xs_body::attempts::Attempt;
+use xs_body::runner::SheetRunner;
+use xs_body::world::World;
+use xs_rules::index::RuleIndex;
+use xs_sheet::sheet::Sheet;
+use xs_trace::item::Spot;
+use xs_trace::text::TextBuf;
+use xs_tree::Tree;
+use xs_value::keys::KeyFinder;
+use xs_value::value::Value;
+
+/// Settles the globals of a stylesheet, by modules and lines, within a number of ticks. Its
+/// parameters may be given texts from outside.
+pub fn settle<K: KeyFinder>(
+    alloc: Global,
+    sheet: &Sheet,
+    index: &RuleIndex<'_>,
+    tree: &Tree,
+    keys: &K,
+    given: &[(TextBuf, TextBuf)],
+    budget: u64,
+) -> Result<Settled, AllocError>
+    requires sheet { IsSound sheet.now }
+    requires index { IsIndex index.now }
+    requires prepared { IsPrepared index.now tree.now }
+    requires templates { index.now.templates.now ≡ sheet.now.templates }
+    requires tables { TablesIn tree.now (K.tables keys.now) }
+    ensures settles { IfOk result (λ z. SettlesAll (ground sheet.now index.now tree.now
+        (K.tables keys.now)) given.now budget (settled_of z)) }
+    ensures inside { IfOk result (λ z. All (IsInIf tree.now) z.values.items) }
+    ensures whole { IfOk result (λ z. z.end ≡ None → All IsSome z.values.items) }
+    ensures count { IfOk result (λ z.
+        length z.values.items ≡ length sheet.now.globals) }
+    ensures within { IfOk result (λ z. z.ticks ≤ budget) }
+    ensures few { IfOk result (λ z. z.thrown ≤ length sheet.now.globals) }
+{
+    let world = World {
+        sheet,
+        index,
+        tree,
+        keys,
+        globals: &[],
+        grain: None,
+    };
+    let globals = sheet.globals.as_slice();
+    let order = in_order(alloc, globals)?;
+    let mut table = Table::with(alloc, values_given(alloc, globals, given)?);
+    let mut begun = none_begun(alloc, globals)?;
+    let end = settle_in_turn(alloc, &world, budget, &order, &mut begun, &mut table)?;
+    Ok(table.ended(end))
+}
+
+/// Settles some globals in turn, but for those that have values.
+fn settle_in_turn<K: KeyFinder>(
+    alloc: Global,
+    world: &World<'_, K>,
+    budget: u64,
+    order: &[u32],
+    begun: &mut Vec<bool>,
+    table: &mut Table,
+) -> Result<Option<Spot>, AllocError>
+    requires world { IsWorld world.now }
+    requires whole { world.now.grain ≡ None }
+    requires going { IsGoing world.now budget begun.old.items (table_of table.old) }
+    requires marked { IsMarked begun.old.items [] table.old.values.items }
+    ensures settles { IfOk result (λ end. AllSettle world.now budget order.now
+        (table_of table.old) (settled_by end (table_of table.new))) }
+    ensures going { OnOk result (IsGoing world.now budget begun.new.items (table_of table.new)) }
+{
+    let mut left = order;
+    while let Some((global, others)) = left.split_first() {
+        if let Some(spot) = settle_next(alloc, world, budget, *global, begun, table)? {
+            return Ok(Some(spot));
+        }
+        left = others;
+    }
+    Ok(None)
+}
+
+/// The next global in turn, unless it has a value.
+fn settle_next<K: KeyFinder>(
+    alloc: Global,
+    world: &World<'_, K>,
+    budget: u64,
+    global: u32,
+    begun: &mut Vec<bool>,
+    table: &mut Table,
+) -> Result<Option<Spot>, AllocError>
+    requires world { IsWorld world.now }
+    requires whole { world.now.grain ≡ None }
+    requires going { IsGoing world.now budget begun.old.items (table_of table.old) }
+    requires marked { IsMarked begun.old.items [] table.old.values.items }
+    ensures next { IfOk result (Continues world.now budget global
+        (table_of table.old) (table_of table.new)) }
+    ensures going { OnOk result (IsGoing world.now budget begun.new.items (table_of table.new)) }
+    ensures marked { IfOk result (λ end. end ≡ None →
+        IsMarked begun.new.items [] table.new.values.items) }
+{
+    if !table.lacks(global) {
+        return Ok(None);
+    }
+    settle_one(alloc, world, budget, global, begun, table)
+}
+
+/// Settles a global, and before it those that it needs.
+fn settle_one<K: KeyFinder>(
+    alloc: Global,
+    world: &World<'_, K>,
+    budget: u64,
+    global: u32,
+    begun: &mut Vec<bool>,
+    table: &mut Table,
+) -> Result<Option<Spot>, AllocError>
+    requires world { IsWorld world.now }
+    requires whole { world.now.grain ≡ None }
+    requires lacks { slice_get table.old.values.items global ≡ Some None }
+    requires going { IsGoing world.now budget begun.old.items (table_of table.old) }
+    requires marked { IsMarked begun.old.items [] table.old.values.items }
+    ensures settles { IfOk result (λ end. Settles world.now budget [] global
+        (table_of table.old) (settled_by end (table_of table.new))) }
+    ensures going { OnOk result (IsGoing world.now budget begun.new.items (table_of table.new)) }
+    ensures marked { IfOk result (λ end. end ≡ None →
+        IsMarked begun.new.items [] table.new.values.items) }
+{
+    begun[global as usize] = true;
+    let mut waiting = Vec::from_slice(alloc, &[global])?;
+    while let Some(top) = waiting.pop() {
+        if let Some(spot) = take_turn(alloc, world, budget, top, begun, &mut waiting, table)? {
+            return Ok(Some(spot));
+        }
+    }
+    Ok(None)
+}
+
+/// An attempt at the innermost of the globals under attempt, and what it leaves to be done.
+fn take_turn<K: KeyFinder>(
+    alloc: Global,
+    world: &World<'_, K>,
+    budget: u64,
+    top: u32,
+    begun: &mut Vec<bool>,
+    waiting: &mut Vec<u32>,
+    table: &mut Table,
+) -> Result<Option<Spot>, AllocError>
+    requires world { IsWorld world.now }
+    requires whole { world.now.grain ≡ None }
+    requires going { IsGoing world.now budget begun.old.items (table_of table.old) }
+    ensures turn { IfOk result (λ end. (global : ℕ) → (first : InTable) →
+        IsUnderWay world.now budget global first begun.old.items
+        (reverse (waiting.old.items ++ top ∷ [])) (table_of table.old) →
+        GoesOn world.now budget global first begun.new.items waiting.new.items (table_of table.new)
+        (2 * left_over begun.old.items + length (waiting.old.items ++ top ∷ [])) end) }
+{
+    match try_global(alloc, world, budget, top, begun, table)? {
+        Turn::Done => Ok(None),
+        Turn::Ends(spot) => Ok(Some(spot)),
+        Turn::Needs(other) => {
+            descend(begun, waiting, top, other)?;
+            Ok(None)
+        }
+    }
+}
+
+/// Another global is to be settled before one.
+fn descend(
+    begun: &mut Vec<bool>,
+    waiting: &mut Vec<u32>,
+    top: u32,
+    other: u32,
+) -> Result<(), AllocError>
+    requires there { other < length begun.old.items }
+    ensures begun { OnOk result (begun.new.items ≡ slice_set begun.old.items other true) }
+    ensures waiting { OnOk result
+        (waiting.new.items ≡ (waiting.old.items ++ top ∷ []) ++ other ∷ []) }
+{
+    begun[other as usize] = true;
+    waiting.push(top)?;
+    waiting.push(other)?;
+    Ok(())
+}
+
+/// An attempt at a global, of which one was begun and which has no value.
+fn try_global<K: KeyFinder>(
+    alloc: Global,
+    world: &World<'_, K>,
+    budget: u64,
+    global: u32,
+    begun: &[bool],
+    table: &mut Table,
+) -> Result<Turn, AllocError>
+    requires world { IsWorld world.now }
+    requires whole { world.now.grain ≡ None }
+    requires values { All (IsInIf world.now.tree) table.old.values.items }
+    ensures turn { IfOk result (IsTurn world.now budget begun.now global
+        (table_of table.old) (table_of table.new)) }
+    ensures values { OnOk result (All (IsInIf world.now.tree) table.new.values.items) }
+{
+    let left = budget.saturating_sub(table.ticks);
+    let attempt = attempt_over(alloc, world, &table.values, global, left)?;
+    match attempt {
+        Attempt::Done { value, says, ticks } => {
+            table.add(says, ticks)?;
+            table.fill(global, value);
+            Ok(Turn::Done)
+        }
+        Attempt::Stopped { says, ticks, spot } => {
+            table.add(says, ticks)?;
+            Ok(Turn::Ends(spot))
+        }
+        Attempt::Needs {
+            global: other,
+            site,
+            says,
+            ticks,
+        } => table.need(other, site, says, ticks, begun),
+    }
+}
+
+/// An attempt at a global over some values.
+fn attempt_over<K: KeyFinder>(
+    alloc: Global,
+    world: &World<'_, K>,
+    values: &[Option<Value>],
+    global: u32,
+    limit: u64,
+) -> Result<Attempt, AllocError>
+    requires world { IsWorld world.now }
+    requires whole { world.now.grain ≡ None }
+    requires values { All (IsInIf world.now.tree) values.now }
+    ensures attempt { IfOk result (IsAttempt
+        (attempt_cut (with_globals world.now values.now) global limit)
+        (attempt_value (with_globals world.now values.now)
+        (slice_get world.now.sheet.globals global))) }
+    ensures inside { IfOk result (IsAttemptIn world.now.tree) }
+{
+    let runner = SheetRunner::new(
+        world.sheet,
+        world.index,
+        world.tree,
+        world.keys,
+        values,
+        None,
+    );
+    runner.attempt(alloc, global, limit)
+}

@@ -1,0 +1,8 @@
+-- In the order in which they are read: what a transformation is evaluated over; runs that are left to tasks; rules; what it does;
+-- attempts at globals.
+pub mod World
+pub mod Tasks
+pub mod Rules
+pub mod Trace
+pub mod Globals
+pub mod Laws

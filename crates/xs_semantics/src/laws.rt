@@ -1,0 +1,39 @@
+//! What is true of the evaluation. The functions do nothing: their contracts are the laws.
+
+ghost use Rattle.xs_semantics.specs.Laws.{AttemptsAreTheSame, AttemptsNeed, CapturedLeavesNothing};
+ghost use Rattle.xs_semantics.specs.Laws.{CapturedSays, CapturedTakesTicks, SettledNeedsNothing};
+ghost use Rattle.xs_semantics.specs.Laws.{SettlingIsTheSame, TasksAreTheSame, TasksFill, TasksNeed};
+
+/// What is done with a grain, each hole filled by its task, is what is done without one.
+pub fn tasks_fill()
+    ensures { TasksFill }
+{}
+
+/// Captured content leaves no holes.
+pub fn captured_leaves_nothing()
+    ensures { CapturedLeavesNothing }
+{}
+
+/// Captured content takes its ticks and says its messages as if it were not captured.
+pub fn captured_is_taken()
+    ensures ticks { CapturedTakesTicks }
+    ensures messages { CapturedSays }
+{}
+
+/// A task, and an attempt at a global, need a global only where that has no value yet.
+pub fn need_is_unsettled()
+    ensures tasks { TasksNeed }
+    ensures attempts { AttemptsNeed }
+{}
+
+/// Where all globals have values, a task needs none.
+pub fn settled_needs_nothing()
+    ensures { SettledNeedsNothing }
+{}
+
+/// Nothing that is done depends on the index by which rules are found.
+pub fn index_is_free()
+    ensures tasks { TasksAreTheSame }
+    ensures attempts { AttemptsAreTheSame }
+    ensures settling { SettlingIsTheSame }
+{}

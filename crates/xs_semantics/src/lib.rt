@@ -1,0 +1,5 @@
+//! What a compiled stylesheet does: its definition, and the laws of that.
+#![tactic(auto)]
+
+pub mod focus;
+pub mod laws;
