@@ -35,7 +35,10 @@ fn put_answer_to_bytes(out: &mut Buffer, alloc: Global, subject: &str, bytes: &[
     match subject {
         "lines" => lines::put_first(out, alloc, bytes),
         "views" => lines::put_views(out, alloc, bytes),
-        _ => put_answer_to_text(out, alloc, subject, from_utf8(bytes).unwrap_or("not UTF-8")),
+        _ => match from_utf8(bytes) {
+            Ok(text) => put_answer_to_text(out, alloc, subject, text),
+            Err(_) => out.put("not UTF-8"),
+        },
     }
 }
 

@@ -58,7 +58,7 @@ fn read_node(line: &str) -> Option<Written<'_>> {
         kind: kind_of(word)?,
         parent: Node::at(parent.parse::<u32>().unwrap_or(u32::MAX)),
         local: local.trim_end(),
-        text: text.strip_suffix('"').unwrap_or(text),
+        text: text.strip_suffix('"')?,
     })
 }
 
