@@ -16,6 +16,8 @@ mod loads;
 #[cfg(test)]
 mod machine;
 #[cfg(test)]
+mod making;
+#[cfg(test)]
 mod numbers;
 #[cfg(test)]
 mod probe;

@@ -66,7 +66,7 @@ fn attributes(tree: &Tree, node: Node) -> Walk
     }
 }
 
-// They stand right after the node.
+// They come right after the node.
 fn namespaces(tree: &Tree, node: Node) -> Walk
     requires { node < length tree.now }
     ensures left { nodes_left tree.now result ≡ axis_list Axis.Namespace tree.now node }

@@ -1,5 +1,5 @@
 -- What was told stays at the beginning of what is told, in each step.
-use Rattle.std.proofs.Common.{◌≡◌, ℕ, ◌+◌, ◌-◌, ◌==◌, ◌||◌, length, List, [], ◌∷◌, ◌++◌, map, slice_get, Option, Some, None, Bool, true, false, cond, refl}
+use Rattle.std.proofs.Common.{ℕ, ◌-◌, ◌==◌, ◌||◌, length, List, [], ◌∷◌, ◌++◌, map, Option, Some, None, Bool, true, false, cond, refl}
 use Rattle.xs_sheet.specs.declared.body.Body.{Body}
 use Rattle.xs_sheet.specs.declared.body.Binding.{Binding}
 use Rattle.xs_sheet.specs.declared.body.Content.{Content}
@@ -11,10 +11,9 @@ use Rattle.xs_sheet.specs.declared.body.LiteralStart.{LiteralStart}
 use Rattle.xs_sheet.specs.declared.scoped.ScopedExpr.{ScopedExpr}
 use Rattle.xs_trace.specs.Cut.{Fault}
 use Rattle.xs_trace.specs.Mark.{Hole, Trace}
-use Rattle.xs_trace.specs.Run.{Run, limited}
+use Rattle.xs_trace.specs.Run.{limited}
 use Rattle.xs_trace.specs.State.{State, opened, popped, top}
 use Rattle.xs_trace.specs.Play.{Step, Goes, Told, and_then, goes, ticked, put, put_at, said_at, stops, play}
-use Rattle.xs_trace.specs.PlayLaws.{Extends}
 use Rattle.xs_trace.specs.declared.event.Event.TheVariants.{Start, Space, Chars, End}
 use Rattle.xs_trace.specs.declared.fault.Fault.TheVariants as fault
 use Rattle.xs_trace.specs.declared.item.Site.{Site}
@@ -26,7 +25,7 @@ use Rattle.xs_value.specs.declared.value.Value.{Value}
 use Rattle.xs_value.specs.Conversion.{fragment_text}
 use Rattle.xs_body.specs.declared.focus.Focus.{Focus}
 use Rattle.xs_body.specs.declared.frames.Scope.{Scope}
-use Rattle.xs_body.specs.World.{World, in_list, with_depth, without_rule, value_run, nodes_run, text_run, test_run, nodes_or_children}
+use Rattle.xs_body.specs.World.{World, in_list, with_depth, value_run, nodes_run, text_run, test_run, nodes_or_children}
 use Rattle.xs_body.specs.Tasks.{Params, no_params, Job, body_job, rules_job, Task, tasks_for, grain_over}
 use Rattle.xs_body.specs.Rules.{rule_for, import_for}
 use Rattle.xs_body.specs.Trace.{Entry, named, fitting, overridden, Called, by_number, by_rules, each, body_trace, params_trace}

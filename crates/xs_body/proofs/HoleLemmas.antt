@@ -1,6 +1,6 @@
 -- Traces without holes, and what a run gives of them.
 use Rattle.std.proofs.Common.{◌≡◌, ℕ, zero, suc, ◌+◌, length, List, [], ◌∷◌, ◌++◌, Option, Some, None, Bool, true, false, cond, refl, sym, ap, subst, ◌∙◌}
-use Rattle.std.proofs.Common.{append_assoc, append-nil}
+use Rattle.std.proofs.Common.{append-nil}
 use Rattle.xs_block.specs.Chain.{items_of}
 use Rattle.xs_record.specs.Outcome.{hole_mark, part_marks, AreParts, IsOutcome}
 use Rattle.xs_record.specs.declared.outcome.Outcome.{Outcome}

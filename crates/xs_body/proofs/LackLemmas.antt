@@ -1,7 +1,7 @@
 -- The run of an expression lacks a global variable only where that is there without a value.
-use Rattle.std.proofs.Common.{◌≡◌, ℕ, ◌++◌, List, [], ◌∷◌, Bool, true, false, cond, length, Option, Some, None, Ok, Err, slice_get, refl, sym, ap, ◌∙◌}
+use Rattle.std.proofs.Common.{◌≡◌, ℕ, ◌++◌, List, [], ◌∷◌, Bool, true, false, cond, length, Option, Some, None, Ok, Err, slice_get, sym, ap}
 use Rattle.std.specs.List.{enumerate_from}
-use Rattle.xs_trace.specs.Run.{Run, Answer, Gives, Faults, Lacks, go_on, give, fail, fold}
+use Rattle.xs_trace.specs.Run.{Run, Answer, Gives, Faults, Lacks, go_on, give, fold}
 use Rattle.xs_trace.specs.declared.fault.Fault.{Fault}
 use Rattle.xs_value.specs.declared.value.Value.{Value}
 use Rattle.xs_value.specs.declared.value.Value.TheVariants.{Nodes}
@@ -22,7 +22,7 @@ use Rattle.xs_eval.specs.Context.{Context, at_node}
 use Rattle.xs_eval.specs.Evaluation.{and_argument, answered, arguments, called_of, chain, global, joined, joined_from, local, negative, right_operated}
 use Rattle.xs_eval.specs.Evaluation.{run_of_tree, runs_of_trees, unless, variable}
 use Rattle.xs_eval.specs.Functions.{first, second}
-use Rattle.xs_eval.specs.Keys.{from_table, keyed, looked_up, number_of}
+use Rattle.xs_eval.specs.Keys.{from_table, keyed, looked_up}
 use Rattle.xs_eval.specs.Operators.{decided, negation, operated}
 use Rattle.xs_eval.specs.Paths.{Meaning, all_filtered, and_from, filter_expr, filtered, judged, kept_if, kept_of, path, selected, selects, step, steps_from}
 use Rattle.xs_eval.specs.Paths.{tested}

@@ -1,8 +1,8 @@
 -- A turn of the loop: what the stack tells from here on stays what the whole tells.
-use Rattle.std.proofs.Common.{◌≡◌, ℕ, length, List, [], ◌∷◌, Result, Err, refl, sym, ap, ◌∙◌}
+use Rattle.std.proofs.Common.{◌≡◌, ℕ, length, List, [], ◌∷◌, Result, Err, sym, ap, ◌∙◌}
 use Rattle.xs_trace.specs.Mark.{Trace}
 use Rattle.xs_trace.specs.State.{State}
-use Rattle.xs_trace.specs.Play.{Step, Goes, Told, and_then, goes, IsStep, IsStepBy, play}
+use Rattle.xs_trace.specs.Play.{Goes, Told, and_then, goes, IsStep, IsStepBy, play}
 use Rattle.xs_trace.specs.declared.recorder.Halt.{Halt}
 use Rattle.xs_trace.specs.declared.item.Site.{Site}
 use Rattle.xs_trace.proofs.GrowthLemmas.{passes}

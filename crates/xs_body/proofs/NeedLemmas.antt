@@ -1,19 +1,18 @@
 -- What a stylesheet does needs a global only where that has no value yet.
-use Rattle.std.proofs.Common.{◌≡◌, ◌<◌, ℕ, suc, zero, ◌+◌, length, List, [], ◌∷◌, map, get_or, slice_get, Option, Some, None, Bool, true, false, sym, subst}
+use Rattle.std.proofs.Common.{◌≡◌, ℕ, suc, zero, ◌+◌, length, List, [], ◌∷◌, map, get_or, slice_get, Option, Some, None, Bool, true, sym, subst}
 use Rattle.std.proofs.lemmas.Bool.{true≢false}
 use Rattle.std.proofs.lemmas.Option.{get_or_from_slice_get, slice_get_within}
 use Rattle.std.specs.List.{All}
 use Rattle.std.specs.Option.{IsSome, is_some}
 use Rattle.xs_sheet.specs.declared.declarations.Global.{Global}
 use Rattle.xs_trace.specs.Cut.{End, Whole, Fault, Needs, Spent, Full, cut_from}
-use Rattle.xs_trace.specs.Mark.{Tick, Put, Say, Stop, Need, Hole, Trace, ◌⨾◌, NeedsNothing, without_puts, events_of, captured}
-use Rattle.xs_trace.specs.declared.event.Event.{Event}
+use Rattle.xs_trace.specs.Mark.{Tick, Put, Say, Stop, Need, Hole, Trace, ◌⨾◌, NeedsNothing, without_puts, events_of}
 use Rattle.xs_trace.specs.declared.item.Site.{Site}
 use Rattle.xs_value.specs.declared.value.Value.{Value}
 use Rattle.xs_body.specs.declared.focus.Focus.{Focus}
-use Rattle.xs_body.specs.World.{World, at_node, with_grain}
+use Rattle.xs_body.specs.World.{World, at_node}
 use Rattle.xs_body.specs.Tasks.{Job, Task, tasks_for, grain_over}
-use Rattle.xs_body.specs.Trace.{each, spread_by, spread, called, job_trace, task_trace, most_depth}
+use Rattle.xs_body.specs.Trace.{each, spread_by, task_trace, most_depth}
 use Rattle.xs_body.specs.Globals.{attempt_trace, global_focus}
 use Rattle.xs_body.specs.Laws.{NeedsOnly}
 use Rattle.xs_body.proofs.SideLemmas.{IsKept, content-keeps, calls-keep, task-keeps}

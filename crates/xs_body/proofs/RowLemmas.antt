@@ -1,15 +1,12 @@
 -- The rows of a stylesheet do what the lists of their items do.
-use Rattle.std.proofs.Common.{◌≡◌, ℕ, List, [], ◌∷◌, ◌++◌, Bool, true, false, cond, refl, sym, ap, ◌∙◌}
+use Rattle.std.proofs.Common.{◌≡◌, List, [], ◌∷◌, ◌++◌, refl, sym, ap, ◌∙◌}
 use Rattle.std.proofs.Math.Path.{fun_ext}
-use Rattle.xs_sheet.specs.declared.body.Binding.{Binding}
-use Rattle.xs_sheet.specs.declared.body.Body.{Body, Body', Row_of-Instr, end_of-Instr, more_of-Instr, out-Body, items-the_row-Instr}
+use Rattle.xs_sheet.specs.declared.body.Body.{Body, Body', Row_of-Instr, end_of-Instr, more_of-Instr, items-the_row-Instr}
 use Rattle.xs_sheet.specs.declared.body.Body.{items_shown-the_row-Instr-0, outs-Body'}
-use Rattle.xs_sheet.specs.declared.body.Choice.{Choice, Choice', Row_of-When, end_of-When, more_of-When}
-use Rattle.xs_sheet.specs.declared.body.Fallbacks.{Fallbacks, Fallbacks', Row_of-Body, end_of-Body, more_of-Body, out-Fallbacks, items-the_row-Body}
+use Rattle.xs_sheet.specs.declared.body.Fallbacks.{Fallbacks, Fallbacks', Row_of-Body, end_of-Body, more_of-Body, items-the_row-Body}
 use Rattle.xs_sheet.specs.declared.body.Fallbacks.{items_shown-the_row-Body-2, outs-Fallbacks'}
-use Rattle.xs_sheet.specs.declared.body.Passed.{Passed, Passed', Row_of-Binding, end_of-Binding, more_of-Binding, out-Passed, items-the_row-Binding}
+use Rattle.xs_sheet.specs.declared.body.Passed.{Passed, Passed', Row_of-Binding, end_of-Binding, more_of-Binding, items-the_row-Binding}
 use Rattle.xs_sheet.specs.declared.body.Passed.{items_shown-the_row-Binding-3, outs-Passed'}
-use Rattle.xs_sheet.specs.declared.body.When.{When, When', out-When}
 use Rattle.xs_trace.specs.Mark.{Trace, Tick, Stop, ◌⨾◌}
 use Rattle.xs_trace.specs.declared.fault.Fault.TheVariants as fault
 use Rattle.xs_trace.specs.declared.item.Site.{Site}

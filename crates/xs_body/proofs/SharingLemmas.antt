@@ -1,8 +1,8 @@
 -- A run that is left to tasks, node by node.
-use Rattle.std.proofs.Common.{◌≡◌, ℕ, zero, suc, ◌-◌, ◌==◌, List, [], ◌∷◌, map, Bool, true, false, cond, refl, sym, ap, ◌∙◌, arith}
+use Rattle.std.proofs.Common.{◌≡◌, ℕ, zero, suc, ◌-◌, ◌==◌, List, ◌∷◌, map, false, cond, refl, sym, ap, ◌∙◌, arith}
 use Rattle.std.proofs.lemmas.Bool.Decides.{nat_tests}
 use Rattle.xs_trace.specs.Mark.{Hole}
-use Rattle.xs_trace.specs.Play.{Step, Goes, Told, and_then, play}
+use Rattle.xs_trace.specs.Play.{Step, Goes, and_then, play}
 use Rattle.xs_trace.specs.State.{State, shown}
 use Rattle.xs_body.specs.Tasks.{Task, with_node, task_behind, shared}
 use Rattle.xs_body.specs.steps.Sharing.{Share, share_step, shares}

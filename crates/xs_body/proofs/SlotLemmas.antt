@@ -1,5 +1,5 @@
 -- The values that came last.
-use Rattle.std.proofs.Common.{◌≡◌, ℕ, ◌+◌, ◌-◌, List, [], ◌∷◌, ◌++◌, length, take, drop, refl, sym, ap, ◌∙◌, arith, length-append}
+use Rattle.std.proofs.Common.{◌≡◌, ℕ, ◌+◌, ◌-◌, List, [], ◌∷◌, ◌++◌, length, take, drop, ap, ◌∙◌, arith, length-append}
 use Rattle.std.proofs.lemmas.List.{drop-append-le, take-append-le, drop_all, take_all}
 use Rattle.xs_value.specs.declared.value.Value.{Value}
 use Rattle.xs_body.specs.declared.frames.Scope.{Scope}

@@ -1,10 +1,10 @@
 -- A step tells the beginning of what the stack stands for, and leaves the rest to be done: by cases, without an induction.
-use Rattle.std.proofs.Common.{◌≡◌, ℕ, zero, suc, ◌+◌, ◌-◌, ◌==◌, ◌||◌, ◌/◌, length, List, [], ◌∷◌, ◌++◌, map, slice_get, Option, Some, None, Bool, true}
+use Rattle.std.proofs.Common.{◌≡◌, ℕ, zero, suc, ◌+◌, ◌-◌, ◌==◌, ◌||◌, length, List, [], ◌∷◌, ◌++◌, map, slice_get, Option, Some, None, Bool, true}
 use Rattle.std.proofs.Common.{false, cond, refl, sym, ap, ◌∙◌, arith}
 use Rattle.std.proofs.lemmas.Bool.Decides.{nat_tests}
 use Rattle.xs_sheet.specs.declared.body.Binding.{Binding}
 use Rattle.xs_sheet.specs.declared.body.Body.{Body}
-use Rattle.xs_sheet.specs.declared.body.Choice.{Choice, Choice', Row_of-When, end_of-When, more_of-When, out-Choice, items-the_row-When}
+use Rattle.xs_sheet.specs.declared.body.Choice.{Choice, Choice', Row_of-When, end_of-When, more_of-When, items-the_row-When}
 use Rattle.xs_sheet.specs.declared.body.Choice.{items_shown-the_row-When-1, outs-Choice'}
 use Rattle.xs_sheet.specs.declared.body.Content.{Content}
 use Rattle.xs_sheet.specs.declared.body.Content.TheVariants.{Empty, Select, Body as Fragment}
@@ -14,18 +14,18 @@ use Rattle.xs_sheet.specs.declared.body.InstrKind.TheVariants.{ApplyTemplates, C
 use Rattle.xs_sheet.specs.declared.body.InstrKind.TheVariants.{Text, Element, Attribute, Comment, Pi, Message, Literal, Extension}
 use Rattle.xs_sheet.specs.declared.body.LiteralStart.{LiteralStart}
 use Rattle.xs_sheet.specs.declared.body.Passed.{Passed}
-use Rattle.xs_sheet.specs.declared.body.When.{When, When', out-When}
+use Rattle.xs_sheet.specs.declared.body.When.{When', out-When}
 use Rattle.xs_sheet.specs.declared.declarations.Template.{Template}
 use Rattle.xs_trace.specs.Cut.{Fault}
-use Rattle.xs_trace.specs.Mark.{Tick, Put, Stop, Hole, Trace, ◌⨾◌, captured}
-use Rattle.xs_trace.specs.Run.{Run, Gives, give, costs, limited, evaluated, ◌>>=◌}
+use Rattle.xs_trace.specs.Mark.{Tick, Put, Hole, Trace, ◌⨾◌, captured}
+use Rattle.xs_trace.specs.Run.{Run, Gives, give, limited, evaluated}
 use Rattle.xs_trace.specs.State.{State, opened, popped, top}
-use Rattle.xs_trace.specs.Play.{Step, Goes, Ends, Told, and_then, goes, ticked, put, put_at, said_at, stops, play}
+use Rattle.xs_trace.specs.Play.{Step, Goes, Told, and_then, goes, ticked, put, put_at, stops, play}
 use Rattle.xs_trace.specs.declared.event.Event.{Event}
 use Rattle.xs_trace.specs.declared.event.Event.TheVariants.{Start, Space, Chars, End}
 use Rattle.xs_trace.specs.declared.fault.Fault.TheVariants as fault
 use Rattle.xs_trace.specs.declared.item.Site.{Site}
-use Rattle.xs_trace.proofs.PlayLemmas.{then-same, then-then, then-goes, play-then, play-put, play-say, play-captured}
+use Rattle.xs_trace.proofs.PlayLemmas.{then-same, then-then, play-then, play-put, play-say, play-captured}
 use Rattle.xs_trace.proofs.RunLemmas.{limited-bind, limited-end, play-evaluated}
 use Rattle.xs_tree.specs.Kinds.{has_content, is_attribute_kind, is_text_kind}
 use Rattle.xs_tree.specs.Record.{Record, at, children}
@@ -42,11 +42,11 @@ use Rattle.xs_body.specs.Trace.{Entry, named, fitting, overridden, Calls, each, 
 use Rattle.xs_body.specs.Trace.{passing, imports, puts, chars, says, ended_if, begins, fragment_of, instr_trace, body_trace, content_trace, choice_trace}
 use Rattle.xs_body.specs.Trace.{whens_trace, fallbacks_trace, param_trace, params_trace, template_trace, built_in, ruled, entered, called}
 use Rattle.xs_body.specs.steps.Frames.{Work, rest, fill, each_left, apply_left, bodies_left, end_element, say, pass, take_value, params_left, Stack, last}
-use Rattle.xs_body.specs.steps.Frames.{without, inner, over, captured_scope, outer, more, bound, after, bindings_of, instrs_of, bodies_of, instrs_trace}
-use Rattle.xs_body.specs.steps.Frames.{bindings_trace, all_bodies, chosen_of, chosen, calls_at, filled, ended, message_steps, message_ended, fragment_at}
+use Rattle.xs_body.specs.steps.Frames.{without, inner, over, captured_scope, more, bound, after, bindings_of, instrs_of, bodies_of, instrs_trace}
+use Rattle.xs_body.specs.steps.Frames.{all_bodies, chosen_of, chosen, calls_at, filled, ended, message_steps, message_ended, fragment_at}
 use Rattle.xs_body.specs.steps.Frames.{passing_left, work_steps, stack_steps, stack_told, pushed, slots_are, filled_up, stays, chars_steps, space_steps}
 use Rattle.xs_body.specs.steps.Frames.{literal_steps, run_by, run_begun, applied_begun, template_begun, built_in_begun, rule_begun, entry_begun, entering}
-use Rattle.xs_body.specs.steps.Frames.{call_begun, imports_begun, content_begun, pass_begun, param_begun, fallbacks_begun, looping, loop_begun, value_steps}
+use Rattle.xs_body.specs.steps.Frames.{call_begun, imports_begun, content_begun, pass_begun, param_begun, fallbacks_begun}
 use Rattle.xs_body.specs.steps.Frames.{begun, advanced}
 use Rattle.xs_body.proofs.SlotLemmas.{last-more, without-more, last-none, without-none, more-none}
 use Rattle.xs_body.proofs.RowLemmas.{body-instrs, passing-bindings, fallbacks-bodies, fallback_trace}

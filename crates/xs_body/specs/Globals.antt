@@ -10,7 +10,7 @@ use Rattle.xs_sheet.specs.declared.body.Content.{Content}
 use Rattle.xs_sheet.specs.declared.body.Content.TheVariants.{Empty, Select, Body as Fragment}
 use Rattle.xs_sheet.specs.declared.declarations.Global.{Global}
 use Rattle.xs_sheet.specs.declared.sheet.Sheet.{Sheet}
-use Rattle.xs_trace.specs.Cut.{Cut, End, Whole, Fault, Needs, Spent, Full, cut}
+use Rattle.xs_trace.specs.Cut.{Cut, Whole, Fault, Needs, Spent, cut}
 use Rattle.xs_trace.specs.Kept.{spot}
 use Rattle.xs_trace.specs.Mark.{Trace, events_of, messages_of, tick_count}
 use Rattle.xs_trace.specs.Run.{Answer, Gives, Faults, Lacks}

@@ -8,7 +8,7 @@ use Rattle.xs_value.specs.Conversion.{IsIn}
 use Rattle.xs_value.specs.Tables.{TablesIn}
 use Rattle.xs_eval.specs.Conditions.{IsInIf}
 use Rattle.xs_body.specs.World.{World}
-use Rattle.xs_body.specs.Tasks.{Params, Job, body_job, rules_job, Task}
+use Rattle.xs_body.specs.Tasks.{Job, body_job, rules_job, Task}
 use Rattle.xs_body.specs.declared.frames.Callee.{Callee}
 use Rattle.xs_body.specs.declared.frames.Callee.TheVariants as callee
 use Rattle.xs_body.specs.declared.frames.Frame.{Frame}

@@ -5,7 +5,7 @@ use Rattle.xs_record.specs.declared.outcome.Outcome.{Outcome}
 use Rattle.xs_record.specs.declared.outcome.Part.{Part}
 use Rattle.xs_trace.specs.Cut.{Cut, End, Whole, Fault, Needs, Spent, Full}
 use Rattle.xs_trace.specs.Kept.{ended_by, marks_of, spot}
-use Rattle.xs_trace.specs.Mark.{Trace, messages_of, tick_count}
+use Rattle.xs_trace.specs.Mark.{messages_of, tick_count}
 use Rattle.xs_trace.specs.declared.fault.Fault.TheVariants as fault
 use Rattle.xs_trace.specs.declared.item.Spot.{Spot}
 use Rattle.xs_value.specs.declared.value.Value.{Value}

@@ -123,33 +123,29 @@ impl<'a, K: KeyFinder> SheetRunner<'a, K> {
     /// What a task does itself, cut at the limits, with a hole for each task that it leaves; these
     /// are appended to the children. Its ticks are added to a total. The share in the total and the
     /// pool come back whatever the answer.
-    pub fn run(
+    pub fn run<T: Total + Drop + 'a>(
         &self,
         alloc: Global,
         task: &Task<'a>,
         limits: Limits,
-        total: LocalTotal,
+        total: T,
         pool: Pool<Item>,
         children: &mut Vec<Task<'a>>,
-    ) -> Finished<LocalTotal>
+    ) -> Finished<T>
         requires world { IsWorld self.now }
         requires settled { All IsSome self.now.globals }
         requires task { IsTaskIn self.now.tree task.now }
         ensures piece { IfOk result.outcome (IsPiece (task_trace self.now task.now) limits
-            (⟦<LocalTotal as Total>⟧.most total) (⟦<LocalTotal as Total>⟧.added total)
-            (⟦<LocalTotal as Total>⟧.added result.total)
-            (⟦<LocalTotal as Total>⟧.last result.total)
+            (T.most total) (T.added total) (T.added result.total) (T.last result.total)
             children.old.items children.new.items) }
         ensures refused { OnErr result.outcome (children.new.items ≡ children.old.items) }
-        ensures kept { ⟦<LocalTotal as Total>⟧.kept result.total
-            ≡ ⟦<LocalTotal as Total>⟧.kept total }
-        ensures most { ⟦<LocalTotal as Total>⟧.most result.total
-            ≡ ⟦<LocalTotal as Total>⟧.most total }
+        ensures kept { T.kept result.total ≡ T.kept total }
+        ensures most { T.most result.total ≡ T.most total }
         ensures blocks { IfOk result.outcome (λ o.
             pool ≤ part_blocks o.parts.items + result.pool) }
         ensures free { OnErr result.outcome (pool ≤ result.pool) }
     {
-        let mut recorder: PieceRecorder<LocalTotal, Task<'a>> = PieceRecorder::new(
+        let mut recorder: PieceRecorder<T, Task<'a>> = PieceRecorder::new(
             alloc, limits, total, pool,
         );
         let told = tell_task(alloc, &self.world, task, &mut recorder);

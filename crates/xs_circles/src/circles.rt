@@ -13,7 +13,7 @@ use crate::ranks::{falls, none_rise, ranks};
 use crate::search::leads_back;
 use std::alloc::{AllocError, Global};
 
-/// Where a declaration stands: the number of its module, and its line there.
+/// The place of a declaration: the number of its module, and its line there.
 #[derive(Clone, Copy, PartialEq, Eq, Debug)]
 pub struct Place {
     /// The number of the module.
@@ -25,7 +25,7 @@ pub struct Place {
 /// A declaration of an attribute set.
 #[derive(Drop)]
 pub struct Declaration<'a> {
-    /// Where it stands.
+    /// Its place.
     pub place: Place,
     /// The name of the set.
     pub name: Name<'a>,
@@ -86,9 +86,9 @@ fn take<'a>(
 /// The first place, by module and line, of a declaration whose own sets lead back to its name, none
 /// where there is no such declaration (XSLT 1.0, 7.1.4).
 ///
-/// The time is linear in the size of the declarations, and where some are circular so for each of
-/// those of them that come before all that stand before them in the list; of the others ranks tell
-/// that they are not.
+/// The time is linear in the size of the declarations. Where some are circular, that time is taken
+/// once more for each circular one whose place comes before those of all that precede it in the
+/// list; ranks rule the others out.
 pub fn first_circle<'a>(
     alloc: Global,
     declarations: &[Declaration<'a>],

@@ -1,5 +1,5 @@
 -- What a run owes to whoever called it.
-use Rattle.std.specs.Prelude.{ℕ, List, [], ◌∷◌, ◌++◌, codes, slice_get}
+use Rattle.std.specs.Prelude.{ℕ, List, [], ◌∷◌, ◌++◌, Option, Some, None, codes, slice_get}
 use Rattle.std.specs.Fmt.{decimal}
 use Rattle.std.specs.List.{flat_map}
 use Rattle.std.specs.Option.{unwrap_or}
@@ -10,14 +10,16 @@ use Rattle.xs_trace.specs.declared.event.Event.{Event}
 use Rattle.xs_trace.specs.Fault.{fault_number}
 use Rattle.xs_trace.specs.declared.item.Spot.{Spot}
 use Rattle.xs_engine.specs.declared.faults.TheConstants.{NOT_BUILT, UNREADABLE}
+use Rattle.xs_engine.specs.declared.reply.ReportedFault.{ReportedFault}
 use Rattle.xs_engine.specs.declared.status.TheConstants.{OK, USAGE, READ_FAULT, REFUSED, RUN_FAULT}
 use Rattle.xs_engine.specs.Faults.{fault_name, run_fault_name}
 
--- its status, the bytes of the result, the bytes of the lines for the user, and the ticks that it spent
+-- its status, the bytes of the result, the bytes of the lines for the user, the fault that ended it, and the ticks that it spent
 pub record Answer : Type 0 where
   pub status : ℕ
   pub result : List ℕ
   pub lines : List ℕ
+  pub fault : Option ReportedFault
   pub ticks : ℕ
 
 -- the line that refuses the words
@@ -31,7 +33,11 @@ abbrev pub fault_line : (number : ℕ) → (fault : List ℕ) → (name : List �
 fault_line number fault name line =
     codes "fault " ++ decimal number ++ codes " " ++ fault ++ codes " " ++ escaped name ++ codes " " ++ decimal line ++ 10 ∷ []
 
--- that of a fault of a file
+-- a fault, by its number, the module, and the line in it
+abbrev pub reported : (number : ℕ) → (name : List ℕ) → (line : ℕ) → ReportedFault
+reported number name line = record { number = number; «module» = name; line = line }
+
+-- the line of a fault of a file
 abbrev pub file_fault_line : (fault : ℕ) → (name : List ℕ) → (line : ℕ) → List ℕ
 file_fault_line fault name line = fault_line fault (fault_name fault) name line
 
@@ -41,19 +47,31 @@ message_line text = codes "message " ++ escaped text ++ 10 ∷ []
 
 -- the words are refused
 abbrev pub usage : Answer
-usage = record { status = USAGE; result = []; lines = usage_line; ticks = 0 }
+usage = record { status = USAGE; result = []; lines = usage_line; fault = None; ticks = 0 }
 
 -- a name could not be read
 abbrev pub read_fault : List ℕ → Answer
-read_fault name = record { status = READ_FAULT; result = []; lines = file_fault_line UNREADABLE name 0; ticks = 0 }
+read_fault name = record {
+  status = READ_FAULT;
+  result = [];
+  lines = file_fault_line UNREADABLE name 0;
+  fault = Some (reported UNREADABLE name 0);
+  ticks = 0;
+}
 
 -- a file is refused: it has this fault at this line
 abbrev pub refused_file : ℕ → List ℕ → ℕ → Answer
-refused_file fault name line = record { status = REFUSED; result = []; lines = file_fault_line fault name line; ticks = 0 }
+refused_file fault name line = record {
+  status = REFUSED;
+  result = [];
+  lines = file_fault_line fault name line;
+  fault = Some (reported fault name line);
+  ticks = 0;
+}
 
 -- a stylesheet that was only checked has no fault
 abbrev pub faultless : Answer
-faultless = record { status = OK; result = []; lines = []; ticks = 0 }
+faultless = record { status = OK; result = []; lines = []; fault = None; ticks = 0 }
 
 -- a file holds what is not built
 abbrev pub not_built : List ℕ → Answer
@@ -65,7 +83,13 @@ message_lines texts = flat_map message_line texts
 
 -- The evaluation came to its end: the result is the text of the text nodes that stay of these events (XSLT 1.0, 16.3).
 abbrev pub whole_answer : (says : List (List ℕ)) → List Event → (ticks : ℕ) → Answer
-whole_answer says events ticks = record { status = OK; result = text_in (built events); lines = message_lines says; ticks = ticks }
+whole_answer says events ticks = record {
+  status = OK;
+  result = text_in (built events);
+  lines = message_lines says;
+  fault = None;
+  ticks = ticks;
+}
 
 -- the name of the module of this number
 abbrev pub name_in : List (List ℕ) → ℕ → List ℕ
@@ -78,5 +102,6 @@ stopped_answer names spot says ticks = record {
   result = [];
   lines = message_lines says
       ++ fault_line (fault_number spot.fault) (run_fault_name spot.fault) (name_in names spot.«module») spot.line;
+  fault = Some (reported (fault_number spot.fault) (name_in names spot.«module») spot.line);
   ticks = ticks;
 }

@@ -1,6 +1,7 @@
 -- What holds after a run, whatever its words, files, sinks, workers and schedule.
 use Rattle.std.specs.Prelude.{◌≡◌, ◌≢◌, ℕ, ◌⊎◌, List, [], ◌++◌, Option, Some, None, IfSome}
 use Rattle.xs_outside.specs.Edge.{Files, IsBeginning, raised}
+use Rattle.xs_engine.specs.declared.reply.ReportedFault.{ReportedFault}
 use Rattle.xs_engine.specs.declared.status.TheConstants.{OK, RUN_FAULT, WRITE_FAULT, NO_MEMORY}
 use Rattle.xs_engine.specs.Answer.{Answer}
 use Rattle.xs_engine.specs.Due.{IsDue}
@@ -28,8 +29,9 @@ IsCutShort status = (status ≡ WRITE_FAULT) ⊎ (status ≡ NO_MEMORY)
 abbrev pub IsWritten : List ℕ → ℕ → List ℕ → Type 0
 IsWritten bytes status taken = IsBeginning taken bytes × (IsCutShort status ⊎ (taken ≡ bytes))
 
--- A run gave what is due: it ended with this status after so many ticks, and the sinks hold these bytes before it and after.
-pub record Gives (due : Answer) (ended spent : ℕ) (out out_after err err_after : Option (List ℕ)) : Type 0 where
+-- A run gave what is due: it ended with this status after so many ticks and reported this fault, and the sinks hold these bytes before
+-- it and after.
+pub record Gives (due : Answer) (ended spent : ℕ) (reports : Option ReportedFault) (out out_after err err_after : Option (List ℕ)) : Type 0 where
   -- the status is the one that is due, unless the run was cut short
   pub status : (ended ≡ due.status) ⊎ IsCutShort ended
   -- `out` holds what it held, and then a beginning of the result; all of it, unless the run was cut short
@@ -40,6 +42,8 @@ pub record Gives (due : Answer) (ended spent : ℕ) (out out_after err err_after
   pub lines_first : Gained out out_after (λ taken. (taken ≡ []) ⊎ Gained err err_after (λ told. told ≡ due.lines))
   -- the ticks are those that are due, also where a write failed
   pub ticks : ended ≢ NO_MEMORY → spent ≡ due.ticks
+  -- and so is the fault
+  pub fault : ended ≢ NO_MEMORY → reports ≡ due.fault
 
 -- only these statuses come with ticks
 abbrev pub HasTicks : ℕ → Type 0

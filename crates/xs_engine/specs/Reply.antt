@@ -21,7 +21,13 @@ abbrev pub job_data : CodeJob → Job
 job_data job = record { sheet = job.sheet; source = job.source; given = job.given.items; budget = job.budget; most_events = job.most_events }
 
 abbrev pub reply_of : Reply → Answer
-reply_of reply = record { status = reply.status; result = reply.result.items; lines = reply.lines.items; ticks = reply.ticks }
+reply_of reply = record {
+  status = reply.status;
+  result = reply.result.items;
+  lines = reply.lines.items;
+  fault = reply.fault;
+  ticks = reply.ticks;
+}
 
 -- only a status of 0 has a result
 abbrev pub IsWholeOrEmpty : Reply → Type 0

@@ -15,7 +15,7 @@ pub fn deliver<O: Sink, E: Sink>(reply: &Reply, out: &mut O, err: &mut E) -> u8
     requires known { reply.now.status < WRITE_FAULT }
     requires whole_only { IsWholeOrEmpty reply.now }
     ensures status { (result ≡ reply.now.status) ⊎ (result ≡ WRITE_FAULT) }
-    ensures gives { Gives (reply_of reply.now) result reply.now.ticks
+    ensures gives { Gives (reply_of reply.now) result reply.now.ticks reply.now.fault
         (O.held out.old) (O.held out.new) (E.held err.old) (E.held err.new) }
     ensures untouched { result ≢ OK → result ≢ WRITE_FAULT → O.held out.new ≡ O.held out.old }
     ensures write_fault { result ≡ WRITE_FAULT → OneFault

@@ -15,7 +15,7 @@ mod top;
 
 pub use answer::run_reply;
 pub use job::Job;
-pub use reply::Reply;
+pub use reply::{Reply, ReportedFault};
 pub use top::{Report, transform};
 pub use xs_outside as outside;
 pub use xs_trace::place::{Claim, Place};

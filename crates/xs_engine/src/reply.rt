@@ -4,7 +4,8 @@ ghost use Rattle.std.specs.Prelude.{◌≡◌, ◌++◌, IfOk, OnOk};
 ghost use Rattle.std.specs.Fmt.{decimal};
 ghost use Rattle.xs_block.specs.Chain.{items_of};
 ghost use Rattle.xs_engine.specs.Answer.{fault_line, faultless, file_fault_line, name_in};
-ghost use Rattle.xs_engine.specs.Answer.{read_fault, refused_file, stopped_answer, usage};
+ghost use Rattle.xs_engine.specs.Answer.{read_fault, refused_file, reported, stopped_answer};
+ghost use Rattle.xs_engine.specs.Answer.{usage};
 ghost use Rattle.xs_engine.specs.Answer.{whole_answer};
 ghost use Rattle.xs_engine.specs.Items.{events_in, messages_in};
 ghost use Rattle.xs_engine.specs.Reply.{reply_of};
@@ -21,6 +22,17 @@ use xs_trace::item::{Item, Spot};
 use xs_trace::text::TextBuf;
 use xs_words::USAGE as USAGE_LINE;
 
+/// The fault that ended a run.
+#[derive(Debug, Drop)]
+pub struct ReportedFault {
+    /// Its number.
+    pub number: u8,
+    /// The name of the module or source that has it.
+    pub module: TextBuf,
+    /// The line there; 0 is the file as a whole.
+    pub line: u32,
+}
+
 /// A status, and all that is to be written with it.
 #[derive(Debug, Drop)]
 pub struct Reply {
@@ -30,6 +42,8 @@ pub struct Reply {
     pub result: Vec<u8>,
     /// The bytes of the lines for the user, each line ended by a line feed.
     pub lines: Vec<u8>,
+    /// The fault that the last of them names, if there is one.
+    pub fault: Option<ReportedFault>,
     /// The ticks that passed the cut.
     pub ticks: u64,
 }
@@ -45,6 +59,7 @@ pub fn usage_reply(alloc: Global) -> Result<Reply, AllocError>
         status: USAGE,
         result: Vec::new(alloc),
         lines,
+        fault: None,
         ticks: 0,
     })
 }
@@ -58,6 +73,7 @@ pub fn read_fault_reply(alloc: Global, name: &TextBuf) -> Result<Reply, AllocErr
         status: READ_FAULT,
         result: Vec::new(alloc),
         lines,
+        fault: Some(reported(alloc, UNREADABLE, name.as_str(), 0)?),
         ticks: 0,
     })
 }
@@ -76,6 +92,7 @@ pub fn refused_reply(
         status: REFUSED,
         result: Vec::new(alloc),
         lines,
+        fault: Some(reported(alloc, fault, name.as_str(), line)?),
         ticks: 0,
     })
 }
@@ -88,6 +105,7 @@ pub fn faultless_reply(alloc: Global) -> Reply
         status: OK,
         result: Vec::new(alloc),
         lines: Vec::new(alloc),
+        fault: None,
         ticks: 0,
     }
 }
@@ -107,6 +125,7 @@ pub fn whole_reply(
         status: OK,
         result: result_text(alloc, items)?,
         lines: message_lines(alloc, says, items)?,
+        fault: None,
         ticks,
     })
 }
@@ -125,17 +144,20 @@ pub fn stopped_reply(
 {
     let result = Vec::new(alloc);
     let messages = message_lines(alloc, says, items)?;
+    let number = spot.fault.number();
+    let name = module_name(sheet, spot.module);
     let lines = append_fault(
         messages,
-        spot.fault.number(),
+        number,
         run_fault_name(spot.fault),
-        module_name(sheet, spot.module),
+        name,
         spot.line,
     )?;
     Ok(Reply {
         status: RUN_FAULT,
         result,
         lines,
+        fault: Some(reported(alloc, number, name, spot.line)?),
         ticks,
     })
 }
@@ -148,6 +170,17 @@ fn module_name(sheet: &Sheet, number: u32) -> &str
         Some(name) => name.as_str(),
         None => "",
     }
+}
+
+/// A fault, by its number, the name of its module, and the line there.
+fn reported(alloc: Global, number: u8, name: &str, line: u32) -> Result<ReportedFault, AllocError>
+    ensures { IfOk result (λ fault. fault ≡ reported number name.now line) }
+{
+    Ok(ReportedFault {
+        number,
+        module: TextBuf::of(alloc, name)?,
+        line,
+    })
 }
 
 /// The line of a fault of a file.

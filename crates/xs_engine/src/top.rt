@@ -10,6 +10,7 @@ ghost use Rattle.xs_engine.specs.Job.{job_of};
 
 use crate::answer::reply_to;
 use crate::deliver::deliver;
+use crate::reply::ReportedFault;
 use crate::status::NO_MEMORY;
 use std::alloc::Global;
 use std::thread::Threads;
@@ -24,6 +25,8 @@ pub struct Report {
     /// How many ticks passed the budget's cut; 0 but on `OK`, `RUN_FAULT`, and `WRITE_FAULT`, where
     /// it is what it was for the status that was due.
     pub ticks: u64,
+    /// The fault that ended the run, also where its line could not be written; none on `NO_MEMORY`.
+    pub fault: Option<ReportedFault>,
     /// How many pieces the workers claimed.
     pub pieces: u64,
     /// How many pieces were evaluated again in their place.
@@ -54,13 +57,13 @@ pub fn transform<R: Threads + Sync, L: Library, O: Sink, E: Sink, G: Gate>(
     ensures gives { result.status ≢ NO_MEMORY
         → OfDue (L.files library.old) (job_of (texts words.now))
         (L.failed library.old) (L.failed library.new)
-        (λ due. Gives due result.status result.ticks
+        (λ due. Gives due result.status result.ticks result.fault
         (O.held out.old) (O.held out.new) (E.held err.old) (E.held err.new)) }
 
     // Where the library tells its files, the words and these files define one answer alone.
     ensures only { OnlyDue (L.files library.old) (job_of (texts words.now))
         (L.failed library.old) (L.failed library.new)
-        (λ due. Gives due result.status result.ticks
+        (λ due. Gives due result.status result.ticks result.fault
         (O.held out.old) (O.held out.new) (E.held err.old) (E.held err.new)) }
 
     // What a status says, whatever the files.
@@ -73,6 +76,7 @@ pub fn transform<R: Threads + Sync, L: Library, O: Sink, E: Sink, G: Gate>(
     ensures no_fault { result.status ≢ WRITE_FAULT →
         (O.faults out.new ≡ O.faults out.old) × (E.faults err.new ≡ E.faults err.old) }
     ensures ticks { HasTicks result.status ⊎ (result.ticks ≡ 0) }
+    ensures unexplained { result.status ≡ NO_MEMORY → result.fault ≡ None }
     ensures pieces { (result.pieces ≡ 0) × (result.inline ≡ 0) × (result.claims.items ≡ []) }
 
     // The sinks keep what they hold, and gain nothing with most statuses.
@@ -87,21 +91,23 @@ pub fn transform<R: Threads + Sync, L: Library, O: Sink, E: Sink, G: Gate>(
     match reply_to(alloc, words, library) {
         Ok(reply) => {
             let status = deliver(&reply, out, err);
-            report_of(alloc, status, reply.ticks)
+            report_of(alloc, status, reply.ticks, reply.fault)
         }
-        Err(_) => report_of(alloc, NO_MEMORY, 0),
+        Err(_) => report_of(alloc, NO_MEMORY, 0, None),
     }
 }
 
 /// A report of a run without pieces.
-fn report_of(alloc: Global, status: u8, ticks: u64) -> Report
+fn report_of(alloc: Global, status: u8, ticks: u64, fault: Option<ReportedFault>) -> Report
     ensures status { result.status ≡ status }
     ensures ticks { result.ticks ≡ ticks }
+    ensures fault { result.fault ≡ fault }
     ensures pieces { (result.pieces ≡ 0) × (result.inline ≡ 0) × (result.claims.items ≡ []) }
 {
     Report {
         status,
         ticks,
+        fault,
         pieces: 0,
         inline: 0,
         claims: Vec::new(alloc),

@@ -55,7 +55,7 @@ fn trim_end(text: &[u8]) -> &[u8]
     &text[..end]
 }
 
-/// The number that the text after the sign spells.
+/// The number of the text after the sign.
 #[tactic(auto, unfolding(crate::specs::Text::number_after_sign))]
 fn read_numeral(negative: bool, numeral: &[u8]) -> Result<Num, NumFault>
     ensures { result ≡ number_after_sign negative numeral.now }
@@ -64,7 +64,7 @@ fn read_numeral(negative: bool, numeral: &[u8]) -> Result<Num, NumFault>
     read_parts(negative, whole, fraction)
 }
 
-/// The number of what stands before the point and after it.
+/// The number of what is before the point and after it.
 #[tactic(auto, unfolding(crate::specs::Text::number_from))]
 fn read_parts(negative: bool, whole: &[u8], fraction: &[u8]) -> Result<Num, NumFault>
     ensures { result ≡ number_from negative whole.now fraction.now }
@@ -100,8 +100,7 @@ fn signed(negative: bool, magnitude: u64) -> i64
     }
 }
 
-/// What stands before the first point, and what stands after it; all and nothing where there is
-/// none.
+/// What is before the first point, and what is after it; all and nothing where there is none.
 fn split_at_point(numeral: &[u8]) -> (&[u8], &[u8])
     ensures whole { result.0.now ≡ before_first is_point numeral.now }
     ensures fraction { result.1.now ≡ after_first is_point numeral.now }

@@ -23,8 +23,8 @@ pub fn normalize_space(out: &mut Vec<u8>, s: &str) -> Result<(), AllocError>
     outcome
 }
 
-/// Appends the words of `s` with a space between each two. After a refusal more than `out` had may
-/// stand after it.
+/// Appends the words of `s` with a space between each two. After a refusal some of
+/// them may follow what `out` had.
 fn append_words(out: &mut Vec<u8>, s: &str) -> Result<(), AllocError>
     ensures ok { OnOk result
         (out.new.items ≡ out.old.items ++ encode_utf8_all (normalized (chars s.now))) }

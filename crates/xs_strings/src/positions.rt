@@ -41,8 +41,8 @@ pub fn substring(
     outcome
 }
 
-/// Appends the characters at the positions that are kept. After a refusal more than `out` had may
-/// stand after it.
+/// Appends the characters at the positions that are kept. After a refusal some of them
+/// may follow what `out` had.
 fn append_kept(out: &mut Vec<u8>, s: &str, first: Num, count: Option<Num>) -> Result<(), AllocError>
     ensures ok { OnOk result
         (out.new.items

@@ -1,4 +1,4 @@
-//! What stands before and after an occurrence.
+//! What is before and after an occurrence.
 
 ghost use Rattle.std.specs.Prelude.{◌≡◌, ◌++◌, OnOk, OnErr};
 ghost use Rattle.std.specs.Str.{chars, encode_utf8_all, IsUtf8};

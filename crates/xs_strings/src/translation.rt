@@ -34,8 +34,8 @@ pub fn translate(out: &mut Vec<u8>, s: &str, from: &str, to: &str) -> Result<(),
     outcome
 }
 
-/// Appends `s` with its characters replaced. After a refusal more than `out` had may stand after
-/// it.
+/// Appends `s` with its characters replaced. After a refusal some of them may follow
+/// what `out` had.
 fn append_translated(out: &mut Vec<u8>, s: &str, from: &str, to: &str) -> Result<(), AllocError>
     ensures ok { OnOk result
         (out.new.items ≡ out.old.items
@@ -95,7 +95,7 @@ fn push_replacement(out: &mut Vec<u8>, replaced: Option<char>) -> Result<(), All
     }
 }
 
-/// What stands for a character: itself where `from` does not hold it, else the character of `to` at
+/// What replaces a character: itself where `from` does not hold it, else the character of `to` at
 /// its first place there, if any.
 fn replacement(character: char, from: &str, to: &str) -> Option<char>
     ensures { result ≡ replacement (chars from.now) (chars to.now) character }

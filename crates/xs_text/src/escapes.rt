@@ -33,7 +33,7 @@ fn escape_letter(byte: u8) -> Option<u8>
     }
 }
 
-/// What stands before the first byte that is written as a pair, the letter of that pair, and what
+/// What is before the first byte that is written as a pair, the letter of that pair, and what
 /// follows.
 fn first_escape(text: &[u8]) -> Option<(&[u8], u8, &[u8])>
     ensures { MatchOption result
@@ -49,7 +49,7 @@ fn first_escape(text: &[u8]) -> Option<(&[u8], u8, &[u8])>
     None
 }
 
-/// Appends the escaped text. After a refusal more than `out` had may stand after it.
+/// Appends the escaped text. After a refusal a part of it may follow what `out` had.
 fn append_escaped(out: &mut Vec<u8>, text: &[u8]) -> Result<(), AllocError>
     ensures ok { OnOk result (out.new.items ≡ out.old.items ++ escaped text.now) }
     ensures kept { take (vec_len out.old) out.new.items ≡ out.old.items }
@@ -82,7 +82,7 @@ pub fn escape_into(out: &mut Vec<u8>, s: &str) -> Result<(), AllocError>
     outcome
 }
 
-/// The byte that a letter stands for after a backslash, if it is one of the four.
+/// The byte that a letter represents after a backslash, if it is one of the four.
 fn escaped_byte(letter: u8) -> Option<u8>
     ensures { result ≡ byte_of letter }
 {
@@ -95,7 +95,7 @@ fn escaped_byte(letter: u8) -> Option<u8>
     }
 }
 
-/// What stands before the first pair, the byte that the pair stands for, and what follows; an error
+/// What is before the first pair, the byte that the pair represents, and what follows; an error
 /// where the first backslash begins no pair.
 fn first_pair(text: &[u8]) -> Result<Option<(&[u8], u8, &[u8])>, TextFault>
     ensures { MatchResult result
@@ -120,7 +120,7 @@ fn first_pair(text: &[u8]) -> Result<Option<(&[u8], u8, &[u8])>, TextFault>
     Ok(None)
 }
 
-/// Whether each backslash of `text` begins a pair, so that it stands for data. No memory.
+/// Whether each backslash of `text` begins a pair, so that it represents data. No memory.
 pub fn is_well_escaped(text: &[u8]) -> bool
     ensures { IsTrue result ↔ IsSome (unescaped text.now) }
 {
@@ -134,7 +134,7 @@ pub fn is_well_escaped(text: &[u8]) -> bool
     }
 }
 
-/// Appends the data that `text` stands for. After an error more than `out` had may stand after it.
+/// Appends the data that `text` represents. After an error a part of it may follow what `out` had.
 fn append_unescaped(out: &mut Vec<u8>, text: &[u8]) -> Result<(), TextFault>
     ensures ok { OnOk result (behind out.old.items (unescaped text.now) ≡ Some out.new.items) }
     ensures kept { take (vec_len out.old) out.new.items ≡ out.old.items }
@@ -149,7 +149,7 @@ fn append_unescaped(out: &mut Vec<u8>, text: &[u8]) -> Result<(), TextFault>
     out.extend_from_slice(rest).map_err(|_| TextFault::NoMemory)
 }
 
-/// Appends to `out` the data that `s` stands for, a pair for its byte and every other byte for
+/// Appends to `out` the data that `s` represents, a pair for its byte and every other byte for
 /// itself. After an error `out` is as it was.
 pub fn unescape_into(out: &mut Vec<u8>, s: &str) -> Result<(), TextFault>
     ensures ok { OnOk result
@@ -158,7 +158,7 @@ pub fn unescape_into(out: &mut Vec<u8>, s: &str) -> Result<(), TextFault>
     ensures err { OnErr result (out.new.items ≡ out.old.items) }
     ensures utf8 { IsUtf8 out.old.items → IsUtf8 out.new.items }
 
-    // What a text stands for is what the rules say.
+    // What a text represents is what the rules say.
     ensures rules { (read : List ℕ) → (unescaped s.now ≡ Some read) ↔ StandsFor s.now read }
 {
     let start = out.len();

@@ -28,7 +28,7 @@ pub fn is_name_start(c: char) -> bool
     )
 }
 
-/// Whether a character may stand in a name after its first: XML 1.0, 2.3, production 4a, without
+/// Whether a character may be in a name after its first: XML 1.0, 2.3, production 4a, without
 /// the colon.
 pub fn is_name_char(c: char) -> bool
     ensures { result ≡ continues_name c }

@@ -10,7 +10,7 @@ use indexmap::IndexSet;
 use std::alloc::{AllocError, Global};
 use std::marker::Model;
 
-/// Names by number, no two of them equal. They count from 1 on, so that 0 stands for none.
+/// Names by number, no two of them equal. They count from 1 on, so that 0 is none.
 #[derive(Drop)]
 pub struct NameTable {
     names: IndexSet<Name>,

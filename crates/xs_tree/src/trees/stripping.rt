@@ -78,7 +78,7 @@ impl Tree {
     }
 }
 
-// Whether a place is marked, which none is after the last mark.
+// Whether a place is marked, as none after the last mark is.
 fn is_marked(marked: &[bool], place: usize) -> bool
     ensures { result ≡ get_or marked.now place false }
 {

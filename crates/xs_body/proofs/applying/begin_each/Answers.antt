@@ -1,7 +1,5 @@
 use Rattle.std.proofs.lemmas.Result.{err_from_is_err_and}
 use Rattle.std.proofs.Common.{ap, ◌∙◌}
-use Rattle.xs_trace.specs.Play.{Goes}
-use Rattle.xs_trace.proofs.GrowthLemmas.{goes-grows}
 use Rattle.xs_body.proofs.ExitLemmas.{run-exit}
 use Rattle.xs_body.specs.World.{nodes_run}
 use Rattle.xs_body.specs.steps.Frames.{last, loop_begun, stack_of}

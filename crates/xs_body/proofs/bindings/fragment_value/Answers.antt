@@ -1,7 +1,6 @@
-use Rattle.std.proofs.Common.{◌≡◌, ap, ◌∙◌, map, List}
+use Rattle.std.proofs.Common.{ap, ◌∙◌}
 use Rattle.std.proofs.lemmas.Iterator.{items_from_drains, YieldsList-from_slice}
 use Rattle.xs_result.specs.Built.{built}
-use Rattle.xs_trace.specs.declared.event.Event.{Event}
 use Rattle.xs_value.specs.declared.value.Value.TheVariants.{Piece}
 use Rattle.xs_body.proofs.bindings.fragment_value.Goals as goal
 

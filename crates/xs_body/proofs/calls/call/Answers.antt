@@ -1,7 +1,6 @@
-use Rattle.std.proofs.Common.{◌≡◌, List, refl, ap, subst, rules}
+use Rattle.std.proofs.Common.{◌≡◌, refl, ap, subst, rules}
 use Rattle.std.proofs.lemmas.List.Elements.{All-same}
 use Rattle.xs_value.specs.Conversion.{IsIn}
-use Rattle.xs_value.specs.declared.value.Value.{Value}
 use Rattle.xs_body.specs.Inside.{AreCallees}
 use Rattle.xs_body.specs.Tasks.{Params}
 use Rattle.xs_body.specs.declared.frames.Callee.{Callee}

@@ -1,4 +1,4 @@
-use Rattle.std.proofs.Common.{◌≡◌, ℕ, List, ◌-◌, ◌∙◌, ap, length, refl, rules, subst, sym}
+use Rattle.std.proofs.Common.{ℕ, List, ◌-◌, ◌∙◌, ap, length, refl, rules, subst, sym}
 use Rattle.std.proofs.lemmas.List.Elements.{All-drop, All-same}
 use Rattle.xs_value.specs.Conversion.{IsIn}
 use Rattle.xs_sheet.specs.declared.body.InstrKind.{InstrKind}

@@ -1,7 +1,7 @@
 use Rattle.std.proofs.Common.{◌∙◌}
 use Rattle.std.proofs.lemmas.Result.{err_from_is_err_and}
 use Rattle.xs_body.specs.steps.Frames.{stack_of, stack_told, work_of}
-use Rattle.xs_body.proofs.LoopLemmas.{stops-there, goes-on, breaks-off}
+use Rattle.xs_body.proofs.LoopLemmas.{goes-on, breaks-off}
 use Rattle.xs_body.proofs.run.finish.Goals as goal
 
 pub returns-in_err-advance-in-Some-clause-told : goal.returns-in_err-advance-in-Some-clause-told

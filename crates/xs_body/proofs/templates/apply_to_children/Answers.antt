@@ -1,4 +1,4 @@
-use Rattle.std.proofs.Common.{◌<◌, ◌≡◌, ℕ, List, [], length, refl, sym, ap, ◌∙◌, subst, rules}
+use Rattle.std.proofs.Common.{◌≡◌, ℕ, List, [], refl, ap, ◌∙◌, subst, rules}
 use Rattle.std.proofs.lemmas.List.Elements.{All-nil, All-same}
 use Rattle.xs_value.specs.Conversion.{IsIn}
 use Rattle.xs_body.specs.Tasks.{Params, no_params}

@@ -31,9 +31,9 @@ finish-requires g c =
 pub returns-clause-piece : goal.returns-clause-piece
 returns-clause-piece g c =
     let v : c.self.inside.world ≡ c.args.self.now = c.self.view_is in
-    subst (λ (x : World). IfOk c.finish.result.outcome (λ o. IsPiece (task_trace x c.args.task.now) c.args.limits c.args.total.most
-    c.args.total.added c.finish.result.total.added c.finish.result.total.last c.args.children.now.items
+    subst (λ (x : World). IfOk c.finish.result.outcome (λ o. IsPiece (task_trace x c.args.task.now) c.args.limits (g.T.Total.most c.args.total)
+    (g.T.Total.added c.args.total) (g.T.Total.added c.finish.result.total) (g.T.Total.last c.finish.result.total) c.args.children.now.items
     c.finish.new.children.items o)) v
-    (piece-is c.finish.result.outcome (task_trace c.self.inside.world c.args.task.now) c.args.limits c.args.total.others
-    c.args.total.most c.args.total.last c.args.total.added c.args.pool _ _ c.tell_task-told.result _ _ _ _ _ _
+    (piece-is c.finish.result.outcome (task_trace c.self.inside.world c.args.task.now) c.args.limits (g.T.Total.kept c.args.total)
+    (g.T.Total.most c.args.total) (g.T.Total.last c.args.total) (g.T.Total.added c.args.total) c.args.pool _ _ c.tell_task-told.result _ _ _ _ _ _
     c.tell_task-told.ensures.kept c.new-recorder.ensures.kept c.new-recorder.ensures.begins c.tell_task-told.ensures.told c.finish.ensures.piece)

@@ -1,9 +1,6 @@
-use Rattle.std.proofs.Common.{◌≡◌, None, ap, refl, rules, subst, sym, ◌∙◌}
-use Rattle.std.specs.List.{All}
-use Rattle.std.specs.Option.{IsSome}
-use Rattle.xs_body.specs.Inside.{IsTaskIn, IsWorld}
-use Rattle.xs_body.specs.World.{World, with_grain}
-use Rattle.xs_body.proofs.WholeLemmas.{alone-world, blocks-back, whole-one, whole-outcome}
+use Rattle.std.proofs.Common.{◌≡◌, None, ap, ◌∙◌}
+use Rattle.xs_body.specs.World.{with_grain}
+use Rattle.xs_body.proofs.WholeLemmas.{blocks-back, whole-one, whole-outcome}
 use Rattle.xs_body.proofs.runner.SheetRunner.run_whole.Goals as goal
 
 pub returns-clause-outcome : goal.returns-clause-outcome

@@ -1,9 +1,8 @@
 use Rattle.std.proofs.lemmas.Result.{err_from_is_err_and}
-use Rattle.xs_eval.specs.Results.{given, nodes_in}
 use Rattle.xs_trace.specs.Run.{give, limited}
 use Rattle.xs_trace.proofs.GrowthLemmas.{passes}
 use Rattle.xs_trace.proofs.RunLemmas.{limited-bind, limited-grows}
-use Rattle.xs_value.specs.Conversion.{bool_value, text_value}
+use Rattle.xs_value.specs.Conversion.{text_value}
 use Rattle.xs_body.specs.World.{value_run}
 use Rattle.xs_body.proofs.world.World.text.Goals as goal
 

@@ -1,0 +1,4 @@
+mod SpacingLemmas
+mod CopyLemmas
+mod LawLemmas
+mod WalkLemmas

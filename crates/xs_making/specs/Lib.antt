@@ -1,0 +1,7 @@
+pub mod Texts
+pub mod Labels
+pub mod Names
+pub mod Results
+pub mod Copies
+pub mod Laws
+pub mod steps

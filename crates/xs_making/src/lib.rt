@@ -1,0 +1,15 @@
+//! Making the nodes of a result: their names, their texts, and copies of the nodes of a tree.
+#![tactic(auto)]
+
+mod copies;
+mod ends;
+mod labels;
+pub mod laws;
+mod leaves;
+mod names;
+mod texts;
+
+pub use copies::copy_events;
+pub use ends::MakeEnd;
+pub use names::{pi_target, result_name};
+pub use texts::{comment_text, pi_text};
