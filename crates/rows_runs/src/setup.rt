@@ -94,16 +94,8 @@ impl<'t> Setup<'t> {
         rest: &'t str,
         is_shared: bool,
     ) -> bool {
-        let (name, line) = match word {
-            "sheet" => ("s.pyx", ""),
-            "source" => ("src.pyx", rest),
-            _ => rest.split_once(' ').unwrap_or((rest, "")),
-        };
-        let form = match word {
-            "sheet" | "module" => Form::Content,
-            _ if line.is_empty() => Form::Whole,
-            _ => Form::Escaped,
-        };
+        let (name, line) = named(word, rest);
+        let form = form_of(word, line);
         let mut text = Answer::new(self.alloc);
         put_start(&mut text, form, line);
         if word == "sheet" && !rest.is_empty() {
@@ -188,6 +180,24 @@ impl<'t> Setup<'t> {
             result: out,
             lines: err,
         })
+    }
+}
+
+/// The name of a file, and its only line where it has one.
+fn named<'t>(word: &str, rest: &'t str) -> (&'t str, &'t str) {
+    match word {
+        "sheet" => ("s.pyx", ""),
+        "source" => ("src.pyx", rest),
+        _ => rest.split_once(' ').unwrap_or((rest, "")),
+    }
+}
+
+/// How the text of a file is written.
+fn form_of(word: &str, line: &str) -> Form {
+    match word {
+        "sheet" | "module" => Form::Content,
+        _ if line.is_empty() => Form::Whole,
+        _ => Form::Escaped,
     }
 }
 
