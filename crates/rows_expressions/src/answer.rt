@@ -22,8 +22,24 @@ impl Answer {
         }
     }
 
+    /// Removes the text.
+    pub(crate) fn clear(&mut self) {
+        self.bytes.clear();
+    }
+
+    /// Takes note that memory was refused.
+    pub(crate) fn refuse(&mut self) {
+        self.is_refused = true;
+    }
+
     /// Takes note of whether memory was refused.
     pub(crate) fn note(&mut self, outcome: Result<(), AllocError>) {
+        self.is_refused = self.is_refused || outcome.is_err();
+    }
+
+    /// Adds a byte.
+    pub(crate) fn put_byte(&mut self, byte: u8) {
+        let outcome = self.bytes.push(byte);
         self.is_refused = self.is_refused || outcome.is_err();
     }
 
@@ -36,6 +52,12 @@ impl Answer {
     /// Adds a text.
     pub(crate) fn put(&mut self, text: &str) {
         self.put_bytes(text.as_bytes());
+    }
+
+    /// Adds a text and a line end.
+    pub(crate) fn put_line(&mut self, text: &str) {
+        self.put(text);
+        self.put("\n");
     }
 
     /// Adds a text in quotes.
@@ -51,12 +73,24 @@ impl Answer {
         self.note(outcome);
     }
 
-    /// Adds a number of things.
-    pub(crate) fn put_count(&mut self, count: u64) {
-        match format!(in *self.bytes.allocator(); "{count}") {
+    /// Adds a text that was made, or takes note that memory was refused.
+    fn put_made(&mut self, made: Result<String, AllocError>) {
+        match made {
             Ok(text) => self.put(text.as_str()),
-            Err(_) => self.is_refused = true,
+            Err(_) => self.refuse(),
         }
+    }
+
+    /// Adds a text, and how many there are of something after it.
+    pub(crate) fn put_count(&mut self, text: &str, count: u64) {
+        let made = format!(in *self.bytes.allocator(); "{text}{count}");
+        self.put_made(made);
+    }
+
+    /// Adds a byte by its number.
+    pub(crate) fn put_code(&mut self, byte: u8) {
+        let made = format!(in *self.bytes.allocator(); "\\x{{{byte:x}}}");
+        self.put_made(made);
     }
 
     /// Adds a number of XPath.
@@ -68,6 +102,19 @@ impl Answer {
     /// Adds whether something holds.
     pub(crate) fn put_bool(&mut self, holds: bool) {
         self.put(if holds { "true" } else { "false" });
+    }
+
+    /// The bytes so far, of which something else is written: it is refused where they were.
+    pub(crate) fn held(&self, out: &mut Answer) -> &[u8] {
+        if self.is_refused {
+            out.refuse();
+        }
+        &self.bytes
+    }
+
+    /// The bytes so far as a text, likewise.
+    pub(crate) fn held_text(&self, out: &mut Answer) -> &str {
+        str::from_utf8(self.held(out)).unwrap_or("not UTF-8")
     }
 
     /// The text so far.

@@ -83,8 +83,7 @@ fn add_halt(out: &mut Answer, halt: Halt) -> Result<(), RowError> {
         Halt::NoMemory => return Err(RowError::NoMemory),
         Halt::Full(_) | Halt::Over { .. } => return Err(RowError::Unreadable),
     };
-    out.put(kind);
-    out.put_count(number);
+    out.put_count(kind, number);
     Ok(())
 }
 
@@ -205,8 +204,7 @@ pub(crate) fn answer(
         Call::Compare => compare(out, settings, place, text)?,
         _ => add_parsed(out, settings, call, text, place)?,
     };
-    out.put(" | ");
-    out.put_count(ticks);
+    out.put_count(" | ", ticks);
     Ok(())
 }
 

@@ -1,5 +1,5 @@
-//! Writes row files again, each answer computed anew: numbers, strings, expressions, values and
-//! patterns.
+//! Writes row files again, each answer computed anew: texts, lines, documents and trees; numbers,
+//! strings, expressions, values and patterns.
 #![tactic(auto)]
 
 mod answer;
@@ -13,6 +13,7 @@ mod matched;
 mod names;
 mod numbers;
 mod parsed;
+mod reading;
 mod rows;
 mod settings;
 mod shown;
@@ -36,10 +37,19 @@ fn main(rt: HostRuntime) -> io::Result<()> {
 // Adds a line with the name of a row file, and the file with the answers of its rows computed.
 fn add_file(out: &mut Answer, rt: &HostRuntime, name: &str) {
     out.put("== ");
-    out.put(name);
-    out.put("\n");
+    out.put_line(name);
     match fs::read_to_string(rt, name) {
-        Ok(text) => rows::add_rows(out, rt, text.as_str()),
+        Ok(text) => add_rows(out, rt, text.as_str()),
         Err(_) => out.put("no such file\n"),
+    }
+}
+
+// Adds the rows of a file: on what is read where it has a subject or rows of several lines, and
+// else on expressions.
+fn add_rows(out: &mut Answer, rt: &HostRuntime, text: &str) {
+    if text.contains("\n= subject ") || text.contains("\n= row ") {
+        reading::files::put_rows(out, rt.alloc(), text);
+    } else {
+        rows::add_rows(out, rt, text);
     }
 }

@@ -57,7 +57,7 @@ fn add_place(out: &mut Answer, node: Node) {
     if !out.bytes.is_empty() {
         out.put(" ");
     }
-    out.put_count(u64::from(node.place()));
+    out.put_count("", u64::from(node.place()));
 }
 
 // Appends the nodes of the document that match a pattern to nothing.

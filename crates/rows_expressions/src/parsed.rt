@@ -121,7 +121,7 @@ fn add_found(out: &mut Answer, settings: &Settings, numbers: &str) -> Result<(),
             found = found.saturating_add(1);
         }
     }
-    out.put_count(found);
+    out.put_count("", found);
     Ok(())
 }
 

@@ -63,10 +63,8 @@ fn add_error(out: &mut Answer, error: RowError) {
     match error {
         RowError::Unreadable => out.put("unreadable"),
         RowError::Fault { number, at } => {
-            out.put("!");
-            out.put_count(u64::from(number));
-            out.put("@");
-            out.put_count(u64::from(at));
+            out.put_count("!", u64::from(number));
+            out.put_count("@", u64::from(at));
         }
         RowError::NoMemory => out.note(Err(AllocError)),
     }

@@ -53,8 +53,7 @@ fn show_slot(out: &mut Answer, slot: Option<Slot>) {
         Some(Slot::Local(number)) => ("#L", number),
         Some(Slot::Global(number)) => ("#G", number),
     };
-    out.put(kind);
-    out.put_count(u64::from(number));
+    out.put_count(kind, u64::from(number));
 }
 
 // Appends predicates.

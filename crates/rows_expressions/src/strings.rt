@@ -13,7 +13,7 @@ use xs_strings::translation::translate;
 /// Appends the answer of a call with strings.
 pub(crate) fn answer(out: &mut Answer, call: Call, rest: &str) -> Result<(), RowError> {
     if let Call::StringLength = call {
-        out.put_count(char_count(rest));
+        out.put_count("", char_count(rest));
         return Ok(());
     }
     out.put("'");

@@ -80,7 +80,7 @@ fn add_answer(
     scope: &Scope,
 ) -> Result<(), RowError> {
     match call {
-        Call::Count => out.put_count(found(settings.alloc, &settings.tree, pattern, scope)?),
+        Call::Count => out.put_count("", found(settings.alloc, &settings.tree, pattern, scope)?),
         Call::Marks => out.put(marks(settings.alloc, &settings.tree, pattern, scope)?),
         _ => out.put(table(settings.alloc, &settings.tree, pattern, scope)?),
     }

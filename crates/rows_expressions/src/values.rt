@@ -105,7 +105,7 @@ pub(crate) fn add_places(out: &mut Answer, nodes: &[Node]) {
             out.put(" ");
         }
         is_first = false;
-        out.put_count(u64::from(node.place()));
+        out.put_count("", u64::from(node.place()));
     }
 }
 
@@ -241,8 +241,7 @@ fn push_nodes(list: &mut NodeList, places: &str) -> Result<(), RowError> {
 // Appends a list of nodes, how many it has, and its set.
 fn add_gathered(out: &mut Answer, list: NodeList) -> Result<(), AllocError> {
     add_places(out, list.as_slice());
-    out.put(" | ");
-    out.put_count(list.len() as u64);
+    out.put_count(" | ", list.len() as u64);
     out.put(" | ");
     let set = set_of(list)?;
     add_places(out, set.nodes());

@@ -45,12 +45,42 @@ impl Answer {
         self.put_bytes(text.as_bytes());
     }
 
-    /// Adds a text, and a number after it.
-    pub(crate) fn put_count(&mut self, text: &str, count: u64) {
-        match format!(in *self.bytes.allocator(); "{text}{count}") {
+    /// Adds a text between two others.
+    pub(crate) fn put_in(&mut self, before: &str, text: &str, after: &str) {
+        self.put(before);
+        self.put(text);
+        self.put(after);
+    }
+
+    /// Adds a text that was made, or takes note that memory was refused.
+    fn put_made(&mut self, made: Result<String, AllocError>) {
+        match made {
             Ok(text) => self.put(text.as_str()),
             Err(_) => self.refuse(),
         }
+    }
+
+    /// Adds a text, and how many there are of something after it.
+    pub(crate) fn put_count(&mut self, text: &str, count: u64) {
+        let made = format!(in *self.bytes.allocator(); "{text}{count}");
+        self.put_made(made);
+    }
+
+    /// Adds a text, and a number after it.
+    pub(crate) fn put_number(&mut self, text: &str, number: i64) {
+        let made = format!(in *self.bytes.allocator(); "{text}{number}");
+        self.put_made(made);
+    }
+
+    /// Adds two numbers with a text between them.
+    pub(crate) fn put_pair(&mut self, first: u32, between: &str, second: u32) {
+        self.put_number("", i64::from(first));
+        self.put_number(between, i64::from(second));
+    }
+
+    /// Whether nothing was added.
+    pub(crate) fn is_empty(&self) -> bool {
+        self.bytes.is_empty()
     }
 
     /// Adds what another answer has.

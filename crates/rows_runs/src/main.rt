@@ -1,13 +1,15 @@
-//! Whole runs in memory, as row files say them. Each file that the arguments name is written again,
-//! with every answer computed.
+//! Stylesheets and whole runs in memory, as row files say them. Each file that the arguments name
+//! is written again, with every answer computed.
 #![tactic(auto)]
 
 mod answer;
 mod answers;
 mod calls;
 mod events;
+mod library;
 mod rows;
 mod setup;
+mod stylesheets;
 mod texts;
 
 use answer::Answer;
@@ -27,11 +29,19 @@ fn main(rt: HostRuntime) -> io::Result<()> {
 
 // Writes a row file, after a line with its name.
 fn put_file<R: Files + Threads + Sync + AllocGlobal>(out: &mut Answer, rt: &R, name: &str) {
-    out.put("== ");
-    out.put(name);
-    out.put("\n");
+    out.put_in("== ", name, "\n");
     match fs::read_to_string(rt, name) {
-        Ok(file) => rows::put_rows(out, rt, rt.alloc(), file.as_str()),
+        Ok(file) => put_rows(out, rt, file.as_str()),
         Err(_) => out.put("no such file\n"),
+    }
+}
+
+// Writes the rows of a file: on stylesheets where a line says by `= rows` what they are, and else
+// on runs.
+fn put_rows<R: Threads + Sync + AllocGlobal>(out: &mut Answer, rt: &R, file: &str) {
+    if file.contains("\n= rows ") {
+        stylesheets::files::put_file(out, rt.alloc(), file);
+    } else {
+        rows::put_rows(out, rt, rt.alloc(), file);
     }
 }

@@ -1,6 +1,7 @@
 //! What a run is made of: files, and what fails of them and of the sinks.
 
 use crate::answer::{Answer, text_of};
+use crate::library::push_file;
 use crate::texts::put_decoded;
 use std::alloc::{AllocError, Global};
 use std::thread::Threads;
@@ -93,16 +94,8 @@ impl<'t> Setup<'t> {
         rest: &'t str,
         is_shared: bool,
     ) -> bool {
-        let (name, line) = match word {
-            "sheet" => ("s.pyx", ""),
-            "source" => ("src.pyx", rest),
-            _ => rest.split_once(' ').unwrap_or((rest, "")),
-        };
-        let form = match word {
-            "sheet" | "module" => Form::Content,
-            _ if line.is_empty() => Form::Whole,
-            _ => Form::Escaped,
-        };
+        let (name, line) = named(word, rest);
+        let form = form_of(word, line);
         let mut text = Answer::new(self.alloc);
         put_start(&mut text, form, line);
         if word == "sheet" && !rest.is_empty() {
@@ -147,7 +140,8 @@ impl<'t> Setup<'t> {
         let failing = Vec::from_slice(self.alloc, &self.failing_fetches)?;
         let mut files = Vec::new(self.alloc);
         for file in self.files.iter().rev() {
-            push_file(out, self.alloc, &mut files, file, text);
+            let bytes = bytes_of(out, self.alloc, file, text);
+            push_file(out, self.alloc, &mut files, file.name, bytes);
         }
         Ok(MemLibrary::new(self.alloc, files, failing))
     }
@@ -189,25 +183,29 @@ impl<'t> Setup<'t> {
     }
 }
 
-/// Takes a file of a library, in which a text takes its place.
-fn push_file(
-    out: &mut Answer,
-    alloc: Global,
-    files: &mut Vec<(String, Vec<u8>)>,
-    file: &File<'_>,
-    text: &[u8],
-) {
+/// The name of a file, and its only line where it has one.
+fn named<'t>(word: &str, rest: &'t str) -> (&'t str, &'t str) {
+    match word {
+        "sheet" => ("s.pyx", ""),
+        "source" => ("src.pyx", rest),
+        _ => rest.split_once(' ').unwrap_or((rest, "")),
+    }
+}
+
+/// How the text of a file is written.
+fn form_of(word: &str, line: &str) -> Form {
+    match word {
+        "sheet" | "module" => Form::Content,
+        _ if line.is_empty() => Form::Whole,
+        _ => Form::Escaped,
+    }
+}
+
+/// The bytes of a file, in which a text takes its place.
+fn bytes_of(out: &mut Answer, alloc: Global, file: &File<'_>, text: &[u8]) -> Vec<u8> {
     let mut bytes = Answer::new(alloc);
     put_file(&mut bytes, file.form, text_of(file.text.held(out)), text);
-    let bytes = bytes.into_held(out);
-    match String::from_str(alloc, file.name) {
-        Ok(name) => {
-            if files.push((name, bytes)).is_err() {
-                out.refuse();
-            }
-        }
-        Err(_) => out.refuse(),
-    }
+    bytes.into_held(out)
 }
 
 /// Adds the lines with which a file begins.

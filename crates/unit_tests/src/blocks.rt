@@ -38,27 +38,39 @@ fn counts_to(chain: &Chain<Box<u32>>, end: u32) -> bool {
     wanted.next().is_none()
 }
 
+// Whether a chain gives the numbers from 0 to below `end`.
+fn gives_to(chain: Chain<Box<u32>>, end: u32) -> bool {
+    let mut wanted = 0..end;
+    for item in chain.into_items() {
+        if wanted.next() != Some(*item) {
+            return false;
+        }
+    }
+    wanted.next().is_none()
+}
+
+#[test]
+fn makes_room_for_65_items_in_two_blocks(rt: HostRuntime) -> Result<(), Fail> {
+    let mut pool: Pool<u64> = Pool::new(rt.alloc());
+    let chain = Chain::new(rt.alloc());
+    pool.reserve(&chain, 65)?;
+    check(&rt, &[pool.free_blocks() == 2, pool.spare(&chain) == 128]);
+    Ok(())
+}
+
 #[test]
 fn holds_65_items_in_two_blocks(rt: HostRuntime) -> Result<(), Fail> {
     let mut pool = Pool::new(rt.alloc());
-    let mut chain = Chain::new(rt.alloc());
-    pool.reserve(&chain, 65)?;
-    check(&rt, &[pool.free_blocks() == 2, pool.spare(&chain) == 128]);
-    for n in 0..65u64 {
-        pool.push(&mut chain, n);
-    }
+    let chain = numbers(rt.alloc(), &mut pool, 0, 65)?;
     check(
         &rt,
         &[
             chain.blocks() == 2,
             pool.free_blocks() == 0,
             pool.spare(&chain) == 63,
+            counts_to(&chain, 65),
         ],
     );
-    let mut wanted = 0..65;
-    for n in chain.items() {
-        assert!(rt; wanted.next() == Some(*n));
-    }
     pool.give_back(chain);
     assert!(rt; pool.free_blocks() == 2);
     Ok(())
@@ -89,11 +101,19 @@ fn joins_and_cuts(rt: HostRuntime) -> Result<(), Fail> {
             counts_to(&chain, 66),
         ],
     );
-    let mut wanted = 0..66;
-    for item in chain.into_items() {
-        assert!(rt; wanted.next() == Some(*item));
-    }
+    assert!(rt; gives_to(chain, 66));
     Ok(())
+}
+
+// Adds up to 200 numbers while there is room for one, and says how many.
+fn fill(pool: &mut Pool<u32>, chain: &mut Chain<u32>) -> u32 {
+    for n in 0..200 {
+        if pool.spare(chain) == 0 {
+            return n;
+        }
+        pool.push(chain, n);
+    }
+    200
 }
 
 #[test]
@@ -102,14 +122,7 @@ fn keeps_its_blocks_where_memory_is_refused(rt: HostRuntime) -> Result<(), Fail>
     let mut chain = Chain::new(rt.alloc());
     let refused = pool.reserve(&chain, 200).is_err();
     let made = pool.free_blocks();
-    let mut pushed = 0;
-    for n in 0..200u32 {
-        if pool.spare(&chain) == 0 {
-            break;
-        }
-        pool.push(&mut chain, n);
-        pushed = n + 1;
-    }
+    let pushed = fill(&mut pool, &mut chain);
     check(
         &rt,
         &[

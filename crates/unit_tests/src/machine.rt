@@ -42,6 +42,16 @@ fn has_places(core: &Core, wanted: &[&[u64]]) -> Result<bool, AllocError> {
     Ok(left.next().is_none())
 }
 
+// Whether the machine answers so to each of some steps.
+fn answers(core: &mut Core, steps: &[Step], wanted: bool) -> Result<bool, AllocError> {
+    for step in steps {
+        if core.apply(step)? != wanted {
+            return Ok(false);
+        }
+    }
+    Ok(true)
+}
+
 #[test]
 fn finishes_a_root_and_its_child(rt: HostRuntime) -> Result<(), Fail> {
     let facts = two_pieces(rt.alloc())?;
@@ -53,12 +63,10 @@ fn finishes_a_root_and_its_child(rt: HostRuntime) -> Result<(), Fail> {
     };
     let give = Step::Give { worker: 0 };
     let finish = Step::Finish { worker: 0 };
-    for step in &[take, spend, give, finish, take, finish] {
-        assert!(rt; core.apply(step)?);
-    }
-    for step in &[take, spend, give, finish, Step::Discard { worker: 0 }] {
-        assert!(rt; !core.apply(step)?);
-    }
+    let allowed = [take, spend, give, finish, take, finish];
+    assert!(rt; answers(&mut core, &allowed, true)?);
+    let refused = [take, spend, give, finish, Step::Discard { worker: 0 }];
+    assert!(rt; answers(&mut core, &refused, false)?);
     assert!(rt; has_places(&core, &[&[], &[0]])?);
     Ok(())
 }
@@ -80,19 +88,11 @@ fn drops_above_the_budget(rt: HostRuntime) -> Result<(), Fail> {
         ticks: 1,
     };
     let discard = Step::Discard { worker: 1 };
-    for step in &[
-        steal,
-        miss,
-        spend,
-        Step::Give { worker: 1 },
-        discard,
-        discard,
-    ] {
-        assert!(rt; core.apply(step)?);
-    }
-    for step in &[steal, discard, Step::Take { worker: 2 }] {
-        assert!(rt; !core.apply(step)?);
-    }
+    let give = Step::Give { worker: 1 };
+    let allowed = [steal, miss, spend, give, discard, discard];
+    assert!(rt; answers(&mut core, &allowed, true)?);
+    let refused = [steal, discard, Step::Take { worker: 2 }];
+    assert!(rt; answers(&mut core, &refused, false)?);
     assert!(rt; has_places(&core, &[&[], &[0]])?);
     Ok(())
 }

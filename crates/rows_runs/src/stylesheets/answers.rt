@@ -3,16 +3,16 @@
 ghost use Rattle.xs_modules.specs.Sound.{IsSound};
 ghost use Rattle.xs_modules.specs.Results.{modules_data};
 
-use crate::answer::Answer;
-use crate::bodies::put_body;
-use crate::circles::put_first_circle;
-use crate::compact::{library, module};
-use crate::elements::{put_contents, put_elements, put_first_words, put_values};
-use crate::modules::{put_end, put_fault, put_modules};
-use crate::rules::{put_count, put_imported, put_rules};
-use crate::settings::Settings;
-use crate::sheets::put_sheet;
-use crate::white_space::put_kept;
+use crate::answer::{Answer, text_of};
+use crate::stylesheets::bodies::put_body;
+use crate::stylesheets::circles::put_first_circle;
+use crate::stylesheets::compact::{library, module};
+use crate::stylesheets::elements::{put_contents, put_elements, put_first_words, put_values};
+use crate::stylesheets::modules::{put_end, put_fault, put_modules};
+use crate::stylesheets::rules::{put_count, put_imported, put_rules};
+use crate::stylesheets::settings::Settings;
+use crate::stylesheets::sheets::put_sheet;
+use crate::stylesheets::white_space::put_kept;
 use std::alloc::{AllocError, Global};
 use xs_build::{BuildFault, build_tree};
 use xs_compile::{CompileEnd, compile};
@@ -36,9 +36,9 @@ pub(crate) fn put_answer(out: &mut Answer, alloc: Global, settings: &Settings<'_
 }
 
 /// The tree of a document, if it is one.
-fn tree_of(alloc: Global, lines: &str) -> Result<Option<Box<Tree>>, AllocError> {
-    let text = module(alloc, lines)?;
-    match build_tree(alloc, text.as_bytes(), MOST) {
+fn tree_of(out: &mut Answer, alloc: Global, lines: &str) -> Result<Option<Box<Tree>>, AllocError> {
+    let text = module(alloc, lines);
+    match build_tree(alloc, text.held(out), MOST) {
         Ok(built) => Ok(Some(Box::new(alloc, built.tree)?)),
         Err(BuildFault::NoMemory) => Err(AllocError),
         Err(BuildFault::Bad { .. }) => Ok(None),
@@ -47,7 +47,7 @@ fn tree_of(alloc: Global, lines: &str) -> Result<Option<Box<Tree>>, AllocError> 
 
 /// The answer to a row that is one document.
 fn put_of_document(out: &mut Answer, alloc: Global, settings: &Settings<'_>, input: &str) {
-    match tree_of(alloc, input) {
+    match tree_of(out, alloc, input) {
         Ok(Some(tree)) => put_of_tree(out, alloc, settings, &tree),
         Ok(None) => out.put("no document"),
         Err(_) => out.refuse(),
@@ -116,10 +116,9 @@ fn put_bodies(out: &mut Answer, sheet: &Sheet) {
 
 /// The answer to a row that is a stylesheet, over the document that was set.
 fn put_of_set_document(out: &mut Answer, alloc: Global, settings: &Settings<'_>, sheet: &Sheet) {
-    let Ok(lines) = settings.expanded(alloc, settings.document, "") else {
-        return out.refuse();
-    };
-    match tree_of(alloc, lines.as_str()) {
+    let document = settings.expanded(alloc, settings.document, "");
+    let lines = text_of(document.held(out));
+    match tree_of(out, alloc, lines) {
         Ok(Some(mut tree)) => put_of_both(out, alloc, settings, sheet, &mut tree),
         Ok(None) => out.put("no document"),
         Err(_) => out.refuse(),

@@ -1,7 +1,7 @@
 //! Bodies and instructions, as texts.
 
 use crate::answer::Answer;
-use crate::values::{
+use crate::stylesheets::values::{
     put_label, put_labels, put_pattern_if, put_scoped, put_scoped_if, put_template, put_template_if,
 };
 use xs_sheet::body::{
@@ -29,7 +29,7 @@ pub(crate) fn put_instr(out: &mut Answer, instr: &Instr) {
 
 /// Adds a line.
 fn put_line(out: &mut Answer, line: u32) {
-    out.put_after(" ", i64::from(line));
+    out.put_number(" ", i64::from(line));
     out.put(":");
 }
 
@@ -42,7 +42,7 @@ fn put_kind(out: &mut Answer, kind: &InstrKind) {
             put_passed(out, passed);
         }
         InstrKind::CallTemplate { template, passed } => {
-            out.put_after("call ", i64::from(*template));
+            out.put_number("call ", i64::from(*template));
             put_passed(out, passed);
         }
         InstrKind::ForEach {
@@ -178,7 +178,7 @@ fn put_nodes(out: &mut Answer, nodes: &Applied) {
 /// Adds a mode, except that of templates without one.
 pub(crate) fn put_mode(out: &mut Answer, mode: u32) {
     if mode != 0 {
-        out.put_after(" mode ", i64::from(mode));
+        out.put_number(" mode ", i64::from(mode));
     }
 }
 

@@ -1,8 +1,8 @@
 //! Row files, line by line.
 
-use crate::buffer::Buffer;
-use crate::documents::{Row, put_start};
-use crate::subjects::put_answer;
+use crate::answer::Answer;
+use crate::reading::documents::{Row, put_start};
+use crate::reading::subjects::put_answer;
 use std::alloc::Global;
 
 /// What a line that is no setting is part of.
@@ -25,17 +25,17 @@ enum Part {
 struct RowFile<'t> {
     alloc: Global,
     subject: &'t str,
-    start: Buffer,
+    start: Answer,
     part: Part,
     row: Row<'t>,
 }
 
 /// Adds a row file with each of its answers computed anew.
-pub(crate) fn put_rows(out: &mut Buffer, alloc: Global, text: &str) {
+pub(crate) fn put_rows(out: &mut Answer, alloc: Global, text: &str) {
     let mut file = RowFile {
         alloc,
         subject: "",
-        start: Buffer::new(alloc),
+        start: Answer::new(alloc),
         part: Part::Lines,
         row: Row::new(alloc),
     };
@@ -47,7 +47,7 @@ pub(crate) fn put_rows(out: &mut Buffer, alloc: Global, text: &str) {
 
 impl<'t> RowFile<'t> {
     // Takes a line.
-    fn take(&mut self, out: &mut Buffer, line: &'t str) {
+    fn take(&mut self, out: &mut Answer, line: &'t str) {
         if line.is_empty() || line.starts_with('#') {
             self.end_row(out);
             out.put_line(line);
@@ -65,7 +65,7 @@ impl<'t> RowFile<'t> {
 
     // Takes a setting, or the word that begins a row or a part of its input, and says whether it is
     // one of these.
-    fn set(&mut self, out: &mut Buffer, word: &str, value: &'t str) -> bool {
+    fn set(&mut self, out: &mut Answer, word: &str, value: &'t str) -> bool {
         match word {
             "subject" => self.subject = value,
             "start" => put_start(&mut self.start, value),
@@ -80,7 +80,7 @@ impl<'t> RowFile<'t> {
     }
 
     // Takes a line of a part, or a row of one line.
-    fn take_line(&mut self, out: &mut Buffer, line: &str) {
+    fn take_line(&mut self, out: &mut Answer, line: &str) {
         match self.part {
             Part::Lines => return self.put_row(out, line),
             Part::Document => self.row.put_line(line),
@@ -92,7 +92,7 @@ impl<'t> RowFile<'t> {
     }
 
     // Adds a row of one line with its answer.
-    fn put_row(&self, out: &mut Buffer, line: &str) {
+    fn put_row(&self, out: &mut Answer, line: &str) {
         let (input, _) = line.split_once(" ==> ").unwrap_or((line, ""));
         out.put(input);
         out.put(" ==> ");
@@ -101,7 +101,7 @@ impl<'t> RowFile<'t> {
     }
 
     // Adds the answer of a row of several lines, if it has none yet.
-    fn put_answer(&mut self, out: &mut Buffer) {
+    fn put_answer(&mut self, out: &mut Answer) {
         match self.part {
             Part::Lines => out.put("unknown setting\n"),
             Part::Document => self.row.put_document(out),
@@ -112,7 +112,7 @@ impl<'t> RowFile<'t> {
     }
 
     // Ends a row of several lines, where there is one.
-    fn end_row(&mut self, out: &mut Buffer) {
+    fn end_row(&mut self, out: &mut Answer) {
         if self.part != Part::Lines {
             self.put_answer(out);
         }

@@ -14,7 +14,7 @@ fn put_module(out: &mut Answer, module: &Module) {
     out.put(" ");
     out.put_pair(module.imports_from, "-", module.precedence);
     if let Some((number, _)) = module.mention {
-        out.put_after(" by ", i64::from(number));
+        out.put_number(" by ", i64::from(number));
     }
     if module.lines.len() != module.tree.len() {
         out.put(" with other lines");
@@ -34,15 +34,15 @@ pub(crate) fn put_modules(out: &mut Answer, modules: &Modules) {
         count = count.saturating_add(1);
     }
     if count > MOST {
-        out.put_after("; .. ", i64::from(count));
+        out.put_number("; .. ", i64::from(count));
     }
 }
 
 /// Adds a fault: its number, module and line.
 fn put_numbered(out: &mut Answer, number: u8, module: &str, line: u32) {
-    out.put_after("fault ", i64::from(number));
+    out.put_number("fault ", i64::from(number));
     out.put_in(" ", module, " ");
-    out.put_number(i64::from(line));
+    out.put_number("", i64::from(line));
 }
 
 /// Adds why modules were not read.

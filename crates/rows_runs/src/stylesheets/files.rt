@@ -1,33 +1,25 @@
 //! Row files.
 
-use crate::answer::Answer;
-use crate::answers::put_answer;
-use crate::settings::Settings;
-use std::alloc::{AllocError, Global};
-use std::str;
-use xs_text::escape_into;
+use crate::answer::{Answer, text_of};
+use crate::stylesheets::answers::put_answer;
+use crate::stylesheets::settings::Settings;
+use crate::texts::put_escaped;
+use std::alloc::Global;
 
 /// What stands between a row's input and its answer.
 const BETWEEN: &str = " ==> ";
 
-/// Adds a text, escaped as PYX data.
-fn put_escaped(out: &mut Answer, alloc: Global, text: &str) {
-    let mut bytes = Vec::new(alloc);
-    if escape_into(&mut bytes, text).is_err() {
-        out.refuse();
-    }
-    out.put(str::from_utf8(&bytes).unwrap_or("no text"));
-}
-
-/// The answer to an input; `none` where it is empty.
-fn answer_to(alloc: Global, settings: &Settings<'_>, input: &str) -> Result<String, AllocError> {
-    let input = settings.input(alloc, input)?;
+/// Adds the answer to an input, escaped as PYX data; `none` where it is empty.
+fn put_answer_to(out: &mut Answer, alloc: Global, settings: &Settings<'_>, input: &str) {
+    let input = settings.input(alloc, input);
     let mut answer = Answer::new(alloc);
-    put_answer(&mut answer, alloc, settings, input.as_str());
+    let text = text_of(input.held(&mut answer));
+    put_answer(&mut answer, alloc, settings, text);
     if answer.is_empty() {
         answer.put("none");
     }
-    answer.finish()
+    let text = text_of(answer.held(out));
+    put_escaped(out, text);
 }
 
 /// Adds a row with its answer computed, or says of another line that it is no row.
@@ -39,10 +31,7 @@ fn put_row(out: &mut Answer, alloc: Global, settings: &Settings<'_>, line: &str)
     };
     out.put(input);
     out.put(BETWEEN);
-    match answer_to(alloc, settings, input) {
-        Ok(answer) => put_escaped(out, alloc, answer.as_str()),
-        Err(_) => out.refuse(),
-    }
+    put_answer_to(out, alloc, settings, input);
 }
 
 /// Adds a row file with its answers computed: comments, settings and empty lines are as they were.

@@ -1,7 +1,8 @@
 //! Stylesheets and documents from their compact form, which the row files explain.
 
 use crate::answer::Answer;
-use std::alloc::{AllocError, Global};
+use crate::library::push_file;
+use std::alloc::Global;
 use xs_outside::MemLibrary;
 
 /// The lines with which a stylesheet begins.
@@ -73,35 +74,11 @@ fn put_module<'t>(out: &mut Answer, open: &mut Vec<&'t str>, lines: &'t str) {
 }
 
 /// The lines of a module; what is open at its end is ended.
-pub(crate) fn module(alloc: Global, lines: &str) -> Result<String, AllocError> {
+pub(crate) fn module(alloc: Global, lines: &str) -> Answer {
     let mut out = Answer::new(alloc);
     let mut open = Vec::new(alloc);
     put_module(&mut out, &mut open, lines);
-    out.finish()
-}
-
-/// A file with a module.
-fn file(alloc: Global, name: &str, lines: &str) -> Result<(String, Vec<u8>), AllocError> {
-    let bytes = module(alloc, lines)?.into_bytes();
-    Ok((String::from_str(alloc, name)?, bytes))
-}
-
-/// Takes a file with a module.
-fn push_file(
-    out: &mut Answer,
-    alloc: Global,
-    files: &mut Vec<(String, Vec<u8>)>,
-    name: &str,
-    lines: &str,
-) {
-    match file(alloc, name, lines) {
-        Ok(file) => {
-            if files.push(file).is_err() {
-                out.refuse();
-            }
-        }
-        Err(_) => out.refuse(),
-    }
+    out
 }
 
 /// The name of a module and its lines, with a colon between them.
@@ -114,13 +91,10 @@ fn named(module: &str) -> (&str, &str) {
 pub(crate) fn library(out: &mut Answer, alloc: Global, modules: &str) -> MemLibrary {
     let mut files = Vec::new(alloc);
     let mut is_first = true;
-    for module in modules.split('^') {
-        let (name, lines) = if is_first {
-            ("s", module)
-        } else {
-            named(module)
-        };
-        push_file(out, alloc, &mut files, name, lines);
+    for part in modules.split('^') {
+        let (name, lines) = if is_first { ("s", part) } else { named(part) };
+        let bytes = module(alloc, lines).into_held(out);
+        push_file(out, alloc, &mut files, name, bytes);
         is_first = false;
     }
     MemLibrary::new(alloc, files, Vec::new(alloc))

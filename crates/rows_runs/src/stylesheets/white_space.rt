@@ -14,7 +14,7 @@ fn put_marked(out: &mut Answer, tree: &Tree, marks: &[bool]) {
             if marks.get(place as usize).copied().unwrap_or(false) {
                 out.put("x");
             } else {
-                out.put_number(i64::from(number));
+                out.put_number("", i64::from(number));
             }
             number = number.wrapping_add(1);
         }

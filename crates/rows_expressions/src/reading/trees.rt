@@ -2,9 +2,9 @@
 
 ghost use Rattle.std.specs.Prelude.{◌<◌, length};
 
-use crate::buffer::Buffer;
-use crate::documents::Row;
-use crate::notation::quote;
+use crate::answer::Answer;
+use crate::reading::documents::Row;
+use crate::reading::notation::quote;
 use std::alloc::{AllocError, Global};
 use xs_build::Built;
 use xs_tree::{Kind, Name, NameText, Node, Tree, TreeFault};
@@ -58,7 +58,7 @@ fn read_node(line: &str) -> Option<Written<'_>> {
         kind: kind_of(word)?,
         parent: Node::at(parent.parse::<u32>().unwrap_or(u32::MAX)),
         local: local.trim_end(),
-        text: text.strip_suffix('"').unwrap_or(text),
+        text: text.strip_suffix('"')?,
     })
 }
 
@@ -76,7 +76,7 @@ fn local_name(alloc: Global, local: &str) -> Result<Option<Name>, AllocError> {
 
 /// Adds the nodes of a row that can't be added to a tree, and the tree with the others and without
 /// the marked text nodes.
-pub(crate) fn put_tree_of(out: &mut Buffer, alloc: Global, row: &Row<'_>, built: Built) {
+pub(crate) fn put_tree_of(out: &mut Answer, alloc: Global, row: &Row<'_>, built: Built) {
     let mut built = built;
     add_nodes(out, alloc, &mut built, &row.nodes);
     strip(out, alloc, &mut built, row.marks);
@@ -85,7 +85,7 @@ pub(crate) fn put_tree_of(out: &mut Buffer, alloc: Global, row: &Row<'_>, built:
 }
 
 // Adds a tree, a line for each node.
-fn put_tree(out: &mut Buffer, alloc: Global, built: &Built) {
+fn put_tree(out: &mut Answer, alloc: Global, built: &Built) {
     out.put("= tree\n");
     for place in 0..built.tree.len() {
         put_node(out, alloc, built, Node::at(place as u32));
@@ -93,8 +93,8 @@ fn put_tree(out: &mut Buffer, alloc: Global, built: &Built) {
 }
 
 // Adds the nodes that lines write to a tree, and to the answer the lines whose node can't be added.
-fn add_nodes(out: &mut Buffer, alloc: Global, built: &mut Built, lines: &Buffer) {
-    for line in lines.text(out).lines() {
+fn add_nodes(out: &mut Answer, alloc: Global, built: &mut Built, lines: &Answer) {
+    for line in lines.held_text(out).lines() {
         if !add_node(out, alloc, built, line) {
             out.put("= refused ");
             out.put_line(line);
@@ -103,7 +103,7 @@ fn add_nodes(out: &mut Buffer, alloc: Global, built: &mut Built, lines: &Buffer)
 }
 
 // Adds the node that a line writes to a tree, and says whether it can be added.
-fn add_node(out: &mut Buffer, alloc: Global, built: &mut Built, line: &str) -> bool {
+fn add_node(out: &mut Answer, alloc: Global, built: &mut Built, line: &str) -> bool {
     let Some(written) = read_node(line) else {
         return false;
     };
@@ -117,7 +117,7 @@ fn add_node(out: &mut Buffer, alloc: Global, built: &mut Built, line: &str) -> b
 }
 
 // Adds a node to a tree, and says whether it can be added. Its line is the place that it has now.
-fn add_written(out: &mut Buffer, built: &mut Built, node: Written<'_>, name: Option<Name>) -> bool {
+fn add_written(out: &mut Answer, built: &mut Built, node: Written<'_>, name: Option<Name>) -> bool {
     let tree = &mut built.tree;
     if !tree.can_add(node.kind, &name, node.text, node.parent) {
         return false;
@@ -136,7 +136,7 @@ fn add_written(out: &mut Buffer, built: &mut Built, node: Written<'_>, name: Opt
 }
 
 // Strips the marked text nodes, with their lines.
-fn strip(out: &mut Buffer, alloc: Global, built: &mut Built, marks: &str) {
+fn strip(out: &mut Answer, alloc: Global, built: &mut Built, marks: &str) {
     let mut marked = Vec::new(alloc);
     for mark in marks.as_bytes() {
         if marked.push(*mark == b'x').is_err() {
@@ -150,7 +150,7 @@ fn strip(out: &mut Buffer, alloc: Global, built: &mut Built, marks: &str) {
 }
 
 // Adds a node: where it is, its kind, its name and its text.
-fn put_node(out: &mut Buffer, alloc: Global, built: &Built, node: Node)
+fn put_node(out: &mut Answer, alloc: Global, built: &Built, node: Node)
     requires { node < length built.now.tree }
 {
     put_place(out, built, node);
@@ -167,7 +167,7 @@ fn put_node(out: &mut Buffer, alloc: Global, built: &Built, node: Node)
 
 // Adds the place of a node, for a root or an element where its subtree ends, its parent and its
 // line.
-fn put_place(out: &mut Buffer, built: &Built, node: Node)
+fn put_place(out: &mut Answer, built: &Built, node: Node)
     requires { node < length built.now.tree }
 {
     let tree = &built.tree;
@@ -184,7 +184,7 @@ fn put_place(out: &mut Buffer, built: &Built, node: Node)
 }
 
 // Adds the text of a node, for a root or an element its string value.
-fn put_text(out: &mut Buffer, alloc: Global, tree: &Tree, node: Node)
+fn put_text(out: &mut Answer, alloc: Global, tree: &Tree, node: Node)
     requires { node < length tree.now }
 {
     if !tree.kind(node).has_content() {
@@ -197,14 +197,14 @@ fn put_text(out: &mut Buffer, alloc: Global, tree: &Tree, node: Node)
 }
 
 // Adds a name with its prefix, and its URI in braces.
-fn put_name(out: &mut Buffer, name: &Name) {
+fn put_name(out: &mut Answer, name: &Name) {
     put_part(out, "", name.prefix.as_str(), ":");
     put_part(out, "", name.local.as_str(), " ");
     put_part(out, "{", name.uri.as_str(), "} ");
 }
 
 // Adds a part of a name between two texts, if it is not empty.
-fn put_part(out: &mut Buffer, before: &str, part: &str, after: &str) {
+fn put_part(out: &mut Answer, before: &str, part: &str, after: &str) {
     if !part.is_empty() {
         out.put(before);
         out.put(part);

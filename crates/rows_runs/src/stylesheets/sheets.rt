@@ -1,8 +1,8 @@
 //! Declarations of compiled stylesheets, as texts.
 
 use crate::answer::Answer;
-use crate::bodies::{put_binding, put_body, put_instr, put_mode};
-use crate::values::{put_label, put_labels, put_pattern, put_pattern_if, put_scoped};
+use crate::stylesheets::bodies::{put_binding, put_body, put_instr, put_mode};
+use crate::stylesheets::values::{put_label, put_labels, put_pattern, put_pattern_if, put_scoped};
 use xs_sheet::declarations::{AttrSet, Global, KeyDecl, Method, NameTest, StripRule, Template};
 use xs_sheet::sheet::Sheet;
 use xs_trace::item::Site;
@@ -33,7 +33,7 @@ fn put_template(out: &mut Answer, template: &Template) {
         put_label(out, name);
     }
     if let Some(priority) = template.priority {
-        out.put_after(" priority ", priority);
+        out.put_number(" priority ", priority);
     }
     put_mode(out, template.mode);
     for param in template.params.as_slice() {
@@ -63,7 +63,7 @@ fn put_key(out: &mut Answer, key: &KeyDecl) {
 /// Adds a declaration of an attribute set.
 fn put_set(out: &mut Answer, set: &AttrSet) {
     put_site(out, "S ", set.site);
-    out.put_number(i64::from(set.precedence));
+    out.put_number("", i64::from(set.precedence));
     out.put(" ");
     put_label(out, &set.name);
     put_labels(out, " uses ", set.sets.as_slice());
@@ -82,7 +82,7 @@ fn put_rule(out: &mut Answer, rule: &StripRule) {
         }
         NameTest::Name(name) => put_label(out, name),
     }
-    out.put_after(" ", i64::from(rule.precedence));
+    out.put_number(" ", i64::from(rule.precedence));
 }
 
 /// Adds all of a stylesheet.

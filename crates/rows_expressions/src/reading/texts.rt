@@ -1,7 +1,7 @@
 //! Rows on escapes, names and white space.
 
-use crate::buffer::Buffer;
-use crate::notation::quote;
+use crate::answer::Answer;
+use crate::reading::notation::quote;
 use std::alloc::Global;
 use xs_text::{
     TextFault, escape_into, is_blank, is_ncname, is_space, is_well_escaped, split_qname,
@@ -9,7 +9,7 @@ use xs_text::{
 };
 
 /// Adds a text as PYX data.
-pub(crate) fn put_escapes(out: &mut Buffer, alloc: Global, text: &str) {
+pub(crate) fn put_escapes(out: &mut Answer, alloc: Global, text: &str) {
     let mut escaped = Vec::new(alloc);
     let outcome = escape_into(&mut escaped, text);
     out.note(outcome);
@@ -17,7 +17,7 @@ pub(crate) fn put_escapes(out: &mut Buffer, alloc: Global, text: &str) {
 }
 
 /// Adds whether a text is PYX data, and the text that it shows.
-pub(crate) fn put_data(out: &mut Buffer, alloc: Global, data: &str) {
+pub(crate) fn put_data(out: &mut Answer, alloc: Global, data: &str) {
     if is_well_escaped(data.as_bytes()) {
         out.put("well escaped, ");
     }
@@ -30,7 +30,7 @@ pub(crate) fn put_data(out: &mut Buffer, alloc: Global, data: &str) {
 }
 
 /// Adds the prefix and the local part of a qualified name.
-pub(crate) fn put_name(out: &mut Buffer, text: &str) {
+pub(crate) fn put_name(out: &mut Answer, text: &str) {
     match split_qname(text) {
         Some((prefix, local)) => {
             out.put("prefix \"");
@@ -44,7 +44,7 @@ pub(crate) fn put_name(out: &mut Buffer, text: &str) {
 }
 
 /// Adds where each of some code points may be in a name without a colon.
-pub(crate) fn put_name_characters(out: &mut Buffer, alloc: Global, codes: &str) {
+pub(crate) fn put_name_characters(out: &mut Answer, alloc: Global, codes: &str) {
     let mut is_first = true;
     for code in codes.split(' ') {
         if !is_first {
@@ -56,7 +56,7 @@ pub(crate) fn put_name_characters(out: &mut Buffer, alloc: Global, codes: &str) 
 }
 
 // Adds where the character with a code point may be in a name without a colon.
-fn put_place_in_names(out: &mut Buffer, alloc: Global, code: &str) {
+fn put_place_in_names(out: &mut Answer, alloc: Global, code: &str) {
     let Some(c) = character(code) else {
         return out.put("none");
     };
@@ -83,7 +83,7 @@ fn character(code: &str) -> Option<char> {
 }
 
 /// Adds which of some code points are white space.
-pub(crate) fn put_white_space(out: &mut Buffer, codes: &str) {
+pub(crate) fn put_white_space(out: &mut Answer, codes: &str) {
     let mut is_first = true;
     for code in codes.split(' ') {
         if !is_first {
@@ -95,11 +95,11 @@ pub(crate) fn put_white_space(out: &mut Buffer, codes: &str) {
 }
 
 /// Adds whether a text is nothing but white space.
-pub(crate) fn put_blank(out: &mut Buffer, text: &str) {
+pub(crate) fn put_blank(out: &mut Answer, text: &str) {
     put_truth(out, is_blank(text.as_bytes()));
 }
 
 // Adds a truth value in a word.
-fn put_truth(out: &mut Buffer, truth: bool) {
+fn put_truth(out: &mut Answer, truth: bool) {
     out.put(if truth { "yes" } else { "no" });
 }

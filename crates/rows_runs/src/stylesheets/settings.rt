@@ -1,6 +1,6 @@
 //! The settings of a row file.
 
-use crate::answer::Answer;
+use crate::answer::{Answer, text_of};
 use std::alloc::{AllocError, Global};
 
 /// How often names are replaced in a text: in its form, in its fields, and in what these stand for.
@@ -26,10 +26,10 @@ fn put_numbered(out: &mut Answer, text: &str, number: u32) {
         if is_first {
             out.put(part);
         } else if let Some(rest) = part.strip_prefix('+') {
-            out.put_number(i64::from(number.saturating_add(1)));
+            out.put_number("", i64::from(number.saturating_add(1)));
             out.put(rest);
         } else {
-            out.put_number(i64::from(number));
+            out.put_number("", i64::from(number));
             out.put(part);
         }
         is_first = false;
@@ -91,37 +91,34 @@ impl<'t> Settings<'t> {
         }
     }
 
-    /// A text with what the names in it, each between two percent signs, stand for.
-    fn replaced(&self, alloc: Global, text: &str, input: &str) -> Result<String, AllocError> {
-        let mut out = Answer::new(alloc);
+    /// Adds a text with what the names in it, each between two percent signs, represent.
+    fn put_replaced(&self, out: &mut Answer, text: &str, input: &str) {
         let mut is_name = false;
         for part in text.split('%') {
             if is_name {
-                self.put_named(&mut out, part, input);
+                self.put_named(out, part, input);
             } else {
                 out.put(part);
             }
             is_name = !is_name;
         }
-        out.finish()
     }
 
     /// A text without names.
-    pub(crate) fn expanded(
-        &self,
-        alloc: Global,
-        text: &str,
-        input: &str,
-    ) -> Result<String, AllocError> {
-        let mut out = String::from_str(alloc, text)?;
+    pub(crate) fn expanded(&self, alloc: Global, text: &str, input: &str) -> Answer {
+        let mut out = Answer::new(alloc);
+        out.put(text);
         for _ in 0..ROUNDS {
-            out = self.replaced(alloc, out.as_str(), input)?;
+            let mut next = Answer::new(alloc);
+            let text = text_of(out.held(&mut next));
+            self.put_replaced(&mut next, text, input);
+            out = next;
         }
-        Ok(out)
+        out
     }
 
     /// The whole input of a row.
-    pub(crate) fn input(&self, alloc: Global, input: &str) -> Result<String, AllocError> {
+    pub(crate) fn input(&self, alloc: Global, input: &str) -> Answer {
         let form = if self.form.is_empty() {
             input
         } else {

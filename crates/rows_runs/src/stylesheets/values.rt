@@ -55,10 +55,10 @@ pub(crate) fn put_test(out: &mut Answer, test: &NodeTest) {
 fn put_slot(out: &mut Answer, slot: Option<Slot>) {
     match slot {
         Some(Slot::Local(number)) => {
-            out.put_after("L", i64::from(number));
+            out.put_number("L", i64::from(number));
         }
         Some(Slot::Global(number)) => {
-            out.put_after("G", i64::from(number));
+            out.put_number("G", i64::from(number));
         }
         None => out.put("?"),
     }
@@ -67,7 +67,7 @@ fn put_slot(out: &mut Answer, slot: Option<Slot>) {
 /// Adds a number.
 fn put_number(out: &mut Answer, number: Num) {
     match number.get() {
-        Number::Whole(number) => out.put_number(number),
+        Number::Whole(number) => out.put_number("", number),
         Number::NaN => out.put("NaN"),
     }
 }

@@ -2,14 +2,14 @@
 
 ghost use Rattle.xs_pyx.specs.Views.{IsReadable, IsReadableData};
 
-use crate::buffer::Buffer;
-use crate::notation::{put_quoted, quote};
+use crate::answer::Answer;
+use crate::reading::notation::{put_quoted, quote};
 use std::alloc::Global;
 use xs_pyx::{Data, Line, LineFault, LineView, Rest, next_line, skip_line, write_line};
 
 /// Adds what the first line of some bytes says, how many bytes it takes, how it is written, and
 /// what it leaves.
-pub(crate) fn put_first(out: &mut Buffer, alloc: Global, bytes: &[u8]) {
+pub(crate) fn put_first(out: &mut Answer, alloc: Global, bytes: &[u8]) {
     match next_line(alloc, bytes) {
         Ok(Some((line, size))) => put_found(out, alloc, line, size),
         Ok(None) => out.put("nothing"),
@@ -23,7 +23,7 @@ pub(crate) fn put_first(out: &mut Buffer, alloc: Global, bytes: &[u8]) {
 }
 
 // Adds a fault.
-fn put_fault(out: &mut Buffer, fault: LineFault) {
+fn put_fault(out: &mut Answer, fault: LineFault) {
     match fault {
         LineFault::Bad { number } => out.put_count("fault ", u64::from(number)),
         LineFault::NoMemory => out.refuse(),
@@ -31,7 +31,7 @@ fn put_fault(out: &mut Buffer, fault: LineFault) {
 }
 
 // Adds what a line says, how many bytes it took, and how it is written.
-fn put_found(out: &mut Buffer, alloc: Global, line: Line, size: usize) {
+fn put_found(out: &mut Answer, alloc: Global, line: Line, size: usize) {
     put_line(out, &line);
     out.put_count(", ", size as u64);
     out.put(" bytes, written ");
@@ -42,7 +42,7 @@ fn put_found(out: &mut Buffer, alloc: Global, line: Line, size: usize) {
 }
 
 // Adds a line by its kind and its texts.
-fn put_line(out: &mut Buffer, line: &Line) {
+fn put_line(out: &mut Answer, line: &Line) {
     match line {
         Line::Start(name) => put_quoted(out, "start ", name.as_str()),
         Line::Attr { name, value } => {
@@ -61,7 +61,7 @@ fn put_line(out: &mut Buffer, line: &Line) {
 
 /// Adds whether some bytes are UTF-8 as a whole, and their lines as they are in them, up to the
 /// first with a fault.
-pub(crate) fn put_views(out: &mut Buffer, alloc: Global, bytes: &[u8]) {
+pub(crate) fn put_views(out: &mut Answer, alloc: Global, bytes: &[u8]) {
     let mut rest = Rest::of(bytes);
     out.put_count("", rest.bytes().len() as u64);
     out.put(match rest {
@@ -83,7 +83,7 @@ pub(crate) fn put_views(out: &mut Buffer, alloc: Global, bytes: &[u8]) {
 }
 
 // Adds a line as it is in its bytes.
-fn put_view(out: &mut Buffer, alloc: Global, view: LineView<'_>)
+fn put_view(out: &mut Answer, alloc: Global, view: LineView<'_>)
     requires { IsReadable view }
 {
     out.put(" | ");
@@ -110,7 +110,7 @@ fn put_view(out: &mut Buffer, alloc: Global, view: LineView<'_>)
 }
 
 // Adds data by its form and the text that it shows.
-fn put_data(out: &mut Buffer, alloc: Global, value: Data<'_>)
+fn put_data(out: &mut Answer, alloc: Global, value: Data<'_>)
     requires { IsReadableData value }
 {
     out.put(match value {

@@ -166,7 +166,7 @@ fn put_all(out: &mut Answer, rules: &[Option<Rule>], tree: &Tree) {
     for place in 0..tree.len() as u32 {
         if tree.kind(Node::at(place)) != Kind::Space {
             match rules.get(place as usize) {
-                Some(Some(Rule::Template(number))) => out.put_number(i64::from(*number)),
+                Some(Some(Rule::Template(number))) => out.put_number("", i64::from(*number)),
                 Some(Some(Rule::BuiltIn)) => out.put("-"),
                 _ => out.put("!"),
             }
@@ -210,5 +210,5 @@ pub(crate) fn put_count(out: &mut Answer, alloc: Global, sheet: &Sheet, tree: &T
     if rules.contains(&None) {
         out.put("not agreed, ");
     }
-    out.put_number(i64::from(count_chosen(&rules)));
+    out.put_number("", i64::from(count_chosen(&rules)));
 }

@@ -1,8 +1,8 @@
 //! Rows on documents: their faults, and their trees.
 
-use crate::buffer::Buffer;
-use crate::notation::put_decoded;
-use crate::trees::put_tree_of;
+use crate::answer::Answer;
+use crate::reading::notation::put_decoded;
+use crate::reading::trees::put_tree_of;
 use std::alloc::{AllocError, Global};
 use xs_build::{BuildFault, Built, build_tree};
 use xs_tree::Tree;
@@ -12,7 +12,7 @@ const LIMIT: u16 = 65_000;
 
 /// Adds a text to what documents begin with, as often as the number before it says; `#` in it is
 /// the number of the time, from 0.
-pub(crate) fn put_start(start: &mut Buffer, repeated: &str) {
+pub(crate) fn put_start(start: &mut Answer, repeated: &str) {
     let (times, text) = repeated.split_once(' ').unwrap_or(("0", ""));
     for time in 0..times.parse::<u16>().unwrap_or(0) {
         let mut is_first = true;
@@ -27,9 +27,9 @@ pub(crate) fn put_start(start: &mut Buffer, repeated: &str) {
 }
 
 /// Adds the first fault of a document, which begins with `start`; its limit comes after ` | `.
-pub(crate) fn put_fault_of(out: &mut Buffer, alloc: Global, start: &Buffer, input: &str) {
+pub(crate) fn put_fault_of(out: &mut Answer, alloc: Global, start: &Answer, input: &str) {
     let (document, limit) = input.split_once(" | ").unwrap_or((input, ""));
-    let mut bytes = Buffer::new(alloc);
+    let mut bytes = Answer::new(alloc);
     bytes.put_bytes(start.held(out));
     put_decoded(&mut bytes, document);
     let limit = limit.parse::<u16>().unwrap_or(LIMIT);
@@ -40,7 +40,7 @@ pub(crate) fn put_fault_of(out: &mut Buffer, alloc: Global, start: &Buffer, inpu
 }
 
 // Adds a fault.
-fn put_fault(out: &mut Buffer, fault: BuildFault) {
+fn put_fault(out: &mut Answer, fault: BuildFault) {
     match fault {
         BuildFault::Bad { number, line } => {
             out.put_count("fault ", u64::from(number));
@@ -51,7 +51,7 @@ fn put_fault(out: &mut Buffer, fault: BuildFault) {
 }
 
 // Adds a line with a fault.
-fn put_fault_line(out: &mut Buffer, fault: BuildFault) {
+fn put_fault_line(out: &mut Answer, fault: BuildFault) {
     out.put("= ");
     put_fault(out, fault);
     out.put("\n");
@@ -62,11 +62,11 @@ fn put_fault_line(out: &mut Buffer, fault: BuildFault) {
 pub(crate) struct Row<'t> {
     alloc: Global,
     /// The document.
-    pub(crate) document: Buffer,
+    pub(crate) document: Answer,
     /// The nodes, a line for each.
-    pub(crate) nodes: Buffer,
+    pub(crate) nodes: Answer,
     /// The nodes that are added after stripping.
-    pub(crate) later_nodes: Buffer,
+    pub(crate) later_nodes: Answer,
     /// An `x` at the place of each node that is marked.
     pub(crate) marks: &'t str,
 }
@@ -76,9 +76,9 @@ impl<'t> Row<'t> {
     pub(crate) fn new(alloc: Global) -> Row<'t> {
         Row {
             alloc,
-            document: Buffer::new(alloc),
-            nodes: Buffer::new(alloc),
-            later_nodes: Buffer::new(alloc),
+            document: Answer::new(alloc),
+            nodes: Answer::new(alloc),
+            later_nodes: Answer::new(alloc),
             marks: "",
         }
     }
@@ -98,7 +98,7 @@ impl<'t> Row<'t> {
     }
 
     /// Adds the tree of the document, or its fault.
-    pub(crate) fn put_document(&self, out: &mut Buffer) {
+    pub(crate) fn put_document(&self, out: &mut Answer) {
         match build_tree(self.alloc, self.document.held(out), u64::from(LIMIT)) {
             Ok(built) => put_tree_of(out, self.alloc, self, built),
             Err(fault) => put_fault_line(out, fault),
@@ -106,7 +106,7 @@ impl<'t> Row<'t> {
     }
 
     /// Adds the tree of the nodes.
-    pub(crate) fn put_nodes(&self, out: &mut Buffer) {
+    pub(crate) fn put_nodes(&self, out: &mut Answer) {
         match root_alone(self.alloc) {
             Ok(built) => put_tree_of(out, self.alloc, self, built),
             Err(_) => out.refuse(),
