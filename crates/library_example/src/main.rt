@@ -1,8 +1,9 @@
 //! A caller of the processor, with all files in memory: a stylesheet that is compiled once and run
-//! on two sources, the fault of another one, and a run by arguments, as the program makes it.
+//! on two sources, the fault of another one, and runs by arguments, as the program makes them.
 #![tactic(auto)]
 
-ghost use Rattle.std.specs.Prelude.{IfOk};
+ghost use Rattle.xs_modules.specs.Results.{modules_data};
+ghost use Rattle.xs_modules.specs.Sound.{IsSound as AreSound};
 ghost use Rattle.xs_sheet.specs.Sound.{IsSound};
 
 use std::alloc::{AllocError, Global};
@@ -12,22 +13,13 @@ use std::thread::Threads;
 use std::{fs, io};
 use xs_compile::{CompileEnd, compile};
 use xs_engine::{Job, run_reply, transform};
-use xs_modules::{ModulesEnd, read_modules};
+use xs_modules::{Modules, ModulesEnd, read_modules};
 use xs_outside::{MemLibrary, MemSink, OpenGate};
 use xs_sheet::sheet::Sheet;
 use xs_trace::text::TextBuf;
 
 /// The names of the files.
 const FILES: [&str; 4] = ["greeting.pyx", "misspelled.pyx", "ada.pyx", "grace.pyx"];
-
-/// Where a stylesheet has a fault: its number, the name of the module, and the line; 0 is the
-/// module as a whole.
-#[derive(Drop)]
-struct Fault {
-    number: u8,
-    module: TextBuf,
-    line: u32,
-}
 
 /// A library in memory of the files.
 fn library_of(rt: &(impl Files + AllocGlobal)) -> io::Result<MemLibrary> {
@@ -39,54 +31,60 @@ fn library_of(rt: &(impl Files + AllocGlobal)) -> io::Result<MemLibrary> {
     Ok(MemLibrary::new(rt.alloc(), files, Vec::new(rt.alloc())))
 }
 
-/// A stylesheet with all its modules, compiled, or its first fault.
-fn sheet_named(
-    alloc: Global,
-    name: &str,
-    library: &mut MemLibrary,
-) -> Result<Result<Sheet, Fault>, AllocError>
-    ensures sound { IfOk result (λ sheet. IfOk sheet IsSound) }
-{
-    let modules = match read_modules(alloc, library, name) {
-        Ok(modules) => modules,
-        Err(ModulesEnd::NoMemory) => return Err(AllocError),
-        Err(ModulesEnd::Failed { name: module }) => {
-            return Ok(Err(Fault {
-                number: 70,
-                module,
-                line: 0,
-            }));
-        }
+/// The text of a fault.
+fn fault_text(alloc: Global, number: u8, module: &str, line: u32) -> Result<Vec<u8>, AllocError> {
+    let text = format!(in alloc; "fault {number} in {module}, line {line}\n")?;
+    Ok(text.into_bytes())
+}
+
+/// What a stylesheet of the library gives for both sources, or its fault.
+fn answers_of(alloc: Global, name: &str, library: &mut MemLibrary) -> Result<Vec<u8>, AllocError> {
+    match read_modules(alloc, library, name) {
+        Ok(modules) => answers_by(alloc, &modules, library),
         Err(
             ModulesEnd::Refused {
                 number,
                 module,
                 line,
             },
-        ) => {
-            return Ok(Err(Fault {
-                number,
-                module,
-                line,
-            }));
-        }
-    };
-    match compile(alloc, &modules) {
-        Ok(sheet) => Ok(Ok(sheet)),
-        Err(CompileEnd::NoMemory) => Err(AllocError),
-        Err(CompileEnd::Refused(fault)) => {
-            let module = modules.list[fault.module as usize].name.copy()?;
-            Ok(Err(Fault {
-                number: fault.number,
-                module,
-                line: fault.line,
-            }))
-        }
+        ) => { fault_text(alloc, number, module.as_str(), line) }
+        Err(ModulesEnd::Failed { name }) => fault_text(alloc, 70, name.as_str(), 0),
+        Err(ModulesEnd::NoMemory) => Err(AllocError),
     }
 }
 
-/// Runs a stylesheet on two sources of the library: what each gives, with the given word.
-fn greet_both(alloc: Global, sheet: &Sheet, library: &mut MemLibrary) -> Result<Vec<u8>, AllocError>
+/// The same by the modules of the stylesheet, which are compiled once.
+fn answers_by(
+    alloc: Global,
+    modules: &Modules,
+    library: &mut MemLibrary,
+) -> Result<Vec<u8>, AllocError>
+    requires sound { AreSound (modules_data modules.now) }
+{
+    match compile(alloc, modules) {
+        Ok(sheet) => run_on_both(alloc, &sheet, library),
+        Err(CompileEnd::Refused(fault)) => {
+            let name = module_name(modules, fault.module);
+            fault_text(alloc, fault.number, name, fault.line)
+        }
+        Err(CompileEnd::NoMemory) => Err(AllocError),
+    }
+}
+
+/// The name of a module, by its number.
+fn module_name(modules: &Modules, number: u32) -> &str {
+    match modules.list.get(number as usize) {
+        Some(module) => module.name.as_str(),
+        None => "",
+    }
+}
+
+/// What a compiled stylesheet gives for both sources, with a text for its parameter.
+fn run_on_both(
+    alloc: Global,
+    sheet: &Sheet,
+    library: &mut MemLibrary,
+) -> Result<Vec<u8>, AllocError>
     requires sound { IsSound sheet.now }
 {
     let mut given = Vec::new(alloc);
@@ -98,23 +96,23 @@ fn greet_both(alloc: Global, sheet: &Sheet, library: &mut MemLibrary) -> Result<
         budget: 1_000_000,
         most_events: None,
     };
-    let mut answers = Vec::new(alloc);
+    let mut results = Vec::new(alloc);
     for name in ["ada.pyx", "grace.pyx"] {
         let reply = run_reply(alloc, &job, &TextBuf::of(alloc, name)?, sheet, library)?;
-        answers.extend_from_slice(&reply.lines)?;
-        answers.extend_from_slice(&reply.result)?;
+        results.extend_from_slice(&reply.result)?;
     }
-    Ok(answers)
+    Ok(results)
 }
 
-/// Runs the processor by arguments, as the program does: the result, and its status.
-fn greet_by_arguments<R: Threads + Sync>(
+/// A run by arguments, as the program makes it, within a budget: its result, or its fault.
+fn run_within<R: Threads + Sync>(
     rt: &R,
     alloc: Global,
+    budget: &str,
     library: &mut MemLibrary,
-) -> Result<(MemSink, u8), AllocError> {
+) -> Result<Vec<u8>, AllocError> {
     let mut words = Vec::new(alloc);
-    for word in ["--budget", "1000", "greeting.pyx", "ada.pyx"] {
+    for word in ["--budget", budget, "greeting.pyx", "ada.pyx"] {
         words.push(String::from_str(alloc, word)?)?;
     }
     let mut out = MemSink::new(alloc, 4096, Vec::new(alloc));
@@ -122,23 +120,23 @@ fn greet_by_arguments<R: Threads + Sync>(
     out.reserve(4096)?;
     err.reserve(4096)?;
     let report = transform(rt, alloc, &words, library, &mut out, &mut err, &OpenGate);
-    Ok((out, report.status))
+    match &report.fault {
+        Some(fault) => fault_text(alloc, fault.number, fault.module.as_str(), fault.line),
+        None => Vec::from_slice(alloc, out.held()),
+    }
 }
 
-/// Writes what each way gives.
+/// Writes what each gives.
 fn main(rt: HostRuntime) -> io::Result<()> {
     let alloc = rt.alloc();
     let mut library = library_of(&rt)?;
     for name in ["greeting.pyx", "misspelled.pyx"] {
-        match sheet_named(alloc, name, &mut library)? {
-            Ok(sheet) => io::writer(&rt).write_all(&greet_both(alloc, &sheet, &mut library)?)?,
-            Err(fault) => {
-                let (number, line) = (fault.number, fault.line);
-                println!(rt; "fault {number} in {}, line {line}", fault.module.as_str())?;
-            }
-        }
+        let answers = answers_of(alloc, name, &mut library)?;
+        io::writer(&rt).write_all(&answers)?;
     }
-    let (out, status) = greet_by_arguments(&rt, alloc, &mut library)?;
-    io::writer(&rt).write_all(out.held())?;
-    println!(rt; "status {status}")
+    for budget in ["1000", "1"] {
+        let answer = run_within(&rt, alloc, budget, &mut library)?;
+        io::writer(&rt).write_all(&answer)?;
+    }
+    Ok(())
 }
