@@ -4,7 +4,7 @@ use crate::answer::{Answer, text_of};
 use crate::texts::put_escaped;
 use std::alloc::{AllocError, Global};
 use xs_result::{build, write_text};
-use xs_trace::event::{Event, Label};
+use xs_trace::event::{Event, Fragment, Label};
 use xs_trace::text::TextBuf;
 use xs_writing::{PyxStream, write_pyx};
 
@@ -53,9 +53,9 @@ fn named_event(alloc: Global, name: &str, value: &str) -> Result<Event, AllocErr
 /// Adds the line that says an event.
 fn put_event(out: &mut Answer, event: &Event) {
     match event {
-        Event::Start(name) => put_named(out, "(", name.local()),
+        Event::Start(name) => put_label(out, "(", name),
         Event::Attr { name, value } => {
-            put_named(out, "A", name.local());
+            put_label(out, "A", name);
             put_named(out, " ", value.as_str());
         }
         Event::Space { prefix, uri } => {
@@ -70,6 +70,18 @@ fn put_event(out: &mut Answer, event: &Event) {
             put_named(out, " ", value.as_str());
         }
     }
+}
+
+/// Adds a sign and a name.
+fn put_label(out: &mut Answer, sign: &str, name: &Label) {
+    out.put(sign);
+    if !name.uri().is_empty() {
+        out.put_in("{", name.uri(), "}");
+    }
+    if !name.prefix().is_empty() {
+        out.put_in("", name.prefix(), ":");
+    }
+    out.put(name.local());
 }
 
 /// Adds a sign and a text.
@@ -104,10 +116,15 @@ fn events(out: &mut Answer, alloc: Global, lines: &str) -> Vec<Event> {
 /// Adds what stays of events.
 pub(crate) fn put_fragment(out: &mut Answer, alloc: Global, lines: &str) {
     let put = events(out, alloc, lines);
-    match build(alloc, put.iter()) {
+    match fragment(alloc, &put) {
         Ok(fragment) => put_events(out, fragment.events()),
         Err(_) => out.refuse(),
     }
+}
+
+/// A copy of what stays of events.
+fn fragment(alloc: Global, put: &[Event]) -> Result<Fragment, AllocError> {
+    build(alloc, put.iter())?.copy()
 }
 
 /// Adds the lines that say events, with slashes between them.
