@@ -1,0 +1,11 @@
+mod BytesLemmas
+mod EventLemmas
+mod FitLemmas
+mod LawLemmas
+mod NameLemmas
+mod OuterLemmas
+mod PlaceLemmas
+mod ReadLemmas
+mod ScopeLemmas
+mod ShapeLemmas
+mod TagLemmas

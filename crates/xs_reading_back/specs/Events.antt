@@ -24,7 +24,7 @@ is_balanced n (Pi target value ∷ es) = is_balanced n es
 unfoldable pub has_one_top : ℕ → Bool → List Event → Bool
 has_one_top n begun [] = begun
 has_one_top zero begun (Start name ∷ es) = not begun && has_one_top 1 true es
-has_one_top (suc n) begun (Start name ∷ es) = has_one_top (suc (suc n)) begun es
+has_one_top (suc n) begun (Start name ∷ es) = has_one_top (suc (suc n)) true es
 has_one_top zero begun (Chars text ∷ es) = false
 has_one_top (suc n) begun (Chars text ∷ es) = has_one_top (suc n) begun es
 has_one_top zero begun (End ∷ es) = has_one_top zero begun es

@@ -29,7 +29,7 @@ abbrev pub with_outer_lines : List ℕ → List ℕ
 with_outer_lines bytes = written (line.Start outer_name) ++ bytes ++ written (line.End outer_name)
 
 abbrev pub with_outer_events : List Event → List Event
-with_outer_events es = Start outer_label ∷ es ++ End ∷ []
+with_outer_events es = Start outer_label ∷ (es ++ End ∷ [])
 
 -- Inside one element more the bytes represent the events, whatever they are; by themselves where they are one document.
 pub record IsReadBack (bytes : List ℕ) (es : List Event) : Type 0 where
