@@ -17,7 +17,7 @@ use Rattle.xs_build.specs.Faults.{too_large}
 use Rattle.xs_build.specs.steps.Lines.{at_start, meaning, put_before}
 use Rattle.xs_writing.specs.Lines.{bytes_of, lines}
 use Rattle.xs_reading_back.specs.Laws.{Represents}
-use Rattle.xs_reading_back.specs.TreeEvents.{events_from, plain}
+use Rattle.xs_reading_back.specs.TreeEvents.{around, events_from, plain, with_ends}
 use Rattle.xs_reading_back.proofs.PlaceLemmas.{AreReadable, IsFit, lines_readable}
 use Rattle.xs_reading_back.proofs.EventLemmas.{Gives, after_same, after_tag}
 use Rattle.xs_reading_back.proofs.ReadLemmas.{AreSaid, lines_read}
@@ -29,7 +29,7 @@ are_lines (l ∷ ls) h = line_before l (reads_back l h.0.0 h.0.1) (bytes_of ls) 
 
 -- after the root
 rooted : (o : Outcome) (es : List Event) → Gives o [] 1 (plain es) → Represents (put_before (root_record ∷ []) 0 o) es
-unfolding events_from
+unfolding events_from around with_ends
 rooted (tree rs numbers) es h = h.0
 rooted (refused number line) es h = h
 

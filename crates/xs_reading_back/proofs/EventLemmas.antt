@@ -1,7 +1,7 @@
 -- The events that a tree represents, node by node.
 use Rattle.std.proofs.Common.{◌≡◌, ℕ, zero, suc, ◌+◌, ◌<◌, ◌≤◌, List, [], ◌∷◌, ◌++◌, Option, None, Some, Bool, true, false, refl, sym, ◌∙◌, ap, subst}
-use Rattle.std.proofs.Common.{◌⊎◌, arith, inl, inr, length, map}
-use Rattle.std.specs.Prelude.{◌==◌}
+use Rattle.std.proofs.Common.{arith, inl, inr, length, map}
+use Rattle.std.specs.Prelude.{◌==◌, ◌⊎◌}
 use Rattle.std.specs.List.{cons_option, filter_map}
 use Rattle.std.proofs.lemmas.Bool.Decides.{nat_tests}
 use Rattle.xs_trace.specs.Label.{Label}
@@ -21,7 +21,7 @@ use Rattle.xs_reading_back.specs.TreeEvents.{around, event_of, events_from, labe
 use Rattle.xs_reading_back.proofs.FitLemmas.{named_with}
 use Rattle.xs_reading_back.proofs.PlaceLemmas.{IsFit}
 use Rattle.xs_reading_back.proofs.ScopeLemmas.{in_force}
-use Rattle.xs_reading_back.proofs.ShapeLemmas.{attributes-attribute, attributes-end, attributes-space}
+use Rattle.xs_reading_back.proofs.StartLemmas.{attributes-attribute, attributes-end, attributes-space, no_attributes}
 
 -- an open element and its node
 pub record Inside : Type 0 where
@@ -170,8 +170,8 @@ plain_none : (e : Event) (es : List Event) (attrs : List Attribute) → attrs �
 plain_none e es attrs none same = ap plain (sym same) ∙ ap (λ xs. map attribute_event xs ++ plain (after_tag (e ∷ es))) (sym none)
 
 pub plain_tag : (es : List Event) → plain es ≡ map attribute_event (attributes_in es) ++ plain (after_tag es)
-unfolding plain after_tag attributes_in
-plain_tag [] = refl
+unfolding plain after_tag
+plain_tag [] = ap (λ xs. map attribute_event xs ++ plain []) (sym no_attributes)
 plain_tag (Space prefix uri ∷ es) = plain_tag es ∙ ap (λ xs. map attribute_event xs ++ plain (after_tag es)) (sym (attributes-space prefix uri es))
 plain_tag (Attr name value ∷ es) =
     ap (λ xs. Attr (unprefixed name) value ∷ xs) (plain_tag es)

@@ -11,16 +11,17 @@ use Rattle.xs_trace.specs.Label.{Label}
 use Rattle.xs_trace.specs.declared.event.Event.{Event}
 use Rattle.xs_tree.specs.declared.names.Name.{Name}
 use Rattle.xs_build.specs.declared.tag_names.Expanded.{Expanded}
-use Rattle.xs_build.specs.Namespaces as read
-use Rattle.xs_build.specs.Namespaces.{Bindings, attribute_name, declared_prefix, is_bad_binding, xml_uri, xmlns_uri}
+use Rattle.xs_build.specs.Namespaces.{Bindings, attribute_name, declared_prefix, element_name, is_bad_binding, is_empty, uri_in, xml_uri, xmlns_uri}
 use Rattle.xs_build.specs.steps.Lines as step
 use Rattle.xs_build.specs.steps.Lines.{same_name}
 use Rattle.xs_build.proofs.WellFormedLemmas.ScopeLemmas.{IsAllowed, IsScope, not_bad}
-use Rattle.xs_result.specs.Built.{is_empty, is_same_name}
+use Rattle.xs_result.specs.Built as kept
+use Rattle.xs_result.specs.Built.{is_same_name}
 use Rattle.xs_writing.specs.Bindings.{Attribute, Binding, attribute_prefix, attributes_in, bindings, bindings_before, chosen_prefix, declared, needs_prefix}
 use Rattle.xs_writing.specs.Bindings.{own_binding, spaces_in, with_attribute, with_attributes, with_spaces}
 use Rattle.xs_writing.specs.Laws.{AttributesResolve, NamesResolve, Resolves, resolved}
-use Rattle.xs_writing.specs.Lines.{declaration_name, element_name, name_with}
+use Rattle.xs_writing.specs.Lines as written
+use Rattle.xs_writing.specs.Lines.{declaration_name, name_with}
 use Rattle.xs_reading_back.proofs.NameLemmas.{IsBindable, IsWritten, declaration_written, declared_parts, name_written, no_bool, qname}
 use Rattle.xs_reading_back.proofs.ScopeLemmas.{IsForce, find, force_more, given, in_force}
 use Rattle.xs_reading_back.proofs.TagLemmas.{AreApart, AreFew, AreGoodNames, IsGoodName, IsGoodTag, MayBind, attributes_length, chosen_bindable, few_here, few_more}
@@ -34,7 +35,7 @@ named_with prefix name = record { uri = name.uri; local = name.local; prefix = p
 -- a declaration is read as the binding that it declares, which is not forbidden
 pub record IsDeclaration (d : Binding) : Type 0 where
   pub name : IsWritten (declaration_name d.0) (declared_parts d.0).prefix (declared_parts d.0).local
-  pub declares : declared_prefix (declared_parts d.0) ≡ Some d.0
+  pub declares : declared_prefix (qname (declared_parts d.0).prefix (declared_parts d.0).local) ≡ Some d.0
   pub allowed : is_bad_binding d.0 d.1 ≡ false
   pub uri_text : IsUtf8 d.1
 
@@ -68,8 +69,8 @@ abbrev pub scope_inside : List Binding → Label → List Event → Bindings
 scope_inside around name es = in_force (declared_by around name es ++ around)
 
 pub record IsFitTag (around : List Binding) (name : Label) (es : List Event) : Type 0 where
-  pub own : IsWritten (element_name name) name.prefix name.local
-  pub bound : read.element_name (scope_inside around name es) (qname name.prefix name.local) ≡ Some (named_with name.prefix name)
+  pub own : IsWritten (written.element_name name) name.prefix name.local
+  pub bound : element_name (scope_inside around name es) (qname name.prefix name.local) ≡ Some (named_with name.prefix name)
   pub declarations : AllByRecursion IsDeclaration (declared_by around name es)
   pub attributes : AreAttributes (scope_inside around name es) (bindings_before name es) (attributes_in es)
   pub new : AreNew [] (names_declared (declared_by around name es) ++ map expanded (attributes_in es))
@@ -83,7 +84,7 @@ AreFresh names (a ∷ more) = (list_any (is_same_name a.name) names ≡ false) �
 
 pub record IsGoodAttribute (a : Attribute) : Type 0 where
   pub named : IsGoodName a.name
-  pub plain : (is_empty a.name.uri && bytes_eq a.name.local (codes "xmlns")) ≡ false
+  pub plain : (kept.is_empty a.name.uri && bytes_eq a.name.local (codes "xmlns")) ≡ false
   pub text : IsUtf8 a.value
 
 pub record IsGoodElement (name : Label) (es : List Event) : Type 0 where
@@ -94,7 +95,7 @@ pub record IsGoodElement (name : Label) (es : List Event) : Type 0 where
   pub few : 1 + length (spaces_in es) + length (attributes_in es) < 2 ^ 64
 
 -- ---- the bindings in force
-given_full : (u : List ℕ) → read.is_empty u ≡ false → given u ≡ Some u
+given_full : (u : List ℕ) → is_empty u ≡ false → given u ≡ Some u
 given_full [] h = absurd (cc)
 given_full (b ∷ u) h = refl
 
@@ -102,36 +103,36 @@ given_whole : (u : List ℕ) → unwrap_or (given u) [] ≡ u
 given_whole [] = refl
 given_whole (b ∷ u) = refl
 
-prefixed_full : (p u : List ℕ) → IsBindable p u → read.is_empty p ≡ false → read.is_empty u ≡ false
+prefixed_full : (p u : List ℕ) → IsBindable p u → is_empty p ≡ false → is_empty u ≡ false
 prefixed_full p u b some =
-    false_from_ne_true (read.is_empty u) (λ e. no_bool (read.is_empty p) (ap read.is_empty (b.none e)) some)
+    false_from_ne_true (is_empty u) (λ e. no_bool (is_empty p) (ap is_empty (b.none e)) some)
 
-in_scope : (ds : List Binding) (q u : List ℕ) → IsForce ds → resolved ds q ≡ u → read.uri_in (in_force ds) q ≡ given u
-unfolding read.uri_in
+in_scope : (ds : List Binding) (q u : List ℕ) → IsForce ds → resolved ds q ≡ u → uri_in (in_force ds) q ≡ given u
+unfolding uri_in
 in_scope ds q u f h = f.same q ∙ ap given h
 
 -- ---- an element
-element_bound : (scope : Bindings) (name : Label) (p : List ℕ) → read.uri_in scope p ≡ given name.uri → (read.is_empty p ≡ false → read.is_empty name.uri ≡ false)
-    → read.element_name scope (qname p name.local) ≡ Some (named_with p name)
-unfolding read.element_name
+element_bound : (scope : Bindings) (name : Label) (p : List ℕ) → uri_in scope p ≡ given name.uri → (is_empty p ≡ false → is_empty name.uri ≡ false)
+    → element_name scope (qname p name.local) ≡ Some (named_with p name)
+unfolding element_name
 element_bound scope name [] h full =
     ap (λ u. Some (record { uri = u; local = name.local; prefix = [] })) (ap (λ o. unwrap_or o []) h ∙ given_whole name.uri)
 element_bound scope name (b ∷ p) h full =
     ap (option_map (λ u. record { uri = u; local = name.local; prefix = b ∷ p })) (h ∙ given_full name.uri (full refl))
 
 -- ---- an attribute
-prefixed_bound : (scope : Bindings) (name : Label) (p : List ℕ) → read.is_empty p ≡ false → read.uri_in scope p ≡ Some name.uri
+prefixed_bound : (scope : Bindings) (name : Label) (p : List ℕ) → is_empty p ≡ false → uri_in scope p ≡ Some name.uri
     → attribute_name scope (qname p name.local) ≡ Some (named_with p name)
 unfolding attribute_name
 prefixed_bound scope name [] some h = absurd (cc)
 prefixed_bound scope name (b ∷ p) some h = ap (option_map (λ u. record { uri = u; local = name.local; prefix = b ∷ p })) h
 
-prefixed_declares : (p local : List ℕ) → read.is_empty p ≡ false → bytes_eq p (codes "xmlns") ≡ false → declared_prefix (qname p local) ≡ None
+prefixed_declares : (p local : List ℕ) → is_empty p ≡ false → bytes_eq p (codes "xmlns") ≡ false → declared_prefix (qname p local) ≡ None
 unfolding declared_prefix
 prefixed_declares p local some other = rw (some, other) refl
 
-prefixed_attribute : (scope : Bindings) (name : Label) (p : List ℕ) → IsBindable p name.uri → IsGoodName name → read.is_empty p ≡ false
-    → read.uri_in scope p ≡ Some name.uri → IsAttribute scope p name
+prefixed_attribute : (scope : Bindings) (name : Label) (p : List ℕ) → IsBindable p name.uri → IsGoodName name → is_empty p ≡ false
+    → uri_in scope p ≡ Some name.uri → IsAttribute scope p name
 prefixed_attribute scope name p b n some h = record {
   name_is = name_written p name.local b.named n.local b.prefix_text n.local_text;
   declares = prefixed_declares p name.local some b.other;
@@ -146,7 +147,7 @@ alone_bound : (scope : Bindings) (name : Label) → name.uri ≡ [] → attribut
 unfolding attribute_name
 alone_bound scope name none = ap (λ u. Some (record { uri = u; local = name.local; prefix = [] })) (sym none)
 
-no_uri : (u : List ℕ) → is_empty u ≡ true → u ≡ []
+no_uri : (u : List ℕ) → kept.is_empty u ≡ true → u ≡ []
 no_uri [] h = refl
 no_uri (b ∷ u) h = absurd (cc)
 
@@ -154,37 +155,37 @@ second_false : (s t : Bool) → s ≡ true → (s && t) ≡ false → t ≡ fals
 second_false true t e h = h
 second_false false t e h = absurd (cc)
 
-empty_either : (u : List ℕ) → is_empty u ≡ true → read.is_empty u ≡ true
+empty_either : (u : List ℕ) → kept.is_empty u ≡ true → is_empty u ≡ true
 empty_either [] h = refl
 empty_either (b ∷ u) h = absurd (cc)
 
 -- one in no namespace has no prefix
-alone_attribute : (scope : Bindings) (a : Attribute) → IsGoodAttribute a → is_empty a.name.uri ≡ true → IsAttribute scope a.name.prefix a.name
+alone_attribute : (scope : Bindings) (a : Attribute) → IsGoodAttribute a → kept.is_empty a.name.uri ≡ true → IsAttribute scope a.name.prefix a.name
 alone_attribute scope a g none =
     let p : a.name.prefix ≡ [] = g.named.bindable.none (empty_either a.name.uri none) in
     subst (λ q. IsAttribute scope q a.name) (sym p) (record {
       name_is = name_written [] a.name.local (λ some. absurd (cc)) g.named.local (subst IsUtf8 p g.named.bindable.prefix_text) g.named.local_text;
-      declares = alone_declares a.name.local (second_false (is_empty a.name.uri) (bytes_eq a.name.local (codes "xmlns")) none g.plain);
+      declares = alone_declares a.name.local (second_false (kept.is_empty a.name.uri) (bytes_eq a.name.local (codes "xmlns")) none g.plain);
       bound = alone_bound scope a.name (no_uri a.name.uri none);
     })
 
-xml_in : (scope : Bindings) → IsScope scope → read.uri_in scope (codes "xml") ≡ Some xml_uri
-unfolding read.uri_in
+xml_in : (scope : Bindings) → IsScope scope → uri_in scope (codes "xml") ≡ Some xml_uri
+unfolding uri_in
 xml_in scope s = s.xml
 
 xml_attribute : (scope : Bindings) (name : Label) → IsScope scope → IsGoodName name → bytes_eq name.uri xml_uri ≡ true → IsAttribute scope name.prefix name
 xml_attribute scope name s n is =
     let p : name.prefix ≡ codes "xml" = n.bindable.xml is in
     let u : name.uri ≡ xml_uri = (bytes_eq-Decides name.uri xml_uri).0 is in
-    prefixed_attribute scope name name.prefix n.bindable n (ap read.is_empty p) (ap (read.uri_in scope) p ∙ xml_in scope s ∙ ap Some (sym u))
+    prefixed_attribute scope name name.prefix n.bindable n (ap is_empty p) (ap (uri_in scope) p ∙ xml_in scope s ∙ ap Some (sym u))
 
 attribute_fit : (ds m : List Binding) (a : Attribute) → IsForce ds → IsGoodTag m → length m < 2 ^ 64 → IsGoodAttribute a
-    → (needs_prefix a.name ≡ true → (resolved ds (attribute_prefix m a.name) ≡ a.name.uri) × (is_empty (attribute_prefix m a.name) ≡ false))
+    → (needs_prefix a.name ≡ true → (resolved ds (attribute_prefix m a.name) ≡ a.name.uri) × (kept.is_empty (attribute_prefix m a.name) ≡ false))
     → IsAttribute (in_force ds) (attribute_prefix m a.name) a.name
 unfolding attribute_prefix
 attribute_fit ds m a f g small good resolves = by_needs (needs_prefix a.name) refl resolves
   where
-    other : (s : Bool) → is_empty a.name.uri ≡ s → (t : Bool) → bytes_eq a.name.uri xml_uri ≡ t → (not s && not t) ≡ false
+    other : (s : Bool) → kept.is_empty a.name.uri ≡ s → (t : Bool) → bytes_eq a.name.uri xml_uri ≡ t → (not s && not t) ≡ false
         → IsAttribute (in_force ds) a.name.prefix a.name
     other true e t h no_need = alone_attribute (in_force ds) a good e
     other false e true h no_need = xml_attribute (in_force ds) a.name f.scoped good.named h
@@ -192,14 +193,14 @@ attribute_fit ds m a f g small good resolves = by_needs (needs_prefix a.name) re
 
     by_needs : (t : Bool) → needs_prefix a.name ≡ t
         → (t ≡ true → (resolved ds (if t then chosen_prefix m a.name else a.name.prefix) ≡ a.name.uri)
-        × (is_empty (if t then chosen_prefix m a.name else a.name.prefix) ≡ false))
+        × (kept.is_empty (if t then chosen_prefix m a.name else a.name.prefix) ≡ false))
         → IsAttribute (in_force ds) (if t then chosen_prefix m a.name else a.name.prefix) a.name
     by_needs true needs r =
         let b = chosen_bindable m a.name g good.named small needs in
         let some = full_text (chosen_prefix m a.name) (r refl).1 in
         prefixed_attribute (in_force ds) a.name (chosen_prefix m a.name) b good.named some
         (in_scope ds (chosen_prefix m a.name) a.name.uri f (r refl).0 ∙ given_full a.name.uri (prefixed_full (chosen_prefix m a.name) a.name.uri b some))
-    by_needs false needs r = other (is_empty a.name.uri) refl (bytes_eq a.name.uri xml_uri) refl needs
+    by_needs false needs r = other (kept.is_empty a.name.uri) refl (bytes_eq a.name.uri xml_uri) refl needs
 
 attributes_fit : (attrs : List Attribute) (ds m : List Binding) → IsForce ds → IsGoodTag m → AreFew m attrs → AllByRecursion IsGoodAttribute attrs
     → AttributesResolve ds m attrs → AreAttributes (in_force ds) m attrs

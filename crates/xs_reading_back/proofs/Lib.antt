@@ -8,4 +8,5 @@ mod PlaceLemmas
 mod ReadLemmas
 mod ScopeLemmas
 mod ShapeLemmas
+mod StartLemmas
 mod TagLemmas

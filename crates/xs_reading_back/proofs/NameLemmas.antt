@@ -216,10 +216,10 @@ ncname_plain name t n =
 abbrev pub qname : List ℕ → List ℕ → QName
 qname prefix local = record { prefix = prefix; local = local }
 
-pub record IsWritten (text prefix local : List ℕ) : Type 0 where
-  pub read : qname_of text ≡ Some (qname prefix local)
-  pub text : IsUtf8 text
-  pub plain : IsPlainName text
+pub record IsWritten (bytes prefix local : List ℕ) : Type 0 where
+  pub read : qname_of bytes ≡ Some (qname prefix local)
+  pub text : IsUtf8 bytes
+  pub plain : IsPlainName bytes
 
 colon_text : (local : List ℕ) → IsUtf8 local → IsUtf8 (58 ∷ local)
 colon_text local t = IsUtf8-append (58 ∷ []) local (IsUtf8-from_ascii (58 ∷ []) (IsAscii-cons 58 [] (lit< tt) IsAscii-nil)) t

@@ -25,7 +25,8 @@ use Rattle.xs_reading_back.proofs.ScopeLemmas.{force_outermost}
 use Rattle.xs_reading_back.proofs.TagLemmas.{IsGoodName, MayBind}
 use Rattle.xs_reading_back.proofs.FitLemmas.{AreFresh, IsGoodAttribute, tag_fit}
 use Rattle.xs_reading_back.proofs.PlaceLemmas.{IsFit, all_fit, depth_of}
-use Rattle.xs_reading_back.proofs.ShapeLemmas.{AreSound, IsOrderly, attributes-end, spaces-end}
+use Rattle.xs_reading_back.proofs.ShapeLemmas.{AreSound, IsOrderly}
+use Rattle.xs_reading_back.proofs.StartLemmas.{attributes-end, spaces-end}
 
 -- ---- the events
 -- where no start tag is open, one may be
@@ -184,7 +185,7 @@ outer_fit resolve es h s small =
     let orderly : IsOrderly true false true 1 [] rest = ended_orderly es false true 0 [] (tag_opened es 0 [] h) in
     let sound : AreSound rest = all_ended es s in
     let longer : length rest ≡ length es + 1 = length-append es (End ∷ []) in
-    let few : 1 + length (spaces_in rest) + length (attributes_in rest) < 2 ^ 64 = rw (parts.0, parts.1) (lit< tt) in
+    let few : 1 + length (spaces_in rest) + length (attributes_in rest) < 2 ^ 64 = rw (parts.0, parts.1) (omega arith) in
     let fit = tag_fit resolve outermost outer_label rest force_outermost (record {
       own = outer_good;
       spaces = subst (AllByRecursion MayBind) (sym parts.0) tt;

@@ -22,7 +22,8 @@ use Rattle.xs_reading_back.specs.Events.{has_one_top}
 use Rattle.xs_reading_back.proofs.NameLemmas.{IsWritten, ncname_plain}
 use Rattle.xs_reading_back.proofs.ScopeLemmas.{IsForce, force_outermost}
 use Rattle.xs_reading_back.proofs.FitLemmas.{AreAttributes, IsDeclaration, IsFitTag, declared_by, scope_inside, tag_fit}
-use Rattle.xs_reading_back.proofs.ShapeLemmas.{AreSound, IsOrderly, element_good}
+use Rattle.xs_reading_back.proofs.ShapeLemmas.{AreSound, IsOrderly}
+use Rattle.xs_reading_back.proofs.StartLemmas.{element_good}
 
 -- Events from a place on, in these open elements: whether an element has begun, a text stands just before, and an attribute may follow.
 unfoldable pub IsFit : List OpenElement → Bool → Bool → Bool → List Event → Type 0
@@ -38,7 +39,7 @@ IsFit (o ∷ os) begun text tag (End ∷ es) = IsFit os begun false false es
 IsFit os begun text tag (Comment more ∷ es) = IsUtf8 more × IsFit os begun false false es
 IsFit os begun text tag (Pi target value ∷ es) = (is_target target ≡ true) × IsUtf8 target × IsUtf8 value × IsFit os begun false false es
 
-pub depth_of : List OpenElement → ℕ
+unfoldable pub depth_of : List OpenElement → ℕ
 depth_of [] = zero
 depth_of (o ∷ os) = suc (depth_of os)
 

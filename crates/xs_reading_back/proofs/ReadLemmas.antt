@@ -34,7 +34,7 @@ use Rattle.xs_build.proofs.ReadingLemmas.{begins, kind_of, no_attribute, no_text
 use Rattle.xs_build.proofs.RestStepLemmas.{text_ahead_none}
 use Rattle.xs_writing.specs.Bindings.{Attribute, Binding, attribute_prefix, attributes_in, bindings_before, with_attribute}
 use Rattle.xs_writing.specs.Lines.{OpenElement, attribute_lines, declaration, declaration_name, element_name, entered, lines, name_with, scope_of}
-use Rattle.xs_reading_back.specs.TreeEvents.{plain, unprefixed}
+use Rattle.xs_reading_back.specs.TreeEvents.{events_from, plain, unprefixed}
 use Rattle.xs_reading_back.proofs.NameLemmas.{qname}
 use Rattle.xs_reading_back.proofs.ScopeLemmas.{in_force, scope_more}
 use Rattle.xs_reading_back.proofs.FitLemmas.{AreAttributes, AreNew, IsAttribute, IsDeclaration, declared_by, expanded, named_with, names_declared, scope_inside}
@@ -222,15 +222,15 @@ same_none [] = refl
 same_none (o ∷ os) = refl
 
 -- ---- each kind of line
+nothing_given : (place : ℕ) → Gives (tree [] []) [] place []
+unfolding events_from
+nothing_given place = (refl, tt)
+
 end_read : (os : List Inside) (begun text : Bool) (tag : Option (List Expanded)) (place n : ℕ) (rows : List Row) → AreSaid rows []
     → is_empty (elements os) ≡ true → begun ≡ true → Gives (meaning (stands (all_read os) begun tag text place) n rows) (nodes os) place []
 unfolding meaning
 end_read [] begun text tag place n rows said none one =
-    at_no_row (λ rs. Gives (meaning (stands [] begun tag text place) n rs) [] place []) rows said (rw one (nothing place))
-  where
-    nothing : (p : ℕ) → Gives (tree [] []) [] p []
-    unfolding Rattle.xs_reading_back.specs.TreeEvents.events_from
-    nothing p = (refl, tt)
+    at_no_row (λ rs. Gives (meaning (stands [] begun tag text place) n rs) [] place []) rows said (rw one (nothing_given place))
 end_read (o ∷ os) begun text tag place n rows said none one = absurd (cc)
 
 start_read : (os : List Inside) (begun text : Bool) (tag : Option (List Expanded)) (place n : ℕ) (name : Label) (as_written : List ℕ) (scope : Bindings)
@@ -319,16 +319,16 @@ lines_read (Start name ∷ es) os begun text tag seen place n rows said fit f =
     (ap (λ xs. Start (unprefixed name) ∷ xs) (sym (plain_tag es)))
     (one_line (stands (all_read os) begun seen text place) n (line.Start (element_name name)) ((map declaration ds ++ attribute_lines m attrs) ++ behind) rows
     (nodes os) place (Start (unprefixed name) ∷ want) said (λ rest rest_said.
-      let all : AreSaid rest (map declaration ds ++ (attribute_lines m attrs ++ behind)) =
-      subst (λ ls. AreSaid rest ls) (append_assoc (map declaration ds) (attribute_lines m attrs) behind) rest_said in
-      let are : declarations rest ≡ ds =
-      declared_are scope ds m attrs behind rest all fit.1.declarations fit.1.attributes (λ rs h. none_declared es (entered (elements os) name es) rs h) in
-      let same : scope_with (declarations rest) (step.scope_of (all_read os)) ≡ scope =
-      ap (λ bs. scope_with bs (step.scope_of (all_read os))) are ∙ ap (scope_with ds) (scope_is os) ∙ scope_more ds around in
-      start_read os begun text seen place n name (element_name name) scope rest (λ c. meaning c (n + 1) rest) want
-      (ap (λ b. not begun || not b) (same_none os) ∙ fit.0) fit.1.own.read same fit.1.bound
-      (declarations_read inner ds m attrs [] last (n + 1) rest behind (plain (after_tag es)) all fit.1.declarations fit.1.attributes fit.1.new
-      (λ names k rs h. lines_read es inner true false true (Some names) (last + length attrs) k rs h fit.2 (omega arith, f)))))
+    let all : AreSaid rest (map declaration ds ++ (attribute_lines m attrs ++ behind)) =
+    subst (λ ls. AreSaid rest ls) (append_assoc (map declaration ds) (attribute_lines m attrs) behind) rest_said in
+    let are : declarations rest ≡ ds =
+    declared_are scope ds m attrs behind rest all fit.1.declarations fit.1.attributes (λ rs h. none_declared es (entered (elements os) name es) rs h) in
+    let same : scope_with (declarations rest) (step.scope_of (all_read os)) ≡ scope =
+    ap (λ bs. scope_with bs (step.scope_of (all_read os))) are ∙ ap (scope_with ds) (scope_is os) ∙ scope_more ds around in
+    start_read os begun text seen place n name (element_name name) scope rest (λ c. meaning c (n + 1) rest) want
+    (ap (λ b. not begun || not b) (same_none os) ∙ fit.0) fit.1.own.read same fit.1.bound
+    (declarations_read inner ds m attrs [] last (n + 1) rest behind (plain (after_tag es)) all fit.1.declarations fit.1.attributes fit.1.new
+    (λ names k rs h. lines_read es inner true false true (Some names) (last + length attrs) k rs h fit.2 (omega arith, f)))))
 lines_read (Space prefix uri ∷ es) os begun text tag seen place n rows said fit f = lines_read es os begun text true seen place n rows said fit.1 f
 lines_read (Attr name value ∷ es) os begun text tag seen place n rows said fit f = lines_read es os begun text true seen place n rows said fit.1 f
 lines_read (Chars more ∷ es) os begun text tag seen place n rows said fit f =
