@@ -340,6 +340,7 @@ tag_fit resolve around name es f g =
       attributes = attributes_fit (attributes_in es) (ds ++ around) (bindings_before name es) force (before_good name es g) (before_few name es g)
           g.attributes r.attributes;
       new = declarations_new ds [] (map expanded (attributes_in es)) good.apart (none_seen ds)
-          (attributes_new (attributes_in es) [] (names_declared ds) (λ n other none. no_declaration n ds other) (good_names (attributes_in es) g.attributes) g.fresh);
+          (attributes_new (attributes_in es) [] (names_declared ds) (λ n other none. no_declaration n ds other)
+          (good_names (attributes_in es) g.attributes) g.fresh);
       force = force;
     }

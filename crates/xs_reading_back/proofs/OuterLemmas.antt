@@ -195,5 +195,6 @@ outer_fit resolve es h s small =
     }) in (
       refl,
       fit,
-      all_fit resolve rest (entered [] outer_label rest) true false true [] (fit.force, tt) orderly sound (ended_top es false false 0 [] h) (omega (arith, longer, small)),
+      all_fit resolve rest (entered [] outer_label rest) true false true [] (fit.force, tt) orderly sound (ended_top es false false 0 [] h)
+          (omega (arith, longer, small)),
     )

@@ -130,7 +130,8 @@ declarations_read os [] m attrs seen place n rows ls es said ds_are are new h = 
 declarations_read os (d ∷ ds) m attrs seen place n rows ls es said ds_are are new h =
     one_line (in_tag (all_read os) seen place) n (declaration d) (map declaration ds ++ (attribute_lines m attrs ++ ls)) rows (nodes os) place
     (map attribute_event attrs ++ es) said
-    (λ rest rest_said. declaration_read (all_read os) seen place n d (λ next. meaning next (n + 1) rest) (nodes os) (map attribute_event attrs ++ es) ds_are.0 new.0
+    (λ rest rest_said. declaration_read (all_read os) seen place n d (λ next. meaning next (n + 1) rest) (nodes os) (map attribute_event attrs ++ es)
+    ds_are.0 new.0
     (declarations_read os ds m attrs (seen ++ step.declaration_name d.0 ∷ []) place (n + 1) rest ls es rest_said ds_are.1 are new.1 h))
 
 -- ---- what a start tag declares, by the rows after its start
@@ -258,7 +259,8 @@ text_read os begun tag place n text rows rest es within some ahead h =
     rw (within, some, ahead, append-nil)
     (room (stands (all_read os) begun tag false place) (stands (all_read os) begun None true (place + 1)) (text_node text (innermost (all_read os)) ∷ []) n rest
     (nodes os) place (Chars text ∷ es)
-    (leaf_given os place n (text_node text (innermost (all_read os))) (Chars text) (rest (stands (all_read os) begun None true (place + 1))) es refl refl refl h))
+    (leaf_given os place n (text_node text (innermost (all_read os))) (Chars text) (rest (stands (all_read os) begun None true (place + 1))) es refl refl
+    refl h))
 
 close_read : (i : Inside) (os : List Inside) (begun text : Bool) (tag : Option (List Expanded)) (place n : ℕ) (rest : Context → Outcome) (es : List Event)
     → Falls i.node os → Gives (rest (stands (all_read os) begun None false place)) (nodes os) place es
@@ -278,7 +280,8 @@ unfolding comment_step
 comment_read os begun text tag place n more rest es h =
     room (stands (all_read os) begun tag text place) (stands (all_read os) begun None false (place + 1)) (comment more (innermost (all_read os)) ∷ []) n rest
     (nodes os) place (Comment more ∷ es)
-    (leaf_given os place n (comment more (innermost (all_read os))) (Comment more) (rest (stands (all_read os) begun None false (place + 1))) es refl refl refl h)
+    (leaf_given os place n (comment more (innermost (all_read os))) (Comment more) (rest (stands (all_read os) begun None false (place + 1))) es refl refl
+    refl h)
 
 instruction_read : (os : List Inside) (begun text : Bool) (tag : Option (List Expanded)) (place n : ℕ) (target value : List ℕ) (rest : Context → Outcome)
     (es : List Event) → is_target target ≡ true → Gives (rest (stands (all_read os) begun None false (place + 1))) (nodes os) (place + 1) es
@@ -315,7 +318,8 @@ lines_read (Start name ∷ es) os begun text tag seen place n rows said fit f =
     let scope = scope_inside around name es in
     let last = place + 1 + length scope in
     let want = map attribute_event attrs ++ plain (after_tag es) in
-    same_events (meaning (stands (all_read os) begun seen text place) n rows) (nodes os) place (Start (unprefixed name) ∷ want) (Start (unprefixed name) ∷ plain es)
+    same_events (meaning (stands (all_read os) begun seen text place) n rows) (nodes os) place (Start (unprefixed name) ∷ want)
+    (Start (unprefixed name) ∷ plain es)
     (ap (λ xs. Start (unprefixed name) ∷ xs) (sym (plain_tag es)))
     (one_line (stands (all_read os) begun seen text place) n (line.Start (element_name name)) ((map declaration ds ++ attribute_lines m attrs) ++ behind) rows
     (nodes os) place (Start (unprefixed name) ∷ want) said (λ rest rest_said.
@@ -342,7 +346,8 @@ lines_read (Chars more ∷ es) os begun text tag seen place n rows said fit f =
 lines_read (End ∷ es) [] begun text tag seen place n rows said fit f = absurd fit
 lines_read (End ∷ es) (o ∷ os) begun text tag seen place n rows said fit f =
     let less : o.node < place = f.0 in
-    one_line (stands (all_read (o ∷ os)) begun seen text place) n (line.End o.element.name) (lines (elements os) es) rows (nodes (o ∷ os)) place (End ∷ plain es) said
+    one_line (stands (all_read (o ∷ os)) begun seen text place) n (line.End o.element.name) (lines (elements os) es) rows (nodes (o ∷ os)) place
+    (End ∷ plain es) said
     (λ rest rest_said. close_read o os begun text seen place n (λ c. meaning c (n + 1) rest) (plain es) f.1
     (same_events (meaning (stands (all_read os) begun None false place) (n + 1) rest) (nodes os) place (plain (after_tag es)) (plain es)
     (ap plain (after_same es (elements os) begun false fit))
@@ -354,7 +359,8 @@ lines_read (Comment more ∷ es) os begun text tag seen place n rows said fit f 
     (ap plain (after_same es (elements os) begun false fit.1))
     (lines_read es os begun false false None (place + 1) (n + 1) rest rest_said fit.1 (falls_more os place (place + 1) (omega arith) f))))
 lines_read (Pi target value ∷ es) os begun text tag seen place n rows said fit f =
-    one_line (stands (all_read os) begun seen text place) n (line.Pi target value) (lines (elements os) es) rows (nodes os) place (Pi target value ∷ plain es) said
+    one_line (stands (all_read os) begun seen text place) n (line.Pi target value) (lines (elements os) es) rows (nodes os) place
+    (Pi target value ∷ plain es) said
     (λ rest rest_said. instruction_read os begun text seen place n target value (λ c. meaning c (n + 1) rest) (plain es) fit.0
     (same_events (meaning (stands (all_read os) begun None false (place + 1)) (n + 1) rest) (nodes os) (place + 1) (plain (after_tag es)) (plain es)
     (ap plain (after_same es (elements os) begun false fit.3))

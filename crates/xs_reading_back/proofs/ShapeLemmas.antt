@@ -58,7 +58,8 @@ kept_orderly (Attr name value ∷ es) before n names d h =
     by_name : (t : Bool) → list_any (is_same_name name) names ≡ t → AreKept true n names (single_attributes names (kept_from (Attr name value ∷ before) es))
         → AreKept true n (name ∷ names) (single_attributes (name ∷ names) (kept_from (Attr name value ∷ before) es))
         → AreKept true n names (if t then single_attributes names (kept_from (Attr name value ∷ before) es)
-        else Attr name (last_value name value (kept_from (Attr name value ∷ before) es)) ∷ single_attributes (name ∷ names) (kept_from (Attr name value ∷ before) es))
+        else Attr name (last_value name value (kept_from (Attr name value ∷ before) es))
+        ∷ single_attributes (name ∷ names) (kept_from (Attr name value ∷ before) es))
     by_name true known same more = same
     by_name false new same more = (refl, new, more)
 
@@ -170,7 +171,8 @@ value_text [] name value h t = t
 value_text (Attr other more ∷ es) name value h t =
     by_name (is_same_name other name) (value_text es name more h.1 h.0.text) (value_text es name value h.1 t)
   where
-    by_name : (s : Bool) → IsUtf8 (last_value name more es) → IsUtf8 (last_value name value es) → IsUtf8 (if s then last_value name more es else last_value name value es)
+    by_name : (s : Bool) → IsUtf8 (last_value name more es) → IsUtf8 (last_value name value es)
+        → IsUtf8 (if s then last_value name more es else last_value name value es)
     by_name true a b = a
     by_name false a b = b
 value_text (Space prefix uri ∷ es) name value h t = value_text es name value h.1 t
