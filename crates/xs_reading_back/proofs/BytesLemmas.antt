@@ -1,16 +1,15 @@
 -- The bytes of what is fit represent its events.
-use Rattle.std.proofs.Common.{◌≡◌, ℕ, List, [], ◌∷◌, ◌++◌, None, Bool, true, false, refl, sym, ◌∙◌, ap, subst, length, map}
+use Rattle.std.proofs.Common.{◌≡◌, ℕ, List, [], ◌∷◌, None, Bool, true, false, refl, sym, ap, subst, length}
 use Rattle.std.proofs.Common.{arith}
 use Rattle.std.specs.Prelude.{nat_le, if◌then◌else◌}
-use Rattle.xs_pyx.specs.Row.{Row, rows_of}
+use Rattle.xs_pyx.specs.Row.{rows_of}
 use Rattle.xs_pyx.specs.LineLaws.{DocumentsAreRead}
 use Rattle.xs_pyx.specs.Lines.{AreLines, no_lines}
 use Rattle.xs_pyx.specs.declared.line.Line.{Line}
-use Rattle.xs_pyx.specs.Writing.{written}
 use Rattle.xs_pyx.proofs.LineLemmas.{line_before}
 use Rattle.xs_pyx.proofs.WriteLemmas.{reads_back}
 use Rattle.xs_trace.specs.declared.event.Event.{Event}
-use Rattle.xs_tree.specs.Record.{Record, root_record}
+use Rattle.xs_tree.specs.Record.{root_record}
 use Rattle.xs_build.specs.Document.{Outcome, document, outcome, refused, tree}
 use Rattle.xs_build.specs.DocumentLaws.{LinesGoByStep}
 use Rattle.xs_build.specs.Faults.{too_large}

@@ -1,13 +1,12 @@
 -- The events that a tree represents, node by node.
-use Rattle.std.proofs.Common.{◌≡◌, ℕ, zero, suc, ◌+◌, ◌<◌, ◌≤◌, List, [], ◌∷◌, ◌++◌, Option, None, Some, Bool, true, false, refl, sym, ◌∙◌, ap, subst}
+use Rattle.std.proofs.Common.{◌≡◌, ℕ, ◌+◌, ◌<◌, ◌≤◌, List, [], ◌∷◌, ◌++◌, Option, Some, Bool, true, false, refl, sym, ◌∙◌, ap, subst}
 use Rattle.std.proofs.Common.{arith, inl, inr, length, map}
 use Rattle.std.specs.Prelude.{◌==◌, ◌⊎◌}
-use Rattle.std.specs.List.{cons_option, filter_map}
+use Rattle.std.specs.List.{cons_option}
 use Rattle.std.proofs.lemmas.Bool.Decides.{nat_tests}
 use Rattle.xs_trace.specs.Label.{Label}
 use Rattle.xs_trace.specs.declared.event.Event.{Event}
 use Rattle.xs_trace.specs.declared.event.Event.TheVariants.{Start, Space, Attr, Chars, End, Comment, Pi}
-use Rattle.xs_tree.specs.declared.names.Name.{Name}
 use Rattle.xs_tree.specs.Record.{Record, is_place}
 use Rattle.xs_build.specs.declared.opened.Opened.{Opened}
 use Rattle.xs_build.specs.Document.{Outcome, tree, refused}
@@ -17,7 +16,7 @@ use Rattle.xs_build.specs.Nodes.{element, spaces}
 use Rattle.xs_build.specs.steps.Lines.{innermost, put_before}
 use Rattle.xs_writing.specs.Bindings.{Attribute, attributes_in}
 use Rattle.xs_writing.specs.Lines.{OpenElement}
-use Rattle.xs_reading_back.specs.TreeEvents.{around, event_of, events_from, label_of, opened, plain, unprefixed, with_ends}
+use Rattle.xs_reading_back.specs.TreeEvents.{around, event_of, events_from, opened, plain, unprefixed, with_ends}
 use Rattle.xs_reading_back.proofs.FitLemmas.{named_with}
 use Rattle.xs_reading_back.proofs.PlaceLemmas.{IsFit}
 use Rattle.xs_reading_back.proofs.ScopeLemmas.{in_force}

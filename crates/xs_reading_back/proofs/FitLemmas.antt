@@ -1,10 +1,10 @@
 -- The start tag of an element that can be written is read as it was meant.
-use Rattle.std.proofs.Common.{◌≡◌, ℕ, ◌+◌, ◌<◌, ◌≤◌, ◌^◌, List, [], ◌∷◌, ◌++◌, Option, None, Some, Bool, true, false, if◌then◌else◌, refl, sym, ◌∙◌, ap, subst}
+use Rattle.std.proofs.Common.{◌≡◌, ℕ, ◌+◌, ◌<◌, ◌≤◌, ◌^◌, List, [], ◌∷◌, ◌++◌, None, Some, Bool, true, false, if◌then◌else◌, refl, sym, ◌∙◌, ap, subst}
 use Rattle.std.proofs.Common.{append_assoc, arith, length, map, option_map, unwrap_or}
 use Rattle.std.specs.Prelude.{not, ◌&&◌, ◌||◌, codes}
 use Rattle.std.specs.List.{AllByRecursion, list_any}
 use Rattle.std.specs.Str.{bytes_eq, IsUtf8}
-use Rattle.std.proofs.lemmas.Bool.{and_parts, false_from_ne_true, not-true, or_from, or_parts}
+use Rattle.std.proofs.lemmas.Bool.{false_from_ne_true, or_from, or_parts}
 use Rattle.std.proofs.lemmas.List.Folds.{list_any-append}
 use Rattle.std.proofs.lemmas.Slice.Eq.{bytes_eq-Decides}
 use Rattle.xs_trace.specs.Label.{Label}
@@ -18,12 +18,12 @@ use Rattle.xs_build.proofs.WellFormedLemmas.ScopeLemmas.{IsAllowed, IsScope, not
 use Rattle.xs_result.specs.Built as kept
 use Rattle.xs_result.specs.Built.{is_same_name}
 use Rattle.xs_writing.specs.Bindings.{Attribute, Binding, attribute_prefix, attributes_in, bindings, bindings_before, chosen_prefix, declared, needs_prefix}
-use Rattle.xs_writing.specs.Bindings.{own_binding, spaces_in, with_attribute, with_attributes, with_spaces}
+use Rattle.xs_writing.specs.Bindings.{own_binding, spaces_in, with_attribute, with_attributes}
 use Rattle.xs_writing.specs.Laws.{AttributesResolve, NamesResolve, Resolves, resolved}
 use Rattle.xs_writing.specs.Lines as written
 use Rattle.xs_writing.specs.Lines.{declaration_name, name_with}
 use Rattle.xs_reading_back.proofs.NameLemmas.{IsBindable, IsWritten, declaration_written, declared_parts, name_written, no_bool, qname}
-use Rattle.xs_reading_back.proofs.ScopeLemmas.{IsForce, find, force_more, given, in_force}
+use Rattle.xs_reading_back.proofs.ScopeLemmas.{IsForce, force_more, given, in_force}
 use Rattle.xs_reading_back.proofs.TagLemmas.{AreApart, AreFew, AreGoodNames, IsGoodName, IsGoodTag, MayBind, attributes_length, chosen_bindable, few_here, few_more}
 use Rattle.xs_reading_back.proofs.TagLemmas.{full_text, good_attribute, good_attributes, good_declared, good_spaces, spaces_length}
 

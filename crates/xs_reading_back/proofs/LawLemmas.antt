@@ -1,14 +1,13 @@
 -- What is written of a result reads back.
-use Rattle.std.proofs.Common.{◌≡◌, ℕ, ◌<◌, ◌≤◌, ◌^◌, List, [], true, false, arith, length, subst}
+use Rattle.std.proofs.Common.{◌≡◌, ◌<◌, ◌≤◌, ◌^◌, List, [], true, false, arith, length, subst}
 use Rattle.xs_pyx.specs.LineLaws.{DocumentsAreRead}
 use Rattle.xs_trace.specs.declared.event.Event.{Event}
 use Rattle.xs_build.specs.Document.{document}
 use Rattle.xs_build.specs.DocumentLaws.{LinesGoByStep}
 use Rattle.xs_result.specs.Built.{built}
 use Rattle.xs_writing.specs.Laws.{LinesGoOn, NamesResolve}
-use Rattle.xs_writing.specs.Lines.{bytes_of, lines, pyx}
 use Rattle.xs_reading_back.specs.Events.{has_one_top}
-use Rattle.xs_reading_back.specs.Laws.{IsReadBack, Represents, ResultsReadBack, with_outer_events}
+use Rattle.xs_reading_back.specs.Laws.{Represents, ResultsReadBack, with_outer_events}
 use Rattle.xs_reading_back.proofs.BytesLemmas.{fit_represents}
 use Rattle.xs_reading_back.proofs.OuterLemmas.{outer_bytes, outer_fit}
 use Rattle.xs_reading_back.proofs.PlaceLemmas.{all_fit, depth_of, IsFit}

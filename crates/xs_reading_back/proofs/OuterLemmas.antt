@@ -1,8 +1,7 @@
 -- Inside one element more a result is one document.
-use Rattle.std.proofs.Common.{◌≡◌, ℕ, zero, suc, ◌+◌, ◌<◌, ◌≤◌, ◌^◌, List, [], ◌∷◌, ◌++◌, Bool, true, false, refl, sym, ◌∙◌, ap, subst}
-use Rattle.std.proofs.Common.{append_assoc, arith, length, length-append, lit<, map}
-use Rattle.std.specs.Prelude.{not, ◌&&◌, codes}
-use Rattle.std.specs.List.{AllByRecursion, flat_map, list_any}
+use Rattle.std.proofs.Common.{◌≡◌, ℕ, zero, suc, ◌+◌, ◌<◌, ◌^◌, List, [], ◌∷◌, ◌++◌, Bool, true, false, refl, sym, ◌∙◌, ap, subst}
+use Rattle.std.proofs.Common.{append_assoc, arith, length, length-append, lit<}
+use Rattle.std.specs.List.{AllByRecursion, flat_map}
 use Rattle.std.specs.Str.{IsAscii, IsUtf8}
 use Rattle.std.proofs.lemmas.List.{append-nil}
 use Rattle.std.proofs.lemmas.Str.{chars-IsAscii, IsUtf8-from_ascii}
@@ -14,7 +13,6 @@ use Rattle.xs_pyx.specs.declared.line.Line.TheVariants as line
 use Rattle.xs_trace.specs.Label.{Label}
 use Rattle.xs_trace.specs.declared.event.Event.{Event}
 use Rattle.xs_trace.specs.declared.event.Event.TheVariants.{Start, Space, Attr, Chars, End, Comment, Pi}
-use Rattle.xs_result.specs.Built.{is_same_name}
 use Rattle.xs_writing.specs.Bindings.{attributes_in, bindings, bindings_before, declared, outermost, spaces_in, uri_in, with_attributes, with_spaces}
 use Rattle.xs_writing.specs.Laws.{LinesGoOn, NamesResolve}
 use Rattle.xs_writing.specs.Lines.{OpenElement, attribute_lines, bytes_of, entered, lines, open_after, tag_lines}

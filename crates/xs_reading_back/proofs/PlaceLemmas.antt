@@ -1,11 +1,10 @@
 -- What stays of a result is fit to be read: each start tag in the bindings around it, one top element, and no text outside it.
-use Rattle.std.proofs.Common.{◌≡◌, ℕ, zero, suc, ◌+◌, ◌<◌, ◌^◌, List, [], ◌∷◌, ◌++◌, Bool, true, false, refl, sym, ◌∙◌, ap, arith, length, map}
-use Rattle.std.specs.Prelude.{not, ◌&&◌, ◌||◌}
+use Rattle.std.proofs.Common.{◌≡◌, ℕ, zero, suc, ◌+◌, ◌<◌, ◌^◌, List, [], ◌∷◌, ◌++◌, Bool, true, false, refl, ap, arith, length, map}
+use Rattle.std.specs.Prelude.{not, ◌||◌}
 use Rattle.std.specs.List.{AllByRecursion}
 use Rattle.std.specs.Str.{IsUtf8}
-use Rattle.std.proofs.lemmas.Bool.{and_parts, not-true}
+use Rattle.std.proofs.lemmas.Bool.{and_parts}
 use Rattle.xs_pyx.specs.declared.line.Line.{Line}
-use Rattle.xs_pyx.specs.declared.line.Line.TheVariants as line
 use Rattle.xs_pyx.specs.Writing.{HasTexts, IsPlain, IsPlainName}
 use Rattle.xs_text.specs.Names.{is_ncname}
 use Rattle.xs_trace.specs.Label.{Label}
@@ -15,11 +14,11 @@ use Rattle.xs_build.specs.DocumentTree.{is_target}
 use Rattle.xs_build.specs.Namespaces.{is_xml}
 use Rattle.xs_build.specs.Namespaces as read
 use Rattle.xs_result.specs.Built.{is_empty}
-use Rattle.xs_writing.specs.Bindings.{Attribute, Binding, attributes_in, bindings_before, declared, with_attribute}
+use Rattle.xs_writing.specs.Bindings.{Attribute, Binding, attributes_in, bindings_before, with_attribute}
 use Rattle.xs_writing.specs.Laws.{NamesResolve}
-use Rattle.xs_writing.specs.Lines.{OpenElement, attribute_lines, declaration, declaration_name, element_name, entered, lines, scope_of, tag_lines}
+use Rattle.xs_writing.specs.Lines.{OpenElement, attribute_lines, declaration, entered, lines, scope_of, tag_lines}
 use Rattle.xs_reading_back.specs.Events.{has_one_top}
-use Rattle.xs_reading_back.proofs.NameLemmas.{IsWritten, ncname_plain}
+use Rattle.xs_reading_back.proofs.NameLemmas.{ncname_plain}
 use Rattle.xs_reading_back.proofs.ScopeLemmas.{IsForce, force_outermost}
 use Rattle.xs_reading_back.proofs.FitLemmas.{AreAttributes, IsDeclaration, IsFitTag, declared_by, scope_inside, tag_fit}
 use Rattle.xs_reading_back.proofs.ShapeLemmas.{AreSound, IsOrderly}

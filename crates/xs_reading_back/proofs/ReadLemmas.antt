@@ -1,16 +1,15 @@
 -- The lines of what is fit are read one by one.
-use Rattle.std.proofs.Common.{◌≡◌, ℕ, ◌+◌, ◌-◌, ◌<◌, ◌≤◌, List, [], ◌∷◌, ◌++◌, Option, None, Some, Bool, true, false, refl, sym, ◌∙◌, ap, subst}
+use Rattle.std.proofs.Common.{◌≡◌, ℕ, ◌+◌, ◌<◌, List, [], ◌∷◌, ◌++◌, Option, None, Some, Bool, true, false, refl, sym, ◌∙◌, ap, subst}
 use Rattle.std.proofs.Common.{append_assoc, arith, length, map}
-use Rattle.std.specs.Prelude.{not, ◌&&◌, ◌||◌, ◌==◌, nat_le, if◌then◌else◌}
+use Rattle.std.specs.Prelude.{not, ◌&&◌, ◌||◌, ◌==◌, nat_le}
 use Rattle.std.specs.List.{AllByRecursion, cons_option, list_any}
-use Rattle.std.specs.Str.{bytes_eq}
 use Rattle.std.proofs.lemmas.Bool.{and_parts, and_right, not-true}
 use Rattle.std.proofs.lemmas.List.{append-nil}
 use Rattle.std.proofs.lemmas.List.Sums.{take_while-cons}
 use Rattle.std.proofs.lemmas.Slice.Eq.{bytes_eq-Decides}
 use Rattle.xs_text.specs.Names.{is_ncname}
 use Rattle.xs_pyx.specs.Row.{Row}
-use Rattle.xs_pyx.specs.Reading.{Reading, says, reading}
+use Rattle.xs_pyx.specs.Reading.{says, reading}
 use Rattle.xs_pyx.specs.declared.line.Line.{Line}
 use Rattle.xs_pyx.specs.declared.line.Line.TheVariants as line
 use Rattle.xs_trace.specs.Label.{Label}
@@ -20,7 +19,7 @@ use Rattle.xs_tree.specs.Limits.{most_nodes}
 use Rattle.xs_tree.specs.Record.{Record}
 use Rattle.xs_build.specs.declared.tag_names.Expanded.{Expanded}
 use Rattle.xs_build.specs.declared.opened.Opened.{Opened}
-use Rattle.xs_build.specs.Document.{Outcome, tree, refused}
+use Rattle.xs_build.specs.Document.{Outcome, tree}
 use Rattle.xs_build.specs.DocumentTree.{is_target}
 use Rattle.xs_build.specs.Faults.{too_large}
 use Rattle.xs_build.specs.Namespaces.{Bindings, is_empty, is_xml, qname_of, scope_with}
@@ -40,7 +39,7 @@ use Rattle.xs_reading_back.proofs.ScopeLemmas.{in_force, scope_more}
 use Rattle.xs_reading_back.proofs.FitLemmas.{AreAttributes, AreNew, IsAttribute, IsDeclaration, declared_by, expanded, named_with, names_declared, scope_inside}
 use Rattle.xs_reading_back.proofs.PlaceLemmas.{IsFit}
 use Rattle.xs_reading_back.proofs.EventLemmas.{Falls, Gives, Inside, after_same, after_tag, all_read, attribute_event, element_given, elements, end_given, falls_more}
-use Rattle.xs_reading_back.proofs.EventLemmas.{leaf_given, no_nodes, nodes, plain_tag, read_as, same_events}
+use Rattle.xs_reading_back.proofs.EventLemmas.{leaf_given, no_nodes, nodes, plain_tag, same_events}
 
 -- the rows say these lines
 abbrev pub AreSaid : List Row → List Line → Type 0

@@ -1,12 +1,11 @@
 -- What stays of a result: its elements are balanced, attributes and namespace nodes stand in start tags, no attribute comes twice, and
 -- no text is empty or follows another.
-use Rattle.std.proofs.Common.{◌≡◌, ℕ, zero, suc, ◌+◌, ◌-◌, ◌<◌, ◌≤◌, ◌^◌, List, [], ◌∷◌, ◌++◌, Bool, true, false, if◌then◌else◌, refl, sym, ◌∙◌, ap, subst}
+use Rattle.std.proofs.Common.{◌≡◌, ℕ, zero, suc, ◌-◌, ◌≤◌, List, [], ◌∷◌, ◌++◌, Bool, true, false, if◌then◌else◌, refl, ap}
 use Rattle.std.proofs.Common.{All, arith, length}
 use Rattle.std.specs.Prelude.{not, ◌&&◌, codes}
 use Rattle.std.specs.List.{AllByRecursion, list_any}
 use Rattle.std.specs.Str.{bytes_eq, IsUtf8}
 use Rattle.std.proofs.lemmas.List.Elements.{All-head, All-tail}
-use Rattle.std.proofs.lemmas.List.Sums.{take_while-cons}
 use Rattle.std.proofs.lemmas.Str.{IsUtf8-append}
 use Rattle.xs_trace.specs.Label.{Label}
 use Rattle.xs_trace.specs.declared.event.Event.{Event}
@@ -14,12 +13,11 @@ use Rattle.xs_trace.specs.declared.event.Event.TheVariants.{Start, Space, Attr, 
 use Rattle.xs_build.specs.DocumentTree.{is_target}
 use Rattle.xs_making.specs.Laws.{IsWellPut}
 use Rattle.xs_making.specs.Texts as texts
-use Rattle.xs_result.specs.Built.{built, depth, in_front, is_empty, is_inside, is_same_name, is_start_open, joined, kept_from, last_value, single_attributes, stays}
-use Rattle.xs_writing.specs.Bindings.{Attribute, attribute_of, attributes_in, is_in_tag, space_of, spaces_in}
-use Rattle.xs_reading_back.specs.Events.{HasTexts, IsResult, is_balanced}
+use Rattle.xs_result.specs.Built.{built, depth, in_front, is_empty, is_same_name, is_start_open, joined, kept_from, last_value, single_attributes, stays}
+use Rattle.xs_reading_back.specs.Events.{HasTexts, is_balanced}
 use Rattle.xs_reading_back.proofs.NameLemmas.{IsBindable, name_bindable, space_bindable}
-use Rattle.xs_reading_back.proofs.TagLemmas.{IsGoodName, MayBind}
-use Rattle.xs_reading_back.proofs.FitLemmas.{AreFresh, IsGoodAttribute, IsGoodElement}
+use Rattle.xs_reading_back.proofs.TagLemmas.{IsGoodName}
+use Rattle.xs_reading_back.proofs.FitLemmas.{IsGoodAttribute}
 
 -- ---- the order of events
 -- Whether a text stands just before, an attribute may follow, how many elements are open, and which attributes the start tag has. With

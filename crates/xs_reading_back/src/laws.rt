@@ -1,5 +1,5 @@
-//! What is true of a result that is written and read. The function does nothing: its contract is the
-//! law.
+//! What is true of a result that is written and read. The function does nothing: its contract is
+//! the law.
 ghost use Rattle.xs_reading_back.specs.Laws.{ResultsReadBack};
 
 /// The lines of a result are those of a document with the same elements, attributes, texts,
