@@ -50,14 +50,14 @@ fn put_by_sheet(
 )
     requires sound { IsSound sheet.now }
 {
-    let mut between = "";
+    let mut is_first = true;
     for name in names.split(' ') {
-        out.put(between);
+        out.put(if is_first { "" } else { "; " });
+        is_first = false;
         match reply_on(alloc, sheet, library, name) {
             Ok(reply) => put_reply(out, &reply),
             Err(_) => out.refuse(),
         }
-        between = "; ";
     }
 }
 
