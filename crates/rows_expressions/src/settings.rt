@@ -136,7 +136,8 @@ impl Settings {
     // Adds a local variable with its value.
     fn add_local(&mut self, out: &mut Answer, text: &str) {
         let (name, value) = word(text);
-        self.add_slot(out, name, Slot::Local(number_of(self.locals.len())));
+        let slot = Slot::Local(number_of(self.locals.len()));
+        self.add_slot(out, name, slot);
         match operand(self.alloc, value) {
             Ok(value) => {
                 let outcome = self.locals.push(value);
@@ -151,7 +152,8 @@ impl Settings {
     // Adds a global variable, with its value where it has one.
     fn add_global(&mut self, out: &mut Answer, text: &str) {
         let (name, value) = word(text);
-        self.add_slot(out, name, Slot::Global(number_of(self.globals.len())));
+        let slot = Slot::Global(number_of(self.globals.len()));
+        self.add_slot(out, name, slot);
         match operand_if(self.alloc, value) {
             Ok(value) => {
                 let outcome = self.globals.push(value);
