@@ -167,13 +167,7 @@ impl Settings {
 
     // Adds a variable with its slot.
     fn add_slot(&mut self, out: &mut Answer, name: &str, slot: Slot) {
-        let (prefix, local) = name.split_once(':').unwrap_or(("", name));
-        let uri = if prefix.is_empty() {
-            ""
-        } else {
-            self.scope.uri_in(prefix).unwrap_or("")
-        };
-        match label(self.alloc, uri, local) {
+        match self.expanded(name) {
             Ok(name) => {
                 let outcome = self.slots.push((name, slot));
                 if outcome.is_err() {
@@ -182,6 +176,15 @@ impl Settings {
             }
             Err(_) => out.refuse(),
         }
+    }
+
+    // The name of a variable.
+    fn expanded(&self, name: &str) -> Result<Label, AllocError> {
+        let (prefix, local) = name.split_once(':').unwrap_or(("", name));
+        if prefix.is_empty() {
+            return label(self.alloc, "", local);
+        }
+        label(self.alloc, self.scope.uri_in(prefix).unwrap_or(""), local)
     }
 }
 
