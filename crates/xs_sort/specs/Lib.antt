@@ -1,4 +1,3 @@
--- Keys and Sorting are what a reader has to believe.
+-- Keys is what a reader has to believe.
 pub mod Keys
 pub mod Rows
-pub mod Sorting
