@@ -2,7 +2,7 @@
 
 ghost use Rattle.std.specs.Prelude.{◌≡◌, ◌<◌, ◌+◌, ◌∷◌, drop, length, true, IfOk, IsSome, OnOk};
 ghost use Rattle.std.specs.List.{All};
-ghost use Rattle.xs_body.specs.Inside.{AreIn, IsWorld};
+ghost use Rattle.xs_body.specs.Inside.{AreIn};
 ghost use Rattle.xs_semantics.specs.World.{nodes_or_children};
 ghost use Rattle.xs_body.specs.steps.Frames.{advanced, applied_begun, apply_begun, apply_left};
 ghost use Rattle.xs_body.specs.steps.Frames.{bindings_of, each_begun, each_left, loop_begun};
@@ -43,7 +43,6 @@ pub(crate) fn begin_apply<'a, K: KeyFinder, R: Recorder<Task = Task<'a>>>(
     stack: &mut Stack<'a>,
     recorder: &mut R,
 ) -> Result<(), Halt>
-    requires world { IsWorld world.now }
     requires holes { IsSome world.now.grain → R.takes_holes ≡ true }
     requires node { scope.focus.node < length world.now.tree }
     requires inside { AreIn world.now.tree stack.old }
@@ -79,7 +78,6 @@ fn nodes_or_children<'a, K: KeyFinder, R: Recorder>(
     site: Site,
     recorder: &mut R,
 ) -> Result<NodeList, Halt>
-    requires world { IsWorld world.now }
     requires node { focus.node < length world.now.tree }
     requires locals { All (IsIn world.now.tree) locals.now }
     ensures told { IsStepBy (λ l. nodes_in l) (limited site
@@ -126,7 +124,6 @@ pub(crate) fn apply<'a, K: KeyFinder, R: Recorder<Task = Task<'a>>>(
     stack: &mut Stack<'a>,
     recorder: &mut R,
 ) -> Result<(), Halt>
-    requires world { IsWorld world.now }
     requires holes { IsSome world.now.grain → R.takes_holes ≡ true }
     requires nodes { All (λ n. n < length world.now.tree) (nodes_in nodes) }
     requires passed { All (IsIn world.now.tree) passed.values }
@@ -173,7 +170,6 @@ pub(crate) fn apply_next<'a, K: KeyFinder, R: Recorder<Task = Task<'a>>>(
     stack: &mut Stack<'a>,
     recorder: &mut R,
 ) -> Result<(), Halt>
-    requires world { IsWorld world.now }
     requires holes { IsSome world.now.grain → R.takes_holes ≡ true }
     requires nodes { All (λ n. n < length world.now.tree) (nodes_in nodes) }
     requires passed { All (IsIn world.now.tree) passed.values }
@@ -208,7 +204,6 @@ fn apply_at<'a, K: KeyFinder, R: Recorder<Task = Task<'a>>>(
     stack: &mut Stack<'a>,
     recorder: &mut R,
 ) -> Result<(), Halt>
-    requires world { IsWorld world.now }
     requires holes { IsSome world.now.grain → R.takes_holes ≡ true }
     requires nodes { All (λ n. n < length world.now.tree) (nodes_in nodes) }
     requires node { node < length world.now.tree }
@@ -251,7 +246,6 @@ pub(crate) fn begin_each<'a, K: KeyFinder, R: Recorder<Task = Task<'a>>>(
     stack: &mut Stack<'a>,
     recorder: &mut R,
 ) -> Result<(), Halt>
-    requires world { IsWorld world.now }
     requires holes { IsSome world.now.grain → R.takes_holes ≡ true }
     requires node { scope.focus.node < length world.now.tree }
     requires inside { AreIn world.now.tree stack.old }
@@ -286,7 +280,6 @@ fn each<'a, K: KeyFinder, R: Recorder<Task = Task<'a>>>(
     stack: &mut Stack<'a>,
     recorder: &mut R,
 ) -> Result<(), Halt>
-    requires world { IsWorld world.now }
     requires holes { IsSome world.now.grain → R.takes_holes ≡ true }
     requires nodes { All (λ n. n < length world.now.tree) (nodes_in nodes) }
     requires inside { AreIn world.now.tree stack.old }

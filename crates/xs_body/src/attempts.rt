@@ -3,7 +3,7 @@
 ghost use Rattle.std.specs.Prelude.{◌≡◌, ◌<◌, ◌++◌, [], ◌∷◌, length, slice_get};
 ghost use Rattle.std.specs.Prelude.{true, IfOk, IsSome, None, OnOk};
 ghost use Rattle.xs_semantics.specs.Globals.{attempt_cut, attempt_value, global_focus};
-ghost use Rattle.xs_body.specs.Inside.{AreIn, IsAttemptIn, IsWorld};
+ghost use Rattle.xs_body.specs.Inside.{AreIn, IsAttemptIn};
 ghost use Rattle.xs_body.specs.Results.{IsAttempt};
 ghost use Rattle.xs_semantics.specs.Tasks.{Task};
 ghost use Rattle.xs_semantics.specs.World.{value_run};
@@ -64,7 +64,6 @@ pub enum Attempt {
 impl<'a, K: KeyFinder> SheetRunner<'a, K> {
     /// What the content of a global does, cut at a number of ticks.
     pub fn attempt(&self, alloc: Global, global: u32, limit: u64) -> Result<Attempt, AllocError>
-        requires world { IsWorld self.now }
         requires whole { self.now.grain ≡ None }
         ensures attempt { IfOk result (IsAttempt (attempt_cut self.now global limit)
             (attempt_value self.now (slice_get self.now.sheet.globals global))) }
@@ -152,7 +151,6 @@ fn tell_global<'a, K: KeyFinder, R: Recorder<Task = Task<'a>>>(
     global: u32,
     recorder: &mut R,
 ) -> Result<Value, Halt>
-    requires world { IsWorld world.now }
     requires holes { IsSome world.now.grain → R.takes_holes ≡ true }
     ensures told { IsStep (attempt_steps world.now
         (slice_get world.now.sheet.globals global) (R.state recorder.old))
@@ -174,7 +172,6 @@ fn tell_binding<'a, K: KeyFinder, R: Recorder<Task = Task<'a>>>(
     binding: &'a Binding,
     recorder: &mut R,
 ) -> Result<Value, Halt>
-    requires world { IsWorld world.now }
     requires holes { IsSome world.now.grain → R.takes_holes ≡ true }
     ensures told { IsStep (binding_steps world.now binding.now (R.state recorder.old))
         result (R.state recorder.new) }
@@ -204,7 +201,6 @@ fn tell_selected<'a, K: KeyFinder, R: Recorder<Task = Task<'a>>>(
     site: Site,
     recorder: &mut R,
 ) -> Result<Value, Halt>
-    requires world { IsWorld world.now }
     ensures told { IsStep (limited site (value_run world.now expr.now global_focus [])
         (R.state recorder.old)) result (R.state recorder.new) }
     ensures kept { R.kept recorder.new ≡ R.kept recorder.old }
@@ -222,7 +218,6 @@ fn tell_content<'a, K: KeyFinder, R: Recorder<Task = Task<'a>>>(
     body: &'a Body,
     recorder: &mut R,
 ) -> Result<Value, Halt>
-    requires world { IsWorld world.now }
     requires holes { IsSome world.now.grain → R.takes_holes ≡ true }
     ensures told { IsStep (fragment_steps world.now body.now (R.state recorder.old))
         result (R.state recorder.new) }

@@ -1,7 +1,7 @@
 //! The values of bindings (XSLT 1.0, 11.2).
 
 ghost use Rattle.std.specs.Prelude.{◌≡◌, ◌<◌, ◌∷◌, [], length, true, IfOk, IsSome, OnOk};
-ghost use Rattle.xs_body.specs.Inside.{AreIn, IsWorld};
+ghost use Rattle.xs_body.specs.Inside.{AreIn};
 ghost use Rattle.xs_semantics.specs.Trace.{fragment_of};
 ghost use Rattle.xs_body.specs.steps.Frames.{advanced};
 ghost use Rattle.xs_body.specs.steps.Frames.{captured_scope, content_begun, fill, instrs_of};
@@ -36,7 +36,6 @@ pub(crate) fn bind<'a, K: KeyFinder, R: Recorder<Task = Task<'a>>>(
     stack: &mut Stack<'a>,
     recorder: &mut R,
 ) -> Result<(), Halt>
-    requires world { IsWorld world.now }
     requires holes { IsSome world.now.grain → R.takes_holes ≡ true }
     requires node { scope.focus.node < length world.now.tree }
     requires inside { AreIn world.now.tree stack.old }
@@ -66,7 +65,6 @@ fn bind_selected<'a, K: KeyFinder, R: Recorder<Task = Task<'a>>>(
     stack: &mut Stack<'a>,
     recorder: &mut R,
 ) -> Result<(), Halt>
-    requires world { IsWorld world.now }
     requires holes { IsSome world.now.grain → R.takes_holes ≡ true }
     requires node { scope.focus.node < length world.now.tree }
     requires inside { AreIn world.now.tree stack.old }

@@ -2,7 +2,7 @@
 
 ghost use Rattle.std.specs.Prelude.{◌≡◌, ◌<◌, ◌∷◌, ◌++◌, [], length, true, IsSome, OnOk};
 ghost use Rattle.std.specs.List.{All};
-ghost use Rattle.xs_body.specs.Inside.{AreCallees, AreIn, IsWorld};
+ghost use Rattle.xs_body.specs.Inside.{AreCallees, AreIn};
 ghost use Rattle.xs_semantics.specs.Trace.{by_number};
 ghost use Rattle.xs_body.specs.steps.Frames.{advanced, bindings_of, call_begun, called_of};
 ghost use Rattle.xs_body.specs.steps.Frames.{captured_scope, instrs_of};
@@ -76,7 +76,6 @@ pub(crate) fn pass_next<'a, K: KeyFinder, R: Recorder<Task = Task<'a>>>(
     stack: &mut Stack<'a>,
     recorder: &mut R,
 ) -> Result<(), Halt>
-    requires world { IsWorld world.now }
     requires holes { IsSome world.now.grain → R.takes_holes ≡ true }
     requires node { scope.focus.node < length world.now.tree }
     requires values { All (IsIn world.now.tree) values.items }
@@ -123,7 +122,6 @@ fn pass<'a, K: KeyFinder, R: Recorder<Task = Task<'a>>>(
     stack: &mut Stack<'a>,
     recorder: &mut R,
 ) -> Result<(), Halt>
-    requires world { IsWorld world.now }
     requires holes { IsSome world.now.grain → R.takes_holes ≡ true }
     requires node { scope.focus.node < length world.now.tree }
     requires values { All (IsIn world.now.tree) values.items }
@@ -165,7 +163,6 @@ fn pass_selected<'a, K: KeyFinder, R: Recorder<Task = Task<'a>>>(
     stack: &mut Stack<'a>,
     recorder: &mut R,
 ) -> Result<(), Halt>
-    requires world { IsWorld world.now }
     requires holes { IsSome world.now.grain → R.takes_holes ≡ true }
     requires node { scope.focus.node < length world.now.tree }
     requires values { All (IsIn world.now.tree) values.items }
@@ -276,7 +273,6 @@ pub(crate) fn take_value<'a, K: KeyFinder, R: Recorder<Task = Task<'a>>>(
     stack: &mut Stack<'a>,
     recorder: &mut R,
 ) -> Result<(), Halt>
-    requires world { IsWorld world.now }
     requires holes { IsSome world.now.grain → R.takes_holes ≡ true }
     requires node { scope.focus.node < length world.now.tree }
     requires values { All (IsIn world.now.tree) values.items }
@@ -308,7 +304,6 @@ fn call<'a, K: KeyFinder, R: Recorder<Task = Task<'a>>>(
     stack: &mut Stack<'a>,
     recorder: &mut R,
 ) -> Result<(), Halt>
-    requires world { IsWorld world.now }
     requires holes { IsSome world.now.grain → R.takes_holes ≡ true }
     requires node { scope.focus.node < length world.now.tree }
     requires values { All (IsIn world.now.tree) values.items }

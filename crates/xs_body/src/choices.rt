@@ -2,7 +2,7 @@
 
 ghost use Rattle.std.specs.Prelude.{◌≡◌, ◌<◌, length, true, IsSome, OnOk};
 ghost use Rattle.std.specs.List.{All};
-ghost use Rattle.xs_body.specs.Inside.{AreIn, IsWorld};
+ghost use Rattle.xs_body.specs.Inside.{AreIn};
 ghost use Rattle.xs_body.specs.steps.Frames.{choice_begun, chosen, if_begun, stack_of};
 ghost use Rattle.xs_trace.specs.Play.{IsStepBy};
 ghost use Rattle.xs_trace.specs.Run.{limited};
@@ -32,7 +32,6 @@ pub(crate) fn begin_if<'a, K: KeyFinder, R: Recorder<Task = Task<'a>>>(
     stack: &mut Stack<'a>,
     recorder: &mut R,
 ) -> Result<(), Halt>
-    requires world { IsWorld world.now }
     requires holes { IsSome world.now.grain → R.takes_holes ≡ true }
     requires node { scope.focus.node < length world.now.tree }
     requires inside { AreIn world.now.tree stack.old }
@@ -59,7 +58,6 @@ pub(crate) fn begin_choice<'a, K: KeyFinder, R: Recorder<Task = Task<'a>>>(
     stack: &mut Stack<'a>,
     recorder: &mut R,
 ) -> Result<(), Halt>
-    requires world { IsWorld world.now }
     requires holes { IsSome world.now.grain → R.takes_holes ≡ true }
     requires node { scope.focus.node < length world.now.tree }
     requires inside { AreIn world.now.tree stack.old }
@@ -85,7 +83,6 @@ fn chosen<'a, K: KeyFinder, T: Tally>(
     site: Site,
     tally: &mut T,
 ) -> Result<&'a Body, Halt>
-    requires world { IsWorld world.now }
     requires node { focus.node < length world.now.tree }
     requires locals { All (IsIn world.now.tree) locals.now }
     ensures told { IsStepBy (λ body. body.now) (limited site

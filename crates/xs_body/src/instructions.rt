@@ -1,7 +1,7 @@
 //! How each instruction begins.
 
 ghost use Rattle.std.specs.Prelude.{◌≡◌, ◌<◌, length, true, IsSome, OnOk, Some};
-ghost use Rattle.xs_body.specs.Inside.{AreIn, IsWorld};
+ghost use Rattle.xs_body.specs.Inside.{AreIn};
 ghost use Rattle.xs_body.specs.steps.Frames.{begun, bodies_of, fallbacks_begun, imports_begun};
 ghost use Rattle.xs_body.specs.steps.Frames.{literal_begun, message_begun, message_ended};
 ghost use Rattle.xs_body.specs.steps.Frames.{next_body, stack_of};
@@ -37,7 +37,6 @@ pub(crate) fn begin<'a, K: KeyFinder, R: Recorder<Task = Task<'a>>>(
     stack: &mut Stack<'a>,
     recorder: &mut R,
 ) -> Result<(), Halt>
-    requires world { IsWorld world.now }
     requires holes { IsSome world.now.grain → R.takes_holes ≡ true }
     requires node { scope.focus.node < length world.now.tree }
     requires inside { AreIn world.now.tree stack.old }
@@ -102,7 +101,6 @@ fn begin_imports<'a, K: KeyFinder, R: Recorder<Task = Task<'a>>>(
     stack: &mut Stack<'a>,
     recorder: &mut R,
 ) -> Result<(), Halt>
-    requires world { IsWorld world.now }
     requires holes { IsSome world.now.grain → R.takes_holes ≡ true }
     requires node { scope.focus.node < length world.now.tree }
     requires inside { AreIn world.now.tree stack.old }
@@ -128,7 +126,6 @@ fn import_behind<'a, K: KeyFinder, R: Recorder<Task = Task<'a>>>(
     stack: &mut Stack<'a>,
     recorder: &mut R,
 ) -> Result<(), Halt>
-    requires world { IsWorld world.now }
     requires holes { IsSome world.now.grain → R.takes_holes ≡ true }
     requires node { focus.node < length world.now.tree }
     requires inside { AreIn world.now.tree stack.old }
@@ -152,7 +149,6 @@ fn begin_message<'a, K: KeyFinder, R: Recorder<Task = Task<'a>>>(
     stack: &mut Stack<'a>,
     recorder: &mut R,
 ) -> Result<(), Halt>
-    requires world { IsWorld world.now }
     requires holes { IsSome world.now.grain → R.takes_holes ≡ true }
     requires node { scope.focus.node < length world.now.tree }
     requires inside { AreIn world.now.tree stack.old }
@@ -198,7 +194,6 @@ fn begin_literal<'a, K: KeyFinder, R: Recorder<Task = Task<'a>>>(
     stack: &mut Stack<'a>,
     recorder: &mut R,
 ) -> Result<(), Halt>
-    requires world { IsWorld world.now }
     requires holes { IsSome world.now.grain → R.takes_holes ≡ true }
     requires node { scope.focus.node < length world.now.tree }
     requires inside { AreIn world.now.tree stack.old }

@@ -2,7 +2,6 @@
 
 ghost use Rattle.std.specs.Prelude.{◌≡◌, ◌<◌, length, IfOk};
 ghost use Rattle.std.specs.List.{All};
-ghost use Rattle.xs_body.specs.Inside.{IsWorld};
 ghost use Rattle.xs_body.specs.steps.Frames.{chars_steps, literal_steps, space_steps};
 ghost use Rattle.xs_body.specs.steps.Frames.{value_steps};
 ghost use Rattle.xs_trace.specs.Play.{IsStep, put};
@@ -48,7 +47,6 @@ pub(crate) fn put_value<'a, K: KeyFinder, R: Recorder<Task = Task<'a>>>(
     site: Site,
     recorder: &mut R,
 ) -> Result<(), Halt>
-    requires world { IsWorld world.now }
     requires node { focus.node < length world.now.tree }
     requires locals { All (IsIn world.now.tree) locals.now }
     ensures told { IsStep (value_steps world.now select.now site focus locals.now

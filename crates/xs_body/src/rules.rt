@@ -1,7 +1,6 @@
 //! The rules for nodes (XSLT 1.0, 5.5 and 5.6).
 
 ghost use Rattle.std.specs.Prelude.{◌≡◌, ◌<◌, length, IfOk};
-ghost use Rattle.xs_body.specs.Inside.{IsWorld};
 ghost use Rattle.xs_semantics.specs.Rules.{import_for, rule_for, template_of};
 
 use crate::world::World;
@@ -19,7 +18,6 @@ pub(crate) fn rule_for<'a, K: KeyFinder>(
     mode: u32,
     node: u32,
 ) -> Result<Option<u32>, AllocError>
-    requires world { IsWorld world.now }
     requires node { node < length world.now.tree }
     ensures { IfOk result (λ rule. rule ≡ rule_for world.now mode node) }
 {
@@ -35,7 +33,6 @@ pub(crate) fn import_for<'a, K: KeyFinder>(
     current: u32,
     focus: Focus,
 ) -> Result<Option<u32>, AllocError>
-    requires world { IsWorld world.now }
     requires node { focus.node < length world.now.tree }
     ensures { IfOk result (λ rule. rule ≡ import_for world.now current focus) }
 {

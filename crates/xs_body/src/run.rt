@@ -1,7 +1,7 @@
 //! The loop over what is still to be done.
 
 ghost use Rattle.std.specs.Prelude.{◌≡◌, ◌<◌, ◌∷◌, length, true, IsSome, OnOk};
-ghost use Rattle.xs_body.specs.Inside.{AreIn, IsInside, IsWorld};
+ghost use Rattle.xs_body.specs.Inside.{AreIn, IsInside};
 ghost use Rattle.xs_body.specs.steps.Frames.{advanced, rest, stack_of, stack_told, work_of};
 ghost use Rattle.xs_trace.specs.Play.{IsStep, IsStepBy};
 
@@ -27,7 +27,6 @@ pub(crate) fn finish<'a, K: KeyFinder, R: Recorder<Task = Task<'a>>>(
     stack: Stack<'a>,
     recorder: &mut R,
 ) -> Result<(), Halt>
-    requires world { IsWorld world.now }
     requires holes { IsSome world.now.grain → R.takes_holes ≡ true }
     requires inside { AreIn world.now.tree stack }
     ensures told { IsStep (stack_told world.now (stack_of stack.entry) (R.state recorder.old))
@@ -53,7 +52,6 @@ fn advance<'a, K: KeyFinder, R: Recorder<Task = Task<'a>>>(
     stack: &mut Stack<'a>,
     recorder: &mut R,
 ) -> Result<(), Halt>
-    requires world { IsWorld world.now }
     requires holes { IsSome world.now.grain → R.takes_holes ≡ true }
     requires first { IsInside world.now.tree frame }
     requires inside { AreIn world.now.tree stack.old }
@@ -133,7 +131,6 @@ fn go_on<'a, K: KeyFinder, R: Recorder<Task = Task<'a>>>(
     stack: &mut Stack<'a>,
     recorder: &mut R,
 ) -> Result<(), Halt>
-    requires world { IsWorld world.now }
     requires holes { IsSome world.now.grain → R.takes_holes ≡ true }
     requires node { scope.focus.node < length world.now.tree }
     requires inside { AreIn world.now.tree stack.old }
@@ -162,7 +159,6 @@ fn begin_next<'a, K: KeyFinder, R: Recorder<Task = Task<'a>>>(
     stack: &mut Stack<'a>,
     recorder: &mut R,
 ) -> Result<(), Halt>
-    requires world { IsWorld world.now }
     requires holes { IsSome world.now.grain → R.takes_holes ≡ true }
     requires node { scope.focus.node < length world.now.tree }
     requires inside { AreIn world.now.tree stack.old }

@@ -80,6 +80,14 @@ impl<'a, K: KeyFinder> SheetRunner<'a, K> {
         globals: &'a [Option<Value>],
         grain: Option<u32>,
     ) -> SheetRunner<'a, K>
+        requires world { IsWorld (record {
+          sheet = sheet.now;
+          index = index.now;
+          tree = tree.now;
+          keys = K.tables keys.now;
+          globals = globals.now;
+          grain = grain;
+        }) }
         ensures { result ≡ record {
           sheet = sheet.now;
           index = index.now;
@@ -132,7 +140,6 @@ impl<'a, K: KeyFinder> SheetRunner<'a, K> {
         pool: Pool<Item>,
         children: &mut Vec<Task<'a>>,
     ) -> Finished<T>
-        requires world { IsWorld self.now }
         requires settled { All IsSome self.now.globals }
         requires task { IsTaskIn self.now.tree task.now }
         ensures piece { IfOk result.outcome (IsPiece (task_trace self.now task.now) limits
@@ -162,7 +169,6 @@ impl<'a, K: KeyFinder> SheetRunner<'a, K> {
         limits: Limits,
         pool: &mut Pool<Item>,
     ) -> Result<Outcome, AllocError>
-        requires world { IsWorld self.now }
         requires settled { All IsSome self.now.globals }
         requires task { IsTaskIn self.now.tree task.now }
         ensures outcome { IfOk result
@@ -239,7 +245,6 @@ pub fn tell_task<'a, K: KeyFinder, R: Recorder<Task = Task<'a>>>(
     task: &Task<'a>,
     recorder: &mut R,
 ) -> Result<(), Halt>
-    requires world { IsWorld world.now }
     requires holes { IsSome world.now.grain → R.takes_holes ≡ true }
     requires task { IsTaskIn world.now.tree task.now }
     ensures told { IsStep (play (task_trace world.now task.now) (R.state recorder.old))

@@ -2,7 +2,7 @@
 
 ghost use Rattle.std.specs.Prelude.{◌≡◌, ◌<◌, ◌∷◌, length, slice_get, true, IsSome, OnOk};
 ghost use Rattle.std.specs.List.{All};
-ghost use Rattle.xs_body.specs.Inside.{AreIn, IsWorld};
+ghost use Rattle.xs_body.specs.Inside.{AreIn};
 ghost use Rattle.xs_semantics.specs.Trace.{fitting, named, overridden};
 ghost use Rattle.xs_semantics.specs.Tasks.{no_params};
 ghost use Rattle.xs_body.specs.steps.Frames.{advanced, applied_begun, built_in_begun};
@@ -70,7 +70,6 @@ pub(crate) fn enter_fitting<'a, K: KeyFinder, R: Recorder<Task = Task<'a>>>(
     stack: &mut Stack<'a>,
     recorder: &mut R,
 ) -> Result<(), Halt>
-    requires world { IsWorld world.now }
     requires holes { IsSome world.now.grain → R.takes_holes ≡ true }
     requires node { focus.node < length world.now.tree }
     requires passed { All (IsIn world.now.tree) passed.values }
@@ -102,7 +101,6 @@ pub(crate) fn enter_overridden<'a, K: KeyFinder, R: Recorder<Task = Task<'a>>>(
     stack: &mut Stack<'a>,
     recorder: &mut R,
 ) -> Result<(), Halt>
-    requires world { IsWorld world.now }
     requires holes { IsSome world.now.grain → R.takes_holes ≡ true }
     requires node { focus.node < length world.now.tree }
     requires inside { AreIn world.now.tree stack.old }
@@ -135,7 +133,6 @@ fn begin_rule<'a, K: KeyFinder, R: Recorder<Task = Task<'a>>>(
     stack: &mut Stack<'a>,
     recorder: &mut R,
 ) -> Result<(), Halt>
-    requires world { IsWorld world.now }
     requires holes { IsSome world.now.grain → R.takes_holes ≡ true }
     requires node { focus.node < length world.now.tree }
     requires passed { All (IsIn world.now.tree) passed.values }
@@ -165,7 +162,6 @@ fn begin_built_in<'a, K: KeyFinder, R: Recorder<Task = Task<'a>>>(
     stack: &mut Stack<'a>,
     recorder: &mut R,
 ) -> Result<(), Halt>
-    requires world { IsWorld world.now }
     requires holes { IsSome world.now.grain → R.takes_holes ≡ true }
     requires node { focus.node < length world.now.tree }
     requires inside { AreIn world.now.tree stack.old }
@@ -195,7 +191,6 @@ fn apply_to_children<'a, K: KeyFinder, R: Recorder<Task = Task<'a>>>(
     stack: &mut Stack<'a>,
     recorder: &mut R,
 ) -> Result<(), Halt>
-    requires world { IsWorld world.now }
     requires holes { IsSome world.now.grain → R.takes_holes ≡ true }
     requires node { focus.node < length world.now.tree }
     requires inside { AreIn world.now.tree stack.old }
@@ -275,7 +270,6 @@ pub(crate) fn next_param<'a, K: KeyFinder, R: Recorder<Task = Task<'a>>>(
     stack: &mut Stack<'a>,
     recorder: &mut R,
 ) -> Result<(), Halt>
-    requires world { IsWorld world.now }
     requires holes { IsSome world.now.grain → R.takes_holes ≡ true }
     requires node { scope.focus.node < length world.now.tree }
     requires passed { All (IsIn world.now.tree) passed.values }
@@ -310,7 +304,6 @@ fn bind_param<'a, K: KeyFinder, R: Recorder<Task = Task<'a>>>(
     stack: &mut Stack<'a>,
     recorder: &mut R,
 ) -> Result<(), Halt>
-    requires world { IsWorld world.now }
     requires holes { IsSome world.now.grain → R.takes_holes ≡ true }
     requires node { scope.focus.node < length world.now.tree }
     requires passed { All (IsIn world.now.tree) passed.values }

@@ -2,7 +2,6 @@
 
 ghost use Rattle.std.specs.Prelude.{◌≡◌, ◌<◌, IfOk, length};
 ghost use Rattle.std.specs.List.{All};
-ghost use Rattle.xs_body.specs.Inside.{IsWorld};
 ghost use Rattle.xs_semantics.specs.World.{nodes_run, test_run, text_run, value_run};
 ghost use Rattle.xs_trace.specs.Play.{IsStep, IsStepBy};
 ghost use Rattle.xs_trace.specs.Run.{limited};
@@ -26,7 +25,7 @@ use xs_value::keys::KeyFinder;
 use xs_value::node_set::NodeSet;
 use xs_value::value::Value;
 
-/// A stylesheet, and what it is evaluated over.
+/// A stylesheet that is sound, and what it is evaluated over (`IsWorld`).
 #[derive(Drop)]
 pub struct World<'a, K: KeyFinder> {
     /// The stylesheet.
@@ -49,6 +48,7 @@ impl<'a, K: KeyFinder> Model for World<'a, K> {
     ghost use Rattle.xs_rules.specs.contracts.index.RuleIndex as of_index;
     ghost use Rattle.xs_sheet.specs.contracts.sheet.Sheet as of_sheet;
     ghost use Rattle.xs_semantics.specs.World.{World};
+    ghost use Rattle.xs_body.specs.Inside.{IsWorld};
 
     ghost Value = { World };
 
@@ -66,6 +66,15 @@ impl<'a, K: KeyFinder> Model for World<'a, K> {
       globals = w.globals.now;
       grain = w.grain;
     } };
+
+    ghost invariant = { λ w. IsWorld (record {
+      sheet = w.sheet.now;
+      index = w.index.now;
+      tree = w.tree.now;
+      keys = K.tables w.keys.now;
+      globals = w.globals.now;
+      grain = w.grain;
+    }) };
 }
 
 impl<'a, K: KeyFinder> World<'a, K> {
@@ -80,7 +89,6 @@ impl<'a, K: KeyFinder> World<'a, K> {
         site: Site,
         tally: &mut T,
     ) -> Result<Value, Halt>
-        requires world { IsWorld self.now }
         requires node { focus.node < length self.now.tree }
         requires locals { All (IsIn self.now.tree) locals.now }
         ensures told { IsStep (limited site (value_run self.now expr.now focus locals.now)
@@ -111,7 +119,6 @@ impl<'a, K: KeyFinder> World<'a, K> {
         site: Site,
         tally: &mut T,
     ) -> Result<NodeSet, Halt>
-        requires world { IsWorld self.now }
         requires node { focus.node < length self.now.tree }
         requires locals { All (IsIn self.now.tree) locals.now }
         ensures told { IsStep (limited site (nodes_run self.now expr.now focus locals.now)
@@ -135,7 +142,6 @@ impl<'a, K: KeyFinder> World<'a, K> {
         site: Site,
         tally: &mut T,
     ) -> Result<TextBuf, Halt>
-        requires world { IsWorld self.now }
         requires node { focus.node < length self.now.tree }
         requires locals { All (IsIn self.now.tree) locals.now }
         ensures told { IsStep (limited site (text_run self.now expr.now focus locals.now)
@@ -156,7 +162,6 @@ impl<'a, K: KeyFinder> World<'a, K> {
         site: Site,
         tally: &mut T,
     ) -> Result<bool, Halt>
-        requires world { IsWorld self.now }
         requires node { focus.node < length self.now.tree }
         requires locals { All (IsIn self.now.tree) locals.now }
         ensures told { IsStep (limited site (test_run self.now expr.now focus locals.now)

@@ -4,7 +4,7 @@ ghost use Rattle.std.specs.Prelude.{◌≡◌, ◌<◌, ◌≤◌, ◌∷◌, �
 ghost use Rattle.std.specs.Prelude.{slice_get, slice_set, None, Some, true};
 ghost use Rattle.std.specs.Prelude.{IfOk, OnOk, IsSome};
 ghost use Rattle.std.specs.List.{All};
-ghost use Rattle.xs_body.specs.Inside.{IsAttemptIn, IsWorld};
+ghost use Rattle.xs_body.specs.Inside.{IsAttemptIn};
 ghost use Rattle.xs_body.specs.Results.{IsAttempt};
 ghost use Rattle.xs_eval.specs.Conditions.{IsInIf};
 ghost use Rattle.xs_globals.specs.Results.{settled_by, settled_of};
@@ -82,7 +82,6 @@ fn settle_in_turn<K: KeyFinder>(
     begun: &mut Vec<bool>,
     table: &mut Table,
 ) -> Result<Option<Spot>, AllocError>
-    requires world { IsWorld world.now }
     requires whole { world.now.grain ≡ None }
     requires going { IsGoing world.now budget begun.old.items (table_of table.old) }
     requires marked { IsMarked begun.old.items [] table.old.values.items }
@@ -109,7 +108,6 @@ fn settle_next<K: KeyFinder>(
     begun: &mut Vec<bool>,
     table: &mut Table,
 ) -> Result<Option<Spot>, AllocError>
-    requires world { IsWorld world.now }
     requires whole { world.now.grain ≡ None }
     requires going { IsGoing world.now budget begun.old.items (table_of table.old) }
     requires marked { IsMarked begun.old.items [] table.old.values.items }
@@ -134,7 +132,6 @@ fn settle_one<K: KeyFinder>(
     begun: &mut Vec<bool>,
     table: &mut Table,
 ) -> Result<Option<Spot>, AllocError>
-    requires world { IsWorld world.now }
     requires whole { world.now.grain ≡ None }
     requires lacks { slice_get table.old.values.items global ≡ Some None }
     requires going { IsGoing world.now budget begun.old.items (table_of table.old) }
@@ -165,7 +162,6 @@ fn take_turn<K: KeyFinder>(
     waiting: &mut Vec<u32>,
     table: &mut Table,
 ) -> Result<Option<Spot>, AllocError>
-    requires world { IsWorld world.now }
     requires whole { world.now.grain ≡ None }
     requires going { IsGoing world.now budget begun.old.items (table_of table.old) }
     ensures turn { IfOk result (λ end. (global : ℕ) → (first : InTable) →
@@ -211,7 +207,6 @@ fn try_global<K: KeyFinder>(
     begun: &[bool],
     table: &mut Table,
 ) -> Result<Turn, AllocError>
-    requires world { IsWorld world.now }
     requires whole { world.now.grain ≡ None }
     requires values { All (IsInIf world.now.tree) table.old.values.items }
     ensures turn { IfOk result (IsTurn world.now budget begun.now global
@@ -247,7 +242,6 @@ fn attempt_over<K: KeyFinder>(
     global: u32,
     limit: u64,
 ) -> Result<Attempt, AllocError>
-    requires world { IsWorld world.now }
     requires whole { world.now.grain ≡ None }
     requires values { All (IsInIf world.now.tree) values.now }
     ensures attempt { IfOk result (IsAttempt

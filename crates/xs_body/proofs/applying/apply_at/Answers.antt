@@ -30,4 +30,4 @@ enter_fitting-requires-sync-K g c κs within =
     let here = subst (λ (f : Focus). f.node < length c.args.world.now.tree) (sym c.at_node-focus.ensures) c.requires.node in
     let given = All-same (IsIn c.args.world.now.tree) c.in_ok-given.given.values c.args.passed.values (ap (λ (ps : Params). ps.values) c.in_ok-given.ensures)
     c.requires.passed in
-    (search rules, ((refl, tt), (c.requires.world, (c.requires.holes, (here, (given, c.in_ok-push.ensures.inside))))))
+    (search rules, ((refl, tt), (c.requires.holes, (here, (given, c.in_ok-push.ensures.inside)))))

@@ -11,19 +11,16 @@ apply_at-requires-sync-K g c κs within =
       (
         (refl, tt),
         (
-          c.requires.world,
+          c.requires.holes,
           (
-            c.requires.holes,
+            c.requires.nodes,
             (
-              c.requires.nodes,
+              here,
               (
-                here,
+                c.in-Some.ensures.below,
                 (
-                  c.in-Some.ensures.below,
-                  (
-                    c.requires.passed,
-                    c.requires.inside,
-                  ),
+                  c.requires.passed,
+                  c.requires.inside,
                 ),
               ),
             ),

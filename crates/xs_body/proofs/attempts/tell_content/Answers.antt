@@ -12,7 +12,7 @@ returns-in_err-open_capture-clause-told g c =
     c.in_err-open_capture.ensures.told
 
 pub finish-requires-sync-K : goal.finish-requires-sync-K
-finish-requires-sync-K g c κs within = (search rules, ((refl, tt), (c.requires.world, (c.requires.holes, c.in_ok-stack.ensures.inside))))
+finish-requires-sync-K g c κs within = (search rules, ((refl, tt), (c.requires.holes, c.in_ok-stack.ensures.inside)))
 
 pub returns-in_err-finish-clause-told : goal.returns-in_err-finish-clause-told
 returns-in_err-finish-clause-told g c =

@@ -26,13 +26,10 @@ apply-requires-sync-K g c κs within =
       (
         (refl, tt),
         (
-          c.requires.world,
+          c.requires.holes,
           (
-            c.requires.holes,
-            (
-              subst (λ (x : Callee). AreCallees c.args.world.now.tree x) c.in-Rules.is c.requires.callee,
-              (All-same (IsIn c.args.world.now.tree) c.in_ok-passed.passed.values c.args.values.items e c.requires.values, c.requires.inside),
-            ),
+            subst (λ (x : Callee). AreCallees c.args.world.now.tree x) c.in-Rules.is c.requires.callee,
+            (All-same (IsIn c.args.world.now.tree) c.in_ok-passed.passed.values c.args.values.items e c.requires.values, c.requires.inside),
           ),
         ),
       ),

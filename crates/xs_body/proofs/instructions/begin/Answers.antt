@@ -13,7 +13,7 @@ put_value-requires-sync-K g c κs within =
     let e = c.locals-locals.ensures ∙ ap (last c.args.scope.seen) c.deref.ensures.value in
     let seen = All-same (IsIn c.args.world.now.tree) c.locals-locals.result.now (last c.args.scope.seen vs) e
     (All-drop (IsIn c.args.world.now.tree) (length vs - c.args.scope.seen) vs c.requires.inside.slots) in
-    (search rules, ((refl, tt), (c.requires.world, (c.requires.node, seen))))
+    (search rules, ((refl, tt), (c.requires.node, seen)))
 
 pub returns-in-ValueOf-clause-told : goal.returns-in-ValueOf-clause-told
 returns-in-ValueOf-clause-told g c =

@@ -6,7 +6,7 @@ use Rattle.xs_body.proofs.run.advance.Goals as goal
 pub go_on-requires-sync-K : goal.go_on-requires-sync-K
 go_on-requires-sync-K g c κs within =
     let first = subst (λ (f : Frame). IsInside c.args.world.now.tree f) c.in-Rest.is c.requires.first in
-    (search rules, ((refl, tt), (c.requires.world, (c.requires.holes, (first, c.requires.inside)))))
+    (search rules, ((refl, tt), (c.requires.holes, (first, c.requires.inside))))
 
 pub do_next-requires-sync-K : goal.do_next-requires-sync-K
 do_next-requires-sync-K g c κs within =
@@ -16,19 +16,19 @@ do_next-requires-sync-K g c κs within =
 pub apply_next-requires-sync-K : goal.apply_next-requires-sync-K
 apply_next-requires-sync-K g c κs within =
     let first = subst (λ (f : Frame). IsInside c.args.world.now.tree f) c.in-Apply.is c.requires.first in
-    (search rules, ((refl, tt), (c.requires.world, (c.requires.holes, (first.0, (first.1, c.requires.inside))))))
+    (search rules, ((refl, tt), (c.requires.holes, (first.0, (first.1, c.requires.inside)))))
 
 pub pass_next-requires-sync-K : goal.pass_next-requires-sync-K
 pass_next-requires-sync-K g c κs within =
     let first = subst (λ (f : Frame). IsInside c.args.world.now.tree f) c.in-Pass.is c.requires.first in
-    (search rules, ((refl, tt), (c.requires.world, (c.requires.holes, (first.0, (first.1.0, (first.1.1, c.requires.inside)))))))
+    (search rules, ((refl, tt), (c.requires.holes, (first.0, (first.1.0, (first.1.1, c.requires.inside))))))
 
 pub take_value-requires-sync-K : goal.take_value-requires-sync-K
 take_value-requires-sync-K g c κs within =
     let first = subst (λ (f : Frame). IsInside c.args.world.now.tree f) c.in-Take.is c.requires.first in
-    (search rules, ((refl, tt), (c.requires.world, (c.requires.holes, (first.0, (first.1.0, (first.1.1, c.requires.inside)))))))
+    (search rules, ((refl, tt), (c.requires.holes, (first.0, (first.1.0, (first.1.1, c.requires.inside))))))
 
 pub next_param-requires-sync-K : goal.next_param-requires-sync-K
 next_param-requires-sync-K g c κs within =
     let first = subst (λ (f : Frame). IsInside c.args.world.now.tree f) c.in-Params.is c.requires.first in
-    (search rules, ((refl, tt), (c.requires.world, (c.requires.holes, (first.0, (first.1, c.requires.inside))))))
+    (search rules, ((refl, tt), (c.requires.holes, (first.0, (first.1, c.requires.inside)))))

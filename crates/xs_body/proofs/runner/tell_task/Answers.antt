@@ -6,7 +6,7 @@ use Rattle.xs_body.proofs.LoopLemmas.{task-starts}
 use Rattle.xs_body.proofs.runner.tell_task.Goals as goal
 
 pub finish-requires-sync-K : goal.finish-requires-sync-K
-finish-requires-sync-K g c κs within = (search rules, ((refl, tt), (c.requires.world, (c.requires.holes, c.in_ok-stack.ensures.inside))))
+finish-requires-sync-K g c κs within = (search rules, ((refl, tt), (c.requires.holes, c.in_ok-stack.ensures.inside)))
 
 pub returns-clause-told : goal.returns-clause-told
 returns-clause-told g c =

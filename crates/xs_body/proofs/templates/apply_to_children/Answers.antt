@@ -12,7 +12,7 @@ pub apply-requires-sync-K : goal.apply-requires-sync-K
 apply-requires-sync-K g c κs within =
     let none = All-same (IsIn c.args.world.now.tree) c.none-passed.result.values [] (ap (λ (ps : Params). ps.values) c.none-passed.ensures)
     (All-nil (IsIn c.args.world.now.tree)) in
-    (search rules, ((refl, tt), (c.requires.world, (c.requires.holes, (search rules, (none, c.requires.inside))))))
+    (search rules, ((refl, tt), (c.requires.holes, (search rules, (none, c.requires.inside)))))
 
 pub returns-clause-told : goal.returns-clause-told
 returns-clause-told g c =

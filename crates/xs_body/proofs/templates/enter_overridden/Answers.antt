@@ -10,4 +10,4 @@ begin_rule-requires-sync-K g c κs within =
     let here = subst (λ (f : Focus). f.node < length c.args.world.now.tree) (sym c.with_depth-focus.ensures) c.requires.node in
     let none = All-same (IsIn c.args.world.now.tree) c.none-passed.result.values [] (ap (λ (ps : Params). ps.values) c.none-passed.ensures)
     (All-nil (IsIn c.args.world.now.tree)) in
-    (search rules, ((refl, tt), (c.requires.world, (c.requires.holes, (here, (none, c.requires.inside))))))
+    (search rules, ((refl, tt), (c.requires.holes, (here, (none, c.requires.inside)))))
