@@ -12,7 +12,7 @@ use Rattle.xs_rules.specs.declared.index.RuleIndex.{RuleIndex}
 use Rattle.xs_semantics.specs.declared.focus.Focus.{Focus}
 use Rattle.xs_semantics.specs.World.{World, captured_in, with_grain, with_index}
 use Rattle.xs_semantics.specs.Tasks.{Task}
-use Rattle.xs_semantics.specs.Trace.{body_trace, called, task_trace}
+use Rattle.xs_semantics.specs.Trace.{body_trace, calls_at, task_trace}
 use Rattle.xs_semantics.specs.Globals.{Settled, SettlesAll, attempt_trace, attempt_value}
 
 -- the trace with a grain, each hole filled by the trace of its task, is the trace without one
@@ -21,7 +21,7 @@ TasksFill = (w : World) (t : Task) → fill (task_trace (with_grain None w)) (ta
 
 -- nothing of captured content is left to tasks
 abbrev pub CapturedLeavesNothing : Type 0
-CapturedLeavesNothing = (w : World) (body : Body) (f : Focus) (vs : List Value) → tasks_of (body_trace body w (called w f.depth) (captured_in f) vs) ≡ []
+CapturedLeavesNothing = (w : World) (body : Body) (f : Focus) (vs : List Value) → tasks_of (body_trace body w (calls_at w f) (captured_in f) vs) ≡ []
 
 -- Captured content takes its ticks and says its messages as content does that is not captured; what follows comes behind it
 -- (XSLT 1.0, 11.2, 13).

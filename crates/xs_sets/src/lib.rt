@@ -1,0 +1,5 @@
+//! The attribute sets of a stylesheet (XSLT 1.0, 7.1.4): their declarations by name, in the order
+//! in which they count, without those that reach no attribute.
+#![tactic(auto)]
+
+pub mod index;
