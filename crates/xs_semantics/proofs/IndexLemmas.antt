@@ -14,7 +14,7 @@ use Rattle.xs_rules.specs.declared.index.RuleIndex.{RuleIndex}
 use Rattle.xs_semantics.specs.declared.focus.Focus.{Focus}
 use Rattle.xs_semantics.specs.World.{World, at_node, with_index}
 use Rattle.xs_semantics.specs.Tasks.{Job, Task, grain_over}
-use Rattle.xs_semantics.specs.Trace.{each, spread_by, fragment_of, task_trace, most_depth}
+use Rattle.xs_semantics.specs.Trace.{each, spread_by, fragment_of, task_trace}
 use Rattle.xs_semantics.specs.Globals.{Table, Settled, settled, ended, Settles, AllSettle, SettlesAll, tried, with_globals, with_passed, with_value}
 use Rattle.xs_semantics.specs.Globals.{attempt_trace, attempt_value, content_value, global_focus}
 use Rattle.xs_semantics.specs.Globals as settles
@@ -61,7 +61,7 @@ module _ (w : World) (index : RuleIndex) where
   pub attempt-same : (g : Option Global) → attempt_trace V g ≡ attempt_trace w g
   attempt-same None = refl
   attempt-same (Some g) =
-      sym (content-keeps w w.grain index Same kept g.binding.content g.binding.site global_focus (calls-keep w w.grain index Same kept most_depth) []
+      sym (content-keeps w w.grain index Same kept g.binding.content g.binding.site (global_focus w) (calls-keep w w.grain index Same kept (global_focus w)) []
       (λ u k v. []) (λ v. refl))
 
   content-same : (content : Content) → content_value V content ≡ content_value w content
@@ -69,7 +69,7 @@ module _ (w : World) (index : RuleIndex) where
   content-same (Select e) = refl
   content-same (Fragment body) =
       ap (λ x. Piece (fragment_of (events_of x)))
-      (sym (body-keeps w w.grain index Same kept body global_focus (calls-keep w w.grain index Same kept most_depth) []))
+      (sym (body-keeps w w.grain index Same kept body (global_focus w) (calls-keep w w.grain index Same kept (global_focus w)) []))
 
   pub value-same : (g : Option Global) → attempt_value V g ≡ attempt_value w g
   value-same None = refl

@@ -25,7 +25,7 @@ use Rattle.xs_semantics.specs.World.{World, template_run}
 -- The namespace that one is an alias for, or itself (7.1.1).
 abbrev pub aliased : List Alias → List ℕ → List ℕ
 aliased [] uri = uri
-aliased (a ∷ as) uri = if bytes_eq a.from_uri uri then a.to_uri else aliased as uri
+aliased (a ∷ others) uri = if bytes_eq a.from_uri uri then a.to_uri else aliased others uri
 
 -- the name of a literal element; of an attribute of one, where one in no namespace has no alias, since it is not in the default
 -- namespace (7.1.1; Namespaces in XML 1.0, 6.2)

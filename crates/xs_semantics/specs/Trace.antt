@@ -71,9 +71,9 @@ begins w start p = puts_all p (Start (element_label w.sheet.aliases start.name) 
 -- its attributes, whose values are value templates (7.1.1, 7.6.2)
 abbrev pub literal_attributes : List (Label × ValueTemplate) → Site → World → Focus → List Value → Trace Task
 literal_attributes [] p w f vs = []
-literal_attributes (a ∷ as) p w f vs =
+literal_attributes (a ∷ others) p w f vs =
     evaluated p (template_run w a.1 f vs) (λ text. puts_all p (attribute_events (attribute_label w.sheet.aliases a.0) text))
-    ⨾ literal_attributes as p w f vs
+    ⨾ literal_attributes others p w f vs
 
 -- what is made of captured content (7.1.3, 7.3, 7.4)
 abbrev pub makes : Made → Site → Trace Task → Trace Task
