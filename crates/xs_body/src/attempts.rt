@@ -3,13 +3,13 @@
 ghost use Rattle.std.specs.Prelude.{◌≡◌, ◌<◌, ◌++◌, [], ◌∷◌, length, slice_get};
 ghost use Rattle.std.specs.Prelude.{true, IfOk, IsSome, None, OnOk};
 ghost use Rattle.xs_semantics.specs.Globals.{attempt_cut, attempt_value, global_focus};
-ghost use Rattle.xs_body.specs.Inside.{AreIn, IsAttemptIn};
+ghost use Rattle.xs_body.specs.Inside.{IsAttemptIn};
 ghost use Rattle.xs_body.specs.Results.{IsAttempt};
 ghost use Rattle.xs_semantics.specs.Tasks.{Task};
 ghost use Rattle.xs_semantics.specs.World.{value_run};
 ghost use Rattle.xs_body.specs.steps.Attempts.{attempt_steps, binding_steps, fragment_steps};
 ghost use Rattle.xs_body.specs.steps.Attempts.{IsAttemptOf};
-ghost use Rattle.xs_body.specs.steps.Frames.{instrs_of, outer, pushed, rest, stack_of};
+ghost use Rattle.xs_body.specs.steps.Frames.{idle, instrs_of, outer, pushed, rest};
 ghost use Rattle.xs_body.specs.declared.attempts.Attempt.TheVariants.{Stopped};
 ghost use Rattle.xs_trace.specs.Kept.{item_marks, marks_of, spot};
 ghost use Rattle.xs_trace.specs.Mark.{messages_of};
@@ -18,10 +18,9 @@ ghost use Rattle.xs_trace.specs.Run.{limited};
 ghost use Rattle.xs_value.specs.Conversion.{IsIn};
 
 use crate::bindings::fragment_value;
-use crate::frames::{Frame, Scope};
-use crate::run::finish;
+use crate::evaluator::Evaluator;
+use crate::frames::Scope;
 use crate::runner::{MOST_DEPTH, SheetRunner};
-use crate::stack::Stack;
 use crate::task::Task;
 use crate::world::World;
 use std::alloc::{AllocError, Global};
@@ -208,7 +207,8 @@ fn tell_selected<'a, K: KeyFinder, R: Recorder<Task = Task<'a>>>(
 {
     let has_root = world.tree.len() > 0;
     prove!(has_root);
-    world.value(alloc, expr, global_focus(), &[], site, recorder)
+    let evaluator = Evaluator::new(alloc, world, Vec::new(alloc));
+    evaluator.value(expr, site, Scope::outer(global_focus()), recorder)
 }
 
 /// The fragment that the content of a global makes.
@@ -227,28 +227,23 @@ fn tell_content<'a, K: KeyFinder, R: Recorder<Task = Task<'a>>>(
     let has_root = world.tree.len() > 0;
     prove!(has_root);
     recorder.open_capture()?;
-    let stack = content_stack(alloc, world, body)?;
-    finish(alloc, world, stack, recorder)?;
+    let mut evaluator = content_evaluator(alloc, world, body)?;
+    evaluator.finish(recorder)?;
     let fragment = recorder.close_capture();
     Ok(fragment_value(alloc, fragment)?)
 }
 
-/// The stack that the content of a global begins with.
-fn content_stack<'a, K: KeyFinder>(
+/// The evaluation that the content of a global begins with.
+fn content_evaluator<'a, K: KeyFinder>(
     alloc: Global,
     world: &World<'a, K>,
     body: &'a Body,
-) -> Result<Stack<'a>, AllocError>
+) -> Result<Evaluator<'a, K>, AllocError>
     requires node { 0 < length world.now.tree }
-    ensures stack { IfOk result (λ stack. stack_of stack ≡ pushed
-        (rest (instrs_of body.now) (outer global_focus) ∷ [])
-        (record { works = []; slots = [] })) }
-    ensures inside { IfOk result (AreIn world.now.tree) }
+    ensures begun { IfOk result (λ evaluator. evaluator ≡ pushed
+        (rest (instrs_of body.now) (outer global_focus) ∷ []) (idle world.now [])) }
 {
-    let mut stack = Stack::with(alloc, Vec::new(alloc));
-    stack.push(
-        world,
-        Frame::Rest(body.instrs.as_slice(), Scope::outer(global_focus())),
-    )?;
-    Ok(stack)
+    let mut evaluator = Evaluator::new(alloc, world, Vec::new(alloc));
+    evaluator.push_body(body, Scope::outer(global_focus()))?;
+    Ok(evaluator)
 }

@@ -1,17 +1,16 @@
 //! What is put.
 
 ghost use Rattle.std.specs.Prelude.{◌≡◌, ◌<◌, length, IfOk};
-ghost use Rattle.std.specs.List.{All};
 ghost use Rattle.xs_body.specs.steps.Frames.{chars_steps, literal_steps, space_steps};
 ghost use Rattle.xs_body.specs.steps.Frames.{value_steps};
 ghost use Rattle.xs_trace.specs.Play.{IsStep, put};
 ghost use Rattle.xs_trace.specs.declared.event.Event.TheVariants.{Space};
-ghost use Rattle.xs_value.specs.Conversion.{IsIn, fragment_text};
+ghost use Rattle.xs_value.specs.Conversion.{fragment_text};
 
+use crate::evaluator::Evaluator;
+use crate::frames::Scope;
 use crate::task::Task;
-use crate::world::World;
 use std::alloc::{AllocError, Global};
-use xs_semantics::focus::Focus;
 use xs_sheet::body::LiteralStart;
 use xs_sheet::scoped::ScopedExpr;
 use xs_trace::event::{Event, Fragment};
@@ -37,24 +36,23 @@ pub(crate) fn put_text<R: Recorder>(site: Site, text: TextBuf, recorder: &mut R)
     }
 }
 
-/// Puts the string of an expression (XSLT 1.0, 7.6.1).
-pub(crate) fn put_value<'a, K: KeyFinder, R: Recorder<Task = Task<'a>>>(
-    alloc: Global,
-    world: &World<'a, K>,
-    select: &ScopedExpr,
-    focus: Focus,
-    locals: &[Value],
-    site: Site,
-    recorder: &mut R,
-) -> Result<(), Halt>
-    requires node { focus.node < length world.now.tree }
-    requires locals { All (IsIn world.now.tree) locals.now }
-    ensures told { IsStep (value_steps world.now select.now site focus locals.now
-        (R.state recorder.old)) result (R.state recorder.new) }
-    ensures kept { R.kept recorder.new ≡ R.kept recorder.old }
-{
-    let text = world.text(alloc, select, focus, locals, site, recorder)?;
-    put_text(site, text, recorder)
+impl<'a, K: KeyFinder> Evaluator<'a, K> {
+    /// Puts the string of an expression (XSLT 1.0, 7.6.1).
+    pub(crate) fn put_value<R: Recorder<Task = Task<'a>>>(
+        &self,
+        select: &ScopedExpr,
+        site: Site,
+        scope: Scope,
+        recorder: &mut R,
+    ) -> Result<(), Halt>
+        requires node { scope.focus.node < length self.now.world.tree }
+        ensures told { IsStep (value_steps select.now site scope self.now
+            (R.state recorder.old)) result (R.state recorder.new) }
+        ensures kept { R.kept recorder.new ≡ R.kept recorder.old }
+    {
+        let text = self.text(select, site, scope, recorder)?;
+        put_text(site, text, recorder)
+    }
 }
 
 /// A literal element begins, with its namespace nodes (7.1.1).

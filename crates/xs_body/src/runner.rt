@@ -4,22 +4,21 @@ ghost use Rattle.std.specs.List.{All};
 ghost use Rattle.std.specs.Prelude.{◌≡◌, ◌+◌, ◌≤◌, ℕ, false, true, IfOk, IsSome, None, OnErr};
 ghost use Rattle.std.specs.Prelude.{OnOk};
 ghost use Rattle.xs_block.specs.Chain.{most_blocks};
-ghost use Rattle.xs_body.specs.Inside.{AreIn, IsTaskIn, IsWorld};
+ghost use Rattle.xs_body.specs.Inside.{IsTaskIn, IsWorld};
 ghost use Rattle.xs_body.specs.Results.{IsWholeRun};
 ghost use Rattle.xs_semantics.specs.Trace.{root_task, task_trace};
 ghost use Rattle.xs_semantics.specs.World.{with_grain};
-ghost use Rattle.xs_body.specs.steps.Frames.{begun_with, stack_of};
+ghost use Rattle.xs_body.specs.steps.Frames.{begun_with};
 ghost use Rattle.xs_body.specs.steps.Runs.{is_over};
 ghost use Rattle.xs_record.specs.Outcome.{IsOutcome, part_blocks};
 ghost use Rattle.xs_record.specs.Piece.{IsPiece};
 ghost use Rattle.xs_trace.specs.Cut.{cut};
 ghost use Rattle.xs_trace.specs.Play.{IsStep, play};
 
-use crate::frames::{Frame, Scope};
+use crate::evaluator::Evaluator;
+use crate::frames::{ApplyLeft, EachLeft, Frame, Rules, Scope};
 use crate::lists::NodeList;
 use crate::passed::Passed;
-use crate::run::finish;
-use crate::stack::Stack;
 use crate::task::{Job, Task};
 use crate::tasks::copied_values;
 use crate::world::World;
@@ -251,59 +250,55 @@ pub fn tell_task<'a, K: KeyFinder, R: Recorder<Task = Task<'a>>>(
         result (R.state recorder.new) }
     ensures kept { R.kept recorder.new ≡ R.kept recorder.old }
 {
-    let stack = stack_for(alloc, world, task)?;
-    finish(alloc, world, stack, recorder)
+    let mut evaluator = evaluator_for(alloc, world, task)?;
+    evaluator.finish(recorder)
 }
 
-/// The stack that a task begins with.
-fn stack_for<'a, K: KeyFinder>(
+/// The evaluation that a task begins with.
+fn evaluator_for<'a, K: KeyFinder>(
     alloc: Global,
     world: &World<'a, K>,
     task: &Task<'a>,
-) -> Result<Stack<'a>, AllocError>
+) -> Result<Evaluator<'a, K>, AllocError>
     requires task { IsTaskIn world.now.tree task.now }
-    ensures stack { IfOk result (λ stack. stack_of stack ≡ begun_with task.now) }
-    ensures inside { IfOk result (AreIn world.now.tree) }
+    ensures begun { IfOk result (λ evaluator. evaluator ≡ begun_with world.now task.now) }
 {
     let nodes = NodeList::List(Vec::from_slice(alloc, task.nodes.as_slice())?);
     match &task.job {
         Job::Body(body, locals) => {
             let slots = copied_values(alloc, locals)?;
             let seen = slots.len();
-            let mut stack = Stack::with(alloc, slots);
+            let mut evaluator = Evaluator::new(alloc, world, slots);
             let scope = Scope {
                 focus: task.focus,
                 seen,
                 own: 0,
             };
-            stack.push(
-                world,
-                Frame::Each {
-                    nodes,
-                    next: 0,
-                    position: task.first,
-                    body: *body,
-                    site: task.site,
-                    scope,
-                },
-            )?;
-            Ok(stack)
+            evaluator.push(Frame::Each(EachLeft {
+                nodes,
+                next: 0,
+                position: task.first,
+                body: *body,
+                site: task.site,
+                scope,
+            }))?;
+            Ok(evaluator)
         }
         Job::Rules(mode, passed) => {
-            let mut stack = Stack::with(alloc, Vec::new(alloc));
-            stack.push(
-                world,
-                Frame::Apply {
-                    nodes,
-                    next: 0,
-                    position: task.first,
+            let mut evaluator = Evaluator::new(alloc, world, Vec::new(alloc));
+            let passed = passed.copy()?;
+            evaluator.push(Frame::Apply(ApplyLeft {
+                nodes,
+                next: 0,
+                position: task.first,
+                rules: Rules {
                     mode: *mode,
-                    passed: passed.copy()?,
-                    site: task.site,
-                    focus: task.focus,
+                    passed,
                 },
-            )?;
-            Ok(stack)
+                site: task.site,
+                focus: task.focus,
+            }))?;
+            Ok(evaluator)
         }
     }
 }

@@ -1,28 +1,12 @@
-//! What a stylesheet is evaluated over, and what its expressions give there.
+//! What a stylesheet is evaluated over.
 
-ghost use Rattle.std.specs.Prelude.{◌≡◌, ◌<◌, IfOk, length};
-ghost use Rattle.std.specs.List.{All};
-ghost use Rattle.xs_semantics.specs.World.{nodes_run, test_run, text_run, value_run};
-ghost use Rattle.xs_trace.specs.Play.{IsStep, IsStepBy};
-ghost use Rattle.xs_trace.specs.Run.{limited};
-ghost use Rattle.xs_value.specs.Conversion.{IsIn};
+ghost use Rattle.std.specs.Prelude.{◌≡◌};
 
-use std::alloc::Global;
 use std::marker::Model;
-use xs_eval::context::Context;
-use xs_eval::evaluate::evaluate;
 use xs_rules::index::RuleIndex;
-use xs_semantics::focus::Focus;
-use xs_sheet::scoped::ScopedExpr;
 use xs_sheet::sheet::Sheet;
-use xs_trace::fault::Fault;
-use xs_trace::item::Site;
-use xs_trace::recorder::{Halt, Tally};
-use xs_trace::text::TextBuf;
-use xs_tree::{Node, Tree};
-use xs_value::conversion::{to_bool, to_text};
+use xs_tree::Tree;
 use xs_value::keys::KeyFinder;
-use xs_value::node_set::NodeSet;
 use xs_value::value::Value;
 
 /// A stylesheet that is sound, and what it is evaluated over (`IsWorld`).
@@ -78,97 +62,17 @@ impl<'a, K: KeyFinder> Model for World<'a, K> {
 }
 
 impl<'a, K: KeyFinder> World<'a, K> {
-    /// The value of an expression, at an instruction; the current node is the context node (XSLT
-    /// 1.0, 4 and 12.4).
-    pub(crate) fn value<T: Tally>(
-        &self,
-        alloc: Global,
-        expr: &ScopedExpr,
-        focus: Focus,
-        locals: &[Value],
-        site: Site,
-        tally: &mut T,
-    ) -> Result<Value, Halt>
-        requires node { focus.node < length self.now.tree }
-        requires locals { All (IsIn self.now.tree) locals.now }
-        ensures told { IsStep (limited site (value_run self.now expr.now focus locals.now)
-            (T.state tally.old)) result (T.state tally.new) }
-        ensures kept { T.kept tally.new ≡ T.kept tally.old }
-        ensures inside { IfOk result (IsIn self.now.tree) }
+    /// The same.
+    pub(crate) fn copy(&self) -> World<'a, K>
+        ensures { result ≡ self.now }
     {
-        let context = Context {
+        World {
+            sheet: self.sheet,
+            index: self.index,
             tree: self.tree,
-            node: Node::at(focus.node),
-            position: focus.position,
-            size: focus.size,
-            current: Node::at(focus.node),
-            locals,
+            keys: self.keys,
             globals: self.globals,
-            scope: expr.scope.scope(),
-        };
-        evaluate(alloc, expr.expr.expr(), &context, self.keys, site, tally)
-    }
-
-    /// Its nodes: the value has to be a node-set (5.4, 8).
-    pub(crate) fn nodes<T: Tally>(
-        &self,
-        alloc: Global,
-        expr: &ScopedExpr,
-        focus: Focus,
-        locals: &[Value],
-        site: Site,
-        tally: &mut T,
-    ) -> Result<NodeSet, Halt>
-        requires node { focus.node < length self.now.tree }
-        requires locals { All (IsIn self.now.tree) locals.now }
-        ensures told { IsStep (limited site (nodes_run self.now expr.now focus locals.now)
-            (T.state tally.old)) result (T.state tally.new) }
-        ensures kept { T.kept tally.new ≡ T.kept tally.old }
-        ensures inside { IfOk result (All (λ n. n < length self.now.tree)) }
-    {
-        match self.value(alloc, expr, focus, locals, site, tally)? {
-            Value::Nodes(nodes) => Ok(nodes),
-            _ => Err(Halt::Fault(Fault::NotNodes, site)),
+            grain: self.grain,
         }
-    }
-
-    /// Its value as a string (7.6.1).
-    pub(crate) fn text<T: Tally>(
-        &self,
-        alloc: Global,
-        expr: &ScopedExpr,
-        focus: Focus,
-        locals: &[Value],
-        site: Site,
-        tally: &mut T,
-    ) -> Result<TextBuf, Halt>
-        requires node { focus.node < length self.now.tree }
-        requires locals { All (IsIn self.now.tree) locals.now }
-        ensures told { IsStep (limited site (text_run self.now expr.now focus locals.now)
-            (T.state tally.old)) result (T.state tally.new) }
-        ensures kept { T.kept tally.new ≡ T.kept tally.old }
-    {
-        let value = self.value(alloc, expr, focus, locals, site, tally)?;
-        Ok(to_text(alloc, self.tree, &value)?)
-    }
-
-    /// Whether its value as a boolean is true (9.1, 9.2).
-    pub(crate) fn holds<T: Tally>(
-        &self,
-        alloc: Global,
-        expr: &ScopedExpr,
-        focus: Focus,
-        locals: &[Value],
-        site: Site,
-        tally: &mut T,
-    ) -> Result<bool, Halt>
-        requires node { focus.node < length self.now.tree }
-        requires locals { All (IsIn self.now.tree) locals.now }
-        ensures told { IsStep (limited site (test_run self.now expr.now focus locals.now)
-            (T.state tally.old)) result (T.state tally.new) }
-        ensures kept { T.kept tally.new ≡ T.kept tally.old }
-    {
-        let value = self.value(alloc, expr, focus, locals, site, tally)?;
-        Ok(to_bool(&value))
     }
 }
