@@ -41,9 +41,11 @@ use Rattle.xs_making.specs.Names.{pi_target, result_name}
 use Rattle.xs_rules.specs.declared.index.RuleIndex.{RuleIndex}
 use Rattle.xs_sets.specs.Declarations.{declarations_of}
 use Rattle.xs_semantics.specs.declared.focus.Focus.{Focus}
+use Rattle.xs_semantics.specs.declared.made.Made.{Made}
+use Rattle.xs_semantics.specs.declared.made.Made.TheVariants as made
 use Rattle.xs_semantics.specs.World.{World, all_set_levels, at_node, in_list, captured_in, with_levels, by_rule, without_rule, context}
 use Rattle.xs_semantics.specs.World.{nodes_or_children, nodes_run, template_run, test_run, text_run, value_run}
-use Rattle.xs_semantics.specs.Making.{Made, attribute, comment, instruction, made_events, attribute_events, attribute_label, content_text}
+use Rattle.xs_semantics.specs.Making.{made_events, attribute_events, attribute_label, content_text}
 use Rattle.xs_semantics.specs.Making.{element_label, literal_spaces, name_run, namespace_run, target_run, value_events}
 use Rattle.xs_semantics.specs.Tasks.{Params, no_params, value_passed, Job, body_job, rules_job, Task}
 use Rattle.xs_semantics.specs.Rules.{rule_for, import_for}
@@ -100,12 +102,12 @@ namespace-lacks : (w : World) (o : Option ValueTemplate) (f : Focus) (vs : List 
 namespace-lacks w None f vs = tt
 namespace-lacks w (Some v) f vs = value-then w.globals (template_run w v f vs) (λ uri. give (Some uri)) (template-lacks w v f vs) (λ uri. tt)
 
-name-lacks : (w : World) (b : Bool) (made : MadeName) (f : Focus) (vs : List Value) → LacksOnly w.globals (name_run w b made f vs).end
-name-lacks w b made f vs =
-    let named : List ℕ → Option (List ℕ) → Run Label = λ text uri. given (result_name made.scope b uri text) in
-    value-then w.globals (template_run w made.name f vs) (λ text. namespace_run w made.namespace f vs >>= named text) (template-lacks w made.name f vs)
-    (λ text. value-then w.globals (namespace_run w made.namespace f vs) (named text) (namespace-lacks w made.namespace f vs)
-    (λ uri. given-value w.globals (result_name made.scope b uri text)))
+name-lacks : (w : World) (b : Bool) (n : MadeName) (f : Focus) (vs : List Value) → LacksOnly w.globals (name_run w b n f vs).end
+name-lacks w b n f vs =
+    let named : List ℕ → Option (List ℕ) → Run Label = λ text uri. given (result_name n.scope b uri text) in
+    value-then w.globals (template_run w n.name f vs) (λ text. namespace_run w n.namespace f vs >>= named text) (template-lacks w n.name f vs)
+    (λ text. value-then w.globals (namespace_run w n.namespace f vs) (named text) (namespace-lacks w n.namespace f vs)
+    (λ uri. given-value w.globals (result_name n.scope b uri text)))
 
 target-lacks : (w : World) (name : ValueTemplate) (f : Focus) (vs : List Value) → LacksOnly w.globals (target_run w name f vs).end
 target-lacks w name f vs =
@@ -191,8 +193,8 @@ module _ (w : World) (grain : Option ℕ) (index : RuleIndex) (R : Bool → Trac
 
   makes-keep : (f : Focus) (m : Made) (p : Site) (x : World → Calls → Trace Task) → Both (captured_in f) x → Both f (λ u k. makes m p (x u k))
   makes-keep f m p x h =
-      let made : List Event → Trace Task = λ es. puts_all p (made_events m (content_text es)) in
-      keeps.captures f.is_captured (x w (calls_at w f)) (x V (calls_at V f)) made made h
+      let put : List Event → Trace Task = λ es. puts_all p (made_events m (content_text es)) in
+      keeps.captures f.is_captured (x w (calls_at w f)) (x V (calls_at V f)) put put h
       (λ es. events-keep f.is_captured p (made_events m (content_text es)))
 
   attributes-keep : (xs : List (Label × ValueTemplate)) (p : Site) (f : Focus) (vs : List Value) → Both f (λ u k. literal_attributes xs p u f vs)
@@ -287,20 +289,20 @@ module _ (w : World) (grain : Option ℕ) (index : RuleIndex) (R : Bool → Trac
         put-then f (Start label) inside (inside-keeps f d sets p (λ u k. body_trace body u k f vs) (body-keeps body f d vs)))) (h vs)
     instr-keeps (Attribute name body) p f d vs next h =
         let content : World → Calls → Trace Task = λ u k. body_trace body u k (captured_in f) vs in
-        let x : World → Calls → Label → Trace Task = λ u k label. makes (attribute label) p (content u k) in
+        let x : World → Calls → Label → Trace Task = λ u k label. makes (made.Attribute label) p (content u k) in
         joined f (λ u k. evaluated p (name_run u true name f vs) (x u k)) (λ u k. next u k vs)
         (valued f p (name_run w true name f vs) x (name-lacks w true name f vs) (λ label.
-        makes-keep f (attribute label) p content (body-keeps body (captured_in f) d vs))) (h vs)
+        makes-keep f (made.Attribute label) p content (body-keeps body (captured_in f) d vs))) (h vs)
     instr-keeps (Comment body) p f d vs next h =
         let content : World → Calls → Trace Task = λ u k. body_trace body u k (captured_in f) vs in
-        joined f (λ u k. makes comment p (content u k)) (λ u k. next u k vs)
-        (makes-keep f comment p content (body-keeps body (captured_in f) d vs)) (h vs)
+        joined f (λ u k. makes made.Comment p (content u k)) (λ u k. next u k vs)
+        (makes-keep f made.Comment p content (body-keeps body (captured_in f) d vs)) (h vs)
     instr-keeps (Pi name body) p f d vs next h =
         let content : World → Calls → Trace Task = λ u k. body_trace body u k (captured_in f) vs in
-        let x : World → Calls → List ℕ → Trace Task = λ u k target. makes (instruction target) p (content u k) in
+        let x : World → Calls → List ℕ → Trace Task = λ u k target. makes (made.Instruction target) p (content u k) in
         joined f (λ u k. evaluated p (target_run u name f vs) (x u k)) (λ u k. next u k vs)
         (valued f p (target_run w name f vs) x (target-lacks w name f vs) (λ target.
-        makes-keep f (instruction target) p content (body-keeps body (captured_in f) d vs))) (h vs)
+        makes-keep f (made.Instruction target) p content (body-keeps body (captured_in f) d vs))) (h vs)
     instr-keeps (Message terminate body) p f d vs next h =
         let x : List Event → Trace Task = λ es. says p (fragment_text es) ⨾ ended_if terminate p in
         joined f (λ u k. captured (body_trace body u k (captured_in f) vs) x) (λ u k. next u k vs)
@@ -411,24 +413,24 @@ module _ (w : World) (grain : Option ℕ) (index : RuleIndex) (R : Bool → Trac
       ticked f i.site (λ u k. instr_trace i.kind i.site u k f vs (instrs_trace is u k f))
       (instr-keeps i.kind i.site f d vs (λ u k. instrs_trace is u k f) (λ us. instrs-keep is f d us))
 
-  declared-keep : (ss : List AttrSet) (p : Site) (f : Focus) → Keep f → Both f (λ u k. declared_trace ss u k p f)
-  declared-keep [] p f d = keeps.nothing f.is_captured
-  declared-keep (s ∷ ss) p f d =
+  declared-keep : (ss : List AttrSet) (f : Focus) → Keep f → Both f (λ u k. declared_trace ss u k f)
+  declared-keep [] f d = keeps.nothing f.is_captured
+  declared-keep (s ∷ ss) f d =
       let own : World → Calls → Trace Task = λ u k. instrs_trace s.attributes u k f [] in
-      joined f (λ u k. k (using s.sets) p f ⨾ own u k) (λ u k. declared_trace ss u k p f)
-      (joined f (λ u k. k (using s.sets) p f) own (d (using s.sets) p f) (instrs-keep s.attributes f d [])) (declared-keep ss p f d)
+      joined f (λ u k. k (using s.sets) s.site f ⨾ own u k) (λ u k. declared_trace ss u k f)
+      (joined f (λ u k. k (using s.sets) s.site f) own (d (using s.sets) s.site f) (instrs-keep s.attributes f d [])) (declared-keep ss f d)
 
-  sets-keep : (names : List Label) (p : Site) (f : Focus) → Keep f → Both f (λ u k. sets_trace names u k p f)
-  sets-keep [] p f d = keeps.nothing f.is_captured
-  sets-keep (name ∷ names) p f d =
-      joined f (λ u k. declared_trace (declarations_of w.sheet.sets name) u k p f) (λ u k. sets_trace names u k p f)
-      (declared-keep (declarations_of w.sheet.sets name) p f d) (sets-keep names p f d)
+  sets-keep : (names : List Label) (f : Focus) → Keep f → Both f (λ u k. sets_trace names u k f)
+  sets-keep [] f d = keeps.nothing f.is_captured
+  sets-keep (name ∷ names) f d =
+      joined f (λ u k. declared_trace (declarations_of w.sheet.sets name) u k f) (λ u k. sets_trace names u k f)
+      (declared-keep (declarations_of w.sheet.sets name) f d) (sets-keep names f d)
 
   entry-keeps : (e : Entry) (p : Site) (f : Focus) → Keep f → Both f (λ u k. entered e u k p f)
   entry-keeps (named i ps) p f d = template-keeps (slice_get w.sheet.templates i) ps f d
   entry-keeps (fitting mode ps) p f d = rule-keeps (rule_for w mode f.node) mode ps p f d
   entry-keeps (overridden current) p f d = rule-keeps (import_for w current f) f.mode no_params p f d
-  entry-keeps (using names) p f d = sets-keep names p f d
+  entry-keeps (using names) p f d = sets-keep names f d
 
   -- what is entered, level by level
   pub called-keeps : (e : Entry) (d n : ℕ) (p : Site) (f : Focus) → R f.is_captured (called e w d n p f) (called e V d n p f)

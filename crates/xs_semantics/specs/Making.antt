@@ -19,6 +19,9 @@ use Rattle.xs_making.specs.Labels.{put_label, xml_uri}
 use Rattle.xs_making.specs.Names.{pi_target, result_name}
 use Rattle.xs_making.specs.Texts.{comment_text, instruction_text, is_empty}
 use Rattle.xs_semantics.specs.declared.focus.Focus.{Focus}
+use Rattle.xs_semantics.specs.declared.made.Made.{Made}
+use Rattle.xs_semantics.specs.declared.made.Made.TheVariants as made
+use Rattle.xs_semantics.specs.declared.made.Made.TheVariants.{Attribute, Instruction}
 use Rattle.xs_semantics.specs.World.{World, template_run}
 
 -- ---- names
@@ -44,10 +47,10 @@ namespace_run w (Some namespace) f vs = do
 
 -- the name that an instruction makes for an element or an attribute, or the fault where it is none (7.1.2, 7.1.3)
 abbrev pub name_run : World → (is_attribute : Bool) → MadeName → Focus → List Value → Run Label
-name_run w is_attribute made f vs = do
-  text ← template_run w made.name f vs
-  uri ← namespace_run w made.namespace f vs
-  given (result_name made.scope is_attribute uri text)
+name_run w is_attribute name f vs = do
+  text ← template_run w name.name f vs
+  uri ← namespace_run w name.namespace f vs
+  given (result_name name.scope is_attribute uri text)
 
 -- the target that one makes for a processing instruction (7.3)
 abbrev pub target_run : World → ValueTemplate → Focus → List Value → Run (List ℕ)
@@ -95,13 +98,8 @@ texts_outside (Pi target value ∷ es) depth = texts_outside es depth
 abbrev pub content_text : List Event → List ℕ
 content_text events = texts_outside events 0
 
--- what is made of that text: an attribute with a name, a comment, a processing instruction with a target
-pub data Made : Type 0 where
-  attribute : (name : Label) → Made
-  comment : Made
-  instruction : (target : List ℕ) → Made
-
+-- what is made of that text
 abbrev pub made_events : Made → List ℕ → List Event
-made_events (attribute name) text = attribute_events name text
-made_events comment text = Comment (comment_text text) ∷ []
-made_events (instruction target) text = Pi target (instruction_text text) ∷ []
+made_events (Attribute name) text = attribute_events name text
+made_events made.Comment text = Comment (comment_text text) ∷ []
+made_events (Instruction target) text = Pi target (instruction_text text) ∷ []

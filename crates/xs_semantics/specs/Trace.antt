@@ -35,9 +35,11 @@ use Rattle.xs_value.specs.Conversion.{fragment_text}
 use Rattle.xs_making.specs.Copies.{shallow_copy}
 use Rattle.xs_sets.specs.Declarations.{declarations_of}
 use Rattle.xs_semantics.specs.declared.focus.Focus.{Focus}
+use Rattle.xs_semantics.specs.declared.made.Made.{Made}
+use Rattle.xs_semantics.specs.declared.made.Made.TheVariants as made
 use Rattle.xs_semantics.specs.World.{World, all_set_levels, at_node, in_list, captured_in, with_levels, by_rule, without_rule, alone_at}
 use Rattle.xs_semantics.specs.World.{nodes_or_children, nodes_run, template_run, test_run, text_run, value_run}
-use Rattle.xs_semantics.specs.Making.{Made, attribute, comment, instruction, made_events, attribute_events, attribute_label, content_text}
+use Rattle.xs_semantics.specs.Making.{made_events, attribute_events, attribute_label, content_text}
 use Rattle.xs_semantics.specs.Making.{element_label, literal_spaces, name_run, target_run, value_events}
 use Rattle.xs_semantics.specs.Tasks.{Params, no_params, value_passed, Job, body_job, rules_job, Task, tasks_for, grain_over}
 use Rattle.xs_semantics.specs.Rules.{rule_for, import_for}
@@ -165,10 +167,10 @@ abbrev mutual
   instr_trace (Element name sets body) p w k f vs next =
       evaluated p (name_run w false name f vs) (λ label. Put (Start label) ∷ (k (using sets) p f ⨾ (body_trace body w k f vs ⨾ Put End ∷ []))) ⨾ next vs
   instr_trace (Attribute name body) p w k f vs next =
-      evaluated p (name_run w true name f vs) (λ label. makes (attribute label) p (body_trace body w k (captured_in f) vs)) ⨾ next vs
-  instr_trace (Comment body) p w k f vs next = makes comment p (body_trace body w k (captured_in f) vs) ⨾ next vs
+      evaluated p (name_run w true name f vs) (λ label. makes (made.Attribute label) p (body_trace body w k (captured_in f) vs)) ⨾ next vs
+  instr_trace (Comment body) p w k f vs next = makes made.Comment p (body_trace body w k (captured_in f) vs) ⨾ next vs
   instr_trace (Pi name body) p w k f vs next =
-      evaluated p (target_run w name f vs) (λ target. makes (instruction target) p (body_trace body w k (captured_in f) vs)) ⨾ next vs
+      evaluated p (target_run w name f vs) (λ target. makes (made.Instruction target) p (body_trace body w k (captured_in f) vs)) ⨾ next vs
   instr_trace (Message terminate body) p w k f vs next =
       captured (body_trace body w k (captured_in f) vs) (λ es. says p (fragment_text es) ⨾ ended_if terminate p) ⨾ next vs
   instr_trace (Variable' site name content) p w k f vs next = content_trace content p w k f vs (λ v. next (vs ++ v ∷ []))
@@ -259,14 +261,14 @@ instrs_trace [] w k f vs = []
 instrs_trace (i ∷ is) w k f vs = Tick i.site ∷ instr_trace i.kind i.site w k f vs (instrs_trace is w k f)
 
 -- what declarations of a set put: each the attributes of the sets that it uses, and then its own, which see no local variable (7.1.4)
-abbrev pub declared_trace : List AttrSet → World → Calls → Site → Focus → Trace Task
-declared_trace [] w k p f = []
-declared_trace (s ∷ ss) w k p f = (k (using s.sets) p f ⨾ instrs_trace s.attributes w k f []) ⨾ declared_trace ss w k p f
+abbrev pub declared_trace : List AttrSet → World → Calls → Focus → Trace Task
+declared_trace [] w k f = []
+declared_trace (s ∷ ss) w k f = (k (using s.sets) s.site f ⨾ instrs_trace s.attributes w k f []) ⨾ declared_trace ss w k f
 
 -- what the sets of some names put
-abbrev pub sets_trace : List Label → World → Calls → Site → Focus → Trace Task
-sets_trace [] w k p f = []
-sets_trace (name ∷ names) w k p f = declared_trace (declarations_of w.sheet.sets name) w k p f ⨾ sets_trace names w k p f
+abbrev pub sets_trace : List Label → World → Calls → Focus → Trace Task
+sets_trace [] w k f = []
+sets_trace (name ∷ names) w k f = declared_trace (declarations_of w.sheet.sets name) w k f ⨾ sets_trace names w k f
 
 -- ---- what is entered
 
@@ -274,7 +276,7 @@ abbrev pub entered : Entry → World → Calls → Site → Focus → Trace Task
 entered (named template ps) w k p f = template_trace (slice_get w.sheet.templates template) ps w k f
 entered (fitting mode ps) w k p f = ruled (rule_for w mode f.node) mode ps w k p f
 entered (overridden current) w k p f = ruled (import_for w current f) f.mode no_params w k p f
-entered (using names) w k p f = sets_trace names w k p f
+entered (using names) w k p f = sets_trace names w k f
 
 -- The same where so many levels of templates, and of attribute sets, may be begun. Past the last level of sets nothing is put, which can't
 -- come, since no set uses itself (7.1.4).

@@ -3,3 +3,4 @@
 
 pub mod focus;
 pub mod laws;
+pub mod made;
