@@ -6,8 +6,9 @@ ghost use Rattle.std.specs.List.{All};
 ghost use Rattle.xs_body.specs.Inside.{AreValues, IsInside};
 ghost use Rattle.xs_body.specs.steps.Frames.{filled_up, idle, instrs_of, last, pushed, rest};
 ghost use Rattle.xs_body.specs.steps.Frames.{slots_are, without, work_of};
-ghost use Rattle.xs_semantics.specs.World.{nodes_run, test_run, text_run, value_run};
-ghost use Rattle.xs_trace.specs.Play.{IsStep};
+ghost use Rattle.xs_semantics.specs.World.{nodes_run, template_run, test_run, text_run};
+ghost use Rattle.xs_semantics.specs.World.{value_run};
+ghost use Rattle.xs_trace.specs.Play.{IsStep, IsStepBy};
 ghost use Rattle.xs_trace.specs.Run.{limited};
 ghost use Rattle.xs_value.specs.Conversion.{IsIn};
 
@@ -17,8 +18,9 @@ use std::alloc::{AllocError, Global};
 use std::marker::Model;
 use xs_eval::context::Context;
 use xs_eval::evaluate::evaluate;
+use xs_eval::templates::evaluate_avt;
 use xs_sheet::body::Body;
-use xs_sheet::scoped::ScopedExpr;
+use xs_sheet::scoped::{ScopedExpr, ValueTemplate};
 use xs_trace::fault::Fault;
 use xs_trace::item::Site;
 use xs_trace::recorder::{Halt, Tally};
@@ -45,7 +47,7 @@ pub(crate) struct Evaluator<'a, K: KeyFinder> {
 impl<'a, K: KeyFinder> Model for Evaluator<'a, K> {
     ghost use Rattle.std.specs.Coded.{codes};
     ghost use denote.Signature.{static_lft};
-    ghost use Rattle.xs_rules.specs.contracts.index.RuleIndex as of_index;
+    ghost use Rattle.xs_semantics.specs.contracts.index.SheetIndex as of_index;
     ghost use Rattle.xs_sheet.specs.contracts.sheet.Sheet as of_sheet;
     ghost use Rattle.xs_sheet.specs.contracts.body.Body as body;
     ghost use Rattle.xs_sheet.specs.contracts.body.Content as content;
@@ -235,5 +237,41 @@ impl<'a, K: KeyFinder> Evaluator<'a, K> {
     {
         let value = self.value(expr, site, scope, tally)?;
         Ok(to_bool(&value))
+    }
+
+    /// The text of a value template (7.6.2).
+    pub(crate) fn template<T: Tally>(
+        &self,
+        template: &ValueTemplate,
+        site: Site,
+        scope: Scope,
+        tally: &mut T,
+    ) -> Result<TextBuf, Halt>
+        requires node { scope.focus.node < length self.now.world.tree }
+        ensures told { IsStepBy (λ text. text) (limited site (template_run self.now.world
+            template.now scope.focus (last scope.seen self.now.slots))
+            (T.state tally.old)) result (T.state tally.new) }
+        ensures kept { T.kept tally.new ≡ T.kept tally.old }
+    {
+        let world = &self.world;
+        let focus = scope.focus;
+        let context = Context {
+            tree: world.tree,
+            node: Node::at(focus.node),
+            position: focus.position,
+            size: focus.size,
+            current: Node::at(focus.node),
+            locals: self.locals(scope),
+            globals: world.globals,
+            scope: template.scope.scope(),
+        };
+        evaluate_avt(
+            self.alloc,
+            template.parts.as_slice(),
+            &context,
+            world.keys,
+            site,
+            tally,
+        )
     }
 }

@@ -6,7 +6,11 @@ use crate::lists::NodeList;
 use crate::passed::Passed;
 use std::alloc::AllocError;
 use xs_semantics::focus::Focus;
+use xs_semantics::made::Made;
 use xs_sheet::body::{Binding, Body, Instr};
+use xs_sheet::declarations::AttrSet;
+use xs_sheet::scoped::ValueTemplate;
+use xs_trace::event::Label;
 use xs_trace::item::Site;
 use xs_value::value::Value;
 
@@ -115,6 +119,17 @@ pub struct ParamsLeft<'a> {
     pub scope: Scope,
 }
 
+/// The attributes of a literal element (7.1.1).
+#[derive(Drop)]
+pub struct AttributesLeft<'a> {
+    /// Their names and values.
+    pub attributes: &'a [(Label, ValueTemplate)],
+    /// The element.
+    pub site: Site,
+    /// Where their values are evaluated.
+    pub scope: Scope,
+}
+
 /// One thing that is still to be done.
 #[derive(Drop)]
 pub enum Frame<'a> {
@@ -130,6 +145,14 @@ pub enum Frame<'a> {
     Bodies(&'a [Body], Scope),
     /// The end of an element.
     End,
+    /// The attribute sets of these names (7.1.4).
+    Sets(&'a [Label], Focus),
+    /// Declarations of a set.
+    Declared(&'a [&'a AttrSet], Focus),
+    /// The attributes of a literal element.
+    Attributes(AttributesLeft<'a>),
+    /// The end of the content of an attribute, a comment or a processing instruction.
+    Make(Made, Site),
     /// The end of a message, which may end the run.
     Say { site: Site, terminate: bool },
     /// The parameters of a call that are left.

@@ -2,25 +2,25 @@
 
 ghost use Rattle.std.specs.Prelude.{◌≡◌, ◌<◌, length, true, IsSome, OnOk, Some};
 ghost use Rattle.xs_body.specs.steps.Frames.{begun, bodies_of, fallbacks_begun, imports_begun};
-ghost use Rattle.xs_body.specs.steps.Frames.{literal_begun, message_begun, message_ended};
-ghost use Rattle.xs_body.specs.steps.Frames.{next_body};
+ghost use Rattle.xs_body.specs.steps.Frames.{message_begun, message_ended, next_body};
 ghost use Rattle.xs_trace.specs.Play.{IsStep, IsStepBy};
 
 use crate::evaluator::Evaluator;
 use crate::frames::{Callee, Frame, Scope};
-use crate::putting::{begin_element, events_text, put_text};
+use crate::putting::{events_text, put_text};
 use crate::task::Task;
 use std::alloc::AllocError;
 use xs_semantics::focus::Focus;
-use xs_sheet::body::{Body, Fallbacks, InstrKind, LiteralStart};
+use xs_semantics::made::Made;
+use xs_sheet::body::{Body, Fallbacks, InstrKind};
 use xs_trace::fault::Fault;
 use xs_trace::item::Site;
 use xs_trace::recorder::{Halt, Recorder, say_message};
 use xs_value::keys::KeyFinder;
 
 impl<'a, K: KeyFinder> Evaluator<'a, K> {
-    /// What an instruction does after its own tick, before what is left of its body. Those that
-    /// are not built yet do nothing.
+    /// What an instruction does after its own tick, before what is left of its body. A number
+    /// is not supported yet, and does nothing.
     pub(crate) fn begin<R: Recorder<Task = Task<'a>>>(
         &mut self,
         kind: &'a InstrKind,
@@ -56,18 +56,27 @@ impl<'a, K: KeyFinder> Evaluator<'a, K> {
             }
             InstrKind::Variable(binding) => self.bind(&binding.content, site, scope, recorder),
             InstrKind::Literal { start, body } => {
-                self.begin_literal(start, body, scope, recorder)
+                self.begin_literal(start, body, site, scope, recorder)
             }
             InstrKind::Extension(fallbacks) => {
                 self.begin_fallbacks(fallbacks, site, scope, recorder)
             }
-            InstrKind::CopyOf(_)
-            | InstrKind::Copy { .. }
-            | InstrKind::Number(_)
-            | InstrKind::Element { .. }
-            | InstrKind::Attribute { .. }
-            | InstrKind::Comment(_)
-            | InstrKind::Pi { .. } => Ok(()),
+            InstrKind::CopyOf(select) => self.put_copy(select, site, scope, recorder),
+            InstrKind::Copy { sets, body } => {
+                self.begin_copy(sets.as_slice(), body, site, scope, recorder)
+            }
+            InstrKind::Element { name, sets, body } => {
+                let name = self.element_name(name, site, scope, recorder)?;
+                self.begin_element(name, sets.as_slice(), body, scope, recorder)
+            }
+            InstrKind::Attribute { name, body } => {
+                self.begin_attribute(name, body, site, scope, recorder)
+            }
+            InstrKind::Comment(body) => self.begin_made(Made::Comment, body, site, scope, recorder),
+            InstrKind::Pi { name, body } => {
+                self.begin_instruction(name, body, site, scope, recorder)
+            }
+            InstrKind::Number(_) => Ok(()),
         }
     }
 
@@ -149,26 +158,6 @@ impl<'a, K: KeyFinder> Evaluator<'a, K> {
         if terminate {
             return Err(Halt::Fault(Fault::Terminated, site));
         }
-        Ok(())
-    }
-
-    /// A literal element begins (XSLT 1.0, 7.1.1).
-    fn begin_literal<R: Recorder<Task = Task<'a>>>(
-        &mut self,
-        start: &LiteralStart,
-        body: &'a Body,
-        scope: Scope,
-        recorder: &mut R,
-    ) -> Result<(), Halt>
-        requires node { scope.focus.node < length self.old.world.tree }
-        ensures told { IsStepBy (λ u. self.new)
-            (literal_begun start.now body.now scope self.old
-            (R.state recorder.old)) result (R.state recorder.new) }
-        ensures kept { R.kept recorder.new ≡ R.kept recorder.old }
-    {
-        begin_element(start, recorder)?;
-        self.push(Frame::End)?;
-        self.push_body(body, scope.inner())?;
         Ok(())
     }
 

@@ -1,17 +1,15 @@
 //! What is put.
 
 ghost use Rattle.std.specs.Prelude.{◌≡◌, ◌<◌, length, IfOk};
-ghost use Rattle.xs_body.specs.steps.Frames.{chars_steps, literal_steps, space_steps};
-ghost use Rattle.xs_body.specs.steps.Frames.{value_steps};
-ghost use Rattle.xs_trace.specs.Play.{IsStep, put};
-ghost use Rattle.xs_trace.specs.declared.event.Event.TheVariants.{Space};
+ghost use Rattle.xs_body.specs.steps.Frames.{chars_steps, value_steps};
+ghost use Rattle.xs_semantics.specs.Trace.{puts_all};
+ghost use Rattle.xs_trace.specs.Play.{IsStep, play};
 ghost use Rattle.xs_value.specs.Conversion.{fragment_text};
 
 use crate::evaluator::Evaluator;
 use crate::frames::Scope;
 use crate::task::Task;
 use std::alloc::{AllocError, Global};
-use xs_sheet::body::LiteralStart;
 use xs_sheet::scoped::ScopedExpr;
 use xs_trace::event::{Event, Fragment};
 use xs_trace::item::Site;
@@ -55,41 +53,22 @@ impl<'a, K: KeyFinder> Evaluator<'a, K> {
     }
 }
 
-/// A literal element begins, with its namespace nodes (7.1.1).
-pub(crate) fn begin_element<R: Recorder>(start: &LiteralStart, recorder: &mut R) -> Result<(), Halt>
-    ensures told { IsStep (literal_steps start.now (R.state recorder.old))
+/// Puts events, one after another.
+pub(crate) fn put_events<R: Recorder>(
+    site: Site,
+    events: &[Event],
+    recorder: &mut R,
+) -> Result<(), Halt>
+    ensures told { IsStep (play (puts_all site events.now) (R.state recorder.old))
         result (R.state recorder.new) }
     ensures kept { R.kept recorder.new ≡ R.kept recorder.old }
 {
-    let name = start.name.copy()?;
-    recorder.put(Event::Start(name))?;
-    put_spaces(start.spaces.as_slice(), recorder)
-}
-
-/// Puts namespace nodes.
-fn put_spaces<R: Recorder>(spaces: &[(TextBuf, TextBuf)], recorder: &mut R) -> Result<(), Halt>
-    ensures told { IsStep (space_steps spaces.now (R.state recorder.old))
-        result (R.state recorder.new) }
-    ensures kept { R.kept recorder.new ≡ R.kept recorder.old }
-{
-    let mut left = spaces;
-    while let Some((space, behind)) = left.split_first() {
-        put_space(&space.0, &space.1, recorder)?;
+    let mut left = events;
+    while let Some((event, behind)) = left.split_first() {
+        put_event(recorder, site, event.copy()?)?;
         left = behind;
     }
     Ok(())
-}
-
-/// Puts a namespace node.
-fn put_space<R: Recorder>(prefix: &TextBuf, uri: &TextBuf, recorder: &mut R) -> Result<(), Halt>
-    ensures told { IsStep (put (Space prefix.now uri.now) (R.state recorder.old))
-        result (R.state recorder.new) }
-    ensures kept { R.kept recorder.new ≡ R.kept recorder.old }
-{
-    recorder.put(Event::Space {
-        prefix: prefix.copy()?,
-        uri: uri.copy()?,
-    })
 }
 
 /// The text of all text nodes of captured content, those inside elements among them.

@@ -57,6 +57,16 @@ impl<'a, K: KeyFinder> Evaluator<'a, K> {
                 Ok(())
             }
             Frame::End => recorder.put(Event::End),
+            Frame::Sets(names, focus) => {
+                self.next_set(names, focus)?;
+                Ok(())
+            }
+            Frame::Declared(declarations, focus) => {
+                self.next_declaration(declarations, focus)?;
+                Ok(())
+            }
+            Frame::Attributes(left) => self.put_attributes(left, recorder),
+            Frame::Make(made, site) => self.end_made(made, site, recorder),
             Frame::Say { site, terminate } => self.end_message(site, terminate, recorder),
             Frame::Pass(passing) => self.pass_next(passing, recorder),
             Frame::Take(passing) => self.take_value(passing, recorder),

@@ -28,8 +28,8 @@ use std::mem::replace;
 use xs_block::pool::Pool;
 use xs_record::outcome::{Outcome, Part};
 use xs_record::piece::{Finished, PieceRecorder};
-use xs_rules::index::RuleIndex;
 use xs_semantics::focus::Focus;
+use xs_semantics::index::SheetIndex;
 use xs_sheet::sheet::Sheet;
 use xs_trace::item::{Ended, Item, Limits, Site};
 use xs_trace::recorder::{Halt, Recorder};
@@ -53,7 +53,7 @@ pub struct SheetRunner<'a, K: KeyFinder> {
 impl<'a, K: KeyFinder> Model for SheetRunner<'a, K> {
     ghost use Rattle.std.specs.Coded.{codes};
     ghost use denote.Signature.{static_lft};
-    ghost use Rattle.xs_rules.specs.contracts.index.RuleIndex as of_index;
+    ghost use Rattle.xs_semantics.specs.contracts.index.SheetIndex as of_index;
     ghost use Rattle.xs_sheet.specs.contracts.sheet.Sheet as of_sheet;
     ghost use Rattle.xs_semantics.specs.World.{World};
 
@@ -73,7 +73,7 @@ impl<'a, K: KeyFinder> SheetRunner<'a, K> {
     /// tasks.
     pub fn new(
         sheet: &'a Sheet,
-        index: &'a RuleIndex<'a>,
+        index: &'a SheetIndex<'a>,
         tree: &'a Tree,
         keys: &'a K,
         globals: &'a [Option<Value>],

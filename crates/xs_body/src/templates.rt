@@ -46,7 +46,7 @@ impl<'a, K: KeyFinder> Evaluator<'a, K> {
         if focus.depth == 0 {
             return Err(Halt::Fault(Fault::TooDeep, site));
         }
-        let focus = focus.with_depth(focus.depth - 1);
+        let focus = self.in_template(focus);
         self.begin_template(template, passed, focus)?;
         Ok(())
     }
@@ -70,7 +70,7 @@ impl<'a, K: KeyFinder> Evaluator<'a, K> {
         if focus.depth == 0 {
             return Err(Halt::Fault(Fault::TooDeep, site));
         }
-        let focus = focus.with_depth(focus.depth - 1);
+        let focus = self.in_template(focus);
         let rule = self.rule_for(rules.mode, focus.node)?;
         self.begin_rule(rule, rules, site, focus, recorder)
     }
@@ -93,7 +93,7 @@ impl<'a, K: KeyFinder> Evaluator<'a, K> {
         if focus.depth == 0 {
             return Err(Halt::Fault(Fault::TooDeep, site));
         }
-        let focus = focus.with_depth(focus.depth - 1);
+        let focus = self.in_template(focus);
         let rule = self.import_for(current, focus)?;
         let rules = Rules {
             mode: focus.mode,

@@ -3,7 +3,7 @@
 ghost use Rattle.std.specs.Prelude.{◌≡◌};
 
 use std::marker::Model;
-use xs_rules::index::RuleIndex;
+use xs_semantics::index::SheetIndex;
 use xs_sheet::sheet::Sheet;
 use xs_tree::Tree;
 use xs_value::keys::KeyFinder;
@@ -15,7 +15,7 @@ pub struct World<'a, K: KeyFinder> {
     /// The stylesheet.
     pub sheet: &'a Sheet,
     /// By which its rules are found.
-    pub index: &'a RuleIndex<'a>,
+    pub index: &'a SheetIndex<'a>,
     /// The documents.
     pub tree: &'a Tree,
     /// What finds nodes by key.
@@ -29,7 +29,7 @@ pub struct World<'a, K: KeyFinder> {
 impl<'a, K: KeyFinder> Model for World<'a, K> {
     ghost use Rattle.std.specs.Coded.{codes};
     ghost use denote.Signature.{static_lft};
-    ghost use Rattle.xs_rules.specs.contracts.index.RuleIndex as of_index;
+    ghost use Rattle.xs_semantics.specs.contracts.index.SheetIndex as of_index;
     ghost use Rattle.xs_sheet.specs.contracts.sheet.Sheet as of_sheet;
     ghost use Rattle.xs_semantics.specs.World.{World};
     ghost use Rattle.xs_body.specs.Inside.{IsWorld};

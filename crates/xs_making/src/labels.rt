@@ -7,10 +7,10 @@ use xs_trace::event::Label;
 use xs_trace::text::TextBuf;
 
 /// The namespace of the prefix `xml` (Namespaces in XML 1.0, 3).
-pub(crate) const XML_URI: &str = "http://www.w3.org/XML/1998/namespace";
+pub const XML_URI: &str = "http://www.w3.org/XML/1998/namespace";
 
 /// A name as it is put: with the prefix that fits its namespace.
-pub(crate) fn put_label(
+pub fn put_label(
     alloc: Global,
     uri: &str,
     local: &str,

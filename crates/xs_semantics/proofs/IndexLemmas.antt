@@ -10,7 +10,7 @@ use Rattle.xs_trace.specs.declared.fault.Fault.TheVariants as fault
 use Rattle.xs_trace.specs.declared.item.Site.{Site}
 use Rattle.xs_value.specs.declared.value.Value.{Value}
 use Rattle.xs_value.specs.declared.value.Value.TheVariants.{Piece}
-use Rattle.xs_rules.specs.declared.index.RuleIndex.{RuleIndex}
+use Rattle.xs_semantics.specs.declared.index.SheetIndex.{SheetIndex}
 use Rattle.xs_semantics.specs.declared.focus.Focus.{Focus}
 use Rattle.xs_semantics.specs.World.{World, at_node, with_index}
 use Rattle.xs_semantics.specs.Tasks.{Job, Task, grain_over}
@@ -38,7 +38,7 @@ same-spread : (o : Option ℕ) (job : Job) (p : Site) (x v : Focus → Trace Tas
 same-spread None job p x v f ns e = same-each p x v f e 1 ns
 same-spread (Some grain) job p x v f ns e = refl
 
-module _ (w : World) (index : RuleIndex) where
+module _ (w : World) (index : SheetIndex) where
   abbrev V : World
   V = with_index index w
 
@@ -76,7 +76,7 @@ module _ (w : World) (index : RuleIndex) where
   value-same (Some g) = content-same g.binding.content
 
 -- settling
-module _ (w : World) (index : RuleIndex) (budget : ℕ) where
+module _ (w : World) (index : SheetIndex) (budget : ℕ) where
   abbrev U : World
   U = with_index index w
 

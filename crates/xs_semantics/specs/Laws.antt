@@ -8,7 +8,7 @@ use Rattle.xs_trace.specs.Fill.{fill, tasks_of}
 use Rattle.xs_trace.specs.Mark.{Tick, Put, Say, Stop, Need, Hole, Trace, GoesOn, NeedsNothing, captured, events_of, messages_of, tick_count}
 use Rattle.xs_trace.specs.declared.event.Event.{Event}
 use Rattle.xs_value.specs.declared.value.Value.{Value}
-use Rattle.xs_rules.specs.declared.index.RuleIndex.{RuleIndex}
+use Rattle.xs_semantics.specs.declared.index.SheetIndex.{SheetIndex}
 use Rattle.xs_semantics.specs.declared.focus.Focus.{Focus}
 use Rattle.xs_semantics.specs.World.{World, captured_in, with_grain, with_index}
 use Rattle.xs_semantics.specs.Tasks.{Task}
@@ -55,12 +55,12 @@ SettledNeedsNothing = (w : World) (t : Task) → All IsSome w.globals → NeedsN
 
 -- nothing that is done depends on the index by which rules are found
 abbrev pub TasksAreTheSame : Type 0
-TasksAreTheSame = (w : World) (index : RuleIndex) (t : Task) → task_trace (with_index index w) t ≡ task_trace w t
+TasksAreTheSame = (w : World) (index : SheetIndex) (t : Task) → task_trace (with_index index w) t ≡ task_trace w t
 
 abbrev pub AttemptsAreTheSame : Type 0
-AttemptsAreTheSame = (w : World) (index : RuleIndex) (g : Option Global) →
+AttemptsAreTheSame = (w : World) (index : SheetIndex) (g : Option Global) →
     (attempt_trace (with_index index w) g ≡ attempt_trace w g) × (attempt_value (with_index index w) g ≡ attempt_value w g)
 
 abbrev pub SettlingIsTheSame : Type 0
-SettlingIsTheSame = (w : World) (index : RuleIndex) (given : List (List ℕ × List ℕ)) (budget : ℕ) (r : Settled) →
+SettlingIsTheSame = (w : World) (index : SheetIndex) (given : List (List ℕ × List ℕ)) (budget : ℕ) (r : Settled) →
     SettlesAll w given budget r → SettlesAll (with_index index w) given budget r

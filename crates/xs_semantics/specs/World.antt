@@ -12,13 +12,13 @@ use Rattle.xs_eval.specs.Context.{Context}
 use Rattle.xs_eval.specs.Evaluation.{run_of_tree}
 use Rattle.xs_eval.specs.Results.{given, nodes_in}
 use Rattle.xs_eval.specs.Templates.{template}
-use Rattle.xs_rules.specs.declared.index.RuleIndex.{RuleIndex}
+use Rattle.xs_semantics.specs.declared.index.SheetIndex.{SheetIndex}
 use Rattle.xs_semantics.specs.declared.focus.Focus.{Focus}
 
 pub record World : Type 0 where
   pub sheet : Sheet
-  -- by which its rules are found; nothing that it does depends on this
-  pub index : RuleIndex
+  -- by which its rules and attribute sets are found; nothing that it does depends on this
+  pub index : SheetIndex
   -- the nodes of all documents
   pub tree : List Record
   -- the tables of the keys
@@ -160,9 +160,9 @@ abbrev pub with_grain : Option ℕ → World → World
 with_grain grain w = record w { grain = grain }
 
 -- the same, with another index
-abbrev pub with_index : RuleIndex → World → World
+abbrev pub with_index : SheetIndex → World → World
 with_index index w = record w { index = index }
 
 -- one over which no global has a value yet, and nothing is left to tasks
-abbrev pub ground : Sheet → RuleIndex → List Record → List Table → World
+abbrev pub ground : Sheet → SheetIndex → List Record → List Table → World
 ground sheet index tree keys = record { sheet = sheet; index = index; tree = tree; keys = keys; globals = []; grain = None }
