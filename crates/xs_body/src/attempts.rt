@@ -186,10 +186,11 @@ fn tell_binding<'a, K: KeyFinder, R: Recorder<Task = Task<'a>>>(
 
 /// The focus of a global's content.
 #[tactic(auto, unfolding(xs_semantics::specs::Trace::most_depth))]
-fn global_focus() -> Focus
-    ensures { result ≡ global_focus }
+fn global_focus<'a, K: KeyFinder>(world: &World<'a, K>) -> Focus
+    ensures { result ≡ global_focus world.now }
 {
-    Focus::alone_at(Node::root(), MOST_DEPTH).captured()
+    let set_levels = world.sheet.sets.as_slice().len();
+    Focus::alone_at(Node::root(), MOST_DEPTH, set_levels).captured()
 }
 
 /// The value of an expression of a global.
@@ -200,7 +201,7 @@ fn tell_selected<'a, K: KeyFinder, R: Recorder<Task = Task<'a>>>(
     site: Site,
     recorder: &mut R,
 ) -> Result<Value, Halt>
-    ensures told { IsStep (limited site (value_run world.now expr.now global_focus [])
+    ensures told { IsStep (limited site (value_run world.now expr.now (global_focus world.now) [])
         (R.state recorder.old)) result (R.state recorder.new) }
     ensures kept { R.kept recorder.new ≡ R.kept recorder.old }
     ensures inside { IfOk result (IsIn world.now.tree) }
@@ -208,7 +209,7 @@ fn tell_selected<'a, K: KeyFinder, R: Recorder<Task = Task<'a>>>(
     let has_root = world.tree.len() > 0;
     prove!(has_root);
     let evaluator = Evaluator::new(alloc, world, Vec::new(alloc));
-    evaluator.value(expr, site, Scope::outer(global_focus()), recorder)
+    evaluator.value(expr, site, Scope::outer(global_focus(world)), recorder)
 }
 
 /// The fragment that the content of a global makes.
@@ -241,9 +242,9 @@ fn content_evaluator<'a, K: KeyFinder>(
 ) -> Result<Evaluator<'a, K>, AllocError>
     requires node { 0 < length world.now.tree }
     ensures begun { IfOk result (λ evaluator. evaluator ≡ pushed
-        (rest (instrs_of body.now) (outer global_focus) ∷ []) (idle world.now [])) }
+        (rest (instrs_of body.now) (outer (global_focus world.now)) ∷ []) (idle world.now [])) }
 {
     let mut evaluator = Evaluator::new(alloc, world, Vec::new(alloc));
-    evaluator.push_body(body, Scope::outer(global_focus()))?;
+    evaluator.push_body(body, Scope::outer(global_focus(world)))?;
     Ok(evaluator)
 }

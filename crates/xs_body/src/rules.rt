@@ -19,7 +19,14 @@ impl<'a, K: KeyFinder> Evaluator<'a, K> {
     {
         let world = &self.world;
         let node = Node::at(node);
-        let rule = choose_with(self.alloc, world.index, world.tree, node, mode, world.keys)?;
+        let rule = choose_with(
+            self.alloc,
+            &world.index.rules,
+            world.tree,
+            node,
+            mode,
+            world.keys,
+        )?;
         Ok(template_of(rule))
     }
 
@@ -33,7 +40,7 @@ impl<'a, K: KeyFinder> Evaluator<'a, K> {
         let mode = focus.mode;
         let rule = choose_import_with(
             self.alloc,
-            world.index,
+            &world.index.rules,
             world.tree,
             node,
             mode,

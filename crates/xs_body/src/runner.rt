@@ -118,10 +118,11 @@ impl<'a, K: KeyFinder> SheetRunner<'a, K> {
         let has_root = world.tree.len() > 0;
         prove!(has_root);
         let line = world.sheet.root_line;
+        let set_levels = world.sheet.sets.as_slice().len();
         Ok(Task {
             job: Job::Rules(0, Passed::none()),
             site: Site { module: 0, line },
-            focus: Focus::alone_at(Node::root(), MOST_DEPTH),
+            focus: Focus::alone_at(Node::root(), MOST_DEPTH, set_levels),
             first: 1,
             nodes: Vec::from_slice(alloc, &[Node::root()])?,
         })

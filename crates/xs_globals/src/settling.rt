@@ -11,6 +11,7 @@ ghost use Rattle.xs_globals.specs.Results.{settled_by, settled_of};
 ghost use Rattle.xs_globals.specs.steps.Settling.{Continues, GoesOn, IsGoing, IsMarked, IsTurn};
 ghost use Rattle.xs_globals.specs.steps.Settling.{IsUnderWay, left_over, table_of};
 ghost use Rattle.xs_rules.specs.Indexed.{IsIndex, IsPrepared};
+ghost use Rattle.xs_sets.specs.Indexed.{IsSetIndex};
 ghost use Rattle.xs_semantics.specs.Globals.{Table as InTable};
 ghost use Rattle.xs_semantics.specs.Globals.{AllSettle, Settles, SettlesAll, attempt_cut};
 ghost use Rattle.xs_semantics.specs.Globals.{attempt_value, with_globals};
@@ -24,7 +25,7 @@ use std::alloc::{AllocError, Global};
 use xs_body::attempts::Attempt;
 use xs_body::runner::SheetRunner;
 use xs_body::world::World;
-use xs_rules::index::RuleIndex;
+use xs_semantics::index::SheetIndex;
 use xs_sheet::sheet::Sheet;
 use xs_trace::item::Spot;
 use xs_trace::text::TextBuf;
@@ -37,16 +38,17 @@ use xs_value::value::Value;
 pub fn settle<K: KeyFinder>(
     alloc: Global,
     sheet: &Sheet,
-    index: &RuleIndex<'_>,
+    index: &SheetIndex<'_>,
     tree: &Tree,
     keys: &K,
     given: &[(TextBuf, TextBuf)],
     budget: u64,
 ) -> Result<Settled, AllocError>
     requires sheet { IsSound sheet.now }
-    requires index { IsIndex index.now }
-    requires prepared { IsPrepared index.now tree.now }
-    requires templates { index.now.templates.now ≡ sheet.now.templates }
+    requires index { IsIndex index.now.rules }
+    requires prepared { IsPrepared index.now.rules tree.now }
+    requires templates { index.now.rules.templates.now ≡ sheet.now.templates }
+    requires sets { IsSetIndex sheet.now.sets index.now.sets }
     requires tables { TablesIn tree.now (K.tables keys.now) }
     ensures settles { IfOk result (λ z. SettlesAll (ground sheet.now index.now tree.now
         (K.tables keys.now)) given.now budget (settled_of z)) }
