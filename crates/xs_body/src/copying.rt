@@ -47,7 +47,7 @@ impl<'a, K: KeyFinder> Evaluator<'a, K> {
         recorder: &mut R,
     ) -> Result<(), Halt> {
         match value {
-            Value::Nodes(nodes) => self.put_nodes(nodes.as_slice(), site, recorder),
+            Value::Nodes(nodes) => self.put_nodes(nodes.nodes(), site, recorder),
             Value::Piece(fragment) => put_events(site, fragment.events(), recorder),
             _ => put_text(site, to_text(self.alloc, self.world.tree, value)?, recorder),
         }

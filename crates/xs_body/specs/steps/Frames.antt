@@ -13,27 +13,39 @@ use Rattle.xs_sheet.specs.declared.body.InstrKind.{InstrKind, Variable'}
 use Rattle.xs_sheet.specs.declared.body.InstrKind.TheVariants.{ApplyTemplates, CallTemplate, ApplyImports, ForEach, ValueOf, CopyOf, Copy, Number, Choose, If}
 use Rattle.xs_sheet.specs.declared.body.InstrKind.TheVariants.{Text, Element, Attribute, Comment, Pi, Message, Literal, Extension}
 use Rattle.xs_sheet.specs.declared.body.LiteralStart.{LiteralStart}
+use Rattle.xs_sheet.specs.declared.body.MadeName.{MadeName}
 use Rattle.xs_sheet.specs.declared.body.Passed.{Passed, out-Passed}
 use Rattle.xs_sheet.specs.declared.body.When.{When, out-When}
+use Rattle.xs_sheet.specs.declared.declarations.AttrSet.{AttrSet}
 use Rattle.xs_sheet.specs.declared.declarations.Template.{Template}
 use Rattle.xs_sheet.specs.declared.scoped.ScopedExpr.{ScopedExpr}
+use Rattle.xs_sheet.specs.declared.scoped.ValueTemplate.{ValueTemplate}
 use Rattle.xs_sheet.specs.Slots.{slots_taken}
 use Rattle.xs_trace.specs.Cut.{Fault}
+use Rattle.xs_trace.specs.Label.{Label}
 use Rattle.xs_trace.specs.Mark.{Tick, Hole, Trace, ◌⨾◌}
 use Rattle.xs_trace.specs.Run.{Run, give, limited, ◌>>=◌}
 use Rattle.xs_trace.specs.State.{State, opened, popped, top}
 use Rattle.xs_trace.specs.Play.{Step, Goes, Told, and_then, goes, ticked, put, put_at, said_at, stops, play}
-use Rattle.xs_trace.specs.declared.event.Event.TheVariants.{Start, Space, Chars, End}
+use Rattle.xs_trace.specs.declared.event.Event.{Event}
+use Rattle.xs_trace.specs.declared.event.Event.TheVariants.{Start, Chars, End}
 use Rattle.xs_trace.specs.declared.fault.Fault.TheVariants as fault
 use Rattle.xs_trace.specs.declared.item.Site.{Site}
-use Rattle.xs_tree.specs.Kinds.{has_content, is_attribute_kind, is_text_kind}
+use Rattle.xs_tree.specs.Kinds.{has_content, is_attribute_kind, is_element_kind, is_root_kind, is_text_kind}
 use Rattle.xs_tree.specs.Record.{Record, at, children}
+use Rattle.xs_tree.specs.declared.kinds.Kind.{Kind}
 use Rattle.xs_value.specs.declared.value.Value.{Value}
 use Rattle.xs_value.specs.declared.value.Value.TheVariants.{Chars as String, Piece}
 use Rattle.xs_value.specs.Conversion.{fragment_text}
+use Rattle.xs_making.specs.Copies.{shallow_copy}
+use Rattle.xs_sets.specs.Indexed.{declarations_in}
 use Rattle.xs_semantics.specs.declared.focus.Focus.{Focus}
+use Rattle.xs_semantics.specs.declared.made.Made.{Made}
+use Rattle.xs_semantics.specs.declared.made.Made.TheVariants as made
+use Rattle.xs_semantics.specs.Making.{content_text, made_events, name_run, target_run, value_events}
 use Rattle.xs_body.specs.declared.frames.Callee as code_callee
 use Rattle.xs_body.specs.declared.frames.Callee.TheVariants as callee
+use Rattle.xs_body.specs.declared.frames.AttributesLeft.{AttributesLeft}
 use Rattle.xs_body.specs.declared.frames.Frame.{Frame}
 use Rattle.xs_body.specs.declared.frames.Frame.TheVariants as frame
 use Rattle.xs_body.specs.declared.frames.Passing.{Passing}
@@ -41,12 +53,13 @@ use Rattle.xs_body.specs.declared.frames.EachLeft.{EachLeft}
 use Rattle.xs_body.specs.declared.frames.ApplyLeft.{ApplyLeft}
 use Rattle.xs_body.specs.declared.frames.ParamsLeft.{ParamsLeft}
 use Rattle.xs_body.specs.declared.frames.Scope.{Scope}
-use Rattle.xs_semantics.specs.World.{World, at_node, in_list, captured_in, with_depth, by_rule, without_rule, value_run, nodes_run, text_run, test_run}
-use Rattle.xs_semantics.specs.World.{nodes_or_children}
+use Rattle.xs_semantics.specs.World.{World, all_set_levels, at_node, in_list, captured_in, with_levels, by_rule, without_rule}
+use Rattle.xs_semantics.specs.World.{nodes_or_children, nodes_run, test_run, text_run, value_run}
 use Rattle.xs_semantics.specs.Tasks.{Params, no_params, value_passed, Job, body_job, rules_job, Task, tasks_for, grain_over}
 use Rattle.xs_semantics.specs.Rules.{rule_for, import_for}
-use Rattle.xs_semantics.specs.Trace.{Entry, named, fitting, overridden, Calls, each, Called, by_number, by_rules, called_with, fragment_of, instr_trace}
-use Rattle.xs_semantics.specs.Trace.{body_trace, content_trace, params_trace, calls_at}
+use Rattle.xs_semantics.specs.Trace.{Entry, named, fitting, overridden, Calls, each, Called, by_number, by_rules, called_with, fragment_of}
+use Rattle.xs_semantics.specs.Trace.{begins, body_trace, calls_at, content_trace, declared_trace, instrs_trace, literal_attributes, params_trace}
+use Rattle.xs_semantics.specs.Trace.{puts_all, sets_trace}
 use Rattle.xs_body.specs.steps.Lists.{nodes_in}
 
 -- ---- rows of the stylesheet as lists
@@ -60,11 +73,7 @@ bindings_of passed = (out-Passed passed).params
 abbrev pub bodies_of : Fallbacks → List Body
 bodies_of fallbacks = (out-Fallbacks fallbacks).bodies
 
--- what is left of a body; of the values that are passed; of some bodies
-abbrev pub instrs_trace : List Instr → World → Calls → Focus → List Value → Trace Task
-instrs_trace [] w k f vs = []
-instrs_trace (i ∷ is) w k f vs = Tick i.site ∷ instr_trace i.kind i.site w k f vs (instrs_trace is w k f)
-
+-- what is left of the values that are passed; of some bodies
 abbrev pub bindings_trace : List Binding → Site → World → Calls → Focus → List Value → List Value → (List Value → Trace Task) → Trace Task
 bindings_trace [] p w k f vs us next = next us
 bindings_trace (b ∷ bs) p w k f vs us next = content_trace b.content p w k f vs (λ v. bindings_trace bs p w k f vs (us ++ v ∷ []) next)
@@ -91,6 +100,10 @@ pub data Work : Type 0 where
   apply_left : (mode : ℕ) → Params → Site → Focus → (position : ℕ) → List ℕ → Work
   bodies_left : List Body → Scope → Work
   end_element : Work
+  sets_left : List Label → Focus → Work
+  declared_left : List AttrSet → Focus → Work
+  attributes_left : List (Label × ValueTemplate) → Site → Scope → Work
+  make : Made → Site → Work
   say : Site → (terminate : Bool) → Work
   pass : (left all : List Binding) → List Value → Called → Site → Scope → Work
   take_value : (left all : List Binding) → List Value → Called → Site → Scope → Work
@@ -148,6 +161,10 @@ message_steps p terminate text s = and_then (said_at p text s) (λ u m. ended te
 abbrev pub message_ended : Site → Bool → State Task → Told Task
 message_ended p terminate s = message_steps p terminate (fragment_text (top s.captures)) (popped s)
 
+-- what is made of captured content
+abbrev pub made_at : Made → State Task → List Event
+made_at m s = made_events m (content_text (top s.captures))
+
 abbrev pub fragment_at : State Task → Value
 fragment_at s = Piece (fragment_of (top s.captures))
 
@@ -162,6 +179,10 @@ work_steps w (each_left body p c i ns) vs s = filled (each p (λ g. body_trace b
 work_steps w (apply_left mode ps p f i ns) vs s = filled (each p (calls_at w f (fitting mode ps) p) f i ns) vs s
 work_steps w (bodies_left bodies c) vs s = filled (all_bodies bodies w (calls_at w c.focus) c.focus (last c.seen vs)) vs s
 work_steps w end_element vs s = and_then (put End s) (λ u m. Goes vs m)
+work_steps w (sets_left names f) vs s = filled (sets_trace names w (calls_at w f) f) vs s
+work_steps w (declared_left ss f) vs s = filled (declared_trace ss w (calls_at w f) f) vs s
+work_steps w (attributes_left xs p c) vs s = filled (literal_attributes xs p w c.focus (last c.seen vs)) vs s
+work_steps w (make m p) vs s = filled (puts_all p (made_at m s)) vs (popped s)
 work_steps w (say p terminate) vs s = and_then (message_ended p terminate s) (λ u m. Goes vs m)
 work_steps w (pass left all us callee p c) vs s = filled (passing_left left all callee w p c.focus (last c.seen vs) us) vs s
 work_steps w (take_value left all us callee p c) vs s =
@@ -195,12 +216,20 @@ stays g t = and_then g (λ u m. Goes t m)
 abbrev pub chars_steps : {H : Type 0} → Site → List ℕ → State H → Told H
 chars_steps p t s = if length t == 0 then goes s else put_at p (Chars t) s
 
-abbrev pub space_steps : {H : Type 0} → List (List ℕ × List ℕ) → State H → Told H
-space_steps [] s = goes s
-space_steps (x ∷ xs) s = and_then (put (Space x.0 x.1) s) (λ u m. space_steps xs m)
+-- ---- attribute sets
+-- those of some names, a level deeper, where there are any
+abbrev pub sets_works : List Label → Focus → List Work
+sets_works names f =
+    if length names == 0 then [] else (if f.set_levels == 0 then [] else sets_left names (with_levels f.depth (f.set_levels - 1) f) ∷ [])
 
-abbrev pub literal_steps : {H : Type 0} → LiteralStart → State H → Told H
-literal_steps start s = and_then (put (Start start.name) s) (λ u m. space_steps start.spaces m)
+-- the next of some sets; of some declarations
+abbrev pub sets_begun : List Label → Focus → Evaluation → Evaluation
+sets_begun [] f t = t
+sets_begun (name ∷ names) f t = pushed (declared_left (declarations_in t.world.index.sets name) f ∷ sets_left names f ∷ []) t
+
+abbrev pub declarations_begun : List AttrSet → Focus → Evaluation → Evaluation
+declarations_begun [] f t = t
+declarations_begun (s ∷ ss) f t = pushed (sets_works s.sets f) (pushed (rest s.attributes (outer f) ∷ declared_left ss f ∷ []) t)
 
 -- a run over nodes, which a work goes through, or which is left to tasks
 abbrev pub run_by : Option ℕ → Job → Site → Focus → List ℕ → Work → Evaluation → State Task → Step Task Evaluation
@@ -233,8 +262,12 @@ entry_begun (named i ps) p f t s = Goes (template_begun (slice_get t.world.sheet
 entry_begun (fitting mode ps) p f t s = rule_begun (rule_for t.world mode f.node) mode ps p f t s
 entry_begun (overridden current) p f t s = rule_begun (import_for t.world current f) f.mode no_params p f t s
 
+-- in a template, where one level of them less may be begun, and all levels of sets
+abbrev pub in_template : World → Focus → Focus
+in_template w f = with_levels (f.depth - 1) (all_set_levels w) f
+
 abbrev pub entering : Entry → Site → Focus → Evaluation → State Task → Step Task Evaluation
-entering e p f t s = if f.depth == 0 then stops (Fault fault.TooDeep p) s else entry_begun e p (with_depth (f.depth - 1) f) t s
+entering e p f t s = if f.depth == 0 then stops (Fault fault.TooDeep p) s else entry_begun e p (in_template t.world f) t s
 
 abbrev pub call_begun : Called → Params → Site → Focus → Evaluation → State Task → Step Task Evaluation
 call_begun (by_number i) ps p f t s = and_then (ticked p s) (λ u m. entering (named i ps) p f t m)
@@ -303,8 +336,47 @@ if_begun test body p c t s =
 abbrev pub message_begun : Bool → Body → Site → Scope → Evaluation → State Task → Step Task Evaluation
 message_begun terminate body p c t s = Goes (pushed (rest (instrs_of body) (captured_scope c) ∷ say p terminate ∷ []) t) (opened s)
 
-abbrev pub literal_begun : LiteralStart → Body → Scope → Evaluation → State Task → Step Task Evaluation
-literal_begun start body c t s = and_then (literal_steps start s) (λ u m. Goes (pushed (rest (instrs_of body) (inner c) ∷ end_element ∷ []) t) m)
+-- what is in an element
+abbrev pub inside_begun : List Label → Body → Scope → Evaluation → Evaluation
+inside_begun sets body c t = pushed (sets_works sets c.focus) (pushed (rest (instrs_of body) (inner c) ∷ end_element ∷ []) t)
+
+abbrev pub literal_begun : LiteralStart → Body → Site → Scope → Evaluation → State Task → Step Task Evaluation
+literal_begun start body p c t s =
+    and_then (play (begins t.world start p) s)
+    (λ u m. Goes (pushed (sets_works start.sets c.focus) (pushed (attributes_left start.attributes p c ∷ rest (instrs_of body) (inner c) ∷ end_element ∷ []) t)) m)
+
+abbrev pub element_put : Label → List Label → Body → Scope → Evaluation → State Task → Step Task Evaluation
+element_put name sets body c t s = and_then (put (Start name) s) (λ u m. Goes (inside_begun sets body c t) m)
+
+abbrev pub element_begun : MadeName → List Label → Body → Site → Scope → Evaluation → State Task → Step Task Evaluation
+element_begun name sets body p c t s =
+    and_then (limited p (name_run t.world false name c.focus (last c.seen t.slots)) s) (λ label m. element_put label sets body c t m)
+
+-- what is made of captured content
+abbrev pub made_begun : Made → Body → Site → Scope → Evaluation → State Task → Step Task Evaluation
+made_begun m body p c t s = Goes (pushed (rest (instrs_of body) (captured_scope c) ∷ make m p ∷ []) t) (opened s)
+
+abbrev pub attribute_begun : MadeName → Body → Site → Scope → Evaluation → State Task → Step Task Evaluation
+attribute_begun name body p c t s =
+    and_then (limited p (name_run t.world true name c.focus (last c.seen t.slots)) s) (λ label m. made_begun (made.Attribute label) body p c t m)
+
+abbrev pub instruction_begun : ValueTemplate → Body → Site → Scope → Evaluation → State Task → Step Task Evaluation
+instruction_begun name body p c t s =
+    and_then (limited p (target_run t.world name c.focus (last c.seen t.slots)) s) (λ target m. made_begun (made.Instruction target) body p c t m)
+
+-- copies
+abbrev pub copied_begun : Kind → List Label → Body → Scope → Evaluation → Evaluation
+copied_begun kind sets body c t =
+    if is_element_kind kind then inside_begun sets body c t else (if is_root_kind kind then pushed (rest (instrs_of body) (inner c) ∷ []) t else t)
+
+abbrev pub copy_begun : List Label → Body → Site → Scope → Evaluation → State Task → Step Task Evaluation
+copy_begun sets body p c t s =
+    and_then (play (puts_all p (shallow_copy t.world.tree c.focus.node)) s)
+    (λ u m. Goes (copied_begun (at t.world.tree c.focus.node).kind sets body c t) m)
+
+abbrev pub copy_of_steps : ScopedExpr → Site → Scope → Evaluation → State Task → Told Task
+copy_of_steps select p c t s =
+    and_then (limited p (value_run t.world select c.focus (last c.seen t.slots)) s) (λ v m. play (puts_all p (value_events t.world.tree v)) m)
 
 -- how an instruction begins
 abbrev pub begun : InstrKind → Site → Scope → Evaluation → State Task → Step Task Evaluation
@@ -313,19 +385,19 @@ begun (CallTemplate i passed) p c t s = Goes (pushed (pass (bindings_of passed) 
 begun ApplyImports p c t s = imports_begun p c.focus c.focus.rule t s
 begun (ForEach select sorts body) p c t s = each_begun select body p c t s
 begun (ValueOf select) p c t s = stays (value_steps select p c t s) t
-begun (CopyOf select) p c t s = Goes t s
-begun (Copy sets body) p c t s = Goes t s
+begun (CopyOf select) p c t s = stays (copy_of_steps select p c t s) t
+begun (Copy sets body) p c t s = copy_begun sets body p c t s
 begun (Number decl) p c t s = Goes t s
 begun (Choose choice) p c t s = choice_begun choice p c t s
 begun (If test body) p c t s = if_begun test body p c t s
 begun (Text text) p c t s = stays (chars_steps p text s) t
-begun (Element name sets body) p c t s = Goes t s
-begun (Attribute name body) p c t s = Goes t s
-begun (Comment body) p c t s = Goes t s
-begun (Pi name body) p c t s = Goes t s
+begun (Element name sets body) p c t s = element_begun name sets body p c t s
+begun (Attribute name body) p c t s = attribute_begun name body p c t s
+begun (Comment body) p c t s = made_begun made.Comment body p c t s
+begun (Pi name body) p c t s = instruction_begun name body p c t s
 begun (Message terminate body) p c t s = message_begun terminate body p c t s
 begun (Variable' site name content) p c t s = content_begun content p c t s
-begun (Literal start body) p c t s = literal_begun start body c t s
+begun (Literal start body) p c t s = literal_begun start body p c t s
 begun (Extension fallbacks) p c t s = fallbacks_begun (bodies_of fallbacks) p c t s
 
 -- the next step of the work that is first, before the others
@@ -341,6 +413,10 @@ advanced (apply_left mode ps p f i (n ∷ ns)) t s =
     and_then (ticked p s) (λ u m. entering (fitting mode ps) p (at_node n i f) (pushed (apply_left mode ps p f (i + 1) ns ∷ []) t) m)
 advanced (bodies_left bodies c) t s = Goes (next_body bodies c t) s
 advanced end_element t s = stays (put End s) t
+advanced (sets_left names f) t s = Goes (sets_begun names f t) s
+advanced (declared_left ss f) t s = Goes (declarations_begun ss f t) s
+advanced (attributes_left xs p c) t s = stays (play (literal_attributes xs p t.world c.focus (last c.seen t.slots)) s) t
+advanced (make m p) t s = stays (play (puts_all p (made_at m s)) (popped s)) t
 advanced (say p terminate) t s = stays (message_ended p terminate s) t
 advanced (pass [] all us callee p c) t s = call_begun callee (record { bindings = all; values = us }) p c.focus t s
 advanced (pass (b ∷ left) all us callee p c) t s = pass_begun b.content left all us callee p c t s
@@ -382,6 +458,9 @@ apply_work a = apply_left a.rules.mode a.rules.passed a.site a.focus a.position 
 abbrev pub params_work : ParamsLeft → Work
 params_work p = params_left p.left.now p.passed p.body.now p.scope
 
+abbrev pub attributes_work : AttributesLeft → Work
+attributes_work a = attributes_left a.attributes.now a.site a.scope
+
 abbrev pub work_of : Frame → Work
 work_of (frame.Rest is c) = rest is.now c
 work_of frame.Fill = fill
@@ -389,6 +468,10 @@ work_of (frame.Each e) = each_work e
 work_of (frame.Apply a) = apply_work a
 work_of (frame.Bodies bodies c) = bodies_left bodies.now c
 work_of frame.End = end_element
+work_of (frame.Sets names f) = sets_left names.now f
+work_of (frame.Declared declarations f) = declared_left (map (λ s. s.now) declarations.now) f
+work_of (frame.Attributes a) = attributes_work a
+work_of (frame.Make m p) = make m p
 work_of (frame.Say p terminate) = say p terminate
 work_of (frame.Pass p) = pass_work p
 work_of (frame.Take p) = take_work p
