@@ -5,6 +5,7 @@ pub mod ExitLemmas
 pub mod ChildLemmas
 pub mod StepLemmas
 pub mod LoopLemmas
+pub mod WorldLemmas
 pub mod GlobalLemmas
 pub mod SharingLemmas
 pub mod AttemptLemmas
