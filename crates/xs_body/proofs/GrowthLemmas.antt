@@ -7,14 +7,14 @@ use Rattle.xs_sheet.specs.declared.body.Content.TheVariants.{Empty, Select, Body
 use Rattle.xs_sheet.specs.declared.body.InstrKind.{InstrKind, Variable'}
 use Rattle.xs_sheet.specs.declared.body.InstrKind.TheVariants.{ApplyTemplates, CallTemplate, ApplyImports, ForEach, ValueOf, CopyOf, Copy, Number, Choose, If}
 use Rattle.xs_sheet.specs.declared.body.InstrKind.TheVariants.{Text, Element, Attribute, Comment, Pi, Message, Literal, Extension}
-use Rattle.xs_sheet.specs.declared.body.LiteralStart.{LiteralStart}
 use Rattle.xs_sheet.specs.declared.scoped.ScopedExpr.{ScopedExpr}
 use Rattle.xs_trace.specs.Cut.{Fault}
+use Rattle.xs_trace.specs.Label.{Label}
 use Rattle.xs_trace.specs.Mark.{Hole, Trace}
 use Rattle.xs_trace.specs.Run.{limited}
 use Rattle.xs_trace.specs.State.{State, opened, popped, top}
 use Rattle.xs_trace.specs.Play.{Step, Goes, Told, and_then, goes, ticked, put, put_at, said_at, stops, play}
-use Rattle.xs_trace.specs.declared.event.Event.TheVariants.{Start, Space, Chars, End}
+use Rattle.xs_trace.specs.declared.event.Event.TheVariants.{Start, Chars, End}
 use Rattle.xs_trace.specs.declared.fault.Fault.TheVariants as fault
 use Rattle.xs_trace.specs.declared.item.Site.{Site}
 use Rattle.xs_trace.proofs.GrowthLemmas.{Grows, same, grows-then, stops-grow, goes-grows, ticked-grows, put-grows, put_at-grows, said_at-grows, play-grows}
@@ -23,17 +23,24 @@ use Rattle.xs_tree.specs.Kinds.{has_content, is_attribute_kind, is_text_kind}
 use Rattle.xs_tree.specs.Record.{Record, at, children}
 use Rattle.xs_value.specs.declared.value.Value.{Value}
 use Rattle.xs_value.specs.Conversion.{fragment_text}
+use Rattle.xs_making.specs.Copies.{shallow_copy}
 use Rattle.xs_semantics.specs.declared.focus.Focus.{Focus}
+use Rattle.xs_semantics.specs.declared.made.Made.{Made}
+use Rattle.xs_semantics.specs.declared.made.Made.TheVariants as made
 use Rattle.xs_body.specs.declared.frames.Scope.{Scope}
-use Rattle.xs_semantics.specs.World.{World, in_list, with_depth, value_run, nodes_run, text_run, test_run, nodes_or_children}
+use Rattle.xs_semantics.specs.World.{World, in_list, value_run, nodes_run, text_run, test_run, nodes_or_children}
+use Rattle.xs_semantics.specs.Making.{name_run, target_run, value_events}
 use Rattle.xs_semantics.specs.Tasks.{Params, no_params, Job, body_job, rules_job, Task, tasks_for, grain_over}
 use Rattle.xs_semantics.specs.Rules.{rule_for, import_for}
-use Rattle.xs_semantics.specs.Trace.{Entry, named, fitting, overridden, Called, by_number, by_rules, each, body_trace, params_trace}
-use Rattle.xs_body.specs.steps.Frames.{Work, rest, fill, each_left, apply_left, bodies_left, end_element, say, pass, take_value, params_left, Evaluation, last}
-use Rattle.xs_body.specs.steps.Frames.{inner, over, bindings_of, instrs_of, bodies_of, chosen, instrs_trace, all_bodies, without, filled, ended}
+use Rattle.xs_semantics.specs.Trace.{Entry, named, fitting, overridden, using, Called, by_number, by_rules, each, begins, body_trace, declared_trace}
+use Rattle.xs_semantics.specs.Trace.{instrs_trace, literal_attributes, params_trace, puts_all, sets_trace}
+use Rattle.xs_body.specs.steps.Frames.{Work, rest, fill, each_left, apply_left, bodies_left, end_element, sets_left, declared_left, attributes_left}
+use Rattle.xs_body.specs.steps.Frames.{make, say, pass, take_value, params_left, Evaluation, last}
+use Rattle.xs_body.specs.steps.Frames.{inner, over, bindings_of, instrs_of, bodies_of, chosen, all_bodies, without, filled, ended}
+use Rattle.xs_body.specs.steps.Frames.{copied_begun, copy_of_steps, element_put, in_template, inside_begun, made_at, made_begun, sets_works}
 use Rattle.xs_semantics.specs.Trace.{calls_at}
 use Rattle.xs_body.specs.steps.Frames.{message_steps, message_ended, fragment_at, passing_left, work_steps, stack_steps, pushed, filled_up, stays}
-use Rattle.xs_body.specs.steps.Frames.{chars_steps, space_steps, literal_steps, run_by, run_begun, applied_begun, built_in_begun, rule_begun, entry_begun}
+use Rattle.xs_body.specs.steps.Frames.{chars_steps, run_by, run_begun, applied_begun, built_in_begun, rule_begun, entry_begun}
 use Rattle.xs_body.specs.steps.Frames.{entering, call_begun, imports_begun, content_begun, pass_begun, param_begun, fallbacks_begun, looping, loop_begun}
 use Rattle.xs_body.specs.steps.Frames.{value_steps, begun}
 
@@ -56,14 +63,6 @@ popped-grows g b s = let e = b s (popped s) in record
 
 pub chars-grow : {H : Type 0} → (p : Site) (t : List ℕ) → Grows {H = H} (chars_steps p t)
 chars-grow p t = if-grows (length t == 0) goes (put_at p (Chars t)) (goes-grows tt) (put_at-grows p (Chars t))
-
-pub spaces-grow : {H : Type 0} → (xs : List (List ℕ × List ℕ)) → Grows {H = H} (space_steps xs)
-spaces-grow [] s = goes-grows tt s
-spaces-grow (x ∷ xs) s = grows-then s (put (Space x.0 x.1) s) (λ u m. space_steps xs m) (put-grows (Space x.0 x.1) s) (λ u. spaces-grow xs)
-
-pub literal-grows : {H : Type 0} → (start : LiteralStart) → Grows {H = H} (literal_steps start)
-literal-grows start s = grows-then s (put (Start start.name) s) (λ u m. space_steps start.spaces m) (put-grows (Start start.name) s)
-    (λ u. spaces-grow start.spaces)
 
 pub ended-grows : (terminate : Bool) (p : Site) → Grows (ended terminate p)
 ended-grows terminate p = if-grows terminate (stops (Fault fault.Terminated p)) goes (stops-grow (Fault fault.Terminated p)) (goes-grows tt)
@@ -104,11 +103,12 @@ entry-grows : (e : Entry) (p : Site) (f : Focus) (t : Evaluation) → Grows (ent
 entry-grows (named i ps) p f t = goes-grows _
 entry-grows (fitting mode ps) p f t = rule-grows (rule_for t.world mode f.node) mode ps p f t
 entry-grows (overridden current) p f t = rule-grows (import_for t.world current f) f.mode no_params p f t
+entry-grows (using names) p f t = goes-grows _
 
 pub entering-grows : (e : Entry) (p : Site) (f : Focus) (t : Evaluation) → Grows (entering e p f t)
 entering-grows e p f t =
-    if-grows (f.depth == 0) (stops (Fault fault.TooDeep p)) (entry_begun e p (with_depth (f.depth - 1) f) t) (stops-grow (Fault fault.TooDeep p))
-    (entry-grows e p (with_depth (f.depth - 1) f) t)
+    if-grows (f.depth == 0) (stops (Fault fault.TooDeep p)) (entry_begun e p (in_template t.world f) t) (stops-grow (Fault fault.TooDeep p))
+    (entry-grows e p (in_template t.world f) t)
 
 pub call-grows : (callee : Called) (ps : Params) (p : Site) (f : Focus) (t : Evaluation) → Grows (call_begun callee ps p f t)
 call-grows (by_number i) ps p f t s = grows-then s (ticked p s) (λ u m. entering (named i ps) p f t m) (ticked-grows p s)
@@ -147,6 +147,18 @@ value-grows : (select : ScopedExpr) (p : Site) (c : Scope) (t : Evaluation) → 
 value-grows select p c t s =
     grows-then s (limited p (text_run t.world select c.focus (last c.seen t.slots)) s) (λ text m. chars_steps p text m) (limited-grows p _ s) (chars-grow p)
 
+-- what is put, and then what it begins
+pub element-grows : (name : Label) (sets : List Label) (body : Body) (c : Scope) (t : Evaluation) → Grows (element_put name sets body c t)
+element-grows name sets body c t = then-goes-grow (put (Start name)) (λ u. inside_begun sets body c t) (put-grows (Start name))
+
+pub made-grows : (m : Made) (body : Body) (p : Site) (c : Scope) (t : Evaluation) → Grows (made_begun m body p c t)
+made-grows m body p c t = opened-grows _
+
+copy-grows : (select : ScopedExpr) (p : Site) (c : Scope) (t : Evaluation) → Grows (copy_of_steps select p c t)
+copy-grows select p c t s =
+    grows-then s (limited p (value_run t.world select c.focus (last c.seen t.slots)) s) (λ v m. play (puts_all p (value_events t.world.tree v)) m)
+    (limited-grows p _ s) (λ v. play-grows (puts_all p (value_events t.world.tree v)))
+
 pub begun-grows : (kind : InstrKind) (p : Site) (c : Scope) (t : Evaluation) → Grows (begun kind p c t)
 begun-grows (ApplyTemplates nodes passed) p c t =
     then-goes-grow (limited p (nodes_or_children t.world nodes.select c.focus (last c.seen t.slots)))
@@ -157,8 +169,10 @@ begun-grows (ForEach select sorts body) p c t = λ s.
     grows-then s (limited p (nodes_run t.world select c.focus (last c.seen t.slots)) s) (λ ns m. loop_begun body p c ns t m) (limited-grows p _ s)
     (λ ns. loop-grows body p c ns t)
 begun-grows (ValueOf select) p c t = stays-grow (value_steps select p c t) t (value-grows select p c t)
-begun-grows (CopyOf select) p c t = goes-grows t
-begun-grows (Copy sets body) p c t = goes-grows t
+begun-grows (CopyOf select) p c t = stays-grow (copy_of_steps select p c t) t (copy-grows select p c t)
+begun-grows (Copy sets body) p c t =
+    then-goes-grow (play (puts_all p (shallow_copy t.world.tree c.focus.node))) (λ u. copied_begun (at t.world.tree c.focus.node).kind sets body c t)
+    (play-grows (puts_all p (shallow_copy t.world.tree c.focus.node)))
 begun-grows (Number decl) p c t = goes-grows t
 begun-grows (Choose choice) p c t = then-goes-grow (limited p (chosen choice t.world c.focus (last c.seen t.slots)))
     (λ body. pushed (rest (instrs_of body) (inner c) ∷ []) t) (limited-grows p _)
@@ -166,14 +180,22 @@ begun-grows (If test body) p c t =
     then-goes-grow (limited p (test_run t.world test c.focus (last c.seen t.slots))) (λ b. pushed (cond b (rest (instrs_of body) (inner c) ∷ []) []) t)
     (limited-grows p _)
 begun-grows (Text text) p c t = stays-grow (chars_steps p text) t (chars-grow p text)
-begun-grows (Element name sets body) p c t = goes-grows t
-begun-grows (Attribute name body) p c t = goes-grows t
-begun-grows (Comment body) p c t = goes-grows t
-begun-grows (Pi name body) p c t = goes-grows t
+begun-grows (Element name sets body) p c t = λ s.
+    grows-then s (limited p (name_run t.world false name c.focus (last c.seen t.slots)) s) (λ label m. element_put label sets body c t m)
+    (limited-grows p _ s) (λ label. element-grows label sets body c t)
+begun-grows (Attribute name body) p c t = λ s.
+    grows-then s (limited p (name_run t.world true name c.focus (last c.seen t.slots)) s) (λ label m. made_begun (made.Attribute label) body p c t m)
+    (limited-grows p _ s) (λ label. made-grows (made.Attribute label) body p c t)
+begun-grows (Comment body) p c t = made-grows made.Comment body p c t
+begun-grows (Pi name body) p c t = λ s.
+    grows-then s (limited p (target_run t.world name c.focus (last c.seen t.slots)) s) (λ target m. made_begun (made.Instruction target) body p c t m)
+    (limited-grows p _ s) (λ target. made-grows (made.Instruction target) body p c t)
 begun-grows (Message terminate body) p c t = opened-grows _
 begun-grows (Variable' site name content) p c t = content-grows content p c t
-begun-grows (Literal start body) p c t = then-goes-grow (literal_steps start) (λ u. pushed (rest (instrs_of body) (inner c) ∷ end_element ∷ []) t)
-    (literal-grows start)
+begun-grows (Literal start body) p c t =
+    then-goes-grow (play (begins t.world start p))
+    (λ u. pushed (sets_works start.sets c.focus) (pushed (attributes_left start.attributes p c ∷ rest (instrs_of body) (inner c) ∷ end_element ∷ []) t))
+    (play-grows (begins t.world start p))
 begun-grows (Extension fallbacks) p c t = fallbacks-grow (bodies_of fallbacks) p c t
 
 filled-grows : (x : Trace Task) (vs : List Value) → Grows (filled x vs)
@@ -186,6 +208,10 @@ work-grows w (each_left body p c i ns) vs = filled-grows (each p (λ g. body_tra
 work-grows w (apply_left mode ps p f i ns) vs = filled-grows (each p (calls_at w f (fitting mode ps) p) f i ns) vs
 work-grows w (bodies_left bodies c) vs = filled-grows (all_bodies bodies w (calls_at w c.focus) c.focus (last c.seen vs)) vs
 work-grows w end_element vs = then-goes-grow (put End) (λ u. vs) (put-grows End)
+work-grows w (sets_left names f) vs = filled-grows (sets_trace names w (calls_at w f) f) vs
+work-grows w (declared_left ss f) vs = filled-grows (declared_trace ss w (calls_at w f) f) vs
+work-grows w (attributes_left xs p c) vs = filled-grows (literal_attributes xs p w c.focus (last c.seen vs)) vs
+work-grows w (make m p) vs = popped-grows (λ s. filled (puts_all p (made_at m s)) vs) (λ s. filled-grows (puts_all p (made_at m s)) vs)
 work-grows w (say p terminate) vs = then-goes-grow (message_ended p terminate) (λ u. vs) (message_ended-grows p terminate)
 work-grows w (pass left all us callee p c) vs = filled-grows (passing_left left all callee w p c.focus (last c.seen vs) us) vs
 work-grows w (take_value left all us callee p c) vs =

@@ -17,38 +17,50 @@ use Rattle.xs_sheet.specs.declared.body.Passed.{Passed}
 use Rattle.xs_sheet.specs.declared.body.When.{When', out-When}
 use Rattle.xs_sheet.specs.declared.declarations.Template.{Template}
 use Rattle.xs_trace.specs.Cut.{Fault}
-use Rattle.xs_trace.specs.Mark.{Tick, Put, Hole, Trace, ◌⨾◌, captured}
+use Rattle.xs_trace.specs.Label.{Label}
+use Rattle.xs_trace.specs.Mark.{Tick, Put, Stop, Hole, Trace, ◌⨾◌, captured}
 use Rattle.xs_trace.specs.Run.{Run, Gives, give, limited, evaluated}
 use Rattle.xs_trace.specs.State.{State, opened, popped, top}
 use Rattle.xs_trace.specs.Play.{Step, Goes, Told, and_then, goes, ticked, put, put_at, stops, play}
 use Rattle.xs_trace.specs.declared.event.Event.{Event}
-use Rattle.xs_trace.specs.declared.event.Event.TheVariants.{Start, Space, Chars, End}
+use Rattle.xs_trace.specs.declared.event.Event.TheVariants.{Start, Chars, End}
 use Rattle.xs_trace.specs.declared.fault.Fault.TheVariants as fault
 use Rattle.xs_trace.specs.declared.item.Site.{Site}
 use Rattle.xs_trace.proofs.PlayLemmas.{then-same, then-then, play-then, play-put, play-say, play-captured}
 use Rattle.xs_trace.proofs.RunLemmas.{limited-bind, limited-end, play-evaluated}
-use Rattle.xs_tree.specs.Kinds.{has_content, is_attribute_kind, is_text_kind}
+use Rattle.xs_tree.specs.Kinds.{has_content, is_attribute_kind, is_element_kind, is_root_kind, is_text_kind}
 use Rattle.xs_tree.specs.Record.{Record, at, children}
+use Rattle.xs_tree.specs.declared.kinds.Kind.{Kind}
 use Rattle.xs_value.specs.declared.value.Value.{Value}
 use Rattle.xs_value.specs.declared.value.Value.TheVariants.{Chars as String, Piece}
 use Rattle.xs_value.specs.Conversion.{fragment_text}
+use Rattle.xs_making.specs.Copies.{shallow_copy}
+use Rattle.xs_sets.specs.Declarations.{declarations_of}
+use Rattle.xs_sets.specs.Indexed.{IsSetIndex, declarations_in}
 use Rattle.xs_semantics.specs.declared.focus.Focus.{Focus}
+use Rattle.xs_semantics.specs.declared.made.Made.{Made}
+use Rattle.xs_semantics.specs.declared.made.Made.TheVariants as made
 use Rattle.xs_body.specs.declared.frames.Scope.{Scope}
-use Rattle.xs_semantics.specs.World.{World, at_node, in_list, captured_in, with_depth, by_rule, without_rule, value_run, nodes_run, text_run, test_run}
-use Rattle.xs_semantics.specs.World.{nodes_or_children}
+use Rattle.xs_semantics.specs.World.{World, all_set_levels, at_node, in_list, captured_in, with_levels, by_rule, without_rule}
+use Rattle.xs_semantics.specs.World.{nodes_or_children, nodes_run, test_run, text_run, value_run}
+use Rattle.xs_semantics.specs.Making.{content_text, made_events, name_run, target_run, value_events}
 use Rattle.xs_semantics.specs.Tasks.{Params, no_params, value_passed, Job, body_job, rules_job, Task, tasks_for, grain_over}
 use Rattle.xs_semantics.specs.Rules.{rule_for, import_for}
-use Rattle.xs_semantics.specs.Trace.{Entry, named, fitting, overridden, Calls, each, spread_by, spread, applied, Called, by_number, by_rules, called_with}
-use Rattle.xs_semantics.specs.Trace.{passing, imports, puts, chars, says, ended_if, begins, fragment_of, instr_trace, body_trace, content_trace, choice_trace}
-use Rattle.xs_semantics.specs.Trace.{whens_trace, fallbacks_trace, param_trace, params_trace, template_trace, built_in, ruled, entered, called}
-use Rattle.xs_body.specs.steps.Frames.{Work, rest, fill, each_left, apply_left, bodies_left, end_element, say, pass, take_value, params_left, Evaluation, last}
-use Rattle.xs_body.specs.steps.Frames.{without, inner, over, captured_scope, more, bound, after, bindings_of, instrs_of, bodies_of, instrs_trace}
-use Rattle.xs_body.specs.steps.Frames.{all_bodies, chosen_of, chosen, filled, ended, message_steps, message_ended, fragment_at}
+use Rattle.xs_semantics.specs.Trace.{Entry, named, fitting, overridden, using, Calls, each, spread_by, spread, applied, Called, by_number, by_rules}
+use Rattle.xs_semantics.specs.Trace.{called_with, passing, imports, puts, puts_all, chars, says, ended_if, begins, literal_attributes, makes, fragment_of}
+use Rattle.xs_semantics.specs.Trace.{copied_content, instr_trace, body_trace, content_trace, choice_trace, whens_trace, fallbacks_trace}
+use Rattle.xs_semantics.specs.Trace.{param_trace, params_trace, template_trace, built_in, ruled, instrs_trace, declared_trace, sets_trace, entered, called}
 use Rattle.xs_semantics.specs.Trace.{calls_at}
-use Rattle.xs_body.specs.steps.Frames.{passing_left, work_steps, stack_steps, stack_told, pushed, slots_are, filled_up, stays, chars_steps, space_steps}
-use Rattle.xs_body.specs.steps.Frames.{literal_steps, run_by, run_begun, applied_begun, template_begun, built_in_begun, rule_begun, entry_begun, entering}
+use Rattle.xs_body.specs.steps.Frames.{Work, rest, fill, each_left, apply_left, bodies_left, end_element, sets_left, declared_left, attributes_left}
+use Rattle.xs_body.specs.steps.Frames.{make, say, pass, take_value, params_left, Evaluation, last}
+use Rattle.xs_body.specs.steps.Frames.{without, inner, outer, over, captured_scope, more, bound, after, bindings_of, instrs_of, bodies_of}
+use Rattle.xs_body.specs.steps.Frames.{all_bodies, chosen_of, chosen, filled, ended, message_steps, message_ended, made_at, fragment_at}
+use Rattle.xs_body.specs.steps.Frames.{passing_left, work_steps, stack_steps, stack_told, pushed, slots_are, filled_up, stays, chars_steps}
+use Rattle.xs_body.specs.steps.Frames.{run_by, run_begun, applied_begun, template_begun, built_in_begun, rule_begun, entry_begun, entering}
+use Rattle.xs_body.specs.steps.Frames.{sets_works, inside_begun, copied_begun, element_put, made_begun}
 use Rattle.xs_body.specs.steps.Frames.{call_begun, imports_begun, content_begun, pass_begun, param_begun, fallbacks_begun}
 use Rattle.xs_body.specs.steps.Frames.{begun, advanced}
+use Rattle.xs_body.proofs.SetLemmas.{served}
 use Rattle.xs_body.proofs.SlotLemmas.{last-more, without-more, last-none, without-none, more-none}
 use Rattle.xs_body.proofs.RowLemmas.{body-instrs, passing-bindings, fallbacks-bodies, fallback_trace}
 
@@ -60,16 +72,6 @@ chars-told p t s = by_test (length t == 0)
     by_test : (b : Bool) → cond b (goes s) (put_at p (Chars t) s) ≡ play (cond b [] (puts p (Chars t))) s
     by_test true = refl
     by_test false = play-put p (Chars t) s
-
-spaces-told : (xs : List (List ℕ × List ℕ)) (s : State Task) → space_steps xs s ≡ play (map (λ x. Put (Space x.0 x.1)) xs) s
-spaces-told [] s = refl
-spaces-told (x ∷ xs) s = then-same (put (Space x.0 x.1) s) (λ u m. space_steps xs m) (λ u m. play (map (λ y. Put (Space y.0 y.1)) xs) m)
-    (λ u m. spaces-told xs m)
-
-literal-told : (start : LiteralStart) (s : State Task) → literal_steps start s ≡ play (begins start) s
-literal-told start s =
-    then-same (put (Start start.name) s) (λ u m. space_steps start.spaces m) (λ u m. play (map (λ y. Put (Space y.0 y.1)) start.spaces) m)
-    (λ u m. spaces-told start.spaces m)
 
 ended-told : (terminate : Bool) (p : Site) (s : State Task) → ended terminate p s ≡ play (ended_if terminate p) s
 ended-told true p s = refl
@@ -144,6 +146,13 @@ twice x y vs b t s e =
     ∙ then-same (play x s) (λ u m. Then y (slots_are vs t) m) (λ u m. Go (pushed (b ∷ []) t) m) (λ u m.
     behind y vs t m ∙ ap (λ g. and_then g (λ us n. stack_steps t.world t.works us n)) (sym (e m)))
 
+-- the same of what any works tell
+followed : (x y : Trace Task) (t v : Evaluation) (s : State Task) → ((m : State Task) → Then y t m ≡ Go v m) → Then (x ⨾ y) t s ≡ Then x v s
+followed x y t v s e =
+    ap (λ g. and_then g (λ u m. Go t m)) (play-then x y s)
+    ∙ then-then (play x s) (λ u m. play y m) (λ u m. Go t m)
+    ∙ then-same (play x s) (λ u m. Then y t m) (λ u m. Go v m) (λ u m. e m)
+
 -- a tick, and what it begins
 ticks : (p : Site) (x : Trace Task) (v t : Evaluation) (h : State Task → Step Task Evaluation) (s : State Task) → ((m : State Task) → Then x v m ≡ and_then (h m) Go) →
     Then (Tick p ∷ x) v s ≡ and_then (and_then (ticked p s) (λ u m. h m)) Go
@@ -165,6 +174,15 @@ inside body c t s =
     let x : Trace Task = instrs_trace (instrs_of body) t.world (calls_at t.world c.focus) c.focus (last c.seen t.slots) in
     ap (λ y. Then y t s) (body-instrs body t.world (calls_at t.world c.focus) c.focus (last c.seen t.slots))
     ∙ ap (λ vs. Then x (slots_are vs t) s) (sym (without-none t.slots)) ∙ behind x (without 0 t.slots) t s
+
+-- a body, and then the end of its element
+inside-ends : (body : Body) (c : Scope) (t : Evaluation) (s : State Task) →
+    Then (body_trace body t.world (calls_at t.world c.focus) c.focus (last c.seen t.slots) ⨾ Put End ∷ []) t s
+    ≡ Go (pushed (rest (instrs_of body) (inner c) ∷ end_element ∷ []) t) s
+inside-ends body c t s =
+    let x : Trace Task = body_trace body t.world (calls_at t.world c.focus) c.focus (last c.seen t.slots) in
+    twice x (Put End ∷ []) t.slots end_element t s (λ m. sym (then-then (put End m) (λ u n. goes n) (λ u n. Goes t.slots n)))
+    ∙ inside body c (pushed (end_element ∷ []) t) s
 
 -- captured content, and the works behind it, which take what it put
 captures : (body : Body) (c : Scope) (h : List Event → Trace Task) (v t : Evaluation) (s : State Task) →
@@ -231,31 +249,110 @@ entry-begins : (e : Entry) (p : Site) (f : Focus) (t : Evaluation) (s : State Ta
 entry-begins (named i ps) p f t s = template-begins (slice_get t.world.sheet.templates i) ps f t s
 entry-begins (fitting mode ps) p f t s = rule-begins (rule_for t.world mode f.node) mode ps p f t s
 entry-begins (overridden current) p f t s = rule-begins (import_for t.world current f) f.mode no_params p f t s
+entry-begins (using names) p f t s = behind (sets_trace names t.world (calls_at t.world f) f) t.slots t s
 
 -- one level deeper
-enters-at : (depth : ℕ) (e : Entry) (p : Site) (f : Focus) (t : Evaluation) (s : State Task) →
-    Then (called t.world depth e p f) t s ≡ and_then (cond (depth == 0) (stops (Fault fault.TooDeep p) s) (entry_begun e p (with_depth (depth - 1) f) t s)) Go
-enters-at zero e p f t s = refl
-enters-at (suc d) e p f t s =
+enters-by : (x : ℕ → Trace Task) (depth : ℕ) (e : Entry) (p : Site) (f : Focus) (t : Evaluation) (s : State Task) → x zero ≡ Stop fault.TooDeep p ∷ [] →
+    ((d : ℕ) → Then (x (suc d)) t s ≡ and_then (entry_begun e p (with_levels d (all_set_levels t.world) f) t s) Go) →
+    Then (x depth) t s
+    ≡ and_then (cond (depth == 0) (stops (Fault fault.TooDeep p) s) (entry_begun e p (with_levels (depth - 1) (all_set_levels t.world) f) t s)) Go
+enters-by x zero e p f t s o h = ap (λ y. Then y t s) o
+enters-by x (suc d) e p f t s o h =
+    let n : ℕ = all_set_levels t.world in
     let q : (suc d == 0) ≡ false = grind (arith, nat_tests) in
     let k : d ≡ suc d - 1 = omega arith in
-    entry-begins e p (with_depth d f) t s
-    ∙ ap (λ n. and_then (entry_begun e p (with_depth n f) t s) Go) k
-    ∙ ap (λ b. and_then (cond b (stops (Fault fault.TooDeep p) s) (entry_begun e p (with_depth (suc d - 1) f) t s)) Go) (sym q)
+    h d
+    ∙ ap (λ m. and_then (entry_begun e p (with_levels m n f) t s) Go) k
+    ∙ ap (λ b. and_then (cond b (stops (Fault fault.TooDeep p) s) (entry_begun e p (with_levels (suc d - 1) n f) t s)) Go) (sym q)
 
-enters : (e : Entry) (p : Site) (f : Focus) (t : Evaluation) (s : State Task) → Then (calls_at t.world f e p f) t s ≡ and_then (entering e p f t s) Go
-enters e p f t s = enters-at f.depth e p f t s
+abbrev IsTemplate : Entry → Type 0
+IsTemplate (named i ps) = Unit {0}
+IsTemplate (fitting mode ps) = Unit {0}
+IsTemplate (overridden current) = Unit {0}
+IsTemplate (using names) = ⊥
+
+enters : (e : Entry) → IsTemplate e → (p : Site) (f : Focus) (t : Evaluation) (s : State Task) →
+    Then (calls_at t.world f e p f) t s ≡ and_then (entering e p f t s) Go
+enters (named i ps) is p f t s =
+    enters-by (λ d. called (named i ps) t.world d f.set_levels p f) f.depth (named i ps) p f t s refl
+    (λ d. entry-begins (named i ps) p (with_levels d (all_set_levels t.world) f) t s)
+enters (fitting mode ps) is p f t s =
+    enters-by (λ d. called (fitting mode ps) t.world d f.set_levels p f) f.depth (fitting mode ps) p f t s refl
+    (λ d. entry-begins (fitting mode ps) p (with_levels d (all_set_levels t.world) f) t s)
+enters (overridden current) is p f t s =
+    enters-by (λ d. called (overridden current) t.world d f.set_levels p f) f.depth (overridden current) p f t s refl
+    (λ d. entry-begins (overridden current) p (with_levels d (all_set_levels t.world) f) t s)
+enters (using names) is p f t s = absurd is
+
+-- attribute sets, a level deeper
+sets-at : (names : List Label) (d n : ℕ) (p : Site) (f : Focus) (t : Evaluation) (s : State Task) →
+    Then (called (using names) t.world d n p f) t s
+    ≡ Go (pushed (cond (length names == 0) [] (cond (n == 0) [] (sets_left names (with_levels d (n - 1) f) ∷ []))) t) s
+sets-at [] d zero p f t s = refl
+sets-at [] d (suc n) p f t s = refl
+sets-at (name ∷ names) d zero p f t s =
+    let q : (length (name ∷ names) == 0) ≡ false = grind (arith, nat_tests) in
+    ap (λ b. Go (pushed (cond b [] []) t) s) (sym q)
+sets-at (name ∷ names) d (suc n) p f t s =
+    let q : (length (name ∷ names) == 0) ≡ false = grind (arith, nat_tests) in
+    let o : (suc n == 0) ≡ false = grind (arith, nat_tests) in
+    let k : n ≡ suc n - 1 = omega arith in
+    let deeper : Focus = with_levels d n f in
+    behind (sets_trace (name ∷ names) t.world (calls_at t.world deeper) deeper) t.slots t s
+    ∙ ap (λ m. Go (pushed (sets_left (name ∷ names) (with_levels d m f) ∷ []) t) s) k
+    ∙ ap (λ b. Go (pushed (cond b [] (sets_left (name ∷ names) (with_levels d (suc n - 1) f) ∷ [])) t) s) (sym o)
+    ∙ ap (λ b. Go (pushed (cond b [] (cond (suc n == 0) [] (sets_left (name ∷ names) (with_levels d (suc n - 1) f) ∷ []))) t) s) (sym q)
+
+sets-begin : (names : List Label) (p : Site) (f : Focus) (t : Evaluation) (s : State Task) →
+    Then (calls_at t.world f (using names) p f) t s ≡ Go (pushed (sets_works names f) t) s
+sets-begin names p f t s = sets-at names f.depth f.set_levels p f t s
+
+-- what is in an element, after the attributes of sets
+inside-begins : (sets : List Label) (p : Site) (body : Body) (c : Scope) (t : Evaluation) (s : State Task) →
+    Then (calls_at t.world c.focus (using sets) p c.focus
+    ⨾ (body_trace body t.world (calls_at t.world c.focus) c.focus (last c.seen t.slots) ⨾ Put End ∷ [])) t s
+    ≡ Go (inside_begun sets body c t) s
+inside-begins sets p body c t s =
+    let u : Evaluation = pushed (rest (instrs_of body) (inner c) ∷ end_element ∷ []) t in
+    followed (calls_at t.world c.focus (using sets) p c.focus)
+    (body_trace body t.world (calls_at t.world c.focus) c.focus (last c.seen t.slots) ⨾ Put End ∷ []) t u s (λ m. inside-ends body c t m)
+    ∙ sets-begin sets p c.focus u s
+
+copied-begins : (kind : Kind) (sets : List Label) (p : Site) (body : Body) (c : Scope) (t : Evaluation) (s : State Task) →
+    Then (copied_content kind sets (calls_at t.world c.focus) p c.focus (body_trace body t.world (calls_at t.world c.focus) c.focus (last c.seen t.slots))) t s
+    ≡ Go (copied_begun kind sets body c t) s
+copied-begins kind sets p body c t s = by_element (is_element_kind kind)
+  where
+    x : Trace Task
+    x = body_trace body t.world (calls_at t.world c.focus) c.focus (last c.seen t.slots)
+
+    by_root : (q : Bool) → Then (cond q x []) t s ≡ Go (cond q (pushed (rest (instrs_of body) (inner c) ∷ []) t) t) s
+    by_root true = inside body c t s
+    by_root false = refl
+
+    by_element : (q : Bool) → Then (cond q (calls_at t.world c.focus (using sets) p c.focus ⨾ (x ⨾ Put End ∷ [])) (cond (is_root_kind kind) x [])) t s
+        ≡ Go (cond q (inside_begun sets body c t) (cond (is_root_kind kind) (pushed (rest (instrs_of body) (inner c) ∷ []) t) t)) s
+    by_element true = inside-begins sets p body c t s
+    by_element false = by_root (is_root_kind kind)
+
+-- what is made of captured content
+made-begins : (m : Made) (body : Body) (p : Site) (c : Scope) (t : Evaluation) (s : State Task) →
+    Then (makes m p (body_trace body t.world (calls_at t.world c.focus) (captured_in c.focus) (last c.seen t.slots))) t s
+    ≡ and_then (made_begun m body p c t s) Go
+made-begins m body p c t s =
+    captures body c (λ es. puts_all p (made_events m (content_text es))) t (pushed (make m p ∷ []) t) s
+    (λ q. behind (puts_all p (made_at m q)) t.slots t (popped q))
 
 call-begins : (callee : Called) (ps : Params) (p : Site) (f : Focus) (t : Evaluation) (s : State Task) →
     Then (called_with t.world (calls_at t.world f) callee ps p f) t s ≡ and_then (call_begun callee ps p f t s) Go
-call-begins (by_number i) ps p f t s = ticks p (calls_at t.world f (named i ps) p f) t t (λ m. entering (named i ps) p f t m) s (enters (named i ps) p f t)
+call-begins (by_number i) ps p f t s = ticks p (calls_at t.world f (named i ps) p f) t t (λ m. entering (named i ps) p f t m) s (enters (named i ps) tt p f t)
 call-begins (by_rules mode ns) ps p f t s = applies mode ps p f ns t s
 
 imports-begin : (p : Site) (f : Focus) (o : Option ℕ) (t : Evaluation) (s : State Task) → Then (imports (calls_at t.world f) p f o) t s ≡ and_then
     (imports_begun p f o t s) Go
 imports-begin p f None t s = refl
 imports-begin p f (Some rule) t s = ticks p (calls_at t.world f (overridden rule) p f) t t (λ m. entering (overridden rule) p f t m) s
-    (enters (overridden rule) p f t)
+    (enters (overridden rule) tt p f t)
 
 -- what goes on with one slot more
 binds : (x : List Value → Trace Task) (c : Scope) (t : Evaluation) (v : Value) (s : State Task) →
@@ -363,8 +460,20 @@ begins-so (ValueOf select) p is c t s =
     ∙ alone (evaluated p r (chars p)) (and_then (limited p r s) (λ text m. chars_steps p text m)) u s
     (then-same (limited p r s) (λ text m. chars_steps p text m) (λ text m. play (chars p text) m) (λ text m. chars-told p text m) ∙ sym
     (play-evaluated p r (chars p) s))
-begins-so (CopyOf select) p is c t s = nothing is c t s
-begins-so (Copy sets body) p is c t s = nothing is c t s
+begins-so (CopyOf select) p is c t s =
+    let u : Evaluation = pushed (rest is (more 0 c) ∷ []) t in
+    let r : Run Value = value_run t.world select c.focus (last c.seen t.slots) in
+    let h : Value → Trace Task = λ v. puts_all p (value_events t.world.tree v) in
+    joined (evaluated p r h) is c t s ∙ alone (evaluated p r h) (and_then (limited p r s) (λ v m. play (h v) m)) u s (sym (play-evaluated p r h s))
+begins-so (Copy sets body) p is c t s =
+    let u : Evaluation = pushed (rest is (more 0 c) ∷ []) t in
+    let kind : Kind = (at t.world.tree c.focus.node).kind in
+    let x : Trace Task = puts_all p (shallow_copy t.world.tree c.focus.node) in
+    let y : Trace Task = copied_content kind sets (calls_at t.world c.focus) p c.focus
+    (body_trace body t.world (calls_at t.world c.focus) c.focus (last c.seen t.slots)) in
+    joined (x ⨾ y) is c t s
+    ∙ ap (λ g. and_then g (λ q m. Go u m)) (play-then x y s)
+    ∙ before (play x s) (λ m. play y m) (λ q m. Go u m) (λ m. Goes (copied_begun kind sets body c u) m) Go (λ m. copied-begins kind sets p body c u m)
 begins-so (Number decl) p is c t s = nothing is c t s
 begins-so (Choose choice) p is c t s =
     let u : Evaluation = pushed (rest is (more 0 c) ∷ []) t in
@@ -384,10 +493,31 @@ begins-so (If test body) p is c t s =
     (λ b m. if-begins b body c u m)
 begins-so (Text text) p is c t s = joined (chars p text) is c t s ∙ alone (chars p text) (chars_steps p text s) (pushed (rest is (more 0 c) ∷ []) t) s
     (chars-told p text s)
-begins-so (Element name sets body) p is c t s = nothing is c t s
-begins-so (Attribute name body) p is c t s = nothing is c t s
-begins-so (Comment body) p is c t s = nothing is c t s
-begins-so (Pi name body) p is c t s = nothing is c t s
+begins-so (Element name sets body) p is c t s =
+    let u : Evaluation = pushed (rest is (more 0 c) ∷ []) t in
+    let r : Run Label = name_run t.world false name c.focus (last c.seen t.slots) in
+    let y : Trace Task = calls_at t.world c.focus (using sets) p c.focus
+    ⨾ (body_trace body t.world (calls_at t.world c.focus) c.focus (last c.seen t.slots) ⨾ Put End ∷ []) in
+    let h : Label → Trace Task = λ label. Put (Start label) ∷ y in
+    joined (evaluated p r h) is c t s ∙ brings p r h u (λ label m. element_put label sets body c u m) s (λ label m.
+    before (put (Start label) m) (λ n. play y n) (λ q n. Go u n) (λ n. Goes (inside_begun sets body c u) n) Go (λ n. inside-begins sets p body c u n))
+begins-so (Attribute name body) p is c t s =
+    let u : Evaluation = pushed (rest is (more 0 c) ∷ []) t in
+    let r : Run Label = name_run t.world true name c.focus (last c.seen t.slots) in
+    let content : Trace Task = body_trace body t.world (calls_at t.world c.focus) (captured_in c.focus) (last c.seen t.slots) in
+    let h : Label → Trace Task = λ label. makes (made.Attribute label) p content in
+    joined (evaluated p r h) is c t s ∙ brings p r h u (λ label m. made_begun (made.Attribute label) body p c u m) s
+    (λ label m. made-begins (made.Attribute label) body p c u m)
+begins-so (Comment body) p is c t s =
+    joined (makes made.Comment p (body_trace body t.world (calls_at t.world c.focus) (captured_in c.focus) (last c.seen t.slots))) is c t s
+    ∙ made-begins made.Comment body p c (pushed (rest is (more 0 c) ∷ []) t) s
+begins-so (Pi name body) p is c t s =
+    let u : Evaluation = pushed (rest is (more 0 c) ∷ []) t in
+    let r : Run (List ℕ) = target_run t.world name c.focus (last c.seen t.slots) in
+    let content : Trace Task = body_trace body t.world (calls_at t.world c.focus) (captured_in c.focus) (last c.seen t.slots) in
+    let h : List ℕ → Trace Task = λ target. makes (made.Instruction target) p content in
+    joined (evaluated p r h) is c t s ∙ brings p r h u (λ target m. made_begun (made.Instruction target) body p c u m) s
+    (λ target m. made-begins (made.Instruction target) body p c u m)
 begins-so (Message terminate body) p is c t s =
     let u : Evaluation = pushed (rest is (more 0 c) ∷ []) t in
     let h : List Event → Trace Task = λ es. says p (fragment_text es) ⨾ ended_if terminate p in
@@ -401,14 +531,18 @@ begins-so (Variable' site name content) p is c t s =
     binds (instrs_trace is t.world (calls_at t.world c.focus) c.focus) c t x m)
 begins-so (Literal start body) p is c t s =
     let u : Evaluation = pushed (rest is (more 0 c) ∷ []) t in
-    let x : Trace Task = body_trace body t.world (calls_at t.world c.focus) c.focus (last c.seen t.slots) in
-    let y : Trace Task = x ⨾ Put End ∷ [] in
-    let v : Evaluation = pushed (end_element ∷ []) u in
-    joined (begins start ⨾ y) is c t s
-    ∙ ap (λ g. and_then g (λ q m. Go u m)) (play-then (begins start) y s)
-    ∙ ap (λ g. and_then (and_then g (λ q m. play y m)) (λ q m. Go u m)) (sym (literal-told start s))
-    ∙ before (literal_steps start s) (λ m. play y m) (λ q m. Go u m) (λ m. Goes (pushed (rest (instrs_of body) (inner c) ∷ []) v) m) Go (λ m.
-    twice x (Put End ∷ []) u.slots end_element u m (λ n. sym (then-then (put End n) (λ q i. goes i) (λ q i. Goes u.slots i))) ∙ inside body c v m)
+    let x : Trace Task = body_trace body t.world (calls_at t.world c.focus) c.focus (last c.seen t.slots) ⨾ Put End ∷ [] in
+    let attributes : Trace Task = literal_attributes start.attributes p t.world c.focus (last c.seen t.slots) in
+    let sets : Trace Task = calls_at t.world c.focus (using start.sets) p c.focus in
+    let y : Trace Task = sets ⨾ (attributes ⨾ x) in
+    let z : Trace Task = begins t.world start p in
+    let v : Evaluation = pushed (rest (instrs_of body) (inner c) ∷ end_element ∷ []) u in
+    let v_all : Evaluation = pushed (attributes_left start.attributes p c ∷ rest (instrs_of body) (inner c) ∷ end_element ∷ []) u in
+    joined (z ⨾ y) is c t s
+    ∙ ap (λ g. and_then g (λ q m. Go u m)) (play-then z y s)
+    ∙ before (play z s) (λ m. play y m) (λ q m. Go u m) (λ m. Goes (pushed (sets_works start.sets c.focus) v_all) m) Go (λ m.
+    followed sets (attributes ⨾ x) u v_all m (λ n. followed attributes x u v n (λ q. inside-ends body c u q) ∙ behind attributes v.slots v n)
+    ∙ sets-begin start.sets p c.focus v_all m)
 begins-so (Extension fallbacks) p is c t s =
     let u : Evaluation = pushed (rest is (more 0 c) ∷ []) t in
     joined (fallbacks_trace fallbacks p t.world (calls_at t.world c.focus) c.focus (last c.seen t.slots)) is c t s
@@ -416,16 +550,17 @@ begins-so (Extension fallbacks) p is c t s =
     ∙ fallbacks-begin (bodies_of fallbacks) p c u s
 
 -- each kind of work
-pub advances : (b : Work) (t : Evaluation) (s : State Task) → Go (pushed (b ∷ []) t) s ≡ and_then (advanced b t s) Go
-advances (rest [] c) t s = refl
-advances (rest (i ∷ is) c) t s =
+pub advances : (b : Work) (t : Evaluation) → IsSetIndex t.world.sheet.sets t.world.index.sets → (s : State Task) →
+    Go (pushed (b ∷ []) t) s ≡ and_then (advanced b t s) Go
+advances (rest [] c) t index s = refl
+advances (rest (i ∷ is) c) t index s =
     let x : Trace Task = instr_trace i.kind i.site t.world (calls_at t.world c.focus) c.focus (last c.seen t.slots) (instrs_trace is t.world (calls_at t.world c.focus) c.focus) in
     sym (behind (Tick i.site ∷ x) (without c.own t.slots) t s)
     ∙ ticks i.site x (slots_are (without c.own t.slots) t) (pushed (rest is (after i.kind c) ∷ []) t)
     (λ m. begun i.kind i.site c (pushed (rest is (after i.kind c) ∷ []) t) m) s (begins-so i.kind i.site is c t)
-advances fill t s = refl
-advances (each_left body p c i []) t s = refl
-advances (each_left body p c i (n ∷ ns)) t s =
+advances fill t index s = refl
+advances (each_left body p c i []) t index s = refl
+advances (each_left body p c i (n ∷ ns)) t index s =
     let b : Work = each_left body p c (i + 1) ns in
     let f : Focus → Trace Task = λ g. body_trace body t.world (calls_at t.world c.focus) g (last c.seen t.slots) in
     sym (behind (each p f c.focus i (n ∷ ns)) t.slots t s)
@@ -433,33 +568,63 @@ advances (each_left body p c i (n ∷ ns)) t s =
     (λ m. Goes (pushed (rest (instrs_of body) (over (at_node n i c.focus) c) ∷ b ∷ []) t) m) s (λ m.
     twice (f (at_node n i c.focus)) (each p f c.focus (i + 1) ns) t.slots b t m (λ q. refl) ∙ inside body (over (at_node n i c.focus) c)
     (pushed (b ∷ []) t) m)
-advances (apply_left mode ps p f i []) t s = refl
-advances (apply_left mode ps p f i (n ∷ ns)) t s =
+advances (apply_left mode ps p f i []) t index s = refl
+advances (apply_left mode ps p f i (n ∷ ns)) t index s =
     let b : Work = apply_left mode ps p f (i + 1) ns in
     let x : Focus → Trace Task = calls_at t.world f (fitting mode ps) p in
     sym (behind (each p x f i (n ∷ ns)) t.slots t s)
     ∙ ticks p (x (at_node n i f) ⨾ each p x f (i + 1) ns) t t (λ m. entering (fitting mode ps) p (at_node n i f) (pushed (b ∷ []) t) m) s (λ m.
-    twice (x (at_node n i f)) (each p x f (i + 1) ns) t.slots b t m (λ q. refl) ∙ enters (fitting mode ps) p (at_node n i f) (pushed (b ∷ []) t) m)
-advances (bodies_left [] c) t s = refl
-advances (bodies_left (b ∷ bs) c) t s =
+    twice (x (at_node n i f)) (each p x f (i + 1) ns) t.slots b t m (λ q. refl) ∙ enters (fitting mode ps) tt p (at_node n i f) (pushed (b ∷ []) t) m)
+advances (bodies_left [] c) t index s = refl
+advances (bodies_left (b ∷ bs) c) t index s =
     let f : Body → Trace Task = λ body. body_trace body t.world (calls_at t.world c.focus) c.focus (last c.seen t.slots) in
     let others : Trace Task = all_bodies bs t.world (calls_at t.world c.focus) c.focus (last c.seen t.slots) in
     sym (behind (f b ⨾ others) t.slots t s) ∙ twice (f b) others t.slots (bodies_left bs c) t s (λ m. refl) ∙ inside b c (pushed (bodies_left bs c ∷ []) t) s
-advances end_element t s = then-then (put End s) (λ u m. Goes t.slots m) (λ us m. stack_steps t.world t.works us m) ∙ sym
+advances end_element t index s = then-then (put End s) (λ u m. Goes t.slots m) (λ us m. stack_steps t.world t.works us m) ∙ sym
     (then-then (put End s) (λ u m. Goes t m) Go)
-advances (say p terminate) t s =
+advances (sets_left [] f) t index s = refl
+advances (sets_left (name ∷ names) f) t index s =
+    let x : Trace Task = declared_trace (declarations_of t.world.sheet.sets name) t.world (calls_at t.world f) f in
+    let y : Trace Task = sets_trace names t.world (calls_at t.world f) f in
+    let u : Evaluation = pushed (sets_left names f ∷ []) t in
+    sym (behind (x ⨾ y) t.slots t s)
+    ∙ twice x y t.slots (sets_left names f) t s (λ m. refl)
+    ∙ ap (λ z. Then z u s) (served t.world index f name)
+    ∙ behind (declared_trace (declarations_in t.world.index.sets name) t.world (calls_at t.world f) f) u.slots u s
+advances (declared_left [] f) t index s = refl
+advances (declared_left (d ∷ ds) f) t index s =
+    let w : World = t.world in
+    let x : Trace Task = calls_at w f (using d.sets) d.site f in
+    let own : Trace Task = instrs_trace d.attributes w (calls_at w f) f [] in
+    let y : Trace Task = declared_trace ds w (calls_at w f) f in
+    let u : Evaluation = pushed (declared_left ds f ∷ []) t in
+    let v : Evaluation = pushed (rest d.attributes (outer f) ∷ declared_left ds f ∷ []) t in
+    sym (behind ((x ⨾ own) ⨾ y) t.slots t s)
+    ∙ twice (x ⨾ own) y t.slots (declared_left ds f) t s (λ m. refl)
+    ∙ followed x own u v s (λ m.
+    ap (λ vs. Then (instrs_trace d.attributes w (calls_at w f) f vs) u m) (sym (last-none t.slots))
+    ∙ ap (λ vs. Then (instrs_trace d.attributes w (calls_at w f) f (last 0 t.slots)) (slots_are vs u) m) (sym (without-none t.slots))
+    ∙ behind (instrs_trace d.attributes w (calls_at w f) f (last 0 t.slots)) (without 0 t.slots) u m)
+    ∙ sets-begin d.sets d.site f v s
+advances (attributes_left xs p c) t index s =
+    let x : Trace Task = literal_attributes xs p t.world c.focus (last c.seen t.slots) in
+    sym (behind x t.slots t s) ∙ alone x (play x s) t s refl
+advances (make m p) t index s =
+    let x : Trace Task = puts_all p (made_at m s) in
+    sym (behind x t.slots t (popped s)) ∙ alone x (play x (popped s)) t (popped s) refl
+advances (say p terminate) t index s =
     then-then (message_ended p terminate s) (λ u m. Goes t.slots m) (λ us m. stack_steps t.world t.works us m) ∙ sym
     (then-then (message_ended p terminate s) (λ u m. Goes t m) Go)
-advances (pass [] all us callee p c) t s =
+advances (pass [] all us callee p c) t index s =
     sym (behind (passing_left [] all callee t.world p c.focus (last c.seen t.slots) us) t.slots t s) ∙ call-begins callee
     (record { bindings = all; values = us }) p c.focus t s
-advances (pass (b ∷ left) all us callee p c) t s =
+advances (pass (b ∷ left) all us callee p c) t index s =
     sym (behind (passing_left (b ∷ left) all callee t.world p c.focus (last c.seen t.slots) us) t.slots t s) ∙ pass-begins b.content left all us callee p c t s
-advances (take_value left all us callee p c) t s = refl
-advances (params_left [] ps body c) t s =
+advances (take_value left all us callee p c) t index s = refl
+advances (params_left [] ps body c) t index s =
     ap (λ x. and_then (filled x (without c.own t.slots) s) (λ us m. stack_steps t.world t.works us m))
     (body-instrs body t.world (calls_at t.world c.focus) c.focus (last c.seen t.slots))
-advances (params_left (b ∷ bs) ps body c) t s =
+advances (params_left (b ∷ bs) ps body c) t index s =
     let v : Evaluation = slots_are (without c.own t.slots) t in
     let u : Evaluation = pushed (params_left bs ps body (bound c) ∷ []) t in
     let x : List Value → Trace Task = λ vs. params_trace bs ps t.world (calls_at t.world c.focus) c.focus vs (body_trace body t.world (calls_at t.world c.focus) c.focus) in

@@ -1,6 +1,7 @@
 -- What has to be in the tree.
 use Rattle.std.specs.Prelude.{◌≡◌, ℕ, ◌<◌, All, List, length}
 use Rattle.xs_rules.specs.Indexed.{IsIndex, IsPrepared}
+use Rattle.xs_sets.specs.Indexed.{IsSetIndex}
 use Rattle.xs_sheet.specs.Sound.{IsSound}
 use Rattle.xs_tree.specs.Record.{Record}
 use Rattle.xs_value.specs.declared.value.Value.{Value}
@@ -21,13 +22,14 @@ use Rattle.xs_body.specs.declared.attempts.Attempt.{Attempt}
 use Rattle.xs_body.specs.declared.attempts.Attempt.TheVariants as attempt
 use Rattle.xs_body.specs.steps.Lists.{nodes_in}
 
--- the stylesheet is sound, and the index is that of its rules, prepared for the tree; the nodes of the globals' values and of the keys'
+-- the stylesheet is sound, and the index is that of its rules, prepared for the tree, and of its attribute sets; the nodes of the globals' values and of the keys'
 -- tables are in the tree
 pub record IsWorld (w : World) : Type 0 where
   pub sheet : IsSound w.sheet
-  pub index : IsIndex w.index
-  pub prepared : IsPrepared w.index w.tree
-  pub templates : w.index.templates.now ≡ w.sheet.templates
+  pub index : IsIndex w.index.rules
+  pub prepared : IsPrepared w.index.rules w.tree
+  pub templates : w.index.rules.templates.now ≡ w.sheet.templates
+  pub sets : IsSetIndex w.sheet.sets w.index.sets
   pub globals : All (IsInIf w.tree) w.globals
   pub tables : TablesIn w.tree w.keys
 
@@ -67,6 +69,10 @@ IsInside rs (frame.Each e) = IsEach rs e
 IsInside rs (frame.Apply a) = IsApply rs a
 IsInside rs (frame.Bodies bodies c) = c.focus.node < length rs
 IsInside rs frame.End = Unit {0}
+IsInside rs (frame.Sets names f) = f.node < length rs
+IsInside rs (frame.Declared declarations f) = f.node < length rs
+IsInside rs (frame.Attributes a) = a.scope.focus.node < length rs
+IsInside rs (frame.Make m p) = Unit {0}
 IsInside rs (frame.Say p terminate) = Unit {0}
 IsInside rs (frame.Pass p) = IsPassing rs p
 IsInside rs (frame.Take p) = IsPassing rs p

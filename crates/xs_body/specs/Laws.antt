@@ -2,13 +2,15 @@
 use Rattle.std.specs.Prelude.{◌≡◌, [], ◌∷◌}
 use Rattle.xs_trace.specs.State.{State}
 use Rattle.xs_trace.specs.Play.{and_then, play}
+use Rattle.xs_sets.specs.Indexed.{IsSetIndex}
 use Rattle.xs_semantics.specs.World.{World}
 use Rattle.xs_semantics.specs.Tasks.{Task}
 use Rattle.xs_semantics.specs.Trace.{task_trace}
 use Rattle.xs_body.specs.steps.Frames.{Work, Evaluation, advanced, begun_with, pushed, stack_told}
 
+-- where the index of attribute sets is that of the stylesheet
 abbrev pub StepsAgree : Type 0
-StepsAgree = (b : Work) (t : Evaluation) (s : State Task) → stack_told (pushed (b ∷ []) t) s ≡ and_then (advanced b t s) stack_told
+StepsAgree = (b : Work) (t : Evaluation) (s : State Task) → IsSetIndex t.world.sheet.sets t.world.index.sets → stack_told (pushed (b ∷ []) t) s ≡ and_then (advanced b t s) stack_told
 
 abbrev pub TasksBegin : Type 0
 TasksBegin = (w : World) (t : Task) (s : State Task) → play (task_trace w t) s ≡ stack_told (begun_with w t) s

@@ -57,7 +57,7 @@ use Rattle.xs_semantics.specs.World.{World, all_set_levels, at_node, in_list, ca
 use Rattle.xs_semantics.specs.World.{nodes_or_children, nodes_run, test_run, text_run, value_run}
 use Rattle.xs_semantics.specs.Tasks.{Params, no_params, value_passed, Job, body_job, rules_job, Task, tasks_for, grain_over}
 use Rattle.xs_semantics.specs.Rules.{rule_for, import_for}
-use Rattle.xs_semantics.specs.Trace.{Entry, named, fitting, overridden, Calls, each, Called, by_number, by_rules, called_with, fragment_of}
+use Rattle.xs_semantics.specs.Trace.{Entry, named, fitting, overridden, using, Calls, each, Called, by_number, by_rules, called_with, fragment_of}
 use Rattle.xs_semantics.specs.Trace.{begins, body_trace, calls_at, content_trace, declared_trace, instrs_trace, literal_attributes, params_trace}
 use Rattle.xs_semantics.specs.Trace.{puts_all, sets_trace}
 use Rattle.xs_body.specs.steps.Lists.{nodes_in}
@@ -261,6 +261,7 @@ abbrev pub entry_begun : Entry → Site → Focus → Evaluation → State Task 
 entry_begun (named i ps) p f t s = Goes (template_begun (slice_get t.world.sheet.templates i) ps f t) s
 entry_begun (fitting mode ps) p f t s = rule_begun (rule_for t.world mode f.node) mode ps p f t s
 entry_begun (overridden current) p f t s = rule_begun (import_for t.world current f) f.mode no_params p f t s
+entry_begun (using names) p f t s = Goes (pushed (sets_left names f ∷ []) t) s
 
 -- in a template, where one level of them less may be begun, and all levels of sets
 abbrev pub in_template : World → Focus → Focus
