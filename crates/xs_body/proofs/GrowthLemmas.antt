@@ -29,15 +29,16 @@ use Rattle.xs_semantics.specs.declared.made.Made.{Made}
 use Rattle.xs_semantics.specs.declared.made.Made.TheVariants as made
 use Rattle.xs_body.specs.declared.frames.Scope.{Scope}
 use Rattle.xs_semantics.specs.World.{World, in_list, value_run, nodes_run, text_run, test_run, nodes_or_children}
-use Rattle.xs_semantics.specs.Making.{name_run, target_run, value_events}
 use Rattle.xs_semantics.specs.Tasks.{Params, no_params, Job, body_job, rules_job, Task, tasks_for, grain_over}
 use Rattle.xs_semantics.specs.Rules.{rule_for, import_for}
-use Rattle.xs_semantics.specs.Trace.{Entry, named, fitting, overridden, using, Called, by_number, by_rules, each, begins, body_trace, declared_trace}
+use Rattle.xs_semantics.specs.Trace.{Entry, named, fitting, overridden, using, Called, by_number, by_rules, each, body_trace, declared_trace}
 use Rattle.xs_semantics.specs.Trace.{instrs_trace, literal_attributes, params_trace, puts_all, sets_trace}
 use Rattle.xs_body.specs.steps.Frames.{Work, rest, fill, each_left, apply_left, bodies_left, end_element, sets_left, declared_left, attributes_left}
 use Rattle.xs_body.specs.steps.Frames.{make, say, pass, take_value, params_left, Evaluation, last}
 use Rattle.xs_body.specs.steps.Frames.{inner, over, bindings_of, instrs_of, bodies_of, chosen, all_bodies, without, filled, ended}
-use Rattle.xs_body.specs.steps.Frames.{copied_begun, copy_of_steps, element_put, in_template, inside_begun, made_at, made_begun, sets_works}
+use Rattle.xs_body.specs.steps.Frames.{copied_begun, copy_of_steps, element_put, in_template, inside_begun, made_begun, sets_works}
+use Rattle.xs_body.specs.steps.Making.{copy_steps, events_steps, literal_steps, made_at, name_steps, target_steps}
+use Rattle.xs_body.proofs.MakingLemmas.{copies-grow, events-grow, literal-grows, name-grows, target-grows}
 use Rattle.xs_semantics.specs.Trace.{calls_at}
 use Rattle.xs_body.specs.steps.Frames.{message_steps, message_ended, fragment_at, passing_left, work_steps, stack_steps, pushed, filled_up, stays}
 use Rattle.xs_body.specs.steps.Frames.{chars_steps, run_by, run_begun, applied_begun, built_in_begun, rule_begun, entry_begun}
@@ -156,8 +157,8 @@ made-grows m body p c t = opened-grows _
 
 copy-grows : (select : ScopedExpr) (p : Site) (c : Scope) (t : Evaluation) → Grows (copy_of_steps select p c t)
 copy-grows select p c t s =
-    grows-then s (limited p (value_run t.world select c.focus (last c.seen t.slots)) s) (λ v m. play (puts_all p (value_events t.world.tree v)) m)
-    (limited-grows p _ s) (λ v. play-grows (puts_all p (value_events t.world.tree v)))
+    grows-then s (limited p (value_run t.world select c.focus (last c.seen t.slots)) s) (λ v m. copy_steps t.world.tree p v m) (limited-grows p _ s)
+    (copies-grow t.world.tree p)
 
 pub begun-grows : (kind : InstrKind) (p : Site) (c : Scope) (t : Evaluation) → Grows (begun kind p c t)
 begun-grows (ApplyTemplates nodes passed) p c t =
@@ -171,8 +172,8 @@ begun-grows (ForEach select sorts body) p c t = λ s.
 begun-grows (ValueOf select) p c t = stays-grow (value_steps select p c t) t (value-grows select p c t)
 begun-grows (CopyOf select) p c t = stays-grow (copy_of_steps select p c t) t (copy-grows select p c t)
 begun-grows (Copy sets body) p c t =
-    then-goes-grow (play (puts_all p (shallow_copy t.world.tree c.focus.node))) (λ u. copied_begun (at t.world.tree c.focus.node).kind sets body c t)
-    (play-grows (puts_all p (shallow_copy t.world.tree c.focus.node)))
+    then-goes-grow (events_steps p (shallow_copy t.world.tree c.focus.node)) (λ u. copied_begun (at t.world.tree c.focus.node).kind sets body c t)
+    (events-grow p (shallow_copy t.world.tree c.focus.node))
 begun-grows (Number decl) p c t = goes-grows t
 begun-grows (Choose choice) p c t = then-goes-grow (limited p (chosen choice t.world c.focus (last c.seen t.slots)))
     (λ body. pushed (rest (instrs_of body) (inner c) ∷ []) t) (limited-grows p _)
@@ -181,21 +182,21 @@ begun-grows (If test body) p c t =
     (limited-grows p _)
 begun-grows (Text text) p c t = stays-grow (chars_steps p text) t (chars-grow p text)
 begun-grows (Element name sets body) p c t = λ s.
-    grows-then s (limited p (name_run t.world false name c.focus (last c.seen t.slots)) s) (λ label m. element_put label sets body c t m)
-    (limited-grows p _ s) (λ label. element-grows label sets body c t)
+    grows-then s (name_steps t.world p c.focus (last c.seen t.slots) false name s) (λ label m. element_put label sets body c t m)
+    (name-grows t.world p c.focus (last c.seen t.slots) false name s) (λ label. element-grows label sets body c t)
 begun-grows (Attribute name body) p c t = λ s.
-    grows-then s (limited p (name_run t.world true name c.focus (last c.seen t.slots)) s) (λ label m. made_begun (made.Attribute label) body p c t m)
-    (limited-grows p _ s) (λ label. made-grows (made.Attribute label) body p c t)
+    grows-then s (name_steps t.world p c.focus (last c.seen t.slots) true name s) (λ label m. made_begun (made.Attribute label) body p c t m)
+    (name-grows t.world p c.focus (last c.seen t.slots) true name s) (λ label. made-grows (made.Attribute label) body p c t)
 begun-grows (Comment body) p c t = made-grows made.Comment body p c t
 begun-grows (Pi name body) p c t = λ s.
-    grows-then s (limited p (target_run t.world name c.focus (last c.seen t.slots)) s) (λ target m. made_begun (made.Instruction target) body p c t m)
-    (limited-grows p _ s) (λ target. made-grows (made.Instruction target) body p c t)
+    grows-then s (target_steps t.world p c.focus (last c.seen t.slots) name s) (λ target m. made_begun (made.Instruction target) body p c t m)
+    (target-grows t.world p c.focus (last c.seen t.slots) name s) (λ target. made-grows (made.Instruction target) body p c t)
 begun-grows (Message terminate body) p c t = opened-grows _
 begun-grows (Variable' site name content) p c t = content-grows content p c t
 begun-grows (Literal start body) p c t =
-    then-goes-grow (play (begins t.world start p))
+    then-goes-grow (literal_steps t.world.sheet.aliases p start)
     (λ u. pushed (sets_works start.sets c.focus) (pushed (attributes_left start.attributes p c ∷ rest (instrs_of body) (inner c) ∷ end_element ∷ []) t))
-    (play-grows (begins t.world start p))
+    (literal-grows t.world.sheet.aliases p start)
 begun-grows (Extension fallbacks) p c t = fallbacks-grow (bodies_of fallbacks) p c t
 
 filled-grows : (x : Trace Task) (vs : List Value) → Grows (filled x vs)

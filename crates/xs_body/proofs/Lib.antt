@@ -1,5 +1,7 @@
 pub mod SlotLemmas
 pub mod RowLemmas
+pub mod MakingLemmas
+pub mod SetLemmas
 pub mod GrowthLemmas
 pub mod ExitLemmas
 pub mod ChildLemmas

@@ -54,12 +54,14 @@ use Rattle.xs_semantics.specs.Trace.{calls_at}
 use Rattle.xs_body.specs.steps.Frames.{Work, rest, fill, each_left, apply_left, bodies_left, end_element, sets_left, declared_left, attributes_left}
 use Rattle.xs_body.specs.steps.Frames.{make, say, pass, take_value, params_left, Evaluation, last}
 use Rattle.xs_body.specs.steps.Frames.{without, inner, outer, over, captured_scope, more, bound, after, bindings_of, instrs_of, bodies_of}
-use Rattle.xs_body.specs.steps.Frames.{all_bodies, chosen_of, chosen, filled, ended, message_steps, message_ended, made_at, fragment_at}
+use Rattle.xs_body.specs.steps.Frames.{all_bodies, chosen_of, chosen, filled, ended, message_steps, message_ended, fragment_at}
 use Rattle.xs_body.specs.steps.Frames.{passing_left, work_steps, stack_steps, stack_told, pushed, slots_are, filled_up, stays, chars_steps}
 use Rattle.xs_body.specs.steps.Frames.{run_by, run_begun, applied_begun, template_begun, built_in_begun, rule_begun, entry_begun, entering}
 use Rattle.xs_body.specs.steps.Frames.{sets_works, inside_begun, copied_begun, element_put, made_begun}
 use Rattle.xs_body.specs.steps.Frames.{call_begun, imports_begun, content_begun, pass_begun, param_begun, fallbacks_begun}
 use Rattle.xs_body.specs.steps.Frames.{begun, advanced}
+use Rattle.xs_body.specs.steps.Making.{attributes_steps, copy_steps, events_steps, literal_steps, made_at, made_ended}
+use Rattle.xs_body.proofs.MakingLemmas.{attributes-told, copy-told, events-told, literal-told, name-told, target-told}
 use Rattle.xs_body.proofs.SetLemmas.{served}
 use Rattle.xs_body.proofs.SlotLemmas.{last-more, without-more, last-none, without-none, more-none}
 use Rattle.xs_body.proofs.RowLemmas.{body-instrs, passing-bindings, fallbacks-bodies, fallback_trace}
@@ -464,7 +466,10 @@ begins-so (CopyOf select) p is c t s =
     let u : Evaluation = pushed (rest is (more 0 c) ∷ []) t in
     let r : Run Value = value_run t.world select c.focus (last c.seen t.slots) in
     let h : Value → Trace Task = λ v. puts_all p (value_events t.world.tree v) in
-    joined (evaluated p r h) is c t s ∙ alone (evaluated p r h) (and_then (limited p r s) (λ v m. play (h v) m)) u s (sym (play-evaluated p r h s))
+    joined (evaluated p r h) is c t s
+    ∙ alone (evaluated p r h) (and_then (limited p r s) (λ v m. copy_steps t.world.tree p v m)) u s
+    (then-same (limited p r s) (λ v m. copy_steps t.world.tree p v m) (λ v m. play (h v) m) (λ v m. copy-told t.world.tree p v m)
+    ∙ sym (play-evaluated p r h s))
 begins-so (Copy sets body) p is c t s =
     let u : Evaluation = pushed (rest is (more 0 c) ∷ []) t in
     let kind : Kind = (at t.world.tree c.focus.node).kind in
@@ -473,7 +478,9 @@ begins-so (Copy sets body) p is c t s =
     (body_trace body t.world (calls_at t.world c.focus) c.focus (last c.seen t.slots)) in
     joined (x ⨾ y) is c t s
     ∙ ap (λ g. and_then g (λ q m. Go u m)) (play-then x y s)
-    ∙ before (play x s) (λ m. play y m) (λ q m. Go u m) (λ m. Goes (copied_begun kind sets body c u) m) Go (λ m. copied-begins kind sets p body c u m)
+    ∙ ap (λ g. and_then (and_then g (λ q m. play y m)) (λ q m. Go u m)) (sym (events-told p (shallow_copy t.world.tree c.focus.node) s))
+    ∙ before (events_steps p (shallow_copy t.world.tree c.focus.node) s) (λ m. play y m) (λ q m. Go u m)
+    (λ m. Goes (copied_begun kind sets body c u) m) Go (λ m. copied-begins kind sets p body c u m)
 begins-so (Number decl) p is c t s = nothing is c t s
 begins-so (Choose choice) p is c t s =
     let u : Evaluation = pushed (rest is (more 0 c) ∷ []) t in
@@ -499,15 +506,18 @@ begins-so (Element name sets body) p is c t s =
     let y : Trace Task = calls_at t.world c.focus (using sets) p c.focus
     ⨾ (body_trace body t.world (calls_at t.world c.focus) c.focus (last c.seen t.slots) ⨾ Put End ∷ []) in
     let h : Label → Trace Task = λ label. Put (Start label) ∷ y in
-    joined (evaluated p r h) is c t s ∙ brings p r h u (λ label m. element_put label sets body c u m) s (λ label m.
+    let f : Label → State Task → Step Task Evaluation = λ label m. element_put label sets body c u m in
+    joined (evaluated p r h) is c t s ∙ brings p r h u f s (λ label m.
     before (put (Start label) m) (λ n. play y n) (λ q n. Go u n) (λ n. Goes (inside_begun sets body c u) n) Go (λ n. inside-begins sets p body c u n))
+    ∙ ap (λ g. and_then (and_then g f) Go) (sym (name-told t.world p c.focus (last c.seen t.slots) false name s))
 begins-so (Attribute name body) p is c t s =
     let u : Evaluation = pushed (rest is (more 0 c) ∷ []) t in
     let r : Run Label = name_run t.world true name c.focus (last c.seen t.slots) in
     let content : Trace Task = body_trace body t.world (calls_at t.world c.focus) (captured_in c.focus) (last c.seen t.slots) in
     let h : Label → Trace Task = λ label. makes (made.Attribute label) p content in
-    joined (evaluated p r h) is c t s ∙ brings p r h u (λ label m. made_begun (made.Attribute label) body p c u m) s
-    (λ label m. made-begins (made.Attribute label) body p c u m)
+    let f : Label → State Task → Step Task Evaluation = λ label m. made_begun (made.Attribute label) body p c u m in
+    joined (evaluated p r h) is c t s ∙ brings p r h u f s (λ label m. made-begins (made.Attribute label) body p c u m)
+    ∙ ap (λ g. and_then (and_then g f) Go) (sym (name-told t.world p c.focus (last c.seen t.slots) true name s))
 begins-so (Comment body) p is c t s =
     joined (makes made.Comment p (body_trace body t.world (calls_at t.world c.focus) (captured_in c.focus) (last c.seen t.slots))) is c t s
     ∙ made-begins made.Comment body p c (pushed (rest is (more 0 c) ∷ []) t) s
@@ -516,8 +526,9 @@ begins-so (Pi name body) p is c t s =
     let r : Run (List ℕ) = target_run t.world name c.focus (last c.seen t.slots) in
     let content : Trace Task = body_trace body t.world (calls_at t.world c.focus) (captured_in c.focus) (last c.seen t.slots) in
     let h : List ℕ → Trace Task = λ target. makes (made.Instruction target) p content in
-    joined (evaluated p r h) is c t s ∙ brings p r h u (λ target m. made_begun (made.Instruction target) body p c u m) s
-    (λ target m. made-begins (made.Instruction target) body p c u m)
+    let f : List ℕ → State Task → Step Task Evaluation = λ target m. made_begun (made.Instruction target) body p c u m in
+    joined (evaluated p r h) is c t s ∙ brings p r h u f s (λ target m. made-begins (made.Instruction target) body p c u m)
+    ∙ ap (λ g. and_then (and_then g f) Go) (sym (target-told t.world p c.focus (last c.seen t.slots) name s))
 begins-so (Message terminate body) p is c t s =
     let u : Evaluation = pushed (rest is (more 0 c) ∷ []) t in
     let h : List Event → Trace Task = λ es. says p (fragment_text es) ⨾ ended_if terminate p in
@@ -540,7 +551,9 @@ begins-so (Literal start body) p is c t s =
     let v_all : Evaluation = pushed (attributes_left start.attributes p c ∷ rest (instrs_of body) (inner c) ∷ end_element ∷ []) u in
     joined (z ⨾ y) is c t s
     ∙ ap (λ g. and_then g (λ q m. Go u m)) (play-then z y s)
-    ∙ before (play z s) (λ m. play y m) (λ q m. Go u m) (λ m. Goes (pushed (sets_works start.sets c.focus) v_all) m) Go (λ m.
+    ∙ ap (λ g. and_then (and_then g (λ q m. play y m)) (λ q m. Go u m)) (sym (literal-told t.world p start s))
+    ∙ before (literal_steps t.world.sheet.aliases p start s) (λ m. play y m) (λ q m. Go u m)
+    (λ m. Goes (pushed (sets_works start.sets c.focus) v_all) m) Go (λ m.
     followed sets (attributes ⨾ x) u v_all m (λ n. followed attributes x u v n (λ q. inside-ends body c u q) ∙ behind attributes v.slots v n)
     ∙ sets-begin start.sets p c.focus v_all m)
 begins-so (Extension fallbacks) p is c t s =
@@ -608,10 +621,11 @@ advances (declared_left (d ∷ ds) f) t index s =
     ∙ sets-begin d.sets d.site f v s
 advances (attributes_left xs p c) t index s =
     let x : Trace Task = literal_attributes xs p t.world c.focus (last c.seen t.slots) in
-    sym (behind x t.slots t s) ∙ alone x (play x s) t s refl
+    sym (behind x t.slots t s)
+    ∙ alone x (attributes_steps t.world p c.focus (last c.seen t.slots) xs s) t s (attributes-told t.world p c.focus (last c.seen t.slots) xs s)
 advances (make m p) t index s =
     let x : Trace Task = puts_all p (made_at m s) in
-    sym (behind x t.slots t (popped s)) ∙ alone x (play x (popped s)) t (popped s) refl
+    sym (behind x t.slots t (popped s)) ∙ alone x (made_ended m p s) t (popped s) (events-told p (made_at m s) (popped s))
 advances (say p terminate) t index s =
     then-then (message_ended p terminate s) (λ u m. Goes t.slots m) (λ us m. stack_steps t.world t.works us m) ∙ sym
     (then-then (message_ended p terminate s) (λ u m. Goes t m) Go)

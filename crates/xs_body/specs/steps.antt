@@ -1,6 +1,7 @@
 pub mod Lists
 pub mod Jobs
 pub mod Sharing
+pub mod Making
 pub mod Frames
 pub mod Attempts
 pub mod Runs

@@ -42,7 +42,6 @@ use Rattle.xs_sets.specs.Indexed.{declarations_in}
 use Rattle.xs_semantics.specs.declared.focus.Focus.{Focus}
 use Rattle.xs_semantics.specs.declared.made.Made.{Made}
 use Rattle.xs_semantics.specs.declared.made.Made.TheVariants as made
-use Rattle.xs_semantics.specs.Making.{content_text, made_events, name_run, target_run, value_events}
 use Rattle.xs_body.specs.declared.frames.Callee as code_callee
 use Rattle.xs_body.specs.declared.frames.Callee.TheVariants as callee
 use Rattle.xs_body.specs.declared.frames.AttributesLeft.{AttributesLeft}
@@ -58,9 +57,12 @@ use Rattle.xs_semantics.specs.World.{nodes_or_children, nodes_run, test_run, tex
 use Rattle.xs_semantics.specs.Tasks.{Params, no_params, value_passed, Job, body_job, rules_job, Task, tasks_for, grain_over}
 use Rattle.xs_semantics.specs.Rules.{rule_for, import_for}
 use Rattle.xs_semantics.specs.Trace.{Entry, named, fitting, overridden, using, Calls, each, Called, by_number, by_rules, called_with, fragment_of}
-use Rattle.xs_semantics.specs.Trace.{begins, body_trace, calls_at, content_trace, declared_trace, instrs_trace, literal_attributes, params_trace}
+use Rattle.xs_semantics.specs.Trace.{body_trace, calls_at, content_trace, declared_trace, instrs_trace, literal_attributes, params_trace}
 use Rattle.xs_semantics.specs.Trace.{puts_all, sets_trace}
 use Rattle.xs_body.specs.steps.Lists.{nodes_in}
+pub use Rattle.xs_body.specs.steps.Making.{chars_steps}
+use Rattle.xs_body.specs.steps.Making.{attributes_steps, copy_steps, events_steps, literal_steps, made_at, made_ended, name_steps}
+use Rattle.xs_body.specs.steps.Making.{target_steps}
 
 -- ---- rows of the stylesheet as lists
 
@@ -161,10 +163,6 @@ message_steps p terminate text s = and_then (said_at p text s) (λ u m. ended te
 abbrev pub message_ended : Site → Bool → State Task → Told Task
 message_ended p terminate s = message_steps p terminate (fragment_text (top s.captures)) (popped s)
 
--- what is made of captured content
-abbrev pub made_at : Made → State Task → List Event
-made_at m s = made_events m (content_text (top s.captures))
-
 abbrev pub fragment_at : State Task → Value
 fragment_at s = Piece (fragment_of (top s.captures))
 
@@ -211,10 +209,6 @@ filled_up vs t = slots_are (t.slots ++ vs) t
 
 abbrev pub stays : Told Task → Evaluation → Step Task Evaluation
 stays g t = and_then g (λ u m. Goes t m)
-
--- what is put
-abbrev pub chars_steps : {H : Type 0} → Site → List ℕ → State H → Told H
-chars_steps p t s = if length t == 0 then goes s else put_at p (Chars t) s
 
 -- ---- attribute sets
 -- those of some names, a level deeper, where there are any
@@ -343,7 +337,7 @@ inside_begun sets body c t = pushed (sets_works sets c.focus) (pushed (rest (ins
 
 abbrev pub literal_begun : LiteralStart → Body → Site → Scope → Evaluation → State Task → Step Task Evaluation
 literal_begun start body p c t s =
-    and_then (play (begins t.world start p) s)
+    and_then (literal_steps t.world.sheet.aliases p start s)
     (λ u m. Goes (pushed (sets_works start.sets c.focus) (pushed (attributes_left start.attributes p c ∷ rest (instrs_of body) (inner c) ∷ end_element ∷ []) t)) m)
 
 abbrev pub element_put : Label → List Label → Body → Scope → Evaluation → State Task → Step Task Evaluation
@@ -351,7 +345,7 @@ element_put name sets body c t s = and_then (put (Start name) s) (λ u m. Goes (
 
 abbrev pub element_begun : MadeName → List Label → Body → Site → Scope → Evaluation → State Task → Step Task Evaluation
 element_begun name sets body p c t s =
-    and_then (limited p (name_run t.world false name c.focus (last c.seen t.slots)) s) (λ label m. element_put label sets body c t m)
+    and_then (name_steps t.world p c.focus (last c.seen t.slots) false name s) (λ label m. element_put label sets body c t m)
 
 -- what is made of captured content
 abbrev pub made_begun : Made → Body → Site → Scope → Evaluation → State Task → Step Task Evaluation
@@ -359,11 +353,11 @@ made_begun m body p c t s = Goes (pushed (rest (instrs_of body) (captured_scope 
 
 abbrev pub attribute_begun : MadeName → Body → Site → Scope → Evaluation → State Task → Step Task Evaluation
 attribute_begun name body p c t s =
-    and_then (limited p (name_run t.world true name c.focus (last c.seen t.slots)) s) (λ label m. made_begun (made.Attribute label) body p c t m)
+    and_then (name_steps t.world p c.focus (last c.seen t.slots) true name s) (λ label m. made_begun (made.Attribute label) body p c t m)
 
 abbrev pub instruction_begun : ValueTemplate → Body → Site → Scope → Evaluation → State Task → Step Task Evaluation
 instruction_begun name body p c t s =
-    and_then (limited p (target_run t.world name c.focus (last c.seen t.slots)) s) (λ target m. made_begun (made.Instruction target) body p c t m)
+    and_then (target_steps t.world p c.focus (last c.seen t.slots) name s) (λ target m. made_begun (made.Instruction target) body p c t m)
 
 -- copies
 abbrev pub copied_begun : Kind → List Label → Body → Scope → Evaluation → Evaluation
@@ -372,12 +366,12 @@ copied_begun kind sets body c t =
 
 abbrev pub copy_begun : List Label → Body → Site → Scope → Evaluation → State Task → Step Task Evaluation
 copy_begun sets body p c t s =
-    and_then (play (puts_all p (shallow_copy t.world.tree c.focus.node)) s)
+    and_then (events_steps p (shallow_copy t.world.tree c.focus.node) s)
     (λ u m. Goes (copied_begun (at t.world.tree c.focus.node).kind sets body c t) m)
 
 abbrev pub copy_of_steps : ScopedExpr → Site → Scope → Evaluation → State Task → Told Task
 copy_of_steps select p c t s =
-    and_then (limited p (value_run t.world select c.focus (last c.seen t.slots)) s) (λ v m. play (puts_all p (value_events t.world.tree v)) m)
+    and_then (limited p (value_run t.world select c.focus (last c.seen t.slots)) s) (λ v m. copy_steps t.world.tree p v m)
 
 -- how an instruction begins
 abbrev pub begun : InstrKind → Site → Scope → Evaluation → State Task → Step Task Evaluation
@@ -416,8 +410,8 @@ advanced (bodies_left bodies c) t s = Goes (next_body bodies c t) s
 advanced end_element t s = stays (put End s) t
 advanced (sets_left names f) t s = Goes (sets_begun names f t) s
 advanced (declared_left ss f) t s = Goes (declarations_begun ss f t) s
-advanced (attributes_left xs p c) t s = stays (play (literal_attributes xs p t.world c.focus (last c.seen t.slots)) s) t
-advanced (make m p) t s = stays (play (puts_all p (made_at m s)) (popped s)) t
+advanced (attributes_left xs p c) t s = stays (attributes_steps t.world p c.focus (last c.seen t.slots) xs s) t
+advanced (make m p) t s = stays (made_ended m p s) t
 advanced (say p terminate) t s = stays (message_ended p terminate s) t
 advanced (pass [] all us callee p c) t s = call_begun callee (record { bindings = all; values = us }) p c.focus t s
 advanced (pass (b ∷ left) all us callee p c) t s = pass_begun b.content left all us callee p c t s
