@@ -1,9 +1,13 @@
 //! Copies of nodes and of values (XSLT 1.0, 7.5 and 11.3).
 
-ghost use Rattle.std.specs.Prelude.{◌≡◌, ◌<◌, length, OnOk};
+ghost use Rattle.std.specs.Prelude.{◌≡◌, ◌<◌, length, IfOk, OnOk};
+ghost use Rattle.std.specs.List.{All};
 ghost use Rattle.xs_body.specs.steps.Frames.{copied_begun, copy_begun, copy_of_steps};
+ghost use Rattle.xs_body.specs.steps.Making.{chars_steps, copy_steps, nodes_steps};
+ghost use Rattle.xs_making.specs.Copies.{copy_of};
 ghost use Rattle.xs_trace.specs.Play.{IsStep, IsStepBy};
 ghost use Rattle.xs_tree.specs.Record.{at};
+ghost use Rattle.xs_value.specs.Conversion.{IsIn, text_value};
 
 use crate::evaluator::Evaluator;
 use crate::frames::Scope;
@@ -13,7 +17,7 @@ use std::alloc::AllocError;
 use xs_making::copy_events;
 use xs_sheet::body::Body;
 use xs_sheet::scoped::ScopedExpr;
-use xs_trace::event::Label;
+use xs_trace::event::{Event, Label};
 use xs_trace::item::Site;
 use xs_trace::recorder::{Halt, Recorder};
 use xs_tree::{Kind, Node};
@@ -45,12 +49,35 @@ impl<'a, K: KeyFinder> Evaluator<'a, K> {
         value: &Value,
         site: Site,
         recorder: &mut R,
-    ) -> Result<(), Halt> {
+    ) -> Result<(), Halt>
+        requires value { IsIn self.now.world.tree value.now }
+        ensures told { IsStep (copy_steps self.now.world.tree site value.now
+            (R.state recorder.old)) result (R.state recorder.new) }
+        ensures kept { R.kept recorder.new ≡ R.kept recorder.old }
+    {
         match value {
             Value::Nodes(nodes) => self.put_nodes(nodes.nodes(), site, recorder),
             Value::Piece(fragment) => put_events(site, fragment.events(), recorder),
-            _ => put_text(site, to_text(self.alloc, self.world.tree, value)?, recorder),
+            Value::Chars(text) => put_text(site, text.copy()?, recorder),
+            Value::Bool(_) => self.put_as_text(value, site, recorder),
+            Value::Number(_) => self.put_as_text(value, site, recorder),
         }
+    }
+
+    /// Puts the text of a value.
+    fn put_as_text<R: Recorder<Task = Task<'a>>>(
+        &self,
+        value: &Value,
+        site: Site,
+        recorder: &mut R,
+    ) -> Result<(), Halt>
+        ensures told { IsStep (chars_steps site (text_value self.now.world.tree value.now)
+            (R.state recorder.old)) result (R.state recorder.new) }
+        ensures kept { R.kept recorder.new ≡ R.kept recorder.old }
+    {
+        let world = &self.world;
+        let text = to_text(self.alloc, world.tree, value)?;
+        put_text(site, text, recorder)
     }
 
     /// Puts copies of nodes, with all that is in them.
@@ -59,13 +86,31 @@ impl<'a, K: KeyFinder> Evaluator<'a, K> {
         nodes: &[Node],
         site: Site,
         recorder: &mut R,
-    ) -> Result<(), Halt> {
-        for node in nodes {
-            let mut events = Vec::new(self.alloc);
-            copy_events(self.world.tree, *node, true, &mut events)?;
-            put_events(site, &events, recorder)?;
+    ) -> Result<(), Halt>
+        requires nodes { All (λ n. n < length self.now.world.tree) nodes.now }
+        ensures told { IsStep (nodes_steps self.now.world.tree site nodes.now
+            (R.state recorder.old)) result (R.state recorder.new) }
+        ensures kept { R.kept recorder.new ≡ R.kept recorder.old }
+    {
+        let mut left = nodes;
+        while let Some((node, others)) = left.split_first() {
+            let events = self.copied(*node, true)?;
+            put_events(site, events.as_slice(), recorder)?;
+            left = others;
         }
         Ok(())
+    }
+
+    /// The events of a copy of a node, with all that is in it or alone.
+    fn copied(&self, node: Node, deep: bool) -> Result<Vec<Event>, AllocError>
+        requires node { node < length self.now.world.tree }
+        ensures copied { IfOk result
+            (λ events. events.items ≡ copy_of deep self.now.world.tree node) }
+    {
+        let world = &self.world;
+        let mut events = Vec::new(self.alloc);
+        copy_events(world.tree, node, deep, &mut events)?;
+        Ok(events)
     }
 
     /// A copy of the current node begins, with its own content where it can have one (7.5).
@@ -83,10 +128,8 @@ impl<'a, K: KeyFinder> Evaluator<'a, K> {
             (R.state recorder.old)) result (R.state recorder.new) }
         ensures kept { R.kept recorder.new ≡ R.kept recorder.old }
     {
-        let node = Node::at(scope.focus.node);
-        let mut events = Vec::new(self.alloc);
-        copy_events(self.world.tree, node, false, &mut events)?;
-        put_events(site, &events, recorder)?;
+        let events = self.copied(Node::at(scope.focus.node), false)?;
+        put_events(site, events.as_slice(), recorder)?;
         self.begin_copied(sets, body, scope)?;
         Ok(())
     }
@@ -103,10 +146,15 @@ impl<'a, K: KeyFinder> Evaluator<'a, K> {
         ensures begun { OnOk result (self.new ≡ copied_begun
             (at self.old.world.tree scope.focus.node).kind sets.now body.now scope self.old) }
     {
-        match self.world.tree.kind(Node::at(scope.focus.node)) {
+        let world = &self.world;
+        match world.tree.kind(Node::at(scope.focus.node)) {
             Kind::Element => self.push_inside(sets, body, scope),
             Kind::Root => self.push_body(body, scope.inner()),
-            Kind::Attribute | Kind::Space | Kind::Text | Kind::Comment | Kind::Pi => Ok(()),
+            Kind::Attribute => Ok(()),
+            Kind::Space => Ok(()),
+            Kind::Text => Ok(()),
+            Kind::Comment => Ok(()),
+            Kind::Pi => Ok(()),
         }
     }
 }

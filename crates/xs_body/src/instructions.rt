@@ -66,7 +66,7 @@ impl<'a, K: KeyFinder> Evaluator<'a, K> {
                 self.begin_copy(sets.as_slice(), body, site, scope, recorder)
             }
             InstrKind::Element { name, sets, body } => {
-                let name = self.element_name(name, site, scope, recorder)?;
+                let name = self.made_name(name, false, site, scope, recorder)?;
                 self.begin_element(name, sets.as_slice(), body, scope, recorder)
             }
             InstrKind::Attribute { name, body } => {

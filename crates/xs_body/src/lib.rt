@@ -6,6 +6,7 @@ pub mod attempts;
 mod bindings;
 mod calls;
 mod choices;
+mod contents;
 mod copying;
 mod evaluator;
 pub mod frames;

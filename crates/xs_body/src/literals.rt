@@ -1,10 +1,11 @@
-//! What is put of literal elements, and of the content of what is made (XSLT 1.0, 7.1).
+//! What is put of literal elements (XSLT 1.0, 7.1.1).
 
 ghost use Rattle.std.specs.Prelude.{◌≡◌, IfOk};
+ghost use Rattle.std.specs.Option.{option_map_or};
+ghost use Rattle.xs_body.specs.steps.Making.{events_steps, literal_steps, spaces_steps};
 ghost use Rattle.xs_semantics.specs.Making.{aliased, attribute_events, attribute_label};
-ghost use Rattle.xs_semantics.specs.Making.{content_text, element_label, literal_spaces};
-ghost use Rattle.xs_semantics.specs.Trace.{puts_all};
-ghost use Rattle.xs_trace.specs.Play.{IsStep, play};
+ghost use Rattle.xs_semantics.specs.Making.{element_label, space_events};
+ghost use Rattle.xs_trace.specs.Play.{IsStep};
 
 use std::alloc::{AllocError, Global};
 use xs_making::{XML_URI, put_label};
@@ -15,18 +16,38 @@ use xs_trace::item::Site;
 use xs_trace::recorder::{Halt, Recorder, put_event};
 use xs_trace::text::TextBuf;
 
-/// Puts the start of a literal element and its namespace nodes (7.1.1).
+/// Puts the start of a literal element and its namespace nodes.
 pub(crate) fn put_literal_start<R: Recorder>(
     alloc: Global,
     aliases: &[Alias],
     start: &LiteralStart,
     site: Site,
     recorder: &mut R,
-) -> Result<(), Halt> {
+) -> Result<(), Halt>
+    ensures told { IsStep (literal_steps aliases.now site start.now (R.state recorder.old))
+        result (R.state recorder.new) }
+    ensures kept { R.kept recorder.new ≡ R.kept recorder.old }
+{
     let name = element_label(alloc, aliases, &start.name)?;
     put_event(recorder, site, Event::Start(name))?;
-    for space in start.spaces.as_slice() {
+    put_spaces(aliases, start.spaces.as_slice(), site, recorder)
+}
+
+/// Puts namespace nodes.
+fn put_spaces<R: Recorder>(
+    aliases: &[Alias],
+    spaces: &[(TextBuf, TextBuf)],
+    site: Site,
+    recorder: &mut R,
+) -> Result<(), Halt>
+    ensures told { IsStep (spaces_steps aliases.now site spaces.now (R.state recorder.old))
+        result (R.state recorder.new) }
+    ensures kept { R.kept recorder.new ≡ R.kept recorder.old }
+{
+    let mut left = spaces;
+    while let Some((space, behind)) = left.split_first() {
         put_space(aliases, &space.0, &space.1, site, recorder)?;
+        left = behind;
     }
     Ok(())
 }
@@ -38,8 +59,28 @@ fn put_space<R: Recorder>(
     uri: &TextBuf,
     site: Site,
     recorder: &mut R,
-) -> Result<(), Halt> {
-    let uri = aliased(aliases, uri);
+) -> Result<(), Halt>
+    ensures told { IsStep (events_steps site (space_events prefix.now (aliased aliases.now uri.now))
+        (R.state recorder.old)) result (R.state recorder.new) }
+    ensures kept { R.kept recorder.new ≡ R.kept recorder.old }
+{
+    match alias_of(aliases, uri.as_str()) {
+        None => put_bound(prefix, uri, site, recorder),
+        Some(alias) => put_bound(prefix, &alias.to_uri, site, recorder),
+    }
+}
+
+/// Puts a namespace node without an alias.
+fn put_bound<R: Recorder>(
+    prefix: &TextBuf,
+    uri: &TextBuf,
+    site: Site,
+    recorder: &mut R,
+) -> Result<(), Halt>
+    ensures told { IsStep (events_steps site (space_events prefix.now uri.now)
+        (R.state recorder.old)) result (R.state recorder.new) }
+    ensures kept { R.kept recorder.new ≡ R.kept recorder.old }
+{
     if uri.as_str().is_empty() || uri.as_str() == XML_URI {
         return Ok(());
     }
@@ -50,77 +91,57 @@ fn put_space<R: Recorder>(
     put_event(recorder, site, space)
 }
 
-/// Puts an attribute of a literal element.
-pub(crate) fn put_attribute<R: Recorder>(
-    alloc: Global,
-    aliases: &[Alias],
-    name: &Label,
-    value: TextBuf,
-    site: Site,
-    recorder: &mut R,
-) -> Result<(), Halt> {
-    let name = if name.uri().is_empty() {
-        put_label(alloc, "", name.local(), name.prefix())?
-    } else {
-        element_label(alloc, aliases, name)?
-    };
-    put_named(name, value, site, recorder)
-}
-
 /// Puts an attribute, except for one that would be read as the declaration of a default namespace.
-pub(crate) fn put_named<R: Recorder>(
+pub(crate) fn put_attribute<R: Recorder>(
     name: Label,
     value: TextBuf,
     site: Site,
     recorder: &mut R,
-) -> Result<(), Halt> {
+) -> Result<(), Halt>
+    ensures told { IsStep (events_steps site (attribute_events name value)
+        (R.state recorder.old)) result (R.state recorder.new) }
+    ensures kept { R.kept recorder.new ≡ R.kept recorder.old }
+{
     if name.uri().is_empty() && name.local() == "xmlns" {
         return Ok(());
     }
     put_event(recorder, site, Event::Attr { name, value })
 }
 
+/// The name of an attribute of a literal element.
+pub(crate) fn attribute_label(
+    alloc: Global,
+    aliases: &[Alias],
+    name: &Label,
+) -> Result<Label, AllocError>
+    ensures label { IfOk result (λ label. label ≡ attribute_label aliases.now name.now) }
+{
+    if name.uri().is_empty() {
+        return put_label(alloc, "", name.local(), name.prefix());
+    }
+    element_label(alloc, aliases, name)
+}
+
 /// The name of a literal element.
-fn element_label(alloc: Global, aliases: &[Alias], name: &Label) -> Result<Label, AllocError> {
-    let uri = aliased_text(aliases, name.uri());
-    put_label(alloc, uri, name.local(), name.prefix())
-}
-
-/// The namespace that one is an alias for, or itself (7.1.1).
-fn aliased<'t>(aliases: &'t [Alias], uri: &'t TextBuf) -> &'t TextBuf {
-    for alias in aliases {
-        if alias.from_uri.as_str() == uri.as_str() {
-            return &alias.to_uri;
-        }
+fn element_label(alloc: Global, aliases: &[Alias], name: &Label) -> Result<Label, AllocError>
+    ensures label { IfOk result (λ label. label ≡ element_label aliases.now name.now) }
+{
+    match alias_of(aliases, name.uri()) {
+        None => put_label(alloc, name.uri(), name.local(), name.prefix()),
+        Some(alias) => put_label(alloc, alias.to_uri.as_str(), name.local(), name.prefix()),
     }
-    uri
 }
 
-/// The same of its text.
-fn aliased_text<'t>(aliases: &'t [Alias], uri: &'t str) -> &'t str {
-    for alias in aliases {
+/// The alias of a namespace, where it has one.
+fn alias_of<'t>(aliases: &'t [Alias], uri: &str) -> Option<&'t Alias>
+    ensures { aliased aliases.now uri.now ≡ option_map_or (λ a. a.now.to_uri) result uri.now }
+{
+    let mut left = aliases;
+    while let Some((alias, others)) = left.split_first() {
         if alias.from_uri.as_str() == uri {
-            return alias.to_uri.as_str();
+            return Some(alias);
         }
+        left = others;
     }
-    uri
-}
-
-/// The texts of content, except for those in elements (7.1.3, 7.3, 7.4).
-pub(crate) fn content_text(alloc: Global, events: &[Event]) -> Result<TextBuf, AllocError> {
-    let mut text = String::new(alloc);
-    let mut depth: u64 = 0;
-    for event in events {
-        match event {
-            Event::Start(_) => depth = depth.saturating_add(1),
-            Event::End => depth = depth.saturating_sub(1),
-            Event::Chars(more) => {
-                if depth == 0 {
-                    text.push_str(more.as_str())?;
-                }
-            }
-            _ => {}
-        }
-    }
-    TextBuf::from_string(text)
+    None
 }

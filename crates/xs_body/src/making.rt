@@ -2,21 +2,27 @@
 
 ghost use Rattle.std.specs.Prelude.{◌≡◌, ◌<◌, ◌∷◌, [], length, OnOk};
 ghost use Rattle.xs_body.specs.steps.Frames.{attribute_begun, element_put, inside_begun};
-ghost use Rattle.xs_body.specs.steps.Frames.{instruction_begun, literal_begun, made_begun};
+ghost use Rattle.xs_body.specs.steps.Frames.{instruction_begun, last, literal_begun, made_begun};
+ghost use Rattle.xs_body.specs.steps.Making.{attribute_steps, attributes_steps, halted};
+ghost use Rattle.xs_body.specs.steps.Making.{made_ended, name_steps, namespace_steps};
+ghost use Rattle.xs_body.specs.steps.Making.{target_steps};
+ghost use Rattle.xs_making.specs.Names.{result_name};
+ghost use Rattle.xs_making.specs.Results.{IsMade};
 ghost use Rattle.xs_trace.specs.Play.{IsStep, IsStepBy};
 
+use crate::contents::{content_text, put_made};
 use crate::evaluator::Evaluator;
 use crate::frames::{AttributesLeft, Frame, Scope};
-use crate::literals::{content_text, put_attribute, put_literal_start, put_named};
+use crate::literals::{attribute_label, put_attribute, put_literal_start};
 use crate::task::Task;
 use std::alloc::AllocError;
-use xs_making::{MakeEnd, comment_text, pi_target, pi_text, result_name};
+use xs_making::{MakeEnd, pi_target, result_name};
 use xs_semantics::made::Made;
 use xs_sheet::body::{Body, LiteralStart, MadeName};
 use xs_sheet::scoped::ValueTemplate;
 use xs_trace::event::{Event, Label};
 use xs_trace::item::Site;
-use xs_trace::recorder::{Halt, Recorder, put_event};
+use xs_trace::recorder::{Halt, Recorder};
 use xs_trace::text::TextBuf;
 use xs_value::keys::KeyFinder;
 
@@ -37,7 +43,8 @@ impl<'a, K: KeyFinder> Evaluator<'a, K> {
             (R.state recorder.old)) result (R.state recorder.new) }
         ensures kept { R.kept recorder.new ≡ R.kept recorder.old }
     {
-        let aliases = self.world.sheet.aliases.as_slice();
+        let world = &self.world;
+        let aliases = world.sheet.aliases.as_slice();
         put_literal_start(self.alloc, aliases, start, site, recorder)?;
         self.push(Frame::End)?;
         self.push_body(body, scope.inner())?;
@@ -53,22 +60,42 @@ impl<'a, K: KeyFinder> Evaluator<'a, K> {
     /// Puts the attributes of a literal element, in their order (7.1.1).
     pub(crate) fn put_attributes<R: Recorder<Task = Task<'a>>>(
         &self,
-        left: AttributesLeft<'a>,
+        all: AttributesLeft<'a>,
         recorder: &mut R,
-    ) -> Result<(), Halt> {
-        let aliases = self.world.sheet.aliases.as_slice();
-        for attribute in left.attributes {
-            let value = self.template(&attribute.1, left.site, left.scope, recorder)?;
-            put_attribute(
-                self.alloc,
-                aliases,
-                &attribute.0,
-                value,
-                left.site,
-                recorder,
-            )?;
+    ) -> Result<(), Halt>
+        requires node { all.scope.focus.node < length self.now.world.tree }
+        ensures told { IsStep (attributes_steps self.now.world all.site all.scope.focus
+            (last all.scope.seen self.now.slots) all.attributes.now (R.state recorder.old))
+            result (R.state recorder.new) }
+        ensures kept { R.kept recorder.new ≡ R.kept recorder.old }
+    {
+        let mut left = all.attributes;
+        while let Some((attribute, others)) = left.split_first() {
+            self.put_literal(attribute, all.site, all.scope, recorder)?;
+            left = others;
         }
         Ok(())
+    }
+
+    /// Puts an attribute of a literal element.
+    fn put_literal<R: Recorder<Task = Task<'a>>>(
+        &self,
+        attribute: &(Label, ValueTemplate),
+        site: Site,
+        scope: Scope,
+        recorder: &mut R,
+    ) -> Result<(), Halt>
+        requires node { scope.focus.node < length self.now.world.tree }
+        ensures told { IsStep (attribute_steps self.now.world site scope.focus
+            (last scope.seen self.now.slots) attribute.now (R.state recorder.old))
+            result (R.state recorder.new) }
+        ensures kept { R.kept recorder.new ≡ R.kept recorder.old }
+    {
+        let value = self.template(&attribute.1, site, scope, recorder)?;
+        let world = &self.world;
+        let aliases = world.sheet.aliases.as_slice();
+        let name = attribute_label(self.alloc, aliases, &attribute.0)?;
+        put_attribute(name, value, site, recorder)
     }
 
     /// An element begins, with the attributes of its sets before its content (7.1.2).
@@ -107,17 +134,6 @@ impl<'a, K: KeyFinder> Evaluator<'a, K> {
         self.push_sets(sets, scope.focus)
     }
 
-    /// The name of an element that an instruction makes (7.1.2).
-    pub(crate) fn element_name<R: Recorder<Task = Task<'a>>>(
-        &self,
-        name: &MadeName,
-        site: Site,
-        scope: Scope,
-        recorder: &mut R,
-    ) -> Result<Label, Halt> {
-        self.made_name(name, false, site, scope, recorder)
-    }
-
     /// An attribute begins: its name is made before its content (7.1.3).
     pub(crate) fn begin_attribute<R: Recorder<Task = Task<'a>>>(
         &mut self,
@@ -152,8 +168,7 @@ impl<'a, K: KeyFinder> Evaluator<'a, K> {
             (R.state recorder.old)) result (R.state recorder.new) }
         ensures kept { R.kept recorder.new ≡ R.kept recorder.old }
     {
-        let text = self.template(name, site, scope, recorder)?;
-        let target = made_at(site, pi_target(self.alloc, text.as_str()))?;
+        let target = self.made_target(name, site, scope, recorder)?;
         self.begin_made(Made::Instruction(target), body, site, scope, recorder)
     }
 
@@ -184,45 +199,71 @@ impl<'a, K: KeyFinder> Evaluator<'a, K> {
         made: Made,
         site: Site,
         recorder: &mut R,
-    ) -> Result<(), Halt> {
+    ) -> Result<(), Halt>
+        ensures told { IsStep (made_ended made site (R.state recorder.old))
+            result (R.state recorder.new) }
+        ensures kept { R.kept recorder.new ≡ R.kept recorder.old }
+    {
         let content = recorder.close_capture();
         let text = content_text(self.alloc, content.events())?;
-        match made {
-            Made::Attribute(name) => put_named(name, text, site, recorder),
-            Made::Comment => {
-                let text = comment_text(self.alloc, text.as_str())?;
-                put_event(recorder, site, Event::Comment(text))
-            }
-            Made::Instruction(target) => {
-                let value = pi_text(self.alloc, text.as_str())?;
-                put_event(recorder, site, Event::Pi { target, value })
-            }
-        }
+        put_made(self.alloc, made, text, site, recorder)
     }
 
     /// The name that an instruction makes: its text, then its namespace (7.1.2, 7.1.3).
-    fn made_name<R: Recorder<Task = Task<'a>>>(
+    pub(crate) fn made_name<R: Recorder<Task = Task<'a>>>(
         &self,
         name: &MadeName,
         is_attribute: bool,
         site: Site,
         scope: Scope,
         recorder: &mut R,
-    ) -> Result<Label, Halt> {
+    ) -> Result<Label, Halt>
+        requires node { scope.focus.node < length self.now.world.tree }
+        ensures told { IsStepBy (λ label. label) (name_steps self.now.world site scope.focus
+            (last scope.seen self.now.slots) is_attribute name.now (R.state recorder.old))
+            result (R.state recorder.new) }
+        ensures kept { R.kept recorder.new ≡ R.kept recorder.old }
+    {
         let text = self.template(&name.name, site, scope, recorder)?;
         let uri = self.namespace(&name.namespace, site, scope, recorder)?;
-        let uri = match &uri {
+        let made = self.named(name, is_attribute, &text, &uri);
+        made_at(site, made)
+    }
+
+    /// The name that a text is, with the namespace that is given, if one is.
+    fn named(
+        &self,
+        name: &MadeName,
+        is_attribute: bool,
+        text: &TextBuf,
+        uri: &Option<TextBuf>,
+    ) -> Result<Label, MakeEnd>
+        ensures { IsMade (result_name name.now.scope is_attribute uri.now text.now) result }
+    {
+        let uri = match uri {
             None => None,
             Some(uri) => Some(uri.as_str()),
         };
-        let made = result_name(
-            self.alloc,
-            text.as_str(),
-            uri,
-            name.scope.scope(),
-            is_attribute,
-        );
-        made_at(site, made)
+        let scope = name.scope.scope();
+        result_name(self.alloc, text.as_str(), uri, scope, is_attribute)
+    }
+
+    /// The target of a processing instruction (7.3).
+    fn made_target<R: Recorder<Task = Task<'a>>>(
+        &self,
+        name: &ValueTemplate,
+        site: Site,
+        scope: Scope,
+        recorder: &mut R,
+    ) -> Result<TextBuf, Halt>
+        requires node { scope.focus.node < length self.now.world.tree }
+        ensures told { IsStepBy (λ target. target) (target_steps self.now.world site scope.focus
+            (last scope.seen self.now.slots) name.now (R.state recorder.old))
+            result (R.state recorder.new) }
+        ensures kept { R.kept recorder.new ≡ R.kept recorder.old }
+    {
+        let text = self.template(name, site, scope, recorder)?;
+        made_at(site, pi_target(self.alloc, text.as_str()))
     }
 
     /// The namespace that is given for a name, if one is.
@@ -232,7 +273,13 @@ impl<'a, K: KeyFinder> Evaluator<'a, K> {
         site: Site,
         scope: Scope,
         recorder: &mut R,
-    ) -> Result<Option<TextBuf>, Halt> {
+    ) -> Result<Option<TextBuf>, Halt>
+        requires node { scope.focus.node < length self.now.world.tree }
+        ensures told { IsStepBy (λ uri. uri) (namespace_steps self.now.world site scope.focus
+            (last scope.seen self.now.slots) namespace.now (R.state recorder.old))
+            result (R.state recorder.new) }
+        ensures kept { R.kept recorder.new ≡ R.kept recorder.old }
+    {
         match namespace {
             None => Ok(None),
             Some(namespace) => Ok(Some(self.template(namespace, site, scope, recorder)?)),
@@ -241,7 +288,9 @@ impl<'a, K: KeyFinder> Evaluator<'a, K> {
 }
 
 /// What was made, or the fault at an instruction.
-fn made_at<T>(site: Site, made: Result<T, MakeEnd>) -> Result<T, Halt> {
+fn made_at<T>(site: Site, made: Result<T, MakeEnd>) -> Result<T, Halt>
+    ensures { result ≡ halted site made }
+{
     match made {
         Ok(made) => Ok(made),
         Err(MakeEnd::Fault(fault)) => Err(Halt::Fault(fault, site)),

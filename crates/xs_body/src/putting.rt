@@ -1,9 +1,9 @@
 //! What is put.
 
 ghost use Rattle.std.specs.Prelude.{◌≡◌, ◌<◌, length, IfOk};
-ghost use Rattle.xs_body.specs.steps.Frames.{chars_steps, value_steps};
-ghost use Rattle.xs_semantics.specs.Trace.{puts_all};
-ghost use Rattle.xs_trace.specs.Play.{IsStep, play};
+ghost use Rattle.xs_body.specs.steps.Frames.{value_steps};
+ghost use Rattle.xs_body.specs.steps.Making.{chars_steps, events_steps};
+ghost use Rattle.xs_trace.specs.Play.{IsStep};
 ghost use Rattle.xs_value.specs.Conversion.{fragment_text};
 
 use crate::evaluator::Evaluator;
@@ -59,7 +59,7 @@ pub(crate) fn put_events<R: Recorder>(
     events: &[Event],
     recorder: &mut R,
 ) -> Result<(), Halt>
-    ensures told { IsStep (play (puts_all site events.now) (R.state recorder.old))
+    ensures told { IsStep (events_steps site events.now (R.state recorder.old))
         result (R.state recorder.new) }
     ensures kept { R.kept recorder.new ≡ R.kept recorder.old }
 {

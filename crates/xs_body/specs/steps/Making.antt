@@ -13,12 +13,16 @@ use Rattle.xs_trace.specs.declared.event.Event.{Event}
 use Rattle.xs_trace.specs.declared.event.Event.TheVariants.{Start, Space, Attr, Chars, End, Comment, Pi}
 use Rattle.xs_trace.specs.declared.fault.Fault.{Fault as RunFault}
 use Rattle.xs_trace.specs.declared.item.Site.{Site}
+use Rattle.xs_trace.specs.declared.recorder.Halt.{Halt}
+use Rattle.xs_trace.specs.declared.recorder.Halt.TheVariants as halt
 use Rattle.xs_tree.specs.Record.{Record}
 use Rattle.xs_value.specs.declared.value.Value.{Value}
 use Rattle.xs_value.specs.declared.value.Value.TheVariants as value
 use Rattle.xs_value.specs.Conversion.{text_value}
 use Rattle.xs_making.specs.Copies.{deep_copy}
 use Rattle.xs_making.specs.Names.{pi_target, result_name}
+use Rattle.xs_making.specs.declared.ends.MakeEnd.{MakeEnd}
+use Rattle.xs_making.specs.declared.ends.MakeEnd.TheVariants as end
 use Rattle.xs_semantics.specs.declared.focus.Focus.{Focus}
 use Rattle.xs_semantics.specs.declared.made.Made.{Made}
 use Rattle.xs_semantics.specs.World.{World, template_run}
@@ -65,6 +69,15 @@ copy_steps rs p (value.Number n) s = chars_steps p (text_value rs (value.Number 
 abbrev pub outcome_steps : {H A : Type 0} → Site → Result A RunFault → State H → Step H A
 outcome_steps p (Ok x) s = Goes x s
 outcome_steps p (Err f) s = stops (Fault f p) s
+
+-- what the code answers for it
+abbrev pub halt_of : Site → MakeEnd → Halt
+halt_of p (end.Fault f) = halt.Fault f p
+halt_of p end.NoMemory = halt.NoMemory
+
+abbrev pub halted : {A : Type 0} → Site → Result A MakeEnd → Result A Halt
+halted p (Ok x) = Ok x
+halted p (Err e) = Err (halt_of p e)
 
 abbrev pub namespace_steps : {H : Type 0} → World → Site → Focus → List Value → Option ValueTemplate → State H → Step H (Option (List ℕ))
 namespace_steps w p f vs None s = Goes None s
