@@ -1,6 +1,7 @@
 //! The attribute sets of a stylesheet (XSLT 1.0, 7.1.4): their declarations by name, in the order
-//! in which they count, without those that reach no attribute.
+//! in which they count, without the sets that reach no attribute.
 #![tactic(auto)]
 
+mod groups;
 pub mod index;
 mod reach;
