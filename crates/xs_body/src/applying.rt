@@ -275,9 +275,8 @@ impl<'a, K: KeyFinder> Evaluator<'a, K> {
     {
         let mut left = left;
         let body = left.body;
-        let scope = left
-            .scope
-            .over(left.scope.focus.at_node(node, left.position));
+        let focus = left.scope.focus.at_node(node, left.position);
+        let scope = left.scope.over(focus);
         recorder.tick(left.site)?;
         left.next += 1;
         left.position = left.position.checked_add(1).ok_or(AllocError)?;
