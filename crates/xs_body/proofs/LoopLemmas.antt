@@ -1,5 +1,5 @@
 -- A turn of the loop: what the evaluation tells from here on stays what the whole tells.
-use Rattle.std.proofs.Common.{◌≡◌, ℕ, length, List, [], ◌∷◌, Result, Err, sym, ap, ◌∙◌}
+use Rattle.std.proofs.Common.{◌≡◌, ℕ, length, List, [], ◌∷◌, Result, Err, refl, sym, ap, ◌∙◌}
 use Rattle.xs_trace.specs.Mark.{Trace}
 use Rattle.xs_trace.specs.State.{State}
 use Rattle.xs_trace.specs.Play.{Goes, Told, and_then, goes, IsStep, IsStepBy, play}
@@ -49,3 +49,11 @@ job-starts (rules_job mode ps) w ns first p f s = alone w (each p (calls_at w f 
 
 pub task-starts : (w : World) (t : Task) (u : Evaluation) (s : State Task) → u ≡ begun_with w t → play (task_trace w t) s ≡ stack_told u s
 task-starts w t u s e = job-starts t.job w t.nodes t.first t.site t.focus s ∙ ap (λ (v : Evaluation). stack_told v s) (sym e)
+
+-- over the world in which it begins
+job-world : (job : Job) (w : World) (t : Task) → (begun_job job w t).world ≡ w
+job-world (body_job body vs) w t = refl
+job-world (rules_job mode ps) w t = refl
+
+pub begun-world : (w : World) (t : Task) (u : Evaluation) → u ≡ begun_with w t → u.world ≡ w
+begun-world w t u e = ap (λ (v : Evaluation). v.world) e ∙ job-world t.job w t

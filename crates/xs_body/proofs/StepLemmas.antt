@@ -58,7 +58,7 @@ use Rattle.xs_body.specs.steps.Frames.{all_bodies, chosen_of, chosen, filled, en
 use Rattle.xs_body.specs.steps.Frames.{passing_left, work_steps, stack_steps, stack_told, pushed, slots_are, filled_up, stays, chars_steps}
 use Rattle.xs_body.specs.steps.Frames.{run_by, run_begun, applied_begun, template_begun, built_in_begun, rule_begun, entry_begun, entering}
 use Rattle.xs_body.specs.steps.Frames.{sets_works, inside_begun, copied_begun, element_put, made_begun}
-use Rattle.xs_body.specs.steps.Frames.{call_begun, imports_begun, content_begun, pass_begun, param_begun, fallbacks_begun}
+use Rattle.xs_body.specs.steps.Frames.{call_begun, imports_begun, content_begun, passes_on, pass_begun, params_first, param_begun, fallbacks_begun}
 use Rattle.xs_body.specs.steps.Frames.{begun, advanced}
 use Rattle.xs_body.specs.steps.Making.{attributes_steps, copy_steps, events_steps, literal_steps, made_at, made_ended}
 use Rattle.xs_body.proofs.MakingLemmas.{attributes-told, copy-told, events-told, literal-told, name-told, target-told}
@@ -216,6 +216,13 @@ applies mode ps p f ns t s =
     runs (rules_job mode ps) p (calls_at t.world f (fitting mode ps) p) (in_list (length ns) f) ns (apply_left mode ps p (in_list (length ns) f) 1 ns) t s
     (λ m. refl)
 
+-- the parameters of a template that are left, or else its body
+params-same : (bs : List Binding) (ps : Params) (body : Body) (c : Scope) (w : World) (vs : List Value) (s : State Task) →
+    work_steps w (params_left bs ps body c) vs s ≡ work_steps w (params_first bs ps body c) vs s
+params-same [] ps body c w vs s =
+    ap (λ x. filled x (without c.own vs) s) (body-instrs body w (calls_at w c.focus) c.focus (last c.seen vs))
+params-same (b ∷ bs) ps body c w vs s = refl
+
 -- templates
 template-begins : (o : Option Template) (ps : Params) (f : Focus) (t : Evaluation) (s : State Task) →
     Then (template_trace o ps t.world (calls_at t.world f) f) t s ≡ Go (template_begun o ps f t) s
@@ -225,6 +232,7 @@ template-begins (Some template) ps f t s =
     ap (λ vs. Then (x vs) t s) (sym (last-none t.slots))
     ∙ ap (λ vs. Then (x (last 0 t.slots)) (slots_are vs t) s) (sym (without-none t.slots))
     ∙ behind (x (last 0 t.slots)) (without 0 t.slots) t s
+    ∙ ap (λ g. and_then g (λ us m. stack_steps t.world t.works us m)) (params-same template.params ps template.body (outer f) t.world t.slots s)
 
 built-in-begins : (mode : ℕ) (p : Site) (f : Focus) (r : Record) (t : Evaluation) (s : State Task) →
     Then (built_in t.world (calls_at t.world f) mode p f r) t s ≡ and_then (built_in_begun mode p f r t s) Go
@@ -380,28 +388,35 @@ param-begins : (o : Option Value) (content : Content) (p : Site) (c : Scope) (ne
 param-begins None content p c next v t s e = content-begins content p c next v t s e
 param-begins (Some x) content p c next v t s e = e x s
 
+-- the parameters of a call that are left, or else what is called
+passes-on : (left all : List Binding) (us : List Value) (callee : Called) (p : Site) (c : Scope) (t : Evaluation) (s : State Task) →
+    Then (passing_left left all callee t.world p c.focus (last c.seen t.slots) us) t s ≡ and_then (passes_on left all us callee p c t s) Go
+passes-on [] all us callee p c t s = call-begins callee (record { bindings = all; values = us }) p c.focus t s
+passes-on (b ∷ left) all us callee p c t s = behind (passing_left (b ∷ left) all callee t.world p c.focus (last c.seen t.slots) us) t.slots t s
+
 -- a value that is passed
 pass-begins : (content : Content) (left all : List Binding) (us : List Value) (callee : Called) (p : Site) (c : Scope) (t : Evaluation) (s : State Task) →
     Then (content_trace content p t.world (calls_at t.world c.focus) c.focus (last c.seen t.slots)
     (λ x. passing_left left all callee t.world p c.focus (last c.seen t.slots) (us ++ x ∷ []))) t s
     ≡ and_then (pass_begun content left all us callee p c t s) Go
-pass-begins Empty left all us callee p c t s = behind (passing_left left all callee t.world p c.focus (last c.seen t.slots) (us ++ String [] ∷ [])) t.slots t s
+pass-begins Empty left all us callee p c t s = passes-on left all (us ++ String [] ∷ []) callee p c t s
 pass-begins (Select e) left all us callee p c t s =
     let next : Value → Trace Task = λ x. passing_left left all callee t.world p c.focus (last c.seen t.slots) (us ++ x ∷ []) in
-    brings p (value_run t.world e c.focus (last c.seen t.slots)) next t (λ x m. Goes (pushed (pass left all (us ++ x ∷ []) callee p c ∷ []) t) m) s
-    (λ x m. behind (next x) t.slots t m)
+    brings p (value_run t.world e c.focus (last c.seen t.slots)) next t (λ x m. passes_on left all (us ++ x ∷ []) callee p c t m) s
+    (λ x m. passes-on left all (us ++ x ∷ []) callee p c t m)
 pass-begins (Fragment body) left all us callee p c t s =
     let next : Value → Trace Task = λ x. passing_left left all callee t.world p c.focus (last c.seen t.slots) (us ++ x ∷ []) in
     captures body c (λ es. next (Piece (fragment_of es))) t (pushed (take_value left all us callee p c ∷ []) t) s
     (λ m. behind (next (fragment_at m)) t.slots t (popped m))
 
 passing-begins : (passed : Passed) (callee : Called) (p : Site) (c : Scope) (t : Evaluation) (s : State Task) →
-    Then (passing passed p t.world (calls_at t.world c.focus) c.focus (last c.seen t.slots) (λ ps. called_with t.world (calls_at t.world c.focus) callee ps p c.focus)) t s
-    ≡ Go (pushed (pass (bindings_of passed) (bindings_of passed) [] callee p c ∷ []) t) s
+    Then (passing passed p t.world (calls_at t.world c.focus) c.focus (last c.seen t.slots)
+    (λ ps. called_with t.world (calls_at t.world c.focus) callee ps p c.focus)) t s
+    ≡ and_then (passes_on (bindings_of passed) (bindings_of passed) [] callee p c t s) Go
 passing-begins passed callee p c t s =
     ap (λ x. Then x t s) (passing-bindings passed p t.world (calls_at t.world c.focus) c.focus (last c.seen t.slots)
     (λ ps. called_with t.world (calls_at t.world c.focus) callee ps p c.focus))
-    ∙ behind (passing_left (bindings_of passed) (bindings_of passed) callee t.world p c.focus (last c.seen t.slots) []) t.slots t s
+    ∙ passes-on (bindings_of passed) (bindings_of passed) [] callee p c t s
 
 if-begins : (b : Bool) (body : Body) (c : Scope) (t : Evaluation) (s : State Task) →
     Then (cond b (body_trace body t.world (calls_at t.world c.focus) c.focus (last c.seen t.slots)) []) t s ≡ Go
@@ -439,7 +454,7 @@ begins-so (ApplyTemplates nodes passed) p is c t s =
     (λ ps. called_with t.world (calls_at t.world c.focus) (by_rules nodes.mode ns) ps p c.focus) in
     joined (evaluated p (nodes_or_children t.world nodes.select c.focus vs) h) is c t s
     ∙ brings p (nodes_or_children t.world nodes.select c.focus vs) h u
-    (λ ns m. Goes (pushed (pass (bindings_of passed) (bindings_of passed) [] (by_rules nodes.mode ns) p c ∷ []) u) m) s (λ ns m.
+    (λ ns m. passes_on (bindings_of passed) (bindings_of passed) [] (by_rules nodes.mode ns) p c u m) s (λ ns m.
     passing-begins passed (by_rules nodes.mode ns) p c u m)
 begins-so (CallTemplate i passed) p is c t s =
     joined (passing passed p t.world (calls_at t.world c.focus) c.focus (last c.seen t.slots) (λ ps. called_with t.world (calls_at t.world c.focus) (by_number i) ps p c.focus)) is
@@ -634,16 +649,19 @@ advances (pass [] all us callee p c) t index s =
     (record { bindings = all; values = us }) p c.focus t s
 advances (pass (b ∷ left) all us callee p c) t index s =
     sym (behind (passing_left (b ∷ left) all callee t.world p c.focus (last c.seen t.slots) us) t.slots t s) ∙ pass-begins b.content left all us callee p c t s
-advances (take_value left all us callee p c) t index s = refl
+advances (take_value left all us callee p c) t index s =
+    let vs : List Value = us ++ fragment_at s ∷ [] in
+    sym (behind (passing_left left all callee t.world p c.focus (last c.seen t.slots) vs) t.slots t (popped s)) ∙ passes-on left all vs callee p c t (popped s)
 advances (params_left [] ps body c) t index s =
     ap (λ x. and_then (filled x (without c.own t.slots) s) (λ us m. stack_steps t.world t.works us m))
     (body-instrs body t.world (calls_at t.world c.focus) c.focus (last c.seen t.slots))
 advances (params_left (b ∷ bs) ps body c) t index s =
     let v : Evaluation = slots_are (without c.own t.slots) t in
-    let u : Evaluation = pushed (params_left bs ps body (bound c) ∷ []) t in
+    let u : Evaluation = pushed (params_first bs ps body (bound c) ∷ []) t in
     let x : List Value → Trace Task = λ vs. params_trace bs ps t.world (calls_at t.world c.focus) c.focus vs (body_trace body t.world (calls_at t.world c.focus) c.focus) in
     let next : Value → Trace Task = λ y. x (last c.seen t.slots ++ y ∷ []) in
     let first : Trace Task = param_trace (value_passed b.name ps) b.content b.site t.world (calls_at t.world c.focus) c.focus (last c.seen t.slots) next in
     sym (behind (Tick b.site ∷ first) (without c.own t.slots) t s)
     ∙ ticks b.site first v u (λ m. param_begun (value_passed b.name ps) b.content b.site c u m) s (λ m.
-    param-begins (value_passed b.name ps) b.content b.site c next v u m (λ y n. binds x c t y n))
+    param-begins (value_passed b.name ps) b.content b.site c next v u m (λ y n.
+    binds x c t y n ∙ ap (λ g. and_then g (λ us q. stack_steps t.world t.works us q)) (params-same bs ps body (bound c) t.world (t.slots ++ y ∷ []) n)))

@@ -11,7 +11,7 @@ use Rattle.xs_sheet.specs.declared.declarations.Template.{Template}
 use Rattle.xs_trace.specs.Cut.{Fault}
 use Rattle.xs_trace.specs.Mark.{Hole}
 use Rattle.xs_trace.specs.Run.{limited}
-use Rattle.xs_trace.specs.State.{State}
+use Rattle.xs_trace.specs.State.{State, popped}
 use Rattle.xs_trace.specs.Play.{Step, Goes, Ends, Told, and_then, ticked, put, stops, play}
 use Rattle.xs_trace.specs.declared.event.Event.TheVariants.{End}
 use Rattle.xs_trace.specs.declared.fault.Fault.TheVariants as fault
@@ -19,6 +19,7 @@ use Rattle.xs_trace.specs.declared.item.Site.{Site}
 use Rattle.xs_tree.specs.Kinds.{has_content, is_attribute_kind, is_text_kind}
 use Rattle.xs_tree.specs.Record.{Record, at, children}
 use Rattle.xs_value.specs.declared.value.Value.{Value}
+use Rattle.xs_value.specs.declared.value.Value.TheVariants.{Chars as String}
 use Rattle.xs_semantics.specs.declared.focus.Focus.{Focus}
 use Rattle.xs_semantics.specs.World.{World, in_list, with_depth, by_rule, value_run, nodes_run, test_run, nodes_or_children}
 use Rattle.xs_semantics.specs.Tasks.{Params, no_params, value_passed, Job, body_job, rules_job, Task, tasks_for, grain_over}
@@ -28,7 +29,7 @@ use Rattle.xs_body.specs.declared.frames.Scope.{Scope}
 use Rattle.xs_body.specs.steps.Frames.{Work, rest, fill, each_left, apply_left, bodies_left, end_element, say, pass, take_value, params_left, Evaluation, last}
 use Rattle.xs_body.specs.steps.Frames.{inner, over, after, bound, bindings_of, bodies_of, chosen, instrs_of, literal_steps, message_ended, pushed, filled_up, stays}
 use Rattle.xs_body.specs.steps.Frames.{chars_steps, run_by, run_begun, applied_begun, template_begun, built_in_begun, rule_begun, entry_begun, entering, call_begun}
-use Rattle.xs_body.specs.steps.Frames.{imports_begun, content_begun, pass_begun, param_begun, fallbacks_begun, next_body, looping, loop_begun, value_steps, begun}
+use Rattle.xs_body.specs.steps.Frames.{imports_begun, content_begun, passes_on, pass_begun, params_first, fragment_at, param_begun, fallbacks_begun, next_body, looping, loop_begun, value_steps, begun}
 use Rattle.xs_body.specs.steps.Frames.{advanced}
 
 abbrev Keeps : World → Step Task Evaluation → Type 0
@@ -103,11 +104,16 @@ content-keeps (Select e) p c t s =
     brings-keeps t (limited p (value_run t.world e c.focus (last c.seen t.slots)) s) (λ v. filled_up (v ∷ []) t) (λ v. refl)
 content-keeps (Fragment body) p c t s = refl
 
+passes-keep : (left all : List Binding) (us : List Value) (callee : Called) (p : Site) (c : Scope) (t : Evaluation) (s : State Task) →
+    Keeps t.world (passes_on left all us callee p c t s)
+passes-keep [] all us callee p c t s = call-keeps callee (record { bindings = all; values = us }) p c.focus t s
+passes-keep (b ∷ left) all us callee p c t s = refl
+
 pass-keeps : (content : Content) (left all : List Binding) (us : List Value) (callee : Called) (p : Site) (c : Scope) (t : Evaluation) (s : State Task) →
     Keeps t.world (pass_begun content left all us callee p c t s)
-pass-keeps Empty left all us callee p c t s = refl
-pass-keeps (Select e) left all us callee p c t s = brings-keeps t (limited p (value_run t.world e c.focus (last c.seen t.slots)) s)
-    (λ v. pushed (pass left all (us ++ v ∷ []) callee p c ∷ []) t) (λ v. refl)
+pass-keeps Empty left all us callee p c t s = passes-keep left all (us ++ String [] ∷ []) callee p c t s
+pass-keeps (Select e) left all us callee p c t s = then-keeps t.world (limited p (value_run t.world e c.focus (last c.seen t.slots)) s)
+    (λ v m. passes_on left all (us ++ v ∷ []) callee p c t m) (λ v m. passes-keep left all (us ++ v ∷ []) callee p c t m)
 pass-keeps (Fragment body) left all us callee p c t s = refl
 
 param-keeps : (o : Option Value) (content : Content) (p : Site) (c : Scope) (t : Evaluation) (s : State Task) → Keeps t.world (param_begun o content p c t s)
@@ -127,9 +133,11 @@ loop-keeps body p c ns t s = run_by-keeps (grain_over t.world (looping c.focus n
     (each_left body p (over (looping c.focus ns) c) 1 ns) t s
 
 begun-keeps : (kind : InstrKind) (p : Site) (c : Scope) (t : Evaluation) (s : State Task) → Keeps t.world (begun kind p c t s)
-begun-keeps (ApplyTemplates nodes passed) p c t s = brings-keeps t (limited p (nodes_or_children t.world nodes.select c.focus (last c.seen t.slots)) s)
-    (λ ns. pushed (pass (bindings_of passed) (bindings_of passed) [] (by_rules nodes.mode ns) p c ∷ []) t) (λ ns. refl)
-begun-keeps (CallTemplate i passed) p c t s = refl
+begun-keeps (ApplyTemplates nodes passed) p c t s =
+    then-keeps t.world (limited p (nodes_or_children t.world nodes.select c.focus (last c.seen t.slots)) s)
+    (λ ns m. passes_on (bindings_of passed) (bindings_of passed) [] (by_rules nodes.mode ns) p c t m)
+    (λ ns m. passes-keep (bindings_of passed) (bindings_of passed) [] (by_rules nodes.mode ns) p c t m)
+begun-keeps (CallTemplate i passed) p c t s = passes-keep (bindings_of passed) (bindings_of passed) [] (by_number i) p c t s
 begun-keeps ApplyImports p c t s = imports-keeps p c.focus c.focus.rule t s
 begun-keeps (ForEach select sorts body) p c t s = then-keeps t.world (limited p (nodes_run t.world select c.focus (last c.seen t.slots)) s)
     (λ ns m. loop_begun body p c ns t m) (λ ns m. loop-keeps body p c ns t m)
@@ -167,10 +175,10 @@ advanced-keeps end_element t s = stays-keeps (put End s) t
 advanced-keeps (say p terminate) t s = stays-keeps (message_ended p terminate s) t
 advanced-keeps (pass [] all us callee p c) t s = call-keeps callee (record { bindings = all; values = us }) p c.focus t s
 advanced-keeps (pass (b ∷ left) all us callee p c) t s = pass-keeps b.content left all us callee p c t s
-advanced-keeps (take_value left all us callee p c) t s = refl
+advanced-keeps (take_value left all us callee p c) t s = passes-keep left all (us ++ fragment_at s ∷ []) callee p c t (popped s)
 advanced-keeps (params_left [] ps body c) t s = refl
 advanced-keeps (params_left (b ∷ bs) ps body c) t s = then-keeps t.world (ticked b.site s) _
-    (λ q m. param-keeps (value_passed b.name ps) b.content b.site c (pushed (params_left bs ps body (bound c) ∷ []) t) m)
+    (λ q m. param-keeps (value_passed b.name ps) b.content b.site c (pushed (params_first bs ps body (bound c) ∷ []) t) m)
 
 pub same-world : (b : Work) (t u : Evaluation) (s m : State Task) → advanced b t s ≡ Goes u m → u.world ≡ t.world
 same-world b t u s m e = subst (Keeps t.world) e (advanced-keeps b t s)

@@ -1,5 +1,6 @@
 pub mod Lists
 pub mod Jobs
+pub mod Passed
 pub mod Sharing
 pub mod Making
 pub mod Frames

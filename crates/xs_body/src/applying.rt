@@ -36,6 +36,7 @@ impl<'a, K: KeyFinder> Evaluator<'a, K> {
         scope: Scope,
         recorder: &mut R,
     ) -> Result<(), Halt>
+        requires holes { IsSome self.old.world.grain → R.takes_holes ≡ true }
         requires node { scope.focus.node < length self.old.world.tree }
         ensures told { IsStepBy (λ u. self.new)
             (apply_begun applied.now (bindings_of passed.now) site scope self.old
@@ -44,8 +45,7 @@ impl<'a, K: KeyFinder> Evaluator<'a, K> {
     {
         let nodes = self.nodes_or_children(&applied.select, site, scope, recorder)?;
         let callee = Callee::Rules(applied.mode, nodes);
-        self.begin_call(passed, callee, site, scope)?;
-        Ok(())
+        self.begin_call(passed, callee, site, scope, recorder)
     }
 
     /// The nodes that an expression gives, or all children, with a tick for each.
@@ -178,7 +178,7 @@ impl<'a, K: KeyFinder> Evaluator<'a, K> {
         let site = left.site;
         let focus = left.focus.at_node(node, left.position);
         recorder.tick(site)?;
-        let rules = left.rules.copy()?;
+        let rules = left.rules.copy(self.alloc)?;
         left.next += 1;
         left.position = left.position.checked_add(1).ok_or(AllocError)?;
         self.push(Frame::Apply(left))?;
@@ -275,9 +275,8 @@ impl<'a, K: KeyFinder> Evaluator<'a, K> {
     {
         let mut left = left;
         let body = left.body;
-        let scope = left
-            .scope
-            .over(left.scope.focus.at_node(node, left.position));
+        let focus = left.scope.focus.at_node(node, left.position);
+        let scope = left.scope.over(focus);
         recorder.tick(left.site)?;
         left.next += 1;
         left.position = left.position.checked_add(1).ok_or(AllocError)?;

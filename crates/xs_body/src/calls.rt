@@ -1,11 +1,10 @@
 //! Parameters that are passed, and what is called with them (XSLT 1.0, 6 and 11.6).
 
-ghost use Rattle.std.specs.Prelude.{◌≡◌, ◌<◌, ◌∷◌, ◌++◌, [], length, true, IsSome, OnOk};
-ghost use Rattle.std.specs.List.{All};
+ghost use Rattle.std.specs.Prelude.{◌≡◌, ◌<◌, ◌∷◌, ◌++◌, [], length, true, IsSome};
 ghost use Rattle.xs_body.specs.Inside.{AreCallees, AreValues, IsPassing};
 ghost use Rattle.xs_body.specs.steps.Frames.{advanced, bindings_of, call_begun, called_of};
-ghost use Rattle.xs_body.specs.steps.Frames.{captured_scope, instrs_of};
-ghost use Rattle.xs_body.specs.steps.Frames.{pass, pass_work, passing_begun, pushed, rest};
+ghost use Rattle.xs_body.specs.steps.Frames.{captured_scope, instrs_of, passes_on, passing_on};
+ghost use Rattle.xs_body.specs.steps.Frames.{pass_work, passing_begun, pushed, rest};
 ghost use Rattle.xs_body.specs.steps.Frames.{take_work};
 ghost use Rattle.xs_semantics.specs.Trace.{by_number};
 ghost use Rattle.xs_sheet.specs.declared.body.Content.TheVariants.{Select};
@@ -18,7 +17,6 @@ use crate::evaluator::Evaluator;
 use crate::frames::{Callee, Frame, Passing, Rules, Scope};
 use crate::passed::Passed;
 use crate::task::Task;
-use std::alloc::{AllocError, Global};
 use xs_semantics::focus::Focus;
 use xs_sheet::body::{Body, Content, Passed as PassedParams};
 use xs_sheet::scoped::ScopedExpr;
@@ -30,28 +28,53 @@ use xs_value::value::Value;
 
 impl<'a, K: KeyFinder> Evaluator<'a, K> {
     /// A call begins with its parameters.
-    pub(crate) fn begin_call(
+    pub(crate) fn begin_call<R: Recorder<Task = Task<'a>>>(
         &mut self,
         passed: &'a PassedParams,
         callee: Callee,
         site: Site,
         scope: Scope,
-    ) -> Result<(), AllocError>
+        recorder: &mut R,
+    ) -> Result<(), Halt>
+        requires holes { IsSome self.old.world.grain → R.takes_holes ≡ true }
         requires node { scope.focus.node < length self.old.world.tree }
         requires callee { AreCallees self.old.world.tree callee }
-        ensures begun { OnOk result (self.new
-            ≡ pushed (pass (bindings_of passed.now) (bindings_of passed.now) []
-            (called_of callee) site scope ∷ []) self.old) }
+        ensures told { IsStepBy (λ u. self.new)
+            (passes_on (bindings_of passed.now) (bindings_of passed.now) []
+            (called_of callee.entry) site scope self.old
+            (R.state recorder.old)) result (R.state recorder.new) }
+        ensures kept { R.kept recorder.new ≡ R.kept recorder.old }
     {
-        let values = Vec::new(self.alloc);
-        self.push(Frame::Pass(Passing {
-            left: passed.params.as_slice(),
-            all: passed.params.as_slice(),
-            values,
+        let params = passed.params.as_slice();
+        let passing = Passing {
+            left: params,
+            all: params,
+            values: Vec::new(self.alloc),
             callee,
             site,
             scope,
-        }))
+        };
+        self.pass_on(passing, recorder)
+    }
+
+    /// What is called, once no parameter is left.
+    fn pass_on<R: Recorder<Task = Task<'a>>>(
+        &mut self,
+        passing: Passing<'a>,
+        recorder: &mut R,
+    ) -> Result<(), Halt>
+        requires holes { IsSome self.old.world.grain → R.takes_holes ≡ true }
+        requires passing { IsPassing self.old.world.tree passing }
+        ensures told { IsStepBy (λ u. self.new)
+            (passing_on passing.entry.values.items passing.entry self.old
+            (R.state recorder.old)) result (R.state recorder.new) }
+        ensures kept { R.kept recorder.new ≡ R.kept recorder.old }
+    {
+        if passing.left.is_empty() {
+            return self.call(passing, recorder);
+        }
+        self.push(Frame::Pass(passing))?;
+        Ok(())
     }
 
     /// The next parameter of a call, or the call.
@@ -84,6 +107,7 @@ impl<'a, K: KeyFinder> Evaluator<'a, K> {
         passing: Passing<'a>,
         recorder: &mut R,
     ) -> Result<(), Halt>
+        requires holes { IsSome self.old.world.grain → R.takes_holes ≡ true }
         requires passing { IsPassing self.old.world.tree passing }
         ensures told { IsStepBy (λ u. self.new)
             (passing_begun content.now passing.entry self.old
@@ -93,8 +117,7 @@ impl<'a, K: KeyFinder> Evaluator<'a, K> {
         match content {
             Content::Empty => {
                 let value = Value::Chars(TextBuf::of(self.alloc, "")?);
-                self.push_value(value, passing)?;
-                Ok(())
+                self.push_value(value, passing, recorder)
             }
             Content::Select(expr) => self.pass_selected(expr, passing, recorder),
             Content::Body(body) => self.pass_content(body, passing, recorder),
@@ -108,6 +131,7 @@ impl<'a, K: KeyFinder> Evaluator<'a, K> {
         passing: Passing<'a>,
         recorder: &mut R,
     ) -> Result<(), Halt>
+        requires holes { IsSome self.old.world.grain → R.takes_holes ≡ true }
         requires passing { IsPassing self.old.world.tree passing }
         ensures told { IsStepBy (λ u. self.new)
             (passing_begun (Select expr.now) passing.entry self.old
@@ -115,8 +139,7 @@ impl<'a, K: KeyFinder> Evaluator<'a, K> {
         ensures kept { R.kept recorder.new ≡ R.kept recorder.old }
     {
         let value = self.value(expr, passing.site, passing.scope, recorder)?;
-        self.push_value(value, passing)?;
-        Ok(())
+        self.push_value(value, passing, recorder)
     }
 
     /// The content of a parameter begins.
@@ -142,17 +165,23 @@ impl<'a, K: KeyFinder> Evaluator<'a, K> {
 
     /// A call has the value of one parameter more.
     #[inline(always)]
-    fn push_value(&mut self, value: Value, passing: Passing<'a>) -> Result<(), AllocError>
+    fn push_value<R: Recorder<Task = Task<'a>>>(
+        &mut self,
+        value: Value,
+        passing: Passing<'a>,
+        recorder: &mut R,
+    ) -> Result<(), Halt>
+        requires holes { IsSome self.old.world.grain → R.takes_holes ≡ true }
         requires value { IsIn self.old.world.tree value }
         requires passing { IsPassing self.old.world.tree passing }
-        ensures pushed { OnOk result (self.new
-            ≡ pushed (pass passing.entry.left.now passing.entry.all.now
-            (passing.entry.values.items ++ value ∷ []) (called_of passing.entry.callee)
-            passing.entry.site passing.entry.scope ∷ []) self.old) }
+        ensures told { IsStepBy (λ u. self.new)
+            (passing_on (passing.entry.values.items ++ value ∷ []) passing.entry self.old
+            (R.state recorder.old)) result (R.state recorder.new) }
+        ensures kept { R.kept recorder.new ≡ R.kept recorder.old }
     {
         let mut passing = passing;
         passing.values.push(value)?;
-        self.push(Frame::Pass(passing))
+        self.pass_on(passing, recorder)
     }
 
     /// The content of a parameter that is passed has ended.
@@ -161,6 +190,7 @@ impl<'a, K: KeyFinder> Evaluator<'a, K> {
         passing: Passing<'a>,
         recorder: &mut R,
     ) -> Result<(), Halt>
+        requires holes { IsSome self.old.world.grain → R.takes_holes ≡ true }
         requires passing { IsPassing self.old.world.tree passing }
         ensures told { IsStepBy (λ u. self.new)
             (advanced (take_work passing.entry) self.old
@@ -169,8 +199,7 @@ impl<'a, K: KeyFinder> Evaluator<'a, K> {
     {
         let fragment = recorder.close_capture();
         let value = fragment_value(self.alloc, fragment)?;
-        self.push_value(value, passing)?;
-        Ok(())
+        self.push_value(value, passing, recorder)
     }
 
     /// What is called begins, with its parameters.
@@ -196,12 +225,13 @@ impl<'a, K: KeyFinder> Evaluator<'a, K> {
             scope,
             ..
         } = passing;
-        let passed = Passed::of(self.alloc, all, values)?;
+        let passed = Passed::of(all, values);
         match callee {
             Callee::Template(template) => {
                 self.call_template(template, passed, site, scope.focus, recorder)
             }
             Callee::Rules(mode, nodes) => {
+                let passed = passed.shared(self.alloc)?;
                 let rules = Rules { mode, passed };
                 self.apply(rules, nodes, site, scope.focus, recorder)
             }

@@ -4,7 +4,7 @@ ghost use Rattle.std.specs.Prelude.{◌≡◌, IfOk};
 
 use crate::lists::NodeList;
 use crate::passed::Passed;
-use std::alloc::AllocError;
+use std::alloc::{AllocError, Global};
 use xs_semantics::focus::Focus;
 use xs_semantics::made::Made;
 use xs_sheet::body::{Binding, Body, Instr};
@@ -79,12 +79,12 @@ pub struct Rules<'a> {
 
 impl<'a> Rules<'a> {
     /// The same, in constant time.
-    pub(crate) fn copy(&self) -> Result<Rules<'a>, AllocError>
+    pub(crate) fn copy(&self, alloc: Global) -> Result<Rules<'a>, AllocError>
         ensures { IfOk result (λ copy. copy ≡ self.now) }
     {
         Ok(Rules {
             mode: self.mode,
-            passed: self.passed.copy()?,
+            passed: self.passed.copy(alloc)?,
         })
     }
 }

@@ -40,8 +40,7 @@ impl<'a, K: KeyFinder> Evaluator<'a, K> {
                 self.begin_apply(nodes, passed, site, scope, recorder)
             }
             InstrKind::CallTemplate { template, passed } => {
-                self.begin_call(passed, Callee::Template(*template), site, scope)?;
-                Ok(())
+                self.begin_call(passed, Callee::Template(*template), site, scope, recorder)
             }
             InstrKind::ApplyImports => self.begin_imports(site, scope.focus, recorder),
             InstrKind::ForEach { select, body, .. } => {

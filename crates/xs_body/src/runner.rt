@@ -287,7 +287,7 @@ fn evaluator_for<'a, K: KeyFinder>(
         }
         Job::Rules(mode, passed) => {
             let mut evaluator = Evaluator::new(alloc, world, Vec::new(alloc));
-            let passed = passed.copy()?;
+            let passed = passed.copy(alloc)?;
             evaluator.push(Frame::Apply(ApplyLeft {
                 nodes,
                 next: 0,

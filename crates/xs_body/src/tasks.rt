@@ -124,7 +124,7 @@ fn behind<'a>(alloc: Global, task: &Task<'a>, node: Node) -> Result<Task<'a>, Al
     let count = u32::try_from(task.nodes.len()).map_err(|_| AllocError)?;
     let first = task.first.checked_add(count).ok_or(AllocError)?;
     Ok(Task {
-        job: copy_job(&task.job)?,
+        job: copy_job(alloc, &task.job)?,
         site: task.site,
         focus: task.focus,
         first,
@@ -133,12 +133,12 @@ fn behind<'a>(alloc: Global, task: &Task<'a>, node: Node) -> Result<Task<'a>, Al
 }
 
 /// The same job, in constant time.
-fn copy_job<'a>(job: &Job<'a>) -> Result<Job<'a>, AllocError>
+fn copy_job<'a>(alloc: Global, job: &Job<'a>) -> Result<Job<'a>, AllocError>
     ensures { IfOk result (λ copy. job_of copy ≡ job_of job.now) }
 {
     match job {
         Job::Body(body, locals) => Ok(Job::Body(*body, Arc::try_clone(locals)?)),
-        Job::Rules(mode, passed) => Ok(Job::Rules(*mode, passed.copy()?)),
+        Job::Rules(mode, passed) => Ok(Job::Rules(*mode, passed.copy(alloc)?)),
     }
 }
 

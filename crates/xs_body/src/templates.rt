@@ -1,10 +1,10 @@
 //! Templates and built-in rules that begin (XSLT 1.0, 5 and 6).
 
-ghost use Rattle.std.specs.Prelude.{◌≡◌, ◌<◌, ◌∷◌, length, slice_get, true, IsSome, OnOk};
+ghost use Rattle.std.specs.Prelude.{◌≡◌, ◌<◌, [], ◌∷◌, length, slice_get, true, IsSome, OnOk};
 ghost use Rattle.xs_body.specs.Inside.{AreValues, IsParams};
 ghost use Rattle.xs_body.specs.steps.Frames.{advanced, applied_begun, built_in_begun};
-ghost use Rattle.xs_body.specs.steps.Frames.{chars_steps, entering, params_left, params_work};
-ghost use Rattle.xs_body.specs.steps.Frames.{rule_begun, template_begun};
+ghost use Rattle.xs_body.specs.steps.Frames.{chars_steps, entering, params_first, params_left};
+ghost use Rattle.xs_body.specs.steps.Frames.{params_work, pushed, rule_begun, template_begun};
 ghost use Rattle.xs_semantics.specs.Tasks.{no_params};
 ghost use Rattle.xs_semantics.specs.Trace.{fitting, named, overridden};
 ghost use Rattle.xs_trace.specs.Play.{IsStep, IsStepBy};
@@ -210,14 +210,27 @@ impl<'a, K: KeyFinder> Evaluator<'a, K> {
         let world = &self.world;
         let sheet = world.sheet;
         if let Some(template) = sheet.templates.as_slice().get(template as usize) {
-            self.push(Frame::Params(ParamsLeft {
+            return self.push_params(ParamsLeft {
                 left: template.params.as_slice(),
                 passed,
                 body: &template.body,
                 scope: Scope::outer(focus),
-            }))?;
+            });
         }
         Ok(())
+    }
+
+    /// Puts the parameters that are left before the others, or else the body.
+    fn push_params(&mut self, left: ParamsLeft<'a>) -> Result<(), AllocError>
+        requires left { IsParams self.old.world.tree left }
+        ensures pushed { OnOk result (self.new ≡ pushed (params_first left.entry.left.now
+            left.entry.passed left.entry.body.now left.entry.scope ∷ []) self.old) }
+    {
+        if left.left.is_empty() {
+            self.push_body(left.body, left.scope)
+        } else {
+            self.push(Frame::Params(left))
+        }
     }
 
     /// The next parameter of a template, or its body (11.4).
@@ -265,7 +278,7 @@ impl<'a, K: KeyFinder> Evaluator<'a, K> {
         recorder.tick(site)?;
         let value = left.passed.value(&binding.name)?;
         left.scope = scope.bound()?;
-        self.push(Frame::Params(left))?;
+        self.push_params(left)?;
         match value {
             None => self.bind(&binding.content, site, scope, recorder),
             Some(value) => {

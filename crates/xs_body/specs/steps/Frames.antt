@@ -237,10 +237,15 @@ abbrev pub applied_begun : (mode : ℕ) → Params → Site → Focus → List �
 applied_begun mode ps p f ns t s =
     run_begun (rules_job mode ps) p (in_list (length ns) f) ns (apply_left mode ps p (in_list (length ns) f) 1 ns) t s
 
+-- the parameters of a template that are left, or else its body
+abbrev pub params_first : List Binding → Params → Body → Scope → Work
+params_first [] ps body c = rest (instrs_of body) c
+params_first (b ∷ bs) ps body c = params_left (b ∷ bs) ps body c
+
 -- templates
 abbrev pub template_begun : Option Template → Params → Focus → Evaluation → Evaluation
 template_begun None ps f t = t
-template_begun (Some template) ps f t = pushed (params_left template.params ps template.body (outer f) ∷ []) t
+template_begun (Some template) ps f t = pushed (params_first template.params ps template.body (outer f) ∷ []) t
 
 abbrev pub built_in_begun : (mode : ℕ) → Site → Focus → Record → Evaluation → State Task → Step Task Evaluation
 built_in_begun mode p f r t s =
@@ -278,11 +283,16 @@ content_begun Empty p c t s = Goes (filled_up (String [] ∷ []) t) s
 content_begun (Select e) p c t s = and_then (limited p (value_run t.world e c.focus (last c.seen t.slots)) s) (λ v m. Goes (filled_up (v ∷ []) t) m)
 content_begun (Fragment body) p c t s = Goes (pushed (rest (instrs_of body) (captured_scope c) ∷ fill ∷ []) t) (opened s)
 
+-- the parameters of a call that are left, or else what is called
+abbrev pub passes_on : (left all : List Binding) → List Value → Called → Site → Scope → Evaluation → State Task → Step Task Evaluation
+passes_on [] all us callee p c t s = call_begun callee (record { bindings = all; values = us }) p c.focus t s
+passes_on (b ∷ left) all us callee p c t s = Goes (pushed (pass (b ∷ left) all us callee p c ∷ []) t) s
+
 -- a value that is passed
 abbrev pub pass_begun : Content → (left all : List Binding) → List Value → Called → Site → Scope → Evaluation → State Task → Step Task Evaluation
-pass_begun Empty left all us callee p c t s = Goes (pushed (pass left all (us ++ String [] ∷ []) callee p c ∷ []) t) s
+pass_begun Empty left all us callee p c t s = passes_on left all (us ++ String [] ∷ []) callee p c t s
 pass_begun (Select e) left all us callee p c t s =
-    and_then (limited p (value_run t.world e c.focus (last c.seen t.slots)) s) (λ v m. Goes (pushed (pass left all (us ++ v ∷ []) callee p c ∷ []) t) m)
+    and_then (limited p (value_run t.world e c.focus (last c.seen t.slots)) s) (λ v m. passes_on left all (us ++ v ∷ []) callee p c t m)
 pass_begun (Fragment body) left all us callee p c t s =
     Goes (pushed (rest (instrs_of body) (captured_scope c) ∷ take_value left all us callee p c ∷ []) t) (opened s)
 
@@ -304,7 +314,7 @@ next_body (b ∷ bs) c t = pushed (rest (instrs_of b) (inner c) ∷ bodies_left 
 abbrev pub apply_begun : Applied → List Binding → Site → Scope → Evaluation → State Task → Step Task Evaluation
 apply_begun nodes bs p c t s =
     and_then (limited p (nodes_or_children t.world nodes.select c.focus (last c.seen t.slots)) s)
-    (λ ns m. Goes (pushed (pass bs bs [] (by_rules nodes.mode ns) p c ∷ []) t) m)
+    (λ ns m. passes_on bs bs [] (by_rules nodes.mode ns) p c t m)
 
 -- a body for each node, where no rule is current
 abbrev pub looping : Focus → List ℕ → Focus
@@ -376,7 +386,7 @@ copy_of_steps select p c t s =
 -- how an instruction begins
 abbrev pub begun : InstrKind → Site → Scope → Evaluation → State Task → Step Task Evaluation
 begun (ApplyTemplates nodes passed) p c t s = apply_begun nodes (bindings_of passed) p c t s
-begun (CallTemplate i passed) p c t s = Goes (pushed (pass (bindings_of passed) (bindings_of passed) [] (by_number i) p c ∷ []) t) s
+begun (CallTemplate i passed) p c t s = passes_on (bindings_of passed) (bindings_of passed) [] (by_number i) p c t s
 begun ApplyImports p c t s = imports_begun p c.focus c.focus.rule t s
 begun (ForEach select sorts body) p c t s = each_begun select body p c t s
 begun (ValueOf select) p c t s = stays (value_steps select p c t s) t
@@ -415,10 +425,10 @@ advanced (make m p) t s = stays (made_ended m p s) t
 advanced (say p terminate) t s = stays (message_ended p terminate s) t
 advanced (pass [] all us callee p c) t s = call_begun callee (record { bindings = all; values = us }) p c.focus t s
 advanced (pass (b ∷ left) all us callee p c) t s = pass_begun b.content left all us callee p c t s
-advanced (take_value left all us callee p c) t s = Goes (pushed (pass left all (us ++ fragment_at s ∷ []) callee p c ∷ []) t) (popped s)
+advanced (take_value left all us callee p c) t s = passes_on left all (us ++ fragment_at s ∷ []) callee p c t (popped s)
 advanced (params_left [] ps body c) t s = Goes (pushed (rest (instrs_of body) c ∷ []) t) s
 advanced (params_left (b ∷ bs) ps body c) t s =
-    and_then (ticked b.site s) (λ u m. param_begun (value_passed b.name ps) b.content b.site c (pushed (params_left bs ps body (bound c) ∷ []) t) m)
+    and_then (ticked b.site s) (λ u m. param_begun (value_passed b.name ps) b.content b.site c (pushed (params_first bs ps body (bound c) ∷ []) t) m)
 
 -- the evaluation that a task begins with
 abbrev pub begun_job : Job → World → Task → Evaluation
@@ -439,6 +449,9 @@ pass_work p = pass p.left.now p.all.now p.values.items (called_of p.callee) p.si
 
 abbrev pub take_work : Passing → Work
 take_work p = take_value p.left.now p.all.now p.values.items (called_of p.callee) p.site p.scope
+
+abbrev pub passing_on : List Value → Passing → Evaluation → State Task → Step Task Evaluation
+passing_on us p t s = passes_on p.left.now p.all.now us (called_of p.callee) p.site p.scope t s
 
 -- a parameter with this content, before those that are left
 abbrev pub passing_begun : Content → Passing → Evaluation → State Task → Step Task Evaluation

@@ -39,7 +39,9 @@ loop-part-preserved g c =
 
 pub loop-part-init : goal.loop-part-init
 loop-part-init g c =
-    let keys = g.K.KeyFinder.tables c.args.keys.now in (
-      ap (λ r. limited c.args.site r (g.T.Tally.state c.args.tally.now)) (parts-run keys c.args.context.now c.args.parts.now),
+    let keys = g.K.KeyFinder.tables c.args.keys.now in
+    let s = g.T.Tally.state c.args.tally.now in (
+      ap (λ r. limited c.args.site r s) (parts-run keys c.args.context.now c.args.parts.now)
+          ∙ ap (λ text. limited c.args.site (fold (and_parsed keys c.args.context.now) text c.args.parts.now) s) (sym c.new-text.ensures.bytes),
       refl,
     )

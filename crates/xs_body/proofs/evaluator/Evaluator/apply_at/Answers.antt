@@ -1,3 +1,12 @@
+use Rattle.std.proofs.Common.{◌<◌, length, refl, sym, ap, subst, rules}
+use Rattle.std.specs.Option.{IsSome}
+use Rattle.std.proofs.lemmas.List.Elements.{All-same}
+use Rattle.xs_value.specs.Conversion.{IsIn}
+use Rattle.xs_semantics.specs.declared.focus.Focus.{Focus}
+use Rattle.xs_semantics.specs.World.{World}
+use Rattle.xs_body.specs.Inside.{AreValues}
+use Rattle.xs_body.specs.declared.frames.Rules.{Rules}
+use Rattle.xs_body.specs.steps.Frames.{Evaluation}
 use Rattle.std.proofs.lemmas.Result.{err_from_is_err_and}
 use Rattle.xs_trace.specs.Play.{ticked}
 use Rattle.std.proofs.Common.{◌+◌, drop, ◌∷◌, []}
@@ -18,3 +27,19 @@ returns-in_err-tick-clause-told g c =
     let e = fitting a.rules.mode a.rules.passed in
     stack-exit (λ x. x) (ticked a.site (g.R.Tally.state c.args.recorder.now)) (λ u m. entering e a.site f t m) _ _ c.from_residual.result _ _
     (λ u. entering-grows e a.site f t) p.1 p.2 c.in_err-tick.ensures.told
+
+pub enter_fitting-requires-sync-K : goal.enter_fitting-requires-sync-K
+enter_fitting-requires-sync-K g c κs within =
+    let rs = c.args.self.now.world.tree in
+    let e = c.in_ok-push.ensures.pushed in
+    let w = ap (λ (t : Evaluation). t.world) e in
+    let here = subst (λ (f : Focus). f.node < length rs) (sym c.at_node-focus.ensures) c.requires.node in
+    let values = All-same (IsIn rs) c.in_ok-rules.rules.passed.values c.args.left.rules.passed.values
+    (ap (λ (x : Rules). x.passed.values) c.in_ok-rules.ensures) c.requires.left.passed in (
+      search rules,
+      (
+        (refl, tt),
+        subst (λ (v : World). (IsSome v.grain → _) × ((c.at_node-focus.result.node < length v.tree) × AreValues v.tree c.in_ok-rules.rules.passed.values)) (sym w)
+            (c.requires.holes, (here, values)),
+      ),
+    )

@@ -4,33 +4,19 @@ use Rattle.xs_value.specs.Conversion.{IsIn}
 use Rattle.xs_body.specs.Inside.{AreCallees}
 use Rattle.xs_semantics.specs.Tasks.{Params}
 use Rattle.xs_body.specs.declared.frames.Callee.{Callee}
-use Rattle.xs_body.proofs.calls.call.Goals as goal
+use Rattle.xs_body.proofs.evaluator.Evaluator.call.Goals as goal
 
 pub call_template-requires-sync-K : goal.call_template-requires-sync-K
 call_template-requires-sync-K g c κs within =
-    let e : c.in_ok-passed.passed.values ≡ c.args.values.items = ap (λ (ps : Params). ps.values) c.in_ok-passed.ensures in (
-      search rules,
-      (
-        (refl, tt),
-        (
-          c.requires.node,
-          (All-same (IsIn c.args.world.now.tree) c.in_ok-passed.passed.values c.args.values.items e c.requires.values, c.requires.inside),
-        ),
-      ),
-    )
+    let rs = c.args.self.now.world.tree in
+    let e : c.in_ok-passed.passed.values ≡ c.args.passing.values.items = ap (λ (ps : Params). ps.values) c.in_ok-passed.ensures in
+    let values = All-same (IsIn rs) c.in_ok-passed.passed.values c.args.passing.values.items e c.requires.passing.values in
+    (search rules, ((refl, tt), (c.requires.passing.node, values)))
 
 pub apply-requires-sync-K : goal.apply-requires-sync-K
 apply-requires-sync-K g c κs within =
-    let e : c.in_ok-passed.passed.values ≡ c.args.values.items = ap (λ (ps : Params). ps.values) c.in_ok-passed.ensures in (
-      search rules,
-      (
-        (refl, tt),
-        (
-          c.requires.holes,
-          (
-            subst (λ (x : Callee). AreCallees c.args.world.now.tree x) c.in-Rules.is c.requires.callee,
-            (All-same (IsIn c.args.world.now.tree) c.in_ok-passed.passed.values c.args.values.items e c.requires.values, c.requires.inside),
-          ),
-        ),
-      ),
-    )
+    let rs = c.args.self.now.world.tree in
+    let e : c.in_ok-passed.passed.values ≡ c.args.passing.values.items = ap (λ (ps : Params). ps.values) c.in_ok-passed.ensures in
+    let values = All-same (IsIn rs) c.in_ok-passed.passed.values c.args.passing.values.items e c.requires.passing.values in
+    let nodes = subst (λ (x : Callee). AreCallees rs x) c.in-Rules.is c.requires.passing.callee in
+    (search rules, ((refl, tt), (c.requires.holes, (nodes, values))))
