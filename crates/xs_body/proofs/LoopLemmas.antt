@@ -8,6 +8,7 @@ use Rattle.xs_trace.specs.declared.item.Site.{Site}
 use Rattle.xs_trace.proofs.GrowthLemmas.{passes}
 use Rattle.xs_trace.proofs.PlayLemmas.{then-then, then-goes}
 use Rattle.xs_value.specs.declared.value.Value.{Value}
+use Rattle.xs_sets.specs.Indexed.{IsSetIndex}
 use Rattle.xs_semantics.specs.declared.focus.Focus.{Focus}
 use Rattle.xs_semantics.specs.World.{World}
 use Rattle.xs_semantics.specs.Tasks.{Job, body_job, rules_job, Task}
@@ -21,19 +22,22 @@ use Rattle.xs_body.proofs.StepLemmas.{advances}
 pub stops-there : (k : Told Task) (t : Evaluation) (s : State Task) → k ≡ stack_told t s → t.works ≡ [] → k ≡ goes s
 stops-there k t s e n = e ∙ ap (λ xs. stack_steps t.world xs t.slots s) n
 
-comes-to : (k : Told Task) (t u : Evaluation) (b : Work) (s : State Task) → k ≡ stack_told t s → t ≡ pushed (b ∷ []) u →
+abbrev pub HasSets : Evaluation → Type 0
+HasSets t = IsSetIndex t.world.sheet.sets t.world.index.sets
+
+comes-to : (k : Told Task) (t u : Evaluation) (b : Work) (s : State Task) → HasSets u → k ≡ stack_told t s → t ≡ pushed (b ∷ []) u →
     k ≡ and_then (advanced b u s) stack_told
-comes-to k t u b s e q = e ∙ ap (λ (v : Evaluation). stack_told v s) q ∙ advances b u s
+comes-to k t u b s i e q = e ∙ ap (λ (v : Evaluation). stack_told v s) q ∙ advances b u i s
 
-pub goes-on : (k : Told Task) (t u v : Evaluation) (b : Work) (s m : State Task) → k ≡ stack_told t s → t ≡ pushed (b ∷ []) u → advanced b u s ≡ Goes v m →
-    k ≡ stack_told v m
-goes-on k t u v b s m e q a = comes-to k t u b s e q ∙ ap (λ g. and_then g stack_told) a
+pub goes-on : (k : Told Task) (t u v : Evaluation) (b : Work) (s m : State Task) → HasSets u → k ≡ stack_told t s → t ≡ pushed (b ∷ []) u →
+    advanced b u s ≡ Goes v m → k ≡ stack_told v m
+goes-on k t u v b s m i e q a = comes-to k t u b s i e q ∙ ap (λ g. and_then g stack_told) a
 
-pub breaks-off : (k : Told Task) (t u v : Evaluation) (b : Work) (s m : State Task) (r : Result (Unit {0}) Halt) (y h : Halt) → k ≡ stack_told t s →
-    t ≡ pushed (b ∷ []) u → r ≡ Err y → y ≡ h → IsStepBy {A = Evaluation} {B = Unit {0}} (λ x. v) (advanced b u s) (Err h) m → IsStep k r m
-breaks-off k t u v b s m r y h e q a c i =
-    passes (λ (x : Unit {0}). v) (λ x. x) k (advanced b u s) stack_told m r y h (comes-to k t u b s e q)
-    (λ (z : Evaluation). stack-grows z.world z.works z.slots) a c i
+pub breaks-off : (k : Told Task) (t u v : Evaluation) (b : Work) (s m : State Task) (r : Result (Unit {0}) Halt) (y h : Halt) → HasSets u →
+    k ≡ stack_told t s → t ≡ pushed (b ∷ []) u → r ≡ Err y → y ≡ h → IsStepBy {A = Evaluation} {B = Unit {0}} (λ x. v) (advanced b u s) (Err h) m → IsStep k r m
+breaks-off k t u v b s m r y h i e q a c d =
+    passes (λ (x : Unit {0}). v) (λ x. x) k (advanced b u s) stack_told m r y h (comes-to k t u b s i e q)
+    (λ (z : Evaluation). stack-grows z.world z.works z.slots) a c d
 
 -- a task is what the evaluation tells that it begins with
 pub alone : (w : World) (x : Trace Task) (vs : List Value) (s : State Task) → play x s ≡ and_then (filled x vs s) (λ us m. stack_steps w [] us m)

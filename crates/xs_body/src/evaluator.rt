@@ -3,7 +3,7 @@
 
 ghost use Rattle.std.specs.Prelude.{◌≡◌, ◌<◌, [], ◌∷◌, length, IfOk, IfSome, MatchOption, OnOk};
 ghost use Rattle.std.specs.List.{All};
-ghost use Rattle.xs_body.specs.Inside.{AreValues, IsInside};
+ghost use Rattle.xs_body.specs.Inside.{AreValues, IsInside, IsWorld};
 ghost use Rattle.xs_body.specs.steps.Frames.{filled_up, idle, instrs_of, last, pushed, rest};
 ghost use Rattle.xs_body.specs.steps.Frames.{slots_are, without, work_of};
 ghost use Rattle.xs_semantics.specs.World.{nodes_run, template_run, test_run, text_run};
@@ -111,6 +111,7 @@ impl<'a, K: KeyFinder> Evaluator<'a, K> {
         ensures popped { MatchOption result (self.old.works ≡ [])
             (λ f. self.old ≡ pushed (work_of f ∷ []) self.new) }
         ensures first { IfSome result (λ f. IsInside self.new.world.tree f) }
+        ensures world { IsWorld self.new.world }
     {
         self.frames.pop()
     }

@@ -16,8 +16,8 @@ pub returns-in_err-advance-in-Some-clause-told : goal.returns-in_err-advance-in-
 returns-in_err-advance-in-Some-clause-told g c =
     let p = err_from_is_err_and c.from_residual.result c.from_residual.ensures.1 in
     breaks-off (stack_told c.args.self.now (g.R.Tally.state c.args.recorder.now)) c.loop-turn.self c.pop.new.self c.advance.new.self (work_of c.in-Some.frame)
-    (g.R.Tally.state c.loop-turn.recorder) (g.R.Tally.state c.advance.new.recorder) c.from_residual.result _ _ c.loop-turn.invariant.1.0
-    c.in-Some.ensures.popped p.1 p.2 c.in_err-advance-in-Some.ensures.told
+    (g.R.Tally.state c.loop-turn.recorder) (g.R.Tally.state c.advance.new.recorder) c.from_residual.result _ _ c.pop.ensures.world.sets
+    c.loop-turn.invariant.1.0 c.in-Some.ensures.popped p.1 p.2 c.in_err-advance-in-Some.ensures.told
 
 pub loop-turn-preserved : goal.loop-turn-preserved
 loop-turn-preserved g c =
@@ -29,7 +29,7 @@ loop-turn-preserved g c =
     let w = sym (ap (λ (t : Evaluation). t.world) c.in-Some.ensures.popped) ∙ c.loop-turn.invariant.0 in (
       same-world b c.pop.new.self c.advance.new.self s m told ∙ w,
       (
-        goes-on k c.loop-turn.self c.pop.new.self c.advance.new.self b s m c.loop-turn.invariant.1.0 c.in-Some.ensures.popped told,
+        goes-on k c.loop-turn.self c.pop.new.self c.advance.new.self b s m c.pop.ensures.world.sets c.loop-turn.invariant.1.0 c.in-Some.ensures.popped told,
         c.advance.ensures.kept ∙ c.loop-turn.invariant.1.1,
       ),
     )
