@@ -25,15 +25,18 @@ use Rattle.xs_value.specs.Conversion.{text_value}
 use Rattle.xs_eval.specs.Results.{given}
 use Rattle.xs_making.specs.Copies.{deep_copy}
 use Rattle.xs_making.specs.Names.{pi_target, result_name}
+use Rattle.xs_making.specs.Texts.{comment_text, instruction_text}
 use Rattle.xs_semantics.specs.declared.focus.Focus.{Focus}
 use Rattle.xs_semantics.specs.declared.made.Made.{Made}
+use Rattle.xs_semantics.specs.declared.made.Made.TheVariants as made
 use Rattle.xs_semantics.specs.World.{World, template_run}
 use Rattle.xs_semantics.specs.Making.{aliased, attribute_events, attribute_label, content_text, element_label, literal_spaces, name_run, namespace_run}
-use Rattle.xs_semantics.specs.Making.{space_events, target_run, text_events, texts_outside, value_events}
+use Rattle.xs_semantics.specs.Making.{made_events, space_events, target_run, text_events, texts_outside, value_events}
 use Rattle.xs_semantics.specs.Tasks.{Task}
 use Rattle.xs_semantics.specs.Trace.{begins, literal_attributes, puts, puts_all}
 use Rattle.xs_body.specs.steps.Making.{attribute_steps, attributes_steps, chars_steps, copy_steps, depth_after, events_steps, literal_steps, made_at}
-use Rattle.xs_body.specs.steps.Making.{made_ended, name_steps, namespace_steps, nodes_steps, outcome_steps, spaces_steps, target_steps, text_added}
+use Rattle.xs_body.specs.steps.Making.{is_declaration, is_unbound, made_ended, made_steps, name_steps, named_steps, namespace_steps, nodes_steps}
+use Rattle.xs_body.specs.steps.Making.{outcome_steps, space_steps, spaces_steps, target_steps, text_added}
 
 -- ---- events
 pub events-told : (p : Site) (es : List Event) (s : State Task) → events_steps p es s ≡ play (puts_all p es) s
@@ -54,6 +57,28 @@ events-both p (e ∷ ls) bs s =
 event-told : (p : Site) (e : Event) (s : State Task) → put_at p e s ≡ events_steps p (e ∷ []) s
 event-told p e s = sym (then-goes (put_at p e s))
 
+space-told : (p : Site) (prefix uri : List ℕ) (s : State Task) → space_steps p prefix uri s ≡ events_steps p (space_events prefix uri) s
+space-told p prefix uri s = by_test (is_unbound uri)
+  where
+    by_test : (b : Bool) → cond b (goes s) (put_at p (event.Space prefix uri) s) ≡ events_steps p (cond b [] (event.Space prefix uri ∷ [])) s
+    by_test true = refl
+    by_test false = event-told p (event.Space prefix uri) s
+
+named-told : (p : Site) (name : Label) (value : List ℕ) (s : State Task) → named_steps p name value s ≡ events_steps p (attribute_events name value) s
+named-told p name value s = by_test (is_declaration name)
+  where
+    by_test : (b : Bool) → cond b (goes s) (put_at p (event.Attr name value) s) ≡ events_steps p (cond b [] (event.Attr name value ∷ [])) s
+    by_test true = refl
+    by_test false = event-told p (event.Attr name value) s
+
+made-told : (m : Made) (text : List ℕ) (p : Site) (s : State Task) → made_steps m text p s ≡ events_steps p (made_events m text) s
+made-told (made.Attribute name) text p s = named-told p name text s
+made-told made.Comment text p s = event-told p (event.Comment (comment_text text)) s
+made-told (made.Instruction target) text p s = event-told p (event.Pi target (instruction_text text)) s
+
+pub ended-told : (m : Made) (p : Site) (s : State Task) → made_ended m p s ≡ play (puts_all p (made_at m s)) (popped s)
+ended-told m p s = made-told m (content_text (top s.captures)) p (popped s) ∙ events-told p (made_at m s) (popped s)
+
 text-told : (p : Site) (t : List ℕ) (s : State Task) → chars_steps p t s ≡ events_steps p (text_events t) s
 text-told p [] s = refl
 text-told p (b ∷ bs) s =
@@ -65,7 +90,8 @@ spaces-told : (ls : List Alias) (p : Site) (xs : List (List ℕ × List ℕ)) (s
     spaces_steps ls p xs s ≡ events_steps p (literal_spaces ls xs) s
 spaces-told ls p [] s = refl
 spaces-told ls p (x ∷ xs) s =
-    then-same (events_steps p (space_events x.0 (aliased ls x.1)) s) (λ u m. spaces_steps ls p xs m) (λ u m. events_steps p (literal_spaces ls xs) m)
+    ap (λ g. and_then g (λ u m. spaces_steps ls p xs m)) (space-told p x.0 (aliased ls x.1) s)
+    ∙ then-same (events_steps p (space_events x.0 (aliased ls x.1)) s) (λ u m. spaces_steps ls p xs m) (λ u m. events_steps p (literal_spaces ls xs) m)
     (λ u m. spaces-told ls p xs m)
     ∙ sym (events-both p (space_events x.0 (aliased ls x.1)) (literal_spaces ls xs) s)
 
@@ -83,7 +109,9 @@ attribute-told : (w : World) (p : Site) (f : Focus) (vs : List Value) (a : Label
 attribute-told w p f vs a s =
     let es : List ℕ → List Event = λ text. attribute_events (attribute_label w.sheet.aliases a.0) text in
     let r : Run (List ℕ) = template_run w a.1 f vs in
-    then-same (limited p r s) (λ text m. events_steps p (es text) m) (λ text m. play (puts_all p (es text)) m) (λ text m. events-told p (es text) m)
+    let name : Label = attribute_label w.sheet.aliases a.0 in
+    then-same (limited p r s) (λ text m. named_steps p name text m) (λ text m. play (puts_all p (es text)) m)
+    (λ text m. named-told p name text m ∙ events-told p (es text) m)
     ∙ sym (play-evaluated p r (λ text. puts_all p (es text)) s)
 
 pub attributes-told : (w : World) (p : Site) (f : Focus) (vs : List Value) (xs : List (Label × ValueTemplate)) (s : State Task) →
@@ -153,11 +181,25 @@ pub events-grow : {H : Type 0} → (p : Site) (es : List Event) → Grows {H = H
 events-grow p [] s = goes-grows tt s
 events-grow p (e ∷ es) s = grows-then s (put_at p e s) (λ u m. events_steps p es m) (put_at-grows p e s) (λ u. events-grow p es)
 
+pub space-grows : {H : Type 0} → (p : Site) (prefix uri : List ℕ) → Grows {H = H} (space_steps p prefix uri)
+space-grows p prefix uri = by_test (is_unbound uri)
+  where
+    by_test : (b : Bool) → Grows (λ s. cond b (goes s) (put_at p (event.Space prefix uri) s))
+    by_test true s = goes-grows tt s
+    by_test false s = put_at-grows p (event.Space prefix uri) s
+
+pub named-grows : {H : Type 0} → (p : Site) (name : Label) (value : List ℕ) → Grows {H = H} (named_steps p name value)
+named-grows p name value = by_test (is_declaration name)
+  where
+    by_test : (b : Bool) → Grows (λ s. cond b (goes s) (put_at p (event.Attr name value) s))
+    by_test true s = goes-grows tt s
+    by_test false s = put_at-grows p (event.Attr name value) s
+
 pub spaces-grow : {H : Type 0} → (ls : List Alias) (p : Site) (xs : List (List ℕ × List ℕ)) → Grows {H = H} (spaces_steps ls p xs)
 spaces-grow ls p [] s = goes-grows tt s
 spaces-grow ls p (x ∷ xs) s =
-    grows-then s (events_steps p (space_events x.0 (aliased ls x.1)) s) (λ u m. spaces_steps ls p xs m)
-    (events-grow p (space_events x.0 (aliased ls x.1)) s) (λ u. spaces-grow ls p xs)
+    grows-then s (space_steps p x.0 (aliased ls x.1) s) (λ u m. spaces_steps ls p xs m) (space-grows p x.0 (aliased ls x.1) s)
+    (λ u. spaces-grow ls p xs)
 
 pub literal-grows : {H : Type 0} → (ls : List Alias) (p : Site) (start : LiteralStart) → Grows {H = H} (literal_steps ls p start)
 literal-grows ls p start s =
@@ -168,9 +210,9 @@ pub attributes-grow : {H : Type 0} → (w : World) (p : Site) (f : Focus) (vs : 
     Grows {H = H} (attributes_steps w p f vs xs)
 attributes-grow w p f vs [] s = goes-grows tt s
 attributes-grow w p f vs (a ∷ xs) s =
-    let es : List ℕ → List Event = λ text. attribute_events (attribute_label w.sheet.aliases a.0) text in
+    let name : Label = attribute_label w.sheet.aliases a.0 in
     grows-then s (attribute_steps w p f vs a s) (λ u m. attributes_steps w p f vs xs m)
-    (grows-then s (limited p (template_run w a.1 f vs) s) (λ text m. events_steps p (es text) m) (limited-grows p _ s) (λ text. events-grow p (es text)))
+    (grows-then s (limited p (template_run w a.1 f vs) s) (λ text m. named_steps p name text m) (limited-grows p _ s) (λ text. named-grows p name text))
     (λ u. attributes-grow w p f vs xs)
 
 pub nodes-grow : {H : Type 0} → (rs : List Record) (p : Site) (ns : List ℕ) → Grows {H = H} (nodes_steps rs p ns)

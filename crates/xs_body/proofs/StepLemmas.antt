@@ -61,7 +61,7 @@ use Rattle.xs_body.specs.steps.Frames.{sets_works, inside_begun, copied_begun, e
 use Rattle.xs_body.specs.steps.Frames.{call_begun, imports_begun, content_begun, passes_on, pass_begun, params_first, param_begun, fallbacks_begun}
 use Rattle.xs_body.specs.steps.Frames.{begun, advanced}
 use Rattle.xs_body.specs.steps.Making.{attributes_steps, copy_steps, events_steps, literal_steps, made_at, made_ended}
-use Rattle.xs_body.proofs.MakingLemmas.{attributes-told, copy-told, events-told, literal-told, name-told, target-told}
+use Rattle.xs_body.proofs.MakingLemmas.{attributes-told, copy-told, ended-told as made-ended, events-told, literal-told, name-told, target-told}
 use Rattle.xs_body.proofs.SetLemmas.{served}
 use Rattle.xs_body.proofs.SlotLemmas.{last-more, without-more, last-none, without-none, more-none}
 use Rattle.xs_body.proofs.RowLemmas.{body-instrs, passing-bindings, fallbacks-bodies, fallback_trace}
@@ -640,7 +640,7 @@ advances (attributes_left xs p c) t index s =
     ∙ alone x (attributes_steps t.world p c.focus (last c.seen t.slots) xs s) t s (attributes-told t.world p c.focus (last c.seen t.slots) xs s)
 advances (make m p) t index s =
     let x : Trace Task = puts_all p (made_at m s) in
-    sym (behind x t.slots t (popped s)) ∙ alone x (made_ended m p s) t (popped s) (events-told p (made_at m s) (popped s))
+    sym (behind x t.slots t (popped s)) ∙ alone x (made_ended m p s) t (popped s) (made-ended m p s)
 advances (say p terminate) t index s =
     then-then (message_ended p terminate s) (λ u m. Goes t.slots m) (λ us m. stack_steps t.world t.works us m) ∙ sym
     (then-then (message_ended p terminate s) (λ u m. Goes t m) Go)

@@ -2,8 +2,8 @@
 
 ghost use Rattle.std.specs.Prelude.{◌≡◌, ◌+◌, ◌<◌, ◌^◌, ◌==◌, ◌++◌, [], IfOk, OnOk};
 ghost use Rattle.std.specs.Prelude.{if◌then◌else◌, string_bytes};
-ghost use Rattle.xs_body.specs.steps.Making.{depth_after, events_steps, text_added};
-ghost use Rattle.xs_semantics.specs.Making.{content_text, made_events};
+ghost use Rattle.xs_body.specs.steps.Making.{depth_after, made_steps, text_added};
+ghost use Rattle.xs_semantics.specs.Making.{content_text};
 ghost use Rattle.xs_trace.specs.Play.{IsStep};
 
 use crate::literals::put_attribute;
@@ -23,7 +23,7 @@ pub(crate) fn put_made<R: Recorder>(
     site: Site,
     recorder: &mut R,
 ) -> Result<(), Halt>
-    ensures told { IsStep (events_steps site (made_events made text) (R.state recorder.old))
+    ensures told { IsStep (made_steps made text site (R.state recorder.old))
         result (R.state recorder.new) }
     ensures kept { R.kept recorder.new ≡ R.kept recorder.old }
 {

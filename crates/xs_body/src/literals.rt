@@ -2,9 +2,9 @@
 
 ghost use Rattle.std.specs.Prelude.{◌≡◌, IfOk};
 ghost use Rattle.std.specs.Option.{option_map_or};
-ghost use Rattle.xs_body.specs.steps.Making.{events_steps, literal_steps, spaces_steps};
-ghost use Rattle.xs_semantics.specs.Making.{aliased, attribute_events, attribute_label};
-ghost use Rattle.xs_semantics.specs.Making.{element_label, space_events};
+ghost use Rattle.xs_body.specs.steps.Making.{is_declaration, is_unbound, literal_steps};
+ghost use Rattle.xs_body.specs.steps.Making.{named_steps, space_steps, spaces_steps};
+ghost use Rattle.xs_semantics.specs.Making.{aliased, attribute_label, element_label};
 ghost use Rattle.xs_trace.specs.Play.{IsStep};
 
 use std::alloc::{AllocError, Global};
@@ -60,7 +60,7 @@ fn put_space<R: Recorder>(
     site: Site,
     recorder: &mut R,
 ) -> Result<(), Halt>
-    ensures told { IsStep (events_steps site (space_events prefix.now (aliased aliases.now uri.now))
+    ensures told { IsStep (space_steps site prefix.now (aliased aliases.now uri.now)
         (R.state recorder.old)) result (R.state recorder.new) }
     ensures kept { R.kept recorder.new ≡ R.kept recorder.old }
 {
@@ -77,11 +77,11 @@ fn put_bound<R: Recorder>(
     site: Site,
     recorder: &mut R,
 ) -> Result<(), Halt>
-    ensures told { IsStep (events_steps site (space_events prefix.now uri.now)
-        (R.state recorder.old)) result (R.state recorder.new) }
+    ensures told { IsStep (space_steps site prefix.now uri.now (R.state recorder.old))
+        result (R.state recorder.new) }
     ensures kept { R.kept recorder.new ≡ R.kept recorder.old }
 {
-    if uri.as_str().is_empty() || uri.as_str() == XML_URI {
+    if is_unbound(uri.as_str()) {
         return Ok(());
     }
     let space = Event::Space {
@@ -98,14 +98,28 @@ pub(crate) fn put_attribute<R: Recorder>(
     site: Site,
     recorder: &mut R,
 ) -> Result<(), Halt>
-    ensures told { IsStep (events_steps site (attribute_events name value)
-        (R.state recorder.old)) result (R.state recorder.new) }
+    ensures told { IsStep (named_steps site name value (R.state recorder.old))
+        result (R.state recorder.new) }
     ensures kept { R.kept recorder.new ≡ R.kept recorder.old }
 {
-    if name.uri().is_empty() && name.local() == "xmlns" {
+    if is_declaration(&name) {
         return Ok(());
     }
     put_event(recorder, site, Event::Attr { name, value })
+}
+
+/// Whether no namespace node is put for a namespace.
+fn is_unbound(uri: &str) -> bool
+    ensures { result ≡ is_unbound uri.now }
+{
+    uri.is_empty() || uri == XML_URI
+}
+
+/// Whether an attribute would be read as the declaration of a default namespace.
+fn is_declaration(name: &Label) -> bool
+    ensures { result ≡ is_declaration name.now }
+{
+    name.uri().is_empty() && name.local() == "xmlns"
 }
 
 /// The name of an attribute of a literal element.

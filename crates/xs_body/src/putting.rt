@@ -3,7 +3,7 @@
 ghost use Rattle.std.specs.Prelude.{◌≡◌, ◌<◌, length, IfOk};
 ghost use Rattle.xs_body.specs.steps.Frames.{value_steps};
 ghost use Rattle.xs_body.specs.steps.Making.{chars_steps, events_steps};
-ghost use Rattle.xs_trace.specs.Play.{IsStep};
+ghost use Rattle.xs_trace.specs.Play.{IsStep, put_at};
 ghost use Rattle.xs_value.specs.Conversion.{fragment_text};
 
 use crate::evaluator::Evaluator;
@@ -65,10 +65,19 @@ pub(crate) fn put_events<R: Recorder>(
 {
     let mut left = events;
     while let Some((event, behind)) = left.split_first() {
-        put_event(recorder, site, event.copy()?)?;
+        put_copied(site, event, recorder)?;
         left = behind;
     }
     Ok(())
+}
+
+/// Puts an event that another owns.
+fn put_copied<R: Recorder>(site: Site, event: &Event, recorder: &mut R) -> Result<(), Halt>
+    ensures told { IsStep (put_at site event.now (R.state recorder.old))
+        result (R.state recorder.new) }
+    ensures kept { R.kept recorder.new ≡ R.kept recorder.old }
+{
+    put_event(recorder, site, event.copy()?)
 }
 
 /// The text of all text nodes of captured content, those inside elements among them.

@@ -1,10 +1,14 @@
 //! The attribute sets that reach an attribute, by name.
 
-ghost use Rattle.std.specs.Prelude.{◌≡◌, IfOk, map};
+ghost use Rattle.std.specs.Prelude.{◌≡◌, true, IfOk, map};
 ghost use Rattle.xs_sets.specs.Indexed.{IsSetIndex, declarations_in};
+ghost use Rattle.xs_sets.specs.steps.Marks.{is_closed};
 
-use crate::groups::Groups;
-use crate::reach::{is_closed, is_reached, reached_places};
+use crate::lists::{Lists, lists_of};
+use crate::marks::Marks;
+use crate::order::by_precedence;
+use crate::reach::marks_of;
+use indexmap::IndexSet;
 use std::alloc::{AllocError, Global};
 use xs_sheet::declarations::AttrSet;
 use xs_trace::event::Label;
@@ -14,49 +18,48 @@ use xs_trace::event::Label;
 /// that no budget ends.
 #[derive(Drop)]
 pub struct SetIndex<'a> {
-    /// All declarations.
-    groups: Groups<'a>,
-    /// By their places, whether they reach an attribute.
-    reached: Vec<bool>,
+    /// The declarations of each name.
+    lists: Lists<'a>,
+    /// The sets that reach an attribute.
+    marks: Marks<'a>,
 }
 
 impl<'a> SetIndex<'a> {
-    /// Those of a stylesheet, in time linear in it, where the declarations of a name come by
-    /// import precedence.
+    /// Those of a stylesheet, in time linear in it for each of its modules.
     pub fn new(alloc: Global, sets: &'a [AttrSet]) -> Result<SetIndex<'a>, AllocError>
-        ensures index { IfOk result (IsSetIndex sets.now) }
+        ensures index { IfOk result (IsSetIndex sets.entry.now) }
     {
-        let groups = Groups::new(alloc, sets)?;
-        let reached = reached_places(alloc, &groups)?;
-        let reached = checked(alloc, &groups, reached)?;
-        Ok(SetIndex { groups, reached })
+        let all = by_precedence(alloc, sets)?;
+        let lists = lists_of(alloc, all.as_slice())?;
+        let marks = checked_marks(alloc, sets)?;
+        Ok(SetIndex { lists, marks })
     }
 
     /// The declarations of a name; none where it reaches no attribute.
     pub fn declarations(&self, name: &Label) -> &[&'a AttrSet]
         ensures declarations { map (λ s. s.now) result.now ≡ declarations_in self.now name.now }
     {
-        match self.groups.place(name) {
+        if !self.marks.has(name) {
+            return &[];
+        }
+        match self.lists.get(&(name.uri(), name.local())) {
             None => &[],
-            Some(place) => {
-                if is_reached(&self.groups, &self.reached, name) {
-                    self.groups.lists[place].as_slice()
-                } else {
-                    &[]
-                }
-            }
+            Some(list) => list.as_slice(),
         }
     }
 }
 
-/// The marks, where all else reaches no attribute; else all places are marked.
-fn checked(
-    alloc: Global,
-    groups: &Groups<'_>,
-    reached: Vec<bool>,
-) -> Result<Vec<bool>, AllocError> {
-    if is_closed(groups, &reached) {
-        return Ok(reached);
+/// Marks of the sets that reach an attribute; all are marked where another one is not idle, which
+/// can't come.
+fn checked_marks<'a>(alloc: Global, sets: &'a [AttrSet]) -> Result<Marks<'a>, AllocError>
+    ensures { IfOk result (λ marks. is_closed marks sets.entry.now ≡ true) }
+{
+    let marks = marks_of(alloc, sets)?;
+    if marks.is_closed(sets) {
+        return Ok(marks);
     }
-    vec![in alloc; true; groups.lists.len()]
+    Ok(Marks {
+        names: IndexSet::new(alloc),
+        all: true,
+    })
 }

@@ -2,6 +2,8 @@
 //! in which they count, without the sets that reach no attribute.
 #![tactic(auto)]
 
-mod groups;
 pub mod index;
+mod lists;
+pub mod marks;
+mod order;
 mod reach;

@@ -1,5 +1,6 @@
 -- What is put and made, step by step.
-use Rattle.std.specs.Prelude.{ℕ, ◌+◌, ◌-◌, ◌==◌, List, [], ◌∷◌, length, Option, Some, None, Bool, Result, Ok, Err, if◌then◌else◌}
+use Rattle.std.specs.Prelude.{ℕ, ◌+◌, ◌-◌, ◌==◌, ◌&&◌, ◌||◌, List, [], ◌∷◌, codes, length, Option, Some, None, Bool, Result, Ok, Err, if◌then◌else◌}
+use Rattle.std.specs.Str.{bytes_eq}
 use Rattle.xs_sheet.specs.declared.body.LiteralStart.{LiteralStart}
 use Rattle.xs_sheet.specs.declared.body.MadeName.{MadeName}
 use Rattle.xs_sheet.specs.declared.declarations.Alias.{Alias}
@@ -20,13 +21,17 @@ use Rattle.xs_value.specs.declared.value.Value.{Value}
 use Rattle.xs_value.specs.declared.value.Value.TheVariants as value
 use Rattle.xs_value.specs.Conversion.{text_value}
 use Rattle.xs_making.specs.Copies.{deep_copy}
+use Rattle.xs_making.specs.Labels.{xml_uri}
 use Rattle.xs_making.specs.Names.{pi_target, result_name}
+use Rattle.xs_making.specs.Texts.{comment_text, instruction_text, is_empty}
 use Rattle.xs_making.specs.declared.ends.MakeEnd.{MakeEnd}
 use Rattle.xs_making.specs.declared.ends.MakeEnd.TheVariants as end
 use Rattle.xs_semantics.specs.declared.focus.Focus.{Focus}
 use Rattle.xs_semantics.specs.declared.made.Made.{Made}
+use Rattle.xs_semantics.specs.declared.made.Made.TheVariants as made
+use Rattle.xs_semantics.specs.declared.made.Made.TheVariants.{Attribute, Instruction}
 use Rattle.xs_semantics.specs.World.{World, template_run}
-use Rattle.xs_semantics.specs.Making.{aliased, attribute_events, attribute_label, content_text, element_label, made_events, space_events}
+use Rattle.xs_semantics.specs.Making.{aliased, attribute_label, content_text, element_label, made_events}
 
 -- ---- events
 abbrev pub chars_steps : {H : Type 0} → Site → List ℕ → State H → Told H
@@ -36,10 +41,23 @@ abbrev pub events_steps : {H : Type 0} → Site → List Event → State H → T
 events_steps p [] s = goes s
 events_steps p (e ∷ es) s = and_then (put_at p e s) (λ u m. events_steps p es m)
 
+-- a namespace node, and an attribute, where they are put
+abbrev pub is_unbound : (uri : List ℕ) → Bool
+is_unbound uri = is_empty uri || bytes_eq uri xml_uri
+
+abbrev pub space_steps : {H : Type 0} → Site → (prefix uri : List ℕ) → State H → Told H
+space_steps p prefix uri s = if is_unbound uri then goes s else put_at p (Space prefix uri) s
+
+abbrev pub is_declaration : Label → Bool
+is_declaration name = is_empty name.uri && bytes_eq name.local (codes "xmlns")
+
+abbrev pub named_steps : {H : Type 0} → Site → Label → List ℕ → State H → Told H
+named_steps p name value s = if is_declaration name then goes s else put_at p (Attr name value) s
+
 -- ---- literal elements
 abbrev pub spaces_steps : {H : Type 0} → List Alias → Site → List (List ℕ × List ℕ) → State H → Told H
 spaces_steps aliases p [] s = goes s
-spaces_steps aliases p (x ∷ xs) s = and_then (events_steps p (space_events x.0 (aliased aliases x.1)) s) (λ u m. spaces_steps aliases p xs m)
+spaces_steps aliases p (x ∷ xs) s = and_then (space_steps p x.0 (aliased aliases x.1) s) (λ u m. spaces_steps aliases p xs m)
 
 abbrev pub literal_steps : {H : Type 0} → List Alias → Site → LiteralStart → State H → Told H
 literal_steps aliases p start s =
@@ -47,7 +65,7 @@ literal_steps aliases p start s =
 
 abbrev pub attribute_steps : {H : Type 0} → World → Site → Focus → List Value → Label × ValueTemplate → State H → Told H
 attribute_steps w p f vs a s =
-    and_then (limited p (template_run w a.1 f vs) s) (λ text m. events_steps p (attribute_events (attribute_label w.sheet.aliases a.0) text) m)
+    and_then (limited p (template_run w a.1 f vs) s) (λ text m. named_steps p (attribute_label w.sheet.aliases a.0) text m)
 
 abbrev pub attributes_steps : {H : Type 0} → World → Site → Focus → List Value → List (Label × ValueTemplate) → State H → Told H
 attributes_steps w p f vs [] s = goes s
@@ -95,8 +113,13 @@ target_steps w p f vs name s = and_then (limited p (template_run w name f vs) s)
 abbrev pub made_at : {H : Type 0} → Made → State H → List Event
 made_at m s = made_events m (content_text (top s.captures))
 
+abbrev pub made_steps : {H : Type 0} → Made → List ℕ → Site → State H → Told H
+made_steps (Attribute name) text p s = named_steps p name text s
+made_steps made.Comment text p s = put_at p (Comment (comment_text text)) s
+made_steps (Instruction target) text p s = put_at p (Pi target (instruction_text text)) s
+
 abbrev pub made_ended : {H : Type 0} → Made → Site → State H → Told H
-made_ended m p s = events_steps p (made_at m s) (popped s)
+made_ended m p s = made_steps m (content_text (top s.captures)) p (popped s)
 
 -- the text that an event adds, where so many elements are open, and how many are open after it
 abbrev pub text_added : Event → (depth : ℕ) → List ℕ
