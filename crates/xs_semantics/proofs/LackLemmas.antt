@@ -187,7 +187,7 @@ module _ (gs : List (Option Value)) where
   mutual
     pub tree-settles : (keys : List Table) (e : Tree) → Settles (run_of_tree keys e)
     tree-settles keys (syntax.number n) c is = tt
-    tree-settles keys (syntax.literal text) c is = tt
+    tree-settles keys (syntax.literal bytes) c is = tt
     tree-settles keys (syntax.variable uri local slot) c is = variable-settles slot c is
     tree-settles keys (syntax.call function es) c is = call-settles keys function (runs_of_trees keys es) (trees-settle keys es) c is
     tree-settles keys (syntax.negative signs e) c is = negative-settles signs (run_of_tree keys e) (tree-settles keys e) c is
