@@ -4,11 +4,12 @@ ghost use Rattle.std.specs.Prelude.{◌≡◌, IfOk};
 ghost use Rattle.std.specs.Option.{option_map_or};
 ghost use Rattle.xs_body.specs.steps.Making.{is_declaration, is_unbound, literal_steps};
 ghost use Rattle.xs_body.specs.steps.Making.{named_steps, space_steps, spaces_steps};
+ghost use Rattle.xs_making.specs.Labels.{put_label};
 ghost use Rattle.xs_semantics.specs.Making.{aliased, attribute_label, element_label};
 ghost use Rattle.xs_trace.specs.Play.{IsStep};
 
 use std::alloc::{AllocError, Global};
-use xs_making::{XML_URI, put_label};
+use xs_making::{XML_URI, put_label, put_prefix};
 use xs_sheet::body::LiteralStart;
 use xs_sheet::declarations::Alias;
 use xs_trace::event::{Event, Label};
@@ -131,7 +132,7 @@ pub(crate) fn attribute_label(
     ensures label { IfOk result (λ label. label ≡ attribute_label aliases.now name.now) }
 {
     if name.uri().is_empty() {
-        return put_label(alloc, "", name.local(), name.prefix());
+        return put_name(alloc, name);
     }
     element_label(alloc, aliases, name)
 }
@@ -141,9 +142,20 @@ fn element_label(alloc: Global, aliases: &[Alias], name: &Label) -> Result<Label
     ensures label { IfOk result (λ label. label ≡ element_label aliases.now name.now) }
 {
     match alias_of(aliases, name.uri()) {
-        None => put_label(alloc, name.uri(), name.local(), name.prefix()),
+        None => put_name(alloc, name),
         Some(alias) => put_label(alloc, alias.to_uri.as_str(), name.local(), name.prefix()),
     }
+}
+
+/// A name as it is put; it is shared where its prefix fits.
+fn put_name(alloc: Global, name: &Label) -> Result<Label, AllocError>
+    ensures label { IfOk result
+        (λ label. label ≡ put_label name.now.uri name.now.local name.now.prefix) }
+{
+    if put_prefix(name.uri(), name.prefix()) == name.prefix() {
+        return name.copy();
+    }
+    put_label(alloc, name.uri(), name.local(), name.prefix())
 }
 
 /// The alias of a namespace, where it has one.

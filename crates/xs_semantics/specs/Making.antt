@@ -36,7 +36,7 @@ abbrev pub element_label : List Alias → Label → Label
 element_label aliases name = put_label (aliased aliases name.uri) name.local name.prefix
 
 abbrev pub attribute_label : List Alias → Label → Label
-attribute_label aliases name = if is_empty name.uri then put_label [] name.local name.prefix else element_label aliases name
+attribute_label aliases name = if is_empty name.uri then put_label name.uri name.local name.prefix else element_label aliases name
 
 -- the namespace that is given for a name, if one is (7.1.2, 7.1.3)
 abbrev pub namespace_run : World → Option ValueTemplate → Focus → List Value → Run (Option (List ℕ))
