@@ -8,7 +8,7 @@ use Rattle.xs_trace.specs.declared.item.Site.{Site}
 use Rattle.xs_semantics.specs.declared.focus.Focus.{Focus}
 use Rattle.xs_semantics.specs.World.{World, at_node, in_list}
 use Rattle.xs_semantics.specs.Tasks.{Job, Task, below, shared, task_behind, tasks_for, with_node}
-use Rattle.xs_semantics.specs.Trace.{each, spread, spread_by, task_trace}
+use Rattle.xs_semantics.specs.Trace.{calls_at, each, job_trace, spread, spread_by, task_trace}
 use Rattle.xs_semantics.specs.Ranks.{BeginsWithTick, HasNodes}
 use Rattle.xs_semantics.proofs.SideLemmas.{IsKept, task-keeps}
 
@@ -27,8 +27,8 @@ holes-captured P [] h = tt
 holes-captured P (Tick p ∷ x) h = holes-captured P x h
 holes-captured P (Put e ∷ x) h = holes-captured P x h
 holes-captured P (Say t ∷ x) h = holes-captured P x h
-holes-captured P (Stop f p ∷ x) h = h
-holes-captured P (Need g p ∷ x) h = h
+holes-captured P (Stop f p ∷ x) h = holes-captured P x h
+holes-captured P (Need g p ∷ x) h = holes-captured P x h
 holes-captured P (Hole t ∷ x) h = (h.0, holes-captured P x h.1)
 
 pub holes-more : (P Q : Task → Type 0) → ((t : Task) → P t → Q t) → (x : Trace Task) → HolesAre P x → HolesAre Q x
@@ -36,8 +36,8 @@ holes-more P Q f [] h = tt
 holes-more P Q f (Tick p ∷ x) h = holes-more P Q f x h
 holes-more P Q f (Put e ∷ x) h = holes-more P Q f x h
 holes-more P Q f (Say t ∷ x) h = holes-more P Q f x h
-holes-more P Q f (Stop n p ∷ x) h = tt
-holes-more P Q f (Need g p ∷ x) h = tt
+holes-more P Q f (Stop n p ∷ x) h = holes-more P Q f x h
+holes-more P Q f (Need g p ∷ x) h = holes-more P Q f x h
 holes-more P Q f (Hole t ∷ x) h = (f t h.0, holes-more P Q f x h.1)
 
 pub holes-each : (P : Task → Type 0) (p : Site) (x : Focus → Trace Task) (f : Focus) → ((n i : ℕ) → HolesAre P (x (at_node n i f))) →
@@ -63,6 +63,10 @@ tasks-full : (grain : ℕ) (job : Job) (p : Site) (f : Focus) (ns : List ℕ) �
 tasks-full zero job p f ns h q = absurd (h refl)
 tasks-full (suc room) job p f [] h q = let e : nat_le 0 (suc room) ≡ true = grind (arith, nat_tests) in absurd (true≢false (sym e ∙ q))
 tasks-full (suc room) job p f (n ∷ ns) h q = shared-full (suc room) room _ ns tt
+
+each-begins : (p : Site) (x : Focus → Trace Task) (f : Focus) (i : ℕ) (ns : List ℕ) → HasNodes ns → BeginsWithTick (each p x f i ns)
+each-begins p x f i [] h = h
+each-begins p x f i (n ∷ ns) h = tt
 
 module _ (w : World) (g : w.grain ≡ Some 0 → ⊥) where
   abbrev Full : Bool → Trace Task → Trace Task → Type 0
@@ -92,11 +96,7 @@ module _ (w : World) (g : w.grain ≡ Some 0 → ⊥) where
   }
 
   begins : (t : Task) → HasNodes t.nodes → BeginsWithTick (task_trace w t)
-  begins t h = by_nodes t.nodes h
-    where
-      by_nodes : (ns : List ℕ) → HasNodes ns → BeginsWithTick (each t.site _ t.focus t.first ns)
-      by_nodes [] h = h
-      by_nodes (n ∷ ns) h = tt
+  begins t h = each-begins t.site (job_trace t.job w (calls_at w t.focus) t.site) t.focus t.first t.nodes h
 
   pub full-begins : (t : Task) → HolesAre (λ c. HasNodes c.nodes × BeginsWithTick (task_trace w c)) (task_trace w t)
   full-begins t =

@@ -62,8 +62,8 @@ none-left P [] e = tt
 none-left P (Tick p ∷ x) e = none-left P x e
 none-left P (Put v ∷ x) e = none-left P x e
 none-left P (Say t ∷ x) e = none-left P x e
-none-left P (Stop f p ∷ x) e = tt
-none-left P (Need g p ∷ x) e = tt
+none-left P (Stop f p ∷ x) e = none-left P x e
+none-left P (Need g p ∷ x) e = none-left P x e
 none-left P (Hole t ∷ x) e = cc
 
 -- what all declarations of attribute sets are, those of each rank are
