@@ -22,8 +22,8 @@ use Rattle.xs_body.specs.declared.attempts.Attempt.{Attempt}
 use Rattle.xs_body.specs.declared.attempts.Attempt.TheVariants as attempt
 use Rattle.xs_body.specs.steps.Lists.{nodes_in}
 
--- the stylesheet is sound, and the index is that of its rules, prepared for the tree, and of its attribute sets; the nodes of the globals' values and of the keys'
--- tables are in the tree
+-- the stylesheet is sound, and the index is that of its rules, prepared for the tree, and of its attribute sets; the nodes of the globals' values
+-- and of the keys' tables are in the tree
 pub record IsWorld (w : World) : Type 0 where
   pub sheet : IsSound w.sheet
   pub index : IsIndex w.index.rules

@@ -269,7 +269,8 @@ impl<'a, K: KeyFinder> Evaluator<'a, K> {
         requires below { left.next < length (nodes_in left.nodes) }
         ensures told { IsStepBy (λ u. self.new)
             (advanced (each_left left.entry.body.now left.entry.site left.entry.scope
-            left.entry.position (node ∷ drop (left.entry.next + 1) (nodes_in left.entry.nodes))) self.old
+            left.entry.position (node ∷ drop (left.entry.next + 1) (nodes_in left.entry.nodes)))
+            self.old
             (R.state recorder.old)) result (R.state recorder.new) }
         ensures kept { R.kept recorder.new ≡ R.kept recorder.old }
     {

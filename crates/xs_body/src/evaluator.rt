@@ -162,12 +162,13 @@ impl<'a, K: KeyFinder> Evaluator<'a, K> {
     {
         let world = &self.world;
         let focus = scope.focus;
+        let current = Node::at(focus.node);
         let context = Context {
             tree: world.tree,
             node: Node::at(focus.node),
             position: focus.position,
             size: focus.size,
-            current: Node::at(focus.node),
+            current,
             locals: self.locals(scope),
             globals: world.globals,
             scope: expr.scope.scope(),
