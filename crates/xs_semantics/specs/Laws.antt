@@ -1,10 +1,10 @@
 -- What is true of the evaluation.
-use Rattle.std.specs.Prelude.{◌≡◌, ℕ, ◌+◌, List, [], ◌∷◌, ◌++◌, slice_get, Option, Some, None}
+use Rattle.std.specs.Prelude.{◌≡◌, ℕ, ◌+◌, ◌<◌, List, [], ◌∷◌, ◌++◌, slice_get, Option, Some, None}
 use Rattle.std.specs.List.{All}
 use Rattle.std.specs.Option.{IsSome}
 use Rattle.xs_sheet.specs.declared.body.Body.{Body}
 use Rattle.xs_sheet.specs.declared.declarations.Global.{Global}
-use Rattle.xs_trace.specs.Fill.{fill, tasks_of}
+use Rattle.xs_trace.specs.Fill.{HolesAre, fill, tasks_of}
 use Rattle.xs_trace.specs.Mark.{Tick, Put, Say, Stop, Need, Hole, Trace, GoesOn, NeedsNothing, captured, events_of, messages_of, tick_count}
 use Rattle.xs_trace.specs.declared.event.Event.{Event}
 use Rattle.xs_value.specs.declared.value.Value.{Value}
@@ -13,6 +13,7 @@ use Rattle.xs_semantics.specs.declared.focus.Focus.{Focus}
 use Rattle.xs_semantics.specs.World.{World, captured_in, with_grain, with_index}
 use Rattle.xs_semantics.specs.Tasks.{Task}
 use Rattle.xs_semantics.specs.Trace.{body_trace, calls_at, task_trace}
+use Rattle.xs_semantics.specs.Ranks.{BeginsWithTick, HasNodes, rank_of}
 use Rattle.xs_semantics.specs.Globals.{Settled, SettlesAll, attempt_trace, attempt_value}
 
 -- the trace with a grain, each hole filled by the trace of its task, is the trace without one
@@ -64,3 +65,11 @@ AttemptsAreTheSame = (w : World) (index : SheetIndex) (g : Option Global) →
 abbrev pub SettlingIsTheSame : Type 0
 SettlingIsTheSame = (w : World) (index : SheetIndex) (given : List (List ℕ × List ℕ)) (budget : ℕ) (r : Settled) →
     SettlesAll w given budget r → SettlesAll (with_index index w) given budget r
+
+-- the rank falls from a task to those that it leaves: their tree ends
+abbrev pub TasksFall : Type 0
+TasksFall = (w : World) (t : Task) → HolesAre (λ c. rank_of w c < rank_of w t) (task_trace w t)
+
+-- where the grain is not 0, a task that is left has nodes, and begins with a tick
+abbrev pub TasksBegin : Type 0
+TasksBegin = (w : World) (t : Task) → (w.grain ≡ Some 0 → ⊥) → HolesAre (λ c. HasNodes c.nodes × BeginsWithTick (task_trace w c)) (task_trace w t)

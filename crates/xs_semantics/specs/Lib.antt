@@ -5,5 +5,6 @@ pub mod Tasks
 pub mod Rules
 pub mod Making
 pub mod Trace
+pub mod Ranks
 pub mod Globals
 pub mod Laws

@@ -1,10 +1,10 @@
 //! The declarations of attribute sets by name.
 
-ghost use Rattle.std.specs.Prelude.{◌≡◌, ◌++◌, ◌∷◌, [], filter, map, if◌then◌else◌, IfOk, OnOk};
-ghost use Rattle.xs_sheet.specs.Sets.{is_same_label};
+ghost use Rattle.std.specs.Prelude.{◌≡◌, ◌++◌, ◌∷◌, [], false, filter, map, true, IfOk, OnOk};
+ghost use Rattle.std.specs.Prelude.{if◌then◌else◌};
 ghost use Rattle.xs_trace.specs.Label.{Label};
 ghost use Rattle.xs_sets.specs.Declarations.{has_name};
-ghost use Rattle.xs_sets.specs.Indexed.{grouped};
+ghost use Rattle.xs_sets.specs.Indexed.{grouped, is_of};
 
 use indexmap::IndexMap;
 use std::alloc::{AllocError, Global};
@@ -36,11 +36,33 @@ fn add<'a>(alloc: Global, lists: &mut Lists<'a>, set: &'a AttrSet) -> Result<(),
         ++ filter (has_name name) (set.entry.now ∷ [])) }
 {
     let key = (set.name.uri(), set.name.local());
-    let mut list = match lists.swap_remove(&key) {
+    let mut list = take_list(alloc, lists, key);
+    list.push(set)?;
+    put_list(lists, key, list)
+}
+
+/// Takes the declarations of a name away.
+fn take_list<'a>(alloc: Global, lists: &mut Lists<'a>, key: Expanded<'a>) -> Vec<&'a AttrSet>
+    ensures taken { (name : Label) → is_of name key ≡ true
+        → map (λ s. s.now) result.items ≡ grouped lists.old name }
+    ensures others { (name : Label) → is_of name key ≡ false
+        → grouped lists.new name ≡ grouped lists.old name }
+{
+    match lists.swap_remove(&key) {
         Some(list) => list,
         None => Vec::new(alloc),
-    };
-    list.push(set)?;
+    }
+}
+
+/// Puts the declarations of a name.
+fn put_list<'a>(
+    lists: &mut Lists<'a>,
+    key: Expanded<'a>,
+    list: Vec<&'a AttrSet>,
+) -> Result<(), AllocError>
+    ensures { OnOk result ((name : Label) → grouped lists.new name
+        ≡ (if is_of name key then map (λ s. s.now) list.items else grouped lists.old name)) }
+{
     lists.insert(key, list)?;
     Ok(())
 }

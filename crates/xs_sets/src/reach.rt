@@ -64,11 +64,16 @@ fn add_user<'a>(
     name: Expanded<'a>,
     user: Expanded<'a>,
 ) -> Result<(), AllocError> {
-    let mut list = match users.swap_remove(&name) {
-        Some(list) => list,
-        None => Vec::new(alloc),
-    };
+    let mut list = taken(alloc, users, name);
     list.push(user)?;
     users.insert(name, list)?;
     Ok(())
+}
+
+/// Takes those that use a set.
+fn taken<'a>(alloc: Global, users: &mut Users<'a>, name: Expanded<'a>) -> Vec<Expanded<'a>> {
+    match users.swap_remove(&name) {
+        Some(list) => list,
+        None => Vec::new(alloc),
+    }
 }
