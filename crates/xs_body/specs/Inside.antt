@@ -78,10 +78,11 @@ IsInside rs (frame.Pass p) = IsPassing rs p
 IsInside rs (frame.Take p) = IsPassing rs p
 IsInside rs (frame.Params p) = IsParams rs p
 
--- those of all frames, and of the values of local bindings
-pub record AreIn (rs : List Record) (frames : List Frame) (slots : List Value) : Type 0 where
-  pub frames : All (IsInside rs) frames
-  pub slots : AreValues rs slots
+-- an evaluation is over a sound world, and those of its frames and of the values of local bindings are in the tree
+pub record IsEvaluator (w : World) (frames : List Frame) (slots : List Value) : Type 0 where
+  pub world : IsWorld w
+  pub frames : All (IsInside w.tree) frames
+  pub slots : AreValues w.tree slots
 
 -- those of a task
 abbrev pub IsJobIn : List Record → Job → Type 0

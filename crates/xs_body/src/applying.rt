@@ -77,8 +77,7 @@ impl<'a, K: KeyFinder> Evaluator<'a, K> {
             (λ found. found.items ≡ children self.now.world.tree focus.node) }
         ensures inside { IfOk result (λ found. AreNodes self.now.world.tree found.items) }
     {
-        let world = &self.world;
-        children_of(self.alloc, world.tree, Node::at(focus.node))
+        children_of(self.alloc, self.tree, Node::at(focus.node))
     }
 
     /// The same, with a tick for each.

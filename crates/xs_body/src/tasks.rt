@@ -28,8 +28,7 @@ impl<'a, K: KeyFinder> Evaluator<'a, K> {
         if focus.is_captured {
             return None;
         }
-        let world = &self.world;
-        match world.grain {
+        match self.grain {
             Some(grain) if size > grain => Some(grain),
             _ => None,
         }
