@@ -79,10 +79,10 @@ IsInside rs (frame.Take p) = IsPassing rs p
 IsInside rs (frame.Params p) = IsParams rs p
 
 -- an evaluation is over a sound world, and those of its frames and of the values of local bindings are in the tree
-pub record IsEvaluator (w : World) (frames : List Frame) (slots : List Value) : Type 0 where
+pub record IsEvaluator (w : World) (fs : List Frame) (vs : List Value) : Type 0 where
   pub world : IsWorld w
-  pub frames : All (IsInside w.tree) frames
-  pub slots : AreValues w.tree slots
+  pub frames : All (IsInside w.tree) fs
+  pub slots : AreValues w.tree vs
 
 -- those of a task
 abbrev pub IsJobIn : List Record → Job → Type 0

@@ -59,6 +59,7 @@ impl<'a, K: KeyFinder> Model for Evaluator<'a, K> {
     ghost use Rattle.xs_sheet.specs.contracts.sheet.Sheet as of_sheet;
     ghost use Rattle.xs_sheet.specs.contracts.body.Body as body;
     ghost use Rattle.xs_sheet.specs.contracts.body.Content as content;
+    ghost use Rattle.xs_sheet.specs.contracts.body.InstrKind as kind;
     ghost use Rattle.xs_body.specs.steps.Frames.{Evaluation};
 
     ghost Value = { Evaluation };
@@ -69,6 +70,7 @@ impl<'a, K: KeyFinder> Model for Evaluator<'a, K> {
       (of_index.the_row static_lft).coded,
       body.the_row.coded,
       content.the_row.coded,
+      kind.the_row.coded,
     ) };
 
     ghost use Rattle.xs_body.specs.Inside.{IsEvaluator};
