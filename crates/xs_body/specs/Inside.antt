@@ -22,8 +22,8 @@ use Rattle.xs_body.specs.declared.attempts.Attempt.{Attempt}
 use Rattle.xs_body.specs.declared.attempts.Attempt.TheVariants as attempt
 use Rattle.xs_body.specs.steps.Lists.{nodes_in}
 
--- the stylesheet is sound, and the index is that of its rules, prepared for the tree, and of its attribute sets; the nodes of the globals' values and of the keys'
--- tables are in the tree
+-- the stylesheet is sound, and the index is that of its rules, prepared for the tree, and of its attribute sets; the nodes of the globals' values
+-- and of the keys' tables are in the tree
 pub record IsWorld (w : World) : Type 0 where
   pub sheet : IsSound w.sheet
   pub index : IsIndex w.index.rules
@@ -78,10 +78,11 @@ IsInside rs (frame.Pass p) = IsPassing rs p
 IsInside rs (frame.Take p) = IsPassing rs p
 IsInside rs (frame.Params p) = IsParams rs p
 
--- those of all frames, and of the values of local bindings
-pub record AreIn (rs : List Record) (frames : List Frame) (slots : List Value) : Type 0 where
-  pub frames : All (IsInside rs) frames
-  pub slots : AreValues rs slots
+-- an evaluation is over a sound world, and those of its frames and of the values of local bindings are in the tree
+pub record IsEvaluator (w : World) (fs : List Frame) (vs : List Value) : Type 0 where
+  pub world : IsWorld w
+  pub frames : All (IsInside w.tree) fs
+  pub slots : AreValues w.tree vs
 
 -- those of a task
 abbrev pub IsJobIn : List Record → Job → Type 0

@@ -77,8 +77,7 @@ impl<'a, K: KeyFinder> Evaluator<'a, K> {
             (λ found. found.items ≡ children self.now.world.tree focus.node) }
         ensures inside { IfOk result (λ found. AreNodes self.now.world.tree found.items) }
     {
-        let world = &self.world;
-        children_of(self.alloc, world.tree, Node::at(focus.node))
+        children_of(self.alloc, self.tree, Node::at(focus.node))
     }
 
     /// The same, with a tick for each.
@@ -269,7 +268,8 @@ impl<'a, K: KeyFinder> Evaluator<'a, K> {
         requires below { left.next < length (nodes_in left.nodes) }
         ensures told { IsStepBy (λ u. self.new)
             (advanced (each_left left.entry.body.now left.entry.site left.entry.scope
-            left.entry.position (node ∷ drop (left.entry.next + 1) (nodes_in left.entry.nodes))) self.old
+            left.entry.position (node ∷ drop (left.entry.next + 1) (nodes_in left.entry.nodes)))
+            self.old
             (R.state recorder.old)) result (R.state recorder.new) }
         ensures kept { R.kept recorder.new ≡ R.kept recorder.old }
     {

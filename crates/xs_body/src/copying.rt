@@ -75,8 +75,7 @@ impl<'a, K: KeyFinder> Evaluator<'a, K> {
             (R.state recorder.old)) result (R.state recorder.new) }
         ensures kept { R.kept recorder.new ≡ R.kept recorder.old }
     {
-        let world = &self.world;
-        let text = to_text(self.alloc, world.tree, value)?;
+        let text = to_text(self.alloc, self.tree, value)?;
         put_text(site, text, recorder)
     }
 
@@ -107,9 +106,8 @@ impl<'a, K: KeyFinder> Evaluator<'a, K> {
         ensures copied { IfOk result
             (λ events. events.items ≡ copy_of deep self.now.world.tree node) }
     {
-        let world = &self.world;
         let mut events = Vec::new(self.alloc);
-        copy_events(world.tree, node, deep, &mut events)?;
+        copy_events(self.tree, node, deep, &mut events)?;
         Ok(events)
     }
 
@@ -146,8 +144,7 @@ impl<'a, K: KeyFinder> Evaluator<'a, K> {
         ensures begun { OnOk result (self.new ≡ copied_begun
             (at self.old.world.tree scope.focus.node).kind sets.now body.now scope self.old) }
     {
-        let world = &self.world;
-        match world.tree.kind(Node::at(scope.focus.node)) {
+        match self.tree.kind(Node::at(scope.focus.node)) {
             Kind::Element => self.push_inside(sets, body, scope),
             Kind::Root => self.push_body(body, scope.inner()),
             Kind::Attribute => Ok(()),

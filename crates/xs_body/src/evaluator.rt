@@ -19,25 +19,33 @@ use std::marker::Model;
 use xs_eval::context::Context;
 use xs_eval::evaluate::evaluate;
 use xs_eval::templates::evaluate_avt;
+use xs_semantics::index::SheetIndex;
 use xs_sheet::body::Body;
 use xs_sheet::scoped::{ScopedExpr, ValueTemplate};
+use xs_sheet::sheet::Sheet;
 use xs_trace::fault::Fault;
 use xs_trace::item::Site;
 use xs_trace::recorder::{Halt, Tally};
 use xs_trace::text::TextBuf;
-use xs_tree::Node;
+use xs_tree::{Node, Tree};
 use xs_value::conversion::{to_bool, to_text};
 use xs_value::keys::KeyFinder;
 use xs_value::node_set::NodeSet;
 use xs_value::value::Value;
 
-/// An evaluation that goes on. All nodes in it are in the tree (`AreIn`).
+/// An evaluation that goes on. It is over a sound world, in whose tree all its nodes are
+/// (`IsEvaluator`).
 #[derive(Drop)]
 pub(crate) struct Evaluator<'a, K: KeyFinder> {
     /// Where what it makes is stored.
     pub(crate) alloc: Global,
-    /// What it is over.
-    pub(crate) world: World<'a, K>,
+    // What it is over: the fields of a `World`, so that contracts see one model and not two.
+    pub(crate) sheet: &'a Sheet,
+    pub(crate) index: &'a SheetIndex<'a>,
+    pub(crate) tree: &'a Tree,
+    pub(crate) keys: &'a K,
+    pub(crate) globals: &'a [Option<Value>],
+    pub(crate) grain: Option<u32>,
     /// What is still to be done, the next last.
     frames: Vec<Frame<'a>>,
     /// The values of local bindings, in order.
@@ -51,6 +59,7 @@ impl<'a, K: KeyFinder> Model for Evaluator<'a, K> {
     ghost use Rattle.xs_sheet.specs.contracts.sheet.Sheet as of_sheet;
     ghost use Rattle.xs_sheet.specs.contracts.body.Body as body;
     ghost use Rattle.xs_sheet.specs.contracts.body.Content as content;
+    ghost use Rattle.xs_sheet.specs.contracts.body.InstrKind as kind;
     ghost use Rattle.xs_body.specs.steps.Frames.{Evaluation};
 
     ghost Value = { Evaluation };
@@ -61,14 +70,29 @@ impl<'a, K: KeyFinder> Model for Evaluator<'a, K> {
       (of_index.the_row static_lft).coded,
       body.the_row.coded,
       content.the_row.coded,
+      kind.the_row.coded,
     ) };
 
-    ghost use Rattle.xs_body.specs.Inside.{AreIn};
+    ghost use Rattle.xs_body.specs.Inside.{IsEvaluator};
     ghost use Rattle.xs_body.specs.steps.Frames.{evaluation_of};
 
-    ghost view = { λ e. evaluation_of e.world e.frames.items e.slots.items };
+    ghost view = { λ e. evaluation_of (record {
+      sheet = e.sheet.now;
+      index = e.index.now;
+      tree = e.tree.now;
+      keys = K.tables e.keys.now;
+      globals = e.globals.now;
+      grain = e.grain;
+    }) e.frames.items e.slots.items };
 
-    ghost invariant = { λ e. AreIn e.world.tree e.frames.items e.slots.items };
+    ghost invariant = { λ e. IsEvaluator (record {
+      sheet = e.sheet.now;
+      index = e.index.now;
+      tree = e.tree.now;
+      keys = K.tables e.keys.now;
+      globals = e.globals.now;
+      grain = e.grain;
+    }) e.frames.items e.slots.items };
 }
 
 impl<'a, K: KeyFinder> Evaluator<'a, K> {
@@ -79,7 +103,12 @@ impl<'a, K: KeyFinder> Evaluator<'a, K> {
     {
         Evaluator {
             alloc,
-            world: world.copy(),
+            sheet: world.sheet,
+            index: world.index,
+            tree: world.tree,
+            keys: world.keys,
+            globals: world.globals,
+            grain: world.grain,
             frames: Vec::new(alloc),
             slots,
         }
@@ -160,23 +189,23 @@ impl<'a, K: KeyFinder> Evaluator<'a, K> {
         ensures kept { T.kept tally.new ≡ T.kept tally.old }
         ensures inside { IfOk result (IsIn self.now.world.tree) }
     {
-        let world = &self.world;
         let focus = scope.focus;
+        let current = Node::at(focus.node);
         let context = Context {
-            tree: world.tree,
+            tree: self.tree,
             node: Node::at(focus.node),
             position: focus.position,
             size: focus.size,
-            current: Node::at(focus.node),
+            current,
             locals: self.locals(scope),
-            globals: world.globals,
+            globals: self.globals,
             scope: expr.scope.scope(),
         };
         evaluate(
             self.alloc,
             expr.expr.expr(),
             &context,
-            world.keys,
+            self.keys,
             site,
             tally,
         )
@@ -218,8 +247,7 @@ impl<'a, K: KeyFinder> Evaluator<'a, K> {
         ensures kept { T.kept tally.new ≡ T.kept tally.old }
     {
         let value = self.value(expr, site, scope, tally)?;
-        let world = &self.world;
-        Ok(to_text(self.alloc, world.tree, &value)?)
+        Ok(to_text(self.alloc, self.tree, &value)?)
     }
 
     /// Whether its value as a boolean is true (9.1, 9.2).
@@ -254,23 +282,22 @@ impl<'a, K: KeyFinder> Evaluator<'a, K> {
             (T.state tally.old)) result (T.state tally.new) }
         ensures kept { T.kept tally.new ≡ T.kept tally.old }
     {
-        let world = &self.world;
         let focus = scope.focus;
         let context = Context {
-            tree: world.tree,
+            tree: self.tree,
             node: Node::at(focus.node),
             position: focus.position,
             size: focus.size,
             current: Node::at(focus.node),
             locals: self.locals(scope),
-            globals: world.globals,
+            globals: self.globals,
             scope: template.scope.scope(),
         };
         evaluate_avt(
             self.alloc,
             template.parts.as_slice(),
             &context,
-            world.keys,
+            self.keys,
             site,
             tally,
         )

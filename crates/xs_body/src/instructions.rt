@@ -150,9 +150,8 @@ impl<'a, K: KeyFinder> Evaluator<'a, K> {
             result (R.state recorder.new) }
         ensures kept { R.kept recorder.new ≡ R.kept recorder.old }
     {
-        let world = &self.world;
         let fragment = recorder.close_capture();
-        let text = events_text(self.alloc, world.tree, fragment)?;
+        let text = events_text(self.alloc, self.tree, fragment)?;
         say_message(recorder, site, text)?;
         if terminate {
             return Err(Halt::Fault(Fault::Terminated, site));

@@ -43,8 +43,7 @@ impl<'a, K: KeyFinder> Evaluator<'a, K> {
             (R.state recorder.old)) result (R.state recorder.new) }
         ensures kept { R.kept recorder.new ≡ R.kept recorder.old }
     {
-        let world = &self.world;
-        let aliases = world.sheet.aliases.as_slice();
+        let aliases = self.sheet.aliases.as_slice();
         put_literal_start(self.alloc, aliases, start, site, recorder)?;
         self.push(Frame::End)?;
         self.push_body(body, scope.inner())?;
@@ -92,8 +91,7 @@ impl<'a, K: KeyFinder> Evaluator<'a, K> {
         ensures kept { R.kept recorder.new ≡ R.kept recorder.old }
     {
         let value = self.template(&attribute.1, site, scope, recorder)?;
-        let world = &self.world;
-        let aliases = world.sheet.aliases.as_slice();
+        let aliases = self.sheet.aliases.as_slice();
         let name = attribute_label(self.alloc, aliases, &attribute.0)?;
         put_attribute(name, value, site, recorder)
     }

@@ -84,7 +84,7 @@ impl<'a> Passed<'a> {
 
     /// The same for several templates: each further copy takes constant time.
     pub(crate) fn shared(self, alloc: Global) -> Result<Passed<'a>, AllocError>
-        ensures { IfOk result (λ shared. shared ≡ self) }
+        ensures { IfOk result (λ shared. shared ≡ self.entry) }
     {
         let Passed { bindings, values } = self;
         let values = match values {

@@ -17,15 +17,14 @@ impl<'a, K: KeyFinder> Evaluator<'a, K> {
         requires node { node < length self.now.world.tree }
         ensures { IfOk result (λ rule. rule ≡ rule_for self.now.world mode node) }
     {
-        let world = &self.world;
         let node = Node::at(node);
         let rule = choose_with(
             self.alloc,
-            &world.index.rules,
-            world.tree,
+            &self.index.rules,
+            self.tree,
             node,
             mode,
-            world.keys,
+            self.keys,
         )?;
         Ok(template_of(rule))
     }
@@ -35,16 +34,15 @@ impl<'a, K: KeyFinder> Evaluator<'a, K> {
         requires node { focus.node < length self.now.world.tree }
         ensures { IfOk result (λ rule. rule ≡ import_for self.now.world current focus) }
     {
-        let world = &self.world;
         let node = Node::at(focus.node);
         let mode = focus.mode;
         let rule = choose_import_with(
             self.alloc,
-            &world.index.rules,
-            world.tree,
+            &self.index.rules,
+            self.tree,
             node,
             mode,
-            world.keys,
+            self.keys,
             current,
         )?;
         Ok(template_of(rule))

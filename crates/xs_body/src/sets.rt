@@ -19,8 +19,7 @@ impl<'a, K: KeyFinder> Evaluator<'a, K> {
         ensures { result
             ≡ with_levels (focus.depth - 1) (all_set_levels self.now.world) focus }
     {
-        let world = &self.world;
-        focus.with_levels(focus.depth - 1, world.sheet.sets.as_slice().len())
+        focus.with_levels(focus.depth - 1, self.sheet.sets.as_slice().len())
     }
 
     /// Puts the attribute sets of some names before what else is to be done, where there are any.
@@ -46,7 +45,7 @@ impl<'a, K: KeyFinder> Evaluator<'a, K> {
         match names.split_first() {
             None => Ok(()),
             Some((name, others)) => {
-                let declarations = self.world.index.sets.declarations(name);
+                let declarations = self.index.sets.declarations(name);
                 self.push(Frame::Sets(others, focus))?;
                 self.push(Frame::Declared(declarations, focus))
             }

@@ -28,8 +28,7 @@ impl<'a, K: KeyFinder> Evaluator<'a, K> {
         if focus.is_captured {
             return None;
         }
-        let world = &self.world;
-        match world.grain {
+        match self.grain {
             Some(grain) if size > grain => Some(grain),
             _ => None,
         }
@@ -74,7 +73,7 @@ pub(crate) fn leave<'a, R: Recorder<Task = Task<'a>>>(
 ) -> Result<(), Halt>
     requires takes { R.takes_holes ≡ true }
     ensures told { IsStep
-        (play (map Hole (shared grain grain task nodes.now)) (R.state recorder.old))
+        (play (map Hole (shared grain grain task.entry nodes.now)) (R.state recorder.old))
         result (R.state recorder.new) }
     ensures kept { R.kept recorder.new ≡ R.kept recorder.old }
 {

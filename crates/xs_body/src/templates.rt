@@ -145,8 +145,7 @@ impl<'a, K: KeyFinder> Evaluator<'a, K> {
             (R.state recorder.old)) result (R.state recorder.new) }
         ensures kept { R.kept recorder.new ≡ R.kept recorder.old }
     {
-        let world = &self.world;
-        match world.tree.kind(Node::at(focus.node)) {
+        match self.tree.kind(Node::at(focus.node)) {
             Kind::Root | Kind::Element => self.apply_to_children(mode, site, focus, recorder),
             Kind::Text | Kind::Attribute => self.put_own_text(site, focus, recorder),
             Kind::Space | Kind::Comment | Kind::Pi => Ok(()),
@@ -190,8 +189,7 @@ impl<'a, K: KeyFinder> Evaluator<'a, K> {
             result (R.state recorder.new) }
         ensures kept { R.kept recorder.new ≡ R.kept recorder.old }
     {
-        let world = &self.world;
-        let text = TextBuf::of(self.alloc, world.tree.text(Node::at(focus.node)))?;
+        let text = TextBuf::of(self.alloc, self.tree.text(Node::at(focus.node)))?;
         put_text(site, text, recorder)
     }
 
@@ -207,8 +205,7 @@ impl<'a, K: KeyFinder> Evaluator<'a, K> {
         ensures begun { OnOk result (self.new ≡ template_begun
             (slice_get self.old.world.sheet.templates template) passed.entry focus self.old) }
     {
-        let world = &self.world;
-        let sheet = world.sheet;
+        let sheet = self.sheet;
         if let Some(template) = sheet.templates.as_slice().get(template as usize) {
             return self.push_params(ParamsLeft {
                 left: template.params.as_slice(),

@@ -1,7 +1,5 @@
 //! What a stylesheet is evaluated over.
 
-ghost use Rattle.std.specs.Prelude.{◌≡◌};
-
 use std::marker::Model;
 use xs_semantics::index::SheetIndex;
 use xs_sheet::sheet::Sheet;
@@ -59,20 +57,4 @@ impl<'a, K: KeyFinder> Model for World<'a, K> {
       globals = w.globals.now;
       grain = w.grain;
     }) };
-}
-
-impl<'a, K: KeyFinder> World<'a, K> {
-    /// The same.
-    pub(crate) fn copy(&self) -> World<'a, K>
-        ensures { result ≡ self.now }
-    {
-        World {
-            sheet: self.sheet,
-            index: self.index,
-            tree: self.tree,
-            keys: self.keys,
-            globals: self.globals,
-            grain: self.grain,
-        }
-    }
 }

@@ -336,7 +336,8 @@ choice_begun choice p c t s =
 
 abbrev pub if_begun : ScopedExpr → Body → Site → Scope → Evaluation → State Task → Step Task Evaluation
 if_begun test body p c t s =
-    and_then (limited p (test_run t.world test c.focus (last c.seen t.slots)) s) (λ b m. Goes (pushed (if b then rest (instrs_of body) (inner c) ∷ [] else []) t) m)
+    and_then (limited p (test_run t.world test c.focus (last c.seen t.slots)) s)
+    (λ b m. Goes (pushed (if b then rest (instrs_of body) (inner c) ∷ [] else []) t) m)
 
 abbrev pub message_begun : Bool → Body → Site → Scope → Evaluation → State Task → Step Task Evaluation
 message_begun terminate body p c t s = Goes (pushed (rest (instrs_of body) (captured_scope c) ∷ say p terminate ∷ []) t) (opened s)
@@ -348,7 +349,8 @@ inside_begun sets body c t = pushed (sets_works sets c.focus) (pushed (rest (ins
 abbrev pub literal_begun : LiteralStart → Body → Site → Scope → Evaluation → State Task → Step Task Evaluation
 literal_begun start body p c t s =
     and_then (literal_steps t.world.sheet.aliases p start s)
-    (λ u m. Goes (pushed (sets_works start.sets c.focus) (pushed (attributes_left start.attributes p c ∷ rest (instrs_of body) (inner c) ∷ end_element ∷ []) t)) m)
+    (λ u m. Goes (pushed (sets_works start.sets c.focus)
+    (pushed (attributes_left start.attributes p c ∷ rest (instrs_of body) (inner c) ∷ end_element ∷ []) t)) m)
 
 abbrev pub element_put : Label → List Label → Body → Scope → Evaluation → State Task → Step Task Evaluation
 element_put name sets body c t s = and_then (put (Start name) s) (λ u m. Goes (inside_begun sets body c t) m)
