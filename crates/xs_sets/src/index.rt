@@ -36,8 +36,9 @@ impl<'a> SetIndex<'a> {
     }
 
     /// The declarations of a name; none where it reaches no attribute.
-    pub fn declarations(&self, name: &Label) -> &[&'a AttrSet]
-        ensures declarations { map (λ s. s.now) result.now ≡ declarations_in self.now name.now }
+    pub fn declarations(&self, name: &'a Label) -> &[&'a AttrSet]
+        ensures declarations { map (λ s. s.now) result.now
+            ≡ declarations_in self.now name.entry.now }
     {
         if !self.marks.has(name) {
             return &[];
