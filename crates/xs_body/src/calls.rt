@@ -41,7 +41,7 @@ impl<'a, K: KeyFinder> Evaluator<'a, K> {
         requires callee { AreCallees self.old.world.tree callee }
         ensures told { IsStepBy (λ u. self.new)
             (passes_on (bindings_of passed.now) (bindings_of passed.now) []
-            (called_of callee.entry) site scope self.old
+            (called_of callee) site scope self.old
             (R.state recorder.old)) result (R.state recorder.new) }
         ensures kept { R.kept recorder.new ≡ R.kept recorder.old }
     {
