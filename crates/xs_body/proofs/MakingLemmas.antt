@@ -9,7 +9,7 @@ use Rattle.xs_trace.specs.Label.{Label}
 use Rattle.xs_trace.specs.Mark.{Trace, ◌⨾◌}
 use Rattle.xs_trace.specs.Run.{Run, Gives, Faults, give, limited, evaluated, ◌>>=◌}
 use Rattle.xs_trace.specs.State.{State, popped, top}
-use Rattle.xs_trace.specs.Play.{Step, Goes, Told, and_then, goes, put_at, play}
+use Rattle.xs_trace.specs.Play.{IsStepBy, Step, Goes, Told, and_then, goes, put_at, play}
 use Rattle.xs_trace.specs.declared.event.Event.{Event}
 use Rattle.xs_trace.specs.declared.event.Event.TheVariants as event
 use Rattle.xs_trace.specs.declared.event.Event.TheVariants.{Start, Chars}
@@ -24,7 +24,10 @@ use Rattle.xs_value.specs.declared.value.Value.TheVariants as value
 use Rattle.xs_value.specs.Conversion.{text_value}
 use Rattle.xs_eval.specs.Results.{given}
 use Rattle.xs_making.specs.Copies.{deep_copy}
+use Rattle.xs_making.specs.declared.ends.MakeEnd.{MakeEnd}
+use Rattle.xs_making.specs.declared.ends.MakeEnd.TheVariants as end
 use Rattle.xs_making.specs.Names.{pi_target, result_name}
+use Rattle.xs_making.specs.Results.{IsMade}
 use Rattle.xs_making.specs.Texts.{comment_text, instruction_text}
 use Rattle.xs_semantics.specs.declared.focus.Focus.{Focus}
 use Rattle.xs_semantics.specs.declared.made.Made.{Made}
@@ -35,7 +38,7 @@ use Rattle.xs_semantics.specs.Making.{made_events, space_events, target_run, tex
 use Rattle.xs_semantics.specs.Tasks.{Task}
 use Rattle.xs_semantics.specs.Trace.{begins, literal_attributes, puts, puts_all}
 use Rattle.xs_body.specs.steps.Making.{attribute_steps, attributes_steps, chars_steps, copy_steps, depth_after, events_steps, literal_steps, made_at}
-use Rattle.xs_body.specs.steps.Making.{is_declaration, is_unbound, made_ended, made_steps, name_steps, named_steps, namespace_steps, nodes_steps}
+use Rattle.xs_body.specs.steps.Making.{halted, is_declaration, is_unbound, made_ended, made_steps, name_steps, named_steps, namespace_steps, nodes_steps}
 use Rattle.xs_body.specs.steps.Making.{outcome_steps, space_steps, spaces_steps, target_steps, text_added}
 
 -- ---- events
@@ -145,6 +148,13 @@ copy-told rs p (value.Number n) s =
 outcome-told : {A : Type 0} (p : Site) (r : Result A RunFault) (s : State Task) → outcome_steps p r s ≡ limited p (given r) s
 outcome-told p (Ok x) s = sym (limited-end p (Gives x) s)
 outcome-told p (Err f) s = sym (limited-end p (Faults f) s)
+
+-- what the code answers of what was made
+pub made-answers : {A : Type 0} (p : Site) (r : Result A RunFault) (m : Result A MakeEnd) (s : State Task) → IsMade r m →
+    IsStepBy (λ (x : A). x) (outcome_steps p r s) (halted p m) s
+made-answers p r (Ok x) s e = ap (λ q. outcome_steps p q s) e
+made-answers p r (Err (end.Fault f)) s e = ap (λ q. outcome_steps p q s) e
+made-answers p r (Err end.NoMemory) s e = tt
 
 namespace-told : (w : World) (p : Site) (f : Focus) (vs : List Value) (o : Option ValueTemplate) (s : State Task) →
     namespace_steps w p f vs o s ≡ limited p (namespace_run w o f vs) s
