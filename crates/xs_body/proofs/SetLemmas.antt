@@ -1,14 +1,13 @@
 -- What an index of attribute sets leaves out puts nothing.
-use Rattle.std.proofs.Common.{◌≡◌, ℕ, zero, suc, List, [], ◌∷◌, filter, Bool, true, false, cond, refl, sym, ap, ◌∙◌}
+use Rattle.std.proofs.Common.{◌≡◌, ◌⊎◌, inl, inr, ℕ, zero, suc, List, [], ◌∷◌, refl, sym, ap, ◌∙◌}
 use Rattle.std.specs.List.{All}
 use Rattle.std.proofs.lemmas.List.Elements.{All-head, All-tail}
 use Rattle.xs_sheet.specs.declared.declarations.AttrSet.{AttrSet}
-use Rattle.xs_sheet.specs.declared.body.Instr.{Instr}
 use Rattle.xs_trace.specs.Label.{Label}
 use Rattle.xs_trace.specs.Mark.{Trace, ◌⨾◌}
 use Rattle.xs_trace.specs.declared.item.Site.{Site}
 use Rattle.xs_sets.specs.Declarations.{declarations_of}
-use Rattle.xs_sets.specs.Indexed.{IsSetIndex, declarations_in}
+use Rattle.xs_sets.specs.Indexed.{IsIdle, IsServed, IsSetIndex, declarations_in}
 use Rattle.xs_semantics.specs.declared.focus.Focus.{Focus}
 use Rattle.xs_semantics.specs.World.{World, with_levels}
 use Rattle.xs_semantics.specs.Tasks.{Task}
@@ -23,28 +22,23 @@ module _ (w : World) (i : IsSetIndex w.sheet.sets w.index.sets) where
   abbrev PutsNothing : Calls → Focus → Type 0
   PutsNothing k f = (names : List Label) → AreIdle names → (p : Site) → k (using names) p f ≡ []
 
-  idle-then : (k : Calls) (f : Focus) → PutsNothing k f → (s : AttrSet) → i.is_kept s ≡ false →
-      k (using s.sets) s.site f ⨾ instrs_trace s.attributes w k f [] ≡ []
-  idle-then k f e s q =
-      ap (λ x. x ⨾ instrs_trace s.attributes w k f []) (e s.sets (i.idle s q).sets s.site)
-      ∙ ap (λ is. instrs_trace is w k f []) (i.idle s q).attributes
+  idle-declared : (k : Calls) (f : Focus) → PutsNothing k f → (ss : List AttrSet) → All (IsIdle w.index.sets) ss → declared_trace ss w k f ≡ []
+  idle-declared k f e [] h = refl
+  idle-declared k f e (s ∷ ss) h =
+      let d = All-head (IsIdle w.index.sets) s ss h in
+      ap (λ x. (x ⨾ instrs_trace s.attributes w k f []) ⨾ declared_trace ss w k f) (e s.sets d.sets s.site)
+      ∙ ap (λ is. instrs_trace is w k f [] ⨾ declared_trace ss w k f) d.attributes
+      ∙ idle-declared k f e ss (All-tail (IsIdle w.index.sets) s ss h)
 
-  kept-declared : (k : Calls) (f : Focus) → PutsNothing k f → (ss : List AttrSet) → declared_trace ss w k f ≡ declared_trace (filter i.is_kept ss) w k f
-  kept-declared k f e [] = refl
-  kept-declared k f e (s ∷ ss) = by_test (i.is_kept s) refl (kept-declared k f e ss)
-    where
-      own : Trace Task
-      own = k (using s.sets) s.site f ⨾ instrs_trace s.attributes w k f []
-
-      by_test : (b : Bool) → i.is_kept s ≡ b → declared_trace ss w k f ≡ declared_trace (filter i.is_kept ss) w k f →
-          own ⨾ declared_trace ss w k f ≡ declared_trace (cond b (s ∷ filter i.is_kept ss) (filter i.is_kept ss)) w k f
-      by_test true q h = ap (λ x. own ⨾ x) h
-      by_test false q h = ap (λ x. x ⨾ declared_trace ss w k f) (idle-then k f e s q) ∙ h
+  by-index : (k : Calls) (f : Focus) → PutsNothing k f → (name : Label) → IsServed w.sheet.sets w.index.sets name →
+      declared_trace (declarations_of w.sheet.sets name) w k f ≡ declared_trace (declarations_in w.index.sets name) w k f
+  by-index k f e name (inl q) = sym (ap (λ ss. declared_trace ss w k f) q)
+  by-index k f e name (inr q) =
+      idle-declared k f e (declarations_of w.sheet.sets name) q.1 ∙ sym (ap (λ ss. declared_trace ss w k f) q.0)
 
   indexed : (k : Calls) (f : Focus) → PutsNothing k f → (name : Label) →
       declared_trace (declarations_of w.sheet.sets name) w k f ≡ declared_trace (declarations_in w.index.sets name) w k f
-  indexed k f e name =
-      kept-declared k f e (declarations_of w.sheet.sets name) ∙ ap (λ ss. declared_trace ss w k f) (sym (i.lists name))
+  indexed k f e name = by-index k f e name (i name)
 
   idle-sets : (k : Calls) (f : Focus) → PutsNothing k f → (names : List Label) → AreIdle names → sets_trace names w k f ≡ []
   idle-sets k f e [] h = refl

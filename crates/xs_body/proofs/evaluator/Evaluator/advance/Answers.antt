@@ -26,3 +26,7 @@ take_value-requires-sync-K g c κs within =
 pub next_param-requires-sync-K : goal.next_param-requires-sync-K
 next_param-requires-sync-K g c κs within =
     let first = subst (λ (f : Frame). IsInside c.args.self.now.world.tree f) c.in-Params.is c.requires.first in (search rules, ((refl, tt), first))
+
+pub put_attributes-requires-sync-K : goal.put_attributes-requires-sync-K
+put_attributes-requires-sync-K g c κs within =
+    let first = subst (λ (f : Frame). IsInside c.args.self.now.world.tree f) c.in-Attributes.is c.requires.first in (search rules, ((refl, tt), first))
