@@ -34,8 +34,10 @@ use Rattle.xs_body.specs.declared.frames.Scope.{Scope}
 use Rattle.xs_body.specs.steps.Frames.{Work, rest, fill, each_left, apply_left, bodies_left, end_element, sets_left, declared_left, attributes_left}
 use Rattle.xs_body.specs.steps.Frames.{make, say, pass, take_value, params_left, Evaluation, last}
 use Rattle.xs_body.specs.steps.Frames.{inner, over, after, bound, bindings_of, bodies_of, chosen, instrs_of, message_ended, pushed, filled_up, stays}
-use Rattle.xs_body.specs.steps.Frames.{chars_steps, run_by, run_begun, applied_begun, template_begun, built_in_begun, rule_begun, entry_begun, entering, call_begun}
-use Rattle.xs_body.specs.steps.Frames.{imports_begun, content_begun, passes_on, pass_begun, params_first, fragment_at, param_begun, fallbacks_begun, next_body, looping, loop_begun, value_steps, begun}
+use Rattle.xs_body.specs.steps.Frames.{chars_steps, run_by, run_begun, applied_begun, template_begun, built_in_begun, rule_begun, entry_begun}
+use Rattle.xs_body.specs.steps.Frames.{entering, call_begun}
+use Rattle.xs_body.specs.steps.Frames.{imports_begun, content_begun, passes_on, pass_begun, params_first, fragment_at, param_begun}
+use Rattle.xs_body.specs.steps.Frames.{fallbacks_begun, next_body, looping, loop_begun, value_steps, begun}
 use Rattle.xs_body.specs.steps.Frames.{advanced, copied_begun, copy_of_steps, declarations_begun, element_put, in_template, inside_begun, made_begun}
 use Rattle.xs_body.specs.steps.Frames.{sets_begun, sets_works}
 use Rattle.xs_body.specs.steps.Making.{attributes_steps, events_steps, literal_steps, made_ended, name_steps, target_steps}

@@ -11,5 +11,6 @@ returns-in_err-tick-clause-told g c =
     let p = err_from_is_err_and c.from_residual.result c.from_residual.ensures.1 in
     let e = overridden c.args.rule in
     let t = c.args.self.now in
-    stack-exit (λ x. x) (ticked c.args.site (g.R.Tally.state c.args.recorder.now)) (λ u m. entering e c.args.site c.args.focus t m) _ _ c.from_residual.result _ _
+    stack-exit (λ x. x) (ticked c.args.site (g.R.Tally.state c.args.recorder.now))
+    (λ u m. entering e c.args.site c.args.focus t m) _ _ c.from_residual.result _ _
     (λ u. entering-grows e c.args.site c.args.focus t) p.1 p.2 c.in_err-tick.ensures.told
