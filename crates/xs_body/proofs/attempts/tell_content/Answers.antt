@@ -15,18 +15,18 @@ returns-in_err-open_capture-clause-told g c =
 
 pub finish-requires-sync-K : goal.finish-requires-sync-K
 finish-requires-sync-K g c κs within =
-    let w = ap (λ (t : Evaluation). t.world) c.in_ok-evaluator.ensures in
+    let w = ap (λ (t : Evaluation). t.world) c.in_ok-evaluator.ensures.begun in
     (search rules, ((refl, tt), subst (λ (v : World). IsSome v.grain → _) (sym w) c.requires.holes))
 
 pub returns-in_err-finish-clause-told : goal.returns-in_err-finish-clause-told
 returns-in_err-finish-clause-told g c =
     let p = err_from_is_err_and c.from_residual-in_err-finish.result c.from_residual-in_err-finish.ensures.1 in
     content-exit c.args.world.now c.args.body.now c.in_ok-evaluator.evaluator (g.R.Tally.state c.args.recorder.now) (g.R.Tally.state c.open_capture.new.self)
-    (g.R.Tally.state c.finish.new.recorder) c.from_residual-in_err-finish.result _ _ c.in_ok-evaluator.ensures c.in_ok-open_capture.ensures.told p.1 p.2
+    (g.R.Tally.state c.finish.new.recorder) c.from_residual-in_err-finish.result _ _ c.in_ok-evaluator.ensures.begun c.in_ok-open_capture.ensures.told p.1 p.2
     c.in_err-finish.ensures.told
 
 pub returns-clause-told : goal.returns-clause-told
 returns-clause-told g c =
     content-ends c.args.world.now c.args.body.now c.in_ok-evaluator.evaluator (g.R.Tally.state c.args.recorder.now) (g.R.Tally.state c.open_capture.new.self)
-    (g.R.Tally.state c.finish.new.recorder) _ _ _ c.in_ok-evaluator.ensures c.in_ok-open_capture.ensures.told c.in_ok-finish.ensures.told
+    (g.R.Tally.state c.finish.new.recorder) _ _ _ c.in_ok-evaluator.ensures.begun c.in_ok-open_capture.ensures.told c.in_ok-finish.ensures.told
     c.close_capture-fragment.ensures.events c.close_capture-fragment.ensures.rest c.in_ok-fragment_value.ensures
