@@ -36,7 +36,7 @@ impl<'a> SetIndex<'a> {
     }
 
     /// The declarations of a name; none where it reaches no attribute.
-    pub fn declarations(&self, name: &'a Label) -> &[&'a AttrSet]
+    pub fn declarations(&'a self, name: &'a Label) -> &'a [&'a AttrSet]
         ensures declarations { map (λ s. s.now) result.now
             ≡ declarations_in self.now name.entry.now }
     {
