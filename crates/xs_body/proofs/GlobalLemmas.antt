@@ -22,10 +22,10 @@ use Rattle.xs_value.specs.declared.value.Value.TheVariants.{Piece}
 use Rattle.xs_semantics.specs.declared.focus.Focus.{Focus}
 use Rattle.xs_semantics.specs.World.{World, captured_in, value_run}
 use Rattle.xs_semantics.specs.Tasks.{Task}
-use Rattle.xs_semantics.specs.Trace.{body_trace, content_trace, called, fragment_of, most_depth}
+use Rattle.xs_semantics.specs.Trace.{body_trace, content_trace, fragment_of, instrs_trace}
 use Rattle.xs_semantics.specs.Globals.{content_value, global_focus, value_in}
 use Rattle.xs_body.specs.steps.Attempts.{binding_steps, fragment_steps}
-use Rattle.xs_body.specs.steps.Frames.{Stack, rest, last, without, outer, instrs_of, instrs_trace, fragment_at, pushed, stack_told}
+use Rattle.xs_body.specs.steps.Frames.{Evaluation, idle, rest, last, without, outer, instrs_of, fragment_at, pushed, stack_told}
 use Rattle.xs_semantics.specs.Trace.{calls_at}
 use Rattle.xs_body.proofs.GrowthLemmas.{popped-grows}
 use Rattle.xs_body.proofs.LoopLemmas.{alone}
@@ -59,37 +59,37 @@ content-told x s =
     ∙ ap (λ y. and_then (play y s) (λ u m. Goes (Piece (fragment_of (events_of x))) m)) (sym (then-nil (without_puts x)))
 
 -- the content of a global is what the stack tells that it begins with
-pub content-starts : (w : World) (body : Body) (f : Focus) (t : Stack) (s : State Task) →
-    t ≡ pushed (rest (instrs_of body) (outer f) ∷ []) (record { works = []; slots = [] }) →
-    play (body_trace body w (calls_at w f) f []) s ≡ stack_told w t s
+pub content-starts : (w : World) (body : Body) (f : Focus) (t : Evaluation) (s : State Task) →
+    t ≡ pushed (rest (instrs_of body) (outer f) ∷ []) (idle w []) →
+    play (body_trace body w (calls_at w f) f []) s ≡ stack_told t s
 content-starts w body f t s e =
     let x : List Value → Trace Task = λ vs. instrs_trace (instrs_of body) w (calls_at w f) f vs in
     ap (λ y. play y s) (body-instrs body w (calls_at w f) f [])
     ∙ ap (λ vs. play (x vs) s) (sym (last-none []))
     ∙ alone w (x (last 0 [])) (without 0 []) s
-    ∙ ap (λ (u : Stack). stack_told w u s) (sym e)
+    ∙ ap (λ (u : Evaluation). stack_told u s) (sym e)
 
 abbrev Closes : Step Task (Unit {0}) → Step Task Value
 Closes g = and_then g (λ u n. Goes (fragment_at n) (popped n))
 
-fragment-opened : (w : World) (body : Body) (t : Stack) (s s1 : State Task) →
-    t ≡ pushed (rest (instrs_of body) (outer global_focus) ∷ []) (record { works = []; slots = [] }) → goes (opened s) ≡ goes s1 →
-    fragment_steps w body s ≡ Closes (stack_told w t s1)
+fragment-opened : (w : World) (body : Body) (t : Evaluation) (s s1 : State Task) →
+    t ≡ pushed (rest (instrs_of body) (outer (global_focus w)) ∷ []) (idle w []) → goes (opened s) ≡ goes s1 →
+    fragment_steps w body s ≡ Closes (stack_told t s1)
 fragment-opened w body t s s1 e o =
-    let x : Trace Task = body_trace body w (calls_at w global_focus) global_focus [] in
-    ap (λ j. and_then j (λ u n. Closes (play x n))) o ∙ ap (λ g. Closes g) (content-starts w body global_focus t s1 e)
+    let x : Trace Task = body_trace body w (calls_at w (global_focus w)) (global_focus w) [] in
+    ap (λ j. and_then j (λ u n. Closes (play x n))) o ∙ ap (λ g. Closes g) (content-starts w body (global_focus w) t s1 e)
 
 -- an end in it is an end of the attempt
-pub content-exit : (w : World) (body : Body) (t : Stack) (s s1 m : State Task) (r : Result Value Halt) (y h : Halt) →
-    t ≡ pushed (rest (instrs_of body) (outer global_focus) ∷ []) (record { works = []; slots = [] }) → goes (opened s) ≡ goes s1 → r ≡ Err y → y ≡ h →
-    IsStep (stack_told w t s1) (Err h) m → IsStep (fragment_steps w body s) r m
+pub content-exit : (w : World) (body : Body) (t : Evaluation) (s s1 m : State Task) (r : Result Value Halt) (y h : Halt) →
+    t ≡ pushed (rest (instrs_of body) (outer (global_focus w)) ∷ []) (idle w []) → goes (opened s) ≡ goes s1 → r ≡ Err y → y ≡ h →
+    IsStep (stack_told t s1) (Err h) m → IsStep (fragment_steps w body s) r m
 content-exit w body t s s1 m r y h e o a b i =
-    passes (λ (x : Unit {0}). x) (λ (v : Value). v) (fragment_steps w body s) (stack_told w t s1) (λ u n. Goes (fragment_at n) (popped n)) m r y h
+    passes (λ (x : Unit {0}). x) (λ (v : Value). v) (fragment_steps w body s) (stack_told t s1) (λ u n. Goes (fragment_at n) (popped n)) m r y h
     (fragment-opened w body t s s1 e o) (λ u. popped-grows (λ n k. Goes (fragment_at n) k) (λ n. goes-grows (fragment_at n))) a b i
 
-pub content-ends : (w : World) (body : Body) (t : Stack) (s s1 m n : State Task) (v : Value) (es : List Event) →
-    t ≡ pushed (rest (instrs_of body) (outer global_focus) ∷ []) (record { works = []; slots = [] }) → goes (opened s) ≡ goes s1 →
-    stack_told w t s1 ≡ goes m → es ≡ top m.captures → n ≡ popped m → v ≡ Piece (fragment_of es) → fragment_steps w body s ≡ Goes v n
+pub content-ends : (w : World) (body : Body) (t : Evaluation) (s s1 m n : State Task) (v : Value) (es : List Event) →
+    t ≡ pushed (rest (instrs_of body) (outer (global_focus w)) ∷ []) (idle w []) → goes (opened s) ≡ goes s1 →
+    stack_told t s1 ≡ goes m → es ≡ top m.captures → n ≡ popped m → v ≡ Piece (fragment_of es) → fragment_steps w body s ≡ Goes v n
 content-ends w body t s s1 m n v es e o i k q a =
     let same : v ≡ fragment_at m = a ∙ ap (λ z. Piece (fragment_of z)) k in
     fragment-opened w body t s s1 e o ∙ ap (λ g. Closes g) i ∙ ap (λ (x : Value). Goes x (popped m)) (sym same) ∙ ap (λ (x : State Task). Goes v x) (sym q)
@@ -98,7 +98,7 @@ content-ends w body t s s1 m n v es e o i k q a =
 pub capture-exit : (w : World) (body : Body) (s m : State Task) (r : Result Value Halt) (y h : Halt) → r ≡ Err y → y ≡ h →
     IsStep (goes (opened s)) (Err h) m → IsStep (fragment_steps w body s) r m
 capture-exit w body s m r y h a b i =
-    let x : Trace Task = body_trace body w (calls_at w global_focus) global_focus [] in
+    let x : Trace Task = body_trace body w (calls_at w (global_focus w)) (global_focus w) [] in
     let f : Unit {0} → State Task → Step Task Value = λ u n. Goes (fragment_at n) (popped n) in
     let closes : (u : Unit {0}) → Grows (f u) = λ u. popped-grows (λ n k. Goes (fragment_at n) k) (λ n. goes-grows (fragment_at n)) in
     passes (λ (q : Unit {0}). q) (λ (v : Value). v) (fragment_steps w body s) (goes (opened s)) (λ u n. and_then (play x n) f) m r y h refl
@@ -106,16 +106,16 @@ capture-exit w body s m r y h a b i =
 
 -- what the content of a binding does
 pub selected-binding : (w : World) (b : Binding) (e : ScopedExpr) (s m : State Task) (r : Result Value Halt) → b.content ≡ Select e →
-    IsStep (limited b.site (value_run w e global_focus []) s) r m → IsStep (binding_steps w b s) r m
+    IsStep (limited b.site (value_run w e (global_focus w) []) s) r m → IsStep (binding_steps w b s) r m
 selected-binding w b e s m r q i =
     let steps : Content → Step Task Value =
-    λ c. and_then (play (content_trace c b.site w (called w most_depth) global_focus [] (λ v. [])) s) (λ u n. Goes (content_value w c) n) in
-    subst (λ c. IsStep (steps c) r m) (sym q) (subst (λ (g : Step Task Value). IsStep g r m) (select-told b.site (value_run w e global_focus []) s) i)
+    λ c. and_then (play (content_trace c b.site w (calls_at w (global_focus w)) (global_focus w) [] (λ v. [])) s) (λ u n. Goes (content_value w c) n) in
+    subst (λ c. IsStep (steps c) r m) (sym q) (subst (λ (g : Step Task Value). IsStep g r m) (select-told b.site (value_run w e (global_focus w) []) s) i)
 
 pub fragment-binding : (w : World) (b : Binding) (body : Body) (s m : State Task) (r : Result Value Halt) → b.content ≡ Fragment body →
     IsStep (fragment_steps w body s) r m → IsStep (binding_steps w b s) r m
 fragment-binding w b body s m r q i =
     let steps : Content → Step Task Value =
-    λ c. and_then (play (content_trace c b.site w (called w most_depth) global_focus [] (λ v. [])) s) (λ u n. Goes (content_value w c) n) in
+    λ c. and_then (play (content_trace c b.site w (calls_at w (global_focus w)) (global_focus w) [] (λ v. [])) s) (λ u n. Goes (content_value w c) n) in
     subst (λ c. IsStep (steps c) r m) (sym q)
-    (subst (λ (g : Step Task Value). IsStep g r m) (content-told (body_trace body w (called w most_depth) global_focus []) s) i)
+    (subst (λ (g : Step Task Value). IsStep g r m) (content-told (body_trace body w (calls_at w (global_focus w)) (global_focus w) []) s) i)

@@ -7,14 +7,14 @@ use Rattle.xs_sheet.specs.declared.body.Content.TheVariants.{Empty, Select, Body
 use Rattle.xs_sheet.specs.declared.body.InstrKind.{InstrKind, Variable'}
 use Rattle.xs_sheet.specs.declared.body.InstrKind.TheVariants.{ApplyTemplates, CallTemplate, ApplyImports, ForEach, ValueOf, CopyOf, Copy, Number, Choose, If}
 use Rattle.xs_sheet.specs.declared.body.InstrKind.TheVariants.{Text, Element, Attribute, Comment, Pi, Message, Literal, Extension}
-use Rattle.xs_sheet.specs.declared.body.LiteralStart.{LiteralStart}
 use Rattle.xs_sheet.specs.declared.scoped.ScopedExpr.{ScopedExpr}
 use Rattle.xs_trace.specs.Cut.{Fault}
+use Rattle.xs_trace.specs.Label.{Label}
 use Rattle.xs_trace.specs.Mark.{Hole, Trace}
 use Rattle.xs_trace.specs.Run.{limited}
 use Rattle.xs_trace.specs.State.{State, opened, popped, top}
 use Rattle.xs_trace.specs.Play.{Step, Goes, Told, and_then, goes, ticked, put, put_at, said_at, stops, play}
-use Rattle.xs_trace.specs.declared.event.Event.TheVariants.{Start, Space, Chars, End}
+use Rattle.xs_trace.specs.declared.event.Event.TheVariants.{Start, Chars, End}
 use Rattle.xs_trace.specs.declared.fault.Fault.TheVariants as fault
 use Rattle.xs_trace.specs.declared.item.Site.{Site}
 use Rattle.xs_trace.proofs.GrowthLemmas.{Grows, same, grows-then, stops-grow, goes-grows, ticked-grows, put-grows, put_at-grows, said_at-grows, play-grows}
@@ -22,19 +22,28 @@ use Rattle.xs_trace.proofs.RunLemmas.{limited-grows}
 use Rattle.xs_tree.specs.Kinds.{has_content, is_attribute_kind, is_text_kind}
 use Rattle.xs_tree.specs.Record.{Record, at, children}
 use Rattle.xs_value.specs.declared.value.Value.{Value}
+use Rattle.xs_value.specs.declared.value.Value.TheVariants.{Chars as String}
 use Rattle.xs_value.specs.Conversion.{fragment_text}
+use Rattle.xs_making.specs.Copies.{shallow_copy}
 use Rattle.xs_semantics.specs.declared.focus.Focus.{Focus}
+use Rattle.xs_semantics.specs.declared.made.Made.{Made}
+use Rattle.xs_semantics.specs.declared.made.Made.TheVariants as made
 use Rattle.xs_body.specs.declared.frames.Scope.{Scope}
-use Rattle.xs_semantics.specs.World.{World, in_list, with_depth, value_run, nodes_run, text_run, test_run, nodes_or_children}
+use Rattle.xs_semantics.specs.World.{World, in_list, value_run, nodes_run, text_run, test_run, nodes_or_children}
 use Rattle.xs_semantics.specs.Tasks.{Params, no_params, Job, body_job, rules_job, Task, tasks_for, grain_over}
 use Rattle.xs_semantics.specs.Rules.{rule_for, import_for}
-use Rattle.xs_semantics.specs.Trace.{Entry, named, fitting, overridden, Called, by_number, by_rules, each, body_trace, params_trace}
-use Rattle.xs_body.specs.steps.Frames.{Work, rest, fill, each_left, apply_left, bodies_left, end_element, say, pass, take_value, params_left, Stack, last}
-use Rattle.xs_body.specs.steps.Frames.{inner, over, bindings_of, instrs_of, bodies_of, chosen, instrs_trace, all_bodies, without, filled, ended}
+use Rattle.xs_semantics.specs.Trace.{Entry, named, fitting, overridden, using, Called, by_number, by_rules, each, body_trace, declared_trace}
+use Rattle.xs_semantics.specs.Trace.{instrs_trace, literal_attributes, params_trace, puts_all, sets_trace}
+use Rattle.xs_body.specs.steps.Frames.{Work, rest, fill, each_left, apply_left, bodies_left, end_element, sets_left, declared_left, attributes_left}
+use Rattle.xs_body.specs.steps.Frames.{make, say, pass, take_value, params_left, Evaluation, last}
+use Rattle.xs_body.specs.steps.Frames.{inner, over, bindings_of, instrs_of, bodies_of, chosen, all_bodies, without, filled, ended}
+use Rattle.xs_body.specs.steps.Frames.{copied_begun, copy_of_steps, element_put, in_template, inside_begun, made_begun, sets_works}
+use Rattle.xs_body.specs.steps.Making.{copy_steps, events_steps, literal_steps, made_at, name_steps, target_steps}
+use Rattle.xs_body.proofs.MakingLemmas.{copies-grow, events-grow, literal-grows, name-grows, target-grows}
 use Rattle.xs_semantics.specs.Trace.{calls_at}
 use Rattle.xs_body.specs.steps.Frames.{message_steps, message_ended, fragment_at, passing_left, work_steps, stack_steps, pushed, filled_up, stays}
-use Rattle.xs_body.specs.steps.Frames.{chars_steps, space_steps, literal_steps, run_by, run_begun, applied_begun, built_in_begun, rule_begun, entry_begun}
-use Rattle.xs_body.specs.steps.Frames.{entering, call_begun, imports_begun, content_begun, pass_begun, param_begun, fallbacks_begun, looping, loop_begun}
+use Rattle.xs_body.specs.steps.Frames.{chars_steps, run_by, run_begun, applied_begun, built_in_begun, rule_begun, entry_begun}
+use Rattle.xs_body.specs.steps.Frames.{entering, call_begun, imports_begun, content_begun, passes_on, pass_begun, param_begun, fallbacks_begun, looping, loop_begun}
 use Rattle.xs_body.specs.steps.Frames.{value_steps, begun}
 
 -- what is told, and then a value that tells nothing
@@ -57,14 +66,6 @@ popped-grows g b s = let e = b s (popped s) in record
 pub chars-grow : {H : Type 0} → (p : Site) (t : List ℕ) → Grows {H = H} (chars_steps p t)
 chars-grow p t = if-grows (length t == 0) goes (put_at p (Chars t)) (goes-grows tt) (put_at-grows p (Chars t))
 
-pub spaces-grow : {H : Type 0} → (xs : List (List ℕ × List ℕ)) → Grows {H = H} (space_steps xs)
-spaces-grow [] s = goes-grows tt s
-spaces-grow (x ∷ xs) s = grows-then s (put (Space x.0 x.1) s) (λ u m. space_steps xs m) (put-grows (Space x.0 x.1) s) (λ u. spaces-grow xs)
-
-pub literal-grows : {H : Type 0} → (start : LiteralStart) → Grows {H = H} (literal_steps start)
-literal-grows start s = grows-then s (put (Start start.name) s) (λ u m. space_steps start.spaces m) (put-grows (Start start.name) s)
-    (λ u. spaces-grow start.spaces)
-
 pub ended-grows : (terminate : Bool) (p : Site) → Grows (ended terminate p)
 ended-grows terminate p = if-grows terminate (stops (Fault fault.Terminated p)) goes (stops-grow (Fault fault.Terminated p)) (goes-grows tt)
 
@@ -75,106 +76,134 @@ pub message_ended-grows : (p : Site) (terminate : Bool) → Grows (message_ended
 message_ended-grows p terminate = popped-grows (λ s. message_steps p terminate (fragment_text (top s.captures)))
     (λ s. message-grows p terminate (fragment_text (top s.captures)))
 
-pub stays-grow : (g : State Task → Told Task) (t : Stack) → Grows g → Grows (λ s. stays (g s) t)
+pub stays-grow : (g : State Task → Told Task) (t : Evaluation) → Grows g → Grows (λ s. stays (g s) t)
 stays-grow g t b = then-goes-grow g (λ u. t) b
 
-run_by-grows : (g : Option ℕ) (job : Job) (p : Site) (f : Focus) (ns : List ℕ) (x : Work) (t : Stack) → Grows (run_by g job p f ns x t)
+run_by-grows : (g : Option ℕ) (job : Job) (p : Site) (f : Focus) (ns : List ℕ) (x : Work) (t : Evaluation) → Grows (run_by g job p f ns x t)
 run_by-grows None job p f ns x t = goes-grows (pushed (x ∷ []) t)
 run_by-grows (Some grain) job p f ns x t = stays-grow (play (map Hole (tasks_for grain job p f ns))) t (play-grows (map Hole (tasks_for grain job p f ns)))
 
-pub run-grows : (w : World) (job : Job) (p : Site) (f : Focus) (ns : List ℕ) (x : Work) (t : Stack) → Grows (run_begun w job p f ns x t)
-run-grows w job p f ns x t = run_by-grows (grain_over w f (length ns)) job p f ns x t
+pub run-grows : (job : Job) (p : Site) (f : Focus) (ns : List ℕ) (x : Work) (t : Evaluation) → Grows (run_begun job p f ns x t)
+run-grows job p f ns x t = run_by-grows (grain_over t.world f (length ns)) job p f ns x t
 
-pub applied-grows : (w : World) (mode : ℕ) (ps : Params) (p : Site) (f : Focus) (ns : List ℕ) (t : Stack) → Grows (applied_begun w mode ps p f ns t)
-applied-grows w mode ps p f ns t = run-grows w (rules_job mode ps) p (in_list (length ns) f) ns (apply_left mode ps p (in_list (length ns) f) 1 ns) t
+pub applied-grows : (mode : ℕ) (ps : Params) (p : Site) (f : Focus) (ns : List ℕ) (t : Evaluation) → Grows (applied_begun mode ps p f ns t)
+applied-grows mode ps p f ns t = run-grows (rules_job mode ps) p (in_list (length ns) f) ns (apply_left mode ps p (in_list (length ns) f) 1 ns) t
 
-built_in-grows : (w : World) (mode : ℕ) (p : Site) (f : Focus) (r : Record) (t : Stack) → Grows (built_in_begun w mode p f r t)
-built_in-grows w mode p f r t =
-    if-grows (has_content r.kind) (applied_begun w mode no_params p f (children w.tree f.node) t)
+built_in-grows : (mode : ℕ) (p : Site) (f : Focus) (r : Record) (t : Evaluation) → Grows (built_in_begun mode p f r t)
+built_in-grows mode p f r t =
+    if-grows (has_content r.kind) (applied_begun mode no_params p f (children t.world.tree f.node) t)
     (λ s. cond (is_text_kind r.kind || is_attribute_kind r.kind) (stays (chars_steps p r.text s) t) (Goes t s))
-    (applied-grows w mode no_params p f (children w.tree f.node) t)
+    (applied-grows mode no_params p f (children t.world.tree f.node) t)
     (if-grows (is_text_kind r.kind || is_attribute_kind r.kind) (λ s. stays (chars_steps p r.text s) t) (Goes t)
     (stays-grow (chars_steps p r.text) t (chars-grow p r.text)) (goes-grows t))
 
-rule-grows : (o : Option ℕ) (w : World) (mode : ℕ) (ps : Params) (p : Site) (f : Focus) (t : Stack) → Grows (rule_begun o w mode ps p f t)
-rule-grows None w mode ps p f t = built_in-grows w mode p f (at w.tree f.node) t
-rule-grows (Some rule) w mode ps p f t = goes-grows _
+rule-grows : (o : Option ℕ) (mode : ℕ) (ps : Params) (p : Site) (f : Focus) (t : Evaluation) → Grows (rule_begun o mode ps p f t)
+rule-grows None mode ps p f t = built_in-grows mode p f (at t.world.tree f.node) t
+rule-grows (Some rule) mode ps p f t = goes-grows _
 
-entry-grows : (e : Entry) (w : World) (p : Site) (f : Focus) (t : Stack) → Grows (entry_begun e w p f t)
-entry-grows (named i ps) w p f t = goes-grows _
-entry-grows (fitting mode ps) w p f t = rule-grows (rule_for w mode f.node) w mode ps p f t
-entry-grows (overridden current) w p f t = rule-grows (import_for w current f) w f.mode no_params p f t
+entry-grows : (e : Entry) (p : Site) (f : Focus) (t : Evaluation) → Grows (entry_begun e p f t)
+entry-grows (named i ps) p f t = goes-grows _
+entry-grows (fitting mode ps) p f t = rule-grows (rule_for t.world mode f.node) mode ps p f t
+entry-grows (overridden current) p f t = rule-grows (import_for t.world current f) f.mode no_params p f t
+entry-grows (using names) p f t = goes-grows _
 
-pub entering-grows : (e : Entry) (w : World) (p : Site) (f : Focus) (t : Stack) → Grows (entering e w p f t)
-entering-grows e w p f t =
-    if-grows (f.depth == 0) (stops (Fault fault.TooDeep p)) (entry_begun e w p (with_depth (f.depth - 1) f) t) (stops-grow (Fault fault.TooDeep p))
-    (entry-grows e w p (with_depth (f.depth - 1) f) t)
+pub entering-grows : (e : Entry) (p : Site) (f : Focus) (t : Evaluation) → Grows (entering e p f t)
+entering-grows e p f t =
+    if-grows (f.depth == 0) (stops (Fault fault.TooDeep p)) (entry_begun e p (in_template t.world f) t) (stops-grow (Fault fault.TooDeep p))
+    (entry-grows e p (in_template t.world f) t)
 
-pub call-grows : (w : World) (callee : Called) (ps : Params) (p : Site) (f : Focus) (t : Stack) → Grows (call_begun w callee ps p f t)
-call-grows w (by_number i) ps p f t s = grows-then s (ticked p s) (λ u m. entering (named i ps) w p f t m) (ticked-grows p s)
-    (λ u. entering-grows (named i ps) w p f t)
-call-grows w (by_rules mode ns) ps p f t s = applied-grows w mode ps p f ns t s
+pub call-grows : (callee : Called) (ps : Params) (p : Site) (f : Focus) (t : Evaluation) → Grows (call_begun callee ps p f t)
+call-grows (by_number i) ps p f t s = grows-then s (ticked p s) (λ u m. entering (named i ps) p f t m) (ticked-grows p s)
+    (λ u. entering-grows (named i ps) p f t)
+call-grows (by_rules mode ns) ps p f t s = applied-grows mode ps p f ns t s
 
-imports-grow : (w : World) (p : Site) (f : Focus) (o : Option ℕ) (t : Stack) → Grows (imports_begun w p f o t)
-imports-grow w p f None t s = stops-grow (Fault fault.NoRule p) s
-imports-grow w p f (Some rule) t s = grows-then s (ticked p s) (λ u m. entering (overridden rule) w p f t m) (ticked-grows p s)
-    (λ u. entering-grows (overridden rule) w p f t)
+imports-grow : (p : Site) (f : Focus) (o : Option ℕ) (t : Evaluation) → Grows (imports_begun p f o t)
+imports-grow p f None t s = stops-grow (Fault fault.NoRule p) s
+imports-grow p f (Some rule) t s = grows-then s (ticked p s) (λ u m. entering (overridden rule) p f t m) (ticked-grows p s)
+    (λ u. entering-grows (overridden rule) p f t)
 
-pub content-grows : (w : World) (content : Content) (p : Site) (c : Scope) (t : Stack) → Grows (content_begun w content p c t)
-content-grows w Empty p c t = goes-grows _
-content-grows w (Select e) p c t = then-goes-grow (limited p (value_run w e c.focus (last c.seen t.slots))) (λ v. filled_up (v ∷ []) t) (limited-grows p _)
-content-grows w (Fragment body) p c t = opened-grows _
+pub content-grows : (content : Content) (p : Site) (c : Scope) (t : Evaluation) → Grows (content_begun content p c t)
+content-grows Empty p c t = goes-grows _
+content-grows (Select e) p c t = then-goes-grow (limited p (value_run t.world e c.focus (last c.seen t.slots))) (λ v. filled_up (v ∷ []) t) (limited-grows p _)
+content-grows (Fragment body) p c t = opened-grows _
 
-pub param-grows : (o : Option Value) (w : World) (content : Content) (p : Site) (c : Scope) (t : Stack) → Grows (param_begun o w content p c t)
-param-grows None w content p c t = content-grows w content p c t
-param-grows (Some v) w content p c t = goes-grows _
+pub param-grows : (o : Option Value) (content : Content) (p : Site) (c : Scope) (t : Evaluation) → Grows (param_begun o content p c t)
+param-grows None content p c t = content-grows content p c t
+param-grows (Some v) content p c t = goes-grows _
 
-pub pass-grows : (w : World) (content : Content) (left all : List Binding) (us : List Value) (callee : Called) (p : Site) (c : Scope) (t : Stack) →
-    Grows (pass_begun w content left all us callee p c t)
-pass-grows w Empty left all us callee p c t = goes-grows _
-pass-grows w (Select e) left all us callee p c t =
-    then-goes-grow (limited p (value_run w e c.focus (last c.seen t.slots))) (λ v. pushed (pass left all (us ++ v ∷ []) callee p c ∷ []) t) (limited-grows p _)
-pass-grows w (Fragment body) left all us callee p c t = opened-grows _
+pub passes-grow : (left all : List Binding) (us : List Value) (callee : Called) (p : Site) (c : Scope) (t : Evaluation) →
+    Grows (passes_on left all us callee p c t)
+passes-grow [] all us callee p c t = call-grows callee (record { bindings = all; values = us }) p c.focus t
+passes-grow (b ∷ left) all us callee p c t = goes-grows _
 
-fallbacks-grow : (bs : List Body) (p : Site) (c : Scope) (t : Stack) → Grows (fallbacks_begun bs p c t)
+pub pass-grows : (content : Content) (left all : List Binding) (us : List Value) (callee : Called) (p : Site) (c : Scope) (t : Evaluation) →
+    Grows (pass_begun content left all us callee p c t)
+pass-grows Empty left all us callee p c t = passes-grow left all (us ++ String [] ∷ []) callee p c t
+pass-grows (Select e) left all us callee p c t s = grows-then s (limited p (value_run t.world e c.focus (last c.seen t.slots)) s)
+    (λ v m. passes_on left all (us ++ v ∷ []) callee p c t m) (limited-grows p _ s) (λ v. passes-grow left all (us ++ v ∷ []) callee p c t)
+pass-grows (Fragment body) left all us callee p c t = opened-grows _
+
+fallbacks-grow : (bs : List Body) (p : Site) (c : Scope) (t : Evaluation) → Grows (fallbacks_begun bs p c t)
 fallbacks-grow [] p c t = stops-grow (Fault fault.NoExtension p)
 fallbacks-grow (b ∷ bs) p c t = goes-grows _
 
-pub loop-grows : (w : World) (body : Body) (p : Site) (c : Scope) (ns : List ℕ) (t : Stack) → Grows (loop_begun w body p c ns t)
-loop-grows w body p c ns t = run-grows w (body_job body (last c.seen t.slots)) p (looping c.focus ns) ns (each_left body p (over (looping c.focus ns) c) 1 ns) t
+pub loop-grows : (body : Body) (p : Site) (c : Scope) (ns : List ℕ) (t : Evaluation) → Grows (loop_begun body p c ns t)
+loop-grows body p c ns t = run-grows (body_job body (last c.seen t.slots)) p (looping c.focus ns) ns (each_left body p (over (looping c.focus ns) c) 1 ns) t
 
-value-grows : (w : World) (select : ScopedExpr) (p : Site) (f : Focus) (vs : List Value) → Grows (value_steps w select p f vs)
-value-grows w select p f vs s = grows-then s (limited p (text_run w select f vs) s) (λ text m. chars_steps p text m) (limited-grows p _ s) (chars-grow p)
+value-grows : (select : ScopedExpr) (p : Site) (c : Scope) (t : Evaluation) → Grows (value_steps select p c t)
+value-grows select p c t s =
+    grows-then s (limited p (text_run t.world select c.focus (last c.seen t.slots)) s) (λ text m. chars_steps p text m) (limited-grows p _ s) (chars-grow p)
 
-pub begun-grows : (w : World) (kind : InstrKind) (p : Site) (c : Scope) (t : Stack) → Grows (begun w kind p c t)
-begun-grows w (ApplyTemplates nodes passed) p c t =
-    then-goes-grow (limited p (nodes_or_children w nodes.select c.focus (last c.seen t.slots)))
-    (λ ns. pushed (pass (bindings_of passed) (bindings_of passed) [] (by_rules nodes.mode ns) p c ∷ []) t) (limited-grows p _)
-begun-grows w (CallTemplate i passed) p c t = goes-grows _
-begun-grows w ApplyImports p c t = imports-grow w p c.focus c.focus.rule t
-begun-grows w (ForEach select sorts body) p c t = λ s.
-    grows-then s (limited p (nodes_run w select c.focus (last c.seen t.slots)) s) (λ ns m. loop_begun w body p c ns t m) (limited-grows p _ s)
-    (λ ns. loop-grows w body p c ns t)
-begun-grows w (ValueOf select) p c t = stays-grow (value_steps w select p c.focus (last c.seen t.slots)) t
-    (value-grows w select p c.focus (last c.seen t.slots))
-begun-grows w (CopyOf select) p c t = goes-grows t
-begun-grows w (Copy sets body) p c t = goes-grows t
-begun-grows w (Number decl) p c t = goes-grows t
-begun-grows w (Choose choice) p c t = then-goes-grow (limited p (chosen choice w c.focus (last c.seen t.slots)))
+-- what is put, and then what it begins
+pub element-grows : (name : Label) (sets : List Label) (body : Body) (c : Scope) (t : Evaluation) → Grows (element_put name sets body c t)
+element-grows name sets body c t = then-goes-grow (put (Start name)) (λ u. inside_begun sets body c t) (put-grows (Start name))
+
+pub made-grows : (m : Made) (body : Body) (p : Site) (c : Scope) (t : Evaluation) → Grows (made_begun m body p c t)
+made-grows m body p c t = opened-grows _
+
+copy-grows : (select : ScopedExpr) (p : Site) (c : Scope) (t : Evaluation) → Grows (copy_of_steps select p c t)
+copy-grows select p c t s =
+    grows-then s (limited p (value_run t.world select c.focus (last c.seen t.slots)) s) (λ v m. copy_steps t.world.tree p v m) (limited-grows p _ s)
+    (copies-grow t.world.tree p)
+
+pub begun-grows : (kind : InstrKind) (p : Site) (c : Scope) (t : Evaluation) → Grows (begun kind p c t)
+begun-grows (ApplyTemplates nodes passed) p c t s = grows-then s (limited p (nodes_or_children t.world nodes.select c.focus (last c.seen t.slots)) s)
+    (λ ns m. passes_on (bindings_of passed) (bindings_of passed) [] (by_rules nodes.mode ns) p c t m) (limited-grows p _ s)
+    (λ ns. passes-grow (bindings_of passed) (bindings_of passed) [] (by_rules nodes.mode ns) p c t)
+begun-grows (CallTemplate i passed) p c t = passes-grow (bindings_of passed) (bindings_of passed) [] (by_number i) p c t
+begun-grows ApplyImports p c t = imports-grow p c.focus c.focus.rule t
+begun-grows (ForEach select sorts body) p c t = λ s.
+    grows-then s (limited p (nodes_run t.world select c.focus (last c.seen t.slots)) s) (λ ns m. loop_begun body p c ns t m) (limited-grows p _ s)
+    (λ ns. loop-grows body p c ns t)
+begun-grows (ValueOf select) p c t = stays-grow (value_steps select p c t) t (value-grows select p c t)
+begun-grows (CopyOf select) p c t = stays-grow (copy_of_steps select p c t) t (copy-grows select p c t)
+begun-grows (Copy sets body) p c t =
+    then-goes-grow (events_steps p (shallow_copy t.world.tree c.focus.node)) (λ u. copied_begun (at t.world.tree c.focus.node).kind sets body c t)
+    (events-grow p (shallow_copy t.world.tree c.focus.node))
+begun-grows (Number decl) p c t = goes-grows t
+begun-grows (Choose choice) p c t = then-goes-grow (limited p (chosen choice t.world c.focus (last c.seen t.slots)))
     (λ body. pushed (rest (instrs_of body) (inner c) ∷ []) t) (limited-grows p _)
-begun-grows w (If test body) p c t =
-    then-goes-grow (limited p (test_run w test c.focus (last c.seen t.slots))) (λ b. pushed (cond b (rest (instrs_of body) (inner c) ∷ []) []) t)
+begun-grows (If test body) p c t =
+    then-goes-grow (limited p (test_run t.world test c.focus (last c.seen t.slots))) (λ b. pushed (cond b (rest (instrs_of body) (inner c) ∷ []) []) t)
     (limited-grows p _)
-begun-grows w (Text text) p c t = stays-grow (chars_steps p text) t (chars-grow p text)
-begun-grows w (Element name sets body) p c t = goes-grows t
-begun-grows w (Attribute name body) p c t = goes-grows t
-begun-grows w (Comment body) p c t = goes-grows t
-begun-grows w (Pi name body) p c t = goes-grows t
-begun-grows w (Message terminate body) p c t = opened-grows _
-begun-grows w (Variable' site name content) p c t = content-grows w content p c t
-begun-grows w (Literal start body) p c t = then-goes-grow (literal_steps start) (λ u. pushed (rest (instrs_of body) (inner c) ∷ end_element ∷ []) t)
-    (literal-grows start)
-begun-grows w (Extension fallbacks) p c t = fallbacks-grow (bodies_of fallbacks) p c t
+begun-grows (Text text) p c t = stays-grow (chars_steps p text) t (chars-grow p text)
+begun-grows (Element name sets body) p c t = λ s.
+    grows-then s (name_steps t.world p c.focus (last c.seen t.slots) false name s) (λ label m. element_put label sets body c t m)
+    (name-grows t.world p c.focus (last c.seen t.slots) false name s) (λ label. element-grows label sets body c t)
+begun-grows (Attribute name body) p c t = λ s.
+    grows-then s (name_steps t.world p c.focus (last c.seen t.slots) true name s) (λ label m. made_begun (made.Attribute label) body p c t m)
+    (name-grows t.world p c.focus (last c.seen t.slots) true name s) (λ label. made-grows (made.Attribute label) body p c t)
+begun-grows (Comment body) p c t = made-grows made.Comment body p c t
+begun-grows (Pi name body) p c t = λ s.
+    grows-then s (target_steps t.world p c.focus (last c.seen t.slots) name s) (λ target m. made_begun (made.Instruction target) body p c t m)
+    (target-grows t.world p c.focus (last c.seen t.slots) name s) (λ target. made-grows (made.Instruction target) body p c t)
+begun-grows (Message terminate body) p c t = opened-grows _
+begun-grows (Variable' site name content) p c t = content-grows content p c t
+begun-grows (Literal start body) p c t =
+    then-goes-grow (literal_steps t.world.sheet.aliases p start)
+    (λ u. pushed (sets_works start.sets c.focus) (pushed (attributes_left start.attributes p c ∷ rest (instrs_of body) (inner c) ∷ end_element ∷ []) t))
+    (literal-grows t.world.sheet.aliases p start)
+begun-grows (Extension fallbacks) p c t = fallbacks-grow (bodies_of fallbacks) p c t
 
 filled-grows : (x : Trace Task) (vs : List Value) → Grows (filled x vs)
 filled-grows x vs = then-goes-grow (play x) (λ u. vs) (play-grows x)
@@ -186,6 +215,10 @@ work-grows w (each_left body p c i ns) vs = filled-grows (each p (λ g. body_tra
 work-grows w (apply_left mode ps p f i ns) vs = filled-grows (each p (calls_at w f (fitting mode ps) p) f i ns) vs
 work-grows w (bodies_left bodies c) vs = filled-grows (all_bodies bodies w (calls_at w c.focus) c.focus (last c.seen vs)) vs
 work-grows w end_element vs = then-goes-grow (put End) (λ u. vs) (put-grows End)
+work-grows w (sets_left names f) vs = filled-grows (sets_trace names w (calls_at w f) f) vs
+work-grows w (declared_left ss f) vs = filled-grows (declared_trace ss w (calls_at w f) f) vs
+work-grows w (attributes_left xs p c) vs = filled-grows (literal_attributes xs p w c.focus (last c.seen vs)) vs
+work-grows w (make m p) vs = popped-grows (λ s. filled (puts_all p (made_at m s)) vs) (λ s. filled-grows (puts_all p (made_at m s)) vs)
 work-grows w (say p terminate) vs = then-goes-grow (message_ended p terminate) (λ u. vs) (message_ended-grows p terminate)
 work-grows w (pass left all us callee p c) vs = filled-grows (passing_left left all callee w p c.focus (last c.seen vs) us) vs
 work-grows w (take_value left all us callee p c) vs =

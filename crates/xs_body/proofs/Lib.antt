@@ -1,10 +1,13 @@
 pub mod SlotLemmas
 pub mod RowLemmas
+pub mod MakingLemmas
+pub mod SetLemmas
 pub mod GrowthLemmas
 pub mod ExitLemmas
 pub mod ChildLemmas
 pub mod StepLemmas
 pub mod LoopLemmas
+pub mod WorldLemmas
 pub mod GlobalLemmas
 pub mod SharingLemmas
 pub mod AttemptLemmas

@@ -15,7 +15,8 @@ use Rattle.xs_semantics.specs.declared.focus.Focus.{Focus}
 use Rattle.xs_semantics.specs.World.{World}
 use Rattle.xs_semantics.specs.Tasks.{Params, Task}
 use Rattle.xs_semantics.specs.Trace.{Calls, instr_trace, body_trace, row_trace, content_trace, passing, values_trace, fallbacks_trace, unless_none, bodies_trace}
-use Rattle.xs_body.specs.steps.Frames.{instrs_of, bindings_of, bodies_of, instrs_trace, bindings_trace, all_bodies}
+use Rattle.xs_semantics.specs.Trace.{instrs_trace}
+use Rattle.xs_body.specs.steps.Frames.{instrs_of, bindings_of, bodies_of, bindings_trace, all_bodies}
 
 row-instrs : {m : _} (row : Row_of-Instr m) (w : World) (k : Calls) (f : Focus) (vs : List Value) →
     row_trace row w k f vs ≡ instrs_trace (items-the_row-Instr m row) w k f vs

@@ -17,38 +17,52 @@ use Rattle.xs_sheet.specs.declared.body.Passed.{Passed}
 use Rattle.xs_sheet.specs.declared.body.When.{When', out-When}
 use Rattle.xs_sheet.specs.declared.declarations.Template.{Template}
 use Rattle.xs_trace.specs.Cut.{Fault}
-use Rattle.xs_trace.specs.Mark.{Tick, Put, Hole, Trace, ◌⨾◌, captured}
+use Rattle.xs_trace.specs.Label.{Label}
+use Rattle.xs_trace.specs.Mark.{Tick, Put, Stop, Hole, Trace, ◌⨾◌, captured}
 use Rattle.xs_trace.specs.Run.{Run, Gives, give, limited, evaluated}
 use Rattle.xs_trace.specs.State.{State, opened, popped, top}
 use Rattle.xs_trace.specs.Play.{Step, Goes, Told, and_then, goes, ticked, put, put_at, stops, play}
 use Rattle.xs_trace.specs.declared.event.Event.{Event}
-use Rattle.xs_trace.specs.declared.event.Event.TheVariants.{Start, Space, Chars, End}
+use Rattle.xs_trace.specs.declared.event.Event.TheVariants.{Start, Chars, End}
 use Rattle.xs_trace.specs.declared.fault.Fault.TheVariants as fault
 use Rattle.xs_trace.specs.declared.item.Site.{Site}
 use Rattle.xs_trace.proofs.PlayLemmas.{then-same, then-then, play-then, play-put, play-say, play-captured}
 use Rattle.xs_trace.proofs.RunLemmas.{limited-bind, limited-end, play-evaluated}
-use Rattle.xs_tree.specs.Kinds.{has_content, is_attribute_kind, is_text_kind}
+use Rattle.xs_tree.specs.Kinds.{has_content, is_attribute_kind, is_element_kind, is_root_kind, is_text_kind}
 use Rattle.xs_tree.specs.Record.{Record, at, children}
+use Rattle.xs_tree.specs.declared.kinds.Kind.{Kind}
 use Rattle.xs_value.specs.declared.value.Value.{Value}
 use Rattle.xs_value.specs.declared.value.Value.TheVariants.{Chars as String, Piece}
 use Rattle.xs_value.specs.Conversion.{fragment_text}
+use Rattle.xs_making.specs.Copies.{shallow_copy}
+use Rattle.xs_sets.specs.Declarations.{declarations_of}
+use Rattle.xs_sets.specs.Indexed.{IsSetIndex, declarations_in}
 use Rattle.xs_semantics.specs.declared.focus.Focus.{Focus}
+use Rattle.xs_semantics.specs.declared.made.Made.{Made}
+use Rattle.xs_semantics.specs.declared.made.Made.TheVariants as made
 use Rattle.xs_body.specs.declared.frames.Scope.{Scope}
-use Rattle.xs_semantics.specs.World.{World, at_node, in_list, captured_in, with_depth, by_rule, without_rule, value_run, nodes_run, text_run, test_run}
-use Rattle.xs_semantics.specs.World.{nodes_or_children}
+use Rattle.xs_semantics.specs.World.{World, all_set_levels, at_node, in_list, captured_in, with_levels, by_rule, without_rule}
+use Rattle.xs_semantics.specs.World.{nodes_or_children, nodes_run, test_run, text_run, value_run}
+use Rattle.xs_semantics.specs.Making.{content_text, made_events, name_run, target_run, value_events}
 use Rattle.xs_semantics.specs.Tasks.{Params, no_params, value_passed, Job, body_job, rules_job, Task, tasks_for, grain_over}
 use Rattle.xs_semantics.specs.Rules.{rule_for, import_for}
-use Rattle.xs_semantics.specs.Trace.{Entry, named, fitting, overridden, Calls, each, spread_by, spread, applied, Called, by_number, by_rules, called_with}
-use Rattle.xs_semantics.specs.Trace.{passing, imports, puts, chars, says, ended_if, begins, fragment_of, instr_trace, body_trace, content_trace, choice_trace}
-use Rattle.xs_semantics.specs.Trace.{whens_trace, fallbacks_trace, param_trace, params_trace, template_trace, built_in, ruled, entered, called}
-use Rattle.xs_body.specs.steps.Frames.{Work, rest, fill, each_left, apply_left, bodies_left, end_element, say, pass, take_value, params_left, Stack, last}
-use Rattle.xs_body.specs.steps.Frames.{without, inner, over, captured_scope, more, bound, after, bindings_of, instrs_of, bodies_of, instrs_trace}
-use Rattle.xs_body.specs.steps.Frames.{all_bodies, chosen_of, chosen, filled, ended, message_steps, message_ended, fragment_at}
+use Rattle.xs_semantics.specs.Trace.{Entry, named, fitting, overridden, using, Calls, each, spread_by, spread, applied, Called, by_number, by_rules}
+use Rattle.xs_semantics.specs.Trace.{called_with, passing, imports, puts, puts_all, chars, says, ended_if, begins, literal_attributes, makes, fragment_of}
+use Rattle.xs_semantics.specs.Trace.{copied_content, instr_trace, body_trace, content_trace, choice_trace, whens_trace, fallbacks_trace}
+use Rattle.xs_semantics.specs.Trace.{param_trace, params_trace, template_trace, built_in, ruled, instrs_trace, declared_trace, sets_trace, entered, called}
 use Rattle.xs_semantics.specs.Trace.{calls_at}
-use Rattle.xs_body.specs.steps.Frames.{passing_left, work_steps, stack_steps, stack_told, pushed, slots_are, filled_up, stays, chars_steps, space_steps}
-use Rattle.xs_body.specs.steps.Frames.{literal_steps, run_by, run_begun, applied_begun, template_begun, built_in_begun, rule_begun, entry_begun, entering}
-use Rattle.xs_body.specs.steps.Frames.{call_begun, imports_begun, content_begun, pass_begun, param_begun, fallbacks_begun}
+use Rattle.xs_body.specs.steps.Frames.{Work, rest, fill, each_left, apply_left, bodies_left, end_element, sets_left, declared_left, attributes_left}
+use Rattle.xs_body.specs.steps.Frames.{make, say, pass, take_value, params_left, Evaluation, last}
+use Rattle.xs_body.specs.steps.Frames.{without, inner, outer, over, captured_scope, more, bound, after, bindings_of, instrs_of, bodies_of}
+use Rattle.xs_body.specs.steps.Frames.{all_bodies, chosen_of, chosen, filled, ended, message_steps, message_ended, fragment_at}
+use Rattle.xs_body.specs.steps.Frames.{passing_left, work_steps, stack_steps, stack_told, pushed, slots_are, filled_up, stays, chars_steps}
+use Rattle.xs_body.specs.steps.Frames.{run_by, run_begun, applied_begun, template_begun, built_in_begun, rule_begun, entry_begun, entering}
+use Rattle.xs_body.specs.steps.Frames.{sets_works, inside_begun, copied_begun, element_put, made_begun}
+use Rattle.xs_body.specs.steps.Frames.{call_begun, imports_begun, content_begun, passes_on, pass_begun, params_first, param_begun, fallbacks_begun}
 use Rattle.xs_body.specs.steps.Frames.{begun, advanced}
+use Rattle.xs_body.specs.steps.Making.{attributes_steps, copy_steps, events_steps, literal_steps, made_at, made_ended}
+use Rattle.xs_body.proofs.MakingLemmas.{attributes-told, copy-told, ended-told as made-ended, events-told, literal-told, name-told, target-told}
+use Rattle.xs_body.proofs.SetLemmas.{served}
 use Rattle.xs_body.proofs.SlotLemmas.{last-more, without-more, last-none, without-none, more-none}
 use Rattle.xs_body.proofs.RowLemmas.{body-instrs, passing-bindings, fallbacks-bodies, fallback_trace}
 
@@ -60,16 +74,6 @@ chars-told p t s = by_test (length t == 0)
     by_test : (b : Bool) → cond b (goes s) (put_at p (Chars t) s) ≡ play (cond b [] (puts p (Chars t))) s
     by_test true = refl
     by_test false = play-put p (Chars t) s
-
-spaces-told : (xs : List (List ℕ × List ℕ)) (s : State Task) → space_steps xs s ≡ play (map (λ x. Put (Space x.0 x.1)) xs) s
-spaces-told [] s = refl
-spaces-told (x ∷ xs) s = then-same (put (Space x.0 x.1) s) (λ u m. space_steps xs m) (λ u m. play (map (λ y. Put (Space y.0 y.1)) xs) m)
-    (λ u m. spaces-told xs m)
-
-literal-told : (start : LiteralStart) (s : State Task) → literal_steps start s ≡ play (begins start) s
-literal-told start s =
-    then-same (put (Start start.name) s) (λ u m. space_steps start.spaces m) (λ u m. play (map (λ y. Put (Space y.0 y.1)) start.spaces) m)
-    (λ u m. spaces-told start.spaces m)
 
 ended-told : (terminate : Bool) (p : Site) (s : State Task) → ended terminate p s ≡ play (ended_if terminate p) s
 ended-told true p s = refl
@@ -120,352 +124,544 @@ chooses-body (Choice' n row otherwise) p w k f vs s =
     ∙ ap (λ ts. and_then (limited p (chosen_of ts otherwise w f vs) s) next) (sym (items_shown-the_row-When-1 n row))
     ∙ ap (λ c. and_then (limited p (chosen_of c.whens c.otherwise w f vs) s) next) (sym (outs-Choice' n row otherwise))
 
-module _ (w : World) where
-  abbrev Go : Stack → State Task → Told Task
-  Go t m = stack_told w t m
+abbrev Go : Evaluation → State Task → Told Task
+Go t m = stack_told t m
 
-  -- a trace that is told, and then what a stack tells; the same where the stack's values have changed
-  abbrev Then : Trace Task → Stack → State Task → Told Task
-  Then x t s = and_then (play x s) (λ u m. Go t m)
+-- a trace that is told, and then what a stack tells; the same where the stack's values have changed
+abbrev Then : Trace Task → Evaluation → State Task → Told Task
+Then x t s = and_then (play x s) (λ u m. Go t m)
 
-  -- how it goes on behind a work that tells a trace
-  behind : (x : Trace Task) (vs : List Value) (t : Stack) (s : State Task) →
-      Then x (slots_are vs t) s ≡ and_then (filled x vs s) (λ us m. stack_steps w t.works us m)
-  behind x vs t s = sym (then-then (play x s) (λ u m. Goes vs m) (λ us m. stack_steps w t.works us m))
+-- how it goes on behind a work that tells a trace
+behind : (x : Trace Task) (vs : List Value) (t : Evaluation) (s : State Task) →
+    Then x (slots_are vs t) s ≡ and_then (filled x vs s) (λ us m. stack_steps t.world t.works us m)
+behind x vs t s = sym (then-then (play x s) (λ u m. Goes vs m) (λ us m. stack_steps t.world t.works us m))
 
-  alone : (x : Trace Task) (g : Told Task) (t : Stack) (s : State Task) → g ≡ play x s → Then x t s ≡ and_then (stays g t) Go
-  alone x g t s e = ap (λ j. and_then j (λ u m. Go t m)) (sym e) ∙ sym (then-then g (λ u m. Goes t m) Go)
+alone : (x : Trace Task) (g : Told Task) (t : Evaluation) (s : State Task) → g ≡ play x s → Then x t s ≡ and_then (stays g t) Go
+alone x g t s e = ap (λ j. and_then j (λ u m. Go t m)) (sym e) ∙ sym (then-then g (λ u m. Goes t m) Go)
 
-  -- two traces, the second of which a work tells
-  twice : (x y : Trace Task) (vs : List Value) (b : Work) (t : Stack) (s : State Task) → ((m : State Task) → work_steps w b t.slots m ≡ filled y vs m) →
-      Then (x ⨾ y) (slots_are vs t) s ≡ Then x (pushed (b ∷ []) t) s
-  twice x y vs b t s e =
-      ap (λ g. and_then g (λ u m. Go (slots_are vs t) m)) (play-then x y s)
-      ∙ then-then (play x s) (λ u m. play y m) (λ u m. Go (slots_are vs t) m)
-      ∙ then-same (play x s) (λ u m. Then y (slots_are vs t) m) (λ u m. Go (pushed (b ∷ []) t) m) (λ u m.
-      behind y vs t m ∙ ap (λ g. and_then g (λ us n. stack_steps w t.works us n)) (sym (e m)))
+-- two traces, the second of which a work tells
+twice : (x y : Trace Task) (vs : List Value) (b : Work) (t : Evaluation) (s : State Task) → ((m : State Task) → work_steps t.world b t.slots m ≡ filled y vs m) →
+    Then (x ⨾ y) (slots_are vs t) s ≡ Then x (pushed (b ∷ []) t) s
+twice x y vs b t s e =
+    ap (λ g. and_then g (λ u m. Go (slots_are vs t) m)) (play-then x y s)
+    ∙ then-then (play x s) (λ u m. play y m) (λ u m. Go (slots_are vs t) m)
+    ∙ then-same (play x s) (λ u m. Then y (slots_are vs t) m) (λ u m. Go (pushed (b ∷ []) t) m) (λ u m.
+    behind y vs t m ∙ ap (λ g. and_then g (λ us n. stack_steps t.world t.works us n)) (sym (e m)))
 
-  -- a tick, and what it begins
-  ticks : (p : Site) (x : Trace Task) (v t : Stack) (h : State Task → Step Task Stack) (s : State Task) → ((m : State Task) → Then x v m ≡ and_then (h m) Go) →
-      Then (Tick p ∷ x) v s ≡ and_then (and_then (ticked p s) (λ u m. h m)) Go
-  ticks p x v t h s e = before (ticked p s) (λ m. play x m) (λ u m. Go v m) h Go e
+-- the same of what any works tell
+followed : (x y : Trace Task) (t v : Evaluation) (s : State Task) → ((m : State Task) → Then y t m ≡ Go v m) → Then (x ⨾ y) t s ≡ Then x v s
+followed x y t v s e =
+    ap (λ g. and_then g (λ u m. Go t m)) (play-then x y s)
+    ∙ then-then (play x s) (λ u m. play y m) (λ u m. Go t m)
+    ∙ then-same (play x s) (λ u m. Then y t m) (λ u m. Go v m) (λ u m. e m)
 
-  -- a value, and then what it begins
-  brings : {A : Type 0} (p : Site) (r : Run A) (h : A → Trace Task) (v : Stack) (f : A → State Task → Step Task Stack) (s : State Task) →
-      ((x : A) (m : State Task) → Then (h x) v m ≡ and_then (f x m) Go) → Then (evaluated p r h) v s ≡ and_then (and_then (limited p r s) f) Go
-  brings p r h v f s e =
-      ap (λ j. and_then j (λ u m. Go v m)) (play-evaluated p r h s)
-      ∙ then-then (limited p r s) (λ x m. play (h x) m) (λ u m. Go v m)
-      ∙ then-same (limited p r s) (λ x m. Then (h x) v m) (λ x m. and_then (f x m) Go) e
-      ∙ sym (then-then (limited p r s) f Go)
+-- a tick, and what it begins
+ticks : (p : Site) (x : Trace Task) (v t : Evaluation) (h : State Task → Step Task Evaluation) (s : State Task) → ((m : State Task) → Then x v m ≡ and_then (h m) Go) →
+    Then (Tick p ∷ x) v s ≡ and_then (and_then (ticked p s) (λ u m. h m)) Go
+ticks p x v t h s e = before (ticked p s) (λ m. play x m) (λ u m. Go v m) h Go e
 
-  -- a body in a scope inside another
-  inside : (body : Body) (c : Scope) (t : Stack) (s : State Task) →
-      Then (body_trace body w (calls_at w c.focus) c.focus (last c.seen t.slots)) t s ≡ Go (pushed (rest (instrs_of body) (inner c) ∷ []) t) s
-  inside body c t s =
-      let x : Trace Task = instrs_trace (instrs_of body) w (calls_at w c.focus) c.focus (last c.seen t.slots) in
-      ap (λ y. Then y t s) (body-instrs body w (calls_at w c.focus) c.focus (last c.seen t.slots))
-      ∙ ap (λ vs. Then x (slots_are vs t) s) (sym (without-none t.slots)) ∙ behind x (without 0 t.slots) t s
+-- a value, and then what it begins
+brings : {A : Type 0} (p : Site) (r : Run A) (h : A → Trace Task) (v : Evaluation) (f : A → State Task → Step Task Evaluation) (s : State Task) →
+    ((x : A) (m : State Task) → Then (h x) v m ≡ and_then (f x m) Go) → Then (evaluated p r h) v s ≡ and_then (and_then (limited p r s) f) Go
+brings p r h v f s e =
+    ap (λ j. and_then j (λ u m. Go v m)) (play-evaluated p r h s)
+    ∙ then-then (limited p r s) (λ x m. play (h x) m) (λ u m. Go v m)
+    ∙ then-same (limited p r s) (λ x m. Then (h x) v m) (λ x m. and_then (f x m) Go) e
+    ∙ sym (then-then (limited p r s) f Go)
 
-  -- captured content, and the works behind it, which take what it put
-  captures : (body : Body) (c : Scope) (h : List Event → Trace Task) (v t : Stack) (s : State Task) →
-      ((m : State Task) → Then (h (top m.captures)) v (popped m) ≡ Go t m) →
-      Then (captured (body_trace body w (calls_at w c.focus) (captured_in c.focus) (last c.seen t.slots)) h) v s
-      ≡ Go (pushed (rest (instrs_of body) (captured_scope c) ∷ []) t) (opened s)
-  captures body c h v t s e =
-      let x : Trace Task = body_trace body w (calls_at w c.focus) (captured_in c.focus) (last c.seen t.slots) in
-      ap (λ g. and_then g (λ u m. Go v m)) (sym (play-captured x h s))
-      ∙ then-then (play x (opened s)) (λ u m. play (h (top m.captures)) (popped m)) (λ u m. Go v m)
-      ∙ then-same (play x (opened s)) (λ u m. Then (h (top m.captures)) v (popped m)) (λ u m. Go t m) (λ u m. e m)
-      ∙ inside body (captured_scope c) t (opened s)
+-- a body in a scope inside another
+inside : (body : Body) (c : Scope) (t : Evaluation) (s : State Task) →
+    Then (body_trace body t.world (calls_at t.world c.focus) c.focus (last c.seen t.slots)) t s ≡ Go (pushed (rest (instrs_of body) (inner c) ∷ []) t) s
+inside body c t s =
+    let x : Trace Task = instrs_trace (instrs_of body) t.world (calls_at t.world c.focus) c.focus (last c.seen t.slots) in
+    ap (λ y. Then y t s) (body-instrs body t.world (calls_at t.world c.focus) c.focus (last c.seen t.slots))
+    ∙ ap (λ vs. Then x (slots_are vs t) s) (sym (without-none t.slots)) ∙ behind x (without 0 t.slots) t s
 
-  -- a run over nodes, which a work goes through where they are no more than the grain
-  runs-by : (g : Option ℕ) (job : Job) (p : Site) (body : Focus → Trace Task) (f : Focus) (ns : List ℕ) (b : Work) (t : Stack) (s : State Task) →
-      ((m : State Task) → work_steps w b t.slots m ≡ filled (each p body f 1 ns) t.slots m) →
-      Then (spread_by g job p body f ns) t s ≡ and_then (run_by g job p f ns b t s) Go
-  runs-by None job p body f ns b t s e = behind (each p body f 1 ns) t.slots t s ∙ ap (λ j. and_then j (λ us m. stack_steps w t.works us m)) (sym (e s))
-  runs-by (Some grain) job p body f ns b t s e = alone (map Hole (tasks_for grain job p f ns)) (play (map Hole (tasks_for grain job p f ns)) s) t s refl
+-- a body, and then the end of its element
+inside-ends : (body : Body) (c : Scope) (t : Evaluation) (s : State Task) →
+    Then (body_trace body t.world (calls_at t.world c.focus) c.focus (last c.seen t.slots) ⨾ Put End ∷ []) t s
+    ≡ Go (pushed (rest (instrs_of body) (inner c) ∷ end_element ∷ []) t) s
+inside-ends body c t s =
+    let x : Trace Task = body_trace body t.world (calls_at t.world c.focus) c.focus (last c.seen t.slots) in
+    twice x (Put End ∷ []) t.slots end_element t s (λ m. sym (then-then (put End m) (λ u n. goes n) (λ u n. Goes t.slots n)))
+    ∙ inside body c (pushed (end_element ∷ []) t) s
 
-  runs : (job : Job) (p : Site) (body : Focus → Trace Task) (f : Focus) (ns : List ℕ) (b : Work) (t : Stack) (s : State Task) →
-      ((m : State Task) → work_steps w b t.slots m ≡ filled (each p body f 1 ns) t.slots m) →
-      Then (spread w job p body f ns) t s ≡ and_then (run_begun w job p f ns b t s) Go
-  runs job p body f ns b t s e = runs-by (grain_over w f (length ns)) job p body f ns b t s e
+-- captured content, and the works behind it, which take what it put
+captures : (body : Body) (c : Scope) (h : List Event → Trace Task) (v t : Evaluation) (s : State Task) →
+    ((m : State Task) → Then (h (top m.captures)) v (popped m) ≡ Go t m) →
+    Then (captured (body_trace body t.world (calls_at t.world c.focus) (captured_in c.focus) (last c.seen t.slots)) h) v s
+    ≡ Go (pushed (rest (instrs_of body) (captured_scope c) ∷ []) t) (opened s)
+captures body c h v t s e =
+    let x : Trace Task = body_trace body t.world (calls_at t.world c.focus) (captured_in c.focus) (last c.seen t.slots) in
+    ap (λ g. and_then g (λ u m. Go v m)) (sym (play-captured x h s))
+    ∙ then-then (play x (opened s)) (λ u m. play (h (top m.captures)) (popped m)) (λ u m. Go v m)
+    ∙ then-same (play x (opened s)) (λ u m. Then (h (top m.captures)) v (popped m)) (λ u m. Go t m) (λ u m. e m)
+    ∙ inside body (captured_scope c) t (opened s)
 
-  applies : (mode : ℕ) (ps : Params) (p : Site) (f : Focus) (ns : List ℕ) (t : Stack) (s : State Task) →
-      Then (applied w (calls_at w f) mode ps p f ns) t s ≡ and_then (applied_begun w mode ps p f ns t s) Go
-  applies mode ps p f ns t s =
-      runs (rules_job mode ps) p (calls_at w f (fitting mode ps) p) (in_list (length ns) f) ns (apply_left mode ps p (in_list (length ns) f) 1 ns) t s
-      (λ m. refl)
+-- a run over nodes, which a work goes through where they are no more than the grain
+runs-by : (g : Option ℕ) (job : Job) (p : Site) (body : Focus → Trace Task) (f : Focus) (ns : List ℕ) (b : Work) (t : Evaluation) (s : State Task) →
+    ((m : State Task) → work_steps t.world b t.slots m ≡ filled (each p body f 1 ns) t.slots m) →
+    Then (spread_by g job p body f ns) t s ≡ and_then (run_by g job p f ns b t s) Go
+runs-by None job p body f ns b t s e = behind (each p body f 1 ns) t.slots t s ∙ ap (λ j. and_then j (λ us m. stack_steps t.world t.works us m)) (sym (e s))
+runs-by (Some grain) job p body f ns b t s e = alone (map Hole (tasks_for grain job p f ns)) (play (map Hole (tasks_for grain job p f ns)) s) t s refl
 
-  -- templates
-  template-begins : (o : Option Template) (ps : Params) (f : Focus) (t : Stack) (s : State Task) →
-      Then (template_trace o ps w (calls_at w f) f) t s ≡ Go (template_begun o ps f t) s
-  template-begins None ps f t s = refl
-  template-begins (Some template) ps f t s =
-      let x : List Value → Trace Task = λ vs. params_trace template.params ps w (calls_at w f) f vs (body_trace template.body w (calls_at w f) f) in
-      ap (λ vs. Then (x vs) t s) (sym (last-none t.slots))
-      ∙ ap (λ vs. Then (x (last 0 t.slots)) (slots_are vs t) s) (sym (without-none t.slots))
-      ∙ behind (x (last 0 t.slots)) (without 0 t.slots) t s
+runs : (job : Job) (p : Site) (body : Focus → Trace Task) (f : Focus) (ns : List ℕ) (b : Work) (t : Evaluation) (s : State Task) →
+    ((m : State Task) → work_steps t.world b t.slots m ≡ filled (each p body f 1 ns) t.slots m) →
+    Then (spread t.world job p body f ns) t s ≡ and_then (run_begun job p f ns b t s) Go
+runs job p body f ns b t s e = runs-by (grain_over t.world f (length ns)) job p body f ns b t s e
 
-  built-in-begins : (mode : ℕ) (p : Site) (f : Focus) (r : Record) (t : Stack) (s : State Task) →
-      Then (built_in w (calls_at w f) mode p f r) t s ≡ and_then (built_in_begun w mode p f r t s) Go
-  built-in-begins mode p f r t s = by_content (has_content r.kind)
-    where
-      by_text : (q : Bool) → Then (cond q (chars p r.text) []) t s ≡ and_then (cond q (stays (chars_steps p r.text s) t) (Goes t s)) Go
-      by_text true = alone (chars p r.text) (chars_steps p r.text s) t s (chars-told p r.text s)
-      by_text false = refl
+applies : (mode : ℕ) (ps : Params) (p : Site) (f : Focus) (ns : List ℕ) (t : Evaluation) (s : State Task) →
+    Then (applied t.world (calls_at t.world f) mode ps p f ns) t s ≡ and_then (applied_begun mode ps p f ns t s) Go
+applies mode ps p f ns t s =
+    runs (rules_job mode ps) p (calls_at t.world f (fitting mode ps) p) (in_list (length ns) f) ns (apply_left mode ps p (in_list (length ns) f) 1 ns) t s
+    (λ m. refl)
 
-      by_content : (q : Bool) → Then (cond q (applied w (calls_at w f) mode no_params p f (children w.tree f.node))
-          (cond (is_text_kind r.kind || is_attribute_kind r.kind) (chars p r.text) [])) t s
-          ≡ and_then (cond q (applied_begun w mode no_params p f (children w.tree f.node) t s)
-          (cond (is_text_kind r.kind || is_attribute_kind r.kind) (stays (chars_steps p r.text s) t) (Goes t s))) Go
-      by_content true = applies mode no_params p f (children w.tree f.node) t s
-      by_content false = by_text (is_text_kind r.kind || is_attribute_kind r.kind)
+-- the parameters of a template that are left, or else its body
+params-same : (bs : List Binding) (ps : Params) (body : Body) (c : Scope) (w : World) (vs : List Value) (s : State Task) →
+    work_steps w (params_left bs ps body c) vs s ≡ work_steps w (params_first bs ps body c) vs s
+params-same [] ps body c w vs s =
+    ap (λ x. filled x (without c.own vs) s) (body-instrs body w (calls_at w c.focus) c.focus (last c.seen vs))
+params-same (b ∷ bs) ps body c w vs s = refl
 
-  rule-begins : (o : Option ℕ) (mode : ℕ) (ps : Params) (p : Site) (f : Focus) (t : Stack) (s : State Task) →
-      Then (ruled o mode ps w (calls_at w f) p f) t s ≡ and_then (rule_begun o w mode ps p f t s) Go
-  rule-begins None mode ps p f t s = built-in-begins mode p f (at w.tree f.node) t s
-  rule-begins (Some rule) mode ps p f t s = template-begins (slice_get w.sheet.templates rule) ps (by_rule rule mode f) t s
+-- templates
+template-begins : (o : Option Template) (ps : Params) (f : Focus) (t : Evaluation) (s : State Task) →
+    Then (template_trace o ps t.world (calls_at t.world f) f) t s ≡ Go (template_begun o ps f t) s
+template-begins None ps f t s = refl
+template-begins (Some template) ps f t s =
+    let x : List Value → Trace Task = λ vs. params_trace template.params ps t.world (calls_at t.world f) f vs (body_trace template.body t.world (calls_at t.world f) f) in
+    ap (λ vs. Then (x vs) t s) (sym (last-none t.slots))
+    ∙ ap (λ vs. Then (x (last 0 t.slots)) (slots_are vs t) s) (sym (without-none t.slots))
+    ∙ behind (x (last 0 t.slots)) (without 0 t.slots) t s
+    ∙ ap (λ g. and_then g (λ us m. stack_steps t.world t.works us m)) (params-same template.params ps template.body (outer f) t.world t.slots s)
 
-  entry-begins : (e : Entry) (p : Site) (f : Focus) (t : Stack) (s : State Task) →
-      Then (entered e w (calls_at w f) p f) t s ≡ and_then (entry_begun e w p f t s) Go
-  entry-begins (named i ps) p f t s = template-begins (slice_get w.sheet.templates i) ps f t s
-  entry-begins (fitting mode ps) p f t s = rule-begins (rule_for w mode f.node) mode ps p f t s
-  entry-begins (overridden current) p f t s = rule-begins (import_for w current f) f.mode no_params p f t s
+built-in-begins : (mode : ℕ) (p : Site) (f : Focus) (r : Record) (t : Evaluation) (s : State Task) →
+    Then (built_in t.world (calls_at t.world f) mode p f r) t s ≡ and_then (built_in_begun mode p f r t s) Go
+built-in-begins mode p f r t s = by_content (has_content r.kind)
+  where
+    by_text : (q : Bool) → Then (cond q (chars p r.text) []) t s ≡ and_then (cond q (stays (chars_steps p r.text s) t) (Goes t s)) Go
+    by_text true = alone (chars p r.text) (chars_steps p r.text s) t s (chars-told p r.text s)
+    by_text false = refl
 
-  -- one level deeper
-  enters-at : (depth : ℕ) (e : Entry) (p : Site) (f : Focus) (t : Stack) (s : State Task) →
-      Then (called w depth e p f) t s ≡ and_then (cond (depth == 0) (stops (Fault fault.TooDeep p) s) (entry_begun e w p (with_depth (depth - 1) f) t s)) Go
-  enters-at zero e p f t s = refl
-  enters-at (suc d) e p f t s =
-      let q : (suc d == 0) ≡ false = grind (arith, nat_tests) in
-      let k : d ≡ suc d - 1 = omega arith in
-      entry-begins e p (with_depth d f) t s
-      ∙ ap (λ n. and_then (entry_begun e w p (with_depth n f) t s) Go) k
-      ∙ ap (λ b. and_then (cond b (stops (Fault fault.TooDeep p) s) (entry_begun e w p (with_depth (suc d - 1) f) t s)) Go) (sym q)
+    by_content : (q : Bool) → Then (cond q (applied t.world (calls_at t.world f) mode no_params p f (children t.world.tree f.node))
+        (cond (is_text_kind r.kind || is_attribute_kind r.kind) (chars p r.text) [])) t s
+        ≡ and_then (cond q (applied_begun mode no_params p f (children t.world.tree f.node) t s)
+        (cond (is_text_kind r.kind || is_attribute_kind r.kind) (stays (chars_steps p r.text s) t) (Goes t s))) Go
+    by_content true = applies mode no_params p f (children t.world.tree f.node) t s
+    by_content false = by_text (is_text_kind r.kind || is_attribute_kind r.kind)
 
-  enters : (e : Entry) (p : Site) (f : Focus) (t : Stack) (s : State Task) → Then (calls_at w f e p f) t s ≡ and_then (entering e w p f t s) Go
-  enters e p f t s = enters-at f.depth e p f t s
+rule-begins : (o : Option ℕ) (mode : ℕ) (ps : Params) (p : Site) (f : Focus) (t : Evaluation) (s : State Task) →
+    Then (ruled o mode ps t.world (calls_at t.world f) p f) t s ≡ and_then (rule_begun o mode ps p f t s) Go
+rule-begins None mode ps p f t s = built-in-begins mode p f (at t.world.tree f.node) t s
+rule-begins (Some rule) mode ps p f t s = template-begins (slice_get t.world.sheet.templates rule) ps (by_rule rule mode f) t s
 
-  call-begins : (callee : Called) (ps : Params) (p : Site) (f : Focus) (t : Stack) (s : State Task) →
-      Then (called_with w (calls_at w f) callee ps p f) t s ≡ and_then (call_begun w callee ps p f t s) Go
-  call-begins (by_number i) ps p f t s = ticks p (calls_at w f (named i ps) p f) t t (λ m. entering (named i ps) w p f t m) s (enters (named i ps) p f t)
-  call-begins (by_rules mode ns) ps p f t s = applies mode ps p f ns t s
+entry-begins : (e : Entry) (p : Site) (f : Focus) (t : Evaluation) (s : State Task) →
+    Then (entered e t.world (calls_at t.world f) p f) t s ≡ and_then (entry_begun e p f t s) Go
+entry-begins (named i ps) p f t s = template-begins (slice_get t.world.sheet.templates i) ps f t s
+entry-begins (fitting mode ps) p f t s = rule-begins (rule_for t.world mode f.node) mode ps p f t s
+entry-begins (overridden current) p f t s = rule-begins (import_for t.world current f) f.mode no_params p f t s
+entry-begins (using names) p f t s = behind (sets_trace names t.world (calls_at t.world f) f) t.slots t s
 
-  imports-begin : (p : Site) (f : Focus) (o : Option ℕ) (t : Stack) (s : State Task) → Then (imports (calls_at w f) p f o) t s ≡ and_then
-      (imports_begun w p f o t s) Go
-  imports-begin p f None t s = refl
-  imports-begin p f (Some rule) t s = ticks p (calls_at w f (overridden rule) p f) t t (λ m. entering (overridden rule) w p f t m) s
-      (enters (overridden rule) p f t)
+-- one level deeper
+enters-by : (x : ℕ → Trace Task) (depth : ℕ) (e : Entry) (p : Site) (f : Focus) (t : Evaluation) (s : State Task) → x zero ≡ Stop fault.TooDeep p ∷ [] →
+    ((d : ℕ) → Then (x (suc d)) t s ≡ and_then (entry_begun e p (with_levels d (all_set_levels t.world) f) t s) Go) →
+    Then (x depth) t s
+    ≡ and_then (cond (depth == 0) (stops (Fault fault.TooDeep p) s) (entry_begun e p (with_levels (depth - 1) (all_set_levels t.world) f) t s)) Go
+enters-by x zero e p f t s o h = ap (λ y. Then y t s) o
+enters-by x (suc d) e p f t s o h =
+    let n : ℕ = all_set_levels t.world in
+    let q : (suc d == 0) ≡ false = grind (arith, nat_tests) in
+    let k : d ≡ suc d - 1 = omega arith in
+    h d
+    ∙ ap (λ m. and_then (entry_begun e p (with_levels m n f) t s) Go) k
+    ∙ ap (λ b. and_then (cond b (stops (Fault fault.TooDeep p) s) (entry_begun e p (with_levels (suc d - 1) n f) t s)) Go) (sym q)
 
-  -- what goes on with one slot more
-  binds : (x : List Value → Trace Task) (c : Scope) (t : Stack) (v : Value) (s : State Task) →
-      Then (x (last c.seen t.slots ++ v ∷ [])) (slots_are (without c.own t.slots) t) s
-      ≡ and_then (filled (x (last (c.seen + 1) (t.slots ++ v ∷ []))) (without (c.own + 1) (t.slots ++ v ∷ [])) s) (λ us m. stack_steps w t.works us m)
-  binds x c t v s =
-      ap (λ us. Then (x us) (slots_are (without c.own t.slots) t) s) (sym (last-more c.seen t.slots v))
-      ∙ ap (λ us. Then (x (last (c.seen + 1) (t.slots ++ v ∷ []))) (slots_are us t) s) (sym (without-more c.own t.slots v))
-      ∙ behind (x (last (c.seen + 1) (t.slots ++ v ∷ []))) (without (c.own + 1) (t.slots ++ v ∷ [])) t s
+abbrev IsTemplate : Entry → Type 0
+IsTemplate (named i ps) = Unit {0}
+IsTemplate (fitting mode ps) = Unit {0}
+IsTemplate (overridden current) = Unit {0}
+IsTemplate (using names) = ⊥
 
-  -- the value of a binding, which fills a slot of the works behind it
-  content-begins : (content : Content) (p : Site) (c : Scope) (next : Value → Trace Task) (v t : Stack) (s : State Task) →
-      ((x : Value) (m : State Task) → Then (next x) v m ≡ Go (filled_up (x ∷ []) t) m) →
-      Then (content_trace content p w (calls_at w c.focus) c.focus (last c.seen t.slots) next) v s ≡ and_then (content_begun w content p c t s) Go
-  content-begins Empty p c next v t s e = e (String []) s
-  content-begins (Select x) p c next v t s e = brings p (value_run w x c.focus (last c.seen t.slots)) next v (λ y m. Goes (filled_up (y ∷ []) t) m) s e
-  content-begins (Fragment body) p c next v t s e = captures body c (λ es. next (Piece (fragment_of es))) v (pushed (fill ∷ []) t) s
-      (λ m. e (fragment_at m) (popped m))
+enters : (e : Entry) → IsTemplate e → (p : Site) (f : Focus) (t : Evaluation) (s : State Task) →
+    Then (calls_at t.world f e p f) t s ≡ and_then (entering e p f t s) Go
+enters (named i ps) is p f t s =
+    enters-by (λ d. called (named i ps) t.world d f.set_levels p f) f.depth (named i ps) p f t s refl
+    (λ d. entry-begins (named i ps) p (with_levels d (all_set_levels t.world) f) t s)
+enters (fitting mode ps) is p f t s =
+    enters-by (λ d. called (fitting mode ps) t.world d f.set_levels p f) f.depth (fitting mode ps) p f t s refl
+    (λ d. entry-begins (fitting mode ps) p (with_levels d (all_set_levels t.world) f) t s)
+enters (overridden current) is p f t s =
+    enters-by (λ d. called (overridden current) t.world d f.set_levels p f) f.depth (overridden current) p f t s refl
+    (λ d. entry-begins (overridden current) p (with_levels d (all_set_levels t.world) f) t s)
+enters (using names) is p f t s = absurd is
 
-  param-begins : (o : Option Value) (content : Content) (p : Site) (c : Scope) (next : Value → Trace Task) (v t : Stack) (s : State Task) →
-      ((x : Value) (m : State Task) → Then (next x) v m ≡ Go (filled_up (x ∷ []) t) m) →
-      Then (param_trace o content p w (calls_at w c.focus) c.focus (last c.seen t.slots) next) v s ≡ and_then (param_begun o w content p c t s) Go
-  param-begins None content p c next v t s e = content-begins content p c next v t s e
-  param-begins (Some x) content p c next v t s e = e x s
+-- attribute sets, a level deeper
+sets-at : (names : List Label) (d n : ℕ) (p : Site) (f : Focus) (t : Evaluation) (s : State Task) →
+    Then (called (using names) t.world d n p f) t s
+    ≡ Go (pushed (cond (length names == 0) [] (cond (n == 0) [] (sets_left names (with_levels d (n - 1) f) ∷ []))) t) s
+sets-at [] d zero p f t s = refl
+sets-at [] d (suc n) p f t s = refl
+sets-at (name ∷ names) d zero p f t s =
+    let q : (length (name ∷ names) == 0) ≡ false = grind (arith, nat_tests) in
+    ap (λ b. Go (pushed (cond b [] []) t) s) (sym q)
+sets-at (name ∷ names) d (suc n) p f t s =
+    let q : (length (name ∷ names) == 0) ≡ false = grind (arith, nat_tests) in
+    let o : (suc n == 0) ≡ false = grind (arith, nat_tests) in
+    let k : n ≡ suc n - 1 = omega arith in
+    let deeper : Focus = with_levels d n f in
+    behind (sets_trace (name ∷ names) t.world (calls_at t.world deeper) deeper) t.slots t s
+    ∙ ap (λ m. Go (pushed (sets_left (name ∷ names) (with_levels d m f) ∷ []) t) s) k
+    ∙ ap (λ b. Go (pushed (cond b [] (sets_left (name ∷ names) (with_levels d (suc n - 1) f) ∷ [])) t) s) (sym o)
+    ∙ ap (λ b. Go (pushed (cond b [] (cond (suc n == 0) [] (sets_left (name ∷ names) (with_levels d (suc n - 1) f) ∷ []))) t) s) (sym q)
 
-  -- a value that is passed
-  pass-begins : (content : Content) (left all : List Binding) (us : List Value) (callee : Called) (p : Site) (c : Scope) (t : Stack) (s : State Task) →
-      Then (content_trace content p w (calls_at w c.focus) c.focus (last c.seen t.slots)
-      (λ x. passing_left left all callee w p c.focus (last c.seen t.slots) (us ++ x ∷ []))) t s
-      ≡ and_then (pass_begun w content left all us callee p c t s) Go
-  pass-begins Empty left all us callee p c t s = behind (passing_left left all callee w p c.focus (last c.seen t.slots) (us ++ String [] ∷ [])) t.slots t s
-  pass-begins (Select e) left all us callee p c t s =
-      let next : Value → Trace Task = λ x. passing_left left all callee w p c.focus (last c.seen t.slots) (us ++ x ∷ []) in
-      brings p (value_run w e c.focus (last c.seen t.slots)) next t (λ x m. Goes (pushed (pass left all (us ++ x ∷ []) callee p c ∷ []) t) m) s
-      (λ x m. behind (next x) t.slots t m)
-  pass-begins (Fragment body) left all us callee p c t s =
-      let next : Value → Trace Task = λ x. passing_left left all callee w p c.focus (last c.seen t.slots) (us ++ x ∷ []) in
-      captures body c (λ es. next (Piece (fragment_of es))) t (pushed (take_value left all us callee p c ∷ []) t) s
-      (λ m. behind (next (fragment_at m)) t.slots t (popped m))
+sets-begin : (names : List Label) (p : Site) (f : Focus) (t : Evaluation) (s : State Task) →
+    Then (calls_at t.world f (using names) p f) t s ≡ Go (pushed (sets_works names f) t) s
+sets-begin names p f t s = sets-at names f.depth f.set_levels p f t s
 
-  passing-begins : (passed : Passed) (callee : Called) (p : Site) (c : Scope) (t : Stack) (s : State Task) →
-      Then (passing passed p w (calls_at w c.focus) c.focus (last c.seen t.slots) (λ ps. called_with w (calls_at w c.focus) callee ps p c.focus)) t s
-      ≡ Go (pushed (pass (bindings_of passed) (bindings_of passed) [] callee p c ∷ []) t) s
-  passing-begins passed callee p c t s =
-      ap (λ x. Then x t s) (passing-bindings passed p w (calls_at w c.focus) c.focus (last c.seen t.slots)
-      (λ ps. called_with w (calls_at w c.focus) callee ps p c.focus))
-      ∙ behind (passing_left (bindings_of passed) (bindings_of passed) callee w p c.focus (last c.seen t.slots) []) t.slots t s
+-- what is in an element, after the attributes of sets
+inside-begins : (sets : List Label) (p : Site) (body : Body) (c : Scope) (t : Evaluation) (s : State Task) →
+    Then (calls_at t.world c.focus (using sets) p c.focus
+    ⨾ (body_trace body t.world (calls_at t.world c.focus) c.focus (last c.seen t.slots) ⨾ Put End ∷ [])) t s
+    ≡ Go (inside_begun sets body c t) s
+inside-begins sets p body c t s =
+    let u : Evaluation = pushed (rest (instrs_of body) (inner c) ∷ end_element ∷ []) t in
+    followed (calls_at t.world c.focus (using sets) p c.focus)
+    (body_trace body t.world (calls_at t.world c.focus) c.focus (last c.seen t.slots) ⨾ Put End ∷ []) t u s (λ m. inside-ends body c t m)
+    ∙ sets-begin sets p c.focus u s
 
-  if-begins : (b : Bool) (body : Body) (c : Scope) (t : Stack) (s : State Task) →
-      Then (cond b (body_trace body w (calls_at w c.focus) c.focus (last c.seen t.slots)) []) t s ≡ Go
-      (pushed (cond b (rest (instrs_of body) (inner c) ∷ []) []) t) s
-  if-begins true body c t s = inside body c t s
-  if-begins false body c t s = refl
+copied-begins : (kind : Kind) (sets : List Label) (p : Site) (body : Body) (c : Scope) (t : Evaluation) (s : State Task) →
+    Then (copied_content kind sets (calls_at t.world c.focus) p c.focus (body_trace body t.world (calls_at t.world c.focus) c.focus (last c.seen t.slots))) t s
+    ≡ Go (copied_begun kind sets body c t) s
+copied-begins kind sets p body c t s = by_element (is_element_kind kind)
+  where
+    x : Trace Task
+    x = body_trace body t.world (calls_at t.world c.focus) c.focus (last c.seen t.slots)
 
-  fallbacks-begin : (bs : List Body) (p : Site) (c : Scope) (t : Stack) (s : State Task) →
-      Then (fallback_trace bs p w (calls_at w c.focus) c.focus (last c.seen t.slots)) t s ≡ and_then (fallbacks_begun bs p c t s) Go
-  fallbacks-begin [] p c t s = refl
-  fallbacks-begin (b ∷ bs) p c t s = behind (all_bodies (b ∷ bs) w (calls_at w c.focus) c.focus (last c.seen t.slots)) t.slots t s
+    by_root : (q : Bool) → Then (cond q x []) t s ≡ Go (cond q (pushed (rest (instrs_of body) (inner c) ∷ []) t) t) s
+    by_root true = inside body c t s
+    by_root false = refl
 
-  -- an instruction, and what is left of its body, which a work tells
-  joined : (x : Trace Task) (is : List Instr) (c : Scope) (t : Stack) (s : State Task) →
-      Then (x ⨾ instrs_trace is w (calls_at w c.focus) c.focus (last c.seen t.slots)) (slots_are (without c.own t.slots) t) s
-      ≡ Then x (pushed (rest is (more 0 c) ∷ []) t) s
-  joined x is c t s =
-      twice x (instrs_trace is w (calls_at w c.focus) c.focus (last c.seen t.slots)) (without c.own t.slots) (rest is c) t s (λ m. refl)
-      ∙ ap (λ (d : Scope). Then x (pushed (rest is d ∷ []) t) s) (sym (more-none c))
+    by_element : (q : Bool) → Then (cond q (calls_at t.world c.focus (using sets) p c.focus ⨾ (x ⨾ Put End ∷ [])) (cond (is_root_kind kind) x [])) t s
+        ≡ Go (cond q (inside_begun sets body c t) (cond (is_root_kind kind) (pushed (rest (instrs_of body) (inner c) ∷ []) t) t)) s
+    by_element true = inside-begins sets p body c t s
+    by_element false = by_root (is_root_kind kind)
 
-  nothing : (is : List Instr) (c : Scope) (t : Stack) (s : State Task) →
-      Then (instrs_trace is w (calls_at w c.focus) c.focus (last c.seen t.slots)) (slots_are (without c.own t.slots) t) s ≡ Go
-      (pushed (rest is (more 0 c) ∷ []) t) s
-  nothing is c t s = joined [] is c t s
+-- what is made of captured content
+made-begins : (m : Made) (body : Body) (p : Site) (c : Scope) (t : Evaluation) (s : State Task) →
+    Then (makes m p (body_trace body t.world (calls_at t.world c.focus) (captured_in c.focus) (last c.seen t.slots))) t s
+    ≡ and_then (made_begun m body p c t s) Go
+made-begins m body p c t s =
+    captures body c (λ es. puts_all p (made_events m (content_text es))) t (pushed (make m p ∷ []) t) s
+    (λ q. behind (puts_all p (made_at m q)) t.slots t (popped q))
 
-  -- each kind of instruction
-  begins-so : (kind : InstrKind) (p : Site) (is : List Instr) (c : Scope) (t : Stack) (s : State Task) →
-      Then (instr_trace kind p w (calls_at w c.focus) c.focus (last c.seen t.slots) (instrs_trace is w (calls_at w c.focus) c.focus))
-      (slots_are (without c.own t.slots) t) s
-      ≡ and_then (begun w kind p c (pushed (rest is (after kind c) ∷ []) t) s) Go
-  begins-so (ApplyTemplates nodes passed) p is c t s =
-      let u : Stack = pushed (rest is (more 0 c) ∷ []) t in
-      let vs : List Value = last c.seen t.slots in
-      let h : List ℕ → Trace Task = λ ns. passing passed p w (calls_at w c.focus) c.focus vs
-      (λ ps. called_with w (calls_at w c.focus) (by_rules nodes.mode ns) ps p c.focus) in
-      joined (evaluated p (nodes_or_children w nodes.select c.focus vs) h) is c t s
-      ∙ brings p (nodes_or_children w nodes.select c.focus vs) h u
-      (λ ns m. Goes (pushed (pass (bindings_of passed) (bindings_of passed) [] (by_rules nodes.mode ns) p c ∷ []) u) m) s (λ ns m.
-      passing-begins passed (by_rules nodes.mode ns) p c u m)
-  begins-so (CallTemplate i passed) p is c t s =
-      joined (passing passed p w (calls_at w c.focus) c.focus (last c.seen t.slots) (λ ps. called_with w (calls_at w c.focus) (by_number i) ps p c.focus)) is
-      c t s
-      ∙ passing-begins passed (by_number i) p c (pushed (rest is (more 0 c) ∷ []) t) s
-  begins-so ApplyImports p is c t s =
-      joined (imports (calls_at w c.focus) p c.focus c.focus.rule) is c t s ∙ imports-begin p c.focus c.focus.rule (pushed (rest is (more 0 c) ∷ []) t) s
-  begins-so (ForEach select sorts body) p is c t s =
-      let u : Stack = pushed (rest is (more 0 c) ∷ []) t in
-      let vs : List Value = last c.seen t.slots in
-      let f : List ℕ → Focus = λ ns. in_list (length ns) (without_rule c.focus) in
-      let h : List ℕ → Trace Task = λ ns. spread w (body_job body vs) p (λ g. body_trace body w (calls_at w c.focus) g vs) (f ns) ns in
-      joined (evaluated p (nodes_run w select c.focus vs) h) is c t s
-      ∙ brings p (nodes_run w select c.focus vs) h u (λ ns m. run_begun w (body_job body vs) p (f ns) ns (each_left body p (over (f ns) c) 1 ns) u m) s (λ ns m.
-      runs (body_job body vs) p (λ g. body_trace body w (calls_at w c.focus) g vs) (f ns) ns (each_left body p (over (f ns) c) 1 ns) u m (λ n. refl))
-  begins-so (ValueOf select) p is c t s =
-      let u : Stack = pushed (rest is (more 0 c) ∷ []) t in
-      let r : Run (List ℕ) = text_run w select c.focus (last c.seen t.slots) in
-      joined (evaluated p r (chars p)) is c t s
-      ∙ alone (evaluated p r (chars p)) (and_then (limited p r s) (λ text m. chars_steps p text m)) u s
-      (then-same (limited p r s) (λ text m. chars_steps p text m) (λ text m. play (chars p text) m) (λ text m. chars-told p text m) ∙ sym
-      (play-evaluated p r (chars p) s))
-  begins-so (CopyOf select) p is c t s = nothing is c t s
-  begins-so (Copy sets body) p is c t s = nothing is c t s
-  begins-so (Number decl) p is c t s = nothing is c t s
-  begins-so (Choose choice) p is c t s =
-      let u : Stack = pushed (rest is (more 0 c) ∷ []) t in
-      let vs : List Value = last c.seen t.slots in
-      let r : Run Body = chosen choice w c.focus vs in
-      joined (choice_trace choice p w (calls_at w c.focus) c.focus vs) is c t s
-      ∙ ap (λ g. and_then g (λ v m. Go u m)) (chooses-body choice p w (calls_at w c.focus) c.focus vs s)
-      ∙ then-then (limited p r s) (λ body m. play (body_trace body w (calls_at w c.focus) c.focus vs) m) (λ v m. Go u m)
-      ∙ then-same (limited p r s) (λ body m. Then (body_trace body w (calls_at w c.focus) c.focus vs) u m)
-      (λ body m. Go (pushed (rest (instrs_of body) (inner c) ∷ []) u) m) (λ body m. inside body c u m)
-      ∙ sym (then-then (limited p r s) (λ body m. Goes (pushed (rest (instrs_of body) (inner c) ∷ []) u) m) Go)
-  begins-so (If test body) p is c t s =
-      let u : Stack = pushed (rest is (more 0 c) ∷ []) t in
-      let r : Run Bool = test_run w test c.focus (last c.seen t.slots) in
-      let h : Bool → Trace Task = λ b. cond b (body_trace body w (calls_at w c.focus) c.focus (last c.seen t.slots)) [] in
-      joined (evaluated p r h) is c t s ∙ brings p r h u (λ b m. Goes (pushed (cond b (rest (instrs_of body) (inner c) ∷ []) []) u) m) s
-      (λ b m. if-begins b body c u m)
-  begins-so (Text text) p is c t s = joined (chars p text) is c t s ∙ alone (chars p text) (chars_steps p text s) (pushed (rest is (more 0 c) ∷ []) t) s
-      (chars-told p text s)
-  begins-so (Element name sets body) p is c t s = nothing is c t s
-  begins-so (Attribute name body) p is c t s = nothing is c t s
-  begins-so (Comment body) p is c t s = nothing is c t s
-  begins-so (Pi name body) p is c t s = nothing is c t s
-  begins-so (Message terminate body) p is c t s =
-      let u : Stack = pushed (rest is (more 0 c) ∷ []) t in
-      let h : List Event → Trace Task = λ es. says p (fragment_text es) ⨾ ended_if terminate p in
-      joined (captured (body_trace body w (calls_at w c.focus) (captured_in c.focus) (last c.seen t.slots)) h) is c t s
-      ∙ captures body c h u (pushed (say p terminate ∷ []) u) s (λ m.
-      ap (λ g. and_then g (λ v n. Go u n)) (sym (message-told p terminate (fragment_text (top m.captures)) (popped m)))
-      ∙ sym (then-then (message_ended p terminate m) (λ v n. Goes u.slots n) (λ us n. stack_steps w u.works us n)))
-  begins-so (Variable' site name content) p is c t s =
-      content-begins content p c (λ x. instrs_trace is w (calls_at w c.focus) c.focus (last c.seen t.slots ++ x ∷ [])) (slots_are (without c.own t.slots) t)
-      (pushed (rest is (bound c) ∷ []) t) s (λ x m.
-      binds (instrs_trace is w (calls_at w c.focus) c.focus) c t x m)
-  begins-so (Literal start body) p is c t s =
-      let u : Stack = pushed (rest is (more 0 c) ∷ []) t in
-      let x : Trace Task = body_trace body w (calls_at w c.focus) c.focus (last c.seen t.slots) in
-      let y : Trace Task = x ⨾ Put End ∷ [] in
-      let v : Stack = pushed (end_element ∷ []) u in
-      joined (begins start ⨾ y) is c t s
-      ∙ ap (λ g. and_then g (λ q m. Go u m)) (play-then (begins start) y s)
-      ∙ ap (λ g. and_then (and_then g (λ q m. play y m)) (λ q m. Go u m)) (sym (literal-told start s))
-      ∙ before (literal_steps start s) (λ m. play y m) (λ q m. Go u m) (λ m. Goes (pushed (rest (instrs_of body) (inner c) ∷ []) v) m) Go (λ m.
-      twice x (Put End ∷ []) u.slots end_element u m (λ n. sym (then-then (put End n) (λ q i. goes i) (λ q i. Goes u.slots i))) ∙ inside body c v m)
-  begins-so (Extension fallbacks) p is c t s =
-      let u : Stack = pushed (rest is (more 0 c) ∷ []) t in
-      joined (fallbacks_trace fallbacks p w (calls_at w c.focus) c.focus (last c.seen t.slots)) is c t s
-      ∙ ap (λ x. Then x u s) (fallbacks-bodies fallbacks p w (calls_at w c.focus) c.focus (last c.seen t.slots))
-      ∙ fallbacks-begin (bodies_of fallbacks) p c u s
+call-begins : (callee : Called) (ps : Params) (p : Site) (f : Focus) (t : Evaluation) (s : State Task) →
+    Then (called_with t.world (calls_at t.world f) callee ps p f) t s ≡ and_then (call_begun callee ps p f t s) Go
+call-begins (by_number i) ps p f t s = ticks p (calls_at t.world f (named i ps) p f) t t (λ m. entering (named i ps) p f t m) s (enters (named i ps) tt p f t)
+call-begins (by_rules mode ns) ps p f t s = applies mode ps p f ns t s
 
-  -- each kind of work
-  pub advances : (b : Work) (t : Stack) (s : State Task) → Go (pushed (b ∷ []) t) s ≡ and_then (advanced w b t s) Go
-  advances (rest [] c) t s = refl
-  advances (rest (i ∷ is) c) t s =
-      let x : Trace Task = instr_trace i.kind i.site w (calls_at w c.focus) c.focus (last c.seen t.slots) (instrs_trace is w (calls_at w c.focus) c.focus) in
-      sym (behind (Tick i.site ∷ x) (without c.own t.slots) t s)
-      ∙ ticks i.site x (slots_are (without c.own t.slots) t) (pushed (rest is (after i.kind c) ∷ []) t)
-      (λ m. begun w i.kind i.site c (pushed (rest is (after i.kind c) ∷ []) t) m) s (begins-so i.kind i.site is c t)
-  advances fill t s = refl
-  advances (each_left body p c i []) t s = refl
-  advances (each_left body p c i (n ∷ ns)) t s =
-      let b : Work = each_left body p c (i + 1) ns in
-      let f : Focus → Trace Task = λ g. body_trace body w (calls_at w c.focus) g (last c.seen t.slots) in
-      sym (behind (each p f c.focus i (n ∷ ns)) t.slots t s)
-      ∙ ticks p (f (at_node n i c.focus) ⨾ each p f c.focus (i + 1) ns) t t
-      (λ m. Goes (pushed (rest (instrs_of body) (over (at_node n i c.focus) c) ∷ b ∷ []) t) m) s (λ m.
-      twice (f (at_node n i c.focus)) (each p f c.focus (i + 1) ns) t.slots b t m (λ q. refl) ∙ inside body (over (at_node n i c.focus) c)
-      (pushed (b ∷ []) t) m)
-  advances (apply_left mode ps p f i []) t s = refl
-  advances (apply_left mode ps p f i (n ∷ ns)) t s =
-      let b : Work = apply_left mode ps p f (i + 1) ns in
-      let x : Focus → Trace Task = calls_at w f (fitting mode ps) p in
-      sym (behind (each p x f i (n ∷ ns)) t.slots t s)
-      ∙ ticks p (x (at_node n i f) ⨾ each p x f (i + 1) ns) t t (λ m. entering (fitting mode ps) w p (at_node n i f) (pushed (b ∷ []) t) m) s (λ m.
-      twice (x (at_node n i f)) (each p x f (i + 1) ns) t.slots b t m (λ q. refl) ∙ enters (fitting mode ps) p (at_node n i f) (pushed (b ∷ []) t) m)
-  advances (bodies_left [] c) t s = refl
-  advances (bodies_left (b ∷ bs) c) t s =
-      let f : Body → Trace Task = λ body. body_trace body w (calls_at w c.focus) c.focus (last c.seen t.slots) in
-      let others : Trace Task = all_bodies bs w (calls_at w c.focus) c.focus (last c.seen t.slots) in
-      sym (behind (f b ⨾ others) t.slots t s) ∙ twice (f b) others t.slots (bodies_left bs c) t s (λ m. refl) ∙ inside b c (pushed (bodies_left bs c ∷ []) t) s
-  advances end_element t s = then-then (put End s) (λ u m. Goes t.slots m) (λ us m. stack_steps w t.works us m) ∙ sym
-      (then-then (put End s) (λ u m. Goes t m) Go)
-  advances (say p terminate) t s =
-      then-then (message_ended p terminate s) (λ u m. Goes t.slots m) (λ us m. stack_steps w t.works us m) ∙ sym
-      (then-then (message_ended p terminate s) (λ u m. Goes t m) Go)
-  advances (pass [] all us callee p c) t s =
-      sym (behind (passing_left [] all callee w p c.focus (last c.seen t.slots) us) t.slots t s) ∙ call-begins callee
-      (record { bindings = all; values = us }) p c.focus t s
-  advances (pass (b ∷ left) all us callee p c) t s =
-      sym (behind (passing_left (b ∷ left) all callee w p c.focus (last c.seen t.slots) us) t.slots t s) ∙ pass-begins b.content left all us callee p c t s
-  advances (take_value left all us callee p c) t s = refl
-  advances (params_left [] ps body c) t s =
-      ap (λ x. and_then (filled x (without c.own t.slots) s) (λ us m. stack_steps w t.works us m))
-      (body-instrs body w (calls_at w c.focus) c.focus (last c.seen t.slots))
-  advances (params_left (b ∷ bs) ps body c) t s =
-      let v : Stack = slots_are (without c.own t.slots) t in
-      let u : Stack = pushed (params_left bs ps body (bound c) ∷ []) t in
-      let x : List Value → Trace Task = λ vs. params_trace bs ps w (calls_at w c.focus) c.focus vs (body_trace body w (calls_at w c.focus) c.focus) in
-      let next : Value → Trace Task = λ y. x (last c.seen t.slots ++ y ∷ []) in
-      let first : Trace Task = param_trace (value_passed b.name ps) b.content b.site w (calls_at w c.focus) c.focus (last c.seen t.slots) next in
-      sym (behind (Tick b.site ∷ first) (without c.own t.slots) t s)
-      ∙ ticks b.site first v u (λ m. param_begun (value_passed b.name ps) w b.content b.site c u m) s (λ m.
-      param-begins (value_passed b.name ps) b.content b.site c next v u m (λ y n. binds x c t y n))
+imports-begin : (p : Site) (f : Focus) (o : Option ℕ) (t : Evaluation) (s : State Task) → Then (imports (calls_at t.world f) p f o) t s ≡ and_then
+    (imports_begun p f o t s) Go
+imports-begin p f None t s = refl
+imports-begin p f (Some rule) t s = ticks p (calls_at t.world f (overridden rule) p f) t t (λ m. entering (overridden rule) p f t m) s
+    (enters (overridden rule) tt p f t)
+
+-- what goes on with one slot more
+binds : (x : List Value → Trace Task) (c : Scope) (t : Evaluation) (v : Value) (s : State Task) →
+    Then (x (last c.seen t.slots ++ v ∷ [])) (slots_are (without c.own t.slots) t) s
+    ≡ and_then (filled (x (last (c.seen + 1) (t.slots ++ v ∷ []))) (without (c.own + 1) (t.slots ++ v ∷ [])) s) (λ us m. stack_steps t.world t.works us m)
+binds x c t v s =
+    ap (λ us. Then (x us) (slots_are (without c.own t.slots) t) s) (sym (last-more c.seen t.slots v))
+    ∙ ap (λ us. Then (x (last (c.seen + 1) (t.slots ++ v ∷ []))) (slots_are us t) s) (sym (without-more c.own t.slots v))
+    ∙ behind (x (last (c.seen + 1) (t.slots ++ v ∷ []))) (without (c.own + 1) (t.slots ++ v ∷ [])) t s
+
+-- the value of a binding, which fills a slot of the works behind it
+content-begins : (content : Content) (p : Site) (c : Scope) (next : Value → Trace Task) (v t : Evaluation) (s : State Task) →
+    ((x : Value) (m : State Task) → Then (next x) v m ≡ Go (filled_up (x ∷ []) t) m) →
+    Then (content_trace content p t.world (calls_at t.world c.focus) c.focus (last c.seen t.slots) next) v s ≡ and_then (content_begun content p c t s) Go
+content-begins Empty p c next v t s e = e (String []) s
+content-begins (Select x) p c next v t s e = brings p (value_run t.world x c.focus (last c.seen t.slots)) next v (λ y m. Goes (filled_up (y ∷ []) t) m) s e
+content-begins (Fragment body) p c next v t s e = captures body c (λ es. next (Piece (fragment_of es))) v (pushed (fill ∷ []) t) s
+    (λ m. e (fragment_at m) (popped m))
+
+param-begins : (o : Option Value) (content : Content) (p : Site) (c : Scope) (next : Value → Trace Task) (v t : Evaluation) (s : State Task) →
+    ((x : Value) (m : State Task) → Then (next x) v m ≡ Go (filled_up (x ∷ []) t) m) →
+    Then (param_trace o content p t.world (calls_at t.world c.focus) c.focus (last c.seen t.slots) next) v s ≡ and_then (param_begun o content p c t s) Go
+param-begins None content p c next v t s e = content-begins content p c next v t s e
+param-begins (Some x) content p c next v t s e = e x s
+
+-- the parameters of a call that are left, or else what is called
+passes-on : (left all : List Binding) (us : List Value) (callee : Called) (p : Site) (c : Scope) (t : Evaluation) (s : State Task) →
+    Then (passing_left left all callee t.world p c.focus (last c.seen t.slots) us) t s ≡ and_then (passes_on left all us callee p c t s) Go
+passes-on [] all us callee p c t s = call-begins callee (record { bindings = all; values = us }) p c.focus t s
+passes-on (b ∷ left) all us callee p c t s = behind (passing_left (b ∷ left) all callee t.world p c.focus (last c.seen t.slots) us) t.slots t s
+
+-- a value that is passed
+pass-begins : (content : Content) (left all : List Binding) (us : List Value) (callee : Called) (p : Site) (c : Scope) (t : Evaluation) (s : State Task) →
+    Then (content_trace content p t.world (calls_at t.world c.focus) c.focus (last c.seen t.slots)
+    (λ x. passing_left left all callee t.world p c.focus (last c.seen t.slots) (us ++ x ∷ []))) t s
+    ≡ and_then (pass_begun content left all us callee p c t s) Go
+pass-begins Empty left all us callee p c t s = passes-on left all (us ++ String [] ∷ []) callee p c t s
+pass-begins (Select e) left all us callee p c t s =
+    let next : Value → Trace Task = λ x. passing_left left all callee t.world p c.focus (last c.seen t.slots) (us ++ x ∷ []) in
+    brings p (value_run t.world e c.focus (last c.seen t.slots)) next t (λ x m. passes_on left all (us ++ x ∷ []) callee p c t m) s
+    (λ x m. passes-on left all (us ++ x ∷ []) callee p c t m)
+pass-begins (Fragment body) left all us callee p c t s =
+    let next : Value → Trace Task = λ x. passing_left left all callee t.world p c.focus (last c.seen t.slots) (us ++ x ∷ []) in
+    captures body c (λ es. next (Piece (fragment_of es))) t (pushed (take_value left all us callee p c ∷ []) t) s
+    (λ m. behind (next (fragment_at m)) t.slots t (popped m))
+
+passing-begins : (passed : Passed) (callee : Called) (p : Site) (c : Scope) (t : Evaluation) (s : State Task) →
+    Then (passing passed p t.world (calls_at t.world c.focus) c.focus (last c.seen t.slots)
+    (λ ps. called_with t.world (calls_at t.world c.focus) callee ps p c.focus)) t s
+    ≡ and_then (passes_on (bindings_of passed) (bindings_of passed) [] callee p c t s) Go
+passing-begins passed callee p c t s =
+    ap (λ x. Then x t s) (passing-bindings passed p t.world (calls_at t.world c.focus) c.focus (last c.seen t.slots)
+    (λ ps. called_with t.world (calls_at t.world c.focus) callee ps p c.focus))
+    ∙ passes-on (bindings_of passed) (bindings_of passed) [] callee p c t s
+
+if-begins : (b : Bool) (body : Body) (c : Scope) (t : Evaluation) (s : State Task) →
+    Then (cond b (body_trace body t.world (calls_at t.world c.focus) c.focus (last c.seen t.slots)) []) t s ≡ Go
+    (pushed (cond b (rest (instrs_of body) (inner c) ∷ []) []) t) s
+if-begins true body c t s = inside body c t s
+if-begins false body c t s = refl
+
+fallbacks-begin : (bs : List Body) (p : Site) (c : Scope) (t : Evaluation) (s : State Task) →
+    Then (fallback_trace bs p t.world (calls_at t.world c.focus) c.focus (last c.seen t.slots)) t s ≡ and_then (fallbacks_begun bs p c t s) Go
+fallbacks-begin [] p c t s = refl
+fallbacks-begin (b ∷ bs) p c t s = behind (all_bodies (b ∷ bs) t.world (calls_at t.world c.focus) c.focus (last c.seen t.slots)) t.slots t s
+
+-- an instruction, and what is left of its body, which a work tells
+joined : (x : Trace Task) (is : List Instr) (c : Scope) (t : Evaluation) (s : State Task) →
+    Then (x ⨾ instrs_trace is t.world (calls_at t.world c.focus) c.focus (last c.seen t.slots)) (slots_are (without c.own t.slots) t) s
+    ≡ Then x (pushed (rest is (more 0 c) ∷ []) t) s
+joined x is c t s =
+    twice x (instrs_trace is t.world (calls_at t.world c.focus) c.focus (last c.seen t.slots)) (without c.own t.slots) (rest is c) t s (λ m. refl)
+    ∙ ap (λ (d : Scope). Then x (pushed (rest is d ∷ []) t) s) (sym (more-none c))
+
+nothing : (is : List Instr) (c : Scope) (t : Evaluation) (s : State Task) →
+    Then (instrs_trace is t.world (calls_at t.world c.focus) c.focus (last c.seen t.slots)) (slots_are (without c.own t.slots) t) s ≡ Go
+    (pushed (rest is (more 0 c) ∷ []) t) s
+nothing is c t s = joined [] is c t s
+
+-- each kind of instruction
+begins-so : (kind : InstrKind) (p : Site) (is : List Instr) (c : Scope) (t : Evaluation) (s : State Task) →
+    Then (instr_trace kind p t.world (calls_at t.world c.focus) c.focus (last c.seen t.slots) (instrs_trace is t.world (calls_at t.world c.focus) c.focus))
+    (slots_are (without c.own t.slots) t) s
+    ≡ and_then (begun kind p c (pushed (rest is (after kind c) ∷ []) t) s) Go
+begins-so (ApplyTemplates nodes passed) p is c t s =
+    let u : Evaluation = pushed (rest is (more 0 c) ∷ []) t in
+    let vs : List Value = last c.seen t.slots in
+    let h : List ℕ → Trace Task = λ ns. passing passed p t.world (calls_at t.world c.focus) c.focus vs
+    (λ ps. called_with t.world (calls_at t.world c.focus) (by_rules nodes.mode ns) ps p c.focus) in
+    joined (evaluated p (nodes_or_children t.world nodes.select c.focus vs) h) is c t s
+    ∙ brings p (nodes_or_children t.world nodes.select c.focus vs) h u
+    (λ ns m. passes_on (bindings_of passed) (bindings_of passed) [] (by_rules nodes.mode ns) p c u m) s (λ ns m.
+    passing-begins passed (by_rules nodes.mode ns) p c u m)
+begins-so (CallTemplate i passed) p is c t s =
+    joined (passing passed p t.world (calls_at t.world c.focus) c.focus (last c.seen t.slots) (λ ps. called_with t.world (calls_at t.world c.focus) (by_number i) ps p c.focus)) is
+    c t s
+    ∙ passing-begins passed (by_number i) p c (pushed (rest is (more 0 c) ∷ []) t) s
+begins-so ApplyImports p is c t s =
+    joined (imports (calls_at t.world c.focus) p c.focus c.focus.rule) is c t s ∙ imports-begin p c.focus c.focus.rule (pushed (rest is (more 0 c) ∷ []) t) s
+begins-so (ForEach select sorts body) p is c t s =
+    let u : Evaluation = pushed (rest is (more 0 c) ∷ []) t in
+    let vs : List Value = last c.seen t.slots in
+    let f : List ℕ → Focus = λ ns. in_list (length ns) (without_rule c.focus) in
+    let h : List ℕ → Trace Task = λ ns. spread t.world (body_job body vs) p (λ g. body_trace body t.world (calls_at t.world c.focus) g vs) (f ns) ns in
+    joined (evaluated p (nodes_run t.world select c.focus vs) h) is c t s
+    ∙ brings p (nodes_run t.world select c.focus vs) h u (λ ns m. run_begun (body_job body vs) p (f ns) ns (each_left body p (over (f ns) c) 1 ns) u m) s (λ ns m.
+    runs (body_job body vs) p (λ g. body_trace body t.world (calls_at t.world c.focus) g vs) (f ns) ns (each_left body p (over (f ns) c) 1 ns) u m (λ n. refl))
+begins-so (ValueOf select) p is c t s =
+    let u : Evaluation = pushed (rest is (more 0 c) ∷ []) t in
+    let r : Run (List ℕ) = text_run t.world select c.focus (last c.seen t.slots) in
+    joined (evaluated p r (chars p)) is c t s
+    ∙ alone (evaluated p r (chars p)) (and_then (limited p r s) (λ text m. chars_steps p text m)) u s
+    (then-same (limited p r s) (λ text m. chars_steps p text m) (λ text m. play (chars p text) m) (λ text m. chars-told p text m) ∙ sym
+    (play-evaluated p r (chars p) s))
+begins-so (CopyOf select) p is c t s =
+    let u : Evaluation = pushed (rest is (more 0 c) ∷ []) t in
+    let r : Run Value = value_run t.world select c.focus (last c.seen t.slots) in
+    let h : Value → Trace Task = λ v. puts_all p (value_events t.world.tree v) in
+    joined (evaluated p r h) is c t s
+    ∙ alone (evaluated p r h) (and_then (limited p r s) (λ v m. copy_steps t.world.tree p v m)) u s
+    (then-same (limited p r s) (λ v m. copy_steps t.world.tree p v m) (λ v m. play (h v) m) (λ v m. copy-told t.world.tree p v m)
+    ∙ sym (play-evaluated p r h s))
+begins-so (Copy sets body) p is c t s =
+    let u : Evaluation = pushed (rest is (more 0 c) ∷ []) t in
+    let kind : Kind = (at t.world.tree c.focus.node).kind in
+    let x : Trace Task = puts_all p (shallow_copy t.world.tree c.focus.node) in
+    let y : Trace Task = copied_content kind sets (calls_at t.world c.focus) p c.focus
+    (body_trace body t.world (calls_at t.world c.focus) c.focus (last c.seen t.slots)) in
+    joined (x ⨾ y) is c t s
+    ∙ ap (λ g. and_then g (λ q m. Go u m)) (play-then x y s)
+    ∙ ap (λ g. and_then (and_then g (λ q m. play y m)) (λ q m. Go u m)) (sym (events-told p (shallow_copy t.world.tree c.focus.node) s))
+    ∙ before (events_steps p (shallow_copy t.world.tree c.focus.node) s) (λ m. play y m) (λ q m. Go u m)
+    (λ m. Goes (copied_begun kind sets body c u) m) Go (λ m. copied-begins kind sets p body c u m)
+begins-so (Number decl) p is c t s = nothing is c t s
+begins-so (Choose choice) p is c t s =
+    let u : Evaluation = pushed (rest is (more 0 c) ∷ []) t in
+    let vs : List Value = last c.seen t.slots in
+    let r : Run Body = chosen choice t.world c.focus vs in
+    joined (choice_trace choice p t.world (calls_at t.world c.focus) c.focus vs) is c t s
+    ∙ ap (λ g. and_then g (λ v m. Go u m)) (chooses-body choice p t.world (calls_at t.world c.focus) c.focus vs s)
+    ∙ then-then (limited p r s) (λ body m. play (body_trace body t.world (calls_at t.world c.focus) c.focus vs) m) (λ v m. Go u m)
+    ∙ then-same (limited p r s) (λ body m. Then (body_trace body t.world (calls_at t.world c.focus) c.focus vs) u m)
+    (λ body m. Go (pushed (rest (instrs_of body) (inner c) ∷ []) u) m) (λ body m. inside body c u m)
+    ∙ sym (then-then (limited p r s) (λ body m. Goes (pushed (rest (instrs_of body) (inner c) ∷ []) u) m) Go)
+begins-so (If test body) p is c t s =
+    let u : Evaluation = pushed (rest is (more 0 c) ∷ []) t in
+    let r : Run Bool = test_run t.world test c.focus (last c.seen t.slots) in
+    let h : Bool → Trace Task = λ b. cond b (body_trace body t.world (calls_at t.world c.focus) c.focus (last c.seen t.slots)) [] in
+    joined (evaluated p r h) is c t s ∙ brings p r h u (λ b m. Goes (pushed (cond b (rest (instrs_of body) (inner c) ∷ []) []) u) m) s
+    (λ b m. if-begins b body c u m)
+begins-so (Text text) p is c t s = joined (chars p text) is c t s ∙ alone (chars p text) (chars_steps p text s) (pushed (rest is (more 0 c) ∷ []) t) s
+    (chars-told p text s)
+begins-so (Element name sets body) p is c t s =
+    let u : Evaluation = pushed (rest is (more 0 c) ∷ []) t in
+    let r : Run Label = name_run t.world false name c.focus (last c.seen t.slots) in
+    let y : Trace Task = calls_at t.world c.focus (using sets) p c.focus
+    ⨾ (body_trace body t.world (calls_at t.world c.focus) c.focus (last c.seen t.slots) ⨾ Put End ∷ []) in
+    let h : Label → Trace Task = λ label. Put (Start label) ∷ y in
+    let f : Label → State Task → Step Task Evaluation = λ label m. element_put label sets body c u m in
+    joined (evaluated p r h) is c t s ∙ brings p r h u f s (λ label m.
+    before (put (Start label) m) (λ n. play y n) (λ q n. Go u n) (λ n. Goes (inside_begun sets body c u) n) Go (λ n. inside-begins sets p body c u n))
+    ∙ ap (λ g. and_then (and_then g f) Go) (sym (name-told t.world p c.focus (last c.seen t.slots) false name s))
+begins-so (Attribute name body) p is c t s =
+    let u : Evaluation = pushed (rest is (more 0 c) ∷ []) t in
+    let r : Run Label = name_run t.world true name c.focus (last c.seen t.slots) in
+    let content : Trace Task = body_trace body t.world (calls_at t.world c.focus) (captured_in c.focus) (last c.seen t.slots) in
+    let h : Label → Trace Task = λ label. makes (made.Attribute label) p content in
+    let f : Label → State Task → Step Task Evaluation = λ label m. made_begun (made.Attribute label) body p c u m in
+    joined (evaluated p r h) is c t s ∙ brings p r h u f s (λ label m. made-begins (made.Attribute label) body p c u m)
+    ∙ ap (λ g. and_then (and_then g f) Go) (sym (name-told t.world p c.focus (last c.seen t.slots) true name s))
+begins-so (Comment body) p is c t s =
+    joined (makes made.Comment p (body_trace body t.world (calls_at t.world c.focus) (captured_in c.focus) (last c.seen t.slots))) is c t s
+    ∙ made-begins made.Comment body p c (pushed (rest is (more 0 c) ∷ []) t) s
+begins-so (Pi name body) p is c t s =
+    let u : Evaluation = pushed (rest is (more 0 c) ∷ []) t in
+    let r : Run (List ℕ) = target_run t.world name c.focus (last c.seen t.slots) in
+    let content : Trace Task = body_trace body t.world (calls_at t.world c.focus) (captured_in c.focus) (last c.seen t.slots) in
+    let h : List ℕ → Trace Task = λ target. makes (made.Instruction target) p content in
+    let f : List ℕ → State Task → Step Task Evaluation = λ target m. made_begun (made.Instruction target) body p c u m in
+    joined (evaluated p r h) is c t s ∙ brings p r h u f s (λ target m. made-begins (made.Instruction target) body p c u m)
+    ∙ ap (λ g. and_then (and_then g f) Go) (sym (target-told t.world p c.focus (last c.seen t.slots) name s))
+begins-so (Message terminate body) p is c t s =
+    let u : Evaluation = pushed (rest is (more 0 c) ∷ []) t in
+    let h : List Event → Trace Task = λ es. says p (fragment_text es) ⨾ ended_if terminate p in
+    joined (captured (body_trace body t.world (calls_at t.world c.focus) (captured_in c.focus) (last c.seen t.slots)) h) is c t s
+    ∙ captures body c h u (pushed (say p terminate ∷ []) u) s (λ m.
+    ap (λ g. and_then g (λ v n. Go u n)) (sym (message-told p terminate (fragment_text (top m.captures)) (popped m)))
+    ∙ sym (then-then (message_ended p terminate m) (λ v n. Goes u.slots n) (λ us n. stack_steps t.world u.works us n)))
+begins-so (Variable' site name content) p is c t s =
+    content-begins content p c (λ x. instrs_trace is t.world (calls_at t.world c.focus) c.focus (last c.seen t.slots ++ x ∷ [])) (slots_are (without c.own t.slots) t)
+    (pushed (rest is (bound c) ∷ []) t) s (λ x m.
+    binds (instrs_trace is t.world (calls_at t.world c.focus) c.focus) c t x m)
+begins-so (Literal start body) p is c t s =
+    let u : Evaluation = pushed (rest is (more 0 c) ∷ []) t in
+    let x : Trace Task = body_trace body t.world (calls_at t.world c.focus) c.focus (last c.seen t.slots) ⨾ Put End ∷ [] in
+    let attributes : Trace Task = literal_attributes start.attributes p t.world c.focus (last c.seen t.slots) in
+    let sets : Trace Task = calls_at t.world c.focus (using start.sets) p c.focus in
+    let y : Trace Task = sets ⨾ (attributes ⨾ x) in
+    let z : Trace Task = begins t.world start p in
+    let v : Evaluation = pushed (rest (instrs_of body) (inner c) ∷ end_element ∷ []) u in
+    let v_all : Evaluation = pushed (attributes_left start.attributes p c ∷ rest (instrs_of body) (inner c) ∷ end_element ∷ []) u in
+    joined (z ⨾ y) is c t s
+    ∙ ap (λ g. and_then g (λ q m. Go u m)) (play-then z y s)
+    ∙ ap (λ g. and_then (and_then g (λ q m. play y m)) (λ q m. Go u m)) (sym (literal-told t.world p start s))
+    ∙ before (literal_steps t.world.sheet.aliases p start s) (λ m. play y m) (λ q m. Go u m)
+    (λ m. Goes (pushed (sets_works start.sets c.focus) v_all) m) Go (λ m.
+    followed sets (attributes ⨾ x) u v_all m (λ n. followed attributes x u v n (λ q. inside-ends body c u q) ∙ behind attributes v.slots v n)
+    ∙ sets-begin start.sets p c.focus v_all m)
+begins-so (Extension fallbacks) p is c t s =
+    let u : Evaluation = pushed (rest is (more 0 c) ∷ []) t in
+    joined (fallbacks_trace fallbacks p t.world (calls_at t.world c.focus) c.focus (last c.seen t.slots)) is c t s
+    ∙ ap (λ x. Then x u s) (fallbacks-bodies fallbacks p t.world (calls_at t.world c.focus) c.focus (last c.seen t.slots))
+    ∙ fallbacks-begin (bodies_of fallbacks) p c u s
+
+-- each kind of work
+pub advances : (b : Work) (t : Evaluation) → IsSetIndex t.world.sheet.sets t.world.index.sets → (s : State Task) →
+    Go (pushed (b ∷ []) t) s ≡ and_then (advanced b t s) Go
+advances (rest [] c) t index s = refl
+advances (rest (i ∷ is) c) t index s =
+    let x : Trace Task = instr_trace i.kind i.site t.world (calls_at t.world c.focus) c.focus (last c.seen t.slots) (instrs_trace is t.world (calls_at t.world c.focus) c.focus) in
+    sym (behind (Tick i.site ∷ x) (without c.own t.slots) t s)
+    ∙ ticks i.site x (slots_are (without c.own t.slots) t) (pushed (rest is (after i.kind c) ∷ []) t)
+    (λ m. begun i.kind i.site c (pushed (rest is (after i.kind c) ∷ []) t) m) s (begins-so i.kind i.site is c t)
+advances fill t index s = refl
+advances (each_left body p c i []) t index s = refl
+advances (each_left body p c i (n ∷ ns)) t index s =
+    let b : Work = each_left body p c (i + 1) ns in
+    let f : Focus → Trace Task = λ g. body_trace body t.world (calls_at t.world c.focus) g (last c.seen t.slots) in
+    sym (behind (each p f c.focus i (n ∷ ns)) t.slots t s)
+    ∙ ticks p (f (at_node n i c.focus) ⨾ each p f c.focus (i + 1) ns) t t
+    (λ m. Goes (pushed (rest (instrs_of body) (over (at_node n i c.focus) c) ∷ b ∷ []) t) m) s (λ m.
+    twice (f (at_node n i c.focus)) (each p f c.focus (i + 1) ns) t.slots b t m (λ q. refl) ∙ inside body (over (at_node n i c.focus) c)
+    (pushed (b ∷ []) t) m)
+advances (apply_left mode ps p f i []) t index s = refl
+advances (apply_left mode ps p f i (n ∷ ns)) t index s =
+    let b : Work = apply_left mode ps p f (i + 1) ns in
+    let x : Focus → Trace Task = calls_at t.world f (fitting mode ps) p in
+    sym (behind (each p x f i (n ∷ ns)) t.slots t s)
+    ∙ ticks p (x (at_node n i f) ⨾ each p x f (i + 1) ns) t t (λ m. entering (fitting mode ps) p (at_node n i f) (pushed (b ∷ []) t) m) s (λ m.
+    twice (x (at_node n i f)) (each p x f (i + 1) ns) t.slots b t m (λ q. refl) ∙ enters (fitting mode ps) tt p (at_node n i f) (pushed (b ∷ []) t) m)
+advances (bodies_left [] c) t index s = refl
+advances (bodies_left (b ∷ bs) c) t index s =
+    let f : Body → Trace Task = λ body. body_trace body t.world (calls_at t.world c.focus) c.focus (last c.seen t.slots) in
+    let others : Trace Task = all_bodies bs t.world (calls_at t.world c.focus) c.focus (last c.seen t.slots) in
+    sym (behind (f b ⨾ others) t.slots t s) ∙ twice (f b) others t.slots (bodies_left bs c) t s (λ m. refl) ∙ inside b c (pushed (bodies_left bs c ∷ []) t) s
+advances end_element t index s = then-then (put End s) (λ u m. Goes t.slots m) (λ us m. stack_steps t.world t.works us m) ∙ sym
+    (then-then (put End s) (λ u m. Goes t m) Go)
+advances (sets_left [] f) t index s = refl
+advances (sets_left (name ∷ names) f) t index s =
+    let x : Trace Task = declared_trace (declarations_of t.world.sheet.sets name) t.world (calls_at t.world f) f in
+    let y : Trace Task = sets_trace names t.world (calls_at t.world f) f in
+    let u : Evaluation = pushed (sets_left names f ∷ []) t in
+    sym (behind (x ⨾ y) t.slots t s)
+    ∙ twice x y t.slots (sets_left names f) t s (λ m. refl)
+    ∙ ap (λ z. Then z u s) (served t.world index f name)
+    ∙ behind (declared_trace (declarations_in t.world.index.sets name) t.world (calls_at t.world f) f) u.slots u s
+advances (declared_left [] f) t index s = refl
+advances (declared_left (d ∷ ds) f) t index s =
+    let w : World = t.world in
+    let x : Trace Task = calls_at w f (using d.sets) d.site f in
+    let own : Trace Task = instrs_trace d.attributes w (calls_at w f) f [] in
+    let y : Trace Task = declared_trace ds w (calls_at w f) f in
+    let u : Evaluation = pushed (declared_left ds f ∷ []) t in
+    let v : Evaluation = pushed (rest d.attributes (outer f) ∷ declared_left ds f ∷ []) t in
+    sym (behind ((x ⨾ own) ⨾ y) t.slots t s)
+    ∙ twice (x ⨾ own) y t.slots (declared_left ds f) t s (λ m. refl)
+    ∙ followed x own u v s (λ m.
+    ap (λ vs. Then (instrs_trace d.attributes w (calls_at w f) f vs) u m) (sym (last-none t.slots))
+    ∙ ap (λ vs. Then (instrs_trace d.attributes w (calls_at w f) f (last 0 t.slots)) (slots_are vs u) m) (sym (without-none t.slots))
+    ∙ behind (instrs_trace d.attributes w (calls_at w f) f (last 0 t.slots)) (without 0 t.slots) u m)
+    ∙ sets-begin d.sets d.site f v s
+advances (attributes_left xs p c) t index s =
+    let x : Trace Task = literal_attributes xs p t.world c.focus (last c.seen t.slots) in
+    sym (behind x t.slots t s)
+    ∙ alone x (attributes_steps t.world p c.focus (last c.seen t.slots) xs s) t s (attributes-told t.world p c.focus (last c.seen t.slots) xs s)
+advances (make m p) t index s =
+    let x : Trace Task = puts_all p (made_at m s) in
+    sym (behind x t.slots t (popped s)) ∙ alone x (made_ended m p s) t (popped s) (made-ended m p s)
+advances (say p terminate) t index s =
+    then-then (message_ended p terminate s) (λ u m. Goes t.slots m) (λ us m. stack_steps t.world t.works us m) ∙ sym
+    (then-then (message_ended p terminate s) (λ u m. Goes t m) Go)
+advances (pass [] all us callee p c) t index s =
+    sym (behind (passing_left [] all callee t.world p c.focus (last c.seen t.slots) us) t.slots t s) ∙ call-begins callee
+    (record { bindings = all; values = us }) p c.focus t s
+advances (pass (b ∷ left) all us callee p c) t index s =
+    sym (behind (passing_left (b ∷ left) all callee t.world p c.focus (last c.seen t.slots) us) t.slots t s) ∙ pass-begins b.content left all us callee p c t s
+advances (take_value left all us callee p c) t index s =
+    let vs : List Value = us ++ fragment_at s ∷ [] in
+    sym (behind (passing_left left all callee t.world p c.focus (last c.seen t.slots) vs) t.slots t (popped s)) ∙ passes-on left all vs callee p c t (popped s)
+advances (params_left [] ps body c) t index s =
+    ap (λ x. and_then (filled x (without c.own t.slots) s) (λ us m. stack_steps t.world t.works us m))
+    (body-instrs body t.world (calls_at t.world c.focus) c.focus (last c.seen t.slots))
+advances (params_left (b ∷ bs) ps body c) t index s =
+    let v : Evaluation = slots_are (without c.own t.slots) t in
+    let u : Evaluation = pushed (params_first bs ps body (bound c) ∷ []) t in
+    let x : List Value → Trace Task = λ vs. params_trace bs ps t.world (calls_at t.world c.focus) c.focus vs (body_trace body t.world (calls_at t.world c.focus) c.focus) in
+    let next : Value → Trace Task = λ y. x (last c.seen t.slots ++ y ∷ []) in
+    let first : Trace Task = param_trace (value_passed b.name ps) b.content b.site t.world (calls_at t.world c.focus) c.focus (last c.seen t.slots) next in
+    sym (behind (Tick b.site ∷ first) (without c.own t.slots) t s)
+    ∙ ticks b.site first v u (λ m. param_begun (value_passed b.name ps) b.content b.site c u m) s (λ m.
+    param-begins (value_passed b.name ps) b.content b.site c next v u m (λ y n.
+    binds x c t y n ∙ ap (λ g. and_then g (λ us q. stack_steps t.world t.works us q)) (params-same bs ps body (bound c) t.world (t.slots ++ y ∷ []) n)))

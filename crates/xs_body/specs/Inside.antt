@@ -1,6 +1,7 @@
 -- What has to be in the tree.
 use Rattle.std.specs.Prelude.{◌≡◌, ℕ, ◌<◌, All, List, length}
 use Rattle.xs_rules.specs.Indexed.{IsIndex, IsPrepared}
+use Rattle.xs_sets.specs.Indexed.{IsSetIndex}
 use Rattle.xs_sheet.specs.Sound.{IsSound}
 use Rattle.xs_tree.specs.Record.{Record}
 use Rattle.xs_value.specs.declared.value.Value.{Value}
@@ -11,20 +12,24 @@ use Rattle.xs_semantics.specs.World.{World}
 use Rattle.xs_semantics.specs.Tasks.{Job, body_job, rules_job, Task}
 use Rattle.xs_body.specs.declared.frames.Callee.{Callee}
 use Rattle.xs_body.specs.declared.frames.Callee.TheVariants as callee
+use Rattle.xs_body.specs.declared.frames.ApplyLeft.{ApplyLeft}
+use Rattle.xs_body.specs.declared.frames.EachLeft.{EachLeft}
 use Rattle.xs_body.specs.declared.frames.Frame.{Frame}
 use Rattle.xs_body.specs.declared.frames.Frame.TheVariants as frame
+use Rattle.xs_body.specs.declared.frames.ParamsLeft.{ParamsLeft}
+use Rattle.xs_body.specs.declared.frames.Passing.{Passing}
 use Rattle.xs_body.specs.declared.attempts.Attempt.{Attempt}
 use Rattle.xs_body.specs.declared.attempts.Attempt.TheVariants as attempt
-use Rattle.xs_body.specs.declared.stack.Stack.{Stack}
 use Rattle.xs_body.specs.steps.Lists.{nodes_in}
 
--- the stylesheet is sound, and the index is that of its rules, prepared for the tree; the nodes of the globals' values and of the keys'
--- tables are in the tree
+-- the stylesheet is sound, and the index is that of its rules, prepared for the tree, and of its attribute sets; the nodes of the globals' values
+-- and of the keys' tables are in the tree
 pub record IsWorld (w : World) : Type 0 where
   pub sheet : IsSound w.sheet
-  pub index : IsIndex w.index
-  pub prepared : IsPrepared w.index w.tree
-  pub templates : w.index.templates.now ≡ w.sheet.templates
+  pub index : IsIndex w.index.rules
+  pub prepared : IsPrepared w.index.rules w.tree
+  pub templates : w.index.rules.templates.now ≡ w.sheet.templates
+  pub sets : IsSetIndex w.sheet.sets w.index.sets
   pub globals : All (IsInIf w.tree) w.globals
   pub tables : TablesIn w.tree w.keys
 
@@ -39,23 +44,45 @@ abbrev pub AreCallees : List Record → Callee → Type 0
 AreCallees rs (callee.Template i) = Unit {0}
 AreCallees rs (callee.Rules mode nodes) = AreNodes rs (nodes_in nodes)
 
+-- those of a call that waits for its parameters; of a body for each node; of the rules for each node; of a template that begins
+pub record IsPassing (rs : List Record) (p : Passing) : Type 0 where
+  pub node : p.scope.focus.node < length rs
+  pub values : AreValues rs p.values.items
+  pub callee : AreCallees rs p.callee
+
+pub record IsEach (rs : List Record) (e : EachLeft) : Type 0 where
+  pub nodes : AreNodes rs (nodes_in e.nodes)
+
+pub record IsApply (rs : List Record) (a : ApplyLeft) : Type 0 where
+  pub nodes : AreNodes rs (nodes_in a.nodes)
+  pub passed : AreValues rs a.rules.passed.values
+
+pub record IsParams (rs : List Record) (p : ParamsLeft) : Type 0 where
+  pub node : p.scope.focus.node < length rs
+  pub passed : AreValues rs p.passed.values
+
 -- those of a frame
 abbrev pub IsInside : List Record → Frame → Type 0
 IsInside rs (frame.Rest is c) = c.focus.node < length rs
 IsInside rs frame.Fill = Unit {0}
-IsInside rs (frame.Each nodes next i body p c) = AreNodes rs (nodes_in nodes)
-IsInside rs (frame.Apply nodes next i mode passed p f) = AreNodes rs (nodes_in nodes) × AreValues rs passed.values
+IsInside rs (frame.Each e) = IsEach rs e
+IsInside rs (frame.Apply a) = IsApply rs a
 IsInside rs (frame.Bodies bodies c) = c.focus.node < length rs
 IsInside rs frame.End = Unit {0}
+IsInside rs (frame.Sets names f) = f.node < length rs
+IsInside rs (frame.Declared declarations f) = f.node < length rs
+IsInside rs (frame.Attributes a) = a.scope.focus.node < length rs
+IsInside rs (frame.Make m p) = Unit {0}
 IsInside rs (frame.Say p terminate) = Unit {0}
-IsInside rs (frame.Pass left all values callee p c) = (c.focus.node < length rs) × (AreValues rs values.items × AreCallees rs callee)
-IsInside rs (frame.Take left all values callee p c) = (c.focus.node < length rs) × (AreValues rs values.items × AreCallees rs callee)
-IsInside rs (frame.Params left passed body c) = (c.focus.node < length rs) × AreValues rs passed.values
+IsInside rs (frame.Pass p) = IsPassing rs p
+IsInside rs (frame.Take p) = IsPassing rs p
+IsInside rs (frame.Params p) = IsParams rs p
 
--- those of all frames, and of the values of local bindings
-pub record AreIn (rs : List Record) (t : Stack) : Type 0 where
-  pub frames : All (IsInside rs) t.frames.items
-  pub slots : AreValues rs t.slots.items
+-- an evaluation is over a sound world, and those of its frames and of the values of local bindings are in the tree
+pub record IsEvaluator (w : World) (fs : List Frame) (vs : List Value) : Type 0 where
+  pub world : IsWorld w
+  pub frames : All (IsInside w.tree) fs
+  pub slots : AreValues w.tree vs
 
 -- those of a task
 abbrev pub IsJobIn : List Record → Job → Type 0

@@ -1,14 +1,17 @@
--- What is true of the steps on the stack.
+-- What is true of the steps of an evaluation.
 use Rattle.std.specs.Prelude.{◌≡◌, [], ◌∷◌}
 use Rattle.xs_trace.specs.State.{State}
 use Rattle.xs_trace.specs.Play.{and_then, play}
+use Rattle.xs_sets.specs.Indexed.{IsSetIndex}
 use Rattle.xs_semantics.specs.World.{World}
 use Rattle.xs_semantics.specs.Tasks.{Task}
 use Rattle.xs_semantics.specs.Trace.{task_trace}
-use Rattle.xs_body.specs.steps.Frames.{Work, Stack, advanced, begun_with, pushed, stack_told}
+use Rattle.xs_body.specs.steps.Frames.{Work, Evaluation, advanced, begun_with, pushed, stack_told}
 
+-- where the index of attribute sets is that of the stylesheet
 abbrev pub StepsAgree : Type 0
-StepsAgree = (w : World) (b : Work) (t : Stack) (s : State Task) → stack_told w (pushed (b ∷ []) t) s ≡ and_then (advanced w b t s) (stack_told w)
+StepsAgree = (b : Work) (t : Evaluation) (s : State Task) → IsSetIndex t.world.sheet.sets t.world.index.sets →
+    stack_told (pushed (b ∷ []) t) s ≡ and_then (advanced b t s) stack_told
 
 abbrev pub TasksBegin : Type 0
-TasksBegin = (w : World) (t : Task) (s : State Task) → play (task_trace w t) s ≡ stack_told w (begun_with t) s
+TasksBegin = (w : World) (t : Task) (s : State Task) → play (task_trace w t) s ≡ stack_told (begun_with w t) s

@@ -1,6 +1,8 @@
 pub mod Lists
 pub mod Jobs
+pub mod Passed
 pub mod Sharing
+pub mod Making
 pub mod Frames
 pub mod Attempts
 pub mod Runs

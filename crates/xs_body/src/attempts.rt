@@ -3,13 +3,13 @@
 ghost use Rattle.std.specs.Prelude.{◌≡◌, ◌<◌, ◌++◌, [], ◌∷◌, length, slice_get};
 ghost use Rattle.std.specs.Prelude.{true, IfOk, IsSome, None, OnOk};
 ghost use Rattle.xs_semantics.specs.Globals.{attempt_cut, attempt_value, global_focus};
-ghost use Rattle.xs_body.specs.Inside.{AreIn, IsAttemptIn, IsWorld};
+ghost use Rattle.xs_body.specs.Inside.{IsAttemptIn};
 ghost use Rattle.xs_body.specs.Results.{IsAttempt};
 ghost use Rattle.xs_semantics.specs.Tasks.{Task};
 ghost use Rattle.xs_semantics.specs.World.{value_run};
 ghost use Rattle.xs_body.specs.steps.Attempts.{attempt_steps, binding_steps, fragment_steps};
 ghost use Rattle.xs_body.specs.steps.Attempts.{IsAttemptOf};
-ghost use Rattle.xs_body.specs.steps.Frames.{instrs_of, outer, pushed, rest, stack_of};
+ghost use Rattle.xs_body.specs.steps.Frames.{idle, instrs_of, outer, pushed, rest};
 ghost use Rattle.xs_body.specs.declared.attempts.Attempt.TheVariants.{Stopped};
 ghost use Rattle.xs_trace.specs.Kept.{item_marks, marks_of, spot};
 ghost use Rattle.xs_trace.specs.Mark.{messages_of};
@@ -18,10 +18,9 @@ ghost use Rattle.xs_trace.specs.Run.{limited};
 ghost use Rattle.xs_value.specs.Conversion.{IsIn};
 
 use crate::bindings::fragment_value;
-use crate::frames::{Frame, Scope};
-use crate::run::finish;
+use crate::evaluator::Evaluator;
+use crate::frames::Scope;
 use crate::runner::{MOST_DEPTH, SheetRunner};
-use crate::stack::Stack;
 use crate::task::Task;
 use crate::world::World;
 use std::alloc::{AllocError, Global};
@@ -64,7 +63,6 @@ pub enum Attempt {
 impl<'a, K: KeyFinder> SheetRunner<'a, K> {
     /// What the content of a global does, cut at a number of ticks.
     pub fn attempt(&self, alloc: Global, global: u32, limit: u64) -> Result<Attempt, AllocError>
-        requires world { IsWorld self.now }
         requires whole { self.now.grain ≡ None }
         ensures attempt { IfOk result (IsAttempt (attempt_cut self.now global limit)
             (attempt_value self.now (slice_get self.now.sheet.globals global))) }
@@ -152,7 +150,6 @@ fn tell_global<'a, K: KeyFinder, R: Recorder<Task = Task<'a>>>(
     global: u32,
     recorder: &mut R,
 ) -> Result<Value, Halt>
-    requires world { IsWorld world.now }
     requires holes { IsSome world.now.grain → R.takes_holes ≡ true }
     ensures told { IsStep (attempt_steps world.now
         (slice_get world.now.sheet.globals global) (R.state recorder.old))
@@ -174,7 +171,6 @@ fn tell_binding<'a, K: KeyFinder, R: Recorder<Task = Task<'a>>>(
     binding: &'a Binding,
     recorder: &mut R,
 ) -> Result<Value, Halt>
-    requires world { IsWorld world.now }
     requires holes { IsSome world.now.grain → R.takes_holes ≡ true }
     ensures told { IsStep (binding_steps world.now binding.now (R.state recorder.old))
         result (R.state recorder.new) }
@@ -190,10 +186,11 @@ fn tell_binding<'a, K: KeyFinder, R: Recorder<Task = Task<'a>>>(
 
 /// The focus of a global's content.
 #[tactic(auto, unfolding(xs_semantics::specs::Trace::most_depth))]
-fn global_focus() -> Focus
-    ensures { result ≡ global_focus }
+fn global_focus<'a, K: KeyFinder>(world: &World<'a, K>) -> Focus
+    ensures { result ≡ global_focus world.now }
 {
-    Focus::alone_at(Node::root(), MOST_DEPTH).captured()
+    let set_levels = world.sheet.sets.as_slice().len();
+    Focus::alone_at(Node::root(), MOST_DEPTH, set_levels).captured()
 }
 
 /// The value of an expression of a global.
@@ -204,15 +201,15 @@ fn tell_selected<'a, K: KeyFinder, R: Recorder<Task = Task<'a>>>(
     site: Site,
     recorder: &mut R,
 ) -> Result<Value, Halt>
-    requires world { IsWorld world.now }
-    ensures told { IsStep (limited site (value_run world.now expr.now global_focus [])
+    ensures told { IsStep (limited site (value_run world.now expr.now (global_focus world.now) [])
         (R.state recorder.old)) result (R.state recorder.new) }
     ensures kept { R.kept recorder.new ≡ R.kept recorder.old }
     ensures inside { IfOk result (IsIn world.now.tree) }
 {
     let has_root = world.tree.len() > 0;
     prove!(has_root);
-    world.value(alloc, expr, global_focus(), &[], site, recorder)
+    let evaluator = Evaluator::new(alloc, world, Vec::new(alloc));
+    evaluator.value(expr, site, Scope::outer(global_focus(world)), recorder)
 }
 
 /// The fragment that the content of a global makes.
@@ -222,7 +219,6 @@ fn tell_content<'a, K: KeyFinder, R: Recorder<Task = Task<'a>>>(
     body: &'a Body,
     recorder: &mut R,
 ) -> Result<Value, Halt>
-    requires world { IsWorld world.now }
     requires holes { IsSome world.now.grain → R.takes_holes ≡ true }
     ensures told { IsStep (fragment_steps world.now body.now (R.state recorder.old))
         result (R.state recorder.new) }
@@ -232,28 +228,23 @@ fn tell_content<'a, K: KeyFinder, R: Recorder<Task = Task<'a>>>(
     let has_root = world.tree.len() > 0;
     prove!(has_root);
     recorder.open_capture()?;
-    let stack = content_stack(alloc, world, body)?;
-    finish(alloc, world, stack, recorder)?;
+    let mut evaluator = content_evaluator(alloc, world, body)?;
+    evaluator.finish(recorder)?;
     let fragment = recorder.close_capture();
     Ok(fragment_value(alloc, fragment)?)
 }
 
-/// The stack that the content of a global begins with.
-fn content_stack<'a, K: KeyFinder>(
+/// The evaluation that the content of a global begins with.
+fn content_evaluator<'a, K: KeyFinder>(
     alloc: Global,
     world: &World<'a, K>,
     body: &'a Body,
-) -> Result<Stack<'a>, AllocError>
+) -> Result<Evaluator<'a, K>, AllocError>
     requires node { 0 < length world.now.tree }
-    ensures stack { IfOk result (λ stack. stack_of stack ≡ pushed
-        (rest (instrs_of body.now) (outer global_focus) ∷ [])
-        (record { works = []; slots = [] })) }
-    ensures inside { IfOk result (AreIn world.now.tree) }
+    ensures begun { IfOk result (λ evaluator. evaluator ≡ pushed
+        (rest (instrs_of body.now) (outer (global_focus world.now)) ∷ []) (idle world.now [])) }
 {
-    let mut stack = Stack::with(alloc, Vec::new(alloc));
-    stack.push(
-        world,
-        Frame::Rest(body.instrs.as_slice(), Scope::outer(global_focus())),
-    )?;
-    Ok(stack)
+    let mut evaluator = Evaluator::new(alloc, world, Vec::new(alloc));
+    evaluator.push_body(body, Scope::outer(global_focus(world)))?;
+    Ok(evaluator)
 }

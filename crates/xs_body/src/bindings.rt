@@ -1,19 +1,16 @@
 //! The values of bindings (XSLT 1.0, 11.2).
 
-ghost use Rattle.std.specs.Prelude.{◌≡◌, ◌<◌, ◌∷◌, [], length, true, IfOk, IsSome, OnOk};
-ghost use Rattle.xs_body.specs.Inside.{AreIn, IsWorld};
+ghost use Rattle.std.specs.Prelude.{◌≡◌, ◌<◌, ◌∷◌, [], length, IfOk};
+ghost use Rattle.xs_body.specs.steps.Frames.{advanced, captured_scope, content_begun, fill};
+ghost use Rattle.xs_body.specs.steps.Frames.{instrs_of, pushed, rest};
 ghost use Rattle.xs_semantics.specs.Trace.{fragment_of};
-ghost use Rattle.xs_body.specs.steps.Frames.{advanced};
-ghost use Rattle.xs_body.specs.steps.Frames.{captured_scope, content_begun, fill, instrs_of};
-ghost use Rattle.xs_body.specs.steps.Frames.{pushed, rest, stack_of};
 ghost use Rattle.xs_sheet.specs.declared.body.Content.TheVariants.{Select};
 ghost use Rattle.xs_trace.specs.Play.{Goes, IsStepBy};
 ghost use Rattle.xs_trace.specs.State.{opened};
 
+use crate::evaluator::Evaluator;
 use crate::frames::{Frame, Scope};
-use crate::stack::Stack;
 use crate::task::Task;
-use crate::world::World;
 use std::alloc::{AllocError, Global};
 use xs_result::build;
 use xs_sheet::body::{Body, Content};
@@ -26,102 +23,84 @@ use xs_value::keys::KeyFinder;
 use xs_value::shared::SharedFragment;
 use xs_value::value::Value;
 
-/// A binding fills a slot with its value, or begins its content (11.2).
-pub(crate) fn bind<'a, K: KeyFinder, R: Recorder<Task = Task<'a>>>(
-    alloc: Global,
-    world: &World<'a, K>,
-    content: &'a Content,
-    site: Site,
-    scope: Scope,
-    stack: &mut Stack<'a>,
-    recorder: &mut R,
-) -> Result<(), Halt>
-    requires world { IsWorld world.now }
-    requires holes { IsSome world.now.grain → R.takes_holes ≡ true }
-    requires node { scope.focus.node < length world.now.tree }
-    requires inside { AreIn world.now.tree stack.old }
-    ensures told { IsStepBy (λ u. stack_of stack.new)
-        (content_begun world.now content.now site scope (stack_of stack.old)
-        (R.state recorder.old)) result (R.state recorder.new) }
-    ensures kept { R.kept recorder.new ≡ R.kept recorder.old }
-    ensures inside { OnOk result (AreIn world.now.tree stack.new) }
-{
-    match content {
-        Content::Empty => {
-            stack.fill(world, Value::Chars(TextBuf::of(alloc, "")?))?;
-            Ok(())
+impl<'a, K: KeyFinder> Evaluator<'a, K> {
+    /// A binding fills a slot with its value, or begins its content (11.2).
+    pub(crate) fn bind<R: Recorder<Task = Task<'a>>>(
+        &mut self,
+        content: &'a Content,
+        site: Site,
+        scope: Scope,
+        recorder: &mut R,
+    ) -> Result<(), Halt>
+        requires node { scope.focus.node < length self.old.world.tree }
+        ensures told { IsStepBy (λ u. self.new)
+            (content_begun content.now site scope self.old
+            (R.state recorder.old)) result (R.state recorder.new) }
+        ensures kept { R.kept recorder.new ≡ R.kept recorder.old }
+    {
+        match content {
+            Content::Empty => {
+                self.fill(Value::Chars(TextBuf::of(self.alloc, "")?))?;
+                Ok(())
+            }
+            Content::Select(expr) => self.bind_selected(expr, site, scope, recorder),
+            Content::Body(body) => self.bind_content(body, scope, recorder),
         }
-        Content::Select(expr) => bind_selected(alloc, world, expr, site, scope, stack, recorder),
-        Content::Body(body) => bind_content(world, body, scope, stack, recorder),
     }
-}
 
-/// The value of an expression fills a slot.
-fn bind_selected<'a, K: KeyFinder, R: Recorder<Task = Task<'a>>>(
-    alloc: Global,
-    world: &World<'a, K>,
-    expr: &ScopedExpr,
-    site: Site,
-    scope: Scope,
-    stack: &mut Stack<'a>,
-    recorder: &mut R,
-) -> Result<(), Halt>
-    requires world { IsWorld world.now }
-    requires holes { IsSome world.now.grain → R.takes_holes ≡ true }
-    requires node { scope.focus.node < length world.now.tree }
-    requires inside { AreIn world.now.tree stack.old }
-    ensures told { IsStepBy (λ u. stack_of stack.new)
-        (content_begun world.now (Select expr.now) site scope (stack_of stack.old)
-        (R.state recorder.old)) result (R.state recorder.new) }
-    ensures kept { R.kept recorder.new ≡ R.kept recorder.old }
-    ensures inside { OnOk result (AreIn world.now.tree stack.new) }
-{
-    let locals = scope.locals(&stack.slots);
-    let value = world.value(alloc, expr, scope.focus, locals, site, recorder)?;
-    stack.fill(world, value)?;
-    Ok(())
-}
+    /// The value of an expression fills a slot.
+    fn bind_selected<R: Recorder<Task = Task<'a>>>(
+        &mut self,
+        expr: &ScopedExpr,
+        site: Site,
+        scope: Scope,
+        recorder: &mut R,
+    ) -> Result<(), Halt>
+        requires node { scope.focus.node < length self.old.world.tree }
+        ensures told { IsStepBy (λ u. self.new)
+            (content_begun (Select expr.now) site scope self.old
+            (R.state recorder.old)) result (R.state recorder.new) }
+        ensures kept { R.kept recorder.new ≡ R.kept recorder.old }
+    {
+        let value = self.value(expr, site, scope, recorder)?;
+        self.fill(value)?;
+        Ok(())
+    }
 
-/// The content of a binding begins.
-fn bind_content<'a, K: KeyFinder, R: Recorder<Task = Task<'a>>>(
-    world: &World<'a, K>,
-    body: &'a Body,
-    scope: Scope,
-    stack: &mut Stack<'a>,
-    recorder: &mut R,
-) -> Result<(), Halt>
-    requires node { scope.focus.node < length world.now.tree }
-    requires inside { AreIn world.now.tree stack.old }
-    ensures told { IsStepBy (λ u. stack_of stack.new)
-        (Goes (pushed (rest (instrs_of body.now) (captured_scope scope) ∷ fill ∷ [])
-        (stack_of stack.old))
-        (opened (R.state recorder.old))) result (R.state recorder.new) }
-    ensures kept { R.kept recorder.new ≡ R.kept recorder.old }
-    ensures inside { OnOk result (AreIn world.now.tree stack.new) }
-{
-    recorder.open_capture()?;
-    stack.push(world, Frame::Fill)?;
-    stack.push(world, Frame::Rest(body.instrs.as_slice(), scope.captured()))?;
-    Ok(())
-}
+    /// The content of a binding begins.
+    fn bind_content<R: Recorder<Task = Task<'a>>>(
+        &mut self,
+        body: &'a Body,
+        scope: Scope,
+        recorder: &mut R,
+    ) -> Result<(), Halt>
+        requires node { scope.focus.node < length self.old.world.tree }
+        ensures told { IsStepBy (λ u. self.new)
+            (Goes (pushed (rest (instrs_of body.now) (captured_scope scope) ∷ fill ∷ []) self.old)
+            (opened (R.state recorder.old))) result (R.state recorder.new) }
+        ensures kept { R.kept recorder.new ≡ R.kept recorder.old }
+    {
+        recorder.open_capture()?;
+        self.push(Frame::Fill)?;
+        self.push_body(body, scope.captured())?;
+        Ok(())
+    }
 
-/// The content of a binding has ended.
-pub(crate) fn fill_slot<'a, K: KeyFinder, R: Recorder<Task = Task<'a>>>(
-    alloc: Global,
-    world: &World<'a, K>,
-    stack: &mut Stack<'a>,
-    recorder: &mut R,
-) -> Result<(), Halt>
-    requires inside { AreIn world.now.tree stack.old }
-    ensures told { IsStepBy (λ u. stack_of stack.new)
-        (advanced world.now fill (stack_of stack.old)
-        (R.state recorder.old)) result (R.state recorder.new) }
-    ensures kept { R.kept recorder.new ≡ R.kept recorder.old }
-    ensures inside { OnOk result (AreIn world.now.tree stack.new) }
-{
-    let fragment = recorder.close_capture();
-    stack.fill(world, fragment_value(alloc, fragment)?)?;
-    Ok(())
+    /// The content of a binding has ended.
+    pub(crate) fn fill_slot<R: Recorder<Task = Task<'a>>>(
+        &mut self,
+        recorder: &mut R,
+    ) -> Result<(), Halt>
+        ensures told { IsStepBy (λ u. self.new)
+            (advanced fill self.old
+            (R.state recorder.old)) result (R.state recorder.new) }
+        ensures kept { R.kept recorder.new ≡ R.kept recorder.old }
+    {
+        let fragment = recorder.close_capture();
+        let value = fragment_value(self.alloc, fragment)?;
+        self.fill(value)?;
+        Ok(())
+    }
 }
 
 /// The value of captured content (11.1).

@@ -1,9 +1,16 @@
 //! What is still to be done: frames.
 
+ghost use Rattle.std.specs.Prelude.{◌≡◌, IfOk};
+
 use crate::lists::NodeList;
 use crate::passed::Passed;
+use std::alloc::{AllocError, Global};
 use xs_semantics::focus::Focus;
+use xs_semantics::made::Made;
 use xs_sheet::body::{Binding, Body, Instr};
+use xs_sheet::declarations::AttrSet;
+use xs_sheet::scoped::ValueTemplate;
+use xs_trace::event::Label;
 use xs_trace::item::Site;
 use xs_value::value::Value;
 
@@ -27,6 +34,102 @@ pub enum Callee {
     Rules(u32, NodeList),
 }
 
+/// The parameters of a call that are left, with the values of those before them.
+#[derive(Drop)]
+pub struct Passing<'a> {
+    /// Those that are left.
+    pub left: &'a [Binding],
+    /// All of them.
+    pub all: &'a [Binding],
+    /// The values of those before.
+    pub values: Vec<Value>,
+    /// What is called with them.
+    pub callee: Callee,
+    /// The call.
+    pub site: Site,
+    /// Where it is evaluated.
+    pub scope: Scope,
+}
+
+/// A body for each node that is left (8).
+#[derive(Drop)]
+pub struct EachLeft<'a> {
+    /// All nodes.
+    pub nodes: NodeList,
+    /// Which of them comes next.
+    pub next: usize,
+    /// Its position.
+    pub position: u32,
+    /// The body.
+    pub body: &'a Body,
+    /// The instruction.
+    pub site: Site,
+    /// Where it is evaluated, but for the node and its position.
+    pub scope: Scope,
+}
+
+/// The rules of a mode, with what is passed to them (5.7).
+#[derive(Drop)]
+pub struct Rules<'a> {
+    /// The mode.
+    pub mode: u32,
+    /// What is passed.
+    pub passed: Passed<'a>,
+}
+
+impl<'a> Rules<'a> {
+    /// The same, in constant time.
+    pub(crate) fn copy(&self, alloc: Global) -> Result<Rules<'a>, AllocError>
+        ensures { IfOk result (λ copy. copy ≡ self.now) }
+    {
+        Ok(Rules {
+            mode: self.mode,
+            passed: self.passed.copy(alloc)?,
+        })
+    }
+}
+
+/// The rule for each node that is left (5.4).
+#[derive(Drop)]
+pub struct ApplyLeft<'a> {
+    /// All nodes.
+    pub nodes: NodeList,
+    /// Which of them comes next.
+    pub next: usize,
+    /// Its position.
+    pub position: u32,
+    /// The rules.
+    pub rules: Rules<'a>,
+    /// The instruction.
+    pub site: Site,
+    /// Where it is evaluated, but for the node and its position.
+    pub focus: Focus,
+}
+
+/// The parameters of a template that are left, and its body (11.4).
+#[derive(Drop)]
+pub struct ParamsLeft<'a> {
+    /// Those that are left.
+    pub left: &'a [Binding],
+    /// What is passed to the template.
+    pub passed: Passed<'a>,
+    /// Its body.
+    pub body: &'a Body,
+    /// Where that is evaluated.
+    pub scope: Scope,
+}
+
+/// The attributes of a literal element (7.1.1).
+#[derive(Drop)]
+pub struct AttributesLeft<'a> {
+    /// Their names and values.
+    pub attributes: &'a [(Label, ValueTemplate)],
+    /// The element.
+    pub site: Site,
+    /// Where their values are evaluated.
+    pub scope: Scope,
+}
+
 /// One thing that is still to be done.
 #[derive(Drop)]
 pub enum Frame<'a> {
@@ -35,56 +138,27 @@ pub enum Frame<'a> {
     /// The end of the content of a binding, whose value is a slot more.
     Fill,
     /// A body for each node that is left.
-    Each {
-        nodes: NodeList,
-        next: usize,
-        position: u32,
-        body: &'a Body,
-        site: Site,
-        scope: Scope,
-    },
+    Each(EachLeft<'a>),
     /// The rule for each node that is left.
-    Apply {
-        nodes: NodeList,
-        next: usize,
-        position: u32,
-        mode: u32,
-        passed: Passed<'a>,
-        site: Site,
-        focus: Focus,
-    },
+    Apply(ApplyLeft<'a>),
     /// Bodies that are left, one after another.
     Bodies(&'a [Body], Scope),
     /// The end of an element.
     End,
+    /// The attribute sets of these names (7.1.4).
+    Sets(&'a [Label], Focus),
+    /// Declarations of a set.
+    Declared(&'a [&'a AttrSet], Focus),
+    /// The attributes of a literal element.
+    Attributes(AttributesLeft<'a>),
+    /// The end of the content of an attribute, a comment or a processing instruction.
+    Make(Made, Site),
     /// The end of a message, which may end the run.
-    Say {
-        site: Site,
-        terminate: bool,
-    },
-    /// The parameters of a call that are left, with the values of those before them.
-    Pass {
-        left: &'a [Binding],
-        all: &'a [Binding],
-        values: Vec<Value>,
-        callee: Callee,
-        site: Site,
-        scope: Scope,
-    },
+    Say { site: Site, terminate: bool },
+    /// The parameters of a call that are left.
+    Pass(Passing<'a>),
     /// The end of the content of such a parameter, and the rest of the call.
-    Take {
-        left: &'a [Binding],
-        all: &'a [Binding],
-        values: Vec<Value>,
-        callee: Callee,
-        site: Site,
-        scope: Scope,
-    },
+    Take(Passing<'a>),
     /// The parameters of a template that are left, and its body.
-    Params {
-        left: &'a [Binding],
-        passed: Passed<'a>,
-        body: &'a Body,
-        scope: Scope,
-    },
+    Params(ParamsLeft<'a>),
 }

@@ -1,265 +1,201 @@
 //! How each instruction begins.
 
 ghost use Rattle.std.specs.Prelude.{◌≡◌, ◌<◌, length, true, IsSome, OnOk, Some};
-ghost use Rattle.xs_body.specs.Inside.{AreIn, IsWorld};
 ghost use Rattle.xs_body.specs.steps.Frames.{begun, bodies_of, fallbacks_begun, imports_begun};
-ghost use Rattle.xs_body.specs.steps.Frames.{literal_begun, message_begun, message_ended};
-ghost use Rattle.xs_body.specs.steps.Frames.{next_body, stack_of};
+ghost use Rattle.xs_body.specs.steps.Frames.{message_begun, message_ended, next_body};
 ghost use Rattle.xs_trace.specs.Play.{IsStep, IsStepBy};
 
-use crate::applying::{begin_apply, begin_each};
-use crate::bindings::bind;
-use crate::calls::begin_call;
-use crate::choices::{begin_choice, begin_if};
+use crate::evaluator::Evaluator;
 use crate::frames::{Callee, Frame, Scope};
-use crate::putting::{begin_element, events_text, put_text, put_value};
-use crate::stack::Stack;
+use crate::putting::{events_text, put_text};
 use crate::task::Task;
-use crate::templates::enter_overridden;
-use crate::world::World;
-use std::alloc::{AllocError, Global};
+use std::alloc::AllocError;
 use xs_semantics::focus::Focus;
-use xs_sheet::body::{Body, Fallbacks, InstrKind, LiteralStart};
+use xs_semantics::made::Made;
+use xs_sheet::body::{Body, Fallbacks, InstrKind};
 use xs_trace::fault::Fault;
 use xs_trace::item::Site;
 use xs_trace::recorder::{Halt, Recorder, say_message};
-use xs_tree::Tree;
 use xs_value::keys::KeyFinder;
 
-/// What an instruction does after its own tick, with what comes before what is left of its body.
-/// Those that are not built yet do nothing.
-pub(crate) fn begin<'a, K: KeyFinder, R: Recorder<Task = Task<'a>>>(
-    alloc: Global,
-    world: &World<'a, K>,
-    kind: &'a InstrKind,
-    site: Site,
-    scope: Scope,
-    stack: &mut Stack<'a>,
-    recorder: &mut R,
-) -> Result<(), Halt>
-    requires world { IsWorld world.now }
-    requires holes { IsSome world.now.grain → R.takes_holes ≡ true }
-    requires node { scope.focus.node < length world.now.tree }
-    requires inside { AreIn world.now.tree stack.old }
-    ensures told { IsStepBy (λ u. stack_of stack.new)
-        (begun world.now kind.now site scope (stack_of stack.old) (R.state recorder.old))
-        result (R.state recorder.new) }
-    ensures kept { R.kept recorder.new ≡ R.kept recorder.old }
-    ensures inside { OnOk result (AreIn world.now.tree stack.new) }
-{
-    match kind {
-        InstrKind::ApplyTemplates { nodes, passed } => {
-            begin_apply(alloc, world, nodes, passed, site, scope, stack, recorder)
+impl<'a, K: KeyFinder> Evaluator<'a, K> {
+    /// What an instruction does after its own tick, before what is left of its body. A number
+    /// is not supported yet, and does nothing.
+    pub(crate) fn begin<R: Recorder<Task = Task<'a>>>(
+        &mut self,
+        kind: &'a InstrKind,
+        site: Site,
+        scope: Scope,
+        recorder: &mut R,
+    ) -> Result<(), Halt>
+        requires holes { IsSome self.old.world.grain → R.takes_holes ≡ true }
+        requires node { scope.focus.node < length self.old.world.tree }
+        ensures told { IsStepBy (λ u. self.new)
+            (begun kind.now site scope self.old
+            (R.state recorder.old)) result (R.state recorder.new) }
+        ensures kept { R.kept recorder.new ≡ R.kept recorder.old }
+    {
+        match kind {
+            InstrKind::ApplyTemplates { nodes, passed } => {
+                self.begin_apply(nodes, passed, site, scope, recorder)
+            }
+            InstrKind::CallTemplate { template, passed } => {
+                self.begin_call(passed, Callee::Template(*template), site, scope, recorder)
+            }
+            InstrKind::ApplyImports => self.begin_imports(site, scope.focus, recorder),
+            InstrKind::ForEach { select, body, .. } => {
+                self.begin_each(select, body, site, scope, recorder)
+            }
+            InstrKind::ValueOf(select) => self.put_value(select, site, scope, recorder),
+            InstrKind::Choose(choice) => self.begin_choice(choice, site, scope, recorder),
+            InstrKind::If { test, body } => self.begin_if(test, body, site, scope, recorder),
+            InstrKind::Text(text) => put_text(site, text.copy()?, recorder),
+            InstrKind::Message { terminate, body } => {
+                self.begin_message(*terminate, body, site, scope, recorder)
+            }
+            InstrKind::Variable(binding) => self.bind(&binding.content, site, scope, recorder),
+            InstrKind::Literal { start, body } => {
+                self.begin_literal(start, body, site, scope, recorder)
+            }
+            InstrKind::Extension(fallbacks) => {
+                self.begin_fallbacks(fallbacks, site, scope, recorder)
+            }
+            InstrKind::CopyOf(select) => self.put_copy(select, site, scope, recorder),
+            InstrKind::Copy { sets, body } => {
+                self.begin_copy(sets.as_slice(), body, site, scope, recorder)
+            }
+            InstrKind::Element { name, sets, body } => {
+                let name = self.made_name(name, false, site, scope, recorder)?;
+                self.begin_element(name, sets.as_slice(), body, scope, recorder)
+            }
+            InstrKind::Attribute { name, body } => {
+                self.begin_attribute(name, body, site, scope, recorder)
+            }
+            InstrKind::Comment(body) => self.begin_made(Made::Comment, body, site, scope, recorder),
+            InstrKind::Pi { name, body } => {
+                self.begin_instruction(name, body, site, scope, recorder)
+            }
+            InstrKind::Number(_) => Ok(()),
         }
-        InstrKind::CallTemplate { template, passed } => {
-            let callee = Callee::Template(*template);
-            begin_call(alloc, world, passed, callee, site, scope, stack)?;
-            Ok(())
-        }
-        InstrKind::ApplyImports => begin_imports(alloc, world, site, scope, stack, recorder),
-        InstrKind::ForEach { select, body, .. } => {
-            begin_each(alloc, world, select, body, site, scope, stack, recorder)
-        }
-        InstrKind::ValueOf(select) => {
-            let locals = scope.locals(&stack.slots);
-            put_value(alloc, world, select, scope.focus, locals, site, recorder)
-        }
-        InstrKind::Choose(choice) => {
-            begin_choice(alloc, world, choice, site, scope, stack, recorder)
-        }
-        InstrKind::If { test, body } => {
-            begin_if(alloc, world, test, body, site, scope, stack, recorder)
-        }
-        InstrKind::Text(text) => put_text(site, text.copy()?, recorder),
-        InstrKind::Message { terminate, body } => {
-            begin_message(world, *terminate, body, site, scope, stack, recorder)
-        }
-        InstrKind::Variable(binding) => {
-            bind(alloc, world, &binding.content, site, scope, stack, recorder)
-        }
-        InstrKind::Literal { start, body } => {
-            begin_literal(world, start, body, scope, stack, recorder)
-        }
-        InstrKind::Extension(fallbacks) => {
-            begin_fallbacks(world, fallbacks, site, scope, stack, recorder)
-        }
-        InstrKind::CopyOf(_)
-        | InstrKind::Copy { .. }
-        | InstrKind::Number(_)
-        | InstrKind::Element { .. }
-        | InstrKind::Attribute { .. }
-        | InstrKind::Comment(_)
-        | InstrKind::Pi { .. } => Ok(()),
     }
-}
 
-/// The rule that the current one overrides begins (XSLT 1.0, 5.6).
-fn begin_imports<'a, K: KeyFinder, R: Recorder<Task = Task<'a>>>(
-    alloc: Global,
-    world: &World<'a, K>,
-    site: Site,
-    scope: Scope,
-    stack: &mut Stack<'a>,
-    recorder: &mut R,
-) -> Result<(), Halt>
-    requires world { IsWorld world.now }
-    requires holes { IsSome world.now.grain → R.takes_holes ≡ true }
-    requires node { scope.focus.node < length world.now.tree }
-    requires inside { AreIn world.now.tree stack.old }
-    ensures told { IsStepBy (λ u. stack_of stack.new)
-        (imports_begun world.now site scope.focus scope.focus.rule (stack_of stack.old)
-        (R.state recorder.old)) result (R.state recorder.new) }
-    ensures kept { R.kept recorder.new ≡ R.kept recorder.old }
-    ensures inside { OnOk result (AreIn world.now.tree stack.new) }
-{
-    match scope.focus.rule {
-        None => Err(Halt::Fault(Fault::NoRule, site)),
-        Some(rule) => import_behind(alloc, world, rule, site, scope.focus, stack, recorder),
+    /// The rule that the current one overrides begins (XSLT 1.0, 5.6).
+    fn begin_imports<R: Recorder<Task = Task<'a>>>(
+        &mut self,
+        site: Site,
+        focus: Focus,
+        recorder: &mut R,
+    ) -> Result<(), Halt>
+        requires holes { IsSome self.old.world.grain → R.takes_holes ≡ true }
+        requires node { focus.node < length self.old.world.tree }
+        ensures told { IsStepBy (λ u. self.new)
+            (imports_begun site focus focus.rule self.old
+            (R.state recorder.old)) result (R.state recorder.new) }
+        ensures kept { R.kept recorder.new ≡ R.kept recorder.old }
+    {
+        match focus.rule {
+            None => Err(Halt::Fault(Fault::NoRule, site)),
+            Some(rule) => self.begin_overridden(rule, site, focus, recorder),
+        }
     }
-}
 
-/// The rule that this one overrides begins.
-fn import_behind<'a, K: KeyFinder, R: Recorder<Task = Task<'a>>>(
-    alloc: Global,
-    world: &World<'a, K>,
-    rule: u32,
-    site: Site,
-    focus: Focus,
-    stack: &mut Stack<'a>,
-    recorder: &mut R,
-) -> Result<(), Halt>
-    requires world { IsWorld world.now }
-    requires holes { IsSome world.now.grain → R.takes_holes ≡ true }
-    requires node { focus.node < length world.now.tree }
-    requires inside { AreIn world.now.tree stack.old }
-    ensures told { IsStepBy (λ u. stack_of stack.new)
-        (imports_begun world.now site focus (Some rule) (stack_of stack.old)
-        (R.state recorder.old)) result (R.state recorder.new) }
-    ensures kept { R.kept recorder.new ≡ R.kept recorder.old }
-    ensures inside { OnOk result (AreIn world.now.tree stack.new) }
-{
-    recorder.tick(site)?;
-    enter_overridden(alloc, world, rule, site, focus, stack, recorder)
-}
-
-/// A message begins (XSLT 1.0, 13).
-fn begin_message<'a, K: KeyFinder, R: Recorder<Task = Task<'a>>>(
-    world: &World<'a, K>,
-    terminate: bool,
-    body: &'a Body,
-    site: Site,
-    scope: Scope,
-    stack: &mut Stack<'a>,
-    recorder: &mut R,
-) -> Result<(), Halt>
-    requires world { IsWorld world.now }
-    requires holes { IsSome world.now.grain → R.takes_holes ≡ true }
-    requires node { scope.focus.node < length world.now.tree }
-    requires inside { AreIn world.now.tree stack.old }
-    ensures told { IsStepBy (λ u. stack_of stack.new)
-        (message_begun terminate body.now site scope (stack_of stack.old)
-        (R.state recorder.old)) result (R.state recorder.new) }
-    ensures kept { R.kept recorder.new ≡ R.kept recorder.old }
-    ensures inside { OnOk result (AreIn world.now.tree stack.new) }
-{
-    recorder.open_capture()?;
-    stack.push(world, Frame::Say { site, terminate })?;
-    stack.push(world, Frame::Rest(body.instrs.as_slice(), scope.captured()))?;
-    Ok(())
-}
-
-/// A message ends (XSLT 1.0, 13).
-pub(crate) fn end_message<'a, R: Recorder<Task = Task<'a>>>(
-    alloc: Global,
-    tree: &Tree,
-    site: Site,
-    terminate: bool,
-    recorder: &mut R,
-) -> Result<(), Halt>
-    ensures told { IsStep (message_ended site terminate (R.state recorder.old))
-        result (R.state recorder.new) }
-    ensures kept { R.kept recorder.new ≡ R.kept recorder.old }
-{
-    let fragment = recorder.close_capture();
-    let text = events_text(alloc, tree, fragment)?;
-    say_message(recorder, site, text)?;
-    if terminate {
-        return Err(Halt::Fault(Fault::Terminated, site));
+    /// The rule that this one overrides begins.
+    fn begin_overridden<R: Recorder<Task = Task<'a>>>(
+        &mut self,
+        rule: u32,
+        site: Site,
+        focus: Focus,
+        recorder: &mut R,
+    ) -> Result<(), Halt>
+        requires holes { IsSome self.old.world.grain → R.takes_holes ≡ true }
+        requires node { focus.node < length self.old.world.tree }
+        ensures told { IsStepBy (λ u. self.new)
+            (imports_begun site focus (Some rule) self.old
+            (R.state recorder.old)) result (R.state recorder.new) }
+        ensures kept { R.kept recorder.new ≡ R.kept recorder.old }
+    {
+        recorder.tick(site)?;
+        self.enter_overridden(rule, site, focus, recorder)
     }
-    Ok(())
-}
 
-/// A literal element begins (XSLT 1.0, 7.1.1).
-fn begin_literal<'a, K: KeyFinder, R: Recorder<Task = Task<'a>>>(
-    world: &World<'a, K>,
-    start: &LiteralStart,
-    body: &'a Body,
-    scope: Scope,
-    stack: &mut Stack<'a>,
-    recorder: &mut R,
-) -> Result<(), Halt>
-    requires world { IsWorld world.now }
-    requires holes { IsSome world.now.grain → R.takes_holes ≡ true }
-    requires node { scope.focus.node < length world.now.tree }
-    requires inside { AreIn world.now.tree stack.old }
-    ensures told { IsStepBy (λ u. stack_of stack.new)
-        (literal_begun start.now body.now scope (stack_of stack.old)
-        (R.state recorder.old)) result (R.state recorder.new) }
-    ensures kept { R.kept recorder.new ≡ R.kept recorder.old }
-    ensures inside { OnOk result (AreIn world.now.tree stack.new) }
-{
-    begin_element(start, recorder)?;
-    stack.push(world, Frame::End)?;
-    stack.push(world, Frame::Rest(body.instrs.as_slice(), scope.inner()))?;
-    Ok(())
-}
-
-/// An extension element begins, by its fallbacks (XSLT 1.0, 15).
-fn begin_fallbacks<'a, K: KeyFinder, R: Recorder<Task = Task<'a>>>(
-    world: &World<'a, K>,
-    fallbacks: &'a Fallbacks,
-    site: Site,
-    scope: Scope,
-    stack: &mut Stack<'a>,
-    recorder: &R,
-) -> Result<(), Halt>
-    requires node { scope.focus.node < length world.now.tree }
-    requires inside { AreIn world.now.tree stack.old }
-    ensures told { IsStepBy (λ u. stack_of stack.new)
-        (fallbacks_begun (bodies_of fallbacks.now) site scope (stack_of stack.old)
-        (R.state recorder.now)) result (R.state recorder.now) }
-    ensures inside { OnOk result (AreIn world.now.tree stack.new) }
-{
-    let _recorder = recorder;
-    if fallbacks.bodies.as_slice().is_empty() {
-        return Err(Halt::Fault(Fault::NoExtension, site));
+    /// A message begins (XSLT 1.0, 13).
+    fn begin_message<R: Recorder<Task = Task<'a>>>(
+        &mut self,
+        terminate: bool,
+        body: &'a Body,
+        site: Site,
+        scope: Scope,
+        recorder: &mut R,
+    ) -> Result<(), Halt>
+        requires node { scope.focus.node < length self.old.world.tree }
+        ensures told { IsStepBy (λ u. self.new)
+            (message_begun terminate body.now site scope self.old
+            (R.state recorder.old)) result (R.state recorder.new) }
+        ensures kept { R.kept recorder.new ≡ R.kept recorder.old }
+    {
+        recorder.open_capture()?;
+        self.push(Frame::Say { site, terminate })?;
+        self.push_body(body, scope.captured())?;
+        Ok(())
     }
-    stack.push(
-        world,
-        Frame::Bodies(fallbacks.bodies.as_slice(), scope.inner()),
-    )?;
-    Ok(())
-}
 
-/// The next of some bodies, one after another.
-pub(crate) fn begin_next_body<'a, K: KeyFinder>(
-    world: &World<'a, K>,
-    bodies: &'a [Body],
-    scope: Scope,
-    stack: &mut Stack<'a>,
-) -> Result<(), AllocError>
-    requires node { scope.focus.node < length world.now.tree }
-    requires inside { AreIn world.now.tree stack.old }
-    ensures begun { OnOk result
-        (stack_of stack.new ≡ next_body bodies.now scope (stack_of stack.old)) }
-    ensures inside { OnOk result (AreIn world.now.tree stack.new) }
-{
-    match bodies.split_first() {
-        None => Ok(()),
-        Some((body, behind)) => {
-            stack.push(world, Frame::Bodies(behind, scope))?;
-            stack.push(world, Frame::Rest(body.instrs.as_slice(), scope.inner()))?;
-            Ok(())
+    /// A message ends (XSLT 1.0, 13).
+    pub(crate) fn end_message<R: Recorder<Task = Task<'a>>>(
+        &self,
+        site: Site,
+        terminate: bool,
+        recorder: &mut R,
+    ) -> Result<(), Halt>
+        ensures told { IsStep (message_ended site terminate (R.state recorder.old))
+            result (R.state recorder.new) }
+        ensures kept { R.kept recorder.new ≡ R.kept recorder.old }
+    {
+        let fragment = recorder.close_capture();
+        let text = events_text(self.alloc, self.tree, fragment)?;
+        say_message(recorder, site, text)?;
+        if terminate {
+            return Err(Halt::Fault(Fault::Terminated, site));
+        }
+        Ok(())
+    }
+
+    /// An extension element begins, by its fallbacks (XSLT 1.0, 15).
+    fn begin_fallbacks<R: Recorder<Task = Task<'a>>>(
+        &mut self,
+        fallbacks: &'a Fallbacks,
+        site: Site,
+        scope: Scope,
+        recorder: &R,
+    ) -> Result<(), Halt>
+        requires node { scope.focus.node < length self.old.world.tree }
+        ensures told { IsStepBy (λ u. self.new)
+            (fallbacks_begun (bodies_of fallbacks.now) site scope self.old
+            (R.state recorder.now)) result (R.state recorder.now) }
+    {
+        let _recorder = recorder;
+        let bodies = fallbacks.bodies.as_slice();
+        if bodies.is_empty() {
+            return Err(Halt::Fault(Fault::NoExtension, site));
+        }
+        self.push(Frame::Bodies(bodies, scope.inner()))?;
+        Ok(())
+    }
+
+    /// The next of some bodies, one after another.
+    pub(crate) fn begin_next_body(
+        &mut self,
+        bodies: &'a [Body],
+        scope: Scope,
+    ) -> Result<(), AllocError>
+        requires node { scope.focus.node < length self.old.world.tree }
+        ensures begun { OnOk result (self.new ≡ next_body bodies.now scope self.old) }
+    {
+        match bodies.split_first() {
+            None => Ok(()),
+            Some((body, behind)) => {
+                self.push(Frame::Bodies(behind, scope))?;
+                self.push_body(body, scope.inner())
+            }
         }
     }
 }

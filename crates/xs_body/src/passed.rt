@@ -1,9 +1,11 @@
 //! Parameters that are passed to a template (XSLT 1.0, 11.6).
 
 ghost use Rattle.std.specs.Prelude.{◌≡◌, IfOk, option_map, None, Some, if◌then◌else◌};
+ghost use Rattle.xs_body.specs.steps.Passed.{values_of};
 ghost use Rattle.xs_semantics.specs.Tasks.{last_passed, no_params, value_passed};
 ghost use Rattle.xs_sheet.specs.Sets.{is_same_label};
 
+use crate::tasks::copied_values;
 use std::alloc::{AllocError, Global};
 use std::marker::Model;
 use std::sync::Arc;
@@ -11,18 +13,38 @@ use xs_sheet::body::Binding;
 use xs_trace::event::Label;
 use xs_value::value::Value;
 
-/// Parameters with their values, which several templates may share. Contracts see them as both
-/// lists.
+/// The values that are passed.
+#[derive(Drop)]
+pub enum PassedValues {
+    /// None.
+    None,
+    /// Those of one template.
+    Own(Vec<Value>),
+    /// Those that several templates share.
+    Shared(Arc<Vec<Value>>),
+}
+
+impl PassedValues {
+    /// The values.
+    fn values(&self) -> &[Value]
+        ensures { result.now ≡ values_of self.now }
+    {
+        match self {
+            PassedValues::None => &[],
+            PassedValues::Own(values) => values.as_slice(),
+            PassedValues::Shared(values) => values.as_slice(),
+        }
+    }
+}
+
+/// Parameters with their values. Contracts see them as both lists.
 #[derive(Drop)]
 pub struct Passed<'a> {
     bindings: &'a [Binding],
-    /// None where there are no values.
-    values: Option<Arc<Vec<Value>>>,
+    values: PassedValues,
 }
 
 impl<'a> Model for Passed<'a> {
-    ghost use Rattle.std.specs.Prelude.{[]};
-    ghost use Rattle.std.specs.Option.{option_map_or};
     ghost use Rattle.std.specs.Coded.{codes};
     ghost use Rattle.xs_sheet.specs.contracts.body.Content as content;
     ghost use Rattle.xs_semantics.specs.Tasks.{Params};
@@ -31,9 +53,11 @@ impl<'a> Model for Passed<'a> {
 
     ghost coded = { Prim.hlevel (codes, content.the_row.coded) };
 
+    ghost use Rattle.xs_body.specs.steps.Passed.{values_of};
+
     ghost view = { λ p. record {
       bindings = p.bindings.now;
-      values = option_map_or (λ values. values.value.items) p.values [];
+      values = values_of p.values;
     } };
 }
 
@@ -44,42 +68,39 @@ impl<'a> Passed<'a> {
     {
         Passed {
             bindings: &[],
-            values: None,
+            values: PassedValues::None,
         }
     }
 
     /// These parameters, with these values.
-    pub(crate) fn of(
-        alloc: Global,
-        bindings: &'a [Binding],
-        values: Vec<Value>,
-    ) -> Result<Passed<'a>, AllocError>
-        ensures { IfOk result (λ passed. passed
-            ≡ record { bindings = bindings.now; values = values.items }) }
+    pub(crate) fn of(bindings: &'a [Binding], values: Vec<Value>) -> Passed<'a>
+        ensures { result ≡ record { bindings = bindings.now; values = values.items } }
     {
-        if values.is_empty() {
-            return Ok(Passed {
-                bindings,
-                values: None,
-            });
-        }
-        Ok(Passed {
+        Passed {
             bindings,
-            values: Some(Arc::new(alloc, values)?),
-        })
+            values: PassedValues::Own(values),
+        }
     }
 
-    /// The same, in constant time.
-    pub(crate) fn copy(&self) -> Result<Passed<'a>, AllocError>
+    /// The same for several templates: each further copy takes constant time.
+    pub(crate) fn shared(self, alloc: Global) -> Result<Passed<'a>, AllocError>
+        ensures { IfOk result (λ shared. shared ≡ self.entry) }
+    {
+        let Passed { bindings, values } = self;
+        let values = match values {
+            PassedValues::Own(values) => share(alloc, values)?,
+            values => values,
+        };
+        Ok(Passed { bindings, values })
+    }
+
+    /// The same, in constant time where it is shared.
+    pub(crate) fn copy(&self, alloc: Global) -> Result<Passed<'a>, AllocError>
         ensures { IfOk result (λ copy. copy ≡ self.now) }
     {
-        let values = match &self.values {
-            Some(values) => Some(Arc::try_clone(values)?),
-            None => None,
-        };
         Ok(Passed {
             bindings: self.bindings,
-            values,
+            values: copy_of(alloc, &self.values)?,
         })
     }
 
@@ -87,14 +108,34 @@ impl<'a> Passed<'a> {
     pub(crate) fn value(&self, name: &Label) -> Result<Option<Value>, AllocError>
         ensures value { IfOk result (λ value. value ≡ value_passed name.now self.now) }
     {
-        let values: &[Value] = match &self.values {
-            Some(values) => values.as_slice(),
-            None => &[],
-        };
-        match last_passed(name, self.bindings, values) {
+        match last_passed(name, self.bindings, self.values.values()) {
             Some(value) => Ok(Some(value.copy()?)),
             None => Ok(None),
         }
+    }
+}
+
+/// Values that several templates share; of none there is nothing to share.
+fn share(alloc: Global, values: Vec<Value>) -> Result<PassedValues, AllocError>
+    ensures { IfOk result (λ shared. values_of shared ≡ values.items) }
+{
+    if values.is_empty() {
+        return Ok(PassedValues::None);
+    }
+    Ok(PassedValues::Shared(Arc::new(alloc, values)?))
+}
+
+/// The same values, in constant time where they are shared.
+fn copy_of(alloc: Global, values: &PassedValues) -> Result<PassedValues, AllocError>
+    ensures { IfOk result (λ copy. values_of copy ≡ values_of values.now) }
+{
+    match values {
+        PassedValues::None => Ok(PassedValues::None),
+        PassedValues::Own(values) => Ok(PassedValues::Own(copied_values(
+            alloc,
+            values.as_slice(),
+        )?)),
+        PassedValues::Shared(values) => Ok(PassedValues::Shared(Arc::try_clone(values)?)),
     }
 }
 

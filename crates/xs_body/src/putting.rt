@@ -1,19 +1,15 @@
 //! What is put.
 
 ghost use Rattle.std.specs.Prelude.{◌≡◌, ◌<◌, length, IfOk};
-ghost use Rattle.std.specs.List.{All};
-ghost use Rattle.xs_body.specs.Inside.{IsWorld};
-ghost use Rattle.xs_body.specs.steps.Frames.{chars_steps, literal_steps, space_steps};
 ghost use Rattle.xs_body.specs.steps.Frames.{value_steps};
-ghost use Rattle.xs_trace.specs.Play.{IsStep, put};
-ghost use Rattle.xs_trace.specs.declared.event.Event.TheVariants.{Space};
-ghost use Rattle.xs_value.specs.Conversion.{IsIn, fragment_text};
+ghost use Rattle.xs_body.specs.steps.Making.{chars_steps, events_steps};
+ghost use Rattle.xs_trace.specs.Play.{IsStep, put_at};
+ghost use Rattle.xs_value.specs.Conversion.{fragment_text};
 
+use crate::evaluator::Evaluator;
+use crate::frames::Scope;
 use crate::task::Task;
-use crate::world::World;
 use std::alloc::{AllocError, Global};
-use xs_semantics::focus::Focus;
-use xs_sheet::body::LiteralStart;
 use xs_sheet::scoped::ScopedExpr;
 use xs_trace::event::{Event, Fragment};
 use xs_trace::item::Site;
@@ -38,62 +34,50 @@ pub(crate) fn put_text<R: Recorder>(site: Site, text: TextBuf, recorder: &mut R)
     }
 }
 
-/// Puts the string of an expression (XSLT 1.0, 7.6.1).
-pub(crate) fn put_value<'a, K: KeyFinder, R: Recorder<Task = Task<'a>>>(
-    alloc: Global,
-    world: &World<'a, K>,
-    select: &ScopedExpr,
-    focus: Focus,
-    locals: &[Value],
+impl<'a, K: KeyFinder> Evaluator<'a, K> {
+    /// Puts the string of an expression (XSLT 1.0, 7.6.1).
+    pub(crate) fn put_value<R: Recorder<Task = Task<'a>>>(
+        &self,
+        select: &ScopedExpr,
+        site: Site,
+        scope: Scope,
+        recorder: &mut R,
+    ) -> Result<(), Halt>
+        requires node { scope.focus.node < length self.now.world.tree }
+        ensures told { IsStep (value_steps select.now site scope self.now
+            (R.state recorder.old)) result (R.state recorder.new) }
+        ensures kept { R.kept recorder.new ≡ R.kept recorder.old }
+    {
+        let text = self.text(select, site, scope, recorder)?;
+        put_text(site, text, recorder)
+    }
+}
+
+/// Puts events, one after another.
+pub(crate) fn put_events<R: Recorder>(
     site: Site,
+    events: &[Event],
     recorder: &mut R,
 ) -> Result<(), Halt>
-    requires world { IsWorld world.now }
-    requires node { focus.node < length world.now.tree }
-    requires locals { All (IsIn world.now.tree) locals.now }
-    ensures told { IsStep (value_steps world.now select.now site focus locals.now
-        (R.state recorder.old)) result (R.state recorder.new) }
-    ensures kept { R.kept recorder.new ≡ R.kept recorder.old }
-{
-    let text = world.text(alloc, select, focus, locals, site, recorder)?;
-    put_text(site, text, recorder)
-}
-
-/// A literal element begins, with its namespace nodes (7.1.1).
-pub(crate) fn begin_element<R: Recorder>(start: &LiteralStart, recorder: &mut R) -> Result<(), Halt>
-    ensures told { IsStep (literal_steps start.now (R.state recorder.old))
+    ensures told { IsStep (events_steps site events.now (R.state recorder.old))
         result (R.state recorder.new) }
     ensures kept { R.kept recorder.new ≡ R.kept recorder.old }
 {
-    let name = start.name.copy()?;
-    recorder.put(Event::Start(name))?;
-    put_spaces(start.spaces.as_slice(), recorder)
-}
-
-/// Puts namespace nodes.
-fn put_spaces<R: Recorder>(spaces: &[(TextBuf, TextBuf)], recorder: &mut R) -> Result<(), Halt>
-    ensures told { IsStep (space_steps spaces.now (R.state recorder.old))
-        result (R.state recorder.new) }
-    ensures kept { R.kept recorder.new ≡ R.kept recorder.old }
-{
-    let mut left = spaces;
-    while let Some((space, behind)) = left.split_first() {
-        put_space(&space.0, &space.1, recorder)?;
+    let mut left = events;
+    while let Some((event, behind)) = left.split_first() {
+        put_copied(site, event, recorder)?;
         left = behind;
     }
     Ok(())
 }
 
-/// Puts a namespace node.
-fn put_space<R: Recorder>(prefix: &TextBuf, uri: &TextBuf, recorder: &mut R) -> Result<(), Halt>
-    ensures told { IsStep (put (Space prefix.now uri.now) (R.state recorder.old))
+/// Puts an event that another owns.
+fn put_copied<R: Recorder>(site: Site, event: &Event, recorder: &mut R) -> Result<(), Halt>
+    ensures told { IsStep (put_at site event.now (R.state recorder.old))
         result (R.state recorder.new) }
     ensures kept { R.kept recorder.new ≡ R.kept recorder.old }
 {
-    recorder.put(Event::Space {
-        prefix: prefix.copy()?,
-        uri: uri.copy()?,
-    })
+    put_event(recorder, site, event.copy()?)
 }
 
 /// The text of all text nodes of captured content, those inside elements among them.

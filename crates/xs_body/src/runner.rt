@@ -4,22 +4,21 @@ ghost use Rattle.std.specs.List.{All};
 ghost use Rattle.std.specs.Prelude.{◌≡◌, ◌+◌, ◌≤◌, ℕ, false, true, IfOk, IsSome, None, OnErr};
 ghost use Rattle.std.specs.Prelude.{OnOk};
 ghost use Rattle.xs_block.specs.Chain.{most_blocks};
-ghost use Rattle.xs_body.specs.Inside.{AreIn, IsTaskIn, IsWorld};
+ghost use Rattle.xs_body.specs.Inside.{IsTaskIn, IsWorld};
 ghost use Rattle.xs_body.specs.Results.{IsWholeRun};
 ghost use Rattle.xs_semantics.specs.Trace.{root_task, task_trace};
 ghost use Rattle.xs_semantics.specs.World.{with_grain};
-ghost use Rattle.xs_body.specs.steps.Frames.{begun_with, stack_of};
+ghost use Rattle.xs_body.specs.steps.Frames.{begun_with};
 ghost use Rattle.xs_body.specs.steps.Runs.{is_over};
 ghost use Rattle.xs_record.specs.Outcome.{IsOutcome, part_blocks};
 ghost use Rattle.xs_record.specs.Piece.{IsPiece};
 ghost use Rattle.xs_trace.specs.Cut.{cut};
 ghost use Rattle.xs_trace.specs.Play.{IsStep, play};
 
-use crate::frames::{Frame, Scope};
+use crate::evaluator::Evaluator;
+use crate::frames::{ApplyLeft, EachLeft, Frame, Rules, Scope};
 use crate::lists::NodeList;
 use crate::passed::Passed;
-use crate::run::finish;
-use crate::stack::Stack;
 use crate::task::{Job, Task};
 use crate::tasks::copied_values;
 use crate::world::World;
@@ -29,8 +28,8 @@ use std::mem::replace;
 use xs_block::pool::Pool;
 use xs_record::outcome::{Outcome, Part};
 use xs_record::piece::{Finished, PieceRecorder};
-use xs_rules::index::RuleIndex;
 use xs_semantics::focus::Focus;
+use xs_semantics::index::SheetIndex;
 use xs_sheet::sheet::Sheet;
 use xs_trace::item::{Ended, Item, Limits, Site};
 use xs_trace::recorder::{Halt, Recorder};
@@ -54,7 +53,7 @@ pub struct SheetRunner<'a, K: KeyFinder> {
 impl<'a, K: KeyFinder> Model for SheetRunner<'a, K> {
     ghost use Rattle.std.specs.Coded.{codes};
     ghost use denote.Signature.{static_lft};
-    ghost use Rattle.xs_rules.specs.contracts.index.RuleIndex as of_index;
+    ghost use Rattle.xs_semantics.specs.contracts.index.SheetIndex as of_index;
     ghost use Rattle.xs_sheet.specs.contracts.sheet.Sheet as of_sheet;
     ghost use Rattle.xs_semantics.specs.World.{World};
 
@@ -74,12 +73,20 @@ impl<'a, K: KeyFinder> SheetRunner<'a, K> {
     /// tasks.
     pub fn new(
         sheet: &'a Sheet,
-        index: &'a RuleIndex<'a>,
+        index: &'a SheetIndex<'a>,
         tree: &'a Tree,
         keys: &'a K,
         globals: &'a [Option<Value>],
         grain: Option<u32>,
     ) -> SheetRunner<'a, K>
+        requires world { IsWorld (record {
+          sheet = sheet.now;
+          index = index.now;
+          tree = tree.now;
+          keys = K.tables keys.now;
+          globals = globals.now;
+          grain = grain;
+        }) }
         ensures { result ≡ record {
           sheet = sheet.now;
           index = index.now;
@@ -111,10 +118,11 @@ impl<'a, K: KeyFinder> SheetRunner<'a, K> {
         let has_root = world.tree.len() > 0;
         prove!(has_root);
         let line = world.sheet.root_line;
+        let set_levels = world.sheet.sets.as_slice().len();
         Ok(Task {
             job: Job::Rules(0, Passed::none()),
             site: Site { module: 0, line },
-            focus: Focus::alone_at(Node::root(), MOST_DEPTH),
+            focus: Focus::alone_at(Node::root(), MOST_DEPTH, set_levels),
             first: 1,
             nodes: Vec::from_slice(alloc, &[Node::root()])?,
         })
@@ -132,7 +140,6 @@ impl<'a, K: KeyFinder> SheetRunner<'a, K> {
         pool: Pool<Item>,
         children: &mut Vec<Task<'a>>,
     ) -> Finished<T>
-        requires world { IsWorld self.now }
         requires settled { All IsSome self.now.globals }
         requires task { IsTaskIn self.now.tree task.now }
         ensures piece { IfOk result.outcome (IsPiece (task_trace self.now task.now) limits
@@ -162,7 +169,6 @@ impl<'a, K: KeyFinder> SheetRunner<'a, K> {
         limits: Limits,
         pool: &mut Pool<Item>,
     ) -> Result<Outcome, AllocError>
-        requires world { IsWorld self.now }
         requires settled { All IsSome self.now.globals }
         requires task { IsTaskIn self.now.tree task.now }
         ensures outcome { IfOk result
@@ -239,66 +245,61 @@ pub fn tell_task<'a, K: KeyFinder, R: Recorder<Task = Task<'a>>>(
     task: &Task<'a>,
     recorder: &mut R,
 ) -> Result<(), Halt>
-    requires world { IsWorld world.now }
     requires holes { IsSome world.now.grain → R.takes_holes ≡ true }
     requires task { IsTaskIn world.now.tree task.now }
     ensures told { IsStep (play (task_trace world.now task.now) (R.state recorder.old))
         result (R.state recorder.new) }
     ensures kept { R.kept recorder.new ≡ R.kept recorder.old }
 {
-    let stack = stack_for(alloc, world, task)?;
-    finish(alloc, world, stack, recorder)
+    let mut evaluator = evaluator_for(alloc, world, task)?;
+    evaluator.finish(recorder)
 }
 
-/// The stack that a task begins with.
-fn stack_for<'a, K: KeyFinder>(
+/// The evaluation that a task begins with.
+fn evaluator_for<'a, K: KeyFinder>(
     alloc: Global,
     world: &World<'a, K>,
     task: &Task<'a>,
-) -> Result<Stack<'a>, AllocError>
+) -> Result<Evaluator<'a, K>, AllocError>
     requires task { IsTaskIn world.now.tree task.now }
-    ensures stack { IfOk result (λ stack. stack_of stack ≡ begun_with task.now) }
-    ensures inside { IfOk result (AreIn world.now.tree) }
+    ensures begun { IfOk result (λ evaluator. evaluator ≡ begun_with world.now task.now) }
 {
     let nodes = NodeList::List(Vec::from_slice(alloc, task.nodes.as_slice())?);
     match &task.job {
         Job::Body(body, locals) => {
             let slots = copied_values(alloc, locals)?;
             let seen = slots.len();
-            let mut stack = Stack::with(alloc, slots);
+            let mut evaluator = Evaluator::new(alloc, world, slots);
             let scope = Scope {
                 focus: task.focus,
                 seen,
                 own: 0,
             };
-            stack.push(
-                world,
-                Frame::Each {
-                    nodes,
-                    next: 0,
-                    position: task.first,
-                    body: *body,
-                    site: task.site,
-                    scope,
-                },
-            )?;
-            Ok(stack)
+            evaluator.push(Frame::Each(EachLeft {
+                nodes,
+                next: 0,
+                position: task.first,
+                body: *body,
+                site: task.site,
+                scope,
+            }))?;
+            Ok(evaluator)
         }
         Job::Rules(mode, passed) => {
-            let mut stack = Stack::with(alloc, Vec::new(alloc));
-            stack.push(
-                world,
-                Frame::Apply {
-                    nodes,
-                    next: 0,
-                    position: task.first,
+            let mut evaluator = Evaluator::new(alloc, world, Vec::new(alloc));
+            let passed = passed.copy(alloc)?;
+            evaluator.push(Frame::Apply(ApplyLeft {
+                nodes,
+                next: 0,
+                position: task.first,
+                rules: Rules {
                     mode: *mode,
-                    passed: passed.copy()?,
-                    site: task.site,
-                    focus: task.focus,
+                    passed,
                 },
-            )?;
-            Ok(stack)
+                site: task.site,
+                focus: task.focus,
+            }))?;
+            Ok(evaluator)
         }
     }
 }

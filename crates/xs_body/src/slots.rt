@@ -1,14 +1,13 @@
-//! Scopes, and the values that they see.
+//! Scopes.
 
 ghost use Rattle.std.specs.Prelude.{◌≡◌, IfOk};
-ghost use Rattle.xs_body.specs.steps.Frames.{after, bound, captured_scope, inner, last, outer};
+ghost use Rattle.xs_body.specs.steps.Frames.{after, bound, captured_scope, inner, outer};
 ghost use Rattle.xs_body.specs.steps.Frames.{over};
 
 use crate::frames::Scope;
 use std::alloc::AllocError;
 use xs_semantics::focus::Focus;
 use xs_sheet::body::InstrKind;
-use xs_value::value::Value;
 
 impl Scope {
     /// Of a body inside another.
@@ -65,12 +64,5 @@ impl Scope {
         } else {
             Ok(self)
         }
-    }
-
-    /// The values that it sees, of those on the stack.
-    pub(crate) fn locals(self, slots: &[Value]) -> &[Value]
-        ensures { result.now ≡ last self.seen slots.now }
-    {
-        &slots[slots.len().saturating_sub(self.seen)..]
     }
 }

@@ -1,15 +1,15 @@
 //! Runs that are left to tasks, and tasks that begin.
 
-ghost use Rattle.std.specs.Prelude.{◌≡◌, map, true, IfOk, IsSome};
+ghost use Rattle.std.specs.Prelude.{◌≡◌, [], map, true, IfOk, IsSome};
 ghost use Rattle.std.specs.Arc.{arc_value};
-ghost use Rattle.xs_semantics.specs.Tasks.{grain_over, task_behind, tasks_for};
+ghost use Rattle.xs_semantics.specs.Tasks.{grain_over, shared, task_behind};
 ghost use Rattle.xs_body.specs.steps.Jobs.{job_of};
 ghost use Rattle.xs_body.specs.steps.Sharing.{share_of, share_step};
 ghost use Rattle.xs_trace.specs.Mark.{Hole};
 ghost use Rattle.xs_trace.specs.Play.{IsStep, IsStepBy, play};
 
+use crate::evaluator::Evaluator;
 use crate::task::{Job, Task};
-use crate::world::World;
 use std::alloc::{AllocError, Global};
 use std::sync::Arc;
 use xs_semantics::focus::Focus;
@@ -19,11 +19,11 @@ use xs_tree::Node;
 use xs_value::keys::KeyFinder;
 use xs_value::value::Value;
 
-impl<'a, K: KeyFinder> World<'a, K> {
+impl<'a, K: KeyFinder> Evaluator<'a, K> {
     /// The grain, where a run of so many nodes is more than that.
     pub(crate) fn grain_over(&self, focus: Focus, size: u32) -> Option<u32>
-        ensures grain { result ≡ grain_over self.now focus size }
-        ensures some { IsSome result → IsSome self.now.grain }
+        ensures grain { result ≡ grain_over self.now.world focus size }
+        ensures some { IsSome result → IsSome self.now.world.grain }
     {
         if focus.is_captured {
             return None;
@@ -44,32 +44,40 @@ pub(crate) struct Sharing<'a> {
     pub(crate) room: u32,
 }
 
-/// Leaves a run to tasks, each with a grain of its nodes.
+/// A task over no nodes yet.
+pub(crate) fn task_over<'a>(alloc: Global, job: Job<'a>, site: Site, focus: Focus) -> Task<'a>
+    ensures { result ≡ record {
+      job = job_of job.entry;
+      site = site;
+      focus = focus;
+      first = 1;
+      nodes = [];
+    } }
+{
+    Task {
+        job,
+        site,
+        focus,
+        first: 1,
+        nodes: Vec::new(alloc),
+    }
+}
+
+/// Leaves a run to a task and those after it, each with a grain of its nodes.
 pub(crate) fn leave<'a, R: Recorder<Task = Task<'a>>>(
     alloc: Global,
     grain: u32,
-    job: Job<'a>,
+    task: Task<'a>,
     nodes: &[Node],
-    site: Site,
-    focus: Focus,
     recorder: &mut R,
 ) -> Result<(), Halt>
     requires takes { R.takes_holes ≡ true }
     ensures told { IsStep
-        (play (map Hole (tasks_for grain (job_of job.entry) site focus nodes.now))
-        (R.state recorder.old)) result (R.state recorder.new) }
+        (play (map Hole (shared grain grain task.entry nodes.now)) (R.state recorder.old))
+        result (R.state recorder.new) }
     ensures kept { R.kept recorder.new ≡ R.kept recorder.old }
 {
-    let mut sharing = Sharing {
-        task: Task {
-            job,
-            site,
-            focus,
-            first: 1,
-            nodes: Vec::new(alloc),
-        },
-        room: grain,
-    };
+    let mut sharing = Sharing { task, room: grain };
     let mut left = nodes;
     while let Some((node, behind)) = left.split_first() {
         sharing = share(alloc, sharing, *node, grain, recorder)?;
@@ -115,7 +123,7 @@ fn behind<'a>(alloc: Global, task: &Task<'a>, node: Node) -> Result<Task<'a>, Al
     let count = u32::try_from(task.nodes.len()).map_err(|_| AllocError)?;
     let first = task.first.checked_add(count).ok_or(AllocError)?;
     Ok(Task {
-        job: copy_job(&task.job)?,
+        job: copy_job(alloc, &task.job)?,
         site: task.site,
         focus: task.focus,
         first,
@@ -124,12 +132,12 @@ fn behind<'a>(alloc: Global, task: &Task<'a>, node: Node) -> Result<Task<'a>, Al
 }
 
 /// The same job, in constant time.
-fn copy_job<'a>(job: &Job<'a>) -> Result<Job<'a>, AllocError>
+fn copy_job<'a>(alloc: Global, job: &Job<'a>) -> Result<Job<'a>, AllocError>
     ensures { IfOk result (λ copy. job_of copy ≡ job_of job.now) }
 {
     match job {
         Job::Body(body, locals) => Ok(Job::Body(*body, Arc::try_clone(locals)?)),
-        Job::Rules(mode, passed) => Ok(Job::Rules(*mode, passed.copy()?)),
+        Job::Rules(mode, passed) => Ok(Job::Rules(*mode, passed.copy(alloc)?)),
     }
 }
 

@@ -1,30 +1,24 @@
 //! Templates and built-in rules that begin (XSLT 1.0, 5 and 6).
 
-ghost use Rattle.std.specs.Prelude.{◌≡◌, ◌<◌, ◌∷◌, length, slice_get, true, IsSome, OnOk};
-ghost use Rattle.std.specs.List.{All};
-ghost use Rattle.xs_body.specs.Inside.{AreIn, IsWorld};
-ghost use Rattle.xs_semantics.specs.Trace.{fitting, named, overridden};
-ghost use Rattle.xs_semantics.specs.Tasks.{no_params};
+ghost use Rattle.std.specs.Prelude.{◌≡◌, ◌<◌, [], ◌∷◌, length, slice_get, true, IsSome, OnOk};
+ghost use Rattle.xs_body.specs.Inside.{AreValues, IsParams};
 ghost use Rattle.xs_body.specs.steps.Frames.{advanced, applied_begun, built_in_begun};
-ghost use Rattle.xs_body.specs.steps.Frames.{chars_steps, entering, params_left, rule_begun};
-ghost use Rattle.xs_body.specs.steps.Frames.{stack_of, stays, template_begun};
-ghost use Rattle.xs_trace.specs.Play.{IsStepBy};
+ghost use Rattle.xs_body.specs.steps.Frames.{chars_steps, entering, params_first, params_left};
+ghost use Rattle.xs_body.specs.steps.Frames.{params_work, pushed, rule_begun, template_begun};
+ghost use Rattle.xs_semantics.specs.Tasks.{no_params};
+ghost use Rattle.xs_semantics.specs.Trace.{fitting, named, overridden};
+ghost use Rattle.xs_trace.specs.Play.{IsStep, IsStepBy};
 ghost use Rattle.xs_tree.specs.Record.{at, children};
-ghost use Rattle.xs_value.specs.Conversion.{IsIn};
 
-use crate::applying::apply;
-use crate::bindings::bind;
-use crate::frames::{Frame, Scope};
+use crate::evaluator::Evaluator;
+use crate::frames::{Frame, ParamsLeft, Rules, Scope};
 use crate::lists::{NodeList, children_of};
 use crate::passed::Passed;
 use crate::putting::put_text;
-use crate::rules::{import_for, rule_for};
-use crate::stack::Stack;
 use crate::task::Task;
-use crate::world::World;
-use std::alloc::{AllocError, Global};
+use std::alloc::AllocError;
 use xs_semantics::focus::Focus;
-use xs_sheet::body::{Binding, Body};
+use xs_sheet::body::Binding;
 use xs_trace::fault::Fault;
 use xs_trace::item::Site;
 use xs_trace::recorder::{Halt, Recorder};
@@ -32,313 +26,262 @@ use xs_trace::text::TextBuf;
 use xs_tree::{Kind, Node};
 use xs_value::keys::KeyFinder;
 
-/// The template of a number begins, one level deeper (6).
-pub(crate) fn enter_named<'a, K: KeyFinder, R: Recorder<Task = Task<'a>>>(
-    world: &World<'a, K>,
-    template: u32,
-    passed: Passed<'a>,
-    site: Site,
-    focus: Focus,
-    stack: &mut Stack<'a>,
-    recorder: &R,
-) -> Result<(), Halt>
-    requires node { focus.node < length world.now.tree }
-    requires passed { All (IsIn world.now.tree) passed.values }
-    requires inside { AreIn world.now.tree stack.old }
-    ensures told { IsStepBy (λ u. stack_of stack.new)
-        (entering (named template passed.entry) world.now site focus (stack_of stack.old)
-        (R.state recorder.now)) result (R.state recorder.now) }
-    ensures inside { OnOk result (AreIn world.now.tree stack.new) }
-{
-    if focus.depth == 0 {
-        return Err(Halt::Fault(Fault::TooDeep, site));
-    }
-    let _recorder = recorder;
-    let focus = focus.with_depth(focus.depth - 1);
-    begin_template(world, template, passed, focus, stack)?;
-    Ok(())
-}
-
-/// The rule for the current node in a mode begins, one level deeper (5.5).
-pub(crate) fn enter_fitting<'a, K: KeyFinder, R: Recorder<Task = Task<'a>>>(
-    alloc: Global,
-    world: &World<'a, K>,
-    mode: u32,
-    passed: Passed<'a>,
-    site: Site,
-    focus: Focus,
-    stack: &mut Stack<'a>,
-    recorder: &mut R,
-) -> Result<(), Halt>
-    requires world { IsWorld world.now }
-    requires holes { IsSome world.now.grain → R.takes_holes ≡ true }
-    requires node { focus.node < length world.now.tree }
-    requires passed { All (IsIn world.now.tree) passed.values }
-    requires inside { AreIn world.now.tree stack.old }
-    ensures told { IsStepBy (λ u. stack_of stack.new)
-        (entering (fitting mode passed.entry) world.now site focus
-        (stack_of stack.old)
-        (R.state recorder.old)) result (R.state recorder.new) }
-    ensures kept { R.kept recorder.new ≡ R.kept recorder.old }
-    ensures inside { OnOk result (AreIn world.now.tree stack.new) }
-{
-    if focus.depth == 0 {
-        return Err(Halt::Fault(Fault::TooDeep, site));
-    }
-    let focus = focus.with_depth(focus.depth - 1);
-    let rule = rule_for(alloc, world, mode, focus.node)?;
-    begin_rule(
-        alloc, world, rule, mode, passed, site, focus, stack, recorder,
-    )
-}
-
-/// The rule that the current one overrides begins, one level deeper (5.6).
-pub(crate) fn enter_overridden<'a, K: KeyFinder, R: Recorder<Task = Task<'a>>>(
-    alloc: Global,
-    world: &World<'a, K>,
-    current: u32,
-    site: Site,
-    focus: Focus,
-    stack: &mut Stack<'a>,
-    recorder: &mut R,
-) -> Result<(), Halt>
-    requires world { IsWorld world.now }
-    requires holes { IsSome world.now.grain → R.takes_holes ≡ true }
-    requires node { focus.node < length world.now.tree }
-    requires inside { AreIn world.now.tree stack.old }
-    ensures told { IsStepBy (λ u. stack_of stack.new)
-        (entering (overridden current) world.now site focus (stack_of stack.old)
-        (R.state recorder.old)) result (R.state recorder.new) }
-    ensures kept { R.kept recorder.new ≡ R.kept recorder.old }
-    ensures inside { OnOk result (AreIn world.now.tree stack.new) }
-{
-    if focus.depth == 0 {
-        return Err(Halt::Fault(Fault::TooDeep, site));
-    }
-    let focus = focus.with_depth(focus.depth - 1);
-    let rule = import_for(alloc, world, current, focus)?;
-    let passed = Passed::none();
-    begin_rule(
-        alloc, world, rule, focus.mode, passed, site, focus, stack, recorder,
-    )
-}
-
-/// A rule begins: a template, which is then the current rule, or a built-in one.
-fn begin_rule<'a, K: KeyFinder, R: Recorder<Task = Task<'a>>>(
-    alloc: Global,
-    world: &World<'a, K>,
-    rule: Option<u32>,
-    mode: u32,
-    passed: Passed<'a>,
-    site: Site,
-    focus: Focus,
-    stack: &mut Stack<'a>,
-    recorder: &mut R,
-) -> Result<(), Halt>
-    requires world { IsWorld world.now }
-    requires holes { IsSome world.now.grain → R.takes_holes ≡ true }
-    requires node { focus.node < length world.now.tree }
-    requires passed { All (IsIn world.now.tree) passed.values }
-    requires inside { AreIn world.now.tree stack.old }
-    ensures told { IsStepBy (λ u. stack_of stack.new)
-        (rule_begun rule world.now mode passed.entry site focus (stack_of stack.old)
-        (R.state recorder.old)) result (R.state recorder.new) }
-    ensures kept { R.kept recorder.new ≡ R.kept recorder.old }
-    ensures inside { OnOk result (AreIn world.now.tree stack.new) }
-{
-    match rule {
-        Some(rule) => {
-            begin_template(world, rule, passed, focus.by_rule(rule, mode), stack)?;
-            Ok(())
+impl<'a, K: KeyFinder> Evaluator<'a, K> {
+    /// The template of a number begins, one level deeper (6).
+    pub(crate) fn enter_named<R: Recorder<Task = Task<'a>>>(
+        &mut self,
+        template: u32,
+        passed: Passed<'a>,
+        site: Site,
+        focus: Focus,
+        recorder: &R,
+    ) -> Result<(), Halt>
+        requires node { focus.node < length self.old.world.tree }
+        requires passed { AreValues self.old.world.tree passed.values }
+        ensures told { IsStepBy (λ u. self.new)
+            (entering (named template passed.entry) site focus self.old
+            (R.state recorder.now)) result (R.state recorder.now) }
+    {
+        let _recorder = recorder;
+        if focus.depth == 0 {
+            return Err(Halt::Fault(Fault::TooDeep, site));
         }
-        None => begin_built_in(alloc, world, mode, site, focus, stack, recorder),
+        let focus = self.in_template(focus);
+        self.begin_template(template, passed, focus)?;
+        Ok(())
     }
-}
 
-/// A built-in rule begins (5.8).
-fn begin_built_in<'a, K: KeyFinder, R: Recorder<Task = Task<'a>>>(
-    alloc: Global,
-    world: &World<'a, K>,
-    mode: u32,
-    site: Site,
-    focus: Focus,
-    stack: &mut Stack<'a>,
-    recorder: &mut R,
-) -> Result<(), Halt>
-    requires world { IsWorld world.now }
-    requires holes { IsSome world.now.grain → R.takes_holes ≡ true }
-    requires node { focus.node < length world.now.tree }
-    requires inside { AreIn world.now.tree stack.old }
-    ensures told { IsStepBy (λ u. stack_of stack.new)
-        (built_in_begun world.now mode site focus
-        (at world.now.tree focus.node) (stack_of stack.old)
-        (R.state recorder.old)) result (R.state recorder.new) }
-    ensures kept { R.kept recorder.new ≡ R.kept recorder.old }
-    ensures inside { OnOk result (AreIn world.now.tree stack.new) }
-{
-    match world.tree.kind(Node::at(focus.node)) {
-        Kind::Root | Kind::Element => {
-            apply_to_children(alloc, world, mode, site, focus, stack, recorder)
+    /// The rule for the current node in a mode begins, one level deeper (5.5).
+    pub(crate) fn enter_fitting<R: Recorder<Task = Task<'a>>>(
+        &mut self,
+        rules: Rules<'a>,
+        site: Site,
+        focus: Focus,
+        recorder: &mut R,
+    ) -> Result<(), Halt>
+        requires holes { IsSome self.old.world.grain → R.takes_holes ≡ true }
+        requires node { focus.node < length self.old.world.tree }
+        requires passed { AreValues self.old.world.tree rules.passed.values }
+        ensures told { IsStepBy (λ u. self.new)
+            (entering (fitting rules.entry.mode rules.entry.passed) site focus self.old
+            (R.state recorder.old)) result (R.state recorder.new) }
+        ensures kept { R.kept recorder.new ≡ R.kept recorder.old }
+    {
+        if focus.depth == 0 {
+            return Err(Halt::Fault(Fault::TooDeep, site));
         }
-        Kind::Text | Kind::Attribute => { put_own_text(alloc, world, site, focus, stack, recorder) }
-        Kind::Space | Kind::Comment | Kind::Pi => Ok(()),
+        let focus = self.in_template(focus);
+        let rule = self.rule_for(rules.mode, focus.node)?;
+        self.begin_rule(rule, rules, site, focus, recorder)
     }
-}
 
-/// Templates begin in the same mode for the children of the current node (5.8).
-fn apply_to_children<'a, K: KeyFinder, R: Recorder<Task = Task<'a>>>(
-    alloc: Global,
-    world: &World<'a, K>,
-    mode: u32,
-    site: Site,
-    focus: Focus,
-    stack: &mut Stack<'a>,
-    recorder: &mut R,
-) -> Result<(), Halt>
-    requires world { IsWorld world.now }
-    requires holes { IsSome world.now.grain → R.takes_holes ≡ true }
-    requires node { focus.node < length world.now.tree }
-    requires inside { AreIn world.now.tree stack.old }
-    ensures told { IsStepBy (λ u. stack_of stack.new)
-        (applied_begun world.now mode no_params site focus
-        (children world.now.tree focus.node) (stack_of stack.old)
-        (R.state recorder.old)) result (R.state recorder.new) }
-    ensures kept { R.kept recorder.new ≡ R.kept recorder.old }
-    ensures inside { OnOk result (AreIn world.now.tree stack.new) }
-{
-    let children = NodeList::List(children_of(alloc, world.tree, Node::at(focus.node))?);
-    let passed = Passed::none();
-    apply(
-        alloc, world, mode, passed, children, site, focus, stack, recorder,
-    )
-}
+    /// The rule that the current one overrides begins, one level deeper (5.6).
+    pub(crate) fn enter_overridden<R: Recorder<Task = Task<'a>>>(
+        &mut self,
+        current: u32,
+        site: Site,
+        focus: Focus,
+        recorder: &mut R,
+    ) -> Result<(), Halt>
+        requires holes { IsSome self.old.world.grain → R.takes_holes ≡ true }
+        requires node { focus.node < length self.old.world.tree }
+        ensures told { IsStepBy (λ u. self.new)
+            (entering (overridden current) site focus self.old
+            (R.state recorder.old)) result (R.state recorder.new) }
+        ensures kept { R.kept recorder.new ≡ R.kept recorder.old }
+    {
+        if focus.depth == 0 {
+            return Err(Halt::Fault(Fault::TooDeep, site));
+        }
+        let focus = self.in_template(focus);
+        let rule = self.import_for(current, focus)?;
+        let rules = Rules {
+            mode: focus.mode,
+            passed: Passed::none(),
+        };
+        self.begin_rule(rule, rules, site, focus, recorder)
+    }
 
-/// The text of the current node is put (5.8).
-fn put_own_text<'a, K: KeyFinder, R: Recorder<Task = Task<'a>>>(
-    alloc: Global,
-    world: &World<'a, K>,
-    site: Site,
-    focus: Focus,
-    stack: &Stack<'a>,
-    recorder: &mut R,
-) -> Result<(), Halt>
-    requires node { focus.node < length world.now.tree }
-    ensures told { IsStepBy (λ u. stack_of stack.now)
-        (stays (chars_steps site (at world.now.tree focus.node).text (R.state recorder.old))
-        (stack_of stack.now)) result (R.state recorder.new) }
-    ensures kept { R.kept recorder.new ≡ R.kept recorder.old }
-{
-    let _stack = stack;
-    let text = TextBuf::of(alloc, world.tree.text(Node::at(focus.node)))?;
-    put_text(site, text, recorder)
-}
+    /// A rule begins: a template, which is then the current rule, or a built-in one.
+    fn begin_rule<R: Recorder<Task = Task<'a>>>(
+        &mut self,
+        rule: Option<u32>,
+        rules: Rules<'a>,
+        site: Site,
+        focus: Focus,
+        recorder: &mut R,
+    ) -> Result<(), Halt>
+        requires holes { IsSome self.old.world.grain → R.takes_holes ≡ true }
+        requires node { focus.node < length self.old.world.tree }
+        requires passed { AreValues self.old.world.tree rules.passed.values }
+        ensures told { IsStepBy (λ u. self.new)
+            (rule_begun rule rules.entry.mode rules.entry.passed site focus self.old
+            (R.state recorder.old)) result (R.state recorder.new) }
+        ensures kept { R.kept recorder.new ≡ R.kept recorder.old }
+    {
+        match rule {
+            Some(rule) => {
+                let focus = focus.by_rule(rule, rules.mode);
+                self.begin_template(rule, rules.passed, focus)?;
+                Ok(())
+            }
+            None => self.begin_built_in(rules.mode, site, focus, recorder),
+        }
+    }
 
-/// A template begins, with its parameters.
-fn begin_template<'a, K: KeyFinder>(
-    world: &World<'a, K>,
-    template: u32,
-    passed: Passed<'a>,
-    focus: Focus,
-    stack: &mut Stack<'a>,
-) -> Result<(), AllocError>
-    requires node { focus.node < length world.now.tree }
-    requires passed { All (IsIn world.now.tree) passed.values }
-    requires inside { AreIn world.now.tree stack.old }
-    ensures begun { OnOk result (stack_of stack.new ≡ template_begun
-        (slice_get world.now.sheet.templates template) passed.entry focus
-        (stack_of stack.old)) }
-    ensures inside { OnOk result (AreIn world.now.tree stack.new) }
-{
-    let sheet = world.sheet;
-    if let Some(template) = sheet.templates.as_slice().get(template as usize) {
-        stack.push(
-            world,
-            Frame::Params {
+    /// A built-in rule begins (5.8).
+    fn begin_built_in<R: Recorder<Task = Task<'a>>>(
+        &mut self,
+        mode: u32,
+        site: Site,
+        focus: Focus,
+        recorder: &mut R,
+    ) -> Result<(), Halt>
+        requires holes { IsSome self.old.world.grain → R.takes_holes ≡ true }
+        requires node { focus.node < length self.old.world.tree }
+        ensures told { IsStepBy (λ u. self.new)
+            (built_in_begun mode site focus
+            (at self.old.world.tree focus.node) self.old
+            (R.state recorder.old)) result (R.state recorder.new) }
+        ensures kept { R.kept recorder.new ≡ R.kept recorder.old }
+    {
+        match self.tree.kind(Node::at(focus.node)) {
+            Kind::Root | Kind::Element => self.apply_to_children(mode, site, focus, recorder),
+            Kind::Text | Kind::Attribute => self.put_own_text(site, focus, recorder),
+            Kind::Space | Kind::Comment | Kind::Pi => Ok(()),
+        }
+    }
+
+    /// Templates begin in the same mode for the children of the current node (5.8).
+    fn apply_to_children<R: Recorder<Task = Task<'a>>>(
+        &mut self,
+        mode: u32,
+        site: Site,
+        focus: Focus,
+        recorder: &mut R,
+    ) -> Result<(), Halt>
+        requires holes { IsSome self.old.world.grain → R.takes_holes ≡ true }
+        requires node { focus.node < length self.old.world.tree }
+        ensures told { IsStepBy (λ u. self.new)
+            (applied_begun mode no_params site focus
+            (children self.old.world.tree focus.node) self.old
+            (R.state recorder.old)) result (R.state recorder.new) }
+        ensures kept { R.kept recorder.new ≡ R.kept recorder.old }
+    {
+        let nodes = NodeList::List(self.children(focus)?);
+        let rules = Rules {
+            mode,
+            passed: Passed::none(),
+        };
+        self.apply(rules, nodes, site, focus, recorder)
+    }
+
+    /// The text of the current node is put (5.8).
+    fn put_own_text<R: Recorder<Task = Task<'a>>>(
+        &self,
+        site: Site,
+        focus: Focus,
+        recorder: &mut R,
+    ) -> Result<(), Halt>
+        requires node { focus.node < length self.now.world.tree }
+        ensures told { IsStep
+            (chars_steps site (at self.now.world.tree focus.node).text (R.state recorder.old))
+            result (R.state recorder.new) }
+        ensures kept { R.kept recorder.new ≡ R.kept recorder.old }
+    {
+        let text = TextBuf::of(self.alloc, self.tree.text(Node::at(focus.node)))?;
+        put_text(site, text, recorder)
+    }
+
+    /// A template begins, with its parameters.
+    fn begin_template(
+        &mut self,
+        template: u32,
+        passed: Passed<'a>,
+        focus: Focus,
+    ) -> Result<(), AllocError>
+        requires node { focus.node < length self.old.world.tree }
+        requires passed { AreValues self.old.world.tree passed.values }
+        ensures begun { OnOk result (self.new ≡ template_begun
+            (slice_get self.old.world.sheet.templates template) passed.entry focus self.old) }
+    {
+        let sheet = self.sheet;
+        if let Some(template) = sheet.templates.as_slice().get(template as usize) {
+            return self.push_params(ParamsLeft {
                 left: template.params.as_slice(),
                 passed,
                 body: &template.body,
                 scope: Scope::outer(focus),
-            },
-        )?;
-    }
-    Ok(())
-}
-
-/// The next parameter of a template, or its body (11.4).
-pub(crate) fn next_param<'a, K: KeyFinder, R: Recorder<Task = Task<'a>>>(
-    alloc: Global,
-    world: &World<'a, K>,
-    left: &'a [Binding],
-    passed: Passed<'a>,
-    body: &'a Body,
-    scope: Scope,
-    stack: &mut Stack<'a>,
-    recorder: &mut R,
-) -> Result<(), Halt>
-    requires world { IsWorld world.now }
-    requires holes { IsSome world.now.grain → R.takes_holes ≡ true }
-    requires node { scope.focus.node < length world.now.tree }
-    requires passed { All (IsIn world.now.tree) passed.values }
-    requires inside { AreIn world.now.tree stack.old }
-    ensures told { IsStepBy (λ u. stack_of stack.new)
-        (advanced world.now (params_left left.now passed.entry body.now scope)
-        (stack_of stack.old)
-        (R.state recorder.old)) result (R.state recorder.new) }
-    ensures kept { R.kept recorder.new ≡ R.kept recorder.old }
-    ensures inside { OnOk result (AreIn world.now.tree stack.new) }
-{
-    match left.split_first() {
-        None => {
-            stack.push(world, Frame::Rest(body.instrs.as_slice(), scope))?;
-            Ok(())
+            });
         }
-        Some((binding, behind)) => bind_param(
-            alloc, world, binding, behind, passed, body, scope, stack, recorder,
-        ),
+        Ok(())
     }
-}
 
-/// A parameter gets the value that is passed, or its own, before those behind it.
-fn bind_param<'a, K: KeyFinder, R: Recorder<Task = Task<'a>>>(
-    alloc: Global,
-    world: &World<'a, K>,
-    binding: &'a Binding,
-    behind: &'a [Binding],
-    passed: Passed<'a>,
-    body: &'a Body,
-    scope: Scope,
-    stack: &mut Stack<'a>,
-    recorder: &mut R,
-) -> Result<(), Halt>
-    requires world { IsWorld world.now }
-    requires holes { IsSome world.now.grain → R.takes_holes ≡ true }
-    requires node { scope.focus.node < length world.now.tree }
-    requires passed { All (IsIn world.now.tree) passed.values }
-    requires inside { AreIn world.now.tree stack.old }
-    ensures told { IsStepBy (λ u. stack_of stack.new)
-        (advanced world.now
-        (params_left (binding.now ∷ behind.now) passed.entry body.now scope) (stack_of stack.old)
-        (R.state recorder.old)) result (R.state recorder.new) }
-    ensures kept { R.kept recorder.new ≡ R.kept recorder.old }
-    ensures inside { OnOk result (AreIn world.now.tree stack.new) }
-{
-    let site = binding.site;
-    recorder.tick(site)?;
-    let value = passed.value(&binding.name)?;
-    stack.push(
-        world,
-        Frame::Params {
-            left: behind,
-            passed,
-            body,
-            scope: scope.bound()?,
-        },
-    )?;
-    match value {
-        None => bind(alloc, world, &binding.content, site, scope, stack, recorder),
-        Some(value) => {
-            stack.fill(world, value)?;
-            Ok(())
+    /// Puts the parameters that are left before the others, or else the body.
+    fn push_params(&mut self, left: ParamsLeft<'a>) -> Result<(), AllocError>
+        requires left { IsParams self.old.world.tree left }
+        ensures pushed { OnOk result (self.new ≡ pushed (params_first left.entry.left.now
+            left.entry.passed left.entry.body.now left.entry.scope ∷ []) self.old) }
+    {
+        if left.left.is_empty() {
+            self.push_body(left.body, left.scope)
+        } else {
+            self.push(Frame::Params(left))
+        }
+    }
+
+    /// The next parameter of a template, or its body (11.4).
+    pub(crate) fn next_param<R: Recorder<Task = Task<'a>>>(
+        &mut self,
+        left: ParamsLeft<'a>,
+        recorder: &mut R,
+    ) -> Result<(), Halt>
+        requires left { IsParams self.old.world.tree left }
+        ensures told { IsStepBy (λ u. self.new)
+            (advanced (params_work left.entry) self.old
+            (R.state recorder.old)) result (R.state recorder.new) }
+        ensures kept { R.kept recorder.new ≡ R.kept recorder.old }
+    {
+        match left.left.split_first() {
+            None => {
+                self.push_body(left.body, left.scope)?;
+                Ok(())
+            }
+            Some((binding, behind)) => {
+                let mut left = left;
+                left.left = behind;
+                self.bind_param(binding, left, recorder)
+            }
+        }
+    }
+
+    /// A parameter gets the value that is passed, or its own, before those that are left.
+    fn bind_param<R: Recorder<Task = Task<'a>>>(
+        &mut self,
+        binding: &'a Binding,
+        left: ParamsLeft<'a>,
+        recorder: &mut R,
+    ) -> Result<(), Halt>
+        requires left { IsParams self.old.world.tree left }
+        ensures told { IsStepBy (λ u. self.new)
+            (advanced (params_left (binding.now ∷ left.entry.left.now) left.entry.passed
+            left.entry.body.now left.entry.scope) self.old
+            (R.state recorder.old)) result (R.state recorder.new) }
+        ensures kept { R.kept recorder.new ≡ R.kept recorder.old }
+    {
+        let mut left = left;
+        let site = binding.site;
+        let scope = left.scope;
+        recorder.tick(site)?;
+        let value = left.passed.value(&binding.name)?;
+        left.scope = scope.bound()?;
+        self.push_params(left)?;
+        match value {
+            None => self.bind(&binding.content, site, scope, recorder),
+            Some(value) => {
+                self.fill(value)?;
+                Ok(())
+            }
         }
     }
 }

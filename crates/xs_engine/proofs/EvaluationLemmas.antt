@@ -20,7 +20,7 @@ use Rattle.xs_engine.specs.declared.reply.Reply.{Reply}
 use Rattle.xs_record.specs.declared.outcome.Outcome.{Outcome}
 use Rattle.xs_record.specs.declared.outcome.Part.{Part}
 use Rattle.xs_rules.specs.WhiteSpace.{stripped}
-use Rattle.xs_rules.specs.declared.index.RuleIndex.{RuleIndex}
+use Rattle.xs_semantics.specs.declared.index.SheetIndex.{SheetIndex}
 use Rattle.xs_sheet.specs.declared.declarations.StripRule.{StripRule}
 use Rattle.xs_sheet.specs.declared.sheet.Sheet.{Sheet}
 use Rattle.xs_trace.proofs.CutLemmas.{cut-longest}
@@ -61,7 +61,7 @@ from_stripped r job sheet rules source tree same is over =
     (subst (λ t. IfOk r (λ reply. IsEvaluatedOn job sheet t (reply_of reply))) stripped_all over)
 
 -- over some index
-pub over_index : {E : Type 0} (r : Result Reply E) (job : Job) (sheet : Sheet) (index : RuleIndex) (tree : List Record)
+pub over_index : {E : Type 0} (r : Result Reply E) (job : Job) (sheet : Sheet) (index : SheetIndex) (tree : List Record)
     → IfOk r (λ reply. IsEvaluated job (ground sheet index tree []) (reply_of reply)) → IfOk r (λ reply. IsEvaluatedOn job sheet tree (reply_of reply))
 over_index (Err e) job sheet index tree is = tt
 over_index (Ok reply) job sheet index tree is = (index, is)

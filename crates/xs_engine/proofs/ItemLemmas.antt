@@ -12,8 +12,6 @@ use Rattle.xs_trace.specs.declared.item.Item.TheVariants.{Run, Put, Say}
 use Rattle.xs_trace.specs.declared.item.Site.{Site}
 use Rattle.xs_trace.specs.Mark.{Trace, ticks, events_of, messages_of}
 use Rattle.xs_trace.specs.Kept.{marks_of, item_marks}
-use Rattle.xs_result.specs.Built.{built}
-use Rattle.xs_result.specs.Text.{text_in}
 use Rattle.xs_engine.specs.Answer.{message_line, message_lines}
 use Rattle.xs_engine.specs.Items.{events_in, item_event, item_line, messages_in}
 
@@ -58,13 +56,13 @@ pub lines_joined : (says more : List (List ℕ)) → message_lines (says ++ more
 lines_joined [] more = refl
 lines_joined (t ∷ ts) more = ap (λ x. message_line t ++ x) (lines_joined ts more) ∙ sym (append_assoc (message_line t) (message_lines ts) (message_lines more))
 
--- the text of the events that an iterator over them gave, appended to nothing
-pub drained_text : (items : List Item) (es : List (Bor Event)) (out before : List ℕ)
+-- what is written of the events that an iterator over them gave, appended to nothing
+pub drained : (bytes : List Event → List ℕ) (items : List Item) (es : List (Bor Event)) (out before : List ℕ)
     → Drains (YieldsFirstBy (λ (e : Bor Event). e.now) (λ (a : List Event). a)) (events_in items) es → before ≡ []
-    → out ≡ before ++ text_in (built (map (λ e. e.now) es)) → out ≡ text_in (built (events_in items))
-drained_text items es out before drains none is =
+    → out ≡ before ++ bytes (map (λ e. e.now) es) → out ≡ bytes (events_in items)
+drained bytes items es out before drains none is =
     let all : DrainsIf (YieldsFirstBy (λ (e : Bor Event). e.now) (λ (a : List Event). a)) (Unit {0}) (events_in items) es =
     (drains.1.0, drains.1.1, λ u. (drains.0, drains.1.2)) in
-    is ∙ ap (λ b. b ++ text_in (built (map (λ (e : Bor Event). e.now) es))) none
-    ∙ ap (λ x. text_in (built x))
+    is ∙ ap (λ b. b ++ bytes (map (λ (e : Bor Event). e.now) es)) none
+    ∙ ap bytes
     (items_from_drains es all (YieldsList-from_first (λ (e : Bor Event). e.now) (λ (a : List Event). a) (events_in items) refl))

@@ -2,7 +2,7 @@
 use Rattle.std.proofs.Common.{◌≡◌, ℕ, ◌-◌, List, [], Bool, true, false, sym, ap, subst, ◌∙◌}
 use Rattle.std.proofs.lemmas.Bool.{true≢false}
 use Rattle.xs_rules.specs.WhiteSpace.{stripped}
-use Rattle.xs_rules.specs.declared.index.RuleIndex.{RuleIndex}
+use Rattle.xs_semantics.specs.declared.index.SheetIndex.{SheetIndex}
 use Rattle.xs_sheet.specs.declared.sheet.Sheet.{Sheet}
 use Rattle.xs_trace.specs.Cut.{Cut, End, Whole, Fault, Needs, Spent, Full, cut}
 use Rattle.xs_trace.specs.Mark.{Trace}
@@ -45,7 +45,7 @@ one-cut : (sheet : Sheet) (t : Table) (c : Cut Task) (x y : Answer) → IsCutAns
 one-cut sheet t c x y p q = one-end sheet c.end c.passed _ _ x y p q
 
 -- ---- two indexes
-module _ (job : Job) (a : Sheet) (i j : RuleIndex) (rs : List Record) where
+module _ (job : Job) (a : Sheet) (i j : SheetIndex) (rs : List Record) where
   settling-one : (r s : Settled) → SettlesAll (ground a i rs []) job.given job.budget r → SettlesAll (ground a j rs []) job.given job.budget s → r ≡ s
   settling-one r s x y = one-settling (ground a j rs []) job.budget job.given r s (settling-same (ground a i rs []) j job.budget job.given r x) y
 

@@ -11,6 +11,7 @@ use Rattle.xs_sheet.specs.declared.declarations.Method.TheVariants.{Pyx, Text}
 use Rattle.xs_trace.specs.declared.event.Event.{Event}
 use Rattle.xs_trace.specs.Fault.{fault_number}
 use Rattle.xs_trace.specs.declared.item.Spot.{Spot}
+use Rattle.xs_writing.specs.Lines.{pyx}
 use Rattle.xs_engine.specs.declared.faults.TheConstants.{NOT_BUILT, UNREADABLE}
 use Rattle.xs_engine.specs.declared.reply.ReportedFault.{ReportedFault}
 use Rattle.xs_engine.specs.declared.status.TheConstants.{OK, USAGE, READ_FAULT, REFUSED, RUN_FAULT}
@@ -91,10 +92,10 @@ not_built name = refused_file NOT_BUILT name 0
 abbrev pub message_lines : List (List ℕ) → List ℕ
 message_lines texts = flat_map message_line texts
 
--- The bytes of a result, of the events that stay of these, as a method writes them: the text of the text nodes (XSLT 1.0, 16.3). PYX
--- lines are not supported, and no run comes to them.
+-- The bytes of a result, of the events that stay of these, as a method writes them: the lines of a document, or the text of the text
+-- nodes (XSLT 1.0, 16.3).
 abbrev pub result_of : Method → List Event → List ℕ
-result_of Pyx events = []
+result_of Pyx events = pyx events
 result_of Text events = text_in (built events)
 
 -- The evaluation came to its end: the result is that of these events.

@@ -13,18 +13,15 @@ use Rattle.xs_sheet.specs.declared.body.InstrKind.TheVariants.{ApplyTemplates, C
 use Rattle.xs_sheet.specs.declared.body.InstrKind.TheVariants.{Text, Element, Attribute, Comment, Pi, Message, Literal, Extension}
 use Rattle.xs_sheet.specs.declared.body.Passed.{Passed, Passed', Row_of-Binding, end_of-Binding, more_of-Binding}
 use Rattle.xs_sheet.specs.declared.body.When.{When, When'}
+use Rattle.xs_sheet.specs.declared.declarations.AttrSet.{AttrSet}
 use Rattle.xs_sheet.specs.declared.declarations.Global.{Global}
-use Rattle.xs_sheet.specs.declared.declarations.Method.{Method}
-use Rattle.xs_sheet.specs.declared.declarations.Method.TheVariants.{Pyx, Text as TextMethod}
 use Rattle.xs_sheet.specs.declared.declarations.Template.{Template}
 use Rattle.xs_sheet.specs.declared.sheet.Sheet.{Sheet}
 
 abbrev pub is_none : {A : Type 0} → List A → Bool
 is_none xs = length xs == 0
 
--- A body is built where none of its instructions is a copy (XSLT 1.0, 7.5 and 11.3), a number (7.7), or makes an element, an
--- attribute, a comment or a processing instruction (7.1.2 to 7.4), none is sorted (10), and no literal element has attributes of its
--- own or uses attribute sets (7.1.1, 7.1.4).
+-- A body is built where none of its instructions is a number (XSLT 1.0, 7.7), and none is sorted (10).
 abbrev mutual
   pub body_is_built : Body → Bool
   body_is_built (Body' n row) = row_is_built row
@@ -39,19 +36,19 @@ abbrev mutual
   kind_is_built ApplyImports = true
   kind_is_built (ForEach select sorts body) = is_none sorts && body_is_built body
   kind_is_built (ValueOf select) = true
-  kind_is_built (CopyOf select) = false
-  kind_is_built (Copy sets body) = false
+  kind_is_built (CopyOf select) = true
+  kind_is_built (Copy sets body) = body_is_built body
   kind_is_built (Number decl) = false
   kind_is_built (Choose choice) = choice_is_built choice
   kind_is_built (If test body) = body_is_built body
   kind_is_built (Text text) = true
-  kind_is_built (Element name sets body) = false
-  kind_is_built (Attribute name body) = false
-  kind_is_built (Comment body) = false
-  kind_is_built (Pi name body) = false
+  kind_is_built (Element name sets body) = body_is_built body
+  kind_is_built (Attribute name body) = body_is_built body
+  kind_is_built (Comment body) = body_is_built body
+  kind_is_built (Pi name body) = body_is_built body
   kind_is_built (Message terminate body) = body_is_built body
   kind_is_built (Variable' site name content) = content_is_built content
-  kind_is_built (Literal start body) = is_none start.sets && is_none start.attributes && body_is_built body
+  kind_is_built (Literal start body) = body_is_built body
   kind_is_built (Extension fallbacks) = fallbacks_are_built fallbacks
 
   pub content_is_built : Content → Bool
@@ -95,12 +92,9 @@ template_is_built t = list_all binding_is_built t.params && body_is_built t.body
 abbrev pub global_is_built : Global → Bool
 global_is_built g = binding_is_built g.binding
 
-abbrev pub writes_text : Method → Bool
-writes_text Pyx = false
-writes_text TextMethod = true
+abbrev pub set_is_built : AttrSet → Bool
+set_is_built s = list_all instr_is_built s.attributes
 
--- The result is text (16.3), and there are no keys (12.2), attribute sets (7.1.4) and aliases (7.1.1).
+-- There are no keys (12.2), and what its templates, attribute sets (7.1.4) and globals hold is built.
 abbrev pub is_built : Sheet → Bool
-is_built s =
-    writes_text s.method && is_none s.keys && is_none s.sets && is_none s.aliases && list_all template_is_built s.templates
-    && list_all global_is_built s.globals
+is_built s = is_none s.keys && list_all template_is_built s.templates && list_all set_is_built s.sets && list_all global_is_built s.globals

@@ -8,7 +8,7 @@ use Rattle.xs_engine.specs.Answer.{Answer, stopped_answer, whole_answer}
 use Rattle.xs_engine.specs.Inputs.{Document, joined}
 use Rattle.xs_engine.specs.Job.{Job}
 use Rattle.xs_rules.specs.WhiteSpace.{stripped}
-use Rattle.xs_rules.specs.declared.index.RuleIndex.{RuleIndex}
+use Rattle.xs_semantics.specs.declared.index.SheetIndex.{SheetIndex}
 use Rattle.xs_sheet.specs.declared.sheet.Sheet.{Sheet}
 use Rattle.xs_trace.specs.Cut.{Cut, End, Whole, Fault, Needs, Spent, Full, cut}
 use Rattle.xs_trace.specs.Kept.{spot}
@@ -46,7 +46,7 @@ pub data IsEvaluated (job : Job) (w : World) (answer : Answer) : Type 0 where
 
 -- Over a tree; by which index the rules of the stylesheet are found changes nothing.
 abbrev pub IsEvaluatedOn : Job → Sheet → List Record → Answer → Type 0
-IsEvaluatedOn job sheet records answer = (index : RuleIndex) × IsEvaluated job (ground sheet index records []) answer
+IsEvaluatedOn job sheet records answer = (index : SheetIndex) × IsEvaluated job (ground sheet index records []) answer
 
 -- over a tree of which white space is stripped first (3.4)
 abbrev pub IsEvaluatedFrom : Job → Sheet → List Record → Answer → Type 0

@@ -5,22 +5,20 @@ ghost use Rattle.std.specs.List.{list_all};
 ghost use Rattle.xs_engine.specs.Built.{binding_is_built, body_is_built, choice_is_built};
 ghost use Rattle.xs_engine.specs.Built.{content_is_built, fallbacks_are_built, global_is_built};
 ghost use Rattle.xs_engine.specs.Built.{instr_is_built, is_built, kind_is_built, passed_is_built};
-ghost use Rattle.xs_engine.specs.Built.{template_is_built, when_is_built};
+ghost use Rattle.xs_engine.specs.Built.{set_is_built, template_is_built, when_is_built};
 
 use xs_sheet::body::{Binding, Body, Choice, Content, Fallbacks, Instr, InstrKind, Passed, When};
-use xs_sheet::declarations::{Global, Method, Template};
+use xs_sheet::declarations::{AttrSet, Global, Template};
 use xs_sheet::sheet::Sheet;
 
-/// Whether a stylesheet is built: its result is text, it declares no key, attribute set or alias,
-/// and its templates and globals hold nothing that is not built.
+/// Whether a stylesheet is built: it declares no key, and its templates, attribute sets and globals
+/// hold nothing that is not built.
 pub fn is_built(sheet: &Sheet) -> bool
     ensures { result ≡ is_built sheet.now }
 {
-    sheet.method == Method::Text
-        && sheet.keys.as_slice().is_empty()
-        && sheet.sets.as_slice().is_empty()
-        && sheet.aliases.as_slice().is_empty()
+    sheet.keys.as_slice().is_empty()
         && templates_are_built(sheet.templates.as_slice())
+        && sets_are_built(sheet.sets.as_slice())
         && globals_are_built(sheet.globals.as_slice())
 }
 
@@ -41,6 +39,18 @@ fn template_is_built(template: &Template) -> bool
     ensures { result ≡ template_is_built template.now }
 {
     bindings_are_built(template.params.as_slice()) && body_is_built(&template.body)
+}
+
+/// Whether all of some attribute sets are: their attributes.
+fn sets_are_built(sets: &[AttrSet]) -> bool
+    ensures { result ≡ list_all set_is_built sets.now }
+{
+    for set in sets {
+        if !instrs_are_built(set.attributes.as_slice()) {
+            return false;
+        }
+    }
+    true
 }
 
 /// Whether all of some globals are.
@@ -93,16 +103,16 @@ fn kind_is_built(kind: &InstrKind) -> bool
         InstrKind::If { body, .. } => body_is_built(body),
         InstrKind::Message { body, .. } => body_is_built(body),
         InstrKind::Variable(binding) => content_is_built(&binding.content),
-        InstrKind::Literal { start, body } => {
-            start.sets.as_slice().is_empty()
-                && start.attributes.as_slice().is_empty()
-                && body_is_built(body)
-        }
+        InstrKind::Literal { body, .. } => body_is_built(body),
+        InstrKind::Copy { body, .. } => body_is_built(body),
+        InstrKind::Element { body, .. } => body_is_built(body),
+        InstrKind::Attribute { body, .. } => body_is_built(body),
+        InstrKind::Comment(body) => body_is_built(body),
+        InstrKind::Pi { body, .. } => body_is_built(body),
         InstrKind::Extension(fallbacks) => fallbacks_are_built(fallbacks),
         InstrKind::ApplyImports | InstrKind::ValueOf(_) | InstrKind::Text(_) => true,
-        InstrKind::CopyOf(_) | InstrKind::Copy { .. } | InstrKind::Number(_) => false,
-        InstrKind::Element { .. } | InstrKind::Attribute { .. } => false,
-        InstrKind::Comment(_) | InstrKind::Pi { .. } => false,
+        InstrKind::CopyOf(_) => true,
+        InstrKind::Number(_) => false,
     }
 }
 

@@ -11,6 +11,7 @@ ghost use Rattle.xs_engine.specs.Evaluation.{IsEvaluated, IsEvaluatedOn, IsEvalu
 ghost use Rattle.xs_engine.specs.Inputs.{named_document};
 ghost use Rattle.xs_engine.specs.Reply.{IsWholeOrEmpty, job_data, reply_of};
 ghost use Rattle.xs_rules.specs.Indexed.{IsIndex, IsPrepared};
+ghost use Rattle.xs_sets.specs.Indexed.{IsSetIndex};
 ghost use Rattle.xs_rules.specs.WhiteSpace.{stripped};
 ghost use Rattle.xs_sheet.specs.Sound.{IsSound};
 ghost use Rattle.xs_tree.specs.Stripping.{without};
@@ -23,8 +24,8 @@ use xs_block::pool::Pool;
 use xs_body::runner::SheetRunner;
 use xs_globals::settled::Settled;
 use xs_globals::settling::settle;
-use xs_rules::index::RuleIndex;
 use xs_rules::white_space::strip_space;
+use xs_semantics::index::SheetIndex;
 use xs_sheet::declarations::StripRule;
 use xs_sheet::sheet::Sheet;
 use xs_trace::item::{Ended, Limits};
@@ -80,14 +81,16 @@ fn evaluate_over(alloc: Global, job: &Job, sheet: &Sheet, tree: &Tree) -> Result
 }
 
 /// The index of a stylesheet's rules, prepared for a source.
-fn index_for<'a>(alloc: Global, sheet: &'a Sheet, tree: &Tree) -> Result<RuleIndex<'a>, AllocError>
+fn index_for<'a>(alloc: Global, sheet: &'a Sheet, tree: &Tree) -> Result<SheetIndex<'a>, AllocError>
     requires sound { IsSound sheet.now }
-    ensures index { IfOk result IsIndex }
-    ensures prepared { IfOk result (λ index. IsPrepared index tree.now) }
-    ensures templates { IfOk result (λ index. index.templates.now ≡ sheet.now.templates) }
+    ensures index { IfOk result (λ index. IsIndex index.rules) }
+    ensures prepared { IfOk result (λ index. IsPrepared index.rules tree.now) }
+    ensures templates { IfOk result
+        (λ index. index.rules.templates.now ≡ sheet.now.templates) }
+    ensures sets { IfOk result (λ index. IsSetIndex sheet.now.sets index.sets) }
 {
-    let mut index = RuleIndex::new(alloc, sheet)?;
-    index.prepare(alloc, tree)?;
+    let mut index = SheetIndex::new(alloc, sheet)?;
+    index.rules.prepare(alloc, tree)?;
     Ok(index)
 }
 
@@ -97,14 +100,15 @@ fn root_reply(
     alloc: Global,
     job: &Job,
     sheet: &Sheet,
-    index: &RuleIndex<'_>,
+    index: &SheetIndex<'_>,
     tree: &Tree,
     settled: &Settled,
 ) -> Result<Reply, AllocError>
     requires sound { IsSound sheet.now }
-    requires index { IsIndex index.now }
-    requires prepared { IsPrepared index.now tree.now }
-    requires templates { index.now.templates.now ≡ sheet.now.templates }
+    requires index { IsIndex index.now.rules }
+    requires prepared { IsPrepared index.now.rules tree.now }
+    requires templates { index.now.rules.templates.now ≡ sheet.now.templates }
+    requires sets { IsSetIndex sheet.now.sets index.now.sets }
     requires settled { SettlesAll (ground sheet.now index.now tree.now [])
         (job_data job.now).given job.now.budget (settled_of settled.now) }
     requires none { settled.now.end ≡ None }

@@ -1,4 +1,4 @@
-//! The text and the messages of a run, by its items.
+//! The result and the messages of a run, by its items.
 
 ghost use Rattle.std.specs.Iterator.{YieldsFirstBy, item_count};
 ghost use Rattle.std.specs.Prelude.{◌≡◌, ◌++◌, IfOk, OnOk, option_map};
@@ -7,6 +7,7 @@ ghost use Rattle.xs_result.specs.Built.{built};
 ghost use Rattle.xs_result.specs.Text.{text_in};
 ghost use Rattle.xs_engine.specs.Answer.{message_line, message_lines, result_of};
 ghost use Rattle.xs_engine.specs.Items.{events_in, item_event, item_line, messages_in};
+ghost use Rattle.xs_writing.specs.Lines.{pyx};
 
 use std::alloc::{AllocError, Global};
 use std::marker::Model;
@@ -18,6 +19,7 @@ use xs_text::escape_into;
 use xs_trace::event::Event;
 use xs_trace::item::Item;
 use xs_trace::text::TextBuf;
+use xs_writing::write_pyx;
 
 /// The events among some items that are still to come. Contracts see it as the list of them.
 #[derive(Drop)]
@@ -63,8 +65,7 @@ fn event_of(item: &Item) -> Option<&Event>
     }
 }
 
-/// The bytes of a result, of the events among the items, as a method writes them. PYX lines are not
-/// supported, and no run comes to them.
+/// The bytes of a result, of the events among the items, as a method writes them.
 pub fn result_bytes(
     alloc: Global,
     method: Method,
@@ -74,9 +75,19 @@ pub fn result_bytes(
         ≡ result_of method (events_in (items_of items.now))) }
 {
     match method {
-        Method::Pyx => Ok(Vec::new(alloc)),
+        Method::Pyx => result_lines(alloc, items),
         Method::Text => result_text(alloc, items),
     }
+}
+
+/// The lines of a result: of what stays of the events among the items.
+fn result_lines(alloc: Global, items: &Chain<Item>) -> Result<Vec<u8>, AllocError>
+    ensures { IfOk result (λ lines. lines.items ≡ pyx (events_in (items_of items.now))) }
+{
+    let mut lines = Vec::new(alloc);
+    let left = items.items();
+    write_pyx(&mut lines, Events { left })?;
+    Ok(lines)
 }
 
 /// The text of a result: of the text nodes that stay of the events among the items.

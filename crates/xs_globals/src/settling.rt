@@ -4,13 +4,14 @@ ghost use Rattle.std.specs.Prelude.{◌≡◌, ◌<◌, ◌≤◌, ◌∷◌, �
 ghost use Rattle.std.specs.Prelude.{slice_get, slice_set, None, Some, true};
 ghost use Rattle.std.specs.Prelude.{IfOk, OnOk, IsSome};
 ghost use Rattle.std.specs.List.{All};
-ghost use Rattle.xs_body.specs.Inside.{IsAttemptIn, IsWorld};
+ghost use Rattle.xs_body.specs.Inside.{IsAttemptIn};
 ghost use Rattle.xs_body.specs.Results.{IsAttempt};
 ghost use Rattle.xs_eval.specs.Conditions.{IsInIf};
 ghost use Rattle.xs_globals.specs.Results.{settled_by, settled_of};
 ghost use Rattle.xs_globals.specs.steps.Settling.{Continues, GoesOn, IsGoing, IsMarked, IsTurn};
 ghost use Rattle.xs_globals.specs.steps.Settling.{IsUnderWay, left_over, table_of};
 ghost use Rattle.xs_rules.specs.Indexed.{IsIndex, IsPrepared};
+ghost use Rattle.xs_sets.specs.Indexed.{IsSetIndex};
 ghost use Rattle.xs_semantics.specs.Globals.{Table as InTable};
 ghost use Rattle.xs_semantics.specs.Globals.{AllSettle, Settles, SettlesAll, attempt_cut};
 ghost use Rattle.xs_semantics.specs.Globals.{attempt_value, with_globals};
@@ -24,7 +25,7 @@ use std::alloc::{AllocError, Global};
 use xs_body::attempts::Attempt;
 use xs_body::runner::SheetRunner;
 use xs_body::world::World;
-use xs_rules::index::RuleIndex;
+use xs_semantics::index::SheetIndex;
 use xs_sheet::sheet::Sheet;
 use xs_trace::item::Spot;
 use xs_trace::text::TextBuf;
@@ -37,16 +38,17 @@ use xs_value::value::Value;
 pub fn settle<K: KeyFinder>(
     alloc: Global,
     sheet: &Sheet,
-    index: &RuleIndex<'_>,
+    index: &SheetIndex<'_>,
     tree: &Tree,
     keys: &K,
     given: &[(TextBuf, TextBuf)],
     budget: u64,
 ) -> Result<Settled, AllocError>
     requires sheet { IsSound sheet.now }
-    requires index { IsIndex index.now }
-    requires prepared { IsPrepared index.now tree.now }
-    requires templates { index.now.templates.now ≡ sheet.now.templates }
+    requires index { IsIndex index.now.rules }
+    requires prepared { IsPrepared index.now.rules tree.now }
+    requires templates { index.now.rules.templates.now ≡ sheet.now.templates }
+    requires sets { IsSetIndex sheet.now.sets index.now.sets }
     requires tables { TablesIn tree.now (K.tables keys.now) }
     ensures settles { IfOk result (λ z. SettlesAll (ground sheet.now index.now tree.now
         (K.tables keys.now)) given.now budget (settled_of z)) }
@@ -82,7 +84,6 @@ fn settle_in_turn<K: KeyFinder>(
     begun: &mut Vec<bool>,
     table: &mut Table,
 ) -> Result<Option<Spot>, AllocError>
-    requires world { IsWorld world.now }
     requires whole { world.now.grain ≡ None }
     requires going { IsGoing world.now budget begun.old.items (table_of table.old) }
     requires marked { IsMarked begun.old.items [] table.old.values.items }
@@ -109,7 +110,6 @@ fn settle_next<K: KeyFinder>(
     begun: &mut Vec<bool>,
     table: &mut Table,
 ) -> Result<Option<Spot>, AllocError>
-    requires world { IsWorld world.now }
     requires whole { world.now.grain ≡ None }
     requires going { IsGoing world.now budget begun.old.items (table_of table.old) }
     requires marked { IsMarked begun.old.items [] table.old.values.items }
@@ -134,7 +134,6 @@ fn settle_one<K: KeyFinder>(
     begun: &mut Vec<bool>,
     table: &mut Table,
 ) -> Result<Option<Spot>, AllocError>
-    requires world { IsWorld world.now }
     requires whole { world.now.grain ≡ None }
     requires lacks { slice_get table.old.values.items global ≡ Some None }
     requires going { IsGoing world.now budget begun.old.items (table_of table.old) }
@@ -165,7 +164,6 @@ fn take_turn<K: KeyFinder>(
     waiting: &mut Vec<u32>,
     table: &mut Table,
 ) -> Result<Option<Spot>, AllocError>
-    requires world { IsWorld world.now }
     requires whole { world.now.grain ≡ None }
     requires going { IsGoing world.now budget begun.old.items (table_of table.old) }
     ensures turn { IfOk result (λ end. (global : ℕ) → (first : InTable) →
@@ -211,7 +209,6 @@ fn try_global<K: KeyFinder>(
     begun: &[bool],
     table: &mut Table,
 ) -> Result<Turn, AllocError>
-    requires world { IsWorld world.now }
     requires whole { world.now.grain ≡ None }
     requires values { All (IsInIf world.now.tree) table.old.values.items }
     ensures turn { IfOk result (IsTurn world.now budget begun.now global
@@ -247,7 +244,6 @@ fn attempt_over<K: KeyFinder>(
     global: u32,
     limit: u64,
 ) -> Result<Attempt, AllocError>
-    requires world { IsWorld world.now }
     requires whole { world.now.grain ≡ None }
     requires values { All (IsInIf world.now.tree) values.now }
     ensures attempt { IfOk result (IsAttempt

@@ -11,5 +11,6 @@ mod texts;
 
 pub use copies::copy_events;
 pub use ends::MakeEnd;
+pub use labels::{XML_URI, put_label, put_prefix};
 pub use names::{pi_target, result_name};
 pub use texts::{comment_text, pi_text};

@@ -13,7 +13,7 @@ use Rattle.xs_value.specs.declared.value.Value.{Value}
 use Rattle.xs_semantics.specs.declared.focus.Focus.{Focus}
 use Rattle.xs_semantics.specs.World.{World, at_node, captured_in, with_grain}
 use Rattle.xs_semantics.specs.Tasks.{Job, Task, with_node, task_behind, shared, below}
-use Rattle.xs_semantics.specs.Trace.{each, spread_by, spread, body_trace, called, job_trace, task_trace}
+use Rattle.xs_semantics.specs.Trace.{each, spread_by, spread, body_trace, calls_at, job_trace, task_trace}
 use Rattle.xs_semantics.proofs.HoleLemmas.{HasNoHole, none-then, none-captured, none-tasks}
 use Rattle.xs_semantics.proofs.SideLemmas.{IsKept, body-keeps, calls-keep, task-keeps}
 
@@ -51,13 +51,13 @@ module _ (v : World) where
   Filling t = task_trace v t
 
   abbrev Over : Task → List ℕ → Trace Task
-  Over t ns = each t.site (job_trace t.job v (called v t.focus.depth) t.site) t.focus t.first ns
+  Over t ns = each t.site (job_trace t.job v (calls_at v t.focus) t.site) t.focus t.first ns
 
   shared-filled : (grain room : ℕ) (t : Task) (ns : List ℕ) → fill Filling (map Hole (shared grain room t ns)) ≡ Over t (t.nodes ++ ns)
   shared-filled grain room t [] = then-nil (Filling t) ∙ ap (λ ns. Over t ns) (sym (append-nil t.nodes))
   shared-filled grain zero t (n ∷ ns) =
       ap (λ z. Filling t ⨾ z) (shared-filled grain (grain - 1) (task_behind t n) ns)
-      ∙ sym (each-joined t.site (job_trace t.job v (called v t.focus.depth) t.site) t.focus t.first t.nodes (n ∷ ns))
+      ∙ sym (each-joined t.site (job_trace t.job v (calls_at v t.focus) t.site) t.focus t.first t.nodes (n ∷ ns))
   shared-filled grain (suc room) t (n ∷ ns) = shared-filled grain room (with_node t n) ns ∙ ap (λ ms. Over t ms) (append_assoc t.nodes (n ∷ []) ns)
 
 -- a trace whose holes are filled; in captured content there are none
@@ -123,7 +123,7 @@ module _ (w : World) where
 
   spreads-fill : (job : Job) (p : Site) (g : Focus) (ns : List ℕ) (x v : Focus → Trace Task) →
       ((n i : ℕ) → Fills (Filling Alone) g.is_captured (x (at_node n i g)) (v (at_node n i g))) →
-      ((n i : ℕ) → v (at_node n i g) ≡ job_trace job Alone (called Alone g.depth) p (at_node n i g)) →
+      ((n i : ℕ) → v (at_node n i g) ≡ job_trace job Alone (calls_at Alone g) p (at_node n i g)) →
       Fills (Filling Alone) g.is_captured (spread w job p x g ns) (spread Alone job p v g ns)
   spreads-fill job p g ns x v e same = by_capture g.is_captured e
     where
@@ -132,7 +132,7 @@ module _ (w : World) where
       by_grain None a = each-fills (Filling Alone) false p x v g a 1 ns
       by_grain (Some grain) a =
           shared-filled Alone grain grain (record { job = job; site = p; focus = g; first = 1; nodes = [] }) ns
-          ∙ sym (each-same p v (job_trace job Alone (called Alone g.depth) p) g same 1 ns)
+          ∙ sym (each-same p v (job_trace job Alone (calls_at Alone g) p) g same 1 ns)
 
       by_capture : (b : Bool) → ((n i : ℕ) → Fills (Filling Alone) b (x (at_node n i g)) (v (at_node n i g))) →
           Fills (Filling Alone) b (spread_by (cond b None (below (length ns) w.grain)) job p x g ns) (spread_by (cond b None None) job p v g ns)
@@ -156,9 +156,9 @@ module _ (w : World) where
   task-filled t =
       any-fills (Filling Alone) t.focus.is_captured (task_trace w t) (task_trace Alone t) (task-keeps w None w.index (Fills (Filling Alone)) kept t)
 
-  pub captured-leaves : (body : Body) (f : Focus) (vs : List Value) → tasks_of (body_trace body w (called w f.depth) (captured_in f) vs) ≡ []
+  pub captured-leaves : (body : Body) (f : Focus) (vs : List Value) → tasks_of (body_trace body w (calls_at w f) (captured_in f) vs) ≡ []
   captured-leaves body f vs =
-      let keeps : Fills (Filling Alone) true (body_trace body w (called w f.depth) (captured_in f) vs)
-      (body_trace body Alone (called Alone f.depth) (captured_in f) vs)
-      = body-keeps w None w.index (Fills (Filling Alone)) kept body (captured_in f) (calls-keep w None w.index (Fills (Filling Alone)) kept f.depth) vs in
-      none-tasks (body_trace body w (called w f.depth) (captured_in f) vs) keeps.1
+      let keeps : Fills (Filling Alone) true (body_trace body w (calls_at w f) (captured_in f) vs)
+      (body_trace body Alone (calls_at Alone f) (captured_in f) vs)
+      = body-keeps w None w.index (Fills (Filling Alone)) kept body (captured_in f) (calls-keep w None w.index (Fills (Filling Alone)) kept f) vs in
+      none-tasks (body_trace body w (calls_at w f) (captured_in f) vs) keeps.1

@@ -10,11 +10,11 @@ use Rattle.xs_trace.specs.declared.fault.Fault.TheVariants as fault
 use Rattle.xs_trace.specs.declared.item.Site.{Site}
 use Rattle.xs_value.specs.declared.value.Value.{Value}
 use Rattle.xs_value.specs.declared.value.Value.TheVariants.{Piece}
-use Rattle.xs_rules.specs.declared.index.RuleIndex.{RuleIndex}
+use Rattle.xs_semantics.specs.declared.index.SheetIndex.{SheetIndex}
 use Rattle.xs_semantics.specs.declared.focus.Focus.{Focus}
 use Rattle.xs_semantics.specs.World.{World, at_node, with_index}
 use Rattle.xs_semantics.specs.Tasks.{Job, Task, grain_over}
-use Rattle.xs_semantics.specs.Trace.{each, spread_by, fragment_of, task_trace, most_depth}
+use Rattle.xs_semantics.specs.Trace.{each, spread_by, fragment_of, task_trace}
 use Rattle.xs_semantics.specs.Globals.{Table, Settled, settled, ended, Settles, AllSettle, SettlesAll, tried, with_globals, with_passed, with_value}
 use Rattle.xs_semantics.specs.Globals.{attempt_trace, attempt_value, content_value, global_focus}
 use Rattle.xs_semantics.specs.Globals as settles
@@ -38,7 +38,7 @@ same-spread : (o : Option ℕ) (job : Job) (p : Site) (x v : Focus → Trace Tas
 same-spread None job p x v f ns e = same-each p x v f e 1 ns
 same-spread (Some grain) job p x v f ns e = refl
 
-module _ (w : World) (index : RuleIndex) where
+module _ (w : World) (index : SheetIndex) where
   abbrev V : World
   V = with_index index w
 
@@ -61,7 +61,7 @@ module _ (w : World) (index : RuleIndex) where
   pub attempt-same : (g : Option Global) → attempt_trace V g ≡ attempt_trace w g
   attempt-same None = refl
   attempt-same (Some g) =
-      sym (content-keeps w w.grain index Same kept g.binding.content g.binding.site global_focus (calls-keep w w.grain index Same kept most_depth) []
+      sym (content-keeps w w.grain index Same kept g.binding.content g.binding.site (global_focus w) (calls-keep w w.grain index Same kept (global_focus w)) []
       (λ u k v. []) (λ v. refl))
 
   content-same : (content : Content) → content_value V content ≡ content_value w content
@@ -69,14 +69,14 @@ module _ (w : World) (index : RuleIndex) where
   content-same (Select e) = refl
   content-same (Fragment body) =
       ap (λ x. Piece (fragment_of (events_of x)))
-      (sym (body-keeps w w.grain index Same kept body global_focus (calls-keep w w.grain index Same kept most_depth) []))
+      (sym (body-keeps w w.grain index Same kept body (global_focus w) (calls-keep w w.grain index Same kept (global_focus w)) []))
 
   pub value-same : (g : Option Global) → attempt_value V g ≡ attempt_value w g
   value-same None = refl
   value-same (Some g) = content-same g.binding.content
 
 -- settling
-module _ (w : World) (index : RuleIndex) (budget : ℕ) where
+module _ (w : World) (index : SheetIndex) (budget : ℕ) where
   abbrev U : World
   U = with_index index w
 

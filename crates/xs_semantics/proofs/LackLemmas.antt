@@ -1,10 +1,11 @@
--- The run of an expression lacks a global variable only where that is there without a value.
+-- The run of an expression, and of a value template, lacks a global variable only where that is there without a value.
 use Rattle.std.proofs.Common.{◌≡◌, ℕ, ◌++◌, List, [], ◌∷◌, Bool, true, false, cond, length, Option, Some, None, Ok, Err, slice_get, sym, ap}
 use Rattle.std.specs.List.{enumerate_from}
 use Rattle.xs_trace.specs.Run.{Run, Answer, Gives, Faults, Lacks, go_on, give, fold}
 use Rattle.xs_trace.specs.declared.fault.Fault.{Fault}
 use Rattle.xs_value.specs.declared.value.Value.{Value}
 use Rattle.xs_value.specs.declared.value.Value.TheVariants.{Nodes}
+use Rattle.xs_value.specs.Conversion.{text_value}
 use Rattle.xs_value.specs.NodeSet.{in_order}
 use Rattle.xs_value.specs.Tables.{Table, table_at}
 use Rattle.xs_xpath.specs.declared.name.Function.{Function}
@@ -15,6 +16,7 @@ use Rattle.xs_xpath.specs.declared.name.Slot.TheVariants.{Local, Global}
 use Rattle.xs_xpath.specs.declared.token.Operator.{Operator}
 use Rattle.xs_tree.specs.declared.axes.Axis.{Axis}
 use Rattle.xs_tree.specs.declared.axes.Axis.TheVariants.{DescendantOrSelf}
+use Rattle.xs_xpath.specs.Templates.{Part, text, computed}
 use Rattle.xs_xpath.specs.Tree as syntax
 use Rattle.xs_xpath.specs.Tree.{Tree, Trees, no_trees, first_tree}
 use Rattle.xs_eval.specs.Calls.{called, is_key}
@@ -28,6 +30,7 @@ use Rattle.xs_eval.specs.Paths.{Meaning, all_filtered, and_from, filter_expr, fi
 use Rattle.xs_eval.specs.Paths.{tested}
 use Rattle.xs_eval.specs.Paths.{through}
 use Rattle.xs_eval.specs.Results.{Outcome, given, nodes_in}
+use Rattle.xs_eval.specs.Templates.{and_part, template}
 
 -- what an answer lacks is without a value
 abbrev pub LacksOnly : {A : Type 0} → List (Option Value) → Answer A → Type 0
@@ -184,7 +187,7 @@ module _ (gs : List (Option Value)) where
   mutual
     pub tree-settles : (keys : List Table) (e : Tree) → Settles (run_of_tree keys e)
     tree-settles keys (syntax.number n) c is = tt
-    tree-settles keys (syntax.literal text) c is = tt
+    tree-settles keys (syntax.literal bytes) c is = tt
     tree-settles keys (syntax.variable uri local slot) c is = variable-settles slot c is
     tree-settles keys (syntax.call function es) c is = call-settles keys function (runs_of_trees keys es) (trees-settle keys es) c is
     tree-settles keys (syntax.negative signs e) c is = negative-settles signs (run_of_tree keys e) (tree-settles keys e) c is
@@ -202,3 +205,12 @@ module _ (gs : List (Option Value)) where
     trees-settle : (keys : List Table) (es : Trees) → AllSettle (runs_of_trees keys es)
     trees-settle keys no_trees = tt
     trees-settle keys (first_tree e es) = (tree-settles keys e, trees-settle keys es)
+
+  -- value templates
+  part-value : (keys : List Table) (c : Context) → c.globals ≡ gs → (before : List ℕ) (part : Part) → HasValue (and_part keys c before part).end
+  part-value keys c e before (text fixed) = tt
+  part-value keys c e before (computed tree) =
+      value-then (run_of_tree keys tree c) (λ v. give (before ++ text_value c.tree v)) (tree-settles keys tree c e) (λ v. tt)
+
+  pub template-value : (keys : List Table) (parts : List Part) (c : Context) → c.globals ≡ gs → HasValue (template keys parts c).end
+  template-value keys parts c e = fold-value (and_part keys c) [] parts (λ before part. part-value keys c e before part)

@@ -5,3 +5,5 @@ pub mod GrainLemmas
 pub mod NeedLemmas
 pub mod CapturedLemmas
 pub mod IndexLemmas
+pub mod FullLemmas
+pub mod RankLemmas

@@ -12,7 +12,7 @@ use Rattle.xs_value.specs.declared.value.Value.{Value}
 use Rattle.xs_semantics.specs.declared.focus.Focus.{Focus}
 use Rattle.xs_semantics.specs.World.{World, at_node}
 use Rattle.xs_semantics.specs.Tasks.{Job, Task, tasks_for, grain_over}
-use Rattle.xs_semantics.specs.Trace.{each, spread_by, task_trace, most_depth}
+use Rattle.xs_semantics.specs.Trace.{each, spread_by, task_trace}
 use Rattle.xs_semantics.specs.Globals.{attempt_trace, global_focus}
 use Rattle.xs_semantics.specs.Laws.{NeedsOnly}
 use Rattle.xs_semantics.proofs.SideLemmas.{IsKept, content-keeps, calls-keep, task-keeps}
@@ -72,8 +72,8 @@ task-needs w t = task-keeps w w.grain w.index (Only w) (kept w) t
 pub attempt-needs : (w : World) (g : Option Global) → NeedsOnly w.globals (attempt_trace w g)
 attempt-needs w None = tt
 attempt-needs w (Some g) =
-    content-keeps w w.grain w.index (Only w) (kept w) g.binding.content g.binding.site global_focus
-    (calls-keep w w.grain w.index (Only w) (kept w) most_depth) []
+    content-keeps w w.grain w.index (Only w) (kept w) g.binding.content g.binding.site (global_focus w)
+    (calls-keep w w.grain w.index (Only w) (kept w) (global_focus w)) []
     (λ u k v. []) (λ v. tt)
 
 -- where a cut ends

@@ -7,49 +7,63 @@ use Rattle.xs_sheet.specs.declared.body.Choice.{Choice, Choice', Row_of-When, en
 use Rattle.xs_sheet.specs.declared.body.Content.{Content}
 use Rattle.xs_sheet.specs.declared.body.Content.TheVariants.{Empty, Select, Body as Fragment}
 use Rattle.xs_sheet.specs.declared.body.Fallbacks.{Fallbacks, Fallbacks', Row_of-Body, end_of-Body, more_of-Body}
+use Rattle.xs_sheet.specs.declared.body.Instr.{Instr}
 use Rattle.xs_sheet.specs.declared.body.InstrKind.{InstrKind, Variable'}
 use Rattle.xs_sheet.specs.declared.body.InstrKind.TheVariants.{ApplyTemplates, CallTemplate, ApplyImports, ForEach, ValueOf, CopyOf, Copy, Number, Choose, If}
 use Rattle.xs_sheet.specs.declared.body.InstrKind.TheVariants.{Text, Element, Attribute, Comment, Pi, Message, Literal, Extension}
 use Rattle.xs_sheet.specs.declared.body.LiteralStart.{LiteralStart}
+use Rattle.xs_sheet.specs.declared.body.MadeName.{MadeName}
 use Rattle.xs_sheet.specs.declared.body.Passed.{Passed, Passed', out-Passed, Row_of-Binding, end_of-Binding, more_of-Binding}
 use Rattle.xs_sheet.specs.declared.body.When.{When'}
+use Rattle.xs_sheet.specs.declared.declarations.AttrSet.{AttrSet}
 use Rattle.xs_sheet.specs.declared.declarations.Template.{Template}
 use Rattle.xs_sheet.specs.declared.scoped.ScopedExpr.{ScopedExpr}
+use Rattle.xs_sheet.specs.declared.scoped.ValueTemplate.{ValueTemplate}
 use Rattle.xs_trace.specs.Event.{text_of}
+use Rattle.xs_trace.specs.Label.{Label}
 use Rattle.xs_trace.specs.Mark.{Tick, Put, Say, Stop, Need, Trace, ◌⨾◌, captured}
 use Rattle.xs_trace.specs.Mark as mark
-use Rattle.xs_trace.specs.Run.{Run, Answer, Gives, Faults, Lacks, give, on_answer, evaluated}
+use Rattle.xs_trace.specs.Run.{Run, Answer, Gives, Faults, Lacks, give, on_answer, evaluated, ◌>>=◌}
 use Rattle.xs_trace.specs.declared.event.Event.{Event}
-use Rattle.xs_trace.specs.declared.event.Event.TheVariants.{Start, Space, Chars, End}
+use Rattle.xs_trace.specs.declared.event.Event.TheVariants.{Start, Chars, End}
 use Rattle.xs_trace.specs.declared.fault.Fault.{Fault}
 use Rattle.xs_trace.specs.declared.fault.Fault.TheVariants as fault
 use Rattle.xs_trace.specs.declared.item.Site.{Site}
-use Rattle.xs_tree.specs.Kinds.{has_content, is_attribute_kind, is_text_kind}
+use Rattle.xs_tree.specs.Kinds.{has_content, is_attribute_kind, is_element_kind, is_root_kind, is_text_kind}
 use Rattle.xs_tree.specs.Record.{Record, at, children}
+use Rattle.xs_tree.specs.declared.kinds.Kind.{Kind}
 use Rattle.xs_value.specs.declared.value.Value.{Value}
 use Rattle.xs_value.specs.declared.value.Value.TheVariants.{Chars as String, Piece}
 use Rattle.xs_value.specs.Conversion.{bool_value, fragment_text, text_value}
 use Rattle.xs_eval.specs.Results.{given, nodes_in}
-use Rattle.xs_rules.specs.declared.index.RuleIndex.{RuleIndex}
+use Rattle.xs_making.specs.Copies.{shallow_copy}
+use Rattle.xs_making.specs.Names.{pi_target, result_name}
+use Rattle.xs_semantics.specs.declared.index.SheetIndex.{SheetIndex}
+use Rattle.xs_sets.specs.Declarations.{declarations_of}
 use Rattle.xs_semantics.specs.declared.focus.Focus.{Focus}
-use Rattle.xs_semantics.specs.World.{World, at_node, in_list, captured_in, with_depth, by_rule, without_rule, context, value_run, nodes_run, text_run, test_run}
-use Rattle.xs_semantics.specs.World.{nodes_or_children}
+use Rattle.xs_semantics.specs.declared.made.Made.{Made}
+use Rattle.xs_semantics.specs.declared.made.Made.TheVariants as made
+use Rattle.xs_semantics.specs.World.{World, all_set_levels, at_node, in_list, captured_in, with_levels, by_rule, without_rule, context}
+use Rattle.xs_semantics.specs.World.{nodes_or_children, nodes_run, template_run, test_run, text_run, value_run}
+use Rattle.xs_semantics.specs.Making.{made_events, attribute_events, attribute_label, content_text}
+use Rattle.xs_semantics.specs.Making.{element_label, literal_spaces, name_run, namespace_run, target_run, value_events}
 use Rattle.xs_semantics.specs.Tasks.{Params, no_params, value_passed, Job, body_job, rules_job, Task}
 use Rattle.xs_semantics.specs.Rules.{rule_for, import_for}
-use Rattle.xs_semantics.specs.Trace.{Entry, named, fitting, overridden, Calls, each, spread, applied, Called, by_number, by_rules, called_with, passing}
-use Rattle.xs_semantics.specs.Trace.{imports, puts, chars, says, ended_if, begins, fragment_of, instr_trace, body_trace, row_trace, content_trace}
+use Rattle.xs_semantics.specs.Trace.{Entry, named, fitting, overridden, using, Calls, each, spread, applied, Called, by_number, by_rules, called_with}
+use Rattle.xs_semantics.specs.Trace.{passing, imports, puts, puts_all, chars, says, ended_if, begins, literal_attributes, makes, fragment_of}
+use Rattle.xs_semantics.specs.Trace.{copied_content, copied_node, instr_trace, body_trace, row_trace, content_trace}
 use Rattle.xs_semantics.specs.Trace.{values_trace, choice_trace, whens_trace, fallbacks_trace, unless_none, bodies_trace, param_trace, params_trace}
-use Rattle.xs_semantics.specs.Trace.{template_trace, built_in, ruled, entered, called, job_trace, task_trace}
+use Rattle.xs_semantics.specs.Trace.{template_trace, built_in, ruled, instrs_trace, declared_trace, sets_trace, entered, called, job_trace, task_trace}
 use Rattle.xs_semantics.specs.Trace.{calls_at}
-use Rattle.xs_semantics.proofs.LackLemmas.{LacksOnly, value-then, given-value, tree-settles}
+use Rattle.xs_semantics.proofs.LackLemmas.{LacksOnly, value-then, given-value, template-value, tree-settles}
 
 -- the same, with another grain and another index
-abbrev pub beside : Option ℕ → RuleIndex → World → World
+abbrev pub beside : Option ℕ → SheetIndex → World → World
 beside grain index w = record w { index = index; grain = grain }
 
 -- A relation, which may be another one in captured content, that the parts of traces keep. A need is of a global without a value. In
 -- a run over nodes, what is done at each node with the second grain is the job of the run.
-pub record IsKept (w : World) (grain : Option ℕ) (index : RuleIndex) (R : Bool → Trace Task → Trace Task → Type 0) : Type 0 where
+pub record IsKept (w : World) (grain : Option ℕ) (index : SheetIndex) (R : Bool → Trace Task → Trace Task → Type 0) : Type 0 where
   pub nothing : (b : Bool) → R b [] []
   pub joins : (b : Bool) (x v y z : Trace Task) → R b x v → R b y z → R b (x ⨾ y) (v ⨾ z)
   pub ticks : (b : Bool) (p : Site) (x v : Trace Task) → R b x v → R b (Tick p ∷ x) (Tick p ∷ v)
@@ -61,12 +75,12 @@ pub record IsKept (w : World) (grain : Option ℕ) (index : RuleIndex) (R : Bool
       R b (captured x h) (captured v k)
   pub spreads : (job : Job) (p : Site) (f : Focus) (ns : List ℕ) (x v : Focus → Trace Task) →
       ((n i : ℕ) → R f.is_captured (x (at_node n i f)) (v (at_node n i f))) →
-      ((n i : ℕ) → v (at_node n i f) ≡ job_trace job (beside grain index w) (called (beside grain index w) f.depth) p (at_node n i f)) →
+      ((n i : ℕ) → v (at_node n i f) ≡ job_trace job (beside grain index w) (calls_at (beside grain index w) f) p (at_node n i f)) →
       R f.is_captured (spread w job p x f ns) (spread (beside grain index w) job p v f ns)
 
 -- expressions
 value-lacks : (w : World) (e : ScopedExpr) (f : Focus) (vs : List Value) → LacksOnly w.globals (value_run w e f vs).end
-value-lacks w e f vs = tree-settles w.globals w.keys e.expr (context w f vs e) refl
+value-lacks w e f vs = tree-settles w.globals w.keys e.expr (context w f vs e.scope) refl
 
 nodes-lack : (w : World) (e : ScopedExpr) (f : Focus) (vs : List Value) → LacksOnly w.globals (nodes_run w e f vs).end
 nodes-lack w e f vs = value-then w.globals (value_run w e f vs) (λ v. given (nodes_in v)) (value-lacks w e f vs) (λ v. given-value w.globals (nodes_in v))
@@ -81,7 +95,26 @@ children-lack : (w : World) (o : Option ScopedExpr) (f : Focus) (vs : List Value
 children-lack w None f vs = tt
 children-lack w (Some e) f vs = nodes-lack w e f vs
 
-module _ (w : World) (grain : Option ℕ) (index : RuleIndex) (R : Bool → Trace Task → Trace Task → Type 0) (keeps : IsKept w grain index R) where
+template-lacks : (w : World) (v : ValueTemplate) (f : Focus) (vs : List Value) → LacksOnly w.globals (template_run w v f vs).end
+template-lacks w v f vs = template-value w.globals w.keys v.parts (context w f vs v.scope) refl
+
+namespace-lacks : (w : World) (o : Option ValueTemplate) (f : Focus) (vs : List Value) → LacksOnly w.globals (namespace_run w o f vs).end
+namespace-lacks w None f vs = tt
+namespace-lacks w (Some v) f vs = value-then w.globals (template_run w v f vs) (λ uri. give (Some uri)) (template-lacks w v f vs) (λ uri. tt)
+
+name-lacks : (w : World) (b : Bool) (n : MadeName) (f : Focus) (vs : List Value) → LacksOnly w.globals (name_run w b n f vs).end
+name-lacks w b n f vs =
+    let named : List ℕ → Option (List ℕ) → Run Label = λ text uri. given (result_name n.scope b uri text) in
+    value-then w.globals (template_run w n.name f vs) (λ text. namespace_run w n.namespace f vs >>= named text) (template-lacks w n.name f vs)
+    (λ text. value-then w.globals (namespace_run w n.namespace f vs) (named text) (namespace-lacks w n.namespace f vs)
+    (λ uri. given-value w.globals (result_name n.scope b uri text)))
+
+target-lacks : (w : World) (name : ValueTemplate) (f : Focus) (vs : List Value) → LacksOnly w.globals (target_run w name f vs).end
+target-lacks w name f vs =
+    value-then w.globals (template_run w name f vs) (λ text. given (pi_target text)) (template-lacks w name f vs)
+    (λ text. given-value w.globals (pi_target text))
+
+module _ (w : World) (grain : Option ℕ) (index : SheetIndex) (R : Bool → Trace Task → Trace Task → Type 0) (keeps : IsKept w grain index R) where
   abbrev V : World
   V = beside grain index w
 
@@ -89,8 +122,12 @@ module _ (w : World) (grain : Option ℕ) (index : RuleIndex) (R : Bool → Trac
   abbrev Both : Focus → (World → Calls → Trace Task) → Type 0
   Both f x = R f.is_captured (x w (calls_at w f)) (x V (calls_at V f))
 
-  abbrev CallsKeep : ℕ → Type 0
-  CallsKeep d = (e : Entry) (p : Site) (f : Focus) → R f.is_captured (called w d e p f) (called V d e p f)
+  -- what is entered at these levels
+  abbrev CallsKeep : (depth set_levels : ℕ) → Type 0
+  CallsKeep d n = (e : Entry) (p : Site) (f : Focus) → R f.is_captured (called e w d n p f) (called e V d n p f)
+
+  abbrev Keep : Focus → Type 0
+  Keep f = CallsKeep f.depth f.set_levels
 
   joined : (f : Focus) (x y : World → Calls → Trace Task) → Both f x → Both f y → Both f (λ u k. x u k ⨾ y u k)
   joined f x y e o =
@@ -118,18 +155,13 @@ module _ (w : World) (grain : Option ℕ) (index : RuleIndex) (R : Bool → Trac
       by_test true = keeps.nothing b
       by_test false = puts-keep b p (Chars t)
 
-  spaces-keep : (b : Bool) (xs : List (List ℕ × List ℕ)) →
-      R b (map (λ x. Put (Space x.0 x.1)) xs) (map (λ x. Put (Space x.0 x.1)) xs)
-  spaces-keep b [] = keeps.nothing b
-  spaces-keep b (x ∷ xs) =
-      let others : Trace Task = map (λ y. Put (Space y.0 y.1)) xs in
-      keeps.joins b (Put (Space x.0 x.1) ∷ []) (Put (Space x.0 x.1) ∷ []) others others (keeps.puts b (Space x.0 x.1)) (spaces-keep b xs)
+  events-keep : (b : Bool) (p : Site) (es : List Event) → R b (puts_all p es) (puts_all p es)
+  events-keep b p [] = keeps.nothing b
+  events-keep b p (e ∷ es) = keeps.joins b (puts p e) (puts p e) (puts_all p es) (puts_all p es) (puts-keep b p e) (events-keep b p es)
 
-  begins-keeps : (b : Bool) (start : LiteralStart) → R b (begins start) (begins start)
-  begins-keeps b start =
-      let others : Trace Task = map (λ y. Put (Space y.0 y.1)) start.spaces in
-      keeps.joins b (Put (Start start.name) ∷ []) (Put (Start start.name) ∷ []) others others (keeps.puts b (Start start.name))
-      (spaces-keep b start.spaces)
+  -- an event, and what follows it
+  put-then : (f : Focus) (e : Event) (x : World → Calls → Trace Task) → Both f x → Both f (λ u k. Put e ∷ x u k)
+  put-then f e x h = joined f (λ u k. Put e ∷ []) x (keeps.puts f.is_captured e) h
 
   message-keeps : (b : Bool) (p : Site) (terminate : Bool) (t : List ℕ) → R b (says p t ⨾ ended_if terminate p) (says p t ⨾ ended_if terminate p)
   message-keeps b p terminate t =
@@ -152,6 +184,38 @@ module _ (w : World) (grain : Option ℕ) (index : RuleIndex) (R : Bool → Trac
   valued f p r h l e =
       ticks-keep f.is_captured p r.cost (on_answer p r.end (h w (calls_at w f))) (on_answer p r.end (h V (calls_at V f))) (answer-keeps f p r.end h l e)
 
+  -- what elements, attributes, comments and processing instructions are made of
+  inside-keeps : (f : Focus) → Keep f → (sets : List Label) (p : Site) (x : World → Calls → Trace Task) → Both f x →
+      Both f (λ u k. k (using sets) p f ⨾ (x u k ⨾ Put End ∷ []))
+  inside-keeps f d sets p x h =
+      joined f (λ u k. k (using sets) p f) (λ u k. x u k ⨾ Put End ∷ []) (d (using sets) p f)
+      (joined f x (λ u k. Put End ∷ []) h (keeps.puts f.is_captured End))
+
+  makes-keep : (f : Focus) (m : Made) (p : Site) (x : World → Calls → Trace Task) → Both (captured_in f) x → Both f (λ u k. makes m p (x u k))
+  makes-keep f m p x h =
+      let put : List Event → Trace Task = λ es. puts_all p (made_events m (content_text es)) in
+      keeps.captures f.is_captured (x w (calls_at w f)) (x V (calls_at V f)) put put h
+      (λ es. events-keep f.is_captured p (made_events m (content_text es)))
+
+  attributes-keep : (xs : List (Label × ValueTemplate)) (p : Site) (f : Focus) (vs : List Value) → Both f (λ u k. literal_attributes xs p u f vs)
+  attributes-keep [] p f vs = keeps.nothing f.is_captured
+  attributes-keep (a ∷ xs) p f vs =
+      let put : List ℕ → Trace Task = λ text. puts_all p (attribute_events (attribute_label w.sheet.aliases a.0) text) in
+      joined f (λ u k. evaluated p (template_run u a.1 f vs) put) (λ u k. literal_attributes xs p u f vs)
+      (valued f p (template_run w a.1 f vs) (λ u k. put) (template-lacks w a.1 f vs)
+      (λ text. events-keep f.is_captured p (attribute_events (attribute_label w.sheet.aliases a.0) text)))
+      (attributes-keep xs p f vs)
+
+  copied-keeps : (kind : Kind) (sets : List Label) (p : Site) (f : Focus) → Keep f → (x : World → Calls → Trace Task) → Both f x →
+      Both f (λ u k. copied_node kind sets u k p f (x u k))
+  copied-keeps kind sets p f d x h =
+      let element : World → Calls → Trace Task = λ u k. k (using sets) p f ⨾ (x u k ⨾ Put End ∷ []) in
+      let root : World → Calls → Trace Task = λ u k. cond (is_root_kind kind) (x u k) [] in
+      joined f (λ u k. puts_all p (shallow_copy w.tree f.node)) (λ u k. cond (is_element_kind kind) (element u k) (root u k))
+      (events-keep f.is_captured p (shallow_copy w.tree f.node))
+      (one-of f (is_element_kind kind) element root (inside-keeps f d sets p x h)
+      (one-of f (is_root_kind kind) x (λ u k. []) h (keeps.nothing f.is_captured)))
+
   -- runs over nodes, and what calls do
   pub each-keeps : (p : Site) (f : Focus) (x v : Focus → Trace Task) → ((n i : ℕ) → R f.is_captured (x (at_node n i f)) (v (at_node n i f))) →
       (i : ℕ) (ns : List ℕ) → R f.is_captured (each p x f i ns) (each p v f i ns)
@@ -161,16 +225,16 @@ module _ (w : World) (grain : Option ℕ) (index : RuleIndex) (R : Bool → Trac
       (keeps.joins f.is_captured (x (at_node n i f)) (v (at_node n i f)) (each p x f (i + 1) ns) (each p v f (i + 1) ns) (e n i)
       (each-keeps p f x v e (i + 1) ns))
 
-  applied-keeps : (mode : ℕ) (ps : Params) (p : Site) (f : Focus) → CallsKeep f.depth → (ns : List ℕ) → Both f (λ u k. applied u k mode ps p f ns)
+  applied-keeps : (mode : ℕ) (ps : Params) (p : Site) (f : Focus) → Keep f → (ns : List ℕ) → Both f (λ u k. applied u k mode ps p f ns)
   applied-keeps mode ps p f d ns =
       keeps.spreads (rules_job mode ps) p (in_list (length ns) f) ns (calls_at w f (fitting mode ps) p) (calls_at V f (fitting mode ps) p)
       (λ n i. d (fitting mode ps) p (at_node n i (in_list (length ns) f))) (λ n i. refl)
 
-  call-keeps : (callee : Called) (ps : Params) (p : Site) (f : Focus) → CallsKeep f.depth → Both f (λ u k. called_with u k callee ps p f)
+  call-keeps : (callee : Called) (ps : Params) (p : Site) (f : Focus) → Keep f → Both f (λ u k. called_with u k callee ps p f)
   call-keeps (by_number i) ps p f d = ticked f p (λ u k. k (named i ps) p f) (d (named i ps) p f)
   call-keeps (by_rules mode ns) ps p f d = applied-keeps mode ps p f d ns
 
-  imports-keep : (p : Site) (f : Focus) → CallsKeep f.depth → (o : Option ℕ) → Both f (λ u k. imports k p f o)
+  imports-keep : (p : Site) (f : Focus) → Keep f → (o : Option ℕ) → Both f (λ u k. imports k p f o)
   imports-keep p f d None = keeps.stops f.is_captured fault.NoRule p
   imports-keep p f d (Some rule) = ticked f p (λ u k. k (overridden rule) p f) (d (overridden rule) p f)
 
@@ -180,7 +244,7 @@ module _ (w : World) (grain : Option ℕ) (index : RuleIndex) (R : Bool → Trac
 
   -- instructions
   mutual
-    instr-keeps : (kind : InstrKind) (p : Site) (f : Focus) → CallsKeep f.depth → (vs : List Value) (next : World → Calls → List Value → Trace Task) →
+    instr-keeps : (kind : InstrKind) (p : Site) (f : Focus) → Keep f → (vs : List Value) (next : World → Calls → List Value → Trace Task) →
         ((us : List Value) → Both f (λ u k. next u k us)) → Both f (λ u k. instr_trace kind p u k f vs (next u k))
     instr-keeps (ApplyTemplates nodes passed) p f d vs next h =
         let x : World → Calls → List ℕ → Trace Task = λ u k ns. passing passed p u k f vs (λ ps. called_with u k (by_rules nodes.mode ns) ps p f) in
@@ -201,8 +265,14 @@ module _ (w : World) (grain : Option ℕ) (index : RuleIndex) (R : Bool → Trac
     instr-keeps (ValueOf select) p f d vs next h =
         joined f (λ u k. evaluated p (text_run u select f vs) (chars p)) (λ u k. next u k vs)
         (valued f p (text_run w select f vs) (λ u k. chars p) (text-lacks w select f vs) (λ t. chars-keep f.is_captured p t)) (h vs)
-    instr-keeps (CopyOf select) p f d vs next h = h vs
-    instr-keeps (Copy sets body) p f d vs next h = h vs
+    instr-keeps (CopyOf select) p f d vs next h =
+        let put : Value → Trace Task = λ v. puts_all p (value_events w.tree v) in
+        joined f (λ u k. evaluated p (value_run u select f vs) put) (λ u k. next u k vs)
+        (valued f p (value_run w select f vs) (λ u k. put) (value-lacks w select f vs) (λ v. events-keep f.is_captured p (value_events w.tree v))) (h vs)
+    instr-keeps (Copy sets body) p f d vs next h =
+        let x : World → Calls → Trace Task = λ u k. body_trace body u k f vs in
+        joined f (λ u k. copied_node (at w.tree f.node).kind sets u k p f (x u k)) (λ u k. next u k vs)
+        (copied-keeps (at w.tree f.node).kind sets p f d x (body-keeps body f d vs)) (h vs)
     instr-keeps (Number decl) p f d vs next h = h vs
     instr-keeps (Choose choice) p f d vs next h = joined f (λ u k. choice_trace choice p u k f vs) (λ u k. next u k vs) (choice-keeps choice p f d vs) (h vs)
     instr-keeps (If test body) p f d vs next h =
@@ -211,10 +281,28 @@ module _ (w : World) (grain : Option ℕ) (index : RuleIndex) (R : Bool → Trac
         (valued f p (test_run w test f vs) x (test-lacks w test f vs) (λ b.
         one-of f b (λ u k. body_trace body u k f vs) (λ u k. []) (body-keeps body f d vs) (keeps.nothing f.is_captured))) (h vs)
     instr-keeps (Text text) p f d vs next h = joined f (λ u k. chars p text) (λ u k. next u k vs) (chars-keep f.is_captured p text) (h vs)
-    instr-keeps (Element name sets body) p f d vs next h = h vs
-    instr-keeps (Attribute name body) p f d vs next h = h vs
-    instr-keeps (Comment body) p f d vs next h = h vs
-    instr-keeps (Pi name body) p f d vs next h = h vs
+    instr-keeps (Element name sets body) p f d vs next h =
+        let inside : World → Calls → Trace Task = λ u k. k (using sets) p f ⨾ (body_trace body u k f vs ⨾ Put End ∷ []) in
+        let x : World → Calls → Label → Trace Task = λ u k label. Put (Start label) ∷ inside u k in
+        joined f (λ u k. evaluated p (name_run u false name f vs) (x u k)) (λ u k. next u k vs)
+        (valued f p (name_run w false name f vs) x (name-lacks w false name f vs) (λ label.
+        put-then f (Start label) inside (inside-keeps f d sets p (λ u k. body_trace body u k f vs) (body-keeps body f d vs)))) (h vs)
+    instr-keeps (Attribute name body) p f d vs next h =
+        let content : World → Calls → Trace Task = λ u k. body_trace body u k (captured_in f) vs in
+        let x : World → Calls → Label → Trace Task = λ u k label. makes (made.Attribute label) p (content u k) in
+        joined f (λ u k. evaluated p (name_run u true name f vs) (x u k)) (λ u k. next u k vs)
+        (valued f p (name_run w true name f vs) x (name-lacks w true name f vs) (λ label.
+        makes-keep f (made.Attribute label) p content (body-keeps body (captured_in f) d vs))) (h vs)
+    instr-keeps (Comment body) p f d vs next h =
+        let content : World → Calls → Trace Task = λ u k. body_trace body u k (captured_in f) vs in
+        joined f (λ u k. makes made.Comment p (content u k)) (λ u k. next u k vs)
+        (makes-keep f made.Comment p content (body-keeps body (captured_in f) d vs)) (h vs)
+    instr-keeps (Pi name body) p f d vs next h =
+        let content : World → Calls → Trace Task = λ u k. body_trace body u k (captured_in f) vs in
+        let x : World → Calls → List ℕ → Trace Task = λ u k target. makes (made.Instruction target) p (content u k) in
+        joined f (λ u k. evaluated p (target_run u name f vs) (x u k)) (λ u k. next u k vs)
+        (valued f p (target_run w name f vs) x (target-lacks w name f vs) (λ target.
+        makes-keep f (made.Instruction target) p content (body-keeps body (captured_in f) d vs))) (h vs)
     instr-keeps (Message terminate body) p f d vs next h =
         let x : List Event → Trace Task = λ es. says p (fragment_text es) ⨾ ended_if terminate p in
         joined f (λ u k. captured (body_trace body u k (captured_in f) vs) x) (λ u k. next u k vs)
@@ -223,22 +311,27 @@ module _ (w : World) (grain : Option ℕ) (index : RuleIndex) (R : Bool → Trac
     instr-keeps (Variable' site name content) p f d vs next h = content-keeps content p f d vs (λ u k v. next u k (vs ++ v ∷ [])) (λ v. h (vs ++ v ∷ []))
     instr-keeps (Literal start body) p f d vs next h =
         let x : World → Calls → Trace Task = λ u k. body_trace body u k f vs in
-        joined f (λ u k. begins start ⨾ (x u k ⨾ Put End ∷ [])) (λ u k. next u k vs)
-        (joined f (λ u k. begins start) (λ u k. x u k ⨾ Put End ∷ []) (begins-keeps f.is_captured start)
-        (joined f x (λ u k. Put End ∷ []) (body-keeps body f d vs) (keeps.puts f.is_captured End))) (h vs)
+        let attributes : World → Calls → Trace Task = λ u k. literal_attributes start.attributes p u f vs in
+        let inside : World → Calls → Trace Task = λ u k. attributes u k ⨾ (x u k ⨾ Put End ∷ []) in
+        joined f (λ u k. begins u start p ⨾ (k (using start.sets) p f ⨾ inside u k)) (λ u k. next u k vs)
+        (joined f (λ u k. begins u start p) (λ u k. k (using start.sets) p f ⨾ inside u k)
+        (events-keep f.is_captured p (Start (element_label w.sheet.aliases start.name) ∷ literal_spaces w.sheet.aliases start.spaces))
+        (joined f (λ u k. k (using start.sets) p f) inside (d (using start.sets) p f)
+        (joined f attributes (λ u k. x u k ⨾ Put End ∷ []) (attributes-keep start.attributes p f vs)
+        (joined f x (λ u k. Put End ∷ []) (body-keeps body f d vs) (keeps.puts f.is_captured End))))) (h vs)
     instr-keeps (Extension fallbacks) p f d vs next h =
         joined f (λ u k. fallbacks_trace fallbacks p u k f vs) (λ u k. next u k vs) (fallbacks-keep fallbacks p f d vs) (h vs)
 
-    pub body-keeps : (body : Body) (f : Focus) → CallsKeep f.depth → (vs : List Value) → Both f (λ u k. body_trace body u k f vs)
+    pub body-keeps : (body : Body) (f : Focus) → Keep f → (vs : List Value) → Both f (λ u k. body_trace body u k f vs)
     body-keeps (Body' n row) f d vs = row-keeps row f d vs
 
-    row-keeps : {m : _} (row : Row_of-Instr m) (f : Focus) → CallsKeep f.depth → (vs : List Value) → Both f (λ u k. row_trace row u k f vs)
+    row-keeps : {m : _} (row : Row_of-Instr m) (f : Focus) → Keep f → (vs : List Value) → Both f (λ u k. row_trace row u k f vs)
     row-keeps end_of-Instr f d vs = keeps.nothing f.is_captured
     row-keeps (more_of-Instr p kind others) f d vs =
         ticked f p (λ u k. instr_trace kind p u k f vs (row_trace others u k f))
         (instr-keeps kind p f d vs (λ u k. row_trace others u k f) (λ us. row-keeps others f d us))
 
-    pub content-keeps : (content : Content) (p : Site) (f : Focus) → CallsKeep f.depth → (vs : List Value) (next : World → Calls → Value → Trace Task) →
+    pub content-keeps : (content : Content) (p : Site) (f : Focus) → Keep f → (vs : List Value) (next : World → Calls → Value → Trace Task) →
         ((v : Value) → Both f (λ u k. next u k v)) → Both f (λ u k. content_trace content p u k f vs (next u k))
     content-keeps Empty p f d vs next h = h (String [])
     content-keeps (Select e) p f d vs next h = valued f p (value_run w e f vs) next (value-lacks w e f vs) h
@@ -247,13 +340,13 @@ module _ (w : World) (grain : Option ℕ) (index : RuleIndex) (R : Bool → Trac
         (λ es. next w (calls_at w f) (Piece (fragment_of es))) (λ es. next V (calls_at V f) (Piece (fragment_of es)))
         (body-keeps body (captured_in f) d vs) (λ es. h (Piece (fragment_of es)))
 
-    passing-keeps : (passed : Passed) (p : Site) (f : Focus) → CallsKeep f.depth → (vs : List Value) (next : World → Calls → Params → Trace Task) →
+    passing-keeps : (passed : Passed) (p : Site) (f : Focus) → Keep f → (vs : List Value) (next : World → Calls → Params → Trace Task) →
         ((ps : Params) → Both f (λ u k. next u k ps)) → Both f (λ u k. passing passed p u k f vs (next u k))
     passing-keeps (Passed' n row) p f d vs next h =
         let params : List Value → Params = λ us. record { bindings = (out-Passed (Passed' n row)).params; values = us } in
         values-keep row p f d vs [] (λ u k us. next u k (params us)) (λ us. h (params us))
 
-    values-keep : {m : _} (row : Row_of-Binding m) (p : Site) (f : Focus) → CallsKeep f.depth → (vs us : List Value)
+    values-keep : {m : _} (row : Row_of-Binding m) (p : Site) (f : Focus) → Keep f → (vs us : List Value)
         (next : World → Calls → List Value → Trace Task) → ((ws : List Value) → Both f (λ u k. next u k ws)) →
         Both f (λ u k. values_trace row p u k f vs us (next u k))
     values-keep end_of-Binding p f d vs us next h = h us
@@ -261,10 +354,10 @@ module _ (w : World) (grain : Option ℕ) (index : RuleIndex) (R : Bool → Trac
         content-keeps content p f d vs (λ u k v. values_trace others p u k f vs (us ++ v ∷ []) (next u k))
         (λ v. values-keep others p f d vs (us ++ v ∷ []) next h)
 
-    choice-keeps : (choice : Choice) (p : Site) (f : Focus) → CallsKeep f.depth → (vs : List Value) → Both f (λ u k. choice_trace choice p u k f vs)
+    choice-keeps : (choice : Choice) (p : Site) (f : Focus) → Keep f → (vs : List Value) → Both f (λ u k. choice_trace choice p u k f vs)
     choice-keeps (Choice' n row otherwise) p f d vs = whens-keep row p f d vs (λ u k. body_trace otherwise u k f vs) (body-keeps otherwise f d vs)
 
-    whens-keep : {m : _} (row : Row_of-When m) (p : Site) (f : Focus) → CallsKeep f.depth → (vs : List Value) (o : World → Calls → Trace Task) → Both f o →
+    whens-keep : {m : _} (row : Row_of-When m) (p : Site) (f : Focus) → Keep f → (vs : List Value) (o : World → Calls → Trace Task) → Both f o →
         Both f (λ u k. whens_trace row p u k f vs (o u k))
     whens-keep end_of-When p f d vs o h = h
     whens-keep (more_of-When (When' test body) others) p f d vs o h =
@@ -273,23 +366,23 @@ module _ (w : World) (grain : Option ℕ) (index : RuleIndex) (R : Bool → Trac
         valued f p (test_run w test f vs) (λ u k b. cond b (x u k) (y u k)) (test-lacks w test f vs) (λ b.
         one-of f b x y (body-keeps body f d vs) (whens-keep others p f d vs o h))
 
-    fallbacks-keep : (fallbacks : Fallbacks) (p : Site) (f : Focus) → CallsKeep f.depth → (vs : List Value) → Both f
+    fallbacks-keep : (fallbacks : Fallbacks) (p : Site) (f : Focus) → Keep f → (vs : List Value) → Both f
         (λ u k. fallbacks_trace fallbacks p u k f vs)
     fallbacks-keep (Fallbacks' n row) p f d vs = unless-keeps row p f (λ u k. bodies_trace row u k f vs) (bodies-keep row f d vs)
 
-    bodies-keep : {m : _} (row : Row_of-Body m) (f : Focus) → CallsKeep f.depth → (vs : List Value) → Both f (λ u k. bodies_trace row u k f vs)
+    bodies-keep : {m : _} (row : Row_of-Body m) (f : Focus) → Keep f → (vs : List Value) → Both f (λ u k. bodies_trace row u k f vs)
     bodies-keep end_of-Body f d vs = keeps.nothing f.is_captured
     bodies-keep (more_of-Body body others) f d vs =
         joined f (λ u k. body_trace body u k f vs) (λ u k. bodies_trace others u k f vs) (body-keeps body f d vs) (bodies-keep others f d vs)
 
   -- templates
-  param-keeps : (o : Option Value) (content : Content) (p : Site) (f : Focus) → CallsKeep f.depth → (vs : List Value)
+  param-keeps : (o : Option Value) (content : Content) (p : Site) (f : Focus) → Keep f → (vs : List Value)
       (next : World → Calls → Value → Trace Task) →
       ((v : Value) → Both f (λ u k. next u k v)) → Both f (λ u k. param_trace o content p u k f vs (next u k))
   param-keeps None content p f d vs next h = content-keeps content p f d vs next h
   param-keeps (Some v) content p f d vs next h = h v
 
-  params-keep : (bs : List Binding) (ps : Params) (f : Focus) → CallsKeep f.depth → (vs : List Value) (next : World → Calls → List Value → Trace Task) →
+  params-keep : (bs : List Binding) (ps : Params) (f : Focus) → Keep f → (vs : List Value) (next : World → Calls → List Value → Trace Task) →
       ((us : List Value) → Both f (λ u k. next u k us)) → Both f (λ u k. params_trace bs ps u k f vs (next u k))
   params-keep [] ps f d vs next h = h vs
   params-keep (b ∷ bs) ps f d vs next h =
@@ -297,11 +390,11 @@ module _ (w : World) (grain : Option ℕ) (index : RuleIndex) (R : Bool → Trac
       ticked f b.site (λ u k. param_trace (value_passed b.name ps) b.content b.site u k f vs (x u k))
       (param-keeps (value_passed b.name ps) b.content b.site f d vs x (λ v. params-keep bs ps f d (vs ++ v ∷ []) next h))
 
-  template-keeps : (o : Option Template) (ps : Params) (f : Focus) → CallsKeep f.depth → Both f (λ u k. template_trace o ps u k f)
+  template-keeps : (o : Option Template) (ps : Params) (f : Focus) → Keep f → Both f (λ u k. template_trace o ps u k f)
   template-keeps None ps f d = keeps.nothing f.is_captured
   template-keeps (Some t) ps f d = params-keep t.params ps f d [] (λ u k. body_trace t.body u k f) (λ vs. body-keeps t.body f d vs)
 
-  built_in-keeps : (mode : ℕ) (p : Site) (f : Focus) → CallsKeep f.depth → (r : Record) → Both f (λ u k. built_in u k mode p f r)
+  built_in-keeps : (mode : ℕ) (p : Site) (f : Focus) → Keep f → (r : Record) → Both f (λ u k. built_in u k mode p f r)
   built_in-keeps mode p f d r =
       let x : World → Calls → Trace Task = λ u k. applied u k mode no_params p f (children w.tree f.node) in
       let y : World → Calls → Trace Task = λ u k. chars p r.text in
@@ -309,26 +402,60 @@ module _ (w : World) (grain : Option ℕ) (index : RuleIndex) (R : Bool → Trac
       (applied-keeps mode no_params p f d (children w.tree f.node))
       (one-of f (is_text_kind r.kind || is_attribute_kind r.kind) y (λ u k. []) (chars-keep f.is_captured p r.text) (keeps.nothing f.is_captured))
 
-  rule-keeps : (o : Option ℕ) (mode : ℕ) (ps : Params) (p : Site) (f : Focus) → CallsKeep f.depth → Both f (λ u k. ruled o mode ps u k p f)
+  rule-keeps : (o : Option ℕ) (mode : ℕ) (ps : Params) (p : Site) (f : Focus) → Keep f → Both f (λ u k. ruled o mode ps u k p f)
   rule-keeps None mode ps p f d = built_in-keeps mode p f d (at w.tree f.node)
   rule-keeps (Some rule) mode ps p f d = template-keeps (slice_get w.sheet.templates rule) ps (by_rule rule mode f) d
 
-  entry-keeps : (e : Entry) (p : Site) (f : Focus) → CallsKeep f.depth → Both f (λ u k. entered e u k p f)
+  -- attribute sets
+  instrs-keep : (is : List Instr) (f : Focus) → Keep f → (vs : List Value) → Both f (λ u k. instrs_trace is u k f vs)
+  instrs-keep [] f d vs = keeps.nothing f.is_captured
+  instrs-keep (i ∷ is) f d vs =
+      ticked f i.site (λ u k. instr_trace i.kind i.site u k f vs (instrs_trace is u k f))
+      (instr-keeps i.kind i.site f d vs (λ u k. instrs_trace is u k f) (λ us. instrs-keep is f d us))
+
+  declared-keep : (ss : List AttrSet) (f : Focus) → Keep f → Both f (λ u k. declared_trace ss u k f)
+  declared-keep [] f d = keeps.nothing f.is_captured
+  declared-keep (s ∷ ss) f d =
+      let own : World → Calls → Trace Task = λ u k. instrs_trace s.attributes u k f [] in
+      joined f (λ u k. k (using s.sets) s.site f ⨾ own u k) (λ u k. declared_trace ss u k f)
+      (joined f (λ u k. k (using s.sets) s.site f) own (d (using s.sets) s.site f) (instrs-keep s.attributes f d [])) (declared-keep ss f d)
+
+  sets-keep : (names : List Label) (f : Focus) → Keep f → Both f (λ u k. sets_trace names u k f)
+  sets-keep [] f d = keeps.nothing f.is_captured
+  sets-keep (name ∷ names) f d =
+      joined f (λ u k. declared_trace (declarations_of w.sheet.sets name) u k f) (λ u k. sets_trace names u k f)
+      (declared-keep (declarations_of w.sheet.sets name) f d) (sets-keep names f d)
+
+  entry-keeps : (e : Entry) (p : Site) (f : Focus) → Keep f → Both f (λ u k. entered e u k p f)
   entry-keeps (named i ps) p f d = template-keeps (slice_get w.sheet.templates i) ps f d
   entry-keeps (fitting mode ps) p f d = rule-keeps (rule_for w mode f.node) mode ps p f d
   entry-keeps (overridden current) p f d = rule-keeps (import_for w current f) f.mode no_params p f d
+  entry-keeps (using names) p f d = sets-keep names f d
 
-  pub calls-keep : (d : ℕ) → CallsKeep d
-  calls-keep zero e p f = keeps.stops f.is_captured fault.TooDeep p
-  calls-keep (suc d) e p f = entry-keeps e p (with_depth d f) (calls-keep d)
+  -- what is entered, level by level
+  pub called-keeps : (e : Entry) (d n : ℕ) (p : Site) (f : Focus) → R f.is_captured (called e w d n p f) (called e V d n p f)
+  called-keeps (using names) d zero p f = keeps.nothing f.is_captured
+  called-keeps (using names) d (suc n) p f = entry-keeps (using names) p (with_levels d n f) (λ e q g. called-keeps e d n q g)
+  called-keeps (named i ps) zero n p f = keeps.stops f.is_captured fault.TooDeep p
+  called-keeps (named i ps) (suc d) n p f =
+      entry-keeps (named i ps) p (with_levels d (all_set_levels w) f) (λ e q g. called-keeps e d (all_set_levels w) q g)
+  called-keeps (fitting mode ps) zero n p f = keeps.stops f.is_captured fault.TooDeep p
+  called-keeps (fitting mode ps) (suc d) n p f =
+      entry-keeps (fitting mode ps) p (with_levels d (all_set_levels w) f) (λ e q g. called-keeps e d (all_set_levels w) q g)
+  called-keeps (overridden current) zero n p f = keeps.stops f.is_captured fault.TooDeep p
+  called-keeps (overridden current) (suc d) n p f =
+      entry-keeps (overridden current) p (with_levels d (all_set_levels w) f) (λ e q g. called-keeps e d (all_set_levels w) q g)
+
+  pub calls-keep : (f : Focus) → Keep f
+  calls-keep f e p g = called-keeps e f.depth f.set_levels p g
 
   -- tasks
   job-keeps : (job : Job) (p : Site) (f : Focus) (n i : ℕ) →
-      R f.is_captured (job_trace job w (called w f.depth) p (at_node n i f)) (job_trace job V (called V f.depth) p (at_node n i f))
-  job-keeps (body_job body vs) p f n i = body-keeps body (at_node n i f) (calls-keep f.depth) vs
-  job-keeps (rules_job mode ps) p f n i = calls-keep f.depth (fitting mode ps) p (at_node n i f)
+      R f.is_captured (job_trace job w (calls_at w f) p (at_node n i f)) (job_trace job V (calls_at V f) p (at_node n i f))
+  job-keeps (body_job body vs) p f n i = body-keeps body (at_node n i f) (calls-keep f) vs
+  job-keeps (rules_job mode ps) p f n i = calls-keep f (fitting mode ps) p (at_node n i f)
 
   pub task-keeps : (t : Task) → R t.focus.is_captured (task_trace w t) (task_trace V t)
   task-keeps t =
-      each-keeps t.site t.focus (job_trace t.job w (called w t.focus.depth) t.site) (job_trace t.job V (called V t.focus.depth) t.site)
+      each-keeps t.site t.focus (job_trace t.job w (calls_at w t.focus) t.site) (job_trace t.job V (calls_at V t.focus) t.site)
       (job-keeps t.job t.site t.focus) t.first t.nodes

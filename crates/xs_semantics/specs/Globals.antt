@@ -22,17 +22,17 @@ use Rattle.xs_trace.specs.declared.item.Spot.{Spot}
 use Rattle.xs_value.specs.declared.value.Value.{Value}
 use Rattle.xs_value.specs.declared.value.Value.TheVariants.{Chars as String, Piece}
 use Rattle.xs_semantics.specs.declared.focus.Focus.{Focus}
-use Rattle.xs_semantics.specs.World.{World, alone_at, captured_in, value_run}
+use Rattle.xs_semantics.specs.World.{World, all_set_levels, alone_at, captured_in, value_run}
 use Rattle.xs_semantics.specs.Tasks.{Task}
-use Rattle.xs_semantics.specs.Trace.{body_trace, called, content_trace, fragment_of, most_depth}
+use Rattle.xs_semantics.specs.Trace.{body_trace, calls_at, content_trace, fragment_of, most_depth}
 
 -- the root is the current node, no rule is current, and nothing is left to tasks
-abbrev pub global_focus : Focus
-global_focus = captured_in (alone_at 0 most_depth)
+abbrev pub global_focus : World → Focus
+global_focus w = captured_in (alone_at 0 most_depth (all_set_levels w))
 
 -- what the content of a binding does; the binding itself takes no tick
 abbrev pub binding_trace : World → Binding → Trace Task
-binding_trace w b = content_trace b.content b.site w (called w most_depth) global_focus [] (λ v. [])
+binding_trace w b = content_trace b.content b.site w (calls_at w (global_focus w)) (global_focus w) [] (λ v. [])
 
 -- and its value, where that comes to its end
 abbrev pub value_in : Answer Value → Value
@@ -42,8 +42,8 @@ value_in (Lacks g) = String []
 
 abbrev pub content_value : World → Content → Value
 content_value w Empty = String []
-content_value w (Select e) = value_in (value_run w e global_focus []).end
-content_value w (Fragment body) = Piece (fragment_of (events_of (body_trace body w (called w most_depth) global_focus [])))
+content_value w (Select e) = value_in (value_run w e (global_focus w) []).end
+content_value w (Fragment body) = Piece (fragment_of (events_of (body_trace body w (calls_at w (global_focus w)) (global_focus w) [])))
 
 abbrev pub attempt_trace : World → Option Global → Trace Task
 attempt_trace w None = []

@@ -1,18 +1,19 @@
 -- What is true of the evaluation.
-use Rattle.std.specs.Prelude.{◌≡◌, ℕ, ◌+◌, List, [], ◌∷◌, ◌++◌, slice_get, Option, Some, None}
+use Rattle.std.specs.Prelude.{◌≡◌, ℕ, ◌+◌, ◌<◌, List, [], ◌∷◌, ◌++◌, slice_get, Option, Some, None}
 use Rattle.std.specs.List.{All}
 use Rattle.std.specs.Option.{IsSome}
 use Rattle.xs_sheet.specs.declared.body.Body.{Body}
 use Rattle.xs_sheet.specs.declared.declarations.Global.{Global}
-use Rattle.xs_trace.specs.Fill.{fill, tasks_of}
+use Rattle.xs_trace.specs.Fill.{HolesAre, fill, tasks_of}
 use Rattle.xs_trace.specs.Mark.{Tick, Put, Say, Stop, Need, Hole, Trace, GoesOn, NeedsNothing, captured, events_of, messages_of, tick_count}
 use Rattle.xs_trace.specs.declared.event.Event.{Event}
 use Rattle.xs_value.specs.declared.value.Value.{Value}
-use Rattle.xs_rules.specs.declared.index.RuleIndex.{RuleIndex}
+use Rattle.xs_semantics.specs.declared.index.SheetIndex.{SheetIndex}
 use Rattle.xs_semantics.specs.declared.focus.Focus.{Focus}
 use Rattle.xs_semantics.specs.World.{World, captured_in, with_grain, with_index}
 use Rattle.xs_semantics.specs.Tasks.{Task}
-use Rattle.xs_semantics.specs.Trace.{body_trace, called, task_trace}
+use Rattle.xs_semantics.specs.Trace.{body_trace, calls_at, task_trace}
+use Rattle.xs_semantics.specs.Ranks.{BeginsWithTick, HasNodes, rank_of}
 use Rattle.xs_semantics.specs.Globals.{Settled, SettlesAll, attempt_trace, attempt_value}
 
 -- the trace with a grain, each hole filled by the trace of its task, is the trace without one
@@ -21,7 +22,7 @@ TasksFill = (w : World) (t : Task) → fill (task_trace (with_grain None w)) (ta
 
 -- nothing of captured content is left to tasks
 abbrev pub CapturedLeavesNothing : Type 0
-CapturedLeavesNothing = (w : World) (body : Body) (f : Focus) (vs : List Value) → tasks_of (body_trace body w (called w f.depth) (captured_in f) vs) ≡ []
+CapturedLeavesNothing = (w : World) (body : Body) (f : Focus) (vs : List Value) → tasks_of (body_trace body w (calls_at w f) (captured_in f) vs) ≡ []
 
 -- Captured content takes its ticks and says its messages as content does that is not captured; what follows comes behind it
 -- (XSLT 1.0, 11.2, 13).
@@ -55,12 +56,20 @@ SettledNeedsNothing = (w : World) (t : Task) → All IsSome w.globals → NeedsN
 
 -- nothing that is done depends on the index by which rules are found
 abbrev pub TasksAreTheSame : Type 0
-TasksAreTheSame = (w : World) (index : RuleIndex) (t : Task) → task_trace (with_index index w) t ≡ task_trace w t
+TasksAreTheSame = (w : World) (index : SheetIndex) (t : Task) → task_trace (with_index index w) t ≡ task_trace w t
 
 abbrev pub AttemptsAreTheSame : Type 0
-AttemptsAreTheSame = (w : World) (index : RuleIndex) (g : Option Global) →
+AttemptsAreTheSame = (w : World) (index : SheetIndex) (g : Option Global) →
     (attempt_trace (with_index index w) g ≡ attempt_trace w g) × (attempt_value (with_index index w) g ≡ attempt_value w g)
 
 abbrev pub SettlingIsTheSame : Type 0
-SettlingIsTheSame = (w : World) (index : RuleIndex) (given : List (List ℕ × List ℕ)) (budget : ℕ) (r : Settled) →
+SettlingIsTheSame = (w : World) (index : SheetIndex) (given : List (List ℕ × List ℕ)) (budget : ℕ) (r : Settled) →
     SettlesAll w given budget r → SettlesAll (with_index index w) given budget r
+
+-- the rank falls from a task to those that it leaves: their tree ends
+abbrev pub TasksFall : Type 0
+TasksFall = (w : World) (t : Task) → HolesAre (λ c. rank_of w c < rank_of w t) (task_trace w t)
+
+-- where the grain is not 0, a task that is left has nodes, and begins with a tick
+abbrev pub TasksBegin : Type 0
+TasksBegin = (w : World) (t : Task) → (w.grain ≡ Some 0 → ⊥) → HolesAre (λ c. HasNodes c.nodes × BeginsWithTick (task_trace w c)) (task_trace w t)

@@ -1,8 +1,10 @@
--- In the order in which they are read: what a transformation is evaluated over; runs that are left to tasks; rules; what it does;
--- attempts at globals.
+-- In the order in which they are read: what a transformation is evaluated over; runs that are left to tasks; rules; what is put into the
+-- result; what it does; attempts at globals.
 pub mod World
 pub mod Tasks
 pub mod Rules
+pub mod Making
 pub mod Trace
+pub mod Ranks
 pub mod Globals
 pub mod Laws

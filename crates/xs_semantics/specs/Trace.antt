@@ -1,5 +1,6 @@
 -- What a stylesheet does, in order, with no limit but the depth of its templates.
-use Rattle.std.specs.Prelude.{ℕ, zero, suc, ◌+◌, ◌/◌, ◌==◌, ◌||◌, length, List, [], ◌∷◌, ◌++◌, map, slice_get, Option, Some, None, Bool, if◌then◌else◌}
+use Rattle.std.specs.Prelude.{ℕ, zero, suc, ◌+◌, ◌/◌, ◌==◌, ◌||◌, length, List, [], ◌∷◌, ◌++◌, map, slice_get, Option, Some, None, Bool, true, false}
+use Rattle.std.specs.Prelude.{if◌then◌else◌}
 use Rattle.xs_result.specs.Built.{built}
 use Rattle.xs_sheet.specs.declared.body.Binding.{Binding}
 use Rattle.xs_sheet.specs.declared.body.Body.{Body, Body', Row_of-Instr, end_of-Instr, more_of-Instr}
@@ -7,28 +8,39 @@ use Rattle.xs_sheet.specs.declared.body.Choice.{Choice, Choice', Row_of-When, en
 use Rattle.xs_sheet.specs.declared.body.Content.{Content}
 use Rattle.xs_sheet.specs.declared.body.Content.TheVariants.{Empty, Select, Body as Fragment}
 use Rattle.xs_sheet.specs.declared.body.Fallbacks.{Fallbacks, Fallbacks', Row_of-Body, end_of-Body, more_of-Body}
+use Rattle.xs_sheet.specs.declared.body.Instr.{Instr}
 use Rattle.xs_sheet.specs.declared.body.InstrKind.{InstrKind, Variable'}
 use Rattle.xs_sheet.specs.declared.body.InstrKind.TheVariants.{ApplyTemplates, CallTemplate, ApplyImports, ForEach, ValueOf, CopyOf, Copy, Number, Choose, If}
 use Rattle.xs_sheet.specs.declared.body.InstrKind.TheVariants.{Text, Element, Attribute, Comment, Pi, Message, Literal, Extension}
 use Rattle.xs_sheet.specs.declared.body.LiteralStart.{LiteralStart}
 use Rattle.xs_sheet.specs.declared.body.Passed.{Passed, Passed', out-Passed, Row_of-Binding, end_of-Binding, more_of-Binding}
 use Rattle.xs_sheet.specs.declared.body.When.{When'}
+use Rattle.xs_sheet.specs.declared.declarations.AttrSet.{AttrSet}
 use Rattle.xs_sheet.specs.declared.declarations.Template.{Template}
+use Rattle.xs_sheet.specs.declared.scoped.ValueTemplate.{ValueTemplate}
 use Rattle.xs_trace.specs.Event.{text_of}
+use Rattle.xs_trace.specs.Label.{Label}
 use Rattle.xs_trace.specs.Mark.{Tick, Put, Say, Stop, Hole, Trace, ◌⨾◌, ticks, captured}
 use Rattle.xs_trace.specs.Run.{evaluated}
 use Rattle.xs_trace.specs.declared.event.Event.{Event}
-use Rattle.xs_trace.specs.declared.event.Event.TheVariants.{Start, Space, Chars, End}
+use Rattle.xs_trace.specs.declared.event.Event.TheVariants.{Start, Chars, End}
 use Rattle.xs_trace.specs.declared.fault.Fault.TheVariants as fault
 use Rattle.xs_trace.specs.declared.item.Site.{Site}
-use Rattle.xs_tree.specs.Kinds.{has_content, is_attribute_kind, is_text_kind}
+use Rattle.xs_tree.specs.Kinds.{has_content, is_attribute_kind, is_element_kind, is_root_kind, is_text_kind}
 use Rattle.xs_tree.specs.Record.{Record, at, children}
+use Rattle.xs_tree.specs.declared.kinds.Kind.{Kind}
 use Rattle.xs_value.specs.declared.value.Value.{Value}
 use Rattle.xs_value.specs.declared.value.Value.TheVariants.{Chars as String, Piece}
 use Rattle.xs_value.specs.Conversion.{fragment_text}
+use Rattle.xs_making.specs.Copies.{shallow_copy}
+use Rattle.xs_sets.specs.Declarations.{declarations_of}
 use Rattle.xs_semantics.specs.declared.focus.Focus.{Focus}
-use Rattle.xs_semantics.specs.World.{World, at_node, in_list, captured_in, with_depth, by_rule, without_rule, alone_at, value_run, nodes_run, text_run, test_run}
-use Rattle.xs_semantics.specs.World.{nodes_or_children}
+use Rattle.xs_semantics.specs.declared.made.Made.{Made}
+use Rattle.xs_semantics.specs.declared.made.Made.TheVariants as made
+use Rattle.xs_semantics.specs.World.{World, all_set_levels, at_node, in_list, captured_in, with_levels, by_rule, without_rule, alone_at}
+use Rattle.xs_semantics.specs.World.{nodes_or_children, nodes_run, template_run, test_run, text_run, value_run}
+use Rattle.xs_semantics.specs.Making.{made_events, attribute_events, attribute_label, content_text}
+use Rattle.xs_semantics.specs.Making.{element_label, literal_spaces, name_run, target_run, value_events}
 use Rattle.xs_semantics.specs.Tasks.{Params, no_params, value_passed, Job, body_job, rules_job, Task, tasks_for, grain_over}
 use Rattle.xs_semantics.specs.Rules.{rule_for, import_for}
 
@@ -49,23 +61,41 @@ ended_if terminate p = if terminate then Stop fault.Terminated p ∷ [] else []
 abbrev pub says : Site → List ℕ → Trace Task
 says p t = ticks p (length t / 256) (Say t ∷ [])
 
--- a literal result element begins: its name, and then its namespace nodes (7.1.1)
-abbrev pub begins : LiteralStart → Trace Task
-begins start = Put (Start start.name) ∷ map (λ s. Put (Space s.0 s.1)) start.spaces
+-- events, one after another
+abbrev pub puts_all : Site → List Event → Trace Task
+puts_all p [] = []
+puts_all p (e ∷ es) = puts p e ⨾ puts_all p es
+
+-- a literal result element begins: its name, and then its namespace nodes, with the aliases of their namespaces (7.1.1)
+abbrev pub begins : World → LiteralStart → Site → Trace Task
+begins w start p = puts_all p (Start (element_label w.sheet.aliases start.name) ∷ literal_spaces w.sheet.aliases start.spaces)
+
+-- its attributes, whose values are value templates (7.1.1, 7.6.2)
+abbrev pub literal_attributes : List (Label × ValueTemplate) → Site → World → Focus → List Value → Trace Task
+literal_attributes [] p w f vs = []
+literal_attributes (a ∷ others) p w f vs =
+    evaluated p (template_run w a.1 f vs) (λ text. puts_all p (attribute_events (attribute_label w.sheet.aliases a.0) text))
+    ⨾ literal_attributes others p w f vs
+
+-- what is made of captured content (7.1.3, 7.3, 7.4)
+abbrev pub makes : Made → Site → Trace Task → Trace Task
+makes m p x = captured x (λ es. puts_all p (made_events m (content_text es)))
 
 -- the fragment that captured content makes: the events that stay (7.1.3, 11.1)
 abbrev pub fragment_of : List Event → List Event
 fragment_of events = built events
 
--- ---- templates that are entered
+-- ---- templates and attribute sets that are entered
 
--- by its number, with parameters (6); by the rule for the node in a mode (5.5); by the rule that the current one overrides (5.6)
+-- by its number, with parameters (6); by the rule for the node in a mode (5.5); by the rule that the current one overrides (5.6); the
+-- attribute sets of some names (7.1.4)
 pub data Entry : Type 0 where
   named : (template : ℕ) → Params → Entry
   fitting : (mode : ℕ) → Params → Entry
   overridden : (current : ℕ) → Entry
+  using : (names : List Label) → Entry
 
--- what templates do that are entered for an instruction at a focus
+-- what those do that are entered for an instruction at a focus
 abbrev pub Calls : Type 0
 Calls = Entry → Site → Focus → Trace Task
 
@@ -102,12 +132,22 @@ abbrev pub imports : Calls → Site → Focus → Option ℕ → Trace Task
 imports k p f None = Stop fault.NoRule p ∷ []
 imports k p f (Some rule) = Tick p ∷ k (overridden rule) p f
 
+-- what `xsl:copy` does of a node of a kind, given its own content: an element has that in it, after the attributes of its sets; a root
+-- has no copy of its own; other nodes have no content (7.5)
+abbrev pub copied_content : Kind → List Label → Calls → Site → Focus → Trace Task → Trace Task
+copied_content kind sets k p f inside =
+    if is_element_kind kind then k (using sets) p f ⨾ (inside ⨾ Put End ∷ []) else (if is_root_kind kind then inside else [])
+
+abbrev pub copied_node : Kind → List Label → World → Calls → Site → Focus → Trace Task → Trace Task
+copied_node kind sets w k p f inside = puts_all p (shallow_copy w.tree f.node) ⨾ copied_content kind sets k p f inside
+
 -- ---- instructions
 
 -- What each instruction does, and then what follows, which takes the values of the local variables that it sees: apply-templates
--- (XSLT 1.0, 5.4), call-template (6), apply-imports (5.6), for-each (8), value-of (7.6.1), choose (9.2), if (9.1), text (7.2),
--- message (13), variable (11.2), a literal element (7.1.1), an extension element (15). Each takes a tick before all else.
--- Expressions stand at the instruction that holds them. Those that are not built yet do nothing.
+-- (XSLT 1.0, 5.4), call-template (6), apply-imports (5.6), for-each (8), value-of (7.6.1), copy-of (11.3), copy (7.5), choose (9.2),
+-- if (9.1), text (7.2), element (7.1.2), attribute (7.1.3), comment (7.4), processing-instruction (7.3), message (13), variable (11.2), a
+-- literal element (7.1.1), an extension element (15). Each takes a tick before all else. Expressions stand at the instruction that holds
+-- them. A number is not supported yet, and does nothing; nor are sort keys, which change nothing.
 abbrev mutual
   pub instr_trace : InstrKind → Site → World → Calls → Focus → List Value → (List Value → Trace Task) → Trace Task
   instr_trace (ApplyTemplates nodes passed) p w k f vs next =
@@ -118,20 +158,24 @@ abbrev mutual
       evaluated p (nodes_run w select f vs) (λ ns. spread w (body_job body vs) p (λ g. body_trace body w k g vs) (in_list (length ns) (without_rule f)) ns) ⨾
       next vs
   instr_trace (ValueOf select) p w k f vs next = evaluated p (text_run w select f vs) (chars p) ⨾ next vs
-  instr_trace (CopyOf select) p w k f vs next = next vs
-  instr_trace (Copy sets body) p w k f vs next = next vs
+  instr_trace (CopyOf select) p w k f vs next = evaluated p (value_run w select f vs) (λ v. puts_all p (value_events w.tree v)) ⨾ next vs
+  instr_trace (Copy sets body) p w k f vs next = copied_node (at w.tree f.node).kind sets w k p f (body_trace body w k f vs) ⨾ next vs
   instr_trace (Number decl) p w k f vs next = next vs
   instr_trace (Choose choice) p w k f vs next = choice_trace choice p w k f vs ⨾ next vs
   instr_trace (If test body) p w k f vs next = evaluated p (test_run w test f vs) (λ b. if b then body_trace body w k f vs else []) ⨾ next vs
   instr_trace (Text text) p w k f vs next = chars p text ⨾ next vs
-  instr_trace (Element name sets body) p w k f vs next = next vs
-  instr_trace (Attribute name body) p w k f vs next = next vs
-  instr_trace (Comment body) p w k f vs next = next vs
-  instr_trace (Pi name body) p w k f vs next = next vs
+  instr_trace (Element name sets body) p w k f vs next =
+      evaluated p (name_run w false name f vs) (λ label. Put (Start label) ∷ (k (using sets) p f ⨾ (body_trace body w k f vs ⨾ Put End ∷ []))) ⨾ next vs
+  instr_trace (Attribute name body) p w k f vs next =
+      evaluated p (name_run w true name f vs) (λ label. makes (made.Attribute label) p (body_trace body w k (captured_in f) vs)) ⨾ next vs
+  instr_trace (Comment body) p w k f vs next = makes made.Comment p (body_trace body w k (captured_in f) vs) ⨾ next vs
+  instr_trace (Pi name body) p w k f vs next =
+      evaluated p (target_run w name f vs) (λ target. makes (made.Instruction target) p (body_trace body w k (captured_in f) vs)) ⨾ next vs
   instr_trace (Message terminate body) p w k f vs next =
       captured (body_trace body w k (captured_in f) vs) (λ es. says p (fragment_text es) ⨾ ended_if terminate p) ⨾ next vs
   instr_trace (Variable' site name content) p w k f vs next = content_trace content p w k f vs (λ v. next (vs ++ v ∷ []))
-  instr_trace (Literal start body) p w k f vs next = (begins start ⨾ (body_trace body w k f vs ⨾ Put End ∷ [])) ⨾ next vs
+  instr_trace (Literal start body) p w k f vs next =
+      (begins w start p ⨾ (k (using start.sets) p f ⨾ (literal_attributes start.attributes p w f vs ⨾ (body_trace body w k f vs ⨾ Put End ∷ [])))) ⨾ next vs
   instr_trace (Extension fallbacks) p w k f vs next = fallbacks_trace fallbacks p w k f vs ⨾ next vs
 
   -- the instructions of a body, one after another; a variable is seen by those behind it (11.5)
@@ -209,19 +253,43 @@ abbrev pub ruled : Option ℕ → (mode : ℕ) → Params → World → Calls �
 ruled None mode ps w k p f = built_in w k mode p f (at w.tree f.node)
 ruled (Some rule) mode ps w k p f = template_trace (slice_get w.sheet.templates rule) ps w k (by_rule rule mode f)
 
+-- ---- attribute sets
+
+-- instructions, one after another, as those of a body
+abbrev pub instrs_trace : List Instr → World → Calls → Focus → List Value → Trace Task
+instrs_trace [] w k f vs = []
+instrs_trace (i ∷ is) w k f vs = Tick i.site ∷ instr_trace i.kind i.site w k f vs (instrs_trace is w k f)
+
+-- what declarations of a set put: each the attributes of the sets that it uses, and then its own, which see no local variable (7.1.4)
+abbrev pub declared_trace : List AttrSet → World → Calls → Focus → Trace Task
+declared_trace [] w k f = []
+declared_trace (s ∷ ss) w k f = (k (using s.sets) s.site f ⨾ instrs_trace s.attributes w k f []) ⨾ declared_trace ss w k f
+
+-- what the sets of some names put
+abbrev pub sets_trace : List Label → World → Calls → Focus → Trace Task
+sets_trace [] w k f = []
+sets_trace (name ∷ names) w k f = declared_trace (declarations_of w.sheet.sets name) w k f ⨾ sets_trace names w k f
+
+-- ---- what is entered
+
 abbrev pub entered : Entry → World → Calls → Site → Focus → Trace Task
 entered (named template ps) w k p f = template_trace (slice_get w.sheet.templates template) ps w k f
 entered (fitting mode ps) w k p f = ruled (rule_for w mode f.node) mode ps w k p f
 entered (overridden current) w k p f = ruled (import_for w current f) f.mode no_params w k p f
+entered (using names) w k p f = sets_trace names w k f
 
--- what templates do where so many levels of them may be begun
-abbrev pub called : World → (depth : ℕ) → Calls
-called w zero e p f = Stop fault.TooDeep p ∷ []
-called w (suc depth) e p f = entered e w (called w depth) p (with_depth depth f)
+-- The same where so many levels of templates, and of attribute sets, may be begun. Past the last level of sets nothing is put, which can't
+-- come, since no set uses itself (7.1.4).
+abbrev pub called : Entry → World → (depth set_levels : ℕ) → Site → Focus → Trace Task
+called (using names) w depth zero p f = []
+called (using names) w depth (suc level) p f = entered (using names) w (λ e. called e w depth level) p (with_levels depth level f)
+called e w zero set_levels p f = Stop fault.TooDeep p ∷ []
+called e w (suc depth) set_levels p f =
+    entered e w (λ e. called e w depth (all_set_levels w)) p (with_levels depth (all_set_levels w) f)
 
 -- those at a focus
 abbrev pub calls_at : World → Focus → Calls
-calls_at w f = called w f.depth
+calls_at w f e = called e w f.depth f.set_levels
 
 -- the most levels of templates (this project's own)
 unfoldable pub most_depth : ℕ
@@ -234,14 +302,14 @@ job_trace (body_job body vs) w k p f = body_trace body w k f vs
 job_trace (rules_job mode ps) w k p f = k (fitting mode ps) p f
 
 abbrev pub task_trace : World → Task → Trace Task
-task_trace w t = each t.site (job_trace t.job w (called w t.focus.depth) t.site) t.focus t.first t.nodes
+task_trace w t = each t.site (job_trace t.job w (calls_at w t.focus) t.site) t.focus t.first t.nodes
 
 -- What a transformation begins with (5.1): the rule for the root of the source, for the element of the first module.
 abbrev pub root_task : World → Task
 root_task w = record {
   job = rules_job 0 no_params;
   site = record { «module» = 0; line = w.sheet.root_line };
-  focus = alone_at 0 most_depth;
+  focus = alone_at 0 most_depth (all_set_levels w);
   first = 1;
   nodes = 0 ∷ [];
 }

@@ -2,7 +2,7 @@
 
 ghost use Rattle.std.specs.Prelude.{◌≡◌, ◌-◌};
 ghost use Rattle.xs_semantics.specs.World.{alone_at, at_node, by_rule, captured_in, in_list};
-ghost use Rattle.xs_semantics.specs.World.{with_depth, without_rule};
+ghost use Rattle.xs_semantics.specs.World.{with_levels, without_rule};
 
 use xs_tree::Node;
 
@@ -22,14 +22,16 @@ pub struct Focus {
     pub mode: u32,
     /// How many levels of templates may still be begun.
     pub depth: u32,
+    /// How many levels of attribute sets may still be begun.
+    pub set_levels: usize,
     /// Whether what is put is captured.
     pub is_captured: bool,
 }
 
 impl Focus {
     /// A node alone in its list.
-    pub fn alone_at(node: Node, depth: u32) -> Focus
-        ensures { result ≡ alone_at node depth }
+    pub fn alone_at(node: Node, depth: u32, set_levels: usize) -> Focus
+        ensures { result ≡ alone_at node depth set_levels }
     {
         Focus {
             node: node.place(),
@@ -38,6 +40,7 @@ impl Focus {
             rule: None,
             mode: 0,
             depth,
+            set_levels,
             is_captured: false,
         }
     }
@@ -70,11 +73,15 @@ impl Focus {
         }
     }
 
-    /// Where so many levels of templates may be begun.
-    pub fn with_depth(self, depth: u32) -> Focus
-        ensures { result ≡ with_depth depth self }
+    /// Where so many levels of templates and of attribute sets may be begun.
+    pub fn with_levels(self, depth: u32, set_levels: usize) -> Focus
+        ensures { result ≡ with_levels depth set_levels self }
     {
-        Focus { depth, ..self }
+        Focus {
+            depth,
+            set_levels,
+            ..self
+        }
     }
 
     /// In a template that is a rule in a mode.

@@ -2,7 +2,8 @@
 
 ghost use Rattle.xs_semantics.specs.Laws.{AttemptsAreTheSame, AttemptsNeed, CapturedLeavesNothing};
 ghost use Rattle.xs_semantics.specs.Laws.{CapturedSays, CapturedTakesTicks, SettledNeedsNothing};
-ghost use Rattle.xs_semantics.specs.Laws.{SettlingIsTheSame, TasksAreTheSame, TasksFill, TasksNeed};
+ghost use Rattle.xs_semantics.specs.Laws.{SettlingIsTheSame, TasksAreTheSame, TasksBegin};
+ghost use Rattle.xs_semantics.specs.Laws.{TasksFall, TasksFill, TasksNeed};
 
 /// What is done with a grain, each hole filled by its task, is what is done without one.
 pub fn tasks_fill()
@@ -36,4 +37,14 @@ pub fn index_is_free()
     ensures tasks { TasksAreTheSame }
     ensures attempts { AttemptsAreTheSame }
     ensures settling { SettlingIsTheSame }
+{}
+
+/// The tree of tasks ends: a rank falls from each task to those that it leaves.
+pub fn tasks_fall()
+    ensures { TasksFall }
+{}
+
+/// Each task that is left has nodes, and begins with a tick, where the grain is not 0.
+pub fn tasks_begin()
+    ensures { TasksBegin }
 {}

@@ -2,4 +2,6 @@
 #![tactic(auto)]
 
 pub mod focus;
+pub mod index;
 pub mod laws;
+pub mod made;

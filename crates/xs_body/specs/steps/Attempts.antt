@@ -15,7 +15,7 @@ use Rattle.xs_body.specs.declared.attempts.Attempt.{Attempt}
 use Rattle.xs_body.specs.declared.attempts.Attempt.TheVariants as attempt
 use Rattle.xs_semantics.specs.World.{World}
 use Rattle.xs_semantics.specs.Tasks.{Task}
-use Rattle.xs_semantics.specs.Trace.{body_trace, called, most_depth}
+use Rattle.xs_semantics.specs.Trace.{body_trace, calls_at}
 use Rattle.xs_semantics.specs.Globals.{attempt_trace, attempt_value, binding_trace, content_value, global_focus}
 use Rattle.xs_body.specs.steps.Frames.{fragment_at}
 
@@ -25,7 +25,7 @@ binding_steps w b s = and_then (play (binding_trace w b) s) (λ u m. Goes (conte
 -- the fragment that captured content makes
 abbrev pub fragment_steps : World → Body → State Task → Step Task Value
 fragment_steps w body s =
-    and_then (play (body_trace body w (called w most_depth) global_focus []) (opened s)) (λ u m. Goes (fragment_at m) (popped m))
+    and_then (play (body_trace body w (calls_at w (global_focus w)) (global_focus w) []) (opened s)) (λ u m. Goes (fragment_at m) (popped m))
 
 abbrev pub attempt_steps : World → Option Global → State Task → Step Task Value
 attempt_steps w g s = and_then (play (attempt_trace w g) s) (λ u m. Goes (attempt_value w g) m)

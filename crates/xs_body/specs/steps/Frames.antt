@@ -1,6 +1,6 @@
--- What is still to be done, as a stack, and its next step.
+-- An evaluation that goes on, and its next step.
 use Rattle.std.specs.Prelude.{ℕ, ◌+◌, ◌-◌, ◌==◌, ◌||◌, Bool, List, [], ◌∷◌, ◌++◌, map, reverse, take, drop, length, slice_get, Option, Some}
-use Rattle.std.specs.Prelude.{None, if◌then◌else◌}
+use Rattle.std.specs.Prelude.{None, true, false, if◌then◌else◌}
 use Rattle.xs_sheet.specs.declared.body.Applied.{Applied}
 use Rattle.xs_sheet.specs.declared.body.Binding.{Binding}
 use Rattle.xs_sheet.specs.declared.body.Body.{Body, out-Body}
@@ -13,38 +13,56 @@ use Rattle.xs_sheet.specs.declared.body.InstrKind.{InstrKind, Variable'}
 use Rattle.xs_sheet.specs.declared.body.InstrKind.TheVariants.{ApplyTemplates, CallTemplate, ApplyImports, ForEach, ValueOf, CopyOf, Copy, Number, Choose, If}
 use Rattle.xs_sheet.specs.declared.body.InstrKind.TheVariants.{Text, Element, Attribute, Comment, Pi, Message, Literal, Extension}
 use Rattle.xs_sheet.specs.declared.body.LiteralStart.{LiteralStart}
+use Rattle.xs_sheet.specs.declared.body.MadeName.{MadeName}
 use Rattle.xs_sheet.specs.declared.body.Passed.{Passed, out-Passed}
 use Rattle.xs_sheet.specs.declared.body.When.{When, out-When}
+use Rattle.xs_sheet.specs.declared.declarations.AttrSet.{AttrSet}
 use Rattle.xs_sheet.specs.declared.declarations.Template.{Template}
 use Rattle.xs_sheet.specs.declared.scoped.ScopedExpr.{ScopedExpr}
+use Rattle.xs_sheet.specs.declared.scoped.ValueTemplate.{ValueTemplate}
 use Rattle.xs_sheet.specs.Slots.{slots_taken}
 use Rattle.xs_trace.specs.Cut.{Fault}
+use Rattle.xs_trace.specs.Label.{Label}
 use Rattle.xs_trace.specs.Mark.{Tick, Hole, Trace, ◌⨾◌}
 use Rattle.xs_trace.specs.Run.{Run, give, limited, ◌>>=◌}
 use Rattle.xs_trace.specs.State.{State, opened, popped, top}
 use Rattle.xs_trace.specs.Play.{Step, Goes, Told, and_then, goes, ticked, put, put_at, said_at, stops, play}
-use Rattle.xs_trace.specs.declared.event.Event.TheVariants.{Start, Space, Chars, End}
+use Rattle.xs_trace.specs.declared.event.Event.{Event}
+use Rattle.xs_trace.specs.declared.event.Event.TheVariants.{Start, Chars, End}
 use Rattle.xs_trace.specs.declared.fault.Fault.TheVariants as fault
 use Rattle.xs_trace.specs.declared.item.Site.{Site}
-use Rattle.xs_tree.specs.Kinds.{has_content, is_attribute_kind, is_text_kind}
+use Rattle.xs_tree.specs.Kinds.{has_content, is_attribute_kind, is_element_kind, is_root_kind, is_text_kind}
 use Rattle.xs_tree.specs.Record.{Record, at, children}
+use Rattle.xs_tree.specs.declared.kinds.Kind.{Kind}
 use Rattle.xs_value.specs.declared.value.Value.{Value}
 use Rattle.xs_value.specs.declared.value.Value.TheVariants.{Chars as String, Piece}
 use Rattle.xs_value.specs.Conversion.{fragment_text}
+use Rattle.xs_making.specs.Copies.{shallow_copy}
+use Rattle.xs_sets.specs.Indexed.{declarations_in}
 use Rattle.xs_semantics.specs.declared.focus.Focus.{Focus}
+use Rattle.xs_semantics.specs.declared.made.Made.{Made}
+use Rattle.xs_semantics.specs.declared.made.Made.TheVariants as made
 use Rattle.xs_body.specs.declared.frames.Callee as code_callee
 use Rattle.xs_body.specs.declared.frames.Callee.TheVariants as callee
+use Rattle.xs_body.specs.declared.frames.AttributesLeft.{AttributesLeft}
 use Rattle.xs_body.specs.declared.frames.Frame.{Frame}
 use Rattle.xs_body.specs.declared.frames.Frame.TheVariants as frame
+use Rattle.xs_body.specs.declared.frames.Passing.{Passing}
+use Rattle.xs_body.specs.declared.frames.EachLeft.{EachLeft}
+use Rattle.xs_body.specs.declared.frames.ApplyLeft.{ApplyLeft}
+use Rattle.xs_body.specs.declared.frames.ParamsLeft.{ParamsLeft}
 use Rattle.xs_body.specs.declared.frames.Scope.{Scope}
-use Rattle.xs_body.specs.declared.stack.Stack as code
-use Rattle.xs_semantics.specs.World.{World, at_node, in_list, captured_in, with_depth, by_rule, without_rule, value_run, nodes_run, text_run, test_run}
-use Rattle.xs_semantics.specs.World.{nodes_or_children}
+use Rattle.xs_semantics.specs.World.{World, all_set_levels, at_node, in_list, captured_in, with_levels, by_rule, without_rule}
+use Rattle.xs_semantics.specs.World.{nodes_or_children, nodes_run, test_run, text_run, value_run}
 use Rattle.xs_semantics.specs.Tasks.{Params, no_params, value_passed, Job, body_job, rules_job, Task, tasks_for, grain_over}
 use Rattle.xs_semantics.specs.Rules.{rule_for, import_for}
-use Rattle.xs_semantics.specs.Trace.{Entry, named, fitting, overridden, Calls, each, Called, by_number, by_rules, called_with, fragment_of, instr_trace}
-use Rattle.xs_semantics.specs.Trace.{body_trace, content_trace, params_trace, calls_at}
+use Rattle.xs_semantics.specs.Trace.{Entry, named, fitting, overridden, using, Calls, each, Called, by_number, by_rules, called_with, fragment_of}
+use Rattle.xs_semantics.specs.Trace.{body_trace, calls_at, content_trace, declared_trace, instrs_trace, literal_attributes, params_trace}
+use Rattle.xs_semantics.specs.Trace.{puts_all, sets_trace}
 use Rattle.xs_body.specs.steps.Lists.{nodes_in}
+pub use Rattle.xs_body.specs.steps.Making.{chars_steps}
+use Rattle.xs_body.specs.steps.Making.{attributes_steps, copy_steps, events_steps, literal_steps, made_at, made_ended, name_steps}
+use Rattle.xs_body.specs.steps.Making.{target_steps}
 
 -- ---- rows of the stylesheet as lists
 
@@ -57,11 +75,7 @@ bindings_of passed = (out-Passed passed).params
 abbrev pub bodies_of : Fallbacks → List Body
 bodies_of fallbacks = (out-Fallbacks fallbacks).bodies
 
--- what is left of a body; of the values that are passed; of some bodies
-abbrev pub instrs_trace : List Instr → World → Calls → Focus → List Value → Trace Task
-instrs_trace [] w k f vs = []
-instrs_trace (i ∷ is) w k f vs = Tick i.site ∷ instr_trace i.kind i.site w k f vs (instrs_trace is w k f)
-
+-- what is left of the values that are passed; of some bodies
 abbrev pub bindings_trace : List Binding → Site → World → Calls → Focus → List Value → List Value → (List Value → Trace Task) → Trace Task
 bindings_trace [] p w k f vs us next = next us
 bindings_trace (b ∷ bs) p w k f vs us next = content_trace b.content p w k f vs (λ v. bindings_trace bs p w k f vs (us ++ v ∷ []) next)
@@ -88,15 +102,24 @@ pub data Work : Type 0 where
   apply_left : (mode : ℕ) → Params → Site → Focus → (position : ℕ) → List ℕ → Work
   bodies_left : List Body → Scope → Work
   end_element : Work
+  sets_left : List Label → Focus → Work
+  declared_left : List AttrSet → Focus → Work
+  attributes_left : List (Label × ValueTemplate) → Site → Scope → Work
+  make : Made → Site → Work
   say : Site → (terminate : Bool) → Work
   pass : (left all : List Binding) → List Value → Called → Site → Scope → Work
   take_value : (left all : List Binding) → List Value → Called → Site → Scope → Work
   params_left : List Binding → Params → Body → Scope → Work
 
--- what is to be done, the next first, and the values of local bindings
-pub record Stack : Type 0 where
+-- an evaluation that goes on: what it is over, what is still to be done, the next first, and the values of local bindings
+pub record Evaluation : Type 0 where
+  pub world : World
   pub works : List Work
   pub slots : List Value
+
+-- one with nothing to be done
+abbrev pub idle : World → List Value → Evaluation
+idle w vs = record { world = w; works = []; slots = vs }
 
 -- the values that came last, and those before them
 abbrev pub last : ℕ → List Value → List Value
@@ -154,6 +177,10 @@ work_steps w (each_left body p c i ns) vs s = filled (each p (λ g. body_trace b
 work_steps w (apply_left mode ps p f i ns) vs s = filled (each p (calls_at w f (fitting mode ps) p) f i ns) vs s
 work_steps w (bodies_left bodies c) vs s = filled (all_bodies bodies w (calls_at w c.focus) c.focus (last c.seen vs)) vs s
 work_steps w end_element vs s = and_then (put End s) (λ u m. Goes vs m)
+work_steps w (sets_left names f) vs s = filled (sets_trace names w (calls_at w f) f) vs s
+work_steps w (declared_left ss f) vs s = filled (declared_trace ss w (calls_at w f) f) vs s
+work_steps w (attributes_left xs p c) vs s = filled (literal_attributes xs p w c.focus (last c.seen vs)) vs s
+work_steps w (make m p) vs s = filled (puts_all p (made_at m s)) vs (popped s)
 work_steps w (say p terminate) vs s = and_then (message_ended p terminate s) (λ u m. Goes vs m)
 work_steps w (pass left all us callee p c) vs s = filled (passing_left left all callee w p c.focus (last c.seen vs) us) vs s
 work_steps w (take_value left all us callee p c) vs s =
@@ -166,206 +193,300 @@ abbrev pub stack_steps : World → List Work → List Value → State Task → T
 stack_steps w [] vs s = goes s
 stack_steps w (x ∷ xs) vs s = and_then (work_steps w x vs s) (λ us m. stack_steps w xs us m)
 
-abbrev pub stack_told : World → Stack → State Task → Told Task
-stack_told w t s = stack_steps w t.works t.slots s
+abbrev pub stack_told : Evaluation → State Task → Told Task
+stack_told t s = stack_steps t.world t.works t.slots s
 
 -- ---- a step
 
-abbrev pub pushed : List Work → Stack → Stack
-pushed xs t = record { works = xs ++ t.works; slots = t.slots }
+abbrev pub pushed : List Work → Evaluation → Evaluation
+pushed xs t = record { world = t.world; works = xs ++ t.works; slots = t.slots }
 
-abbrev pub slots_are : List Value → Stack → Stack
-slots_are vs t = record { works = t.works; slots = vs }
+abbrev pub slots_are : List Value → Evaluation → Evaluation
+slots_are vs t = record { world = t.world; works = t.works; slots = vs }
 
-abbrev pub filled_up : List Value → Stack → Stack
+abbrev pub filled_up : List Value → Evaluation → Evaluation
 filled_up vs t = slots_are (t.slots ++ vs) t
 
-abbrev pub stays : Told Task → Stack → Step Task Stack
+abbrev pub stays : Told Task → Evaluation → Step Task Evaluation
 stays g t = and_then g (λ u m. Goes t m)
 
--- what is put
-abbrev pub chars_steps : {H : Type 0} → Site → List ℕ → State H → Told H
-chars_steps p t s = if length t == 0 then goes s else put_at p (Chars t) s
+-- ---- attribute sets
+-- those of some names, a level deeper, where there are any
+abbrev pub sets_works : List Label → Focus → List Work
+sets_works names f =
+    if length names == 0 then [] else (if f.set_levels == 0 then [] else sets_left names (with_levels f.depth (f.set_levels - 1) f) ∷ [])
 
-abbrev pub space_steps : {H : Type 0} → List (List ℕ × List ℕ) → State H → Told H
-space_steps [] s = goes s
-space_steps (x ∷ xs) s = and_then (put (Space x.0 x.1) s) (λ u m. space_steps xs m)
+-- the next of some sets; of some declarations
+abbrev pub sets_begun : List Label → Focus → Evaluation → Evaluation
+sets_begun [] f t = t
+sets_begun (name ∷ names) f t = pushed (declared_left (declarations_in t.world.index.sets name) f ∷ sets_left names f ∷ []) t
 
-abbrev pub literal_steps : {H : Type 0} → LiteralStart → State H → Told H
-literal_steps start s = and_then (put (Start start.name) s) (λ u m. space_steps start.spaces m)
+abbrev pub declarations_begun : List AttrSet → Focus → Evaluation → Evaluation
+declarations_begun [] f t = t
+declarations_begun (s ∷ ss) f t = pushed (sets_works s.sets f) (pushed (rest s.attributes (outer f) ∷ declared_left ss f ∷ []) t)
 
 -- a run over nodes, which a work goes through, or which is left to tasks
-abbrev pub run_by : Option ℕ → Job → Site → Focus → List ℕ → Work → Stack → State Task → Step Task Stack
+abbrev pub run_by : Option ℕ → Job → Site → Focus → List ℕ → Work → Evaluation → State Task → Step Task Evaluation
 run_by None job p f ns x t s = Goes (pushed (x ∷ []) t) s
 run_by (Some grain) job p f ns x t s = stays (play (map Hole (tasks_for grain job p f ns)) s) t
 
-abbrev pub run_begun : World → Job → Site → Focus → List ℕ → Work → Stack → State Task → Step Task Stack
-run_begun w job p f ns x t s = run_by (grain_over w f (length ns)) job p f ns x t s
+abbrev pub run_begun : Job → Site → Focus → List ℕ → Work → Evaluation → State Task → Step Task Evaluation
+run_begun job p f ns x t s = run_by (grain_over t.world f (length ns)) job p f ns x t s
 
-abbrev pub applied_begun : World → (mode : ℕ) → Params → Site → Focus → List ℕ → Stack → State Task → Step Task Stack
-applied_begun w mode ps p f ns t s =
-    run_begun w (rules_job mode ps) p (in_list (length ns) f) ns (apply_left mode ps p (in_list (length ns) f) 1 ns) t s
+abbrev pub applied_begun : (mode : ℕ) → Params → Site → Focus → List ℕ → Evaluation → State Task → Step Task Evaluation
+applied_begun mode ps p f ns t s =
+    run_begun (rules_job mode ps) p (in_list (length ns) f) ns (apply_left mode ps p (in_list (length ns) f) 1 ns) t s
+
+-- the parameters of a template that are left, or else its body
+abbrev pub params_first : List Binding → Params → Body → Scope → Work
+params_first [] ps body c = rest (instrs_of body) c
+params_first (b ∷ bs) ps body c = params_left (b ∷ bs) ps body c
 
 -- templates
-abbrev pub template_begun : Option Template → Params → Focus → Stack → Stack
+abbrev pub template_begun : Option Template → Params → Focus → Evaluation → Evaluation
 template_begun None ps f t = t
-template_begun (Some template) ps f t = pushed (params_left template.params ps template.body (outer f) ∷ []) t
+template_begun (Some template) ps f t = pushed (params_first template.params ps template.body (outer f) ∷ []) t
 
-abbrev pub built_in_begun : World → (mode : ℕ) → Site → Focus → Record → Stack → State Task → Step Task Stack
-built_in_begun w mode p f r t s =
-    if has_content r.kind then applied_begun w mode no_params p f (children w.tree f.node) t s
+abbrev pub built_in_begun : (mode : ℕ) → Site → Focus → Record → Evaluation → State Task → Step Task Evaluation
+built_in_begun mode p f r t s =
+    if has_content r.kind then applied_begun mode no_params p f (children t.world.tree f.node) t s
     else (if is_text_kind r.kind || is_attribute_kind r.kind then stays (chars_steps p r.text s) t else Goes t s)
 
-abbrev pub rule_begun : Option ℕ → World → (mode : ℕ) → Params → Site → Focus → Stack → State Task → Step Task Stack
-rule_begun None w mode ps p f t s = built_in_begun w mode p f (at w.tree f.node) t s
-rule_begun (Some rule) w mode ps p f t s = Goes (template_begun (slice_get w.sheet.templates rule) ps (by_rule rule mode f) t) s
+abbrev pub rule_begun : Option ℕ → (mode : ℕ) → Params → Site → Focus → Evaluation → State Task → Step Task Evaluation
+rule_begun None mode ps p f t s = built_in_begun mode p f (at t.world.tree f.node) t s
+rule_begun (Some rule) mode ps p f t s = Goes (template_begun (slice_get t.world.sheet.templates rule) ps (by_rule rule mode f) t) s
 
-abbrev pub entry_begun : Entry → World → Site → Focus → Stack → State Task → Step Task Stack
-entry_begun (named i ps) w p f t s = Goes (template_begun (slice_get w.sheet.templates i) ps f t) s
-entry_begun (fitting mode ps) w p f t s = rule_begun (rule_for w mode f.node) w mode ps p f t s
-entry_begun (overridden current) w p f t s = rule_begun (import_for w current f) w f.mode no_params p f t s
+abbrev pub entry_begun : Entry → Site → Focus → Evaluation → State Task → Step Task Evaluation
+entry_begun (named i ps) p f t s = Goes (template_begun (slice_get t.world.sheet.templates i) ps f t) s
+entry_begun (fitting mode ps) p f t s = rule_begun (rule_for t.world mode f.node) mode ps p f t s
+entry_begun (overridden current) p f t s = rule_begun (import_for t.world current f) f.mode no_params p f t s
+entry_begun (using names) p f t s = Goes (pushed (sets_left names f ∷ []) t) s
 
-abbrev pub entering : Entry → World → Site → Focus → Stack → State Task → Step Task Stack
-entering e w p f t s = if f.depth == 0 then stops (Fault fault.TooDeep p) s else entry_begun e w p (with_depth (f.depth - 1) f) t s
+-- in a template, where one level of them less may be begun, and all levels of sets
+abbrev pub in_template : World → Focus → Focus
+in_template w f = with_levels (f.depth - 1) (all_set_levels w) f
 
-abbrev pub call_begun : World → Called → Params → Site → Focus → Stack → State Task → Step Task Stack
-call_begun w (by_number i) ps p f t s = and_then (ticked p s) (λ u m. entering (named i ps) w p f t m)
-call_begun w (by_rules mode ns) ps p f t s = applied_begun w mode ps p f ns t s
+abbrev pub entering : Entry → Site → Focus → Evaluation → State Task → Step Task Evaluation
+entering e p f t s = if f.depth == 0 then stops (Fault fault.TooDeep p) s else entry_begun e p (in_template t.world f) t s
 
-abbrev pub imports_begun : World → Site → Focus → Option ℕ → Stack → State Task → Step Task Stack
-imports_begun w p f None t s = stops (Fault fault.NoRule p) s
-imports_begun w p f (Some rule) t s = and_then (ticked p s) (λ u m. entering (overridden rule) w p f t m)
+abbrev pub call_begun : Called → Params → Site → Focus → Evaluation → State Task → Step Task Evaluation
+call_begun (by_number i) ps p f t s = and_then (ticked p s) (λ u m. entering (named i ps) p f t m)
+call_begun (by_rules mode ns) ps p f t s = applied_begun mode ps p f ns t s
+
+abbrev pub imports_begun : Site → Focus → Option ℕ → Evaluation → State Task → Step Task Evaluation
+imports_begun p f None t s = stops (Fault fault.NoRule p) s
+imports_begun p f (Some rule) t s = and_then (ticked p s) (λ u m. entering (overridden rule) p f t m)
 
 -- the value of a binding, which fills a slot
-abbrev pub content_begun : World → Content → Site → Scope → Stack → State Task → Step Task Stack
-content_begun w Empty p c t s = Goes (filled_up (String [] ∷ []) t) s
-content_begun w (Select e) p c t s = and_then (limited p (value_run w e c.focus (last c.seen t.slots)) s) (λ v m. Goes (filled_up (v ∷ []) t) m)
-content_begun w (Fragment body) p c t s = Goes (pushed (rest (instrs_of body) (captured_scope c) ∷ fill ∷ []) t) (opened s)
+abbrev pub content_begun : Content → Site → Scope → Evaluation → State Task → Step Task Evaluation
+content_begun Empty p c t s = Goes (filled_up (String [] ∷ []) t) s
+content_begun (Select e) p c t s = and_then (limited p (value_run t.world e c.focus (last c.seen t.slots)) s) (λ v m. Goes (filled_up (v ∷ []) t) m)
+content_begun (Fragment body) p c t s = Goes (pushed (rest (instrs_of body) (captured_scope c) ∷ fill ∷ []) t) (opened s)
+
+-- the parameters of a call that are left, or else what is called
+abbrev pub passes_on : (left all : List Binding) → List Value → Called → Site → Scope → Evaluation → State Task → Step Task Evaluation
+passes_on [] all us callee p c t s = call_begun callee (record { bindings = all; values = us }) p c.focus t s
+passes_on (b ∷ left) all us callee p c t s = Goes (pushed (pass (b ∷ left) all us callee p c ∷ []) t) s
 
 -- a value that is passed
-abbrev pub pass_begun : World → Content → (left all : List Binding) → List Value → Called → Site → Scope → Stack → State Task → Step Task Stack
-pass_begun w Empty left all us callee p c t s = Goes (pushed (pass left all (us ++ String [] ∷ []) callee p c ∷ []) t) s
-pass_begun w (Select e) left all us callee p c t s =
-    and_then (limited p (value_run w e c.focus (last c.seen t.slots)) s) (λ v m. Goes (pushed (pass left all (us ++ v ∷ []) callee p c ∷ []) t) m)
-pass_begun w (Fragment body) left all us callee p c t s =
+abbrev pub pass_begun : Content → (left all : List Binding) → List Value → Called → Site → Scope → Evaluation → State Task → Step Task Evaluation
+pass_begun Empty left all us callee p c t s = passes_on left all (us ++ String [] ∷ []) callee p c t s
+pass_begun (Select e) left all us callee p c t s =
+    and_then (limited p (value_run t.world e c.focus (last c.seen t.slots)) s) (λ v m. passes_on left all (us ++ v ∷ []) callee p c t m)
+pass_begun (Fragment body) left all us callee p c t s =
     Goes (pushed (rest (instrs_of body) (captured_scope c) ∷ take_value left all us callee p c ∷ []) t) (opened s)
 
 -- a parameter that is passed, or else its own content
-abbrev pub param_begun : Option Value → World → Content → Site → Scope → Stack → State Task → Step Task Stack
-param_begun None w content p c t s = content_begun w content p c t s
-param_begun (Some v) w content p c t s = Goes (filled_up (v ∷ []) t) s
+abbrev pub param_begun : Option Value → Content → Site → Scope → Evaluation → State Task → Step Task Evaluation
+param_begun None content p c t s = content_begun content p c t s
+param_begun (Some v) content p c t s = Goes (filled_up (v ∷ []) t) s
 
-abbrev pub fallbacks_begun : List Body → Site → Scope → Stack → State Task → Step Task Stack
+abbrev pub fallbacks_begun : List Body → Site → Scope → Evaluation → State Task → Step Task Evaluation
 fallbacks_begun [] p c t s = stops (Fault fault.NoExtension p) s
 fallbacks_begun (b ∷ bs) p c t s = Goes (pushed (bodies_left (b ∷ bs) (inner c) ∷ []) t) s
 
 -- the next of some bodies
-abbrev pub next_body : List Body → Scope → Stack → Stack
+abbrev pub next_body : List Body → Scope → Evaluation → Evaluation
 next_body [] c t = t
 next_body (b ∷ bs) c t = pushed (rest (instrs_of b) (inner c) ∷ bodies_left bs c ∷ []) t
 
 -- the nodes to which templates are applied, and then what is passed to them
-abbrev pub apply_begun : World → Applied → List Binding → Site → Scope → Stack → State Task → Step Task Stack
-apply_begun w nodes bs p c t s =
-    and_then (limited p (nodes_or_children w nodes.select c.focus (last c.seen t.slots)) s)
-    (λ ns m. Goes (pushed (pass bs bs [] (by_rules nodes.mode ns) p c ∷ []) t) m)
+abbrev pub apply_begun : Applied → List Binding → Site → Scope → Evaluation → State Task → Step Task Evaluation
+apply_begun nodes bs p c t s =
+    and_then (limited p (nodes_or_children t.world nodes.select c.focus (last c.seen t.slots)) s)
+    (λ ns m. passes_on bs bs [] (by_rules nodes.mode ns) p c t m)
 
 -- a body for each node, where no rule is current
 abbrev pub looping : Focus → List ℕ → Focus
 looping f ns = in_list (length ns) (without_rule f)
 
-abbrev pub loop_begun : World → Body → Site → Scope → List ℕ → Stack → State Task → Step Task Stack
-loop_begun w body p c ns t s =
-    run_begun w (body_job body (last c.seen t.slots)) p (looping c.focus ns) ns (each_left body p (over (looping c.focus ns) c) 1 ns) t s
+abbrev pub loop_begun : Body → Site → Scope → List ℕ → Evaluation → State Task → Step Task Evaluation
+loop_begun body p c ns t s =
+    run_begun (body_job body (last c.seen t.slots)) p (looping c.focus ns) ns (each_left body p (over (looping c.focus ns) c) 1 ns) t s
 
-abbrev pub each_begun : World → ScopedExpr → Body → Site → Scope → Stack → State Task → Step Task Stack
-each_begun w select body p c t s = and_then (limited p (nodes_run w select c.focus (last c.seen t.slots)) s) (λ ns m. loop_begun w body p c ns t m)
+abbrev pub each_begun : ScopedExpr → Body → Site → Scope → Evaluation → State Task → Step Task Evaluation
+each_begun select body p c t s = and_then (limited p (nodes_run t.world select c.focus (last c.seen t.slots)) s) (λ ns m. loop_begun body p c ns t m)
 
-abbrev pub value_steps : World → ScopedExpr → Site → Focus → List Value → State Task → Told Task
-value_steps w select p f vs s = and_then (limited p (text_run w select f vs) s) (λ text m. chars_steps p text m)
+abbrev pub value_steps : ScopedExpr → Site → Scope → Evaluation → State Task → Told Task
+value_steps select p c t s = and_then (limited p (text_run t.world select c.focus (last c.seen t.slots)) s) (λ text m. chars_steps p text m)
 
-abbrev pub choice_begun : World → Choice → Site → Scope → Stack → State Task → Step Task Stack
-choice_begun w choice p c t s =
-    and_then (limited p (chosen choice w c.focus (last c.seen t.slots)) s) (λ body m. Goes (pushed (rest (instrs_of body) (inner c) ∷ []) t) m)
+abbrev pub choice_begun : Choice → Site → Scope → Evaluation → State Task → Step Task Evaluation
+choice_begun choice p c t s =
+    and_then (limited p (chosen choice t.world c.focus (last c.seen t.slots)) s) (λ body m. Goes (pushed (rest (instrs_of body) (inner c) ∷ []) t) m)
 
-abbrev pub if_begun : World → ScopedExpr → Body → Site → Scope → Stack → State Task → Step Task Stack
-if_begun w test body p c t s =
-    and_then (limited p (test_run w test c.focus (last c.seen t.slots)) s) (λ b m. Goes (pushed (if b then rest (instrs_of body) (inner c) ∷ [] else []) t) m)
+abbrev pub if_begun : ScopedExpr → Body → Site → Scope → Evaluation → State Task → Step Task Evaluation
+if_begun test body p c t s =
+    and_then (limited p (test_run t.world test c.focus (last c.seen t.slots)) s)
+    (λ b m. Goes (pushed (if b then rest (instrs_of body) (inner c) ∷ [] else []) t) m)
 
-abbrev pub message_begun : Bool → Body → Site → Scope → Stack → State Task → Step Task Stack
+abbrev pub message_begun : Bool → Body → Site → Scope → Evaluation → State Task → Step Task Evaluation
 message_begun terminate body p c t s = Goes (pushed (rest (instrs_of body) (captured_scope c) ∷ say p terminate ∷ []) t) (opened s)
 
-abbrev pub literal_begun : LiteralStart → Body → Scope → Stack → State Task → Step Task Stack
-literal_begun start body c t s = and_then (literal_steps start s) (λ u m. Goes (pushed (rest (instrs_of body) (inner c) ∷ end_element ∷ []) t) m)
+-- what is in an element
+abbrev pub inside_begun : List Label → Body → Scope → Evaluation → Evaluation
+inside_begun sets body c t = pushed (sets_works sets c.focus) (pushed (rest (instrs_of body) (inner c) ∷ end_element ∷ []) t)
+
+abbrev pub literal_begun : LiteralStart → Body → Site → Scope → Evaluation → State Task → Step Task Evaluation
+literal_begun start body p c t s =
+    and_then (literal_steps t.world.sheet.aliases p start s)
+    (λ u m. Goes (pushed (sets_works start.sets c.focus)
+    (pushed (attributes_left start.attributes p c ∷ rest (instrs_of body) (inner c) ∷ end_element ∷ []) t)) m)
+
+abbrev pub element_put : Label → List Label → Body → Scope → Evaluation → State Task → Step Task Evaluation
+element_put name sets body c t s = and_then (put (Start name) s) (λ u m. Goes (inside_begun sets body c t) m)
+
+abbrev pub element_begun : MadeName → List Label → Body → Site → Scope → Evaluation → State Task → Step Task Evaluation
+element_begun name sets body p c t s =
+    and_then (name_steps t.world p c.focus (last c.seen t.slots) false name s) (λ label m. element_put label sets body c t m)
+
+-- what is made of captured content
+abbrev pub made_begun : Made → Body → Site → Scope → Evaluation → State Task → Step Task Evaluation
+made_begun m body p c t s = Goes (pushed (rest (instrs_of body) (captured_scope c) ∷ make m p ∷ []) t) (opened s)
+
+abbrev pub attribute_begun : MadeName → Body → Site → Scope → Evaluation → State Task → Step Task Evaluation
+attribute_begun name body p c t s =
+    and_then (name_steps t.world p c.focus (last c.seen t.slots) true name s) (λ label m. made_begun (made.Attribute label) body p c t m)
+
+abbrev pub instruction_begun : ValueTemplate → Body → Site → Scope → Evaluation → State Task → Step Task Evaluation
+instruction_begun name body p c t s =
+    and_then (target_steps t.world p c.focus (last c.seen t.slots) name s) (λ target m. made_begun (made.Instruction target) body p c t m)
+
+-- copies
+abbrev pub copied_begun : Kind → List Label → Body → Scope → Evaluation → Evaluation
+copied_begun kind sets body c t =
+    if is_element_kind kind then inside_begun sets body c t else (if is_root_kind kind then pushed (rest (instrs_of body) (inner c) ∷ []) t else t)
+
+abbrev pub copy_begun : List Label → Body → Site → Scope → Evaluation → State Task → Step Task Evaluation
+copy_begun sets body p c t s =
+    and_then (events_steps p (shallow_copy t.world.tree c.focus.node) s)
+    (λ u m. Goes (copied_begun (at t.world.tree c.focus.node).kind sets body c t) m)
+
+abbrev pub copy_of_steps : ScopedExpr → Site → Scope → Evaluation → State Task → Told Task
+copy_of_steps select p c t s =
+    and_then (limited p (value_run t.world select c.focus (last c.seen t.slots)) s) (λ v m. copy_steps t.world.tree p v m)
 
 -- how an instruction begins
-abbrev pub begun : World → InstrKind → Site → Scope → Stack → State Task → Step Task Stack
-begun w (ApplyTemplates nodes passed) p c t s = apply_begun w nodes (bindings_of passed) p c t s
-begun w (CallTemplate i passed) p c t s = Goes (pushed (pass (bindings_of passed) (bindings_of passed) [] (by_number i) p c ∷ []) t) s
-begun w ApplyImports p c t s = imports_begun w p c.focus c.focus.rule t s
-begun w (ForEach select sorts body) p c t s = each_begun w select body p c t s
-begun w (ValueOf select) p c t s = stays (value_steps w select p c.focus (last c.seen t.slots) s) t
-begun w (CopyOf select) p c t s = Goes t s
-begun w (Copy sets body) p c t s = Goes t s
-begun w (Number decl) p c t s = Goes t s
-begun w (Choose choice) p c t s = choice_begun w choice p c t s
-begun w (If test body) p c t s = if_begun w test body p c t s
-begun w (Text text) p c t s = stays (chars_steps p text s) t
-begun w (Element name sets body) p c t s = Goes t s
-begun w (Attribute name body) p c t s = Goes t s
-begun w (Comment body) p c t s = Goes t s
-begun w (Pi name body) p c t s = Goes t s
-begun w (Message terminate body) p c t s = message_begun terminate body p c t s
-begun w (Variable' site name content) p c t s = content_begun w content p c t s
-begun w (Literal start body) p c t s = literal_begun start body c t s
-begun w (Extension fallbacks) p c t s = fallbacks_begun (bodies_of fallbacks) p c t s
+abbrev pub begun : InstrKind → Site → Scope → Evaluation → State Task → Step Task Evaluation
+begun (ApplyTemplates nodes passed) p c t s = apply_begun nodes (bindings_of passed) p c t s
+begun (CallTemplate i passed) p c t s = passes_on (bindings_of passed) (bindings_of passed) [] (by_number i) p c t s
+begun ApplyImports p c t s = imports_begun p c.focus c.focus.rule t s
+begun (ForEach select sorts body) p c t s = each_begun select body p c t s
+begun (ValueOf select) p c t s = stays (value_steps select p c t s) t
+begun (CopyOf select) p c t s = stays (copy_of_steps select p c t s) t
+begun (Copy sets body) p c t s = copy_begun sets body p c t s
+begun (Number decl) p c t s = Goes t s
+begun (Choose choice) p c t s = choice_begun choice p c t s
+begun (If test body) p c t s = if_begun test body p c t s
+begun (Text text) p c t s = stays (chars_steps p text s) t
+begun (Element name sets body) p c t s = element_begun name sets body p c t s
+begun (Attribute name body) p c t s = attribute_begun name body p c t s
+begun (Comment body) p c t s = made_begun made.Comment body p c t s
+begun (Pi name body) p c t s = instruction_begun name body p c t s
+begun (Message terminate body) p c t s = message_begun terminate body p c t s
+begun (Variable' site name content) p c t s = content_begun content p c t s
+begun (Literal start body) p c t s = literal_begun start body p c t s
+begun (Extension fallbacks) p c t s = fallbacks_begun (bodies_of fallbacks) p c t s
 
 -- the next step of the work that is first, before the others
-abbrev pub advanced : World → Work → Stack → State Task → Step Task Stack
-advanced w (rest [] c) t s = Goes (slots_are (without c.own t.slots) t) s
-advanced w (rest (i ∷ is) c) t s = and_then (ticked i.site s) (λ u m. begun w i.kind i.site c (pushed (rest is (after i.kind c) ∷ []) t) m)
-advanced w fill t s = Goes (filled_up (fragment_at s ∷ []) t) (popped s)
-advanced w (each_left body p c i []) t s = Goes t s
-advanced w (each_left body p c i (n ∷ ns)) t s =
+abbrev pub advanced : Work → Evaluation → State Task → Step Task Evaluation
+advanced (rest [] c) t s = Goes (slots_are (without c.own t.slots) t) s
+advanced (rest (i ∷ is) c) t s = and_then (ticked i.site s) (λ u m. begun i.kind i.site c (pushed (rest is (after i.kind c) ∷ []) t) m)
+advanced fill t s = Goes (filled_up (fragment_at s ∷ []) t) (popped s)
+advanced (each_left body p c i []) t s = Goes t s
+advanced (each_left body p c i (n ∷ ns)) t s =
     and_then (ticked p s) (λ u m. Goes (pushed (rest (instrs_of body) (over (at_node n i c.focus) c) ∷ each_left body p c (i + 1) ns ∷ []) t) m)
-advanced w (apply_left mode ps p f i []) t s = Goes t s
-advanced w (apply_left mode ps p f i (n ∷ ns)) t s =
-    and_then (ticked p s) (λ u m. entering (fitting mode ps) w p (at_node n i f) (pushed (apply_left mode ps p f (i + 1) ns ∷ []) t) m)
-advanced w (bodies_left bodies c) t s = Goes (next_body bodies c t) s
-advanced w end_element t s = stays (put End s) t
-advanced w (say p terminate) t s = stays (message_ended p terminate s) t
-advanced w (pass [] all us callee p c) t s = call_begun w callee (record { bindings = all; values = us }) p c.focus t s
-advanced w (pass (b ∷ left) all us callee p c) t s = pass_begun w b.content left all us callee p c t s
-advanced w (take_value left all us callee p c) t s = Goes (pushed (pass left all (us ++ fragment_at s ∷ []) callee p c ∷ []) t) (popped s)
-advanced w (params_left [] ps body c) t s = Goes (pushed (rest (instrs_of body) c ∷ []) t) s
-advanced w (params_left (b ∷ bs) ps body c) t s =
-    and_then (ticked b.site s) (λ u m. param_begun (value_passed b.name ps) w b.content b.site c (pushed (params_left bs ps body (bound c) ∷ []) t) m)
+advanced (apply_left mode ps p f i []) t s = Goes t s
+advanced (apply_left mode ps p f i (n ∷ ns)) t s =
+    and_then (ticked p s) (λ u m. entering (fitting mode ps) p (at_node n i f) (pushed (apply_left mode ps p f (i + 1) ns ∷ []) t) m)
+advanced (bodies_left bodies c) t s = Goes (next_body bodies c t) s
+advanced end_element t s = stays (put End s) t
+advanced (sets_left names f) t s = Goes (sets_begun names f t) s
+advanced (declared_left ss f) t s = Goes (declarations_begun ss f t) s
+advanced (attributes_left xs p c) t s = stays (attributes_steps t.world p c.focus (last c.seen t.slots) xs s) t
+advanced (make m p) t s = stays (made_ended m p s) t
+advanced (say p terminate) t s = stays (message_ended p terminate s) t
+advanced (pass [] all us callee p c) t s = call_begun callee (record { bindings = all; values = us }) p c.focus t s
+advanced (pass (b ∷ left) all us callee p c) t s = pass_begun b.content left all us callee p c t s
+advanced (take_value left all us callee p c) t s = passes_on left all (us ++ fragment_at s ∷ []) callee p c t (popped s)
+advanced (params_left [] ps body c) t s = Goes (pushed (rest (instrs_of body) c ∷ []) t) s
+advanced (params_left (b ∷ bs) ps body c) t s =
+    and_then (ticked b.site s) (λ u m. param_begun (value_passed b.name ps) b.content b.site c (pushed (params_first bs ps body (bound c) ∷ []) t) m)
 
--- the stack that a task begins with
-abbrev pub begun_job : Job → Task → Stack
-begun_job (body_job body vs) t = record
-    { works = each_left body t.site (record { focus = t.focus; seen = length vs; own = 0 }) t.first t.nodes ∷ []; slots = vs }
-begun_job (rules_job mode ps) t = record { works = apply_left mode ps t.site t.focus t.first t.nodes ∷ []; slots = [] }
+-- the evaluation that a task begins with
+abbrev pub begun_job : Job → World → Task → Evaluation
+begun_job (body_job body vs) w t =
+    pushed (each_left body t.site (record { focus = t.focus; seen = length vs; own = 0 }) t.first t.nodes ∷ []) (idle w vs)
+begun_job (rules_job mode ps) w t = pushed (apply_left mode ps t.site t.focus t.first t.nodes ∷ []) (idle w [])
 
-abbrev pub begun_with : Task → Stack
-begun_with t = begun_job t.job t
+abbrev pub begun_with : World → Task → Evaluation
+begun_with w t = begun_job t.job w t
 
--- ---- what the code's frames and stack stand for
+-- ---- what the code's frames represent
 abbrev pub called_of : code_callee.Callee → Called
 called_of (callee.Template i) = by_number i
 called_of (callee.Rules mode nodes) = by_rules mode (nodes_in nodes)
 
+abbrev pub pass_work : Passing → Work
+pass_work p = pass p.left.now p.all.now p.values.items (called_of p.callee) p.site p.scope
+
+abbrev pub take_work : Passing → Work
+take_work p = take_value p.left.now p.all.now p.values.items (called_of p.callee) p.site p.scope
+
+abbrev pub passing_on : List Value → Passing → Evaluation → State Task → Step Task Evaluation
+passing_on us p t s = passes_on p.left.now p.all.now us (called_of p.callee) p.site p.scope t s
+
+-- a parameter with this content, before those that are left
+abbrev pub passing_begun : Content → Passing → Evaluation → State Task → Step Task Evaluation
+passing_begun content p t s = pass_begun content p.left.now p.all.now p.values.items (called_of p.callee) p.site p.scope t s
+
+abbrev pub each_work : EachLeft → Work
+each_work e = each_left e.body.now e.site e.scope e.position (drop e.next (nodes_in e.nodes))
+
+abbrev pub apply_work : ApplyLeft → Work
+apply_work a = apply_left a.rules.mode a.rules.passed a.site a.focus a.position (drop a.next (nodes_in a.nodes))
+
+abbrev pub params_work : ParamsLeft → Work
+params_work p = params_left p.left.now p.passed p.body.now p.scope
+
+abbrev pub attributes_work : AttributesLeft → Work
+attributes_work a = attributes_left a.attributes.now a.site a.scope
+
 abbrev pub work_of : Frame → Work
 work_of (frame.Rest is c) = rest is.now c
 work_of frame.Fill = fill
-work_of (frame.Each nodes next i body p c) = each_left body.now p c i (drop next (nodes_in nodes))
-work_of (frame.Apply nodes next i mode passed p f) = apply_left mode passed p f i (drop next (nodes_in nodes))
+work_of (frame.Each e) = each_work e
+work_of (frame.Apply a) = apply_work a
 work_of (frame.Bodies bodies c) = bodies_left bodies.now c
 work_of frame.End = end_element
+work_of (frame.Sets names f) = sets_left names.now f
+work_of (frame.Declared declarations f) = declared_left (map (λ s. s.now) declarations.now) f
+work_of (frame.Attributes a) = attributes_work a
+work_of (frame.Make m p) = make m p
 work_of (frame.Say p terminate) = say p terminate
-work_of (frame.Pass left all values callee p c) = pass left.now all.now values.items (called_of callee) p c
-work_of (frame.Take left all values callee p c) = take_value left.now all.now values.items (called_of callee) p c
-work_of (frame.Params left passed body c) = params_left left.now passed body.now c
+work_of (frame.Pass p) = pass_work p
+work_of (frame.Take p) = take_work p
+work_of (frame.Params p) = params_work p
 
-abbrev pub stack_of : code.Stack → Stack
-stack_of t = record { works = reverse (map work_of t.frames.items); slots = t.slots.items }
+-- the last frame is the next
+abbrev pub evaluation_of : World → List Frame → List Value → Evaluation
+evaluation_of w frames slots = record { world = w; works = reverse (map work_of frames); slots = slots }

@@ -1,6 +1,8 @@
-use Rattle.std.proofs.Common.{refl, rules}
+use Rattle.std.proofs.Common.{ap, refl, rules, subst, sym}
+use Rattle.std.specs.Option.{IsSome}
+use Rattle.xs_semantics.specs.World.{World}
+use Rattle.xs_body.specs.steps.Frames.{Evaluation}
 use Rattle.std.proofs.lemmas.Result.{err_from_is_err_and}
-use Rattle.xs_body.specs.steps.Frames.{stack_of}
 use Rattle.xs_body.proofs.GlobalLemmas.{capture-exit, content-ends, content-exit}
 use Rattle.xs_body.proofs.attempts.tell_content.Goals as goal
 
@@ -12,17 +14,19 @@ returns-in_err-open_capture-clause-told g c =
     c.in_err-open_capture.ensures.told
 
 pub finish-requires-sync-K : goal.finish-requires-sync-K
-finish-requires-sync-K g c κs within = (search rules, ((refl, tt), (c.requires.world, (c.requires.holes, c.in_ok-stack.ensures.inside))))
+finish-requires-sync-K g c κs within =
+    let w = ap (λ (t : Evaluation). t.world) c.in_ok-evaluator.ensures.begun in
+    (search rules, ((refl, tt), subst (λ (v : World). IsSome v.grain → _) (sym w) c.requires.holes))
 
 pub returns-in_err-finish-clause-told : goal.returns-in_err-finish-clause-told
 returns-in_err-finish-clause-told g c =
     let p = err_from_is_err_and c.from_residual-in_err-finish.result c.from_residual-in_err-finish.ensures.1 in
-    content-exit c.args.world.now c.args.body.now (stack_of c.in_ok-stack.stack) (g.R.Tally.state c.args.recorder.now) (g.R.Tally.state c.open_capture.new.self)
-    (g.R.Tally.state c.finish.new.recorder) c.from_residual-in_err-finish.result _ _ c.in_ok-stack.ensures.stack c.in_ok-open_capture.ensures.told p.1 p.2
+    content-exit c.args.world.now c.args.body.now c.in_ok-evaluator.evaluator (g.R.Tally.state c.args.recorder.now) (g.R.Tally.state c.open_capture.new.self)
+    (g.R.Tally.state c.finish.new.recorder) c.from_residual-in_err-finish.result _ _ c.in_ok-evaluator.ensures.begun c.in_ok-open_capture.ensures.told p.1 p.2
     c.in_err-finish.ensures.told
 
 pub returns-clause-told : goal.returns-clause-told
 returns-clause-told g c =
-    content-ends c.args.world.now c.args.body.now (stack_of c.in_ok-stack.stack) (g.R.Tally.state c.args.recorder.now) (g.R.Tally.state c.open_capture.new.self)
-    (g.R.Tally.state c.finish.new.recorder) _ _ _ c.in_ok-stack.ensures.stack c.in_ok-open_capture.ensures.told c.in_ok-finish.ensures.told
+    content-ends c.args.world.now c.args.body.now c.in_ok-evaluator.evaluator (g.R.Tally.state c.args.recorder.now) (g.R.Tally.state c.open_capture.new.self)
+    (g.R.Tally.state c.finish.new.recorder) _ _ _ c.in_ok-evaluator.ensures.begun c.in_ok-open_capture.ensures.told c.in_ok-finish.ensures.told
     c.close_capture-fragment.ensures.events c.close_capture-fragment.ensures.rest c.in_ok-fragment_value.ensures

@@ -4,4 +4,4 @@ use Rattle.xs_body.proofs.LoopLemmas.{task-starts}
 use Rattle.xs_body.proofs.laws.tasks_begin.Goals as goal
 
 pub returns : goal.returns
-returns c = λ w t s. task-starts w t (begun_with t) s refl
+returns c = λ w t s. task-starts w t (begun_with w t) s refl

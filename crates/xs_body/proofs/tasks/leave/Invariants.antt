@@ -1,15 +1,14 @@
 use Rattle.std.proofs.Common.{◌≡◌, length, map}
 use Rattle.xs_trace.specs.Mark.{Hole}
 use Rattle.xs_trace.specs.Play.{play}
-use Rattle.xs_semantics.specs.Tasks.{tasks_for}
-use Rattle.xs_body.specs.steps.Jobs.{job_of}
+use Rattle.xs_semantics.specs.Tasks.{shared}
 use Rattle.xs_body.specs.steps.Sharing.{share_of, shares}
 use Rattle.xs_body.proofs.tasks.leave.Given as goal
 
 -- the holes of the whole run are those of the nodes that are left, behind those that were told
 abbrev pub invariant-loop-node : goal.invariant-loop-node
 invariant-loop-node g l =
-    (play (map Hole (tasks_for l.grain (job_of l.fn.job) l.fn.site l.fn.focus l.fn.nodes)) (g.R.Tally.state l.fn.recorder)
+    (play (map Hole (shared l.grain l.grain l.fn.task l.fn.nodes)) (g.R.Tally.state l.fn.recorder)
     ≡ shares l.grain (share_of l.sharing) l.left (g.R.Tally.state l.recorder)) ×
     (g.R.Tally.kept l.recorder ≡ g.R.Tally.kept l.fn.recorder)
 

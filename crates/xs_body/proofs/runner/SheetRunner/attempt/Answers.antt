@@ -2,7 +2,6 @@ use Rattle.std.proofs.Common.{◌≡◌, IfOk, None, false, true, ap, refl, rule
 use Rattle.xs_trace.specs.Kept.{marks_of}
 use Rattle.xs_trace.specs.Mark.{messages_of}
 use Rattle.xs_semantics.specs.Globals.{attempt_cut, attempt_value}
-use Rattle.xs_body.specs.Inside.{IsWorld}
 use Rattle.xs_body.specs.Results.{IsAttempt}
 use Rattle.xs_semantics.specs.Tasks.{Task}
 use Rattle.xs_semantics.specs.World.{World}
@@ -14,7 +13,7 @@ pub tell_global-told-requires-sync-K : goal.tell_global-told-requires-sync-K
 tell_global-told-requires-sync-K g c κs within =
     let v : c.self.inside.world ≡ c.args.self.now = c.self.view_is in
     let e : c.self.inside.world.grain ≡ None = ap (λ (x : World). x.grain) v ∙ c.requires.whole in
-    (search rules, ((refl, tt), (subst (λ (x : World). IsWorld x) (sym v) c.requires.world, no-grain {A = false ≡ true} c.self.inside.world.grain e)))
+    (search rules, ((refl, tt), no-grain {A = false ≡ true} c.self.inside.world.grain e))
 
 pub returns-clause-attempt : goal.returns-clause-attempt
 returns-clause-attempt g c =

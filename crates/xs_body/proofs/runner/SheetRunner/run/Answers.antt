@@ -2,7 +2,7 @@ use Rattle.std.proofs.Common.{◌≡◌, IfOk, refl, rules, subst, sym}
 use Rattle.std.specs.List.{All}
 use Rattle.std.specs.Option.{IsSome}
 use Rattle.xs_record.specs.Piece.{IsPiece}
-use Rattle.xs_body.specs.Inside.{IsTaskIn, IsWorld}
+use Rattle.xs_body.specs.Inside.{IsTaskIn}
 use Rattle.xs_semantics.specs.Trace.{task_trace}
 use Rattle.xs_semantics.specs.World.{World}
 use Rattle.xs_body.proofs.WholeLemmas.{piece-is, task-settled}
@@ -10,16 +10,8 @@ use Rattle.xs_body.proofs.runner.SheetRunner.run.Goals as goal
 
 pub tell_task-told-requires-sync-K : goal.tell_task-told-requires-sync-K
 tell_task-told-requires-sync-K g c κs within =
-    let v : c.self.inside.world ≡ c.args.self.now = c.self.view_is in (
-      search rules,
-      (
-        (refl, tt),
-        (
-          subst (λ (x : World). IsWorld x) (sym v) c.requires.world,
-          (λ some. refl, subst (λ (x : World). IsTaskIn x.tree c.args.task.now) (sym v) c.requires.task),
-        ),
-      ),
-    )
+    let v : c.self.inside.world ≡ c.args.self.now = c.self.view_is in
+    (search rules, ((refl, tt), (λ some. refl, subst (λ (x : World). IsTaskIn x.tree c.args.task.now) (sym v) c.requires.task)))
 
 pub finish-requires : goal.finish-requires
 finish-requires g c =

@@ -1,0 +1,280 @@
+-- What is put and made step by step is what is told of it.
+use Rattle.std.proofs.Common.{◌≡◌, ℕ, ◌==◌, length, List, [], ◌∷◌, ◌++◌, Option, Some, None, Bool, true, false, cond, Result, Ok, Err, refl, sym, ap, ◌∙◌, arith}
+use Rattle.std.proofs.lemmas.Bool.Decides.{nat_tests}
+use Rattle.xs_sheet.specs.declared.body.LiteralStart.{LiteralStart}
+use Rattle.xs_sheet.specs.declared.body.MadeName.{MadeName}
+use Rattle.xs_sheet.specs.declared.declarations.Alias.{Alias}
+use Rattle.xs_sheet.specs.declared.scoped.ValueTemplate.{ValueTemplate}
+use Rattle.xs_trace.specs.Label.{Label}
+use Rattle.xs_trace.specs.Mark.{Trace, ◌⨾◌}
+use Rattle.xs_trace.specs.Run.{Run, Gives, Faults, give, limited, evaluated, ◌>>=◌}
+use Rattle.xs_trace.specs.State.{State, popped, top}
+use Rattle.xs_trace.specs.Play.{IsStepBy, Step, Goes, Told, and_then, goes, put_at, play}
+use Rattle.xs_trace.specs.declared.event.Event.{Event}
+use Rattle.xs_trace.specs.declared.event.Event.TheVariants as event
+use Rattle.xs_trace.specs.declared.event.Event.TheVariants.{Start, Chars}
+use Rattle.xs_trace.specs.declared.fault.Fault.{Fault as RunFault}
+use Rattle.xs_trace.specs.declared.item.Site.{Site}
+use Rattle.xs_trace.proofs.GrowthLemmas.{Grows, grows-then, stops-grow, goes-grows, put_at-grows}
+use Rattle.xs_trace.proofs.PlayLemmas.{then-same, then-then, then-goes, play-then, play-put}
+use Rattle.xs_trace.proofs.RunLemmas.{limited-bind, limited-end, limited-grows, play-evaluated}
+use Rattle.xs_tree.specs.Record.{Record}
+use Rattle.xs_value.specs.declared.value.Value.{Value}
+use Rattle.xs_value.specs.declared.value.Value.TheVariants as value
+use Rattle.xs_value.specs.Conversion.{text_value}
+use Rattle.xs_eval.specs.Results.{given}
+use Rattle.xs_making.specs.Copies.{deep_copy}
+use Rattle.xs_making.specs.declared.ends.MakeEnd.{MakeEnd}
+use Rattle.xs_making.specs.declared.ends.MakeEnd.TheVariants as end
+use Rattle.xs_making.specs.Names.{pi_target, result_name}
+use Rattle.xs_making.specs.Results.{IsMade}
+use Rattle.xs_making.specs.Texts.{comment_text, instruction_text}
+use Rattle.xs_semantics.specs.declared.focus.Focus.{Focus}
+use Rattle.xs_semantics.specs.declared.made.Made.{Made}
+use Rattle.xs_semantics.specs.declared.made.Made.TheVariants as made
+use Rattle.xs_semantics.specs.World.{World, template_run}
+use Rattle.xs_semantics.specs.Making.{aliased, attribute_events, attribute_label, content_text, element_label, literal_spaces, name_run, namespace_run}
+use Rattle.xs_semantics.specs.Making.{made_events, space_events, target_run, text_events, texts_outside, value_events}
+use Rattle.xs_semantics.specs.Tasks.{Task}
+use Rattle.xs_semantics.specs.Trace.{begins, literal_attributes, puts, puts_all}
+use Rattle.xs_body.specs.steps.Making.{attribute_steps, attributes_steps, chars_steps, copy_steps, depth_after, events_steps, literal_steps, made_at}
+use Rattle.xs_body.specs.steps.Making.{halted, is_declaration, is_unbound, made_ended, made_steps, name_steps, named_steps, namespace_steps, nodes_steps}
+use Rattle.xs_body.specs.steps.Making.{outcome_steps, space_steps, spaces_steps, target_steps, text_added}
+
+-- ---- events
+pub events-told : (p : Site) (es : List Event) (s : State Task) → events_steps p es s ≡ play (puts_all p es) s
+events-told p [] s = refl
+events-told p (e ∷ es) s =
+    ap (λ g. and_then g (λ u m. events_steps p es m)) (play-put p e s)
+    ∙ then-same (play (puts p e) s) (λ u m. events_steps p es m) (λ u m. play (puts_all p es) m) (λ u m. events-told p es m)
+    ∙ sym (play-then (puts p e) (puts_all p es) s)
+
+events-both : (p : Site) (ls bs : List Event) (s : State Task) →
+    events_steps p (ls ++ bs) s ≡ and_then (events_steps p ls s) (λ u m. events_steps p bs m)
+events-both p [] bs s = refl
+events-both p (e ∷ ls) bs s =
+    then-same (put_at p e s) (λ u m. events_steps p (ls ++ bs) m) (λ u m. and_then (events_steps p ls m) (λ v n. events_steps p bs n))
+    (λ u m. events-both p ls bs m)
+    ∙ sym (then-then (put_at p e s) (λ u m. events_steps p ls m) (λ v n. events_steps p bs n))
+
+event-told : (p : Site) (e : Event) (s : State Task) → put_at p e s ≡ events_steps p (e ∷ []) s
+event-told p e s = sym (then-goes (put_at p e s))
+
+space-told : (p : Site) (prefix uri : List ℕ) (s : State Task) → space_steps p prefix uri s ≡ events_steps p (space_events prefix uri) s
+space-told p prefix uri s = by_test (is_unbound uri)
+  where
+    by_test : (b : Bool) → cond b (goes s) (put_at p (event.Space prefix uri) s) ≡ events_steps p (cond b [] (event.Space prefix uri ∷ [])) s
+    by_test true = refl
+    by_test false = event-told p (event.Space prefix uri) s
+
+named-told : (p : Site) (name : Label) (value : List ℕ) (s : State Task) → named_steps p name value s ≡ events_steps p (attribute_events name value) s
+named-told p name value s = by_test (is_declaration name)
+  where
+    by_test : (b : Bool) → cond b (goes s) (put_at p (event.Attr name value) s) ≡ events_steps p (cond b [] (event.Attr name value ∷ [])) s
+    by_test true = refl
+    by_test false = event-told p (event.Attr name value) s
+
+made-told : (m : Made) (text : List ℕ) (p : Site) (s : State Task) → made_steps m text p s ≡ events_steps p (made_events m text) s
+made-told (made.Attribute name) text p s = named-told p name text s
+made-told made.Comment text p s = event-told p (event.Comment (comment_text text)) s
+made-told (made.Instruction target) text p s = event-told p (event.Pi target (instruction_text text)) s
+
+pub ended-told : (m : Made) (p : Site) (s : State Task) → made_ended m p s ≡ play (puts_all p (made_at m s)) (popped s)
+ended-told m p s = made-told m (content_text (top s.captures)) p (popped s) ∙ events-told p (made_at m s) (popped s)
+
+text-told : (p : Site) (t : List ℕ) (s : State Task) → chars_steps p t s ≡ events_steps p (text_events t) s
+text-told p [] s = refl
+text-told p (b ∷ bs) s =
+    let q : (length (b ∷ bs) == 0) ≡ false = grind (arith, nat_tests) in
+    ap (λ x. cond x (goes s) (put_at p (Chars (b ∷ bs)) s)) q ∙ event-told p (Chars (b ∷ bs)) s
+
+-- ---- literal elements
+spaces-told : (ls : List Alias) (p : Site) (xs : List (List ℕ × List ℕ)) (s : State Task) →
+    spaces_steps ls p xs s ≡ events_steps p (literal_spaces ls xs) s
+spaces-told ls p [] s = refl
+spaces-told ls p (x ∷ xs) s =
+    ap (λ g. and_then g (λ u m. spaces_steps ls p xs m)) (space-told p x.0 (aliased ls x.1) s)
+    ∙ then-same (events_steps p (space_events x.0 (aliased ls x.1)) s) (λ u m. spaces_steps ls p xs m) (λ u m. events_steps p (literal_spaces ls xs) m)
+    (λ u m. spaces-told ls p xs m)
+    ∙ sym (events-both p (space_events x.0 (aliased ls x.1)) (literal_spaces ls xs) s)
+
+pub literal-told : (w : World) (p : Site) (start : LiteralStart) (s : State Task) → literal_steps w.sheet.aliases p start s ≡ play (begins w start p) s
+literal-told w p start s =
+    let ls : List Alias = w.sheet.aliases in
+    let e : Event = Start (element_label ls start.name) in
+    then-same (put_at p e s) (λ u m. spaces_steps ls p start.spaces m) (λ u m. events_steps p (literal_spaces ls start.spaces) m)
+    (λ u m. spaces-told ls p start.spaces m)
+    ∙ events-told p (e ∷ literal_spaces ls start.spaces) s
+
+attribute-told : (w : World) (p : Site) (f : Focus) (vs : List Value) (a : Label × ValueTemplate) (s : State Task) →
+    attribute_steps w p f vs a s
+    ≡ play (evaluated p (template_run w a.1 f vs) (λ text. puts_all p (attribute_events (attribute_label w.sheet.aliases a.0) text))) s
+attribute-told w p f vs a s =
+    let es : List ℕ → List Event = λ text. attribute_events (attribute_label w.sheet.aliases a.0) text in
+    let r : Run (List ℕ) = template_run w a.1 f vs in
+    let name : Label = attribute_label w.sheet.aliases a.0 in
+    then-same (limited p r s) (λ text m. named_steps p name text m) (λ text m. play (puts_all p (es text)) m)
+    (λ text m. named-told p name text m ∙ events-told p (es text) m)
+    ∙ sym (play-evaluated p r (λ text. puts_all p (es text)) s)
+
+pub attributes-told : (w : World) (p : Site) (f : Focus) (vs : List Value) (xs : List (Label × ValueTemplate)) (s : State Task) →
+    attributes_steps w p f vs xs s ≡ play (literal_attributes xs p w f vs) s
+attributes-told w p f vs [] s = refl
+attributes-told w p f vs (a ∷ xs) s =
+    let x : Trace Task = evaluated p (template_run w a.1 f vs) (λ text. puts_all p (attribute_events (attribute_label w.sheet.aliases a.0) text)) in
+    ap (λ g. and_then g (λ u m. attributes_steps w p f vs xs m)) (attribute-told w p f vs a s)
+    ∙ then-same (play x s) (λ u m. attributes_steps w p f vs xs m) (λ u m. play (literal_attributes xs p w f vs) m)
+    (λ u m. attributes-told w p f vs xs m)
+    ∙ sym (play-then x (literal_attributes xs p w f vs) s)
+
+-- ---- copies
+nodes-told : (rs : List Record) (p : Site) (ns : List ℕ) (s : State Task) → nodes_steps rs p ns s ≡ events_steps p (value_events rs (value.Nodes ns)) s
+nodes-told rs p [] s = refl
+nodes-told rs p (n ∷ ns) s =
+    then-same (events_steps p (deep_copy rs n) s) (λ u m. nodes_steps rs p ns m) (λ u m. events_steps p (value_events rs (value.Nodes ns)) m)
+    (λ u m. nodes-told rs p ns m)
+    ∙ sym (events-both p (deep_copy rs n) (value_events rs (value.Nodes ns)) s)
+
+pub copy-told : (rs : List Record) (p : Site) (v : Value) (s : State Task) → copy_steps rs p v s ≡ play (puts_all p (value_events rs v)) s
+copy-told rs p (value.Nodes ns) s = nodes-told rs p ns s ∙ events-told p (value_events rs (value.Nodes ns)) s
+copy-told rs p (value.Piece es) s = events-told p es s
+copy-told rs p (value.Chars t) s = text-told p t s ∙ events-told p (text_events t) s
+copy-told rs p (value.Bool b) s =
+    let t : List ℕ = text_value rs (value.Bool b) in text-told p t s ∙ events-told p (text_events t) s
+copy-told rs p (value.Number n) s =
+    let t : List ℕ = text_value rs (value.Number n) in text-told p t s ∙ events-told p (text_events t) s
+
+-- ---- names
+outcome-told : {A : Type 0} (p : Site) (r : Result A RunFault) (s : State Task) → outcome_steps p r s ≡ limited p (given r) s
+outcome-told p (Ok x) s = sym (limited-end p (Gives x) s)
+outcome-told p (Err f) s = sym (limited-end p (Faults f) s)
+
+-- what the code answers of what was made
+pub made-answers : {A : Type 0} (p : Site) (r : Result A RunFault) (m : Result A MakeEnd) (s : State Task) → IsMade r m →
+    IsStepBy (λ (x : A). x) (outcome_steps p r s) (halted p m) s
+made-answers p r (Ok x) s e = ap (λ q. outcome_steps p q s) e
+made-answers p r (Err (end.Fault f)) s e = ap (λ q. outcome_steps p q s) e
+made-answers p r (Err end.NoMemory) s e = tt
+
+namespace-told : (w : World) (p : Site) (f : Focus) (vs : List Value) (o : Option ValueTemplate) (s : State Task) →
+    namespace_steps w p f vs o s ≡ limited p (namespace_run w o f vs) s
+namespace-told w p f vs None s = sym (limited-end p (Gives None) s)
+namespace-told w p f vs (Some v) s =
+    then-same (limited p (template_run w v f vs) s) (λ uri m. Goes (Some uri) m) (λ uri m. limited p (give (Some uri)) m)
+    (λ uri m. sym (limited-end p (Gives (Some uri)) m))
+    ∙ sym (limited-bind p (template_run w v f vs) (λ uri. give (Some uri)) s)
+
+pub name-told : (w : World) (p : Site) (f : Focus) (vs : List Value) (b : Bool) (name : MadeName) (s : State Task) →
+    name_steps w p f vs b name s ≡ limited p (name_run w b name f vs) s
+name-told w p f vs b name s =
+    let r : Run (List ℕ) = template_run w name.name f vs in
+    let named : List ℕ → Option (List ℕ) → Result Label RunFault = λ text uri. result_name name.scope b uri text in
+    let rest : List ℕ → Run Label = λ text. namespace_run w name.namespace f vs >>= (λ uri. given (named text uri)) in
+    then-same (limited p r s) (λ text m. and_then (namespace_steps w p f vs name.namespace m) (λ uri n. outcome_steps p (named text uri) n))
+    (λ text m. limited p (rest text) m) (λ text m.
+    ap (λ g. and_then g (λ uri n. outcome_steps p (named text uri) n)) (namespace-told w p f vs name.namespace m)
+    ∙ then-same (limited p (namespace_run w name.namespace f vs) m) (λ uri n. outcome_steps p (named text uri) n)
+    (λ uri n. limited p (given (named text uri)) n) (λ uri n. outcome-told p (named text uri) n)
+    ∙ sym (limited-bind p (namespace_run w name.namespace f vs) (λ uri. given (named text uri)) m))
+    ∙ sym (limited-bind p r rest s)
+
+pub target-told : (w : World) (p : Site) (f : Focus) (vs : List Value) (name : ValueTemplate) (s : State Task) →
+    target_steps w p f vs name s ≡ limited p (target_run w name f vs) s
+target-told w p f vs name s =
+    let r : Run (List ℕ) = template_run w name f vs in
+    then-same (limited p r s) (λ text m. outcome_steps p (pi_target text) m) (λ text m. limited p (given (pi_target text)) m)
+    (λ text m. outcome-told p (pi_target text) m)
+    ∙ sym (limited-bind p r (λ text. given (pi_target text)) s)
+
+-- ---- what was told stays
+pub events-grow : {H : Type 0} → (p : Site) (es : List Event) → Grows {H = H} (events_steps p es)
+events-grow p [] s = goes-grows tt s
+events-grow p (e ∷ es) s = grows-then s (put_at p e s) (λ u m. events_steps p es m) (put_at-grows p e s) (λ u. events-grow p es)
+
+pub space-grows : {H : Type 0} → (p : Site) (prefix uri : List ℕ) → Grows {H = H} (space_steps p prefix uri)
+space-grows p prefix uri = by_test (is_unbound uri)
+  where
+    by_test : (b : Bool) → Grows (λ s. cond b (goes s) (put_at p (event.Space prefix uri) s))
+    by_test true s = goes-grows tt s
+    by_test false s = put_at-grows p (event.Space prefix uri) s
+
+pub named-grows : {H : Type 0} → (p : Site) (name : Label) (value : List ℕ) → Grows {H = H} (named_steps p name value)
+named-grows p name value = by_test (is_declaration name)
+  where
+    by_test : (b : Bool) → Grows (λ s. cond b (goes s) (put_at p (event.Attr name value) s))
+    by_test true s = goes-grows tt s
+    by_test false s = put_at-grows p (event.Attr name value) s
+
+pub spaces-grow : {H : Type 0} → (ls : List Alias) (p : Site) (xs : List (List ℕ × List ℕ)) → Grows {H = H} (spaces_steps ls p xs)
+spaces-grow ls p [] s = goes-grows tt s
+spaces-grow ls p (x ∷ xs) s =
+    grows-then s (space_steps p x.0 (aliased ls x.1) s) (λ u m. spaces_steps ls p xs m) (space-grows p x.0 (aliased ls x.1) s)
+    (λ u. spaces-grow ls p xs)
+
+pub literal-grows : {H : Type 0} → (ls : List Alias) (p : Site) (start : LiteralStart) → Grows {H = H} (literal_steps ls p start)
+literal-grows ls p start s =
+    grows-then s (put_at p (Start (element_label ls start.name)) s) (λ u m. spaces_steps ls p start.spaces m)
+    (put_at-grows p (Start (element_label ls start.name)) s) (λ u. spaces-grow ls p start.spaces)
+
+pub attributes-grow : {H : Type 0} → (w : World) (p : Site) (f : Focus) (vs : List Value) (xs : List (Label × ValueTemplate)) →
+    Grows {H = H} (attributes_steps w p f vs xs)
+attributes-grow w p f vs [] s = goes-grows tt s
+attributes-grow w p f vs (a ∷ xs) s =
+    let name : Label = attribute_label w.sheet.aliases a.0 in
+    grows-then s (attribute_steps w p f vs a s) (λ u m. attributes_steps w p f vs xs m)
+    (grows-then s (limited p (template_run w a.1 f vs) s) (λ text m. named_steps p name text m) (limited-grows p _ s) (λ text. named-grows p name text))
+    (λ u. attributes-grow w p f vs xs)
+
+pub nodes-grow : {H : Type 0} → (rs : List Record) (p : Site) (ns : List ℕ) → Grows {H = H} (nodes_steps rs p ns)
+nodes-grow rs p [] s = goes-grows tt s
+nodes-grow rs p (n ∷ ns) s =
+    grows-then s (events_steps p (deep_copy rs n) s) (λ u m. nodes_steps rs p ns m) (events-grow p (deep_copy rs n) s) (λ u. nodes-grow rs p ns)
+
+pub text-grows : {H : Type 0} → (p : Site) (t : List ℕ) → Grows {H = H} (chars_steps p t)
+text-grows p t = by_test (length t == 0)
+  where
+    by_test : (b : Bool) → Grows (λ s. cond b (goes s) (put_at p (Chars t) s))
+    by_test true s = goes-grows tt s
+    by_test false s = put_at-grows p (Chars t) s
+
+pub copies-grow : {H : Type 0} → (rs : List Record) (p : Site) (v : Value) → Grows {H = H} (copy_steps rs p v)
+copies-grow rs p (value.Nodes ns) = nodes-grow rs p ns
+copies-grow rs p (value.Piece es) = events-grow p es
+copies-grow rs p (value.Chars t) = text-grows p t
+copies-grow rs p (value.Bool b) = text-grows p (text_value rs (value.Bool b))
+copies-grow rs p (value.Number n) = text-grows p (text_value rs (value.Number n))
+
+pub outcome-grows : {H A : Type 0} → (p : Site) (r : Result A RunFault) → Grows {H = H} (outcome_steps p r)
+outcome-grows p (Ok x) = goes-grows x
+outcome-grows p (Err f) = stops-grow _
+
+pub namespace-grows : {H : Type 0} → (w : World) (p : Site) (f : Focus) (vs : List Value) (o : Option ValueTemplate) →
+    Grows {H = H} (namespace_steps w p f vs o)
+namespace-grows w p f vs None = goes-grows None
+namespace-grows w p f vs (Some v) s =
+    grows-then s (limited p (template_run w v f vs) s) (λ uri m. Goes (Some uri) m) (limited-grows p _ s) (λ uri. goes-grows (Some uri))
+
+pub name-grows : {H : Type 0} → (w : World) (p : Site) (f : Focus) (vs : List Value) (b : Bool) (name : MadeName) →
+    Grows {H = H} (name_steps w p f vs b name)
+name-grows w p f vs b name s =
+    let named : List ℕ → Option (List ℕ) → Result Label RunFault = λ text uri. result_name name.scope b uri text in
+    grows-then s (limited p (template_run w name.name f vs) s)
+    (λ text m. and_then (namespace_steps w p f vs name.namespace m) (λ uri n. outcome_steps p (named text uri) n)) (limited-grows p _ s) (λ text m.
+    grows-then m (namespace_steps w p f vs name.namespace m) (λ uri n. outcome_steps p (named text uri) n) (namespace-grows w p f vs name.namespace m)
+    (λ uri. outcome-grows p (named text uri)))
+
+pub target-grows : {H : Type 0} → (w : World) (p : Site) (f : Focus) (vs : List Value) (name : ValueTemplate) →
+    Grows {H = H} (target_steps w p f vs name)
+target-grows w p f vs name s =
+    grows-then s (limited p (template_run w name f vs) s) (λ text m. outcome_steps p (pi_target text) m) (limited-grows p _ s)
+    (λ text. outcome-grows p (pi_target text))
+
+-- ---- the text of content, event by event
+pub text-next : (e : Event) (es : List Event) (depth : ℕ) → texts_outside (e ∷ es) depth ≡ text_added e depth ++ texts_outside es (depth_after e depth)
+text-next (Start name) es depth = refl
+text-next (event.Space prefix uri) es depth = refl
+text-next (event.Attr name value) es depth = refl
+text-next (Chars text) es depth = refl
+text-next event.End es depth = refl
+text-next (event.Comment text) es depth = refl
+text-next (event.Pi target value) es depth = refl

@@ -1,0 +1,11 @@
+use Rattle.std.proofs.Common.{[], refl, ap, rules}
+use Rattle.std.proofs.lemmas.List.Elements.{All-nil, All-same}
+use Rattle.xs_value.specs.Conversion.{IsIn}
+use Rattle.xs_semantics.specs.Tasks.{Params}
+use Rattle.xs_body.proofs.evaluator.Evaluator.apply_to_children.Goals as goal
+
+pub apply-requires-sync-K : goal.apply-requires-sync-K
+apply-requires-sync-K g c κs within =
+    let rs = c.args.self.now.world.tree in
+    let none = All-same (IsIn rs) c.none.result.values [] (ap (λ (ps : Params). ps.values) c.none.ensures) (All-nil (IsIn rs)) in
+    (search rules, ((refl, tt), (c.requires.holes, (c.in_ok-children.ensures.inside, none))))

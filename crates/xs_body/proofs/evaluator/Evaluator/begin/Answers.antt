@@ -1,0 +1,32 @@
+use Rattle.std.proofs.Common.{ℕ, List, refl, sym, subst}
+use Rattle.xs_sheet.specs.declared.body.InstrKind.{InstrKind}
+use Rattle.xs_trace.specs.Play.{IsStep, IsStepBy}
+use Rattle.xs_body.specs.steps.Frames.{Evaluation, begun, chars_steps, copy_of_steps, value_steps}
+use Rattle.xs_body.proofs.ExitLemmas.{stays-told}
+use Rattle.xs_body.proofs.evaluator.Evaluator.begin.Goals as goal
+
+pub returns-in-ValueOf-clause-told : goal.returns-in-ValueOf-clause-told
+returns-in-ValueOf-clause-told g c =
+    let t : Evaluation = c.args.self.now in
+    let s = g.R.Tally.state c.args.recorder.now in
+    subst (λ (k : InstrKind). IsStepBy {A = Evaluation} {B = Unit {0}} (λ u. t) (begun k c.args.site c.args.scope t s) c.put_value.result
+    (g.R.Tally.state c.put_value.new.recorder)) (sym c.in-ValueOf.is)
+    (stays-told (value_steps c.in-ValueOf.select c.args.site c.args.scope t s) t t _ c.put_value.result refl c.put_value.ensures.told)
+
+pub returns-in_ok-copy-in-Text-clause-told : goal.returns-in_ok-copy-in-Text-clause-told
+returns-in_ok-copy-in-Text-clause-told g c =
+    let t : Evaluation = c.args.self.now in
+    let s = g.R.Tally.state c.args.recorder.now in
+    subst (λ (k : InstrKind). IsStepBy {A = Evaluation} {B = Unit {0}} (λ u. t) (begun k c.args.site c.args.scope t s) c.put_text.result
+    (g.R.Tally.state c.put_text.new.recorder)) (sym c.in-Text.is)
+    (stays-told (chars_steps c.args.site c.in-Text.text s) t t _ c.put_text.result refl
+    (subst (λ (x : List ℕ). IsStep (chars_steps c.args.site x s) c.put_text.result (g.R.Tally.state c.put_text.new.recorder))
+    c.in_ok-copy-in-Text.ensures.text c.put_text.ensures.told))
+
+pub returns-in-CopyOf-clause-told : goal.returns-in-CopyOf-clause-told
+returns-in-CopyOf-clause-told g c =
+    let t : Evaluation = c.args.self.now in
+    let s = g.R.Tally.state c.args.recorder.now in
+    subst (λ (k : InstrKind). IsStepBy {A = Evaluation} {B = Unit {0}} (λ u. t) (begun k c.args.site c.args.scope t s) c.put_copy.result
+    (g.R.Tally.state c.put_copy.new.recorder)) (sym c.in-CopyOf.is)
+    (stays-told (copy_of_steps c.in-CopyOf.select c.args.site c.args.scope t s) t t _ c.put_copy.result refl c.put_copy.ensures.told)

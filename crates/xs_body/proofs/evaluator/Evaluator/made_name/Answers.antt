@@ -1,0 +1,24 @@
+use Rattle.std.proofs.Common.{refl}
+use Rattle.std.proofs.lemmas.Result.{err_from_is_err_and}
+use Rattle.xs_trace.specs.Play.{and_then}
+use Rattle.xs_trace.proofs.GrowthLemmas.{grows-then, passes}
+use Rattle.xs_making.specs.Names.{result_name}
+use Rattle.xs_body.specs.steps.Frames.{last}
+use Rattle.xs_body.specs.steps.Making.{namespace_steps, outcome_steps}
+use Rattle.xs_body.proofs.MakingLemmas.{namespace-grows, outcome-grows}
+use Rattle.xs_body.proofs.evaluator.Evaluator.made_name.Goals as goal
+
+pub returns-in_err-text-clause-told : goal.returns-in_err-text-clause-told
+returns-in_err-text-clause-told g c =
+    let p = err_from_is_err_and c.from_residual.result c.from_residual.ensures.1 in
+    let w = c.args.self.now.world in
+    let f = c.args.scope.focus in
+    let vs = last c.args.scope.seen c.args.self.now.slots in
+    let name = c.args.name.now in
+    let site = c.args.site in
+    let b = c.args.is_attribute in
+    passes (λ x. x) (λ x. x) _ _
+    (λ text m. and_then (namespace_steps w site f vs name.namespace m) (λ uri n. outcome_steps site (result_name name.scope b uri text) n))
+    (g.R.Tally.state c.text.new.tally) c.from_residual.result _ _ refl
+    (λ text m. grows-then m (namespace_steps w site f vs name.namespace m) (λ uri n. outcome_steps site (result_name name.scope b uri text) n)
+    (namespace-grows w site f vs name.namespace m) (λ uri. outcome-grows site (result_name name.scope b uri text))) p.1 p.2 c.in_err-text.ensures.told

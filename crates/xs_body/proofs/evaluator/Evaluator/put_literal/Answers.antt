@@ -1,0 +1,14 @@
+use Rattle.std.proofs.Common.{refl}
+use Rattle.std.proofs.lemmas.Result.{err_from_is_err_and}
+use Rattle.xs_trace.proofs.GrowthLemmas.{passes}
+use Rattle.xs_semantics.specs.Making.{attribute_label}
+use Rattle.xs_body.specs.steps.Making.{named_steps}
+use Rattle.xs_body.proofs.MakingLemmas.{named-grows}
+use Rattle.xs_body.proofs.evaluator.Evaluator.put_literal.Goals as goal
+
+pub returns-in_err-value-clause-told : goal.returns-in_err-value-clause-told
+returns-in_err-value-clause-told g c =
+    let p = err_from_is_err_and c.from_residual.result c.from_residual.ensures.1 in
+    let name = attribute_label c.args.self.now.world.sheet.aliases c.args.attribute.now.0 in
+    passes (λ x. x) (λ x. x) _ _ (λ text m. named_steps c.args.site name text m) (g.R.Tally.state c.value.new.tally) c.from_residual.result _ _ refl
+    (λ text. named-grows c.args.site name text) p.1 p.2 c.in_err-value.ensures.told

@@ -1,0 +1,173 @@
+//! What is put of literal elements (XSLT 1.0, 7.1.1).
+
+ghost use Rattle.std.specs.Prelude.{◌≡◌, IfOk};
+ghost use Rattle.std.specs.Option.{option_map_or};
+ghost use Rattle.xs_body.specs.steps.Making.{is_declaration, is_unbound, literal_steps};
+ghost use Rattle.xs_body.specs.steps.Making.{named_steps, space_steps, spaces_steps};
+ghost use Rattle.xs_making.specs.Labels.{put_label};
+ghost use Rattle.xs_semantics.specs.Making.{aliased, attribute_label, element_label};
+ghost use Rattle.xs_trace.specs.Play.{IsStep};
+
+use std::alloc::{AllocError, Global};
+use xs_making::{XML_URI, put_label, put_prefix};
+use xs_sheet::body::LiteralStart;
+use xs_sheet::declarations::Alias;
+use xs_trace::event::{Event, Label};
+use xs_trace::item::Site;
+use xs_trace::recorder::{Halt, Recorder, put_event};
+use xs_trace::text::TextBuf;
+
+/// Puts the start of a literal element and its namespace nodes.
+pub(crate) fn put_literal_start<R: Recorder>(
+    alloc: Global,
+    aliases: &[Alias],
+    start: &LiteralStart,
+    site: Site,
+    recorder: &mut R,
+) -> Result<(), Halt>
+    ensures told { IsStep (literal_steps aliases.now site start.now (R.state recorder.old))
+        result (R.state recorder.new) }
+    ensures kept { R.kept recorder.new ≡ R.kept recorder.old }
+{
+    let name = element_label(alloc, aliases, &start.name)?;
+    put_event(recorder, site, Event::Start(name))?;
+    put_spaces(aliases, start.spaces.as_slice(), site, recorder)
+}
+
+/// Puts namespace nodes.
+fn put_spaces<R: Recorder>(
+    aliases: &[Alias],
+    spaces: &[(TextBuf, TextBuf)],
+    site: Site,
+    recorder: &mut R,
+) -> Result<(), Halt>
+    ensures told { IsStep (spaces_steps aliases.now site spaces.now (R.state recorder.old))
+        result (R.state recorder.new) }
+    ensures kept { R.kept recorder.new ≡ R.kept recorder.old }
+{
+    let mut left = spaces;
+    while let Some((space, behind)) = left.split_first() {
+        put_space(aliases, &space.0, &space.1, site, recorder)?;
+        left = behind;
+    }
+    Ok(())
+}
+
+/// Puts a namespace node, except for no namespace and for that of `xml`.
+fn put_space<R: Recorder>(
+    aliases: &[Alias],
+    prefix: &TextBuf,
+    uri: &TextBuf,
+    site: Site,
+    recorder: &mut R,
+) -> Result<(), Halt>
+    ensures told { IsStep (space_steps site prefix.now (aliased aliases.now uri.now)
+        (R.state recorder.old)) result (R.state recorder.new) }
+    ensures kept { R.kept recorder.new ≡ R.kept recorder.old }
+{
+    match alias_of(aliases, uri.as_str()) {
+        None => put_bound(prefix, uri, site, recorder),
+        Some(alias) => put_bound(prefix, &alias.to_uri, site, recorder),
+    }
+}
+
+/// Puts a namespace node without an alias.
+fn put_bound<R: Recorder>(
+    prefix: &TextBuf,
+    uri: &TextBuf,
+    site: Site,
+    recorder: &mut R,
+) -> Result<(), Halt>
+    ensures told { IsStep (space_steps site prefix.now uri.now (R.state recorder.old))
+        result (R.state recorder.new) }
+    ensures kept { R.kept recorder.new ≡ R.kept recorder.old }
+{
+    if is_unbound(uri.as_str()) {
+        return Ok(());
+    }
+    let space = Event::Space {
+        prefix: prefix.copy()?,
+        uri: uri.copy()?,
+    };
+    put_event(recorder, site, space)
+}
+
+/// Puts an attribute, except for one that would be read as the declaration of a default namespace.
+pub(crate) fn put_attribute<R: Recorder>(
+    name: Label,
+    value: TextBuf,
+    site: Site,
+    recorder: &mut R,
+) -> Result<(), Halt>
+    ensures told { IsStep (named_steps site name value (R.state recorder.old))
+        result (R.state recorder.new) }
+    ensures kept { R.kept recorder.new ≡ R.kept recorder.old }
+{
+    if is_declaration(&name) {
+        return Ok(());
+    }
+    put_event(recorder, site, Event::Attr { name, value })
+}
+
+/// Whether no namespace node is put for a namespace.
+fn is_unbound(uri: &str) -> bool
+    ensures { result ≡ is_unbound uri.now }
+{
+    uri.is_empty() || uri == XML_URI
+}
+
+/// Whether an attribute would be read as the declaration of a default namespace.
+fn is_declaration(name: &Label) -> bool
+    ensures { result ≡ is_declaration name.now }
+{
+    name.uri().is_empty() && name.local() == "xmlns"
+}
+
+/// The name of an attribute of a literal element.
+pub(crate) fn attribute_label(
+    alloc: Global,
+    aliases: &[Alias],
+    name: &Label,
+) -> Result<Label, AllocError>
+    ensures label { IfOk result (λ label. label ≡ attribute_label aliases.now name.now) }
+{
+    if name.uri().is_empty() {
+        return put_name(alloc, name);
+    }
+    element_label(alloc, aliases, name)
+}
+
+/// The name of a literal element.
+fn element_label(alloc: Global, aliases: &[Alias], name: &Label) -> Result<Label, AllocError>
+    ensures label { IfOk result (λ label. label ≡ element_label aliases.now name.now) }
+{
+    match alias_of(aliases, name.uri()) {
+        None => put_name(alloc, name),
+        Some(alias) => put_label(alloc, alias.to_uri.as_str(), name.local(), name.prefix()),
+    }
+}
+
+/// A name as it is put; it is shared where its prefix fits.
+fn put_name(alloc: Global, name: &Label) -> Result<Label, AllocError>
+    ensures label { IfOk result
+        (λ label. label ≡ put_label name.now.uri name.now.local name.now.prefix) }
+{
+    if put_prefix(name.uri(), name.prefix()) == name.prefix() {
+        return name.copy();
+    }
+    put_label(alloc, name.uri(), name.local(), name.prefix())
+}
+
+/// The alias of a namespace, where it has one.
+fn alias_of<'t>(aliases: &'t [Alias], uri: &str) -> Option<&'t Alias>
+    ensures { aliased aliases.now uri.now ≡ option_map_or (λ a. a.now.to_uri) result uri.now }
+{
+    let mut left = aliases;
+    while let Some((alias, others)) = left.split_first() {
+        if alias.from_uri.as_str() == uri {
+            return Some(alias);
+        }
+        left = others;
+    }
+    None
+}

@@ -1,0 +1,79 @@
+//! Which attribute sets reach an attribute.
+
+use crate::lists::{Expanded, Lists};
+use crate::marks::{Marks, has_none};
+use indexmap::{IndexMap, IndexSet};
+use std::alloc::{AllocError, Global};
+use xs_sheet::declarations::AttrSet;
+
+/// Of each set, the names of those that use it.
+type Users<'a> = IndexMap<Expanded<'a>, Vec<Expanded<'a>>>;
+
+/// Marks the sets that have an attribute, then those that use them, and so on, each set once. The
+/// contract does not say which: `SetIndex` looks whether the others are idle.
+pub(crate) fn marks_of<'a>(alloc: Global, sets: &'a [AttrSet]) -> Result<Marks<'a>, AllocError> {
+    let users = users_of(alloc, sets)?;
+    let mut names = IndexSet::new(alloc);
+    let mut waiting = Vec::new(alloc);
+    for set in sets {
+        if !has_none(set) {
+            mark((set.name.uri(), set.name.local()), &mut names, &mut waiting)?;
+        }
+    }
+    for _turn in 0..u64::MAX {
+        let Some(name) = waiting.pop() else {
+            break;
+        };
+        if let Some(list) = users.get(&name) {
+            for user in list.as_slice() {
+                mark(*user, &mut names, &mut waiting)?;
+            }
+        }
+    }
+    Ok(Marks { names, all: false })
+}
+
+/// Marks a set; where it was not marked, those that use it are to be marked.
+fn mark<'a>(
+    name: Expanded<'a>,
+    names: &mut IndexSet<Expanded<'a>>,
+    waiting: &mut Vec<Expanded<'a>>,
+) -> Result<(), AllocError> {
+    if names.insert(name)? {
+        waiting.push(name)?;
+    }
+    Ok(())
+}
+
+/// Of each set that is used, those that use it.
+fn users_of<'a>(alloc: Global, sets: &'a [AttrSet]) -> Result<Users<'a>, AllocError> {
+    let mut users = IndexMap::new(alloc);
+    for set in sets {
+        for name in set.sets.as_slice() {
+            let user = (set.name.uri(), set.name.local());
+            add_user(alloc, &mut users, (name.uri(), name.local()), user)?;
+        }
+    }
+    Ok(users)
+}
+
+/// Adds a set to those that use another.
+fn add_user<'a>(
+    alloc: Global,
+    users: &mut Users<'a>,
+    name: Expanded<'a>,
+    user: Expanded<'a>,
+) -> Result<(), AllocError> {
+    let mut list = taken(alloc, users, name);
+    list.push(user)?;
+    users.insert(name, list)?;
+    Ok(())
+}
+
+/// Takes those that use a set.
+fn taken<'a>(alloc: Global, users: &mut Users<'a>, name: Expanded<'a>) -> Vec<Expanded<'a>> {
+    match users.swap_remove(&name) {
+        Some(list) => list,
+        None => Vec::new(alloc),
+    }
+}
