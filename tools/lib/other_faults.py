@@ -1,17 +1,15 @@
 """Finds out what the faults of reading modules, of what is not supported yet, and of a run are about."""
 
 from lib.findings import Finding, short
-from lib.vocabulary import METHODS, UNSUPPORTED, XSLT
+from lib.vocabulary import UNSUPPORTED, XSLT
 
 FIRST = 3  # so many elements that are not supported are named
 
 
-def is_unsupported(element, methods):
+def is_unsupported(element):
     """What of an element is not supported yet, or nothing."""
     if element.is_a(*UNSUPPORTED):
         return element.name
-    if element.is_a("output") and element.get("method") not in (None, *methods):
-        return f'method="{element.get("method")}"'
     is_literal = not element.is_xslt and element.parent is not None and element.parent.parent is not None
     names = [name for name, _ in element.attributes if name != "xmlns" and not name.startswith("xmlns:")]
     own = [name for name in names if element.spaces.get(name.rpartition(":")[0]) != XSLT or ":" not in name]
@@ -22,7 +20,7 @@ def unsupported_elements(modules):
     """The elements of all modules that are not supported yet, and what of them."""
     for module in modules:
         for element in module.elements():
-            what = is_unsupported(element, METHODS)
+            what = is_unsupported(element)
             if what:
                 yield module, element, what
 
