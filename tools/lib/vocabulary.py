@@ -132,10 +132,7 @@ FUNCTIONS = {
 }
 
 # What docs/LANGUAGE.md names as not supported yet: elements wherever they are.
-UNSUPPORTED = (
-    "sort number copy copy-of element attribute comment processing-instruction key attribute-set "
-    "namespace-alias"
-).split()
+UNSUPPORTED = ["sort", "number", "key"]
 
 
 def attributes_of(local):
