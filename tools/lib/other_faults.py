@@ -1,36 +1,23 @@
 """Finds out what the faults of reading modules, of what is not supported yet, and of a run are about."""
 
 from lib.findings import Finding, short
-from lib.vocabulary import METHODS, UNSUPPORTED, XSLT
+from lib.vocabulary import UNSUPPORTED
 
 FIRST = 3  # so many elements that are not supported are named
 
 
-def is_unsupported(element, methods):
-    """What of an element is not supported yet, or nothing."""
-    if element.is_a(*UNSUPPORTED):
-        return element.name
-    if element.is_a("output") and element.get("method") not in (None, *methods):
-        return f'method="{element.get("method")}"'
-    is_literal = not element.is_xslt and element.parent is not None and element.parent.parent is not None
-    names = [name for name, _ in element.attributes if name != "xmlns" and not name.startswith("xmlns:")]
-    own = [name for name in names if element.spaces.get(name.rpartition(":")[0]) != XSLT or ":" not in name]
-    return f"attribute {own[0]} of {element.name}" if is_literal and own else ""
-
-
 def unsupported_elements(modules):
-    """The elements of all modules that are not supported yet, and what of them."""
+    """The elements of all modules that are not supported yet."""
     for module in modules:
         for element in module.elements():
-            what = is_unsupported(element, METHODS)
-            if what:
-                yield module, element, what
+            if element.is_a(*UNSUPPORTED):
+                yield module, element
 
 
 def not_supported(modules):
     """The first of what is not supported yet, as findings with their modules, and how many more there are."""
     found = list(unsupported_elements(modules))
-    first = [(module, Finding(f"{what} is not supported yet", element)) for module, element, what in found[:FIRST]]
+    first = [(module, Finding(f"{element.name} is not supported yet", element)) for module, element in found[:FIRST]]
     return first, len(found) - len(first)
 
 

@@ -138,16 +138,16 @@ s.xsl:3: error: no template has the name fooo; did you mean foo? [43 UnknownTemp
                          ^
 """),
     "what is not supported yet": (
-        '<x:for-each select="a">\n<x:sort/><x:copy/></x:for-each>\n<x:number/> <x:copy/>',
+        '<x:for-each select="a">\n<x:sort/><x:number/></x:for-each>\n<x:number/> <x:number/>',
         3, """\
 s.xsl:4: error: x:sort is not supported yet [49 NotBuilt]
-  <x:sort/><x:copy/></x:for-each>
+  <x:sort/><x:number/></x:for-each>
   ^
-s.xsl:4: error: x:copy is not supported yet [49 NotBuilt]
-  <x:sort/><x:copy/></x:for-each>
+s.xsl:4: error: x:number is not supported yet [49 NotBuilt]
+  <x:sort/><x:number/></x:for-each>
            ^
 s.xsl:5: error: x:number is not supported yet [49 NotBuilt]
-  <x:number/> <x:copy/>
+  <x:number/> <x:number/>
   ^
 xslt-xml: note: 1 more like these
 """),

@@ -16,7 +16,7 @@ RULES = [
     ("$no", 39, "UnknownVariable"),
     ("Aname fooo", 43, "UnknownTemplate"),
 ]
-NOT_BUILT = ("(x:sort", "(x:number", "(x:copy")
+NOT_BUILT = ("(x:sort", "(x:number")
 ENDLESS = "Aname endless"
 
 

@@ -131,12 +131,8 @@ FUNCTIONS = {
     "function-available": (1, 1),
 }
 
-# What docs/LANGUAGE.md names as not supported yet: elements wherever they are, and the method of the result.
-UNSUPPORTED = (
-    "sort number copy copy-of element attribute comment processing-instruction key attribute-set "
-    "namespace-alias"
-).split()
-METHODS = ["text"]
+# What docs/LANGUAGE.md names as not supported yet: elements wherever they are.
+UNSUPPORTED = ["sort", "number", "key"]
 
 
 def attributes_of(local):
