@@ -1,6 +1,5 @@
 //! The text of an answer.
 
-use crate::error::RowError;
 use std::alloc::{AllocError, Global};
 use xs_num::number::Num;
 use xs_num::writing::write_num;
@@ -60,11 +59,11 @@ impl Answer {
         self.put("\n");
     }
 
-    /// Adds a text in quotes.
-    pub(crate) fn put_quoted(&mut self, text: &str) {
-        self.put("'");
+    /// Adds a text between two others.
+    pub(crate) fn put_in(&mut self, before: &str, text: &str, after: &str) {
+        self.put(before);
         self.put(text);
-        self.put("'");
+        self.put(after);
     }
 
     /// Adds a text with escapes.
@@ -123,13 +122,5 @@ impl Answer {
             return Err(AllocError);
         }
         Ok(&self.bytes)
-    }
-
-    /// The whole text.
-    pub(crate) fn finish(self) -> Result<String, RowError> {
-        if self.is_refused {
-            return Err(RowError::NoMemory);
-        }
-        Ok(String::from_utf8(self.bytes)?)
     }
 }

@@ -1,38 +1,29 @@
-//! The calls that rows make.
+//! The answers of rows, by what their calls are about.
 
 use crate::answer::Answer;
-use crate::calls::{Subject, call_named};
-use crate::error::RowError;
-use crate::fields::{unescaped, word};
+use crate::calls::{Call, Subject, call_named};
+use crate::fields::word;
 use crate::settings::Settings;
 use crate::{evaluated, matched, numbers, parsed, strings, tables, values};
 
-/// Appends the answer of a row, whose first word is its call.
-pub(crate) fn add_answer(
-    out: &mut Answer,
-    settings: &Settings,
-    input: &str,
-) -> Result<(), RowError> {
-    let input = unescaped(settings.alloc, input)?;
-    let (name, rest) = word(input.as_str());
-    add_called(out, settings, name, rest)
+/// Adds the answer of a row, whose first word is its call.
+pub(crate) fn add_answer(out: &mut Answer, settings: &Settings, input: &str) {
+    let (name, rest) = word(input);
+    match call_named(name) {
+        Some((subject, call)) => add_called(out, settings, subject, call, rest),
+        None => out.put("no such call"),
+    }
 }
 
-// Appends the answer of a call.
-fn add_called(
-    out: &mut Answer,
-    settings: &Settings,
-    name: &str,
-    rest: &str,
-) -> Result<(), RowError> {
-    let (subject, call) = call_named(name).ok_or(RowError::Unreadable)?;
+// Adds the answer of a call.
+fn add_called(out: &mut Answer, settings: &Settings, subject: Subject, call: Call, rest: &str) {
     match subject {
-        Subject::Evaluated => evaluated::answer(out, settings, call, rest),
-        Subject::Parsed => parsed::answer(out, settings, call, rest),
-        Subject::Matched => matched::answer(out, settings, call, rest),
-        Subject::Tables => tables::answer(out, settings, call, rest),
-        Subject::Values => values::answer(out, settings, call, rest),
-        Subject::Numbers => numbers::answer(out, call, rest),
-        Subject::Strings => strings::answer(out, call, rest),
+        Subject::Evaluated => evaluated::add_answer(out, settings, call, rest),
+        Subject::Parsed => parsed::add_answer(out, settings, call, rest),
+        Subject::Matched => matched::add_answer(out, settings, call, rest),
+        Subject::Tables => tables::add_answer(out, settings, call, rest),
+        Subject::Values => values::add_answer(out, settings, call, rest),
+        Subject::Numbers => numbers::add_answer(out, call, rest),
+        Subject::Strings => strings::add_answer(out, call, rest),
     }
 }

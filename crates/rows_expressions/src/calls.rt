@@ -1,4 +1,4 @@
-//! The names of the calls that rows make.
+//! The calls that rows make, and their names.
 
 /// What a call is about.
 #[derive(Clone, Copy)]

@@ -1,27 +1,20 @@
 //! The documents of rows.
 
-use crate::error::RowError;
-use crate::fields::add_repeated;
+use crate::answer::Answer;
+use crate::fields::put_repeated;
 use std::fs;
-use xs_build::build_tree;
-use xs_tree::Tree;
 
-// The most bytes of a document.
-const MOST: u64 = 10_000_000;
-
-/// The tree of a document: of a file of PYX lines, or of lines that a setting says by how many
-/// times a piece comes.
-pub(crate) fn document(rt: &HostRuntime, text: &str) -> Result<Tree, RowError> {
-    let lines = lines(rt, text)?;
-    Ok(build_tree(rt.alloc(), lines.as_bytes(), MOST)?.tree)
-}
-
-// The PYX lines of a document.
-fn lines(rt: &HostRuntime, text: &str) -> Result<String, RowError> {
-    if !text.contains('*') {
-        return Ok(fs::read_to_string(rt, text)?);
+/// The PYX lines of a document: those of a file, or those that a setting says by how many times a
+/// piece comes.
+pub(crate) fn lines_of(out: &mut Answer, rt: &HostRuntime, text: &str) -> Answer {
+    let mut lines = Answer::new(rt.alloc());
+    if text.contains('*') {
+        put_repeated(&mut lines, text);
+        return lines;
     }
-    let mut lines = String::new(rt.alloc());
-    add_repeated(&mut lines, text)?;
-    Ok(lines)
+    match fs::read_to_string(rt, text) {
+        Ok(read) => lines.put(read.as_str()),
+        Err(_) => out.put(" no such file"),
+    }
+    lines
 }

@@ -7,9 +7,8 @@ ghost use Rattle.xs_value.specs.Conversion.{IsIn};
 
 use crate::answer::Answer;
 use crate::calls::Call;
-use crate::error::RowError;
-use crate::fields::{cut, cut_place};
-use crate::parsed::{parsed_bound, parsed_parts};
+use crate::fields::{cut, whole};
+use crate::parsed::{parsed_bound, parsed_parts, put_fault};
 use crate::settings::Settings;
 use crate::values::show_value;
 use std::alloc::Global;
@@ -27,10 +26,10 @@ use xs_xpath::avt::AvtPart;
 use xs_xpath::expr::Expr;
 
 /// What is evaluated.
-#[derive(Drop)]
-enum Asked {
-    Expression(Box<Expr>),
-    Template(Vec<AvtPart>),
+#[derive(Clone, Copy)]
+enum Asked<'a> {
+    Expression(&'a Expr),
+    Template(&'a [AvtPart]),
 }
 
 // The ends of comparisons, and their letters.
@@ -71,37 +70,27 @@ fn are_in_if(tree: &Tree, values: &[Option<Value>]) -> bool
     values.iter().all(|value| is_in_if(tree, value))
 }
 
-// Appends how an evaluation without a value ended.
-fn add_halt(out: &mut Answer, halt: Halt) -> Result<(), RowError> {
-    let (kind, number) = match halt {
-        Halt::Fault(fault, _) => ("fault ", u64::from(fault.number())),
-        Halt::Needs(global, _) => ("needs ", u64::from(global)),
-        Halt::Spent(_) => {
-            out.put("spent");
-            return Ok(());
-        }
-        Halt::NoMemory => return Err(RowError::NoMemory),
-        Halt::Full(_) | Halt::Over { .. } => return Err(RowError::Unreadable),
-    };
-    out.put_count(kind, number);
-    Ok(())
+// Adds how an evaluation without a value ended.
+fn put_halt(out: &mut Answer, halt: Halt) {
+    match halt {
+        Halt::Fault(fault, _) => out.put_count("fault ", u64::from(fault.number())),
+        Halt::Needs(global, _) => out.put_count("needs ", u64::from(global)),
+        Halt::Spent(_) => out.put("spent"),
+        Halt::Full(_) => out.put("full"),
+        Halt::Over { .. } => out.put("over"),
+        Halt::NoMemory => out.refuse(),
+    }
 }
 
-// Appends the end of an evaluation at the node at a place, under a limit of ticks, and says how
-// many it took.
-fn add_end(
-    out: &mut Answer,
-    settings: &Settings,
-    asked: &Asked,
-    place: u32,
-    limit: u64,
-) -> Result<u64, RowError> {
+// Adds the end of an evaluation at the node at a place, under a limit of ticks, and says how many
+// it took.
+fn put_end(out: &mut Answer, settings: &Settings, asked: Asked<'_>, place: u32, limit: u64) -> u64 {
     let tree: &Tree = &settings.tree;
     let is_there = (place as usize) < tree.len() && (settings.current as usize) < tree.len();
     if !is_there || !are_in(tree, &settings.locals) || !are_in_if(tree, &settings.globals) {
-        return Err(RowError::Unreadable);
+        out.put("no such node");
+        return 0;
     }
-    let scope = settings.scope()?;
     let context = Context {
         tree,
         node: Node::at(place),
@@ -110,22 +99,16 @@ fn add_end(
         current: Node::at(settings.current),
         locals: &settings.locals,
         globals: &settings.globals,
-        scope: &scope,
+        scope: &settings.scope,
     };
     match asked {
-        Asked::Expression(expr) => add_value(out, settings.alloc, expr, &context, limit),
-        Asked::Template(parts) => add_text(out, settings.alloc, parts, &context, limit),
+        Asked::Expression(expr) => put_value(out, settings.alloc, expr, &context, limit),
+        Asked::Template(parts) => put_text(out, settings.alloc, parts, &context, limit),
     }
 }
 
-// Appends the value of an expression, or how it ended without one, and says its ticks.
-fn add_value(
-    out: &mut Answer,
-    alloc: Global,
-    expr: &Expr,
-    context: &Context<'_>,
-    limit: u64,
-) -> Result<u64, RowError>
+// Adds the value of an expression, or how it ended without one, and says its ticks.
+fn put_value(out: &mut Answer, alloc: Global, expr: &Expr, context: &Context<'_>, limit: u64) -> u64
     requires { IsContext [] context.now }
 {
     let mut meter = Meter {
@@ -134,19 +117,19 @@ fn add_value(
     };
     match evaluate(alloc, expr, context, &NoKeys, SITE, &mut meter) {
         Ok(value) => show_value(out, context.tree, &value),
-        Err(halt) => add_halt(out, halt)?,
+        Err(halt) => put_halt(out, halt),
     }
-    Ok(meter.spent)
+    meter.spent
 }
 
-// Appends the text of a value template, or how it ended without one, and says its ticks.
-fn add_text(
+// Adds the text of a value template, or how it ended without one, and says its ticks.
+fn put_text(
     out: &mut Answer,
     alloc: Global,
     parts: &[AvtPart],
     context: &Context<'_>,
     limit: u64,
-) -> Result<u64, RowError>
+) -> u64
     requires { IsContext [] context.now }
 {
     let mut meter = Meter {
@@ -154,120 +137,113 @@ fn add_text(
         spent: 0,
     };
     match evaluate_avt(alloc, parts, context, &NoKeys, SITE, &mut meter) {
-        Ok(text) => out.put_quoted(text.as_str()),
-        Err(halt) => add_halt(out, halt)?,
+        Ok(text) => out.put_in("'", text.as_str(), "'"),
+        Err(halt) => put_halt(out, halt),
     }
-    Ok(meter.spent)
+    meter.spent
 }
 
 // Whether an evaluation under a limit spends it and has this end.
 fn ends_so(
+    out: &mut Answer,
     settings: &Settings,
-    asked: &Asked,
+    asked: Asked<'_>,
     place: u32,
     limit: u64,
     end: &[u8],
-) -> Result<bool, RowError> {
+) -> bool {
     let mut found = Answer::new(settings.alloc);
-    let ticks = add_end(&mut found, settings, asked, place, limit)?;
-    Ok(found.text()? == end && ticks == limit)
+    let ticks = put_end(&mut found, settings, asked, place, limit);
+    found.held(out) == end && ticks == limit
 }
 
-// Appends the end of an evaluation under an ample limit to nothing, and says its ticks. Where it
-// ends otherwise under a limit of just these ticks, or not as spent under one tick less, it appends
-// this too.
-fn add_tried(
-    out: &mut Answer,
-    settings: &Settings,
-    asked: &Asked,
-    place: u32,
-) -> Result<u64, RowError> {
-    let ticks = add_end(out, settings, asked, place, AMPLE)?;
-    if !ends_so(settings, asked, place, ticks, &out.bytes)? {
+// Adds the end of an evaluation under an ample limit, and says its ticks. Where it ends otherwise
+// under a limit of just these ticks, or not as spent under one tick less, it adds this too.
+fn put_tried(out: &mut Answer, settings: &Settings, asked: Asked<'_>, place: u32) -> u64 {
+    let mut end = Answer::new(settings.alloc);
+    let ticks = put_end(&mut end, settings, asked, place, AMPLE);
+    let end = end.held(out);
+    out.put_bytes(end);
+    if !ends_so(out, settings, asked, place, ticks, end) {
         out.put(", otherwise at its limit");
     }
-    if ticks > 0 && !ends_so(settings, asked, place, ticks - 1, b"spent")? {
+    if ticks > 0 && !ends_so(out, settings, asked, place, ticks - 1, b"spent") {
         out.put(", not spent by one tick less");
     }
-    Ok(ticks)
+    ticks
 }
 
-/// Appends the answer of a call that evaluates.
-pub(crate) fn answer(
-    out: &mut Answer,
-    settings: &Settings,
-    call: Call,
-    rest: &str,
-) -> Result<(), RowError> {
-    let (place, text) = cut_place(rest)?;
+/// Adds the answer of a call that evaluates.
+pub(crate) fn add_answer(out: &mut Answer, settings: &Settings, call: Call, rest: &str) {
+    let (place, text) = cut(rest);
+    let place = whole(place);
     let ticks = match call {
-        Call::Compare => compare(out, settings, place, text)?,
-        _ => add_parsed(out, settings, call, text, place)?,
+        Call::Value => put_expression(out, settings, text, place),
+        Call::Text => put_template(out, settings, text, place),
+        _ => compare(out, settings, place, text),
     };
     out.put_count(" | ", ticks);
-    Ok(())
 }
 
-// Appends the value or the text that a row asks for, and says its ticks.
-fn add_parsed(
-    out: &mut Answer,
-    settings: &Settings,
-    call: Call,
-    text: &str,
-    place: u32,
-) -> Result<u64, RowError> {
-    let asked = parsed_as(settings, call, text)?;
-    add_tried(out, settings, &asked, place)
-}
-
-// What a row asks for: the value of an expression, or the text of a value template.
-fn parsed_as(settings: &Settings, call: Call, text: &str) -> Result<Asked, RowError> {
-    match call {
-        Call::Text => Ok(Asked::Template(parsed_parts(settings, text)?)),
-        _ => Ok(Asked::Expression(parsed_bound(settings, text)?)),
+// Adds the value of an expression, and says its ticks.
+fn put_expression(out: &mut Answer, settings: &Settings, text: &str, place: u32) -> u64 {
+    match parsed_bound(settings, text) {
+        Ok(expr) => put_tried(out, settings, Asked::Expression(&expr), place),
+        Err(fault) => {
+            put_fault(out, fault);
+            0
+        }
     }
 }
 
-// Appends how two operands compare under each operator, a letter for each, and says the ticks of
-// one comparison. After a letter stands `?` where its comparison takes other ticks than the one
-// before.
-fn compare(out: &mut Answer, settings: &Settings, place: u32, text: &str) -> Result<u64, RowError> {
-    let (left, right) = cut(text)?;
-    let mut ticks = add_operated(out, settings, place, left, "=", right)?;
-    for operator in &["!=", "<", "<=", ">", ">="] {
-        let next = add_operated(out, settings, place, left, operator, right)?;
+// Adds the text of a value template, and says its ticks.
+fn put_template(out: &mut Answer, settings: &Settings, text: &str, place: u32) -> u64 {
+    match parsed_parts(settings, text) {
+        Ok(parts) => put_tried(out, settings, Asked::Template(&parts), place),
+        Err(fault) => {
+            put_fault(out, fault);
+            0
+        }
+    }
+}
+
+// Adds how two operands compare under each operator, a letter for each, and says the ticks of one
+// comparison. After a letter stands `?` where its comparison takes other ticks than the one before.
+fn compare(out: &mut Answer, settings: &Settings, place: u32, text: &str) -> u64 {
+    let (left, right) = cut(text);
+    let mut ticks = put_operated(out, settings, place, left, " = ", right);
+    for operator in &[" != ", " < ", " <= ", " > ", " >= "] {
+        let next = put_operated(out, settings, place, left, operator, right);
         if next != ticks {
             out.put("?");
         }
         ticks = next;
     }
-    Ok(ticks)
+    ticks
 }
 
-// Appends the letter of how two operands compare under an operator, and says its ticks.
-fn add_operated(
+// Adds the letter of how two operands compare under an operator, and says its ticks.
+fn put_operated(
     out: &mut Answer,
     settings: &Settings,
     place: u32,
     left: &str,
     operator: &str,
     right: &str,
-) -> Result<u64, RowError> {
-    let text = format!(in settings.alloc; "{left} {operator} {right}")?;
-    add_letter(out, settings, text.as_str(), place)
+) -> u64 {
+    let mut text = Answer::new(settings.alloc);
+    text.put_in(left, operator, right);
+    let text = text.held_text(out);
+    put_letter(out, settings, text, place)
 }
 
-// Appends the letter of how a comparison ends, and says its ticks.
-fn add_letter(
-    out: &mut Answer,
-    settings: &Settings,
-    text: &str,
-    place: u32,
-) -> Result<u64, RowError> {
+// Adds the letter of how a comparison ends, and says its ticks.
+fn put_letter(out: &mut Answer, settings: &Settings, text: &str, place: u32) -> u64 {
     let mut end = Answer::new(settings.alloc);
-    let ticks = add_parsed(&mut end, settings, Call::Value, text, place)?;
-    out.put(letter(end.text()?));
-    Ok(ticks)
+    let ticks = put_expression(&mut end, settings, text, place);
+    let end = end.held(out);
+    out.put(letter(end));
+    ticks
 }
 
 // The letter of a comparison's end.

@@ -1,43 +1,43 @@
-//! The fields of a row, and texts made of repeated pieces.
+//! The fields of a row, and texts made of repeated pieces. A field that is missing is empty, and a
+//! number 0.
 
-use crate::error::RowError;
+use crate::answer::Answer;
 use std::alloc::Global;
-use xs_text::unescape_into;
+use xs_text::{TextFault, unescape_into};
 
 /// The field before the first ` | `, and what follows it.
-pub(crate) fn cut(text: &str) -> Result<(&str, &str), RowError> {
-    text.split_once(" | ").ok_or(RowError::Unreadable)
+pub(crate) fn cut(text: &str) -> (&str, &str) {
+    text.split_once(" | ").unwrap_or((text, ""))
 }
 
 /// The word before the first space, and what follows it.
 pub(crate) fn word(text: &str) -> (&str, &str) {
-    match text.split_once(' ') {
-        Some(parts) => parts,
-        None => (text, ""),
-    }
+    text.split_once(' ').unwrap_or((text, ""))
 }
 
-/// The place before the first ` | `, and what follows it.
-pub(crate) fn cut_place(text: &str) -> Result<(u32, &str), RowError> {
-    let (place, rest) = cut(text)?;
-    Ok((place.parse::<u32>()?, rest))
+/// The number that a text is.
+pub(crate) fn whole(text: &str) -> u32 {
+    text.parse::<u32>().unwrap_or(0)
 }
 
 /// The data that an escaped text is (`\n`, `\t`, `\r`, `\\`).
-pub(crate) fn unescaped(alloc: Global, text: &str) -> Result<String, RowError> {
-    let mut bytes = Vec::new(alloc);
-    unescape_into(&mut bytes, text)?;
-    Ok(String::from_utf8(bytes)?)
+pub(crate) fn unescaped(alloc: Global, text: &str) -> Answer {
+    let mut data = Answer::new(alloc);
+    match unescape_into(&mut data.bytes, text) {
+        Ok(()) => (),
+        Err(TextFault::BadEscape) => data.put("bad escape"),
+        Err(TextFault::NoMemory) => data.refuse(),
+    }
+    data
 }
 
-/// Appends the text that fields make, each of them a count, a star and a piece:
+/// Adds the text that fields make, each of them a count, a star and a piece:
 /// `64*( | 1*a | 64*)`.
-pub(crate) fn add_repeated(out: &mut String, text: &str) -> Result<(), RowError> {
+pub(crate) fn put_repeated(out: &mut Answer, text: &str) {
     for field in text.split(" | ") {
-        let (count, piece) = field.split_once('*').ok_or(RowError::Unreadable)?;
-        for _ in 0..count.parse::<u32>()? {
-            out.push_str(piece)?;
+        let (count, piece) = field.split_once('*').unwrap_or(("0", ""));
+        for _ in 0..whole(count) {
+            out.put(piece);
         }
     }
-    Ok(())
 }

@@ -6,7 +6,6 @@ mod answer;
 mod answers;
 mod calls;
 mod documents;
-mod error;
 mod evaluated;
 mod fields;
 mod matched;

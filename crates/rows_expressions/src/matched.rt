@@ -2,11 +2,11 @@
 
 use crate::answer::Answer;
 use crate::calls::Call;
-use crate::error::RowError;
-use crate::fields::{cut_place, word};
+use crate::fields::{cut, whole, word};
 use crate::names::axis_named;
-use crate::parsed::{parsed, parsed_pattern};
+use crate::parsed::{parsed, parsed_pattern, put_fault};
 use crate::settings::Settings;
+use std::alloc::AllocError;
 use xs_axes::axis_nodes;
 use xs_eval::context::Context;
 use xs_eval::evaluate::evaluate;
@@ -17,92 +17,107 @@ use xs_tree::{Axis, Node, Tree};
 use xs_value::keys::NoKeys;
 use xs_value::value::Value;
 use xs_xpath::expr::Expr;
-use xs_xpath::scope::Scope;
+use xs_xpath::pattern::Pattern;
 
-/// Appends the answer of a call with an axis or a pattern.
-pub(crate) fn answer(
-    out: &mut Answer,
-    settings: &Settings,
-    call: Call,
-    rest: &str,
-) -> Result<(), RowError> {
+/// Adds the answer of a call with an axis or a pattern.
+pub(crate) fn add_answer(out: &mut Answer, settings: &Settings, call: Call, rest: &str) {
     match call {
         Call::Axis => {
             let (name, place) = word(rest);
-            add_axis(out, settings, name, place.parse::<u32>()?)
+            put_axis(out, settings, name, whole(place));
         }
-        Call::Match => add_both(out, settings, rest),
-        Call::MatchFaulty => add_matching(out, settings, rest),
+        Call::Match => put_both(out, settings, rest),
+        Call::MatchFaulty => put_matching(out, settings, rest),
         _ => {
-            let (place, text) = cut_place(rest)?;
-            add_match(out, settings, place, text)
+            let (place, text) = cut(rest);
+            put_match(out, settings, whole(place), text);
         }
     }
 }
 
-// Appends the nodes of an axis from the node at a place, in the axis' order.
-fn add_axis(out: &mut Answer, settings: &Settings, name: &str, place: u32) -> Result<(), RowError> {
-    let axis = axis_named(name).ok_or(RowError::Unreadable)?;
+// Adds the nodes of an axis from the node at a place, in the axis' order.
+fn put_axis(out: &mut Answer, settings: &Settings, name: &str, place: u32) {
+    let Some(axis) = axis_named(name) else {
+        return out.put("no such axis");
+    };
     if place as usize >= settings.tree.len() {
-        return Err(RowError::Unreadable);
+        return out.put("no such node");
     }
     for node in axis_nodes(&settings.tree, Node::at(place), axis) {
-        add_place(out, node);
+        put_place(out, node);
     }
-    Ok(())
 }
 
-// Appends the place of a node after others; at the beginning there are none.
-fn add_place(out: &mut Answer, node: Node) {
+// Adds the place of a node after others; at the beginning there are none.
+fn put_place(out: &mut Answer, node: Node) {
     if !out.bytes.is_empty() {
         out.put(" ");
     }
     out.put_count("", u64::from(node.place()));
 }
 
-// Appends the nodes of the document that match a pattern to nothing.
-fn add_matching(out: &mut Answer, settings: &Settings, text: &str) -> Result<(), RowError> {
-    let scope = settings.scope()?;
-    let pattern = parsed_pattern(settings, text)?;
+// Adds the nodes of the document that match a pattern to nothing.
+fn put_matching(out: &mut Answer, settings: &Settings, text: &str) {
+    match parsed_pattern(settings, text) {
+        Ok(pattern) => {
+            let outcome = put_matches(out, settings, &pattern);
+            out.note(outcome);
+        }
+        Err(fault) => put_fault(out, fault),
+    }
+}
+
+// Adds the nodes of the document that match a pattern.
+fn put_matches(out: &mut Answer, settings: &Settings, pattern: &Pattern) -> Result<(), AllocError> {
     let tree: &Tree = &settings.tree;
     for place in 0..tree.len() as u32 {
         let node = Node::at(place);
-        if matches(settings.alloc, &pattern, &scope, tree, node, &NoKeys)? {
-            add_place(out, node);
+        if matches(
+            settings.alloc,
+            pattern,
+            &settings.scope,
+            tree,
+            node,
+            &NoKeys,
+        )? {
+            put_place(out, node);
         }
     }
     Ok(())
 }
 
-// Appends whether the node at a place matches a pattern.
-fn add_match(
-    out: &mut Answer,
-    settings: &Settings,
-    place: u32,
-    text: &str,
-) -> Result<(), RowError> {
+// Adds whether the node at a place matches a pattern.
+fn put_match(out: &mut Answer, settings: &Settings, place: u32, text: &str) {
+    match parsed_pattern(settings, text) {
+        Ok(pattern) => put_is_match(out, settings, place, &pattern),
+        Err(fault) => put_fault(out, fault),
+    }
+}
+
+// Adds whether the node at a place matches a pattern.
+fn put_is_match(out: &mut Answer, settings: &Settings, place: u32, pattern: &Pattern) {
     let tree: &Tree = &settings.tree;
     if place as usize >= tree.len() {
-        return Err(RowError::Unreadable);
+        return out.put("no such node");
     }
-    let scope = settings.scope()?;
-    let pattern = parsed_pattern(settings, text)?;
     let node = Node::at(place);
-    let is_matched = matches(settings.alloc, &pattern, &scope, tree, node, &NoKeys)?;
-    out.put_bool(is_matched);
-    Ok(())
+    match matches(
+        settings.alloc,
+        pattern,
+        &settings.scope,
+        tree,
+        node,
+        &NoKeys,
+    ) {
+        Ok(is_matched) => out.put_bool(is_matched),
+        Err(_) => out.refuse(),
+    }
 }
 
 // Whether a node is in the value of an expression from another one.
-fn is_in_value(
-    settings: &Settings,
-    expr: &Expr,
-    scope: &Scope,
-    from: Node,
-    node: Node,
-) -> Result<bool, RowError> {
+fn is_in_value(settings: &Settings, expr: &Expr, from: Node, node: Node) -> bool {
     if from.place() as usize >= settings.tree.len() {
-        return Err(RowError::Unreadable);
+        return false;
     }
     let context = Context {
         tree: &settings.tree,
@@ -112,7 +127,7 @@ fn is_in_value(
         current: from,
         locals: &[],
         globals: &[],
-        scope,
+        scope: &settings.scope,
     };
     let site = Site { module: 0, line: 0 };
     let mut meter = Meter {
@@ -120,65 +135,51 @@ fn is_in_value(
         spent: 0,
     };
     match evaluate(settings.alloc, expr, &context, &NoKeys, site, &mut meter) {
-        Ok(value) => has_node(&value, node),
-        Err(_) => Err(RowError::Unreadable),
-    }
-}
-
-// Whether a node is in a node-set.
-fn has_node(value: &Value, node: Node) -> Result<bool, RowError> {
-    match value {
-        Value::Nodes(nodes) => Ok(nodes.nodes().contains(&node)),
-        _ => Err(RowError::Unreadable),
+        Ok(Value::Nodes(nodes)) => nodes.nodes().contains(&node),
+        _ => false,
     }
 }
 
 // Whether a node is in the value of an expression from itself or an ancestor (XSLT 1.0, 5.2).
-fn is_selected(
-    settings: &Settings,
-    expr: &Expr,
-    scope: &Scope,
-    node: Node,
-) -> Result<bool, RowError> {
+fn is_selected(settings: &Settings, expr: &Expr, node: Node) -> bool {
     if node.place() as usize >= settings.tree.len() {
-        return Err(RowError::Unreadable);
+        return false;
     }
     for from in axis_nodes(&settings.tree, node, Axis::AncestorOrSelf) {
-        if is_in_value(settings, expr, scope, from, node)? {
-            return Ok(true);
+        if is_in_value(settings, expr, from, node) {
+            return true;
         }
     }
-    Ok(false)
+    false
 }
 
-// Appends the nodes that are in the value of an expression from themselves or an ancestor to
-// nothing.
-fn add_selected(out: &mut Answer, settings: &Settings, text: &str) -> Result<(), RowError> {
-    let scope = settings.scope()?;
-    let expr = parsed(settings, text)?;
+// Adds the nodes that are in the value of an expression from themselves or an ancestor to nothing.
+fn put_selected(out: &mut Answer, settings: &Settings, text: &str) {
+    match parsed(settings, text) {
+        Ok(expr) => put_all_selected(out, settings, &expr),
+        Err(fault) => put_fault(out, fault),
+    }
+}
+
+// Adds the nodes that are in the value of an expression from themselves or an ancestor.
+fn put_all_selected(out: &mut Answer, settings: &Settings, expr: &Expr) {
     for place in 0..settings.tree.len() as u32 {
         let node = Node::at(place);
-        if is_selected(settings, &expr, &scope, node)? {
-            add_place(out, node);
+        if is_selected(settings, expr, node) {
+            put_place(out, node);
         }
     }
-    Ok(())
 }
 
-// Appends the nodes that match a pattern to nothing, and those that are in its value as an
-// expression, where these are others.
-fn add_both(out: &mut Answer, settings: &Settings, text: &str) -> Result<(), RowError> {
-    add_matching(out, settings, text)?;
+// Adds the nodes that match a pattern to nothing, and those that are in its value as an expression,
+// where these are others.
+fn put_both(out: &mut Answer, settings: &Settings, text: &str) {
+    put_matching(out, settings, text);
     let mut selected = Answer::new(settings.alloc);
-    add_selected(&mut selected, settings, text)?;
-    add_other(out, &selected)
-}
-
-// Appends what was selected, where that is another answer.
-fn add_other(out: &mut Answer, selected: &Answer) -> Result<(), RowError> {
-    if out.text()? != selected.text()? {
+    put_selected(&mut selected, settings, text);
+    let selected = selected.held(out);
+    if out.bytes.as_slice() != selected {
         out.put(", as expressions ");
-        out.put_bytes(&selected.bytes);
+        out.put_bytes(selected);
     }
-    Ok(())
 }

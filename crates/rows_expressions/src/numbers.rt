@@ -2,7 +2,6 @@
 
 use crate::answer::Answer;
 use crate::calls::Call;
-use crate::error::RowError;
 use crate::fields::word;
 use std::cmp::Ordering;
 use xs_num::arithmetic::{add, compare, div, mul, neg, rem, sub};
@@ -18,22 +17,22 @@ pub(crate) fn add_outcome(out: &mut Answer, outcome: Result<Num, NumFault>) {
     }
 }
 
-/// The number that a text spells.
-pub(crate) fn number(text: &str) -> Result<Num, RowError> {
-    read_num(text).map_err(|_| RowError::Unreadable)
+/// The number that a text spells, 0 where it spells none.
+pub(crate) fn number(text: &str) -> Num {
+    match read_num(text) {
+        Ok(number) => number,
+        Err(_) => Num::from(0),
+    }
 }
 
 /// Appends the answer of a call with numbers.
-pub(crate) fn answer(out: &mut Answer, call: Call, rest: &str) -> Result<(), RowError> {
+pub(crate) fn add_answer(out: &mut Answer, call: Call, rest: &str) {
+    let (left, right) = word(rest);
     match call {
         Call::Number => add_outcome(out, read_num(rest)),
-        Call::Negate => out.put_number(neg(number(rest)?)),
-        _ => {
-            let (left, right) = word(rest);
-            operate(out, call, number(left)?, number(right)?);
-        }
+        Call::Negate => out.put_number(neg(number(rest))),
+        _ => operate(out, call, number(left), number(right)),
     }
-    Ok(())
 }
 
 // Appends the answer of a call with two numbers.

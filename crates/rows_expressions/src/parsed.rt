@@ -2,14 +2,14 @@
 
 use crate::answer::Answer;
 use crate::calls::Call;
-use crate::error::RowError;
-use crate::fields::{add_repeated, word};
+use crate::fields::{put_repeated, whole, word};
 use crate::settings::Settings;
 use crate::shown::{show, show_all, show_parts};
-use std::alloc::{AllocError, Global};
+use std::alloc::Global;
 use xs_xpath::avt::{AvtPart, parse_avt};
 use xs_xpath::bind::{Slots, bind};
 use xs_xpath::expr::Expr;
+use xs_xpath::fault::ParseFault;
 use xs_xpath::parse::{parse_expr, parse_pattern};
 use xs_xpath::pattern::Pattern;
 use xs_xpath::scope::Scope;
@@ -18,116 +18,161 @@ use xs_xpath::uses::{has_unbound, uses_current, uses_key, uses_variables};
 // The most bytes of a text.
 const MOST: usize = 100_000_000;
 
-/// Appends the answer of a call with a text that is parsed.
-pub(crate) fn answer(
-    out: &mut Answer,
-    settings: &Settings,
-    call: Call,
-    rest: &str,
-) -> Result<(), RowError> {
+/// Adds the answer of a call with a text that is parsed.
+pub(crate) fn add_answer(out: &mut Answer, settings: &Settings, call: Call, rest: &str) {
     match call {
-        Call::Expression => show(out, &*parsed(settings, rest)?),
-        Call::Pattern => show_all(out, " or ", &parsed_pattern(settings, rest)?.alternatives),
-        Call::Template => show_parts(out, &parsed_parts(settings, rest)?),
-        Call::Bound => show_bound(out, &*parsed_bound(settings, rest)?),
-        Call::Long => return add_long(out, settings, rest),
-        Call::Uri => return add_uri(out, settings, rest),
-        _ => return add_found(out, settings, rest),
+        Call::Expression => show_expression(out, settings, rest),
+        Call::Pattern => show_pattern(out, settings, rest),
+        Call::Template => show_template(out, settings, rest),
+        Call::Bound => show_bound(out, settings, rest),
+        Call::Long => put_long(out, settings, rest),
+        Call::Uri => out.put(settings.scope.uri_in(rest).unwrap_or("")),
+        _ => put_found(out, &settings.scope, rest),
     }
-    Ok(())
 }
 
-// The expression of a text.
-fn expression(settings: &Settings, text: &str) -> Result<Expr, RowError> {
-    if text.len() > MOST {
-        return Err(RowError::Unreadable);
+/// Adds a fault by `!`, its number, `@` and its place.
+pub(crate) fn put_fault(out: &mut Answer, fault: ParseFault) {
+    match fault {
+        ParseFault::Bad { number, at } => {
+            out.put_count("!", u64::from(number));
+            out.put_count("@", u64::from(at));
+        }
+        ParseFault::NoMemory => out.refuse(),
     }
-    Ok(parse_expr(settings.alloc, text, &settings.scope()?)?)
+}
+
+// An expression in a box.
+fn boxed(alloc: Global, expr: Expr) -> Result<Box<Expr>, ParseFault> {
+    match Box::new(alloc, expr) {
+        Ok(expr) => Ok(expr),
+        Err(_) => Err(ParseFault::NoMemory),
+    }
 }
 
 /// The expression of a text.
-pub(crate) fn parsed(settings: &Settings, text: &str) -> Result<Box<Expr>, RowError> {
-    Ok(Box::new(settings.alloc, expression(settings, text)?)?)
+pub(crate) fn parsed(settings: &Settings, text: &str) -> Result<Box<Expr>, ParseFault> {
+    if text.len() > MOST {
+        return Err(ParseFault::NoMemory);
+    }
+    match parse_expr(settings.alloc, text, &settings.scope) {
+        Ok(expr) => boxed(settings.alloc, expr),
+        Err(fault) => Err(fault),
+    }
 }
 
 /// The expression of a text, its variables bound to their slots.
-pub(crate) fn parsed_bound(settings: &Settings, text: &str) -> Result<Box<Expr>, RowError> {
-    let slots = Slots::of(settings.alloc, &settings.slots)?;
-    let bound = bind(expression(settings, text)?, &slots);
-    Ok(Box::new(settings.alloc, bound)?)
+pub(crate) fn parsed_bound(settings: &Settings, text: &str) -> Result<Box<Expr>, ParseFault> {
+    if text.len() > MOST {
+        return Err(ParseFault::NoMemory);
+    }
+    match parse_expr(settings.alloc, text, &settings.scope) {
+        Ok(expr) => bound(settings, expr),
+        Err(fault) => Err(fault),
+    }
+}
+
+// An expression whose variables are bound to their slots.
+fn bound(settings: &Settings, expr: Expr) -> Result<Box<Expr>, ParseFault> {
+    match Slots::of(settings.alloc, &settings.slots) {
+        Ok(slots) => boxed(settings.alloc, bind(expr, &slots)),
+        Err(_) => Err(ParseFault::NoMemory),
+    }
 }
 
 /// The pattern of a text.
-pub(crate) fn parsed_pattern(settings: &Settings, text: &str) -> Result<Pattern, RowError> {
+pub(crate) fn parsed_pattern(settings: &Settings, text: &str) -> Result<Pattern, ParseFault> {
     if text.len() > MOST {
-        return Err(RowError::Unreadable);
+        return Err(ParseFault::NoMemory);
     }
-    Ok(parse_pattern(settings.alloc, text, &settings.scope()?)?)
+    parse_pattern(settings.alloc, text, &settings.scope)
 }
 
 /// The parts of the value template of a text.
-pub(crate) fn parsed_parts(settings: &Settings, text: &str) -> Result<Vec<AvtPart>, RowError> {
+pub(crate) fn parsed_parts(settings: &Settings, text: &str) -> Result<Vec<AvtPart>, ParseFault> {
     if text.len() > MOST {
-        return Err(RowError::Unreadable);
+        return Err(ParseFault::NoMemory);
     }
-    Ok(parse_avt(settings.alloc, text, &settings.scope()?)?)
+    parse_avt(settings.alloc, text, &settings.scope)
 }
 
-// Appends a tree, and letters for what it refers to: variables, some of them unbound, the current
+// Adds the tree of an expression.
+fn show_expression(out: &mut Answer, settings: &Settings, text: &str) {
+    match parsed(settings, text) {
+        Ok(expr) => show(out, &expr),
+        Err(fault) => put_fault(out, fault),
+    }
+}
+
+// Adds the trees of a pattern.
+fn show_pattern(out: &mut Answer, settings: &Settings, text: &str) {
+    match parsed_pattern(settings, text) {
+        Ok(pattern) => show_all(out, " or ", &pattern.alternatives),
+        Err(fault) => put_fault(out, fault),
+    }
+}
+
+// Adds the parts of a value template.
+fn show_template(out: &mut Answer, settings: &Settings, text: &str) {
+    match parsed_parts(settings, text) {
+        Ok(parts) => show_parts(out, &parts),
+        Err(fault) => put_fault(out, fault),
+    }
+}
+
+// Adds the tree of an expression whose variables are bound.
+fn show_bound(out: &mut Answer, settings: &Settings, text: &str) {
+    match parsed_bound(settings, text) {
+        Ok(expr) => show_with_uses(out, &expr),
+        Err(fault) => put_fault(out, fault),
+    }
+}
+
+// Adds a tree, and letters for what it refers to: variables, some of them unbound, the current
 // node, and keys.
-fn show_bound(out: &mut Answer, e: &Expr) {
+fn show_with_uses(out: &mut Answer, e: &Expr) {
     show(out, e);
     if uses_variables(e) || uses_current(e) || uses_key(e) {
         out.put(" | ");
     }
-    show_use(out, uses_variables(e), "v");
-    show_use(out, has_unbound(e), "u");
-    show_use(out, uses_current(e), "c");
-    show_use(out, uses_key(e), "k");
-}
-
-// Appends the letter of what an expression refers to.
-fn show_use(out: &mut Answer, is_used: bool, letter: &str) {
-    if is_used {
-        out.put(letter);
+    let letters = [
+        (uses_variables(e), "v"),
+        (has_unbound(e), "u"),
+        (uses_current(e), "c"),
+        (uses_key(e), "k"),
+    ];
+    for (is_used, letter) in &letters {
+        out.put(if *is_used { letter } else { "" });
     }
 }
 
-// Appends that an expression made of repeated pieces is read.
-fn add_long(out: &mut Answer, settings: &Settings, pieces: &str) -> Result<(), RowError> {
-    let mut text = String::new(settings.alloc);
-    add_repeated(&mut text, pieces)?;
-    let _expr = parsed(settings, text.as_str())?;
-    out.put("read");
-    Ok(())
+// Adds that an expression made of repeated pieces is read.
+fn put_long(out: &mut Answer, settings: &Settings, pieces: &str) {
+    let mut text = Answer::new(settings.alloc);
+    put_repeated(&mut text, pieces);
+    match parsed(settings, text.held_text(out)) {
+        Ok(_) => out.put("read"),
+        Err(fault) => put_fault(out, fault),
+    }
 }
 
-// Appends the URI of a prefix.
-fn add_uri(out: &mut Answer, settings: &Settings, prefix: &str) -> Result<(), RowError> {
-    let scope = settings.scope()?;
-    out.put(scope.uri_in(prefix).unwrap_or(""));
-    Ok(())
-}
-
-// Appends how many of the prefixes with the numbers from one to another have the URI with that
-// number.
-fn add_found(out: &mut Answer, settings: &Settings, numbers: &str) -> Result<(), RowError> {
+// Adds how many of the prefixes with the numbers from one to another have the URI with that number.
+fn put_found(out: &mut Answer, scope: &Scope, numbers: &str) {
     let (first, last) = word(numbers);
-    let (first, last) = (first.parse::<u32>()?, last.parse::<u32>()?);
-    let scope = settings.scope()?;
     let mut found = 0_u64;
-    for number in first..=last {
-        if is_found(settings.alloc, &scope, number)? {
+    for number in whole(first)..=whole(last) {
+        if is_found(out, scope, u64::from(number)) {
             found = found.saturating_add(1);
         }
     }
     out.put_count("", found);
-    Ok(())
 }
 
 // Whether the prefix with a number has the URI with that number.
-fn is_found(alloc: Global, scope: &Scope, number: u32) -> Result<bool, AllocError> {
-    let prefix = format!(in alloc; "p{number}")?;
-    let uri = format!(in alloc; "u{number}")?;
-    Ok(scope.uri_in(prefix.as_str()) == Some(uri.as_str()))
+fn is_found(out: &mut Answer, scope: &Scope, number: u64) -> bool {
+    let mut prefix = Answer::new(*out.bytes.allocator());
+    let mut uri = Answer::new(*out.bytes.allocator());
+    prefix.put_count("p", number);
+    uri.put_count("u", number);
+    scope.uri_in(prefix.held_text(out)) == Some(uri.held_text(out))
 }

@@ -2,15 +2,14 @@
 
 use crate::answer::Answer;
 use crate::answers::add_answer;
-use crate::error::RowError;
+use crate::fields::unescaped;
 use crate::settings::Settings;
-use std::alloc::AllocError;
 
 /// Adds the rows of a file.
 pub(crate) fn add_rows(out: &mut Answer, rt: &HostRuntime, text: &str) {
     match Settings::new(rt.alloc()) {
         Ok(mut settings) => add_lines(out, rt, &mut settings, text),
-        Err(refused) => out.note(Err(refused)),
+        Err(_) => out.refuse(),
     }
 }
 
@@ -32,40 +31,20 @@ fn add_lines(out: &mut Answer, rt: &HostRuntime, settings: &mut Settings, text: 
 fn add_setting(out: &mut Answer, rt: &HostRuntime, settings: &mut Settings, setting: &str) {
     out.put("= ");
     out.put(setting);
-    if let Err(error) = settings.set(rt, setting) {
-        add_error(out, error);
-    }
+    let setting = unescaped(rt.alloc(), setting);
+    let setting = setting.held_text(out);
+    settings.set(out, rt, setting);
 }
 
-// Adds a row: its input as it stands, and its answer.
+// Adds a row: its input as it stands, and its answer, which is `none` where it has no text.
 fn add_row(out: &mut Answer, settings: &Settings, line: &str) {
     let (input, _) = line.split_once(" ==> ").unwrap_or((line, ""));
     out.put(input);
     out.put(" ==> ");
-    match answer(settings, input) {
-        Ok(answer) => out.put_escaped(answer.as_str()),
-        Err(error) => add_error(out, error),
-    }
-}
-
-// The answer of a row, which is `none` where it has no text.
-fn answer(settings: &Settings, input: &str) -> Result<String, RowError> {
+    let input = unescaped(settings.alloc, input);
     let mut answer = Answer::new(settings.alloc);
-    add_answer(&mut answer, settings, input)?;
-    if answer.bytes.is_empty() {
-        answer.put("none");
-    }
-    answer.finish()
-}
-
-// Adds why there is no answer: a fault by `!`, its number, `@` and its place.
-fn add_error(out: &mut Answer, error: RowError) {
-    match error {
-        RowError::Unreadable => out.put("unreadable"),
-        RowError::Fault { number, at } => {
-            out.put_count("!", u64::from(number));
-            out.put_count("@", u64::from(at));
-        }
-        RowError::NoMemory => out.note(Err(AllocError)),
-    }
+    let input = input.held_text(&mut answer);
+    add_answer(&mut answer, settings, input);
+    let answer = answer.held_text(out);
+    out.put_escaped(if answer.is_empty() { "none" } else { answer });
 }

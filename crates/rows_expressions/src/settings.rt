@@ -1,10 +1,11 @@
 //! Settings, which hold for the rows after them.
 
-use crate::documents::document;
-use crate::error::RowError;
-use crate::fields::{unescaped, word};
+use crate::answer::Answer;
+use crate::documents::lines_of;
+use crate::fields::{whole, word};
 use crate::values::{label, operand};
 use std::alloc::{AllocError, Global};
+use xs_build::build_tree;
 use xs_trace::event::Label;
 use xs_trace::text::TextBuf;
 use xs_tree::Tree;
@@ -12,14 +13,19 @@ use xs_value::value::Value;
 use xs_xpath::name::Slot;
 use xs_xpath::scope::Scope;
 
+// The most bytes of a document.
+const MOST: u64 = 10_000_000;
+
 /// What holds for a row.
 #[derive(Drop)]
 pub(crate) struct Settings {
     pub(crate) alloc: Global,
     /// The document.
     pub(crate) tree: Box<Tree>,
-    /// The prefixes and their URIs.
-    prefixes: Vec<(TextBuf, TextBuf)>,
+    /// The prefixes and their URIs, in lines.
+    prefixes: Answer,
+    /// The same as a scope.
+    pub(crate) scope: Scope,
     /// The variables and their slots.
     pub(crate) slots: Vec<(Label, Slot)>,
     /// The values of the local variables.
@@ -41,7 +47,8 @@ impl Settings {
         Ok(Settings {
             alloc,
             tree,
-            prefixes: Vec::new(alloc),
+            prefixes: Answer::new(alloc),
+            scope: Scope::of(Vec::new(alloc)),
             slots: Vec::new(alloc),
             locals: Vec::new(alloc),
             globals: Vec::new(alloc),
@@ -51,129 +58,159 @@ impl Settings {
         })
     }
 
-    /// Sets what a setting says.
-    pub(crate) fn set(&mut self, rt: &HostRuntime, setting: &str) -> Result<(), RowError> {
-        let setting = unescaped(self.alloc, setting)?;
-        let (name, rest) = word(setting.as_str());
-        self.set_named(rt, name, rest)
-    }
-
-    // Sets what a setting with a name says.
-    fn set_named(&mut self, rt: &HostRuntime, name: &str, rest: &str) -> Result<(), RowError> {
+    /// Sets what a setting says, whose first word is its name.
+    pub(crate) fn set(&mut self, out: &mut Answer, rt: &HostRuntime, setting: &str) {
+        let (name, rest) = word(setting);
         match name {
-            "clear" => self.clear(),
-            "document" => self.set_document(rt, rest),
-            "prefix" => self.add_prefix(rest),
-            "prefixes" => self.add_prefixes(rest),
-            "local" => self.add_local(rest),
-            "global" => self.add_global(rest),
-            _ => self.set_number(name, rest.parse::<u32>()?),
+            "clear" => self.clear(out),
+            "document" => self.set_document(out, rt, rest),
+            "prefix" => self.add_prefix(out, rest),
+            "prefixes" => self.add_prefixes(out, rest),
+            "local" => self.add_local(out, rest),
+            "global" => self.add_global(out, rest),
+            "position" => self.position = whole(rest),
+            "size" => self.size = whole(rest),
+            "current" => self.current = whole(rest),
+            _ => out.put(" no such setting"),
         }
     }
 
     // Sets everything as it was at first.
-    fn clear(&mut self) -> Result<(), RowError> {
-        *self = Settings::new(self.alloc)?;
-        Ok(())
+    fn clear(&mut self, out: &mut Answer) {
+        match Settings::new(self.alloc) {
+            Ok(settings) => *self = settings,
+            Err(_) => out.refuse(),
+        }
     }
 
     // Sets the document.
-    fn set_document(&mut self, rt: &HostRuntime, text: &str) -> Result<(), RowError> {
-        self.tree = Box::new(self.alloc, document(rt, text)?)?;
-        Ok(())
+    fn set_document(&mut self, out: &mut Answer, rt: &HostRuntime, text: &str) {
+        let lines = lines_of(out, rt, text);
+        match build_tree(self.alloc, lines.held(out), MOST) {
+            Ok(built) => self.set_tree(out, built.tree),
+            Err(_) => out.put(" no document"),
+        }
     }
 
-    // Sets a position, a size or a place.
-    fn set_number(&mut self, name: &str, number: u32) -> Result<(), RowError> {
-        match name {
-            "position" => self.position = number,
-            "size" => self.size = number,
-            "current" => self.current = number,
-            _ => return Err(RowError::Unreadable),
+    // Sets the tree of the document.
+    fn set_tree(&mut self, out: &mut Answer, tree: Tree) {
+        match Box::new(self.alloc, tree) {
+            Ok(tree) => self.tree = tree,
+            Err(_) => out.refuse(),
         }
-        Ok(())
-    }
-
-    /// The prefixes, as a scope.
-    pub(crate) fn scope(&self) -> Result<Scope, AllocError> {
-        let mut pairs = Vec::new(self.alloc);
-        for (prefix, uri) in &self.prefixes {
-            pairs.push((prefix.copy()?, uri.copy()?))?;
-        }
-        Ok(Scope::of(pairs))
     }
 
     // Adds a prefix, which is a word before its URI.
-    fn add_prefix(&mut self, prefix: &str) -> Result<(), RowError> {
-        let (prefix, uri) = word(prefix);
-        let prefix = TextBuf::of(self.alloc, prefix)?;
-        let uri = TextBuf::of(self.alloc, uri)?;
-        self.prefixes.push((prefix, uri))?;
-        Ok(())
+    fn add_prefix(&mut self, out: &mut Answer, prefix: &str) {
+        self.prefixes.put_line(prefix);
+        self.set_scope(out);
     }
 
     // Adds the prefixes with the numbers from one to another, `p1000` for `u1000`.
-    fn add_prefixes(&mut self, numbers: &str) -> Result<(), RowError> {
+    fn add_prefixes(&mut self, out: &mut Answer, numbers: &str) {
         let (first, last) = word(numbers);
-        let (first, last) = (first.parse::<u32>()?, last.parse::<u32>()?);
+        let (first, last) = (whole(first), whole(last));
         for step in 0..=first.abs_diff(last) {
-            self.add_numbered(if first <= last {
+            let number = u64::from(if first <= last {
                 first.saturating_add(step)
             } else {
                 first.saturating_sub(step)
-            })?;
+            });
+            self.prefixes.put_count("p", number);
+            self.prefixes.put_count(" u", number);
+            self.prefixes.put("\n");
         }
-        Ok(())
+        self.set_scope(out);
     }
 
-    // Adds the prefix with a number.
-    fn add_numbered(&mut self, number: u32) -> Result<(), RowError> {
-        let prefix = format!(in self.alloc; "p{number} u{number}")?;
-        self.add_prefix(prefix.as_str())
+    // Makes the scope of the prefixes.
+    fn set_scope(&mut self, out: &mut Answer) {
+        let mut pairs = Vec::new(self.alloc);
+        for line in self.prefixes.held_text(out).lines() {
+            let (prefix, uri) = word(line);
+            push_pair(out, &mut pairs, prefix, uri);
+        }
+        self.scope = Scope::of(pairs);
     }
 
     // Adds a local variable with its value.
-    fn add_local(&mut self, text: &str) -> Result<(), RowError> {
+    fn add_local(&mut self, out: &mut Answer, text: &str) {
         let (name, value) = word(text);
-        let slot = Slot::Local(number_of(self.locals.len())?);
-        self.add_slot(name, slot)?;
-        self.locals.push(operand(self.alloc, value)?)?;
-        Ok(())
+        self.add_slot(out, name, Slot::Local(number_of(self.locals.len())));
+        match operand(self.alloc, value) {
+            Ok(value) => {
+                let outcome = self.locals.push(value);
+                if outcome.is_err() {
+                    out.refuse();
+                }
+            }
+            Err(_) => out.refuse(),
+        }
     }
 
     // Adds a global variable, with its value where it has one.
-    fn add_global(&mut self, text: &str) -> Result<(), RowError> {
+    fn add_global(&mut self, out: &mut Answer, text: &str) {
         let (name, value) = word(text);
-        let slot = Slot::Global(number_of(self.globals.len())?);
-        self.add_slot(name, slot)?;
-        let value = if value.is_empty() {
-            None
-        } else {
-            Some(operand(self.alloc, value)?)
-        };
-        self.globals.push(value)?;
-        Ok(())
+        self.add_slot(out, name, Slot::Global(number_of(self.globals.len())));
+        match operand_if(self.alloc, value) {
+            Ok(value) => {
+                let outcome = self.globals.push(value);
+                if outcome.is_err() {
+                    out.refuse();
+                }
+            }
+            Err(_) => out.refuse(),
+        }
     }
 
     // Adds a variable with its slot.
-    fn add_slot(&mut self, name: &str, slot: Slot) -> Result<(), AllocError> {
-        let label = self.expanded(name)?;
-        self.slots.push((label, slot))?;
-        Ok(())
-    }
-
-    // The name of a variable.
-    fn expanded(&self, name: &str) -> Result<Label, AllocError> {
+    fn add_slot(&mut self, out: &mut Answer, name: &str, slot: Slot) {
         let (prefix, local) = name.split_once(':').unwrap_or(("", name));
-        if prefix.is_empty() {
-            return label(self.alloc, "", local);
+        let uri = if prefix.is_empty() {
+            ""
+        } else {
+            self.scope.uri_in(prefix).unwrap_or("")
+        };
+        match label(self.alloc, uri, local) {
+            Ok(name) => {
+                let outcome = self.slots.push((name, slot));
+                if outcome.is_err() {
+                    out.refuse();
+                }
+            }
+            Err(_) => out.refuse(),
         }
-        let scope = self.scope()?;
-        label(self.alloc, scope.uri_in(prefix).unwrap_or(""), local)
     }
 }
 
+// Adds a prefix with its URI.
+fn push_pair(out: &mut Answer, pairs: &mut Vec<(TextBuf, TextBuf)>, prefix: &str, uri: &str) {
+    match pair(*pairs.allocator(), prefix, uri) {
+        Ok(pair) => {
+            let outcome = pairs.push(pair);
+            if outcome.is_err() {
+                out.refuse();
+            }
+        }
+        Err(_) => out.refuse(),
+    }
+}
+
+// A prefix with its URI.
+fn pair(alloc: Global, prefix: &str, uri: &str) -> Result<(TextBuf, TextBuf), AllocError> {
+    let prefix = TextBuf::of(alloc, prefix)?;
+    Ok((prefix, TextBuf::of(alloc, uri)?))
+}
+
+// The value that a row writes, if it writes one.
+fn operand_if(alloc: Global, text: &str) -> Result<Option<Value>, AllocError> {
+    if text.is_empty() {
+        return Ok(None);
+    }
+    Ok(Some(operand(alloc, text)?))
+}
+
 // The number of a variable after so many.
-fn number_of(count: usize) -> Result<u32, RowError> {
-    u32::try_from(count).map_err(|_| RowError::Unreadable)
+fn number_of(count: usize) -> u32 {
+    u32::try_from(count).unwrap_or(u32::MAX)
 }

@@ -155,7 +155,7 @@ pub(crate) fn show(out: &mut Answer, e: &Expr) {
 fn show_leaf(out: &mut Answer, e: &Expr) {
     match e {
         Expr::Number(number) => out.put_number(*number),
-        Expr::Literal(text) => out.put_quoted(text.as_str()),
+        Expr::Literal(text) => out.put_in("'", text.as_str(), "'"),
         Expr::Here => out.put("."),
         Expr::Root => out.put("root"),
         Expr::Descend => out.put("descend"),

@@ -5,10 +5,9 @@ ghost use Rattle.xs_xpath.specs.Exprs.{tree_from};
 
 use crate::answer::Answer;
 use crate::calls::Call;
-use crate::error::RowError;
-use crate::parsed::parsed_pattern;
+use crate::parsed::{parsed_pattern, put_fault};
 use crate::settings::Settings;
-use std::alloc::Global;
+use std::alloc::{AllocError, Global};
 use xs_pattern::above::{above_of, is_marked};
 use xs_pattern::marks::marks_of;
 use xs_pattern::matching::{matches_path, matches_path_by};
@@ -25,7 +24,7 @@ fn is_agreed(
     alternative: &Expr,
     scope: &Scope,
     marks: &[bool],
-) -> Result<bool, RowError>
+) -> Result<bool, AllocError>
     requires { IsAbove tree.now (tree_from alternative.now) marks.now }
 {
     for place in 0..tree.len() as u32 {
@@ -46,7 +45,7 @@ fn count_by(
     alternative: &Expr,
     scope: &Scope,
     marks: &[bool],
-) -> Result<u64, RowError>
+) -> Result<u64, AllocError>
     requires { IsAbove tree.now (tree_from alternative.now) marks.now }
 {
     let mut found = 0_u64;
@@ -59,32 +58,38 @@ fn count_by(
     Ok(found)
 }
 
-/// Appends the answer of a call that makes tables.
-pub(crate) fn answer(
-    out: &mut Answer,
-    settings: &Settings,
-    call: Call,
-    rest: &str,
-) -> Result<(), RowError> {
-    let scope = settings.scope()?;
-    let pattern = parsed_pattern(settings, rest)?;
-    add_answer(out, settings, call, &pattern, &scope)
+/// Adds the answer of a call that makes tables.
+pub(crate) fn add_answer(out: &mut Answer, settings: &Settings, call: Call, rest: &str) {
+    match parsed_pattern(settings, rest) {
+        Ok(pattern) => put_answer(out, settings, call, &pattern),
+        Err(fault) => put_fault(out, fault),
+    }
 }
 
-// Appends the answer of a call that makes tables for a pattern.
-fn add_answer(
-    out: &mut Answer,
-    settings: &Settings,
-    call: Call,
-    pattern: &Pattern,
-    scope: &Scope,
-) -> Result<(), RowError> {
+// Adds the answer of a call that makes tables for a pattern.
+fn put_answer(out: &mut Answer, settings: &Settings, call: Call, pattern: &Pattern) {
+    let (alloc, tree, scope) = (settings.alloc, &settings.tree, &settings.scope);
     match call {
-        Call::Count => out.put_count("", found(settings.alloc, &settings.tree, pattern, scope)?),
-        Call::Marks => out.put(marks(settings.alloc, &settings.tree, pattern, scope)?),
-        _ => out.put(table(settings.alloc, &settings.tree, pattern, scope)?),
+        Call::Count => put_found(out, found(alloc, tree, pattern, scope)),
+        Call::Marks => put_told(out, marks(alloc, tree, pattern, scope)),
+        _ => put_told(out, table(alloc, tree, pattern, scope)),
     }
-    Ok(())
+}
+
+// Adds how many nodes were found.
+fn put_found(out: &mut Answer, found: Result<u64, AllocError>) {
+    match found {
+        Ok(found) => out.put_count("", found),
+        Err(_) => out.refuse(),
+    }
+}
+
+// Adds what is said of a table.
+fn put_told(out: &mut Answer, told: Result<&'static str, AllocError>) {
+    match told {
+        Ok(told) => out.put(told),
+        Err(_) => out.refuse(),
+    }
 }
 
 // Whether each alternative of a pattern has a table, by which the same nodes match as by climbing
@@ -94,7 +99,7 @@ fn table(
     tree: &Tree,
     pattern: &Pattern,
     scope: &Scope,
-) -> Result<&'static str, RowError> {
+) -> Result<&'static str, AllocError> {
     for alternative in &pattern.alternatives {
         let Some(marks) = above_of(alloc, alternative, tree)? else {
             return Ok("no table");
@@ -113,7 +118,7 @@ fn marks(
     tree: &Tree,
     pattern: &Pattern,
     scope: &Scope,
-) -> Result<&'static str, RowError> {
+) -> Result<&'static str, AllocError> {
     for alternative in &pattern.alternatives {
         let Some(marks) = marks_of(alloc, alternative, scope, tree)? else {
             return Ok("no table");
@@ -132,7 +137,7 @@ fn are_matches(
     alternative: &Expr,
     scope: &Scope,
     marks: &[bool],
-) -> Result<bool, RowError> {
+) -> Result<bool, AllocError> {
     for place in 0..tree.len() as u32 {
         let node = Node::at(place);
         let matched = matches_path(alloc, alternative, scope, tree, node, &NoKeys)?;
@@ -144,14 +149,13 @@ fn are_matches(
 }
 
 // How many nodes match the alternatives of a pattern, by their tables.
-fn found(alloc: Global, tree: &Tree, pattern: &Pattern, scope: &Scope) -> Result<u64, RowError> {
+fn found(alloc: Global, tree: &Tree, pattern: &Pattern, scope: &Scope) -> Result<u64, AllocError> {
     let mut found = 0_u64;
     for alternative in &pattern.alternatives {
-        let Some(marks) = above_of(alloc, alternative, tree)? else {
-            return Err(RowError::Unreadable);
-        };
-        let more = count_by(alloc, tree, alternative, scope, &marks)?;
-        found = found.saturating_add(more);
+        if let Some(marks) = above_of(alloc, alternative, tree)? {
+            let more = count_by(alloc, tree, alternative, scope, &marks)?;
+            found = found.saturating_add(more);
+        }
     }
     Ok(found)
 }

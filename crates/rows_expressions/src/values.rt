@@ -4,8 +4,7 @@ ghost use Rattle.xs_value.specs.Conversion.{IsIn};
 
 use crate::answer::Answer;
 use crate::calls::Call;
-use crate::error::RowError;
-use crate::fields::cut;
+use crate::fields::{cut, whole};
 use crate::names::comparison_named;
 use crate::numbers::{add_outcome, number};
 use crate::settings::Settings;
@@ -28,7 +27,7 @@ fn inside<'a>(text: &'a str, open: char, close: char) -> Option<&'a str> {
 
 /// The value that a row writes: `true`, `7`, `'text'`, `{2 4}` for nodes by their places, or a
 /// fragment's PYX lines between `<` and `>`.
-pub(crate) fn operand(alloc: Global, text: &str) -> Result<Value, RowError> {
+pub(crate) fn operand(alloc: Global, text: &str) -> Result<Value, AllocError> {
     if let Some(chars) = inside(text, '\'', '\'') {
         return Ok(Value::Chars(TextBuf::of(alloc, chars)?));
     }
@@ -36,33 +35,38 @@ pub(crate) fn operand(alloc: Global, text: &str) -> Result<Value, RowError> {
         return Ok(Value::Nodes(node_set(alloc, places)?));
     }
     if let Some(lines) = inside(text, '<', '>') {
-        return fragment(alloc, lines);
+        return Ok(Value::Piece(fragment(alloc, lines)?));
     }
-    match text {
-        "true" => Ok(Value::Bool(true)),
-        "false" => Ok(Value::Bool(false)),
-        _ => Ok(Value::Number(number(text)?)),
-    }
+    Ok(match text {
+        "true" => Value::Bool(true),
+        "false" => Value::Bool(false),
+        _ => Value::Number(number(text)),
+    })
 }
 
 // The nodes at some places.
-fn nodes(alloc: Global, places: &str) -> Result<Vec<Node>, RowError> {
+fn nodes(alloc: Global, places: &str) -> Result<Vec<Node>, AllocError> {
     let mut nodes = Vec::new(alloc);
     for place in places.split_whitespace() {
-        nodes.push(Node::at(place.parse::<u32>()?))?;
+        nodes.push(Node::at(whole(place)))?;
     }
     Ok(nodes)
 }
 
+// The set of the nodes at some places.
+fn node_set(alloc: Global, places: &str) -> Result<NodeSet, AllocError> {
+    NodeSet::in_order(nodes(alloc, places)?)
+}
+
 // The fragment of some lines.
-fn fragment(alloc: Global, lines: &str) -> Result<Value, RowError> {
+fn fragment(alloc: Global, lines: &str) -> Result<SharedFragment, AllocError> {
     let mut fragment = Fragment::of(Vec::new(alloc));
     push_events(&mut fragment, alloc, lines)?;
-    Ok(Value::Piece(SharedFragment::of(alloc, fragment)?))
+    SharedFragment::of(alloc, fragment)
 }
 
 // Adds the events of some lines.
-fn push_events(fragment: &mut Fragment, alloc: Global, lines: &str) -> Result<(), RowError> {
+fn push_events(fragment: &mut Fragment, alloc: Global, lines: &str) -> Result<(), AllocError> {
     for line in lines.lines() {
         fragment.push(event(alloc, line)?)?;
     }
@@ -78,7 +82,7 @@ pub(crate) fn label(alloc: Global, uri: &str, local: &str) -> Result<Label, Allo
 }
 
 // The event of a line.
-fn event(alloc: Global, line: &str) -> Result<Event, RowError> {
+fn event(alloc: Global, line: &str) -> Result<Event, AllocError> {
     if let Some(name) = line.strip_prefix('(') {
         return Ok(Event::Start(label(alloc, "", name)?));
     }
@@ -88,13 +92,10 @@ fn event(alloc: Global, line: &str) -> Result<Event, RowError> {
     if let Some(text) = line.strip_prefix('C') {
         return Ok(Event::Comment(TextBuf::of(alloc, text)?));
     }
-    if line.starts_with(')') {
-        return Ok(Event::End);
-    }
-    Err(RowError::Unreadable)
+    Ok(Event::End)
 }
 
-/// Appends the places of nodes.
+/// Adds the places of nodes.
 pub(crate) fn add_places(out: &mut Answer, nodes: &[Node]) {
     if nodes.is_empty() {
         out.put("none");
@@ -109,143 +110,144 @@ pub(crate) fn add_places(out: &mut Answer, nodes: &[Node]) {
     }
 }
 
-/// Appends the answer of a call with values.
-pub(crate) fn answer(
-    out: &mut Answer,
-    settings: &Settings,
-    call: Call,
-    rest: &str,
-) -> Result<(), RowError> {
+/// Adds the answer of a call with values.
+pub(crate) fn add_answer(out: &mut Answer, settings: &Settings, call: Call, rest: &str) {
     match call {
-        Call::Convert => convert(out, settings, rest),
-        Call::Compared => compared(out, settings, rest),
-        Call::Join => join(out, settings.alloc, rest),
-        _ => gather(out, settings.alloc, rest),
+        Call::Convert => put_operand(out, settings, rest),
+        Call::Compared => put_compared(out, settings, rest),
+        Call::Join => put_joined(out, settings.alloc, rest),
+        _ => put_gathered(out, settings.alloc, rest),
     }
 }
 
-// Why a value has no number, or a comparison no outcome.
-fn fault(fault: ValueFault) -> Result<NumFault, RowError> {
+// Adds why a value has no number, or a comparison no outcome.
+fn put_value_fault(out: &mut Answer, fault: ValueFault) {
     match fault {
-        ValueFault::Fraction => Ok(NumFault::Fraction),
-        ValueFault::Range => Ok(NumFault::Range),
-        ValueFault::NoMemory => Err(RowError::NoMemory),
+        ValueFault::Fraction => add_outcome(out, Err(NumFault::Fraction)),
+        ValueFault::Range => add_outcome(out, Err(NumFault::Range)),
+        ValueFault::NoMemory => out.refuse(),
     }
 }
 
-// Appends a copy of a value as a boolean, a string and a number.
-fn convert(out: &mut Answer, settings: &Settings, text: &str) -> Result<(), RowError> {
-    let value = operand(settings.alloc, text)?.copy()?;
-    add_converted(out, &settings.tree, &value)
+// Adds a copy of a value as a boolean, a string and a number.
+fn put_operand(out: &mut Answer, settings: &Settings, text: &str) {
+    match copied(settings.alloc, text) {
+        Ok(value) => put_converted(out, &settings.tree, &value),
+        Err(_) => out.refuse(),
+    }
 }
 
-// Appends a value as a boolean, a string and a number.
-fn add_converted(out: &mut Answer, tree: &Tree, value: &Value) -> Result<(), RowError> {
+// A copy of the value that a row writes.
+fn copied(alloc: Global, text: &str) -> Result<Value, AllocError> {
+    operand(alloc, text)?.copy()
+}
+
+// Adds a value as a boolean, a string and a number.
+fn put_converted(out: &mut Answer, tree: &Tree, value: &Value) {
     if !is_in(tree, value) {
-        return Err(RowError::Unreadable);
+        return out.put("no such node");
     }
-    let alloc = *out.bytes.allocator();
     out.put_bool(to_bool(value));
     out.put(" | ");
-    out.put_quoted(to_text(alloc, tree, value)?.as_str());
+    put_text(out, tree, value);
     out.put(" | ");
-    match to_number(alloc, tree, value) {
+    match to_number(*out.bytes.allocator(), tree, value) {
         Ok(number) => out.put_number(number),
-        Err(refused) => add_outcome(out, Err(fault(refused)?)),
-    }
-    Ok(())
-}
-
-// Appends whether two values compare so.
-fn compared(out: &mut Answer, settings: &Settings, text: &str) -> Result<(), RowError> {
-    let (left, rest) = cut(text)?;
-    let (name, right) = cut(rest)?;
-    let op = comparison_named(name).ok_or(RowError::Unreadable)?;
-    let mut operands = Vec::new(settings.alloc);
-    push_operand(&mut operands, left)?;
-    push_operand(&mut operands, right)?;
-    match operands.as_slice() {
-        [left, right] => add_compared(out, &settings.tree, op, left, right),
-        _ => Err(RowError::Unreadable),
+        Err(fault) => put_value_fault(out, fault),
     }
 }
 
-// Adds the value that a row writes.
-fn push_operand(operands: &mut Vec<Value>, text: &str) -> Result<(), RowError> {
-    operands.push(operand(*operands.allocator(), text)?)?;
-    Ok(())
+// Adds a value as a string in quotes.
+fn put_text(out: &mut Answer, tree: &Tree, value: &Value)
+    requires { IsIn tree.now value.now }
+{
+    match to_text(*out.bytes.allocator(), tree, value) {
+        Ok(text) => out.put_in("'", text.as_str(), "'"),
+        Err(_) => out.refuse(),
+    }
 }
 
-// Appends whether two values compare so.
-fn add_compared(
-    out: &mut Answer,
-    tree: &Tree,
-    op: CompareOp,
-    left: &Value,
-    right: &Value,
-) -> Result<(), RowError> {
+// Adds whether two values compare so.
+fn put_compared(out: &mut Answer, settings: &Settings, text: &str) {
+    let (left, rest) = cut(text);
+    match operand(settings.alloc, left) {
+        Ok(left) => put_compared_to(out, settings, &left, rest),
+        Err(_) => out.refuse(),
+    }
+}
+
+// Adds whether a value compares so to another.
+fn put_compared_to(out: &mut Answer, settings: &Settings, left: &Value, rest: &str) {
+    let (name, right) = cut(rest);
+    let op = comparison_named(name).unwrap_or(CompareOp::Eq);
+    match operand(settings.alloc, right) {
+        Ok(right) => put_comparison(out, &settings.tree, op, left, &right),
+        Err(_) => out.refuse(),
+    }
+}
+
+// Adds whether two values compare so.
+fn put_comparison(out: &mut Answer, tree: &Tree, op: CompareOp, left: &Value, right: &Value) {
     if !is_in(tree, left) || !is_in(tree, right) {
-        return Err(RowError::Unreadable);
+        return out.put("no such node");
     }
     match compare_values(*out.bytes.allocator(), tree, op, left, right) {
         Ok(holds) => out.put_bool(holds),
-        Err(refused) => add_outcome(out, Err(fault(refused)?)),
+        Err(fault) => put_value_fault(out, fault),
     }
-    Ok(())
 }
 
-// The set of the nodes at some places.
-fn node_set(alloc: Global, places: &str) -> Result<NodeSet, RowError> {
-    Ok(NodeSet::in_order(nodes(alloc, places)?)?)
+// Adds the nodes of two sets.
+fn put_joined(out: &mut Answer, alloc: Global, text: &str) {
+    let (left, right) = cut(text);
+    match union_of(alloc, left, right) {
+        Ok(both) => add_places(out, both.nodes()),
+        Err(_) => out.refuse(),
+    }
 }
 
-// Appends the nodes of two sets.
-fn join(out: &mut Answer, alloc: Global, text: &str) -> Result<(), RowError> {
-    let (left, right) = cut(text)?;
+// The nodes of two sets.
+fn union_of(alloc: Global, left: &str, right: &str) -> Result<NodeSet, AllocError> {
     let left = node_set(alloc, left)?;
-    let right = node_set(alloc, right)?;
-    let both = left.union(alloc, &right)?;
-    add_places(out, both.nodes());
-    Ok(())
+    left.union(alloc, &node_set(alloc, right)?)
 }
 
-// Appends a list of nodes, gathered from a slice, one by one and from a slice again, how many it
-// has, and its set.
-fn gather(out: &mut Answer, alloc: Global, text: &str) -> Result<(), RowError> {
-    let (first, rest) = cut(text)?;
-    let (next, last) = cut(rest)?;
-    let mut list = listed(alloc, first)?;
+// Adds a list of nodes, gathered from a slice, one by one and from a slice again, how many it has,
+// and its set.
+fn put_gathered(out: &mut Answer, alloc: Global, text: &str) {
+    let (first, rest) = cut(text);
+    let (next, last) = cut(rest);
+    match gathered(alloc, first, next, last) {
+        Ok(list) => put_list(out, list),
+        Err(_) => out.refuse(),
+    }
+}
+
+// A list of nodes, gathered from a slice, one by one and from a slice again.
+fn gathered(alloc: Global, first: &str, next: &str, last: &str) -> Result<NodeList, AllocError> {
+    let mut list = NodeList::from_slice(alloc, &nodes(alloc, first)?)?;
     push_nodes(&mut list, next)?;
-    extend(&mut list, alloc, last)?;
-    Ok(add_gathered(out, list)?)
-}
-
-// The list of the nodes at some places.
-fn listed(alloc: Global, places: &str) -> Result<NodeList, RowError> {
-    Ok(NodeList::from_slice(alloc, &nodes(alloc, places)?)?)
-}
-
-// Adds the nodes at some places at once.
-fn extend(list: &mut NodeList, alloc: Global, places: &str) -> Result<(), RowError> {
-    Ok(list.extend_from_slice(&nodes(alloc, places)?)?)
+    list.extend_from_slice(&nodes(alloc, last)?)?;
+    Ok(list)
 }
 
 // Adds the nodes at some places one by one.
-fn push_nodes(list: &mut NodeList, places: &str) -> Result<(), RowError> {
+fn push_nodes(list: &mut NodeList, places: &str) -> Result<(), AllocError> {
     for place in places.split_whitespace() {
-        list.push(Node::at(place.parse::<u32>()?))?;
+        list.push(Node::at(whole(place)))?;
     }
     Ok(())
 }
 
-// Appends a list of nodes, how many it has, and its set.
-fn add_gathered(out: &mut Answer, list: NodeList) -> Result<(), AllocError> {
+// Adds a list of nodes, how many it has, and its set.
+fn put_list(out: &mut Answer, list: NodeList) {
     add_places(out, list.as_slice());
     out.put_count(" | ", list.len() as u64);
     out.put(" | ");
-    let set = set_of(list)?;
-    add_places(out, set.nodes());
-    Ok(())
+    match set_of(list) {
+        Ok(set) => add_places(out, set.nodes()),
+        Err(_) => out.refuse(),
+    }
 }
 
 // A copy of the set of a list.
@@ -253,14 +255,14 @@ fn set_of(list: NodeList) -> Result<NodeSet, AllocError> {
     NodeSet::of_list(list)?.copy()
 }
 
-/// Appends a value: nodes by their places, any other by its kind and its string.
+/// Adds a value: nodes by their places, any other by its kind and its string.
 pub(crate) fn show_value(out: &mut Answer, tree: &Tree, value: &Value)
     requires { IsIn tree.now value.now }
 {
     match value {
         Value::Nodes(set) => add_places(out, set.nodes()),
         Value::Bool(_) | Value::Number(_) => show_text(out, tree, value),
-        Value::Chars(text) => out.put_quoted(text.as_str()),
+        Value::Chars(text) => out.put_in("'", text.as_str(), "'"),
         Value::Piece(_) => {
             out.put("<");
             show_text(out, tree, value);
@@ -269,7 +271,7 @@ pub(crate) fn show_value(out: &mut Answer, tree: &Tree, value: &Value)
     }
 }
 
-// Appends a value as a string.
+// Adds a value as a string.
 fn show_text(out: &mut Answer, tree: &Tree, value: &Value)
     requires { IsIn tree.now value.now }
 {

@@ -74,7 +74,7 @@ pub(crate) fn put_fields(out: &mut Answer, outcome: &Outcome) {
 }
 
 /// Adds a text in one line; a long one of a single letter as a row says it, `<<300:a>>`.
-fn put_short(out: &mut Answer, text: &str) {
+pub(crate) fn put_short(out: &mut Answer, text: &str) {
     let first = text.bytes().next().unwrap_or(0);
     let mut is_run = text.len() > 80;
     for byte in text.bytes() {
@@ -91,7 +91,7 @@ fn put_short(out: &mut Answer, text: &str) {
 }
 
 /// Adds a line for the user, without its end.
-fn put_line(out: &mut Answer, line: &str) {
+pub(crate) fn put_line(out: &mut Answer, line: &str) {
     match line.strip_suffix('\n') {
         Some(USAGE) => out.put("usage"),
         Some(line) => out.put(line),

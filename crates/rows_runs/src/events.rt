@@ -1,17 +1,20 @@
-//! Lists of events in one line, and what stays of them.
+//! Lists of events in one line, what stays of them, and how it is written.
 
 use crate::answer::{Answer, text_of};
 use crate::texts::put_escaped;
 use std::alloc::{AllocError, Global};
 use xs_result::{build, write_text};
-use xs_trace::event::{Event, Label};
+use xs_trace::event::{Event, Fragment, Label};
 use xs_trace::text::TextBuf;
+use xs_writing::{PyxStream, write_pyx};
 
-/// A name without a namespace.
+/// The name `{URI}prefix:local`; the URI in braces, and the prefix with its colon, may be left out.
 fn label(alloc: Global, name: &str) -> Result<Label, AllocError> {
-    let uri = TextBuf::of(alloc, "")?;
-    let local = TextBuf::of(alloc, name)?;
-    let prefix = TextBuf::of(alloc, "")?;
+    let (uri, rest) = name.split_once('}').unwrap_or(("", name));
+    let (prefix, local) = rest.split_once(':').unwrap_or(("", rest));
+    let uri = TextBuf::of(alloc, uri.strip_prefix('{').unwrap_or(""))?;
+    let local = TextBuf::of(alloc, local)?;
+    let prefix = TextBuf::of(alloc, prefix)?;
     Label::of(alloc, uri, local, prefix)
 }
 
@@ -50,9 +53,9 @@ fn named_event(alloc: Global, name: &str, value: &str) -> Result<Event, AllocErr
 /// Adds the line that says an event.
 fn put_event(out: &mut Answer, event: &Event) {
     match event {
-        Event::Start(name) => put_named(out, "(", name.local()),
+        Event::Start(name) => put_label(out, "(", name),
         Event::Attr { name, value } => {
-            put_named(out, "A", name.local());
+            put_label(out, "A", name);
             put_named(out, " ", value.as_str());
         }
         Event::Space { prefix, uri } => {
@@ -67,6 +70,18 @@ fn put_event(out: &mut Answer, event: &Event) {
             put_named(out, " ", value.as_str());
         }
     }
+}
+
+/// Adds a sign and a name.
+fn put_label(out: &mut Answer, sign: &str, name: &Label) {
+    out.put(sign);
+    if !name.uri().is_empty() {
+        out.put_in("{", name.uri(), "}");
+    }
+    if !name.prefix().is_empty() {
+        out.put_in("", name.prefix(), ":");
+    }
+    out.put(name.local());
 }
 
 /// Adds a sign and a text.
@@ -101,10 +116,15 @@ fn events(out: &mut Answer, alloc: Global, lines: &str) -> Vec<Event> {
 /// Adds what stays of events.
 pub(crate) fn put_fragment(out: &mut Answer, alloc: Global, lines: &str) {
     let put = events(out, alloc, lines);
-    match build(alloc, put.iter()) {
+    match fragment(alloc, &put) {
         Ok(fragment) => put_events(out, fragment.events()),
         Err(_) => out.refuse(),
     }
+}
+
+/// A copy of what stays of events.
+fn fragment(alloc: Global, put: &[Event]) -> Result<Fragment, AllocError> {
+    build(alloc, put.iter())?.copy()
 }
 
 /// Adds the lines that say events, with slashes between them.
@@ -122,11 +142,17 @@ fn put_events(out: &mut Answer, events: &[Event]) {
     }
 }
 
-/// Adds the text of events, which is put after another text.
-pub(crate) fn put_text(out: &mut Answer, alloc: Global, lines: &str) {
+/// Adds what is written of events: their text after another one, or their lines, at once or as the
+/// events come.
+pub(crate) fn put_written(out: &mut Answer, alloc: Global, call: &str, lines: &str) {
     let put = events(out, alloc, lines);
-    match text(alloc, &put) {
-        Ok(text) => put_escaped(out, text_of(&text)),
+    let written = match call {
+        "write_text" => text(alloc, &put),
+        "write_pyx" => pyx(alloc, &put),
+        _ => streamed(out, alloc, &put),
+    };
+    match written {
+        Ok(written) => put_escaped(out, text_of(&written)),
         Err(_) => out.refuse(),
     }
 }
@@ -136,4 +162,24 @@ fn text(alloc: Global, put: &[Event]) -> Result<Vec<u8>, AllocError> {
     let mut text = Vec::from_slice(alloc, b"> ")?;
     write_text(&mut text, put.iter())?;
     Ok(text)
+}
+
+/// The lines of events.
+fn pyx(alloc: Global, put: &[Event]) -> Result<Vec<u8>, AllocError> {
+    let mut lines = Vec::new(alloc);
+    write_pyx(&mut lines, put.iter())?;
+    Ok(lines)
+}
+
+/// The lines of events that come one by one; adds how many bytes of them there are after each.
+fn streamed(out: &mut Answer, alloc: Global, put: &[Event]) -> Result<Vec<u8>, AllocError> {
+    let mut lines = Vec::new(alloc);
+    let mut stream = PyxStream::new(alloc)?;
+    for event in put {
+        stream = stream.take(&mut lines, event)?;
+        out.put_count("", lines.len() as u64);
+        out.put(" ");
+    }
+    stream.finish(&mut lines)?;
+    Ok(lines)
 }

@@ -7,6 +7,7 @@ mod answers;
 mod calls;
 mod events;
 mod library;
+mod replies;
 mod rows;
 mod setup;
 mod stylesheets;

@@ -3,7 +3,8 @@
 use crate::answer::Answer;
 use crate::answers::{put_fields, put_parts, put_pieces};
 use crate::calls::put_options;
-use crate::events::{put_fragment, put_text};
+use crate::events::{put_fragment, put_written};
+use crate::replies::put_replies;
 use crate::setup::{Outcome, Setup};
 use crate::texts::{push_word, push_words, put_decoded};
 use std::alloc::Global;
@@ -268,11 +269,20 @@ impl<'t> Rows<'t> {
         match self.call {
             "read_words" => put_options(out, self.alloc, input),
             "build" => put_fragment(out, self.alloc, input),
-            "write_text" => put_text(out, self.alloc, input),
+            "write_text" | "write_pyx" | "take" => put_written(out, self.alloc, self.call, input),
+            "run_reply" => self.put_replies(out, input),
             "transform args" | "transform budget" | "transform text" => {
                 self.put_transformed(out, rt, input)
             }
             _ => out.put("no such call"),
+        }
+    }
+
+    /// Adds the answers of the stylesheet, compiled once, on sources whose names are the input.
+    fn put_replies(&self, out: &mut Answer, input: &str) {
+        match self.setup.library(out, b"") {
+            Ok(mut library) => put_replies(out, self.alloc, &mut library, input),
+            Err(_) => out.refuse(),
         }
     }
 

@@ -136,7 +136,7 @@ impl<'t> Setup<'t> {
     }
 
     /// The library of the files, in which a text takes its place.
-    fn library(&self, out: &mut Answer, text: &[u8]) -> Result<MemLibrary, AllocError> {
+    pub(crate) fn library(&self, out: &mut Answer, text: &[u8]) -> Result<MemLibrary, AllocError> {
         let failing = Vec::from_slice(self.alloc, &self.failing_fetches)?;
         let mut files = Vec::new(self.alloc);
         for file in self.files.iter().rev() {

@@ -7,7 +7,7 @@ mod circles;
 mod compact;
 mod elements;
 pub(crate) mod files;
-mod modules;
+pub(crate) mod modules;
 mod rules;
 mod settings;
 mod sheets;

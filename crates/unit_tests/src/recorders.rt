@@ -11,7 +11,7 @@ use xs_block::pool::Pool;
 use xs_record::brief::Brief;
 use xs_record::outcome::{Outcome, Part};
 use xs_record::piece::{Finished, PieceRecorder};
-use xs_trace::event::{Event, Fragment, Label, text_ticks};
+use xs_trace::event::{Event, Fragment};
 use xs_trace::fault::Fault;
 use xs_trace::item::{Ended, Item, Limits, Site};
 use xs_trace::meter::Meter;
@@ -28,23 +28,6 @@ fn cross_threads() {
     crosses_threads::<TextBuf>();
     crosses_threads::<Claim>();
     crosses_threads::<Fragment>();
-}
-
-// A text with no room in its block.
-const LONG: &str = "the whole of this text is longer than thirty-two bytes";
-
-#[test]
-fn short_text(rt: HostRuntime) -> Result<(), Fail> {
-    let copy = TextBuf::of(rt.alloc(), "pi")?.copy()?;
-    assert!(rt; copy.as_str() == "pi");
-    Ok(())
-}
-
-#[test]
-fn long_text(rt: HostRuntime) -> Result<(), Fail> {
-    let copy = TextBuf::from_string(String::from_str(rt.alloc(), LONG)?)?.copy()?;
-    assert!(rt; copy.as_str() == LONG);
-    Ok(())
 }
 
 // The place with these numbers.
@@ -79,63 +62,6 @@ fn places(rt: HostRuntime) -> Result<(), Fail> {
             compared(rt.alloc(), &[3, 1], &[2])? == Ordering::Greater,
         ],
     );
-    Ok(())
-}
-
-// A name in no namespace.
-fn label(alloc: Global) -> Result<Label, AllocError> {
-    let uri = TextBuf::of(alloc, "")?;
-    let local = TextBuf::of(alloc, "a")?;
-    let prefix = TextBuf::of(alloc, "p")?;
-    Label::of(alloc, uri, local, prefix)
-}
-
-#[test]
-fn labels(rt: HostRuntime) -> Result<(), Fail> {
-    let copy = label(rt.alloc())?.copy()?;
-    check(
-        &rt,
-        &[copy.uri() == "", copy.local() == "a", copy.prefix() == "p"],
-    );
-    Ok(())
-}
-
-// An attribute with the copy of a name.
-fn attribute(alloc: Global) -> Result<Event, AllocError> {
-    let name = label(alloc)?.copy()?;
-    Ok(Event::Attr {
-        name,
-        value: TextBuf::of(alloc, "1")?,
-    })
-}
-
-// The copy of an event.
-fn copied(event: Event) -> Result<Event, AllocError> {
-    event.copy()
-}
-
-// The copy of an attribute, and an end.
-fn attribute_and_end(alloc: Global) -> Result<Fragment, AllocError> {
-    let mut fragment = Fragment::of(Vec::new(alloc));
-    fragment.push(copied(attribute(alloc)?)?)?;
-    fragment.push(Event::End)?;
-    Ok(fragment)
-}
-
-// Whether there are an attribute with a short text, which takes no ticks of its own, and an end.
-fn are_attribute_and_end(events: &[Event]) -> bool {
-    match events {
-        [attribute, Event::End] => {
-            matches!(attribute, Event::Attr { .. }) && text_ticks(attribute) == 0
-        }
-        _ => false,
-    }
-}
-
-#[test]
-fn events(rt: HostRuntime) -> Result<(), Fail> {
-    let copy = attribute_and_end(rt.alloc())?.copy()?;
-    assert!(rt; are_attribute_and_end(copy.events()));
     Ok(())
 }
 

@@ -11,7 +11,7 @@ use Rattle.xs_compile.proofs.OpenLemmas.{slot-below}
 use Rattle.xs_compile.specs.Counted.{globals}
 use Rattle.xs_compile.specs.Parsed.{IsExpr, IsValueTemplate, bound_part}
 use Rattle.xs_structure.specs.Parts.{pairs_at}
-use Rattle.xs_compile.specs.Slots.{global_slot, slot_at, is_visible as is_seen_from, slot_of, visible_at}
+use Rattle.xs_compile.specs.Slots.{global_slot, slot_at, is_visible, slot_of, visible_at}
 use Rattle.xs_elements.specs.declared.forms.Form.{Form}
 use Rattle.xs_elements.specs.declared.forms.Form.TheVariants.{Expression, ValueTemplate}
 use Rattle.xs_elements.specs.Forms.{sees_locals}
@@ -21,7 +21,7 @@ use Rattle.xs_sheet.specs.declared.scoped.ScopedExpr.{ScopedExpr}
 use Rattle.xs_sheet.specs.declared.scoped.ValueTemplate.{ValueTemplate as Template}
 use Rattle.xs_sheet.specs.Standing.{Counts, expr_stands, part_stands, slot_stands, template_stands, tree_stands, trees_stand}
 use Rattle.xs_static.specs.Names.{is_known, is_global as has_global}
-use Rattle.xs_structure.specs.Bindings.{is_visible}
+use Rattle.xs_structure.specs.Bindings.{has_binding}
 use Rattle.xs_static.specs.Expressions.{any_unknown, expressions, expressions_if, expressions_of, has_unknown, trees_if}
 use Rattle.xs_structure.specs.Modules.{Place, records_at}
 use Rattle.xs_tree.specs.Record.{places}
@@ -125,11 +125,11 @@ module _ (ms : List ModuleData) (counts : Counts) (some_globals : counts.globals
       → slot_stands counts locals (slot_at ms p uri local) ≡ true
   slot-stands form uri local h = by_found (find (λ b. is_named (uri, local) (own_name (records_at ms p.0) b)) (visible_at (records_at ms p.0) p.1)) refl
     where
-      visible : is_visible (records_at ms p.0) p.1 (uri, local) ≡ false → has_global ms (uri, local) ≡ true
+      visible : has_binding (records_at ms p.0) p.1 (uri, local) ≡ false → has_global ms (uri, local) ≡ true
       visible none =
-          elim (or_cases (has_global ms (uri, local)) (sees_locals form && is_visible (records_at ms p.0) p.1 (uri, local)) h) [
+          elim (or_cases (has_global ms (uri, local)) (sees_locals form && has_binding (records_at ms p.0) p.1 (uri, local)) h) [
             | inl own ↦ own
-            | inr seen ↦ absurd (true≢false (sym (and_parts (sees_locals form) (is_visible (records_at ms p.0) p.1 (uri, local)) seen).1 ∙ none))
+            | inr seen ↦ absurd (true≢false (sym (and_parts (sees_locals form) (has_binding (records_at ms p.0) p.1 (uri, local)) seen).1 ∙ none))
           ]
 
       slot_by : Option ℕ → Option Slot
@@ -138,7 +138,7 @@ module _ (ms : List ModuleData) (counts : Counts) (some_globals : counts.globals
       by_found : (o : Option ℕ) → find (λ b. is_named (uri, local) (own_name (records_at ms p.0) b)) (visible_at (records_at ms p.0) p.1) ≡ o
           → slot_stands counts locals (slot_at ms p uri local) ≡ true
       by_found (Some b) e =
-          let seen = found-seen (is_seen_from (records_at ms p.0) p.1) (λ b. is_named (uri, local) (own_name (records_at ms p.0) b))
+          let seen = found-seen (is_visible (records_at ms p.0) p.1) (λ b. is_named (uri, local) (own_name (records_at ms p.0) b))
           (places (records_at ms p.0)) b e in
           let below = slot-below (records_at ms p.0) tree p.1 b inside seen in
           ap (λ (o : Option ℕ). slot_stands counts locals (slot_by o)) e
@@ -146,7 +146,7 @@ module _ (ms : List ModuleData) (counts : Counts) (some_globals : counts.globals
       by_found None e =
           ap (λ (o : Option ℕ). slot_stands counts locals (slot_by o)) e
           ∙ global-stands (uri, local)
-          (visible (not-found (is_seen_from (records_at ms p.0) p.1) (λ b. is_named (uri, local) (own_name (records_at ms p.0) b))
+          (visible (not-found (is_visible (records_at ms p.0) p.1) (λ b. is_named (uri, local) (own_name (records_at ms p.0) b))
           (places (records_at ms p.0)) e))
 
   -- ---- values of attributes

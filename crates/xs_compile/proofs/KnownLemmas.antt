@@ -1,5 +1,5 @@
 -- Names that are declared have a number.
-use Rattle.std.proofs.Common.{◌≡◌, ◌∙◌, ℕ, zero, suc, ◌<◌, ap, refl, sym, subst, List, [], ◌∷◌, ◌++◌, cond, filter, length, Bool, true, false, Option, Some, None, inl, inr}
+use Rattle.std.proofs.Common.{◌≡◌, ◌∙◌, ℕ, ◌<◌, ap, refl, sym, subst, List, [], ◌∷◌, cond, filter, length, Bool, true, false, Option, Some, None, inl, inr}
 use Rattle.std.proofs.lemmas.Bool.{and_parts, false≢true, or_cases, or_left, or_right}
 use Rattle.std.proofs.lemmas.Option.{none-some}
 use Rattle.std.specs.List.{list_any, position}
@@ -7,8 +7,9 @@ use Rattle.std.specs.Option.{option_and_then, option_map_or}
 use Rattle.std.specs.Prelude.{◌&&◌, ◌||◌, nat_lt, if◌then◌else◌}
 use Rattle.xs_static.proofs.SameNameLemmas.{same-true}
 use Rattle.xs_compile.proofs.ModeLemmas.{position_found}
-use Rattle.xs_compile.proofs.TemplateNumberLemmas.{counted-passes, same-self, same-turned}
+use Rattle.xs_compile.proofs.TemplateNumberLemmas.{counted-passes}
 use Rattle.xs_compile.specs.Counted.{counted, global_number, globals, greater, is_global, named, template_number, templates}
+use Rattle.xs_structure.proofs.DeclarationLemmas.{place-same, same-place}
 use Rattle.xs_structure.specs.Order.{is_template_place, declarations, is_simplified, declares}
 use Rattle.xs_structure.specs.Parts.{name_at, row_at}
 use Rattle.xs_elements.specs.declared.rows.Row.{Row}
@@ -38,11 +39,11 @@ module _ (ms : List ModuleData) where
   either-in : (c p : Place) (o : Option Place) (ps : List Place) → ((q : Place) → o ≡ Some q → list_any (is_same_place q) ps ≡ true)
       → greater ms p o ≡ c → (is_same_place c p || list_any (is_same_place c) ps) ≡ true
   either-in c p None ps again h =
-      or_left (is_same_place c p) _ (subst (λ x. is_same_place x p ≡ true) h (same-self p))
+      or_left (is_same_place c p) _ (subst (λ x. is_same_place x p ≡ true) h (same-place p))
   either-in c p (Some q) ps again h = by (nat_lt _ _) h
     where
       by : (b : Bool) → (if b then p else q) ≡ c → (is_same_place c p || list_any (is_same_place c) ps) ≡ true
-      by true e = or_left (is_same_place c p) _ (subst (λ x. is_same_place x p ≡ true) e (same-self p))
+      by true e = or_left (is_same_place c p) _ (subst (λ x. is_same_place x p ≡ true) e (same-place p))
       by false e = or_right (is_same_place c p) _ (subst (λ x. list_any (is_same_place x) ps ≡ true) e (again q refl))
 
   some-same : (p q : Place) → Some p ≡ Some q → p ≡ q
@@ -68,8 +69,8 @@ module _ (ms : List ModuleData) where
   passes_both c first second e f [] h = absurd (false≢true h)
   passes_both c first second e f (p ∷ ps) h =
       elim (or_cases (is_same_place c p) (list_any (is_same_place c) ps) h) [
-        | inl own ↦ (let same = same-turned c p own in
-            here (first p) (subst (λ x. first x ≡ true) (sym same) e) (subst (λ x. second x ≡ true) (sym same) f))
+        | inl own ↦ (let same = place-same c p own in
+            here (first p) (subst (λ x. first x ≡ true) same e) (subst (λ x. second x ≡ true) same f))
         | inr more ↦ behind (first p) (passes_both c first second e f ps more)
       ]
     where
@@ -106,7 +107,7 @@ module _ (ms : List ModuleData) where
   counts-global true None name c h e = absurd (false≢true h)
   counts-global true (Some own) name c h e =
       ap (λ (n : Name). option_map_or (is_same_place c) (counted ms (named is_variable ms n)) false) (sym (same-true name own h))
-      ∙ ap (λ (o : Option Place). option_map_or (is_same_place c) o false) e ∙ same-self c
+      ∙ ap (λ (o : Option Place). option_map_or (is_same_place c) o false) e ∙ same-place c
   counts-global false o name c h e = absurd (false≢true h)
 
   pub known_global : (name : Name) → has_global ms name ≡ true → (k : ℕ) × (global_number ms name ≡ Some k) × (k < length (globals ms))
@@ -125,5 +126,5 @@ module _ (ms : List ModuleData) where
       let row = (and_parts (is_template (row_at ms c)) (is_named name (name_at ms c)) found.declared).0 in
       let at = position_found (is_same_place c) (templates ms)
       (passes_both c (is_template_place ms) (is_same_place c)
-      (ap (λ (b : Bool). if b then true else is_simplified (records_at ms c.0) c.1) row) (same-self c) (declarations ms) found.inside) in
+      (ap (λ (b : Bool). if b then true else is_simplified (records_at ms c.0) c.1) row) (same-place c) (declarations ms) found.inside) in
       (at.0, ap (λ (o : Option Place). option_and_then (λ p. position (is_same_place p) (templates ms)) o) found.counts ∙ at.1, at.2)

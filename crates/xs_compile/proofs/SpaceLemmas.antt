@@ -1,30 +1,12 @@
--- Name tests and rules of white space, word by word.
-use Rattle.std.proofs.Common.{◌≡◌, ◌∙◌, ◌-◌, ◌≤◌, ap, append_assoc, arith, refl, sym, ℕ, List, [], ◌∷◌, ◌++◌, length, map, take, Bool, true, false, Bor, nat_eq, Option, None, Some, option_map, MatchOption, codes}
-use Rattle.std.proofs.lemmas.Str.Pattern.{ends_text}
-use Rattle.std.specs.List.{ends_with}
-use Rattle.std.specs.Str.{IsCharBoundary}
-use Rattle.std.specs.Str.Pattern.{FindsTextSuffix, StripsSuffix}
+-- Rules of white space, word by word.
+use Rattle.std.proofs.Common.{◌≡◌, ◌∙◌, ap, append_assoc, sym, ℕ, List, [], ◌∷◌, ◌++◌, map, Bool, codes}
 use Rattle.xs_compile.specs.Spaces.{rule_of, rules_of}
 use Rattle.xs_structure.specs.Parts.{pairs_at, said_at}
 use Rattle.xs_compile.specs.steps.Spaces.{rule_as}
-use Rattle.xs_elements.specs.Values.{prefix_of_test}
 use Rattle.xs_elements.specs.WhiteSpace.{words}
 use Rattle.xs_modules.specs.Numbering.{ModuleData}
 use Rattle.xs_sheet.specs.declared.declarations.StripRule.{StripRule}
 use Rattle.xs_structure.specs.Modules.{Place, precedence_at}
-
--- what `strip_suffix` says of `:*`
-pub prefix-stripped : (text : List ℕ) (r : Option (Bor (List ℕ))) → MatchOption r (FindsTextSuffix (codes ":*") text None)
-    (λ x. StripsSuffix (FindsTextSuffix (codes ":*")) text x.now) → option_map (λ prefix. prefix.now) r ≡ prefix_of_test text
-prefix-stripped text None h =
-    let e : false ≡ ends_with nat_eq text (codes ":*") = ends_text false (codes ":*") text h in
-    rw (sym e) refl
-prefix-stripped text (Some x) h =
-    let two : h.0 ≡ 2 = h.1.0 in
-    let long : h.0 ≤ length text = omega (arith, h.3) in
-    let edge : IsCharBoundary text (length text - h.0) = rw two h.1.2 in
-    let e : true ≡ ends_with nat_eq text (codes ":*") = ends_text true (codes ":*") text (h.0, h.1, long, edge) in
-    rw (sym e) (ap Some (h.2 ∙ ap (λ n. take (length text - n) text) two))
 
 -- the rules of a declaration, as they are read
 pub rules_start : (strip : Bool) (pairs : List (List ℕ × List ℕ)) (precedence : ℕ) (text : List ℕ) (ms : List ModuleData) (p : Place)

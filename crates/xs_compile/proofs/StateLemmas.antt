@@ -15,7 +15,7 @@ use Rattle.xs_elements.specs.Nodes.{own_name}
 use Rattle.xs_elements.specs.Reading.{is_seen}
 use Rattle.xs_elements.specs.Rows.{is_top_level, is_variable, row_of}
 use Rattle.xs_modules.specs.Numbering.{ModuleData}
-use Rattle.xs_structure.specs.Bindings.{is_local, is_visible, shadows}
+use Rattle.xs_structure.specs.Bindings.{is_local, has_binding, shadows}
 use Rattle.xs_static.specs.Faults.{IsFirstFault, shadowing}
 use Rattle.xs_structure.specs.Modules.{records_at}
 use Rattle.xs_tree.specs.Kinds.{is_element_kind}
@@ -69,7 +69,7 @@ pub apart-at : (ms : List ModuleData) → IsFirstFault ms None → (m : ℕ) →
 apart-at ms accepted m lt b inside =
     let rs = records_at ms m in
     false_from_ne_true (shadows rs b) (λ h.
-    let local = (and_parts (is_local rs b) (option_map_or (is_visible rs b) (own_name rs b) false) h).0 in
+    let local = (and_parts (is_local rs b) (option_map_or (has_binding rs b) (own_name rs b) false) h).0 in
     let seen = (and_parts (is_variable (row_of rs b) && not (is_top_level rs b)) (is_seen rs b) local).1 in
     let variable = (and_parts (is_variable (row_of rs b)) (not (is_top_level rs b))
     (and_parts (is_variable (row_of rs b) && not (is_top_level rs b)) (is_seen rs b)

@@ -1,13 +1,14 @@
 -- The number of the template that is called by a name.
 use Rattle.std.proofs.Common.{◌≡◌, ◌∙◌, ℕ, ◌+◌, ap, refl, sym, subst, List, [], ◌∷◌, cond, filter, Bool, true, false, Option, Some, None}
-use Rattle.std.proofs.lemmas.Bool.{and_parts, eq-eqb, eqb-true, false≢true}
+use Rattle.std.proofs.lemmas.Bool.{and_from, and_parts, false≢true}
 use Rattle.std.proofs.lemmas.Bool.Decides.{same_from_decides}
 use Rattle.std.proofs.Math.Path.{fun_ext}
 use Rattle.std.specs.List.{position}
 use Rattle.std.specs.Option.{option_and_then, option_map_or}
-use Rattle.std.specs.Prelude.{◌&&◌, ◌==◌, nat_lt, if◌then◌else◌}
+use Rattle.std.specs.Prelude.{◌&&◌, nat_lt, if◌then◌else◌}
 use Rattle.xs_compile.proofs.NumberLemmas.{number_from, position_is}
 use Rattle.xs_compile.specs.Counted.{counted, greater, named, template_number, templates}
+use Rattle.xs_structure.proofs.DeclarationLemmas.{place-same, same-place}
 use Rattle.xs_structure.specs.Order.{declarations, declares}
 use Rattle.xs_compile.specs.steps.Counting.{is_called}
 use Rattle.xs_elements.specs.Nodes.{Name}
@@ -39,24 +40,9 @@ module _ (ms : List ModuleData) (test : Place → Bool) where
   counted-passes [] c h = absurd (false≢true (ap (λ (o : Option Place). option_map_or (λ x. true) o false) h))
   counted-passes (p ∷ ps) c h = counted-next p ps (test p) refl (counted-passes ps) c h
 
--- ---- places
-pub same-turned : (p q : Place) → is_same_place p q ≡ true → q ≡ p
-same-turned p q h =
-    let both = and_parts (p.0 == q.0) (p.1 == q.1) h in
-    let first : q.0 ≡ p.0 = sym (eqb-true p.0 q.0 both.0) in
-    let second : q.1 ≡ p.1 = sym (eqb-true p.1 q.1 both.1) in
-    ap {B = Place} (λ (a : ℕ). (a, q.1)) first ∙ ap {B = Place} (λ (b : ℕ). (p.0, b)) second
-
-both-true : (a b : Bool) → a ≡ true → b ≡ true → (a && b) ≡ true
-both-true true b p q = q
-both-true false b p q = absurd (false≢true p)
-
 and-false : (b : Bool) → (b && false) ≡ false
 and-false true = refl
 and-false false = refl
-
-pub same-self : (p : Place) → is_same_place p p ≡ true
-same-self p = both-true (p.0 == p.0) (p.1 == p.1) (eq-eqb p.0 p.0 refl) (eq-eqb p.1 p.1 refl)
 
 -- ---- the number of the first that is called so is that of the one that counts
 module _ (ms : List ModuleData) (name : Name) where
@@ -64,9 +50,9 @@ module _ (ms : List ModuleData) (name : Name) where
       → (declares is_template ms name p && is_same_place p c) ≡ is_same_place c p
   called-by c p d =
       same_from_decides {P = is_same_place c p ≡ true} (declares is_template ms name p && is_same_place p c) (is_same_place c p) (
-        λ h. subst (λ x. is_same_place c x ≡ true) (same-turned p c (and_parts (declares is_template ms name p) (is_same_place p c) h).1) (same-self c),
-        λ h. subst (λ x. (declares is_template ms name x && is_same_place x c) ≡ true) (sym (same-turned c p h))
-            (both-true (declares is_template ms name c) (is_same_place c c) d (same-self c)),
+        λ h. subst (λ x. is_same_place c x ≡ true) (sym (place-same p c (and_parts (declares is_template ms name p) (is_same_place p c) h).1)) (same-place c),
+        λ h. subst (λ x. (declares is_template ms name x && is_same_place x c) ≡ true) (place-same c p h)
+            (and_from (declares is_template ms name c) (is_same_place c c) d (same-place c)),
       )
       (λ h. h, λ h. h)
 

@@ -10,10 +10,10 @@ use Rattle.std.specs.Prelude.{◌&&◌, ◌||◌, find, option_map, if◌then◌
 use Rattle.std.specs.Str.{bytes_eq}
 use Rattle.xs_structure.proofs.NameLemmas.{name-same}
 use Rattle.xs_compile.proofs.ReachLemmas.{Reaches, child-reaches, reaches-of, reaches-second, reaches-to}
-use Rattle.xs_compile.specs.Slots.{is_visible as is_seen_from, local_slot, slot_of}
+use Rattle.xs_compile.specs.Slots.{is_visible, local_slot, slot_of}
 use Rattle.xs_compile.specs.Locals.{IsApart, IsBindingIn}
 use Rattle.xs_elements.specs.Nodes.{Name, is_named, is_same_name, own_name}
-use Rattle.xs_structure.specs.Bindings.{is_local, is_visible, is_visible_as, reaches, shadows}
+use Rattle.xs_structure.specs.Bindings.{is_local, has_binding, is_visible_as, reaches, shadows}
 use Rattle.xs_tree.proofs.PlaceLemmas.{range-more}
 use Rattle.xs_tree.proofs.WalkLemmas.{le_or_gt}
 use Rattle.xs_tree.specs.Record.{Record, places}
@@ -70,8 +70,8 @@ module _ (rs : List Record) (tree : IsTree rs) where
   -- a local binding that sees another one of its name shadows it
   pub sees-shadows : (name : Name) (c b : ℕ) → c < length rs → is_local rs c ≡ true → own_name rs c ≡ Some name → Sees rs name c b → shadows rs c ≡ true
   sees-shadows name c b w bound named s =
-      and_from (is_local rs c) (option_map_or (is_visible rs c) (own_name rs c) false) bound
-      (subst (λ (o : Option Name). option_map_or (is_visible rs c) o false ≡ true) (sym named)
+      and_from (is_local rs c) (option_map_or (has_binding rs c) (own_name rs c) false) bound
+      (subst (λ (o : Option Name). option_map_or (has_binding rs c) o false ≡ true) (sym named)
       (any-place (is_visible_as rs name c) (length rs) b (omega (arith, s.reaches.before, w)) (sees-to name c b w s)))
 
 module _ (rs : List Record) (tree : IsTree rs) (apart : IsApart rs) where
@@ -151,20 +151,20 @@ find-only v p b seen named only (x ∷ xs) h = by_visible (v x) refl (λ g. find
     by_visible false e again = later again (not-there v b x seen e)
 
 module _ (rs : List Record) (tree : IsTree rs) (name : Name) (n : ℕ) where
-  split : (x : ℕ) → is_seen_from rs n x ≡ true → is_named name (own_name rs x) ≡ true → is_visible_as rs name n x ≡ true
+  split : (x : ℕ) → is_visible rs n x ≡ true → is_named name (own_name rs x) ≡ true → is_visible_as rs name n x ≡ true
   split x seen named = and_from (is_local rs x && reaches rs x n) (is_named name (own_name rs x)) seen named
 
   -- none is visible
   pub no-slot : n < length rs → ((b : ℕ) → Sees rs name n b → ⊥) → local_slot rs n name ≡ None
   no-slot w h =
       ap (option_map (λ b. Local (slot_of rs b)))
-      (find-none (is_seen_from rs n) (λ b. is_named name (own_name rs b)) (places rs) (λ x a b. h x (sees-of rs tree name n x w (split x a b))))
+      (find-none (is_visible rs n) (λ b. is_named name (own_name rs b)) (places rs) (λ x a b. h x (sees-of rs tree name n x w (split x a b))))
 
   -- one is
   pub own-slot : IsApart rs → n < length rs → (b : ℕ) → Sees rs name n b → local_slot rs n name ≡ Some (Local (slot_of rs b))
   own-slot apart w b s =
       let parts = and_parts (is_local rs b && reaches rs b n) (is_named name (own_name rs b)) (sees-to rs tree name n b w s) in
       ap (option_map (λ b. Local (slot_of rs b)))
-      (find-only (is_seen_from rs n) (λ b. is_named name (own_name rs b)) b parts.0 parts.1
+      (find-only (is_visible rs n) (λ b. is_named name (own_name rs b)) b parts.0 parts.1
       (λ x a c. only-seen rs tree apart name n x b w (sees-of rs tree name n x w (split x a c)) s)
       (places rs) (any-place (λ x. x == b) (length rs) b (omega (arith, s.reaches.before, w)) (eq-eqb b b refl)))

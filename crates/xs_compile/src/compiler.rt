@@ -34,7 +34,7 @@ use xs_elements::rows::Row;
 use xs_modules::Modules;
 use xs_structure::places::{Place, name_at, tree_of};
 use xs_structure::scopes::Scopes;
-use xs_structure::standing::{Standing, standings_by};
+use xs_structure::standing::{Standing, standings};
 use xs_tree::Node;
 use xs_xpath::name::Slot;
 use xs_xpath::scope::Scope;
@@ -85,7 +85,7 @@ fn all_standings(
     let mut all = Vec::new(alloc);
     for number in 0..modules.list.len() {
         let tree = &modules.list[number].tree;
-        all.push(standings_by(alloc, tree, &scopes[number])?)?;
+        all.push(standings(alloc, tree, &scopes[number])?)?;
     }
     Ok(all)
 }

@@ -1,11 +1,13 @@
 //! Priorities, as numbers (XSLT 1.0, 5.5).
 
 ghost use Rattle.std.specs.Prelude.{◌≡◌, ◌+◌, ◌*◌, ◌^◌, ◌≤◌, true, codes, drop, length};
-ghost use Rattle.std.specs.List.{after_first, before_first, list_all};
+ghost use Rattle.std.specs.List.{list_all};
 ghost use Rattle.std.specs.Str.Parse.{digits_value_after};
 ghost use Rattle.xs_compile.specs.Priorities.{priority_in, tenthousandths};
-ghost use Rattle.xs_elements.specs.Values.{is_number, is_point, unsigned};
+ghost use Rattle.xs_elements.specs.Values.{is_number, unsigned};
 ghost use Rattle.xs_xpath.specs.Lexing.{is_digit};
+
+use xs_elements::value::split_point;
 
 /// A priority in ten-thousandths (XSLT 1.0, 5.5): a number of at most nine digits before its point
 /// and four behind it, perhaps behind a minus sign.
@@ -16,17 +18,6 @@ pub(crate) fn priority_in(text: &str) -> i64
     match text.strip_prefix('-') {
         Some(digits) => -(tenthousandths(digits) as i64),
         None => tenthousandths(text) as i64,
-    }
-}
-
-/// What stands before the point of a number, and what behind it; all and nothing where it has none.
-fn split_point(text: &str) -> (&str, &str)
-    ensures whole { result.0.now ≡ before_first is_point text.now }
-    ensures part { result.1.now ≡ after_first is_point text.now }
-{
-    match text.split_once('.') {
-        Some(parts) => parts,
-        None => (text, ""),
     }
 }
 

@@ -1,18 +1,18 @@
 //! Which white space of the source is stripped (XSLT 1.0, 3.4).
 
-ghost use Rattle.std.specs.Prelude.{◌≡◌, ◌++◌, option_map, IfOk, OnOk};
+ghost use Rattle.std.specs.Prelude.{◌≡◌, ◌++◌, IfOk, OnOk};
 ghost use Rattle.std.specs.List.{All};
 ghost use Rattle.xs_compile.specs.Spaces.{rules_by, rules_of, strip_rules, test_in};
 ghost use Rattle.xs_structure.specs.Order.{declarations};
 ghost use Rattle.xs_structure.specs.Parts.{row_at};
 ghost use Rattle.xs_compile.specs.steps.Spaces.{named_test, rule_as};
 ghost use Rattle.xs_structure.specs.Places.{IsIn};
-ghost use Rattle.xs_elements.specs.Values.{prefix_of_test};
 ghost use Rattle.xs_modules.specs.Results.{modules_data};
 
 use crate::labels::{label_in, uri_of};
 use std::alloc::{AllocError, Global};
 use xs_elements::rows::Row;
+use xs_elements::value::prefix_of_test;
 use xs_elements::words::first_word;
 use xs_modules::Modules;
 use xs_sheet::declarations::{NameTest, StripRule};
@@ -20,13 +20,6 @@ use xs_structure::places::{Place, pairs_at, precedence_at, row_at, said_at};
 use xs_trace::text::TextBuf;
 use xs_tree::Node;
 use xs_xpath::scope::Scope;
-
-/// The prefix of `p:*`, if a text ends so.
-fn prefix_of_test(word: &str) -> Option<&str>
-    ensures { option_map (λ prefix. prefix.now) result ≡ prefix_of_test word.now }
-{
-    word.strip_suffix(":*")
-}
 
 /// A QName as a name test.
 fn named_test(alloc: Global, scope: &Scope, word: &str) -> Result<NameTest, AllocError>

@@ -10,8 +10,8 @@ use crate::scope::value_of;
 use xs_text::is_blank;
 use xs_tree::{Node, Tree};
 
-/// The namespace of `xml:space` (Namespaces in XML 1.0, 3).
-const XML_URI: &str = "http://www.w3.org/XML/1998/namespace";
+/// The namespace that is bound to `xml` (Namespaces in XML 1.0, 3).
+pub const XML_URI: &str = "http://www.w3.org/XML/1998/namespace";
 
 /// What an element says of white space by `xml:space`: whether it is preserved, or nothing.
 pub fn own_space(tree: &Tree, n: Node) -> Option<bool>
@@ -23,7 +23,7 @@ pub fn own_space(tree: &Tree, n: Node) -> Option<bool>
 }
 
 /// What the value of an `xml:space` says; one other than `preserve` and `default` says nothing.
-fn space_value(value: &str) -> Option<bool>
+pub fn space_value(value: &str) -> Option<bool>
     ensures { result ≡ space_value value.now }
 {
     if value == "preserve" {

@@ -41,7 +41,7 @@ fn is_unbound_name(scope: &Scope, text: &str) -> bool
 }
 
 /// The prefix of `p:*`, if a text ends so.
-fn prefix_of_test(text: &str) -> Option<&str>
+pub fn prefix_of_test(text: &str) -> Option<&str>
     ensures { option_map (λ prefix. prefix.now) result ≡ prefix_of_test text.now }
 {
     text.strip_suffix(":*")
@@ -109,8 +109,8 @@ fn are_digits(most: usize, text: &[u8]) -> bool
     is_all_digits(text) && text.len() <= most
 }
 
-/// What stands before the point of a number, and what behind it; all and nothing where it has none.
-fn split_point(text: &str) -> (&str, &str)
+/// What a number has before its point and after it; all of it and nothing where it has no point.
+pub fn split_point(text: &str) -> (&str, &str)
     ensures whole { result.0.now ≡ before_first is_point text.now }
     ensures part { result.1.now ≡ after_first is_point text.now }
 {

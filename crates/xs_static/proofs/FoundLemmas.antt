@@ -9,7 +9,7 @@ use Rattle.xs_elements.specs.Forms.{sees_locals}
 use Rattle.xs_elements.specs.Nodes.{Name, own_name}
 use Rattle.xs_elements.specs.Reading.{is_seen}
 use Rattle.xs_static.proofs.MeetLemmas.{least_append}
-use Rattle.xs_structure.specs.Bindings.{is_local, is_visible, shadows, local_name}
+use Rattle.xs_structure.specs.Bindings.{is_local, has_binding, shadows, local_name}
 use Rattle.xs_static.specs.declared.fault.StaticFault.{StaticFault}
 use Rattle.xs_structure.specs.declared.in_force.InForce.{InForce}
 use Rattle.xs_static.specs.declared.names.Names.{Names}
@@ -30,19 +30,19 @@ use Rattle.xs_tree.specs.Record.{Record, at}
 
 -- ---- a local binding over another
 by_local : (rs : List Record) (n : ℕ) (l : Bool)
-    → option_map_or (is_visible rs n) (if l then own_name rs n else None) false ≡ (l && option_map_or (is_visible rs n) (own_name rs n) false)
+    → option_map_or (has_binding rs n) (if l then own_name rs n else None) false ≡ (l && option_map_or (has_binding rs n) (own_name rs n) false)
 by_local rs n true = refl
 by_local rs n false = refl
 
-pub shadows-some : (rs : List Record) (n : ℕ) (name : Name) (holds : Bool) → Some name ≡ local_name rs n → holds ≡ is_visible rs n name → holds ≡ shadows rs n
-shadows-some rs n name holds e h = h ∙ ap (λ o. option_map_or (is_visible rs n) o false) e ∙ by_local rs n (is_local rs n)
+pub shadows-some : (rs : List Record) (n : ℕ) (name : Name) (holds : Bool) → Some name ≡ local_name rs n → holds ≡ has_binding rs n name → holds ≡ shadows rs n
+shadows-some rs n name holds e h = h ∙ ap (λ o. option_map_or (has_binding rs n) o false) e ∙ by_local rs n (is_local rs n)
 
 -- ---- the variables that are known
 module _ (v : Visible) (names : Names) (rs : List Record) (n : ℕ) (l : Bor InForce) where
   known-form : v.globals.now ≡ names.globals.names → v.locals ≡ Some l → v.place ≡ n
-      → ((uri local : List ℕ) → in_force_at l.now uri local n ≡ is_visible rs n (uri, local)) → (form : Form) (sees : Bool) (uri local : List ℕ)
+      → ((uri local : List ℕ) → in_force_at l.now uri local n ≡ has_binding rs n (uri, local)) → (form : Form) (sees : Bool) (uri local : List ℕ)
       → visible_in (if sees then v else record { globals = v.globals; locals = None; place = v.place }) uri local
-      ≡ (has_global names uri local || (sees && is_visible rs n (uri, local)))
+      ≡ (has_global names uri local || (sees && has_binding rs n (uri, local)))
   known-form globals locals place force form true uri local =
       ap (λ g. is_among g.keys (uri, local) || option_map_or (λ locals. in_force_at locals.now uri local v.place) v.locals false) globals
       ∙ ap (λ o. has_global names uri local || option_map_or (λ locals. in_force_at locals.now uri local v.place) o false) locals
@@ -51,7 +51,7 @@ module _ (v : Visible) (names : Names) (rs : List Record) (n : ℕ) (l : Bor InF
   known-form globals locals place force form false uri local = ap (λ g. is_among g.keys (uri, local) || false) globals
 
   pub known-is : v.globals.now ≡ names.globals.names → v.locals ≡ Some l → v.place ≡ n
-      → ((uri local : List ℕ) → in_force_at l.now uri local n ≡ is_visible rs n (uri, local)) → known_by v ≡ known_at names rs n
+      → ((uri local : List ℕ) → in_force_at l.now uri local n ≡ has_binding rs n (uri, local)) → known_by v ≡ known_at names rs n
   known-is globals locals place force =
       fun_ext (λ form. fun_ext (λ uri. fun_ext (λ local. known-form globals locals place force form (sees_locals form) uri local)))
 

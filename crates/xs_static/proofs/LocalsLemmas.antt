@@ -9,7 +9,7 @@ use Rattle.std.proofs.lemmas.Option.{get_or_from_slice_get, slice_get_within}
 use Rattle.std.specs.Prelude.{◌++◌, ◌&&◌, ◌||◌, get_or, reverse, slice_get, nat_le, nat_lt, not, option_map, if◌then◌else◌}
 use Rattle.xs_elements.specs.Nodes.{Name, is_named, is_same_name, name_data, own_name}
 use Rattle.xs_structure.proofs.NameLemmas.{bool_same}
-use Rattle.xs_structure.specs.Bindings.{is_local, is_visible, is_visible_as, reaches, shadows, local_name}
+use Rattle.xs_structure.specs.Bindings.{is_local, has_binding, is_visible_as, reaches, shadows, local_name}
 use Rattle.xs_static.specs.declared.locals.OpenBinding.{OpenBinding}
 use Rattle.xs_static.specs.steps.Locals.{AreNested, EndFrom, HasEnd, any_visible, comes, comes_as}
 use Rattle.xs_tree.proofs.PlaceLemmas.{range-more}
@@ -189,7 +189,7 @@ visible-past rs name n (suc m) =
     ∙ and-none (is_named name (local_name rs (m + n))) in
     ap (any_visible rs name n) m_is ∙ visible-more rs name n (m + n) ∙ ap (λ x. x || any_visible rs name n (m + n)) hidden ∙ visible-past rs name n m
 
-pub visible-is : (rs : List Record) (n : ℕ) (name : Name) → n < length rs → any_visible rs name n n ≡ is_visible rs n name
+pub visible-is : (rs : List Record) (n : ℕ) (name : Name) → n < length rs → any_visible rs name n n ≡ has_binding rs n name
 visible-is rs n name inside =
     let m_is : (length rs - n) + n ≡ length rs = omega (arith, inside) in
     sym (visible-past rs name n (length rs - n)) ∙ ap (any_visible rs name n) m_is ∙ sym (visible-range rs name n (length rs))
@@ -197,7 +197,7 @@ visible-is rs n name inside =
 -- where the walk passed all that ended, a name is in force where it is visible
 pub in_force-is : (rs : List Record) (n : ℕ) (os : List OpenBinding) (uri local : List ℕ) (force : Bool) → n < length rs → EndFrom (n + 1) os
     → AreNested rs n os
-    → (force || comes os uri local n) ≡ any_visible rs (uri, local) n n → force ≡ is_visible rs n (uri, local)
+    → (force || comes os uri local n) ≡ any_visible rs (uri, local) n n → force ≡ has_binding rs n (uri, local)
 in_force-is rs n os uri local force inside passed nested h =
     or-false force ∙ ap (λ x. force || x) (sym (none-comes rs os n n (n + 1) uri local (omega arith) passed nested)) ∙ h ∙ visible-is rs n (uri, local) inside
   where

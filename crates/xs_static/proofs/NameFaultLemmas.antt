@@ -1,11 +1,11 @@
 -- The faults of names: those of the elements of the top level that repeat a name.
 use Rattle.std.proofs.Common.{◌≡◌, ◌∙◌, ℕ, ◌<◌, ap, refl, sym, subst, arith, inl, inr, ◌⊎◌, ⊎_elim, List, [], ◌∷◌, ◌++◌, append_assoc, length, Bool, true, false, Option, Some, None}
-use Rattle.std.proofs.lemmas.Bool.{and_parts, eq-eqb, eqb-true, false≢true, le-leb, or_cases}
+use Rattle.std.proofs.lemmas.Bool.{and_parts, false≢true, le-leb, or_cases}
 use Rattle.std.proofs.lemmas.List.Elements.{All-head, All-tail}
 use Rattle.std.proofs.lemmas.List.Folds.{list_any-append}
 use Rattle.std.specs.List.{All, list_any}
 use Rattle.std.specs.Option.{option_map_or}
-use Rattle.std.specs.Prelude.{◌&&◌, ◌||◌, ◌==◌, nat_le}
+use Rattle.std.specs.Prelude.{◌&&◌, ◌||◌, nat_le}
 use Rattle.xs_elements.specs.declared.rows.Row.{Row}
 use Rattle.xs_elements.specs.Nodes.{Name, own_name}
 use Rattle.xs_elements.specs.Reading.{is_seen}
@@ -20,15 +20,12 @@ use Rattle.xs_static.specs.steps.Covering.{AreIn, HasAtMost}
 use Rattle.xs_static.specs.steps.Declared.{name_faults, names_faults, repeats}
 use Rattle.xs_static.specs.steps.Least.{fault_of, fault_where}
 use Rattle.xs_static.specs.steps.Whole.{AreTrees}
-use Rattle.xs_structure.proofs.DeclarationLemmas.{IsDeclared, all-declared}
+use Rattle.xs_structure.proofs.DeclarationLemmas.{IsDeclared, all-declared, place-same, same-place}
 use Rattle.xs_structure.proofs.TopLemmas.{declaration-element, declaration-seen}
 use Rattle.xs_structure.specs.Modules.{Place, is_same_place, line_at, records_at}
 use Rattle.xs_structure.specs.Order.{declarations}
 
 -- ---- an element that stands behind one that passes a test
-same-place : (p : Place) → is_same_place p p ≡ true
-same-place p = both-true (p.0 == p.0) (p.1 == p.1) (eq-eqb p.0 p.0 refl) (eq-eqb p.1 p.1 refl)
-
 here-among : (p : Place) (done rest : List Place) → list_any (is_same_place p) (done ++ p ∷ rest) ≡ true
 here-among p done rest =
     list_any-append (is_same_place p) done (p ∷ rest)
@@ -105,13 +102,6 @@ module _ (ms : List ModuleData) (trees : AreTrees ms) where
   names_sound some = names-sound [] (declarations ms) refl (all-declared ms some)
 
 -- ---- and a name that is declared twice is met
-place-same : (p q : Place) → is_same_place p q ≡ true → p ≡ q
-place-same p q h =
-    let both = and_parts (p.0 == q.0) (p.1 == q.1) h in
-    let first : p.0 ≡ q.0 = eqb-true p.0 q.0 both.0 in
-    let second : p.1 ≡ q.1 = eqb-true p.1 q.1 both.1 in
-    ap {B = Place} (λ (a : ℕ). (a, p.1)) first ∙ ap {B = Place} (λ (b : ℕ). (q.0, b)) second
-
 module _ (ms : List ModuleData) (kind : Row → Bool) (p : Place) (name : Name) (f : StaticFault) (is_kind : kind (row_of (records_at ms p.0) p.1) ≡ true)
     (own : own_name (records_at ms p.0) p.1 ≡ Some name)
     (met : (done : List Place) → repeats kind ms done p ≡ true → HasAtMost f (name_faults ms done p)) where

@@ -4,9 +4,9 @@ use Rattle.std.proofs.lemmas.Bool.{and_parts, cases_eq, cases_lt, eq-eqb, eqb-tr
 use Rattle.std.proofs.lemmas.List.Folds.{list_any-append}
 use Rattle.std.specs.List.{list_all, list_any, range_with_len}
 use Rattle.std.specs.Option.{option_map_or}
-use Rattle.std.specs.Prelude.{◌&&◌, ◌||◌, ◌==◌, codes, not, if◌then◌else◌, MatchOption}
+use Rattle.std.specs.Prelude.{◌&&◌, ◌||◌, ◌==◌, codes, not, if◌then◌else◌}
 use Rattle.std.specs.Str.{bytes_eq}
-use Rattle.xs_elements.specs.Nodes.{chain, has}
+use Rattle.xs_elements.specs.Nodes.{has}
 use Rattle.xs_elements.specs.declared.reading.Reading.{Reading}
 use Rattle.xs_elements.specs.declared.reading.Reading.TheVariants.{Known, Literal, Extension, Unread}
 use Rattle.xs_elements.specs.declared.rows.Row.{Row}
@@ -17,11 +17,13 @@ use Rattle.xs_elements.specs.Rows.{is_document_element, is_top_level, row_named,
 use Rattle.xs_static.proofs.BooleanLemmas.{both-true, or-left, or-right}
 use Rattle.xs_static.specs.Placing.{content_before, has_misplaced_text, is_misplaced, is_misplaced_element, lacks_branch, stands_in}
 use Rattle.xs_static.specs.steps.Misplaced.{is_refused, misplaced_nodes, refused}
+use Rattle.xs_structure.proofs.AroundLemmas.{around-some, parent-before}
+use Rattle.xs_structure.proofs.TopLemmas.{is_place-true}
 use Rattle.xs_tree.specs.declared.kinds.Kind.{Kind}
 use Rattle.xs_tree.specs.declared.kinds.Kind.TheVariants.{Element}
 use Rattle.xs_tree.specs.Kinds.{is_child_kind, is_element_kind}
-use Rattle.xs_tree.specs.Record.{Record, at, children, is_child, is_place, places, root_record, uri_at, local_at}
-use Rattle.xs_tree.specs.Shape.{IsPlaced, IsTree}
+use Rattle.xs_tree.specs.Record.{Record, at, children, is_child, is_place, places, uri_at, local_at}
+use Rattle.xs_tree.specs.Shape.{IsTree}
 
 -- ---- a place among others
 abbrev pub has_place : ℕ → List ℕ → Bool
@@ -89,42 +91,11 @@ range-in a zero k h g = absurd (omega arith)
 range-in a (suc n) k h g = reached a n k h g (range-in (a + 1) n k) (cases_eq a k)
 
 module _ (rs : List Record) (tree : IsTree rs) where
-  -- ---- parents
-  pub earlier : (k p : ℕ) → k < length rs → (at rs k).parent ≡ Some p → p < k
-  earlier k p h e =
-      let placed : MatchOption (Some p) ((at rs k).kind ≡ root_record.kind) (λ q. IsPlaced rs k q) =
-      subst (λ o. MatchOption o ((at rs k).kind ≡ root_record.kind) (λ q. IsPlaced rs k q)) e (tree.placed k h) in
-      placed.before
-
-  up : (o : Option ℕ) (f g : ℕ → List ℕ) → ((p : ℕ) → o ≡ Some p → f p ≡ g p) → option_map_or f o [] ≡ option_map_or g o []
-  up None f g h = refl
-  up (Some p) f g h = h p refl
-
-  same-chain : (m w n : ℕ) → n < length rs → n < m → n < w → chain m rs n ≡ chain w rs n
-  unfolding chain
-  same-chain zero w n l h g = absurd (omega arith)
-  same-chain (suc m) zero n l h g = absurd (omega arith)
-  same-chain (suc m) (suc w) n l h g =
-      ap (λ ns. n ∷ ns) (up (at rs n).parent (chain m rs) (chain w rs) (λ p e.
-      same-chain m w p (omega (arith, l, earlier n p l e)) (omega (arith, h, earlier n p l e)) (omega (arith, g, earlier n p l e))))
-
-  chain-up : (k p : ℕ) → k < length rs → (at rs k).parent ≡ Some p → chain (suc k) rs k ≡ k ∷ chain (p + 1) rs p
-  unfolding chain
-  chain-up k p h e =
-      ap (λ o. k ∷ option_map_or (chain k rs) o []) e
-      ∙ ap (λ ns. k ∷ ns) (same-chain k (p + 1) p (omega (arith, h, earlier k p h e)) (earlier k p h e) (omega arith))
-
   -- an element is looked at where it is shown and its parent is looked at
   pub seen-up : (k p : ℕ) → k < length rs → (at rs k).parent ≡ Some p → is_seen rs k ≡ (is_shown rs k && is_seen rs p)
-  seen-up k p h e =
-      let next : k + 1 ≡ suc k = omega arith in
-      ap (λ m. list_all (is_shown rs) (chain m rs k)) next ∙ ap (list_all (is_shown rs)) (chain-up k p h e)
+  seen-up k p h e = ap (list_all (is_shown rs)) (around-some rs tree k p h e)
 
   -- ---- an element that is refused
-  pub parent-is : (n : ℕ) (o : Option ℕ) → is_place n o ≡ true → o ≡ Some n
-  parent-is n None h = absurd (false≢true h)
-  parent-is n (Some p) h = ap Some (eqb-true p n h)
-
   -- an element is no root
   no-root : (n : ℕ) → is_element_kind (at rs n).kind ≡ true → (n == 0) ≡ false
   no-root zero h = absurd (false≢true (sym (ap (λ r. is_element_kind r.kind) tree.first) ∙ h))
@@ -161,7 +132,7 @@ module _ (rs : List Record) (tree : IsTree rs) where
       let r = in-filter (is_refused rs n) k (children rs n) h in
       let c = in-filter (is_child rs n) k (places rs) r.1 in
       let within : k < length rs = omega (arith, in-range 0 (length rs) k c.1) in
-      let e : (at rs k).parent ≡ Some n = parent-is n (at rs k).parent (and_parts (is_place n (at rs k).parent) (is_child_kind (at rs k).kind) c.0).0 in
+      let e : (at rs k).parent ≡ Some n = is_place-true n (at rs k).parent (and_parts (is_place n (at rs k).parent) (is_child_kind (at rs k).kind) c.0).0 in
       let both = and_parts (is_element_kind (at rs k).kind) (not (stands_in rs n k)) r.0 in
       let shown = child-shown n k e (shows-refused (row_of rs n) (row_of rs k) (reading_of rs n) (has rs n (codes "select"))
       (not (is_none (uri_at rs k))) (content_before rs n k) both.1) in (
@@ -212,7 +183,7 @@ module _ (rs : List Record) (tree : IsTree rs) where
       let child : is_child rs p k ≡ true =
       both-true (is_place p (at rs k).parent) (is_child_kind (at rs k).kind) (ap (is_place p) e ∙ eq-eqb p p refl) (element-child (at rs k).kind element) in (
         p,
-        omega (arith, within, earlier k p within e),
+        omega (arith, within, parent-before rs tree k p within e),
         holds-element (is_element_kind (at rs p).kind) (if bytes_eq (uri_at rs p) xslt_uri then row_named (local_at rs p) else Other) (row_of rs k)
             (is_top_level rs p) (is_in_extension rs p) (has rs p (codes "select")) (not (is_none (uri_at rs k))) (content_before rs p k) refuses,
         (and_parts (is_shown rs k) (is_seen rs p) (sym (seen-up k p within e) ∙ seen)).1,

@@ -15,7 +15,7 @@ use Rattle.xs_static.proofs.CoveringLemmas.{are_in_append, at_most_left, at_most
 use Rattle.xs_static.proofs.ElementLemmas.{attributes_are_least, own_is_least}
 use Rattle.xs_static.proofs.PlacingLemmas.{has_place, misplaced_complete, misplaced_sound}
 use Rattle.xs_static.specs.Names.{is_known, calls_unknown, is_global, is_template_name}
-use Rattle.xs_structure.specs.Bindings.{is_visible, shadows}
+use Rattle.xs_structure.specs.Bindings.{has_binding, shadows}
 use Rattle.xs_static.specs.declared.fault.StaticFault.{StaticFault}
 use Rattle.xs_static.specs.declared.names.Names.{Names}
 use Rattle.xs_static.specs.Faults.{Fault, bad_syntax, unknown_function, arg_count, bad_literal, too_nested, not_pattern, bad_root, unsupported, missing_attribute, unknown_attribute, bad_attribute, misplaced, unbound_prefix, unknown_variable, shadowing, double_global, double_template, unknown_template, circular_set, forbidden, module_too_deep, number_of, shows, Holds, IsStaticFault, is_at_most, is_too_deep, some_value}
@@ -71,7 +71,7 @@ module _ (ms : List ModuleData) (m : ℕ) (lines : List ℕ) (names : Names) (kn
   known_here n form = is_known ms form (m, n)
 
   same-known : (n : ℕ) (form : Form) (uri local : List ℕ) → known_at names rs n form uri local ≡ known_here n form uri local
-  same-known n form uri local = ap (λ (b : Bool). b || (sees_locals form && is_visible rs n (uri, local))) (globals uri local)
+  same-known n form uri local = ap (λ (b : Bool). b || (sees_locals form && has_binding rs n (uri, local))) (globals uri local)
 
   same-name : (o : Option Name)
       → option_map_or (λ name. not (has_template names name)) o false ≡ option_map_or (λ name. not (is_template_name ms name)) o false

@@ -5,7 +5,7 @@ use Rattle.std.specs.Option.{option_map_or}
 use Rattle.xs_modules.specs.Numbering.{ModuleData}
 use Rattle.xs_elements.specs.declared.rows.Row.{Row}
 use Rattle.xs_structure.specs.Modules.{Place, records_at, precedence_at, is_same_place}
-use Rattle.xs_structure.specs.Bindings.{is_visible}
+use Rattle.xs_structure.specs.Bindings.{has_binding}
 use Rattle.xs_structure.specs.Order.{declarations, declares}
 use Rattle.xs_elements.specs.declared.forms.Form.{Form}
 use Rattle.xs_elements.specs.Forms.{sees_locals}
@@ -46,4 +46,4 @@ calls_unknown ms p =
 
 -- the variables that are known to a value of this form: the global ones, and local ones where it sees those
 abbrev pub is_known : List ModuleData → Form → Place → List ℕ → List ℕ → Bool
-is_known ms form p uri local = is_global ms (uri, local) || (sees_locals form && is_visible (records_at ms p.0) p.1 (uri, local))
+is_known ms form p uri local = is_global ms (uri, local) || (sees_locals form && has_binding (records_at ms p.0) p.1 (uri, local))

@@ -25,7 +25,7 @@ use xs_elements::scope::{Expanded, own_name};
 use xs_modules::Module;
 use xs_structure::bindings::local_name;
 use xs_structure::scopes::Scopes;
-use xs_structure::standing::{Standing, is_element, standing_in, standings_by};
+use xs_structure::standing::{Standing, is_element, standing_in, standings};
 use xs_tree::{Node, Tree};
 
 /// How many nodes are around an element that stands in 256 others, itself among them; the root
@@ -227,7 +227,7 @@ pub(crate) fn walk_module<'m>(
         (length module.now.tree))) }
 {
     let scopes = Scopes::of(alloc, &module.tree)?;
-    let standings = standings_by(alloc, &module.tree, &scopes)?;
+    let standings = standings(alloc, &module.tree, &scopes)?;
     let site = Site {
         alloc,
         number,

@@ -1,17 +1,29 @@
 -- What modules declare, mention by mention.
 use Rattle.std.proofs.Common.{◌≡◌, ◌∙◌, ℕ, suc, zero, ◌+◌, ◌-◌, ◌<◌, ◌≤◌, ap, refl, sym, subst, arith, List, [], ◌∷◌, ◌++◌, cond, drop, length, Bool, true, false, Option, Some, None}
+use Rattle.std.proofs.lemmas.Bool.{and_from, and_parts, eq-eqb, eqb-true}
 use Rattle.std.proofs.lemmas.List.{append-nil, drop_all}
 use Rattle.std.proofs.lemmas.List.Elements.{All-append, All-cons, All-filter, All-head, All-nil, All-tail, filter_passes}
 use Rattle.std.proofs.lemmas.Option.{none-some}
 use Rattle.std.specs.List.{All, find, flat_map, range_with_len}
 use Rattle.std.specs.Option.{option_map_or}
+use Rattle.std.specs.Prelude.{◌==◌}
 use Rattle.xs_structure.specs.Order.{declarations, declarations_from, is_declaration, own_declarations}
 use Rattle.xs_structure.specs.Places.{IsIn}
 use Rattle.xs_structure.specs.steps.Order.{declarations_of_element}
 use Rattle.xs_modules.specs.Numbering.{ModuleData}
-use Rattle.xs_structure.specs.Modules.{Place, is_mentioned_by, mentioned, records_at}
+use Rattle.xs_structure.specs.Modules.{Place, is_mentioned_by, is_same_place, mentioned, records_at}
 use Rattle.xs_tree.specs.Record.{places}
 
+-- ---- places
+pub same-place : (p : Place) → is_same_place p p ≡ true
+same-place p = and_from (p.0 == p.0) (p.1 == p.1) (eq-eqb p.0 p.0 refl) (eq-eqb p.1 p.1 refl)
+
+pub place-same : (p q : Place) → is_same_place p q ≡ true → p ≡ q
+place-same p q h =
+    let both = and_parts (p.0 == q.0) (p.1 == q.1) h in
+    ap {B = Place} (λ (a : ℕ). (a, p.1)) (eqb-true p.0 q.0 both.0) ∙ ap {B = Place} (λ (b : ℕ). (q.0, b)) (eqb-true p.1 q.1 both.1)
+
+-- ---- what modules declare
 pub declarations_step : (depth : ℕ) (ms : List ModuleData) (m : ℕ) → 0 < depth
     → flat_map (λ n. declarations_of_element (depth - 1) ms (m, n)) (own_declarations (records_at ms m)) ≡ declarations_from depth ms m
 unfolding declarations_from

@@ -23,9 +23,10 @@ reaches rs b n = nat_lt b n && not (is_inside rs b n) && option_map_or (λ p. is
 abbrev pub is_visible_as : List Record → Name → ℕ → (binding : ℕ) → Bool
 is_visible_as rs name n b = is_local rs b && reaches rs b n && is_named name (own_name rs b)
 
-abbrev pub is_visible : List Record → ℕ → Name → Bool
-is_visible rs n name = list_any (is_visible_as rs name n) (places rs)
+-- whether a binding of a name is visible at a node
+abbrev pub has_binding : List Record → ℕ → Name → Bool
+has_binding rs n name = list_any (is_visible_as rs name n) (places rs)
 
 -- A local binding shadows another one; it may shadow a global one.
 abbrev pub shadows : List Record → ℕ → Bool
-shadows rs n = is_local rs n && option_map_or (is_visible rs n) (own_name rs n) false
+shadows rs n = is_local rs n && option_map_or (has_binding rs n) (own_name rs n) false

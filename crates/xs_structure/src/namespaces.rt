@@ -17,15 +17,13 @@ ghost use Rattle.xs_structure.specs.steps.Namespaces.{AreNamespaces, is_left_out
 
 use crate::in_force::InForce;
 use std::alloc::{AllocError, Global};
+use xs_elements::kept::XML_URI;
 use xs_elements::reading::Reading;
 use xs_elements::rows::{Row, XSLT_URI, is_top_level, row_of};
 use xs_elements::scope::value_of;
 use xs_elements::words::first_word;
 use xs_tree::{Node, Tree};
 use xs_xpath::scope::Scope;
-
-/// The namespace that is bound to `xml` (Namespaces in XML 1.0, 3).
-const XML_URI: &str = "http://www.w3.org/XML/1998/namespace";
 
 /// The namespace that a word means; `#default` is the default one, or none.
 fn meant_uri<'s>(scope: &'s Scope, word: &str) -> Option<&'s str>

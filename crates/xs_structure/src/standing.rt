@@ -175,11 +175,7 @@ fn standing_at(
 }
 
 /// How the nodes of a module stand, in document order, by the namespaces in scope at them.
-pub fn standings_by(
-    alloc: Global,
-    tree: &Tree,
-    scopes: &Scopes,
-) -> Result<Vec<Standing>, AllocError>
+pub fn standings(alloc: Global, tree: &Tree, scopes: &Scopes) -> Result<Vec<Standing>, AllocError>
     requires scopes { scopes_in scopes.now ≡ scopes_of tree.now }
     ensures { IfOk result (λ table. table.items ≡ map (standing_of tree.now) (places tree.now)) }
 {
@@ -192,14 +188,6 @@ pub fn standings_by(
         standings.push(standing_at(tree, n, &namespaces, parent))?;
     }
     Ok(standings)
-}
-
-/// How the nodes of a module stand, in document order.
-pub fn standings(alloc: Global, tree: &Tree) -> Result<Vec<Standing>, AllocError>
-    ensures { IfOk result (λ table. table.items ≡ map (standing_of tree.now) (places tree.now)) }
-{
-    let scopes = Scopes::of(alloc, tree)?;
-    standings_by(alloc, tree, &scopes)
 }
 
 /// How a node stands, by the table of its module.

@@ -39,7 +39,7 @@ pub(crate) fn put_modules(out: &mut Answer, modules: &Modules) {
 }
 
 /// Adds a fault: its number, module and line.
-fn put_numbered(out: &mut Answer, number: u8, module: &str, line: u32) {
+pub(crate) fn put_numbered(out: &mut Answer, number: u8, module: &str, line: u32) {
     out.put_number("fault ", i64::from(number));
     out.put_in(" ", module, " ");
     out.put_number("", i64::from(line));

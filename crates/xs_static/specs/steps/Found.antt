@@ -7,7 +7,7 @@ use Rattle.xs_elements.specs.Forms.{sees_locals}
 use Rattle.xs_elements.specs.Nodes.{Name, ancestors_or_self, own_name}
 use Rattle.xs_elements.specs.Reading.{is_seen}
 use Rattle.xs_elements.specs.Rows.{row_of, is_call_template}
-use Rattle.xs_structure.specs.Bindings.{is_visible, shadows}
+use Rattle.xs_structure.specs.Bindings.{has_binding, shadows}
 use Rattle.xs_static.specs.declared.fault.StaticFault.{StaticFault}
 use Rattle.xs_static.specs.declared.names.Names.{Names}
 use Rattle.xs_static.specs.Faults.{is_too_deep}
@@ -27,7 +27,7 @@ has_template names name = is_among names.templates.names.keys name
 
 -- the variables that are known to a value at a node
 abbrev pub known_at : Names → List Record → ℕ → Form → List ℕ → List ℕ → Bool
-known_at names rs n form uri local = has_global names uri local || (sees_locals form && is_visible rs n (uri, local))
+known_at names rs n form uri local = has_global names uri local || (sees_locals form && has_binding rs n (uri, local))
 
 abbrev pub calls_other : Names → List Record → ℕ → Bool
 calls_other names rs n = is_call_template (row_of rs n) && option_map_or (λ name. not (has_template names name)) (own_name rs n) false

@@ -1,4 +1,4 @@
-use Rattle.std.proofs.Common.{◌≡◌, ◌∙◌, ◌<◌, ◌+◌, ◌++◌, ◌∷◌, [], ap, arith, length, map, take, List, Option, Vec}
+use Rattle.std.proofs.Common.{◌≡◌, ◌∙◌, ◌<◌, [], ap, arith, length, map, List, Option, Vec}
 use Rattle.std.proofs.lemmas.List.{length-map}
 use Rattle.std.specs.declared.alloc.Global.{Global}
 use Rattle.std.specs.Option.{option_map_or}
@@ -14,8 +14,8 @@ use Rattle.xs_modules.specs.Results.{module_data, modules_data}
 use Rattle.xs_tree.specs.Record.{places}
 use Rattle.xs_compile.proofs.compiler.all_standings.Goals as goal
 
-pub standings_by-requires : goal.standings_by-requires
-standings_by-requires c =
+pub standings-requires : goal.standings-requires
+standings-requires c =
     let list = c.args.modules.now.list.items in
     let ms = modules_data c.args.modules.now in
     let i = c.loop-number.number in
@@ -39,5 +39,5 @@ loop-number-preserved c =
     let items : Vec Standing Global → List Standing = λ table. table.items in
     let of : ModuleData → List Standing = λ d. map (standing_of d.records) (places d.records) in
     ap (map items) c.in_ok-push.ensures.items
-    ∙ tables-more of items ms c.loop-number.all.items i d c.in_ok-standings_by.field-0 inside
-    (get_map module_data list i c.index.result.now lt c.index.ensures) c.loop-number.invariant c.in_ok-standings_by.ensures
+    ∙ tables-more of items ms c.loop-number.all.items i d c.in_ok-standings.field-0 inside
+    (get_map module_data list i c.index.result.now lt c.index.ensures) c.loop-number.invariant c.in_ok-standings.ensures

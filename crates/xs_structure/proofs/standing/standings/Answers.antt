@@ -1,7 +1,7 @@
 use Rattle.std.proofs.Common.{◌+◌, subst, ℕ}
 use Rattle.xs_structure.proofs.StandingLemmas.{none_declared, standings_more}
 use Rattle.xs_structure.specs.steps.Namespaces.{AreNamespaces}
-use Rattle.xs_structure.proofs.standing.standings_by.Goals as goal
+use Rattle.xs_structure.proofs.standing.standings.Goals as goal
 
 pub loop-place-init : goal.loop-place-init
 loop-place-init c = record {

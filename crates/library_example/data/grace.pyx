@@ -1,3 +1,0 @@
-(person
--Grace
-)person
