@@ -136,7 +136,8 @@ impl Settings {
     // Adds a local variable with its value.
     fn add_local(&mut self, out: &mut Answer, text: &str) {
         let (name, value) = word(text);
-        self.add_slot(out, name, Slot::Local(number_of(self.locals.len())));
+        let slot = Slot::Local(number_of(self.locals.len()));
+        self.add_slot(out, name, slot);
         match operand(self.alloc, value) {
             Ok(value) => {
                 let outcome = self.locals.push(value);
@@ -151,7 +152,8 @@ impl Settings {
     // Adds a global variable, with its value where it has one.
     fn add_global(&mut self, out: &mut Answer, text: &str) {
         let (name, value) = word(text);
-        self.add_slot(out, name, Slot::Global(number_of(self.globals.len())));
+        let slot = Slot::Global(number_of(self.globals.len()));
+        self.add_slot(out, name, slot);
         match operand_if(self.alloc, value) {
             Ok(value) => {
                 let outcome = self.globals.push(value);
@@ -165,13 +167,7 @@ impl Settings {
 
     // Adds a variable with its slot.
     fn add_slot(&mut self, out: &mut Answer, name: &str, slot: Slot) {
-        let (prefix, local) = name.split_once(':').unwrap_or(("", name));
-        let uri = if prefix.is_empty() {
-            ""
-        } else {
-            self.scope.uri_in(prefix).unwrap_or("")
-        };
-        match label(self.alloc, uri, local) {
+        match self.expanded(name) {
             Ok(name) => {
                 let outcome = self.slots.push((name, slot));
                 if outcome.is_err() {
@@ -180,6 +176,15 @@ impl Settings {
             }
             Err(_) => out.refuse(),
         }
+    }
+
+    // The name of a variable.
+    fn expanded(&self, name: &str) -> Result<Label, AllocError> {
+        let (prefix, local) = name.split_once(':').unwrap_or(("", name));
+        if prefix.is_empty() {
+            return label(self.alloc, "", local);
+        }
+        label(self.alloc, self.scope.uri_in(prefix).unwrap_or(""), local)
     }
 }
 
