@@ -1,8 +1,8 @@
-mod BoundaryLemmas
-mod GroupLemmas
-mod LetterLemmas
-mod LevelLemmas
-mod PassLemmas
-mod PieceLemmas
-mod SiblingLemmas
-mod TableLemmas
+pub mod BoundaryLemmas
+pub mod GroupLemmas
+pub mod LetterLemmas
+pub mod LevelLemmas
+pub mod PassLemmas
+pub mod PieceLemmas
+pub mod SiblingLemmas
+pub mod TableLemmas

@@ -76,7 +76,7 @@ root-itself rs (suc n) is = rw is refl
 root-before : (rs : List Record) (n : ℕ) → is_root_kind (at rs (suc n)).kind ≡ false → root_of rs (suc n) ≡ root_of rs n
 root-before rs n is = rw is refl
 
-before-is : (counts from : ℕ → Bool) (rs : List Record) (n carried : ℕ) → carried ≡ running counts from rs (root_of rs (n - 1)) n
+pub before-is : (counts from : ℕ → Bool) (rs : List Record) (n carried : ℕ) → carried ≡ running counts from rs (root_of rs (n - 1)) n
     → (if is_root_kind (at rs n).kind then 0 else carried) ≡ running counts from rs (root_of rs n) n
 before-is counts from rs n carried is = by (is_root_kind (at rs n).kind) refl
   where
@@ -101,19 +101,19 @@ numbers-more f was now place x pushed so_far is =
     pushed ∙ ap (λ xs. xs ++ x ∷ []) so_far ∙ ap (λ y. map f (range_with_len 0 place) ++ y ∷ []) is
     ∙ sym (map-range_with_len_more f 0 place place (omega arith))
 
-number-is : (counts from : ℕ → Bool) (rs : List Record) (n before : ℕ) → before ≡ running counts from rs (root_of rs n) n
+pub number-is : (counts from : ℕ → Bool) (rs : List Record) (n before : ℕ) → before ≡ running counts from rs (root_of rs n) n
     → counted_on (counts n) before ≡ any_number counts from rs n
 number-is counts from rs n before is =
     ap (counted_on (counts n)) is ∙ sym (count-one counts n (looked_at from rs (root_of rs n) n))
 
-carried-is : (counts from : ℕ → Bool) (rs : List Record) (n before : ℕ) → before ≡ running counts from rs (root_of rs n) n
+pub carried-is : (counts from : ℕ → Bool) (rs : List Record) (n before : ℕ) → before ≡ running counts from rs (root_of rs n) n
     → carried_on (has_level (at rs n)) (from n) (counts n) before ≡ running counts from rs (root_of rs ((n + 1) - 1)) (n + 1)
 carried-is counts from rs n before is =
     let back : n ≡ (n + 1) - 1 = omega arith in
     ap (carried_on (has_level (at rs n)) (from n) (counts n)) is ∙ sym (running-next counts from rs (root_of rs n) n refl)
     ∙ ap (λ k. running counts from rs (root_of rs k) (n + 1)) back
 
-carried-few : (level starts counts : Bool) (before n : ℕ) → before ≤ n → carried_on level starts counts before ≤ n + 1
+pub carried-few : (level starts counts : Bool) (before n : ℕ) → before ≤ n → carried_on level starts counts before ≤ n + 1
 carried-few false starts counts before n le = omega arith
 carried-few true true counts before n le = omega arith
 carried-few true false true before n le = omega arith

@@ -26,7 +26,7 @@ siblings-by counts rs true None xs = ap (λ ys. length (filter counts ys)) (filt
 siblings-by counts rs true (Some p) xs = refl
 siblings-by counts rs false o xs = ap (λ ys. length (filter counts ys)) (filter-never xs)
 
-number-of : (counts : ℕ → Bool) (rs : List Record) (n : ℕ)
+pub number-of : (counts : ℕ → Bool) (rs : List Record) (n : ℕ)
     → sibling_number counts rs n ≡ suc (option_map_or (λ p. children_seen counts rs p n) (held_by (at rs n)) 0)
 number-of counts rs n = ap suc (siblings-by counts rs (is_child_kind (at rs n).kind) (at rs n).parent (range_with_len 0 n))
 
@@ -47,7 +47,7 @@ held-within rs n tree lt = by (is_child_kind (at rs n).kind) (at rs n).parent re
 
 -- one node more
 
-children-next : (counts : ℕ → Bool) (rs : List Record) (p n : ℕ)
+pub children-next : (counts : ℕ → Bool) (rs : List Record) (p n : ℕ)
     → children_seen counts rs p (n + 1) ≡ counted_on (is_child rs p n && counts n) (children_seen counts rs p n)
 children-next counts rs p n =
     ap (λ xs. length (filter counts (filter (is_child rs p) xs))) (range-next n)
@@ -109,7 +109,7 @@ filter-few test (x ∷ xs) = by (test x) (filter-few test xs)
     by true h = let e : suc (length (filter test xs)) ≤ suc (length xs) = omega (arith, h) in e
     by false h = omega (arith, h)
 
-children-few : (counts : ℕ → Bool) (rs : List Record) (p n : ℕ) → children_seen counts rs p n ≤ n
+pub children-few : (counts : ℕ → Bool) (rs : List Record) (p n : ℕ) → children_seen counts rs p n ≤ n
 children-few counts rs p n =
     omega (
       arith,

@@ -13,8 +13,8 @@ element parent name = record {
 }
 
 -- <r><h/><i/><i/><h/><i/></r>
-abbrev pub row : List Record
-row =
+abbrev pub headings : List Record
+headings =
     root_record ∷ element 0 (codes "r") ∷ element 1 (codes "h") ∷ element 1 (codes "i") ∷ element 1 (codes "i") ∷ element 1 (codes "h")
     ∷ element 1 (codes "i") ∷ []
 

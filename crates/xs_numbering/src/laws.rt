@@ -2,7 +2,7 @@
 
 ghost use Rattle.std.specs.Prelude.{◌≡◌, [], ◌∷◌, codes};
 ghost use Rattle.xs_numbering.specs.Counting.{any, multiple, single};
-ghost use Rattle.xs_numbering.specs.Examples.{book, is_named, is_part, never, row};
+ghost use Rattle.xs_numbering.specs.Examples.{book, headings, is_named, is_part, never};
 ghost use Rattle.xs_numbering.specs.Numbers.{list_text};
 
 /// Texts of numbers under formats (XSLT 1.0, 7.7.1).
@@ -28,11 +28,15 @@ pub fn formats()
 
 /// Numbers that are counted (XSLT 1.0, 7.7).
 pub fn counts()
-    ensures first { any (is_named (codes "i") row) (is_named (codes "h") row) row 3 ≡ 1 ∷ [] }
-    ensures second { any (is_named (codes "i") row) (is_named (codes "h") row) row 4 ≡ 2 ∷ [] }
-    ensures again { any (is_named (codes "i") row) (is_named (codes "h") row) row 6 ≡ 1 ∷ [] }
-    ensures itself { any (is_named (codes "h") row) (is_named (codes "h") row) row 5 ≡ 1 ∷ [] }
-    ensures none { any (is_named (codes "x") row) never row 6 ≡ 0 ∷ [] }
+    ensures first { any (is_named (codes "i") headings) (is_named (codes "h") headings)
+        headings 3 ≡ 1 ∷ [] }
+    ensures second { any (is_named (codes "i") headings) (is_named (codes "h") headings)
+        headings 4 ≡ 2 ∷ [] }
+    ensures again { any (is_named (codes "i") headings) (is_named (codes "h") headings)
+        headings 6 ≡ 1 ∷ [] }
+    ensures itself { any (is_named (codes "h") headings) (is_named (codes "h") headings)
+        headings 5 ≡ 1 ∷ [] }
+    ensures none { any (is_named (codes "x") headings) never headings 6 ≡ 0 ∷ [] }
     ensures all { any is_part never book 8 ≡ 6 ∷ [] }
     ensures levels { multiple is_part never book 8 ≡ 2 ∷ 2 ∷ [] }
     ensures below { multiple is_part (is_named (codes "c") book) book 8 ≡ 2 ∷ [] }

@@ -75,7 +75,7 @@ fn is_alike(tree: &Tree, node: Node, like: Node) -> bool
 }
 
 /// A number for each kind of node.
-fn kind_number(kind: Kind) -> u32
+pub fn kind_number(kind: Kind) -> u32
     ensures { result ≡ kind_number kind }
 {
     match kind {
@@ -90,7 +90,7 @@ fn kind_number(kind: Kind) -> u32
 }
 
 /// The parent of a node that is a child.
-fn held_by(tree: &Tree, node: Node) -> Option<Node>
+pub fn held_by(tree: &Tree, node: Node) -> Option<Node>
     requires { node < length tree.now }
     ensures { result ≡ held_by (at tree.now node) }
 {
@@ -133,7 +133,7 @@ fn next_child(seen: &mut Vec<u32>, parent: Node, is_counted: bool) -> u32
 }
 
 /// Whether a node is marked, which none is after the last mark.
-pub(crate) fn is_marked(marks: &[bool], node: Node) -> bool
+pub fn is_marked(marks: &[bool], node: Node) -> bool
     ensures { result ≡ is_marked marks.now node }
 {
     let place = node.place() as usize;
@@ -181,7 +181,7 @@ fn carried_on(tree: &Tree, counts: &[bool], from: &[bool], node: Node, before: u
 }
 
 /// Whether a node is no attribute and no namespace node.
-fn has_level(tree: &Tree, node: Node) -> bool
+pub fn has_level(tree: &Tree, node: Node) -> bool
     requires { node < length tree.now }
     ensures { result ≡ has_level (at tree.now node) }
 {

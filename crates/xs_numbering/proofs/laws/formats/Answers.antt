@@ -1,6 +1,6 @@
 use Rattle.std.proofs.Common.{refl}
-use Rattle.core.specs.Fmt.{digits}
-use Rattle.core.specs.Str.{chars}
+use Rattle.std.specs.Fmt.{digits}
+use Rattle.std.specs.Str.{chars}
 use Rattle.xs_numbering.specs.Formats.{pieces}
 use Rattle.xs_numbering.specs.Numbers.{list_text, number_text}
 use Rattle.xs_numbering.specs.Numerals.{grouped, roman, sequence}

@@ -1,6 +1,6 @@
-use Rattle.std.proofs.Common.{◌≡◌, ◌+◌, ◌-◌, ◌/◌, ◌%◌, [], ◌∷◌, ◌++◌, sym, ap, ◌∙◌, append_assoc, string_bytes, arith}
+use Rattle.std.proofs.Common.{◌++◌, sym, ap, ◌∙◌, string_bytes, arith}
 use Rattle.std.proofs.lemmas.List.{append-nil}
-use Rattle.xs_numbering.specs.Numerals.{alphabetic, first_letter}
+use Rattle.xs_numbering.specs.Numerals.{alphabetic}
 use Rattle.xs_numbering.proofs.LetterLemmas.{alphabetic_none, letters-onto}
 use Rattle.xs_numbering.proofs.numerals.+append_letters.Goals as goal
 

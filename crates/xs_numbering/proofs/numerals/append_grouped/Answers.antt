@@ -1,4 +1,4 @@
-use Rattle.std.proofs.Common.{◌≡◌, suc, ◌++◌, sym, ap, subst, ◌∙◌, string_bytes}
+use Rattle.std.proofs.Common.{suc, ◌++◌, sym, ap, subst, ◌∙◌, string_bytes}
 use Rattle.std.specs.Str.{IsAscii}
 use Rattle.std.proofs.lemmas.List.{append-nil}
 use Rattle.xs_numbering.proofs.GroupLemmas.{grouped-none, grouped-step}

@@ -1,0 +1,12 @@
+mod BytesLemmas
+mod EventLemmas
+mod FitLemmas
+mod LawLemmas
+mod NameLemmas
+mod OuterLemmas
+mod PlaceLemmas
+mod ReadLemmas
+mod ScopeLemmas
+mod ShapeLemmas
+mod StartLemmas
+mod TagLemmas

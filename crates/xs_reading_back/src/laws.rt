@@ -1,0 +1,14 @@
+//! What is true of a result that is written and read. The function does nothing: its contract is
+//! the law.
+ghost use Rattle.xs_reading_back.specs.Laws.{ResultsReadBack};
+
+/// The lines of a result are those of a document with the same elements, attributes, texts,
+/// comments and instructions, by themselves or inside one element more.
+pub fn results_read_back()
+    ensures { ResultsReadBack }
+{
+    xs_build::laws::lines_go_by_step();
+    xs_pyx::laws::documents_are_read();
+    xs_writing::laws::names_resolve();
+    xs_writing::laws::lines_go_on();
+}
