@@ -269,8 +269,8 @@ one_owed files job failed failed' a b (own e p) (fault n f q) = absurd (not_both
 one_owed files job failed failed' a b (own e p) (own f q) = one_answer files job a b p q
 
 -- where the files of a run are known
-one_due : (files : Option Files) (known : Files) (request : Option Request) (failed failed' : List (List ℕ)) (a b : Answer) → files_for request files ≡ Some known
-    → IsDue files request failed failed' a → IsDue files request failed failed' b → a ≡ b
+one_due : (files : Option Files) (known : Files) (request : Option Request) (failed failed' : List (List ℕ)) (a b : Answer)
+    → files_for request files ≡ Some known → IsDue files request failed failed' a → IsDue files request failed failed' b → a ≡ b
 one_due files known None failed failed' a b is p q = p.1 ∙ sym q.1
 one_due files known (Some request) failed failed' a b is p q =
     one_owed known request.job failed failed' a b (subst (λ f. Owed (IsAnswer f request.job) failed failed' a) is p)

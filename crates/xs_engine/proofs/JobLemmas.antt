@@ -11,8 +11,8 @@ use Rattle.xs_engine.specs.Job.{Request, built_request, is_built, is_streamed, r
 use Rattle.xs_engine.specs.Reply.{request_data}
 
 -- the words have options, and these are built or not
-pub options_read : (words : List Text) (options : Options) (request : Option Request) → options_of words ≡ Some (told options) → request ≡ built_request (told options)
-    → request_of words ≡ request
+pub options_read : (words : List Text) (options : Options) (request : Option Request) → options_of words ≡ Some (told options)
+    → request ≡ built_request (told options) → request_of words ≡ request
 options_read words options request read is = ap (λ o. given o built_request) read ∙ sym is
 
 -- the words were refused, or memory ran out

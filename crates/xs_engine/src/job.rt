@@ -74,7 +74,8 @@ fn makes_none(work: &Work) -> bool
     }
 }
 
-/// What options ask for: a stylesheet on a source, one that is only checked, or files that are made.
+/// What options ask for: a stylesheet on a source, one that is only checked, or files that are
+/// made.
 fn work_request(alloc: Global, options: Options) -> Result<Request, AllocError>
     ensures { IfOk result (λ request. request_data request
         ≡ work_request (told options) (job_told options.job)) }

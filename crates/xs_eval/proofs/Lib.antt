@@ -9,3 +9,4 @@ pub mod AxisListLemmas
 pub mod LanguageLemmas
 pub mod PositionLemmas
 pub mod UnitedLemmas
+pub mod TemplateLemmas

@@ -4,6 +4,7 @@ ghost use Rattle.std.specs.Prelude.{◌≡◌, [], ◌∷◌, ◌++◌, IfOk, If
 ghost use Rattle.std.specs.String.{string_bytes};
 ghost use Rattle.xs_trace.specs.Play.{IsStepBy};
 ghost use Rattle.xs_trace.specs.Run.{limited};
+ghost use Rattle.xs_xpath.specs.AvtParts.{part_from, parts_from};
 ghost use Rattle.xs_xpath.specs.declared.avt.AvtPart.TheVariants.{Fixed};
 ghost use Rattle.xs_eval.specs.Conditions.{IsContext};
 ghost use Rattle.xs_eval.specs.Templates.{and_part, template};
@@ -30,7 +31,7 @@ pub fn evaluate_avt<K: KeyFinder, T: Tally>(
 ) -> Result<TextBuf, Halt>
     requires context { IsContext (K.tables keys.now) context.now }
     ensures told { IsStepBy (λ text. text) (limited site
-        (template (K.tables keys.now) parts.now context.now)
+        (template (K.tables keys.now) (parts_from parts.now) context.now)
         (T.state tally.old)) result (T.state tally.new) }
     ensures kept { T.kept tally.new ≡ T.kept tally.old }
 {
@@ -61,7 +62,7 @@ fn evaluate_parts<K: KeyFinder, T: Tally>(
 ) -> Result<TextBuf, Halt>
     requires context { IsContext (K.tables keys.now) context.now }
     ensures told { IsStepBy (λ text. text) (limited site
-        (template (K.tables keys.now) parts.now context.now)
+        (template (K.tables keys.now) (parts_from parts.now) context.now)
         (T.state tally.old)) result (T.state tally.new) }
     ensures kept { T.kept tally.new ≡ T.kept tally.old }
 {
@@ -84,7 +85,7 @@ fn add_part<K: KeyFinder, T: Tally>(
 ) -> Result<String, Halt>
     requires context { IsContext (K.tables keys.now) context.now }
     ensures told { IsStepBy (λ t. string_bytes t) (limited site
-        (and_part (K.tables keys.now) context.now (string_bytes text) part.now)
+        (and_part (K.tables keys.now) context.now (string_bytes text) (part_from part.now))
         (T.state tally.old)) result (T.state tally.new) }
     ensures kept { T.kept tally.new ≡ T.kept tally.old }
 {

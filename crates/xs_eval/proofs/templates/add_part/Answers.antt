@@ -4,6 +4,7 @@ use Rattle.std.specs.String.{string_bytes}
 use Rattle.xs_trace.specs.Play.{Goes}
 use Rattle.xs_trace.specs.Run.{give, limited}
 use Rattle.xs_value.specs.Conversion.{text_value}
+use Rattle.xs_xpath.specs.AvtParts.{part_from}
 use Rattle.xs_eval.specs.Context.{Context}
 use Rattle.xs_eval.specs.Evaluation.{run_of}
 use Rattle.xs_eval.specs.Templates.{and_part}
@@ -19,8 +20,8 @@ returns-in_err-v-in-Computed-clause-told g c =
     let text = string_bytes c.args.text in
     let s = g.T.Tally.state c.args.tally.now in
     exits (λ v. v) (λ t. string_bytes t) c.args.site (run_of keys c.in-Computed.expr around) (λ v. give (text ++ text_value around.tree v))
-    (limited c.args.site (and_part keys around text c.args.part.now) s) s
-    (g.T.Tally.state c.evaluate.new.tally) r.result _ _ (ap (λ part. limited c.args.site (and_part keys around text part) s) c.in-Computed.is) p.1 p.2
+    (limited c.args.site (and_part keys around text (part_from c.args.part.now)) s) s
+    (g.T.Tally.state c.evaluate.new.tally) r.result _ _ (ap (λ part. limited c.args.site (and_part keys around text (part_from part)) s) c.in-Computed.is) p.1 p.2
     c.in_err-v-in-Computed.ensures.told
 
 pub returns-in_ok-with_text-in-Computed-clause-told : goal.returns-in_ok-with_text-in-Computed-clause-told
@@ -35,6 +36,6 @@ returns-in_ok-with_text-in-Computed-clause-told g c =
     c.as_str-in-Computed.ensures.value ∙ c.in_ok-more-in-Computed.ensures.text ∙ ap (λ (a : Context). text_value a.tree v) c.context.view_is in
     let all : string_bytes c.in_ok-with_text-in-Computed.field-0 ≡ text ++ text_value around.tree v =
     c.in_ok-with_text-in-Computed.ensures.text ∙ ap (λ b. text ++ b) more in
-    ap (λ part. limited c.args.site (and_part keys around text part) s) c.in-Computed.is
+    ap (λ part. limited c.args.site (and_part keys around text (part_from part)) s) c.in-Computed.is
     ∙ goes_on c.args.site (run_of keys c.in-Computed.expr around) (λ w. give (text ++ text_value around.tree w)) v s m c.in_ok-v-in-Computed.ensures.told
     ∙ gives c.args.site (text ++ text_value around.tree v) m ∙ ap (λ b. Goes b m) (sym all)

@@ -1,11 +1,13 @@
 use Rattle.std.proofs.Common.{◌≡◌, drop}
 use Rattle.std.specs.String.{string_bytes}
 use Rattle.xs_trace.specs.Run.{fold, limited}
-use Rattle.xs_eval.specs.Templates.{and_part, template}
+use Rattle.xs_xpath.specs.AvtParts.{parts_from}
+use Rattle.xs_eval.specs.Templates.{template}
+use Rattle.xs_eval.proofs.TemplateLemmas.{and_parsed}
 use Rattle.xs_eval.proofs.templates.evaluate_parts.Given as goal
 
 abbrev pub invariant-loop-part : goal.invariant-loop-part
 invariant-loop-part g l =
-    (limited l.site (template (g.K.KeyFinder.tables l.keys) l.parts l.context) (g.T.Tally.state l.fn.tally)
-    ≡ limited l.site (fold (and_part (g.K.KeyFinder.tables l.keys) l.context) (string_bytes l.text) (drop l.part-index l.parts)) (g.T.Tally.state l.tally)) ×
+    (limited l.site (template (g.K.KeyFinder.tables l.keys) (parts_from l.parts) l.context) (g.T.Tally.state l.fn.tally)
+    ≡ limited l.site (fold (and_parsed (g.K.KeyFinder.tables l.keys) l.context) (string_bytes l.text) (drop l.part-index l.parts)) (g.T.Tally.state l.tally)) ×
     (g.T.Tally.kept l.tally ≡ g.T.Tally.kept l.fn.tally)
