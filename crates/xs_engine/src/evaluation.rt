@@ -4,7 +4,6 @@ ghost use Rattle.std.specs.List.{All};
 ghost use Rattle.std.specs.Prelude.{◌≡◌, ◌≤◌, ◌⊎◌, [], ◌∷◌, IfOk, IsSome, None, OnOk};
 ghost use Rattle.xs_semantics.specs.Globals.{SettlesAll};
 ghost use Rattle.xs_globals.specs.Results.{settled_of};
-ghost use Rattle.xs_semantics.specs.World.{ground};
 ghost use Rattle.xs_eval.specs.Conditions.{IsInIf};
 ghost use Rattle.xs_engine.specs.declared.status.TheConstants.{OK, RUN_FAULT};
 ghost use Rattle.xs_engine.specs.Evaluation.{IsEvaluated, IsEvaluatedOn, IsEvaluatedOver};
@@ -22,6 +21,7 @@ use std::alloc::{AllocError, Global};
 use xs_block::chain::Chain;
 use xs_block::pool::Pool;
 use xs_body::runner::SheetRunner;
+use xs_body::world::World;
 use xs_globals::settled::Settled;
 use xs_globals::settling::settle;
 use xs_rules::white_space::strip_space;
@@ -70,13 +70,21 @@ fn evaluate_over(alloc: Global, job: &Job, sheet: &Sheet, tree: &Tree) -> Result
     ensures whole_only { IfOk result IsWholeOrEmpty }
 {
     let index = index_for(alloc, sheet, tree)?;
-    let settled = settle(alloc, sheet, &index, tree, &NoKeys, &job.given, job.budget)?;
+    let world = World {
+        sheet,
+        index: &index,
+        tree,
+        keys: &NoKeys,
+        globals: &[],
+        grain: None,
+    };
+    let settled = settle(alloc, &world, &job.given, job.budget)?;
     match settled.end {
         Some(spot) => {
             let nothing = Chain::new(alloc);
             stopped_reply(alloc, sheet, spot, &settled.says, &nothing, settled.ticks)
         }
-        None => root_reply(alloc, job, sheet, &index, tree, &settled),
+        None => root_reply(alloc, job, &world, &settled),
     }
 }
 
@@ -99,29 +107,31 @@ fn index_for<'a>(alloc: Global, sheet: &'a Sheet, tree: &Tree) -> Result<SheetIn
 fn root_reply(
     alloc: Global,
     job: &Job,
-    sheet: &Sheet,
-    index: &SheetIndex<'_>,
-    tree: &Tree,
+    world: &World<'_, NoKeys>,
     settled: &Settled,
 ) -> Result<Reply, AllocError>
-    requires sound { IsSound sheet.now }
-    requires index { IsIndex index.now.rules }
-    requires prepared { IsPrepared index.now.rules tree.now }
-    requires templates { index.now.rules.templates.now ≡ sheet.now.templates }
-    requires sets { IsSetIndex sheet.now.sets index.now.sets }
-    requires settled { SettlesAll (ground sheet.now index.now tree.now [])
+    requires settled { SettlesAll world.now
         (job_data job.now).given job.now.budget (settled_of settled.now) }
+    requires whole { world.now.grain ≡ None }
     requires none { settled.now.end ≡ None }
-    requires inside { All (IsInIf tree.now) settled.now.values.items }
+    requires inside { All (IsInIf world.now.tree) settled.now.values.items }
     requires values { All IsSome settled.now.values.items }
     requires within { settled.now.ticks ≤ job.now.budget }
-    ensures answer { IfOk result (λ reply. IsEvaluated (job_data job.now)
-        (ground sheet.now index.now tree.now []) (reply_of reply)) }
+    ensures answer { IfOk result (λ reply.
+        IsEvaluated (job_data job.now) world.now (reply_of reply)) }
     ensures status { IfOk result (λ reply.
         (reply.status ≡ OK) ⊎ (reply.status ≡ RUN_FAULT)) }
     ensures whole_only { IfOk result IsWholeOrEmpty }
 {
-    let runner = SheetRunner::new(sheet, index, tree, &NoKeys, &settled.values, None);
+    let sheet = world.sheet;
+    let runner = SheetRunner::new(
+        world.sheet,
+        world.index,
+        world.tree,
+        world.keys,
+        &settled.values,
+        None,
+    );
     let task = runner.root_task(alloc)?;
     let limits = Limits {
         ticks: job.budget - settled.ticks,

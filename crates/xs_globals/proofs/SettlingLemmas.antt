@@ -267,13 +267,16 @@ module _ (w : World) (budget : ℕ) where
     done-falls = let old : length waiting ≡ length front + 1 = ap length e ∙ length-append front (top ∷ []) in omega (arith, old)
 
     -- the same, as a turn is told
-    pub on-done : IsTurn w budget begun top t u turn.Done → All (IsInIf w.tree) u.values →
-        GoesOn w budget g first begun front u (2 * left_over begun + length waiting) None
-    on-done q a = (after-done q a, done-falls)
+    pub on-done : (marks : List Bool) → marks ≡ begun → IsTurn w budget begun top t u turn.Done → All (IsInIf w.tree) u.values →
+        GoesOn w budget g first marks front u (2 * left_over begun + length waiting) None
+    on-done marks m q a =
+        subst (λ (bs : List Bool). GoesOn w budget g first bs front u (2 * left_over begun + length waiting) None) (sym m) (after-done q a, done-falls)
 
-    pub on-ends : (s : Spot) → IsTurn w budget begun top t u (turn.Ends s) → GoesOn w budget g first begun front u (2 * left_over begun + length waiting)
-        (Some s)
-    on-ends s q = (after-ends s q, going-ends s q)
+    pub on-ends : (marks : List Bool) → marks ≡ begun → (s : Spot) → IsTurn w budget begun top t u (turn.Ends s) →
+        GoesOn w budget g first marks front u (2 * left_over begun + length waiting) (Some s)
+    on-ends marks m s q =
+        subst (λ (bs : List Bool). GoesOn w budget g first bs front u (2 * left_over begun + length waiting) (Some s)) (sym m)
+        (after-ends s q, going-ends s q)
 
     pub on-needs : (other : ℕ) (q : IsTurn w budget begun top t u (turn.Needs other)) (marks : List Bool) (waits : List ℕ) → marks ≡ slice_set begun other
         true →

@@ -12,7 +12,7 @@ use xs_trace::item::{Site, Spot};
 use xs_trace::text::TextBuf;
 use xs_value::value::Value;
 
-/// The values of the globals so far, and what was said and taken for them.
+/// The values of the globals so far, what was said and taken for them, and attempts at them.
 #[derive(Drop)]
 pub struct Table {
     /// Their values.
@@ -23,6 +23,8 @@ pub struct Table {
     pub ticks: u64,
     /// How many attempts were thrown away.
     pub thrown: u64,
+    /// Of which of them an attempt was begun.
+    pub begun: Vec<bool>,
 }
 
 /// What settling the globals comes to.
@@ -52,16 +54,18 @@ pub enum Turn {
 }
 
 impl Table {
-    /// Nothing was done yet.
-    pub(crate) fn with(alloc: Global, values: Vec<Option<Value>>) -> Table
-        ensures { table_of result
+    /// Nothing was said or taken yet.
+    pub(crate) fn with(alloc: Global, values: Vec<Option<Value>>, begun: Vec<bool>) -> Table
+        ensures table { table_of result
             ≡ record { values = values.items; says = []; ticks = 0; thrown = 0 } }
+        ensures begun { result.begun.items ≡ begun.items }
     {
         Table {
             values,
             says: Vec::new(alloc),
             ticks: 0,
             thrown: 0,
+            begun,
         }
     }
 
@@ -69,6 +73,7 @@ impl Table {
     pub(crate) fn add(&mut self, mut says: Vec<TextBuf>, ticks: u64) -> Result<(), AllocError>
         ensures added { OnOk result
             (table_of self.new ≡ added says.items ticks (table_of self.old)) }
+        ensures begun { OnOk result (self.new.begun.items ≡ self.old.begun.items) }
     {
         self.says.append(&mut says)?;
         self.ticks = self.ticks.checked_add(ticks).ok_or(AllocError)?;
@@ -77,7 +82,8 @@ impl Table {
 
     /// Keeps the value of a global.
     pub(crate) fn fill(&mut self, global: u32, value: Value)
-        ensures { table_of self.new ≡ valued global value (table_of self.old) }
+        ensures value { table_of self.new ≡ valued global value (table_of self.old) }
+        ensures begun { self.new.begun.items ≡ self.old.begun.items }
     {
         if (global as usize) < self.values.len() {
             self.values[global as usize] = Some(value);
@@ -87,6 +93,7 @@ impl Table {
     /// Throws an attempt away.
     pub(crate) fn throw(&mut self) -> Result<(), AllocError>
         ensures thrown { OnOk result (table_of self.new ≡ once_more (table_of self.old)) }
+        ensures begun { OnOk result (self.new.begun.items ≡ self.old.begun.items) }
     {
         self.thrown = self.thrown.checked_add(1).ok_or(AllocError)?;
         Ok(())
@@ -100,13 +107,13 @@ impl Table {
         site: Site,
         says: Vec<TextBuf>,
         ticks: u64,
-        begun: &[bool],
     ) -> Result<Turn, AllocError>
-        ensures turn { IfOk result (IsNeed begun.now other site says.items ticks
+        ensures turn { IfOk result (IsNeed self.old.begun.items other site says.items ticks
             (table_of self.old) (table_of self.new)) }
         ensures values { OnOk result (self.new.values.items ≡ self.old.values.items) }
+        ensures begun { OnOk result (self.new.begun.items ≡ self.old.begun.items) }
     {
-        if is_begun(begun, other) {
+        if self.is_begun(other) {
             self.add(says, ticks)?;
             Ok(Turn::Ends(Spot {
                 fault: Fault::Circular,
@@ -126,6 +133,13 @@ impl Table {
         matches!(self.values.get(global as usize), Some(None))
     }
 
+    /// Whether an attempt at a global was begun.
+    fn is_begun(&self, global: u32) -> bool
+        ensures { IsTrue result ↔ (slice_get self.now.begun.items global ≡ Some true) }
+    {
+        matches!(self.begun.get(global as usize), Some(true))
+    }
+
     /// What settling comes to, by where it ended.
     pub(crate) fn ended(self, end: Option<Spot>) -> Settled
         ensures settled { settled_of result ≡ settled_by end (table_of self) }
@@ -142,11 +156,4 @@ impl Table {
             end,
         }
     }
-}
-
-/// Whether an attempt at a global was begun.
-fn is_begun(begun: &[bool], global: u32) -> bool
-    ensures { IsTrue result ↔ (slice_get begun.now global ≡ Some true) }
-{
-    matches!(begun.get(global as usize), Some(true))
 }

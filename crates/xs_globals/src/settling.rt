@@ -10,14 +10,9 @@ ghost use Rattle.xs_eval.specs.Conditions.{IsInIf};
 ghost use Rattle.xs_globals.specs.Results.{settled_by, settled_of};
 ghost use Rattle.xs_globals.specs.steps.Settling.{Continues, GoesOn, IsGoing, IsMarked, IsTurn};
 ghost use Rattle.xs_globals.specs.steps.Settling.{IsUnderWay, left_over, table_of};
-ghost use Rattle.xs_rules.specs.Indexed.{IsIndex, IsPrepared};
-ghost use Rattle.xs_sets.specs.Indexed.{IsSetIndex};
 ghost use Rattle.xs_semantics.specs.Globals.{Table as InTable};
 ghost use Rattle.xs_semantics.specs.Globals.{AllSettle, Settles, SettlesAll, attempt_cut};
 ghost use Rattle.xs_semantics.specs.Globals.{attempt_value, with_globals};
-ghost use Rattle.xs_semantics.specs.World.{ground};
-ghost use Rattle.xs_sheet.specs.Sound.{IsSound};
-ghost use Rattle.xs_value.specs.Tables.{TablesIn};
 
 use crate::given::{in_order, none_begun, values_given};
 use crate::settled::{Settled, Table, Turn};
@@ -25,53 +20,36 @@ use std::alloc::{AllocError, Global};
 use xs_body::attempts::Attempt;
 use xs_body::runner::SheetRunner;
 use xs_body::world::World;
-use xs_semantics::index::SheetIndex;
-use xs_sheet::sheet::Sheet;
 use xs_trace::item::Spot;
 use xs_trace::text::TextBuf;
-use xs_tree::Tree;
 use xs_value::keys::KeyFinder;
 use xs_value::value::Value;
 
-/// Settles the globals of a stylesheet, by modules and lines, within a number of ticks. Its
-/// parameters may be given texts from outside.
+/// Settles the globals of a stylesheet over a world, by modules and lines, within a number of
+/// ticks. Its parameters may be given texts from outside. The values that the world has of globals
+/// are not used.
 pub fn settle<K: KeyFinder>(
     alloc: Global,
-    sheet: &Sheet,
-    index: &SheetIndex<'_>,
-    tree: &Tree,
-    keys: &K,
+    world: &World<'_, K>,
     given: &[(TextBuf, TextBuf)],
     budget: u64,
 ) -> Result<Settled, AllocError>
-    requires sheet { IsSound sheet.now }
-    requires index { IsIndex index.now.rules }
-    requires prepared { IsPrepared index.now.rules tree.now }
-    requires templates { index.now.rules.templates.now ≡ sheet.now.templates }
-    requires sets { IsSetIndex sheet.now.sets index.now.sets }
-    requires tables { TablesIn tree.now (K.tables keys.now) }
-    ensures settles { IfOk result (λ z. SettlesAll (ground sheet.now index.now tree.now
-        (K.tables keys.now)) given.now budget (settled_of z)) }
-    ensures inside { IfOk result (λ z. All (IsInIf tree.now) z.values.items) }
+    requires whole { world.now.grain ≡ None }
+    ensures settles { IfOk result (λ z.
+        SettlesAll world.now given.now budget (settled_of z)) }
+    ensures inside { IfOk result (λ z. All (IsInIf world.now.tree) z.values.items) }
     ensures whole { IfOk result (λ z. z.end ≡ None → All IsSome z.values.items) }
     ensures count { IfOk result (λ z.
-        length z.values.items ≡ length sheet.now.globals) }
+        length z.values.items ≡ length world.now.sheet.globals) }
     ensures within { IfOk result (λ z. z.ticks ≤ budget) }
-    ensures few { IfOk result (λ z. z.thrown ≤ length sheet.now.globals) }
+    ensures few { IfOk result (λ z. z.thrown ≤ length world.now.sheet.globals) }
 {
-    let world = World {
-        sheet,
-        index,
-        tree,
-        keys,
-        globals: &[],
-        grain: None,
-    };
-    let globals = sheet.globals.as_slice();
+    let globals = world.sheet.globals.as_slice();
     let order = in_order(alloc, globals)?;
-    let mut table = Table::with(alloc, values_given(alloc, globals, given)?);
-    let mut begun = none_begun(alloc, globals)?;
-    let end = settle_in_turn(alloc, &world, budget, &order, &mut begun, &mut table)?;
+    let values = values_given(alloc, globals, given)?;
+    let begun = none_begun(alloc, globals)?;
+    let mut table = Table::with(alloc, values, begun);
+    let end = settle_in_turn(alloc, world, budget, &order, &mut table)?;
     Ok(table.ended(end))
 }
 
@@ -81,19 +59,19 @@ fn settle_in_turn<K: KeyFinder>(
     world: &World<'_, K>,
     budget: u64,
     order: &[u32],
-    begun: &mut Vec<bool>,
     table: &mut Table,
 ) -> Result<Option<Spot>, AllocError>
     requires whole { world.now.grain ≡ None }
-    requires going { IsGoing world.now budget begun.old.items (table_of table.old) }
-    requires marked { IsMarked begun.old.items [] table.old.values.items }
+    requires going { IsGoing world.now budget table.old.begun.items (table_of table.old) }
+    requires marked { IsMarked table.old.begun.items [] table.old.values.items }
     ensures settles { IfOk result (λ end. AllSettle world.now budget order.now
         (table_of table.old) (settled_by end (table_of table.new))) }
-    ensures going { OnOk result (IsGoing world.now budget begun.new.items (table_of table.new)) }
+    ensures going { OnOk result
+        (IsGoing world.now budget table.new.begun.items (table_of table.new)) }
 {
     let mut left = order;
     while let Some((global, others)) = left.split_first() {
-        if let Some(spot) = settle_next(alloc, world, budget, *global, begun, table)? {
+        if let Some(spot) = settle_next(alloc, world, budget, *global, table)? {
             return Ok(Some(spot));
         }
         left = others;
@@ -107,22 +85,22 @@ fn settle_next<K: KeyFinder>(
     world: &World<'_, K>,
     budget: u64,
     global: u32,
-    begun: &mut Vec<bool>,
     table: &mut Table,
 ) -> Result<Option<Spot>, AllocError>
     requires whole { world.now.grain ≡ None }
-    requires going { IsGoing world.now budget begun.old.items (table_of table.old) }
-    requires marked { IsMarked begun.old.items [] table.old.values.items }
+    requires going { IsGoing world.now budget table.old.begun.items (table_of table.old) }
+    requires marked { IsMarked table.old.begun.items [] table.old.values.items }
     ensures next { IfOk result (Continues world.now budget global
         (table_of table.old) (table_of table.new)) }
-    ensures going { OnOk result (IsGoing world.now budget begun.new.items (table_of table.new)) }
+    ensures going { OnOk result
+        (IsGoing world.now budget table.new.begun.items (table_of table.new)) }
     ensures marked { IfOk result (λ end. end ≡ None →
-        IsMarked begun.new.items [] table.new.values.items) }
+        IsMarked table.new.begun.items [] table.new.values.items) }
 {
     if !table.lacks(global) {
         return Ok(None);
     }
-    settle_one(alloc, world, budget, global, begun, table)
+    settle_one(alloc, world, budget, global, table)
 }
 
 /// Settles a global, and before it those that it needs.
@@ -131,23 +109,23 @@ fn settle_one<K: KeyFinder>(
     world: &World<'_, K>,
     budget: u64,
     global: u32,
-    begun: &mut Vec<bool>,
     table: &mut Table,
 ) -> Result<Option<Spot>, AllocError>
     requires whole { world.now.grain ≡ None }
     requires lacks { slice_get table.old.values.items global ≡ Some None }
-    requires going { IsGoing world.now budget begun.old.items (table_of table.old) }
-    requires marked { IsMarked begun.old.items [] table.old.values.items }
+    requires going { IsGoing world.now budget table.old.begun.items (table_of table.old) }
+    requires marked { IsMarked table.old.begun.items [] table.old.values.items }
     ensures settles { IfOk result (λ end. Settles world.now budget [] global
         (table_of table.old) (settled_by end (table_of table.new))) }
-    ensures going { OnOk result (IsGoing world.now budget begun.new.items (table_of table.new)) }
+    ensures going { OnOk result
+        (IsGoing world.now budget table.new.begun.items (table_of table.new)) }
     ensures marked { IfOk result (λ end. end ≡ None →
-        IsMarked begun.new.items [] table.new.values.items) }
+        IsMarked table.new.begun.items [] table.new.values.items) }
 {
-    begun[global as usize] = true;
+    table.begun[global as usize] = true;
     let mut waiting = Vec::from_slice(alloc, &[global])?;
     while let Some(top) = waiting.pop() {
-        if let Some(spot) = take_turn(alloc, world, budget, top, begun, &mut waiting, table)? {
+        if let Some(spot) = take_turn(alloc, world, budget, top, &mut waiting, table)? {
             return Ok(Some(spot));
         }
     }
@@ -160,23 +138,22 @@ fn take_turn<K: KeyFinder>(
     world: &World<'_, K>,
     budget: u64,
     top: u32,
-    begun: &mut Vec<bool>,
     waiting: &mut Vec<u32>,
     table: &mut Table,
 ) -> Result<Option<Spot>, AllocError>
     requires whole { world.now.grain ≡ None }
-    requires going { IsGoing world.now budget begun.old.items (table_of table.old) }
+    requires going { IsGoing world.now budget table.old.begun.items (table_of table.old) }
     ensures turn { IfOk result (λ end. (global : ℕ) → (first : InTable) →
-        IsUnderWay world.now budget global first begun.old.items
+        IsUnderWay world.now budget global first table.old.begun.items
         (reverse (waiting.old.items ++ top ∷ [])) (table_of table.old) →
-        GoesOn world.now budget global first begun.new.items waiting.new.items (table_of table.new)
-        (2 * left_over begun.old.items + length (waiting.old.items ++ top ∷ [])) end) }
+        GoesOn world.now budget global first table.new.begun.items waiting.new.items
+        (table_of table.new) (2 * left_over table.old.begun.items + length (waiting.old.items ++ top ∷ [])) end) }
 {
-    match try_global(alloc, world, budget, top, begun, table)? {
+    match try_global(alloc, world, budget, top, table)? {
         Turn::Done => Ok(None),
         Turn::Ends(spot) => Ok(Some(spot)),
         Turn::Needs(other) => {
-            descend(begun, waiting, top, other)?;
+            descend(&mut table.begun, waiting, top, other)?;
             Ok(None)
         }
     }
@@ -206,14 +183,14 @@ fn try_global<K: KeyFinder>(
     world: &World<'_, K>,
     budget: u64,
     global: u32,
-    begun: &[bool],
     table: &mut Table,
 ) -> Result<Turn, AllocError>
     requires whole { world.now.grain ≡ None }
     requires values { All (IsInIf world.now.tree) table.old.values.items }
-    ensures turn { IfOk result (IsTurn world.now budget begun.now global
+    ensures turn { IfOk result (IsTurn world.now budget table.old.begun.items global
         (table_of table.old) (table_of table.new)) }
     ensures values { OnOk result (All (IsInIf world.now.tree) table.new.values.items) }
+    ensures begun { OnOk result (table.new.begun.items ≡ table.old.begun.items) }
 {
     let left = budget.saturating_sub(table.ticks);
     let attempt = attempt_over(alloc, world, &table.values, global, left)?;
@@ -232,7 +209,7 @@ fn try_global<K: KeyFinder>(
             site,
             says,
             ticks,
-        } => table.need(other, site, says, ticks, begun),
+        } => table.need(other, site, says, ticks),
     }
 }
 

@@ -7,7 +7,7 @@ use Rattle.xs_globals.proofs.settling.settle_in_turn.Given as goal
 abbrev pub invariant-loop-global : goal.invariant-loop-global
 invariant-loop-global g l =
     ((r : Settled) → AllSettle l.world l.budget l.left (table_of l.table) r → AllSettle l.world l.budget l.order (table_of l.fn.table) r)
-    × (IsGoing l.world l.budget l.begun.items (table_of l.table) × IsMarked l.begun.items [] l.table.values.items)
+    × (IsGoing l.world l.budget l.table.begun.items (table_of l.table) × IsMarked l.table.begun.items [] l.table.values.items)
 
 abbrev pub decreases-loop-global : goal.decreases-loop-global
 decreases-loop-global g l = length l.left
