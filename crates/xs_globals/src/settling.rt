@@ -147,7 +147,8 @@ fn take_turn<K: KeyFinder>(
         IsUnderWay world.now budget global first table.old.begun.items
         (reverse (waiting.old.items ++ top ∷ [])) (table_of table.old) →
         GoesOn world.now budget global first table.new.begun.items waiting.new.items
-        (table_of table.new) (2 * left_over table.old.begun.items + length (waiting.old.items ++ top ∷ [])) end) }
+        (table_of table.new)
+        (2 * left_over table.old.begun.items + length (waiting.old.items ++ top ∷ [])) end) }
 {
     match try_global(alloc, world, budget, top, table)? {
         Turn::Done => Ok(None),
