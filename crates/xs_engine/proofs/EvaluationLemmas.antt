@@ -23,6 +23,7 @@ use Rattle.xs_rules.specs.WhiteSpace.{stripped}
 use Rattle.xs_semantics.specs.declared.index.SheetIndex.{SheetIndex}
 use Rattle.xs_sheet.specs.declared.declarations.StripRule.{StripRule}
 use Rattle.xs_sheet.specs.declared.sheet.Sheet.{Sheet}
+use Rattle.xs_value.specs.declared.value.Value.{Value}
 use Rattle.xs_trace.proofs.CutLemmas.{cut-longest}
 use Rattle.xs_trace.specs.Cut.{Cut, cut, nowhere}
 use Rattle.xs_trace.specs.Kept.{ended_by, marks_of}
@@ -66,12 +67,19 @@ pub over_index : {E : Type 0} (r : Result Reply E) (job : Job) (sheet : Sheet) (
 over_index (Err e) job sheet index tree is = tt
 over_index (Ok reply) job sheet index tree is = (index, is)
 
+-- a runner over the values of the globals, with no grain, as the world has none
+root_world : (w runner : World) (globals values : List (Option Value)) → runner ≡ with_grain None (with_globals w globals) → globals ≡ values
+    → w.grain ≡ None → with_grain None runner ≡ with_globals w values
+root_world w runner globals values is same none =
+    ap (with_grain None) is ∙ ap (λ vs. with_grain None (with_globals w vs)) same ∙ ap (λ g. with_grain g (with_globals w values)) (sym none)
+
 -- what the runner gave of the root's task is the cut of the root's trace
-pub root_run : (job : Job) (w : World) (z : Settled) (runner : World) (task : Task) (o : Outcome) → with_grain None runner ≡ with_globals w z.values.items
-    → task ≡ root_task runner → IsWholeRun (cut (task_trace (with_grain None runner) task) (job.budget - z.ticks) job.most_events) o
-    → IsWholeRun (root_cut job w (told_in z)) o
-root_run job w z runner task o same is run =
-    subst (λ r. IsWholeRun (cut (task_trace r (root_task r)) (job.budget - z.ticks) job.most_events) o) same
+pub root_run : (job : Job) (w : World) (z : Settled) (globals : List (Option Value)) (runner : World) (task : Task) (o : Outcome)
+    → runner ≡ with_grain None (with_globals w globals) → globals ≡ z.values.items → w.grain ≡ None → task ≡ root_task runner
+    → IsWholeRun (cut (task_trace (with_grain None runner) task) (job.budget - z.ticks) job.most_events) o → IsWholeRun (root_cut job w (told_in z)) o
+root_run job w z globals runner task o over values none is run =
+    subst (λ r. IsWholeRun (cut (task_trace r (root_task r)) (job.budget - z.ticks) job.most_events) o)
+    (root_world w runner globals z.values.items over values none)
     (subst (λ t. IsWholeRun (cut (task_trace (with_grain None runner) t) (job.budget - z.ticks) job.most_events) o) is run)
 
 module _ (job : Job) (w : World) (z : Settled) (settles : SettlesAll w job.given job.budget (settled_of z)) where
