@@ -3,6 +3,7 @@ use Rattle.std.specs.List.{All}
 use Rattle.std.specs.Option.{IsSome}
 use Rattle.xs_value.specs.declared.value.Value.{Value}
 use Rattle.xs_semantics.specs.Globals.{Table, value_given}
+use Rattle.xs_semantics.specs.World.{World}
 use Rattle.xs_globals.specs.Results.{settled_by}
 use Rattle.xs_globals.specs.steps.Settling.{table_of}
 use Rattle.xs_globals.proofs.SettledLemmas.{first-going, first-marked, settles-so, whole-there}
@@ -11,7 +12,7 @@ use Rattle.xs_globals.proofs.settling.settle.Goals as goal
 pub settle_in_turn-requires-clause-going : goal.settle_in_turn-requires-clause-going
 settle_in_turn-requires-clause-going g c κs within =
     let w = c.args.world.now in
-    let s = c.as_slice-globals.ensures in
+    let s = c.as_slice-globals.ensures ∙ ap (λ (w : World). w.sheet.globals) c.world.view_is in
     let first : List (Option Value) → Table = λ vs. record { values = vs; says = []; ticks = 0; thrown = 0 } in
     first-going w c.args.budget c.args.given.now c.with-table.result.begun.items (table_of c.with-table.result)
     (c.with-table.ensures.begun ∙ c.in_ok-begun.ensures.marks ∙ ap (map (λ x. false)) s)
@@ -19,7 +20,7 @@ settle_in_turn-requires-clause-going g c κs within =
 
 pub settle_in_turn-requires-clause-marked : goal.settle_in_turn-requires-clause-marked
 settle_in_turn-requires-clause-marked g c κs within =
-    let s = c.as_slice-globals.ensures in
+    let s = c.as_slice-globals.ensures ∙ ap (λ (w : World). w.sheet.globals) c.world.view_is in
     first-marked c.args.given.now c.args.world.now.sheet.globals c.with-table.result.begun.items c.with-table.result.values.items
     (c.with-table.ensures.begun ∙ c.in_ok-begun.ensures.marks ∙ ap (map (λ x. false)) s)
     (ap (λ (t : Table). t.values) c.with-table.ensures.table ∙ c.in_ok-values.ensures.values ∙ ap (map (value_given c.args.given.now)) s)
@@ -27,7 +28,7 @@ settle_in_turn-requires-clause-marked g c κs within =
 pub returns-clause-whole : goal.returns-clause-whole
 returns-clause-whole g c = λ e.
     let w = c.args.world.now in
-    let s = c.as_slice-globals.ensures in
+    let s = c.as_slice-globals.ensures ∙ ap (λ (w : World). w.sheet.globals) c.world.view_is in
     let first : List (Option Value) → Table = λ vs. record { values = vs; says = []; ticks = 0; thrown = 0 } in
     let u = table_of c.settle_in_turn.new.table in
     let all = settles-so w c.args.given.now c.args.budget c.as_slice-globals.result.now c.in_ok-order.order.items c.deref.result.now

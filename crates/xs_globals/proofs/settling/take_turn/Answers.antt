@@ -8,8 +8,8 @@ pub descend-requires : goal.descend-requires
 descend-requires g c =
     let t = table_of c.args.table.now in
     let u = table_of c.try_global.new.table in
-    let q = turn-as c.args.world.now c.args.budget c.deref.result.now c.args.table.now.begun.items c.args.top t u c.in_ok-try_global.field-0
-    (turn.Needs c.in-Needs.other) c.deref.ensures.value c.in-Needs.is c.in_ok-try_global.ensures.turn in
+    let q = turn-as c.args.world.now c.args.budget c.args.table.now.begun.items c.args.table.now.begun.items c.args.top t u c.in_ok-try_global.field-0
+    (turn.Needs c.in-Needs.other) refl c.in-Needs.is c.in_ok-try_global.ensures.turn in
     let within = needs-there c.args.world.now c.args.budget c.args.table.now.begun.items t u c.args.top c.in-Needs.other c.requires.going q in
     record { there = subst (λ (bs : List Bool). c.in-Needs.other < length bs) (sym c.in_ok-try_global.ensures.begun) within }
 
@@ -18,8 +18,8 @@ returns-in-Done g c =
     let t = table_of c.args.table.now in
     let u = table_of c.try_global.new.table in
     let ws = c.args.waiting.now.items in
-    let q = turn-as c.args.world.now c.args.budget c.deref.result.now c.args.table.now.begun.items c.args.top t u c.in_ok-try_global.field-0 turn.Done
-    c.deref.ensures.value c.in-Done.is c.in_ok-try_global.ensures.turn in
+    let q = turn-as c.args.world.now c.args.budget c.args.table.now.begun.items c.args.table.now.begun.items c.args.top t u c.in_ok-try_global.field-0 turn.Done
+    refl c.in-Done.is c.in_ok-try_global.ensures.turn in
     record {
       turn = λ n first h. on-done c.args.world.now c.args.budget n first c.args.table.now.begun.items (ws ++ c.args.top ∷ []) ws t u c.args.top refl h
           c.try_global.new.table.begun.items c.in_ok-try_global.ensures.begun q c.in_ok-try_global.ensures.values;
@@ -30,8 +30,8 @@ returns-in-Ends g c =
     let t = table_of c.args.table.now in
     let u = table_of c.try_global.new.table in
     let ws = c.args.waiting.now.items in
-    let q = turn-as c.args.world.now c.args.budget c.deref.result.now c.args.table.now.begun.items c.args.top t u c.in_ok-try_global.field-0
-    (turn.Ends c.in-Ends.spot) c.deref.ensures.value c.in-Ends.is c.in_ok-try_global.ensures.turn in
+    let q = turn-as c.args.world.now c.args.budget c.args.table.now.begun.items c.args.table.now.begun.items c.args.top t u c.in_ok-try_global.field-0
+    (turn.Ends c.in-Ends.spot) refl c.in-Ends.is c.in_ok-try_global.ensures.turn in
     record {
       turn = λ n first h. on-ends c.args.world.now c.args.budget n first c.args.table.now.begun.items (ws ++ c.args.top ∷ []) ws t u c.args.top refl h
           c.try_global.new.table.begun.items c.in_ok-try_global.ensures.begun c.in-Ends.spot q;
@@ -42,8 +42,8 @@ returns-in_ok-descend-in-Needs g c =
     let t = table_of c.args.table.now in
     let u = table_of c.try_global.new.table in
     let ws = c.args.waiting.now.items in
-    let q = turn-as c.args.world.now c.args.budget c.deref.result.now c.args.table.now.begun.items c.args.top t u c.in_ok-try_global.field-0
-    (turn.Needs c.in-Needs.other) c.deref.ensures.value c.in-Needs.is c.in_ok-try_global.ensures.turn in
+    let q = turn-as c.args.world.now c.args.budget c.args.table.now.begun.items c.args.table.now.begun.items c.args.top t u c.in_ok-try_global.field-0
+    (turn.Needs c.in-Needs.other) refl c.in-Needs.is c.in_ok-try_global.ensures.turn in
     record {
       turn = λ n first h. on-needs c.args.world.now c.args.budget n first c.args.table.now.begun.items (ws ++ c.args.top ∷ []) ws t u c.args.top refl h
           c.in-Needs.other q c.descend.new.begun.items c.descend.new.waiting.items
