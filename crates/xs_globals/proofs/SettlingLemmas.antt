@@ -1,5 +1,5 @@
 -- Globals that are settled one after another, from attempt to attempt.
-use Rattle.std.proofs.Common.{◌≡◌, ◌<◌, ◌≤◌, ◌+◌, ◌*◌, ◌-◌, ◌==◌, ◌||◌, ◌⊎◌, inl, inr, ℕ, zero, suc, length, List, [], ◌∷◌, ◌++◌, get_or, slice_get, slice_set}
+use Rattle.std.proofs.Common.{◌≡◌, ◌<◌, ◌≤◌, ◌+◌, ◌*◌, ◌-◌, ◌==◌, ◌||◌, inl, inr, ℕ, zero, suc, length, List, [], ◌∷◌, ◌++◌, get_or, slice_get, slice_set}
 use Rattle.std.proofs.Common.{Result, Ok, Err, IfOk, Option, Some, None, Bool, true, false, reverse, refl, sym, ap, subst, ◌∙◌, arith, length-append}
 use Rattle.std.specs.List.{All}
 use Rattle.std.proofs.lemmas.List.{length-set, reverse-append}
@@ -8,8 +8,7 @@ use Rattle.std.proofs.lemmas.Bool.Decides.{nat_tests}
 use Rattle.std.proofs.lemmas.List.Sums.{sum_by-set}
 use Rattle.std.proofs.lemmas.Option.{get_or_from_slice_get, slice_get_within}
 use Rattle.xs_sheet.specs.declared.declarations.Global.{Global}
-use Rattle.xs_trace.specs.Cut.{Cut, End, Whole, Fault, Needs, Spent, Full, nowhere}
-use Rattle.xs_trace.specs.Kept.{spot}
+use Rattle.xs_trace.specs.Cut.{End, Whole, Fault, Needs, Spent, Full, nowhere}
 use Rattle.xs_trace.specs.Mark.{tick_count}
 use Rattle.xs_trace.specs.declared.item.Site.{Site}
 use Rattle.xs_trace.specs.declared.item.Spot.{Spot}

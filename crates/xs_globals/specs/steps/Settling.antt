@@ -1,7 +1,7 @@
 -- An attempt at a global among those under attempt, and what it leaves to be done.
 use Rattle.std.specs.Prelude.{◌≡◌, ◌⊎◌, ℕ, ◌+◌, ◌*◌, ◌<◌, ◌≤◌, [], ◌∷◌, reverse, Bool, true, false, List, length, Option, Some, None, slice_get}
 use Rattle.std.specs.List.{All, sum_by}
-use Rattle.xs_trace.specs.Cut.{Cut, End, Whole, Fault, Needs, Spent, Full}
+use Rattle.xs_trace.specs.Cut.{End, Whole, Fault, Needs, Spent, Full}
 use Rattle.xs_trace.specs.Kept.{spot}
 use Rattle.xs_trace.specs.declared.fault.Fault.TheVariants as fault
 use Rattle.xs_trace.specs.declared.item.Site.{Site}
@@ -9,7 +9,6 @@ use Rattle.xs_trace.specs.declared.item.Spot.{Spot}
 use Rattle.xs_value.specs.declared.value.Value.{Value}
 use Rattle.xs_eval.specs.Conditions.{IsInIf}
 use Rattle.xs_semantics.specs.World.{World}
-use Rattle.xs_semantics.specs.Tasks.{Task}
 use Rattle.xs_semantics.specs.Globals.{Table, Settled, settled, ended, Settles, AllSettle, tried, added, with_passed, with_value, once_more, is_under}
 use Rattle.xs_globals.specs.declared.settled.Table as code
 use Rattle.xs_globals.specs.declared.settled.Turn.{Turn}

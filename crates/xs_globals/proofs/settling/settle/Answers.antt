@@ -1,4 +1,4 @@
-use Rattle.std.proofs.Common.{List, ℕ, Option, [], false, ap, map, subst, sym, ◌∙◌}
+use Rattle.std.proofs.Common.{List, Option, [], false, ap, map, subst, sym, ◌∙◌}
 use Rattle.std.specs.List.{All}
 use Rattle.std.specs.Option.{IsSome}
 use Rattle.xs_value.specs.declared.value.Value.{Value}

@@ -1,4 +1,4 @@
-use Rattle.std.proofs.Common.{◌≡◌, List, ℕ, [], length}
+use Rattle.std.proofs.Common.{[], length}
 use Rattle.xs_semantics.specs.Globals.{AllSettle, Settled}
 use Rattle.xs_globals.specs.steps.Settling.{IsGoing, IsMarked, table_of}
 use Rattle.xs_globals.proofs.settling.settle_in_turn.Given as goal

@@ -1,5 +1,5 @@
-use Rattle.std.proofs.Common.{◌≡◌, ◌<◌, ◌+◌, ◌*◌, ◌∷◌, ◌++◌, List, ℕ, [], length, reverse, slice_set, true, subst, sym}
-use Rattle.xs_globals.specs.steps.Settling.{IsUnderWay, left_over, table_of}
+use Rattle.std.proofs.Common.{List, ℕ, reverse, slice_set, true, subst, sym}
+use Rattle.xs_globals.specs.steps.Settling.{IsUnderWay, table_of}
 use Rattle.xs_globals.proofs.SettlingLemmas.{starts, turned}
 use Rattle.xs_globals.proofs.settling.settle_one.Goals as goal
 
