@@ -3,6 +3,7 @@
 ghost use Rattle.std.specs.List.{All};
 ghost use Rattle.std.specs.Prelude.{◌≡◌, ◌≤◌, ◌⊎◌, [], ◌∷◌, IfOk, IsSome, None, OnOk};
 ghost use Rattle.xs_semantics.specs.Globals.{SettlesAll};
+ghost use Rattle.xs_semantics.specs.World.{ground};
 ghost use Rattle.xs_globals.specs.Results.{settled_of};
 ghost use Rattle.xs_eval.specs.Conditions.{IsInIf};
 ghost use Rattle.xs_engine.specs.declared.status.TheConstants.{OK, RUN_FAULT};
@@ -70,9 +71,31 @@ fn evaluate_over(alloc: Global, job: &Job, sheet: &Sheet, tree: &Tree) -> Result
     ensures whole_only { IfOk result IsWholeOrEmpty }
 {
     let index = index_for(alloc, sheet, tree)?;
+    evaluate_by(alloc, job, sheet, &index, tree)
+}
+
+/// The same by an index: the globals, and then the root.
+fn evaluate_by(
+    alloc: Global,
+    job: &Job,
+    sheet: &Sheet,
+    index: &SheetIndex<'_>,
+    tree: &Tree,
+) -> Result<Reply, AllocError>
+    requires sound { IsSound sheet.now }
+    requires index { IsIndex index.now.rules }
+    requires prepared { IsPrepared index.now.rules tree.now }
+    requires templates { index.now.rules.templates.now ≡ sheet.now.templates }
+    requires sets { IsSetIndex sheet.now.sets index.now.sets }
+    ensures answer { IfOk result (λ reply. IsEvaluated (job_data job.now)
+        (ground sheet.now index.now tree.now []) (reply_of reply)) }
+    ensures status { IfOk result (λ reply.
+        (reply.status ≡ OK) ⊎ (reply.status ≡ RUN_FAULT)) }
+    ensures whole_only { IfOk result IsWholeOrEmpty }
+{
     let world = World {
         sheet,
-        index: &index,
+        index,
         tree,
         keys: &NoKeys,
         globals: &[],
