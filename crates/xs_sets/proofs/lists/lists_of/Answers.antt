@@ -5,8 +5,9 @@ use Rattle.xs_sets.proofs.lists.lists_of.Goals as goal
 
 pub loop-set-preserved : goal.loop-set-preserved
 loop-set-preserved c = λ name.
-    c.in_ok-add.ensures name ∙ ap (λ xs. xs ++ filter (has_name name) (_ ∷ [])) (c.loop-set.invariant name)
-    ∙ next-listed (has_name name) c.args.sets.now c.loop-set.set-index _ c.loop-set-test.true
+    let s = c.set-item.result in
+    c.in_ok-add.ensures name ∙ ap (λ xs. xs ++ filter (has_name name) (s.now ∷ [])) (c.loop-set.invariant name)
+    ∙ next-listed (has_name name) c.args.sets.now c.loop-set.set-index s c.loop-set-test.true c.set-item.is
 
 pub returns : goal.returns
 returns c = λ name. c.loop-set.invariant name ∙ all-listed (has_name name) c.args.sets.now c.loop-set.set-index (omega arith)
