@@ -1,5 +1,5 @@
 -- What was told stays at the beginning of what is told, in each step.
-use Rattle.std.proofs.Common.{ℕ, ◌-◌, ◌==◌, ◌||◌, length, List, [], ◌∷◌, ◌++◌, map, Option, Some, None, Bool, true, false, cond, refl}
+use Rattle.std.proofs.Common.{ℕ, ◌-◌, ◌==◌, ◌||◌, drop, length, List, [], ◌∷◌, ◌++◌, map, Option, Some, None, Bool, true, false, cond, refl}
 use Rattle.xs_sheet.specs.declared.body.Body.{Body}
 use Rattle.xs_sheet.specs.declared.body.Binding.{Binding}
 use Rattle.xs_sheet.specs.declared.body.Content.{Content}
@@ -25,6 +25,7 @@ use Rattle.xs_value.specs.declared.value.Value.{Value}
 use Rattle.xs_value.specs.declared.value.Value.TheVariants.{Chars as String}
 use Rattle.xs_value.specs.Conversion.{fragment_text}
 use Rattle.xs_making.specs.Copies.{shallow_copy}
+use Rattle.xs_sets.specs.Indexed.{declarations_in}
 use Rattle.xs_semantics.specs.declared.focus.Focus.{Focus}
 use Rattle.xs_semantics.specs.declared.made.Made.{Made}
 use Rattle.xs_semantics.specs.declared.made.Made.TheVariants as made
@@ -216,7 +217,7 @@ work-grows w (apply_left mode ps p f i ns) vs = filled-grows (each p (calls_at w
 work-grows w (bodies_left bodies c) vs = filled-grows (all_bodies bodies w (calls_at w c.focus) c.focus (last c.seen vs)) vs
 work-grows w end_element vs = then-goes-grow (put End) (λ u. vs) (put-grows End)
 work-grows w (sets_left names f) vs = filled-grows (sets_trace names w (calls_at w f) f) vs
-work-grows w (declared_left ss f) vs = filled-grows (declared_trace ss w (calls_at w f) f) vs
+work-grows w (declared_left name i f) vs = filled-grows (declared_trace (drop i (declarations_in w.index.sets name)) w (calls_at w f) f) vs
 work-grows w (attributes_left xs p c) vs = filled-grows (literal_attributes xs p w c.focus (last c.seen vs)) vs
 work-grows w (make m p) vs = popped-grows (λ s. filled (puts_all p (made_at m s)) vs) (λ s. filled-grows (puts_all p (made_at m s)) vs)
 work-grows w (say p terminate) vs = then-goes-grow (message_ended p terminate) (λ u. vs) (message_ended-grows p terminate)

@@ -1,5 +1,5 @@
 -- A step tells the beginning of what the stack stands for, and leaves the rest to be done: by cases, without an induction.
-use Rattle.std.proofs.Common.{◌≡◌, ℕ, zero, suc, ◌+◌, ◌-◌, ◌==◌, ◌||◌, length, List, [], ◌∷◌, ◌++◌, map, slice_get, Option, Some, None, Bool, true}
+use Rattle.std.proofs.Common.{◌≡◌, ℕ, zero, suc, ◌+◌, ◌-◌, ◌==◌, ◌||◌, drop, length, List, [], ◌∷◌, ◌++◌, map, slice_get, Option, Some, None, Bool, true}
 use Rattle.std.proofs.Common.{false, cond, refl, sym, ap, ◌∙◌, arith}
 use Rattle.std.proofs.lemmas.Bool.Decides.{nat_tests}
 use Rattle.xs_sheet.specs.declared.body.Binding.{Binding}
@@ -15,6 +15,7 @@ use Rattle.xs_sheet.specs.declared.body.InstrKind.TheVariants.{Text, Element, At
 use Rattle.xs_sheet.specs.declared.body.LiteralStart.{LiteralStart}
 use Rattle.xs_sheet.specs.declared.body.Passed.{Passed}
 use Rattle.xs_sheet.specs.declared.body.When.{When', out-When}
+use Rattle.xs_sheet.specs.declared.declarations.AttrSet.{AttrSet}
 use Rattle.xs_sheet.specs.declared.declarations.Template.{Template}
 use Rattle.xs_trace.specs.Cut.{Fault}
 use Rattle.xs_trace.specs.Label.{Label}
@@ -57,7 +58,7 @@ use Rattle.xs_body.specs.steps.Frames.{without, inner, outer, over, captured_sco
 use Rattle.xs_body.specs.steps.Frames.{all_bodies, chosen_of, chosen, filled, ended, message_steps, message_ended, fragment_at}
 use Rattle.xs_body.specs.steps.Frames.{passing_left, work_steps, stack_steps, stack_told, pushed, slots_are, filled_up, stays, chars_steps}
 use Rattle.xs_body.specs.steps.Frames.{run_by, run_begun, applied_begun, template_begun, built_in_begun, rule_begun, entry_begun, entering}
-use Rattle.xs_body.specs.steps.Frames.{sets_works, inside_begun, copied_begun, element_put, made_begun}
+use Rattle.xs_body.specs.steps.Frames.{declaration_begun, sets_works, inside_begun, copied_begun, element_put, made_begun}
 use Rattle.xs_body.specs.steps.Frames.{call_begun, imports_begun, content_begun, passes_on, pass_begun, params_first, param_begun, fallbacks_begun}
 use Rattle.xs_body.specs.steps.Frames.{begun, advanced}
 use Rattle.xs_body.specs.steps.Making.{attributes_steps, copy_steps, events_steps, literal_steps, made_at, made_ended}
@@ -316,6 +317,35 @@ sets-at (name ∷ names) d (suc n) p f t s =
 sets-begin : (names : List Label) (p : Site) (f : Focus) (t : Evaluation) (s : State Task) →
     Then (calls_at t.world f (using names) p f) t s ≡ Go (pushed (sets_works names f) t) s
 sets-begin names p f t s = sets-at names f.depth f.set_levels p f t s
+
+-- the declaration at a place, and those after it
+abbrev front : Option AttrSet → List AttrSet → List AttrSet
+front None ds = []
+front (Some d) ds = d ∷ ds
+
+drop-front : (ds : List AttrSet) (i : ℕ) → drop i ds ≡ front (slice_get ds i) (drop (i + 1) ds)
+drop-front [] zero = refl
+drop-front [] (suc i) = refl
+drop-front (d ∷ ds) zero = refl
+drop-front (d ∷ ds) (suc i) = drop-front ds i
+
+declaration-begins : (o : Option AttrSet) (name : Label) (i : ℕ) (f : Focus) (t : Evaluation) (s : State Task) →
+    Then (declared_trace (front o (drop (i + 1) (declarations_in t.world.index.sets name))) t.world (calls_at t.world f) f) t s
+    ≡ Go (declaration_begun o name i f t) s
+declaration-begins None name i f t s = refl
+declaration-begins (Some d) name i f t s =
+    let w : World = t.world in
+    let x : Trace Task = calls_at w f (using d.sets) d.site f in
+    let own : Trace Task = instrs_trace d.attributes w (calls_at w f) f [] in
+    let y : Trace Task = declared_trace (drop (i + 1) (declarations_in w.index.sets name)) w (calls_at w f) f in
+    let u : Evaluation = pushed (declared_left name (i + 1) f ∷ []) t in
+    let v : Evaluation = pushed (rest d.attributes (outer f) ∷ declared_left name (i + 1) f ∷ []) t in
+    twice (x ⨾ own) y t.slots (declared_left name (i + 1) f) t s (λ m. refl)
+    ∙ followed x own u v s (λ m.
+    ap (λ vs. Then (instrs_trace d.attributes w (calls_at w f) f vs) u m) (sym (last-none t.slots))
+    ∙ ap (λ vs. Then (instrs_trace d.attributes w (calls_at w f) f (last 0 t.slots)) (slots_are vs u) m) (sym (without-none t.slots))
+    ∙ behind (instrs_trace d.attributes w (calls_at w f) f (last 0 t.slots)) (without 0 t.slots) u m)
+    ∙ sets-begin d.sets d.site f v s
 
 -- what is in an element, after the attributes of sets
 inside-begins : (sets : List Label) (p : Site) (body : Body) (c : Scope) (t : Evaluation) (s : State Task) →
@@ -619,21 +649,11 @@ advances (sets_left (name ∷ names) f) t index s =
     ∙ twice x y t.slots (sets_left names f) t s (λ m. refl)
     ∙ ap (λ z. Then z u s) (served t.world index f name)
     ∙ behind (declared_trace (declarations_in t.world.index.sets name) t.world (calls_at t.world f) f) u.slots u s
-advances (declared_left [] f) t index s = refl
-advances (declared_left (d ∷ ds) f) t index s =
-    let w : World = t.world in
-    let x : Trace Task = calls_at w f (using d.sets) d.site f in
-    let own : Trace Task = instrs_trace d.attributes w (calls_at w f) f [] in
-    let y : Trace Task = declared_trace ds w (calls_at w f) f in
-    let u : Evaluation = pushed (declared_left ds f ∷ []) t in
-    let v : Evaluation = pushed (rest d.attributes (outer f) ∷ declared_left ds f ∷ []) t in
-    sym (behind ((x ⨾ own) ⨾ y) t.slots t s)
-    ∙ twice (x ⨾ own) y t.slots (declared_left ds f) t s (λ m. refl)
-    ∙ followed x own u v s (λ m.
-    ap (λ vs. Then (instrs_trace d.attributes w (calls_at w f) f vs) u m) (sym (last-none t.slots))
-    ∙ ap (λ vs. Then (instrs_trace d.attributes w (calls_at w f) f (last 0 t.slots)) (slots_are vs u) m) (sym (without-none t.slots))
-    ∙ behind (instrs_trace d.attributes w (calls_at w f) f (last 0 t.slots)) (without 0 t.slots) u m)
-    ∙ sets-begin d.sets d.site f v s
+advances (declared_left name i f) t index s =
+    let ds : List AttrSet = declarations_in t.world.index.sets name in
+    sym (behind (declared_trace (drop i ds) t.world (calls_at t.world f) f) t.slots t s)
+    ∙ ap (λ xs. Then (declared_trace xs t.world (calls_at t.world f) f) t s) (drop-front ds i)
+    ∙ declaration-begins (slice_get ds i) name i f t s
 advances (attributes_left xs p c) t index s =
     let x : Trace Task = literal_attributes xs p t.world c.focus (last c.seen t.slots) in
     sym (behind x t.slots t s)

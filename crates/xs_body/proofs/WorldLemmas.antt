@@ -24,6 +24,7 @@ use Rattle.xs_tree.specs.declared.kinds.Kind.{Kind}
 use Rattle.xs_making.specs.Copies.{shallow_copy}
 use Rattle.xs_value.specs.declared.value.Value.{Value}
 use Rattle.xs_value.specs.declared.value.Value.TheVariants.{Chars as String}
+use Rattle.xs_sets.specs.Indexed.{declarations_in}
 use Rattle.xs_semantics.specs.declared.focus.Focus.{Focus}
 use Rattle.xs_semantics.specs.declared.made.Made.TheVariants as made
 use Rattle.xs_semantics.specs.World.{World, in_list, by_rule, value_run, nodes_run, test_run, nodes_or_children}
@@ -38,7 +39,7 @@ use Rattle.xs_body.specs.steps.Frames.{chars_steps, run_by, run_begun, applied_b
 use Rattle.xs_body.specs.steps.Frames.{entering, call_begun}
 use Rattle.xs_body.specs.steps.Frames.{imports_begun, content_begun, passes_on, pass_begun, params_first, fragment_at, param_begun}
 use Rattle.xs_body.specs.steps.Frames.{fallbacks_begun, next_body, looping, loop_begun, value_steps, begun}
-use Rattle.xs_body.specs.steps.Frames.{advanced, copied_begun, copy_of_steps, declarations_begun, element_put, in_template, inside_begun, made_begun}
+use Rattle.xs_body.specs.steps.Frames.{advanced, copied_begun, copy_of_steps, declaration_begun, element_put, in_template, inside_begun, made_begun}
 use Rattle.xs_body.specs.steps.Frames.{sets_begun, sets_works}
 use Rattle.xs_body.specs.steps.Making.{attributes_steps, events_steps, literal_steps, made_ended, name_steps, target_steps}
 
@@ -159,9 +160,9 @@ sets-keep : (names : List Label) (f : Focus) (t : Evaluation) → (sets_begun na
 sets-keep [] f t = refl
 sets-keep (name ∷ names) f t = refl
 
-declarations-keep : (ss : List AttrSet) (f : Focus) (t : Evaluation) → (declarations_begun ss f t).world ≡ t.world
-declarations-keep [] f t = refl
-declarations-keep (s ∷ ss) f t = refl
+declaration-keeps : (o : Option AttrSet) (name : Label) (i : ℕ) (f : Focus) (t : Evaluation) → (declaration_begun o name i f t).world ≡ t.world
+declaration-keeps None name i f t = refl
+declaration-keeps (Some s) name i f t = refl
 
 begun-keeps : (kind : InstrKind) (p : Site) (c : Scope) (t : Evaluation) (s : State Task) → Keeps t.world (begun kind p c t s)
 begun-keeps (ApplyTemplates nodes passed) p c t s =
@@ -214,7 +215,7 @@ advanced-keeps (apply_left mode ps p f i (n ∷ ns)) t s = then-keeps t.world (t
 advanced-keeps (bodies_left bodies c) t s = bodies-keep bodies c t
 advanced-keeps end_element t s = stays-keeps (put End s) t
 advanced-keeps (sets_left names f) t s = sets-keep names f t
-advanced-keeps (declared_left ss f) t s = declarations-keep ss f t
+advanced-keeps (declared_left name i f) t s = declaration-keeps (slice_get (declarations_in t.world.index.sets name) i) name i f t
 advanced-keeps (attributes_left xs p c) t s = stays-keeps (attributes_steps t.world p c.focus (last c.seen t.slots) xs s) t
 advanced-keeps (make m p) t s = stays-keeps (made_ended m p s) t
 advanced-keeps (say p terminate) t s = stays-keeps (message_ended p terminate s) t

@@ -8,7 +8,6 @@ use std::alloc::{AllocError, Global};
 use xs_semantics::focus::Focus;
 use xs_semantics::made::Made;
 use xs_sheet::body::{Binding, Body, Instr};
-use xs_sheet::declarations::AttrSet;
 use xs_sheet::scoped::ValueTemplate;
 use xs_trace::event::Label;
 use xs_trace::item::Site;
@@ -147,8 +146,8 @@ pub enum Frame<'a> {
     End,
     /// The attribute sets of these names (7.1.4).
     Sets(&'a [Label], Focus),
-    /// Declarations of a set.
-    Declared(&'a [&'a AttrSet], Focus),
+    /// The declarations of the set of this name, except for so many that were passed.
+    Declared(&'a Label, usize, Focus),
     /// The attributes of a literal element.
     Attributes(AttributesLeft<'a>),
     /// The end of the content of an attribute, a comment or a processing instruction.

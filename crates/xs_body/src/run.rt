@@ -61,8 +61,8 @@ impl<'a, K: KeyFinder> Evaluator<'a, K> {
                 self.next_set(names, focus)?;
                 Ok(())
             }
-            Frame::Declared(declarations, focus) => {
-                self.next_declaration(declarations, focus)?;
+            Frame::Declared(name, next, focus) => {
+                self.next_declaration(name, next, focus)?;
                 Ok(())
             }
             Frame::Attributes(left) => self.put_attributes(left, recorder),

@@ -1,8 +1,9 @@
 //! Attribute sets (XSLT 1.0, 7.1.4).
 
-ghost use Rattle.std.specs.Prelude.{◌≡◌, ◌<◌, ◌-◌, length, map, OnOk};
-ghost use Rattle.xs_body.specs.steps.Frames.{declarations_begun, pushed, sets_begun, sets_works};
+ghost use Rattle.std.specs.Prelude.{◌≡◌, ◌<◌, ◌-◌, length, option_map, slice_get, OnOk};
+ghost use Rattle.xs_body.specs.steps.Frames.{declared_begun, pushed, sets_begun, sets_works};
 ghost use Rattle.xs_semantics.specs.World.{all_set_levels, with_levels};
+ghost use Rattle.xs_sets.specs.Indexed.{declarations_in};
 
 use crate::evaluator::Evaluator;
 use crate::frames::{Frame, Scope};
@@ -45,30 +46,39 @@ impl<'a, K: KeyFinder> Evaluator<'a, K> {
         match names.split_first() {
             None => Ok(()),
             Some((name, others)) => {
-                let declarations = self.index.sets.declarations(name);
                 self.push(Frame::Sets(others, focus))?;
-                self.push(Frame::Declared(declarations, focus))
+                self.push(Frame::Declared(name, 0, focus))
             }
         }
     }
 
-    /// The next of some declarations: first the sets that it uses, then its attributes.
+    /// The next declaration of a set: first the sets that it uses, then its attributes.
     pub(crate) fn next_declaration(
         &mut self,
-        declarations: &'a [&'a AttrSet],
+        name: &'a Label,
+        next: usize,
         focus: Focus,
     ) -> Result<(), AllocError>
         requires node { focus.node < length self.old.world.tree }
-        ensures begun { OnOk result (self.new
-            ≡ declarations_begun (map (λ s. s.now) declarations.now) focus self.old) }
+        ensures begun { OnOk result (self.new ≡ declared_begun name.now next focus self.old) }
     {
-        match declarations.split_first() {
+        match self.declaration(name, next) {
             None => Ok(()),
-            Some((set, others)) => {
-                self.push(Frame::Declared(others, focus))?;
+            Some(set) => {
+                let after = next.checked_add(1).ok_or(AllocError)?;
+                self.push(Frame::Declared(name, after, focus))?;
                 self.push(Frame::Rest(set.attributes.as_slice(), Scope::outer(focus)))?;
                 self.push_sets(set.sets.as_slice(), focus)
             }
         }
+    }
+
+    /// The declaration of a set at a place among those of its name.
+    fn declaration(&self, name: &'a Label, place: usize) -> Option<&'a AttrSet>
+        ensures declaration { option_map (λ s. s.now) result
+            ≡ slice_get (declarations_in self.now.world.index.sets name.now) place }
+    {
+        let index = self.index;
+        index.sets.declarations(name).get(place).copied()
     }
 }

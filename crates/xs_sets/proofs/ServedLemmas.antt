@@ -1,5 +1,5 @@
 -- What an index has of each name.
-use Rattle.std.proofs.Common.{◌≡◌, suc, ◌&&◌, ◌||◌, not, ◌⊎◌, inl, inr, Bool, true, false, cond, List, [], ◌∷◌, filter, refl, sym, ap, subst, ◌∙◌}
+use Rattle.std.proofs.Common.{◌≡◌, suc, ◌&&◌, ◌||◌, not, inl, inr, Bool, true, false, cond, List, [], ◌∷◌, filter, refl, sym, ap, ◌∙◌}
 use Rattle.std.proofs.lemmas.Bool.{and_parts, or_parts, true≢false}
 use Rattle.std.proofs.lemmas.List.Elements.{All-cons, All-head, All-nil, All-tail}
 use Rattle.std.proofs.lemmas.Slice.Eq.{bytes_eq-Decides}
@@ -91,3 +91,9 @@ served all i g c name = by_mark (is_marked i.marks name) refl
       of-name i name q (by_precedence all)
           (All-ranked (λ s. is_closed_at i.marks s ≡ true) (suc (highest all)) all (all-are (is_closed_at i.marks) all c)),
     )
+
+-- where all are marked, none has to be idle
+pub all-closed : (m : Marks) (ss : List AttrSet) → m.all ≡ true → is_closed m ss ≡ true
+all-closed m [] e = refl
+all-closed m (s ∷ ss) e =
+    ap (λ b. ((b || contains_by (is_of s.name) m.names) || is_idle m s) && list_all (is_closed_at m) ss) e ∙ all-closed m ss e

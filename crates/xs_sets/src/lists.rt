@@ -22,10 +22,8 @@ pub(crate) fn lists_of<'a>(alloc: Global, sets: &[&'a AttrSet]) -> Result<Lists<
         → grouped lists name ≡ filter (has_name name) (map (λ s. s.now) sets.now)) }
 {
     let mut lists = IndexMap::new(alloc);
-    let mut left = sets;
-    while let Some((set, others)) = left.split_first() {
-        add(alloc, &mut lists, *set)?;
-        left = others;
+    for set in sets {
+        add(alloc, &mut lists, set)?;
     }
     Ok(lists)
 }
@@ -43,9 +41,9 @@ fn add<'a>(alloc: Global, lists: &mut Lists<'a>, set: &'a AttrSet) -> Result<(),
 
 /// Takes the declarations of a name away.
 fn take_list<'a>(alloc: Global, lists: &mut Lists<'a>, key: Expanded<'a>) -> Vec<&'a AttrSet>
-    ensures taken { (name : Label) → is_of name key ≡ true
+    ensures taken { (name : Label) → is_of name key.entry ≡ true
         → map (λ s. s.now) result.items ≡ grouped lists.old name }
-    ensures others { (name : Label) → is_of name key ≡ false
+    ensures others { (name : Label) → is_of name key.entry ≡ false
         → grouped lists.new name ≡ grouped lists.old name }
 {
     match lists.swap_remove(&key) {
@@ -61,7 +59,8 @@ fn put_list<'a>(
     list: Vec<&'a AttrSet>,
 ) -> Result<(), AllocError>
     ensures { OnOk result ((name : Label) → grouped lists.new name
-        ≡ (if is_of name key then map (λ s. s.now) list.items else grouped lists.old name)) }
+        ≡ (if is_of name key.entry then map (λ s. s.now) list.entry.items
+        else grouped lists.old name)) }
 {
     lists.insert(key, list)?;
     Ok(())

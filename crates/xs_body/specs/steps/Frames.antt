@@ -103,7 +103,7 @@ pub data Work : Type 0 where
   bodies_left : List Body → Scope → Work
   end_element : Work
   sets_left : List Label → Focus → Work
-  declared_left : List AttrSet → Focus → Work
+  declared_left : Label → (next : ℕ) → Focus → Work
   attributes_left : List (Label × ValueTemplate) → Site → Scope → Work
   make : Made → Site → Work
   say : Site → (terminate : Bool) → Work
@@ -178,7 +178,7 @@ work_steps w (apply_left mode ps p f i ns) vs s = filled (each p (calls_at w f (
 work_steps w (bodies_left bodies c) vs s = filled (all_bodies bodies w (calls_at w c.focus) c.focus (last c.seen vs)) vs s
 work_steps w end_element vs s = and_then (put End s) (λ u m. Goes vs m)
 work_steps w (sets_left names f) vs s = filled (sets_trace names w (calls_at w f) f) vs s
-work_steps w (declared_left ss f) vs s = filled (declared_trace ss w (calls_at w f) f) vs s
+work_steps w (declared_left name i f) vs s = filled (declared_trace (drop i (declarations_in w.index.sets name)) w (calls_at w f) f) vs s
 work_steps w (attributes_left xs p c) vs s = filled (literal_attributes xs p w c.focus (last c.seen vs)) vs s
 work_steps w (make m p) vs s = filled (puts_all p (made_at m s)) vs (popped s)
 work_steps w (say p terminate) vs s = and_then (message_ended p terminate s) (λ u m. Goes vs m)
@@ -216,14 +216,18 @@ abbrev pub sets_works : List Label → Focus → List Work
 sets_works names f =
     if length names == 0 then [] else (if f.set_levels == 0 then [] else sets_left names (with_levels f.depth (f.set_levels - 1) f) ∷ [])
 
--- the next of some sets; of some declarations
+-- the next of some sets
 abbrev pub sets_begun : List Label → Focus → Evaluation → Evaluation
 sets_begun [] f t = t
-sets_begun (name ∷ names) f t = pushed (declared_left (declarations_in t.world.index.sets name) f ∷ sets_left names f ∷ []) t
+sets_begun (name ∷ names) f t = pushed (declared_left name 0 f ∷ sets_left names f ∷ []) t
 
-abbrev pub declarations_begun : List AttrSet → Focus → Evaluation → Evaluation
-declarations_begun [] f t = t
-declarations_begun (s ∷ ss) f t = pushed (sets_works s.sets f) (pushed (rest s.attributes (outer f) ∷ declared_left ss f ∷ []) t)
+-- the declaration of a set at a place, before those after it
+abbrev pub declaration_begun : Option AttrSet → Label → ℕ → Focus → Evaluation → Evaluation
+declaration_begun None name i f t = t
+declaration_begun (Some s) name i f t = pushed (sets_works s.sets f) (pushed (rest s.attributes (outer f) ∷ declared_left name (i + 1) f ∷ []) t)
+
+abbrev pub declared_begun : Label → ℕ → Focus → Evaluation → Evaluation
+declared_begun name i f t = declaration_begun (slice_get (declarations_in t.world.index.sets name) i) name i f t
 
 -- a run over nodes, which a work goes through, or which is left to tasks
 abbrev pub run_by : Option ℕ → Job → Site → Focus → List ℕ → Work → Evaluation → State Task → Step Task Evaluation
@@ -421,7 +425,7 @@ advanced (apply_left mode ps p f i (n ∷ ns)) t s =
 advanced (bodies_left bodies c) t s = Goes (next_body bodies c t) s
 advanced end_element t s = stays (put End s) t
 advanced (sets_left names f) t s = Goes (sets_begun names f t) s
-advanced (declared_left ss f) t s = Goes (declarations_begun ss f t) s
+advanced (declared_left name i f) t s = Goes (declared_begun name i f t) s
 advanced (attributes_left xs p c) t s = stays (attributes_steps t.world p c.focus (last c.seen t.slots) xs s) t
 advanced (make m p) t s = stays (made_ended m p s) t
 advanced (say p terminate) t s = stays (message_ended p terminate s) t
@@ -479,7 +483,7 @@ work_of (frame.Apply a) = apply_work a
 work_of (frame.Bodies bodies c) = bodies_left bodies.now c
 work_of frame.End = end_element
 work_of (frame.Sets names f) = sets_left names.now f
-work_of (frame.Declared declarations f) = declared_left (map (λ s. s.now) declarations.now) f
+work_of (frame.Declared name i f) = declared_left name.now i f
 work_of (frame.Attributes a) = attributes_work a
 work_of (frame.Make m p) = make m p
 work_of (frame.Say p terminate) = say p terminate

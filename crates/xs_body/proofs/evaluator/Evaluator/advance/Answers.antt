@@ -26,7 +26,7 @@ pass_next-requires-sync-K g c κs within =
 pub take_value-requires-sync-K : goal.take_value-requires-sync-K
 take_value-requires-sync-K g c κs within =
     let first = subst (λ (f : Frame). IsInside c.args.self.now.world.tree f) c.in-Take.is c.requires.first in
-    (search rules, ((refl, tt), first))
+    (search rules, ((refl, tt), (c.requires.holes, first)))
 
 pub next_param-requires-sync-K : goal.next_param-requires-sync-K
 next_param-requires-sync-K g c κs within =
