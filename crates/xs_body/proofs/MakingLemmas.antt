@@ -194,14 +194,14 @@ events-grow p (e ∷ es) s = grows-then s (put_at p e s) (λ u m. events_steps p
 pub space-grows : {H : Type 0} → (p : Site) (prefix uri : List ℕ) → Grows {H = H} (space_steps p prefix uri)
 space-grows p prefix uri = by_test (is_unbound uri)
   where
-    by_test : (b : Bool) → Grows (λ s. cond b (goes s) (put_at p (event.Space prefix uri) s))
+    by_test : (b : Bool) → Grows {H = H} {A = Unit {0}} (λ s. cond b (goes s) (put_at p (event.Space prefix uri) s))
     by_test true s = goes-grows tt s
     by_test false s = put_at-grows p (event.Space prefix uri) s
 
 pub named-grows : {H : Type 0} → (p : Site) (name : Label) (value : List ℕ) → Grows {H = H} (named_steps p name value)
 named-grows p name value = by_test (is_declaration name)
   where
-    by_test : (b : Bool) → Grows (λ s. cond b (goes s) (put_at p (event.Attr name value) s))
+    by_test : (b : Bool) → Grows {H = H} {A = Unit {0}} (λ s. cond b (goes s) (put_at p (event.Attr name value) s))
     by_test true s = goes-grows tt s
     by_test false s = put_at-grows p (event.Attr name value) s
 
@@ -233,7 +233,7 @@ nodes-grow rs p (n ∷ ns) s =
 pub text-grows : {H : Type 0} → (p : Site) (t : List ℕ) → Grows {H = H} (chars_steps p t)
 text-grows p t = by_test (length t == 0)
   where
-    by_test : (b : Bool) → Grows (λ s. cond b (goes s) (put_at p (Chars t) s))
+    by_test : (b : Bool) → Grows {H = H} {A = Unit {0}} (λ s. cond b (goes s) (put_at p (Chars t) s))
     by_test true s = goes-grows tt s
     by_test false s = put_at-grows p (Chars t) s
 
@@ -250,7 +250,7 @@ outcome-grows p (Err f) = stops-grow _
 
 pub namespace-grows : {H : Type 0} → (w : World) (p : Site) (f : Focus) (vs : List Value) (o : Option ValueTemplate) →
     Grows {H = H} (namespace_steps w p f vs o)
-namespace-grows w p f vs None = goes-grows None
+namespace-grows w p f vs None s = goes-grows None s
 namespace-grows w p f vs (Some v) s =
     grows-then s (limited p (template_run w v f vs) s) (λ uri m. Goes (Some uri) m) (limited-grows p _ s) (λ uri. goes-grows (Some uri))
 

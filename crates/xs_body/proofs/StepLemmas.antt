@@ -327,7 +327,8 @@ drop-front : (ds : List AttrSet) (i : ℕ) → drop i ds ≡ front (slice_get ds
 drop-front [] zero = refl
 drop-front [] (suc i) = refl
 drop-front (d ∷ ds) zero = refl
-drop-front (d ∷ ds) (suc i) = drop-front ds i
+drop-front (d ∷ ds) (suc i) =
+    let e : suc (i + 1) ≡ suc i + 1 = omega arith in drop-front ds i ∙ ap (λ n. front (slice_get ds i) (drop n (d ∷ ds))) e
 
 declaration-begins : (o : Option AttrSet) (name : Label) (i : ℕ) (f : Focus) (t : Evaluation) (s : State Task) →
     Then (declared_trace (front o (drop (i + 1) (declarations_in t.world.index.sets name))) t.world (calls_at t.world f) f) t s

@@ -60,6 +60,7 @@ impl<'a, K: KeyFinder> Model for Evaluator<'a, K> {
     ghost use Rattle.xs_sheet.specs.contracts.body.Body as body;
     ghost use Rattle.xs_sheet.specs.contracts.body.Content as content;
     ghost use Rattle.xs_sheet.specs.contracts.body.InstrKind as kind;
+    ghost use Rattle.xs_sheet.specs.Codes.{coded_tree};
     ghost use Rattle.xs_body.specs.steps.Frames.{Evaluation};
 
     ghost Value = { Evaluation };
@@ -71,6 +72,7 @@ impl<'a, K: KeyFinder> Model for Evaluator<'a, K> {
       body.the_row.coded,
       content.the_row.coded,
       kind.the_row.coded,
+      coded_tree,
     ) };
 
     ghost use Rattle.xs_body.specs.Inside.{IsEvaluator};

@@ -63,9 +63,9 @@ impl<'a, K: KeyFinder> Evaluator<'a, K> {
         recorder: &mut R,
     ) -> Result<(), Halt>
         requires node { all.scope.focus.node < length self.now.world.tree }
-        ensures told { IsStep (attributes_steps self.now.world all.site all.scope.focus
-            (last all.scope.seen self.now.slots) all.attributes.now (R.state recorder.old))
-            result (R.state recorder.new) }
+        ensures told { IsStep (attributes_steps self.now.world all.entry.site
+            all.entry.scope.focus (last all.entry.scope.seen self.now.slots)
+            all.entry.attributes.now (R.state recorder.old)) result (R.state recorder.new) }
         ensures kept { R.kept recorder.new ≡ R.kept recorder.old }
     {
         let mut left = all.attributes;
