@@ -1,0 +1,134 @@
+//! All pieces on one thread, first in, first out.
+
+ghost use Rattle.std.specs.Prelude.{◌≡◌, ◌++◌, ◌∷◌, ◌+◌, ◌<◌, ◌≤◌, ◌^◌, [], IfOk, OnOk, length};
+ghost use Rattle.xs_pieces.specs.Collection.{AreClaims, IsCollection};
+ghost use Rattle.xs_pieces.specs.Ready.{IsReady};
+ghost use Rattle.xs_pool.specs.steps.Running.{waiting, IsRunTo};
+
+use crate::next::{Next, run_next};
+use crate::sole::SoleTotal;
+use std::alloc::{AllocError, Global};
+use xs_block::pool::Pool;
+use xs_pieces::piece::{Collected, Desk, Piece};
+use xs_pieces::runner::Runner;
+use xs_trace::item::Limits;
+use xs_trace::place::Claim;
+use xs_trace::total::Total;
+
+/// Pieces that were run, who claimed them, and the desk at which they were.
+#[derive(Drop)]
+struct Run<H, T> {
+    pieces: Vec<Piece<H>>,
+    claims: Vec<Claim>,
+    desk: Desk<T>,
+}
+
+/// Runs the root's task and all that tasks leave, first in, first out, until all have been run or
+/// one ended in the total. Pieces that are left then were not run.
+pub fn run_all<R: Runner>(
+    alloc: Global,
+    runner: &R,
+    root: R::Task,
+    limits: Limits,
+) -> Result<Collected<R::Task>, AllocError>
+    requires ready { IsReady (R.is_own runner.now) (R.place_of runner.now) (R.own runner.now)
+        (R.whole runner.now) }
+    requires root { R.is_own runner.now root }
+    requires place { R.place_of runner.now root ≡ [] }
+    requires limit { limits.ticks ≤ 2 ^ 40 }
+    ensures collection { IfOk result (λ c. IsCollection (R.is_own runner.now)
+        (R.place_of runner.now) (R.own runner.now) root limits c.pieces.items c.total) }
+    ensures claims { IfOk result (λ c.
+        AreClaims (R.place_of runner.now) 1 c.pieces.items c.claims.items) }
+    ensures bounded { IfOk result (λ c. c.total ≤ limits.ticks + 1024) }
+{
+    let desk = Desk {
+        share: SoleTotal::new(alloc, limits.ticks)?,
+        pool: Pool::new(alloc),
+    };
+    let ran = run_pieces(alloc, runner, root, limits, desk)?;
+    let Run {
+        pieces,
+        claims,
+        desk,
+    } = ran;
+    let Desk { share, .. } = desk;
+    let total = share.close(alloc)?;
+    Ok(Collected {
+        pieces,
+        claims,
+        total,
+    })
+}
+
+/// Runs the root's task and all that tasks leave, first in, first out.
+fn run_pieces<R: Runner, T: Total + Drop>(
+    alloc: Global,
+    runner: &R,
+    root: R::Task,
+    limits: Limits,
+    desk: Desk<T>,
+) -> Result<Run<R::Task, T>, AllocError>
+    requires ready { IsReady (R.is_own runner.now) (R.place_of runner.now) (R.own runner.now)
+        (R.whole runner.now) }
+    requires root { R.is_own runner.now root }
+    requires place { R.place_of runner.now root ≡ [] }
+    requires most { T.most desk.share ≡ limits.ticks }
+    requires new { (T.added desk.share ≡ 0) × (T.last desk.share ≡ 0) }
+    ensures kept { IfOk result (λ r. T.kept r.desk.share ≡ T.kept desk.share) }
+    ensures most { IfOk result (λ r. T.most r.desk.share ≡ limits.ticks) }
+    ensures run { IfOk result (λ r. IsRunTo (R.is_own runner.now) (R.place_of runner.now)
+        (R.own runner.now) root limits (T.added r.desk.share) (T.last r.desk.share)
+        r.pieces.items) }
+    ensures claims { IfOk result (λ r.
+        AreClaims (R.place_of runner.now) 1 r.pieces.items r.claims.items) }
+{
+    let mut pieces = only_root(alloc, root)?;
+    let mut claims = Vec::new(alloc);
+    let mut desk = desk;
+    let mut next = 0;
+    while next < pieces.len() {
+        claim(runner, &mut claims, &pieces[next].task)?;
+        let ran = run_next(alloc, runner, &mut pieces, next, limits, desk)?;
+        let Next {
+            desk: after,
+            is_over,
+        } = ran;
+        desk = after;
+        if is_over {
+            return Ok(Run {
+                pieces,
+                claims,
+                desk,
+            });
+        }
+        next += 1;
+    }
+    Ok(Run {
+        pieces,
+        claims,
+        desk,
+    })
+}
+
+/// The piece of a task alone. It was not run yet.
+fn only_root<T: Drop>(alloc: Global, root: T) -> Result<Vec<Piece<T>>, AllocError>
+    ensures only { IfOk result (λ pieces. pieces.items ≡ waiting root ∷ []) }
+{
+    let mut pieces = Vec::new(alloc);
+    pieces.push(Piece {
+        task: root,
+        outcome: None,
+    })?;
+    Ok(pieces)
+}
+
+/// The first worker claims the piece of a task.
+fn claim<R: Runner>(runner: &R, claims: &mut Vec<Claim>, task: &R::Task) -> Result<(), AllocError>
+    ensures claimed { OnOk result (claims.new.items ≡ claims.old.items
+        ++ record { worker = 0; place = R.place_of runner.now task.now } ∷ []) }
+{
+    let place = runner.place(task).copy()?;
+    claims.push(Claim { worker: 0, place })?;
+    Ok(())
+}
