@@ -1,4 +1,6 @@
-use Rattle.std.proofs.Common.{arith}
+use Rattle.std.proofs.Common.{◌∙◌, None, ap, arith}
+use Rattle.xs_semantics.specs.Globals.{with_globals}
+use Rattle.xs_semantics.specs.World.{World, with_grain}
 use Rattle.xs_engine.specs.Reply.{job_data}
 use Rattle.xs_engine.proofs.EvaluationLemmas.{fault_in_root, full_in_root, has_part, root_run, run_within, spent_in_root, whole_in_root}
 use Rattle.xs_engine.proofs.evaluation.root_reply.Goals as goal
@@ -14,7 +16,8 @@ returns-in-Whole-clause-answer c =
     whole_in_root (job_data c.args.job.now) c.args.world.now c.args.settled.now c.requires.settled
     c.in_ok-outcome.outcome c.index-part.result.now c.requires.none
     (root_run (job_data c.args.job.now) c.args.world.now c.args.settled.now c.deref.result.now
-    c.new-runner.result c.in_ok-task.task c.in_ok-outcome.outcome c.new-runner.ensures c.deref.ensures.value c.requires.whole
+    c.new-runner.result c.in_ok-task.task c.in_ok-outcome.outcome
+    (c.new-runner.ensures ∙ ap (λ (w : World). with_grain None (with_globals w c.deref.result.now)) c.world.view_is) c.deref.ensures.value c.requires.whole
     c.in_ok-task.ensures.task c.in_ok-outcome.ensures.whole) c.index-part.ensures
     c.whole_reply.result c.in-Whole.is
     (rw c.deref-in-Whole.ensures.value at c.whole_reply.ensures)
@@ -24,7 +27,8 @@ returns-in-Fault-clause-answer c =
     fault_in_root (job_data c.args.job.now) c.args.world.now c.args.settled.now c.requires.settled
     c.in_ok-outcome.outcome c.index-part.result.now c.requires.none
     (root_run (job_data c.args.job.now) c.args.world.now c.args.settled.now c.deref.result.now
-    c.new-runner.result c.in_ok-task.task c.in_ok-outcome.outcome c.new-runner.ensures c.deref.ensures.value c.requires.whole
+    c.new-runner.result c.in_ok-task.task c.in_ok-outcome.outcome
+    (c.new-runner.ensures ∙ ap (λ (w : World). with_grain None (with_globals w c.deref.result.now)) c.world.view_is) c.deref.ensures.value c.requires.whole
     c.in_ok-task.ensures.task c.in_ok-outcome.ensures.whole) c.index-part.ensures
     c.stopped_reply.result c.in-Fault.spot c.in-Fault.is
     (rw c.deref-in-Fault.ensures.value at c.stopped_reply.ensures)
@@ -34,7 +38,8 @@ returns-in-Spent-clause-answer c =
     spent_in_root (job_data c.args.job.now) c.args.world.now c.args.settled.now c.requires.settled
     c.in_ok-outcome.outcome c.index-part.result.now c.requires.none
     (root_run (job_data c.args.job.now) c.args.world.now c.args.settled.now c.deref.result.now
-    c.new-runner.result c.in_ok-task.task c.in_ok-outcome.outcome c.new-runner.ensures c.deref.ensures.value c.requires.whole
+    c.new-runner.result c.in_ok-task.task c.in_ok-outcome.outcome
+    (c.new-runner.ensures ∙ ap (λ (w : World). with_grain None (with_globals w c.deref.result.now)) c.world.view_is) c.deref.ensures.value c.requires.whole
     c.in_ok-task.ensures.task c.in_ok-outcome.ensures.whole) c.index-part.ensures
     c.stopped_reply-in-Spent.result c.in-Spent.spot c.in-Spent.is
     (rw c.deref-in-Spent.ensures.value at c.stopped_reply-in-Spent.ensures)
@@ -44,7 +49,8 @@ returns-in-Full-clause-answer c =
     full_in_root (job_data c.args.job.now) c.args.world.now c.args.settled.now c.requires.settled
     c.in_ok-outcome.outcome c.index-part.result.now c.requires.none
     (root_run (job_data c.args.job.now) c.args.world.now c.args.settled.now c.deref.result.now
-    c.new-runner.result c.in_ok-task.task c.in_ok-outcome.outcome c.new-runner.ensures c.deref.ensures.value c.requires.whole
+    c.new-runner.result c.in_ok-task.task c.in_ok-outcome.outcome
+    (c.new-runner.ensures ∙ ap (λ (w : World). with_grain None (with_globals w c.deref.result.now)) c.world.view_is) c.deref.ensures.value c.requires.whole
     c.in_ok-task.ensures.task c.in_ok-outcome.ensures.whole) c.index-part.ensures
     c.stopped_reply-in-Full.result c.in-Full.spot c.in-Full.is
     (rw c.deref-in-Full.ensures.value at c.stopped_reply-in-Full.ensures)
