@@ -92,7 +92,7 @@ module _ (job : Job) (w : World) (z : Settled) (settles : SettlesAll w job.given
       in_globals {t = told_in z} {s = s} (subst (λ e. SettlesAll w job.given job.budget (settled_by e (told_in z))) is settles)
       (same ∙ ap (λ says. stopped_answer w.sheet.modules s says z.ticks) (append-nil z.says.items))
 
-  module _ (o : Outcome) (p : Part) (none : z.end ≡ None) (run : IsWholeRun (root_cut job w (told_in z)) o) (first : p ≡ get_or o.parts.items 0 p) where
+  module _ (o : Outcome) (p : Part) (sheet : Sheet) (of : sheet ≡ w.sheet) (none : z.end ≡ None) (run : IsWholeRun (root_cut job w (told_in z)) o) (first : p ≡ get_or o.parts.items 0 p) where
     from_root : (a : Answer) → IsCutAnswer w.sheet (told_in z) (root_cut job w (told_in z)) a → IsEvaluated job w a
     from_root a is = in_root {t = told_in z} (subst (λ e. SettlesAll w job.given job.budget (settled_by e (told_in z))) none settles) is
 
@@ -109,14 +109,16 @@ module _ (job : Job) (w : World) (z : Settled) (settles : SettlesAll w job.given
 
     -- the root came to its end
     pub whole_in_root : {E : Type 0} (r : Result Reply E) → o.ended ≡ ended.Whole
-        → IfOk r (λ reply. reply_of reply ≡ whole_answer w.sheet.method (z.says.items ++ messages_in (items_of p.items))
+        → IfOk r (λ reply. reply_of reply ≡ whole_answer sheet.method (z.says.items ++ messages_in (items_of p.items))
         (events_in (items_of p.items)) (z.ticks + o.ticks))
         → IfOk r (λ reply. IsEvaluated job w (reply_of reply))
     whole_in_root (Err e) is same = tt
     whole_in_root (Ok reply) is same =
         let c = root_cut job w (told_in z) in
         let all : reply_of reply ≡ whole_answer w.sheet.method (z.says.items ++ messages_of c.passed) (events_of c.passed) (z.ticks + tick_count c.passed) =
-        same ∙ ap (λ ms. whole_answer w.sheet.method (z.says.items ++ ms) (events_in (items_of p.items)) (z.ticks + o.ticks)) messages-passed
+        same
+        ∙ ap (λ (q : Sheet). whole_answer q.method (z.says.items ++ messages_in (items_of p.items)) (events_in (items_of p.items)) (z.ticks + o.ticks)) of
+        ∙ ap (λ ms. whole_answer w.sheet.method (z.says.items ++ ms) (events_in (items_of p.items)) (z.ticks + o.ticks)) messages-passed
         ∙ ap (λ es. whole_answer w.sheet.method (z.says.items ++ messages_of c.passed) es (z.ticks + o.ticks)) events-passed
         ∙ ap (λ n. whole_answer w.sheet.method (z.says.items ++ messages_of c.passed) (events_of c.passed) (z.ticks + n)) run.ticks in
         from_root (reply_of reply) (subst (IsCutAnswer w.sheet (told_in z) c) (sym all)
@@ -129,7 +131,7 @@ module _ (job : Job) (w : World) (z : Settled) (settles : SettlesAll w job.given
         (z.says.items ++ messages_of (root_cut job w (told_in z)).passed) (z.ticks + tick_count (root_cut job w (told_in z)).passed)
         (stopped_answer w.sheet.modules s (z.says.items ++ messages_of (root_cut job w (told_in z)).passed)
         (z.ticks + tick_count (root_cut job w (told_in z)).passed))
-        → IfOk r (λ reply. reply_of reply ≡ stopped_answer w.sheet.modules s (z.says.items ++ messages_in (items_of p.items))
+        → IfOk r (λ reply. reply_of reply ≡ stopped_answer sheet.modules s (z.says.items ++ messages_in (items_of p.items))
         (z.ticks + o.ticks))
         → IfOk r (λ reply. IsEvaluated job w (reply_of reply))
     stopped_in_root (Err e) s is same = tt
@@ -137,12 +139,13 @@ module _ (job : Job) (w : World) (z : Settled) (settles : SettlesAll w job.given
         let c = root_cut job w (told_in z) in
         let names = w.sheet.modules in
         let all : reply_of reply ≡ stopped_answer names s (z.says.items ++ messages_of c.passed) (z.ticks + tick_count c.passed) =
-        same ∙ ap (λ ms. stopped_answer names s (z.says.items ++ ms) (z.ticks + o.ticks)) messages-passed
+        same ∙ ap (λ (q : Sheet). stopped_answer q.modules s (z.says.items ++ messages_in (items_of p.items)) (z.ticks + o.ticks)) of
+        ∙ ap (λ ms. stopped_answer names s (z.says.items ++ ms) (z.ticks + o.ticks)) messages-passed
         ∙ ap (λ n. stopped_answer names s (z.says.items ++ messages_of c.passed) (z.ticks + n)) run.ticks in
         from_root (reply_of reply) (subst (IsCutAnswer w.sheet (told_in z) c) (sym all) is)
 
     pub fault_in_root : {E : Type 0} (r : Result Reply E) (s : Spot) → o.ended ≡ ended.Fault s
-        → IfOk r (λ reply. reply_of reply ≡ stopped_answer w.sheet.modules s (z.says.items ++ messages_in (items_of p.items))
+        → IfOk r (λ reply. reply_of reply ≡ stopped_answer sheet.modules s (z.says.items ++ messages_in (items_of p.items))
         (z.ticks + o.ticks))
         → IfOk r (λ reply. IsEvaluated job w (reply_of reply))
     fault_in_root r s is same =
@@ -151,7 +154,7 @@ module _ (job : Job) (w : World) (z : Settled) (settles : SettlesAll w job.given
         (ended.Fault s) (ends_as (ended.Fault s) is)) same
 
     pub spent_in_root : {E : Type 0} (r : Result Reply E) (s : Spot) → o.ended ≡ ended.Spent s
-        → IfOk r (λ reply. reply_of reply ≡ stopped_answer w.sheet.modules s (z.says.items ++ messages_in (items_of p.items))
+        → IfOk r (λ reply. reply_of reply ≡ stopped_answer sheet.modules s (z.says.items ++ messages_in (items_of p.items))
         (z.ticks + o.ticks))
         → IfOk r (λ reply. IsEvaluated job w (reply_of reply))
     spent_in_root r s is same =
@@ -160,7 +163,7 @@ module _ (job : Job) (w : World) (z : Settled) (settles : SettlesAll w job.given
         (ended.Spent s) (ends_as (ended.Spent s) is)) same
 
     pub full_in_root : {E : Type 0} (r : Result Reply E) (s : Spot) → o.ended ≡ ended.Full s
-        → IfOk r (λ reply. reply_of reply ≡ stopped_answer w.sheet.modules s (z.says.items ++ messages_in (items_of p.items))
+        → IfOk r (λ reply. reply_of reply ≡ stopped_answer sheet.modules s (z.says.items ++ messages_in (items_of p.items))
         (z.ticks + o.ticks))
         → IfOk r (λ reply. IsEvaluated job w (reply_of reply))
     full_in_root r s is same =

@@ -14,7 +14,7 @@ index-part-requires c = has_part _ _ c.in_ok-outcome.ensures.whole
 pub returns-in-Whole-clause-answer : goal.returns-in-Whole-clause-answer
 returns-in-Whole-clause-answer c =
     whole_in_root (job_data c.args.job.now) c.args.world.now c.args.settled.now c.requires.settled
-    c.in_ok-outcome.outcome c.index-part.result.now c.requires.none
+    c.in_ok-outcome.outcome c.index-part.result.now c.world.inside.sheet.now (ap (λ (w : World). w.sheet) c.world.view_is) c.requires.none
     (root_run (job_data c.args.job.now) c.args.world.now c.args.settled.now c.deref.result.now
     c.new-runner.result c.in_ok-task.task c.in_ok-outcome.outcome
     (c.new-runner.ensures ∙ ap (λ (w : World). with_grain None (with_globals w c.deref.result.now)) c.world.view_is) c.deref.ensures.value c.requires.whole
@@ -25,7 +25,7 @@ returns-in-Whole-clause-answer c =
 pub returns-in-Fault-clause-answer : goal.returns-in-Fault-clause-answer
 returns-in-Fault-clause-answer c =
     fault_in_root (job_data c.args.job.now) c.args.world.now c.args.settled.now c.requires.settled
-    c.in_ok-outcome.outcome c.index-part.result.now c.requires.none
+    c.in_ok-outcome.outcome c.index-part.result.now c.world.inside.sheet.now (ap (λ (w : World). w.sheet) c.world.view_is) c.requires.none
     (root_run (job_data c.args.job.now) c.args.world.now c.args.settled.now c.deref.result.now
     c.new-runner.result c.in_ok-task.task c.in_ok-outcome.outcome
     (c.new-runner.ensures ∙ ap (λ (w : World). with_grain None (with_globals w c.deref.result.now)) c.world.view_is) c.deref.ensures.value c.requires.whole
@@ -36,7 +36,7 @@ returns-in-Fault-clause-answer c =
 pub returns-in-Spent-clause-answer : goal.returns-in-Spent-clause-answer
 returns-in-Spent-clause-answer c =
     spent_in_root (job_data c.args.job.now) c.args.world.now c.args.settled.now c.requires.settled
-    c.in_ok-outcome.outcome c.index-part.result.now c.requires.none
+    c.in_ok-outcome.outcome c.index-part.result.now c.world.inside.sheet.now (ap (λ (w : World). w.sheet) c.world.view_is) c.requires.none
     (root_run (job_data c.args.job.now) c.args.world.now c.args.settled.now c.deref.result.now
     c.new-runner.result c.in_ok-task.task c.in_ok-outcome.outcome
     (c.new-runner.ensures ∙ ap (λ (w : World). with_grain None (with_globals w c.deref.result.now)) c.world.view_is) c.deref.ensures.value c.requires.whole
@@ -47,7 +47,7 @@ returns-in-Spent-clause-answer c =
 pub returns-in-Full-clause-answer : goal.returns-in-Full-clause-answer
 returns-in-Full-clause-answer c =
     full_in_root (job_data c.args.job.now) c.args.world.now c.args.settled.now c.requires.settled
-    c.in_ok-outcome.outcome c.index-part.result.now c.requires.none
+    c.in_ok-outcome.outcome c.index-part.result.now c.world.inside.sheet.now (ap (λ (w : World). w.sheet) c.world.view_is) c.requires.none
     (root_run (job_data c.args.job.now) c.args.world.now c.args.settled.now c.deref.result.now
     c.new-runner.result c.in_ok-task.task c.in_ok-outcome.outcome
     (c.new-runner.ensures ∙ ap (λ (w : World). with_grain None (with_globals w c.deref.result.now)) c.world.view_is) c.deref.ensures.value c.requires.whole
