@@ -92,7 +92,8 @@ module _ (job : Job) (w : World) (z : Settled) (settles : SettlesAll w job.given
       in_globals {t = told_in z} {s = s} (subst (λ e. SettlesAll w job.given job.budget (settled_by e (told_in z))) is settles)
       (same ∙ ap (λ says. stopped_answer w.sheet.modules s says z.ticks) (append-nil z.says.items))
 
-  module _ (o : Outcome) (p : Part) (sheet : Sheet) (of : sheet ≡ w.sheet) (none : z.end ≡ None) (run : IsWholeRun (root_cut job w (told_in z)) o) (first : p ≡ get_or o.parts.items 0 p) where
+  module _ (o : Outcome) (p : Part) (sheet : Sheet) (of : sheet ≡ w.sheet) (none : z.end ≡ None) (run : IsWholeRun (root_cut job w (told_in z)) o)
+      (first : p ≡ get_or o.parts.items 0 p) where
     from_root : (a : Answer) → IsCutAnswer w.sheet (told_in z) (root_cut job w (told_in z)) a → IsEvaluated job w a
     from_root a is = in_root {t = told_in z} (subst (λ e. SettlesAll w job.given job.budget (settled_by e (told_in z))) none settles) is
 
