@@ -1,14 +1,14 @@
 -- A task that is left has nodes, and begins with a tick.
-use Rattle.std.proofs.Common.{◌≡◌, ◌<◌, ℕ, zero, suc, ◌+◌, ◌-◌, length, List, [], ◌∷◌, ◌++◌, map, nat_le, Option, Some, None, Bool, true, false, cond, refl, sym, ap, ◌∙◌, arith}
+use Rattle.std.proofs.Common.{◌≡◌, ℕ, zero, suc, ◌+◌, ◌-◌, length, List, [], ◌∷◌, ◌++◌, map, nat_le, Option, Some, None, Bool, true, false, cond, refl, sym, ◌∙◌, arith}
 use Rattle.std.proofs.lemmas.Bool.{true≢false}
 use Rattle.std.proofs.lemmas.Bool.Decides.{nat_tests}
 use Rattle.xs_trace.specs.Fill.{HolesAre}
 use Rattle.xs_trace.specs.Mark.{Tick, Put, Say, Stop, Need, Hole, Trace, ◌⨾◌, events_of, without_puts}
 use Rattle.xs_trace.specs.declared.item.Site.{Site}
 use Rattle.xs_semantics.specs.declared.focus.Focus.{Focus}
-use Rattle.xs_semantics.specs.World.{World, at_node, in_list}
+use Rattle.xs_semantics.specs.World.{World, at_node}
 use Rattle.xs_semantics.specs.Tasks.{Job, Task, below, shared, task_behind, tasks_for, with_node}
-use Rattle.xs_semantics.specs.Trace.{calls_at, each, job_trace, spread, spread_by, task_trace}
+use Rattle.xs_semantics.specs.Trace.{calls_at, each, job_trace, spread_by, task_trace}
 use Rattle.xs_semantics.specs.Ranks.{BeginsWithTick, HasNodes}
 use Rattle.xs_semantics.proofs.SideLemmas.{IsKept, task-keeps}
 

@@ -1,6 +1,6 @@
 -- The rank falls from a task to those that it leaves.
-use Rattle.std.proofs.Common.{◌≡◌, ◌<◌, ◌≤◌, ℕ, zero, suc, ◌+◌, ◌-◌, ◌/◌, ◌==◌, ◌||◌, length, List, [], ◌∷◌, ◌++◌, map, nat_le, slice_get, Option, Some, None, Bool}
-use Rattle.std.proofs.Common.{true, false, cond, filter, refl, sym, ap, subst, arith}
+use Rattle.std.proofs.Common.{◌≡◌, ◌<◌, ◌≤◌, ℕ, zero, suc, ◌+◌, ◌-◌, ◌/◌, ◌==◌, ◌||◌, length, List, [], ◌∷◌, ◌++◌, map, slice_get, Option, Some, None, Bool}
+use Rattle.std.proofs.Common.{true, false, cond, filter, refl, ap, arith}
 use Rattle.std.proofs.lemmas.List.Elements.{All-append, All-cons, All-filter, All-head, All-nil, All-tail}
 use Rattle.std.specs.List.{All}
 use Rattle.xs_sheet.specs.declared.body.Binding.{Binding}
@@ -13,7 +13,6 @@ use Rattle.xs_sheet.specs.declared.body.Instr.{Instr}
 use Rattle.xs_sheet.specs.declared.body.InstrKind.{InstrKind, Variable'}
 use Rattle.xs_sheet.specs.declared.body.InstrKind.TheVariants.{ApplyTemplates, CallTemplate, ApplyImports, ForEach, ValueOf, CopyOf, Copy, Number, Choose, If}
 use Rattle.xs_sheet.specs.declared.body.InstrKind.TheVariants.{Text, Element, Attribute, Comment, Pi, Message, Literal, Extension}
-use Rattle.xs_sheet.specs.declared.body.LiteralStart.{LiteralStart}
 use Rattle.xs_sheet.specs.declared.body.Passed.{Passed, Passed', out-Passed, Row_of-Binding, end_of-Binding, more_of-Binding}
 use Rattle.xs_sheet.specs.declared.body.When.{When'}
 use Rattle.xs_sheet.specs.declared.declarations.AttrSet.{AttrSet}
@@ -44,9 +43,9 @@ use Rattle.xs_semantics.specs.World.{World, all_set_levels, at_node, in_list, ca
 use Rattle.xs_semantics.specs.World.{nodes_or_children, nodes_run, template_run, test_run, text_run, value_run}
 use Rattle.xs_semantics.specs.Making.{attribute_events, attribute_label, content_text, element_label, literal_spaces, made_events, name_run, target_run}
 use Rattle.xs_semantics.specs.Making.{value_events}
-use Rattle.xs_semantics.specs.Tasks.{Params, no_params, value_passed, Job, body_job, rules_job, Task, below, shared, task_behind, tasks_for, with_node}
+use Rattle.xs_semantics.specs.Tasks.{Params, no_params, value_passed, Job, body_job, rules_job, Task, shared, task_behind, with_node}
 use Rattle.xs_semantics.specs.Rules.{rule_for, import_for}
-use Rattle.xs_semantics.specs.Trace.{Entry, named, fitting, overridden, using, Calls, each, spread, spread_by, applied, Called, by_number, by_rules}
+use Rattle.xs_semantics.specs.Trace.{Entry, named, fitting, overridden, using, spread, spread_by, applied, Called, by_number, by_rules}
 use Rattle.xs_semantics.specs.Trace.{called_with, passing, imports, puts, puts_all, chars, says, ended_if, begins, literal_attributes, makes, fragment_of}
 use Rattle.xs_semantics.specs.Trace.{copied_content, copied_node, instr_trace, body_trace, row_trace, content_trace, values_trace, choice_trace, whens_trace}
 use Rattle.xs_semantics.specs.Trace.{fallbacks_trace, unless_none, bodies_trace, param_trace, params_trace, template_trace, built_in, ruled, instrs_trace}

@@ -1,5 +1,5 @@
 -- What a stylesheet does with one grain and with another, and by whatever index, side by side: what the parts of both keep, both keep.
-use Rattle.std.proofs.Common.{◌≡◌, ℕ, zero, suc, ◌+◌, ◌/◌, ◌==◌, ◌||◌, length, List, [], ◌∷◌, ◌++◌, map, slice_get, Option, Some, None, Bool, true, false}
+use Rattle.std.proofs.Common.{◌≡◌, ℕ, zero, suc, ◌+◌, ◌/◌, ◌==◌, ◌||◌, length, List, [], ◌∷◌, ◌++◌, slice_get, Option, Some, None, Bool, true, false}
 use Rattle.std.proofs.Common.{cond, refl}
 use Rattle.xs_sheet.specs.declared.body.Binding.{Binding}
 use Rattle.xs_sheet.specs.declared.body.Body.{Body, Body', Row_of-Instr, end_of-Instr, more_of-Instr}
@@ -11,7 +11,6 @@ use Rattle.xs_sheet.specs.declared.body.Instr.{Instr}
 use Rattle.xs_sheet.specs.declared.body.InstrKind.{InstrKind, Variable'}
 use Rattle.xs_sheet.specs.declared.body.InstrKind.TheVariants.{ApplyTemplates, CallTemplate, ApplyImports, ForEach, ValueOf, CopyOf, Copy, Number, Choose, If}
 use Rattle.xs_sheet.specs.declared.body.InstrKind.TheVariants.{Text, Element, Attribute, Comment, Pi, Message, Literal, Extension}
-use Rattle.xs_sheet.specs.declared.body.LiteralStart.{LiteralStart}
 use Rattle.xs_sheet.specs.declared.body.MadeName.{MadeName}
 use Rattle.xs_sheet.specs.declared.body.Passed.{Passed, Passed', out-Passed, Row_of-Binding, end_of-Binding, more_of-Binding}
 use Rattle.xs_sheet.specs.declared.body.When.{When'}
@@ -51,7 +50,7 @@ use Rattle.xs_semantics.specs.Tasks.{Params, no_params, value_passed, Job, body_
 use Rattle.xs_semantics.specs.Rules.{rule_for, import_for}
 use Rattle.xs_semantics.specs.Trace.{Entry, named, fitting, overridden, using, Calls, each, spread, applied, Called, by_number, by_rules, called_with}
 use Rattle.xs_semantics.specs.Trace.{passing, imports, puts, puts_all, chars, says, ended_if, begins, literal_attributes, makes, fragment_of}
-use Rattle.xs_semantics.specs.Trace.{copied_content, copied_node, instr_trace, body_trace, row_trace, content_trace}
+use Rattle.xs_semantics.specs.Trace.{copied_node, instr_trace, body_trace, row_trace, content_trace}
 use Rattle.xs_semantics.specs.Trace.{values_trace, choice_trace, whens_trace, fallbacks_trace, unless_none, bodies_trace, param_trace, params_trace}
 use Rattle.xs_semantics.specs.Trace.{template_trace, built_in, ruled, instrs_trace, declared_trace, sets_trace, entered, called, job_trace, task_trace}
 use Rattle.xs_semantics.specs.Trace.{calls_at}

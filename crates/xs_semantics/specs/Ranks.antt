@@ -1,5 +1,5 @@
 -- The tree of tasks ends: a rank that falls from a task to those that it leaves.
-use Rattle.std.specs.Prelude.{ℕ, zero, suc, ◌+◌, ◌<◌, List, [], ◌∷◌}
+use Rattle.std.specs.Prelude.{ℕ, zero, suc, ◌+◌, List, [], ◌∷◌}
 use Rattle.xs_sheet.specs.declared.body.Body.{Body, Body', Row_of-Instr, end_of-Instr, more_of-Instr}
 use Rattle.xs_sheet.specs.declared.body.Choice.{Choice, Choice', Row_of-When, end_of-When, more_of-When}
 use Rattle.xs_sheet.specs.declared.body.Fallbacks.{Fallbacks, Fallbacks', Row_of-Body, end_of-Body, more_of-Body}
@@ -11,11 +11,9 @@ use Rattle.xs_sheet.specs.declared.body.When.{When'}
 use Rattle.xs_sheet.specs.declared.declarations.AttrSet.{AttrSet}
 use Rattle.xs_sheet.specs.declared.declarations.Template.{Template}
 use Rattle.xs_sheet.specs.declared.sheet.Sheet.{Sheet}
-use Rattle.xs_trace.specs.Fill.{HolesAre}
 use Rattle.xs_trace.specs.Mark.{Tick, Put, Say, Stop, Need, Hole, Trace}
 use Rattle.xs_semantics.specs.World.{World, all_set_levels}
 use Rattle.xs_semantics.specs.Tasks.{Job, body_job, rules_job, Task}
-use Rattle.xs_semantics.specs.Trace.{task_trace}
 
 -- how many instructions in a body may leave tasks; captured content leaves none
 abbrev mutual
