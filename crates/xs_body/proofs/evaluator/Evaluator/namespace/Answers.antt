@@ -1,4 +1,4 @@
-use Rattle.std.proofs.Common.{Some, refl}
+use Rattle.std.proofs.Common.{ℕ, List, Option, Some, refl}
 use Rattle.std.proofs.lemmas.Result.{err_from_is_err_and}
 use Rattle.xs_trace.specs.Play.{Goes}
 use Rattle.xs_trace.proofs.GrowthLemmas.{goes-grows, passes}
@@ -7,5 +7,6 @@ use Rattle.xs_body.proofs.evaluator.Evaluator.namespace.Goals as goal
 pub returns-in_err-template-in-Some-clause-told : goal.returns-in_err-template-in-Some-clause-told
 returns-in_err-template-in-Some-clause-told g c =
     let p = err_from_is_err_and c.from_residual.result c.from_residual.ensures.1 in
-    passes (λ x. x) (λ x. x) _ _ (λ uri m. Goes (Some uri) m) (g.R.Tally.state c.template.new.tally) c.from_residual.result _ _ refl
+    passes {A = List ℕ} {B = Option (List ℕ)} {C = List ℕ} {D = Option (List ℕ)} (λ x. x) (λ x. x) _ _ (λ uri m. Goes (Some uri) m)
+    (g.R.Tally.state c.template.new.tally) c.from_residual.result _ _ refl
     (λ uri. goes-grows (Some uri)) p.1 p.2 c.in_err-template-in-Some.ensures.told
