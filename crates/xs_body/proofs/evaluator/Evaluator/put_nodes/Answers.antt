@@ -18,7 +18,7 @@ returns-in_err-put_events-clause-told g c =
     let others = c.in-Some.others.now in
     let s = g.R.Tally.state c.loop-node.recorder in
     let e : c.loop-node.left.now ≡ (n ∷ others) = search rules in
-    let q : c.as_slice.result.now ≡ deep_copy rs n = c.as_slice.ensures.value ∙ c.in_ok-events.ensures in
+    let q : c.as_slice.result.now ≡ deep_copy rs n = c.as_slice.ensures.value ∙ c.in_ok-events.ensures.copied in
     passes (λ x. x) (λ x. x) _ (events_steps site c.as_slice.result.now s) (λ u m. nodes_steps rs site others m)
     (g.R.Tally.state c.put_events.new.recorder) c.from_residual-in_err-put_events.result _ _
     (c.loop-node.invariant.0.0 ∙ ap (λ ns. nodes_steps rs site ns s) e
@@ -33,7 +33,7 @@ loop-node-preserved g c =
     let others = c.in-Some.others.now in
     let s = g.R.Tally.state c.loop-node.recorder in
     let e : c.loop-node.left.now ≡ (n ∷ others) = search rules in
-    let q : c.as_slice.result.now ≡ deep_copy rs n = c.as_slice.ensures.value ∙ c.in_ok-events.ensures in
+    let q : c.as_slice.result.now ≡ deep_copy rs n = c.as_slice.ensures.value ∙ c.in_ok-events.ensures.copied in
     let within : ℕ → Type 0 = λ m. m < length rs in (
       (
         c.loop-node.invariant.0.0 ∙ ap (λ ns. nodes_steps rs site ns s) e
