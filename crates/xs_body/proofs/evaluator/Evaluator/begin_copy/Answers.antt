@@ -16,7 +16,7 @@ returns-in_err-put_events-clause-told g c =
     let n = c.args.scope.focus.node in
     let s = g.R.Tally.state c.args.recorder.now in
     let t = copied_begun (at rs n).kind c.args.sets.now c.args.body.now c.args.scope c.args.self.now in
-    let q : c.as_slice.result.now ≡ shallow_copy rs n = c.as_slice.ensures.value ∙ c.in_ok-events.ensures.copied in
+    let q : c.as_slice.result.now ≡ shallow_copy rs n = c.as_slice.ensures.value ∙ c.in_ok-events.ensures.copied ∙ ap (shallow_copy rs) c.at.ensures in
     passes (λ x. x) _ _ (events_steps c.args.site c.as_slice.result.now s) (λ u m. Goes t m) (g.R.Tally.state c.put_events.new.recorder)
     c.from_residual-in_err-put_events.result _ _
     (ap (λ (es : List Event). and_then (events_steps c.args.site es s) (λ u m. Goes t m)) (sym q)) (λ u. goes-grows t) p.1 p.2
