@@ -30,6 +30,7 @@ pub text-told : (mode : ℕ) (p : Site) (f : Focus) (r : Record) (t v : Evaluati
 text-told mode p f r t v s m o a b e i =
     let text : Step Task Evaluation = stays (chars_steps p r.text s) t in
     let k : built_in_begun mode p f r t s ≡ text =
-    ap (λ (q : Bool). cond q (applied_begun mode no_params p f (children t.world.tree f.node) t s) (cond (is_text_kind r.kind || is_attribute_kind r.kind) text (Goes t s))) a
+    ap (λ (q : Bool). cond q (applied_begun mode no_params p f (children t.world.tree f.node) t s)
+    (cond (is_text_kind r.kind || is_attribute_kind r.kind) text (Goes t s))) a
     ∙ ap (λ (q : Bool). cond q text (Goes t s)) b in
     subst (λ (h : Step Task Evaluation). IsStepBy {A = Evaluation} {B = Unit {0}} (λ u. v) h o m) (sym k) (stays-told (chars_steps p r.text s) t v m o e i)

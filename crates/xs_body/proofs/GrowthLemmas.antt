@@ -44,7 +44,8 @@ use Rattle.xs_body.proofs.MakingLemmas.{copies-grow, events-grow, literal-grows,
 use Rattle.xs_semantics.specs.Trace.{calls_at}
 use Rattle.xs_body.specs.steps.Frames.{message_steps, message_ended, fragment_at, passing_left, work_steps, stack_steps, pushed, filled_up, stays}
 use Rattle.xs_body.specs.steps.Frames.{chars_steps, run_by, run_begun, applied_begun, built_in_begun, rule_begun, entry_begun}
-use Rattle.xs_body.specs.steps.Frames.{entering, call_begun, imports_begun, content_begun, passes_on, pass_begun, param_begun, fallbacks_begun, looping, loop_begun}
+use Rattle.xs_body.specs.steps.Frames.{entering, call_begun, imports_begun, content_begun, passes_on, pass_begun, param_begun}
+use Rattle.xs_body.specs.steps.Frames.{fallbacks_begun, looping, loop_begun}
 use Rattle.xs_body.specs.steps.Frames.{value_steps, begun}
 
 -- what is told, and then a value that tells nothing
