@@ -1,11 +1,15 @@
 -- Where a part ends a run, the step that begins with it ends it.
-use Rattle.std.proofs.Common.{◌≡◌, Result, Ok, Err, refl, sym, ap, ◌∙◌}
+use Rattle.std.proofs.Common.{◌≡◌, ◌||◌, ℕ, Bool, true, false, cond, Result, Ok, Err, refl, sym, subst, ap, ◌∙◌}
 use Rattle.xs_trace.specs.State.{State}
 use Rattle.xs_trace.specs.Play.{Step, Goes, Told, and_then, IsStep, IsStepBy}
+use Rattle.xs_trace.specs.declared.item.Site.{Site}
 use Rattle.xs_trace.specs.declared.recorder.Halt.{Halt}
 use Rattle.xs_trace.proofs.GrowthLemmas.{Grows, passes, then-exit, goes-grows}
-use Rattle.xs_semantics.specs.Tasks.{Task}
-use Rattle.xs_body.specs.steps.Frames.{Evaluation, stays}
+use Rattle.xs_tree.specs.Kinds.{has_content, is_attribute_kind, is_text_kind}
+use Rattle.xs_tree.specs.Record.{Record, children}
+use Rattle.xs_semantics.specs.declared.focus.Focus.{Focus}
+use Rattle.xs_semantics.specs.Tasks.{Task, no_params}
+use Rattle.xs_body.specs.steps.Frames.{Evaluation, applied_begun, built_in_begun, chars_steps, stays}
 
 -- what follows is a step of the evaluation
 pub stack-exit : {A C : Type 0} (view : C → A) (g : Step Task A) (f : A → State Task → Step Task Evaluation) (v : Evaluation) (m : State Task)
@@ -18,3 +22,15 @@ pub stays-told : (g : Told Task) (t v : Evaluation) (m : State Task) (r : Result
     IsStepBy {A = Evaluation} {B = Unit {0}} (λ u. v) (stays g t) r m
 stays-told g t v m (Ok u) e i = ap (λ j. and_then j (λ q n. Goes t n)) i ∙ ap (λ (x : Evaluation). Goes x m) (sym e)
 stays-told g t v m (Err h) e i = then-exit (λ (x : Unit {0}). x) (λ (x : Unit {0}). v) g (λ q n. Goes t n) h m (λ q. goes-grows t) i
+
+-- the built-in rule of a text or an attribute
+pub text-told : (mode : ℕ) (p : Site) (f : Focus) (r : Record) (t v : Evaluation) (s m : State Task) (o : Result (Unit {0}) Halt) → has_content r.kind ≡ false →
+    (is_text_kind r.kind || is_attribute_kind r.kind) ≡ true → v ≡ t → IsStep (chars_steps p r.text s) o m →
+    IsStepBy {A = Evaluation} {B = Unit {0}} (λ u. v) (built_in_begun mode p f r t s) o m
+text-told mode p f r t v s m o a b e i =
+    let text : Step Task Evaluation = stays (chars_steps p r.text s) t in
+    let k : built_in_begun mode p f r t s ≡ text =
+    ap (λ (q : Bool). cond q (applied_begun mode no_params p f (children t.world.tree f.node) t s)
+    (cond (is_text_kind r.kind || is_attribute_kind r.kind) text (Goes t s))) a
+    ∙ ap (λ (q : Bool). cond q text (Goes t s)) b in
+    subst (λ (h : Step Task Evaluation). IsStepBy {A = Evaluation} {B = Unit {0}} (λ u. v) h o m) (sym k) (stays-told (chars_steps p r.text s) t v m o e i)

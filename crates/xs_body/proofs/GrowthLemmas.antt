@@ -44,7 +44,8 @@ use Rattle.xs_body.proofs.MakingLemmas.{copies-grow, events-grow, literal-grows,
 use Rattle.xs_semantics.specs.Trace.{calls_at}
 use Rattle.xs_body.specs.steps.Frames.{message_steps, message_ended, fragment_at, passing_left, work_steps, stack_steps, pushed, filled_up, stays}
 use Rattle.xs_body.specs.steps.Frames.{chars_steps, run_by, run_begun, applied_begun, built_in_begun, rule_begun, entry_begun}
-use Rattle.xs_body.specs.steps.Frames.{entering, call_begun, imports_begun, content_begun, passes_on, pass_begun, param_begun, fallbacks_begun, looping, loop_begun}
+use Rattle.xs_body.specs.steps.Frames.{entering, call_begun, imports_begun, content_begun, passes_on, pass_begun, param_begun}
+use Rattle.xs_body.specs.steps.Frames.{fallbacks_begun, looping, loop_begun}
 use Rattle.xs_body.specs.steps.Frames.{value_steps, begun}
 
 -- what is told, and then a value that tells nothing
@@ -140,7 +141,8 @@ passes-grow (b ∷ left) all us callee p c t = goes-grows _
 pub pass-grows : (content : Content) (left all : List Binding) (us : List Value) (callee : Called) (p : Site) (c : Scope) (t : Evaluation) →
     Grows (pass_begun content left all us callee p c t)
 pass-grows Empty left all us callee p c t = passes-grow left all (us ++ String [] ∷ []) callee p c t
-pass-grows (Select e) left all us callee p c t s = grows-then s (limited p (value_run t.world e c.focus (last c.seen t.slots)) s)
+pass-grows (Select e) left all us callee p c t = λ s.
+    grows-then s (limited p (value_run t.world e c.focus (last c.seen t.slots)) s)
     (λ v m. passes_on left all (us ++ v ∷ []) callee p c t m) (limited-grows p _ s) (λ v. passes-grow left all (us ++ v ∷ []) callee p c t)
 pass-grows (Fragment body) left all us callee p c t = opened-grows _
 
@@ -168,7 +170,8 @@ copy-grows select p c t s =
     (copies-grow t.world.tree p)
 
 pub begun-grows : (kind : InstrKind) (p : Site) (c : Scope) (t : Evaluation) → Grows (begun kind p c t)
-begun-grows (ApplyTemplates nodes passed) p c t s = grows-then s (limited p (nodes_or_children t.world nodes.select c.focus (last c.seen t.slots)) s)
+begun-grows (ApplyTemplates nodes passed) p c t = λ s.
+    grows-then s (limited p (nodes_or_children t.world nodes.select c.focus (last c.seen t.slots)) s)
     (λ ns m. passes_on (bindings_of passed) (bindings_of passed) [] (by_rules nodes.mode ns) p c t m) (limited-grows p _ s)
     (λ ns. passes-grow (bindings_of passed) (bindings_of passed) [] (by_rules nodes.mode ns) p c t)
 begun-grows (CallTemplate i passed) p c t = passes-grow (bindings_of passed) (bindings_of passed) [] (by_number i) p c t

@@ -1,5 +1,6 @@
 -- What is put and made step by step is what is told of it.
-use Rattle.std.proofs.Common.{◌≡◌, ℕ, ◌==◌, length, List, [], ◌∷◌, ◌++◌, Option, Some, None, Bool, true, false, cond, Result, Ok, Err, refl, sym, ap, ◌∙◌, arith}
+use Rattle.std.proofs.Common.{◌≡◌, ℕ, ◌==◌, length, List, [], ◌∷◌, ◌++◌, Option, Some, None, Bool, true, false, cond, Result, Ok, Err}
+use Rattle.std.proofs.Common.{refl, sym, ap, ◌∙◌, arith}
 use Rattle.std.proofs.lemmas.Bool.Decides.{nat_tests}
 use Rattle.xs_sheet.specs.declared.body.LiteralStart.{LiteralStart}
 use Rattle.xs_sheet.specs.declared.body.MadeName.{MadeName}
@@ -192,14 +193,14 @@ events-grow p [] s = goes-grows tt s
 events-grow p (e ∷ es) s = grows-then s (put_at p e s) (λ u m. events_steps p es m) (put_at-grows p e s) (λ u. events-grow p es)
 
 pub space-grows : {H : Type 0} → (p : Site) (prefix uri : List ℕ) → Grows {H = H} (space_steps p prefix uri)
-space-grows p prefix uri = by_test (is_unbound uri)
+space-grows {H = H} p prefix uri = by_test (is_unbound uri)
   where
     by_test : (b : Bool) → Grows {H = H} {A = Unit {0}} (λ s. cond b (goes s) (put_at p (event.Space prefix uri) s))
     by_test true s = goes-grows tt s
     by_test false s = put_at-grows p (event.Space prefix uri) s
 
 pub named-grows : {H : Type 0} → (p : Site) (name : Label) (value : List ℕ) → Grows {H = H} (named_steps p name value)
-named-grows p name value = by_test (is_declaration name)
+named-grows {H = H} p name value = by_test (is_declaration name)
   where
     by_test : (b : Bool) → Grows {H = H} {A = Unit {0}} (λ s. cond b (goes s) (put_at p (event.Attr name value) s))
     by_test true s = goes-grows tt s
@@ -231,7 +232,7 @@ nodes-grow rs p (n ∷ ns) s =
     grows-then s (events_steps p (deep_copy rs n) s) (λ u m. nodes_steps rs p ns m) (events-grow p (deep_copy rs n) s) (λ u. nodes-grow rs p ns)
 
 pub text-grows : {H : Type 0} → (p : Site) (t : List ℕ) → Grows {H = H} (chars_steps p t)
-text-grows p t = by_test (length t == 0)
+text-grows {H = H} p t = by_test (length t == 0)
   where
     by_test : (b : Bool) → Grows {H = H} {A = Unit {0}} (λ s. cond b (goes s) (put_at p (Chars t) s))
     by_test true s = goes-grows tt s

@@ -14,7 +14,8 @@ use Rattle.xs_value.specs.declared.value.Value.{Value}
 use Rattle.xs_semantics.specs.declared.focus.Focus.{Focus}
 use Rattle.xs_semantics.specs.World.{World}
 use Rattle.xs_semantics.specs.Tasks.{Params, Task}
-use Rattle.xs_semantics.specs.Trace.{Calls, instr_trace, body_trace, row_trace, content_trace, passing, values_trace, fallbacks_trace, unless_none, bodies_trace}
+use Rattle.xs_semantics.specs.Trace.{Calls, instr_trace, body_trace, row_trace, content_trace, passing, values_trace, fallbacks_trace}
+use Rattle.xs_semantics.specs.Trace.{unless_none, bodies_trace}
 use Rattle.xs_semantics.specs.Trace.{instrs_trace}
 use Rattle.xs_body.specs.steps.Frames.{instrs_of, bindings_of, bodies_of, bindings_trace, all_bodies}
 

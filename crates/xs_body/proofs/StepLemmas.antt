@@ -141,7 +141,8 @@ alone : (x : Trace Task) (g : Told Task) (t : Evaluation) (s : State Task) → g
 alone x g t s e = ap (λ j. and_then j (λ u m. Go t m)) (sym e) ∙ sym (then-then g (λ u m. Goes t m) Go)
 
 -- two traces, the second of which a work tells
-twice : (x y : Trace Task) (vs : List Value) (b : Work) (t : Evaluation) (s : State Task) → ((m : State Task) → work_steps t.world b t.slots m ≡ filled y vs m) →
+twice : (x y : Trace Task) (vs : List Value) (b : Work) (t : Evaluation) (s : State Task) →
+    ((m : State Task) → work_steps t.world b t.slots m ≡ filled y vs m) →
     Then (x ⨾ y) (slots_are vs t) s ≡ Then x (pushed (b ∷ []) t) s
 twice x y vs b t s e =
     ap (λ g. and_then g (λ u m. Go (slots_are vs t) m)) (play-then x y s)
@@ -157,7 +158,8 @@ followed x y t v s e =
     ∙ then-same (play x s) (λ u m. Then y t m) (λ u m. Go v m) (λ u m. e m)
 
 -- a tick, and what it begins
-ticks : (p : Site) (x : Trace Task) (v t : Evaluation) (h : State Task → Step Task Evaluation) (s : State Task) → ((m : State Task) → Then x v m ≡ and_then (h m) Go) →
+ticks : (p : Site) (x : Trace Task) (v t : Evaluation) (h : State Task → Step Task Evaluation) (s : State Task) →
+    ((m : State Task) → Then x v m ≡ and_then (h m) Go) →
     Then (Tick p ∷ x) v s ≡ and_then (and_then (ticked p s) (λ u m. h m)) Go
 ticks p x v t h s e = before (ticked p s) (λ m. play x m) (λ u m. Go v m) h Go e
 
@@ -229,7 +231,8 @@ template-begins : (o : Option Template) (ps : Params) (f : Focus) (t : Evaluatio
     Then (template_trace o ps t.world (calls_at t.world f) f) t s ≡ Go (template_begun o ps f t) s
 template-begins None ps f t s = refl
 template-begins (Some template) ps f t s =
-    let x : List Value → Trace Task = λ vs. params_trace template.params ps t.world (calls_at t.world f) f vs (body_trace template.body t.world (calls_at t.world f) f) in
+    let x : List Value → Trace Task = λ vs. params_trace template.params ps t.world (calls_at t.world f) f vs
+    (body_trace template.body t.world (calls_at t.world f) f) in
     ap (λ vs. Then (x vs) t s) (sym (last-none t.slots))
     ∙ ap (λ vs. Then (x (last 0 t.slots)) (slots_are vs t) s) (sym (without-none t.slots))
     ∙ behind (x (last 0 t.slots)) (without 0 t.slots) t s
@@ -488,7 +491,8 @@ begins-so (ApplyTemplates nodes passed) p is c t s =
     (λ ns m. passes_on (bindings_of passed) (bindings_of passed) [] (by_rules nodes.mode ns) p c u m) s (λ ns m.
     passing-begins passed (by_rules nodes.mode ns) p c u m)
 begins-so (CallTemplate i passed) p is c t s =
-    joined (passing passed p t.world (calls_at t.world c.focus) c.focus (last c.seen t.slots) (λ ps. called_with t.world (calls_at t.world c.focus) (by_number i) ps p c.focus)) is
+    joined (passing passed p t.world (calls_at t.world c.focus) c.focus (last c.seen t.slots)
+    (λ ps. called_with t.world (calls_at t.world c.focus) (by_number i) ps p c.focus)) is
     c t s
     ∙ passing-begins passed (by_number i) p c (pushed (rest is (more 0 c) ∷ []) t) s
 begins-so ApplyImports p is c t s =
@@ -499,7 +503,8 @@ begins-so (ForEach select sorts body) p is c t s =
     let f : List ℕ → Focus = λ ns. in_list (length ns) (without_rule c.focus) in
     let h : List ℕ → Trace Task = λ ns. spread t.world (body_job body vs) p (λ g. body_trace body t.world (calls_at t.world c.focus) g vs) (f ns) ns in
     joined (evaluated p (nodes_run t.world select c.focus vs) h) is c t s
-    ∙ brings p (nodes_run t.world select c.focus vs) h u (λ ns m. run_begun (body_job body vs) p (f ns) ns (each_left body p (over (f ns) c) 1 ns) u m) s (λ ns m.
+    ∙ brings p (nodes_run t.world select c.focus vs) h u
+    (λ ns m. run_begun (body_job body vs) p (f ns) ns (each_left body p (over (f ns) c) 1 ns) u m) s (λ ns m.
     runs (body_job body vs) p (λ g. body_trace body t.world (calls_at t.world c.focus) g vs) (f ns) ns (each_left body p (over (f ns) c) 1 ns) u m (λ n. refl))
 begins-so (ValueOf select) p is c t s =
     let u : Evaluation = pushed (rest is (more 0 c) ∷ []) t in
@@ -583,7 +588,8 @@ begins-so (Message terminate body) p is c t s =
     ap (λ g. and_then g (λ v n. Go u n)) (sym (message-told p terminate (fragment_text (top m.captures)) (popped m)))
     ∙ sym (then-then (message_ended p terminate m) (λ v n. Goes u.slots n) (λ us n. stack_steps t.world u.works us n)))
 begins-so (Variable' site name content) p is c t s =
-    content-begins content p c (λ x. instrs_trace is t.world (calls_at t.world c.focus) c.focus (last c.seen t.slots ++ x ∷ [])) (slots_are (without c.own t.slots) t)
+    content-begins content p c (λ x. instrs_trace is t.world (calls_at t.world c.focus) c.focus (last c.seen t.slots ++ x ∷ []))
+    (slots_are (without c.own t.slots) t)
     (pushed (rest is (bound c) ∷ []) t) s (λ x m.
     binds (instrs_trace is t.world (calls_at t.world c.focus) c.focus) c t x m)
 begins-so (Literal start body) p is c t s =
@@ -613,7 +619,8 @@ pub advances : (b : Work) (t : Evaluation) → IsSetIndex t.world.sheet.sets t.w
     Go (pushed (b ∷ []) t) s ≡ and_then (advanced b t s) Go
 advances (rest [] c) t index s = refl
 advances (rest (i ∷ is) c) t index s =
-    let x : Trace Task = instr_trace i.kind i.site t.world (calls_at t.world c.focus) c.focus (last c.seen t.slots) (instrs_trace is t.world (calls_at t.world c.focus) c.focus) in
+    let x : Trace Task = instr_trace i.kind i.site t.world (calls_at t.world c.focus) c.focus (last c.seen t.slots)
+    (instrs_trace is t.world (calls_at t.world c.focus) c.focus) in
     sym (behind (Tick i.site ∷ x) (without c.own t.slots) t s)
     ∙ ticks i.site x (slots_are (without c.own t.slots) t) (pushed (rest is (after i.kind c) ∷ []) t)
     (λ m. begun i.kind i.site c (pushed (rest is (after i.kind c) ∷ []) t) m) s (begins-so i.kind i.site is c t)
@@ -679,7 +686,8 @@ advances (params_left [] ps body c) t index s =
 advances (params_left (b ∷ bs) ps body c) t index s =
     let v : Evaluation = slots_are (without c.own t.slots) t in
     let u : Evaluation = pushed (params_first bs ps body (bound c) ∷ []) t in
-    let x : List Value → Trace Task = λ vs. params_trace bs ps t.world (calls_at t.world c.focus) c.focus vs (body_trace body t.world (calls_at t.world c.focus) c.focus) in
+    let x : List Value → Trace Task = λ vs. params_trace bs ps t.world (calls_at t.world c.focus) c.focus vs
+    (body_trace body t.world (calls_at t.world c.focus) c.focus) in
     let next : Value → Trace Task = λ y. x (last c.seen t.slots ++ y ∷ []) in
     let first : Trace Task = param_trace (value_passed b.name ps) b.content b.site t.world (calls_at t.world c.focus) c.focus (last c.seen t.slots) next in
     sym (behind (Tick b.site ∷ first) (without c.own t.slots) t s)

@@ -1,5 +1,5 @@
 -- No step changes what an evaluation is over.
-use Rattle.std.proofs.Common.{◌≡◌, ◌-◌, ◌==◌, ◌||◌, ℕ, List, [], ◌∷◌, ◌++◌, length, map, Option, Some, None, Bool, true, false, cond, refl, subst, slice_get}
+use Rattle.std.proofs.Common.{◌≡◌, ◌+◌, ◌-◌, ◌==◌, ◌||◌, ℕ, List, [], ◌∷◌, ◌++◌, length, map, Option, Some, None, Bool, true, false, cond, refl, subst, slice_get}
 use Rattle.xs_sheet.specs.declared.body.Binding.{Binding}
 use Rattle.xs_sheet.specs.declared.body.Body.{Body}
 use Rattle.xs_sheet.specs.declared.body.Content.{Content}
@@ -27,7 +27,7 @@ use Rattle.xs_value.specs.declared.value.Value.TheVariants.{Chars as String}
 use Rattle.xs_sets.specs.Indexed.{declarations_in}
 use Rattle.xs_semantics.specs.declared.focus.Focus.{Focus}
 use Rattle.xs_semantics.specs.declared.made.Made.TheVariants as made
-use Rattle.xs_semantics.specs.World.{World, in_list, by_rule, value_run, nodes_run, test_run, nodes_or_children}
+use Rattle.xs_semantics.specs.World.{World, at_node, in_list, by_rule, value_run, nodes_run, test_run, nodes_or_children}
 use Rattle.xs_semantics.specs.Tasks.{Params, no_params, value_passed, Job, body_job, rules_job, Task, tasks_for, grain_over}
 use Rattle.xs_semantics.specs.Rules.{rule_for, import_for}
 use Rattle.xs_semantics.specs.Trace.{Entry, named, fitting, overridden, using, Called, by_number, by_rules}
@@ -211,7 +211,9 @@ advanced-keeps fill t s = refl
 advanced-keeps (each_left body p c i []) t s = refl
 advanced-keeps (each_left body p c i (n ∷ ns)) t s = then-keeps t.world (ticked p s) _ (λ q m. refl)
 advanced-keeps (apply_left mode ps p f i []) t s = refl
-advanced-keeps (apply_left mode ps p f i (n ∷ ns)) t s = then-keeps t.world (ticked p s) _ (λ q m. entering-keeps (fitting mode ps) p _ _ m)
+advanced-keeps (apply_left mode ps p f i (n ∷ ns)) t s =
+    let u : Evaluation = pushed (apply_left mode ps p f (i + 1) ns ∷ []) t in
+    then-keeps t.world (ticked p s) (λ q m. entering (fitting mode ps) p (at_node n i f) u m) (λ q m. entering-keeps (fitting mode ps) p (at_node n i f) u m)
 advanced-keeps (bodies_left bodies c) t s = bodies-keep bodies c t
 advanced-keeps end_element t s = stays-keeps (put End s) t
 advanced-keeps (sets_left names f) t s = sets-keep names f t

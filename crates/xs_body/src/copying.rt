@@ -71,6 +71,7 @@ impl<'a, K: KeyFinder> Evaluator<'a, K> {
         site: Site,
         recorder: &mut R,
     ) -> Result<(), Halt>
+        requires value { IsIn self.now.world.tree value.now }
         ensures told { IsStep (chars_steps site (text_value self.now.world.tree value.now)
             (R.state recorder.old)) result (R.state recorder.new) }
         ensures kept { R.kept recorder.new ≡ R.kept recorder.old }

@@ -1,4 +1,4 @@
-use Rattle.std.proofs.Common.{ap, refl, rules, subst, sym}
+use Rattle.std.proofs.Common.{◌≡◌, ap, refl, rules, subst, sym, true}
 use Rattle.std.specs.Option.{IsSome}
 use Rattle.xs_semantics.specs.World.{World}
 use Rattle.xs_body.specs.steps.Frames.{Evaluation}
@@ -16,7 +16,7 @@ returns-in_err-open_capture-clause-told g c =
 pub finish-requires-sync-K : goal.finish-requires-sync-K
 finish-requires-sync-K g c κs within =
     let w = ap (λ (t : Evaluation). t.world) c.in_ok-evaluator.ensures.begun in
-    (search rules, ((refl, tt), subst (λ (v : World). IsSome v.grain → _) (sym w) c.requires.holes))
+    (search rules, ((refl, tt), subst (λ (v : World). IsSome v.grain → g.R.Recorder.takes_holes ≡ true) (sym w) c.requires.holes))
 
 pub returns-in_err-finish-clause-told : goal.returns-in_err-finish-clause-told
 returns-in_err-finish-clause-told g c =

@@ -1,4 +1,4 @@
-use Rattle.std.proofs.Common.{◌<◌, length, refl, sym, ap, subst, rules}
+use Rattle.std.proofs.Common.{◌≡◌, ◌<◌, length, refl, sym, ap, subst, rules, true}
 use Rattle.std.specs.Option.{IsSome}
 use Rattle.std.proofs.lemmas.List.Elements.{All-same}
 use Rattle.xs_value.specs.Conversion.{IsIn}
@@ -39,7 +39,8 @@ enter_fitting-requires-sync-K g c κs within =
       search rules,
       (
         (refl, tt),
-        subst (λ (v : World). (IsSome v.grain → _) × ((c.at_node-focus.result.node < length v.tree) × AreValues v.tree c.in_ok-rules.rules.passed.values))
+        subst (λ (v : World). (IsSome v.grain → g.R.Recorder.takes_holes ≡ true)
+            × ((c.at_node-focus.result.node < length v.tree) × AreValues v.tree c.in_ok-rules.rules.passed.values))
             (sym w)
             (c.requires.holes, (here, values)),
       ),

@@ -1,8 +1,11 @@
-use Rattle.std.proofs.Common.{ℕ, List, refl, sym, subst}
+use Rattle.std.proofs.Common.{ℕ, List, false, refl, sym, subst}
+use Rattle.std.proofs.lemmas.Result.{err_from_is_err_and}
 use Rattle.xs_sheet.specs.declared.body.InstrKind.{InstrKind}
 use Rattle.xs_trace.specs.Play.{IsStep, IsStepBy}
-use Rattle.xs_body.specs.steps.Frames.{Evaluation, begun, chars_steps, copy_of_steps, value_steps}
-use Rattle.xs_body.proofs.ExitLemmas.{stays-told}
+use Rattle.xs_body.specs.steps.Frames.{Evaluation, begun, chars_steps, copy_of_steps, element_put, last, value_steps}
+use Rattle.xs_body.specs.steps.Making.{name_steps}
+use Rattle.xs_body.proofs.ExitLemmas.{stack-exit, stays-told}
+use Rattle.xs_body.proofs.GrowthLemmas.{element-grows}
 use Rattle.xs_body.proofs.evaluator.Evaluator.begin.Goals as goal
 
 pub returns-in-ValueOf-clause-told : goal.returns-in-ValueOf-clause-told
@@ -30,3 +33,16 @@ returns-in-CopyOf-clause-told g c =
     subst (λ (k : InstrKind). IsStepBy {A = Evaluation} {B = Unit {0}} (λ u. t) (begun k c.args.site c.args.scope t s) c.put_copy.result
     (g.R.Tally.state c.put_copy.new.recorder)) (sym c.in-CopyOf.is)
     (stays-told (copy_of_steps c.in-CopyOf.select c.args.site c.args.scope t s) t t _ c.put_copy.result refl c.put_copy.ensures.told)
+
+pub returns-in_err-name-in-Element-clause-told : goal.returns-in_err-name-in-Element-clause-told
+returns-in_err-name-in-Element-clause-told g c =
+    let p = err_from_is_err_and c.from_residual-in_err-name-in-Element.result c.from_residual-in_err-name-in-Element.ensures.1 in
+    let t : Evaluation = c.args.self.now in
+    let s = g.R.Tally.state c.args.recorder.now in
+    let sets = c.in-Element.sets in
+    let body = c.in-Element.body in
+    subst (λ (k : InstrKind). IsStepBy {A = Evaluation} {B = Unit {0}} (λ u. t) (begun k c.args.site c.args.scope t s)
+    c.from_residual-in_err-name-in-Element.result (g.R.Tally.state c.made_name.new.recorder)) (sym c.in-Element.is)
+    (stack-exit (λ x. x) (name_steps t.world c.args.site c.args.scope.focus (last c.args.scope.seen t.slots) false c.in-Element.name s)
+    (λ label m. element_put label sets body c.args.scope t m) t _ c.from_residual-in_err-name-in-Element.result _ _
+    (λ label. element-grows label sets body c.args.scope t) p.1 p.2 c.in_err-name-in-Element.ensures.told)

@@ -1,4 +1,4 @@
-use Rattle.std.proofs.Common.{◌<◌, length, refl, sym, ap, subst, rules}
+use Rattle.std.proofs.Common.{◌≡◌, ◌<◌, length, refl, sym, ap, subst, rules, true}
 use Rattle.std.specs.Option.{IsSome}
 use Rattle.xs_semantics.specs.World.{World}
 use Rattle.xs_body.specs.steps.Frames.{Evaluation}
@@ -24,7 +24,7 @@ begin-requires-sync-K g c κs within =
       search rules,
       (
         (refl, tt),
-        subst (λ (v : World). (IsSome v.grain → _) × (c.args.scope.focus.node < length v.tree)) (sym w)
+        subst (λ (v : World). (IsSome v.grain → g.R.Recorder.takes_holes ≡ true) × (c.args.scope.focus.node < length v.tree)) (sym w)
             (c.requires.holes, c.requires.node),
       ),
     )

@@ -16,7 +16,8 @@ call_template-requires-sync-K g c κs within =
 pub apply-requires-sync-K : goal.apply-requires-sync-K
 apply-requires-sync-K g c κs within =
     let rs = c.args.self.now.world.tree in
-    let e : c.in_ok-passed.passed.values ≡ c.args.passing.values.items = ap (λ (ps : Params). ps.values) (c.in_ok-passed.ensures ∙ c.of-passed.ensures) in
-    let values = All-same (IsIn rs) c.in_ok-passed.passed.values c.args.passing.values.items e c.requires.passing.values in
+    let e : c.in_ok-passed-in-Rules.passed.values ≡ c.args.passing.values.items =
+    ap (λ (ps : Params). ps.values) (c.in_ok-passed-in-Rules.ensures ∙ c.of-passed.ensures) in
+    let values = All-same (IsIn rs) c.in_ok-passed-in-Rules.passed.values c.args.passing.values.items e c.requires.passing.values in
     let nodes = subst (λ (x : Callee). AreCallees rs x) c.in-Rules.is c.requires.passing.callee in
     (search rules, ((refl, tt), (c.requires.holes, (nodes, values))))

@@ -1,4 +1,4 @@
-use Rattle.std.proofs.Common.{refl, sym, ap, ◌∙◌, subst, rules}
+use Rattle.std.proofs.Common.{◌≡◌, refl, sym, ap, ◌∙◌, subst, rules, true}
 use Rattle.std.proofs.lemmas.Result.{err_from_is_err_and}
 use Rattle.std.specs.Option.{IsSome}
 use Rattle.xs_semantics.specs.World.{World}
@@ -10,7 +10,7 @@ use Rattle.xs_body.proofs.evaluator.Evaluator.finish.Goals as goal
 pub advance-requires-sync-K : goal.advance-requires-sync-K
 advance-requires-sync-K g c κs within =
     let w = sym (ap (λ (t : Evaluation). t.world) c.in-Some.ensures.popped) ∙ c.loop-turn.invariant.0 in
-    (search rules, ((refl, tt), (subst (λ (v : World). IsSome v.grain → _) (sym w) c.requires.holes, c.in-Some.ensures.first)))
+    (search rules, ((refl, tt), (subst (λ (v : World). IsSome v.grain → g.R.Recorder.takes_holes ≡ true) (sym w) c.requires.holes, c.in-Some.ensures.first)))
 
 pub returns-in_err-advance-in-Some-clause-told : goal.returns-in_err-advance-in-Some-clause-told
 returns-in_err-advance-in-Some-clause-told g c =

@@ -1,4 +1,4 @@
-use Rattle.std.proofs.Common.{refl}
+use Rattle.std.proofs.Common.{ap, refl}
 use Rattle.std.proofs.lemmas.Result.{err_from_is_err_and}
 use Rattle.xs_trace.specs.Play.{and_then}
 use Rattle.xs_trace.proofs.GrowthLemmas.{grows-then, passes}
@@ -19,6 +19,23 @@ returns-in_err-text-clause-told g c =
     let b = c.args.is_attribute in
     passes (λ x. x) (λ x. x) _ _
     (λ text m. and_then (namespace_steps w site f vs name.namespace m) (λ uri n. outcome_steps site (result_name name.scope b uri text) n))
-    (g.R.Tally.state c.text.new.tally) c.from_residual.result _ _ refl
+    (g.R.Tally.state c.template.new.tally) c.from_residual.result _ _ refl
     (λ text m. grows-then m (namespace_steps w site f vs name.namespace m) (λ uri n. outcome_steps site (result_name name.scope b uri text) n)
     (namespace-grows w site f vs name.namespace m) (λ uri. outcome-grows site (result_name name.scope b uri text))) p.1 p.2 c.in_err-text.ensures.told
+
+pub returns-in_err-uri-clause-told : goal.returns-in_err-uri-clause-told
+returns-in_err-uri-clause-told g c =
+    let p = err_from_is_err_and c.from_residual-in_err-uri.result c.from_residual-in_err-uri.ensures.1 in
+    let w = c.args.self.now.world in
+    let f = c.args.scope.focus in
+    let vs = last c.args.scope.seen c.args.self.now.slots in
+    let name = c.args.name.now in
+    let site = c.args.site in
+    let b = c.args.is_attribute in
+    let text = c.in_ok-text.text in
+    passes (λ x. x) (λ x. x) _ (namespace_steps w site f vs name.namespace (g.R.Tally.state c.template.new.tally))
+    (λ uri n. outcome_steps site (result_name name.scope b uri text) n) (g.R.Tally.state c.namespace.new.recorder)
+    c.from_residual-in_err-uri.result _ _
+    (ap (λ h. and_then h (λ t m. and_then (namespace_steps w site f vs name.namespace m) (λ uri n. outcome_steps site (result_name name.scope b uri t) n)))
+    c.in_ok-text.ensures.told)
+    (λ uri. outcome-grows site (result_name name.scope b uri text)) p.1 p.2 c.in_err-uri.ensures.told

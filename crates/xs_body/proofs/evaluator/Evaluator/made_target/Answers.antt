@@ -9,5 +9,5 @@ use Rattle.xs_body.proofs.evaluator.Evaluator.made_target.Goals as goal
 pub returns-in_err-text-clause-told : goal.returns-in_err-text-clause-told
 returns-in_err-text-clause-told g c =
     let p = err_from_is_err_and c.from_residual.result c.from_residual.ensures.1 in
-    passes (λ x. x) (λ x. x) _ _ (λ text m. outcome_steps c.args.site (pi_target text) m) (g.R.Tally.state c.text.new.tally) c.from_residual.result _ _ refl
+    passes (λ x. x) (λ x. x) _ _ (λ text m. outcome_steps c.args.site (pi_target text) m) (g.R.Tally.state c.template.new.tally) c.from_residual.result _ _ refl
     (λ text. outcome-grows c.args.site (pi_target text)) p.1 p.2 c.in_err-text.ensures.told

@@ -10,5 +10,5 @@ pub returns-in_err-value-clause-told : goal.returns-in_err-value-clause-told
 returns-in_err-value-clause-told g c =
     let p = err_from_is_err_and c.from_residual.result c.from_residual.ensures.1 in
     let name = attribute_label c.args.self.now.world.sheet.aliases c.args.attribute.now.0 in
-    passes (λ x. x) (λ x. x) _ _ (λ text m. named_steps c.args.site name text m) (g.R.Tally.state c.value.new.tally) c.from_residual.result _ _ refl
+    passes (λ x. x) (λ x. x) _ _ (λ text m. named_steps c.args.site name text m) (g.R.Tally.state c.template.new.tally) c.from_residual.result _ _ refl
     (λ text. named-grows c.args.site name text) p.1 p.2 c.in_err-value.ensures.told

@@ -1,0 +1,12 @@
+use Rattle.std.proofs.Common.{◌++◌, ◌∷◌, [], refl, rules}
+use Rattle.std.proofs.lemmas.List.Elements.{All-push, All-same}
+use Rattle.xs_value.specs.Conversion.{IsIn}
+use Rattle.xs_body.proofs.evaluator.Evaluator.push_value.Goals as goal
+
+pub pass_on-requires-sync-K : goal.pass_on-requires-sync-K
+pass_on-requires-sync-K g c κs within =
+    let rs = c.args.self.now.world.tree in
+    let old = c.args.passing.values.items in
+    let values = All-same (IsIn rs) c.push.new.self.items (old ++ c.args.value ∷ []) c.in_ok-push.ensures.items
+    (All-push (IsIn rs) old c.args.value c.requires.passing.values c.requires.value) in
+    (search rules, ((refl, tt), (c.requires.holes, record { node = c.requires.passing.node; values = values; callee = c.requires.passing.callee })))
