@@ -65,8 +65,11 @@ static void add_instruction(struct converter *to, unsigned long number, struct t
         refuse(&to->refusal, number, BAD_NAME, target);
         return;
     }
-    bool is_bad = has_pair(text, '?', '>') || memchr(text.bytes, '\r', text.length)
-               || (text.length > 0 && is_blank((struct text){text.bytes, 1}));
+    while (text.length > 0 && memchr(" \t\n", text.bytes[0], 3)) { // it would separate the target
+        text.bytes++;
+        text.length--;
+    }
+    bool is_bad = has_pair(text, '?', '>') || memchr(text.bytes, '\r', text.length);
     if (is_bad || !is_allowed(text)) {
         refuse_line(&to->refusal, number, is_bad ? BAD_INSTRUCTION : NO_CHARACTER);
         return;

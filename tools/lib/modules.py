@@ -73,7 +73,7 @@ class Reader(xml2pyx.Converter):
         super().__init__(out, drop_doctype, array("Q"))
         self.rename = rename
         self.root = self.inner = None
-        self.parts = []  # in their order: ("import" or "include", name, element), ("output", method, element)
+        self.parts = []  # in their order: ("import" or "include", name, element), ("output", attributes, element)
 
     def start(self, name, attributes):
         pairs = list(zip(attributes[::2], attributes[1::2]))
@@ -89,12 +89,12 @@ class Reader(xml2pyx.Converter):
         is_top = element.parent is not None and element.parent is self.root
         if not is_top or not self.root.is_a("stylesheet", "transform") or not element.is_xslt:
             return attributes
-        wanted = {"import": "href", "include": "href", "output": "method"}.get(element.local)
+        if element.local == "output":
+            self.parts.append(("output", dict(element.attributes), element))
         for at in range(0, len(attributes), 2):
-            if attributes[at] == wanted:
+            if element.local in ("import", "include") and attributes[at] == "href":
                 self.parts.append((element.local, attributes[at + 1], element))
-                if wanted == "href":
-                    attributes[at + 1] = self.rename(attributes[at + 1])
+                attributes[at + 1] = self.rename(attributes[at + 1])
         return attributes
 
     def text(self, text):
@@ -206,28 +206,27 @@ class Folder:
                     return module, element
         return None, None
 
-    def method(self, xml, above=()):
-        """The output method of a stylesheet: that of its own last word, or else of its imports'."""
-        own, imports = self.methods_of(xml, above)
-        if own:
-            return own[-1]
-        for other, inside in reversed(imports):
-            found = self.method(other, inside)
-            if found:
-                return found
-        return None
+    def output(self, xml, above=()):
+        """What the outputs of a stylesheet say of the result, by attribute: its own last word, or else its imports' (XSLT 1.0, 16)."""
+        own, imports = self.outputs_of(xml, above)
+        said = {}
+        for other, inside in imports:
+            said.update(self.output(other, inside))
+        for attributes in own:
+            said.update(attributes)
+        return said
 
-    def methods_of(self, xml, above):
-        """The methods that a module says with what it includes, and what these import."""
+    def outputs_of(self, xml, above):
+        """The outputs of a module with what it includes, and what these import."""
         above += (xml,)
         own, first, later = [], [], []
-        for kind, text, _ in self.modules[xml].parts if xml in self.modules else ():
+        for kind, said, _ in self.modules[xml].parts if xml in self.modules else ():
             if kind == "output":
-                own.append(text)
-            elif kind == "import" and resolved(xml, text) not in above:
-                first.append((resolved(xml, text), above))
-            elif kind == "include" and resolved(xml, text) not in above:
-                more, imports = self.methods_of(resolved(xml, text), above)
+                own.append(said)
+            elif kind == "import" and resolved(xml, said) not in above:
+                first.append((resolved(xml, said), above))
+            elif kind == "include" and resolved(xml, said) not in above:
+                more, imports = self.outputs_of(resolved(xml, said), above)
                 own += more
                 later += imports
         return own, first + later

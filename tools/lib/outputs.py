@@ -36,12 +36,11 @@ def mode_of(path):
     return 0o666 & ~mask
 
 
-def write(result, is_text, path):
-    """Writes a result, as XML where it is none of text: why that failed, or nothing."""
+def write(result, said, path):
+    """Writes a result as the stylesheet's outputs say, as XML where it is none of text: why that failed, or nothing."""
     name = "standard output" if path in (None, "-") else path
     try:
-        result.seek(0, os.SEEK_END)
-        made = result if is_text or not result.tell() else results.as_xml(result)
+        made = result if said.get("method") == "text" else results.as_xml(result, said)
         if path in (None, "-"):
             results.copy(made, sys.stdout.buffer)
             sys.stdout.flush()

@@ -5,7 +5,8 @@ A convenience outside the proved product: nothing here is proved.
 What is written is UTF-8 without a declaration, and any XML parser reads the same
 elements, declarations, attributes, texts, comments and processing instructions
 from it: nothing is indented, and what a parser would change is written as a
-character reference. With --fragment the lines need not have a single top element:
+character reference. Only the first white space of an instruction is left out, since XML
+takes it for what separates the target. With --fragment the lines need not have a single top element:
 texts and any number of elements may be at the top, as in a result that is a
 piece of a document.
 
@@ -204,10 +205,9 @@ class Converter:
     def instruction(self, number, target, text):
         if not NCNAME.fullmatch(target) or target.lower() == "xml":
             raise Refused(number, "BadName: " + ascii(target))
-        if "?>" in text or "\r" in text or text[:1] in tuple(SPACE):
-            raise Refused(
-                number, "an XML instruction can't hold `?>`, a first space or a carriage return"
-            )
+        text = text.lstrip(" \t\n")
+        if "?>" in text or "\r" in text:
+            raise Refused(number, "an XML instruction can't hold `?>` or a carriage return")
         self.pieces.append(f"<?{target} {allowed(number, text)}?>" if text else f"<?{target}?>")
 
     def finish(self, number):

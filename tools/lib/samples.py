@@ -170,7 +170,7 @@ BAD_PYX = {
     "xml's name elsewhere": (b"(a\nAxmlns:p http://www.w3.org/XML/1998/namespace\n)a\n", "2: BadNamespace"),
     "a control character": (b"(a\n-\x01\n)a\n", "2: XML has no"),
     "a comment that XML can't hold": (b"(a\nCx--y\n)a\n", "2: an XML comment"),
-    "an instruction that XML can't hold": (b"(a\n?p  x\n)a\n", "2: an XML instruction"),
+    "an instruction that XML can't hold": (b"(a\n?p x?>y\n)a\n", "2: an XML instruction"),
 }
 
 # Lines in forms that xml2pyx does not write, whether with --fragment, and the XML that is written.
@@ -178,6 +178,7 @@ WRITTEN = {
     "adjacent texts": (b"(a\n-x\n-\n-y\n)a\n", False, "<a>xy</a>\n"),
     "empty texts": (b"(a\n-\n)a\n", False, "<a></a>\n"),
     "no space": (b"(a\nAb\n?p\n)a\n", False, '<a b=""><?p?></a>\n'),
+    "an instruction with first spaces": (b"(a\n?p  \\n x \n?q  \n)a\n", False, "<a><?p x ?><?q?></a>\n"),
     "a declaration on line 1": (b"?xml version='1.1'\n(a\n)a\n", False, "<a/>\n"),
     "white space outside": (b"-\\n\n(a\n)a\n- \n", False, "<a/>\n"),
     "raw tab and CR": (b"(a\nAb x\ty\n-x\ry\n)a\n", False, '<a b="x&#9;y">x&#13;y</a>\n'),

@@ -124,7 +124,7 @@ class Shell:
             return self.options.output
         os.makedirs(self.options.outdir, exist_ok=True)
         stem = os.path.splitext(os.path.basename(source))[0]
-        ending = ENDINGS.get(self.folder.method(self.sheet), ".xml")
+        ending = ENDINGS.get(self.folder.output(self.sheet).get("method"), ".xml")
         return os.path.join(self.options.outdir, stem + ending)
 
     def transform(self, xml, out, clock):
@@ -139,9 +139,9 @@ class Shell:
             if fault and fault.file == source.name and source.reason:
                 status = READ_FAULT
             self.report(fault, source)
-            is_text = self.folder.method(self.sheet) == "text" if status in (0, WRITE_FAULT) else False
-            if status == 0 or (status == WRITE_FAULT and is_text and not out):
-                reason = outputs.write(result, is_text, out)
+            said = self.folder.output(self.sheet)
+            if status == 0 or (status == WRITE_FAULT and said.get("method") == "text" and not out):
+                reason = outputs.write(result, said, out)
                 if reason:
                     print(f"xslt-xml: {reason}", file=sys.stderr)
                     status = WRITE_FAULT

@@ -18,12 +18,14 @@ REAL = os.path.join(TOOLS, "..", "crates", "xslt", "out", "xslt")
 SHEET = '<x:stylesheet xmlns:x="http://www.w3.org/1999/XSL/Transform" version="1.0">\n{}\n</x:stylesheet>\n'
 BODY = SHEET.format('<x:output method="text"/><x:template match="/">\n{}\n</x:template>')
 
+DECLARED = '<?xml version="1.0" encoding="UTF-8"?>\n'
+
 # Files by their names, the arguments of tools/xslt-xml, and what comes: the status, the result, and what is reported with --raw, in which
 # MODULE.pyx is the name in the folder.
 RUNS = {
     "a result": (
         {"s.xsl": SHEET.format(""), "r.xml": "<r>é\n<i/></r>"},
-        ["s.xsl", "r.xml"], 0, "<r>é\n<i/></r>\n", ["message 0.pyx source.pyx"],
+        ["s.xsl", "r.xml"], 0, DECLARED + "<r>é\n<i/></r>\n", ["message 0.pyx source.pyx"],
     ),
     "options and parameters": (
         {"s.xsl": SHEET.format('<x:output method="text"/>'), "r.xml": "<r/>"},
@@ -73,7 +75,7 @@ RUNS = {
         ["s.xsl", "r.xml"], 2, "", ["message 0.pyx source.pyx", "fault 70 ReadFault a.xsl 0"],
     ),
     "a document type declaration": (
-        {"s.xsl": SHEET.format(""), "r.xml": "<!DOCTYPE r>\n<r/>"}, ["s.xsl", "r.xml", "--drop-doctype"], 0, "<r/>\n",
+        {"s.xsl": SHEET.format(""), "r.xml": "<!DOCTYPE r>\n<r/>"}, ["s.xsl", "r.xml", "--drop-doctype"], 0, DECLARED + "<r/>\n",
         ["message 0.pyx source.pyx"],
     ),
     "a source that is no XML": (
@@ -209,16 +211,40 @@ s.xsl:2: error: href="s.xsl": the module would be a part of itself [30 CircularM
 """),
 }
 
-# What the outputs of a stylesheet and of its modules say, and the method that counts.
-METHODS = {
-    "none": ({"s": []}, None),
-    "the last": ({"s": [("output", "xml"), ("output", "text")]}, "text"),
-    "before an import's": ({"s": [("import", "a"), ("output", "xml")], "a": [("output", "text")]}, "xml"),
-    "an import's": ({"s": [("import", "a"), ("import", "b"), ("import", "c")], "a": [("output", "x")], "b": [("output", "y")], "c": []}, "y"),
-    "an included one": ({"s": [("output", "x"), ("include", "a"), ("import", "b")], "a": [("output", "y")], "b": [("output", "z")]}, "y"),
-    "an import of an included one": (
-        {"s": [("include", "a"), ("import", "b")], "a": [("import", "c")], "b": [("output", "y")], "c": [("output", "z")]}, "z",
+# What the outputs of a stylesheet and of its modules say, and what counts.
+X, Y, Z = ("output", {"method": "x"}), ("output", {"method": "y"}), ("output", {"method": "z"})
+SAID = {
+    "none": ({"s": []}, {}),
+    "the last": ({"s": [X, Y]}, {"method": "y"}),
+    "before an import's": ({"s": [("import", "a"), X], "a": [Y]}, {"method": "x"}),
+    "an import's": ({"s": [("import", "a"), ("import", "b"), ("import", "c")], "a": [X], "b": [Y], "c": []}, {"method": "y"}),
+    "an included one": ({"s": [X, ("include", "a"), ("import", "b")], "a": [Y], "b": [Z]}, {"method": "y"}),
+    "an import of an included one": ({"s": [("include", "a"), ("import", "b")], "a": [("import", "c")], "b": [Y], "c": [Z]}, {"method": "z"}),
+    "each attribute by itself": (
+        {"s": [("import", "a"), X, ("output", {"indent": "no"})], "a": [("output", {"indent": "yes", "encoding": "UTF-8"})]},
+        {"method": "x", "indent": "no", "encoding": "UTF-8"},
     ),
+}
+
+# What outputs say, a result, and how it is written.
+HTML = b"(html\n)html\n"
+WRITTEN = {
+    "a document": ({}, b"(a\n)a\n", DECLARED + "<a/>\n"),
+    "a piece": ({"doctype-system": "s"}, b"-x\n(a\n)a\n-y\\n\n", DECLARED + "x<a/>y\n"),
+    "nothing": ({}, b"", DECLARED),
+    "no declaration": ({"omit-xml-declaration": "yes"}, b"(a\n)a\n", "<a/>\n"),
+    "standalone": (
+        {"omit-xml-declaration": "no", "standalone": "yes"}, b"(a\n)a\n", '<?xml version="1.0" encoding="UTF-8" standalone="yes"?>\n<a/>\n',
+    ),
+    "a system identifier": (
+        {"doctype-system": 'a"b', "omit-xml-declaration": "yes"}, b"C1\n(p:a\nAxmlns:p u\n)p:a\n",
+        "<!DOCTYPE p:a SYSTEM 'a\"b'>\n<!--1--><p:a xmlns:p=\"u\"/>\n",
+    ),
+    "a public one alone": ({"doctype-public": "p"}, b"(a\n)a\n", DECLARED + "<a/>\n"),
+    "both": ({"doctype-public": "p", "doctype-system": "s"}, b"(a\n)a\n", DECLARED + '<!DOCTYPE a PUBLIC "p" "s">\n<a/>\n'),
+    "HTML": ({"method": "html", "doctype-public": "p"}, HTML, '<!DOCTYPE html PUBLIC "p">\n<html/>\n'),
+    "HTML by its root": ({}, HTML, "<html/>\n"),
+    "XHTML": ({}, b"(html\nAxmlns u\n)html\n", DECLARED + '<html xmlns="u"/>\n'),
 }
 
 # Texts that are no expressions, where they stop being one, and why.
@@ -266,16 +292,13 @@ def runs_of_xml(tests):
                 if arguments[0] == "--check":
                     got = run_xml(folder, "check-xml", "--raw", "--program", STAND_IN, *arguments[1:], env=env)
                     tests.check("check-xml: " + name, got, (*wanted, lines(said).decode()))
-    for name, (parts, wanted) in METHODS.items():
+    for name, (parts, wanted) in SAID.items():
         folder = Folder("", False)
         for xml, rows in parts.items():
             folder.modules[xml] = Module(xml, xml, xml, parts=[(*row, None) for row in rows])
-        tests.check("output method: " + name, folder.method("s"), wanted)
-    for name, result, wanted in (
-        ("a document", b"(a\n)a\n", b"<a/>\n"),
-        ("a piece", b"-x\n(a\n)a\n-y\\n\n", b"x<a/>y\n"),
-    ):
-        tests.check("a result as XML: " + name, results.bytes_of_xml(result), wanted)
+        tests.check("outputs: " + name, folder.output("s"), wanted)
+    for name, (said, result, wanted) in WRITTEN.items():
+        tests.check("a result as XML: " + name, results.bytes_of_xml(result, said).decode(), wanted)
 
 
 def programs():
@@ -377,14 +400,19 @@ def under_make(tests):
 
 
 def expectations(folder):
-    """The arguments of an example, its result and its status."""
+    """The arguments of an example, its result, as XML where it has elements, and its status."""
     expected = {"expected.txt": "", "expected.status": "0", "words": "sheet.pyx source.pyx"}
     for name in expected:
         if os.path.exists(folder + name):
             with open(folder + name, encoding="utf-8") as file:
                 expected[name] = file.read()
     arguments = expected["words"].replace("sheet.pyx", "sheet.xsl").replace("source.pyx", "source.xml").split()
-    return arguments, expected["expected.txt"], int(expected["expected.status"])
+    result = expected["expected.txt"]
+    if result.startswith(("(", "?", "C")):
+        with open(folder + "sheet.xsl", encoding="utf-8") as sheet:
+            said = {"method": "html"} if 'method="html"' in sheet.read() else {}
+        result = results.bytes_of_xml(result.encode(), said).decode()
+    return arguments, result, int(expected["expected.status"])
 
 
 def examples_of_xml(tests):
