@@ -1,1 +1,5 @@
+mod GivenLemmas
+mod InOrderLemmas
 mod OrderLemmas
+mod RowLemmas
+mod UnsortedLemmas

@@ -2,4 +2,7 @@
 #![tactic(auto)]
 
 pub mod keys;
+pub mod laws;
+pub mod orders;
 pub mod rows;
+pub mod sorting;

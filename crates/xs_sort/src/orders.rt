@@ -1,0 +1,134 @@
+//! What sort keys ask for (XSLT 1.0, 10): their data types and orders, evaluated once at the
+//! instruction.
+
+ghost use Rattle.std.specs.Prelude.{◌≡◌, length, IfOk, codes, option_map};
+ghost use Rattle.std.specs.Str.{bytes_eq};
+ghost use Rattle.xs_eval.specs.Conditions.{IsContext};
+ghost use Rattle.xs_sort.specs.Sorting.{direction_in, order_of, orders_of, template_text};
+ghost use Rattle.xs_sort.specs.steps.Given.{IsGiven};
+ghost use Rattle.xs_trace.specs.Play.{IsStep, IsStepBy};
+ghost use Rattle.xs_trace.specs.Run.{limited};
+
+use crate::keys::Direction;
+use std::alloc::Global;
+use xs_eval::context::Context;
+use xs_eval::templates::evaluate_avt;
+use xs_sheet::body::SortDecl;
+use xs_sheet::scoped::ValueTemplate;
+use xs_trace::fault::Fault;
+use xs_trace::item::Site;
+use xs_trace::recorder::{Halt, Tally};
+use xs_trace::text::TextBuf;
+use xs_value::keys::KeyFinder;
+
+/// How the values of a key are compared.
+#[derive(Clone, Copy, Debug)]
+pub struct Order {
+    /// Whether they are numbers; else they are texts.
+    pub is_numeric: bool,
+    /// In which direction they go.
+    pub direction: Direction,
+}
+
+/// The orders of sort keys: of each its data type and its order, which is tested at once.
+pub(crate) fn orders_of<K: KeyFinder, T: Tally>(
+    alloc: Global,
+    sorts: &[SortDecl],
+    context: &Context<'_>,
+    keys: &K,
+    site: Site,
+    tally: &mut T,
+) -> Result<Vec<Order>, Halt>
+    requires context { IsContext (K.tables keys.now) context.now }
+    ensures told { IsStepBy (λ v. v.items) (limited site
+        (orders_of (K.tables keys.now) context.now sorts.now)
+        (T.state tally.old)) result (T.state tally.new) }
+    ensures kept { T.kept tally.new ≡ T.kept tally.old }
+    ensures long { IfOk result (λ v. length v.items ≡ length sorts.now) }
+{
+    let mut orders = Vec::new(alloc);
+    for decl in sorts {
+        let order = order_of(alloc, decl, context, keys, site, tally)?;
+        orders.push(order)?;
+    }
+    Ok(orders)
+}
+
+// The order of a sort key.
+fn order_of<K: KeyFinder, T: Tally>(
+    alloc: Global,
+    decl: &SortDecl,
+    context: &Context<'_>,
+    keys: &K,
+    site: Site,
+    tally: &mut T,
+) -> Result<Order, Halt>
+    requires context { IsContext (K.tables keys.now) context.now }
+    ensures told { IsStep (limited site (order_of (K.tables keys.now) context.now decl.now)
+        (T.state tally.old)) result (T.state tally.new) }
+    ensures kept { T.kept tally.new ≡ T.kept tally.old }
+{
+    let kind = template_text(alloc, &decl.data_type, "text", context, keys, site, tally)?;
+    let order = template_text(alloc, &decl.order, "ascending", context, keys, site, tally)?;
+    let direction = direction_of(&order, site)?;
+    let is_numeric = is_number(&kind);
+    Ok(Order {
+        is_numeric,
+        direction,
+    })
+}
+
+// Whether a data type is that of numbers.
+fn is_number(kind: &TextBuf) -> bool
+    ensures { result ≡ bytes_eq kind.now (codes "number") }
+{
+    kind.as_str() == "number"
+}
+
+// The direction of an order; any other text is a fault.
+fn direction_of(order: &TextBuf, site: Site) -> Result<Direction, Halt>
+    ensures { IsGiven site (direction_in order.now) result }
+{
+    direction_in(order.as_str(), site)
+}
+
+// The text of a value template; where it is absent, that of the default.
+fn template_text<K: KeyFinder, T: Tally>(
+    alloc: Global,
+    template: &Option<ValueTemplate>,
+    absent: &str,
+    context: &Context<'_>,
+    keys: &K,
+    site: Site,
+    tally: &mut T,
+) -> Result<TextBuf, Halt>
+    requires context { IsContext (K.tables keys.now) context.now }
+    ensures told { IsStep (limited site
+        (template_text (K.tables keys.now) context.now absent.now template.now)
+        (T.state tally.old)) result (T.state tally.new) }
+    ensures kept { T.kept tally.new ≡ T.kept tally.old }
+{
+    match template {
+        None => Ok(TextBuf::of(alloc, absent)?),
+        Some(template) => {
+            let around = Context {
+                scope: template.scope.scope(),
+                ..*context
+            };
+            evaluate_avt(alloc, template.parts.as_slice(), &around, keys, site, tally)
+        }
+    }
+}
+
+// The direction that an order's text names; any other text is a fault.
+fn direction_in(order: &str, site: Site) -> Result<Direction, Halt>
+    ensures { IsGiven site (direction_in order.now) result }
+{
+    if order == "ascending" {
+        return Ok(Direction::Ascending);
+    }
+    if order == "descending" {
+        return Ok(Direction::Descending);
+    }
+    Err(Halt::Fault(Fault::BadValue, site))
+}
