@@ -1,5 +1,5 @@
 -- The nodes of documents have names that can be written.
-use Rattle.std.proofs.Common.{◌≡◌, ℕ, ◌+◌, ◌<◌, ◌≤◌, List, [], ◌∷◌, ◌++◌, Option, None, Some, Bool, true, false, if◌then◌else◌, refl, sym, ◌∙◌, ap, subst}
+use Rattle.std.proofs.Common.{◌≡◌, ℕ, ◌<◌, ◌≤◌, List, [], ◌∷◌, ◌++◌, Option, None, Some, Bool, true, false, if◌then◌else◌, refl, sym, ◌∙◌, ap, subst}
 use Rattle.std.proofs.Common.{arith, cond, filter, get_or, length}
 use Rattle.std.specs.Prelude.{not, ◌&&◌, ◌||◌, ◌==◌, IsTrue, MatchOption, codes}
 use Rattle.std.specs.List.{list_any}
@@ -22,7 +22,6 @@ use Rattle.xs_tree.proofs.WalkLemmas.{IsPlaced-at, passing-passes, passing-withi
 use Rattle.xs_build.specs.DocumentTree.{IsDocument, IsElement, binds, has_default, is_attribute_in_scope, is_named_as, is_prefix, may_be_bound}
 use Rattle.xs_build.specs.Namespaces.{is_bad_binding, is_empty, xml_uri, xmlns_uri}
 use Rattle.xs_build.proofs.WellFormedLemmas.ScopeLemmas.{not_bad}
-use Rattle.xs_making.specs.Labels.{is_reserved}
 use Rattle.xs_making.specs.Laws as made
 use Rattle.xs_making.specs.Laws.{AreWell, IsNamed, IsSpace, IsWellAs}
 use Rattle.xs_reading_back.specs.Laws.{AreDocuments, DocumentsAreWell}
