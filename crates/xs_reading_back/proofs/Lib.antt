@@ -1,4 +1,5 @@
 mod BytesLemmas
+mod DocumentLemmas
 mod EventLemmas
 mod FitLemmas
 mod LawLemmas

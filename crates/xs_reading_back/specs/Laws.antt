@@ -5,8 +5,13 @@ use Rattle.xs_pyx.specs.declared.line.Line.TheVariants as line
 use Rattle.xs_trace.specs.Label.{Label}
 use Rattle.xs_trace.specs.declared.event.Event.{Event}
 use Rattle.xs_trace.specs.declared.event.Event.TheVariants.{Start, End}
+use Rattle.xs_tree.specs.declared.kinds.Kind.TheVariants.{Root}
+use Rattle.xs_tree.specs.Record.{Record, at}
+use Rattle.xs_tree.specs.Shape.{IsTree}
 use Rattle.xs_build.specs.Document.{Outcome, tree, refused, document}
+use Rattle.xs_build.specs.DocumentTree.{IsDocument}
 use Rattle.xs_build.specs.Faults.{too_large}
+use Rattle.xs_making.specs.Laws.{AreWell}
 use Rattle.xs_result.specs.Built.{built}
 use Rattle.xs_writing.specs.Lines.{pyx}
 use Rattle.xs_reading_back.specs.Events.{HasTexts, IsResult, has_one_top}
@@ -39,3 +44,12 @@ pub record IsReadBack (bytes : List ℕ) (es : List Event) : Type 0 where
 -- What is written of a result reads back as what stays of it.
 abbrev pub ResultsReadBack : Type 0
 ResultsReadBack = (es : List Event) → IsResult es → All HasTexts es → length es < 2 ^ 64 → IsReadBack (pyx es) (built es)
+
+-- ---- copies
+-- each document in a tree is a well-formed one (XPath 1.0, 5)
+abbrev pub AreDocuments : List Record → Type 0
+AreDocuments rs = (root : ℕ) → root < length rs → (at rs root).kind ≡ Root → IsDocument rs root
+
+-- The nodes of documents have names that can be written, as `copies_are_well` of xs_making asks.
+abbrev pub DocumentsAreWell : Type 0
+DocumentsAreWell = (rs : List Record) → IsTree rs → AreDocuments rs → AreWell rs

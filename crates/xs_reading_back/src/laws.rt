@@ -1,6 +1,6 @@
-//! What is true of a result that is written and read. The function does nothing: its contract is
-//! the law.
-ghost use Rattle.xs_reading_back.specs.Laws.{ResultsReadBack};
+//! What is true of a result that is written and read. The functions do nothing: their contracts
+//! are the laws.
+ghost use Rattle.xs_reading_back.specs.Laws.{DocumentsAreWell, ResultsReadBack};
 
 /// The lines of a result are those of a document with the same elements, attributes, texts,
 /// comments and instructions, by themselves or inside one element more.
@@ -12,3 +12,8 @@ pub fn results_read_back()
     xs_writing::laws::names_resolve();
     xs_writing::laws::lines_go_on();
 }
+
+/// What is copied of documents can be written: their nodes have names as `xs_making` asks.
+pub fn documents_are_well()
+    ensures { DocumentsAreWell }
+{}
