@@ -12,7 +12,7 @@ use Rattle.xs_pieces.proofs.TreeLemmas.{at-child}
 use Rattle.xs_semantics.specs.declared.focus.Focus.{Focus}
 use Rattle.xs_semantics.specs.Ranks.{HasNodes, rank_of}
 use Rattle.xs_semantics.specs.Tasks.{Task}
-use Rattle.xs_semantics.specs.Trace.{each, task_trace}
+use Rattle.xs_semantics.specs.Trace.{calls_at, each, job_trace, task_trace}
 use Rattle.xs_semantics.specs.World.{World, with_grain}
 use Rattle.xs_semantics.proofs.FullLemmas.{tasks-begin}
 use Rattle.xs_semantics.proofs.GrainLemmas.{task-filled}
@@ -57,7 +57,9 @@ each-begins p s body f i [] h = absurd h
 each-begins p s body f i (n ∷ ns) h = tt
 
 own-begins : (w : World) (t : Placed) → HasNodes t.task.nodes → BeginsWithTick (own w t)
-own-begins w t h = each-begins t.place t.task.site _ t.task.focus t.task.first t.task.nodes h
+own-begins w t h =
+    let body : Focus → Trace Task = job_trace t.task.job w (calls_at w t.task.focus) t.task.site in
+    each-begins t.place t.task.site body t.task.focus t.task.first t.task.nodes h
 
 -- ---- without holes
 no-marks : (x : Trace Task) → HolesAre (λ c. ⊥) (marks x)
