@@ -139,7 +139,7 @@ class Shell:
             if fault and fault.file == source.name and source.reason:
                 status = READ_FAULT
             self.report(fault, source)
-            said = self.folder.output(self.sheet)
+            said = self.folder.output(self.sheet) if status in (0, WRITE_FAULT) else {}
             if status == 0 or (status == WRITE_FAULT and said.get("method") == "text" and not out):
                 reason = outputs.write(result, said, out)
                 if reason:
