@@ -105,7 +105,7 @@ space_well r h =
 -- ---- the document that a node is in
 document_at : (rs : List Record) (k : ℕ) → IsTree rs → AreDocuments rs → k < length rs → IsDocument rs (root_of rs k)
 document_at rs k tree docs within =
-  docs (root_of rs k) (let before : root_of rs k ≤ k = root_of-le rs k in omega (arith, before, within)) (root_of-kind rs k tree)
+    docs (root_of rs k) (let before : root_of rs k ≤ k = root_of-le rs k in omega (arith, before, within)) (root_of-kind rs k tree)
 
 space_kind : (kind : Kind) → is_namespace_kind kind ≡ true → kind ≡ Space
 space_kind Root h = absurd (cc)
