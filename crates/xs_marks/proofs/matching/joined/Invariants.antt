@@ -1,0 +1,10 @@
+use Rattle.std.proofs.Common.{◌≡◌, ◌||◌, false, get_or, map}
+use Rattle.std.specs.List.{range_with_len}
+use Rattle.xs_pattern.specs.Matching.{matches_path, pattern_context}
+use Rattle.xs_xpath.specs.Exprs.{tree_from}
+use Rattle.xs_marks.proofs.matching.joined.Given as goal
+
+abbrev pub invariant-loop-place : goal.invariant-loop-place
+invariant-loop-place g l =
+    l.joined.items ≡ map (λ n. get_or l.marks n false
+    || matches_path (g.K.KeyFinder.tables l.keys) (pattern_context l.tree l.scope.pairs.items n) (tree_from l.alternative)) (range_with_len 0 l.place)
