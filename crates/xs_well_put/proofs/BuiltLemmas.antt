@@ -1,5 +1,5 @@
 -- What stays of events that can be written and are balanced is a result.
-use Rattle.std.proofs.Common.{◌≡◌, ℕ, zero, suc, ◌+◌, ◌-◌, List, [], ◌∷◌, ◌++◌, Bool, true, false, if◌then◌else◌, refl, ap, ◌∙◌}
+use Rattle.std.proofs.Common.{◌≡◌, ℕ, zero, suc, ◌-◌, List, [], ◌∷◌, ◌++◌, Bool, true, false, if◌then◌else◌, refl, ap, ◌∙◌}
 use Rattle.std.proofs.Common.{All, arith}
 use Rattle.std.specs.Prelude.{not}
 use Rattle.std.specs.List.{AllByRecursion, list_any}
@@ -98,8 +98,13 @@ unfolding joined
 joined_balanced [] n = refl
 joined_balanced (e ∷ es) n = front_balanced e (joined es) n ∙ more_balanced e (joined es) es n (joined_balanced es)
 
+-- so many open elements more
+abbrev pub above : ℕ → ℕ → ℕ
+above zero n = n
+above (suc k) n = suc (above k n)
+
 -- what is balanced leaves what follows as it is
-pub balanced_over : (es : List Event) (k n : ℕ) (more : List Event) → is_balanced k es ≡ true → is_balanced (k + n) (es ++ more) ≡ is_balanced n more
+pub balanced_over : (es : List Event) (k n : ℕ) (more : List Event) → is_balanced k es ≡ true → is_balanced (above k n) (es ++ more) ≡ is_balanced n more
 unfolding is_balanced
 balanced_over [] zero n more h = refl
 balanced_over [] (suc k) n more h = absurd (cc)

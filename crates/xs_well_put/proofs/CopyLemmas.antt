@@ -21,8 +21,8 @@ use Rattle.xs_well_put.proofs.PutLemmas.{PutsBetween, events_then, levels}
 abbrev pub Shifts : Bool → Bool → List Event → Type 0
 Shifts a b es = (n : ℕ) (more : List Event) → is_balanced (levels a n) (es ++ more) ≡ is_balanced (levels b n) more
 
-pub shifts_joined : {a b c : Bool} (xs ys : List Event) → Shifts a b xs → Shifts b c ys → Shifts a c (xs ++ ys)
-shifts_joined {a} xs ys s t = λ n more. ap (is_balanced (levels a n)) (append_assoc xs ys more) ∙ s n (ys ++ more) ∙ t n more
+pub shifts_joined : (a b c : Bool) (xs ys : List Event) → Shifts a b xs → Shifts b c ys → Shifts a c (xs ++ ys)
+shifts_joined a b c xs ys s t = λ n more. ap (is_balanced (levels a n)) (append_assoc xs ys more) ∙ s n (ys ++ more) ∙ t n more
 
 -- neither a start nor an end
 abbrev pub is_flat : Event → Bool
@@ -73,7 +73,7 @@ unfolding is_balanced
 end_shifts = λ n more. refl
 
 pub start_shifts : (name : _) (es : List Event) → AreFlat es → Shifts false true (event.Start name ∷ es)
-start_shifts name es h = shifts_joined (event.Start name ∷ []) es (begin_shifts name) (flat_shifts true es h)
+start_shifts name es h = shifts_joined false true true (event.Start name ∷ []) es (begin_shifts name) (flat_shifts true es h)
 
 leaf_flat : (kind : Kind) (r : Record) → AreFlat (leaf_events kind r)
 leaf_flat Root r = tt
@@ -89,7 +89,7 @@ spaces_flat rs n = flat_each (λ k. space_events (at rs k)) (namespaces rs n) (�
 
 tag_shifts : (rs : List Record) (n : ℕ) → Shifts false true (tag_events rs n)
 tag_shifts rs n =
-    shifts_joined (start_events rs n) (flat_map (λ k. attribute_events (at rs k)) (attributes rs n))
+    shifts_joined false true true (start_events rs n) (flat_map (λ k. attribute_events (at rs k)) (attributes rs n))
     (start_shifts (label_of (at rs n)) (flat_map (λ k. space_events (at rs k)) (namespaces rs n)) (spaces_flat rs n))
     (flat_shifts true (flat_map (λ k. attribute_events (at rs k)) (attributes rs n))
     (flat_each (λ k. attribute_events (at rs k)) (attributes rs n) (λ k. leaf_flat Attribute (at rs k))))
@@ -118,13 +118,13 @@ deeper_shifts a es s = λ n more. s (levels a n) more
 
 pub each_shifts : (f : ℕ → List Event) (ns : List ℕ) → ((n : ℕ) → Shifts false false (f n)) → Shifts false false (flat_map f ns)
 each_shifts f [] h = λ n more. refl
-each_shifts f (n ∷ ns) h = shifts_joined (f n) (flat_map f ns) (h n) (each_shifts f ns h)
+each_shifts f (n ∷ ns) h = shifts_joined false false false (f n) (flat_map f ns) (h n) (each_shifts f ns h)
 
 whole_shifts : (kind : Kind) (rs : List Record) (n : ℕ) (inside : List Event) → Shifts false false inside → Shifts false false (whole_as kind rs n inside)
 whole_shifts Root rs n inside s = s
 whole_shifts Element rs n inside s =
-    shifts_joined (tag_events rs n) (inside ++ event.End ∷ []) (tag_shifts rs n)
-    (shifts_joined inside (event.End ∷ []) (deeper_shifts true inside s) end_shifts)
+    shifts_joined false true false (tag_events rs n) (inside ++ event.End ∷ []) (tag_shifts rs n)
+    (shifts_joined true true false inside (event.End ∷ []) (deeper_shifts true inside s) end_shifts)
 whole_shifts Attribute rs n inside s = flat_shifts false (leaf_events Attribute (at rs n)) (leaf_flat Attribute (at rs n))
 whole_shifts Space rs n inside s = flat_shifts false (leaf_events Space (at rs n)) (leaf_flat Space (at rs n))
 whole_shifts Text rs n inside s = flat_shifts false (leaf_events Text (at rs n)) (leaf_flat Text (at rs n))

@@ -98,11 +98,11 @@ label_well uri local prefix n p u = record { local = n; prefix = prefix_put uri 
 aliased_other : (aliases : List Alias) → AllByRecursion IsNamedAlias aliases → (uri : List ℕ) → bytes_eq uri xmlns_uri ≡ false
     → bytes_eq (aliased aliases uri) xmlns_uri ≡ false
 aliased_other [] h uri u = u
-aliased_other (a ∷ others) h uri u = by_test (bytes_eq a.from_uri uri)
+aliased_other (a ∷ others) h uri u = by_test (bytes_eq a.from_uri uri) (aliased_other others h.1 uri u)
   where
-    by_test : (t : Bool) → bytes_eq (if t then a.to_uri else aliased others uri) xmlns_uri ≡ false
-    by_test true = h.0
-    by_test false = aliased_other others h.1 uri u
+    by_test : (t : Bool) → bytes_eq (aliased others uri) xmlns_uri ≡ false → bytes_eq (if t then a.to_uri else aliased others uri) xmlns_uri ≡ false
+    by_test true rest = h.0
+    by_test false rest = rest
 
 element_well : (aliases : List Alias) → AllByRecursion IsNamedAlias aliases → (name : Label) → IsNamedLabel name → IsWellNamed (element_label aliases name)
 element_well aliases h name n =

@@ -1,5 +1,5 @@
 -- What is put well, part by part.
-use Rattle.std.proofs.Common.{◌≡◌, ℕ, zero, suc, ◌/◌, ◌==◌, List, [], ◌∷◌, ◌++◌, Bool, true, false, cond, refl, sym, ◌∙◌, ap, append_assoc, length}
+use Rattle.std.proofs.Common.{◌≡◌, ℕ, zero, suc, ◌/◌, ◌==◌, List, [], ◌∷◌, ◌++◌, Bool, true, false, cond, refl, sym, subst, ◌∙◌, ap, append_assoc, length}
 use Rattle.std.specs.List.{AllByRecursion}
 use Rattle.xs_trace.specs.Event.{text_of}
 use Rattle.xs_trace.specs.Mark.{Tick, Put, Say, Stop, Need, Hole, Trace, ◌⨾◌, GoesOn, captured, events_of, ticks, without_puts}
@@ -34,7 +34,7 @@ module _ {H : Type 0} where
   all_then (Need g p ∷ x) y a b = a
   all_then (Hole k ∷ x) y a b = all_then x y a b
 
-  goes_then : (x y : Trace H) → GoesOn (x ⨾ y) → GoesOn x × GoesOn y
+  pub goes_then : (x y : Trace H) → GoesOn (x ⨾ y) → GoesOn x × GoesOn y
   goes_then [] y g = (tt, g)
   goes_then (Tick p ∷ x) y g = goes_then x y g
   goes_then (Put e ∷ x) y g = goes_then x y g
@@ -62,7 +62,7 @@ module _ {H : Type 0} where
         ∙ q.balanced both.1 n more;
   }
 
-  pub nothing : (a : Bool) → PutsBetween {H} a a []
+  pub nothing : (a : Bool) → PutsBetween {H = H} a a []
   nothing a = record { named = tt; balanced = λ g n more. refl }
 
   -- with an element more around it
@@ -76,21 +76,21 @@ module _ {H : Type 0} where
   many_ticked p zero x h = h
   many_ticked p (suc n) x h = ticked p (ticks p n x) (many_ticked p n x h)
 
-  pub stopped : {a b : Bool} (f : Fault) (p : Site) → PutsBetween {H} a b (Stop f p ∷ [])
+  pub stopped : {a b : Bool} (f : Fault) (p : Site) → PutsBetween {H = H} a b (Stop f p ∷ [])
   stopped f p = record { named = tt; balanced = λ g n more. absurd g }
 
-  pub needing : {a b : Bool} (g : ℕ) (p : Site) → PutsBetween {H} a b (Need g p ∷ [])
+  pub needing : {a b : Bool} (g : ℕ) (p : Site) → PutsBetween {H = H} a b (Need g p ∷ [])
   needing g p = record { named = tt; balanced = λ h n more. absurd h }
 
-  pub said : (p : Site) (t : List ℕ) → PutsBetween {H} false false (ticks p (length t / 256) (Say t ∷ []))
+  pub said : (p : Site) (t : List ℕ) → PutsBetween {H = H} false false (ticks p (length t / 256) (Say t ∷ []))
   said p t = many_ticked p (length t / 256) (Say t ∷ []) (record { named = tt; balanced = λ g n more. refl })
 
   -- ---- events
-  pub begun : (name : _) → IsWellPut (event.Start name) → PutsBetween {H} false true (Put (event.Start name) ∷ [])
+  pub begun : (name : _) → IsWellPut (event.Start name) → PutsBetween {H = H} false true (Put (event.Start name) ∷ [])
   unfolding is_balanced
   begun name h = record { named = (h, tt); balanced = λ g n more. refl }
 
-  pub ended : PutsBetween {H} true false (Put event.End ∷ [])
+  pub ended : PutsBetween {H = H} true false (Put event.End ∷ [])
   unfolding is_balanced
   ended = record { named = (tt, tt); balanced = λ g n more. refl }
 
@@ -131,7 +131,7 @@ module _ {H : Type 0} where
   no_events (Need g p ∷ x) = no_events x
   no_events (Hole k ∷ x) = no_events x
 
-  goes_without : (x : Trace H) → GoesOn (without_puts x) → GoesOn x
+  pub goes_without : (x : Trace H) → GoesOn (without_puts x) → GoesOn x
   goes_without [] g = tt
   goes_without (Tick p ∷ x) g = goes_without x g
   goes_without (Put e ∷ x) g = goes_without x g
@@ -146,8 +146,8 @@ module _ {H : Type 0} where
   all_captured (Tick p ∷ x) y h = all_captured x y h
   all_captured (Put e ∷ x) y h = all_captured x y h
   all_captured (Say t ∷ x) y h = all_captured x y h
-  all_captured (Stop f p ∷ x) y h = tt
-  all_captured (Need g p ∷ x) y h = tt
+  all_captured (Stop f p ∷ x) y h = subst (AllByRecursion IsWellPut) (sym (no_events x)) tt
+  all_captured (Need g p ∷ x) y h = subst (AllByRecursion IsWellPut) (sym (no_events x)) tt
   all_captured (Hole k ∷ x) y h = all_captured x y h
 
   pub captures : {a b : Bool} (x : Trace H) (f : List Event → Trace H) → (GoesOn x → PutsBetween a b (f (events_of x))) → PutsBetween a b (captured x f)

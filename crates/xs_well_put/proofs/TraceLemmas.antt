@@ -142,7 +142,7 @@ module _ (w : World) (world : IsNamedWorld w) (parts : Parts w) where
   named_more (u ∷ us) v h k = (h.0, named_more us v h.1 k)
 
   -- what content put, where it went on, is a result
-  whole_named : (x : Trace Task) → Well x → GoesOn x → IsNamedValue (Piece (fragment_of (events_of x)))
+  pub whole_named : (x : Trace Task) → Well x → GoesOn x → IsNamedValue (Piece (fragment_of (events_of x)))
   whole_named x h g = parts.kept (events_of x) h.named (ap (is_balanced 0) (sym (append-nil (events_of x))) ∙ h.balanced g 0 [] ∙ none_open)
     where
       none_open : is_balanced 0 [] ≡ true
@@ -252,7 +252,7 @@ module _ (w : World) (world : IsNamedWorld w) (parts : Parts w) where
     instr_put (Extension fallbacks) n p f k d vs v next h =
         joined (fallbacks_trace fallbacks p w k f vs) (next vs) (fallbacks_put fallbacks n p f k d vs v) (h vs v)
 
-    body_put : (body : Body) → IsNamedBody body → (f : Focus) (k : Calls) → CallsPut k → (vs : List Value) → AreNamedValues vs
+    pub body_put : (body : Body) → IsNamedBody body → (f : Focus) (k : Calls) → CallsPut k → (vs : List Value) → AreNamedValues vs
         → Well (body_trace body w k f vs)
     body_put (Body' m row) n f k d vs v = row_put row n f k d vs v
 
@@ -413,7 +413,7 @@ module _ (w : World) (world : IsNamedWorld w) (parts : Parts w) where
       entry_put (overridden current) q p (with_levels d (all_set_levels w) f) (λ e. called e w d (all_set_levels w))
       (λ e r s g. called_put e r d (all_set_levels w) s g)
 
-  calls_put : (f : Focus) → CallsPut (calls_at w f)
+  pub calls_put : (f : Focus) → CallsPut (calls_at w f)
   calls_put f = λ e q p g. called_put e q f.depth f.set_levels p g
 
   job_put : (job : Job) → IsNamedJob job → (p : Site) (f g : Focus) → Well (job_trace job w (calls_at w f) p g)

@@ -3,7 +3,7 @@ use Rattle.std.proofs.Common.{◌≡◌, ℕ, ◌++◌, List, [], ◌∷◌, Boo
 use Rattle.std.specs.List.{AllByRecursion}
 use Rattle.std.specs.Option.{option_map_or}
 use Rattle.std.specs.Str.{bytes_eq, chars}
-use Rattle.std.specs.Prelude.{codes, pos}
+use Rattle.std.specs.Prelude.{Result, codes, pos}
 use Rattle.xs_num.specs.Number.{sum_of, difference_of, product_of, quotient_of, remainder_of}
 use Rattle.xs_num.specs.declared.number.Number.{Number as Num}
 use Rattle.xs_num.specs.declared.number.Number.TheVariants.{Whole}
@@ -42,7 +42,7 @@ use Rattle.xs_eval.specs.Evaluation.{answered, arguments, called_of, chain, glob
 use Rattle.xs_eval.specs.Evaluation.{run_of_tree, runs_of_trees, unless, variable}
 use Rattle.xs_eval.specs.Functions.{count_given, first, first_node, first_or_node, id_of, number, second, sum_from, written, written_name}
 use Rattle.xs_eval.specs.Keys.{from_table, keyed, looked_up}
-use Rattle.xs_eval.specs.Names.{ExpandedName, property, system_property, xslt_property, xslt_uri}
+use Rattle.xs_eval.specs.Names.{ExpandedName, expanded_name, property, xslt_property, xslt_uri}
 use Rattle.xs_eval.specs.Operators.{as_value, computed, decided, negated_by, negation, numbers, operated}
 use Rattle.xs_eval.specs.Paths.{Meaning, all_filtered, filter_expr, kept_of, path, selected, step, steps_from, tested, through}
 use Rattle.xs_eval.specs.Results.{Outcome, ◌>>=◌, given, natural, nodes_in, numeric}
@@ -136,7 +136,7 @@ called_named c Round vs = number_named c.tree (first vs)
 called_named c Key vs = tt
 called_named c Current vs = tt
 called_named c GenerateId vs = after (first_node (first_or_node c vs)) (λ n. Ok (Chars (option_map_or id_of n []))) (λ n. tt)
-called_named c SystemProperty vs = property_named _
+called_named c SystemProperty vs = property_named (expanded_name c.scope (text_value c.tree (first vs)))
 called_named c ElementAvailable vs = tt
 called_named c FunctionAvailable vs = tt
 called_named c UnparsedEntityUri vs = tt
@@ -163,7 +163,7 @@ comparison_named : (op : CompareOp) (rs : List Record) (left right : Value)
     → OutcomeNamed (numeric (compared rs op left right) >>= (λ b. Ok (Boolean b)))
 comparison_named op rs left right = after (numeric (compared rs op left right)) (λ b. Ok (Boolean b)) (λ b. tt)
 
-computed_named : (op : Num → Num → _) (rs : List Record) (left right : Value) → OutcomeNamed (computed op rs left right)
+computed_named : (op : Num → Num → Result Num NumFault) (rs : List Record) (left right : Value) → OutcomeNamed (computed op rs left right)
 computed_named op rs left right =
     after (numbers rs left right) (λ both. as_value (op both.0 both.1)) (λ both. after (numeric (op both.0 both.1)) (λ n. Ok (Numeral n)) (λ n. tt))
 
