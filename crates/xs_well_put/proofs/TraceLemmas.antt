@@ -64,7 +64,7 @@ use Rattle.xs_well_put.proofs.CopyLemmas.{Shifts, all_put, balanced_none, flat_s
 
 module _ (w : World) (world : IsNamedWorld w) (parts : Parts w) where
   -- what is entered
-  abbrev CallsPut : Calls → Type 0
+  abbrev pub CallsPut : Calls → Type 0
   CallsPut k = (e : Entry) → IsNamedEntry e → (p : Site) (f : Focus) → Well (k e p f)
 
   events_put : (p : Site) (e : Event) → IsWellPut e → Shifts false false (e ∷ []) → Well (puts_all p (e ∷ []))
