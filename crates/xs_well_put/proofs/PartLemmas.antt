@@ -1,6 +1,6 @@
 -- The parts of which a trace is made put well: names, namespace nodes and attributes of literal elements, what instructions make, texts,
 -- copies and fragments.
-use Rattle.std.proofs.Common.{◌≡◌, ℕ, zero, suc, ◌/◌, ◌<◌, ◌≤◌, List, [], ◌∷◌, ◌++◌, Option, Some, None, Ok, Err, Bool, true, false, refl, sym, ap, subst, ◌∙◌}
+use Rattle.std.proofs.Common.{◌≡◌, ℕ, zero, suc, ◌/◌, ◌==◌, ◌<◌, ◌≤◌, List, [], ◌∷◌, ◌++◌, Option, Some, None, Ok, Err, Bool, true, false, refl, sym, ap, subst, ◌∙◌}
 use Rattle.std.proofs.Common.{All, arith, cond, if◌then◌else◌, inl, inr, length, codes}
 use Rattle.std.specs.Prelude.{not, ◌&&◌, ◌||◌}
 use Rattle.std.specs.List.{AllByRecursion, flat_map}
@@ -38,7 +38,7 @@ use Rattle.xs_semantics.specs.declared.focus.Focus.{Focus}
 use Rattle.xs_semantics.specs.Making.{aliased, attribute_events, attribute_label, element_label, literal_spaces, name_run, namespace_run, space_events, target_run}
 use Rattle.xs_semantics.specs.Making.{text_events, value_events}
 use Rattle.xs_semantics.specs.Tasks.{Task}
-use Rattle.xs_semantics.specs.Trace.{begins, chars, fragment_of, puts_all}
+use Rattle.xs_semantics.specs.Trace.{begins, chars, fragment_of, puts, puts_all}
 use Rattle.xs_semantics.specs.World.{World, context, template_run, value_run}
 use Rattle.xs_well_put.specs.Named.{AreNamedValues, IsNamedAlias, IsNamedLabel, IsNamedMade, IsNamedSpace, IsNamedStart, IsNamedValue, IsNamedWorld}
 use Rattle.xs_well_put.proofs.BuiltLemmas.{balanced_over, built_result}
@@ -125,11 +125,18 @@ attribute_put label text p h = by_test (is_empty label.uri && bytes_eq label.loc
     by_test false e =
         all_put p (event.Attr label text ∷ []) ((h, e), tt) (flat_shifts false (event.Attr label text ∷ []) (refl, tt))
 
+some_text : (text : List ℕ) → (length text == 0) ≡ false → is_empty text ≡ false
+some_text [] e = absurd (let no : true ≡ false = e in cc)
+some_text (b ∷ text) e = refl
+
 chars_put : (p : Site) (text : List ℕ) → Well (chars p text)
 unfolding is_balanced
-chars_put p [] = nothing false
-chars_put p (b ∷ text) =
-    many_ticked p (length (b ∷ text) / 256) (Put (event.Chars (b ∷ text)) ∷ []) (record { named = (refl, tt); balanced = λ g n more. refl })
+chars_put p text = by_test (length text == 0) refl
+  where
+    by_test : (t : Bool) → (length text == 0) ≡ t → Well (cond t [] (puts p (event.Chars text)))
+    by_test true e = nothing false
+    by_test false e =
+        many_ticked p (length text / 256) (Put (event.Chars text) ∷ []) (record { named = (some_text text e, tt); balanced = λ g n more. refl })
 
 space_well : (prefix uri : List ℕ) → is_prefix prefix ≡ true → is_reserved prefix ≡ false → bytes_eq uri xmlns_uri ≡ false
     → AreWellPut (space_events prefix uri)
