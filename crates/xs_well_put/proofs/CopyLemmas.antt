@@ -1,8 +1,7 @@
 -- Events whose ends close what they begin: copies, starts, and events without either.
-use Rattle.std.proofs.Common.{cond, ◌≡◌, ℕ, zero, suc, ◌<◌, ◌≤◌, List, [], ◌∷◌, ◌++◌, Bool, true, false, All, refl, sym, ◌∙◌, ap, subst, append_assoc, arith, length}
+use Rattle.std.proofs.Common.{cond, ◌≡◌, ℕ, zero, suc, List, [], ◌∷◌, ◌++◌, Bool, true, false, refl, sym, ◌∙◌, ap, subst, append_assoc, length}
 use Rattle.std.specs.List.{AllByRecursion, flat_map}
 use Rattle.std.specs.Prelude.{◌/◌}
-use Rattle.std.proofs.lemmas.List.Elements.{All-head, All-tail}
 use Rattle.xs_trace.specs.Mark.{GoesOn, Trace, Put, events_of, ticks}
 use Rattle.xs_trace.specs.Event.{text_of}
 use Rattle.xs_trace.specs.declared.event.Event.{Event}
@@ -11,7 +10,7 @@ use Rattle.xs_trace.specs.declared.item.Site.{Site}
 use Rattle.xs_tree.specs.declared.kinds.Kind.{Kind}
 use Rattle.xs_tree.specs.declared.kinds.Kind.TheVariants.{Root, Element, Attribute, Space, Text, Comment, Pi}
 use Rattle.xs_tree.specs.Record.{Record, at, attributes, children, namespaces}
-use Rattle.xs_making.specs.Copies.{attribute_events, copy_within, deep_copy, label_of, leaf_events, shallow_as, space_events, start_events, tag_events, text_events, whole_as}
+use Rattle.xs_making.specs.Copies.{attribute_events, copy_within, deep_copy, label_of, leaf_events, shallow_as, space_events, start_events, tag_events, whole_as}
 use Rattle.xs_making.specs.Laws.{IsWellPut}
 use Rattle.xs_reading_back.specs.Events.{is_balanced}
 use Rattle.xs_semantics.specs.Tasks.{Task}

@@ -1,5 +1,5 @@
 -- What a task puts can be written.
-use Rattle.std.proofs.Common.{◌≡◌, ℕ, List, [], true, sym, ap, ◌∙◌}
+use Rattle.std.proofs.Common.{List, [], sym, ap, ◌∙◌}
 use Rattle.std.proofs.lemmas.List.{append-nil}
 use Rattle.xs_trace.specs.Mark.{Trace, events_of}
 use Rattle.xs_trace.specs.declared.event.Event.{Event}

@@ -1,7 +1,6 @@
 -- What is put well, part by part.
-use Rattle.std.proofs.Common.{◌≡◌, ℕ, zero, suc, ◌/◌, ◌==◌, List, [], ◌∷◌, ◌++◌, Bool, true, false, cond, refl, sym, subst, ◌∙◌, ap, append_assoc, length}
+use Rattle.std.proofs.Common.{◌≡◌, ℕ, zero, suc, ◌/◌, List, [], ◌∷◌, ◌++◌, Bool, true, false, refl, sym, subst, ◌∙◌, ap, append_assoc, length}
 use Rattle.std.specs.List.{AllByRecursion}
-use Rattle.xs_trace.specs.Event.{text_of}
 use Rattle.xs_trace.specs.Mark.{Tick, Put, Say, Stop, Need, Hole, Trace, ◌⨾◌, GoesOn, captured, events_of, ticks, without_puts}
 use Rattle.xs_trace.specs.Run.{Answer, Gives, Faults, Lacks, Run, evaluated, go_on, on_answer}
 use Rattle.xs_trace.specs.declared.event.Event.{Event}
@@ -10,7 +9,6 @@ use Rattle.xs_trace.specs.declared.fault.Fault.{Fault}
 use Rattle.xs_trace.specs.declared.item.Site.{Site}
 use Rattle.xs_making.specs.Laws.{IsWellPut}
 use Rattle.xs_reading_back.specs.Events.{is_balanced}
-use Rattle.xs_semantics.specs.Trace.{puts, puts_all}
 
 -- with one open element more, or as many
 abbrev pub levels : Bool → ℕ → ℕ

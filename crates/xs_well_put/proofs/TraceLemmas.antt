@@ -1,6 +1,6 @@
 -- What instructions, templates and attribute sets put can be written, where the parts of which it is made can be.
-use Rattle.std.proofs.Common.{◌≡◌, ℕ, zero, suc, ◌+◌, ◌/◌, ◌==◌, ◌||◌, ◌&&◌, length, List, [], ◌∷◌, ◌++◌, slice_get, Option, Some, None, Bool, true, false, cond, filter, refl, sym}
-use Rattle.std.proofs.Common.{All, Ok, Err, ◌∙◌, ap, subst}
+use Rattle.std.proofs.Common.{◌≡◌, ℕ, zero, suc, ◌+◌, ◌||◌, length, List, [], ◌∷◌, ◌++◌, slice_get, Option, Some, None, Bool, true, false, cond, filter, refl, sym}
+use Rattle.std.proofs.Common.{◌∙◌, ap, subst}
 use Rattle.std.specs.List.{AllByRecursion}
 use Rattle.std.proofs.lemmas.List.{append-nil}
 use Rattle.xs_sheet.specs.Sets.{is_same_label}
@@ -14,22 +14,19 @@ use Rattle.xs_sheet.specs.declared.body.Instr.{Instr}
 use Rattle.xs_sheet.specs.declared.body.InstrKind.{InstrKind, Variable'}
 use Rattle.xs_sheet.specs.declared.body.InstrKind.TheVariants.{ApplyTemplates, CallTemplate, ApplyImports, ForEach, ValueOf, CopyOf, Copy, Number, Choose, If}
 use Rattle.xs_sheet.specs.declared.body.InstrKind.TheVariants.{Text, Element, Attribute, Comment, Pi, Message, Literal, Extension}
-use Rattle.xs_sheet.specs.declared.body.LiteralStart.{LiteralStart}
-use Rattle.xs_sheet.specs.declared.body.MadeName.{MadeName}
 use Rattle.xs_sheet.specs.declared.body.Passed.{Passed, Passed', out-Passed, Row_of-Binding, end_of-Binding, more_of-Binding}
 use Rattle.xs_sheet.specs.declared.body.When.{When'}
 use Rattle.xs_sheet.specs.declared.declarations.AttrSet.{AttrSet}
 use Rattle.xs_sheet.specs.declared.declarations.Template.{Template}
-use Rattle.xs_sheet.specs.declared.scoped.ScopedExpr.{ScopedExpr}
 use Rattle.xs_sheet.specs.declared.scoped.ValueTemplate.{ValueTemplate}
 use Rattle.xs_trace.specs.Label.{Label}
-use Rattle.xs_trace.specs.Mark.{Tick, Put, Say, Stop, Trace, ◌⨾◌, GoesOn, captured, events_of}
-use Rattle.xs_trace.specs.Run.{Run, Answer, give, evaluated}
+use Rattle.xs_trace.specs.Mark.{Put, Trace, ◌⨾◌, GoesOn, captured, events_of}
+use Rattle.xs_trace.specs.Run.{evaluated}
 use Rattle.xs_trace.specs.declared.event.Event.{Event}
 use Rattle.xs_trace.specs.declared.event.Event.TheVariants as event
 use Rattle.xs_trace.specs.declared.fault.Fault.TheVariants as fault
 use Rattle.xs_trace.specs.declared.item.Site.{Site}
-use Rattle.xs_tree.specs.Kinds.{has_content, is_attribute_kind, is_element_kind, is_root_kind, is_text_kind}
+use Rattle.xs_tree.specs.Kinds.{has_content, is_attribute_kind, is_text_kind}
 use Rattle.xs_tree.specs.Record.{Record, at, children}
 use Rattle.xs_tree.specs.declared.kinds.Kind.{Kind}
 use Rattle.xs_tree.specs.declared.kinds.Kind.TheVariants as kind
@@ -39,13 +36,12 @@ use Rattle.xs_value.specs.Conversion.{fragment_text}
 use Rattle.xs_making.specs.Copies.{shallow_copy}
 use Rattle.xs_making.specs.Laws.{IsWellNamed, IsWellPut}
 use Rattle.xs_making.specs.Names.{is_target}
-use Rattle.xs_result.specs.Built.{built}
-use Rattle.xs_reading_back.specs.Events.{IsResult, is_balanced}
+use Rattle.xs_reading_back.specs.Events.{is_balanced}
 use Rattle.xs_sets.specs.Declarations.{by_precedence, declarations_of, has_name, has_precedence, highest, ranked}
 use Rattle.xs_semantics.specs.declared.focus.Focus.{Focus}
 use Rattle.xs_semantics.specs.declared.made.Made.{Made}
 use Rattle.xs_semantics.specs.declared.made.Made.TheVariants as made
-use Rattle.xs_semantics.specs.Making.{attribute_events, attribute_label, content_text, element_label, literal_spaces, made_events, name_run, target_run, value_events}
+use Rattle.xs_semantics.specs.Making.{attribute_events, attribute_label, content_text, made_events, name_run, target_run, value_events}
 use Rattle.xs_semantics.specs.Rules.{import_for, rule_for}
 use Rattle.xs_semantics.specs.Tasks.{Job, Params, Task, below, body_job, grain_over, last_passed, no_params, rules_job, value_passed}
 use Rattle.xs_semantics.specs.Trace.{Called, Calls, Entry, applied, begins, bodies_trace, body_trace, built_in, by_number, by_rules, called, called_with, calls_at, chars}
@@ -55,11 +51,11 @@ use Rattle.xs_semantics.specs.Trace.{row_trace, ruled, says, sets_trace, spread,
 use Rattle.xs_semantics.specs.World.{World, all_set_levels, at_node, by_rule, captured_in, in_list, nodes_or_children, nodes_run, template_run, test_run, text_run}
 use Rattle.xs_semantics.specs.World.{value_run, with_levels, without_rule}
 use Rattle.xs_well_put.specs.Named.{AreNamedBindings, AreNamedBodies, AreNamedInstrs, AreNamedValues, AreNamedWhens, IsNamedBinding, IsNamedBody, IsNamedChoice}
-use Rattle.xs_well_put.specs.Named.{IsNamedContent, IsNamedEntry, IsNamedFallbacks, IsNamedJob, IsNamedKind, IsNamedLabel, IsNamedMade, IsNamedPassed, IsNamedRow}
-use Rattle.xs_well_put.specs.Named.{IsNamedSet, IsNamedSpace, IsNamedStart, IsNamedTemplate, IsNamedValue, IsNamedWorld}
+use Rattle.xs_well_put.specs.Named.{IsNamedContent, IsNamedEntry, IsNamedFallbacks, IsNamedJob, IsNamedKind, IsNamedLabel, IsNamedPassed, IsNamedRow}
+use Rattle.xs_well_put.specs.Named.{IsNamedSet, IsNamedTemplate, IsNamedValue, IsNamedWorld}
 use Rattle.xs_well_put.proofs.ItemLemmas.{OptionHas, all_filtered, all_joined, item_has}
 use Rattle.xs_well_put.proofs.PartLemmas.{Parts, Well}
-use Rattle.xs_well_put.proofs.PutLemmas.{AnswerHas, PutsBetween, begun, captures, deeper, ended, has_any, joined, nothing, said, stopped, ticked, valued}
+use Rattle.xs_well_put.proofs.PutLemmas.{PutsBetween, begun, captures, deeper, ended, has_any, joined, nothing, said, stopped, ticked, valued}
 use Rattle.xs_well_put.proofs.CopyLemmas.{Shifts, all_put, balanced_none, flat_shifts, is_begun, shallow_shifts}
 
 module _ (w : World) (world : IsNamedWorld w) (parts : Parts w) where

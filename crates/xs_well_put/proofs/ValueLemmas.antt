@@ -1,5 +1,5 @@
 -- A fragment is the value of an expression only where a variable has it.
-use Rattle.std.proofs.Common.{◌≡◌, ℕ, ◌++◌, List, [], ◌∷◌, Bool, true, false, cond, length, Option, Some, None, Ok, Err, slice_get}
+use Rattle.std.proofs.Common.{ℕ, List, [], ◌∷◌, Bool, true, false, cond, length, Option, Some, None, Ok, Err, slice_get}
 use Rattle.std.specs.List.{AllByRecursion}
 use Rattle.std.specs.Option.{option_map_or}
 use Rattle.std.specs.Str.{bytes_eq, chars}
@@ -25,26 +25,24 @@ use Rattle.xs_xpath.specs.declared.name.Function.TheVariants.{Last, Position, Co
 use Rattle.xs_xpath.specs.declared.name.Function.TheVariants.{SubstringBefore, SubstringAfter, Substring, StringLength, NormalizeSpace, Translate}
 use Rattle.xs_xpath.specs.declared.name.Function.TheVariants.{Boolean as ToBoolean, Not, True, False, Lang, Number, Sum, Floor, Ceiling, Round, Key, Current}
 use Rattle.xs_xpath.specs.declared.name.Function.TheVariants.{GenerateId, SystemProperty, ElementAvailable, FunctionAvailable, UnparsedEntityUri}
-use Rattle.xs_xpath.specs.declared.name.NodeTest.{NodeTest}
 use Rattle.xs_xpath.specs.declared.name.NodeTest.TheVariants.{Node}
 use Rattle.xs_xpath.specs.declared.name.Slot.{Slot}
 use Rattle.xs_xpath.specs.declared.name.Slot.TheVariants.{Local, Global}
 use Rattle.xs_xpath.specs.declared.token.Operator.{Operator}
 use Rattle.xs_xpath.specs.declared.token.Operator.TheVariants.{Or, And, Equal, Unequal, Less, LessEqual, Greater, GreaterEqual, Plus, Minus, Times, Div, Mod}
 use Rattle.xs_xpath.specs.declared.token.Operator.TheVariants.{Union}
-use Rattle.xs_tree.specs.declared.axes.Axis.{Axis}
 use Rattle.xs_tree.specs.declared.axes.Axis.TheVariants.{DescendantOrSelf}
 use Rattle.xs_xpath.specs.Tree as syntax
 use Rattle.xs_xpath.specs.Tree.{Tree, Trees, no_trees, first_tree}
 use Rattle.xs_eval.specs.Calls.{called, is_key}
 use Rattle.xs_eval.specs.Context.{Context}
-use Rattle.xs_eval.specs.Evaluation.{answered, arguments, called_of, chain, global, joined, joined_from, local, negative, right_operated}
+use Rattle.xs_eval.specs.Evaluation.{answered, arguments, chain, global, joined, joined_from, local, negative, right_operated}
 use Rattle.xs_eval.specs.Evaluation.{run_of_tree, runs_of_trees, unless, variable}
 use Rattle.xs_eval.specs.Functions.{count_given, first, first_node, first_or_node, id_of, number, second, sum_from, written, written_name}
 use Rattle.xs_eval.specs.Keys.{from_table, keyed, looked_up}
 use Rattle.xs_eval.specs.Names.{ExpandedName, expanded_name, property, xslt_property, xslt_uri}
 use Rattle.xs_eval.specs.Operators.{as_value, computed, decided, negated_by, negation, numbers, operated}
-use Rattle.xs_eval.specs.Paths.{Meaning, all_filtered, filter_expr, kept_of, path, selected, step, steps_from, tested, through}
+use Rattle.xs_eval.specs.Paths.{Meaning, all_filtered, filter_expr, kept_of, path, selected, steps_from, tested, through}
 use Rattle.xs_eval.specs.Results.{Outcome, ◌>>=◌, given, natural, nodes_in, numeric}
 use Rattle.xs_well_put.specs.Named.{AreNamedValues, IsNamedGlobal, IsNamedValue}
 use Rattle.xs_well_put.proofs.ItemLemmas.{OptionHas, item_has}

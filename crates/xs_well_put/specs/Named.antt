@@ -1,5 +1,5 @@
 -- Compiled stylesheets, values and entries of which each name can be put (Namespaces in XML 1.0, 3 and 4).
-use Rattle.std.specs.Prelude.{◌≡◌, ℕ, List, [], ◌∷◌, Option, Some, None, true, false}
+use Rattle.std.specs.Prelude.{◌≡◌, ℕ, List, Option, Some, None, true, false}
 use Rattle.std.specs.List.{AllByRecursion}
 use Rattle.std.specs.Str.{bytes_eq}
 use Rattle.xs_text.specs.Names.{is_ncname}
@@ -30,7 +30,7 @@ use Rattle.xs_tree.specs.Shape.{IsTree}
 use Rattle.xs_making.specs.Labels.{is_reserved, xmlns_uri}
 use Rattle.xs_making.specs.Laws.{AreWell, BindsNoXmlns, is_prefix}
 use Rattle.xs_reading_back.specs.Events.{IsResult}
-use Rattle.xs_semantics.specs.Tasks.{Job, Params, Task, body_job, rules_job}
+use Rattle.xs_semantics.specs.Tasks.{Job, Params, body_job, rules_job}
 use Rattle.xs_semantics.specs.Trace.{Entry, named, fitting, overridden, using}
 use Rattle.xs_semantics.specs.World.{World}
 
