@@ -1,0 +1,4 @@
+//! What a stylesheet puts can be written.
+#![tactic(auto)]
+
+pub mod laws;
