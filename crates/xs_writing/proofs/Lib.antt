@@ -1,6 +1,7 @@
 mod LineLemmas
 mod OpenLemmas
 mod OrderLemmas
+mod PlainLemmas
 mod ResolveLemmas
 mod ScopeLemmas
 mod StreamLemmas

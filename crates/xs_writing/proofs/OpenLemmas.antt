@@ -1,5 +1,5 @@
 -- The open elements, with one more.
-use Rattle.std.proofs.Common.{◌≡◌, List, [], ◌∷◌, ◌++◌, drop, length, map, refl, reverse, sym, ◌∙◌, ap, subst, append_assoc}
+use Rattle.std.proofs.Common.{◌≡◌, ℕ, List, [], ◌∷◌, ◌++◌, drop, length, map, refl, reverse, sym, ◌∙◌, ap, subst, append_assoc}
 use Rattle.std.proofs.lemmas.List.{length-map, reverse-append}
 use Rattle.xs_pyx.specs.declared.line.Line.{Line}
 use Rattle.xs_pyx.specs.declared.line.Line.TheVariants as line
@@ -58,22 +58,22 @@ entered_theirs items now f ds new all more is count theirs =
     (subst (AreTheirs (f ∷ reverse items)) (sym is) (one_theirs (reverse items) f ds (bindings_of all) counted theirs))
 
 -- ---- a start tag, by its parts
-pub tag_is : (tag : StartTag) (around : List OpenElement) (name : Label) (es : List Event) (ds m all : List Binding) (begun first joined last : List Line)
+pub tag_is : (tag : StartTag) (around : List OpenElement) (name : Label) (es : List Event) (ds m all : List Binding) (start : List ℕ)
+    (begun first joined last : List Line)
     → scope_of around ≡ ds ++ outermost → m ≡ bindings_before name es → all ≡ with_attributes m (attributes_in es)
-    → last ≡ attribute_lines m (attributes_in es) → tag.name ≡ element_name name
-    → bindings_of tag.declared.items ≡ declared (ds ++ outermost) all → begun ≡ line.Start tag.name ∷ []
+    → last ≡ attribute_lines m (attributes_in es) → start ≡ element_name name
+    → bindings_of tag.declared.items ≡ declared (ds ++ outermost) all → begun ≡ line.Start start ∷ []
     → first ≡ map declaration (bindings_of tag.declared.items) → joined ≡ begun ++ first → tag.lines.items ≡ joined ++ last → IsTag tag around name es
 unfolding bindings
-tag_is tag around name es ds m all begun first joined last inner is whole attributes named new start firsts more end =
+tag_is tag around name es ds m all start begun first joined last inner is whole attributes named new starts firsts more end =
     let bound : all ≡ bindings name es = whole ∙ ap (λ x. with_attributes x (attributes_in es)) is in
     let declares : bindings_of tag.declared.items ≡ declared (scope_of around) (bindings name es) =
     new ∙ ap (declared (ds ++ outermost)) bound ∙ ap (λ s. declared s (bindings name es)) (sym inner) in
     let lasts : last ≡ attribute_lines (bindings_before name es) (attributes_in es) = attributes ∙ ap (λ x. attribute_lines x (attributes_in es)) is in
     record {
-      named = named;
       declared = declares;
       lines =
-          end ∙ ap (λ x. x ++ last) (more ∙ ap (λ x. x ++ first) start) ∙ ap (λ n. line.Start n ∷ first ++ last) named
+          end ∙ ap (λ x. x ++ last) (more ∙ ap (λ x. x ++ first) starts) ∙ ap (λ n. line.Start n ∷ first ++ last) named
           ∙ ap (λ x. line.Start (element_name name) ∷ x ++ last) (firsts ∙ ap (map declaration) declares)
           ∙ ap (λ x. line.Start (element_name name) ∷ map declaration (declared (scope_of around) (bindings name es)) ++ x) lasts;
     }

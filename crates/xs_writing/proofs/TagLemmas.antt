@@ -5,7 +5,7 @@ use Rattle.std.proofs.lemmas.List.Sums.{take_while-cons}
 use Rattle.xs_trace.specs.declared.event.Event.{Event}
 use Rattle.xs_writing.specs.Bindings.{Attribute, Binding, attribute_of, attributes_in, is_in_tag, space_of, spaces_in, with_spaces}
 
-spaces-first : (e : Event) (es : List Event) → is_in_tag e ≡ true → spaces_in (e ∷ es) ≡ cons_option (space_of e) (spaces_in es)
+pub spaces-first : (e : Event) (es : List Event) → is_in_tag e ≡ true → spaces_in (e ∷ es) ≡ cons_option (space_of e) (spaces_in es)
 unfolding spaces_in
 spaces-first e es h = rw (take_while-cons is_in_tag e es, h) refl
 
@@ -13,7 +13,7 @@ pub spaces-past : (e : Event) (es : List Event) → is_in_tag e ≡ false → sp
 unfolding spaces_in
 spaces-past e es h = rw (take_while-cons is_in_tag e es, h) refl
 
-attributes-first : (e : Event) (es : List Event) → is_in_tag e ≡ true → attributes_in (e ∷ es) ≡ cons_option (attribute_of e) (attributes_in es)
+pub attributes-first : (e : Event) (es : List Event) → is_in_tag e ≡ true → attributes_in (e ∷ es) ≡ cons_option (attribute_of e) (attributes_in es)
 unfolding attributes_in
 attributes-first e es h = rw (take_while-cons is_in_tag e es, h) refl
 

@@ -1,3 +1,4 @@
+pub mod InForce
 pub mod Stream
 pub mod Tables
 pub mod Open

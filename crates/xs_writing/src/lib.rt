@@ -1,8 +1,10 @@
 //! The result of a run as the lines of a document.
 #![tactic(auto)]
 
+mod in_force;
 pub mod laws;
 mod least;
+mod name_lines;
 mod names;
 mod scope;
 mod stream;

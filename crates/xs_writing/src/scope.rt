@@ -4,6 +4,7 @@ ghost use Rattle.std.specs.Prelude.{drop, filter};
 ghost use Rattle.std.specs.BTreeMap.{is_at};
 ghost use Rattle.xs_writing.specs.Bindings.{Binding, declared, is_new, order_of_prefixes};
 ghost use Rattle.xs_writing.specs.Bindings.{outermost, uri_in};
+ghost use Rattle.xs_writing.specs.steps.InForce.{is_in_force};
 ghost use Rattle.xs_writing.specs.steps.Open.{binding, bindings_of};
 
 use crate::tag_bindings::{TagBindings, XML_URI};
@@ -35,6 +36,8 @@ pub(crate) struct Scope {
     current: BTreeMap<TextKey, TextBuf>,
     /// What was declared, the nearest last.
     log: Vec<Undo>,
+    /// The prefix of the last element, as a key: the next one mostly has the same.
+    recent: TextKey,
 }
 
 impl Model for Scope {
@@ -61,6 +64,7 @@ impl Scope {
         Ok(Scope {
             current,
             log: Vec::new(alloc),
+            recent: TextKey::of_str(alloc, "")?,
         })
     }
 
@@ -93,7 +97,7 @@ impl Scope {
             ≡ bindings_of all.old.items
             ++ filter (is_new (self.now ++ outermost)) ((prefix.now, uri.now) ∷ more)) }
     {
-        if self.is_new(prefix, uri) {
+        if self.is_new(prefix, uri.as_str()) {
             all.push(Declared {
                 prefix: prefix.text().copy()?,
                 uri: uri.copy()?,
@@ -104,13 +108,46 @@ impl Scope {
 
     /// Whether a prefix is bound to another URI here, or to none.
     #[tactic(auto, unfolding(crate::specs::Bindings::uri_in))]
-    fn is_new(&self, prefix: &TextKey, uri: &TextBuf) -> bool
+    pub(crate) fn is_new(&self, prefix: &TextKey, uri: &str) -> bool
         ensures { result ≡ is_new (self.now ++ outermost) (prefix.now, uri.now) }
     {
         match self.current.get(prefix) {
-            Some(other) => other.as_str() != uri.as_str(),
-            None => !uri.as_str().is_empty(),
+            Some(other) => other.as_str() != uri,
+            None => !uri.is_empty(),
         }
+    }
+
+    /// Whether a prefix is bound to a URI here; to none, where the URI is empty.
+    pub(crate) fn is_in_force(&self, prefix: &str, uri: &str) -> Result<bool, AllocError>
+        ensures { IfOk result (λ holds. holds
+            ≡ is_in_force (self.now ++ outermost) prefix.now uri.now) }
+    {
+        if self.recent.as_str() == prefix {
+            return Ok(!self.is_new(&self.recent, uri));
+        }
+        let key = TextKey::of_str(*self.log.allocator(), prefix)?;
+        Ok(!self.is_new(&key, uri))
+    }
+
+    /// The same, with a prefix as the recent one.
+    pub(crate) fn with_recent(self, prefix: &str) -> Result<Scope, AllocError>
+        ensures { IfOk result (λ scope. scope ≡ self) }
+    {
+        if self.recent.as_str() == prefix {
+            return Ok(self);
+        }
+        let Scope {
+            current,
+            log,
+            recent,
+        } = self;
+        let _last = recent;
+        let recent = TextKey::of_str(*log.allocator(), prefix)?;
+        Ok(Scope {
+            current,
+            log,
+            recent,
+        })
     }
 
     /// These declarations are in force too, the first of them nearest.
@@ -132,6 +169,7 @@ impl Scope {
         let Scope {
             mut current,
             mut log,
+            recent,
         } = self;
         let before = uri_of(&current, &declared.prefix)?;
         let Declared { prefix, uri } = declared;
@@ -141,7 +179,11 @@ impl Scope {
             uri,
             before,
         })?;
-        Ok(Scope { current, log })
+        Ok(Scope {
+            current,
+            log,
+            recent,
+        })
     }
 
     /// So many declarations, the nearest, are no longer in force.
@@ -161,13 +203,22 @@ impl Scope {
     fn leave_one(self) -> Result<Scope, AllocError>
         ensures { IfOk result (λ scope. scope ≡ drop 1 self) }
     {
-        let Scope { current, mut log } = self;
+        let Scope {
+            current,
+            mut log,
+            recent,
+        } = self;
         match log.pop() {
             Some(last) => Ok(Scope {
                 current: undone(current, last)?,
                 log,
+                recent,
             }),
-            None => Ok(Scope { current, log }),
+            None => Ok(Scope {
+                current,
+                log,
+                recent,
+            }),
         }
     }
 }

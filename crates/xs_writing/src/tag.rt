@@ -16,10 +16,9 @@ use xs_pyx::Line;
 use xs_trace::event::{Event, Label};
 use xs_trace::text::TextBuf;
 
-/// A start tag: its name as it is written, what it declares, and all its lines.
+/// A start tag: what it declares, and all its lines.
 #[derive(Drop)]
 pub(crate) struct StartTag {
-    pub(crate) name: TextBuf,
     pub(crate) declared: Vec<Declared>,
     pub(crate) lines: Vec<Line>,
 }

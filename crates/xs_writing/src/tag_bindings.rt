@@ -201,7 +201,7 @@ impl TagBindings {
         if name.prefix().is_empty() {
             return Ok(false);
         }
-        let key = TextKey::of(&TextBuf::of(self.alloc, name.prefix())?)?;
+        let key = TextKey::of_str(self.alloc, name.prefix())?;
         match self.uri_of(&key) {
             Some(uri) => Ok(uri.as_str() == name.uri()),
             None => Ok(true),
@@ -213,7 +213,7 @@ impl TagBindings {
     fn prefix_for(&self, uri: &str) -> Result<Option<TextBuf>, AllocError>
         ensures { IfOk result (λ prefix. prefix ≡ prefix_for self.now uri.now) }
     {
-        let key = TextKey::of(&TextBuf::of(self.alloc, uri)?)?;
+        let key = TextKey::of_str(self.alloc, uri)?;
         match self.by_uri.get(&key) {
             Some(prefix) => Ok(Some(prefix.copy()?)),
             None => Ok(None),
@@ -249,7 +249,7 @@ impl TagBindings {
 }
 
 /// Whether an attribute needs a prefix: where it is in a namespace other than that of `xml`.
-fn needs_prefix(name: &Label) -> bool
+pub(crate) fn needs_prefix(name: &Label) -> bool
     ensures { result ≡ needs_prefix name.now }
 {
     !name.uri().is_empty() && name.uri() != XML_URI

@@ -7,7 +7,7 @@ ghost use Rattle.std.specs.Str.{bytes_eq};
 ghost use Rattle.std.proofs.Common.{refl};
 ghost use Rattle.xs_writing.specs.Bindings.{order_of_prefixes};
 
-use std::alloc::AllocError;
+use std::alloc::{AllocError, Global};
 use std::cmp::Ordering;
 use std::marker::Model;
 use xs_trace::text::TextBuf;
@@ -34,6 +34,15 @@ impl TextKey {
         Ok(TextKey { text: text.copy()? })
     }
 
+    /// The key of a text, in memory of its own.
+    pub(crate) fn of_str(alloc: Global, text: &str) -> Result<TextKey, AllocError>
+        ensures { IfOk result (λ key. key ≡ text.now) }
+    {
+        Ok(TextKey {
+            text: TextBuf::of(alloc, text)?,
+        })
+    }
+
     /// The text.
     pub(crate) fn text(&self) -> &TextBuf
         ensures { result.now ≡ self.now }
@@ -42,7 +51,7 @@ impl TextKey {
     }
 
     /// The characters.
-    fn as_str(&self) -> &str
+    pub(crate) fn as_str(&self) -> &str
         ensures { result.now ≡ self.now }
     {
         self.text.as_str()

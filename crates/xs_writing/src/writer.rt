@@ -4,11 +4,13 @@ ghost use Rattle.std.specs.Str.{IsUtf8};
 ghost use Rattle.xs_pyx.specs.Writing.{written};
 ghost use Rattle.xs_trace.specs.declared.event.Event.{Event};
 ghost use Rattle.xs_trace.specs.declared.event.Event.TheVariants as event_of;
-ghost use Rattle.xs_writing.specs.Lines.{bytes_of, entered, lines, open_after, scope_of};
-ghost use Rattle.xs_writing.specs.Lines.{tag_lines};
+ghost use Rattle.xs_writing.specs.Lines.{bytes_of, element_name, entered, lines, open_after};
+ghost use Rattle.xs_writing.specs.Lines.{scope_of, tag_lines};
 ghost use Rattle.xs_writing.specs.steps.Open.{bindings_of};
 ghost use Rattle.xs_writing.specs.steps.Tags.{IsTag};
 
+use crate::in_force::is_plain_tag;
+use crate::name_lines::{ElementName, append_plain_tag};
 use crate::names::name_with;
 use crate::scope::{Declared, Scope};
 use crate::tag::{BoundTag, StartTag, bound_attributes, declaration_lines};
@@ -17,12 +19,11 @@ use std::alloc::{AllocError, Global};
 use std::marker::Model;
 use xs_pyx::{Line, write_line};
 use xs_trace::event::{Event, Label};
-use xs_trace::text::TextBuf;
 
 /// An element that is open: its name as it is written, and how many declarations it has.
 #[derive(Drop)]
 struct Frame {
-    name: TextBuf,
+    name: ElementName,
     declared: usize,
 }
 
@@ -128,13 +129,14 @@ impl PyxWriter {
         ensures kept { take (length out.old.items) out.new.items ≡ out.old.items }
         ensures utf8 { IsUtf8 out.old.items → IsUtf8 out.new.items }
     {
-        let StartTag {
-            name,
-            declared,
-            lines,
-        } = self.start_tag(name, behind)?;
-        append_lines(out, &lines)?;
-        self.enter(name, declared)
+        if is_plain_tag(&self.scope, name, behind)? {
+            append_plain_tag(out, name, behind)?;
+            let alloc = self.alloc;
+            return self.enter(name, Vec::new(alloc));
+        }
+        let tag = self.start_tag(name, behind)?;
+        append_lines(out, &tag.lines)?;
+        self.enter(name, tag.declared)
     }
 
     /// The start tag of an element.
@@ -151,21 +153,20 @@ impl PyxWriter {
         let declared = self.scope.declared(alloc, &bindings)?;
         let name = name_with(alloc, name.prefix(), name.local())?;
         let mut all = Vec::new(alloc);
-        all.push(Line::Start(name.copy()?))?;
+        all.push(Line::Start(name))?;
         let mut declarations = declaration_lines(alloc, &declared)?;
         all.append(&mut declarations)?;
         all.append(&mut lines)?;
         Ok(StartTag {
-            name,
             declared,
             lines: all,
         })
     }
 
     /// An element is open, with these declarations.
-    fn enter(self, name: TextBuf, declared: Vec<Declared>) -> Result<PyxWriter, AllocError>
+    fn enter(self, name: &Label, declared: Vec<Declared>) -> Result<PyxWriter, AllocError>
         ensures { IfOk result (λ writer. writer ≡ record {
-          name = name;
+          name = element_name name.now;
           scope = bindings_of declared.items ++ scope_of self;
         } ∷ self) }
     {
@@ -175,9 +176,10 @@ impl PyxWriter {
             mut elements,
         } = self;
         elements.push(Frame {
-            name,
+            name: ElementName::of(name)?,
             declared: declared.len(),
         })?;
+        let scope = scope.with_recent(name.prefix())?;
         Ok(PyxWriter {
             alloc,
             scope: scope.enter(declared)?,
@@ -203,7 +205,7 @@ impl PyxWriter {
         } = self;
         match elements.pop() {
             Some(Frame { name, declared }) => {
-                write_line(out, &Line::End(name))?;
+                name.append_end(out)?;
                 Ok(PyxWriter {
                     alloc,
                     scope: scope.leave(declared)?,

@@ -4,7 +4,7 @@ use Rattle.xs_pyx.specs.declared.line.Line.{Line}
 use Rattle.xs_trace.specs.Label.{Label}
 use Rattle.xs_trace.specs.declared.event.Event.{Event}
 use Rattle.xs_writing.specs.Bindings.{Attribute, Binding, with_attributes}
-use Rattle.xs_writing.specs.Lines.{OpenElement, attribute_lines, declared_in, element_name, tag_lines}
+use Rattle.xs_writing.specs.Lines.{OpenElement, attribute_lines, declared_in, tag_lines}
 use Rattle.xs_writing.specs.declared.tag.BoundTag.{BoundTag}
 use Rattle.xs_writing.specs.declared.tag.StartTag.{StartTag}
 use Rattle.xs_writing.specs.steps.Open.{bindings_of}
@@ -15,6 +15,5 @@ comes_to t more = (with_attributes t.bindings more, t.lines.items ++ attribute_l
 
 -- a start tag is that of this element, in these open elements
 pub record IsTag (tag : StartTag) (around : List OpenElement) (name : Label) (es : List Event) : Type 0 where
-  pub named : tag.name ≡ element_name name
   pub declared : bindings_of tag.declared.items ≡ declared_in around name es
   pub lines : tag.lines.items ≡ tag_lines around name es

@@ -5,8 +5,8 @@ use Rattle.xs_writing.proofs.writer.PyxWriter.start_tag.Goals as goal
 
 pub returns : goal.returns
 returns c =
-    tag_is (record { name = c.in_ok-name.name; declared = c.in_ok-declared.declared; lines = c.append-2.new.self }) c.args.self.now c.args.name.now
-    c.args.behind.now c.self.inside.scope c.in_ok-bindings.bindings c.in_ok-bindings-2.field-0.bindings c.push.new.self.items
+    tag_is (record { declared = c.in_ok-declared.declared; lines = c.append-2.new.self }) c.args.self.now c.args.name.now
+    c.args.behind.now c.self.inside.scope c.in_ok-bindings.bindings c.in_ok-bindings-2.field-0.bindings c.in_ok-name.name c.push.new.self.items
     c.in_ok-declarations.declarations.items c.append.new.self.items c.in_ok-bindings-2.field-0.lines.items
     (scope_is c.args.self.now (reverse c.self.inside.elements.items) c.self.inside.scope c.self.view_is c.self.invariant)
     c.in_ok-bindings.ensures (search rules) (search rules)

@@ -1,0 +1,195 @@
+//! Lines that are written from names as events have them, with no text made for them.
+ghost use Rattle.std.specs.Prelude.{◌≡◌, ◌∷◌, ◌++◌, [], ◌<◌, IfOk, List, OnOk, length, take};
+ghost use Rattle.std.specs.List.{cons_option};
+ghost use Rattle.std.specs.Str.{IsUtf8};
+ghost use Rattle.xs_pyx.specs.FirstBytes.{line_feed, space};
+ghost use Rattle.xs_pyx.specs.Writing.{written};
+ghost use Rattle.xs_pyx.specs.declared.line.Line.TheVariants as line_of;
+ghost use Rattle.xs_text.specs.Escapes.{escaped};
+ghost use Rattle.xs_writing.specs.Bindings.{Attribute, attribute_of, attributes_in};
+ghost use Rattle.xs_writing.specs.Lines.{bytes_of, element_name};
+ghost use Rattle.xs_writing.specs.steps.InForce.{own_lines, plain_lines};
+
+use crate::tag_bindings::is_in_tag;
+use std::alloc::AllocError;
+use std::marker::Model;
+use xs_text::escape_into;
+use xs_trace::event::{Event, Label};
+use xs_trace::text::TextBuf;
+
+/// The name of an element as it is written, with its prefix. Contracts see it as its bytes.
+#[derive(Drop)]
+pub(crate) struct ElementName {
+    label: Label,
+}
+
+impl Model for ElementName {
+    ghost use Rattle.std.specs.Prelude.{List, ℕ};
+    ghost use Rattle.xs_writing.specs.Lines.{element_name};
+
+    ghost Value = { List ℕ };
+
+    ghost view = { λ n. element_name n.label };
+}
+
+impl ElementName {
+    /// The name of an element.
+    pub(crate) fn of(label: &Label) -> Result<ElementName, AllocError>
+        ensures { IfOk result (λ name. name ≡ element_name label.now) }
+    {
+        Ok(ElementName {
+            label: label.copy()?,
+        })
+    }
+
+    /// Appends the line of its end. After a refusal a part of it.
+    #[tactic(auto, unfolding(xs_pyx::specs::Writing::written))]
+    pub(crate) fn append_end(&self, out: &mut Vec<u8>) -> Result<(), AllocError>
+        ensures written { OnOk result
+            (out.new.items ≡ out.old.items ++ written (line_of.End self.now)) }
+        ensures kept { take (length out.old.items) out.new.items ≡ out.old.items }
+        ensures utf8 { IsUtf8 out.old.items → IsUtf8 out.new.items }
+    {
+        append_byte(out, b')')?;
+        append_name(out, &self.label)?;
+        append_byte(out, b'\n')
+    }
+}
+
+/// Appends the lines of a start tag that declares nothing, where its attributes keep their
+/// prefixes. After a refusal a part of them.
+#[tactic(auto, unfolding(crate::specs::Lines::bytes_of))]
+pub(crate) fn append_plain_tag(
+    out: &mut Vec<u8>,
+    name: &Label,
+    behind: &[Event],
+) -> Result<(), AllocError>
+    ensures written { OnOk result
+        (out.new.items ≡ out.old.items ++ bytes_of (plain_lines name.now behind.now)) }
+    ensures kept { take (length out.old.items) out.new.items ≡ out.old.items }
+    ensures utf8 { IsUtf8 out.old.items → IsUtf8 out.new.items }
+{
+    append_start(out, name)?;
+    append_attributes(out, behind)
+}
+
+/// Appends the line of the start of an element.
+#[tactic(auto, unfolding(xs_pyx::specs::Writing::written))]
+fn append_start(out: &mut Vec<u8>, name: &Label) -> Result<(), AllocError>
+    ensures written { OnOk result
+        (out.new.items ≡ out.old.items ++ written (line_of.Start (element_name name.now))) }
+    ensures kept { take (length out.old.items) out.new.items ≡ out.old.items }
+    ensures utf8 { IsUtf8 out.old.items → IsUtf8 out.new.items }
+{
+    append_byte(out, b'(')?;
+    append_name(out, name)?;
+    append_byte(out, b'\n')
+}
+
+/// Appends the lines of the attributes of a start tag.
+#[tactic(auto, unfolding(crate::specs::Bindings::attributes_in, crate::specs::Lines::bytes_of))]
+fn append_attributes(out: &mut Vec<u8>, behind: &[Event]) -> Result<(), AllocError>
+    ensures written { OnOk result
+        (out.new.items ≡ out.old.items ++ bytes_of (own_lines (attributes_in behind.now))) }
+    ensures kept { take (length out.old.items) out.new.items ≡ out.old.items }
+    ensures utf8 { IsUtf8 out.old.items → IsUtf8 out.new.items }
+{
+    let mut rest = behind;
+    while let Some((event, more)) = rest.split_first() {
+        if !is_in_tag(event) {
+            return Ok(());
+        }
+        append_event(out, event)?;
+        rest = more;
+    }
+    Ok(())
+}
+
+/// Appends the line of an attribute; no other event is one.
+#[tactic(auto, unfolding(crate::specs::Lines::bytes_of))]
+fn append_event(out: &mut Vec<u8>, event: &Event) -> Result<(), AllocError>
+    ensures written { OnOk result ((more : List Attribute)
+        → out.new.items ++ bytes_of (own_lines more)
+        ≡ out.old.items ++ bytes_of (own_lines (cons_option (attribute_of event.now) more))) }
+    ensures kept { take (length out.old.items) out.new.items ≡ out.old.items }
+    ensures utf8 { IsUtf8 out.old.items → IsUtf8 out.new.items }
+{
+    match event {
+        Event::Attr { name, value } => append_attribute(out, name, value),
+        Event::Start(_) => Ok(()),
+        Event::Space { .. } => Ok(()),
+        Event::Chars(_) => Ok(()),
+        Event::End => Ok(()),
+        Event::Comment(_) => Ok(()),
+        Event::Pi { .. } => Ok(()),
+    }
+}
+
+/// Appends the line of an attribute.
+#[tactic(auto, unfolding(xs_pyx::specs::Writing::written))]
+fn append_attribute(out: &mut Vec<u8>, name: &Label, value: &TextBuf) -> Result<(), AllocError>
+    ensures written { OnOk result (out.new.items
+        ≡ out.old.items ++ written (line_of.Attr (element_name name.now) value.now)) }
+    ensures kept { take (length out.old.items) out.new.items ≡ out.old.items }
+    ensures utf8 { IsUtf8 out.old.items → IsUtf8 out.new.items }
+{
+    append_byte(out, b'A')?;
+    append_name(out, name)?;
+    append_value(out, value.as_str())
+}
+
+/// Appends the rest of the line of an attribute: a space and its value.
+fn append_value(out: &mut Vec<u8>, value: &str) -> Result<(), AllocError>
+    ensures written { OnOk result
+        (out.new.items ≡ out.old.items ++ space ∷ escaped value.now ++ line_feed ∷ []) }
+    ensures kept { take (length out.old.items) out.new.items ≡ out.old.items }
+    ensures utf8 { IsUtf8 out.old.items → IsUtf8 out.new.items }
+{
+    append_byte(out, b' ')?;
+    append_escaped(out, value)?;
+    append_byte(out, b'\n')
+}
+
+/// Appends a value with its escapes.
+fn append_escaped(out: &mut Vec<u8>, value: &str) -> Result<(), AllocError>
+    ensures written { OnOk result (out.new.items ≡ out.old.items ++ escaped value.now) }
+    ensures kept { take (length out.old.items) out.new.items ≡ out.old.items }
+    ensures utf8 { IsUtf8 out.old.items → IsUtf8 out.new.items }
+{
+    escape_into(out, value)?;
+    Ok(())
+}
+
+/// Appends a name, with its prefix if it has one.
+fn append_name(out: &mut Vec<u8>, name: &Label) -> Result<(), AllocError>
+    ensures written { OnOk result (out.new.items ≡ out.old.items ++ element_name name.now) }
+    ensures kept { take (length out.old.items) out.new.items ≡ out.old.items }
+    ensures utf8 { IsUtf8 out.old.items → IsUtf8 out.new.items }
+{
+    if name.prefix().is_empty() {
+        return append_text(out, name.local());
+    }
+    append_text(out, name.prefix())?;
+    append_byte(out, b':')?;
+    append_text(out, name.local())
+}
+
+/// Appends a text.
+fn append_text(out: &mut Vec<u8>, text: &str) -> Result<(), AllocError>
+    ensures written { OnOk result (out.new.items ≡ out.old.items ++ text.now) }
+    ensures kept { take (length out.old.items) out.new.items ≡ out.old.items }
+    ensures utf8 { IsUtf8 out.old.items → IsUtf8 out.new.items }
+{
+    out.extend_from_slice(text.as_bytes())
+}
+
+/// Appends a character of ASCII.
+fn append_byte(out: &mut Vec<u8>, byte: u8) -> Result<(), AllocError>
+    requires { byte < 128 }
+    ensures written { OnOk result (out.new.items ≡ out.old.items ++ byte ∷ []) }
+    ensures kept { take (length out.old.items) out.new.items ≡ out.old.items }
+    ensures utf8 { IsUtf8 out.old.items → IsUtf8 out.new.items }
+{
+    out.push(byte)?;
+    Ok(())
+}
