@@ -6,7 +6,7 @@ from collections import namedtuple
 LINE = re.compile(r"fault (\d+) (\w+) (\S+) (\d+)\n?")
 ESCAPE = re.compile(r"\\(.)")
 MEANT = {"n": "\n", "t": "\t", "r": "\r", "\\": "\\"}
-STATIC = range(20, 50)  # of a stylesheet, before any source is read
+STATIC = range(20, 47)  # of a stylesheet, before any source is read
 ELEMENTS = (*range(20, 26), *range(32, 47))  # of single elements
 READ_FAULT = 70
 
@@ -36,7 +36,6 @@ PHRASES = {
     44: "an attribute set uses itself",
     45: "not allowed here",
     46: "elements nest more than 256 deep",
-    49: "not supported yet",
     50: "the budget of ticks is spent",
     51: "a number that is no whole number",
     52: "a number past 9,007,199,254,740,991, or a division by 0",

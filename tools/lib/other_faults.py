@@ -1,24 +1,6 @@
-"""Finds out what the faults of reading modules, of what is not supported yet, and of a run are about."""
+"""Finds out what the faults of reading modules and of a run are about."""
 
 from lib.findings import Finding, short
-from lib.vocabulary import UNSUPPORTED
-
-FIRST = 3  # so many elements that are not supported are named
-
-
-def unsupported_elements(modules):
-    """The elements of all modules that are not supported yet."""
-    for module in modules:
-        for element in module.elements():
-            if element.is_a(*UNSUPPORTED):
-                yield module, element
-
-
-def not_supported(modules):
-    """The first of what is not supported yet, as findings with their modules, and how many more there are."""
-    found = list(unsupported_elements(modules))
-    first = [(module, Finding(f"{element.name} is not supported yet", element)) for module, element in found[:FIRST]]
-    return first, len(found) - len(first)
 
 
 def circular_module(_modules, _module, element):
@@ -53,3 +35,13 @@ def terminated(_modules, _module, element):
 
 def no_extension(_modules, _module, element):
     return Finding(f"extension element {element.name} is not known, and has no xsl:fallback", element)
+
+
+def bad_order(_modules, _module, element):
+    """The order of a sort key, where one alone can be meant."""
+    sorts = [each for each in element.children if each.is_a("sort")]
+    wrong = [each for each in sorts if each.get("order") not in (None, "ascending", "descending")]
+    if len(wrong) != 1:
+        return None
+    text = f'order="{short(wrong[0].get("order"))}" is neither ascending nor descending'
+    return Finding(text, wrong[0], "order", 0)

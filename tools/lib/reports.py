@@ -40,6 +40,7 @@ FINDERS = {
     57: other_faults.terminated,
     58: other_faults.no_extension,
     59: other_faults.circular_global,
+    62: other_faults.bad_order,
 }
 
 
@@ -115,18 +116,6 @@ def report(module, finding, tag, kind="error"):
     report_at(module.xml, module.source_lines() if line else [], line, column, text, kind)
 
 
-def report_unsupported(folder, fault):
-    """Reports what is not supported yet: the first elements, and how many more."""
-    found, more = other_faults.not_supported(folder.modules.values())
-    for module, finding in found:
-        report(module, finding, fault.tag)
-    if more:
-        say(f"xslt-xml: note: {more} more like these\n")
-    if not found:
-        module = folder.module(fault.file)
-        say(f"{module.xml if module else fault.file}: error: {fault.phrase} {fault.tag}\n")
-
-
 def report_unread(folder, module, fault):
     """Reports a module that can't be read, at the place where it is no XML, or where it is mentioned."""
     other, element = folder.mention(module.xml)
@@ -146,9 +135,7 @@ def report_unread(folder, module, fault):
 def report_fault(folder, fault):
     """Reports a fault of the stylesheet or of a run; what was found, where that can be changed."""
     module = folder.module(fault.file)
-    if fault.number == 49:
-        report_unsupported(folder, fault)
-    elif module and fault.number == READ_FAULT:
+    if module and fault.number == READ_FAULT:
         report_unread(folder, module, fault)
     elif module and fault.number < 20:
         say(f"{module.xml}:{module.line(fault.row)}: error: {fault.phrase} {fault.tag}\n")

@@ -11,7 +11,6 @@ from lib import nearest, results, xpath
 from lib.converter_tests import EXAMPLES, TOOLS, implementations
 from lib.modules import Folder, Module
 from lib.samples import lines
-from lib.vocabulary import TOP_LEVEL, UNSUPPORTED, required_of
 
 STAND_IN = os.path.join(TOOLS, "lib", "stand_in.py")
 REAL = os.path.join(TOOLS, "..", "crates", "xslt", "out", "xslt")
@@ -138,20 +137,6 @@ s.xsl:3: error: x:value-of needs select, and seelct is not known; did you mean s
 s.xsl:3: error: no template has the name fooo; did you mean foo? [43 UnknownTemplate]
   <x:call-template name="fooo"/>
                          ^
-"""),
-    "what is not supported yet": (
-        '<x:for-each select="a">\n<x:sort/><x:number/></x:for-each>\n<x:number/> <x:number/>',
-        3, """\
-s.xsl:4: error: x:sort is not supported yet [49 NotBuilt]
-  <x:sort/><x:number/></x:for-each>
-  ^
-s.xsl:4: error: x:number is not supported yet [49 NotBuilt]
-  <x:sort/><x:number/></x:for-each>
-           ^
-s.xsl:5: error: x:number is not supported yet [49 NotBuilt]
-  <x:number/> <x:number/>
-  ^
-xslt-xml: note: 1 more like these
 """),
     "endless recursion": (
         '<x:call-template name="endless"/>\n</x:template><x:template name="endless"><x:call-template name="endless"/>',
@@ -335,22 +320,6 @@ def reports(tests):
         tests.check("nearest: " + name, nearest.nearest(name, names), wanted)
 
 
-def unsupported(tests):
-    """What is named as not supported yet is refused by the real program for that, and so reported."""
-    values = {"name": "n", "select": ".", "match": "a", "use": "b", "stylesheet-prefix": "x", "result-prefix": "x"}
-    for local in UNSUPPORTED if os.path.exists(REAL) else ():
-        element = f"<x:{local} " + " ".join(f'{name}="{values[name]}"' for name in required_of(local)) + "/>"
-        element = f'<x:for-each select="a">{element}</x:for-each>' if local == "sort" else element
-        sheet = BODY.format(element)
-        if local in TOP_LEVEL:
-            sheet = SHEET.format('<x:output method="text"/>' + element)
-        with tempfile.TemporaryDirectory() as folder:
-            write_files(folder, {"s.xsl": sheet, "r.xml": "<r/>"})
-            status, _, err = run_xml(folder, "xslt-xml", "--program", REAL, "s.xsl", "r.xml")
-            tests.check("not supported: " + local, (status, err.splitlines()[:1]), (3, [
-                f"s.xsl:{2 if local in TOP_LEVEL else 3}: error: x:{local} is not supported yet [49 NotBuilt]"]))
-
-
 def outputs(tests):
     """-o, -, --outdir, --time, --version, --help, and arguments that are refused."""
     sheet, run = ["--program", STAND_IN, "s.xsl"], lambda *arguments, **more: run_xml(folder, "xslt-xml", *arguments, **more)
@@ -428,6 +397,5 @@ def examples_of_xml(tests):
 def test(tests):
     runs_of_xml(tests)
     reports(tests)
-    unsupported(tests)
     outputs(tests)
     examples_of_xml(tests)

@@ -16,7 +16,6 @@ RULES = [
     ("$no", 39, "UnknownVariable"),
     ("Aname fooo", 43, "UnknownTemplate"),
 ]
-NOT_BUILT = ("(x:sort", "(x:number")
 ENDLESS = "Aname endless"
 
 
@@ -24,13 +23,10 @@ class Program:
     def __init__(self, arguments):
         self.arguments, self.read, self.call = arguments, [], None
         self.inputs = [each for each in arguments if not each.startswith("--") and not each.isdigit()]
-        self.is_built = True
 
     def run(self):
         print("message", *self.arguments, file=sys.stderr)
         self.module(self.inputs[0], [self.inputs[0]])
-        if not self.is_built:
-            refuse(3, 49, "NotBuilt", self.inputs[0], 0)
         if "--check" in self.arguments:
             return 0
         lines = lines_of(self.inputs[1])
@@ -47,7 +43,6 @@ class Program:
         for number, line in enumerate(lines_of(name), 1):
             start = number if line.startswith("(") else start
             found += [(start, rule[1:]) for rule in RULES if rule[0] in line]
-            self.is_built = self.is_built and line not in NOT_BUILT
             self.call = (name, start) if line == ENDLESS else self.call
             if line.startswith("Ahref "):
                 self.mention(line[6:], name, start, above)

@@ -131,9 +131,6 @@ FUNCTIONS = {
     "function-available": (1, 1),
 }
 
-# What docs/LANGUAGE.md names as not supported yet: elements wherever they are.
-UNSUPPORTED = ["sort", "number", "key"]
-
 
 def attributes_of(local):
     """The names of the attributes that an element of XSLT may have."""

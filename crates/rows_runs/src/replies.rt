@@ -8,6 +8,7 @@ use crate::answer::{Answer, text_of};
 use crate::answers::{put_line, put_short};
 use crate::stylesheets::modules::{put_end, put_fault, put_numbered};
 use std::alloc::{AllocError, Global};
+use std::thread::Threads;
 use xs_compile::{CompileEnd, compile};
 use xs_engine::{Job, Reply, run_reply};
 use xs_modules::{Modules, read_modules};
@@ -16,16 +17,23 @@ use xs_sheet::sheet::Sheet;
 use xs_trace::text::TextBuf;
 
 /// Adds what the stylesheet of the library gives for each of some sources, or its fault.
-pub(crate) fn put_replies(out: &mut Answer, alloc: Global, library: &mut MemLibrary, names: &str) {
+pub(crate) fn put_replies<R: Threads + Sync>(
+    out: &mut Answer,
+    rt: &R,
+    alloc: Global,
+    library: &mut MemLibrary,
+    names: &str,
+) {
     match read_modules(alloc, library, "s.pyx") {
-        Ok(modules) => put_by_modules(out, alloc, &modules, library, names),
+        Ok(modules) => put_by_modules(out, rt, alloc, &modules, library, names),
         Err(end) => put_end(out, &end),
     }
 }
 
 /// Adds what modules give for each of some sources, or their fault.
-fn put_by_modules(
+fn put_by_modules<R: Threads + Sync>(
     out: &mut Answer,
+    rt: &R,
     alloc: Global,
     modules: &Modules,
     library: &mut MemLibrary,
@@ -34,15 +42,16 @@ fn put_by_modules(
     requires sound { AreSound (modules_data modules.now) }
 {
     match compile(alloc, modules) {
-        Ok(sheet) => put_by_sheet(out, alloc, &sheet, library, names),
+        Ok(sheet) => put_by_sheet(out, rt, alloc, &sheet, library, names),
         Err(CompileEnd::Refused(fault)) => put_fault(out, modules, Some(fault)),
         Err(CompileEnd::NoMemory) => out.refuse(),
     }
 }
 
 /// Adds what a stylesheet gives for each of some sources.
-fn put_by_sheet(
+fn put_by_sheet<R: Threads + Sync>(
     out: &mut Answer,
+    rt: &R,
     alloc: Global,
     sheet: &Sheet,
     library: &mut MemLibrary,
@@ -54,7 +63,7 @@ fn put_by_sheet(
     for name in names.split(' ') {
         out.put(if is_first { "" } else { "; " });
         is_first = false;
-        match reply_on(alloc, sheet, library, name) {
+        match reply_on(rt, alloc, sheet, library, name) {
             Ok(reply) => put_reply(out, &reply),
             Err(_) => out.refuse(),
         }
@@ -62,7 +71,8 @@ fn put_by_sheet(
 }
 
 /// What a stylesheet gives for a source, with a text for its parameter `word`.
-fn reply_on(
+fn reply_on<R: Threads + Sync>(
+    rt: &R,
     alloc: Global,
     sheet: &Sheet,
     library: &mut MemLibrary,
@@ -79,7 +89,7 @@ fn reply_on(
         budget: 1000,
         most_events: None,
     };
-    run_reply(alloc, &job, &TextBuf::of(alloc, name)?, sheet, library)
+    run_reply(rt, alloc, &job, &TextBuf::of(alloc, name)?, sheet, library)
 }
 
 /// Adds a reply: its status, its ticks, its lines for the user, its fault, and its result.

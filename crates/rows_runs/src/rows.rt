@@ -270,7 +270,7 @@ impl<'t> Rows<'t> {
             "read_words" => put_options(out, self.alloc, input),
             "build" => put_fragment(out, self.alloc, input),
             "write_text" | "write_pyx" | "take" => put_written(out, self.alloc, self.call, input),
-            "run_reply" => self.put_replies(out, input),
+            "run_reply" => self.put_replies(out, rt, input),
             "transform args" | "transform budget" | "transform text" => {
                 self.put_transformed(out, rt, input)
             }
@@ -279,9 +279,9 @@ impl<'t> Rows<'t> {
     }
 
     /// Adds the answers of the stylesheet, compiled once, on sources whose names are the input.
-    fn put_replies(&self, out: &mut Answer, input: &str) {
+    fn put_replies<R: Threads + Sync>(&self, out: &mut Answer, rt: &R, input: &str) {
         match self.setup.library(out, b"") {
-            Ok(mut library) => put_replies(out, self.alloc, &mut library, input),
+            Ok(mut library) => put_replies(out, rt, self.alloc, &mut library, input),
             Err(_) => out.refuse(),
         }
     }

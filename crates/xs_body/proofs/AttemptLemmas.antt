@@ -4,7 +4,7 @@ use Rattle.std.proofs.Common.{append_assoc, append-nil}
 use Rattle.xs_sheet.specs.declared.declarations.Global.{Global}
 use Rattle.xs_trace.specs.Cut.{Cut, End, Whole, Fault, Needs, Spent, Full, cut, nowhere}
 use Rattle.xs_trace.specs.Keeping.{IsCutAt}
-use Rattle.xs_trace.specs.Kept.{item_marks, marks_of, spot}
+use Rattle.xs_trace.specs.Kept.{item_marks, marks_of}
 use Rattle.xs_trace.specs.Mark.{Trace, messages_of, tick_count, ticks, untimed}
 use Rattle.xs_trace.specs.Play.{Step, Goes, Ends, Told, goes, and_then, IsStep, play}
 use Rattle.xs_trace.specs.PlayLaws.{begun}

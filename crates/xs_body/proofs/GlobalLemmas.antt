@@ -1,15 +1,14 @@
 -- Attempts at globals, step by step.
-use Rattle.std.proofs.Common.{◌≡◌, ℕ, List, [], ◌∷◌, ◌++◌, Option, Some, None, Result, Ok, Err, refl, sym, ap, subst, ◌∙◌}
+use Rattle.std.proofs.Common.{◌≡◌, List, [], ◌∷◌, Result, Err, refl, sym, ap, subst, ◌∙◌}
 use Rattle.xs_sheet.specs.declared.body.Binding.{Binding}
 use Rattle.xs_sheet.specs.declared.body.Body.{Body}
 use Rattle.xs_sheet.specs.declared.scoped.ScopedExpr.{ScopedExpr}
 use Rattle.xs_sheet.specs.declared.body.Content.{Content}
-use Rattle.xs_sheet.specs.declared.body.Content.TheVariants.{Empty, Select, Body as Fragment}
-use Rattle.xs_trace.specs.Mark.{Trace, ◌⨾◌, captured, events_of, without_puts}
+use Rattle.xs_sheet.specs.declared.body.Content.TheVariants.{Select, Body as Fragment}
+use Rattle.xs_trace.specs.Mark.{Trace, captured, events_of, without_puts}
 use Rattle.xs_trace.specs.Run.{Run, Answer, Gives, Faults, Lacks, answered, evaluated, limited}
-use Rattle.xs_trace.specs.State.{State, captures_are, opened, popped, top}
-use Rattle.xs_trace.specs.Play.{Step, Goes, Told, and_then, goes, ticked_by, play, IsStep}
-use Rattle.xs_trace.specs.PlayLaws.{captures_from}
+use Rattle.xs_trace.specs.State.{State, opened, popped, top}
+use Rattle.xs_trace.specs.Play.{Step, Goes, and_then, goes, ticked_by, play, IsStep}
 use Rattle.xs_trace.specs.declared.event.Event.{Event}
 use Rattle.xs_trace.specs.declared.item.Site.{Site}
 use Rattle.xs_trace.specs.declared.recorder.Halt.{Halt}
@@ -20,7 +19,7 @@ use Rattle.xs_trace.proofs.RunLemmas.{play-evaluated}
 use Rattle.xs_value.specs.declared.value.Value.{Value}
 use Rattle.xs_value.specs.declared.value.Value.TheVariants.{Piece}
 use Rattle.xs_semantics.specs.declared.focus.Focus.{Focus}
-use Rattle.xs_semantics.specs.World.{World, captured_in, value_run}
+use Rattle.xs_semantics.specs.World.{World, value_run}
 use Rattle.xs_semantics.specs.Tasks.{Task}
 use Rattle.xs_semantics.specs.Trace.{body_trace, content_trace, fragment_of, instrs_trace}
 use Rattle.xs_semantics.specs.Globals.{content_value, global_focus, value_in}

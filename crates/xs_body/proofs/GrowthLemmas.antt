@@ -30,7 +30,9 @@ use Rattle.xs_semantics.specs.declared.focus.Focus.{Focus}
 use Rattle.xs_semantics.specs.declared.made.Made.{Made}
 use Rattle.xs_semantics.specs.declared.made.Made.TheVariants as made
 use Rattle.xs_body.specs.declared.frames.Scope.{Scope}
-use Rattle.xs_semantics.specs.World.{World, in_list, value_run, nodes_run, text_run, test_run, nodes_or_children}
+use Rattle.xs_sheet.specs.declared.body.NumberDecl.{NumberDecl}
+use Rattle.xs_semantics.specs.Numbers.{number_run}
+use Rattle.xs_semantics.specs.World.{World, in_list, value_run, looped_nodes, text_run, test_run, applied_nodes}
 use Rattle.xs_semantics.specs.Tasks.{Params, no_params, Job, body_job, rules_job, Task, tasks_for, grain_over}
 use Rattle.xs_semantics.specs.Rules.{rule_for, import_for}
 use Rattle.xs_semantics.specs.Trace.{Entry, named, fitting, overridden, using, Called, by_number, by_rules, each, body_trace, declared_trace}
@@ -46,7 +48,7 @@ use Rattle.xs_body.specs.steps.Frames.{message_steps, message_ended, fragment_at
 use Rattle.xs_body.specs.steps.Frames.{chars_steps, run_by, run_begun, applied_begun, built_in_begun, rule_begun, entry_begun}
 use Rattle.xs_body.specs.steps.Frames.{entering, call_begun, imports_begun, content_begun, passes_on, pass_begun, param_begun}
 use Rattle.xs_body.specs.steps.Frames.{fallbacks_begun, looping, loop_begun}
-use Rattle.xs_body.specs.steps.Frames.{value_steps, begun}
+use Rattle.xs_body.specs.steps.Frames.{number_steps, value_steps, begun}
 
 -- what is told, and then a value that tells nothing
 pub then-goes-grow : {H : Type 0} → {A B : Type 0} (g : State H → Step H A) (f : A → B) → Grows g → Grows (λ s. and_then (g s) (λ x m. Goes (f x) m))
@@ -157,6 +159,10 @@ value-grows : (select : ScopedExpr) (p : Site) (c : Scope) (t : Evaluation) → 
 value-grows select p c t s =
     grows-then s (limited p (text_run t.world select c.focus (last c.seen t.slots)) s) (λ text m. chars_steps p text m) (limited-grows p _ s) (chars-grow p)
 
+number-grows : (decl : NumberDecl) (p : Site) (c : Scope) (t : Evaluation) → Grows (number_steps decl p c t)
+number-grows decl p c t s =
+    grows-then s (limited p (number_run t.world decl c.focus (last c.seen t.slots)) s) (λ text m. chars_steps p text m) (limited-grows p _ s) (chars-grow p)
+
 -- what is put, and then what it begins
 pub element-grows : (name : Label) (sets : List Label) (body : Body) (c : Scope) (t : Evaluation) → Grows (element_put name sets body c t)
 element-grows name sets body c t = then-goes-grow (put (Start name)) (λ u. inside_begun sets body c t) (put-grows (Start name))
@@ -171,20 +177,20 @@ copy-grows select p c t s =
 
 pub begun-grows : (kind : InstrKind) (p : Site) (c : Scope) (t : Evaluation) → Grows (begun kind p c t)
 begun-grows (ApplyTemplates nodes passed) p c t = λ s.
-    grows-then s (limited p (nodes_or_children t.world nodes.select c.focus (last c.seen t.slots)) s)
+    grows-then s (limited p (applied_nodes t.world nodes.select nodes.sorts c.focus (last c.seen t.slots)) s)
     (λ ns m. passes_on (bindings_of passed) (bindings_of passed) [] (by_rules nodes.mode ns) p c t m) (limited-grows p _ s)
     (λ ns. passes-grow (bindings_of passed) (bindings_of passed) [] (by_rules nodes.mode ns) p c t)
 begun-grows (CallTemplate i passed) p c t = passes-grow (bindings_of passed) (bindings_of passed) [] (by_number i) p c t
 begun-grows ApplyImports p c t = imports-grow p c.focus c.focus.rule t
 begun-grows (ForEach select sorts body) p c t = λ s.
-    grows-then s (limited p (nodes_run t.world select c.focus (last c.seen t.slots)) s) (λ ns m. loop_begun body p c ns t m) (limited-grows p _ s)
+    grows-then s (limited p (looped_nodes t.world select sorts c.focus (last c.seen t.slots)) s) (λ ns m. loop_begun body p c ns t m) (limited-grows p _ s)
     (λ ns. loop-grows body p c ns t)
 begun-grows (ValueOf select) p c t = stays-grow (value_steps select p c t) t (value-grows select p c t)
 begun-grows (CopyOf select) p c t = stays-grow (copy_of_steps select p c t) t (copy-grows select p c t)
 begun-grows (Copy sets body) p c t =
     then-goes-grow (events_steps p (shallow_copy t.world.tree c.focus.node)) (λ u. copied_begun (at t.world.tree c.focus.node).kind sets body c t)
     (events-grow p (shallow_copy t.world.tree c.focus.node))
-begun-grows (Number decl) p c t = goes-grows t
+begun-grows (Number decl) p c t = stays-grow (number_steps decl p c t) t (number-grows decl p c t)
 begun-grows (Choose choice) p c t = then-goes-grow (limited p (chosen choice t.world c.focus (last c.seen t.slots)))
     (λ body. pushed (rest (instrs_of body) (inner c) ∷ []) t) (limited-grows p _)
 begun-grows (If test body) p c t =

@@ -5,6 +5,8 @@ pub mod SetLemmas
 pub mod GrowthLemmas
 pub mod ExitLemmas
 pub mod ChildLemmas
+pub mod SortLemmas
+pub mod NumberLemmas
 pub mod StepLemmas
 pub mod LoopLemmas
 pub mod WorldLemmas

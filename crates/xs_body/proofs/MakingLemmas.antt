@@ -7,10 +7,10 @@ use Rattle.xs_sheet.specs.declared.body.MadeName.{MadeName}
 use Rattle.xs_sheet.specs.declared.declarations.Alias.{Alias}
 use Rattle.xs_sheet.specs.declared.scoped.ValueTemplate.{ValueTemplate}
 use Rattle.xs_trace.specs.Label.{Label}
-use Rattle.xs_trace.specs.Mark.{Trace, ◌⨾◌}
+use Rattle.xs_trace.specs.Mark.{Trace}
 use Rattle.xs_trace.specs.Run.{Run, Gives, Faults, give, limited, evaluated, ◌>>=◌}
 use Rattle.xs_trace.specs.State.{State, popped, top}
-use Rattle.xs_trace.specs.Play.{IsStepBy, Step, Goes, Told, and_then, goes, put_at, play}
+use Rattle.xs_trace.specs.Play.{IsStepBy, Goes, and_then, goes, put_at, play}
 use Rattle.xs_trace.specs.declared.event.Event.{Event}
 use Rattle.xs_trace.specs.declared.event.Event.TheVariants as event
 use Rattle.xs_trace.specs.declared.event.Event.TheVariants.{Start, Chars}

@@ -1,16 +1,15 @@
 -- What an index of attribute sets leaves out puts nothing.
-use Rattle.std.proofs.Common.{◌≡◌, ◌⊎◌, inl, inr, ℕ, zero, suc, List, [], ◌∷◌, refl, sym, ap, ◌∙◌}
+use Rattle.std.proofs.Common.{◌≡◌, inl, inr, ℕ, zero, suc, List, [], ◌∷◌, refl, sym, ap, ◌∙◌}
 use Rattle.std.specs.List.{All}
 use Rattle.std.proofs.lemmas.List.Elements.{All-head, All-tail}
 use Rattle.xs_sheet.specs.declared.declarations.AttrSet.{AttrSet}
 use Rattle.xs_trace.specs.Label.{Label}
-use Rattle.xs_trace.specs.Mark.{Trace, ◌⨾◌}
+use Rattle.xs_trace.specs.Mark.{◌⨾◌}
 use Rattle.xs_trace.specs.declared.item.Site.{Site}
 use Rattle.xs_sets.specs.Declarations.{declarations_of}
 use Rattle.xs_sets.specs.Indexed.{IsIdle, IsServed, IsSetIndex, declarations_in}
 use Rattle.xs_semantics.specs.declared.focus.Focus.{Focus}
 use Rattle.xs_semantics.specs.World.{World, with_levels}
-use Rattle.xs_semantics.specs.Tasks.{Task}
 use Rattle.xs_semantics.specs.Trace.{Calls, called, calls_at, declared_trace, instrs_trace, sets_trace, using}
 
 module _ (w : World) (i : IsSetIndex w.sheet.sets w.index.sets) where

@@ -12,7 +12,6 @@ use Rattle.xs_sheet.specs.declared.body.Instr.{Instr}
 use Rattle.xs_sheet.specs.declared.body.InstrKind.{InstrKind, Variable'}
 use Rattle.xs_sheet.specs.declared.body.InstrKind.TheVariants.{ApplyTemplates, CallTemplate, ApplyImports, ForEach, ValueOf, CopyOf, Copy, Number, Choose, If}
 use Rattle.xs_sheet.specs.declared.body.InstrKind.TheVariants.{Text, Element, Attribute, Comment, Pi, Message, Literal, Extension}
-use Rattle.xs_sheet.specs.declared.body.LiteralStart.{LiteralStart}
 use Rattle.xs_sheet.specs.declared.body.Passed.{Passed}
 use Rattle.xs_sheet.specs.declared.body.When.{When', out-When}
 use Rattle.xs_sheet.specs.declared.declarations.AttrSet.{AttrSet}
@@ -43,7 +42,8 @@ use Rattle.xs_semantics.specs.declared.made.Made.{Made}
 use Rattle.xs_semantics.specs.declared.made.Made.TheVariants as made
 use Rattle.xs_body.specs.declared.frames.Scope.{Scope}
 use Rattle.xs_semantics.specs.World.{World, all_set_levels, at_node, in_list, captured_in, with_levels, by_rule, without_rule}
-use Rattle.xs_semantics.specs.World.{nodes_or_children, nodes_run, test_run, text_run, value_run}
+use Rattle.xs_semantics.specs.World.{applied_nodes, looped_nodes, test_run, text_run, value_run}
+use Rattle.xs_semantics.specs.Numbers.{number_run}
 use Rattle.xs_semantics.specs.Making.{content_text, made_events, name_run, target_run, value_events}
 use Rattle.xs_semantics.specs.Tasks.{Params, no_params, value_passed, Job, body_job, rules_job, Task, tasks_for, grain_over}
 use Rattle.xs_semantics.specs.Rules.{rule_for, import_for}
@@ -486,8 +486,8 @@ begins-so (ApplyTemplates nodes passed) p is c t s =
     let vs : List Value = last c.seen t.slots in
     let h : List ℕ → Trace Task = λ ns. passing passed p t.world (calls_at t.world c.focus) c.focus vs
     (λ ps. called_with t.world (calls_at t.world c.focus) (by_rules nodes.mode ns) ps p c.focus) in
-    joined (evaluated p (nodes_or_children t.world nodes.select c.focus vs) h) is c t s
-    ∙ brings p (nodes_or_children t.world nodes.select c.focus vs) h u
+    joined (evaluated p (applied_nodes t.world nodes.select nodes.sorts c.focus vs) h) is c t s
+    ∙ brings p (applied_nodes t.world nodes.select nodes.sorts c.focus vs) h u
     (λ ns m. passes_on (bindings_of passed) (bindings_of passed) [] (by_rules nodes.mode ns) p c u m) s (λ ns m.
     passing-begins passed (by_rules nodes.mode ns) p c u m)
 begins-so (CallTemplate i passed) p is c t s =
@@ -502,8 +502,8 @@ begins-so (ForEach select sorts body) p is c t s =
     let vs : List Value = last c.seen t.slots in
     let f : List ℕ → Focus = λ ns. in_list (length ns) (without_rule c.focus) in
     let h : List ℕ → Trace Task = λ ns. spread t.world (body_job body vs) p (λ g. body_trace body t.world (calls_at t.world c.focus) g vs) (f ns) ns in
-    joined (evaluated p (nodes_run t.world select c.focus vs) h) is c t s
-    ∙ brings p (nodes_run t.world select c.focus vs) h u
+    joined (evaluated p (looped_nodes t.world select sorts c.focus vs) h) is c t s
+    ∙ brings p (looped_nodes t.world select sorts c.focus vs) h u
     (λ ns m. run_begun (body_job body vs) p (f ns) ns (each_left body p (over (f ns) c) 1 ns) u m) s (λ ns m.
     runs (body_job body vs) p (λ g. body_trace body t.world (calls_at t.world c.focus) g vs) (f ns) ns (each_left body p (over (f ns) c) 1 ns) u m (λ n. refl))
 begins-so (ValueOf select) p is c t s =
@@ -532,7 +532,13 @@ begins-so (Copy sets body) p is c t s =
     ∙ ap (λ g. and_then (and_then g (λ q m. play y m)) (λ q m. Go u m)) (sym (events-told p (shallow_copy t.world.tree c.focus.node) s))
     ∙ before (events_steps p (shallow_copy t.world.tree c.focus.node) s) (λ m. play y m) (λ q m. Go u m)
     (λ m. Goes (copied_begun kind sets body c u) m) Go (λ m. copied-begins kind sets p body c u m)
-begins-so (Number decl) p is c t s = nothing is c t s
+begins-so (Number decl) p is c t s =
+    let u : Evaluation = pushed (rest is (more 0 c) ∷ []) t in
+    let r : Run (List ℕ) = number_run t.world decl c.focus (last c.seen t.slots) in
+    joined (evaluated p r (chars p)) is c t s
+    ∙ alone (evaluated p r (chars p)) (and_then (limited p r s) (λ text m. chars_steps p text m)) u s
+    (then-same (limited p r s) (λ text m. chars_steps p text m) (λ text m. play (chars p text) m) (λ text m. chars-told p text m) ∙ sym
+    (play-evaluated p r (chars p) s))
 begins-so (Choose choice) p is c t s =
     let u : Evaluation = pushed (rest is (more 0 c) ∷ []) t in
     let vs : List Value = last c.seen t.slots in

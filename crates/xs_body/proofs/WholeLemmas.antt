@@ -34,7 +34,16 @@ no-grain o e s = absurd (true≢false (sym s ∙ ap is_some e))
 -- a world without a grain
 pub alone-world : (w : World) → IsWorld w → IsWorld (with_grain None w)
 alone-world w h =
-    record { sheet = h.sheet; index = h.index; prepared = h.prepared; templates = h.templates; sets = h.sets; globals = h.globals; tables = h.tables }
+    record {
+      sheet = h.sheet;
+      index = h.index;
+      prepared = h.prepared;
+      templates = h.templates;
+      sets = h.sets;
+      counters = h.counters;
+      globals = h.globals;
+      tables = h.tables;
+    }
 
 -- a run over settled globals ends in no need
 pub task-settled : (w : World) (t : Task) (s m : State Task) (told : Result (Unit {0}) Halt) → All IsSome w.globals →

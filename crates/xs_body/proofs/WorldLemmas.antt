@@ -27,7 +27,7 @@ use Rattle.xs_value.specs.declared.value.Value.TheVariants.{Chars as String}
 use Rattle.xs_sets.specs.Indexed.{declarations_in}
 use Rattle.xs_semantics.specs.declared.focus.Focus.{Focus}
 use Rattle.xs_semantics.specs.declared.made.Made.TheVariants as made
-use Rattle.xs_semantics.specs.World.{World, at_node, in_list, by_rule, value_run, nodes_run, test_run, nodes_or_children}
+use Rattle.xs_semantics.specs.World.{World, at_node, in_list, by_rule, value_run, looped_nodes, test_run, applied_nodes}
 use Rattle.xs_semantics.specs.Tasks.{Params, no_params, value_passed, Job, body_job, rules_job, Task, tasks_for, grain_over}
 use Rattle.xs_semantics.specs.Rules.{rule_for, import_for}
 use Rattle.xs_semantics.specs.Trace.{Entry, named, fitting, overridden, using, Called, by_number, by_rules}
@@ -35,10 +35,10 @@ use Rattle.xs_body.specs.declared.frames.Scope.{Scope}
 use Rattle.xs_body.specs.steps.Frames.{Work, rest, fill, each_left, apply_left, bodies_left, end_element, sets_left, declared_left, attributes_left}
 use Rattle.xs_body.specs.steps.Frames.{make, say, pass, take_value, params_left, Evaluation, last}
 use Rattle.xs_body.specs.steps.Frames.{inner, over, after, bound, bindings_of, bodies_of, chosen, instrs_of, message_ended, pushed, filled_up, stays}
-use Rattle.xs_body.specs.steps.Frames.{chars_steps, run_by, run_begun, applied_begun, template_begun, built_in_begun, rule_begun, entry_begun}
+use Rattle.xs_body.specs.steps.Frames.{chars_steps, run_by, applied_begun, template_begun, built_in_begun, rule_begun, entry_begun}
 use Rattle.xs_body.specs.steps.Frames.{entering, call_begun}
 use Rattle.xs_body.specs.steps.Frames.{imports_begun, content_begun, passes_on, pass_begun, params_first, fragment_at, param_begun}
-use Rattle.xs_body.specs.steps.Frames.{fallbacks_begun, next_body, looping, loop_begun, value_steps, begun}
+use Rattle.xs_body.specs.steps.Frames.{fallbacks_begun, next_body, looping, loop_begun, number_steps, value_steps, begun}
 use Rattle.xs_body.specs.steps.Frames.{advanced, copied_begun, copy_of_steps, declaration_begun, element_put, in_template, inside_begun, made_begun}
 use Rattle.xs_body.specs.steps.Frames.{sets_begun, sets_works}
 use Rattle.xs_body.specs.steps.Making.{attributes_steps, events_steps, literal_steps, made_ended, name_steps, target_steps}
@@ -166,19 +166,19 @@ declaration-keeps (Some s) name i f t = refl
 
 begun-keeps : (kind : InstrKind) (p : Site) (c : Scope) (t : Evaluation) (s : State Task) → Keeps t.world (begun kind p c t s)
 begun-keeps (ApplyTemplates nodes passed) p c t s =
-    then-keeps t.world (limited p (nodes_or_children t.world nodes.select c.focus (last c.seen t.slots)) s)
+    then-keeps t.world (limited p (applied_nodes t.world nodes.select nodes.sorts c.focus (last c.seen t.slots)) s)
     (λ ns m. passes_on (bindings_of passed) (bindings_of passed) [] (by_rules nodes.mode ns) p c t m)
     (λ ns m. passes-keep (bindings_of passed) (bindings_of passed) [] (by_rules nodes.mode ns) p c t m)
 begun-keeps (CallTemplate i passed) p c t s = passes-keep (bindings_of passed) (bindings_of passed) [] (by_number i) p c t s
 begun-keeps ApplyImports p c t s = imports-keeps p c.focus c.focus.rule t s
-begun-keeps (ForEach select sorts body) p c t s = then-keeps t.world (limited p (nodes_run t.world select c.focus (last c.seen t.slots)) s)
+begun-keeps (ForEach select sorts body) p c t s = then-keeps t.world (limited p (looped_nodes t.world select sorts c.focus (last c.seen t.slots)) s)
     (λ ns m. loop_begun body p c ns t m) (λ ns m. loop-keeps body p c ns t m)
 begun-keeps (ValueOf select) p c t s = stays-keeps (value_steps select p c t s) t
 begun-keeps (CopyOf select) p c t s = stays-keeps (copy_of_steps select p c t s) t
 begun-keeps (Copy sets body) p c t s =
     let kind : Kind = (at t.world.tree c.focus.node).kind in
     brings-keeps t (events_steps p (shallow_copy t.world.tree c.focus.node) s) (λ u. copied_begun kind sets body c t) (λ u. copied-keeps kind sets body c t)
-begun-keeps (Number decl) p c t s = refl
+begun-keeps (Number decl) p c t s = stays-keeps (number_steps decl p c t s) t
 begun-keeps (Choose choice) p c t s = brings-keeps t (limited p (chosen choice t.world c.focus (last c.seen t.slots)) s)
     (λ body. pushed (rest (instrs_of body) (inner c) ∷ []) t) (λ body. refl)
 begun-keeps (If test body) p c t s = brings-keeps t (limited p (test_run t.world test c.focus (last c.seen t.slots)) s)

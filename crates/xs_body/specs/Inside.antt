@@ -1,5 +1,6 @@
 -- What has to be in the tree.
 use Rattle.std.specs.Prelude.{◌≡◌, ℕ, ◌<◌, All, List, length}
+use Rattle.xs_counting.specs.steps.Tables.{AreCounters}
 use Rattle.xs_rules.specs.Indexed.{IsIndex, IsPrepared}
 use Rattle.xs_sets.specs.Indexed.{IsSetIndex}
 use Rattle.xs_sheet.specs.Sound.{IsSound}
@@ -22,14 +23,15 @@ use Rattle.xs_body.specs.declared.attempts.Attempt.{Attempt}
 use Rattle.xs_body.specs.declared.attempts.Attempt.TheVariants as attempt
 use Rattle.xs_body.specs.steps.Lists.{nodes_in}
 
--- the stylesheet is sound, and the index is that of its rules, prepared for the tree, and of its attribute sets; the nodes of the globals' values
--- and of the keys' tables are in the tree
+-- the stylesheet is sound, and the index is that of its rules, prepared for the tree, of its attribute sets, and of the numbers that are
+-- counted; the nodes of the globals' values and of the keys' tables are in the tree
 pub record IsWorld (w : World) : Type 0 where
   pub sheet : IsSound w.sheet
   pub index : IsIndex w.index.rules
   pub prepared : IsPrepared w.index.rules w.tree
   pub templates : w.index.rules.templates.now ≡ w.sheet.templates
   pub sets : IsSetIndex w.sheet.sets w.index.sets
+  pub counters : AreCounters w.keys w.tree w.index.counters
   pub globals : All (IsInIf w.tree) w.globals
   pub tables : TablesIn w.tree w.keys
 

@@ -4,5 +4,6 @@ pub mod Passed
 pub mod Sharing
 pub mod Making
 pub mod Frames
+pub mod Numbers
 pub mod Attempts
 pub mod Runs

@@ -4,13 +4,14 @@ ghost use Rattle.std.specs.Prelude.{◌≡◌, ◌<◌, ◌+◌, ◌∷◌, drop
 ghost use Rattle.std.specs.List.{All};
 ghost use Rattle.xs_body.specs.Inside.{AreNodes, AreValues, IsApply, IsEach};
 ghost use Rattle.xs_body.specs.steps.Frames.{advanced, applied_begun, apply_begun, apply_left};
-ghost use Rattle.xs_body.specs.steps.Frames.{apply_work, bindings_of, each_begun, each_left};
+ghost use Rattle.xs_body.specs.steps.Frames.{apply_work, bindings_of, each_left};
 ghost use Rattle.xs_body.specs.steps.Frames.{each_work, last, loop_begun};
-ghost use Rattle.xs_body.specs.steps.Lists.{nodes_in};
+ghost use Rattle.xs_body.specs.steps.Lists.{AreOrdered, nodes_in};
 ghost use Rattle.xs_semantics.specs.World.{nodes_or_children};
 ghost use Rattle.xs_trace.specs.Play.{Goes, IsStepBy, and_then, ticked_by};
 ghost use Rattle.xs_trace.specs.Run.{limited};
 ghost use Rattle.xs_tree.specs.Record.{children};
+ghost use Rattle.xs_value.specs.NodeSet.{IsNodeList};
 
 use crate::evaluator::Evaluator;
 use crate::frames::{ApplyLeft, Callee, EachLeft, Frame, Rules, Scope};
@@ -43,13 +44,13 @@ impl<'a, K: KeyFinder> Evaluator<'a, K> {
             (R.state recorder.old)) result (R.state recorder.new) }
         ensures kept { R.kept recorder.new ≡ R.kept recorder.old }
     {
-        let nodes = self.nodes_or_children(&applied.select, site, scope, recorder)?;
+        let nodes = self.applied_nodes(applied, site, scope, recorder)?;
         let callee = Callee::Rules(applied.mode, nodes);
         self.begin_call(passed, callee, site, scope, recorder)
     }
 
     /// The nodes that an expression gives, or all children, with a tick for each.
-    fn nodes_or_children<R: Recorder>(
+    pub(crate) fn nodes_or_children<R: Recorder>(
         &self,
         select: &Option<ScopedExpr>,
         site: Site,
@@ -63,6 +64,7 @@ impl<'a, K: KeyFinder> Evaluator<'a, K> {
             (R.state recorder.old)) result (R.state recorder.new) }
         ensures kept { R.kept recorder.new ≡ R.kept recorder.old }
         ensures inside { IfOk result (λ l. AreNodes self.now.world.tree (nodes_in l)) }
+        ensures order { IfOk result AreOrdered }
     {
         match select {
             Some(expr) => Ok(NodeList::Set(self.nodes(expr, site, scope, recorder)?)),
@@ -76,6 +78,7 @@ impl<'a, K: KeyFinder> Evaluator<'a, K> {
         ensures children { IfOk result
             (λ found. found.items ≡ children self.now.world.tree focus.node) }
         ensures inside { IfOk result (λ found. AreNodes self.now.world.tree found.items) }
+        ensures order { IfOk result (λ found. IsNodeList found.items) }
     {
         children_of(self.alloc, self.tree, Node::at(focus.node))
     }
@@ -95,6 +98,7 @@ impl<'a, K: KeyFinder> Evaluator<'a, K> {
             result (R.state recorder.new) }
         ensures kept { R.kept recorder.new ≡ R.kept recorder.old }
         ensures inside { IfOk result (λ l. AreNodes self.now.world.tree (nodes_in l)) }
+        ensures order { IfOk result AreOrdered }
     {
         let found = self.children(focus)?;
         recorder.ticks(site, found.len() as u64)?;
@@ -184,28 +188,8 @@ impl<'a, K: KeyFinder> Evaluator<'a, K> {
         self.enter_fitting(rules, site, focus, recorder)
     }
 
-    /// A body for each node begins, or is left to tasks (8).
+    /// A body for each of some nodes begins, or is left to tasks (8).
     pub(crate) fn begin_each<R: Recorder<Task = Task<'a>>>(
-        &mut self,
-        select: &ScopedExpr,
-        body: &'a Body,
-        site: Site,
-        scope: Scope,
-        recorder: &mut R,
-    ) -> Result<(), Halt>
-        requires holes { IsSome self.old.world.grain → R.takes_holes ≡ true }
-        requires node { scope.focus.node < length self.old.world.tree }
-        ensures told { IsStepBy (λ u. self.new)
-            (each_begun select.now body.now site scope self.old
-            (R.state recorder.old)) result (R.state recorder.new) }
-        ensures kept { R.kept recorder.new ≡ R.kept recorder.old }
-    {
-        let nodes = self.nodes(select, site, scope, recorder)?;
-        self.each(body, NodeList::Set(nodes), site, scope, recorder)
-    }
-
-    /// A body for each of some nodes begins, or is left to tasks.
-    fn each<R: Recorder<Task = Task<'a>>>(
         &mut self,
         body: &'a Body,
         nodes: NodeList,

@@ -14,13 +14,13 @@ use crate::frames::Scope;
 use crate::putting::{put_events, put_text};
 use crate::task::Task;
 use std::alloc::AllocError;
-use xs_making::copy_events;
+use xs_making::{RecentLabels, copy_events};
 use xs_sheet::body::Body;
 use xs_sheet::scoped::ScopedExpr;
 use xs_trace::event::{Event, Label};
 use xs_trace::item::Site;
 use xs_trace::recorder::{Halt, Recorder};
-use xs_tree::{Kind, Node};
+use xs_tree::{Kind, Node, Tree};
 use xs_value::conversion::to_text;
 use xs_value::keys::KeyFinder;
 use xs_value::value::Value;
@@ -92,24 +92,14 @@ impl<'a, K: KeyFinder> Evaluator<'a, K> {
             (R.state recorder.old)) result (R.state recorder.new) }
         ensures kept { R.kept recorder.new ≡ R.kept recorder.old }
     {
+        let mut labels = RecentLabels::new(self.alloc);
         let mut left = nodes;
         while let Some((node, others)) = left.split_first() {
-            let events = self.copied(*node, true)?;
+            let events = copied(self.tree, *node, true, &mut labels)?;
             put_events(site, events.as_slice(), recorder)?;
             left = others;
         }
         Ok(())
-    }
-
-    /// The events of a copy of a node, with all that is in it or alone.
-    fn copied(&self, node: Node, deep: bool) -> Result<Vec<Event>, AllocError>
-        requires node { node < length self.now.world.tree }
-        ensures copied { IfOk result
-            (λ events. events.items ≡ copy_of deep self.now.world.tree node) }
-    {
-        let mut events = Vec::new(self.alloc);
-        copy_events(self.tree, node, deep, &mut events)?;
-        Ok(events)
     }
 
     /// A copy of the current node begins, with its own content where it can have one (7.5).
@@ -127,7 +117,8 @@ impl<'a, K: KeyFinder> Evaluator<'a, K> {
             (R.state recorder.old)) result (R.state recorder.new) }
         ensures kept { R.kept recorder.new ≡ R.kept recorder.old }
     {
-        let events = self.copied(Node::at(scope.focus.node), false)?;
+        let node = Node::at(scope.focus.node);
+        let events = copied(self.tree, node, false, &mut self.labels)?;
         put_events(site, events.as_slice(), recorder)?;
         self.begin_copied(sets, body, scope)?;
         Ok(())
@@ -155,4 +146,19 @@ impl<'a, K: KeyFinder> Evaluator<'a, K> {
             Kind::Pi => Ok(()),
         }
     }
+}
+
+/// The events of a copy of a node, with all that is in it or alone.
+fn copied(
+    tree: &Tree,
+    node: Node,
+    deep: bool,
+    labels: &mut RecentLabels,
+) -> Result<Vec<Event>, AllocError>
+    requires node { node < length tree.now }
+    ensures copied { IfOk result (λ events. events.items ≡ copy_of deep tree.now node) }
+{
+    let mut events = Vec::new(labels.allocator());
+    copy_events(tree, node, deep, labels, &mut events)?;
+    Ok(events)
 }

@@ -6,7 +6,8 @@ ghost use Rattle.std.specs.List.{All};
 ghost use Rattle.xs_body.specs.Inside.{AreValues, IsInside, IsWorld};
 ghost use Rattle.xs_body.specs.steps.Frames.{filled_up, idle, instrs_of, last, pushed, rest};
 ghost use Rattle.xs_body.specs.steps.Frames.{slots_are, without, work_of};
-ghost use Rattle.xs_semantics.specs.World.{nodes_run, template_run, test_run, text_run};
+ghost use Rattle.xs_eval.specs.Conditions.{IsContext};
+ghost use Rattle.xs_semantics.specs.World.{context, nodes_run, template_run, test_run, text_run};
 ghost use Rattle.xs_semantics.specs.World.{value_run};
 ghost use Rattle.xs_trace.specs.Play.{IsStep, IsStepBy};
 ghost use Rattle.xs_trace.specs.Run.{limited};
@@ -19,9 +20,10 @@ use std::marker::Model;
 use xs_eval::context::Context;
 use xs_eval::evaluate::evaluate;
 use xs_eval::templates::evaluate_avt;
+use xs_making::RecentLabels;
 use xs_semantics::index::SheetIndex;
 use xs_sheet::body::Body;
-use xs_sheet::scoped::{ScopedExpr, ValueTemplate};
+use xs_sheet::scoped::{Namespaces, ScopedExpr, ValueTemplate};
 use xs_sheet::sheet::Sheet;
 use xs_trace::fault::Fault;
 use xs_trace::item::Site;
@@ -50,6 +52,8 @@ pub(crate) struct Evaluator<'a, K: KeyFinder> {
     frames: Vec<Frame<'a>>,
     /// The values of local bindings, in order.
     slots: Vec<Value>,
+    /// The names that were copied last.
+    pub(crate) labels: RecentLabels,
 }
 
 impl<'a, K: KeyFinder> Model for Evaluator<'a, K> {
@@ -113,6 +117,7 @@ impl<'a, K: KeyFinder> Evaluator<'a, K> {
             grain: world.grain,
             frames: Vec::new(alloc),
             slots,
+            labels: RecentLabels::new(alloc),
         }
     }
 
@@ -175,8 +180,29 @@ impl<'a, K: KeyFinder> Evaluator<'a, K> {
         &slots[slots.len().saturating_sub(scope.seen)..]
     }
 
-    /// The value of an expression, at an instruction; the current node is the context node (XSLT
-    /// 1.0, 4 and 12.4).
+    /// The context of expressions at an instruction, under the namespaces in scope; the current
+    /// node is the context node (XSLT 1.0, 4 and 12.4).
+    #[inline(always)]
+    pub(crate) fn context<'c>(&'c self, names: &'c Namespaces, scope: Scope) -> Context<'c>
+        requires node { scope.focus.node < length self.now.world.tree }
+        ensures is { result ≡ context self.now.world scope.focus
+            (last scope.seen self.now.slots) names.now }
+        ensures sound { IsContext self.now.world.keys result }
+    {
+        let focus = scope.focus;
+        Context {
+            tree: self.tree,
+            node: Node::at(focus.node),
+            position: focus.position,
+            size: focus.size,
+            current: Node::at(focus.node),
+            locals: self.locals(scope),
+            globals: self.globals,
+            scope: names.scope(),
+        }
+    }
+
+    /// The value of an expression, at an instruction (4).
     pub(crate) fn value<T: Tally>(
         &self,
         expr: &ScopedExpr,
@@ -191,18 +217,7 @@ impl<'a, K: KeyFinder> Evaluator<'a, K> {
         ensures kept { T.kept tally.new ≡ T.kept tally.old }
         ensures inside { IfOk result (IsIn self.now.world.tree) }
     {
-        let focus = scope.focus;
-        let current = Node::at(focus.node);
-        let context = Context {
-            tree: self.tree,
-            node: Node::at(focus.node),
-            position: focus.position,
-            size: focus.size,
-            current,
-            locals: self.locals(scope),
-            globals: self.globals,
-            scope: expr.scope.scope(),
-        };
+        let context = self.context(&expr.scope, scope);
         evaluate(
             self.alloc,
             expr.expr.expr(),
@@ -284,17 +299,7 @@ impl<'a, K: KeyFinder> Evaluator<'a, K> {
             (T.state tally.old)) result (T.state tally.new) }
         ensures kept { T.kept tally.new ≡ T.kept tally.old }
     {
-        let focus = scope.focus;
-        let context = Context {
-            tree: self.tree,
-            node: Node::at(focus.node),
-            position: focus.position,
-            size: focus.size,
-            current: Node::at(focus.node),
-            locals: self.locals(scope),
-            globals: self.globals,
-            scope: template.scope.scope(),
-        };
+        let context = self.context(&template.scope, scope);
         evaluate_avt(
             self.alloc,
             template.parts.as_slice(),

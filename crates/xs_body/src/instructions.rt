@@ -19,8 +19,7 @@ use xs_trace::recorder::{Halt, Recorder, say_message};
 use xs_value::keys::KeyFinder;
 
 impl<'a, K: KeyFinder> Evaluator<'a, K> {
-    /// What an instruction does after its own tick, before what is left of its body. A number
-    /// is not supported yet, and does nothing.
+    /// What an instruction does after its own tick, before what is left of its body.
     pub(crate) fn begin<R: Recorder<Task = Task<'a>>>(
         &mut self,
         kind: &'a InstrKind,
@@ -43,8 +42,13 @@ impl<'a, K: KeyFinder> Evaluator<'a, K> {
                 self.begin_call(passed, Callee::Template(*template), site, scope, recorder)
             }
             InstrKind::ApplyImports => self.begin_imports(site, scope.focus, recorder),
-            InstrKind::ForEach { select, body, .. } => {
-                self.begin_each(select, body, site, scope, recorder)
+            InstrKind::ForEach {
+                select,
+                sorts,
+                body,
+            } => {
+                let nodes = self.looped_nodes(select, sorts.as_slice(), site, scope, recorder)?;
+                self.begin_each(body, nodes, site, scope, recorder)
             }
             InstrKind::ValueOf(select) => self.put_value(select, site, scope, recorder),
             InstrKind::Choose(choice) => self.begin_choice(choice, site, scope, recorder),
@@ -75,7 +79,7 @@ impl<'a, K: KeyFinder> Evaluator<'a, K> {
             InstrKind::Pi { name, body } => {
                 self.begin_instruction(name, body, site, scope, recorder)
             }
-            InstrKind::Number(_) => Ok(()),
+            InstrKind::Number(decl) => self.put_number(decl, site, scope, recorder),
         }
     }
 

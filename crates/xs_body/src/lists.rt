@@ -3,8 +3,9 @@
 ghost use Rattle.std.specs.Prelude.{◌≡◌, ◌<◌, ◌+◌, ◌∷◌, [], drop, length, IfOk, IfSome};
 ghost use Rattle.std.specs.Prelude.{MatchOption};
 ghost use Rattle.std.specs.List.{All};
-ghost use Rattle.xs_body.specs.steps.Lists.{nodes_in};
+ghost use Rattle.xs_body.specs.steps.Lists.{AreOrdered, nodes_in};
 ghost use Rattle.xs_tree.specs.Record.{children};
+ghost use Rattle.xs_value.specs.NodeSet.{IsNodeList};
 
 use std::alloc::{AllocError, Global};
 use xs_tree::{Node, Tree};
@@ -27,6 +28,17 @@ impl NodeList {
         match self {
             NodeList::Set(nodes) => nodes.nodes(),
             NodeList::List(nodes) => nodes.as_slice(),
+        }
+    }
+
+    /// The set of them; they are in document order, each once.
+    pub(crate) fn into_set(self) -> Result<NodeSet, AllocError>
+        requires { AreOrdered self }
+        ensures { IfOk result (λ set. set ≡ nodes_in self) }
+    {
+        match self {
+            NodeList::Set(nodes) => Ok(nodes),
+            NodeList::List(nodes) => NodeSet::of(nodes),
         }
     }
 
@@ -54,6 +66,7 @@ pub(crate) fn children_of(alloc: Global, tree: &Tree, node: Node) -> Result<Vec<
     requires { node < length tree.now }
     ensures children { IfOk result (λ found. found.items ≡ children tree.now node) }
     ensures inside { IfOk result (λ found. All (λ k. k < length tree.now) found.items) }
+    ensures order { IfOk result (λ found. IsNodeList found.items) }
 {
     let mut found = Vec::new(alloc);
     for child in tree.children(node) {

@@ -13,13 +13,12 @@ use Rattle.xs_modules.proofs.OneReadingLemmas.{one_reading}
 use Rattle.xs_static.specs.declared.fault.StaticFault.{StaticFault}
 use Rattle.xs_static.specs.Faults.{IsFirstFault}
 use Rattle.xs_engine.specs.declared.reply.Reply.{Reply}
-use Rattle.xs_engine.specs.Answer.{Answer, usage, read_fault, not_built, refused_file}
+use Rattle.xs_engine.specs.Answer.{Answer, usage, read_fault, refused_file}
 use Rattle.xs_engine.specs.Job.{Job, Request, inputs_on, plain}
 use Rattle.xs_engine.specs.Read.{Read, read, bad}
 use Rattle.xs_compile.proofs.OneSheetLemmas.{one_sheet}
 use Rattle.xs_compile.specs.StandsFor.{StandsFor}
 use Rattle.xs_sheet.specs.declared.sheet.Sheet.{Sheet}
-use Rattle.xs_engine.specs.Built.{is_built}
 use Rattle.xs_engine.specs.Evaluation.{IsEvaluatedOver}
 use Rattle.xs_engine.specs.Inputs.{Document, named_document}
 use Rattle.xs_engine.specs.Run.{source_of, module_name}
@@ -65,44 +64,37 @@ read_file (Some map) name bytes holds = holds
 
 -- an answer of a compiled stylesheet on its only input, whose bytes were read to this
 read_answer : (files : Option Files) (job : Job) (sheet : Sheet) (source name : List ℕ) (found : Read (List Record)) (a : Answer) → name ≡ source
-    → is_built sheet ≡ true → FileGives source_of files name found
+    → FileGives source_of files name found
     → IsReadAnswer source found (λ records. IsInputsAnswer files job sheet job.documents (named_document [] records ∷ []) a) a
-    → IsSheetAnswer (is_built sheet) files job sheet (inputs_on job source) a
-read_answer files job sheet source name found a same built given is =
+    → IsSheetAnswer files job sheet (inputs_on job source) a
+read_answer files job sheet source name found a same given is =
     let bytes = given.bytes in
     let holds : Holds files source bytes = subst (λ n. Holds files n bytes) same given.holds in
     let over : IsBytesAnswer source (Some bytes) (λ records. IsInputsAnswer files job sheet job.documents (named_document [] records ∷ []) a) a =
     subst (λ f. IsReadAnswer source f (λ records. IsInputsAnswer files job sheet job.documents (named_document [] records ∷ []) a) a) given.gives is in
-    subst (λ b. IsSheetAnswer b files job sheet (inputs_on job source) a) (sym built) (Some bytes, read_file files source bytes holds, over)
+    (Some bytes, read_file files source bytes holds, over)
 
 module _ (files : Option Files) (job : Job) (sheet : Sheet) (source : List ℕ) (failed failed' : List (List ℕ)) where
   abbrev pub Owes : Answer → Type 0
-  Owes answer = Owed (IsSheetAnswer (is_built sheet) files job sheet (inputs_on job source)) failed failed' answer
-
-  -- the stylesheet is not built
-  pub unbuilt_owed : {E : Type 0} (r : Result Reply E) → is_built sheet ≡ false → failed' ≡ failed → IfOk r (λ reply. reply_of reply ≡ not_built job.sheet)
-      → IfOk r (λ reply. Owes (reply_of reply))
-  unbuilt_owed r built stays same =
-      reply_owed r (IsSheetAnswer (is_built sheet) files job sheet (inputs_on job source)) failed failed' (not_built job.sheet)
-      (own stays (subst (λ b. IsSheetAnswer b files job sheet (inputs_on job source) (not_built job.sheet)) (sym built) refl)) same
+  Owes answer = Owed (IsSheetAnswer files job sheet (inputs_on job source)) failed failed' answer
 
   -- the source is no document
-  pub refused_owed : {E : Type 0} (r : Result Reply E) (number line : ℕ) (name : List ℕ) → name ≡ source → is_built sheet ≡ true → failed' ≡ failed
+  pub refused_owed : {E : Type 0} (r : Result Reply E) (number line : ℕ) (name : List ℕ) → name ≡ source → failed' ≡ failed
       → FileGives source_of files name (bad number line) → IfOk r (λ reply. reply_of reply ≡ refused_file number source line)
       → IfOk r (λ reply. Owes (reply_of reply))
-  refused_owed r number line name same built stays given is =
-      reply_owed r (IsSheetAnswer (is_built sheet) files job sheet (inputs_on job source)) failed failed' (refused_file number source line)
-      (own stays (read_answer files job sheet source name (bad number line) (refused_file number source line) same built given refl)) is
+  refused_owed r number line name same stays given is =
+      reply_owed r (IsSheetAnswer files job sheet (inputs_on job source)) failed failed' (refused_file number source line)
+      (own stays (read_answer files job sheet source name (bad number line) (refused_file number source line) same given refl)) is
 
   -- it is read, it is the only input, and the stylesheet is evaluated from it
   pub evaluated_owed : {E : Type 0} (r : Result Reply E) (records : List Record) (name : List ℕ) → job.documents ≡ [] → name ≡ source
-      → is_built sheet ≡ true → failed' ≡ failed → FileGives source_of files name (read records)
+      → failed' ≡ failed → FileGives source_of files name (read records)
       → IfOk r (λ reply. IsEvaluatedOver job sheet (named_document [] records ∷ []) (reply_of reply)) → IfOk r (λ reply. Owes (reply_of reply))
-  evaluated_owed (Err e) records name none same built stays given is = tt
-  evaluated_owed (Ok reply) records name none same built stays given is =
+  evaluated_owed (Err e) records name none same stays given is = tt
+  evaluated_owed (Ok reply) records name none same stays given is =
       let all : IsInputsAnswer files job sheet job.documents (named_document [] records ∷ []) (reply_of reply) =
       subst (λ left. IsInputsAnswer files job sheet left (named_document [] records ∷ []) (reply_of reply)) (sym none) is in
-      own stays (read_answer files job sheet source name (read records) (reply_of reply) same built given all)
+      own stays (read_answer files job sheet source name (read records) (reply_of reply) same given all)
 
 -- a stylesheet that is only checked
 checked_answer : (files : Option Files) (job : Job) (modules : List ModuleData) (a : Answer) → job.source ≡ None → (f : Option StaticFault)
@@ -130,11 +122,11 @@ module _ (files : Option Files) (job : Job) (modules : List ModuleData) (failed 
   -- a run of a compiled stylesheet that stands for them
   pub run_owed : {E : Type 0} (r : Result Reply E) (sheet : Sheet) (source : List ℕ) → job.source ≡ Some source → IsFirstFault modules None
       → StandsFor modules sheet
-      → IfOk r (λ reply. Owed (IsSheetAnswer (is_built sheet) files job sheet (inputs_on job source)) failed failed' (reply_of reply))
+      → IfOk r (λ reply. Owed (IsSheetAnswer files job sheet (inputs_on job source)) failed failed' (reply_of reply))
       → IfOk r (λ reply. Owed (IsModulesAnswer files job modules) failed failed' (reply_of reply))
   run_owed (Err e) sheet source run first stands owed = tt
   run_owed (Ok reply) sheet source run first stands owed =
-      owed_same (IsSheetAnswer (is_built sheet) files job sheet (inputs_on job source)) (IsModulesAnswer files job modules) failed failed' (reply_of reply)
+      owed_same (IsSheetAnswer files job sheet (inputs_on job source)) (IsModulesAnswer files job modules) failed failed' (reply_of reply)
       (λ a is. record {
         fault = None;
         first = first;
@@ -175,7 +167,7 @@ job_owed (Err e) files request job failed failed' is owed = tt
 job_owed (Ok reply) files request job failed failed' is owed = subst (λ q. IsDue files q failed failed' (reply_of reply)) (sym is) owed
 
 -- one name was added, and none
-not_both : (xs ys : List (List ℕ)) (name : List ℕ) → ys ≡ xs ++ name ∷ [] → ys ≡ xs → ⊥
+pub not_both : (xs ys : List (List ℕ)) (name : List ℕ) → ys ≡ xs ++ name ∷ [] → ys ≡ xs → ⊥
 not_both xs ys name grew stays = omega (arith, ap length (sym stays ∙ grew), length-append xs (name ∷ []))
 
 -- one name, added twice
@@ -213,18 +205,15 @@ module _ (files : Files) (job : Job) (sheet : Sheet) (a b : Answer) where
       (subst (λ bytes. IsBytesAnswer input.1 bytes
       (λ records. IsInputsAnswer (Some files) job sheet left (ds ++ named_document input.0 records ∷ []) a) a) same p.2) q.2
 
-  over_sheet : (built : Bool) (inputs : List Pair) → IsSheetAnswer built (Some files) job sheet inputs a
-      → IsSheetAnswer built (Some files) job sheet inputs b → a ≡ b
-  over_sheet false inputs p q = p ∙ sym q
-  over_sheet true inputs p q = over_inputs inputs [] p q
+  over_sheet : (inputs : List Pair) → IsSheetAnswer (Some files) job sheet inputs a → IsSheetAnswer (Some files) job sheet inputs b → a ≡ b
+  over_sheet inputs p q = over_inputs inputs [] p q
 
 -- and modules have one compiled stylesheet
 over_run : (files : Files) (job : Job) (modules : List ModuleData) (inputs : List Pair) (a b : Answer) → IsRunAnswer (Some files) job modules inputs a
     → IsRunAnswer (Some files) job modules inputs b → a ≡ b
 over_run files job modules inputs a b p q =
     let same : p.sheet ≡ q.sheet = one_sheet modules p.sheet q.sheet p.stands q.stands in
-    over_sheet files job q.sheet a b (is_built q.sheet) inputs
-    (subst (λ (s : Sheet). IsSheetAnswer (is_built s) (Some files) job s inputs a) same p.answers) q.answers
+    over_sheet files job q.sheet a b inputs (subst (λ (s : Sheet). IsSheetAnswer (Some files) job s inputs a) same p.answers) q.answers
 
 over_source : (files : Files) (job : Job) (modules : List ModuleData) (a b : Answer) (s : Option (List ℕ)) → IsFaultlessAnswer s (Some files) job modules a
     → IsFaultlessAnswer s (Some files) job modules b → a ≡ b
@@ -249,7 +238,7 @@ one_end files job (refused number name line) a b p q = p ∙ sym q
 one_end files job out_of_memory a b p q = absurd p
 
 -- an end that has an answer is one of its own
-own_end : (files : Files) (job : Job) (end : End) (a : Answer) → IsEndAnswer (Some files) job end a → IsOwn end
+pub own_end : (files : Files) (job : Job) (end : End) (a : Answer) → IsEndAnswer (Some files) job end a → IsOwn end
 own_end files job (whole found) a p = tt
 own_end files job (unread name) a p = absurd p
 own_end files job (refused number name line) a p = tt

@@ -11,6 +11,8 @@ use Rattle.xs_semantics.specs.World.{World, ground, with_grain}
 use Rattle.xs_globals.specs.declared.settled.Settled.{Settled}
 use Rattle.xs_engine.proofs.EndLemmas.{reported}
 use Rattle.xs_engine.specs.Answer.{Answer, stopped_answer, whole_answer}
+use Rattle.xs_keys.specs.KeyTables.{tables_of}
+use Rattle.xs_value.specs.Tables.{Table}
 use Rattle.xs_engine.specs.Evaluation.{IsCutAnswer, IsEndAnswer, IsEvaluated, IsEvaluatedFrom, IsEvaluatedOn, IsEvaluatedOver, in_globals, in_root, root_cut}
 use Rattle.xs_engine.specs.Inputs.{joined, joined_later, named_document}
 use Rattle.xs_engine.specs.Items.{events_in, messages_in}
@@ -62,10 +64,12 @@ from_stripped r job sheet rules source tree same is over =
     (subst (λ t. IfOk r (λ reply. IsEvaluatedOn job sheet t (reply_of reply))) stripped_all over)
 
 -- over some index
-pub over_index : {E : Type 0} (r : Result Reply E) (job : Job) (sheet : Sheet) (index : SheetIndex) (tree : List Record)
-    → IfOk r (λ reply. IsEvaluated job (ground sheet index tree []) (reply_of reply)) → IfOk r (λ reply. IsEvaluatedOn job sheet tree (reply_of reply))
-over_index (Err e) job sheet index tree is = tt
-over_index (Ok reply) job sheet index tree is = (index, is)
+pub over_index : {E : Type 0} (r : Result Reply E) (job : Job) (sheet : Sheet) (index : SheetIndex) (tree : List Record) (keys : List Table)
+    → keys ≡ tables_of tree sheet.keys → IfOk r (λ reply. IsEvaluated job (ground sheet index tree keys) (reply_of reply))
+    → IfOk r (λ reply. IsEvaluatedOn job sheet tree (reply_of reply))
+over_index (Err e) job sheet index tree keys same is = tt
+over_index (Ok reply) job sheet index tree keys same is =
+    (index, subst (λ (ts : List Table). IsEvaluated job (ground sheet index tree ts) (reply_of reply)) same is)
 
 -- a runner over the values of the globals, with no grain, as the world has none
 root_world : (w runner : World) (globals values : List (Option Value)) → runner ≡ with_grain None (with_globals w globals) → globals ≡ values

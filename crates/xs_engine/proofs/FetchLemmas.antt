@@ -9,7 +9,6 @@ use Rattle.xs_modules.specs.Numbering.{ModuleData, numbered}
 use Rattle.xs_modules.specs.Reading.{End, whole, out_of_memory, out_before, failed_names}
 use Rattle.xs_modules.specs.Results.{ComesTo}
 use Rattle.xs_static.specs.Faults.{IsFirstFault}
-use Rattle.xs_engine.specs.Built.{is_built}
 use Rattle.xs_engine.specs.Inputs.{last, failed}
 use Rattle.xs_engine.specs.Job.{Job, Request, plain}
 use Rattle.xs_compile.specs.StandsFor.{StandsFor}
@@ -94,17 +93,16 @@ asks_as (Err NoMemory) name P files job a b f g is (inl asked) faults =
 asks_as (Err NoMemory) name P files job a b f g is (inr asked) faults =
     record { names = name ∷ []; faults = []; asked = asked; failed = stays f g faults; asks = asked_for is last }
 
--- the source of a stylesheet that is built was asked for
-pub after_source : {A : Type 0} (r : Result A FetchEnd) (name source : List ℕ) (sheet : Sheet) (files : Option Files) (job : Job)
-    (a b f g : List (List ℕ)) → name ≡ source → is_built sheet ≡ true → AsksFor r name a b → g ≡ failed_after r name f
-    → Grew (AsksSource (GoesTo sheet source) files job) a b f g
-after_source r name source sheet files job a b f g same built asked faults = asks_as r name (GoesTo sheet source) files job a b f g (same, built) asked faults
+-- the source was asked for
+pub after_source : {A : Type 0} (r : Result A FetchEnd) (name source : List ℕ) (files : Option Files) (job : Job)
+    (a b f g : List (List ℕ)) → name ≡ source → AsksFor r name a b → g ≡ failed_after r name f
+    → Grew (AsksSource (GoesTo source) files job) a b f g
+after_source r name source files job a b f g same asked faults = asks_as r name (GoesTo source) files job a b f g same asked faults
 
--- a run on a source goes on to it, where the stylesheet has no static fault and what stands for it is built
-going_on : (job : Job) (modules : List ModuleData) (sheet : Sheet) (source name : List ℕ) → job.source ≡ Some source → IsFirstFault modules None
-    → StandsFor modules sheet → GoesTo sheet source name → GoesOn job modules name
-going_on job modules sheet source name run none stands is =
-    record { run = run ∙ ap Some (sym is.0); faultless = none; sheet = sheet; stands = stands; built = is.1 }
+-- a run on a source goes on to it, where the stylesheet has no static fault
+going_on : (job : Job) (modules : List ModuleData) (source name : List ℕ) → job.source ≡ Some source → IsFirstFault modules None
+    → GoesTo source name → GoesOn job modules name
+going_on job modules source name run none is = record { run = run ∙ ap Some (sym is); faultless = none }
 
 still_asks : (P Q : List ℕ → Type 0) (files : Option Files) (job : Job) (names faults : List (List ℕ)) → ((name : List ℕ) → P name → Q name)
     → AsksSource P files job names faults → AsksSource Q files job names faults
@@ -112,14 +110,14 @@ still_asks P Q files job names faults h unasked = unasked
 still_asks P Q files job names faults h (asked_for {source} is inputs) = asked_for (h source is) inputs
 
 -- what a run of a compiled stylesheet asked for
-pub sheet_asked_for : (files : Option Files) (job : Job) (modules : List ModuleData) (sheet : Sheet) (source : List ℕ) (a b f g : List (List ℕ))
-    → job.source ≡ Some source → IsFirstFault modules None → StandsFor modules sheet → Grew (AsksSource (GoesTo sheet source) files job) a b f g
+pub sheet_asked_for : (files : Option Files) (job : Job) (modules : List ModuleData) (source : List ℕ) (a b f g : List (List ℕ))
+    → job.source ≡ Some source → IsFirstFault modules None → Grew (AsksSource (GoesTo source) files job) a b f g
     → Grew (AsksSource (GoesOn job modules) files job) a b f g
-sheet_asked_for files job modules sheet source a b f g run none stands grew = record {
+sheet_asked_for files job modules source a b f g run none grew = record {
   names = grew.names;
   faults = grew.faults;
   asked = grew.asked;
   failed = grew.failed;
-  asks = still_asks (GoesTo sheet source) (GoesOn job modules) files job grew.names grew.faults
-      (λ name. going_on job modules sheet source name run none stands) grew.asks;
+  asks = still_asks (GoesTo source) (GoesOn job modules) files job grew.names grew.faults
+      (λ name. going_on job modules source name run none) grew.asks;
 }

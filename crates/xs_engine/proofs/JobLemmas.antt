@@ -7,17 +7,17 @@ use Rattle.xs_words.specs.Steps.{given, where_it_holds}
 use Rattle.xs_words.specs.declared.choice.Options.{Options}
 use Rattle.xs_words.specs.declared.choice.WordsEnd.{WordsEnd}
 use Rattle.xs_words.specs.declared.choice.WordsEnd.TheVariants.{Usage, NoMemory}
-use Rattle.xs_engine.specs.Job.{Request, built_request, is_built, is_streamed, request_of, work_request}
+use Rattle.xs_engine.specs.Job.{Request, supported_request, is_supported, is_streamed, request_of, work_request}
 use Rattle.xs_engine.specs.Reply.{request_data}
 
 -- the words have options, and these are built or not
 pub options_read : (words : List Text) (options : Options) (request : Option Request) → options_of words ≡ Some (told options)
-    → request ≡ built_request (told options) → request_of words ≡ request
-options_read words options request read is = ap (λ o. given o built_request) read ∙ sym is
+    → request ≡ supported_request (told options) → request_of words ≡ request
+options_read words options request read is = ap (λ o. given o supported_request) read ∙ sym is
 
 -- the words were refused, or memory ran out
 pub words_refused : (words : List Text) (end : WordsEnd) → Gives told (options_of words) (Err end) → Gives request_data (request_of words) (Err end)
-words_refused words Usage is = ap (λ o. given o built_request) is
+words_refused words Usage is = ap (λ o. given o supported_request) is
 words_refused words NoMemory is = tt
 
 -- no result is streamed
@@ -30,9 +30,9 @@ by_test : (choice : Choice) (b : Bool) → is_streamed (where_it_holds b (Some (
 by_test choice true = by_work choice choice.job
 by_test choice false = refl
 
-by_choice : (o : Option Choice) → is_streamed (given o built_request) ≡ false
+by_choice : (o : Option Choice) → is_streamed (given o supported_request) ≡ false
 by_choice None = refl
-by_choice (Some choice) = by_test choice (is_built choice)
+by_choice (Some choice) = by_test choice (is_supported choice)
 
 pub never_streamed : (words : List Text) → is_streamed (request_of words) ≡ false
 never_streamed words = by_choice (options_of words)

@@ -1,4 +1,3 @@
-pub mod BuiltLemmas
 pub mod CutFileLemmas
 pub mod DueLemmas
 pub mod EndLemmas
@@ -11,5 +10,6 @@ pub mod JobLemmas
 pub mod OneAnswerLemmas
 pub mod OneOrderLemmas
 pub mod OneSettlingLemmas
+pub mod RefusalLemmas
 pub mod SheetLemmas
 pub mod StripLemmas

@@ -11,7 +11,8 @@ use Rattle.xs_tree.specs.Stripping.{without}
 use Rattle.xs_semantics.specs.Globals.{Settled, SettlesAll, Table, ended, settled, with_globals}
 use Rattle.xs_semantics.specs.Tasks.{Task}
 use Rattle.xs_semantics.specs.Trace.{root_task}
-use Rattle.xs_semantics.specs.World.{ground}
+use Rattle.xs_keys.specs.KeyTables.{tables_of}
+use Rattle.xs_semantics.specs.World.{World, ground}
 use Rattle.xs_semantics.proofs.IndexLemmas.{settling-same, task-same}
 use Rattle.xs_engine.specs.Answer.{Answer, stopped_answer}
 use Rattle.xs_engine.specs.Evaluation.{IsCutAnswer, IsEndAnswer, IsEvaluated, IsEvaluatedOver, in_globals, in_root, root_cut}
@@ -46,23 +47,26 @@ one-cut sheet t c x y p q = one-end sheet c.end c.passed _ _ x y p q
 
 -- ---- two indexes
 module _ (job : Job) (a : Sheet) (i j : SheetIndex) (rs : List Record) where
-  settling-one : (r s : Settled) → SettlesAll (ground a i rs []) job.given job.budget r → SettlesAll (ground a j rs []) job.given job.budget s → r ≡ s
-  settling-one r s x y = one-settling (ground a j rs []) job.budget job.given r s (settling-same (ground a i rs []) j job.budget job.given r x) y
+  abbrev over : SheetIndex → World
+  over index = ground a index rs (tables_of rs a.keys)
 
-  cut-same : (t : Table) → root_cut job (ground a i rs []) t ≡ root_cut job (ground a j rs []) t
+  settling-one : (r s : Settled) → SettlesAll (over i) job.given job.budget r → SettlesAll (over j) job.given job.budget s → r ≡ s
+  settling-one r s x y = one-settling (over j) job.budget job.given r s (settling-same (over i) j job.budget job.given r x) y
+
+  cut-same : (t : Table) → root_cut job (over i) t ≡ root_cut job (over j) t
   cut-same t =
       ap (λ (x : Trace Task). cut x (job.budget - t.ticks) job.most_events)
-      (sym (task-same (with_globals (ground a i rs []) t.values) j (root_task (with_globals (ground a i rs []) t.values))))
+      (sym (task-same (with_globals (over i) t.values) j (root_task (with_globals (over i) t.values))))
 
-  one-run : (x y : Answer) → IsEvaluated job (ground a i rs []) x → IsEvaluated job (ground a j rs []) y → x ≡ y
+  one-run : (x y : Answer) → IsEvaluated job (over i) x → IsEvaluated job (over j) y → x ≡ y
   one-run x y (in_globals {t = t} {s = s} k e) (in_globals {t = u} {s = v} l o) =
       e ∙ ap (told x a.modules) (settling-one (ended t s) (ended u v) k l) ∙ sym o
   one-run x y (in_globals {t = t} {s = s} k e) (in_root {t = u} l o) = absurd (true≢false (ap has_ended (settling-one (ended t s) (settled u) k l)))
   one-run x y (in_root {t = t} k e) (in_globals {t = u} {s = v} l o) = absurd (true≢false (sym (ap has_ended (settling-one (settled t) (ended u v) k l))))
   one-run x y (in_root {t = t} k e) (in_root {t = u} l o) =
       let same : t ≡ u = ap table_of (settling-one (settled t) (settled u) k l) in
-      one-cut a u (root_cut job (ground a j rs []) u) x y
-      (subst (λ z. IsCutAnswer a z (root_cut job (ground a j rs []) z) x) same (subst (λ c. IsCutAnswer a t c x) (cut-same t) e)) o
+      one-cut a u (root_cut job (over j) u) x y
+      (subst (λ z. IsCutAnswer a z (root_cut job (over j) z) x) same (subst (λ c. IsCutAnswer a t c x) (cut-same t) e)) o
 
 pub one-evaluated : (job : Job) (sheet : Sheet) (ds : List Document) (x y : Answer) → IsEvaluatedOver job sheet ds x → IsEvaluatedOver job sheet ds y → x ≡ y
 one-evaluated job sheet ds x y p q = one-run job sheet p.0 q.0 (without (stripped sheet.strips (joined ds)) (joined ds)) x y p.1 q.1

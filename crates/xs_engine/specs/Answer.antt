@@ -12,7 +12,7 @@ use Rattle.xs_trace.specs.declared.event.Event.{Event}
 use Rattle.xs_trace.specs.Fault.{fault_number}
 use Rattle.xs_trace.specs.declared.item.Spot.{Spot}
 use Rattle.xs_writing.specs.Lines.{pyx}
-use Rattle.xs_engine.specs.declared.faults.TheConstants.{NOT_BUILT, UNREADABLE}
+use Rattle.xs_engine.specs.declared.faults.TheConstants.{UNREADABLE}
 use Rattle.xs_engine.specs.declared.reply.ReportedFault.{ReportedFault}
 use Rattle.xs_engine.specs.declared.status.TheConstants.{OK, USAGE, READ_FAULT, REFUSED, RUN_FAULT}
 use Rattle.xs_engine.specs.Faults.{fault_name, run_fault_name}
@@ -83,10 +83,6 @@ refused_file fault name line = record {
 -- a stylesheet that was only checked has no fault
 abbrev pub faultless : Answer
 faultless = record { status = OK; result = []; lines = []; fault = None; ticks = 0; places = [] }
-
--- a file holds what is not built
-abbrev pub not_built : List ℕ → Answer
-not_built name = refused_file NOT_BUILT name 0
 
 -- the lines of all messages, in order
 abbrev pub message_lines : List (List ℕ) → List ℕ

@@ -1,5 +1,5 @@
 -- The answer that a run owes.
-use Rattle.std.specs.Prelude.{◌≡◌, ℕ, Bool, true, false, List, [], ◌∷◌, ◌++◌, Option, Some, None, IfSome}
+use Rattle.std.specs.Prelude.{◌≡◌, ℕ, List, [], ◌∷◌, ◌++◌, Option, Some, None, IfSome}
 use Rattle.xs_compile.specs.StandsFor.{StandsFor}
 use Rattle.xs_outside.specs.Edge.{Files}
 use Rattle.xs_modules.specs.Numbering.{ModuleData, numbered}
@@ -8,8 +8,7 @@ use Rattle.xs_static.specs.Faults.{IsFirstFault}
 use Rattle.xs_static.specs.declared.fault.StaticFault.{StaticFault}
 use Rattle.xs_tree.specs.Record.{Record}
 use Rattle.xs_sheet.specs.declared.sheet.Sheet.{Sheet}
-use Rattle.xs_engine.specs.Answer.{Answer, usage, read_fault, refused_file, faultless, not_built}
-use Rattle.xs_engine.specs.Built.{is_built}
+use Rattle.xs_engine.specs.Answer.{Answer, usage, read_fault, refused_file, faultless}
 use Rattle.xs_engine.specs.Evaluation.{IsEvaluatedOver}
 use Rattle.xs_engine.specs.Fetches.{ReadsSheet}
 use Rattle.xs_engine.specs.Inputs.{Document, named_document}
@@ -41,16 +40,15 @@ IsInputsAnswer files job sheet (input ∷ left) documents answer =
     (bytes : Option (List ℕ)) × IsFile files input.1 bytes
     × IsBytesAnswer input.1 bytes (λ records. IsInputsAnswer files job sheet left (documents ++ named_document input.0 records ∷ []) answer) answer
 
--- on all its inputs, which are read where the stylesheet is built
-abbrev pub IsSheetAnswer : (built : Bool) → Option Files → Job → Sheet → (inputs : List Pair) → Answer → Type 0
-IsSheetAnswer false files job sheet inputs answer = answer ≡ not_built job.sheet
-IsSheetAnswer true files job sheet inputs answer = IsInputsAnswer files job sheet inputs [] answer
+-- on all its inputs
+abbrev pub IsSheetAnswer : Option Files → Job → Sheet → (inputs : List Pair) → Answer → Type 0
+IsSheetAnswer files job sheet inputs answer = IsInputsAnswer files job sheet inputs [] answer
 
 -- The answer of a run on inputs: that of a compiled stylesheet that stands for the modules.
 pub record IsRunAnswer (files : Option Files) (job : Job) (modules : List ModuleData) (inputs : List Pair) (answer : Answer) : Type 0 where
   pub sheet : Sheet
   pub stands : StandsFor modules sheet
-  pub answers : IsSheetAnswer (is_built sheet) files job sheet inputs answer
+  pub answers : IsSheetAnswer files job sheet inputs answer
 
 -- the answer over modules without a static fault; where the stylesheet is only checked, it has none
 abbrev pub IsFaultlessAnswer : (source : Option (List ℕ)) → Option Files → Job → List ModuleData → Answer → Type 0
@@ -63,8 +61,7 @@ IsStaticAnswer None files job modules answer = IsFaultlessAnswer job.source file
 IsStaticAnswer (Some fault) files job modules answer =
     answer ≡ refused_file fault.number (module_name modules fault.«module») fault.line
 
--- The answer over the modules of a stylesheet. A static fault is told before an input is read, and so is a stylesheet that is not
--- built; a stylesheet that is only checked need not be built.
+-- The answer over the modules of a stylesheet. A static fault is reported before an input is read.
 pub record IsModulesAnswer (files : Option Files) (job : Job) (modules : List ModuleData) (answer : Answer) : Type 0 where
   pub fault : Option StaticFault
   pub first : IsFirstFault modules fault

@@ -7,6 +7,7 @@ use Rattle.xs_semantics.specs.World.{World, ground}
 use Rattle.xs_engine.specs.Answer.{Answer, stopped_answer, whole_answer}
 use Rattle.xs_engine.specs.Inputs.{Document, joined}
 use Rattle.xs_engine.specs.Job.{Job}
+use Rattle.xs_keys.specs.KeyTables.{tables_of}
 use Rattle.xs_rules.specs.WhiteSpace.{stripped}
 use Rattle.xs_semantics.specs.declared.index.SheetIndex.{SheetIndex}
 use Rattle.xs_sheet.specs.declared.sheet.Sheet.{Sheet}
@@ -44,9 +45,9 @@ pub data IsEvaluated (job : Job) (w : World) (answer : Answer) : Type 0 where
   in_root : {t : Table} → SettlesAll w job.given job.budget (settled t)
       → IsCutAnswer w.sheet t (root_cut job w t) answer → IsEvaluated job w answer
 
--- Over a tree; by which index the rules of the stylesheet are found changes nothing.
+-- Over a tree, with the tables of its keys (12.2); by which index the rules of the stylesheet are found changes nothing.
 abbrev pub IsEvaluatedOn : Job → Sheet → List Record → Answer → Type 0
-IsEvaluatedOn job sheet records answer = (index : SheetIndex) × IsEvaluated job (ground sheet index records []) answer
+IsEvaluatedOn job sheet records answer = (index : SheetIndex) × IsEvaluated job (ground sheet index records (tables_of records sheet.keys)) answer
 
 -- over a tree of which white space is stripped first (3.4)
 abbrev pub IsEvaluatedFrom : Job → Sheet → List Record → Answer → Type 0

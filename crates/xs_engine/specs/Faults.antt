@@ -1,5 +1,5 @@
 -- The names of the faults that a run reports to its user: 1 to 12 of a document, 20 to 25 and 32 to 46 of a stylesheet, 30 and 31 of
--- a mention of a module, 49 of a stylesheet that is not supported, 70 of a file that could not be read; and those of an evaluation.
+-- a mention of a module, 70 of a file that could not be read; and those of an evaluation.
 use Rattle.std.specs.Prelude.{ℕ, List, [], codes, if◌then◌else◌, ◌==◌, nat_le}
 use Rattle.xs_trace.specs.declared.fault.Fault.{Fault}
 use Rattle.xs_trace.specs.declared.fault.Fault.TheVariants.{Budget, Fraction, Range, NotNodes, NoKey, TooDeep, NoRule, Terminated, NoExtension, Circular}
@@ -50,12 +50,10 @@ stylesheet_fault_name fault =
     if fault == 46 then codes "ModuleTooDeep" else (
     [])))))))))))))))))))))))
 
--- that of a stylesheet that is not supported, and of a file that could not be read
+-- that of a file that could not be read
 unfoldable pub file_fault_name : ℕ → List ℕ
 file_fault_name fault =
-    if fault == 49 then codes "NotBuilt" else (
-    if fault == 70 then codes "ReadFault" else (
-    []))
+    if fault == 70 then codes "ReadFault" else []
 
 -- the name of a fault of a file, which its line bears; none of another number
 abbrev pub fault_name : ℕ → List ℕ

@@ -8,25 +8,19 @@ use Rattle.xs_modules.specs.Reading.{End, whole, Reads, failed_names}
 use Rattle.xs_static.specs.Faults.{IsFirstFault}
 use Rattle.xs_engine.specs.Inputs.{AsksInputs}
 use Rattle.xs_engine.specs.Job.{Job, Request, files_on}
-use Rattle.xs_engine.specs.Built.{is_built}
-use Rattle.xs_sheet.specs.declared.sheet.Sheet.{Sheet}
-use Rattle.xs_compile.specs.StandsFor.{StandsFor}
 
 -- The reading of a stylesheet's modules asks for these names, in order, and comes to this end (XSLT 1.0, 2.6).
 abbrev pub ReadsSheet : Option Files → List ℕ → List (List ℕ) → End → Type 0
 ReadsSheet files sheet names end = Reads files [] 0 (named_by_words sheet ∷ []) names end
 
--- A run on this source goes on to it: the stylesheet has no static fault, and what it is compiled to is built.
+-- A run on this source goes on to it: the stylesheet has no static fault.
 pub record GoesOn (job : Job) (modules : List ModuleData) (source : List ℕ) : Type 0 where
   pub run : job.source ≡ Some source
   pub faultless : IsFirstFault modules None
-  pub sheet : Sheet
-  pub stands : StandsFor modules sheet
-  pub built : is_built sheet ≡ true
 
 -- The names that a job asked for, in order, and those of them whose fetch failed: the modules of its stylesheet, as far as the
--- reading came; and, once all were read and have no static fault, and the stylesheet is built, its inputs, as far as their reading
--- came. So nothing is asked for after a failure.
+-- reading came; and, once all were read and have no static fault, its inputs, as far as their reading came. So nothing is asked for
+-- after a failure.
 pub data Asks (job : Job) (files : Option Files) : List (List ℕ) → List (List ℕ) → Type 0 where
   sheet_asked : {names : List (List ℕ)} {end : End} → ReadsSheet files job.sheet names end → Asks job files names (failed_names end)
   inputs_asked : {names later faults : List (List ℕ)} {read : Mentioned} {source : List ℕ} → ReadsSheet files job.sheet names (whole read)

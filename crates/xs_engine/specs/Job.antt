@@ -56,10 +56,10 @@ makes_none (files sheet source texts) = true
 makes_none (check sheet) = true
 makes_none (load count) = false
 
--- Nothing is asked for that is not built: no ticks and pieces are reported, no profile and no place of a tick, the result is not
+-- Nothing is asked for that is not supported: no ticks and pieces are reported, no profile and no place of a tick, the result is not
 -- streamed, there are no further documents, and no files are made.
-abbrev pub is_built : Choice → Bool
-is_built choice =
+abbrev pub is_supported : Choice → Bool
+is_supported choice =
     not (choice.stats || (choice.profile || choice.stream))
     && (is_none choice.at && (has_none choice.documents && makes_none choice.job))
 
@@ -102,9 +102,9 @@ work_request choice (files sheet source texts) = plain (source_job choice sheet 
 work_request choice (check sheet) = plain (check_job choice sheet)
 work_request choice (load count) = record (plain (made_job choice.budget choice.max_events)) { made = Some count }
 
-abbrev pub built_request : Choice → Option Request
-built_request choice = where_it_holds (is_built choice) (Some (work_request choice choice.job))
+abbrev pub supported_request : Choice → Option Request
+supported_request choice = where_it_holds (is_supported choice) (Some (work_request choice choice.job))
 
--- What words ask for; none where they are refused, or ask for what is not built.
+-- What words ask for; none where they are refused, or ask for what is not supported.
 abbrev pub request_of : List (List ℕ) → Option Request
-request_of words = given (options_of words) built_request
+request_of words = given (options_of words) supported_request

@@ -1,5 +1,4 @@
 pub mod Answer
-pub mod Built
 pub mod Due
 pub mod Evaluation
 pub mod Faults
@@ -10,5 +9,6 @@ pub mod Inputs
 pub mod Job
 pub mod Made
 pub mod Read
+pub mod Refusals
 pub mod Reply
 pub mod Run

@@ -14,7 +14,6 @@ use Rattle.xs_static.specs.Faults.{IsFirstFault}
 use Rattle.xs_static.specs.declared.fault.StaticFault.{StaticFault}
 use Rattle.xs_engine.specs.Answer.{Answer, faultless, refused_file}
 use Rattle.xs_engine.specs.Run.{module_name}
-use Rattle.xs_engine.specs.Built.{is_built}
 use Rattle.xs_sheet.specs.declared.sheet.Sheet.{Sheet}
 use Rattle.xs_engine.specs.Headline.{Account}
 use Rattle.xs_engine.specs.Inputs.{AsksInputs}
@@ -76,9 +75,9 @@ pub data AsksSource (P : List ℕ → Type 0) (files : Option Files) (job : Job)
   asked_for : {source : List ℕ} {names faults : List (List ℕ)} → P source → AsksInputs files (files_on job source) names faults
       → AsksSource P files job names faults
 
--- a run of a compiled stylesheet on a source goes on to it: the stylesheet is built
-abbrev pub GoesTo : Sheet → (source name : List ℕ) → Type 0
-GoesTo sheet source name = (name ≡ source) × (is_built sheet ≡ true)
+-- a run of a compiled stylesheet on a source goes on to it
+abbrev pub GoesTo : (source name : List ℕ) → Type 0
+GoesTo source name = name ≡ source
 
 -- the answer of a stylesheet that is only checked: its first static fault, or nothing
 abbrev pub IsCheckAnswer : Option StaticFault → List ModuleData → Answer → Type 0

@@ -8,7 +8,6 @@ ghost use Rattle.xs_words.specs.Results.{texts};
 ghost use Rattle.xs_engine.specs.declared.status.TheConstants.{OK, READ_FAULT, USAGE};
 ghost use Rattle.xs_engine.specs.declared.status.TheConstants.{REFUSED, WRITE_FAULT};
 ghost use Rattle.xs_engine.specs.Answer.{refused_file};
-ghost use Rattle.xs_engine.specs.Built.{is_built};
 ghost use Rattle.xs_engine.specs.Due.{IsAnswer, IsDue, IsModulesAnswer, IsSheetAnswer, Owed};
 ghost use Rattle.xs_engine.specs.Fetches.{Fetches, GoesOn, Grew, JobFetches};
 ghost use Rattle.xs_engine.specs.Headline.{HasTicks};
@@ -18,14 +17,13 @@ ghost use Rattle.xs_engine.specs.Reply.{AsksSource, GoesTo, IsChecked, IsWholeOr
 ghost use Rattle.xs_engine.specs.Reply.{job_data, reply_of};
 ghost use Rattle.xs_engine.specs.Run.{module_name};
 
-use crate::built::is_built;
 use crate::evaluation::evaluate;
-use crate::faults::NOT_BUILT;
 use crate::job::{Job, read_request};
 use crate::made::MadeFiles;
 use crate::reading::read_source;
 use crate::reply::{Reply, faultless_reply, read_fault_reply, refused_reply, usage_reply};
 use std::alloc::{AllocError, Global};
+use std::thread::Threads;
 use xs_compile::{CompileEnd, compile};
 use xs_load::load_case;
 use xs_modules::{Modules, ModulesEnd, read_modules};
@@ -36,7 +34,8 @@ use xs_trace::text::TextBuf;
 use xs_words::WordsEnd;
 
 /// The answer of a run: a function of the words and of the files that it comes to.
-pub fn reply_to<L: Library>(
+pub fn reply_to<R: Threads + Sync, L: Library>(
+    rt: &R,
     alloc: Global,
     words: &[String],
     library: &mut L,
@@ -56,8 +55,8 @@ pub fn reply_to<L: Library>(
 {
     match read_request(alloc, words) {
         Ok(request) => match request.made {
-            None => job_reply(alloc, &request.job, library),
-            Some(count) => made_reply(alloc, &request.job, count),
+            None => job_reply(rt, alloc, &request.job, library),
+            Some(count) => made_reply(rt, alloc, &request.job, count),
         },
         Err(WordsEnd::Usage) => usage_reply(alloc),
         Err(WordsEnd::NoMemory) => Err(AllocError),
@@ -65,7 +64,12 @@ pub fn reply_to<L: Library>(
 }
 
 /// The answer of a run over the files that it makes, of which the source has so many elements.
-fn made_reply(alloc: Global, job: &Job, count: u32) -> Result<Reply, AllocError>
+fn made_reply<R: Threads + Sync>(
+    rt: &R,
+    alloc: Global,
+    job: &Job,
+    count: u32,
+) -> Result<Reply, AllocError>
     ensures answer { IfOk result (λ reply.
         IsAnswer (Some (made_files count)) (job_data job.now) (reply_of reply)) }
     ensures read { IfOk result (λ reply. reply.status ≢ READ_FAULT) }
@@ -76,11 +80,16 @@ fn made_reply(alloc: Global, job: &Job, count: u32) -> Result<Reply, AllocError>
 {
     let (sheet, source) = load_case(alloc, count)?;
     let mut made = MadeFiles::new(alloc, sheet, source);
-    job_reply(alloc, job, &mut made)
+    job_reply(rt, alloc, job, &mut made)
 }
 
 /// The answer of a run over a stylesheet, with all the modules that it mentions, and a source.
-fn job_reply<L: Library>(alloc: Global, job: &Job, library: &mut L) -> Result<Reply, AllocError>
+fn job_reply<R: Threads + Sync, L: Library>(
+    rt: &R,
+    alloc: Global,
+    job: &Job,
+    library: &mut L,
+) -> Result<Reply, AllocError>
     ensures files { L.files library.new ≡ L.files library.old }
     ensures fetches { JobFetches (job_data job.now) (L.files library.old)
         (L.asked library.old) (L.asked library.new) (L.failed library.old) (L.failed library.new) }
@@ -94,7 +103,7 @@ fn job_reply<L: Library>(alloc: Global, job: &Job, library: &mut L) -> Result<Re
     ensures whole_only { IfOk result IsWholeOrEmpty }
 {
     match read_modules(alloc, library, job.sheet.as_str()) {
-        Ok(modules) => modules_reply(alloc, job, &modules, library),
+        Ok(modules) => modules_reply(rt, alloc, job, &modules, library),
         Err(ModulesEnd::Failed { name }) => read_fault_reply(alloc, &name),
         Err(
             ModulesEnd::Refused {
@@ -109,7 +118,8 @@ fn job_reply<L: Library>(alloc: Global, job: &Job, library: &mut L) -> Result<Re
 
 /// The answer of a run over the modules of a stylesheet: their first static fault; else, where the
 /// stylesheet is only checked, nothing; else what the run comes to.
-fn modules_reply<L: Library>(
+fn modules_reply<R: Threads + Sync, L: Library>(
+    rt: &R,
     alloc: Global,
     job: &Job,
     modules: &Modules,
@@ -132,7 +142,7 @@ fn modules_reply<L: Library>(
 {
     match &job.source {
         Some(source) => match compile(alloc, modules) {
-            Ok(sheet) => run_reply(alloc, job, source, &sheet, library),
+            Ok(sheet) => run_reply(rt, alloc, job, source, &sheet, library),
             Err(CompileEnd::Refused(fault)) => static_reply(alloc, modules, fault),
             Err(CompileEnd::NoMemory) => Err(AllocError),
         },
@@ -169,9 +179,9 @@ fn static_reply(alloc: Global, modules: &Modules, fault: StaticFault) -> Result<
     refused_reply(alloc, fault.number, &module.name, fault.line)
 }
 
-/// The answer of a run of a compiled stylesheet on a source, which is read where the stylesheet is
-/// supported.
-pub fn run_reply<L: Library>(
+/// The answer of a run of a compiled stylesheet on a source.
+pub fn run_reply<R: Threads + Sync, L: Library>(
+    rt: &R,
     alloc: Global,
     job: &Job,
     source: &TextBuf,
@@ -180,10 +190,10 @@ pub fn run_reply<L: Library>(
 ) -> Result<Reply, AllocError>
     requires sound { SheetIsSound sheet.now }
     ensures files { L.files library.new ≡ L.files library.old }
-    ensures asks { Grew (AsksSource (GoesTo sheet.now source.now)
+    ensures asks { Grew (AsksSource (GoesTo source.now)
         (L.files library.old) (job_data job.now))
         (L.asked library.old) (L.asked library.new) (L.failed library.old) (L.failed library.new) }
-    ensures due { IfOk result (λ reply. Owed (IsSheetAnswer (is_built sheet.now)
+    ensures due { IfOk result (λ reply. Owed (IsSheetAnswer
         (L.files library.old) (job_data job.now) sheet.now
         (inputs_on (job_data job.now) source.now))
         (L.failed library.old) (L.failed library.new) (reply_of reply)) }
@@ -194,11 +204,8 @@ pub fn run_reply<L: Library>(
     ensures ticks { IfOk result (λ reply. HasTicks reply.status ⊎ (reply.ticks ≡ 0)) }
     ensures whole_only { IfOk result IsWholeOrEmpty }
 {
-    if !is_built(sheet) {
-        return refused_reply(alloc, NOT_BUILT, &job.sheet, 0);
-    }
     match read_source(alloc, source.as_str(), library) {
-        Ok(Ok(tree)) => evaluate(alloc, job, sheet, tree),
+        Ok(Ok(tree)) => evaluate(rt, alloc, job, sheet, tree),
         Ok(Err(fault)) => refused_reply(alloc, fault.number, source, fault.line),
         Err(FetchEnd::Failed) => read_fault_reply(alloc, source),
         Err(FetchEnd::NoMemory) => Err(AllocError),

@@ -12,6 +12,8 @@ ghost use Rattle.xs_engine.specs.Inputs.{named_document};
 ghost use Rattle.xs_engine.specs.Reply.{IsWholeOrEmpty, job_data, reply_of};
 ghost use Rattle.xs_rules.specs.Indexed.{IsIndex, IsPrepared};
 ghost use Rattle.xs_sets.specs.Indexed.{IsSetIndex};
+ghost use Rattle.xs_counting.specs.steps.Tables.{AreCounters};
+ghost use Rattle.xs_value.specs.Tables.{TablesIn};
 ghost use Rattle.xs_rules.specs.WhiteSpace.{stripped};
 ghost use Rattle.xs_sheet.specs.Sound.{IsSound};
 ghost use Rattle.xs_tree.specs.Stripping.{without};
@@ -19,23 +21,31 @@ ghost use Rattle.xs_tree.specs.Stripping.{without};
 use crate::job::Job;
 use crate::reply::{Reply, stopped_reply, whole_reply};
 use std::alloc::{AllocError, Global};
+use std::thread::Threads;
 use xs_block::chain::Chain;
 use xs_block::pool::Pool;
 use xs_body::runner::SheetRunner;
 use xs_body::world::World;
 use xs_globals::settled::Settled;
 use xs_globals::settling::settle;
+use xs_keys::keys::KeyCells;
 use xs_rules::white_space::strip_space;
 use xs_semantics::index::SheetIndex;
 use xs_sheet::declarations::StripRule;
 use xs_sheet::sheet::Sheet;
 use xs_trace::item::{Ended, Limits};
 use xs_tree::Tree;
-use xs_value::keys::NoKeys;
+use xs_value::keys::KeyFinder;
 
 /// What a stylesheet makes of a source. White space is stripped from the source first; then the
 /// globals are settled, and then the root of the source takes its template.
-pub fn evaluate(alloc: Global, job: &Job, sheet: &Sheet, source: Tree) -> Result<Reply, AllocError>
+pub fn evaluate<R: Threads + Sync>(
+    rt: &R,
+    alloc: Global,
+    job: &Job,
+    sheet: &Sheet,
+    source: Tree,
+) -> Result<Reply, AllocError>
     requires sound { IsSound sheet.now }
     ensures answer { IfOk result (λ reply.
         IsEvaluatedOver (job_data job.now) sheet.now (named_document [] source ∷ [])
@@ -46,7 +56,7 @@ pub fn evaluate(alloc: Global, job: &Job, sheet: &Sheet, source: Tree) -> Result
 {
     let mut tree = source;
     strip(alloc, &mut tree, sheet.strips.as_slice())?;
-    evaluate_over(alloc, job, sheet, &tree)
+    evaluate_over(rt, alloc, job, sheet, &tree)
 }
 
 /// Strips white space of a source as the rules say (XSLT 1.0, 3.4). Most stylesheets have none, and
@@ -61,8 +71,14 @@ fn strip(alloc: Global, tree: &mut Tree, rules: &[StripRule]) -> Result<(), Allo
     strip_space(alloc, tree, rules)
 }
 
-/// The same of a source that is stripped.
-fn evaluate_over(alloc: Global, job: &Job, sheet: &Sheet, tree: &Tree) -> Result<Reply, AllocError>
+/// The same of a source that is stripped: the tables of its keys are made first.
+fn evaluate_over<R: Threads + Sync>(
+    rt: &R,
+    alloc: Global,
+    job: &Job,
+    sheet: &Sheet,
+    tree: &Tree,
+) -> Result<Reply, AllocError>
     requires sound { IsSound sheet.now }
     ensures answer { IfOk result (λ reply.
         IsEvaluatedOn (job_data job.now) sheet.now tree.now (reply_of reply)) }
@@ -70,25 +86,29 @@ fn evaluate_over(alloc: Global, job: &Job, sheet: &Sheet, tree: &Tree) -> Result
         (reply.status ≡ OK) ⊎ (reply.status ≡ RUN_FAULT)) }
     ensures whole_only { IfOk result IsWholeOrEmpty }
 {
-    let index = index_for(alloc, sheet, tree)?;
-    evaluate_by(alloc, job, sheet, &index, tree)
+    let keys = KeyCells::new(rt, alloc, sheet, tree)?;
+    let index = SheetIndex::over(alloc, sheet, tree, &keys)?;
+    evaluate_by(alloc, job, sheet, &index, tree, &keys)
 }
 
-/// The same by an index: the globals, and then the root.
-fn evaluate_by(
+/// The same by an index and by keys: the globals, and then the root.
+fn evaluate_by<K: KeyFinder>(
     alloc: Global,
     job: &Job,
     sheet: &Sheet,
     index: &SheetIndex<'_>,
     tree: &Tree,
+    keys: &K,
 ) -> Result<Reply, AllocError>
     requires sound { IsSound sheet.now }
     requires index { IsIndex index.now.rules }
     requires prepared { IsPrepared index.now.rules tree.now }
     requires templates { index.now.rules.templates.now ≡ sheet.now.templates }
     requires sets { IsSetIndex sheet.now.sets index.now.sets }
+    requires counters { AreCounters (K.tables keys.now) tree.now index.now.counters }
+    requires tables { TablesIn tree.now (K.tables keys.now) }
     ensures answer { IfOk result (λ reply. IsEvaluated (job_data job.now)
-        (ground sheet.now index.now tree.now []) (reply_of reply)) }
+        (ground sheet.now index.now tree.now (K.tables keys.now)) (reply_of reply)) }
     ensures status { IfOk result (λ reply.
         (reply.status ≡ OK) ⊎ (reply.status ≡ RUN_FAULT)) }
     ensures whole_only { IfOk result IsWholeOrEmpty }
@@ -97,7 +117,7 @@ fn evaluate_by(
         sheet,
         index,
         tree,
-        keys: &NoKeys,
+        keys,
         globals: &[],
         grain: None,
     };
@@ -111,26 +131,12 @@ fn evaluate_by(
     }
 }
 
-/// The index of a stylesheet's rules, prepared for a source.
-fn index_for<'a>(alloc: Global, sheet: &'a Sheet, tree: &Tree) -> Result<SheetIndex<'a>, AllocError>
-    requires sound { IsSound sheet.now }
-    ensures index { IfOk result (λ index. IsIndex index.rules) }
-    ensures prepared { IfOk result (λ index. IsPrepared index.rules tree.now) }
-    ensures templates { IfOk result
-        (λ index. index.rules.templates.now ≡ sheet.now.templates) }
-    ensures sets { IfOk result (λ index. IsSetIndex sheet.now.sets index.sets) }
-{
-    let mut index = SheetIndex::new(alloc, sheet)?;
-    index.rules.prepare(alloc, tree)?;
-    Ok(index)
-}
-
 /// What the root of a source takes, once the globals are settled, cut at what is left of the limits
 /// (XSLT 1.0, 5.1).
-fn root_reply(
+fn root_reply<K: KeyFinder>(
     alloc: Global,
     job: &Job,
-    world: &World<'_, NoKeys>,
+    world: &World<'_, K>,
     settled: &Settled,
 ) -> Result<Reply, AllocError>
     requires settled { SettlesAll world.now

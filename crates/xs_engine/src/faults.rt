@@ -79,9 +79,6 @@ pub const FORBIDDEN: u8 = 45;
 /// An element stands too deep.
 pub const MODULE_TOO_DEEP: u8 = 46;
 
-/// A stylesheet has what is not supported.
-pub const NOT_BUILT: u8 = 49;
-
 /// A file could not be read.
 pub const UNREADABLE: u8 = 70;
 
@@ -153,13 +150,12 @@ fn stylesheet_fault_name(fault: u8) -> &'static str
     }
 }
 
-/// The name of a fault of a stylesheet that is not supported, or of a file that could not be read.
+/// The name of the fault of a file that could not be read.
 #[tactic(auto, unfolding(crate::specs::Faults::file_fault_name))]
 fn file_fault_name(fault: u8) -> &'static str
     ensures { result.now ≡ file_fault_name fault }
 {
     match fault {
-        NOT_BUILT => "NotBuilt",
         UNREADABLE => "ReadFault",
         _ => "",
     }

@@ -2,7 +2,7 @@
 
 ghost use Rattle.std.specs.Prelude.{◌≡◌, IfOk};
 ghost use Rattle.xs_words.specs.Results.{Gives, job_told, texts, told};
-ghost use Rattle.xs_engine.specs.Job.{is_built, made_job, makes_none, request_of, work_request};
+ghost use Rattle.xs_engine.specs.Job.{is_supported, made_job, makes_none, request_of, work_request};
 ghost use Rattle.xs_engine.specs.Reply.{job_data, request_data};
 
 use crate::made::{MADE_SHEET, MADE_SOURCE};
@@ -35,13 +35,14 @@ pub struct Request {
     pub made: Option<u32>,
 }
 
-/// What the words ask for. `Usage` exactly where they are refused, or ask for what is not built.
+/// What the words ask for. `Usage` exactly where they are refused, or ask for what is not
+/// supported.
 pub fn read_request(alloc: Global, words: &[String]) -> Result<Request, WordsEnd>
     ensures { Gives request_data (request_of (texts words.now)) result }
 {
     match read_words(alloc, words) {
         Ok(options) => {
-            if is_built(&options) {
+            if is_supported(&options) {
                 match work_request(alloc, options) {
                     Ok(request) => Ok(request),
                     Err(_) => Err(WordsEnd::NoMemory),
@@ -54,9 +55,9 @@ pub fn read_request(alloc: Global, words: &[String]) -> Result<Request, WordsEnd
     }
 }
 
-/// Whether options ask for nothing that is not built.
-fn is_built(options: &Options) -> bool
-    ensures { result ≡ is_built (told options.now) }
+/// Whether options ask for nothing that is not supported.
+fn is_supported(options: &Options) -> bool
+    ensures { result ≡ is_supported (told options.now) }
 {
     !(options.stats || options.profile || options.stream)
         && options.at.is_none()

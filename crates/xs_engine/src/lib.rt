@@ -2,7 +2,6 @@
 #![tactic(auto)]
 
 mod answer;
-mod built;
 mod deliver;
 mod evaluation;
 mod faults;

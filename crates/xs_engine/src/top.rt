@@ -1,11 +1,13 @@
 //! The top call.
 
 ghost use Rattle.std.specs.Prelude.{◌≡◌, ◌≢◌, ◌<◌, ◌≤◌, ◌⊎◌, [], false, length, None};
-ghost use Rattle.xs_engine.specs.declared.status.TheConstants.{NO_MEMORY, READ_FAULT, USAGE};
+ghost use Rattle.xs_engine.specs.declared.status.TheConstants.{NO_MEMORY, READ_FAULT, REFUSED};
+ghost use Rattle.xs_engine.specs.declared.status.TheConstants.{USAGE};
 ghost use Rattle.xs_words.specs.Results.{texts};
 ghost use Rattle.xs_engine.specs.Fetches.{Fetches};
 ghost use Rattle.xs_engine.specs.Headline.{AtOnce, Gained, Gives, HasTicks, OfDue, OnlyDue};
 ghost use Rattle.xs_engine.specs.Job.{is_streamed, request_of};
+ghost use Rattle.xs_engine.specs.Refusals.{Decides, IsListed};
 ghost use Rattle.xs_engine.specs.Reply.{account_of};
 
 use crate::answer::reply_to;
@@ -66,6 +68,14 @@ pub fn transform<R: Threads + Sync, L: Library, O: Sink, E: Sink, G: Gate>(
         (λ due. Gives (is_streamed (request_of (texts words.now))) due (account_of result)
         (O.held out.old) (O.held out.new) (E.held err.old) (E.held err.new)) }
 
+    // A stylesheet is refused for a static fault alone, the least, and a source for its first bad
+    // line. Where the files are known, and all that were asked for were read, they decide it: with
+    // such a fault a run is refused, and without one it is evaluated.
+    ensures refused_only { result.status ≡ REFUSED →
+        IsListed (request_of (texts words.now)) (L.files library.old) result.fault }
+    ensures decided { L.failed library.new ≡ L.failed library.old →
+        Decides (request_of (texts words.now)) (L.files library.old) result.status }
+
     // What a status says, whatever the files.
     ensures status { result.status ≤ NO_MEMORY }
     ensures usage_only { result.status ≡ USAGE → request_of (texts words.now) ≡ None }
@@ -86,9 +96,8 @@ pub fn transform<R: Threads + Sync, L: Library, O: Sink, E: Sink, G: Gate>(
     ensures err_extends { Gained (E.held err.old) (E.held err.new) (λ _. Unit {0}) }
     ensures no_memory { result.status ≡ NO_MEMORY → E.held err.new ≡ E.held err.old }
 {
-    let _workers = rt;
     let _gate = gate;
-    match reply_to(alloc, words, library) {
+    match reply_to(rt, alloc, words, library) {
         Ok(reply) => {
             let status = deliver(&reply, out, err);
             report_of(alloc, status, reply.ticks, reply.fault)

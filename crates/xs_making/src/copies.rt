@@ -10,6 +10,7 @@ ghost use Rattle.xs_making.specs.Copies.{tag_events};
 ghost use Rattle.xs_making.specs.steps.Walk.{inside, opening};
 
 use crate::leaves::{label_of, put_attribute, put_leaf, put_space};
+use crate::recent::RecentLabels;
 use std::alloc::AllocError;
 use xs_trace::event::Event;
 use xs_tree::{Kind, Node, Tree};
@@ -18,11 +19,12 @@ use xs_tree::{Kind, Node, Tree};
 ///
 /// A deep copy has all that is in the node. Any other is what `xsl:copy` puts of it before its own
 /// content: of a root nothing, of an element its start and its namespace nodes, without the end.
-/// After a refusal `out` is as it was.
+/// Names that were put before are shared, by `labels`. After a refusal `out` is as it was.
 pub fn copy_events(
     tree: &Tree,
     node: Node,
     deep: bool,
+    labels: &mut RecentLabels,
     out: &mut Vec<Event>,
 ) -> Result<(), AllocError>
     requires { node < length tree.now }
@@ -32,9 +34,9 @@ pub fn copy_events(
 {
     let before = out.len();
     let outcome = if deep {
-        put_whole(tree, node, out)
+        put_whole(tree, node, labels, out)
     } else {
-        put_alone(tree, node, out)
+        put_alone(tree, node, labels, out)
     };
     if outcome.is_err() {
         out.truncate(before);
@@ -43,52 +45,72 @@ pub fn copy_events(
 }
 
 /// Puts a node without its attributes and children.
-fn put_alone(tree: &Tree, node: Node, out: &mut Vec<Event>) -> Result<(), AllocError>
+fn put_alone(
+    tree: &Tree,
+    node: Node,
+    labels: &mut RecentLabels,
+    out: &mut Vec<Event>,
+) -> Result<(), AllocError>
     requires { node < length tree.now }
     ensures put { OnOk result (out.new.items ≡ out.old.items ++ shallow_copy tree.now node) }
     ensures kept { take (length out.old.items) out.new.items ≡ out.old.items }
 {
     if tree.kind(node) == Kind::Element {
-        put_start(tree, node, out)
+        put_start(tree, node, labels, out)
     } else {
-        put_leaf(tree, node, out)
+        put_leaf(tree, node, labels, out)
     }
 }
 
 /// Puts a node with all that is in it.
-fn put_whole(tree: &Tree, node: Node, out: &mut Vec<Event>) -> Result<(), AllocError>
+fn put_whole(
+    tree: &Tree,
+    node: Node,
+    labels: &mut RecentLabels,
+    out: &mut Vec<Event>,
+) -> Result<(), AllocError>
     requires { node < length tree.now }
     ensures put { OnOk result (out.new.items ≡ out.old.items ++ deep_copy tree.now node) }
     ensures kept { take (length out.old.items) out.new.items ≡ out.old.items }
 {
     let _count = tree.len();
     match tree.kind(node) {
-        Kind::Root => put_inside(tree, node, out),
-        Kind::Element => put_element(tree, node, out),
-        _ => put_leaf(tree, node, out),
+        Kind::Root => put_inside(tree, node, labels, out),
+        Kind::Element => put_element(tree, node, labels, out),
+        _ => put_leaf(tree, node, labels, out),
     }
 }
 
 /// Puts an element with all that is in it.
-fn put_element(tree: &Tree, n: Node, out: &mut Vec<Event>) -> Result<(), AllocError>
+fn put_element(
+    tree: &Tree,
+    n: Node,
+    labels: &mut RecentLabels,
+    out: &mut Vec<Event>,
+) -> Result<(), AllocError>
     requires { n < length tree.now }
     ensures put { OnOk result (out.new.items
         ≡ out.old.items ++ (tag_events tree.now n ++ (inside tree.now n ++ End ∷ []))) }
     ensures kept { take (length out.old.items) out.new.items ≡ out.old.items }
 {
-    put_tag(tree, n, out)?;
-    put_inside(tree, n, out)?;
+    put_tag(tree, n, labels, out)?;
+    put_inside(tree, n, labels, out)?;
     out.push(Event::End)?;
     Ok(())
 }
 
 /// Puts the start of an element, with its namespace nodes.
-fn put_start(tree: &Tree, n: Node, out: &mut Vec<Event>) -> Result<(), AllocError>
+fn put_start(
+    tree: &Tree,
+    n: Node,
+    labels: &mut RecentLabels,
+    out: &mut Vec<Event>,
+) -> Result<(), AllocError>
     requires { n < length tree.now }
     ensures put { OnOk result (out.new.items ≡ out.old.items ++ start_events tree.now n) }
     ensures kept { take (length out.old.items) out.new.items ≡ out.old.items }
 {
-    let name = label_of(*out.allocator(), tree, n)?;
+    let name = label_of(tree, n, labels)?;
     out.push(Event::Start(name))?;
     for space in tree.namespaces(n) {
         put_space(tree, space, out)?;
@@ -97,29 +119,39 @@ fn put_start(tree: &Tree, n: Node, out: &mut Vec<Event>) -> Result<(), AllocErro
 }
 
 /// Puts the start tag of an element: its start, its namespace nodes and its attributes.
-fn put_tag(tree: &Tree, n: Node, out: &mut Vec<Event>) -> Result<(), AllocError>
+fn put_tag(
+    tree: &Tree,
+    n: Node,
+    labels: &mut RecentLabels,
+    out: &mut Vec<Event>,
+) -> Result<(), AllocError>
     requires { n < length tree.now }
     ensures put { OnOk result (out.new.items ≡ out.old.items ++ tag_events tree.now n) }
     ensures kept { take (length out.old.items) out.new.items ≡ out.old.items }
 {
-    put_start(tree, n, out)?;
+    put_start(tree, n, labels, out)?;
     for attribute in tree.attributes(n) {
-        put_attribute(tree, attribute, out)?;
+        put_attribute(tree, attribute, labels, out)?;
     }
     Ok(())
 }
 
 /// Puts what comes before the children of a node: the start tag of an element, all of a node
 /// without children, nothing of a root.
-fn put_opening(tree: &Tree, n: Node, out: &mut Vec<Event>) -> Result<(), AllocError>
+fn put_opening(
+    tree: &Tree,
+    n: Node,
+    labels: &mut RecentLabels,
+    out: &mut Vec<Event>,
+) -> Result<(), AllocError>
     requires { n < length tree.now }
     ensures put { OnOk result (out.new.items ≡ out.old.items ++ opening tree.now n) }
     ensures kept { take (length out.old.items) out.new.items ≡ out.old.items }
 {
     if tree.kind(n) == Kind::Element {
-        put_tag(tree, n, out)
+        put_tag(tree, n, labels, out)
     } else {
-        put_leaf(tree, n, out)
+        put_leaf(tree, n, labels, out)
     }
 }
 
@@ -127,7 +159,12 @@ fn put_opening(tree: &Tree, n: Node, out: &mut Vec<Event>) -> Result<(), AllocEr
 ///
 /// It goes from place to place, down into the elements and up again, since documents nest without
 /// bound: it takes time linear in what is in the node, and no stack.
-fn put_inside(tree: &Tree, node: Node, out: &mut Vec<Event>) -> Result<(), AllocError>
+fn put_inside(
+    tree: &Tree,
+    node: Node,
+    labels: &mut RecentLabels,
+    out: &mut Vec<Event>,
+) -> Result<(), AllocError>
     requires { node < length tree.now }
     ensures put { OnOk result (out.new.items ≡ out.old.items ++ inside tree.now node) }
     ensures kept { take (length out.old.items) out.new.items ≡ out.old.items }
@@ -136,7 +173,7 @@ fn put_inside(tree: &Tree, node: Node, out: &mut Vec<Event>) -> Result<(), Alloc
     let mut from = next_place(tree, node);
     loop {
         if let Some(child) = tree.child_from(holder, from) {
-            put_opening(tree, child, out)?;
+            put_opening(tree, child, labels, out)?;
             from = next_place(tree, child);
             holder = holder_after(tree, holder, child);
             continue;

@@ -6,14 +6,20 @@ ghost use Rattle.xs_making.specs.Copies.{space_events, text_events};
 ghost use Rattle.xs_making.specs.Texts.{is_empty};
 ghost use Rattle.xs_making.specs.Labels.{xml_uri};
 
-use crate::labels::{XML_URI, put_label};
-use std::alloc::{AllocError, Global};
+use crate::labels::XML_URI;
+use crate::recent::RecentLabels;
+use std::alloc::AllocError;
 use xs_trace::event::{Event, Label};
 use xs_trace::text::TextBuf;
 use xs_tree::{Kind, Node, Tree};
 
 /// Puts the copy of a node that is no root and no element.
-pub(crate) fn put_leaf(tree: &Tree, n: Node, out: &mut Vec<Event>) -> Result<(), AllocError>
+pub(crate) fn put_leaf(
+    tree: &Tree,
+    n: Node,
+    labels: &mut RecentLabels,
+    out: &mut Vec<Event>,
+) -> Result<(), AllocError>
     requires { n < length tree.now }
     ensures put { OnOk result (out.new.items
         ≡ out.old.items ++ leaf_events (at tree.now n).kind (at tree.now n)) }
@@ -21,7 +27,7 @@ pub(crate) fn put_leaf(tree: &Tree, n: Node, out: &mut Vec<Event>) -> Result<(),
 {
     match tree.kind(n) {
         Kind::Root | Kind::Element => Ok(()),
-        Kind::Attribute => put_attribute(tree, n, out),
+        Kind::Attribute => put_attribute(tree, n, labels, out),
         Kind::Space => put_space(tree, n, out),
         Kind::Text => put_text(tree, n, out),
         Kind::Comment => put_comment(tree, n, out),
@@ -30,11 +36,11 @@ pub(crate) fn put_leaf(tree: &Tree, n: Node, out: &mut Vec<Event>) -> Result<(),
 }
 
 /// The name that an element or an attribute is put with.
-pub(crate) fn label_of(alloc: Global, tree: &Tree, n: Node) -> Result<Label, AllocError>
+pub(crate) fn label_of(tree: &Tree, n: Node, labels: &mut RecentLabels) -> Result<Label, AllocError>
     requires { n < length tree.now }
     ensures label { IfOk result (λ label. label ≡ label_of (at tree.now n)) }
 {
-    put_label(alloc, tree.uri(n), tree.local(n), tree.prefix(n))
+    labels.label(tree.uri(n), tree.local(n), tree.prefix(n))
 }
 
 /// Puts a namespace node, but for no namespace and for that of `xml`.
@@ -55,7 +61,12 @@ pub(crate) fn put_space(tree: &Tree, n: Node, out: &mut Vec<Event>) -> Result<()
 }
 
 /// Puts an attribute, but for one that would be read as the declaration of a default namespace.
-pub(crate) fn put_attribute(tree: &Tree, n: Node, out: &mut Vec<Event>) -> Result<(), AllocError>
+pub(crate) fn put_attribute(
+    tree: &Tree,
+    n: Node,
+    labels: &mut RecentLabels,
+    out: &mut Vec<Event>,
+) -> Result<(), AllocError>
     requires { n < length tree.now }
     ensures put { OnOk result (out.new.items ≡ out.old.items ++ attribute_events (at tree.now n)) }
     ensures refused { OnErr result (out.new.items ≡ out.old.items) }
@@ -63,9 +74,8 @@ pub(crate) fn put_attribute(tree: &Tree, n: Node, out: &mut Vec<Event>) -> Resul
     if tree.uri(n).is_empty() && tree.local(n) == "xmlns" {
         return Ok(());
     }
-    let alloc = *out.allocator();
-    let name = label_of(alloc, tree, n)?;
-    let value = TextBuf::of(alloc, tree.text(n))?;
+    let name = label_of(tree, n, labels)?;
+    let value = TextBuf::of(*out.allocator(), tree.text(n))?;
     out.push(Event::Attr { name, value })?;
     Ok(())
 }

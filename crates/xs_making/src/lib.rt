@@ -7,10 +7,12 @@ mod labels;
 pub mod laws;
 mod leaves;
 mod names;
+mod recent;
 mod texts;
 
 pub use copies::copy_events;
 pub use ends::MakeEnd;
 pub use labels::{XML_URI, put_label, put_prefix};
 pub use names::{pi_target, result_name};
+pub use recent::RecentLabels;
 pub use texts::{comment_text, pi_text};

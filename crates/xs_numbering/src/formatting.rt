@@ -22,7 +22,7 @@ pub fn format_list(
     out: &mut Vec<u8>,
     list: &[u64],
     format: &str,
-    group: Option<(&str, u32)>,
+    group: Option<(&str, u64)>,
 ) -> Result<(), AllocError>
     ensures ok { OnOk result (out.new.items ≡ out.old.items
         ++ list_text (option_map (λ g. (g.0.now, g.1)) group.entry) format.now list.now) }
@@ -39,7 +39,7 @@ pub fn list_text(
     alloc: Global,
     list: &[u64],
     format: &str,
-    group: Option<(&str, u32)>,
+    group: Option<(&str, u64)>,
 ) -> Result<String, AllocError>
     ensures { IfOk result (λ text. string_bytes text
         ≡ list_text (option_map (λ g. (g.0.now, g.1)) group.entry) format.now list.now) }
@@ -58,7 +58,7 @@ pub fn value_text(
     alloc: Global,
     value: Num,
     format: &str,
-    group: Option<(&str, u32)>,
+    group: Option<(&str, u64)>,
 ) -> Result<String, AllocError>
     ensures { IfOk result (λ text. string_bytes text
         ≡ value_text (option_map (λ g. (g.0.now, g.1)) group.entry) format.now value) }
@@ -89,7 +89,7 @@ fn text_alone(alloc: Global, text: &str, format: &str) -> Result<String, AllocEr
 }
 
 /// The separator and the size of groups, where groups are made.
-fn group_of(group: Option<(&str, u32)>) -> Option<(&str, u32)>
+fn group_of(group: Option<(&str, u64)>) -> Option<(&str, u64)>
     ensures { option_map (λ g. (g.0.now, g.1)) result
         ≡ group_of (option_map (λ g. (g.0.now, g.1)) group.entry) }
 {
@@ -111,7 +111,7 @@ fn append_numbers(
     first: u64,
     others: &[u64],
     format: &str,
-    group: Option<(&str, u32)>,
+    group: Option<(&str, u64)>,
 ) -> Result<(), AllocError>
     ensures { OnOk result (string_bytes out.new ≡ string_bytes out.old
         ++ numbers_text (option_map (λ g. (g.0.now, g.1)) group.entry)
@@ -130,7 +130,7 @@ fn append_number(
     out: &mut String,
     token: &str,
     number: u64,
-    group: Option<(&str, u32)>,
+    group: Option<(&str, u64)>,
 ) -> Result<(), AllocError>
     ensures { OnOk result (string_bytes out.new ≡ string_bytes out.old
         ++ number_text (option_map (λ g. (g.0.now, g.1)) group.entry) token.now number) }
@@ -144,7 +144,7 @@ fn append_others(
     others: &[u64],
     first: &str,
     rest: &str,
-    group: Option<(&str, u32)>,
+    group: Option<(&str, u64)>,
 ) -> Result<(), AllocError>
     requires { is_apart rest.now ≡ true }
     ensures { OnOk result (string_bytes out.new ≡ string_bytes out.old

@@ -33,7 +33,7 @@ pub(crate) fn append_styled(
     out: &mut String,
     style: Style,
     number: u64,
-    group: Option<(&str, u32)>,
+    group: Option<(&str, u64)>,
 ) -> Result<(), AllocError>
     ensures { OnOk result (string_bytes out.new ≡ string_bytes out.old
         ++ styled (option_map (λ g. (g.0.now, g.1)) group.entry) style number) }
@@ -190,7 +190,7 @@ fn append_decimal(
     out: &mut String,
     width: usize,
     number: u64,
-    group: Option<(&str, u32)>,
+    group: Option<(&str, u64)>,
 ) -> Result<(), AllocError>
     ensures { OnOk result (string_bytes out.new ≡ string_bytes out.old
         ++ decimal_text (option_map (λ g. (g.0.now, g.1)) group.entry) width number) }
@@ -207,7 +207,7 @@ fn append_groups(
     width: usize,
     number: u64,
     separator: &str,
-    size: u32,
+    size: u64,
 ) -> Result<(), AllocError>
     ensures { OnOk result (string_bytes out.new ≡ string_bytes out.old
         ++ grouped separator.now size (padded width number)) }
@@ -234,7 +234,7 @@ fn append_grouped(
     out: &mut String,
     digits: &[u8],
     separator: &str,
-    size: u32,
+    size: u64,
 ) -> Result<(), AllocError>
     requires { IsAscii digits.now }
     ensures { OnOk result (string_bytes out.new ≡ string_bytes out.old
@@ -262,7 +262,7 @@ fn append_one(out: &mut String, digit: u8, separator: &str, ends: bool) -> Resul
 }
 
 /// Whether a group of digits ends before so many.
-fn ends_group(size: u32, left: usize) -> bool
+fn ends_group(size: u64, left: usize) -> bool
     ensures { result ≡ ends_group size left }
 {
     if size == 0 {

@@ -1,7 +1,20 @@
 -- The run of an expression, and of a value template, lacks a global variable only where that is there without a value.
 use Rattle.std.proofs.Common.{◌≡◌, ℕ, ◌++◌, List, [], ◌∷◌, Bool, true, false, cond, length, Option, Some, None, Ok, Err, slice_get, sym, ap}
 use Rattle.std.specs.List.{enumerate_from}
-use Rattle.xs_trace.specs.Run.{Run, Answer, Gives, Faults, Lacks, go_on, give, fold}
+use Rattle.std.specs.Prelude.{codes, zip}
+use Rattle.std.specs.Str.{bytes_eq}
+use Rattle.xs_num.specs.Text.{number_in}
+use Rattle.xs_sheet.specs.declared.body.SortDecl.{SortDecl}
+use Rattle.xs_sheet.specs.declared.scoped.ValueTemplate.{ValueTemplate}
+use Rattle.xs_sort.specs.declared.keys.Direction.{Direction}
+use Rattle.xs_sort.specs.declared.keys.Direction.TheVariants.{Ascending, Descending}
+use Rattle.xs_sort.specs.declared.keys.Key.{Key}
+use Rattle.xs_sort.specs.declared.keys.Key.TheVariants.{Numeral}
+use Rattle.xs_sort.specs.declared.orders.Order.{Order}
+use Rattle.xs_sort.specs.Sorting.{and_key, and_order, and_row, direction_in, in_turn, key_in, key_of, keys_of, order_in, order_of, orders_of, rows_of}
+use Rattle.xs_sort.specs.Sorting.{sorted, sorted_nodes, template_text, under}
+use Rattle.xs_trace.specs.Run.{Run, Answer, Gives, Faults, Lacks, ◌>>=◌, go_on, give, fail, fold}
+use Rattle.xs_trace.specs.declared.fault.Fault.TheVariants.{BadValue}
 use Rattle.xs_trace.specs.declared.fault.Fault.{Fault}
 use Rattle.xs_value.specs.declared.value.Value.{Value}
 use Rattle.xs_value.specs.declared.value.Value.TheVariants.{Nodes}
@@ -29,7 +42,7 @@ use Rattle.xs_eval.specs.Operators.{decided, negation, operated}
 use Rattle.xs_eval.specs.Paths.{Meaning, all_filtered, and_from, filter_expr, filtered, judged, kept_if, kept_of, path, selected, selects, step, steps_from}
 use Rattle.xs_eval.specs.Paths.{tested}
 use Rattle.xs_eval.specs.Paths.{through}
-use Rattle.xs_eval.specs.Results.{Outcome, given, nodes_in}
+use Rattle.xs_eval.specs.Results.{Outcome, given, nodes_in, numeric}
 use Rattle.xs_eval.specs.Templates.{and_part, template}
 
 -- what an answer lacks is without a value
@@ -214,3 +227,54 @@ module _ (gs : List (Option Value)) where
 
   pub template-value : (keys : List Table) (parts : List Part) (c : Context) → c.globals ≡ gs → HasValue (template keys parts c).end
   template-value keys parts c e = fold-value (and_part keys c) [] parts (λ before part. part-value keys c e before part)
+
+  -- sort keys
+  text-value : (keys : List Table) (c : Context) → c.globals ≡ gs → (absent : List ℕ) (o : Option ValueTemplate) →
+      HasValue (template_text keys c absent o).end
+  text-value keys c e absent None = tt
+  text-value keys c e absent (Some t) = template-value keys t.parts (under t.scope c) e
+
+  direction-value : (order : List ℕ) → HasValue (direction_in order).end
+  direction-value order = one-value (bytes_eq order (codes "ascending")) (give Ascending)
+      (cond (bytes_eq order (codes "descending")) (give Descending) (fail BadValue)) tt
+      (one-value (bytes_eq order (codes "descending")) (give Descending) (fail BadValue) tt tt)
+
+  order-value : (keys : List Table) (c : Context) → c.globals ≡ gs → (s : SortDecl) → HasValue (order_of keys c s).end
+  order-value keys c e s =
+      let last : List ℕ → Direction → Run Order = λ kind direction. give (order_in kind direction) in
+      let next : List ℕ → List ℕ → Run Order = λ kind order. direction_in order >>= last kind in
+      let begun : List ℕ → Run Order = λ kind. template_text keys c (codes "ascending") s.order >>= next kind in
+      value-then (template_text keys c (codes "text") s.data_type) begun (text-value keys c e (codes "text") s.data_type) (λ kind.
+      value-then (template_text keys c (codes "ascending") s.order) (next kind) (text-value keys c e (codes "ascending") s.order) (λ order.
+      value-then (direction_in order) (last kind) (direction-value order) (λ direction. tt)))
+
+  key-in-value : (is_numeric : Bool) (string : List ℕ) → HasValue (key_in is_numeric string).end
+  key-in-value false string = tt
+  key-in-value true string =
+      value-then (given (numeric (number_in string))) (λ n. give (Numeral n)) (given-value (numeric (number_in string))) (λ n. tt)
+
+  key-value : (keys : List Table) (c : Context) → c.globals ≡ gs → (s : SortDecl × Order) → HasValue (key_of keys c s).end
+  key-value keys c e s =
+      value-then (run_of_tree keys s.0.select.expr (under s.0.select.scope c)) (λ v. key_in s.1.is_numeric (text_value c.tree v))
+      (tree-settles keys s.0.select.expr (under s.0.select.scope c) e) (λ v. key-in-value s.1.is_numeric (text_value c.tree v))
+
+  keys-value : (keys : List Table) (c : Context) → c.globals ≡ gs → (sorts : List (SortDecl × Order)) → HasValue (keys_of keys c sorts).end
+  keys-value keys c e sorts = fold-value (and_key keys c) [] sorts (λ done s.
+      value-then (key_of keys c s) (λ key. give (done ++ key ∷ [])) (key-value keys c e s) (λ key. tt))
+
+  rows-value : (keys : List Table) (c : Context) → c.globals ≡ gs → (sorts : List (SortDecl × Order)) (ns : List ℕ) → HasValue (rows_of keys c sorts ns).end
+  rows-value keys c e sorts ns = fold-value (and_row keys c (length ns) sorts) [] (enumerate_from 1 ns) (λ rows at.
+      value-then (keys_of keys (in_turn c (length ns) at) sorts) (λ row. give (rows ++ (row, at.1) ∷ []))
+      (keys-value keys (in_turn c (length ns) at) e sorts) (λ row. tt))
+
+  orders-value : (keys : List Table) (c : Context) → c.globals ≡ gs → (sorts : List SortDecl) → HasValue (orders_of keys c sorts).end
+  orders-value keys c e sorts = fold-value (and_order keys c) [] sorts (λ orders s.
+      value-then (order_of keys c s) (λ order. give (orders ++ order ∷ [])) (order-value keys c e s) (λ order. tt))
+
+  -- sorting lacks no other
+  pub sorted-value : (keys : List Table) (sorts : List SortDecl) (c : Context) → c.globals ≡ gs → (ns : List ℕ) → HasValue (sorted keys sorts c ns).end
+  sorted-value keys sorts c e ns =
+      let last : List Order → List (List Key × ℕ) → Run (List ℕ) = λ orders rows. give (sorted_nodes orders rows) in
+      let begun : List Order → Run (List ℕ) = λ orders. rows_of keys c (zip sorts orders) ns >>= last orders in
+      value-then (orders_of keys c sorts) begun (orders-value keys c e sorts) (λ orders.
+      value-then (rows_of keys c (zip sorts orders) ns) (last orders) (rows-value keys c e (zip sorts orders) ns) (λ rows. tt))

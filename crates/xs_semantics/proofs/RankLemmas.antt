@@ -40,7 +40,8 @@ use Rattle.xs_semantics.specs.declared.focus.Focus.{Focus}
 use Rattle.xs_semantics.specs.declared.made.Made.{Made}
 use Rattle.xs_semantics.specs.declared.made.Made.TheVariants as made
 use Rattle.xs_semantics.specs.World.{World, all_set_levels, at_node, in_list, captured_in, with_levels, by_rule, without_rule}
-use Rattle.xs_semantics.specs.World.{nodes_or_children, nodes_run, template_run, test_run, text_run, value_run}
+use Rattle.xs_semantics.specs.Numbers.{number_run}
+use Rattle.xs_semantics.specs.World.{applied_nodes, looped_nodes, template_run, test_run, text_run, value_run}
 use Rattle.xs_semantics.specs.Making.{attribute_events, attribute_label, content_text, element_label, literal_spaces, made_events, name_run, target_run}
 use Rattle.xs_semantics.specs.Making.{value_events}
 use Rattle.xs_semantics.specs.Tasks.{Params, no_params, value_passed, Job, body_job, rules_job, Task, shared, task_behind, with_node}
@@ -228,8 +229,8 @@ module _ (w : World) where
     instr-below (ApplyTemplates nodes passed) m p f d le vs next h =
         let x : List ℕ → Trace Task =
         λ ns. passing passed p w (calls_at w f) f vs (λ ps. called_with w (calls_at w f) (by_rules nodes.mode ns) ps p f) in
-        joined m (evaluated p (nodes_or_children w nodes.select f vs) x) (next vs)
-        (valued m p (nodes_or_children w nodes.select f vs) x (λ ns.
+        joined m (evaluated p (applied_nodes w nodes.select nodes.sorts f vs) x) (next vs)
+        (valued m p (applied_nodes w nodes.select nodes.sorts f vs) x (λ ns.
         passing-below m passed p f vs (λ ps. called_with w (calls_at w f) (by_rules nodes.mode ns) ps p f) (λ ps.
         callee-below m (by_rules nodes.mode ns) ps p f d (omega (arith, le))))) (h vs)
     instr-below (CallTemplate i passed) m p f d le vs next h =
@@ -241,8 +242,8 @@ module _ (w : World) where
     instr-below (ForEach select sorts body) m p f d le vs next h =
         let g : List ℕ → Focus = λ ns. in_list (length ns) (without_rule f) in
         let x : List ℕ → Trace Task = λ ns. spread w (body_job body vs) p (λ j. body_trace body w (calls_at w f) j vs) (g ns) ns in
-        joined m (evaluated p (nodes_run w select f vs) x) (next vs)
-        (valued m p (nodes_run w select f vs) x (λ ns.
+        joined m (evaluated p (looped_nodes w select sorts f vs) x) (next vs)
+        (valued m p (looped_nodes w select sorts f vs) x (λ ns.
         spread-below m (body_job body vs) p (λ j. body_trace body w (calls_at w f) j vs) (g ns) ns (omega (arith, le))
         (λ n i. body-below body m (at_node n i (g ns)) d (omega (arith, le)) vs))) (h vs)
     instr-below (ValueOf select) m p f d le vs next h =
@@ -255,7 +256,8 @@ module _ (w : World) where
         let x : Trace Task = body_trace body w (calls_at w f) f vs in
         joined m (copied_node (at w.tree f.node).kind sets w (calls_at w f) p f x) (next vs)
         (copied-below m (at w.tree f.node).kind sets p f d (omega (arith, le)) x (body-below body m f d le vs)) (h vs)
-    instr-below (Number decl) m p f d le vs next h = h vs
+    instr-below (Number decl) m p f d le vs next h =
+        joined m (evaluated p (number_run w decl f vs) (chars p)) (next vs) (valued m p (number_run w decl f vs) (chars p) (λ t. chars-below m p t)) (h vs)
     instr-below (Choose choice) m p f d le vs next h =
         joined m (choice_trace choice p w (calls_at w f) f vs) (next vs) (choice-below choice m p f d le vs) (h vs)
     instr-below (If test body) m p f d le vs next h =

@@ -43,7 +43,14 @@ use Rattle.xs_semantics.specs.declared.focus.Focus.{Focus}
 use Rattle.xs_semantics.specs.declared.made.Made.{Made}
 use Rattle.xs_semantics.specs.declared.made.Made.TheVariants as made
 use Rattle.xs_semantics.specs.World.{World, all_set_levels, at_node, in_list, captured_in, with_levels, by_rule, without_rule, context}
-use Rattle.xs_semantics.specs.World.{nodes_or_children, nodes_run, template_run, test_run, text_run, value_run}
+use Rattle.xs_eval.specs.Results.{numeric}
+use Rattle.xs_sheet.specs.declared.body.NumberDecl.{NumberDecl}
+use Rattle.xs_sheet.specs.declared.body.SortDecl.{SortDecl}
+use Rattle.xs_value.specs.Conversion.{number_value}
+use Rattle.xs_semantics.proofs.LackLemmas.{sorted-value}
+use Rattle.xs_semantics.specs.Numbers.{Formatting, Numbered, given_number, format_run, formatting_run, group_in, number_run, numbered_by, optional_run, written}
+use Rattle.xs_semantics.specs.World.{applied_nodes, looped_nodes, nodes_or_children, nodes_run, numeric_run, sorted_run, template_run, test_run, text_run}
+use Rattle.xs_semantics.specs.World.{value_run}
 use Rattle.xs_semantics.specs.Making.{made_events, attribute_events, attribute_label, content_text}
 use Rattle.xs_semantics.specs.Making.{element_label, literal_spaces, name_run, namespace_run, target_run, value_events}
 use Rattle.xs_semantics.specs.Tasks.{Params, no_params, value_passed, Job, body_job, rules_job, Task}
@@ -94,12 +101,60 @@ children-lack : (w : World) (o : Option ScopedExpr) (f : Focus) (vs : List Value
 children-lack w None f vs = tt
 children-lack w (Some e) f vs = nodes-lack w e f vs
 
+applied-lack : (w : World) (o : Option ScopedExpr) (sorts : List SortDecl) (f : Focus) (vs : List Value) →
+    LacksOnly w.globals (applied_nodes w o sorts f vs).end
+applied-lack w o sorts f vs =
+    value-then w.globals (nodes_or_children w o f vs) (sorted_run w sorts f vs) (children-lack w o f vs)
+    (λ ns. sorted-value w.globals w.keys sorts (context w f vs []) refl ns)
+
+looped-lack : (w : World) (e : ScopedExpr) (sorts : List SortDecl) (f : Focus) (vs : List Value) →
+    LacksOnly w.globals (looped_nodes w e sorts f vs).end
+looped-lack w e sorts f vs =
+    value-then w.globals (nodes_run w e f vs) (sorted_run w sorts f vs) (nodes-lack w e f vs)
+    (λ ns. sorted-value w.globals w.keys sorts (context w f vs []) refl ns)
+
 template-lacks : (w : World) (v : ValueTemplate) (f : Focus) (vs : List Value) → LacksOnly w.globals (template_run w v f vs).end
 template-lacks w v f vs = template-value w.globals w.keys v.parts (context w f vs v.scope) refl
 
 namespace-lacks : (w : World) (o : Option ValueTemplate) (f : Focus) (vs : List Value) → LacksOnly w.globals (namespace_run w o f vs).end
 namespace-lacks w None f vs = tt
 namespace-lacks w (Some v) f vs = value-then w.globals (template_run w v f vs) (λ uri. give (Some uri)) (template-lacks w v f vs) (λ uri. tt)
+
+-- numbers
+numeric-lacks : (w : World) (e : ScopedExpr) (f : Focus) (vs : List Value) → LacksOnly w.globals (numeric_run w e f vs).end
+numeric-lacks w e f vs =
+    value-then w.globals (value_run w e f vs) (λ v. given (numeric (number_value w.tree v))) (value-lacks w e f vs)
+    (λ v. given-value w.globals (numeric (number_value w.tree v)))
+
+numbered-lacks : (w : World) (o : Option ScopedExpr) (d : NumberDecl) (f : Focus) (vs : List Value) → LacksOnly w.globals (numbered_by w o d f vs).end
+numbered-lacks w None d f vs = tt
+numbered-lacks w (Some e) d f vs =
+    value-then w.globals (numeric_run w e f vs) (λ number. give (given_number number)) (numeric-lacks w e f vs) (λ number. tt)
+
+format-lacks : (w : World) (o : Option ValueTemplate) (f : Focus) (vs : List Value) → LacksOnly w.globals (format_run w o f vs).end
+format-lacks w None f vs = tt
+format-lacks w (Some v) f vs = template-lacks w v f vs
+
+optional-lacks : (w : World) (o : Option ValueTemplate) (f : Focus) (vs : List Value) → LacksOnly w.globals (optional_run w o f vs).end
+optional-lacks w None f vs = tt
+optional-lacks w (Some v) f vs = value-then w.globals (template_run w v f vs) (λ text. give (Some text)) (template-lacks w v f vs) (λ text. tt)
+
+formatting-lacks : (w : World) (d : NumberDecl) (f : Focus) (vs : List Value) → LacksOnly w.globals (formatting_run w d f vs).end
+formatting-lacks w d f vs =
+    let last : List ℕ → Option (List ℕ) → Option (List ℕ) → Run Formatting =
+    λ format separator size. give (record { format = format; group = group_in separator size }) in
+    let next : List ℕ → Option (List ℕ) → Run Formatting = λ format separator. optional_run w d.grouping_size f vs >>= last format separator in
+    let begun : List ℕ → Run Formatting = λ format. optional_run w d.grouping_separator f vs >>= next format in
+    value-then w.globals (format_run w d.format f vs) begun (format-lacks w d.format f vs) (λ format.
+    value-then w.globals (optional_run w d.grouping_separator f vs) (next format) (optional-lacks w d.grouping_separator f vs) (λ separator.
+    value-then w.globals (optional_run w d.grouping_size f vs) (last format separator) (optional-lacks w d.grouping_size f vs) (λ size. tt)))
+
+number-lacks : (w : World) (d : NumberDecl) (f : Focus) (vs : List Value) → LacksOnly w.globals (number_run w d f vs).end
+number-lacks w d f vs =
+    let last : Numbered → Formatting → Run (List ℕ) = λ n formatting. give (written n formatting) in
+    let begun : Numbered → Run (List ℕ) = λ n. formatting_run w d f vs >>= last n in
+    value-then w.globals (numbered_by w d.value d f vs) begun (numbered-lacks w d.value d f vs) (λ n.
+    value-then w.globals (formatting_run w d f vs) (last n) (formatting-lacks w d f vs) (λ formatting. tt))
 
 name-lacks : (w : World) (b : Bool) (n : MadeName) (f : Focus) (vs : List Value) → LacksOnly w.globals (name_run w b n f vs).end
 name-lacks w b n f vs =
@@ -247,8 +302,8 @@ module _ (w : World) (grain : Option ℕ) (index : SheetIndex) (R : Bool → Tra
         ((us : List Value) → Both f (λ u k. next u k us)) → Both f (λ u k. instr_trace kind p u k f vs (next u k))
     instr-keeps (ApplyTemplates nodes passed) p f d vs next h =
         let x : World → Calls → List ℕ → Trace Task = λ u k ns. passing passed p u k f vs (λ ps. called_with u k (by_rules nodes.mode ns) ps p f) in
-        joined f (λ u k. evaluated p (nodes_or_children u nodes.select f vs) (x u k)) (λ u k. next u k vs)
-        (valued f p (nodes_or_children w nodes.select f vs) x (children-lack w nodes.select f vs) (λ ns.
+        joined f (λ u k. evaluated p (applied_nodes u nodes.select nodes.sorts f vs) (x u k)) (λ u k. next u k vs)
+        (valued f p (applied_nodes w nodes.select nodes.sorts f vs) x (applied-lack w nodes.select nodes.sorts f vs) (λ ns.
         passing-keeps passed p f d vs (λ u k ps. called_with u k (by_rules nodes.mode ns) ps p f) (λ ps. call-keeps (by_rules nodes.mode ns) ps p f d))) (h vs)
     instr-keeps (CallTemplate i passed) p f d vs next h =
         joined f (λ u k. passing passed p u k f vs (λ ps. called_with u k (by_number i) ps p f)) (λ u k. next u k vs)
@@ -257,8 +312,8 @@ module _ (w : World) (grain : Option ℕ) (index : SheetIndex) (R : Bool → Tra
     instr-keeps (ForEach select sorts body) p f d vs next h =
         let g : List ℕ → Focus = λ ns. in_list (length ns) (without_rule f) in
         let x : World → Calls → List ℕ → Trace Task = λ u k ns. spread u (body_job body vs) p (λ j. body_trace body u k j vs) (g ns) ns in
-        joined f (λ u k. evaluated p (nodes_run u select f vs) (x u k)) (λ u k. next u k vs)
-        (valued f p (nodes_run w select f vs) x (nodes-lack w select f vs) (λ ns.
+        joined f (λ u k. evaluated p (looped_nodes u select sorts f vs) (x u k)) (λ u k. next u k vs)
+        (valued f p (looped_nodes w select sorts f vs) x (looped-lack w select sorts f vs) (λ ns.
         keeps.spreads (body_job body vs) p (g ns) ns (λ j. body_trace body w (calls_at w f) j vs) (λ j. body_trace body V (calls_at V f) j vs)
         (λ n i. body-keeps body (at_node n i (g ns)) d vs) (λ n i. refl))) (h vs)
     instr-keeps (ValueOf select) p f d vs next h =
@@ -272,7 +327,9 @@ module _ (w : World) (grain : Option ℕ) (index : SheetIndex) (R : Bool → Tra
         let x : World → Calls → Trace Task = λ u k. body_trace body u k f vs in
         joined f (λ u k. copied_node (at w.tree f.node).kind sets u k p f (x u k)) (λ u k. next u k vs)
         (copied-keeps (at w.tree f.node).kind sets p f d x (body-keeps body f d vs)) (h vs)
-    instr-keeps (Number decl) p f d vs next h = h vs
+    instr-keeps (Number decl) p f d vs next h =
+        joined f (λ u k. evaluated p (number_run u decl f vs) (chars p)) (λ u k. next u k vs)
+        (valued f p (number_run w decl f vs) (λ u k. chars p) (number-lacks w decl f vs) (λ t. chars-keep f.is_captured p t)) (h vs)
     instr-keeps (Choose choice) p f d vs next h = joined f (λ u k. choice_trace choice p u k f vs) (λ u k. next u k vs) (choice-keeps choice p f d vs) (h vs)
     instr-keeps (If test body) p f d vs next h =
         let x : World → Calls → Bool → Trace Task = λ u k b. cond b (body_trace body u k f vs) [] in

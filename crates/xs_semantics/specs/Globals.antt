@@ -117,7 +117,7 @@ pub data Settles (w : World) (budget : ℕ) : (under : List ℕ) (g : ℕ) → T
   stops : {under : List ℕ} {g : ℕ} {t u : Table} {h : ℕ} {p : Site} {s : Spot} → (tried w budget t g).end ≡ Needs h p → is_under (g ∷ under) h ≡ false →
       Settles w budget (g ∷ under) h (once_more t) (ended u s) → Settles w budget under g t (ended u s)
 
--- some globals in turn, but for those that have values already
+-- some globals in turn, except those that have values already
 abbrev pub IsUnsettled : Table → ℕ → Type 0
 IsUnsettled t g = slice_get t.values g ≡ Some None
 

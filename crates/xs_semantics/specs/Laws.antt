@@ -24,7 +24,7 @@ TasksFill = (w : World) (t : Task) → fill (task_trace (with_grain None w)) (ta
 abbrev pub CapturedLeavesNothing : Type 0
 CapturedLeavesNothing = (w : World) (body : Body) (f : Focus) (vs : List Value) → tasks_of (body_trace body w (calls_at w f) (captured_in f) vs) ≡ []
 
--- Captured content takes its ticks and says its messages as content does that is not captured; what follows comes behind it
+-- Captured content takes its ticks and says its messages as content does that is not captured; what follows comes after it
 -- (XSLT 1.0, 11.2, 13).
 abbrev pub CapturedTakesTicks : Type 0
 CapturedTakesTicks = (x : Trace Task) (f : List Event → Trace Task) → GoesOn x →

@@ -1,6 +1,7 @@
 -- In the order in which they are read: what a transformation is evaluated over; runs that are left to tasks; rules; what is put into the
 -- result; what it does; attempts at globals.
 pub mod World
+pub mod Numbers
 pub mod Tasks
 pub mod Rules
 pub mod Making

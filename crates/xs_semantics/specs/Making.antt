@@ -59,15 +59,15 @@ target_run w name f vs = do
   given (pi_target text)
 
 -- ---- events
--- a namespace node, but for no namespace and for that of `xml`, which is in scope everywhere
+-- a namespace node, except for no namespace and for that of `xml`, which is in scope everywhere
 abbrev pub space_events : (prefix uri : List ℕ) → List Event
 space_events prefix uri = if is_empty uri || bytes_eq uri xml_uri then [] else Space prefix uri ∷ []
 
--- an attribute, but for one that would be read as the declaration of a default namespace
+-- an attribute, except one that would be read as the declaration of a default namespace
 abbrev pub attribute_events : Label → List ℕ → List Event
 attribute_events name value = if is_empty name.uri && bytes_eq name.local (codes "xmlns") then [] else Attr name value ∷ []
 
--- a text, but for an empty one
+-- a text, except an empty one
 abbrev pub text_events : List ℕ → List Event
 text_events text = if is_empty text then [] else Chars text ∷ []
 
@@ -84,7 +84,7 @@ value_events rs (value.Bool b) = text_events (text_value rs (value.Bool b))
 value_events rs (value.Number n) = text_events (text_value rs (value.Number n))
 
 -- ---- what content makes of an attribute, a comment or a processing instruction
--- its texts, but for those in elements: a node that is no text is ignored with its content (7.1.3, 7.3, 7.4)
+-- its texts, except those in elements: a node that is no text is ignored with its content (7.1.3, 7.3, 7.4)
 abbrev pub texts_outside : List Event → (depth : ℕ) → List ℕ
 texts_outside [] depth = []
 texts_outside (Start name ∷ es) depth = texts_outside es (depth + 1)

@@ -40,14 +40,14 @@ pub record Task : Type 0 where
   pub first : ℕ
   pub nodes : List ℕ
 
--- a task that takes one node more, and the task behind one, which begins with a node
+-- a task that takes one node more, and the task after one, which begins with a node
 abbrev pub with_node : Task → ℕ → Task
 with_node t n = record { job = t.job; site = t.site; focus = t.focus; first = t.first; nodes = t.nodes ++ n ∷ [] }
 
 abbrev pub task_behind : Task → ℕ → Task
 task_behind t n = record { job = t.job; site = t.site; focus = t.focus; first = t.first + length t.nodes; nodes = n ∷ [] }
 
--- a task and those behind it, for these nodes more: it takes so many of them, and each other one as many as the grain
+-- a task and those after it, for these nodes more: it takes so many of them, and each other one as many as the grain
 abbrev pub shared : (grain room : ℕ) → Task → List ℕ → List Task
 shared grain room t [] = t ∷ []
 shared grain zero t (n ∷ ns) = t ∷ shared grain (grain - 1) (task_behind t n) ns

@@ -38,7 +38,8 @@ use Rattle.xs_semantics.specs.declared.focus.Focus.{Focus}
 use Rattle.xs_semantics.specs.declared.made.Made.{Made}
 use Rattle.xs_semantics.specs.declared.made.Made.TheVariants as made
 use Rattle.xs_semantics.specs.World.{World, all_set_levels, at_node, in_list, captured_in, with_levels, by_rule, without_rule, alone_at}
-use Rattle.xs_semantics.specs.World.{nodes_or_children, nodes_run, template_run, test_run, text_run, value_run}
+use Rattle.xs_semantics.specs.World.{applied_nodes, looped_nodes, template_run, test_run, text_run, value_run}
+use Rattle.xs_semantics.specs.Numbers.{number_run}
 use Rattle.xs_semantics.specs.Making.{made_events, attribute_events, attribute_label, content_text}
 use Rattle.xs_semantics.specs.Making.{element_label, literal_spaces, name_run, target_run, value_events}
 use Rattle.xs_semantics.specs.Tasks.{Params, no_params, value_passed, Job, body_job, rules_job, Task, tasks_for, grain_over}
@@ -144,23 +145,24 @@ copied_node kind sets w k p f inside = puts_all p (shallow_copy w.tree f.node) �
 -- ---- instructions
 
 -- What each instruction does, and then what follows, which takes the values of the local variables that it sees: apply-templates
--- (XSLT 1.0, 5.4), call-template (6), apply-imports (5.6), for-each (8), value-of (7.6.1), copy-of (11.3), copy (7.5), choose (9.2),
--- if (9.1), text (7.2), element (7.1.2), attribute (7.1.3), comment (7.4), processing-instruction (7.3), message (13), variable (11.2), a
--- literal element (7.1.1), an extension element (15). Each takes a tick before all else. Expressions stand at the instruction that holds
--- them. A number is not supported yet, and does nothing; nor are sort keys, which change nothing.
+-- (XSLT 1.0, 5.4), call-template (6), apply-imports (5.6), for-each (8), value-of (7.6.1), copy-of (11.3), copy (7.5), number (7.7),
+-- choose (9.2), if (9.1), text (7.2), element (7.1.2), attribute (7.1.3), comment (7.4), processing-instruction (7.3), message (13),
+-- variable (11.2), a literal element (7.1.1), an extension element (15). Each takes a tick before all else. Expressions stand at the
+-- instruction that holds them.
 abbrev mutual
   pub instr_trace : InstrKind → Site → World → Calls → Focus → List Value → (List Value → Trace Task) → Trace Task
   instr_trace (ApplyTemplates nodes passed) p w k f vs next =
-      evaluated p (nodes_or_children w nodes.select f vs) (λ ns. passing passed p w k f vs (λ ps. called_with w k (by_rules nodes.mode ns) ps p f)) ⨾ next vs
+      evaluated p (applied_nodes w nodes.select nodes.sorts f vs)
+      (λ ns. passing passed p w k f vs (λ ps. called_with w k (by_rules nodes.mode ns) ps p f)) ⨾ next vs
   instr_trace (CallTemplate template passed) p w k f vs next = passing passed p w k f vs (λ ps. called_with w k (by_number template) ps p f) ⨾ next vs
   instr_trace ApplyImports p w k f vs next = imports k p f f.rule ⨾ next vs
   instr_trace (ForEach select sorts body) p w k f vs next =
-      evaluated p (nodes_run w select f vs) (λ ns. spread w (body_job body vs) p (λ g. body_trace body w k g vs) (in_list (length ns) (without_rule f)) ns) ⨾
-      next vs
+      evaluated p (looped_nodes w select sorts f vs)
+      (λ ns. spread w (body_job body vs) p (λ g. body_trace body w k g vs) (in_list (length ns) (without_rule f)) ns) ⨾ next vs
   instr_trace (ValueOf select) p w k f vs next = evaluated p (text_run w select f vs) (chars p) ⨾ next vs
   instr_trace (CopyOf select) p w k f vs next = evaluated p (value_run w select f vs) (λ v. puts_all p (value_events w.tree v)) ⨾ next vs
   instr_trace (Copy sets body) p w k f vs next = copied_node (at w.tree f.node).kind sets w k p f (body_trace body w k f vs) ⨾ next vs
-  instr_trace (Number decl) p w k f vs next = next vs
+  instr_trace (Number decl) p w k f vs next = evaluated p (number_run w decl f vs) (chars p) ⨾ next vs
   instr_trace (Choose choice) p w k f vs next = choice_trace choice p w k f vs ⨾ next vs
   instr_trace (If test body) p w k f vs next = evaluated p (test_run w test f vs) (λ b. if b then body_trace body w k f vs else []) ⨾ next vs
   instr_trace (Text text) p w k f vs next = chars p text ⨾ next vs
@@ -178,7 +180,7 @@ abbrev mutual
       (begins w start p ⨾ (k (using start.sets) p f ⨾ (literal_attributes start.attributes p w f vs ⨾ (body_trace body w k f vs ⨾ Put End ∷ [])))) ⨾ next vs
   instr_trace (Extension fallbacks) p w k f vs next = fallbacks_trace fallbacks p w k f vs ⨾ next vs
 
-  -- the instructions of a body, one after another; a variable is seen by those behind it (11.5)
+  -- the instructions of a body, one after another; a variable is seen by those after it (11.5)
   pub body_trace : Body → World → Calls → Focus → List Value → Trace Task
   body_trace (Body' n row) w k f vs = row_trace row w k f vs
 
@@ -197,7 +199,7 @@ abbrev mutual
   passing (Passed' n row) p w k f vs next = values_trace row p w k f vs []
       (λ us. next (record { bindings = (out-Passed (Passed' n row)).params; values = us }))
 
-  -- their values, behind those that are there already
+  -- their values, after those that are there already
   pub values_trace : {m : _} → Row_of-Binding m → Site → World → Calls → Focus → List Value → (before : List Value) → (List Value → Trace Task) → Trace Task
   values_trace end_of-Binding p w k f vs us next = next us
   values_trace (more_of-Binding site name content rest) p w k f vs us next =
@@ -226,7 +228,7 @@ abbrev mutual
 
 -- ---- templates
 
--- the values of a template's parameters, each of which sees those before it (11.4, 11.6): the one that is passed, or else its own;
+-- the values of a template's parameters, each of which sees those before it (11.5, 11.6): the one that is passed, or else its own;
 -- each takes a tick
 abbrev pub param_trace : Option Value → Content → Site → World → Calls → Focus → List Value → (Value → Trace Task) → Trace Task
 param_trace None content p w k f vs next = content_trace content p w k f vs next
@@ -278,8 +280,9 @@ entered (fitting mode ps) w k p f = ruled (rule_for w mode f.node) mode ps w k p
 entered (overridden current) w k p f = ruled (import_for w current f) f.mode no_params w k p f
 entered (using names) w k p f = sets_trace names w k f
 
--- The same where so many levels of templates, and of attribute sets, may be begun. Past the last level of sets nothing is put, which can't
--- come, since no set uses itself (7.1.4).
+-- The same where so many levels of templates, and of attribute sets, may be begun. Past the last level of sets nothing is put. That can't
+-- come: no set uses itself, directly or through others (7.1.4; `is_apart` of xs_sheet/specs/Sets.antt), so no chain of sets that use one
+-- another is longer than there are declarations.
 abbrev pub called : Entry → World → (depth set_levels : ℕ) → Site → Focus → Trace Task
 called (using names) w depth zero p f = []
 called (using names) w depth (suc level) p f = entered (using names) w (λ e. called e w depth level) p (with_levels depth level f)

@@ -1,17 +1,20 @@
 -- What a transformation is evaluated over, where one is in it, and what expressions give there.
 use Rattle.std.specs.Prelude.{ℕ, length, Bool, List, [], Option, Some, None}
+use Rattle.xs_num.specs.declared.number.Number.{Number}
+use Rattle.xs_sheet.specs.declared.body.SortDecl.{SortDecl}
 use Rattle.xs_sheet.specs.declared.scoped.ScopedExpr.{ScopedExpr}
 use Rattle.xs_sheet.specs.declared.scoped.ValueTemplate.{ValueTemplate}
 use Rattle.xs_sheet.specs.declared.sheet.Sheet.{Sheet}
 use Rattle.xs_trace.specs.Run.{Run, give, costs, ◌>>=◌}
 use Rattle.xs_tree.specs.Record.{Record, children}
 use Rattle.xs_value.specs.declared.value.Value.{Value}
-use Rattle.xs_value.specs.Conversion.{bool_value, text_value}
+use Rattle.xs_value.specs.Conversion.{bool_value, number_value, text_value}
 use Rattle.xs_value.specs.Tables.{Table}
 use Rattle.xs_eval.specs.Context.{Context}
 use Rattle.xs_eval.specs.Evaluation.{run_of_tree}
-use Rattle.xs_eval.specs.Results.{given, nodes_in}
+use Rattle.xs_eval.specs.Results.{given, nodes_in, numeric}
 use Rattle.xs_eval.specs.Templates.{template}
+use Rattle.xs_sort.specs.Sorting.{sorted}
 use Rattle.xs_semantics.specs.declared.index.SheetIndex.{SheetIndex}
 use Rattle.xs_semantics.specs.declared.focus.Focus.{Focus}
 
@@ -136,7 +139,7 @@ context w f vs scope = record {
 abbrev pub value_run : World → ScopedExpr → Focus → List Value → Run Value
 value_run w e f vs = run_of_tree w.keys e.expr (context w f vs e.scope)
 
--- its value as a node-set, which it has to be (5.4, 8); as a string (7.6.1); as a boolean (9.1, 9.2)
+-- its value as a node-set, which it has to be (5.4, 8); as a string (7.6.1); as a boolean (9.1, 9.2); as a number (7.7)
 abbrev pub nodes_run : World → ScopedExpr → Focus → List Value → Run (List ℕ)
 nodes_run w e f vs = value_run w e f vs >>= (λ v. given (nodes_in v))
 
@@ -146,6 +149,9 @@ text_run w e f vs = value_run w e f vs >>= (λ v. give (text_value w.tree v))
 abbrev pub test_run : World → ScopedExpr → Focus → List Value → Run Bool
 test_run w e f vs = value_run w e f vs >>= (λ v. give (bool_value v))
 
+abbrev pub numeric_run : World → ScopedExpr → Focus → List Value → Run Number
+numeric_run w e f vs = value_run w e f vs >>= (λ v. given (numeric (number_value w.tree v)))
+
 -- the text of a value template (7.6.2)
 abbrev pub template_run : World → ValueTemplate → Focus → List Value → Run (List ℕ)
 template_run w v f vs = template w.keys v.parts (context w f vs v.scope)
@@ -154,6 +160,17 @@ template_run w v f vs = template w.keys v.parts (context w f vs v.scope)
 abbrev pub nodes_or_children : World → Option ScopedExpr → Focus → List Value → Run (List ℕ)
 nodes_or_children w None f vs = costs (length (children w.tree f.node)) (give (children w.tree f.node))
 nodes_or_children w (Some e) f vs = nodes_run w e f vs
+
+-- nodes in the order of sort keys, which are evaluated over their list as it was (10); those whose keys tie stay in their order
+abbrev pub sorted_run : World → List SortDecl → Focus → List Value → List ℕ → Run (List ℕ)
+sorted_run w sorts f vs ns = sorted w.keys sorts (context w f vs []) ns
+
+-- the nodes to which templates are applied, and those of a for-each, in their order (5.4, 8)
+abbrev pub applied_nodes : World → Option ScopedExpr → List SortDecl → Focus → List Value → Run (List ℕ)
+applied_nodes w select sorts f vs = nodes_or_children w select f vs >>= sorted_run w sorts f vs
+
+abbrev pub looped_nodes : World → ScopedExpr → List SortDecl → Focus → List Value → Run (List ℕ)
+looped_nodes w select sorts f vs = nodes_run w select f vs >>= sorted_run w sorts f vs
 
 -- the same, with another grain
 abbrev pub with_grain : Option ℕ → World → World

@@ -1,5 +1,5 @@
-mod GivenLemmas
+pub mod GivenLemmas
 mod InOrderLemmas
 mod OrderLemmas
 mod RowLemmas
-mod UnsortedLemmas
+pub mod UnsortedLemmas

@@ -1,8 +1,11 @@
 mod BuiltLemmas
 mod CopyLemmas
+mod CutLemmas
+mod GlobalLemmas
 mod ItemLemmas
 mod LawLemmas
 mod PartLemmas
 mod PutLemmas
+mod RunLemmas
 mod TraceLemmas
 mod ValueLemmas

@@ -21,7 +21,7 @@ use Rattle.xs_sheet.specs.declared.declarations.Template.{Template}
 use Rattle.xs_sheet.specs.declared.scoped.ValueTemplate.{ValueTemplate}
 use Rattle.xs_trace.specs.Label.{Label}
 use Rattle.xs_trace.specs.Mark.{Put, Trace, ◌⨾◌, GoesOn, captured, events_of}
-use Rattle.xs_trace.specs.Run.{evaluated}
+use Rattle.xs_trace.specs.Run.{Run, evaluated}
 use Rattle.xs_trace.specs.declared.event.Event.{Event}
 use Rattle.xs_trace.specs.declared.event.Event.TheVariants as event
 use Rattle.xs_trace.specs.declared.fault.Fault.TheVariants as fault
@@ -48,7 +48,8 @@ use Rattle.xs_semantics.specs.Trace.{Called, Calls, Entry, applied, begins, bodi
 use Rattle.xs_semantics.specs.Trace.{choice_trace, content_trace, copied_node, declared_trace, each, ended_if, entered, fallbacks_trace, fitting, fragment_of, imports}
 use Rattle.xs_semantics.specs.Trace.{instr_trace, instrs_trace, job_trace, literal_attributes, makes, named, overridden, param_trace, params_trace, passing, puts_all}
 use Rattle.xs_semantics.specs.Trace.{row_trace, ruled, says, sets_trace, spread, spread_by, task_trace, template_trace, unless_none, using, values_trace, whens_trace}
-use Rattle.xs_semantics.specs.World.{World, all_set_levels, at_node, by_rule, captured_in, in_list, nodes_or_children, nodes_run, template_run, test_run, text_run}
+use Rattle.xs_semantics.specs.Numbers.{number_run}
+use Rattle.xs_semantics.specs.World.{World, all_set_levels, applied_nodes, at_node, by_rule, captured_in, in_list, looped_nodes, template_run, test_run, text_run}
 use Rattle.xs_semantics.specs.World.{value_run, with_levels, without_rule}
 use Rattle.xs_well_put.specs.Named.{AreNamedBindings, AreNamedBodies, AreNamedInstrs, AreNamedValues, AreNamedWhens, IsNamedBinding, IsNamedBody, IsNamedChoice}
 use Rattle.xs_well_put.specs.Named.{IsNamedContent, IsNamedEntry, IsNamedFallbacks, IsNamedJob, IsNamedKind, IsNamedLabel, IsNamedPassed, IsNamedRow}
@@ -176,8 +177,9 @@ module _ (w : World) (world : IsNamedWorld w) (parts : Parts w) where
         → (next : List Value → Trace Task) → ((us : List Value) → AreNamedValues us → Well (next us)) → Well (instr_trace i p w k f vs next)
     instr_put (ApplyTemplates nodes passed) n p f k d vs v next h =
         let x : List ℕ → Trace Task = λ ns. passing passed p w k f vs (λ ps. called_with w k (by_rules nodes.mode ns) ps p f) in
-        joined (evaluated p (nodes_or_children w nodes.select f vs) x) (next vs)
-        (valued (λ ns. Unit {0}) p (nodes_or_children w nodes.select f vs) x (has_any (nodes_or_children w nodes.select f vs).end) (λ ns u.
+        let run : Run (List ℕ) = applied_nodes w nodes.select nodes.sorts f vs in
+        joined (evaluated p run x) (next vs)
+        (valued (λ ns. Unit {0}) p run x (has_any run.end) (λ ns u.
         passing_put passed n p f k d vs v (λ ps. called_with w k (by_rules nodes.mode ns) ps p f) (λ ps q. call_put k d (by_rules nodes.mode ns) ps q p f)))
         (h vs v)
     instr_put (CallTemplate i passed) n p f k d vs v next h =
@@ -187,8 +189,9 @@ module _ (w : World) (world : IsNamedWorld w) (parts : Parts w) where
     instr_put (ForEach select sorts body) n p f k d vs v next h =
         let g : List ℕ → Focus = λ ns. in_list (length ns) (without_rule f) in
         let x : List ℕ → Trace Task = λ ns. spread w (body_job body vs) p (λ j. body_trace body w k j vs) (g ns) ns in
-        joined (evaluated p (nodes_run w select f vs) x) (next vs)
-        (valued (λ ns. Unit {0}) p (nodes_run w select f vs) x (has_any (nodes_run w select f vs).end) (λ ns u.
+        let run : Run (List ℕ) = looped_nodes w select sorts f vs in
+        joined (evaluated p run x) (next vs)
+        (valued (λ ns. Unit {0}) p run x (has_any run.end) (λ ns u.
         spread_put (body_job body vs) p (λ j. body_trace body w k j vs) (g ns) ns (λ j. body_put body n j k d vs v))) (h vs v)
     instr_put (ValueOf select) n p f k d vs v next h =
         joined (evaluated p (text_run w select f vs) (chars p)) (next vs)
@@ -201,7 +204,9 @@ module _ (w : World) (world : IsNamedWorld w) (parts : Parts w) where
     instr_put (Copy sets body) n p f k d vs v next h =
         joined (copied_node (at w.tree f.node).kind sets w k p f (body_trace body w k f vs)) (next vs)
         (copied_put sets k d p f (body_trace body w k f vs) (body_put body n f k d vs v)) (h vs v)
-    instr_put (Number decl) n p f k d vs v next h = h vs v
+    instr_put (Number decl) n p f k d vs v next h =
+        joined (evaluated p (number_run w decl f vs) (chars p)) (next vs)
+        (valued (λ t. Unit {0}) p (number_run w decl f vs) (chars p) (has_any (number_run w decl f vs).end) (λ t u. parts.chars p t)) (h vs v)
     instr_put (Choose choice) n p f k d vs v next h = joined (choice_trace choice p w k f vs) (next vs) (choice_put choice n p f k d vs v) (h vs v)
     instr_put (If test body) n p f k d vs v next h =
         let x : Bool → Trace Task = λ b. cond b (body_trace body w k f vs) [] in

@@ -14,6 +14,7 @@ use Rattle.xs_sheet.specs.declared.body.InstrKind.TheVariants.{ApplyTemplates, C
 use Rattle.xs_sheet.specs.declared.body.InstrKind.TheVariants.{Text, Element, Attribute, Comment, Pi, Message, Literal, Extension}
 use Rattle.xs_sheet.specs.declared.body.LiteralStart.{LiteralStart}
 use Rattle.xs_sheet.specs.declared.body.MadeName.{MadeName}
+use Rattle.xs_sheet.specs.declared.body.NumberDecl.{NumberDecl}
 use Rattle.xs_sheet.specs.declared.body.Passed.{Passed, out-Passed}
 use Rattle.xs_sheet.specs.declared.body.When.{When, out-When}
 use Rattle.xs_sheet.specs.declared.declarations.AttrSet.{AttrSet}
@@ -23,12 +24,11 @@ use Rattle.xs_sheet.specs.declared.scoped.ValueTemplate.{ValueTemplate}
 use Rattle.xs_sheet.specs.Slots.{slots_taken}
 use Rattle.xs_trace.specs.Cut.{Fault}
 use Rattle.xs_trace.specs.Label.{Label}
-use Rattle.xs_trace.specs.Mark.{Tick, Hole, Trace, ◌⨾◌}
+use Rattle.xs_trace.specs.Mark.{Hole, Trace, ◌⨾◌}
 use Rattle.xs_trace.specs.Run.{Run, give, limited, ◌>>=◌}
 use Rattle.xs_trace.specs.State.{State, opened, popped, top}
-use Rattle.xs_trace.specs.Play.{Step, Goes, Told, and_then, goes, ticked, put, put_at, said_at, stops, play}
-use Rattle.xs_trace.specs.declared.event.Event.{Event}
-use Rattle.xs_trace.specs.declared.event.Event.TheVariants.{Start, Chars, End}
+use Rattle.xs_trace.specs.Play.{Step, Goes, Told, and_then, goes, ticked, put, said_at, stops, play}
+use Rattle.xs_trace.specs.declared.event.Event.TheVariants.{Start, End}
 use Rattle.xs_trace.specs.declared.fault.Fault.TheVariants as fault
 use Rattle.xs_trace.specs.declared.item.Site.{Site}
 use Rattle.xs_tree.specs.Kinds.{has_content, is_attribute_kind, is_element_kind, is_root_kind, is_text_kind}
@@ -53,7 +53,8 @@ use Rattle.xs_body.specs.declared.frames.ApplyLeft.{ApplyLeft}
 use Rattle.xs_body.specs.declared.frames.ParamsLeft.{ParamsLeft}
 use Rattle.xs_body.specs.declared.frames.Scope.{Scope}
 use Rattle.xs_semantics.specs.World.{World, all_set_levels, at_node, in_list, captured_in, with_levels, by_rule, without_rule}
-use Rattle.xs_semantics.specs.World.{nodes_or_children, nodes_run, test_run, text_run, value_run}
+use Rattle.xs_semantics.specs.World.{applied_nodes, looped_nodes, test_run, text_run, value_run}
+use Rattle.xs_semantics.specs.Numbers.{number_run}
 use Rattle.xs_semantics.specs.Tasks.{Params, no_params, value_passed, Job, body_job, rules_job, Task, tasks_for, grain_over}
 use Rattle.xs_semantics.specs.Rules.{rule_for, import_for}
 use Rattle.xs_semantics.specs.Trace.{Entry, named, fitting, overridden, using, Calls, each, Called, by_number, by_rules, called_with, fragment_of}
@@ -317,7 +318,7 @@ next_body (b ∷ bs) c t = pushed (rest (instrs_of b) (inner c) ∷ bodies_left 
 -- the nodes to which templates are applied, and then what is passed to them
 abbrev pub apply_begun : Applied → List Binding → Site → Scope → Evaluation → State Task → Step Task Evaluation
 apply_begun nodes bs p c t s =
-    and_then (limited p (nodes_or_children t.world nodes.select c.focus (last c.seen t.slots)) s)
+    and_then (limited p (applied_nodes t.world nodes.select nodes.sorts c.focus (last c.seen t.slots)) s)
     (λ ns m. passes_on bs bs [] (by_rules nodes.mode ns) p c t m)
 
 -- a body for each node, where no rule is current
@@ -328,11 +329,11 @@ abbrev pub loop_begun : Body → Site → Scope → List ℕ → Evaluation → 
 loop_begun body p c ns t s =
     run_begun (body_job body (last c.seen t.slots)) p (looping c.focus ns) ns (each_left body p (over (looping c.focus ns) c) 1 ns) t s
 
-abbrev pub each_begun : ScopedExpr → Body → Site → Scope → Evaluation → State Task → Step Task Evaluation
-each_begun select body p c t s = and_then (limited p (nodes_run t.world select c.focus (last c.seen t.slots)) s) (λ ns m. loop_begun body p c ns t m)
-
 abbrev pub value_steps : ScopedExpr → Site → Scope → Evaluation → State Task → Told Task
 value_steps select p c t s = and_then (limited p (text_run t.world select c.focus (last c.seen t.slots)) s) (λ text m. chars_steps p text m)
+
+abbrev pub number_steps : NumberDecl → Site → Scope → Evaluation → State Task → Told Task
+number_steps decl p c t s = and_then (limited p (number_run t.world decl c.focus (last c.seen t.slots)) s) (λ text m. chars_steps p text m)
 
 abbrev pub choice_begun : Choice → Site → Scope → Evaluation → State Task → Step Task Evaluation
 choice_begun choice p c t s =
@@ -394,11 +395,12 @@ abbrev pub begun : InstrKind → Site → Scope → Evaluation → State Task �
 begun (ApplyTemplates nodes passed) p c t s = apply_begun nodes (bindings_of passed) p c t s
 begun (CallTemplate i passed) p c t s = passes_on (bindings_of passed) (bindings_of passed) [] (by_number i) p c t s
 begun ApplyImports p c t s = imports_begun p c.focus c.focus.rule t s
-begun (ForEach select sorts body) p c t s = each_begun select body p c t s
+begun (ForEach select sorts body) p c t s =
+    and_then (limited p (looped_nodes t.world select sorts c.focus (last c.seen t.slots)) s) (λ ns m. loop_begun body p c ns t m)
 begun (ValueOf select) p c t s = stays (value_steps select p c t s) t
 begun (CopyOf select) p c t s = stays (copy_of_steps select p c t s) t
 begun (Copy sets body) p c t s = copy_begun sets body p c t s
-begun (Number decl) p c t s = Goes t s
+begun (Number decl) p c t s = stays (number_steps decl p c t s) t
 begun (Choose choice) p c t s = choice_begun choice p c t s
 begun (If test body) p c t s = if_begun test body p c t s
 begun (Text text) p c t s = stays (chars_steps p text s) t

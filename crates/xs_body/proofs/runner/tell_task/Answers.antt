@@ -1,9 +1,8 @@
-use Rattle.std.proofs.Common.{◌≡◌, ap, refl, rules, subst, sym, true}
+use Rattle.std.proofs.Common.{◌≡◌, refl, rules, subst, sym, true}
 use Rattle.std.specs.Option.{IsSome}
 use Rattle.xs_trace.specs.Play.{IsStep, Told}
 use Rattle.xs_semantics.specs.Tasks.{Task}
 use Rattle.xs_semantics.specs.World.{World}
-use Rattle.xs_body.specs.steps.Frames.{Evaluation}
 use Rattle.xs_body.proofs.LoopLemmas.{begun-world, task-starts}
 use Rattle.xs_body.proofs.runner.tell_task.Goals as goal
 

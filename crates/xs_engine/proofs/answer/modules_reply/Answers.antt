@@ -8,10 +8,10 @@ use Rattle.xs_engine.proofs.answer.modules_reply.Goals as goal
 -- A run of a compiled stylesheet.
 pub returns-in-Ok-clause-asks : goal.returns-in-Ok-clause-asks
 returns-in-Ok-clause-asks g c =
-    sheet_asked_for (g.L.Library.files c.args.library.now) (job_data c.args.job.now) (modules_data c.args.modules.now) c.in-Ok.sheet _
+    sheet_asked_for (g.L.Library.files c.args.library.now) (job_data c.args.job.now) (modules_data c.args.modules.now) _
     (g.L.Library.asked c.args.library.now) (g.L.Library.asked c.run_reply.new.library)
     (g.L.Library.failed c.args.library.now) (g.L.Library.failed c.run_reply.new.library) c.in-Some.is
-    c.in-Ok.ensures.accepted c.in-Ok.ensures.stands c.run_reply.ensures.asks
+    c.in-Ok.ensures.accepted c.run_reply.ensures.asks
 
 pub returns-in-Ok-clause-due : goal.returns-in-Ok-clause-due
 returns-in-Ok-clause-due g c =

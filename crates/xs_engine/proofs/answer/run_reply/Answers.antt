@@ -1,46 +1,36 @@
-use Rattle.std.proofs.Common.{refl, sym, ◌∙◌}
+use Rattle.std.proofs.Common.{refl}
 use Rattle.xs_engine.specs.Reply.{job_data}
-use Rattle.xs_engine.proofs.DueLemmas.{evaluated_owed, fault_owed, refused_owed, unbuilt_owed}
-use Rattle.xs_engine.proofs.FetchLemmas.{after_source, source_left}
+use Rattle.xs_engine.proofs.DueLemmas.{evaluated_owed, fault_owed, refused_owed}
+use Rattle.xs_engine.proofs.FetchLemmas.{after_source}
 use Rattle.xs_engine.proofs.answer.run_reply.Goals as goal
 
--- The stylesheet is not built: nothing is asked for.
-pub returns-then-not-is_built-clause-asks : goal.returns-then-not-is_built-clause-asks
-returns-then-not-is_built-clause-asks g c = source_left _ _ _ _ _ _ _ refl refl
-
-pub returns-then-not-is_built-clause-due : goal.returns-then-not-is_built-clause-due
-returns-then-not-is_built-clause-due g c =
-    unbuilt_owed (g.L.Library.files c.args.library.now) (job_data c.args.job.now) c.args.sheet.now c.args.source.now
-    (g.L.Library.failed c.args.library.now) (g.L.Library.failed c.args.library.now) c.refused_reply.result
-    (sym c.is_built.ensures ∙ c.if-not-is_built.true) refl c.refused_reply.ensures
-
--- It is built, and the source is asked for.
+-- The source is asked for.
 pub returns-in-Ok-Ok-clause-asks : goal.returns-in-Ok-Ok-clause-asks
 returns-in-Ok-Ok-clause-asks g c =
-    after_source c.read_source.result c.as_str.result.now c.args.source.now c.args.sheet.now _ _ _ _ _ _ c.as_str.ensures.text
-    (sym c.is_built.ensures ∙ c.if-not-is_built.false) c.read_source.ensures.asked c.read_source.ensures.failed
+    after_source c.read_source.result c.as_str.result.now c.args.source.now _ _ _ _ _ _ c.as_str.ensures.text
+    c.read_source.ensures.asked c.read_source.ensures.failed
 
 pub returns-in-Ok-Err-clause-asks : goal.returns-in-Ok-Err-clause-asks
 returns-in-Ok-Err-clause-asks g c =
-    after_source c.read_source.result c.as_str.result.now c.args.source.now c.args.sheet.now _ _ _ _ _ _ c.as_str.ensures.text
-    (sym c.is_built.ensures ∙ c.if-not-is_built.false) c.read_source.ensures.asked c.read_source.ensures.failed
+    after_source c.read_source.result c.as_str.result.now c.args.source.now _ _ _ _ _ _ c.as_str.ensures.text
+    c.read_source.ensures.asked c.read_source.ensures.failed
 
 pub returns-in-Err-Failed-clause-asks : goal.returns-in-Err-Failed-clause-asks
 returns-in-Err-Failed-clause-asks g c =
-    after_source c.read_source.result c.as_str.result.now c.args.source.now c.args.sheet.now _ _ _ _ _ _ c.as_str.ensures.text
-    (sym c.is_built.ensures ∙ c.if-not-is_built.false) c.read_source.ensures.asked c.read_source.ensures.failed
+    after_source c.read_source.result c.as_str.result.now c.args.source.now _ _ _ _ _ _ c.as_str.ensures.text
+    c.read_source.ensures.asked c.read_source.ensures.failed
 
 pub returns-in-Err-NoMemory-clause-asks : goal.returns-in-Err-NoMemory-clause-asks
 returns-in-Err-NoMemory-clause-asks g c =
-    after_source c.read_source.result c.as_str.result.now c.args.source.now c.args.sheet.now _ _ _ _ _ _ c.as_str.ensures.text
-    (sym c.is_built.ensures ∙ c.if-not-is_built.false) c.read_source.ensures.asked c.read_source.ensures.failed
+    after_source c.read_source.result c.as_str.result.now c.args.source.now _ _ _ _ _ _ c.as_str.ensures.text
+    c.read_source.ensures.asked c.read_source.ensures.failed
 
 pub returns-in-Ok-Ok-clause-due : goal.returns-in-Ok-Ok-clause-due
 returns-in-Ok-Ok-clause-due g c =
     let gives = rw c.in-Ok-Ok.field-0-is at c.in-Ok-Ok.ensures.tree in
     evaluated_owed (g.L.Library.files c.args.library.now) (job_data c.args.job.now) c.args.sheet.now c.args.source.now
     (g.L.Library.failed c.args.library.now) (g.L.Library.failed c.read_source.new.library)
-    c.evaluate.result c.in-Ok-Ok.tree c.as_str.result.now refl c.as_str.ensures.text (sym c.is_built.ensures ∙ c.if-not-is_built.false)
+    c.evaluate.result c.in-Ok-Ok.tree c.as_str.result.now refl c.as_str.ensures.text
     c.in-Ok-Ok.ensures.failed gives c.evaluate.ensures.answer
 
 pub returns-in-Ok-Err-clause-due : goal.returns-in-Ok-Err-clause-due
@@ -48,8 +38,8 @@ returns-in-Ok-Err-clause-due g c =
     let gives = rw c.in-Ok-Err.field-0-is at c.in-Ok-Err.ensures.tree in
     refused_owed (g.L.Library.files c.args.library.now) (job_data c.args.job.now) c.args.sheet.now c.args.source.now
     (g.L.Library.failed c.args.library.now) (g.L.Library.failed c.read_source.new.library)
-    c.refused_reply-in-Ok-Err.result c.in-Ok-Err.fault.number c.in-Ok-Err.fault.line c.as_str.result.now c.as_str.ensures.text
-    (sym c.is_built.ensures ∙ c.if-not-is_built.false) c.in-Ok-Err.ensures.failed gives c.refused_reply-in-Ok-Err.ensures
+    c.refused_reply.result c.in-Ok-Err.fault.number c.in-Ok-Err.fault.line c.as_str.result.now c.as_str.ensures.text
+    c.in-Ok-Err.ensures.failed gives c.refused_reply.ensures
 
 pub returns-in-Err-Failed-clause-due : goal.returns-in-Err-Failed-clause-due
 returns-in-Err-Failed-clause-due g c =

@@ -3,6 +3,6 @@ use Rattle.xs_engine.proofs.EvaluationLemmas.{from_stripped}
 use Rattle.xs_engine.proofs.evaluation.evaluate.Goals as goal
 
 pub returns-clause-answer : goal.returns-clause-answer
-returns-clause-answer c =
+returns-clause-answer g c =
     from_stripped c.evaluate_over.result (job_data c.args.job.now) c.args.sheet.now c.as_slice.result.now c.args.source c.strip.new.tree
     c.as_slice.ensures c.in_ok-strip.ensures.stripped c.evaluate_over.ensures.answer

@@ -1,11 +1,11 @@
-use Rattle.std.proofs.Common.{[]}
 use Rattle.xs_semantics.specs.World.{ground}
 use Rattle.xs_engine.specs.Reply.{job_data}
 use Rattle.xs_engine.proofs.EvaluationLemmas.{ended_in_globals}
 use Rattle.xs_engine.proofs.evaluation.evaluate_by.Goals as goal
 
 pub returns-in-Some-clause-answer : goal.returns-in-Some-clause-answer
-returns-in-Some-clause-answer c =
-    ended_in_globals (job_data c.args.job.now) (ground c.args.sheet.now c.args.index.now c.args.tree.now []) c.in_ok-settled.settled
+returns-in-Some-clause-answer g c =
+    let w = ground c.args.sheet.now c.args.index.now c.args.tree.now (g.K.KeyFinder.tables c.args.keys.now) in
+    ended_in_globals (job_data c.args.job.now) w c.in_ok-settled.settled
     (rw c.deref.ensures.value at c.in_ok-settled.ensures.settles) c.stopped_reply.result c.in-Some.spot c.in-Some.is
     (rw (c.deref-in-Some.ensures.value, c.new-nothing.ensures.empty) at c.stopped_reply.ensures)

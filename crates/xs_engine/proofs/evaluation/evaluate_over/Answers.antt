@@ -3,5 +3,6 @@ use Rattle.xs_engine.proofs.EvaluationLemmas.{over_index}
 use Rattle.xs_engine.proofs.evaluation.evaluate_over.Goals as goal
 
 pub returns-clause-answer : goal.returns-clause-answer
-returns-clause-answer c =
-    over_index c.evaluate_by.result (job_data c.args.job.now) c.args.sheet.now c.in_ok-index.index c.args.tree.now c.evaluate_by.ensures.answer
+returns-clause-answer g c =
+    over_index c.evaluate_by.result (job_data c.args.job.now) c.args.sheet.now c.in_ok-index.index c.args.tree.now _ c.in_ok-keys.ensures.tables
+    c.evaluate_by.ensures.answer

@@ -6,13 +6,13 @@ use Rattle.xs_engine.proofs.EvaluationLemmas.{fault_in_root, full_in_root, has_p
 use Rattle.xs_engine.proofs.evaluation.root_reply.Goals as goal
 
 pub overflow_add-ticks : goal.overflow_add-ticks
-overflow_add-ticks c = let few = run_within _ _ _ _ c.in_ok-outcome.ensures.whole in omega arith
+overflow_add-ticks g c = let few = run_within _ _ _ _ c.in_ok-outcome.ensures.whole in omega arith
 
 pub index-part-requires : goal.index-part-requires
-index-part-requires c = has_part _ _ c.in_ok-outcome.ensures.whole
+index-part-requires g c = has_part _ _ c.in_ok-outcome.ensures.whole
 
 pub returns-in-Whole-clause-answer : goal.returns-in-Whole-clause-answer
-returns-in-Whole-clause-answer c =
+returns-in-Whole-clause-answer g c =
     whole_in_root (job_data c.args.job.now) c.args.world.now c.args.settled.now c.requires.settled
     c.in_ok-outcome.outcome c.index-part.result.now c.world.inside.sheet.now (ap (λ (w : World). w.sheet) c.world.view_is) c.requires.none
     (root_run (job_data c.args.job.now) c.args.world.now c.args.settled.now c.deref.result.now
@@ -23,7 +23,7 @@ returns-in-Whole-clause-answer c =
     (rw c.deref-in-Whole.ensures.value at c.whole_reply.ensures)
 
 pub returns-in-Fault-clause-answer : goal.returns-in-Fault-clause-answer
-returns-in-Fault-clause-answer c =
+returns-in-Fault-clause-answer g c =
     fault_in_root (job_data c.args.job.now) c.args.world.now c.args.settled.now c.requires.settled
     c.in_ok-outcome.outcome c.index-part.result.now c.world.inside.sheet.now (ap (λ (w : World). w.sheet) c.world.view_is) c.requires.none
     (root_run (job_data c.args.job.now) c.args.world.now c.args.settled.now c.deref.result.now
@@ -34,7 +34,7 @@ returns-in-Fault-clause-answer c =
     (rw c.deref-in-Fault.ensures.value at c.stopped_reply.ensures)
 
 pub returns-in-Spent-clause-answer : goal.returns-in-Spent-clause-answer
-returns-in-Spent-clause-answer c =
+returns-in-Spent-clause-answer g c =
     spent_in_root (job_data c.args.job.now) c.args.world.now c.args.settled.now c.requires.settled
     c.in_ok-outcome.outcome c.index-part.result.now c.world.inside.sheet.now (ap (λ (w : World). w.sheet) c.world.view_is) c.requires.none
     (root_run (job_data c.args.job.now) c.args.world.now c.args.settled.now c.deref.result.now
@@ -45,7 +45,7 @@ returns-in-Spent-clause-answer c =
     (rw c.deref-in-Spent.ensures.value at c.stopped_reply-in-Spent.ensures)
 
 pub returns-in-Full-clause-answer : goal.returns-in-Full-clause-answer
-returns-in-Full-clause-answer c =
+returns-in-Full-clause-answer g c =
     full_in_root (job_data c.args.job.now) c.args.world.now c.args.settled.now c.requires.settled
     c.in_ok-outcome.outcome c.index-part.result.now c.world.inside.sheet.now (ap (λ (w : World). w.sheet) c.world.view_is) c.requires.none
     (root_run (job_data c.args.job.now) c.args.world.now c.args.settled.now c.deref.result.now

@@ -4,6 +4,7 @@ use Rattle.xs_engine.specs.Job.{is_streamed, request_of}
 use Rattle.xs_engine.specs.Reply.{account_of, reply_of}
 use Rattle.xs_engine.proofs.GivesLemmas.{at_once, gives, gives_nothing, gives_only, nothing_at_once}
 use Rattle.xs_engine.proofs.JobLemmas.{never_streamed}
+use Rattle.xs_engine.proofs.RefusalLemmas.{decides, decides_nothing, listed_fault, never_listed, own_or_cut}
 use Rattle.xs_engine.proofs.top.transform.Goals as goal
 
 -- There is a reply, and it was written.
@@ -38,7 +39,30 @@ returns-in-Ok-clause-at_once g c = λ _.
 pub returns-in-Ok-clause-unstreamed : goal.returns-in-Ok-clause-unstreamed
 returns-in-Ok-clause-unstreamed g c = never_streamed (texts c.args.words.now)
 
+pub returns-in-Ok-clause-refused_only : goal.returns-in-Ok-clause-refused_only
+returns-in-Ok-clause-refused_only g c =
+    listed_fault (g.L.Library.files c.args.library.now) (request_of (texts c.args.words.now)) (g.L.Library.failed c.args.library.now)
+    (g.L.Library.failed c.reply_to.new.library) (reply_of c.in-Ok.reply) c.report_of.result.status c.report_of.result.fault c.in-Ok.ensures.due
+    (own_or_cut (reply_of c.in-Ok.reply) c.deliver-status.result c.report_of.result.status c.report_of.ensures.status c.deliver-status.ensures.status)
+    c.report_of.ensures.fault
+
+pub returns-in-Ok-clause-decided : goal.returns-in-Ok-clause-decided
+returns-in-Ok-clause-decided g c = λ stays.
+    decides (g.L.Library.files c.args.library.now) (request_of (texts c.args.words.now)) (g.L.Library.failed c.args.library.now)
+    (g.L.Library.failed c.reply_to.new.library) (reply_of c.in-Ok.reply) c.report_of.result.status c.in-Ok.ensures.due stays
+    (own_or_cut (reply_of c.in-Ok.reply) c.deliver-status.result c.report_of.result.status c.report_of.ensures.status c.deliver-status.ensures.status)
+
 -- Memory ran out.
+pub returns-in-Err-clause-refused_only : goal.returns-in-Err-clause-refused_only
+returns-in-Err-clause-refused_only g c =
+    never_listed (g.L.Library.files c.args.library.now) (request_of (texts c.args.words.now)) c.report_of-in-Err.result.status
+    c.report_of-in-Err.result.fault c.report_of-in-Err.ensures.status
+
+pub returns-in-Err-clause-decided : goal.returns-in-Err-clause-decided
+returns-in-Err-clause-decided g c = λ stays.
+    decides_nothing (g.L.Library.files c.args.library.now) (request_of (texts c.args.words.now)) c.report_of-in-Err.result.status
+    c.report_of-in-Err.ensures.status
+
 pub returns-in-Err-clause-only : goal.returns-in-Err-clause-only
 returns-in-Err-clause-only g c =
     gives_nothing (g.L.Library.files c.args.library.now) _ (g.L.Library.failed c.args.library.now) (g.L.Library.failed c.reply_to.new.library)

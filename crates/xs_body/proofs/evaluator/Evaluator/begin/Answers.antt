@@ -1,11 +1,15 @@
 use Rattle.std.proofs.Common.{ℕ, List, false, refl, sym, subst}
 use Rattle.std.proofs.lemmas.Result.{err_from_is_err_and}
 use Rattle.xs_sheet.specs.declared.body.InstrKind.{InstrKind}
-use Rattle.xs_trace.specs.Play.{IsStep, IsStepBy}
-use Rattle.xs_body.specs.steps.Frames.{Evaluation, begun, chars_steps, copy_of_steps, element_put, last, value_steps}
+use Rattle.xs_sheet.specs.declared.body.SortDecl.{SortDecl}
+use Rattle.xs_trace.specs.Play.{IsStep, IsStepBy, and_then}
+use Rattle.xs_trace.specs.Run.{limited}
+use Rattle.xs_semantics.specs.World.{looped_nodes}
+use Rattle.xs_body.specs.steps.Lists.{nodes_in}
+use Rattle.xs_body.specs.steps.Frames.{Evaluation, begun, chars_steps, copy_of_steps, element_put, last, loop_begun, number_steps, value_steps}
 use Rattle.xs_body.specs.steps.Making.{name_steps}
 use Rattle.xs_body.proofs.ExitLemmas.{stack-exit, stays-told}
-use Rattle.xs_body.proofs.GrowthLemmas.{element-grows}
+use Rattle.xs_body.proofs.GrowthLemmas.{element-grows, loop-grows}
 use Rattle.xs_body.proofs.evaluator.Evaluator.begin.Goals as goal
 
 pub returns-in-ValueOf-clause-told : goal.returns-in-ValueOf-clause-told
@@ -46,3 +50,29 @@ returns-in_err-name-in-Element-clause-told g c =
     (stack-exit (λ x. x) (name_steps t.world c.args.site c.args.scope.focus (last c.args.scope.seen t.slots) false c.in-Element.name s)
     (λ label m. element_put label sets body c.args.scope t m) t _ c.from_residual-in_err-name-in-Element.result _ _
     (λ label. element-grows label sets body c.args.scope t) p.1 p.2 c.in_err-name-in-Element.ensures.told)
+
+pub returns-in-Number-clause-told : goal.returns-in-Number-clause-told
+returns-in-Number-clause-told g c =
+    let t : Evaluation = c.args.self.now in
+    let s = g.R.Tally.state c.args.recorder.now in
+    subst (λ (k : InstrKind). IsStepBy {A = Evaluation} {B = Unit {0}} (λ u. t) (begun k c.args.site c.args.scope t s) c.put_number.result
+    (g.R.Tally.state c.put_number.new.recorder)) (sym c.in-Number.is)
+    (stays-told (number_steps c.in-Number.decl c.args.site c.args.scope t s) t t _ c.put_number.result refl c.put_number.ensures.told)
+
+pub returns-in_err-nodes-in-ForEach-clause-told : goal.returns-in_err-nodes-in-ForEach-clause-told
+returns-in_err-nodes-in-ForEach-clause-told g c =
+    let p = err_from_is_err_and c.from_residual.result c.from_residual.ensures.1 in
+    let t : Evaluation = c.args.self.now in
+    let s = g.R.Tally.state c.args.recorder.now in
+    let m = g.R.Tally.state c.looped_nodes.new.recorder in
+    let body = c.in-ForEach.body in
+    let site = c.args.site in
+    let scope = c.args.scope in
+    subst (λ (k : InstrKind). IsStepBy {A = Evaluation} {B = Unit {0}} (λ u. t) (begun k site scope t s) c.from_residual.result m) (sym c.in-ForEach.is)
+    (subst (λ (sorts : List SortDecl). IsStepBy {A = Evaluation} {B = Unit {0}} (λ u. t)
+    (and_then (limited site (looped_nodes t.world c.in-ForEach.select sorts scope.focus (last scope.seen t.slots)) s)
+    (λ ns n. loop_begun body site scope ns t n)) c.from_residual.result m) c.as_slice.ensures
+    (stack-exit (λ l. nodes_in l)
+    (limited site (looped_nodes t.world c.in-ForEach.select c.as_slice.result.now scope.focus (last scope.seen t.slots)) s)
+    (λ ns n. loop_begun body site scope ns t n) t _ c.from_residual.result _ _
+    (λ ns. loop-grows body site scope ns t) p.1 p.2 c.in_err-nodes-in-ForEach.ensures.told))

@@ -5,7 +5,7 @@ use Rattle.xs_trace.specs.declared.event.Event.{Event}
 use Rattle.xs_trace.proofs.GrowthLemmas.{goes-grows, passes}
 use Rattle.xs_tree.specs.Record.{at}
 use Rattle.xs_making.specs.Copies.{shallow_copy}
-use Rattle.xs_body.specs.steps.Frames.{copied_begun}
+use Rattle.xs_body.specs.steps.Frames.{Evaluation, copied_begun}
 use Rattle.xs_body.specs.steps.Making.{events_steps}
 use Rattle.xs_body.proofs.evaluator.Evaluator.begin_copy.Goals as goal
 
@@ -16,7 +16,9 @@ returns-in_err-put_events-clause-told g c =
     let n = c.args.scope.focus.node in
     let s = g.R.Tally.state c.args.recorder.now in
     let t = copied_begun (at rs n).kind c.args.sets.now c.args.body.now c.args.scope c.args.self.now in
-    let q : c.as_slice.result.now ≡ shallow_copy rs n = c.as_slice.ensures.value ∙ c.in_ok-events.ensures.copied ∙ ap (shallow_copy rs) c.at.ensures in
+    let q : c.as_slice.result.now ≡ shallow_copy rs n =
+    c.as_slice.ensures.value ∙ c.in_ok-events.ensures.copied ∙ ap (λ (e : Evaluation). shallow_copy e.world.tree c.at-node.result) c.self.view_is
+    ∙ ap (shallow_copy rs) c.at-node.ensures in
     passes (λ x. x) _ _ (events_steps c.args.site c.as_slice.result.now s) (λ u m. Goes t m) (g.R.Tally.state c.put_events.new.recorder)
     c.from_residual-in_err-put_events.result _ _
     (ap (λ (es : List Event). and_then (events_steps c.args.site es s) (λ u m. Goes t m)) (sym q)) (λ u. goes-grows t) p.1 p.2

@@ -5,6 +5,7 @@ use Rattle.xs_trace.specs.Play.{and_then}
 use Rattle.xs_trace.specs.declared.event.Event.{Event}
 use Rattle.xs_trace.proofs.GrowthLemmas.{passes}
 use Rattle.xs_making.specs.Copies.{deep_copy}
+use Rattle.xs_body.specs.steps.Frames.{Evaluation}
 use Rattle.xs_body.specs.steps.Making.{events_steps, nodes_steps}
 use Rattle.xs_body.proofs.MakingLemmas.{nodes-grow}
 use Rattle.xs_body.proofs.evaluator.Evaluator.put_nodes.Goals as goal
@@ -18,7 +19,8 @@ returns-in_err-put_events-clause-told g c =
     let others = c.in-Some.others.now in
     let s = g.R.Tally.state c.loop-node.recorder in
     let e : c.loop-node.left.now ≡ (n ∷ others) = search rules in
-    let q : c.as_slice.result.now ≡ deep_copy rs n = c.as_slice.ensures.value ∙ c.in_ok-events.ensures.copied in
+    let q : c.as_slice.result.now ≡ deep_copy rs n =
+    c.as_slice.ensures.value ∙ c.in_ok-events.ensures.copied ∙ ap (λ (t : Evaluation). deep_copy t.world.tree n) c.self.view_is in
     passes (λ x. x) (λ x. x) _ (events_steps site c.as_slice.result.now s) (λ u m. nodes_steps rs site others m)
     (g.R.Tally.state c.put_events.new.recorder) c.from_residual-in_err-put_events.result _ _
     (c.loop-node.invariant.0.0 ∙ ap (λ ns. nodes_steps rs site ns s) e
@@ -33,7 +35,8 @@ loop-node-preserved g c =
     let others = c.in-Some.others.now in
     let s = g.R.Tally.state c.loop-node.recorder in
     let e : c.loop-node.left.now ≡ (n ∷ others) = search rules in
-    let q : c.as_slice.result.now ≡ deep_copy rs n = c.as_slice.ensures.value ∙ c.in_ok-events.ensures.copied in
+    let q : c.as_slice.result.now ≡ deep_copy rs n =
+    c.as_slice.ensures.value ∙ c.in_ok-events.ensures.copied ∙ ap (λ (t : Evaluation). deep_copy t.world.tree n) c.self.view_is in
     let within : ℕ → Type 0 = λ m. m < length rs in (
       (
         c.loop-node.invariant.0.0 ∙ ap (λ ns. nodes_steps rs site ns s) e

@@ -1,4 +1,4 @@
-use Rattle.std.proofs.Common.{◌≡◌, IfOk, None, false, true, ap, refl, rules, slice_get, subst, sym, ◌∙◌}
+use Rattle.std.proofs.Common.{◌≡◌, IfOk, None, false, true, ap, refl, rules, slice_get, subst, ◌∙◌}
 use Rattle.xs_trace.specs.Kept.{marks_of}
 use Rattle.xs_trace.specs.Mark.{messages_of}
 use Rattle.xs_semantics.specs.Globals.{attempt_cut, attempt_value}

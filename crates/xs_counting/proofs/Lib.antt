@@ -1,0 +1,4 @@
+mod AlikeLemmas
+mod CounterLemmas
+mod ListLemmas
+mod TableLemmas

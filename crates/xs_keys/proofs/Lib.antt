@@ -1,0 +1,4 @@
+pub mod FindLemmas
+pub mod GatherLemmas
+pub mod MarkedLemmas
+pub mod RunLemmas

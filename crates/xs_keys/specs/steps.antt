@@ -1,0 +1,3 @@
+-- What the code mirrors.
+pub mod Pairs
+pub mod Cells

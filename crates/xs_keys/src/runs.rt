@@ -1,0 +1,79 @@
+//! Runs of nodes, each gone over in a thread of its own where one can be started.
+
+ghost use Rattle.std.specs.Prelude.{◌≡◌, ◌+◌, ◌^◌, ◌<◌, ℕ, IfOk, get_or, length};
+ghost use Rattle.xs_keys.specs.steps.Pairs.{AreMarked, IsRun, bound, decls_in};
+
+use crate::pairs::Gathered;
+use std::alloc::{AllocError, Global};
+use std::thread;
+use std::thread::Threads;
+use xs_sheet::declarations::KeyDecl;
+use xs_tree::{Node, Tree};
+
+/// The most runs.
+const MOST: usize = 64;
+
+/// The fewest nodes of a run, except the last.
+const FEWEST: usize = 4096;
+
+/// How many nodes a run of so many has.
+pub(crate) fn size_of(count: usize) -> usize
+    ensures positive { 0 < result }
+{
+    if count / MOST < FEWEST {
+        FEWEST
+    } else {
+        count / MOST + 1
+    }
+}
+
+/// What a key's declarations give, run by run.
+pub(crate) fn gather<R: Threads + Sync>(
+    rt: &R,
+    alloc: Global,
+    members: &[&KeyDecl],
+    marks: &[Vec<bool>],
+    tree: &Tree,
+    size: usize,
+    count: usize,
+) -> Result<Vec<Result<Gathered, AllocError>>, AllocError>
+    requires marks { AreMarked tree.now (decls_in members.now) marks.now }
+    ensures long { IfOk result (λ runs. length runs.items ≡ count) }
+    ensures runs { IfOk result (λ runs. (i : ℕ) (d : _) → i < count
+        → IsRun tree.now (decls_in members.now) size i (get_or runs.items i d)) }
+{
+    let run = |i: usize| -> Result<Gathered, AllocError>
+        requires { (i + 1 < 2 ^ 64) × AreMarked tree.now (decls_in members.now) marks.now }
+        ensures { IsRun tree.entry.now (decls_in members.entry.now) size i result }
+    { run_at(alloc, members, marks, tree, size, i) };
+    thread::map_indices(rt, alloc, count, &run)
+}
+
+// What they give in the run with a number.
+fn run_at(
+    alloc: Global,
+    members: &[&KeyDecl],
+    marks: &[Vec<bool>],
+    tree: &Tree,
+    size: usize,
+    i: usize,
+) -> Result<Gathered, AllocError>
+    requires marks { AreMarked tree.now (decls_in members.now) marks.now }
+    requires number { i + 1 < 2 ^ 64 }
+    ensures { IsRun tree.now (decls_in members.now) size i result }
+{
+    let count = tree.len();
+    let end = bound(size, count, i + 1);
+    let mut gathered = Gathered::new(alloc);
+    for place in bound(size, count, i)..end {
+        gathered.add_node(alloc, members, marks, tree, Node::at(place as u32))?;
+    }
+    Ok(gathered)
+}
+
+// Where the run with a number begins.
+fn bound(size: usize, count: usize, i: usize) -> usize
+    ensures { result ≡ bound size count i }
+{
+    i.saturating_mul(size).min(count)
+}

@@ -1,0 +1,77 @@
+//! Names that are put again and again, which share their texts.
+ghost use Rattle.std.specs.Prelude.{◌≡◌, true, IfOk};
+ghost use Rattle.xs_making.specs.Labels.{put_label};
+
+use crate::labels::{put_label, put_prefix};
+use std::alloc::{AllocError, Global};
+use xs_trace::event::Label;
+
+/// How many names are kept.
+const SLOTS: usize = 32;
+
+/// The names that were put last: one that is put again shares the texts of the first, and takes no
+/// memory of its own.
+#[derive(Drop)]
+pub struct RecentLabels {
+    alloc: Global,
+    /// A name lies in the slot that its local part chooses. Before the first name there is no slot.
+    slots: Vec<Option<Label>>,
+}
+
+impl RecentLabels {
+    /// With no name yet.
+    pub fn new(alloc: Global) -> RecentLabels {
+        RecentLabels {
+            alloc,
+            slots: Vec::new(alloc),
+        }
+    }
+
+    /// Where names are stored.
+    pub fn allocator(&self) -> Global {
+        self.alloc
+    }
+
+    /// A name as it is put: with the prefix that fits its namespace.
+    pub fn label(&mut self, uri: &str, local: &str, prefix: &str) -> Result<Label, AllocError>
+        ensures label { IfOk result (λ label. label ≡ put_label uri.now local.now prefix.now) }
+    {
+        let slot = slot_of(local);
+        if let Some(Some(label)) = self.slots.get(slot) {
+            if is_name(label, uri, local, put_prefix(uri, prefix)) {
+                return label.copy();
+            }
+        }
+        let label = put_label(self.alloc, uri, local, prefix)?;
+        self.keep(slot, label.copy()?)?;
+        Ok(label)
+    }
+
+    /// Keeps a name in a slot, in place of the one that was there.
+    fn keep(&mut self, slot: usize, label: Label) -> Result<(), AllocError> {
+        for _ in self.slots.len()..SLOTS {
+            self.slots.push(None)?;
+        }
+        if let Some(kept) = self.slots.get_mut(slot) {
+            *kept = Some(label);
+        }
+        Ok(())
+    }
+}
+
+/// The slot of the names with a local part.
+fn slot_of(local: &str) -> usize {
+    match local.as_bytes() {
+        [] => 0,
+        [first, .., last] => (*first as usize * 5 + *last as usize + local.len()) % SLOTS,
+        [only] => *only as usize % SLOTS,
+    }
+}
+
+/// Whether a name has these texts.
+fn is_name(label: &Label, uri: &str, local: &str, prefix: &str) -> bool
+    ensures { result ≡ true
+        → label.now ≡ record { uri = uri.now; local = local.now; prefix = prefix.now } }
+{
+    label.local() == local && label.uri() == uri && label.prefix() == prefix
+}
