@@ -45,12 +45,12 @@ pub has_part : (c : Cut Task) (o : Outcome) → IsWholeRun c o → 0 < vec_len o
 has_part c o run = let e : length o.parts.items ≡ 1 = ap length run.only in omega (arith, e, o.parts.ok.0)
 
 -- and the marks of the items of its first part are all that passed
-marks-passed : (c : Cut Task) (o : Outcome) (p : Part) → IsWholeRun c o → p ≡ get_or o.parts.items 0 p → marks_of (items_of p.items) ≡ c.passed
+pub marks-passed : (c : Cut Task) (o : Outcome) (p : Part) → IsWholeRun c o → p ≡ get_or o.parts.items 0 p → marks_of (items_of p.items) ≡ c.passed
 marks-passed c o p run first =
     ap (λ (q : Part). marks_of (items_of q.items)) (first ∙ ap (λ (ps : List Part). get_or ps 0 p) run.only) ∙ run.marks
 
 -- the source alone is all documents
-one_document : (source : List Record) → joined (named_document [] source ∷ []) ≡ source
+pub one_document : (source : List Record) → joined (named_document [] source ∷ []) ≡ source
 unfolding joined joined_later
 one_document source = append-nil source
 

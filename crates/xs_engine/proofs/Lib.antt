@@ -10,6 +10,7 @@ pub mod JobLemmas
 pub mod OneAnswerLemmas
 pub mod OneOrderLemmas
 pub mod OneSettlingLemmas
+pub mod ReadBackLemmas
 pub mod RefusalLemmas
 pub mod SheetLemmas
 pub mod StripLemmas

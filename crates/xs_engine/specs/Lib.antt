@@ -9,6 +9,7 @@ pub mod Inputs
 pub mod Job
 pub mod Made
 pub mod Read
+pub mod ReadBack
 pub mod Refusals
 pub mod Reply
 pub mod Run

@@ -1,6 +1,6 @@
 //! The answer of a run, before anything of it is written.
 
-ghost use Rattle.std.specs.Prelude.{◌≡◌, ◌≢◌, ◌<◌, ◌⊎◌, IfOk, None, Some, length};
+ghost use Rattle.std.specs.Prelude.{◌≡◌, ◌≢◌, ◌<◌, ◌⊎◌, [], IfOk, None, Some, length};
 ghost use Rattle.xs_modules.specs.Results.{modules_data};
 ghost use Rattle.xs_modules.specs.Sound.{IsSound};
 ghost use Rattle.xs_sheet.specs.Sound.{IsSound as SheetIsSound};
@@ -13,9 +13,13 @@ ghost use Rattle.xs_engine.specs.Fetches.{Fetches, GoesOn, Grew, JobFetches};
 ghost use Rattle.xs_engine.specs.Headline.{HasTicks};
 ghost use Rattle.xs_engine.specs.Job.{inputs_on, request_of};
 ghost use Rattle.xs_engine.specs.Made.{made_files};
+ghost use Rattle.xs_engine.specs.ReadBack.{ReadsBackFiles, ReadsBackInputs, ReadsBackModules};
+ghost use Rattle.xs_engine.specs.ReadBack.{ReadsBackOf};
 ghost use Rattle.xs_engine.specs.Reply.{AsksSource, GoesTo, IsChecked, IsWholeOrEmpty};
 ghost use Rattle.xs_engine.specs.Reply.{job_data, reply_of};
 ghost use Rattle.xs_engine.specs.Run.{module_name};
+ghost use Rattle.xs_runs_read_back.specs.Laws.{AreTrees};
+ghost use Rattle.xs_well_put.specs.Named.{IsNamedSheet};
 
 use crate::evaluation::evaluate;
 use crate::job::{Job, read_request};
@@ -45,6 +49,8 @@ pub fn reply_to<R: Threads + Sync, L: Library>(
         (L.asked library.old) (L.asked library.new) (L.failed library.old) (L.failed library.new) }
     ensures due { IfOk result (λ reply. IsDue (L.files library.old) (request_of (texts words.now))
         (L.failed library.old) (L.failed library.new) (reply_of reply)) }
+    ensures reads_back { IfOk result (λ reply. reply.status ≡ OK →
+        ReadsBackOf (request_of (texts words.now)) (L.files library.old) reply.result.items) }
     ensures usage_only { IfOk result (λ reply.
         reply.status ≡ USAGE → request_of (texts words.now) ≡ None) }
     ensures read_fault_only { IfOk result (λ reply. reply.status ≡ READ_FAULT
@@ -72,6 +78,8 @@ fn made_reply<R: Threads + Sync>(
 ) -> Result<Reply, AllocError>
     ensures answer { IfOk result (λ reply.
         IsAnswer (Some (made_files count)) (job_data job.now) (reply_of reply)) }
+    ensures reads_back { IfOk result (λ reply. reply.status ≡ OK →
+        ReadsBackFiles (Some (made_files count)) (job_data job.now) reply.result.items) }
     ensures read { IfOk result (λ reply. reply.status ≢ READ_FAULT) }
     ensures status { IfOk result (λ reply.
         (reply.status ≢ USAGE) × (reply.status < WRITE_FAULT)) }
@@ -95,6 +103,8 @@ fn job_reply<R: Threads + Sync, L: Library>(
         (L.asked library.old) (L.asked library.new) (L.failed library.old) (L.failed library.new) }
     ensures due { IfOk result (λ reply. Owed (IsAnswer (L.files library.old) (job_data job.now))
         (L.failed library.old) (L.failed library.new) (reply_of reply)) }
+    ensures reads_back { IfOk result (λ reply. reply.status ≡ OK →
+        ReadsBackFiles (L.files library.old) (job_data job.now) reply.result.items) }
     ensures read_fault_only { IfOk result (λ reply. reply.status ≡ READ_FAULT
         → length (L.failed library.old) < length (L.failed library.new)) }
     ensures status { IfOk result (λ reply.
@@ -133,6 +143,9 @@ fn modules_reply<R: Threads + Sync, L: Library>(
     ensures due { IfOk result (λ reply. Owed
         (IsModulesAnswer (L.files library.old) (job_data job.now) (modules_data modules.now))
         (L.failed library.old) (L.failed library.new) (reply_of reply)) }
+    ensures reads_back { IfOk result (λ reply. reply.status ≡ OK →
+        ReadsBackModules (job_data job.now).source (L.files library.old) (job_data job.now)
+        (modules_data modules.now) reply.result.items) }
     ensures read_fault_only { IfOk result (λ reply. reply.status ≡ READ_FAULT
         → length (L.failed library.old) < length (L.failed library.new)) }
     ensures status { IfOk result (λ reply.
@@ -140,6 +153,8 @@ fn modules_reply<R: Threads + Sync, L: Library>(
     ensures ticks { IfOk result (λ reply. HasTicks reply.status ⊎ (reply.ticks ≡ 0)) }
     ensures whole_only { IfOk result IsWholeOrEmpty }
 {
+    xs_runs_read_back::laws::sheets_are_named();
+    modules_are_trees(modules);
     match &job.source {
         Some(source) => match compile(alloc, modules) {
             Ok(sheet) => run_reply(rt, alloc, job, source, &sheet, library),
@@ -147,6 +162,15 @@ fn modules_reply<R: Threads + Sync, L: Library>(
             Err(CompileEnd::NoMemory) => Err(AllocError),
         },
         None => check_reply(alloc, modules),
+    }
+}
+
+/// The nodes of each module are a tree.
+fn modules_are_trees(modules: &Modules)
+    ensures { AreTrees (modules_data modules.now) }
+{
+    for number in 0..modules.list.len() {
+        let _count = modules.list[number].tree.len();
     }
 }
 
@@ -197,6 +221,9 @@ pub fn run_reply<R: Threads + Sync, L: Library>(
         (L.files library.old) (job_data job.now) sheet.now
         (inputs_on (job_data job.now) source.now))
         (L.failed library.old) (L.failed library.new) (reply_of reply)) }
+    ensures reads_back { IsNamedSheet sheet.now → IfOk result (λ reply. reply.status ≡ OK →
+        ReadsBackInputs (L.files library.old) (job_data job.now) sheet.now
+        (inputs_on (job_data job.now) source.now) [] reply.result.items) }
     ensures read_fault_only { IfOk result (λ reply. reply.status ≡ READ_FAULT
         → length (L.failed library.old) < length (L.failed library.new)) }
     ensures status { IfOk result (λ reply.

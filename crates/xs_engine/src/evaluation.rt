@@ -9,7 +9,10 @@ ghost use Rattle.xs_eval.specs.Conditions.{IsInIf};
 ghost use Rattle.xs_engine.specs.declared.status.TheConstants.{OK, RUN_FAULT};
 ghost use Rattle.xs_engine.specs.Evaluation.{IsEvaluated, IsEvaluatedOn, IsEvaluatedOver};
 ghost use Rattle.xs_engine.specs.Inputs.{named_document};
+ghost use Rattle.xs_engine.specs.ReadBack.{ReadsBack, ReadsBackOn, ReadsBackOver};
 ghost use Rattle.xs_engine.specs.Reply.{IsWholeOrEmpty, job_data, reply_of};
+ghost use Rattle.xs_making.specs.Laws.{AreWell};
+ghost use Rattle.xs_well_put.specs.Named.{IsNamedSheet, IsNamedWorld};
 ghost use Rattle.xs_rules.specs.Indexed.{IsIndex, IsPrepared};
 ghost use Rattle.xs_sets.specs.Indexed.{IsSetIndex};
 ghost use Rattle.xs_counting.specs.steps.Tables.{AreCounters};
@@ -50,10 +53,14 @@ pub fn evaluate<R: Threads + Sync>(
     ensures answer { IfOk result (λ reply.
         IsEvaluatedOver (job_data job.now) sheet.now (named_document [] source ∷ [])
         (reply_of reply)) }
+    ensures reads_back { IsNamedSheet sheet.now → AreWell source
+        → IfOk result (λ reply. reply.status ≡ OK → ReadsBackOver (job_data job.now) sheet.now
+        (named_document [] source ∷ []) reply.result.items) }
     ensures status { IfOk result (λ reply.
         (reply.status ≡ OK) ⊎ (reply.status ≡ RUN_FAULT)) }
     ensures whole_only { IfOk result IsWholeOrEmpty }
 {
+    xs_well_put::laws::stripped_are_well();
     let mut tree = source;
     strip(alloc, &mut tree, sheet.strips.as_slice())?;
     evaluate_over(rt, alloc, job, sheet, &tree)
@@ -82,6 +89,9 @@ fn evaluate_over<R: Threads + Sync>(
     requires sound { IsSound sheet.now }
     ensures answer { IfOk result (λ reply.
         IsEvaluatedOn (job_data job.now) sheet.now tree.now (reply_of reply)) }
+    ensures reads_back { IsNamedSheet sheet.now → AreWell tree.now
+        → IfOk result (λ reply. reply.status ≡ OK
+        → ReadsBackOn (job_data job.now) sheet.now tree.now reply.result.items) }
     ensures status { IfOk result (λ reply.
         (reply.status ≡ OK) ⊎ (reply.status ≡ RUN_FAULT)) }
     ensures whole_only { IfOk result IsWholeOrEmpty }
@@ -109,10 +119,14 @@ fn evaluate_by<K: KeyFinder>(
     requires tables { TablesIn tree.now (K.tables keys.now) }
     ensures answer { IfOk result (λ reply. IsEvaluated (job_data job.now)
         (ground sheet.now index.now tree.now (K.tables keys.now)) (reply_of reply)) }
+    ensures reads_back { IsNamedSheet sheet.now → AreWell tree.now
+        → IfOk result (λ reply. reply.status ≡ OK → ReadsBack (job_data job.now)
+        (ground sheet.now index.now tree.now (K.tables keys.now)) reply.result.items) }
     ensures status { IfOk result (λ reply.
         (reply.status ≡ OK) ⊎ (reply.status ≡ RUN_FAULT)) }
     ensures whole_only { IfOk result IsWholeOrEmpty }
 {
+    let _count = tree.len();
     let world = World {
         sheet,
         index,
@@ -148,10 +162,13 @@ fn root_reply<K: KeyFinder>(
     requires within { settled.now.ticks ≤ job.now.budget }
     ensures answer { IfOk result (λ reply.
         IsEvaluated (job_data job.now) world.now (reply_of reply)) }
+    ensures reads_back { IsNamedWorld world.now → IfOk result (λ reply. reply.status ≡ OK
+        → ReadsBack (job_data job.now) world.now reply.result.items) }
     ensures status { IfOk result (λ reply.
         (reply.status ≡ OK) ⊎ (reply.status ≡ RUN_FAULT)) }
     ensures whole_only { IfOk result IsWholeOrEmpty }
 {
+    xs_well_put::laws::runs_put_results();
     let sheet = world.sheet;
     let runner = SheetRunner::new(
         world.sheet,

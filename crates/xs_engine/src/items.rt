@@ -1,18 +1,24 @@
 //! The result and the messages of a run, by its items.
 
 ghost use Rattle.std.specs.Iterator.{YieldsFirstBy, item_count};
-ghost use Rattle.std.specs.Prelude.{◌≡◌, ◌++◌, IfOk, OnOk, option_map};
+ghost use Rattle.std.specs.List.{cons_option};
+ghost use Rattle.std.specs.Prelude.{◌≡◌, ◌<◌, ◌+◌, ◌^◌, ◌++◌, [], All, IfOk, OnOk, length};
+ghost use Rattle.std.specs.Prelude.{option_map};
 ghost use Rattle.xs_block.specs.Chain.{items_of};
 ghost use Rattle.xs_result.specs.Built.{built};
 ghost use Rattle.xs_result.specs.Text.{text_in};
 ghost use Rattle.xs_engine.specs.Answer.{message_line, message_lines, result_of};
 ghost use Rattle.xs_engine.specs.Items.{events_in, item_event, item_line, messages_in};
+ghost use Rattle.xs_engine.specs.ReadBack.{IsReadBackBy};
+ghost use Rattle.xs_reading_back.specs.Events.{HasTexts, IsResult};
+ghost use Rattle.xs_reading_back.specs.Laws.{IsReadBack};
 ghost use Rattle.xs_writing.specs.Lines.{pyx};
 
 use std::alloc::{AllocError, Global};
 use std::marker::Model;
 use xs_block::chain::Chain;
 use xs_block::items::Items;
+use xs_reading_back::event_texts;
 use xs_result::write_text;
 use xs_sheet::declarations::Method;
 use xs_text::escape_into;
@@ -65,14 +71,17 @@ fn event_of(item: &Item) -> Option<&Event>
     }
 }
 
-/// The bytes of a result, of the events among the items, as a method writes them.
+/// The bytes of a result, of the events among the items, as a method writes them. The lines of
+/// events that are balanced and can be written read back as what stays of these.
 pub fn result_bytes(
     alloc: Global,
     method: Method,
     items: &Chain<Item>,
 ) -> Result<Vec<u8>, AllocError>
-    ensures { IfOk result (λ bytes. bytes.items
+    ensures bytes { IfOk result (λ bytes. bytes.items
         ≡ result_of method (events_in (items_of items.now))) }
+    ensures reads_back { IfOk result (λ bytes. IsResult (events_in (items_of items.now))
+        → IsReadBackBy method bytes.items (events_in (items_of items.now))) }
 {
     match method {
         Method::Pyx => result_lines(alloc, items),
@@ -82,12 +91,48 @@ pub fn result_bytes(
 
 /// The lines of a result: of what stays of the events among the items.
 fn result_lines(alloc: Global, items: &Chain<Item>) -> Result<Vec<u8>, AllocError>
-    ensures { IfOk result (λ lines. lines.items ≡ pyx (events_in (items_of items.now))) }
+    ensures lines { IfOk result (λ lines. lines.items ≡ pyx (events_in (items_of items.now))) }
+    ensures reads_back { IfOk result (λ lines. IsResult (events_in (items_of items.now))
+        → IsReadBack lines.items (built (events_in (items_of items.now)))) }
 {
+    xs_reading_back::laws::results_read_back();
+    check_events(items)?;
     let mut lines = Vec::new(alloc);
     let left = items.items();
     write_pyx(&mut lines, Events { left })?;
     Ok(lines)
+}
+
+/// Counts the events among some items, whose texts are UTF-8. No memory holds 2^64 of them.
+fn check_events(items: &Chain<Item>) -> Result<(), AllocError>
+    ensures texts { OnOk result (All HasTexts (events_in (items_of items.now))) }
+    ensures few { OnOk result (length (events_in (items_of items.now)) < 2 ^ 64) }
+{
+    let mut count = 0;
+    for item in items.items() {
+        count = count_event(count, item)?;
+    }
+    Ok(())
+}
+
+/// One more where an item is an event, whose texts are UTF-8.
+#[tactic(auto, using(crate::proofs::ReadBackLemmas::one_text))]
+fn count_event(count: u64, item: &Item) -> Result<u64, AllocError>
+    ensures texts { IfOk result (λ n. All HasTexts (cons_option (item_event item.now) [])) }
+    ensures counted { IfOk result (λ n.
+        n ≡ count + length (cons_option (item_event item.now) [])) }
+    ensures few { IfOk result (λ n. n < 2 ^ 64) }
+{
+    match item {
+        Item::Put(event) => {
+            event_texts(event);
+            if count == u64::MAX {
+                return Err(AllocError);
+            }
+            Ok(count + 1)
+        }
+        Item::Run { .. } | Item::Say(_) => Ok(count),
+    }
 }
 
 /// The text of a result: of the text nodes that stay of the events among the items.

@@ -5,6 +5,7 @@ ghost use Rattle.xs_outside.specs.Edge.{failed_after};
 ghost use Rattle.xs_engine.specs.Read.{read_as};
 ghost use Rattle.xs_engine.specs.Run.{source_of};
 ghost use Rattle.xs_engine.specs.Reply.{AsksFor, FileGives};
+ghost use Rattle.xs_making.specs.Laws.{AreWell};
 
 use std::alloc::{AllocError, Global};
 use xs_build::{BuildFault, Built, build_tree};
@@ -23,7 +24,8 @@ pub struct BadDocument {
     pub line: u32,
 }
 
-/// The source of this name in the library, or why it is refused.
+/// The source of this name in the library, or why it is refused. The names of its nodes can be
+/// written.
 pub fn read_source<L: Library>(
     alloc: Global,
     name: &str,
@@ -34,6 +36,7 @@ pub fn read_source<L: Library>(
     ensures failed { L.failed library.new ≡ failed_after result name.now (L.failed library.old) }
     ensures tree { IfOk result (λ source.
         FileGives source_of (L.files library.old) name.now (read_as (λ tree. tree) source)) }
+    ensures well { IfOk result (λ source. IfOk source (λ tree. AreWell tree)) }
 {
     let bytes = library.fetch(alloc, name, SOURCE_LIMIT)?;
     let source = source_in(alloc, &bytes)?;
@@ -43,10 +46,16 @@ pub fn read_source<L: Library>(
 /// The tree that a source's bytes stand for, or why they are refused.
 #[tactic(auto, unfolding(crate::specs::Run::source_of))]
 fn source_in(alloc: Global, bytes: &[u8]) -> Result<Result<Tree, BadDocument>, AllocError>
-    ensures { IfOk result (λ source. read_as (λ tree. tree) source ≡ source_of bytes.now) }
+    ensures tree { IfOk result (λ source.
+        read_as (λ tree. tree) source ≡ source_of bytes.now) }
+    ensures well { IfOk result (λ source. IfOk source (λ tree. AreWell tree)) }
 {
+    xs_reading_back::laws::documents_are_well();
     match build_tree(alloc, bytes, SOURCE_LIMIT) {
-        Ok(Built { tree, lines: _ }) => Ok(Ok(tree)),
+        Ok(Built { tree, lines: _ }) => {
+            let _count = tree.len();
+            Ok(Ok(tree))
+        }
         Err(BuildFault::Bad { number, line }) => Ok(Err(BadDocument { number, line })),
         Err(BuildFault::NoMemory) => Err(AllocError),
     }

@@ -8,7 +8,9 @@ ghost use Rattle.xs_engine.specs.Answer.{read_fault, refused_file, reported, sto
 ghost use Rattle.xs_engine.specs.Answer.{usage};
 ghost use Rattle.xs_engine.specs.Answer.{whole_answer};
 ghost use Rattle.xs_engine.specs.Items.{events_in, messages_in};
+ghost use Rattle.xs_engine.specs.ReadBack.{IsReadBackBy};
 ghost use Rattle.xs_engine.specs.Reply.{reply_of};
+ghost use Rattle.xs_reading_back.specs.Events.{IsResult};
 
 use crate::faults::{UNREADABLE, fault_name, run_fault_name};
 use crate::items::{message_lines, result_bytes};
@@ -120,9 +122,11 @@ pub fn whole_reply(
     items: &Chain<Item>,
     ticks: u64,
 ) -> Result<Reply, AllocError>
-    ensures { IfOk result (λ reply. reply_of reply
+    ensures answer { IfOk result (λ reply. reply_of reply
         ≡ whole_answer method (says.now ++ messages_in (items_of items.now))
         (events_in (items_of items.now)) ticks) }
+    ensures reads_back { IfOk result (λ reply. IsResult (events_in (items_of items.now))
+        → IsReadBackBy method reply.result.items (events_in (items_of items.now))) }
 {
     Ok(Reply {
         status: OK,

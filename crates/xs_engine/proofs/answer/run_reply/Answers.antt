@@ -1,7 +1,10 @@
-use Rattle.std.proofs.Common.{refl}
+use Rattle.std.proofs.Common.{[], refl, lit<}
+use Rattle.xs_engine.specs.Job.{inputs_on}
+use Rattle.xs_engine.specs.ReadBack.{ReadsBackInputs}
 use Rattle.xs_engine.specs.Reply.{job_data}
 use Rattle.xs_engine.proofs.DueLemmas.{evaluated_owed, fault_owed, refused_owed}
 use Rattle.xs_engine.proofs.FetchLemmas.{after_source}
+use Rattle.xs_engine.proofs.ReadBackLemmas.{no_result, reads_source}
 use Rattle.xs_engine.proofs.answer.run_reply.Goals as goal
 
 -- The source is asked for.
@@ -46,3 +49,22 @@ returns-in-Err-Failed-clause-due g c =
     let grew = rw (c.in-Err-Failed.field-0-is, c.as_str.ensures.text) at c.in-Err-Failed.ensures.failed in
     fault_owed c.read_fault_reply.result _ (g.L.Library.failed c.args.library.now) (g.L.Library.failed c.read_source.new.library) c.args.source.now
     grew c.read_fault_reply.ensures
+
+pub returns-in-Ok-Ok-clause-reads_back : goal.returns-in-Ok-Ok-clause-reads_back
+returns-in-Ok-Ok-clause-reads_back g c = λ named.
+    let gives = rw c.in-Ok-Ok.field-0-is at c.in-Ok-Ok.ensures.tree in
+    let well = rw c.in-Ok-Ok.field-0-is at c.in-Ok-Ok.ensures.well in
+    reads_source c.evaluate.result (g.L.Library.files c.args.library.now) (job_data c.args.job.now) c.args.sheet.now c.args.source.now
+    c.in-Ok-Ok.tree c.as_str.result.now refl c.as_str.ensures.text gives (c.evaluate.ensures.reads_back named well)
+
+pub returns-in-Ok-Err-clause-reads_back : goal.returns-in-Ok-Err-clause-reads_back
+returns-in-Ok-Err-clause-reads_back g c = λ named.
+    no_result c.refused_reply.result
+    (λ bytes. ReadsBackInputs (g.L.Library.files c.args.library.now) (job_data c.args.job.now) c.args.sheet.now
+    (inputs_on (job_data c.args.job.now) c.args.source.now) [] bytes) _ c.refused_reply.ensures (lit< tt)
+
+pub returns-in-Err-Failed-clause-reads_back : goal.returns-in-Err-Failed-clause-reads_back
+returns-in-Err-Failed-clause-reads_back g c = λ named.
+    no_result c.read_fault_reply.result
+    (λ bytes. ReadsBackInputs (g.L.Library.files c.args.library.now) (job_data c.args.job.now) c.args.sheet.now
+    (inputs_on (job_data c.args.job.now) c.args.source.now) [] bytes) _ c.read_fault_reply.ensures (lit< tt)

@@ -5,6 +5,8 @@ use Rattle.xs_engine.specs.Reply.{account_of, reply_of}
 use Rattle.xs_engine.proofs.GivesLemmas.{at_once, gives, gives_nothing, gives_only, nothing_at_once}
 use Rattle.xs_engine.proofs.JobLemmas.{never_streamed}
 use Rattle.xs_engine.proofs.RefusalLemmas.{decides, decides_nothing, listed_fault, never_listed, own_or_cut}
+use Rattle.xs_engine.proofs.ReadBackLemmas.{nothing_read_back, written_read_back}
+use Rattle.xs_engine.specs.ReadBack.{ReadsBackOf}
 use Rattle.xs_engine.proofs.top.transform.Goals as goal
 
 -- There is a reply, and it was written.
@@ -76,3 +78,14 @@ returns-in-Err-clause-at_once g c = λ _.
 
 pub returns-in-Err-clause-unstreamed : goal.returns-in-Err-clause-unstreamed
 returns-in-Err-clause-unstreamed g c = never_streamed (texts c.args.words.now)
+
+-- What the lines of the result say.
+pub returns-in-Ok-clause-reads_back : goal.returns-in-Ok-clause-reads_back
+returns-in-Ok-clause-reads_back g c =
+    written_read_back (ReadsBackOf (request_of (texts c.args.words.now)) (g.L.Library.files c.args.library.now)) (reply_of c.in-Ok.reply)
+    c.deliver-status.result c.report_of.result.status (g.O.Sink.held c.args.out.now) (g.O.Sink.held c.deliver-status.new.out)
+    (g.E.Sink.held c.args.err.now) (g.E.Sink.held c.deliver-status.new.err) c.report_of.ensures.status c.deliver-status.ensures.writes
+    c.in-Ok.ensures.reads_back
+
+pub returns-in-Err-clause-reads_back : goal.returns-in-Err-clause-reads_back
+returns-in-Err-clause-reads_back g c = λ ok. absurd (nothing_read_back c.report_of-in-Err.result.status c.report_of-in-Err.ensures.status ok)
