@@ -378,8 +378,9 @@ def expectations(folder):
     arguments = expected["words"].replace("sheet.pyx", "sheet.xsl").replace("source.pyx", "source.xml").split()
     result = expected["expected.txt"]
     if result.startswith(("(", "?", "C")):
-        with open(folder + "sheet.xsl", encoding="utf-8") as sheet:
-            said = {"method": "html"} if 'method="html"' in sheet.read() else {}
+        with open(folder + "sheet.xsl", encoding="utf-8") as file:
+            sheet = file.read()
+        said = {"method": each for each in ("html", "xml") if f'method="{each}"' in sheet}
         result = results.bytes_of_xml(result.encode(), said).decode()
     return arguments, result, int(expected["expected.status"])
 
