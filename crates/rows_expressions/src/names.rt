@@ -3,6 +3,7 @@
 use xs_tree::Axis;
 use xs_value::comparison::CompareOp;
 use xs_xpath::name::Function;
+use xs_xpath::scope::function_of;
 use xs_xpath::token::Operator;
 
 // The axes (XPath 1.0, 2.2).
@@ -90,50 +91,58 @@ pub(crate) fn operator_name(operator: Operator) -> &'static str {
     ""
 }
 
-// The functions (XPath 1.0, 4; XSLT 1.0, 12).
-const FUNCTIONS: &[(&str, Function)] = &[
-    ("last", Function::Last),
-    ("position", Function::Position),
-    ("count", Function::Count),
-    ("id", Function::Id),
-    ("local-name", Function::LocalName),
-    ("namespace-uri", Function::NamespaceUri),
-    ("name", Function::Name),
-    ("string", Function::String),
-    ("concat", Function::Concat),
-    ("starts-with", Function::StartsWith),
-    ("contains", Function::Contains),
-    ("substring-before", Function::SubstringBefore),
-    ("substring-after", Function::SubstringAfter),
-    ("substring", Function::Substring),
-    ("string-length", Function::StringLength),
-    ("normalize-space", Function::NormalizeSpace),
-    ("translate", Function::Translate),
-    ("boolean", Function::Boolean),
-    ("not", Function::Not),
-    ("true", Function::True),
-    ("false", Function::False),
-    ("lang", Function::Lang),
-    ("number", Function::Number),
-    ("sum", Function::Sum),
-    ("floor", Function::Floor),
-    ("ceiling", Function::Ceiling),
-    ("round", Function::Round),
-    ("key", Function::Key),
-    ("current", Function::Current),
-    ("generate-id", Function::GenerateId),
-    ("system-property", Function::SystemProperty),
-    ("element-available", Function::ElementAvailable),
-    ("function-available", Function::FunctionAvailable),
-    ("unparsed-entity-uri", Function::UnparsedEntityUri),
+// The names of the functions (XPath 1.0, 4; XSLT 1.0, 12).
+const FUNCTIONS: &[&str] = &[
+    "last",
+    "position",
+    "count",
+    "id",
+    "local-name",
+    "namespace-uri",
+    "name",
+    "string",
+    "concat",
+    "starts-with",
+    "contains",
+    "substring-before",
+    "substring-after",
+    "substring",
+    "string-length",
+    "normalize-space",
+    "translate",
+    "boolean",
+    "not",
+    "true",
+    "false",
+    "lang",
+    "number",
+    "sum",
+    "floor",
+    "ceiling",
+    "round",
+    "key",
+    "current",
+    "generate-id",
+    "system-property",
+    "element-available",
+    "function-available",
+    "unparsed-entity-uri",
 ];
 
-/// The name of a function.
+/// The name of a function, which is the one that it is found by.
 pub(crate) fn function_name(function: Function) -> &'static str {
-    for (name, other) in FUNCTIONS {
-        if *other as u8 == function as u8 {
+    for name in FUNCTIONS {
+        if is_name_of(name, function) {
             return name;
         }
     }
     ""
+}
+
+// Whether a function is found by a name.
+fn is_name_of(name: &str, function: Function) -> bool {
+    match function_of(name.as_bytes()) {
+        Some(other) => other as u8 == function as u8,
+        None => false,
+    }
 }

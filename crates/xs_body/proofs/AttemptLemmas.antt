@@ -2,7 +2,7 @@
 use Rattle.std.proofs.Common.{◌≡◌, ◌≤◌, ◌-◌, ℕ, zero, suc, List, [], ◌∷◌, ◌++◌, Option, Some, None, Result, Ok, Err, IfOk, refl, sym, ap, subst, ◌∙◌, arith}
 use Rattle.std.proofs.Common.{append_assoc, append-nil}
 use Rattle.xs_sheet.specs.declared.declarations.Global.{Global}
-use Rattle.xs_trace.specs.Cut.{Cut, End, Whole, Fault, Needs, Spent, Full, cut, nowhere}
+use Rattle.xs_trace.specs.Cut.{Cut, End, Whole, Fault, Needs, Spent, cut, nowhere}
 use Rattle.xs_trace.specs.Keeping.{IsCutAt}
 use Rattle.xs_trace.specs.Kept.{item_marks, marks_of}
 use Rattle.xs_trace.specs.Mark.{Trace, messages_of, tick_count, ticks, untimed}

@@ -1,5 +1,5 @@
 -- What was told stays at the beginning of what is told, in each step.
-use Rattle.std.proofs.Common.{ℕ, ◌-◌, ◌==◌, ◌||◌, drop, length, List, [], ◌∷◌, ◌++◌, map, Option, Some, None, Bool, true, false, cond, refl}
+use Rattle.std.proofs.Common.{ℕ, ◌==◌, ◌||◌, drop, length, List, [], ◌∷◌, ◌++◌, map, Option, Some, None, Bool, true, false, cond, refl}
 use Rattle.xs_sheet.specs.declared.body.Body.{Body}
 use Rattle.xs_sheet.specs.declared.body.Binding.{Binding}
 use Rattle.xs_sheet.specs.declared.body.Content.{Content}

@@ -1,6 +1,6 @@
 //! What is made of captured content (XSLT 1.0, 7.1.3, 7.3 and 7.4).
 
-ghost use Rattle.std.specs.Prelude.{◌≡◌, ◌+◌, ◌<◌, ◌^◌, ◌==◌, ◌++◌, [], IfOk, OnOk};
+ghost use Rattle.std.specs.Prelude.{◌≡◌, ◌+◌, ◌<◌, ◌^◌, ◌==◌, ◌++◌, [], IfOk, IfSome, OnOk};
 ghost use Rattle.std.specs.Prelude.{if◌then◌else◌, string_bytes};
 ghost use Rattle.xs_body.specs.steps.Making.{depth_after, made_steps, text_added};
 ghost use Rattle.xs_semantics.specs.Making.{content_text};
@@ -40,8 +40,28 @@ pub(crate) fn put_made<R: Recorder>(
     }
 }
 
-/// The texts of content, except for those in elements.
+/// The texts of content, except for those in elements. Content that is one text is shared.
 pub(crate) fn content_text(alloc: Global, events: &[Event]) -> Result<TextBuf, AllocError>
+    ensures { IfOk result (λ text. text ≡ content_text events.now) }
+{
+    match lone_text(events) {
+        Some(text) => text.copy(),
+        None => joined_text(alloc, events),
+    }
+}
+
+/// The text that is all of some content, if it is one text.
+fn lone_text(events: &[Event]) -> Option<&TextBuf>
+    ensures { IfSome result (λ text. text.now ≡ content_text events.now) }
+{
+    match events {
+        [Event::Chars(text)] => Some(text),
+        _ => None,
+    }
+}
+
+/// The texts of content, except for those in elements, one after another.
+fn joined_text(alloc: Global, events: &[Event]) -> Result<TextBuf, AllocError>
     ensures { IfOk result (λ text. text ≡ content_text events.now) }
 {
     let mut text = String::new(alloc);

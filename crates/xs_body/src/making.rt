@@ -16,7 +16,7 @@ use crate::frames::{AttributesLeft, Frame, Scope};
 use crate::literals::{attribute_label, put_attribute, put_literal_start};
 use crate::task::Task;
 use std::alloc::AllocError;
-use xs_making::{MakeEnd, pi_target, result_name};
+use xs_making::{MakeEnd, RecentLabels, pi_target, result_name};
 use xs_semantics::made::Made;
 use xs_sheet::body::{Body, LiteralStart, MadeName};
 use xs_sheet::scoped::ValueTemplate;
@@ -209,41 +209,24 @@ impl<'a, K: KeyFinder> Evaluator<'a, K> {
 
     /// The name that an instruction makes: its text, then its namespace (7.1.2, 7.1.3).
     pub(crate) fn made_name<R: Recorder<Task = Task<'a>>>(
-        &self,
+        &mut self,
         name: &MadeName,
         is_attribute: bool,
         site: Site,
         scope: Scope,
         recorder: &mut R,
     ) -> Result<Label, Halt>
-        requires node { scope.focus.node < length self.now.world.tree }
-        ensures told { IsStepBy (λ label. label) (name_steps self.now.world site scope.focus
-            (last scope.seen self.now.slots) is_attribute name.now (R.state recorder.old))
+        requires node { scope.focus.node < length self.old.world.tree }
+        ensures told { IsStepBy (λ label. label) (name_steps self.old.world site scope.focus
+            (last scope.seen self.old.slots) is_attribute name.now (R.state recorder.old))
             result (R.state recorder.new) }
         ensures kept { R.kept recorder.new ≡ R.kept recorder.old }
+        ensures same { self.new ≡ self.old }
     {
         let text = self.template(&name.name, site, scope, recorder)?;
         let uri = self.namespace(&name.namespace, site, scope, recorder)?;
-        let made = self.named(name, is_attribute, &text, &uri);
+        let made = named(name, is_attribute, &text, &uri, &mut self.labels);
         made_at(site, made)
-    }
-
-    /// The name that a text is, with the namespace that is given, if one is.
-    fn named(
-        &self,
-        name: &MadeName,
-        is_attribute: bool,
-        text: &TextBuf,
-        uri: &Option<TextBuf>,
-    ) -> Result<Label, MakeEnd>
-        ensures { IsMade (result_name name.now.scope is_attribute uri.now text.now) result }
-    {
-        let uri = match uri {
-            None => None,
-            Some(uri) => Some(uri.as_str()),
-        };
-        let scope = name.scope.scope();
-        result_name(self.alloc, text.as_str(), uri, scope, is_attribute)
     }
 
     /// The target of a processing instruction (7.3).
@@ -283,6 +266,24 @@ impl<'a, K: KeyFinder> Evaluator<'a, K> {
             Some(namespace) => Ok(Some(self.template(namespace, site, scope, recorder)?)),
         }
     }
+}
+
+/// The name that a text is, with the namespace that is given, if one is.
+fn named(
+    name: &MadeName,
+    is_attribute: bool,
+    text: &TextBuf,
+    uri: &Option<TextBuf>,
+    labels: &mut RecentLabels,
+) -> Result<Label, MakeEnd>
+    ensures { IsMade (result_name name.now.scope is_attribute uri.now text.now) result }
+{
+    let uri = match uri {
+        None => None,
+        Some(uri) => Some(uri.as_str()),
+    };
+    let scope = name.scope.scope();
+    result_name(labels, text.as_str(), uri, scope, is_attribute)
 }
 
 /// What was made, or the fault at an instruction.

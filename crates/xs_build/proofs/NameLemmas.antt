@@ -11,7 +11,8 @@ use Rattle.xs_build.specs.declared.fault.BuildFault.TheVariants.{Bad, NoMemory}
 use Rattle.xs_build.specs.declared.known.NodeName.{NodeName}
 use Rattle.xs_build.specs.declared.known.NodeName.TheVariants.{Known, New}
 use Rattle.xs_build.specs.Faults.{bad_name, unbound_prefix}
-use Rattle.xs_build.specs.Namespaces.{Bindings, QName, uri_in, element_name, attribute_name, qname_of}
+use Rattle.std.specs.Prelude.{option_map}
+use Rattle.xs_build.specs.Namespaces.{Bindings, QName, uri_in, uri_of, named, element_name, attribute_name, qname_of}
 use Rattle.xs_build.specs.Nodes.{local_name, text_node}
 use Rattle.xs_build.specs.steps.Lines.{Step, bad, needs}
 use Rattle.xs_build.specs.steps.Names.{Finds, IsNamed, Resolves, full_name}
@@ -121,3 +122,12 @@ finds (Err (Bad number at)) rs scope written line w is h = (
   h.2,
 )
 finds (Err NoMemory) rs scope written line w is h = tt
+
+-- the local part of the name of an attribute is the one that it is written with
+pub attribute_local : (scope : Bindings) (w : QName) (name : Name) → attribute_name scope w ≡ Some name → name.local ≡ w.local
+unfolding attribute_name
+attribute_local scope w name h = by_uri (uri_of scope [] w.prefix) h
+  where
+    by_uri : (uri : Option (List ℕ)) → option_map (named w) uri ≡ Some name → name.local ≡ w.local
+    by_uri None e = absurd (cc)
+    by_uri (Some uri) e = sym (ap (λ (n : Option Name). (unwrap_or n name).local) e)

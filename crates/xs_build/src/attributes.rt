@@ -15,6 +15,7 @@ use crate::fault::{
     BAD_LINE, BAD_NAME, BAD_NAMESPACE, BuildFault, DOUBLE_ATTRIBUTE, TOO_LARGE, UNBOUND_PREFIX,
 };
 use crate::known::{NodeName, ReadName};
+use crate::local_part::LocalPart;
 use crate::nodes::put_attribute;
 use crate::qnames::{XMLNS_URI, declared_prefix, is_bad_binding};
 use crate::scope::Scope;
@@ -55,8 +56,9 @@ impl<'a> Builder<'a> {
     }
 
     /// Takes a declaration, which is no node.
+    #[inline(never)]
     #[tactic(auto, unfolding(crate::specs::steps::Lines::declaration_step))]
-    fn declaration(&mut self, alloc: Global, prefix: &str, uri: &str) -> Result<(), BuildFault>
+    fn declaration(&mut self, alloc: Global, prefix: &'a str, uri: &str) -> Result<(), BuildFault>
         requires { self.old.follows ≡ true }
         ensures step { Steps result (taken (state self.old)
             (declaration_step (context (state self.old)) self.old.seen uri.now prefix.now))
@@ -72,7 +74,7 @@ impl<'a> Builder<'a> {
     }
 
     /// Takes an attribute that is a node.
-    #[tactic(auto, unfolding(crate::specs::steps::Lines::plain_step))]
+    #[tactic(auto, using(crate::proofs::NameLemmas::attribute_local), unfolding(crate::specs::steps::Lines::plain_step))]
     fn plain(&mut self, alloc: Global, name: &ReadName<'a>, value: &str) -> Result<(), BuildFault>
         requires good { IsGood (state self.old) }
         requires follows { self.old.follows ≡ true }
@@ -81,7 +83,7 @@ impl<'a> Builder<'a> {
             (state self.new) }
     {
         match self.attribute_name(alloc, name)? {
-            Some(full) => self.named(full, name.written, value),
+            Some(full) => self.named(full, name, value),
             None => Err(self.bad(UNBOUND_PREFIX)),
         }
     }
@@ -123,58 +125,65 @@ impl<'a> Builder<'a> {
     }
 
     /// Takes an attribute of this name.
-    fn named(&mut self, name: NodeName, written: &'a str, value: &str) -> Result<(), BuildFault>
+    fn named(&mut self, full: NodeName, name: &ReadName<'a>, value: &str) -> Result<(), BuildFault>
         requires good { IsGood (state self.old) }
         requires follows { self.old.follows ≡ true }
-        requires named { IsNamed self.old.tree name }
+        requires named { IsNamed self.old.tree full }
+        requires local { (full_name self.old.tree full).local ≡ (parts_of name.now).local }
         ensures step { Steps result (taken (state self.old)
             (named_step (context (state self.old)) self.old.seen value.now
-            (full_name self.old.tree name))) (state self.new) }
+            (full_name self.old.tree full))) (state self.new) }
     {
-        if !self.seen.insert(expanded_of(&self.tree, &name)?)? {
+        if !self
+            .seen
+            .insert(expanded_of(&self.tree, &full, name.local)?)?
+        {
             return Err(self.bad(DOUBLE_ATTRIBUTE));
         }
         if self.lines.len() >= MOST_NODES {
             return Err(self.bad(TOO_LARGE));
         }
-        let is_known = name.is_known();
-        let node = put_attribute(&mut self.tree, self.around.as_slice(), name, value)?;
+        let is_known = full.is_known();
+        let node = put_attribute(&mut self.tree, self.around.as_slice(), full, value)?;
         self.lines.push(self.line)?;
-        self.known.remember(written, node, is_known)?;
+        self.known.remember(name.written, node, is_known)?;
         Ok(())
     }
 }
 
 /// The expanded name of a declaration.
-fn declaration_name(alloc: Global, prefix: &str) -> Result<Expanded, AllocError>
+fn declaration_name(alloc: Global, prefix: &str) -> Result<Expanded<'_>, AllocError>
     ensures { IfOk result (λ name. name ≡ declaration_name prefix.now) }
 {
     Ok(Expanded {
         uri: NameText::of(alloc, XMLNS_URI)?,
-        local: NameText::of(alloc, prefix)?,
+        local: LocalPart::of(prefix),
     })
 }
 
-/// The name that is meant, without the prefix that it is written with.
-fn expanded_of(tree: &Tree, name: &NodeName) -> Result<Expanded, AllocError>
-    requires { IsNamed tree.now name.now }
+/// The name that is meant, without the prefix that it is written with. Its local part is borrowed
+/// from where it is written.
+fn expanded_of<'a>(tree: &Tree, name: &NodeName, local: &'a str) -> Result<Expanded<'a>, AllocError>
+    requires named { IsNamed tree.now name.now }
+    requires local { (full_name tree.now name.now).local ≡ local.now }
     ensures { IfOk result (λ found. found ≡ expanded (full_name tree.now name.now)) }
 {
     match name {
         NodeName::Known(node) => match tree.name(*node) {
-            Some(name) => expanded_name(name),
+            Some(name) => expanded_name(name, local),
             None => unreachable!(),
         },
-        NodeName::New(name) => expanded_name(name),
+        NodeName::New(name) => expanded_name(name, local),
     }
 }
 
 /// A name without the prefix that it is written with.
-fn expanded_name(name: &Name) -> Result<Expanded, AllocError>
+fn expanded_name<'a>(name: &Name, local: &'a str) -> Result<Expanded<'a>, AllocError>
+    requires { name.now.local ≡ local.now }
     ensures { IfOk result (λ found. found ≡ expanded name.now) }
 {
     Ok(Expanded {
         uri: name.uri.copy()?,
-        local: name.local.copy()?,
+        local: LocalPart::of(local),
     })
 }

@@ -32,7 +32,7 @@ pub struct Builder<'a> {
     /// The names that were read before.
     pub known: KnownNames<'a>,
     /// The names of the attributes of the element that began last.
-    pub seen: TagNames,
+    pub seen: TagNames<'a>,
     /// Whether an attribute may follow.
     pub follows: bool,
     /// Whether the top element has begun.

@@ -10,6 +10,7 @@ mod elements;
 pub mod fault;
 mod known;
 pub mod laws;
+mod local_part;
 mod nodes;
 mod opened;
 mod qnames;

@@ -172,6 +172,7 @@ impl Scope {
     }
 
     /// The name of an element with this prefix and local part; none where the prefix is not bound.
+    #[inline(never)]
     pub fn element_name(
         &self,
         alloc: Global,
@@ -208,6 +209,7 @@ impl Scope {
 
     /// The name of an attribute with this prefix and local part; none where the prefix is not
     /// bound.
+    #[inline(never)]
     pub fn attribute_name(
         &self,
         alloc: Global,
@@ -223,6 +225,7 @@ impl Scope {
         let uri = NameText::of(alloc, "")?;
         Ok(Some(plain_name(alloc, uri, local)?))
     }
+
     /// Whether this is the name of an attribute with this prefix and local part.
     pub fn is_attribute_name(&self, name: &Name, prefix: &str, local: &str) -> bool
         ensures { result ≡ true → attribute_name self.now

@@ -40,6 +40,7 @@ fn put_space(
 
 /// Adds the namespace nodes of an element that was just added, one for each binding in force (XPath
 /// 1.0, 5.4).
+#[inline(never)]
 pub fn put_spaces(
     tree: &mut Tree,
     alloc: Global,

@@ -65,6 +65,16 @@ fn first_declaration(alloc: Global, bytes: &[u8]) -> Result<Option<Declared>, Al
     if !bytes.starts_with(b"Axmlns") {
         return Ok(None);
     }
+    read_declaration(alloc, bytes)
+}
+
+/// What the first line declares, which is an attribute line.
+#[inline(never)]
+fn read_declaration(alloc: Global, bytes: &[u8]) -> Result<Option<Declared>, AllocError>
+    requires { begins_with 65 bytes.now ≡ true }
+    ensures { IfOk result (λ found. option_map binding found ≡ reading_binding
+        (reading (first_row bytes.now))) }
+{
     match next_line(alloc, bytes) {
         Ok(Some((line, _))) => line_declaration(alloc, &line),
         Ok(None) => Ok(None),

@@ -4,6 +4,7 @@ ghost use Rattle.std.specs.Prelude.{◌≡◌, [], ◌∷◌, ◌++◌, not, tru
 ghost use Rattle.std.specs.List.{list_any};
 ghost use Rattle.xs_build.specs.steps.Lines.{same_name};
 
+use crate::local_part::LocalPart;
 use indexmap::IndexSet;
 use std::alloc::{AllocError, Global};
 use std::marker::Model;
@@ -11,11 +12,11 @@ use xs_tree::NameText;
 
 /// A namespace URI, empty for none, and a local part (Namespaces in XML 1.0, 2.1).
 #[derive(Drop, Debug, PartialEq, Eq, Hash)]
-pub struct Expanded {
+pub struct Expanded<'a> {
     /// The namespace URI, empty for none.
     pub uri: NameText,
     /// The local part.
-    pub local: NameText,
+    pub local: LocalPart<'a>,
 }
 
 /// The most names that are compared one by one.
@@ -24,12 +25,12 @@ const FEW: usize = 8;
 /// The expanded names of a start tag's attributes and declarations, no two of them equal: the first
 /// few in a list, and others in a set.
 #[derive(Drop)]
-pub struct TagNames {
-    few: Vec<Expanded>,
-    others: IndexSet<Expanded>,
+pub struct TagNames<'a> {
+    few: Vec<Expanded<'a>>,
+    others: IndexSet<Expanded<'a>>,
 }
 
-impl Model for TagNames {
+impl<'a> Model for TagNames<'a> {
     ghost use Rattle.std.specs.Prelude.{List, ◌++◌};
     ghost use Rattle.xs_build.specs.declared.tag_names.Expanded.{Expanded};
 
@@ -38,9 +39,9 @@ impl Model for TagNames {
     ghost view = { λ t. t.few.items ++ t.others.keys };
 }
 
-impl TagNames {
+impl<'a> TagNames<'a> {
     /// No names.
-    pub fn new(alloc: Global) -> TagNames
+    pub fn new(alloc: Global) -> TagNames<'a>
         ensures { result ≡ [] }
     {
         TagNames {
@@ -50,9 +51,11 @@ impl TagNames {
     }
 
     /// Adds a name, and answers whether it was not there.
-    pub fn insert(&mut self, name: Expanded) -> Result<bool, AllocError>
-        ensures new { IfOk result (λ is_new. is_new ≡ not (list_any (same_name name) self.old)) }
-        ensures added { IfOk result (λ is_new. is_new ≡ true → self.new ≡ self.old ++ name ∷ []) }
+    pub fn insert(&mut self, name: Expanded<'a>) -> Result<bool, AllocError>
+        ensures new { IfOk result (λ is_new. is_new ≡ not (list_any (same_name name.entry)
+            self.old)) }
+        ensures added { IfOk result (λ is_new. is_new ≡ true → self.new ≡ self.old
+            ++ name.entry ∷ []) }
     {
         if self.few.contains(&name) {
             return Ok(false);
@@ -71,7 +74,7 @@ impl TagNames {
     {
         self.few.clear();
         if !self.others.is_empty() {
-            self.others = IndexSet::new(alloc);
+            let _many = std::mem::replace(&mut self.others, IndexSet::new(alloc));
         }
     }
 }

@@ -1,8 +1,10 @@
 -- Namespace nodes and attributes of literal elements.
-use Rattle.std.proofs.Common.{◌≡◌, ◌∙◌, ◌<◌, ℕ, ap, append_assoc, refl, All, Bool, true, false, List, [], ◌∷◌, ◌++◌, filter, length, map}
+use Rattle.std.proofs.Common.{◌≡◌, ◌∙◌, ◌<◌, ℕ, ap, append_assoc, refl, sym, All, arith, Bool, true, false, List, [], ◌∷◌, ◌++◌, filter, length, map}
 use Rattle.std.proofs.lemmas.Bool.{and_parts, false≢true}
 use Rattle.std.proofs.lemmas.List.Elements.{All-filter, filter_passes}
+use Rattle.std.proofs.lemmas.Slice.Eq.{bytes_eq-Decides}
 use Rattle.std.specs.Prelude.{◌&&◌, not, if◌then◌else◌}
+use Rattle.std.specs.Str.{bytes_eq}
 use Rattle.xs_compile.proofs.ShownLemmas.{places-within}
 use Rattle.xs_structure.proofs.TopLemmas.{is_place-true}
 use Rattle.xs_structure.proofs.StandingLemmas.{left_out_of_parent}
@@ -38,6 +40,32 @@ spaces-more {X} left_out pair s rest old new whole e so =
         ≡ old ++ map pair (if not b then s ∷ filter (λ s. not (left_out s)) rest else filter (λ s. not (left_out s)) rest)
     pushed true = refl
     pushed false = append_assoc old (pair s ∷ []) (map pair (filter (λ s. not (left_out s)) rest))
+
+-- the pair that comes next is that of the namespace node that does
+pub pair-next : {X : Type 0} (pair : ℕ → X) (s : ℕ) (behind all : List ℕ) (x : X) (rest others : List X) → rest ≡ map pair all → all ≡ s ∷ behind
+    → rest ≡ x ∷ others → (x ≡ pair s) × (others ≡ map pair behind)
+pair-next {X} pair s behind all x rest others h i r =
+    let e : x ∷ others ≡ pair s ∷ map pair behind = sym r ∙ h ∙ ap (map pair) i in
+    (cc, cc)
+
+-- where no pair is left no namespace node comes next
+pub pair-none : {X : Type 0} (pair : ℕ → X) (s : ℕ) (behind all : List ℕ) (rest : List X) → rest ≡ map pair all → all ≡ s ∷ behind
+    → length rest ≡ 0 → ⊥
+pair-none {X} pair s behind all rest h i r =
+    let e : rest ≡ pair s ∷ map pair behind = h ∙ ap (map pair) i in
+    let size = ap length e in
+    absurd (omega (arith, size, r))
+
+-- a pair is one of two texts
+abbrev Pair : Type 0
+Pair = List ℕ × List ℕ
+
+pub pair-is : (pair : Pair) (a u : List ℕ) → (bytes_eq pair.0 a && bytes_eq pair.1 u) ≡ true → ◌≡◌ {A = Pair} pair (a, u)
+pair-is pair a u h =
+    let both = and_parts (bytes_eq pair.0 a) (bytes_eq pair.1 u) h in
+    let before : List ℕ → Pair = λ x. (x, pair.1) in
+    let behind : List ℕ → Pair = λ y. (a, y) in
+    ap before ((bytes_eq-Decides pair.0 a).0 both.0) ∙ ap behind ((bytes_eq-Decides pair.1 u).0 both.1)
 
 -- an attribute that is put
 pub record IsPut (rs : List Record) (n a : ℕ) : Type 0 where

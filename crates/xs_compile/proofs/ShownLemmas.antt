@@ -11,7 +11,7 @@ use Rattle.xs_structure.proofs.TopLemmas.{is_place-true}
 use Rattle.xs_structure.specs.Places.{IsIn}
 use Rattle.xs_elements.specs.declared.rows.Row.{Row}
 use Rattle.xs_elements.specs.declared.rows.Row.TheVariants.{Other, NoElement}
-use Rattle.xs_elements.specs.Reading.{is_seen, shows}
+use Rattle.xs_elements.specs.Reading.{is_seen}
 use Rattle.xs_elements.specs.Rows.{is_document_element, is_sheet, is_stylesheet, is_top_level, row_named, row_of, xslt_uri}
 use Rattle.xs_modules.specs.Numbering.{ModuleData}
 use Rattle.xs_static.specs.Faults.{IsFirstFault, misplaced}

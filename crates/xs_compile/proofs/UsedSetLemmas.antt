@@ -230,7 +230,7 @@ module _ (s : Source) (trees : (m : ℕ) → m < length s.modules → IsTree (re
       → ((value : List ℕ) → o ≡ Some value → list_any (is_unbound_name (scope_at rs k)) (words value) ≡ false)
       → Covers (named_sets rs k) (labels_in (scope_at rs k) o)
   own-covers k o e bound =
-      subst (λ (v : Option (List ℕ)). Covers (option_map_or (names_in rs k) v []) (labels_in (scope_at rs k) o)) (sym e)
+      subst (λ (v : Option (List ℕ)). Covers (option_map_or (names_in (scope_at rs k)) v []) (labels_in (scope_at rs k) o)) (sym e)
       (value_covers (scope_at rs k) o bound)
 
   -- no prefix in the value of the attribute is unbound

@@ -1,13 +1,13 @@
 -- Which of several declarations counts.
-use Rattle.std.specs.Prelude.{ℕ, nat_lt, Bool, true, false, List, [], ◌∷◌, filter, Option, Some, None, if◌then◌else◌}
+use Rattle.std.specs.Prelude.{ℕ, nat_lt, Bool, false, List, [], ◌∷◌, filter, Option, Some, None, if◌then◌else◌}
 use Rattle.std.specs.List.{position}
 use Rattle.std.specs.Option.{option_and_then, option_map_or}
 use Rattle.xs_modules.specs.Numbering.{ModuleData}
 use Rattle.xs_elements.specs.declared.rows.Row.{Row}
 use Rattle.xs_elements.specs.Nodes.{Name}
 use Rattle.xs_elements.specs.Rows.{is_template, is_variable}
-use Rattle.xs_structure.specs.Modules.{Place, is_same_place, precedence_at, records_at}
-use Rattle.xs_structure.specs.Order.{is_template_place, declares, declarations, is_simplified}
+use Rattle.xs_structure.specs.Modules.{Place, is_same_place, precedence_at}
+use Rattle.xs_structure.specs.Order.{is_template_place, declares, declarations}
 use Rattle.xs_structure.specs.Parts.{name_at, row_at}
 
 -- Of these, in the order of the stylesheet, the one with the highest import precedence, and of several such the last (XSLT 1.0, 2.6.2;

@@ -1,9 +1,10 @@
 //! Parts of instructions that make elements and attributes, but for their content.
 
-ghost use Rattle.std.specs.Prelude.{◌≡◌, ◌<◌, ◌++◌, ◌∷◌, [], true, false, codes, length, IfOk};
-ghost use Rattle.std.specs.Prelude.{OnOk, filter, not, option_map, if◌then◌else◌};
+ghost use Rattle.std.specs.Prelude.{◌≡◌, ◌<◌, ◌&&◌, ◌++◌, ◌∷◌, [], true, false, codes, length};
+ghost use Rattle.std.specs.Prelude.{IfOk, IfSome, OnOk, filter, not, option_map, if◌then◌else◌};
 ghost use Rattle.std.specs.Arc.{arc_value};
 ghost use Rattle.std.specs.List.{AllZip};
+ghost use Rattle.std.specs.Str.{bytes_eq};
 ghost use Rattle.xs_compile.specs.Bodies.{IsLiteralStart, IsMadeName, IsPutAttribute};
 ghost use Rattle.xs_compile.specs.Bodies.{put_attributes};
 ghost use Rattle.xs_structure.specs.Excluded.{copied_spaces, is_left_out};
@@ -80,6 +81,47 @@ fn put_nodes(alloc: Global, tree: &Tree, n: Node) -> Result<Vec<Node>, AllocErro
     Ok(nodes)
 }
 
+/// The texts of a prefix and its URI, shared.
+fn shared(pair: &(TextBuf, TextBuf)) -> Result<(TextBuf, TextBuf), AllocError>
+    ensures { IfOk result (λ copy. copy ≡ pair.now) }
+{
+    Ok((pair.0.copy()?, pair.1.copy()?))
+}
+
+/// Whether a pair is of this prefix and this URI.
+fn is_pair(pair: &(TextBuf, TextBuf), prefix: &str, uri: &str) -> bool
+    ensures { result ≡ (bytes_eq pair.now.0 prefix.now && bytes_eq pair.now.1 uri.now) }
+{
+    pair.0.as_str() == prefix && pair.1.as_str() == uri
+}
+
+/// A scope's pair of this prefix and this URI, if it has that.
+fn pair_of<'s>(scope: &'s Scope, prefix: &str, uri: &str) -> Option<&'s (TextBuf, TextBuf)>
+    ensures { IfSome result (λ pair. pair.now ≡ (prefix.now, uri.now)) }
+{
+    for pair in &scope.pairs {
+        if is_pair(pair, prefix, uri) {
+            return Some(pair);
+        }
+    }
+    None
+}
+
+/// A prefix and a URI: the texts of a scope, where it has that pair.
+fn pair_in(
+    alloc: Global,
+    scope: &Scope,
+    prefix: &str,
+    uri: &str,
+) -> Result<(TextBuf, TextBuf), AllocError>
+    ensures { IfOk result (λ pair. pair ≡ (prefix.now, uri.now)) }
+{
+    match pair_of(scope, prefix, uri) {
+        Some(pair) => shared(pair),
+        None => Ok((TextBuf::of(alloc, prefix)?, TextBuf::of(alloc, uri)?)),
+    }
+}
+
 impl<'m> Compiler<'m> {
     /// A name that is made when the instruction runs (XSLT 1.0, 7.1.2 and 7.1.3).
     pub(crate) fn made_name(&self, number: u32, n: Node) -> Result<MadeName, AllocError>
@@ -104,8 +146,8 @@ impl<'m> Compiler<'m> {
     {
         let scope = self.scope(number, n)?;
         Ok(LiteralStart {
-            name: self.label(number, n)?,
-            spaces: Items::of(self.spaces(number, n)?),
+            name: self.element_label(number, n, &scope)?,
+            spaces: Items::of(self.spaces(number, n, &scope)?),
             sets: Items::of(self.literal_sets(number, n, &scope)?),
             attributes: Items::of(self.put_attributes(number, n, &scope)?),
         })
@@ -131,44 +173,73 @@ impl<'m> Compiler<'m> {
         }
     }
 
-    /// The name of an element or an attribute, with its prefix.
-    fn label(&self, number: u32, n: Node) -> Result<Label, AllocError>
+    /// The name of a literal element, with its prefix; the texts of its namespace are those of the
+    /// scope.
+    fn element_label(&self, number: u32, n: Node, scope: &Arc<Scope>) -> Result<Label, AllocError>
         requires at { IsIn (modules_of self.now) («number», n) }
         ensures { IfOk result (λ label. label
             ≡ own_label (records_at (modules_of self.now) «number») n) }
     {
         let tree = tree_of(self.modules, number);
-        let uri = TextBuf::of(self.alloc, tree.uri(n))?;
+        let (prefix, uri) = pair_in(self.alloc, scope, tree.prefix(n), tree.uri(n))?;
         let local = TextBuf::of(self.alloc, tree.local(n))?;
-        let prefix = TextBuf::of(self.alloc, tree.prefix(n))?;
         Label::of(self.alloc, uri, local, prefix)
     }
 
-    /// The namespace nodes of a literal element that are copied.
-    fn spaces(&self, number: u32, n: Node) -> Result<Vec<(TextBuf, TextBuf)>, AllocError>
+    /// The name of an attribute, with its prefix.
+    fn label(&self, number: u32, attribute: Node) -> Result<Label, AllocError>
+        requires at { IsIn (modules_of self.now) («number», attribute) }
+        ensures { IfOk result (λ label. label
+            ≡ own_label (records_at (modules_of self.now) «number») attribute) }
+    {
+        let tree = tree_of(self.modules, number);
+        let uri = TextBuf::of(self.alloc, tree.uri(attribute))?;
+        let local = TextBuf::of(self.alloc, tree.local(attribute))?;
+        let prefix = TextBuf::of(self.alloc, tree.prefix(attribute))?;
+        Label::of(self.alloc, uri, local, prefix)
+    }
+
+    /// The namespace nodes of a literal element that are copied, by their scope, which has a pair
+    /// for each of its namespace nodes.
+    fn spaces(
+        &self,
+        number: u32,
+        n: Node,
+        scope: &Arc<Scope>,
+    ) -> Result<Vec<(TextBuf, TextBuf)>, AllocError>
         requires ready { IsReady self.now («number», n) }
+        requires scope { IsScope (modules_of self.now) («number», n) (arc_value scope.now) }
         ensures { IfOk result (λ spaces. spaces.items
             ≡ copied_spaces (records_at (modules_of self.now) «number») n) }
     {
         let tree = tree_of(self.modules, number);
+        let mut rest = scope.pairs.as_slice();
         let mut spaces = Vec::new(self.alloc);
         for space in tree.namespaces(n) {
-            self.push_space(number, n, space, &mut spaces)?;
+            match rest.split_first() {
+                Some((pair, others)) => {
+                    self.push_space(number, n, space, pair, &mut spaces)?;
+                    rest = others;
+                }
+                None => unreachable!(),
+            }
         }
         Ok(spaces)
     }
 
-    /// Adds a namespace node of a literal element, unless it is left out.
+    /// Adds the pair of a namespace node of a literal element, unless it is left out.
     fn push_space(
         &self,
         number: u32,
         n: Node,
         space: Node,
+        pair: &(TextBuf, TextBuf),
         spaces: &mut Vec<(TextBuf, TextBuf)>,
     ) -> Result<(), AllocError>
         requires ready { IsReady self.now («number», n) }
         requires inside { space < length (records_at (modules_of self.now) «number») }
         requires space { is_namespace (records_at (modules_of self.now) «number») n space ≡ true }
+        requires pair { pair.now ≡ pair_at (records_at (modules_of self.now) «number») space }
         ensures { OnOk result (spaces.new.items
             ≡ (if is_left_out (records_at (modules_of self.now) «number») n
             (at (records_at (modules_of self.now) «number») space).text then spaces.old.items
@@ -178,20 +249,9 @@ impl<'m> Compiler<'m> {
         if self.standing(number, space).is_left_out {
             return Ok(());
         }
-        let pair = self.space_pair(number, space)?;
+        let pair = shared(pair)?;
         spaces.push(pair)?;
         Ok(())
-    }
-
-    /// The prefix and the URI of a namespace node.
-    fn space_pair(&self, number: u32, space: Node) -> Result<(TextBuf, TextBuf), AllocError>
-        requires at { IsIn (modules_of self.now) («number», space) }
-        ensures { IfOk result (λ pair. pair
-            ≡ pair_at (records_at (modules_of self.now) «number») space) }
-    {
-        let tree = tree_of(self.modules, number);
-        let prefix = TextBuf::of(self.alloc, tree.local(space))?;
-        Ok((prefix, TextBuf::of(self.alloc, tree.text(space))?))
     }
 
     /// The attributes of a literal element but for those of XSLT, each a value template (7.6.2).

@@ -1,5 +1,5 @@
 -- The answer that is due, by what was read of the files of a run.
-use Rattle.std.proofs.Common.{◌≡◌, ◌∙◌, refl, ap, ℕ, List, [], ◌∷◌, ◌++◌, Option, Some, None, Result, Ok, Err, IfOk, Bool, true, false, length, drop, sym, subst, arith, append-nil, length-append}
+use Rattle.std.proofs.Common.{◌≡◌, ◌∙◌, refl, ap, ℕ, List, [], ◌∷◌, ◌++◌, Option, Some, None, Result, IfOk, length, drop, sym, subst, arith, append-nil, length-append}
 use Rattle.std.proofs.Math.Seq.{drop-append_seam}
 use Rattle.xs_outside.specs.Edge.{Files}
 use Rattle.xs_tree.specs.Record.{Record}
@@ -13,8 +13,9 @@ use Rattle.xs_modules.proofs.OneReadingLemmas.{one_reading}
 use Rattle.xs_static.specs.declared.fault.StaticFault.{StaticFault}
 use Rattle.xs_static.specs.Faults.{IsFirstFault}
 use Rattle.xs_engine.specs.declared.reply.Reply.{Reply}
-use Rattle.xs_engine.specs.Answer.{Answer, usage, read_fault, refused_file}
-use Rattle.xs_engine.specs.Job.{Job, Request, inputs_on, plain}
+use Rattle.xs_engine.specs.Answer.{Answer, read_fault, refused_file, usage}
+use Rattle.xs_engine.specs.Job.{Job, Request, inputs_on}
+use Rattle.xs_engine.specs.Made.{files_of, made_files}
 use Rattle.xs_engine.specs.Read.{Read, read, bad}
 use Rattle.xs_compile.proofs.OneSheetLemmas.{one_sheet}
 use Rattle.xs_compile.specs.StandsFor.{StandsFor}
@@ -26,8 +27,9 @@ use Rattle.xs_engine.specs.Due.{IsFile, IsReadAnswer, IsBytesAnswer, IsInputsAns
 use Rattle.xs_engine.specs.Due.{IsAnswer, IsRunAnswer, Owed, fault, own, IsDue}
 use Rattle.xs_engine.proofs.FirstFaultLemmas.{one_fault}
 use Rattle.xs_engine.proofs.OneAnswerLemmas.{one-evaluated}
+use Rattle.xs_engine.proofs.ReplyLemmas.{plain_reply, replies_so, reply_is}
 use Rattle.xs_engine.specs.Headline.{OnlyDue, WhereKnown, files_for}
-use Rattle.xs_engine.specs.Reply.{FileGives, IsCheckAnswer, IsChecked, reply_of}
+use Rattle.xs_engine.specs.Reply.{FileGives, IsCheckAnswer, IsChecked, Replies, reply_of}
 use Rattle.xs_words.specs.Choice.{Pair}
 
 -- what follows of an answer that is owed
@@ -42,15 +44,14 @@ owed_behind : (P : Answer → Type 0) (failed middle failed' : List (List ℕ)) 
 owed_behind P failed middle failed' a e owed = subst (λ f. Owed P f failed' a) (e ∙ append-nil failed) owed
 
 -- a reply whose answer is owed
-reply_owed : {E : Type 0} (r : Result Reply E) (P : Answer → Type 0) (failed failed' : List (List ℕ)) (a : Answer) → Owed P failed failed' a
-    → IfOk r (λ reply. reply_of reply ≡ a) → IfOk r (λ reply. Owed P failed failed' (reply_of reply))
-reply_owed (Err e) P failed failed' a owed is = tt
-reply_owed (Ok reply) P failed failed' a owed is = subst (Owed P failed failed') (sym is) owed
+reply_owed : {E : Type 0} (r : Result Reply E) (N : Type 0) (P : Answer → Type 0) (failed failed' : List (List ℕ)) (a : Answer) → Owed P failed failed' a
+    → IfOk r (λ reply. reply_of reply ≡ a) → IfOk r (Replies N (Owed P failed failed'))
+reply_owed r N P failed failed' a owed is = reply_is r N (Owed P failed failed') a owed is
 
 -- a fetch failed
-pub fault_owed : {E : Type 0} (r : Result Reply E) (P : Answer → Type 0) (failed failed' : List (List ℕ)) (name : List ℕ)
-    → failed' ≡ failed ++ name ∷ [] → IfOk r (λ reply. reply_of reply ≡ read_fault name) → IfOk r (λ reply. Owed P failed failed' (reply_of reply))
-fault_owed r P failed failed' name grew is = reply_owed r P failed failed' (read_fault name) (fault name grew refl) is
+pub fault_owed : {E : Type 0} (r : Result Reply E) (N : Type 0) (P : Answer → Type 0) (failed failed' : List (List ℕ)) (name : List ℕ)
+    → failed' ≡ failed ++ name ∷ [] → IfOk r (λ reply. reply_of reply ≡ read_fault name) → IfOk r (Replies N (Owed P failed failed'))
+fault_owed r N P failed failed' name grew is = reply_owed r N P failed failed' (read_fault name) (fault name grew refl) is
 
 -- the bytes of a file
 file : (files : Option Files) (name : List ℕ) → (bytes : Option (List ℕ)) × IsFile files name bytes
@@ -76,25 +77,24 @@ read_answer files job sheet source name found a same given is =
 
 module _ (files : Option Files) (job : Job) (sheet : Sheet) (source : List ℕ) (failed failed' : List (List ℕ)) where
   abbrev pub Owes : Answer → Type 0
-  Owes answer = Owed (IsSheetAnswer files job sheet (inputs_on job source)) failed failed' answer
+  Owes = Owed (IsSheetAnswer files job sheet (inputs_on job source)) failed failed'
 
   -- the source is no document
-  pub refused_owed : {E : Type 0} (r : Result Reply E) (number line : ℕ) (name : List ℕ) → name ≡ source → failed' ≡ failed
+  pub refused_owed : {E : Type 0} (r : Result Reply E) (N : Type 0) (number line : ℕ) (name : List ℕ) → name ≡ source → failed' ≡ failed
       → FileGives source_of files name (bad number line) → IfOk r (λ reply. reply_of reply ≡ refused_file number source line)
-      → IfOk r (λ reply. Owes (reply_of reply))
-  refused_owed r number line name same stays given is =
-      reply_owed r (IsSheetAnswer files job sheet (inputs_on job source)) failed failed' (refused_file number source line)
+      → IfOk r (Replies N Owes)
+  refused_owed r N number line name same stays given is =
+      reply_owed r N (IsSheetAnswer files job sheet (inputs_on job source)) failed failed' (refused_file number source line)
       (own stays (read_answer files job sheet source name (bad number line) (refused_file number source line) same given refl)) is
 
   -- it is read, it is the only input, and the stylesheet is evaluated from it
-  pub evaluated_owed : {E : Type 0} (r : Result Reply E) (records : List Record) (name : List ℕ) → job.documents ≡ [] → name ≡ source
+  pub evaluated_owed : {E : Type 0} (r : Result Reply E) (N W : Type 0) (records : List Record) (name : List ℕ) → W → job.documents ≡ [] → name ≡ source
       → failed' ≡ failed → FileGives source_of files name (read records)
-      → IfOk r (λ reply. IsEvaluatedOver job sheet (named_document [] records ∷ []) (reply_of reply)) → IfOk r (λ reply. Owes (reply_of reply))
-  evaluated_owed (Err e) records name none same stays given is = tt
-  evaluated_owed (Ok reply) records name none same stays given is =
-      let all : IsInputsAnswer files job sheet job.documents (named_document [] records ∷ []) (reply_of reply) =
-      subst (λ left. IsInputsAnswer files job sheet left (named_document [] records ∷ []) (reply_of reply)) (sym none) is in
-      own stays (read_answer files job sheet source name (read records) (reply_of reply) same given all)
+      → IfOk r (Replies (N × W) (IsEvaluatedOver job sheet (named_document [] records ∷ []))) → IfOk r (Replies N Owes)
+  evaluated_owed r N W records name well none same stays given is =
+      replies_so r (N × W) N (IsEvaluatedOver job sheet (named_document [] records ∷ [])) Owes (λ named. (named, well))
+      (λ a over. own stays (read_answer files job sheet source name (read records) a same given
+      (subst (λ left. IsInputsAnswer files job sheet left (named_document [] records ∷ []) a) (sym none) over))) is
 
 -- a stylesheet that is only checked
 checked_answer : (files : Option Files) (job : Job) (modules : List ModuleData) (a : Answer) → job.source ≡ None → (f : Option StaticFault)
@@ -103,72 +103,94 @@ checked_answer files job modules a none None is = subst (λ s. IsFaultlessAnswer
 checked_answer files job modules a none (Some f) is = is
 
 module _ (files : Option Files) (job : Job) (modules : List ModuleData) (failed failed' : List (List ℕ)) where
+  abbrev pub OwesModules : Answer → Type 0
+  OwesModules = Owed (IsModulesAnswer files job modules) failed failed'
+
   -- a static fault
   pub static_owed : {E : Type 0} (r : Result Reply E) (f : StaticFault) → failed' ≡ failed → IsFirstFault modules (Some f)
       → IfOk r (λ reply. reply_of reply ≡ refused_file f.number (module_name modules f.«module») f.line)
-      → IfOk r (λ reply. Owed (IsModulesAnswer files job modules) failed failed' (reply_of reply))
+      → IfOk r (Replies (Unit {0}) OwesModules)
   static_owed r f stays first same =
-      reply_owed r (IsModulesAnswer files job modules) failed failed' (refused_file f.number (module_name modules f.«module») f.line)
+      reply_owed r (Unit {0}) (IsModulesAnswer files job modules) failed failed' (refused_file f.number (module_name modules f.«module») f.line)
       (own stays (record { fault = Some f; first = first; answers = refl })) same
 
   -- the stylesheet is only checked
   pub checked_owed : {E : Type 0} (r : Result Reply E) → job.source ≡ None → failed' ≡ failed
-      → IfOk r (λ reply. IsChecked modules (reply_of reply))
-      → IfOk r (λ reply. Owed (IsModulesAnswer files job modules) failed failed' (reply_of reply))
-  checked_owed (Err e) none stays is = tt
-  checked_owed (Ok reply) none stays is =
-      own stays (record { fault = is.fault; first = is.first; answers = checked_answer files job modules (reply_of reply) none is.fault is.answers })
+      → IfOk r (λ reply. IsChecked modules (reply_of reply)) → IfOk r (Replies (Unit {0}) OwesModules)
+  checked_owed r none stays is =
+      plain_reply r (Unit {0}) (IsChecked modules) OwesModules
+      (λ a h. own stays (record { fault = h.fault; first = h.first; answers = checked_answer files job modules a none h.fault h.answers })) is
 
   -- a run of a compiled stylesheet that stands for them
-  pub run_owed : {E : Type 0} (r : Result Reply E) (sheet : Sheet) (source : List ℕ) → job.source ≡ Some source → IsFirstFault modules None
-      → StandsFor modules sheet
-      → IfOk r (λ reply. Owed (IsSheetAnswer files job sheet (inputs_on job source)) failed failed' (reply_of reply))
-      → IfOk r (λ reply. Owed (IsModulesAnswer files job modules) failed failed' (reply_of reply))
-  run_owed (Err e) sheet source run first stands owed = tt
-  run_owed (Ok reply) sheet source run first stands owed =
-      owed_same (IsSheetAnswer files job sheet (inputs_on job source)) (IsModulesAnswer files job modules) failed failed' (reply_of reply)
-      (λ a is. record {
+  pub run_owed : {E : Type 0} (r : Result Reply E) (N : Type 0) (sheet : Sheet) (source : List ℕ) → N → job.source ≡ Some source
+      → IsFirstFault modules None → StandsFor modules sheet
+      → IfOk r (Replies N (Owed (IsSheetAnswer files job sheet (inputs_on job source)) failed failed')) → IfOk r (Replies (Unit {0}) OwesModules)
+  run_owed r N sheet source named run first stands owed =
+      replies_so r N (Unit {0}) (Owed (IsSheetAnswer files job sheet (inputs_on job source)) failed failed') OwesModules (λ _. named)
+      (λ b is. owed_same (IsSheetAnswer files job sheet (inputs_on job source)) (IsModulesAnswer files job modules) failed failed' b
+      (λ a over. record {
         fault = None;
         first = first;
-        answers = subst (λ s. IsFaultlessAnswer s files job modules a) (sym run) (record { sheet = sheet; stands = stands; answers = is });
-      }) owed
+        answers = subst (λ s. IsFaultlessAnswer s files job modules a) (sym run) (record { sheet = sheet; stands = stands; answers = over });
+      }) is) owed
 
 -- a module is refused
 pub module_owed : {E : Type 0} (r : Result Reply E) (files : Option Files) (job : Job) (number line : ℕ) (name : List ℕ)
     (asked asked' failed failed' : List (List ℕ)) → ComesTo (refused number name line) files [] 0 (named_by_words job.sheet ∷ []) asked asked' failed failed'
-    → IfOk r (λ reply. reply_of reply ≡ refused_file number name line) → IfOk r (λ reply. Owed (IsAnswer files job) failed failed' (reply_of reply))
+    → IfOk r (λ reply. reply_of reply ≡ refused_file number name line) → IfOk r (Replies (Unit {0}) (Owed (IsAnswer files job) failed failed'))
 module_owed r files job number line name asked asked' failed failed' comes is =
-    reply_owed r (IsAnswer files job) failed failed' (refused_file number name line)
+    reply_owed r (Unit {0}) (IsAnswer files job) failed failed' (refused_file number name line)
     (own (comes.fails ∙ append-nil failed)
     (record { names = comes.names; end = refused number name line; reads = comes.reads; answers = refl })) is
 
 -- the modules were read, and the answer is that over them
 pub modules_owed : {E : Type 0} (r : Result Reply E) (files : Option Files) (job : Job) (found : Mentioned) (modules : List ModuleData)
     (asked middle failed failing failed' : List (List ℕ)) → ComesTo (whole found) files [] 0 (named_by_words job.sheet ∷ []) asked middle failed failing
-    → modules ≡ numbered found → IfOk r (λ reply. Owed (IsModulesAnswer files job modules) failing failed' (reply_of reply))
-    → IfOk r (λ reply. Owed (IsAnswer files job) failed failed' (reply_of reply))
-modules_owed (Err e) files job found modules asked middle failed failing failed' comes are owed = tt
-modules_owed (Ok reply) files job found modules asked middle failed failing failed' comes are owed =
-    owed_behind (IsAnswer files job) failed failing failed' (reply_of reply) comes.fails
-    (owed_same (IsModulesAnswer files job modules) (IsAnswer files job) failing failed' (reply_of reply) (λ b over.
-    record { names = comes.names; end = whole found; reads = comes.reads; answers = subst (λ ms. IsModulesAnswer files job ms b) are over }) owed)
-
--- the words are refused
-pub usage_owed : {E : Type 0} (r : Result Reply E) (files : Option Files) (request : Option Request) (failed : List (List ℕ)) → request ≡ None
-    → IfOk r (λ reply. reply_of reply ≡ usage) → IfOk r (λ reply. IsDue files request failed failed (reply_of reply))
-usage_owed (Err e) files request failed none is = tt
-usage_owed (Ok reply) files request failed none is = subst (λ q. IsDue files q failed failed (reply_of reply)) (sym none) (refl, is)
-
--- the words ask for this job
-pub job_owed : {E : Type 0} (r : Result Reply E) (files : Option Files) (request : Option Request) (job : Job) (failed failed' : List (List ℕ))
-    → request ≡ Some (plain job) → IfOk r (λ reply. Owed (IsAnswer files job) failed failed' (reply_of reply))
-    → IfOk r (λ reply. IsDue files request failed failed' (reply_of reply))
-job_owed (Err e) files request job failed failed' is owed = tt
-job_owed (Ok reply) files request job failed failed' is owed = subst (λ q. IsDue files q failed failed' (reply_of reply)) (sym is) owed
+    → modules ≡ numbered found → IfOk r (Replies (Unit {0}) (Owed (IsModulesAnswer files job modules) failing failed'))
+    → IfOk r (Replies (Unit {0}) (Owed (IsAnswer files job) failed failed'))
+modules_owed r files job found modules asked middle failed failing failed' comes are owed =
+    replies_so r (Unit {0}) (Unit {0}) (Owed (IsModulesAnswer files job modules) failing failed') (Owed (IsAnswer files job) failed failed') (λ n. n)
+    (λ a is. owed_behind (IsAnswer files job) failed failing failed' a comes.fails
+    (owed_same (IsModulesAnswer files job modules) (IsAnswer files job) failing failed' a (λ b over.
+    record { names = comes.names; end = whole found; reads = comes.reads; answers = subst (λ ms. IsModulesAnswer files job ms b) are over }) is)) owed
 
 -- one name was added, and none
 pub not_both : (xs ys : List (List ℕ)) (name : List ℕ) → ys ≡ xs ++ name ∷ [] → ys ≡ xs → ⊥
 not_both xs ys name grew stays = omega (arith, ap length (sym stays ∙ grew), length-append xs (name ∷ []))
+
+-- the words are refused
+pub usage_owed : {E : Type 0} (r : Result Reply E) (N : Type 0) (files : Option Files) (request : Option Request) (failed : List (List ℕ))
+    → request ≡ None → IfOk r (λ reply. reply_of reply ≡ usage) → IfOk r (Replies N (IsDue files request failed failed))
+usage_owed r N files request failed none is =
+    reply_is r N (IsDue files request failed failed) usage (subst (λ q. IsDue files q failed failed usage) (sym none) (refl, refl)) is
+
+-- they ask for a job, over the files of the library
+pub job_owed : {E : Type 0} (r : Result Reply E) (N : Type 0) (files : Option Files) (request : Option Request) (q : Request)
+    (failed failed' : List (List ℕ)) → request ≡ Some q → q.made ≡ None → IfOk r (Replies N (Owed (IsAnswer files q.job) failed failed'))
+    → IfOk r (Replies N (IsDue files request failed failed'))
+job_owed r N files request q failed failed' is none owed =
+    replies_so r N N (Owed (IsAnswer files q.job) failed failed') (IsDue files request failed failed') (λ n. n)
+    (λ a own_or_fault. subst (λ x. IsDue files x failed failed' a) (sym is)
+    (subst (λ made. Owed (IsAnswer (files_of made files) q.job) failed failed' a) (sym none) own_or_fault)) owed
+
+-- or over files that are made, of which none fails
+pub load_owed : {E : Type 0} (r : Result Reply E) (N : Type 0) (files : Option Files) (request : Option Request) (q : Request) (count : ℕ)
+    (failed : List (List ℕ)) → request ≡ Some q → q.made ≡ Some count → IfOk r (Replies N (IsAnswer (Some (made_files count)) q.job))
+    → IfOk r (Replies N (IsDue files request failed failed))
+load_owed r N files request q count failed is made over =
+    replies_so r N N (IsAnswer (Some (made_files count)) q.job) (IsDue files request failed failed) (λ n. n)
+    (λ a answer. subst (λ x. IsDue files x failed failed a) (sym is)
+    (own refl (subst (λ m. IsAnswer (files_of m files) q.job a) (sym made) answer))) over
+
+own_only : (P : Answer → Type 0) (failed : List (List ℕ)) (a : Answer) → Owed P failed failed a → P a
+own_only P failed a (fault name grew is) = absurd (not_both failed failed name grew refl)
+own_only P failed a (own stays p) = p
+
+pub made_owed : {E : Type 0} (r : Result Reply E) (N : Type 0) (files made : Option Files) (job : Job) (failed : List (List ℕ)) → files ≡ made
+    → IfOk r (Replies N (Owed (IsAnswer files job) failed failed)) → IfOk r (Replies N (IsAnswer made job))
+made_owed r N files made job failed is owed =
+    replies_so r N N (Owed (IsAnswer files job) failed failed) (IsAnswer made job) (λ n. n)
+    (λ a o. subst (λ f. IsAnswer f job a) is (own_only (IsAnswer files job) failed a o)) owed
 
 -- one name, added twice
 first_name : List ℕ → List (List ℕ) → List ℕ

@@ -1,5 +1,5 @@
 -- What a run asked for, by the answers of its readings.
-use Rattle.std.proofs.Common.{◌≡◌, ◌∙◌, ap, sym, ℕ, List, [], ◌∷◌, ◌++◌, Option, Some, None, Result, Ok, Err, true, inl, inr, append-nil, append_assoc, subst, refl}
+use Rattle.std.proofs.Common.{◌≡◌, ◌∙◌, ap, sym, ℕ, List, [], ◌∷◌, ◌++◌, Option, Some, None, Result, Ok, Err, inl, inr, append-nil, append_assoc, subst, refl}
 use Rattle.xs_outside.specs.Edge.{Files, failed_after}
 use Rattle.xs_outside.specs.declared.edge.FetchEnd.{FetchEnd}
 use Rattle.xs_outside.specs.declared.edge.FetchEnd.TheVariants.{Failed, NoMemory}
@@ -11,8 +11,6 @@ use Rattle.xs_modules.specs.Results.{ComesTo}
 use Rattle.xs_static.specs.Faults.{IsFirstFault}
 use Rattle.xs_engine.specs.Inputs.{last, failed}
 use Rattle.xs_engine.specs.Job.{Job, Request, plain}
-use Rattle.xs_compile.specs.StandsFor.{StandsFor}
-use Rattle.xs_sheet.specs.declared.sheet.Sheet.{Sheet}
 use Rattle.xs_engine.specs.Fetches.{ReadsSheet, sheet_asked, inputs_asked, Grew, JobFetches, FetchesOver, Fetches, GoesOn}
 use Rattle.xs_engine.specs.Reply.{AsksFor, AsksSource, GoesTo, unasked, asked_for}
 

@@ -1,12 +1,16 @@
 -- What the report and the sinks of a run gain.
 use Rattle.std.proofs.Common.{◌≡◌, ◌≢◌, ℕ, ◌⊎◌, Bool, List, [], length, Option, Some, None, refl, sym, ap, ◌∙◌, subst, inl, inr, append-nil, arith}
 use Rattle.xs_outside.specs.Edge.{Files}
+use Rattle.xs_engine.specs.declared.reply.Reply.{Reply}
 use Rattle.xs_engine.specs.declared.status.TheConstants.{NO_MEMORY, OK, WRITE_FAULT}
 use Rattle.xs_engine.specs.Answer.{Answer, Place}
 use Rattle.xs_engine.specs.Job.{Request}
 use Rattle.xs_engine.specs.Headline.{Account, AreClaimed, AreSome, AtOnce, Gained, Gives, IsCutShort, IsWritten, OneFault, OnlyDue, Writes, claimed_places, none}
 use Rattle.xs_engine.specs.Due.{IsDue}
+use Rattle.xs_engine.specs.ReadBack.{ReadsAs}
+use Rattle.xs_engine.specs.Reply.{answer_of, reply_of}
 use Rattle.xs_engine.proofs.DueLemmas.{each_due, only_due}
+use Rattle.xs_trace.specs.declared.event.Event.{Event}
 use Rattle.xs_trace.specs.declared.place.Claim.{Claim}
 
 -- a sink that was not written to holds what it held, and nothing more
@@ -32,18 +36,20 @@ claimed a account p u = record {
 }
 
 module _ (streamed : Bool) (account : Account) (out out' err err' : Option (List ℕ)) where
-  -- what was written of an answer, with this account
-  pub gives : (a : Answer) (ended : ℕ) → account.status ≡ ended → account.ticks ≡ a.ticks → account.fault ≡ a.fault → a.places ≡ []
-      → (account.pieces ≡ 0) × (account.inline ≡ 0) × (account.claims ≡ []) → Writes a ended out out' err err'
-      → Gives streamed a account out out' err err'
-  gives a ended e t f p u w = record {
-    status = subst (λ s. (s ≡ a.status) ⊎ IsCutShort s) (sym e) w.status;
-    result = subst (λ s. Gained out out' (IsWritten a.result s)) (sym e) w.result;
-    lines = subst (λ s. Gained err err' (IsWritten a.lines s)) (sym e) w.lines;
+  -- what was written of a reply, with this account
+  pub gives : (reply : Reply) (document : Option (List Event)) (ended : ℕ) → account.status ≡ ended → account.ticks ≡ reply.ticks
+      → account.fault ≡ reply.fault → (account.pieces ≡ 0) × (account.inline ≡ 0) × (account.claims ≡ [])
+      → Writes (reply_of reply) ended out out' err err' → ReadsAs document reply.result.items
+      → Gives streamed (answer_of reply document) account out out' err err'
+  gives reply document ended e t f u w reads = record {
+    status = subst (λ s. (s ≡ reply.status) ⊎ IsCutShort s) (sym e) w.status;
+    result = subst (λ s. Gained out out' (IsWritten reply.result.items s)) (sym e) w.result;
+    lines = subst (λ s. Gained err err' (IsWritten reply.lines.items s)) (sym e) w.lines;
     lines_first = λ _. w.lines_first;
     ticks = λ _. t;
     fault = λ _. f;
-    pieces = λ _. claimed a account p u;
+    pieces = λ _. claimed (answer_of reply document) account refl u;
+    document = λ _. reads;
   }
 
 -- out of memory nothing is written
@@ -57,6 +63,7 @@ nothing_given streamed answer account out err e = record {
   ticks = λ other. absurd (other e);
   fault = λ other. absurd (other e);
   pieces = λ other. absurd (other e);
+  document = λ other. absurd (other e);
 }
 
 -- and so it is whatever is due

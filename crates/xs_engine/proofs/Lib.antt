@@ -12,5 +12,6 @@ pub mod OneOrderLemmas
 pub mod OneSettlingLemmas
 pub mod ReadBackLemmas
 pub mod RefusalLemmas
+pub mod ReplyLemmas
 pub mod SheetLemmas
 pub mod StripLemmas

@@ -1,5 +1,5 @@
 -- A compiled stylesheet makes one answer of a source, by whichever index its rules are found.
-use Rattle.std.proofs.Common.{◌≡◌, ℕ, ◌-◌, List, [], Bool, true, false, sym, ap, subst, ◌∙◌}
+use Rattle.std.proofs.Common.{◌≡◌, ℕ, ◌-◌, List, Bool, true, false, sym, ap, subst, ◌∙◌}
 use Rattle.std.proofs.lemmas.Bool.{true≢false}
 use Rattle.xs_rules.specs.WhiteSpace.{stripped}
 use Rattle.xs_semantics.specs.declared.index.SheetIndex.{SheetIndex}

@@ -26,13 +26,13 @@ use Rattle.xs_engine.specs.Due.{IsAnswer, IsBytesAnswer, IsDue, IsEndAnswer, IsF
 use Rattle.xs_engine.specs.Due.{IsRunAnswer, IsStaticAnswer, Owed, fault, own}
 use Rattle.xs_engine.specs.Evaluation as run
 use Rattle.xs_engine.specs.Evaluation.{IsEvaluated, IsEvaluatedOver, in_globals, in_root}
-use Rattle.xs_engine.specs.Fetches.{GoesOn, ReadsSheet}
+use Rattle.xs_engine.specs.Fetches.{ReadsSheet}
 use Rattle.xs_engine.specs.Headline.{IsCutShort}
 use Rattle.xs_engine.specs.Inputs.{Document, IsDocument, named_document}
 use Rattle.xs_engine.specs.Job.{Job, Request, file_of, files_on, inputs_on}
 use Rattle.xs_engine.specs.Made.{files_of}
 use Rattle.xs_engine.specs.Read.{Read, read, bad}
-use Rattle.xs_engine.specs.Refusals.{AreDocuments, Decides, HasFault, IsDecided, IsDecidedBy, IsEnd, IsFaultless, IsFirstBad, IsListed, IsRefused}
+use Rattle.xs_engine.specs.Refusals.{AreDocuments, Decides, IsDecided, IsDecidedBy, IsEnd, IsFaultless, IsFirstBad, IsListed, IsRefused}
 use Rattle.xs_engine.specs.Refusals.{module_refused, stylesheet_refused, input_refused}
 use Rattle.xs_engine.specs.Run.{module_name, source_of}
 use Rattle.xs_engine.proofs.DueLemmas.{not_both, own_end}

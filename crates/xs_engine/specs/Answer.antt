@@ -21,8 +21,9 @@ use Rattle.xs_engine.specs.Faults.{fault_name, run_fault_name}
 abbrev pub Place : Type 0
 Place = List ℕ
 
--- its status, the bytes of the result, the bytes of the lines for the user, the fault that ended it, the ticks that it spent, and the
--- places of its pieces, in order; none where it does not come to pieces
+-- its status, the bytes of the result, the bytes of the lines for the user, the fault that ended it, the ticks that it spent, the
+-- places of its pieces in order (none where it does not come to pieces), and, where the result is the lines of a document, the events
+-- of that
 pub record Answer : Type 0 where
   pub status : ℕ
   pub result : List ℕ
@@ -30,6 +31,7 @@ pub record Answer : Type 0 where
   pub fault : Option ReportedFault
   pub ticks : ℕ
   pub places : List Place
+  pub document : Option (List Event)
 
 -- the line that refuses the words
 abbrev pub usage_line : List ℕ
@@ -56,7 +58,7 @@ message_line text = codes "message " ++ escaped text ++ 10 ∷ []
 
 -- the words are refused
 abbrev pub usage : Answer
-usage = record { status = USAGE; result = []; lines = usage_line; fault = None; ticks = 0; places = [] }
+usage = record { status = USAGE; result = []; lines = usage_line; fault = None; ticks = 0; places = []; document = None }
 
 -- a name could not be read
 abbrev pub read_fault : List ℕ → Answer
@@ -67,6 +69,7 @@ read_fault name = record {
   fault = Some (reported UNREADABLE name 0);
   ticks = 0;
   places = [];
+  document = None;
 }
 
 -- a file is refused: it has this fault at this line
@@ -78,11 +81,12 @@ refused_file fault name line = record {
   fault = Some (reported fault name line);
   ticks = 0;
   places = [];
+  document = None;
 }
 
 -- a stylesheet that was only checked has no fault
 abbrev pub faultless : Answer
-faultless = record { status = OK; result = []; lines = []; fault = None; ticks = 0; places = [] }
+faultless = record { status = OK; result = []; lines = []; fault = None; ticks = 0; places = []; document = None }
 
 -- the lines of all messages, in order
 abbrev pub message_lines : List (List ℕ) → List ℕ
@@ -94,6 +98,11 @@ abbrev pub result_of : Method → List Event → List ℕ
 result_of Pyx events = pyx events
 result_of Text events = text_in (built events)
 
+-- the events that stay, where the result is the lines of a document
+abbrev pub document_of : Method → List Event → Option (List Event)
+document_of Pyx events = Some (built events)
+document_of Text events = None
+
 -- The evaluation came to its end: the result is that of these events.
 abbrev pub whole_answer : Method → (says : List (List ℕ)) → List Event → (ticks : ℕ) → Answer
 whole_answer method says events ticks = record {
@@ -103,6 +112,7 @@ whole_answer method says events ticks = record {
   fault = None;
   ticks = ticks;
   places = [];
+  document = document_of method events;
 }
 
 -- the name of the module of this number
@@ -119,4 +129,5 @@ stopped_answer names spot says ticks = record {
   fault = Some (reported (fault_number spot.fault) (name_in names spot.«module») spot.line);
   ticks = ticks;
   places = [];
+  document = None;
 }

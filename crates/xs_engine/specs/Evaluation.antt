@@ -1,5 +1,5 @@
 -- What a compiled stylesheet makes of a source, cut at the limits of a job.
-use Rattle.std.specs.Prelude.{◌≡◌, ℕ, ◌+◌, ◌-◌, List, [], ◌++◌}
+use Rattle.std.specs.Prelude.{◌≡◌, ℕ, ◌+◌, ◌-◌, List, ◌++◌}
 use Rattle.xs_semantics.specs.Globals.{SettlesAll, Table, ended, settled, with_globals}
 use Rattle.xs_semantics.specs.Tasks.{Task}
 use Rattle.xs_semantics.specs.Trace.{root_task, task_trace}

@@ -1,5 +1,5 @@
 -- What a run asks its library for.
-use Rattle.std.specs.Prelude.{◌≡◌, ℕ, true, List, [], ◌∷◌, ◌++◌, Option, Some, None}
+use Rattle.std.specs.Prelude.{◌≡◌, ℕ, List, [], ◌∷◌, ◌++◌, Option, Some, None}
 use Rattle.xs_outside.specs.Edge.{Files}
 use Rattle.xs_modules.specs.Mentions.{named_by_words}
 use Rattle.xs_modules.specs.Mentioned.{Mentioned}

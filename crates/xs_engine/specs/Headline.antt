@@ -7,6 +7,7 @@ use Rattle.xs_engine.specs.Answer.{Answer, Place}
 use Rattle.xs_engine.specs.Due.{IsDue}
 use Rattle.xs_engine.specs.Job.{Request}
 use Rattle.xs_engine.specs.Made.{files_of}
+use Rattle.xs_engine.specs.ReadBack.{ReadsBack}
 use Rattle.xs_trace.specs.declared.place.Claim.{Claim}
 
 -- P of an answer that is due. Where the library tells its files there is one alone (`OnlyDue`); where it tells none, these are some
@@ -94,6 +95,8 @@ pub record Gives (streamed : Bool) (due : Answer) (account : Account) (out out_a
   pub fault : account.status ≢ NO_MEMORY → account.fault ≡ due.fault
   -- and the claims are of the pieces that are due
   pub pieces : account.status ≢ NO_MEMORY → AreClaimed due account
+  -- and the lines of its result read back as the document that this very run put
+  pub document : account.status ≢ NO_MEMORY → ReadsBack due
 
 -- only these statuses come with ticks
 abbrev pub HasTicks : ℕ → Type 0

@@ -50,18 +50,12 @@ abbrev pub has_none : List Pair → Bool
 has_none [] = true
 has_none (pair ∷ pairs) = false
 
--- the files are those of the library
-abbrev pub makes_none : Work → Bool
-makes_none (files sheet source texts) = true
-makes_none (check sheet) = true
-makes_none (load count) = false
-
 -- Nothing is asked for that is not supported: no ticks and pieces are reported, no profile and no place of a tick, the result is not
--- streamed, there are no further documents, and no files are made.
+-- streamed, and there are no further documents.
 abbrev pub is_supported : Choice → Bool
 is_supported choice =
     not (choice.stats || (choice.profile || choice.stream))
-    && (is_none choice.at && (has_none choice.documents && makes_none choice.job))
+    && (is_none choice.at && has_none choice.documents)
 
 -- a stylesheet on a source
 abbrev pub source_job : Choice → (sheet source : List ℕ) → List Pair → Job

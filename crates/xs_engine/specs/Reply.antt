@@ -1,5 +1,5 @@
 -- A reply as an answer, a job and a stylesheet as the code has them, and what the reading of a source gives.
-use Rattle.std.specs.Prelude.{◌≡◌, ◌≢◌, ℕ, true, List, [], ◌∷◌, ◌++◌, ◌⊎◌, Option, Some, None, Result, Ok, Err}
+use Rattle.std.specs.Prelude.{◌≡◌, ◌≢◌, ℕ, List, [], ◌∷◌, ◌++◌, ◌⊎◌, Option, Some, None, Result, Ok, Err}
 use Rattle.xs_outside.specs.Edge.{Files}
 use Rattle.xs_outside.specs.declared.edge.FetchEnd.{FetchEnd}
 use Rattle.xs_outside.specs.declared.edge.FetchEnd.TheVariants.{Failed, NoMemory}
@@ -9,16 +9,17 @@ use Rattle.xs_engine.specs.declared.job.Request.{Request as CodeRequest}
 use Rattle.xs_engine.specs.declared.reply.Reply.{Reply}
 use Rattle.xs_engine.specs.declared.top.Report.{Report}
 use Rattle.xs_engine.specs.declared.status.TheConstants.{OK}
+use Rattle.xs_trace.specs.declared.event.Event.{Event}
 use Rattle.xs_modules.specs.Numbering.{ModuleData}
 use Rattle.xs_static.specs.Faults.{IsFirstFault}
 use Rattle.xs_static.specs.declared.fault.StaticFault.{StaticFault}
 use Rattle.xs_engine.specs.Answer.{Answer, faultless, refused_file}
 use Rattle.xs_engine.specs.Run.{module_name}
-use Rattle.xs_sheet.specs.declared.sheet.Sheet.{Sheet}
 use Rattle.xs_engine.specs.Headline.{Account}
 use Rattle.xs_engine.specs.Inputs.{AsksInputs}
 use Rattle.xs_engine.specs.Job.{Job, Request, files_on, plain}
 use Rattle.xs_engine.specs.Read.{Read}
+use Rattle.xs_engine.specs.ReadBack.{ReadsAs}
 
 abbrev pub job_data : CodeJob → Job
 job_data job = record {
@@ -33,15 +34,27 @@ job_data job = record {
 abbrev pub request_data : CodeRequest → Request
 request_data request = record (plain (job_data request.job)) { made = request.made }
 
-abbrev pub reply_of : Reply → Answer
-reply_of reply = record {
+-- a reply as an answer, of which the result is the lines of these events
+abbrev pub answer_of : Reply → (document : Option (List Event)) → Answer
+answer_of reply document = record {
   status = reply.status;
   result = reply.result.items;
   lines = reply.lines.items;
   fault = reply.fault;
   ticks = reply.ticks;
   places = [];
+  document = document;
 }
+
+-- a reply without such lines
+abbrev pub reply_of : Reply → Answer
+reply_of reply = answer_of reply None
+
+-- A reply is an answer of which P says this; and where N holds, its result reads back as the events of this very answer.
+pub record Replies (N : Type 0) (P : Answer → Type 0) (reply : Reply) : Type 0 where
+  pub document : Option (List Event)
+  pub answers : P (answer_of reply document)
+  pub reads : N → ReadsAs document reply.result.items
 
 abbrev pub account_of : Report → Account
 account_of report = record {

@@ -1,6 +1,6 @@
 //! The answer of a run, before anything of it is written.
 
-ghost use Rattle.std.specs.Prelude.{◌≡◌, ◌≢◌, ◌<◌, ◌⊎◌, [], IfOk, None, Some, length};
+ghost use Rattle.std.specs.Prelude.{◌≡◌, ◌≢◌, ◌<◌, ◌⊎◌, IfOk, None, Some, length};
 ghost use Rattle.xs_modules.specs.Results.{modules_data};
 ghost use Rattle.xs_modules.specs.Sound.{IsSound};
 ghost use Rattle.xs_sheet.specs.Sound.{IsSound as SheetIsSound};
@@ -13,10 +13,8 @@ ghost use Rattle.xs_engine.specs.Fetches.{Fetches, GoesOn, Grew, JobFetches};
 ghost use Rattle.xs_engine.specs.Headline.{HasTicks};
 ghost use Rattle.xs_engine.specs.Job.{inputs_on, request_of};
 ghost use Rattle.xs_engine.specs.Made.{made_files};
-ghost use Rattle.xs_engine.specs.ReadBack.{ReadsBackFiles, ReadsBackInputs, ReadsBackModules};
-ghost use Rattle.xs_engine.specs.ReadBack.{ReadsBackOf};
 ghost use Rattle.xs_engine.specs.Reply.{AsksSource, GoesTo, IsChecked, IsWholeOrEmpty};
-ghost use Rattle.xs_engine.specs.Reply.{job_data, reply_of};
+ghost use Rattle.xs_engine.specs.Reply.{Replies, job_data, reply_of};
 ghost use Rattle.xs_engine.specs.Run.{module_name};
 ghost use Rattle.xs_runs_read_back.specs.Laws.{AreTrees};
 ghost use Rattle.xs_well_put.specs.Named.{IsNamedSheet};
@@ -47,10 +45,8 @@ pub fn reply_to<R: Threads + Sync, L: Library>(
     ensures files { L.files library.new ≡ L.files library.old }
     ensures fetches { Fetches (request_of (texts words.now)) (L.files library.old)
         (L.asked library.old) (L.asked library.new) (L.failed library.old) (L.failed library.new) }
-    ensures due { IfOk result (λ reply. IsDue (L.files library.old) (request_of (texts words.now))
-        (L.failed library.old) (L.failed library.new) (reply_of reply)) }
-    ensures reads_back { IfOk result (λ reply. reply.status ≡ OK →
-        ReadsBackOf (request_of (texts words.now)) (L.files library.old) reply.result.items) }
+    ensures due { IfOk result (Replies (Unit {0}) (IsDue (L.files library.old)
+        (request_of (texts words.now)) (L.failed library.old) (L.failed library.new))) }
     ensures usage_only { IfOk result (λ reply.
         reply.status ≡ USAGE → request_of (texts words.now) ≡ None) }
     ensures read_fault_only { IfOk result (λ reply. reply.status ≡ READ_FAULT
@@ -76,10 +72,8 @@ fn made_reply<R: Threads + Sync>(
     job: &Job,
     count: u32,
 ) -> Result<Reply, AllocError>
-    ensures answer { IfOk result (λ reply.
-        IsAnswer (Some (made_files count)) (job_data job.now) (reply_of reply)) }
-    ensures reads_back { IfOk result (λ reply. reply.status ≡ OK →
-        ReadsBackFiles (Some (made_files count)) (job_data job.now) reply.result.items) }
+    ensures answer { IfOk result (Replies (Unit {0})
+        (IsAnswer (Some (made_files count)) (job_data job.now))) }
     ensures read { IfOk result (λ reply. reply.status ≢ READ_FAULT) }
     ensures status { IfOk result (λ reply.
         (reply.status ≢ USAGE) × (reply.status < WRITE_FAULT)) }
@@ -101,10 +95,9 @@ fn job_reply<R: Threads + Sync, L: Library>(
     ensures files { L.files library.new ≡ L.files library.old }
     ensures fetches { JobFetches (job_data job.now) (L.files library.old)
         (L.asked library.old) (L.asked library.new) (L.failed library.old) (L.failed library.new) }
-    ensures due { IfOk result (λ reply. Owed (IsAnswer (L.files library.old) (job_data job.now))
-        (L.failed library.old) (L.failed library.new) (reply_of reply)) }
-    ensures reads_back { IfOk result (λ reply. reply.status ≡ OK →
-        ReadsBackFiles (L.files library.old) (job_data job.now) reply.result.items) }
+    ensures due { IfOk result (Replies (Unit {0})
+        (Owed (IsAnswer (L.files library.old) (job_data job.now))
+        (L.failed library.old) (L.failed library.new))) }
     ensures read_fault_only { IfOk result (λ reply. reply.status ≡ READ_FAULT
         → length (L.failed library.old) < length (L.failed library.new)) }
     ensures status { IfOk result (λ reply.
@@ -140,12 +133,9 @@ fn modules_reply<R: Threads + Sync, L: Library>(
     ensures asks { Grew (AsksSource (GoesOn (job_data job.now) (modules_data modules.now))
         (L.files library.old) (job_data job.now))
         (L.asked library.old) (L.asked library.new) (L.failed library.old) (L.failed library.new) }
-    ensures due { IfOk result (λ reply. Owed
+    ensures due { IfOk result (Replies (Unit {0}) (Owed
         (IsModulesAnswer (L.files library.old) (job_data job.now) (modules_data modules.now))
-        (L.failed library.old) (L.failed library.new) (reply_of reply)) }
-    ensures reads_back { IfOk result (λ reply. reply.status ≡ OK →
-        ReadsBackModules (job_data job.now).source (L.files library.old) (job_data job.now)
-        (modules_data modules.now) reply.result.items) }
+        (L.failed library.old) (L.failed library.new))) }
     ensures read_fault_only { IfOk result (λ reply. reply.status ≡ READ_FAULT
         → length (L.failed library.old) < length (L.failed library.new)) }
     ensures status { IfOk result (λ reply.
@@ -217,13 +207,10 @@ pub fn run_reply<R: Threads + Sync, L: Library>(
     ensures asks { Grew (AsksSource (GoesTo source.now)
         (L.files library.old) (job_data job.now))
         (L.asked library.old) (L.asked library.new) (L.failed library.old) (L.failed library.new) }
-    ensures due { IfOk result (λ reply. Owed (IsSheetAnswer
+    ensures due { IfOk result (Replies (IsNamedSheet sheet.now) (Owed (IsSheetAnswer
         (L.files library.old) (job_data job.now) sheet.now
         (inputs_on (job_data job.now) source.now))
-        (L.failed library.old) (L.failed library.new) (reply_of reply)) }
-    ensures reads_back { IsNamedSheet sheet.now → IfOk result (λ reply. reply.status ≡ OK →
-        ReadsBackInputs (L.files library.old) (job_data job.now) sheet.now
-        (inputs_on (job_data job.now) source.now) [] reply.result.items) }
+        (L.failed library.old) (L.failed library.new))) }
     ensures read_fault_only { IfOk result (λ reply. reply.status ≡ READ_FAULT
         → length (L.failed library.old) < length (L.failed library.new)) }
     ensures status { IfOk result (λ reply.

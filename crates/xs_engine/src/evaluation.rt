@@ -9,8 +9,7 @@ ghost use Rattle.xs_eval.specs.Conditions.{IsInIf};
 ghost use Rattle.xs_engine.specs.declared.status.TheConstants.{OK, RUN_FAULT};
 ghost use Rattle.xs_engine.specs.Evaluation.{IsEvaluated, IsEvaluatedOn, IsEvaluatedOver};
 ghost use Rattle.xs_engine.specs.Inputs.{named_document};
-ghost use Rattle.xs_engine.specs.ReadBack.{ReadsBack, ReadsBackOn, ReadsBackOver};
-ghost use Rattle.xs_engine.specs.Reply.{IsWholeOrEmpty, job_data, reply_of};
+ghost use Rattle.xs_engine.specs.Reply.{IsWholeOrEmpty, Replies, job_data};
 ghost use Rattle.xs_making.specs.Laws.{AreWell};
 ghost use Rattle.xs_well_put.specs.Named.{IsNamedSheet, IsNamedWorld};
 ghost use Rattle.xs_rules.specs.Indexed.{IsIndex, IsPrepared};
@@ -50,12 +49,8 @@ pub fn evaluate<R: Threads + Sync>(
     source: Tree,
 ) -> Result<Reply, AllocError>
     requires sound { IsSound sheet.now }
-    ensures answer { IfOk result (λ reply.
-        IsEvaluatedOver (job_data job.now) sheet.now (named_document [] source ∷ [])
-        (reply_of reply)) }
-    ensures reads_back { IsNamedSheet sheet.now → AreWell source
-        → IfOk result (λ reply. reply.status ≡ OK → ReadsBackOver (job_data job.now) sheet.now
-        (named_document [] source ∷ []) reply.result.items) }
+    ensures answer { IfOk result (Replies (IsNamedSheet sheet.now × AreWell source)
+        (IsEvaluatedOver (job_data job.now) sheet.now (named_document [] source ∷ []))) }
     ensures status { IfOk result (λ reply.
         (reply.status ≡ OK) ⊎ (reply.status ≡ RUN_FAULT)) }
     ensures whole_only { IfOk result IsWholeOrEmpty }
@@ -87,11 +82,8 @@ fn evaluate_over<R: Threads + Sync>(
     tree: &Tree,
 ) -> Result<Reply, AllocError>
     requires sound { IsSound sheet.now }
-    ensures answer { IfOk result (λ reply.
-        IsEvaluatedOn (job_data job.now) sheet.now tree.now (reply_of reply)) }
-    ensures reads_back { IsNamedSheet sheet.now → AreWell tree.now
-        → IfOk result (λ reply. reply.status ≡ OK
-        → ReadsBackOn (job_data job.now) sheet.now tree.now reply.result.items) }
+    ensures answer { IfOk result (Replies (IsNamedSheet sheet.now × AreWell tree.now)
+        (IsEvaluatedOn (job_data job.now) sheet.now tree.now)) }
     ensures status { IfOk result (λ reply.
         (reply.status ≡ OK) ⊎ (reply.status ≡ RUN_FAULT)) }
     ensures whole_only { IfOk result IsWholeOrEmpty }
@@ -117,11 +109,9 @@ fn evaluate_by<K: KeyFinder>(
     requires sets { IsSetIndex sheet.now.sets index.now.sets }
     requires counters { AreCounters (K.tables keys.now) tree.now index.now.counters }
     requires tables { TablesIn tree.now (K.tables keys.now) }
-    ensures answer { IfOk result (λ reply. IsEvaluated (job_data job.now)
-        (ground sheet.now index.now tree.now (K.tables keys.now)) (reply_of reply)) }
-    ensures reads_back { IsNamedSheet sheet.now → AreWell tree.now
-        → IfOk result (λ reply. reply.status ≡ OK → ReadsBack (job_data job.now)
-        (ground sheet.now index.now tree.now (K.tables keys.now)) reply.result.items) }
+    ensures answer { IfOk result (Replies (IsNamedSheet sheet.now × AreWell tree.now)
+        (IsEvaluated (job_data job.now)
+        (ground sheet.now index.now tree.now (K.tables keys.now)))) }
     ensures status { IfOk result (λ reply.
         (reply.status ≡ OK) ⊎ (reply.status ≡ RUN_FAULT)) }
     ensures whole_only { IfOk result IsWholeOrEmpty }
@@ -160,10 +150,8 @@ fn root_reply<K: KeyFinder>(
     requires inside { All (IsInIf world.now.tree) settled.now.values.items }
     requires values { All IsSome settled.now.values.items }
     requires within { settled.now.ticks ≤ job.now.budget }
-    ensures answer { IfOk result (λ reply.
-        IsEvaluated (job_data job.now) world.now (reply_of reply)) }
-    ensures reads_back { IsNamedWorld world.now → IfOk result (λ reply. reply.status ≡ OK
-        → ReadsBack (job_data job.now) world.now reply.result.items) }
+    ensures answer { IfOk result (Replies (IsNamedWorld world.now)
+        (IsEvaluated (job_data job.now) world.now)) }
     ensures status { IfOk result (λ reply.
         (reply.status ≡ OK) ⊎ (reply.status ≡ RUN_FAULT)) }
     ensures whole_only { IfOk result IsWholeOrEmpty }

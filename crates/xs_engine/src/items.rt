@@ -7,9 +7,9 @@ ghost use Rattle.std.specs.Prelude.{option_map};
 ghost use Rattle.xs_block.specs.Chain.{items_of};
 ghost use Rattle.xs_result.specs.Built.{built};
 ghost use Rattle.xs_result.specs.Text.{text_in};
-ghost use Rattle.xs_engine.specs.Answer.{message_line, message_lines, result_of};
+ghost use Rattle.xs_engine.specs.Answer.{document_of, message_line, message_lines, result_of};
 ghost use Rattle.xs_engine.specs.Items.{events_in, item_event, item_line, messages_in};
-ghost use Rattle.xs_engine.specs.ReadBack.{IsReadBackBy};
+ghost use Rattle.xs_engine.specs.ReadBack.{ReadsAs};
 ghost use Rattle.xs_reading_back.specs.Events.{HasTexts, IsResult};
 ghost use Rattle.xs_reading_back.specs.Laws.{IsReadBack};
 ghost use Rattle.xs_writing.specs.Lines.{pyx};
@@ -81,7 +81,7 @@ pub fn result_bytes(
     ensures bytes { IfOk result (λ bytes. bytes.items
         ≡ result_of method (events_in (items_of items.now))) }
     ensures reads_back { IfOk result (λ bytes. IsResult (events_in (items_of items.now))
-        → IsReadBackBy method bytes.items (events_in (items_of items.now))) }
+        → ReadsAs (document_of method (events_in (items_of items.now))) bytes.items) }
 {
     match method {
         Method::Pyx => result_lines(alloc, items),

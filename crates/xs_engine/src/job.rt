@@ -2,7 +2,7 @@
 
 ghost use Rattle.std.specs.Prelude.{◌≡◌, IfOk};
 ghost use Rattle.xs_words.specs.Results.{Gives, job_told, texts, told};
-ghost use Rattle.xs_engine.specs.Job.{is_supported, made_job, makes_none, request_of, work_request};
+ghost use Rattle.xs_engine.specs.Job.{is_supported, made_job, request_of, work_request};
 ghost use Rattle.xs_engine.specs.Reply.{job_data, request_data};
 
 use crate::made::{MADE_SHEET, MADE_SOURCE};
@@ -62,17 +62,6 @@ fn is_supported(options: &Options) -> bool
     !(options.stats || options.profile || options.stream)
         && options.at.is_none()
         && options.documents.is_empty()
-        && makes_none(&options.job)
-}
-
-/// Whether the files of a run are those of the library.
-fn makes_none(work: &Work) -> bool
-    ensures { result ≡ makes_none (job_told work.now) }
-{
-    match work {
-        Work::Files { .. } | Work::Check { .. } => true,
-        Work::Load(_) => false,
-    }
 }
 
 /// What options ask for: a stylesheet on a source, one that is only checked, or files that are

@@ -3,13 +3,12 @@
 ghost use Rattle.std.specs.Prelude.{◌≡◌, ◌++◌, IfOk, OnOk};
 ghost use Rattle.std.specs.Fmt.{decimal};
 ghost use Rattle.xs_block.specs.Chain.{items_of};
-ghost use Rattle.xs_engine.specs.Answer.{fault_line, faultless, file_fault_line, name_in};
-ghost use Rattle.xs_engine.specs.Answer.{read_fault, refused_file, reported, stopped_answer};
-ghost use Rattle.xs_engine.specs.Answer.{usage};
-ghost use Rattle.xs_engine.specs.Answer.{whole_answer};
+ghost use Rattle.xs_engine.specs.Answer.{document_of, fault_line, faultless, file_fault_line};
+ghost use Rattle.xs_engine.specs.Answer.{name_in, read_fault, refused_file, reported};
+ghost use Rattle.xs_engine.specs.Answer.{stopped_answer, usage, whole_answer};
 ghost use Rattle.xs_engine.specs.Items.{events_in, messages_in};
-ghost use Rattle.xs_engine.specs.ReadBack.{IsReadBackBy};
-ghost use Rattle.xs_engine.specs.Reply.{reply_of};
+ghost use Rattle.xs_engine.specs.ReadBack.{ReadsAs};
+ghost use Rattle.xs_engine.specs.Reply.{answer_of, reply_of};
 ghost use Rattle.xs_reading_back.specs.Events.{IsResult};
 
 use crate::faults::{UNREADABLE, fault_name, run_fault_name};
@@ -122,11 +121,12 @@ pub fn whole_reply(
     items: &Chain<Item>,
     ticks: u64,
 ) -> Result<Reply, AllocError>
-    ensures answer { IfOk result (λ reply. reply_of reply
+    ensures answer { IfOk result (λ reply.
+        answer_of reply (document_of method (events_in (items_of items.now)))
         ≡ whole_answer method (says.now ++ messages_in (items_of items.now))
         (events_in (items_of items.now)) ticks) }
     ensures reads_back { IfOk result (λ reply. IsResult (events_in (items_of items.now))
-        → IsReadBackBy method reply.result.items (events_in (items_of items.now))) }
+        → ReadsAs (document_of method (events_in (items_of items.now))) reply.result.items) }
 {
     Ok(Reply {
         status: OK,

@@ -1,13 +1,12 @@
 //! The top call.
 
 ghost use Rattle.std.specs.Prelude.{◌≡◌, ◌≢◌, ◌<◌, ◌≤◌, ◌⊎◌, [], false, length, None};
-ghost use Rattle.xs_engine.specs.declared.status.TheConstants.{NO_MEMORY, OK, READ_FAULT};
+ghost use Rattle.xs_engine.specs.declared.status.TheConstants.{NO_MEMORY, READ_FAULT};
 ghost use Rattle.xs_engine.specs.declared.status.TheConstants.{REFUSED, USAGE};
 ghost use Rattle.xs_words.specs.Results.{texts};
 ghost use Rattle.xs_engine.specs.Fetches.{Fetches};
 ghost use Rattle.xs_engine.specs.Headline.{AtOnce, Gained, Gives, HasTicks, OfDue, OnlyDue};
 ghost use Rattle.xs_engine.specs.Job.{is_streamed, request_of};
-ghost use Rattle.xs_engine.specs.ReadBack.{ReadsBackOf};
 ghost use Rattle.xs_engine.specs.Refusals.{Decides, IsListed};
 ghost use Rattle.xs_engine.specs.Reply.{account_of};
 
@@ -56,7 +55,9 @@ pub fn transform<R: Threads + Sync, L: Library, O: Sink, E: Sink, G: Gate>(
     ensures fetches { Fetches (request_of (texts words.now)) (L.files library.old)
         (L.asked library.old) (L.asked library.new) (L.failed library.old) (L.failed library.new) }
 
-    // What the words and the files define is what the report and the sinks get.
+    // What the words and the files define is what the report and the sinks get; and the lines of a
+    // result are those of a document with the same elements, attributes, texts, comments and
+    // instructions as what that run put.
     ensures gives { result.status ≢ NO_MEMORY
         → OfDue (L.files library.old) (request_of (texts words.now))
         (L.failed library.old) (L.failed library.new)
@@ -76,11 +77,6 @@ pub fn transform<R: Threads + Sync, L: Library, O: Sink, E: Sink, G: Gate>(
         IsListed (request_of (texts words.now)) (L.files library.old) result.fault }
     ensures decided { L.failed library.new ≡ L.failed library.old →
         Decides (request_of (texts words.now)) (L.files library.old) result.status }
-
-    // The lines of a result are those of a document with the same elements, attributes, texts,
-    // comments and instructions as what the run put.
-    ensures reads_back { result.status ≡ OK → Gained (O.held out.old) (O.held out.new)
-        (ReadsBackOf (request_of (texts words.now)) (L.files library.old)) }
 
     // What a status says, whatever the files.
     ensures status { result.status ≤ NO_MEMORY }

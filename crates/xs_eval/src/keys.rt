@@ -55,8 +55,8 @@ pub(crate) fn find_by_key<K: KeyFinder, T: Tally>(
     }
 }
 
-// The number of the key that a text names.
-fn number_of<K: KeyFinder>(keys: &K, scope: &Scope, name: &str) -> Option<u32>
+/// The number of the key that a text names.
+pub fn number_of<K: KeyFinder>(keys: &K, scope: &Scope, name: &str) -> Option<u32>
     ensures number { result
         ≡ number_of (K.tables keys.now) (expanded_name scope.now.pairs.items name.now) }
 {

@@ -81,8 +81,8 @@ fn push_if(is_passing: bool, node: Node, found: &mut NodeList) -> Result<(), All
     Ok(())
 }
 
-// Whether a node passes a test on an axis.
-fn passes(tree: &Tree, axis: Axis, test: &NodeTest, node: Node) -> bool
+/// Whether a node passes a test on an axis.
+pub fn passes(tree: &Tree, axis: Axis, test: &NodeTest, node: Node) -> bool
     requires { node < length tree.now }
     ensures { result ≡ passes axis test.now (at tree.now node) }
 {

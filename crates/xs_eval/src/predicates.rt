@@ -16,7 +16,7 @@ use xs_xpath::expr::Expr;
 
 /// Whether a value selects a node at a position: a number selects the one position that is equal to
 /// it.
-pub(crate) fn selects(v: &Value, position: u32) -> bool
+pub fn selects(v: &Value, position: u32) -> bool
     ensures { result ≡ selects v.now position }
 {
     match v {
@@ -101,7 +101,7 @@ pub(crate) fn kept_if(is_kept: bool, nodes: NodeList, node: Node) -> Result<Node
 }
 
 /// How many nodes of a tree these are.
-pub(crate) fn count_of(tree: &Tree, nodes: &[Node]) -> u32
+pub fn count_of(tree: &Tree, nodes: &[Node]) -> u32
     requires few { length nodes.now ≤ length tree.now }
     ensures { result ≡ length nodes.now }
 {

@@ -5,7 +5,8 @@ ghost use Rattle.xs_making.specs.Names.{is_xml, pi_target, result_name, uri_for}
 ghost use Rattle.xs_making.specs.Results.{IsMade};
 
 use crate::ends::MakeEnd;
-use crate::labels::{XML_URI, put_label};
+use crate::labels::XML_URI;
+use crate::recent::RecentLabels;
 use std::alloc::Global;
 use xs_text::{is_ncname, split_qname};
 use xs_trace::event::Label;
@@ -18,13 +19,13 @@ const XMLNS_URI: &str = "http://www.w3.org/2000/xmlns/";
 
 /// The name of an element or an attribute of the result, from the text that a name's value template
 /// gave, the namespace that one gave, if there is one, and the prefixes in scope (XSLT 1.0, 7.1.2
-/// and 7.1.3).
+/// and 7.1.3). One that was put before is shared, by `labels`.
 ///
 /// Fault 60 where the text is no QName, or `xmlns` for an attribute, or the namespace given is that
 /// of `xmlns`; else 61 where the text has a prefix that is bound to nothing and no namespace is
 /// given.
 pub fn result_name(
-    alloc: Global,
+    labels: &mut RecentLabels,
     text: &str,
     uri: Option<&str>,
     scope: &Scope,
@@ -40,7 +41,7 @@ pub fn result_name(
         return Err(MakeEnd::Fault(Fault::BadResultName));
     };
     match uri_for(prefix, uri, scope, is_attribute) {
-        Some(uri) => Ok(put_label(alloc, uri, local, prefix)?),
+        Some(uri) => Ok(labels.label(uri, local, prefix)?),
         None => Err(MakeEnd::Fault(Fault::UnboundResultPrefix)),
     }
 }

@@ -59,13 +59,18 @@ impl RecentLabels {
     }
 }
 
-/// The slot of the names with a local part.
+/// The slot of the names with a local part: by its length and three of its bytes, so that the names
+/// of one document seldom share one.
 fn slot_of(local: &str) -> usize {
-    match local.as_bytes() {
-        [] => 0,
-        [first, .., last] => (*first as usize * 5 + *last as usize + local.len()) % SLOTS,
-        [only] => *only as usize % SLOTS,
+    let bytes = local.as_bytes();
+    let len = bytes.len();
+    if len == 0 {
+        return 0;
     }
+    let first = bytes[0] as usize;
+    let middle = bytes[len / 2] as usize;
+    let last = bytes[len - 1] as usize;
+    (first * 3 + middle * 9 + last + len) % SLOTS
 }
 
 /// Whether a name has these texts.

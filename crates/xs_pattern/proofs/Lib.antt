@@ -9,3 +9,4 @@ pub mod StartLemmas
 pub mod AboveLemmas
 pub mod AlikeLemmas
 pub mod MarksLemmas
+pub mod FoundLemmas

@@ -3,3 +3,4 @@ pub mod Climb
 pub mod Above
 pub mod Alone
 pub mod Marks
+pub mod Keys

@@ -11,10 +11,11 @@ ghost use Rattle.xs_pattern.specs.steps.Above.{AreEnds, AreNext, IsAbove, has_ta
 ghost use Rattle.xs_pattern.specs.steps.Above.{is_led, is_root_at};
 ghost use Rattle.xs_pattern.specs.steps.Climb.{backwards, before_slashes};
 
-use crate::node_tests::{is_root, passes};
+use crate::node_tests::is_root;
 use crate::paths::{start_of, steps_of};
 use crate::steps::{is_descend, stands_on};
 use std::alloc::{AllocError, Global};
+use xs_eval::node_tests::passes;
 use xs_tree::{Axis, Node, Tree};
 use xs_xpath::expr::Expr;
 use xs_xpath::name::NodeTest;

@@ -2,6 +2,7 @@
 #![tactic(auto)]
 
 pub mod above;
+mod keys;
 pub mod marks;
 pub mod matching;
 mod node_tests;

@@ -13,6 +13,7 @@ ghost use Rattle.xs_pattern.specs.steps.Above.{IsAbove, IsAboveIn};
 ghost use Rattle.xs_pattern.specs.steps.Climb.{IsBehind, IsReached, backwards, ends_above};
 
 use crate::above::is_marked;
+use crate::keys::{is_given_by_key, key_call};
 use crate::node_tests::is_root;
 use crate::paths::{start_of, steps_of};
 use crate::steps::{is_descend, leads_to};
@@ -253,7 +254,25 @@ fn begins<K: KeyFinder>(
         Expr::Root => Ok(is_root(context.tree, node)),
         _ => {
             let around = context.at_node(node, context.position, context.size);
-            is_given(alloc, start, node, &around, keys)
+            gives_itself(alloc, start, &around, keys)
         }
+    }
+}
+
+// Whether the context node is among those that an expression gives; for `key`, nothing else that
+// it gives is looked at.
+fn gives_itself<K: KeyFinder>(
+    alloc: Global,
+    start: &Expr,
+    context: &Context<'_>,
+    keys: &K,
+) -> Result<bool, AllocError>
+    requires context { IsContext (K.tables keys.now) context.now }
+    ensures given { IfOk result (λ b. b ≡ is_among context.now.node
+        (nodes_given (run_of (K.tables keys.now) start.now) context.now)) }
+{
+    match key_call(start) {
+        Some((name, text)) => is_given_by_key(alloc, name, text, context, keys),
+        None => is_given(alloc, start, context.node, context, keys),
     }
 }

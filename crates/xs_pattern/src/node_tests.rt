@@ -1,15 +1,15 @@
-//! Node tests (XPath 1.0, 2.3), and the nodes of an axis that pass one. `xs_eval` has the same, not
-//! public.
+//! The nodes of an axis that pass a node test (XPath 1.0, 2.3).
 
 ghost use Rattle.std.specs.Prelude.{◌≡◌, ◌<◌, ◌∷◌, [], ◌++◌, IfOk, OnOk, length, if◌then◌else◌};
 ghost use Rattle.xs_tree.specs.Kinds.{is_root_kind};
 ghost use Rattle.xs_tree.specs.Record.{at};
-ghost use Rattle.xs_eval.specs.Paths.{is_named, is_principal, passes, tested};
+ghost use Rattle.xs_eval.specs.Paths.{tested};
 ghost use Rattle.xs_eval.specs.steps.Nodes.{AreSome};
 
 use std::alloc::{AllocError, Global};
 use xs_axes::axis_nodes;
 use xs_eval::context::Context;
+use xs_eval::node_tests::passes;
 use xs_tree::{Axis, Kind, Node, Tree};
 use xs_xpath::name::NodeTest;
 
@@ -40,59 +40,6 @@ fn push_if(is_passing: bool, node: Node, found: &mut Vec<Node>) -> Result<(), Al
         found.push(node)?;
     }
     Ok(())
-}
-
-/// Whether a node passes a test on an axis.
-pub(crate) fn passes(tree: &Tree, axis: Axis, test: &NodeTest, node: Node) -> bool
-    requires { node < length tree.now }
-    ensures { result ≡ passes axis test.now (at tree.now node) }
-{
-    match test {
-        NodeTest::Any => is_principal(axis, tree.kind(node)),
-        NodeTest::Uri(uri) => {
-            is_principal(axis, tree.kind(node)) && tree.uri(node) == uri.as_str()
-        }
-        NodeTest::Name(uri, local) => {
-            is_principal(axis, tree.kind(node))
-                && is_named(tree, node, uri.as_str(), local.as_str())
-        }
-        NodeTest::Node => true,
-        NodeTest::Text => tree.kind(node) == Kind::Text,
-        NodeTest::Comment => tree.kind(node) == Kind::Comment,
-        NodeTest::Pi => tree.kind(node) == Kind::Pi,
-        NodeTest::Target(target) => {
-            tree.kind(node) == Kind::Pi && tree.local(node) == target.as_str()
-        }
-    }
-}
-
-// Whether a node has a name.
-fn is_named(tree: &Tree, node: Node, uri: &str, local: &str) -> bool
-    requires { node < length tree.now }
-    ensures { result ≡ is_named uri.now local.now (at tree.now node) }
-{
-    tree.uri(node) == uri && tree.local(node) == local
-}
-
-// Whether a kind of node is the principal one of an axis.
-fn is_principal(axis: Axis, kind: Kind) -> bool
-    ensures { result ≡ is_principal axis kind }
-{
-    match axis {
-        Axis::Attribute => kind == Kind::Attribute,
-        Axis::Namespace => kind == Kind::Space,
-        Axis::Child => kind == Kind::Element,
-        Axis::Descendant => kind == Kind::Element,
-        Axis::Parent => kind == Kind::Element,
-        Axis::Ancestor => kind == Kind::Element,
-        Axis::FollowingSibling => kind == Kind::Element,
-        Axis::PrecedingSibling => kind == Kind::Element,
-        Axis::Following => kind == Kind::Element,
-        Axis::Preceding => kind == Kind::Element,
-        Axis::SelfNode => kind == Kind::Element,
-        Axis::DescendantOrSelf => kind == Kind::Element,
-        Axis::AncestorOrSelf => kind == Kind::Element,
-    }
 }
 
 /// Whether a node is the root of a document.

@@ -1,6 +1,6 @@
 //! What the predicates of a pattern's step keep (XPath 1.0, 2.4).
 
-ghost use Rattle.std.specs.Prelude.{◌≡◌, ◌<◌, ◌≤◌, ◌∷◌, [], ◌++◌, ◌==◌, ◌&&◌, IfOk, length};
+ghost use Rattle.std.specs.Prelude.{◌≡◌, ◌<◌, ◌∷◌, [], ◌++◌, ◌==◌, ◌&&◌, IfOk, length};
 ghost use Rattle.xs_eval.specs.Conditions.{IsContext};
 ghost use Rattle.xs_eval.specs.Evaluation.{run_of, runs_of};
 ghost use Rattle.xs_eval.specs.Paths.{kept_if};
@@ -11,7 +11,8 @@ ghost use Rattle.xs_pattern.specs.steps.Alone.{AreSaid};
 use crate::values::{holds, says};
 use std::alloc::{AllocError, Global};
 use xs_eval::context::Context;
-use xs_tree::{Node, Tree};
+use xs_eval::predicates::count_of;
+use xs_tree::Node;
 use xs_value::keys::KeyFinder;
 use xs_xpath::expr::Expr;
 
@@ -143,14 +144,4 @@ fn kept_if(is_kept: bool, nodes: Vec<Node>, node: Node) -> Result<Vec<Node>, All
         nodes.push(node)?;
     }
     Ok(nodes)
-}
-
-// How many nodes of a tree these are.
-fn count_of(tree: &Tree, nodes: &[Node]) -> u32
-    requires few { length nodes.now ≤ length tree.now }
-    ensures { result ≡ length nodes.now }
-{
-    let most = tree.len();
-    prove!(nodes.len() <= most);
-    nodes.len() as u32
 }

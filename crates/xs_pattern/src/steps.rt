@@ -10,10 +10,11 @@ ghost use Rattle.xs_pattern.specs.Matching.{is_descend, placed_at, selected, ste
 ghost use Rattle.xs_pattern.specs.Predicates.{is_among};
 ghost use Rattle.xs_pattern.specs.steps.Climb.{stands_on};
 
-use crate::node_tests::{passes, tested};
+use crate::node_tests::tested;
 use crate::predicates::{all_kept, is_kept, say};
 use std::alloc::{AllocError, Global};
 use xs_eval::context::Context;
+use xs_eval::node_tests::passes;
 use xs_tree::{Axis, Kind, Node};
 use xs_value::keys::KeyFinder;
 use xs_xpath::expr::Expr;

@@ -5,14 +5,15 @@ ghost use Rattle.std.specs.Option.{option_map_or};
 ghost use Rattle.xs_eval.specs.Conditions.{IsContext};
 ghost use Rattle.xs_eval.specs.Context.{at_node};
 ghost use Rattle.xs_eval.specs.Evaluation.{run_of};
-ghost use Rattle.xs_eval.specs.Paths.{is_position, selects};
+ghost use Rattle.xs_eval.specs.Paths.{selects};
 ghost use Rattle.xs_pattern.specs.Predicates.{holds, is_among, nodes_given, nodes_of, value_in};
 ghost use Rattle.xs_pattern.specs.steps.Alone.{IsSaid, said, said_by};
 
+use crate::keys::is_among;
 use std::alloc::{AllocError, Global};
 use xs_eval::context::Context;
 use xs_eval::evaluate::evaluate;
-use xs_num::number::{Num, Number};
+use xs_eval::predicates::selects;
 use xs_trace::item::Site;
 use xs_trace::meter::Meter;
 use xs_trace::recorder::Halt;
@@ -127,30 +128,6 @@ fn is_selecting(v: &Option<Value>, position: u32) -> bool
     }
 }
 
-// Whether a value selects a node at a position: a number selects the one position that is equal to
-// it (XPath 1.0, 2.4).
-fn selects(v: &Value, position: u32) -> bool
-    ensures { result ≡ selects v.now position }
-{
-    match v {
-        Value::Number(number) => is_position(*number, position),
-        Value::Bool(boolean) => *boolean,
-        Value::Chars(_) => to_bool(v),
-        Value::Nodes(_) => to_bool(v),
-        Value::Piece(_) => to_bool(v),
-    }
-}
-
-// Whether a number is a position.
-fn is_position(number: Num, position: u32) -> bool
-    ensures { result ≡ is_position number position }
-{
-    match number.get() {
-        Number::Whole(value) => value == i64::from(position),
-        Number::NaN => false,
-    }
-}
-
 /// Whether a node is among those that an expression gives in a context.
 pub(crate) fn is_given<K: KeyFinder>(
     alloc: Global,
@@ -179,11 +156,4 @@ fn is_in_value(node: Node, v: &Option<Value>) -> bool
         Some(Value::Piece(_)) => false,
         None => false,
     }
-}
-
-// Whether a node is among some.
-fn is_among(node: Node, nodes: &[Node]) -> bool
-    ensures { result ≡ is_among node nodes.now }
-{
-    nodes.iter().any(|other| *other == node)
 }

@@ -9,7 +9,8 @@ use Rattle.xs_tree.specs.declared.kinds.Kind.TheVariants.{Root, Element, Attribu
 use Rattle.xs_tree.specs.Kinds.{can_hold, is_attribute_kind}
 use Rattle.xs_tree.specs.Record.{Record, at, attributes, is_attribute, is_place}
 use Rattle.xs_tree.specs.Shape.{IsTree}
-use Rattle.xs_rules.specs.WhiteSpace.{is_space, said_by, space_value}
+use Rattle.xs_elements.specs.WhiteSpace.{space_value}
+use Rattle.xs_rules.specs.WhiteSpace.{is_space, said_by}
 
 -- an element alone holds attributes
 not-held : (outer inner : Kind) → (outer ≡ Element → ⊥) → is_attribute_kind inner ≡ true → IsTrue (can_hold outer inner) → ⊥

@@ -1,8 +1,9 @@
 -- Which white space of a source is stripped (XSLT 1.0, 3.4).
-use Rattle.std.specs.Prelude.{ℕ, ◌&&◌, not, Bool, true, false, List, filter, map, codes, Option, Some, None, pos, negsuc, ℤ, nat_lt, if◌then◌else◌}
+use Rattle.std.specs.Prelude.{ℕ, ◌&&◌, not, Bool, true, false, List, filter, map, codes, Option, pos, negsuc, ℤ, nat_lt}
 use Rattle.std.specs.List.{find, list_any}
 use Rattle.std.specs.Option.{option_and_then, option_map_or}
 use Rattle.std.specs.Str.{bytes_eq}
+use Rattle.xs_elements.specs.WhiteSpace.{space_value, xml_uri}
 use Rattle.xs_sheet.specs.declared.declarations.NameTest.{NameTest}
 use Rattle.xs_sheet.specs.declared.declarations.NameTest.TheVariants.{Any, Uri, Name}
 use Rattle.xs_sheet.specs.declared.declarations.StripRule.{StripRule}
@@ -14,20 +15,13 @@ use Rattle.xs_tree.specs.Record.{Record, at, attributes, name_local, name_uri, p
 use Rattle.xs_rules.specs.declared.ranks.Rank.{Rank}
 use Rattle.xs_rules.specs.Ranks.{highest}
 
--- the namespace of `xml:space` (Namespaces in XML 1.0, 3)
-abbrev pub xml_uri : List ℕ
-xml_uri = codes "http://www.w3.org/XML/1998/namespace"
-
 -- whether a node has a name
 abbrev pub is_named : List ℕ → List ℕ → Record → Bool
 is_named uri local r = bytes_eq (name_uri r) uri && bytes_eq (name_local r) local
 
 -- ---- `xml:space`
 
--- whether white space is preserved, by the value of an `xml:space`, if it says so or the contrary (XML 1.0, 2.10)
-abbrev pub space_value : List ℕ → Option Bool
-space_value value = if bytes_eq value (codes "preserve") then Some true else if bytes_eq value (codes "default") then Some false else None
-
+-- the attribute `xml:space` (XML 1.0, 2.10)
 abbrev pub is_space : List Record → ℕ → Bool
 is_space rs k = is_named xml_uri (codes "space") (at rs k)
 

@@ -14,7 +14,7 @@ ghost use Rattle.xs_rules.specs.steps.Lists.{found_in};
 
 use crate::candidates::{Best, Looked, best_of_nth, rule_of_best};
 use crate::choice::Rule;
-use crate::rule_keys::{RuleKey, any_key, key_of, node_key};
+use crate::rule_keys::{RuleKey, any_key, is_key, key_of, node_key};
 use crate::tables::{RuleTable, table_at};
 use indexmap::IndexMap;
 use std::alloc::{AllocError, Global};
@@ -22,6 +22,9 @@ use xs_sheet::declarations::Template;
 use xs_sheet::scoped::ScopedPattern;
 use xs_tree::{Node, Tree};
 use xs_value::keys::KeyFinder;
+
+/// The most keys that are gone over one after another, which takes less time than a hash.
+const FEW_KEYS: usize = 8;
 
 /// One rule: an alternative of a template's pattern.
 #[derive(Clone, Copy)]
@@ -113,6 +116,30 @@ impl<'a> Lists<'a> {
         Ok(())
     }
 
+    // The last rule with a key.
+    fn last_of(&self, key: &RuleKey<'_>) -> Option<usize>
+        ensures { result ≡ found_in self.now.last (key_data key.now) }
+    {
+        if self.last.len() > FEW_KEYS {
+            return self.last.get(key).copied();
+        }
+        self.last_among_few(key)
+    }
+
+    // The same, by going over the keys.
+    fn last_among_few(&self, key: &RuleKey<'_>) -> Option<usize>
+        ensures { result ≡ found_in self.now.last (key_data key.now) }
+    {
+        let mut left = self.last.as_slice();
+        while let Some(((other, last), others)) = left.split_first() {
+            if is_key(key, other) {
+                return Some(*last);
+            }
+            left = others;
+        }
+        None
+    }
+
     /// The rule that a node takes of those that are looked at. The rules with the node's key and
     /// those for any name are two chains, which are gone along together from their ends. A rule
     /// that has a table is tried by it.
@@ -137,8 +164,8 @@ impl<'a> Lists<'a> {
             (passes looked (K.tables keys.now) tree.now mode node)
             (candidates templates.now) None)) }
     {
-        let mut named = self.last.get(&node_key(mode, tree, node)).copied();
-        let mut unnamed = self.last.get(&any_key(mode)).copied();
+        let mut named = self.last_of(&node_key(mode, tree, node));
+        let mut unnamed = self.last_of(&any_key(mode));
         let mut best = None;
         while let Some(place) = later(named, unnamed) {
             let entry = self.entries[place];

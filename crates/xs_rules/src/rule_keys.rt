@@ -4,7 +4,8 @@ ghost use Rattle.std.specs.Prelude.{◌≡◌, ◌<◌, length, reverse};
 ghost use Rattle.xs_tree.specs.Record.{at};
 ghost use Rattle.xs_xpath.specs.Exprs.{tree_from};
 ghost use Rattle.xs_pattern.specs.Matching.{steps_of};
-ghost use Rattle.xs_rules.specs.steps.Index.{any_key, key_data, last_key, name_key, node_key};
+ghost use Rattle.xs_rules.specs.steps.Index.{any_key, is_key, key_data, last_key, name_key};
+ghost use Rattle.xs_rules.specs.steps.Index.{node_key};
 ghost use Rattle.xs_rules.specs.steps.Index.{step_key, test_key};
 
 use xs_pattern::paths::steps_of;
@@ -83,6 +84,13 @@ fn name_key<'a>(mode: u32, axis: Axis, uri: &'a str, local: &'a str) -> RuleKey<
     }
 }
 
+/// Whether two keys are the same.
+pub(crate) fn is_key(key: &RuleKey<'_>, other: &RuleKey<'_>) -> bool
+    ensures { result ≡ is_key (key_data key.now) (key_data other.now) }
+{
+    key.0 == other.0 && key.1 == other.1 && key.2 == other.2 && key.3 == other.3
+}
+
 /// The key of rules that may match nodes of any name.
 pub(crate) fn any_key<'a>(mode: u32) -> RuleKey<'a>
     ensures { key_data result ≡ any_key mode }
@@ -90,7 +98,7 @@ pub(crate) fn any_key<'a>(mode: u32) -> RuleKey<'a>
     (mode, 0, "", "")
 }
 
-//// The key of the rules that may match a node, and others of its kind and name alone.
+/// The key of the rules that may match a node, and others of its kind and name alone.
 pub(crate) fn node_key(mode: u32, tree: &Tree, node: Node) -> RuleKey<'_>
     requires { node < length tree.now }
     ensures { key_data result ≡ node_key mode (at tree.now node) }

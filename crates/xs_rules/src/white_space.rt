@@ -8,17 +8,15 @@ ghost use Rattle.xs_tree.specs.Record.{at, attributes};
 ghost use Rattle.xs_tree.specs.Shape.{IsTree};
 ghost use Rattle.xs_tree.specs.Stripping.{without};
 ghost use Rattle.xs_rules.specs.WhiteSpace.{is_named, is_space, is_stripped, is_stripped_in};
-ghost use Rattle.xs_rules.specs.WhiteSpace.{preserves, said_by, space_value, stripped, strips};
+ghost use Rattle.xs_rules.specs.WhiteSpace.{preserves, said_by, stripped, strips};
 ghost use Rattle.xs_rules.specs.steps.Strips.{IsStripIndex};
 
 use crate::strip_index::StripIndex;
 use std::alloc::{AllocError, Global};
+use xs_elements::kept::{XML_URI, space_value};
 use xs_sheet::declarations::StripRule;
 use xs_text::is_blank;
 use xs_tree::{Kind, Node, Tree};
-
-/// The namespace of `xml:space` (Namespaces in XML 1.0, 3).
-const XML_URI: &str = "http://www.w3.org/XML/1998/namespace";
 
 /// Strips white space of a source, in time linear in it and in the rules. After a refusal it is as
 /// it was.
@@ -116,19 +114,6 @@ fn said_by_attribute(tree: &Tree, element: Node) -> Option<bool>
 {
     let attribute = space_of(tree, element)?;
     space_value(tree.text(attribute))
-}
-
-// What the value of an `xml:space` says: whether white space is preserved.
-fn space_value(value: &str) -> Option<bool>
-    ensures { result ≡ space_value value.now }
-{
-    if value == "preserve" {
-        return Some(true);
-    }
-    if value == "default" {
-        return Some(false);
-    }
-    None
 }
 
 // The attribute `xml:space` of a node.

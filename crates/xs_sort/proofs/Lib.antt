@@ -1,5 +1,7 @@
+mod FrontLemmas
 pub mod GivenLemmas
 mod InOrderLemmas
 mod OrderLemmas
 mod RowLemmas
+mod ShiftLemmas
 pub mod UnsortedLemmas

@@ -1,6 +1,7 @@
 //! Sorting nodes (XSLT 1.0, 10).
 #![tactic(auto)]
 
+pub mod key_text;
 pub mod keys;
 pub mod laws;
 pub mod orders;

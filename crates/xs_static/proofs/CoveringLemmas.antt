@@ -1,8 +1,7 @@
 -- The least of a list of faults that covers a set is the least of the set.
 use Rattle.std.proofs.Common.{◌≡◌, ◌∙◌, ℕ, ◌<◌, refl, sym, arith, inl, inr, ◌⊎◌, ⊎_elim, List, [], ◌∷◌, ◌++◌, Bool, true, false, Option, Some, None}
-use Rattle.std.proofs.lemmas.Bool.{and_parts, cases_order, eq-eqb, eqb-true, le-leb, leb-false, leb-true, lt-ltb, ltb-true, or_cases, true≢false}
+use Rattle.std.proofs.lemmas.Bool.{and_from, and_parts, cases_order, eq-eqb, eqb-true, le-leb, leb-false, leb-true, lt-ltb, ltb-true, or_cases, or_left, or_right, true≢false}
 use Rattle.std.specs.Prelude.{◌&&◌, ◌||◌, ◌==◌, nat_lt, nat_le, if◌then◌else◌}
-use Rattle.xs_static.proofs.BooleanLemmas.{both-true, or-left, or-right}
 use Rattle.xs_static.specs.declared.fault.StaticFault.{StaticFault}
 use Rattle.xs_static.specs.Faults.{IsLeastOf, is_at_most}
 use Rattle.xs_static.specs.steps.Covering.{AreIn, HasAtMost}
@@ -13,10 +12,10 @@ abbrev pub by_number : ℕ → ℕ → Bool → Bool
 by_number a b rest = nat_lt a b || (a == b && rest)
 
 pub less_number : (a b : ℕ) (rest : Bool) → a < b → by_number a b rest ≡ true
-less_number a b rest h = or-left (nat_lt a b) (a == b && rest) (lt-ltb a b h)
+less_number a b rest h = or_left (nat_lt a b) (a == b && rest) (lt-ltb a b h)
 
 pub same_number : (a b : ℕ) (rest : Bool) → a ≡ b → rest ≡ true → by_number a b rest ≡ true
-same_number a b rest e r = or-right (nat_lt a b) (a == b && rest) (both-true (a == b) rest (eq-eqb a b e) r)
+same_number a b rest e r = or_right (nat_lt a b) (a == b && rest) (and_from (a == b) rest (eq-eqb a b e) r)
 
 by-cases : (a b : ℕ) (rest : Bool) → by_number a b rest ≡ true → (a < b) ⊎ ((a ≡ b) × (rest ≡ true))
 by-cases a b rest h =

@@ -1,5 +1,5 @@
 -- Names that were declared, and what is declared next.
-use Rattle.std.proofs.Common.{◌≡◌, ◌∙◌, ◌<◌, ℕ, zero, suc, ap, refl, sym, subst, arith, Bool, true, false, cond, List, [], ◌∷◌, ◌++◌, append_assoc, ◌==◌, length, map, get_or, Option, None, Some}
+use Rattle.std.proofs.Common.{◌≡◌, ◌∙◌, ◌<◌, ℕ, zero, suc, ap, refl, sym, subst, arith, Bool, true, false, cond, List, [], ◌∷◌, ◌++◌, append_assoc, length, map, get_or, Option, None, Some}
 use Rattle.std.proofs.lemmas.List.{append-nil, length-map}
 use Rattle.std.proofs.lemmas.List.Elements.{All-head, All-tail}
 use Rattle.std.proofs.lemmas.List.Folds.{list_any-append}
@@ -8,7 +8,7 @@ use Rattle.std.specs.List.{All, list_any}
 use Rattle.std.specs.Option.{option_map_or}
 use Rattle.std.specs.Prelude.{◌&&◌, ◌||◌, not, slice_get}
 use Rattle.xs_elements.specs.declared.rows.Row.{Row}
-use Rattle.xs_elements.specs.Nodes.{Name, is_named, is_same_name, own_name}
+use Rattle.xs_elements.specs.Nodes.{Name, is_same_name, own_name}
 use Rattle.xs_elements.specs.Rows.{is_template, is_variable, row_of}
 use Rattle.xs_modules.specs.declared.modules.Module.{Module}
 use Rattle.xs_modules.specs.Numbering.{ModuleData}

@@ -1,8 +1,8 @@
 -- The least number of the faults with a property.
 use Rattle.std.proofs.Common.{◌≡◌, ◌∙◌, ℕ, ◌≤◌, ◌<◌, ap, refl, sym, arith, inl, inr, ◌⊎◌}
-use Rattle.std.proofs.lemmas.Bool.{and_parts, both_ways, cases_lt, eq-eqb, eqb-true, true≢false}
+use Rattle.std.proofs.lemmas.Bool.{and_parts, both_ways, cases_lt, eq-eqb, eqb-true, or_left, or_right, true≢false}
 use Rattle.std.specs.Prelude.{Bool, true, false, ◌&&◌, ◌||◌, ◌==◌, Option, Some, None, min}
-use Rattle.xs_static.proofs.BooleanLemmas.{and-false, or-left, or-right}
+use Rattle.xs_static.proofs.BooleanLemmas.{and-false}
 use Rattle.xs_static.specs.Faults.{Fault, number_of}
 use Rattle.xs_static.specs.steps.Elements.{if_holds}
 use Rattle.xs_static.specs.steps.Least.{lesser}
@@ -32,18 +32,18 @@ module _ (holds p q : Fault → Bool) (both : (f : Fault) → holds f ≡ (p f |
 
   least-of : (x y : ℕ) → IsLeastNumber p (Some x) → IsLeastNumber q (Some y) → ((x < y) ⊎ (y ≤ x)) → IsLeastNumber holds (Some (min x y))
   least-of x y a b (inl s) =
-      ((a.0.0, both a.0.0 ∙ or-left (p a.0.0) (q a.0.0) a.0.1, omega (arith, a.0.2, s)), lower x y a b)
+      ((a.0.0, both a.0.0 ∙ or_left (p a.0.0) (q a.0.0) a.0.1, omega (arith, a.0.2, s)), lower x y a b)
   least-of x y a b (inr s) =
-      ((b.0.0, both b.0.0 ∙ or-right (p b.0.0) (q b.0.0) b.0.1, omega (arith, b.0.2, s)), lower x y a b)
+      ((b.0.0, both b.0.0 ∙ or_right (p b.0.0) (q b.0.0) b.0.1, omega (arith, b.0.2, s)), lower x y a b)
 
   pub joined : (a b : Option ℕ) → IsLeastNumber p a → IsLeastNumber q b → IsLeastNumber holds (lesser a b)
   joined None None a b = λ f. both f ∙ neither (p f) (q f) (a f) (b f)
   joined None (Some y) a b = (
-    (b.0.0, both b.0.0 ∙ or-right (p b.0.0) (q b.0.0) b.0.1, b.0.2),
+    (b.0.0, both b.0.0 ∙ or_right (p b.0.0) (q b.0.0) b.0.1, b.0.2),
     λ f h. b.1 f (not-left (p f) (q f) (a f) (sym (both f) ∙ h)),
   )
   joined (Some x) None a b = (
-    (a.0.0, both a.0.0 ∙ or-left (p a.0.0) (q a.0.0) a.0.1, a.0.2),
+    (a.0.0, both a.0.0 ∙ or_left (p a.0.0) (q a.0.0) a.0.1, a.0.2),
     λ f h. a.1 f (not-right (p f) (q f) (b f) (sym (both f) ∙ h)),
   )
   joined (Some x) (Some y) a b = least-of x y a b (cases_lt x y)

@@ -1,20 +1,20 @@
 -- Local bindings that come into force, and are visible.
-use Rattle.std.proofs.Common.{◌≡◌, ◌∙◌, ◌<◌, ◌≤◌, ◌+◌, ◌-◌, ℕ, zero, suc, ap, refl, sym, subst, arith, Bool, true, false, List, [], ◌∷◌, length, Option, None, Some, ◌⊎◌, inl, inr}
-use Rattle.std.proofs.lemmas.Bool.{and_from, and_parts, and_left, and_right, or_cases, or_left, or_right, lt-ltb, le-ltb, ltb-true, le-leb, leb-true, lt-leb, false≢true, false_from_ne_true}
+use Rattle.std.proofs.Common.{◌≡◌, ◌∙◌, ◌<◌, ◌≤◌, ◌+◌, ◌-◌, ℕ, zero, suc, ap, refl, sym, arith, Bool, true, false, List, [], ◌∷◌, length, Option, None, Some, inl, inr}
+use Rattle.std.proofs.lemmas.Bool.{lt-ltb, le-ltb, ltb-true, le-leb, lt-leb}
 use Rattle.std.specs.List.{list_any, range_with_len}
 use Rattle.std.specs.Option.{option_map_or, option_to_list}
 use Rattle.std.proofs.lemmas.List.Folds.{list_any-append}
 use Rattle.std.proofs.lemmas.List.{reverse-append}
 use Rattle.std.proofs.lemmas.Option.{get_or_from_slice_get, slice_get_within}
-use Rattle.std.specs.Prelude.{◌++◌, ◌&&◌, ◌||◌, get_or, reverse, slice_get, nat_le, nat_lt, not, option_map, if◌then◌else◌}
+use Rattle.std.specs.Prelude.{◌++◌, ◌&&◌, ◌||◌, get_or, reverse, slice_get, nat_le, nat_lt, not, if◌then◌else◌}
 use Rattle.xs_elements.specs.Nodes.{Name, is_named, is_same_name, name_data, own_name}
 use Rattle.xs_structure.proofs.NameLemmas.{bool_same}
-use Rattle.xs_structure.specs.Bindings.{is_local, has_binding, is_visible_as, reaches, shadows, local_name}
+use Rattle.xs_structure.specs.Bindings.{is_local, has_binding, is_visible_as, reaches, local_name}
 use Rattle.xs_static.specs.declared.locals.OpenBinding.{OpenBinding}
-use Rattle.xs_static.specs.steps.Locals.{AreNested, EndFrom, HasEnd, any_visible, comes, comes_as}
+use Rattle.xs_static.specs.steps.Locals.{AreNested, EndFrom, any_visible, comes, comes_as}
 use Rattle.xs_tree.proofs.PlaceLemmas.{range-more}
 use Rattle.xs_tree.proofs.WalkLemmas.{IsPlaced-at, climbs-within, from_earlier, is_inside-within, le_or_gt}
-use Rattle.xs_tree.specs.Record.{Record, at, is_inside, places}
+use Rattle.xs_tree.specs.Record.{Record, at, is_inside}
 use Rattle.xs_tree.specs.Shape.{EndsAt, IsTree}
 
 -- ---- a node by the end of another

@@ -1,8 +1,7 @@
 -- What is known of the modules that were walked.
-use Rattle.std.proofs.Common.{◌≡◌, ◌∙◌, ℕ, suc, zero, ◌+◌, ◌<◌, ◌≤◌, ap, refl, sym, subst, arith, inl, inr, ◌⊎◌, List, [], ◌∷◌, ◌++◌, length, map, take, true, false, Option, Some, Vec}
+use Rattle.std.proofs.Common.{◌≡◌, ◌∙◌, ℕ, suc, zero, ◌+◌, ◌<◌, ◌≤◌, ap, refl, sym, subst, arith, inl, inr, ◌⊎◌, List, [], ◌∷◌, ◌++◌, length, map, take, true, false, Option, Some}
 use Rattle.std.proofs.lemmas.Bool.{cases_lt, false≢true}
 use Rattle.std.proofs.lemmas.List.Elements.{All-head, All-tail, All-weaker}
-use Rattle.std.specs.declared.alloc.Global.{Global}
 use Rattle.std.specs.List.{All}
 use Rattle.std.specs.Option.{option_map_or}
 use Rattle.std.specs.Prelude.{slice_get}
@@ -15,8 +14,12 @@ use Rattle.xs_structure.specs.declared.standing.Standing.{Standing}
 use Rattle.xs_structure.specs.Modules.{records_at}
 use Rattle.xs_static.specs.steps.Found.{module_faults, modules_faults}
 use Rattle.xs_static.specs.steps.Least.{least_of}
-use Rattle.xs_static.specs.steps.Whole.{AreStandings, standings_of}
+use Rattle.xs_static.specs.declared.walk.Walked.{Walked}
+use Rattle.xs_static.specs.steps.Whole.{AreWalked, IsWalked, WalkedData, walked_data, walked_of}
 use Rattle.xs_structure.specs.Places.{HaveLines}
+use Rattle.xs_structure.specs.Scopes.{scopes_in, scopes_of}
+use Rattle.xs_structure.specs.Standing.{standing_of}
+use Rattle.xs_tree.specs.Record.{Record, places}
 use Rattle.xs_tree.specs.Shape.{IsTree}
 
 -- each node has a line
@@ -40,17 +43,19 @@ map-next : {X Y : Type 0} (f : X → Y) (xs : List X) (x : X) → map f (xs ++ x
 map-next f [] x = refl
 map-next f (y ∷ ys) x = ap (λ zs. f y ∷ zs) (map-next f ys x)
 
-abbrev pub items_of : Vec Standing Global → List Standing
-items_of v = v.items
+walked-same : (rs : List Record) (w : Walked) → IsWalked rs w → walked_data w ≡ (map (standing_of rs) (places rs), scopes_of rs)
+walked-same rs w h =
+    ap {B = WalkedData} (λ (ss : List Standing). (ss, scopes_in w.scopes)) h.standings
+    ∙ ap {B = WalkedData} (λ (ps : List (List (List ℕ × List ℕ))). (map (standing_of rs) (places rs), ps)) h.scopes
 
-pub standings_next : (ms : List ModuleData) (n : ℕ) (d : ModuleData) (old : List (Vec Standing Global)) (v : Vec Standing Global)
-    → slice_get ms n ≡ Some d → v.items ≡ standings_of d → AreStandings (take n ms) old → AreStandings (take (n + 1) ms) (old ++ v ∷ [])
-standings_next ms n d old v e h before =
-    map-next items_of old v
-    ∙ ap (λ (s : List Standing). map items_of old ++ s ∷ []) h
-    ∙ ap (λ (ss : List (List Standing)). ss ++ standings_of d ∷ []) before
-    ∙ sym (map-next standings_of (take n ms) d)
-    ∙ sym (ap (map standings_of) (take-next ms n d e))
+pub walked_next : (ms : List ModuleData) (n : ℕ) (d : ModuleData) (old : List Walked) (w : Walked)
+    → slice_get ms n ≡ Some d → IsWalked d.records w → AreWalked (take n ms) old → AreWalked (take (n + 1) ms) (old ++ w ∷ [])
+walked_next ms n d old w e h before =
+    map-next walked_data old w
+    ∙ ap (λ (x : WalkedData). map walked_data old ++ x ∷ []) (walked-same d.records w h)
+    ∙ ap (λ (xs : List WalkedData). xs ++ walked_of d ∷ []) before
+    ∙ sym (map-next walked_of (take n ms) d)
+    ∙ sym (ap (map walked_of) (take-next ms n d e))
 
 last-tree : (ms : List ModuleData) (n m : ℕ) → ((k : ℕ) → k < n → IsTree (records_at ms k)) → IsTree (records_at ms n) → m < n + 1
     → (m < n) ⊎ (n ≤ m) → IsTree (records_at ms m)

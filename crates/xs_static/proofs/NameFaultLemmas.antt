@@ -1,6 +1,6 @@
 -- The faults of names: those of the elements of the top level that repeat a name.
 use Rattle.std.proofs.Common.{◌≡◌, ◌∙◌, ℕ, ◌<◌, ap, refl, sym, subst, arith, inl, inr, ◌⊎◌, ⊎_elim, List, [], ◌∷◌, ◌++◌, append_assoc, length, Bool, true, false, Option, Some, None}
-use Rattle.std.proofs.lemmas.Bool.{and_parts, false≢true, le-leb, or_cases}
+use Rattle.std.proofs.lemmas.Bool.{and_from, and_parts, false≢true, le-leb, or_cases, or_left, or_right}
 use Rattle.std.proofs.lemmas.List.Elements.{All-head, All-tail}
 use Rattle.std.proofs.lemmas.List.Folds.{list_any-append}
 use Rattle.std.specs.List.{All, list_any}
@@ -11,7 +11,6 @@ use Rattle.xs_elements.specs.Nodes.{Name, own_name}
 use Rattle.xs_elements.specs.Reading.{is_seen}
 use Rattle.xs_elements.specs.Rows.{is_template, is_variable, row_of}
 use Rattle.xs_modules.specs.Numbering.{ModuleData}
-use Rattle.xs_static.proofs.BooleanLemmas.{both-true, or-left, or-right}
 use Rattle.xs_static.proofs.CoveringLemmas.{are_in_append, at_most_left, at_most_right, by_number, same_number}
 use Rattle.xs_static.specs.declared.fault.StaticFault.{StaticFault}
 use Rattle.xs_static.specs.Faults.{Fault, double_global, double_template, number_of, Holds, IsStaticFault, is_at_most}
@@ -29,17 +28,17 @@ use Rattle.xs_structure.specs.Order.{declarations}
 here-among : (p : Place) (done rest : List Place) → list_any (is_same_place p) (done ++ p ∷ rest) ≡ true
 here-among p done rest =
     list_any-append (is_same_place p) done (p ∷ rest)
-    ∙ or-right (list_any (is_same_place p) done) (is_same_place p p || list_any (is_same_place p) rest)
-    (or-left (is_same_place p p) (list_any (is_same_place p) rest) (same-place p))
+    ∙ or_right (list_any (is_same_place p) done) (is_same_place p p || list_any (is_same_place p) rest)
+    (or_left (is_same_place p p) (list_any (is_same_place p) rest) (same-place p))
 
 behind : (test : Place → Bool) (p : Place) (done rest : List Place) → list_any test done ≡ true → stands_behind test p (done ++ p ∷ rest) ≡ true
 unfolding stands_behind
 behind test p [] rest h = absurd (false≢true h)
 behind test p (q ∷ qs) rest h =
     ⊎_elim
-    (λ e. or-left (test q && list_any (is_same_place p) (qs ++ p ∷ rest)) (stands_behind test p (qs ++ p ∷ rest))
-    (both-true (test q) (list_any (is_same_place p) (qs ++ p ∷ rest)) e (here-among p qs rest)))
-    (λ e. or-right (test q && list_any (is_same_place p) (qs ++ p ∷ rest)) (stands_behind test p (qs ++ p ∷ rest)) (behind test p qs rest e))
+    (λ e. or_left (test q && list_any (is_same_place p) (qs ++ p ∷ rest)) (stands_behind test p (qs ++ p ∷ rest))
+    (and_from (test q) (list_any (is_same_place p) (qs ++ p ∷ rest)) e (here-among p qs rest)))
+    (λ e. or_right (test q && list_any (is_same_place p) (qs ++ p ∷ rest)) (stands_behind test p (qs ++ p ∷ rest)) (behind test p qs rest e))
     (or_cases (test q) (list_any test qs) h)
 
 -- ---- each fault of names is a static fault
@@ -70,7 +69,7 @@ module _ (ms : List ModuleData) (trees : AreTrees ms) where
       let rs = records_at ms p.0 in
       let both = and_parts (kind (row_of rs p.1))
       (option_map_or (λ name. list_any (declares_again kind ms p name) done) (own_name rs p.1) false) r in
-      both-true (kind (row_of rs p.1))
+      and_from (kind (row_of rs p.1))
       (option_map_or (λ name. stands_behind (declares_again kind ms p name) p (declarations ms)) (own_name rs p.1) false) both.0
       (repeated kind done rest p e (own_name rs p.1) both.1)
 
@@ -86,9 +85,9 @@ module _ (ms : List ModuleData) (trees : AreTrees ms) where
       are_in_append (IsStaticFault ms) (fault_where (repeats is_variable ms done p) p.0 (line_at ms p.0 p.1) 41)
       (fault_where (repeats is_template ms done p) p.0 (line_at ms p.0 p.1) 42)
       (where-static double_global p (repeats is_variable ms done p) (λ h. place-static double_global p declared
-      (both-true (is_seen rs p.1) (is_double is_variable ms p) seen (repeats-double is_variable done rest p e h))))
+      (and_from (is_seen rs p.1) (is_double is_variable ms p) seen (repeats-double is_variable done rest p e h))))
       (where-static double_template p (repeats is_template ms done p) (λ h. place-static double_template p declared
-      (both-true (is_seen rs p.1) (is_double is_template ms p) seen (repeats-double is_template done rest p e h))))
+      (and_from (is_seen rs p.1) (is_double is_template ms p) seen (repeats-double is_template done rest p e h))))
 
   names-sound : (done rest : List Place) → declarations ms ≡ done ++ rest → All (IsDeclared ms) rest → AreIn (IsStaticFault ms) (names_faults ms done rest)
   unfolding names_faults
@@ -110,7 +109,7 @@ module _ (ms : List ModuleData) (kind : Row → Bool) (p : Place) (name : Name) 
 
   repeats-here : (done : List Place) → list_any test done ≡ true → repeats kind ms done p ≡ true
   repeats-here done h =
-      both-true (kind (row_of (records_at ms p.0) p.1))
+      and_from (kind (row_of (records_at ms p.0) p.1))
       (option_map_or (λ name. list_any (declares_again kind ms p name) done) (own_name (records_at ms p.0) p.1) false) is_kind
       (ap (λ o. option_map_or (λ name. list_any (declares_again kind ms p name) done) o false) own ∙ h)
 
@@ -118,11 +117,11 @@ module _ (ms : List ModuleData) (kind : Row → Bool) (p : Place) (name : Name) 
   IsToCome done rest = ((list_any test done && list_any (is_same_place p) rest) ≡ true) ⊎ (stands_behind test p rest ≡ true)
 
   still : (done : List Place) (q : Place) → list_any test done ≡ true → list_any test (done ++ q ∷ []) ≡ true
-  still done q h = list_any-append test done (q ∷ []) ∙ or-left (list_any test done) (list_any test (q ∷ [])) h
+  still done q h = list_any-append test done (q ∷ []) ∙ or_left (list_any test done) (list_any test (q ∷ [])) h
 
   newly : (done : List Place) (q : Place) → test q ≡ true → list_any test (done ++ q ∷ []) ≡ true
   newly done q h =
-      list_any-append test done (q ∷ []) ∙ or-right (list_any test done) (list_any test (q ∷ [])) (or-left (test q) false h)
+      list_any-append test done (q ∷ []) ∙ or_right (list_any test done) (list_any test (q ∷ [])) (or_left (test q) false h)
 
   -- where the next one is this one, or comes later
   next-one : (done : List Place) (q : Place) (qs : List Place) → (IsToCome (done ++ q ∷ []) qs → HasAtMost f (names_faults ms (done ++ q ∷ []) qs))
@@ -134,7 +133,7 @@ module _ (ms : List ModuleData) (kind : Row → Bool) (p : Place) (name : Name) 
       (subst (λ x. HasAtMost f (name_faults ms done x)) (place-same p q same) (met done (repeats-here done seen)))
   next-one done q qs ih seen (inr later) =
       at_most_right f (name_faults ms done q) (names_faults ms (done ++ q ∷ []) qs)
-      (ih (inl (both-true (list_any test (done ++ q ∷ [])) (list_any (is_same_place p) qs) (still done q seen) later)))
+      (ih (inl (and_from (list_any test (done ++ q ∷ [])) (list_any (is_same_place p) qs) (still done q seen) later)))
 
   next-pair : (done : List Place) (q : Place) (qs : List Place) → (IsToCome (done ++ q ∷ []) qs → HasAtMost f (names_faults ms (done ++ q ∷ []) qs))
       → ((test q && list_any (is_same_place p) qs) ≡ true) ⊎ (stands_behind test p qs ≡ true)
@@ -143,7 +142,7 @@ module _ (ms : List ModuleData) (kind : Row → Bool) (p : Place) (name : Name) 
   next-pair done q qs ih (inl h) =
       let both = and_parts (test q) (list_any (is_same_place p) qs) h in
       at_most_right f (name_faults ms done q) (names_faults ms (done ++ q ∷ []) qs)
-      (ih (inl (both-true (list_any test (done ++ q ∷ [])) (list_any (is_same_place p) qs) (newly done q both.0) both.1)))
+      (ih (inl (and_from (list_any test (done ++ q ∷ [])) (list_any (is_same_place p) qs) (newly done q both.0) both.1)))
   next-pair done q qs ih (inr h) = at_most_right f (name_faults ms done q) (names_faults ms (done ++ q ∷ []) qs) (ih (inr h))
 
   comes : (done rest : List Place) → IsToCome done rest → HasAtMost f (names_faults ms done rest)

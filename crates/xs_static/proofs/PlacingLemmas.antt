@@ -1,6 +1,6 @@
 -- Which nodes are misplaced: those that an element that is looked at has among its own.
 use Rattle.std.proofs.Common.{◌≡◌, ◌∙◌, ℕ, suc, zero, ◌+◌, ◌<◌, ◌≤◌, ap, refl, sym, subst, arith, inl, inr, ◌⊎◌, ⊎_elim, List, [], ◌∷◌, filter, cond, length, Bool, true, false, Option, Some, None}
-use Rattle.std.proofs.lemmas.Bool.{and_parts, cases_eq, cases_lt, eq-eqb, eqb-true, false≢true, ne_eqb, or_cases}
+use Rattle.std.proofs.lemmas.Bool.{and_from, and_parts, cases_eq, cases_lt, eq-eqb, eqb-true, false≢true, ne_eqb, or_cases, or_left, or_right}
 use Rattle.std.proofs.lemmas.List.Folds.{list_any-append}
 use Rattle.std.specs.List.{list_all, list_any, range_with_len}
 use Rattle.std.specs.Option.{option_map_or}
@@ -14,7 +14,6 @@ use Rattle.xs_elements.specs.declared.rows.Row.TheVariants.{NoElement, Other}
 use Rattle.xs_elements.specs.Contents.{may_stand}
 use Rattle.xs_elements.specs.Reading.{content_by, is_in_extension, is_none, is_seen, is_shown, reading_by, reading_of, shows, shows_at}
 use Rattle.xs_elements.specs.Rows.{is_document_element, is_top_level, row_named, row_of, xslt_uri}
-use Rattle.xs_static.proofs.BooleanLemmas.{both-true, or-left, or-right}
 use Rattle.xs_static.specs.Placing.{content_before, has_misplaced_text, is_misplaced, is_misplaced_element, lacks_branch, stands_in}
 use Rattle.xs_static.specs.steps.Misplaced.{is_refused, misplaced_nodes, refused}
 use Rattle.xs_structure.proofs.AroundLemmas.{around-some, parent-before}
@@ -36,11 +35,11 @@ first-of false h = h
 -- among those that pass
 module _ (p : ℕ → Bool) (k x : ℕ) (xs : List ℕ) where
   later : (p k ≡ true) × (has_place k xs ≡ true) → (p k ≡ true) × (has_place k (x ∷ xs) ≡ true)
-  later h = (h.0, or-right (x == k) (has_place k xs) h.1)
+  later h = (h.0, or_right (x == k) (has_place k xs) h.1)
 
   at-head : p x ≡ true → (has_place k (filter p xs) ≡ true → (p k ≡ true) × (has_place k xs ≡ true))
       → ((x == k) ≡ true) ⊎ (has_place k (filter p xs) ≡ true) → (p k ≡ true) × (has_place k (x ∷ xs) ≡ true)
-  at-head e ih (inl h) = (subst (λ y. p y ≡ true) (eqb-true x k h) e, or-left (x == k) (has_place k xs) h)
+  at-head e ih (inl h) = (subst (λ y. p y ≡ true) (eqb-true x k h) e, or_left (x == k) (has_place k xs) h)
   at-head e ih (inr h) = later (ih h)
 
   in-cons : (has_place k (filter p xs) ≡ true → (p k ≡ true) × (has_place k xs ≡ true))
@@ -49,14 +48,14 @@ module _ (p : ℕ → Bool) (k x : ℕ) (xs : List ℕ) where
   in-cons ih false e h = later (ih h)
 
   more : (b : Bool) → has_place k (filter p xs) ≡ true → has_place k (cond b (x ∷ filter p xs) (filter p xs)) ≡ true
-  more true h = or-right (x == k) (has_place k (filter p xs)) h
+  more true h = or_right (x == k) (has_place k (filter p xs)) h
   more false h = h
 
   cons-in : p k ≡ true → (has_place k xs ≡ true → has_place k (filter p xs) ≡ true) → ((x == k) ≡ true) ⊎ (has_place k xs ≡ true)
       → has_place k (filter p (x ∷ xs)) ≡ true
   cons-in e ih (inl h) =
       ap (λ (b : Bool). has_place k (cond b (x ∷ filter p xs) (filter p xs))) (subst (λ y. p y ≡ true) (sym (eqb-true x k h)) e)
-      ∙ or-left (x == k) (has_place k (filter p xs)) h
+      ∙ or_left (x == k) (has_place k (filter p xs)) h
   cons-in e ih (inr h) = more (p x) (ih h)
 
 pub in-filter : (p : ℕ → Bool) (k : ℕ) (xs : List ℕ) → has_place k (filter p xs) ≡ true → (p k ≡ true) × (has_place k xs ≡ true)
@@ -82,9 +81,9 @@ next a k h ne = ⊎_elim (λ l. omega (arith, l)) (λ g. absurd (ne (omega (arit
 
 reached : (a n k : ℕ) → a ≤ k → k < a + suc n → (a + 1 ≤ k → k < a + 1 + n → has_place k (range_with_len (a + 1) n) ≡ true)
     → (a ≡ k) ⊎ (a ≡ k → ⊥) → has_place k (range_with_len a (suc n)) ≡ true
-reached a n k h g ih (inl e) = or-left (a == k) (has_place k (range_with_len (a + 1) n)) (eq-eqb a k e)
+reached a n k h g ih (inl e) = or_left (a == k) (has_place k (range_with_len (a + 1) n)) (eq-eqb a k e)
 reached a n k h g ih (inr ne) =
-    or-right (a == k) (has_place k (range_with_len (a + 1) n)) (ih (next a k h ne) (omega (arith, g)))
+    or_right (a == k) (has_place k (range_with_len (a + 1) n)) (ih (next a k h ne) (omega (arith, g)))
 
 range-in : (a n k : ℕ) → a ≤ k → k < a + n → has_place k (range_with_len a n) ≡ true
 range-in a zero k h g = absurd (omega arith)
@@ -111,7 +110,7 @@ module _ (rs : List Record) (tree : IsTree rs) where
 
   child-shown : (n k : ℕ) → (at rs k).parent ≡ Some n → shows (reading_of rs n) (row_of rs k) ≡ true → is_shown rs k ≡ true
   child-shown n k e s =
-      ap (λ o. option_map_or (λ p. shows_at rs p k) o true) e ∙ or-right (is_document_element rs k) (shows (reading_of rs n) (row_of rs k)) s
+      ap (λ o. option_map_or (λ p. shows_at rs p k) o true) e ∙ or_right (is_document_element rs k) (shows (reading_of rs n) (row_of rs k)) s
 
   misplaced-child : (n k : ℕ) → is_element_kind (at rs n).kind ≡ true → (at rs k).parent ≡ Some n → not (stands_in rs n k) ≡ true
       → is_misplaced_element rs k ≡ true
@@ -138,9 +137,9 @@ module _ (rs : List Record) (tree : IsTree rs) where
       (not (is_none (uri_at rs k))) (content_before rs n k) both.1) in (
         within,
         both.0,
-        seen-up k n within e ∙ both-true (is_shown rs k) (is_seen rs n) shown seen,
-        or-left (is_misplaced_element rs k || has_misplaced_text rs k) (lacks_branch rs k)
-            (or-left (is_misplaced_element rs k) (has_misplaced_text rs k) (misplaced-child n k element e both.1)),
+        seen-up k n within e ∙ and_from (is_shown rs k) (is_seen rs n) shown seen,
+        or_left (is_misplaced_element rs k || has_misplaced_text rs k) (lacks_branch rs k)
+            (or_left (is_misplaced_element rs k) (has_misplaced_text rs k) (misplaced-child n k element e both.1)),
       )
 
   own-misplaced : (n k : ℕ) → n < length rs → is_element_kind (at rs n).kind ≡ true → is_seen rs n ≡ true
@@ -181,16 +180,16 @@ module _ (rs : List Record) (tree : IsTree rs) where
   refused-among k p within element seen e refuses =
       let own = has_misplaced_text rs p || lacks_branch rs p in
       let child : is_child rs p k ≡ true =
-      both-true (is_place p (at rs k).parent) (is_child_kind (at rs k).kind) (ap (is_place p) e ∙ eq-eqb p p refl) (element-child (at rs k).kind element) in (
+      and_from (is_place p (at rs k).parent) (is_child_kind (at rs k).kind) (ap (is_place p) e ∙ eq-eqb p p refl) (element-child (at rs k).kind element) in (
         p,
         omega (arith, within, parent-before rs tree k p within e),
         holds-element (is_element_kind (at rs p).kind) (if bytes_eq (uri_at rs p) xslt_uri then row_named (local_at rs p) else Other) (row_of rs k)
             (is_top_level rs p) (is_in_extension rs p) (has rs p (codes "select")) (not (is_none (uri_at rs k))) (content_before rs p k) refuses,
         (and_parts (is_shown rs k) (is_seen rs p) (sym (seen-up k p within e) ∙ seen)).1,
         list_any-append (λ j. j == k) (refused rs p) (if own then p ∷ [] else [])
-            ∙ or-left (has_place k (refused rs p)) (has_place k (if own then p ∷ [] else []))
+            ∙ or_left (has_place k (refused rs p)) (has_place k (if own then p ∷ [] else []))
             (filter-in (is_refused rs p) k (children rs p)
-            (both-true (is_element_kind (at rs k).kind) (not (stands_in rs p k)) element refuses)
+            (and_from (is_element_kind (at rs k).kind) (not (stands_in rs p k)) element refuses)
             (filter-in (is_child rs p) k (places rs) child (range-in 0 (length rs) k (omega arith) (omega (arith, within))))),
       )
 
@@ -208,8 +207,8 @@ module _ (rs : List Record) (tree : IsTree rs) where
         element,
         seen,
         list_any-append (λ j. j == k) (refused rs k) (if own then k ∷ [] else [])
-            ∙ or-right (has_place k (refused rs k)) (has_place k (if own then k ∷ [] else []))
-            (ap (λ (b : Bool). has_place k (if b then k ∷ [] else [])) h ∙ or-left (k == k) false (eq-eqb k k refl)),
+            ∙ or_right (has_place k (refused rs k)) (has_place k (if own then k ∷ [] else []))
+            (ap (λ (b : Bool). has_place k (if b then k ∷ [] else [])) h ∙ or_left (k == k) false (eq-eqb k k refl)),
       )
 
   split-three : (a b c : Bool) → ((a || b) || c) ≡ true → (a ≡ true) ⊎ ((b || c) ≡ true)

@@ -1,5 +1,5 @@
 -- The sets that a declaration uses itself, and the declarations of modules.
-use Rattle.std.proofs.Common.{◌≡◌, ℕ, zero, suc, ◌+◌, ◌-◌, ◌<◌, ◌≤◌, Bool, true, false, List, [], ◌∷◌, ◌++◌, Some, Vec, Global, map, filter, length, get_or, refl, sym, ap, ◌∙◌, arith, append_assoc, inl, inr, take}
+use Rattle.std.proofs.Common.{◌≡◌, ℕ, zero, suc, ◌+◌, ◌-◌, ◌<◌, ◌≤◌, Bool, true, false, List, [], ◌∷◌, ◌++◌, Some, map, filter, length, get_or, refl, sym, ap, ◌∙◌, arith, append_assoc, inl, inr, take}
 use Rattle.std.specs.Prelude.{◌==◌, ◌&&◌, ◌||◌, slice_get, if◌then◌else◌}
 use Rattle.std.specs.List.{flat_map, range_with_len}
 use Rattle.std.specs.Option.{option_map, option_map_or}
@@ -14,11 +14,11 @@ use Rattle.xs_elements.specs.Reading.{is_seen}
 use Rattle.xs_modules.specs.declared.modules.Module.{Module}
 use Rattle.xs_modules.specs.Numbering.{ModuleData}
 use Rattle.xs_modules.specs.Results.{module_data}
-use Rattle.xs_structure.specs.declared.standing.Standing.{Standing}
 use Rattle.xs_structure.specs.Modules.{Place}
 use Rattle.xs_static.specs.Sets.{is_part, named_sets, sets_within}
 use Rattle.xs_static.specs.steps.Circles.{declaration_at, declaration_from, declarations_of, seen_sets}
-use Rattle.xs_static.specs.steps.Whole.{standings_of}
+use Rattle.xs_static.specs.declared.walk.Walked.{Walked}
+use Rattle.xs_static.specs.steps.Whole.{AreWalked, IsWalked, WalkedData, walked_data, walked_of}
 use Rattle.xs_tree.proofs.WalkLemmas.{climbs-within, is_inside-within}
 use Rattle.xs_tree.specs.Record.{Record, is_inside, places}
 use Rattle.xs_tree.specs.Shape.{EndsAt, IsTree}
@@ -160,19 +160,22 @@ pub seen-no : (rs : List Record) (k : ℕ) → is_seen rs k ≡ false → seen_s
 seen-no rs k unseen = ap (λ b. if b then named_sets rs k else []) unseen
 
 -- ---- what is known of one module
-pub table-at : (modules : List Module) (tables : List (Vec Standing Global)) (i : ℕ) (m : Module) (v : Vec Standing Global)
-    → i < length modules → m ≡ get_or modules i m → v ≡ get_or tables i v
-    → map (λ (t : Vec Standing Global). t.items) tables ≡ map standings_of (map module_data modules) → v.items ≡ standings_of (module_data m)
-table-at modules tables i m v lt m-is v-is same =
-    let items : Vec Standing Global → List Standing = λ t. t.items in
-    let long : length (map items tables) ≡ length modules =
-    ap length same ∙ length-map (map module_data modules) standings_of ∙ length-map modules module_data in
-    let count : length (map items tables) ≡ length tables = length-map tables items in
-    let within : i < length tables = omega (arith, long, count) in
-    let there : i < length (map module_data modules) = omega (arith, length-map modules module_data) in
-    ap items v-is ∙ sym (get_or-map items tables i v v.items within) ∙ ap (λ xs. get_or xs i v.items) same
-    ∙ get_or-map standings_of (map module_data modules) i (module_data m) v.items there
-    ∙ ap standings_of (get_or-map module_data modules i m (module_data m) lt) ∙ ap (λ x. standings_of (module_data x)) (sym m-is)
+pub walked-at : (modules : List Module) (all : List Walked) (i : ℕ) (m : Module) (w : Walked)
+    → i < length modules → m ≡ get_or modules i m → w ≡ get_or all i w → AreWalked (map module_data modules) all
+    → IsWalked (module_data m).records w
+walked-at modules all i m w lt m-is w-is same =
+    record { standings = ap (λ (x : WalkedData). x.0) whole; scopes = ap (λ (x : WalkedData). x.1) whole }
+  where
+    whole : walked_data w ≡ walked_of (module_data m)
+    whole =
+        let long : length (map walked_data all) ≡ length modules =
+        ap length same ∙ length-map (map module_data modules) walked_of ∙ length-map modules module_data in
+        let count : length (map walked_data all) ≡ length all = length-map all walked_data in
+        let within : i < length all = omega (arith, long, count) in
+        let there : i < length (map module_data modules) = omega (arith, length-map modules module_data) in
+        ap walked_data w-is ∙ sym (get_or-map walked_data all i w (walked_data w) within) ∙ ap (λ xs. get_or xs i (walked_data w)) same
+        ∙ get_or-map walked_of (map module_data modules) i (module_data m) (walked_data w) there
+        ∙ ap walked_of (get_or-map module_data modules i m (module_data m) lt) ∙ ap (λ x. walked_of (module_data x)) (sym m-is)
 
 pub module-at : (modules : List Module) (i : ℕ) (m : Module) → i < length modules → m ≡ get_or modules i m
     → slice_get (map module_data modules) i ≡ Some (module_data m)

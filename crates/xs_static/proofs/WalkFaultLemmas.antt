@@ -1,6 +1,6 @@
 -- The faults that the walk meets: all are static faults, and no other than those of names and of circles is less than them.
 use Rattle.std.proofs.Common.{◌≡◌, ◌∙◌, ℕ, suc, zero, ◌<◌, ◌≤◌, ap, refl, sym, subst, arith, inl, inr, ◌⊎◌, ⊎_elim, List, [], ◌∷◌, ◌++◌, length, map, Bool, true, false, Option, Some, None}
-use Rattle.std.proofs.lemmas.Bool.{and_parts, both_ways, cases_lt, eq-eqb, eqb-true, false≢true, le-leb, or_cases}
+use Rattle.std.proofs.lemmas.Bool.{and_from, and_parts, both_ways, cases_lt, eq-eqb, eqb-true, false≢true, le-leb, or_cases, or_left, or_right}
 use Rattle.std.specs.Option.{option_map_or}
 use Rattle.std.specs.Prelude.{◌&&◌, ◌||◌, ◌==◌, nat_le, not, get_or, slice_get, if◌then◌else◌}
 use Rattle.xs_elements.specs.declared.forms.Form.{Form}
@@ -10,7 +10,6 @@ use Rattle.xs_elements.specs.Reading.{is_seen}
 use Rattle.xs_elements.specs.Rows.{is_call_template, is_decimal_format, row_of}
 use Rattle.xs_elements.specs.Values.{is_unsupported}
 use Rattle.xs_modules.specs.Numbering.{ModuleData}
-use Rattle.xs_static.proofs.BooleanLemmas.{both-true, or-left, or-right}
 use Rattle.xs_static.proofs.CoveringLemmas.{are_in_append, at_most_left, at_most_right, by_number, same_number}
 use Rattle.xs_static.proofs.ElementLemmas.{attributes_are_least, own_is_least}
 use Rattle.xs_static.proofs.PlacingLemmas.{has_place, misplaced_complete, misplaced_sound}
@@ -83,28 +82,28 @@ module _ (ms : List ModuleData) (m : ℕ) (lines : List ℕ) (names : Names) (kn
 
   -- ---- of an element that is looked at, what holds of it by one part is a fault
   own-holds : (n : ℕ) → is_seen rs n ≡ true → (f : Fault) → has_own rs n f ≡ true → Holds f ms (m, n)
-  own-holds n seen bad_root h = both-true (is_seen rs n) (shows bad_root ms (m, n)) seen h
+  own-holds n seen bad_root h = and_from (is_seen rs n) (shows bad_root ms (m, n)) seen h
   own-holds n seen unsupported h =
-      both-true (is_seen rs n) (shows unsupported ms (m, n)) seen
-      (or-right (some_value rs n is_unsupported) (is_decimal_format (row_of rs n)) h)
+      and_from (is_seen rs n) (shows unsupported ms (m, n)) seen
+      (or_right (some_value rs n is_unsupported) (is_decimal_format (row_of rs n)) h)
   own-holds n seen f h = absurd (false≢true h)
 
   attributes-hold : (n : ℕ) → is_seen rs n ≡ true → (f : Fault) → has_in_attributes rs n (known_here n) f ≡ true → Holds f ms (m, n)
-  attributes-hold n seen bad_syntax h = both-true (is_seen rs n) (shows bad_syntax ms (m, n)) seen h
-  attributes-hold n seen unknown_function h = both-true (is_seen rs n) (shows unknown_function ms (m, n)) seen h
-  attributes-hold n seen arg_count h = both-true (is_seen rs n) (shows arg_count ms (m, n)) seen h
-  attributes-hold n seen bad_literal h = both-true (is_seen rs n) (shows bad_literal ms (m, n)) seen h
-  attributes-hold n seen too_nested h = both-true (is_seen rs n) (shows too_nested ms (m, n)) seen h
-  attributes-hold n seen not_pattern h = both-true (is_seen rs n) (shows not_pattern ms (m, n)) seen h
+  attributes-hold n seen bad_syntax h = and_from (is_seen rs n) (shows bad_syntax ms (m, n)) seen h
+  attributes-hold n seen unknown_function h = and_from (is_seen rs n) (shows unknown_function ms (m, n)) seen h
+  attributes-hold n seen arg_count h = and_from (is_seen rs n) (shows arg_count ms (m, n)) seen h
+  attributes-hold n seen bad_literal h = and_from (is_seen rs n) (shows bad_literal ms (m, n)) seen h
+  attributes-hold n seen too_nested h = and_from (is_seen rs n) (shows too_nested ms (m, n)) seen h
+  attributes-hold n seen not_pattern h = and_from (is_seen rs n) (shows not_pattern ms (m, n)) seen h
   attributes-hold n seen unsupported h =
-      both-true (is_seen rs n) (shows unsupported ms (m, n)) seen
-      (or-left (some_value rs n is_unsupported) (is_decimal_format (row_of rs n)) h)
-  attributes-hold n seen missing_attribute h = both-true (is_seen rs n) (shows missing_attribute ms (m, n)) seen h
-  attributes-hold n seen unknown_attribute h = both-true (is_seen rs n) (shows unknown_attribute ms (m, n)) seen h
-  attributes-hold n seen bad_attribute h = both-true (is_seen rs n) (shows bad_attribute ms (m, n)) seen h
-  attributes-hold n seen unbound_prefix h = both-true (is_seen rs n) (shows unbound_prefix ms (m, n)) seen h
-  attributes-hold n seen unknown_variable h = both-true (is_seen rs n) (shows unknown_variable ms (m, n)) seen h
-  attributes-hold n seen forbidden h = both-true (is_seen rs n) (shows forbidden ms (m, n)) seen h
+      and_from (is_seen rs n) (shows unsupported ms (m, n)) seen
+      (or_left (some_value rs n is_unsupported) (is_decimal_format (row_of rs n)) h)
+  attributes-hold n seen missing_attribute h = and_from (is_seen rs n) (shows missing_attribute ms (m, n)) seen h
+  attributes-hold n seen unknown_attribute h = and_from (is_seen rs n) (shows unknown_attribute ms (m, n)) seen h
+  attributes-hold n seen bad_attribute h = and_from (is_seen rs n) (shows bad_attribute ms (m, n)) seen h
+  attributes-hold n seen unbound_prefix h = and_from (is_seen rs n) (shows unbound_prefix ms (m, n)) seen h
+  attributes-hold n seen unknown_variable h = and_from (is_seen rs n) (shows unknown_variable ms (m, n)) seen h
+  attributes-hold n seen forbidden h = and_from (is_seen rs n) (shows forbidden ms (m, n)) seen h
   attributes-hold n seen f h = absurd (false≢true h)
 
   -- ---- each of the list is a static fault
@@ -122,13 +121,13 @@ module _ (ms : List ModuleData) (m : ℕ) (lines : List ℕ) (names : Names) (kn
   nodes-at : (ks : List ℕ) → ((k : ℕ) → has_place k ks ≡ true → IsStaticFault ms (misplaced_fault m lines k))
       → AreIn (IsStaticFault ms) (map (misplaced_fault m lines) ks)
   nodes-at [] h = tt
-  nodes-at (k ∷ ks) h = (h k (or-left (k == k) (has_place k ks) (eq-eqb k k refl)), nodes-at ks (λ j i. h j (or-right (k == j) (has_place j ks) i)))
+  nodes-at (k ∷ ks) h = (h k (or_left (k == k) (has_place k ks) (eq-eqb k k refl)), nodes-at ks (λ j i. h j (or_right (k == j) (has_place j ks) i)))
 
   misplaced-at : (n k : ℕ) → n < length rs → IsElement n → is_seen rs n ≡ true → has_place k (misplaced_nodes rs n) ≡ true
       → IsStaticFault ms (misplaced_fault m lines k)
   misplaced-at n k within element seen i =
       let s = misplaced_sound rs tree n k within element seen i in
-      static-at misplaced k 37 refl s.0 s.1 (both-true (is_seen rs k) (is_misplaced rs k) s.2 s.3)
+      static-at misplaced k 37 refl s.0 s.1 (and_from (is_seen rs k) (is_misplaced rs k) s.2 s.3)
 
   seen-sound : (n : ℕ) → n < length rs → IsElement n → is_seen rs n ≡ true → AreIn (IsStaticFault ms) (seen_faults m rs lines names n)
   seen-sound n within element seen =
@@ -146,8 +145,8 @@ module _ (ms : List ModuleData) (m : ℕ) (lines : List ℕ) (names : Names) (kn
       (nodes-at (misplaced_nodes rs n) (λ k i. misplaced-at n k within element seen i))
       (are_in_append (IsStaticFault ms) calls shadowed
       (where-sound n within element unknown_template (calls_other names rs n)
-      (λ e. both-true (is_seen rs n) (calls_unknown ms (m, n)) seen (sym (same-calls n) ∙ e)))
-      (where-sound n within element shadowing (shadows rs n) (λ e. both-true (is_seen rs n) (shadows rs n) seen e)))))
+      (λ e. and_from (is_seen rs n) (calls_unknown ms (m, n)) seen (sym (same-calls n) ∙ e)))
+      (where-sound n within element shadowing (shadows rs n) (λ e. and_from (is_seen rs n) (shadows rs n) seen e)))))
 
   seen-if : (n : ℕ) → n < length rs → IsElement n → (b : Bool) → is_seen rs n ≡ b
       → AreIn (IsStaticFault ms) (if b then seen_faults m rs lines names n else [])

@@ -23,16 +23,16 @@ sets_value Copy rs n = value_of rs n [] (codes "use-attribute-sets")
 sets_value Other rs n = value_of rs n xslt_uri (codes "use-attribute-sets")
 sets_value _ rs n = None
 
--- the names that a list of names with white space between them has
+-- the names that a list of names with white space between them has in a scope
 abbrev pub listed : Option Name → List Name
 listed None = []
 listed (Some name) = name ∷ []
 
-abbrev pub names_in : List Record → ℕ → List ℕ → List Name
-names_in rs n value = flat_map (λ word. listed (expanded (scope_at rs n) word)) (words value)
+abbrev pub names_in : List (List ℕ × List ℕ) → List ℕ → List Name
+names_in pairs value = flat_map (λ word. listed (expanded pairs word)) (words value)
 
 abbrev pub named_sets : List Record → ℕ → List Name
-named_sets rs n = option_map_or (names_in rs n) (sets_value (row_of rs n) rs n) []
+named_sets rs n = option_map_or (names_in (scope_at rs n)) (sets_value (row_of rs n) rs n) []
 
 -- the sets that an element and those inside it name, as far as they are looked at
 abbrev pub is_part : List Record → ℕ → ℕ → Bool

@@ -217,10 +217,11 @@ impl Element<'_> {
 
     /// Whether a child is an element that may not stand in this content, after what stands before
     /// it.
-    fn is_refused(&self, content: Content, child: Node, before: Before) -> bool
+    fn is_refused(&self, content: Content, child: Node, row: Row, before: Before) -> bool
         requires at { IsAt self.now }
         requires content { content ≡ content_at (records_of self.now) self.now.node }
         requires inside { child < length (records_of self.now) }
+        requires row { row ≡ row_of (records_of self.now) child }
         requires before { before ≡ before_of (content_before (records_of self.now)
             self.now.node child) }
         ensures { result ≡ is_refused (records_of self.now) self.now.node child }
@@ -229,7 +230,7 @@ impl Element<'_> {
             return false;
         }
         let has_namespace = !self.tree.uri(child).is_empty();
-        !may_stand(content, row_of(self.tree, child), has_namespace, before)
+        !may_stand(content, row, has_namespace, before)
     }
 
     /// Whether a child is a text that is kept.
@@ -252,15 +253,16 @@ impl Element<'_> {
     }
 
     /// What stands behind a child, with what stands before it.
-    fn with_child(&self, before: Before, child: Node) -> Before
+    fn with_child(&self, before: Before, child: Node, row: Row) -> Before
         requires at { IsAt self.now }
         requires inside { child < length (records_of self.now) }
+        requires row { row ≡ row_of (records_of self.now) child }
         ensures { (done : List ℕ) → before ≡ before_of (rows_among (records_of self.now)
             self.now.node done) → result ≡ before_of (rows_among (records_of self.now)
             self.now.node (done ++ child ∷ [])) }
     {
         if self.is_content(child) {
-            before.and(row_of(self.tree, child))
+            before.and(row)
         } else {
             before
         }
@@ -275,9 +277,10 @@ impl Element<'_> {
         let content = self.content();
         let mut before = Before::none();
         for child in self.tree.children(self.node) {
-            let is_refused = self.is_refused(content, child, before);
+            let row = row_of(self.tree, child);
+            let is_refused = self.is_refused(content, child, row, before);
             meet_where(is_refused, module, line_of(lines, child), least);
-            before = self.with_child(before, child);
+            before = self.with_child(before, child, row);
         }
     }
 

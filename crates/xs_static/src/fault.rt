@@ -8,16 +8,15 @@ ghost use Rattle.xs_modules.specs.Sound.{IsSound};
 ghost use Rattle.xs_static.specs.Faults.{IsFirstFault, is_at_most};
 ghost use Rattle.xs_static.specs.steps.Found.{modules_faults};
 ghost use Rattle.xs_static.specs.steps.Least.{any_fault, earlier, fault_of, fault_where, least_of};
-ghost use Rattle.xs_static.specs.steps.Whole.{AreStandings, AreTrees};
+ghost use Rattle.xs_static.specs.steps.Whole.{AreTrees, AreWalked};
 ghost use Rattle.xs_structure.specs.Places.{HaveLines};
 
 use crate::names::Names;
 use crate::sets::first_circle;
-use crate::walk::walk_module;
+use crate::walk::{Walked, walk_module};
 use std::alloc::{AllocError, Global};
 use xs_modules::{Module, Modules};
 use xs_structure::declarations::declarations;
-use xs_structure::standing::Standing;
 
 /// A static fault: the number of its module, its line there, and its own number.
 #[derive(Clone, Copy, PartialEq, Eq, Debug)]
@@ -118,24 +117,23 @@ fn walk_modules<'m>(
     modules: &'m [Module],
     names: &Names<'m>,
     least: &mut Least,
-) -> Result<Vec<Vec<Standing>>, AllocError>
+) -> Result<Vec<Walked>, AllocError>
     requires few { length modules.now ≤ most_modules }
     requires lines { HaveLines (map module_data modules.now) }
-    ensures standings { IfOk result (λ standings. AreStandings (map module_data modules.now)
-        standings.items) }
+    ensures walked { IfOk result (λ all. AreWalked (map module_data modules.now) all.items) }
     ensures trees { OnOk result (AreTrees (map module_data modules.now)) }
     ensures faults { OnOk result (least.new.fault ≡ least_of least.old.fault
         (modules_faults (map module_data modules.now) names.now
         (length (map module_data modules.now)))) }
 {
-    let mut standings = Vec::new(alloc);
+    let mut all = Vec::new(alloc);
     for number in 0..modules.len() {
         let module = &modules[number];
         let _count = module.tree.len();
         let walked = walk_module(alloc, module, number as u32, names, least)?;
-        standings.push(walked)?;
+        all.push(walked)?;
     }
-    Ok(standings)
+    Ok(all)
 }
 
 /// The least static fault of a stylesheet by module, line and number, none where it has none.
@@ -146,7 +144,7 @@ pub fn first_fault(alloc: Global, modules: &Modules) -> Result<Option<StaticFaul
     let mut least = Least::none();
     let declared = declarations(alloc, modules)?;
     let names = Names::of(alloc, modules, &declared, &mut least)?;
-    let standings = walk_modules(alloc, &modules.list, &names, &mut least)?;
-    least.meet_fault(first_circle(alloc, modules, &declared, &standings)?);
+    let walked = walk_modules(alloc, &modules.list, &names, &mut least)?;
+    least.meet_fault(first_circle(alloc, modules, &declared, &walked)?);
     Ok(least.fault)
 }

@@ -5,7 +5,7 @@ ghost use Rattle.std.specs.Prelude.{OnOk};
 ghost use Rattle.std.specs.List.{All};
 ghost use Rattle.xs_static.specs.Declarations.{declared};
 ghost use Rattle.xs_elements.specs.Contents.{is_attribute};
-ghost use Rattle.xs_elements.specs.Nodes.{name_data};
+ghost use Rattle.xs_elements.specs.Nodes.{expanded, name_data};
 ghost use Rattle.xs_elements.specs.Rows.{is_attribute_set, row_of};
 ghost use Rattle.xs_elements.specs.Reading.{is_seen};
 ghost use Rattle.xs_modules.specs.Results.{modules_data};
@@ -16,22 +16,23 @@ ghost use Rattle.xs_static.specs.Sets.{attribute_sets, listed, named_sets, names
 ghost use Rattle.xs_static.specs.Sets.{sets_value, sets_within};
 ghost use Rattle.xs_static.specs.steps.Circles.{circle_at, declaration_at, declaration_from};
 ghost use Rattle.xs_static.specs.steps.Circles.{declarations_of, declared_as, seen_sets};
-ghost use Rattle.xs_structure.specs.Standing.{standing_of};
-ghost use Rattle.xs_static.specs.steps.Whole.{AreStandings};
+ghost use Rattle.xs_static.specs.steps.Whole.{AreWalked, IsWalked};
 ghost use Rattle.xs_structure.specs.Places.{HaveLines, IsIn};
-ghost use Rattle.xs_tree.specs.Record.{places};
 
 use crate::circles::Declaration;
 use crate::fault::StaticFault;
 use crate::numbers::CIRCULAR_SET;
+use crate::walk::Walked;
 use std::alloc::{AllocError, Global};
 use xs_elements::rows::{Row, XSLT_URI, row_of};
-use xs_elements::scope::{Expanded, expanded, own_name, value_of};
+use xs_elements::scope::{Expanded, own_name, value_of};
 use xs_elements::words::first_word;
 use xs_modules::{Module, Modules};
 use xs_structure::places::Place;
-use xs_structure::standing::{Standing, standing_in};
+use xs_structure::standing::standing_in;
+use xs_text::split_qname;
 use xs_tree::{Node, Tree};
+use xs_xpath::scope::Scope;
 
 /// The value of the attribute that names the sets that an element uses, if it has one.
 fn sets_value(tree: &Tree, n: Node) -> Option<&str>
@@ -62,20 +63,31 @@ fn push_name<'m>(name: Option<Expanded<'m>>, out: &mut Vec<Expanded<'m>>) -> Res
     }
 }
 
-/// Adds the names that a list of names at an element has.
+/// The expanded name that a name stands for in a scope: without a prefix it is in no namespace
+/// (XSLT 1.0, 2.4). None where the text is no name, or its prefix is not bound.
+fn expanded<'a>(scope: &'a Scope, name: &'a str) -> Option<Expanded<'a>>
+    ensures { option_map name_data result ≡ expanded scope.now.pairs.items name.now }
+{
+    let (prefix, local) = split_qname(name)?;
+    if prefix.is_empty() {
+        return Some(("", local));
+    }
+    let uri = scope.uri_in(prefix)?;
+    Some((uri, local))
+}
+
+/// Adds the names that a list of names has in a scope.
 fn push_names<'m>(
-    tree: &'m Tree,
-    n: Node,
+    scope: &'m Scope,
     value: &'m str,
     out: &mut Vec<Expanded<'m>>,
 ) -> Result<(), AllocError>
-    requires { n < length tree.now }
     ensures { OnOk result (map name_data out.new.items
-        ≡ map name_data out.old.items ++ names_in tree.now n value.now) }
+        ≡ map name_data out.old.items ++ names_in scope.now.pairs.items value.now) }
 {
     let mut rest = value;
     while let Some((word, behind)) = first_word(rest) {
-        push_name(expanded(tree, n, word), out)?;
+        push_name(expanded(scope, word), out)?;
         rest = behind;
     }
     Ok(())
@@ -84,42 +96,44 @@ fn push_names<'m>(
 /// Adds the sets that a node names.
 fn push_named_sets<'m>(
     tree: &'m Tree,
+    walked: &'m Walked,
     n: Node,
     out: &mut Vec<Expanded<'m>>,
 ) -> Result<(), AllocError>
-    requires { n < length tree.now }
+    requires inside { n < length tree.now }
+    requires walked { IsWalked tree.now walked.now }
     ensures { OnOk result (map name_data out.new.items
         ≡ map name_data out.old.items ++ named_sets tree.now n) }
 {
     match sets_value(tree, n) {
-        Some(value) => push_names(tree, n, value, out),
+        Some(value) => push_names(walked.scopes.get(tree, n), value, out),
         None => Ok(()),
     }
 }
 
 /// Whether a node is looked at.
-fn is_seen(tree: &Tree, standings: &[Standing], n: Node) -> bool
+fn is_seen(tree: &Tree, walked: &Walked, n: Node) -> bool
     requires inside { n < length tree.now }
-    requires table { standings.now ≡ map (standing_of tree.now) (places tree.now) }
+    requires walked { IsWalked tree.now walked.now }
     ensures { result ≡ is_seen tree.now n }
 {
-    standing_in(standings, tree, n).is_seen
+    standing_in(&walked.standings, tree, n).is_seen
 }
 
 /// Adds the sets that a node names, if it is looked at.
 fn push_seen_sets<'m>(
     tree: &'m Tree,
-    standings: &[Standing],
+    walked: &'m Walked,
     n: Node,
     out: &mut Vec<Expanded<'m>>,
 ) -> Result<(), AllocError>
     requires inside { n < length tree.now }
-    requires table { standings.now ≡ map (standing_of tree.now) (places tree.now) }
+    requires walked { IsWalked tree.now walked.now }
     ensures { OnOk result (map name_data out.new.items
         ≡ map name_data out.old.items ++ seen_sets tree.now n) }
 {
-    if is_seen(tree, standings, n) {
-        return push_named_sets(tree, n, out);
+    if is_seen(tree, walked, n) {
+        return push_named_sets(tree, walked, n, out);
     }
     Ok(())
 }
@@ -127,18 +141,18 @@ fn push_seen_sets<'m>(
 /// Adds the sets that an element and those inside it name, as far as they are looked at.
 fn push_sets_within<'m>(
     tree: &'m Tree,
-    standings: &[Standing],
+    walked: &'m Walked,
     n: Node,
     out: &mut Vec<Expanded<'m>>,
 ) -> Result<(), AllocError>
     requires inside { n < length tree.now }
-    requires table { standings.now ≡ map (standing_of tree.now) (places tree.now) }
+    requires walked { IsWalked tree.now walked.now }
     ensures { OnOk result (map name_data out.new.items
         ≡ map name_data out.old.items ++ sets_within tree.now n) }
 {
     let end = tree.subtree_end(n);
     for place in n.place()..end {
-        push_seen_sets(tree, standings, Node::at(place), out)?;
+        push_seen_sets(tree, walked, Node::at(place), out)?;
     }
     Ok(())
 }
@@ -153,17 +167,17 @@ fn is_attribute(row: Row) -> bool
 /// Adds the sets that a child of a declaration uses, which is to be an `xsl:attribute`.
 fn push_attribute_sets<'m>(
     tree: &'m Tree,
-    standings: &[Standing],
+    walked: &'m Walked,
     child: Node,
     out: &mut Vec<Expanded<'m>>,
 ) -> Result<(), AllocError>
     requires inside { child < length tree.now }
-    requires table { standings.now ≡ map (standing_of tree.now) (places tree.now) }
+    requires walked { IsWalked tree.now walked.now }
     ensures { OnOk result (map name_data out.new.items
         ≡ map name_data out.old.items ++ attribute_sets tree.now child) }
 {
     if is_attribute(row_of(tree, child)) {
-        return push_sets_within(tree, standings, child, out);
+        return push_sets_within(tree, walked, child, out);
     }
     Ok(())
 }
@@ -172,17 +186,17 @@ fn push_attribute_sets<'m>(
 fn own_sets<'m>(
     alloc: Global,
     tree: &'m Tree,
-    standings: &[Standing],
+    walked: &'m Walked,
     n: Node,
 ) -> Result<Vec<Expanded<'m>>, AllocError>
     requires inside { n < length tree.now }
-    requires table { standings.now ≡ map (standing_of tree.now) (places tree.now) }
+    requires walked { IsWalked tree.now walked.now }
     ensures { IfOk result (λ sets. map name_data sets.items ≡ own_sets tree.now n) }
 {
     let mut sets = Vec::new(alloc);
-    push_named_sets(tree, n, &mut sets)?;
+    push_named_sets(tree, walked, n, &mut sets)?;
     for child in tree.children(n) {
-        push_attribute_sets(tree, standings, child, &mut sets)?;
+        push_attribute_sets(tree, walked, child, &mut sets)?;
     }
     Ok(sets)
 }
@@ -199,15 +213,14 @@ fn push_named<'m>(
     alloc: Global,
     module: &'m Module,
     number: u32,
-    standings: &[Standing],
+    walked: &'m Walked,
     n: Node,
     name: Option<Expanded<'m>>,
     out: &mut Vec<Declaration<'m>>,
 ) -> Result<(), AllocError>
     requires inside { n < length module.now.tree }
     requires lines { length module.now.lines.items ≡ length module.now.tree }
-    requires table { standings.now
-        ≡ map (standing_of module.now.tree) (places module.now.tree) }
+    requires walked { IsWalked module.now.tree walked.now }
     ensures { OnOk result (map declared out.new.items ≡ map declared out.old.items
         ++ declared_as module.now.tree (slice_index module.now.lines.items n) («number», n)
         (option_map name_data name.entry)) }
@@ -215,7 +228,7 @@ fn push_named<'m>(
     let Some(name) = name else {
         return Ok(());
     };
-    let sets = own_sets(alloc, &module.tree, standings, n)?;
+    let sets = own_sets(alloc, &module.tree, walked, n)?;
     let place = crate::circles::Place {
         module: number,
         line: module.lines[n.place() as usize],
@@ -229,21 +242,20 @@ fn push_in<'m>(
     alloc: Global,
     module: &'m Module,
     number: u32,
-    standings: &[Standing],
+    walked: &'m Walked,
     n: Node,
     out: &mut Vec<Declaration<'m>>,
 ) -> Result<(), AllocError>
     requires inside { n < length module.now.tree }
     requires lines { length module.now.lines.items ≡ length module.now.tree }
-    requires table { standings.now
-        ≡ map (standing_of module.now.tree) (places module.now.tree) }
+    requires walked { IsWalked module.now.tree walked.now }
     ensures { OnOk result (map declared out.new.items ≡ map declared out.old.items
         ++ declaration_from module.now.tree (slice_index module.now.lines.items n)
         («number», n)) }
 {
     if is_attribute_set(row_of(&module.tree, n)) {
         let name = own_name(&module.tree, n);
-        return push_named(alloc, module, number, standings, n, name, out);
+        return push_named(alloc, module, number, walked, n, name, out);
     }
     Ok(())
 }
@@ -252,20 +264,20 @@ fn push_in<'m>(
 fn push_declaration<'m>(
     alloc: Global,
     modules: &'m Modules,
-    standings: &[Vec<Standing>],
+    walked: &'m [Walked],
     place: Place,
     out: &mut Vec<Declaration<'m>>,
 ) -> Result<(), AllocError>
     requires inside { IsIn (modules_data modules.now) place }
     requires lines { HaveLines (modules_data modules.now) }
-    requires standings { AreStandings (modules_data modules.now) standings.now }
+    requires walked { AreWalked (modules_data modules.now) walked.now }
     ensures { OnOk result (map declared out.new.items ≡ map declared out.old.items
         ++ declaration_at (modules_data modules.now) place) }
 {
     let (number, n) = place;
     let module = &modules.list[number as usize];
-    let table = &standings[number as usize];
-    push_in(alloc, module, number, table, n, out)
+    let walked = &walked[number as usize];
+    push_in(alloc, module, number, walked, n, out)
 }
 
 /// The declarations of attribute sets that have names.
@@ -273,37 +285,37 @@ fn declarations<'m>(
     alloc: Global,
     modules: &'m Modules,
     places: &[Place],
-    standings: &[Vec<Standing>],
+    walked: &'m [Walked],
 ) -> Result<Vec<Declaration<'m>>, AllocError>
     requires inside { All (IsIn (modules_data modules.now)) places.now }
     requires lines { HaveLines (modules_data modules.now) }
-    requires standings { AreStandings (modules_data modules.now) standings.now }
+    requires walked { AreWalked (modules_data modules.now) walked.now }
     ensures { IfOk result (λ found. map declared found.items
         ≡ declarations_of (modules_data modules.now) places.now) }
 {
     let mut found = Vec::new(alloc);
     for place in places {
-        push_declaration(alloc, modules, standings, *place, &mut found)?;
+        push_declaration(alloc, modules, walked, *place, &mut found)?;
     }
     Ok(found)
 }
 
 /// The least fault of a declaration of an attribute set whose own sets lead back to its name, by
-/// the declarations of the stylesheet and how the nodes of each module stand.
-pub(crate) fn first_circle(
+/// the declarations of the stylesheet and what the walk over each module left.
+pub(crate) fn first_circle<'m>(
     alloc: Global,
-    modules: &Modules,
+    modules: &'m Modules,
     places: &[Place],
-    standings: &[Vec<Standing>],
+    walked: &'m [Walked],
 ) -> Result<Option<StaticFault>, AllocError>
     requires all { places.now ≡ declarations (modules_data modules.now) }
     requires inside { All (IsIn (modules_data modules.now)) places.now }
     requires lines { HaveLines (modules_data modules.now) }
-    requires standings { AreStandings (modules_data modules.now) standings.now }
+    requires walked { AreWalked (modules_data modules.now) walked.now }
     ensures { IfOk result (λ fault. IsLeastOf
         (λ f. IsStaticFault (modules_data modules.now) f × (f.number ≡ 44)) fault) }
 {
-    let declarations = declarations(alloc, modules, places, standings)?;
+    let declarations = declarations(alloc, modules, places, walked)?;
     let place = crate::circles::first_circle(alloc, &declarations)?;
     Ok(circle_at(place))
 }

@@ -1,6 +1,6 @@
 //! The walk over a module: each node in document order, with what is in force there.
 
-ghost use Rattle.std.specs.Prelude.{◌≡◌, ◌+◌, ◌<◌, length, map, option_map, IfOk, OnOk};
+ghost use Rattle.std.specs.Prelude.{◌≡◌, ◌+◌, ◌<◌, length, option_map, IfOk, OnOk};
 ghost use Rattle.xs_elements.specs.Nodes.{name_data};
 ghost use Rattle.xs_elements.specs.Rows.{row_of};
 ghost use Rattle.xs_static.specs.steps.Elements.{IsAt};
@@ -9,9 +9,9 @@ ghost use Rattle.xs_static.specs.steps.Found.{nodes_faults, seen_faults};
 ghost use Rattle.xs_static.specs.steps.Least.{least_of};
 ghost use Rattle.xs_static.specs.steps.Locals.{AreLocals, EndFrom, open_in};
 ghost use Rattle.xs_static.specs.steps.Walk.{IsSite};
+ghost use Rattle.xs_static.specs.steps.Whole.{IsWalked};
 ghost use Rattle.xs_structure.specs.Bindings.{local_name, shadows};
 ghost use Rattle.xs_structure.specs.Standing.{standing_of};
-ghost use Rattle.xs_tree.specs.Record.{places};
 
 use crate::element::Element;
 use crate::fault::Least;
@@ -20,7 +20,7 @@ use crate::names::Names;
 use crate::numbers::{MODULE_TOO_DEEP, SHADOWING, UNKNOWN_TEMPLATE};
 use crate::variables::Visible;
 use std::alloc::{AllocError, Global};
-use xs_elements::rows::{Row, row_of};
+use xs_elements::rows::Row;
 use xs_elements::scope::{Expanded, own_name};
 use xs_modules::Module;
 use xs_structure::bindings::local_name;
@@ -120,14 +120,12 @@ impl<'w, 'm> Site<'w, 'm> {
     fn meet_element(
         &self,
         n: Node,
-        row: Row,
         standing: Standing,
         locals: &Locals<'m>,
         least: &mut Least,
     ) -> Result<(), AllocError>
         requires site { IsSite self.now }
         requires inside { n < length self.now.tree.now }
-        requires row { row ≡ row_of self.now.tree.now n }
         requires standing { standing ≡ standing_of self.now.tree.now n }
         requires locals { AreLocals self.now.tree.now n locals.now }
         requires passed { EndFrom (n + 1) (open_in locals.now) }
@@ -143,11 +141,11 @@ impl<'w, 'm> Site<'w, 'm> {
         let element = Element {
             tree: self.tree,
             node: n,
-            row,
+            row: standing.row,
             reading: standing.reading,
             preserves: standing.preserves,
         };
-        let name = local_name(self.tree, n, row, true);
+        let name = local_name(self.tree, n, standing.row, true);
         self.meet_seen(&element, name, locals, least)
     }
 
@@ -155,14 +153,12 @@ impl<'w, 'm> Site<'w, 'm> {
     fn meet_node(
         &self,
         n: Node,
-        row: Row,
         standing: Standing,
         locals: &Locals<'m>,
         least: &mut Least,
     ) -> Result<(), AllocError>
         requires site { IsSite self.now }
         requires inside { n < length self.now.tree.now }
-        requires row { row ≡ row_of self.now.tree.now n }
         requires standing { standing ≡ standing_of self.now.tree.now n }
         requires locals { AreLocals self.now.tree.now n locals.now }
         requires passed { EndFrom (n + 1) (open_in locals.now) }
@@ -171,7 +167,7 @@ impl<'w, 'm> Site<'w, 'm> {
             self.now.names.now n)) }
     {
         if is_element(self.tree, n) {
-            return self.meet_element(n, row, standing, locals, least);
+            return self.meet_element(n, standing, locals, least);
         }
         Ok(())
     }
@@ -186,11 +182,10 @@ impl<'w, 'm> Site<'w, 'm> {
             (node_faults self.now.number self.now.tree.now self.now.lines.now
             self.now.names.now n)) }
     {
-        let row = row_of(self.tree, n);
         locals.pass(self.tree, n)?;
         let standing = standing_in(self.standings, self.tree, n);
-        self.meet_node(n, row, standing, locals, least)?;
-        let name = local_name(self.tree, n, row, standing.is_seen);
+        self.meet_node(n, standing, locals, least)?;
+        let name = local_name(self.tree, n, standing.row, standing.is_seen);
         locals.note(self.tree, n, name)?;
         Ok(())
     }
@@ -210,18 +205,23 @@ impl<'w, 'm> Site<'w, 'm> {
     }
 }
 
-/// Meets the faults of the nodes of a module, but for those of its attribute sets. Answers how
-/// its nodes stand.
+/// What the walk over a module leaves: how its nodes stand, and the namespaces in scope at them.
+#[derive(Drop)]
+pub(crate) struct Walked {
+    pub(crate) standings: Vec<Standing>,
+    pub(crate) scopes: Scopes,
+}
+
+/// Meets the faults of the nodes of a module, except those of its attribute sets.
 pub(crate) fn walk_module<'m>(
     alloc: Global,
     module: &'m Module,
     number: u32,
     names: &Names<'m>,
     least: &mut Least,
-) -> Result<Vec<Standing>, AllocError>
+) -> Result<Walked, AllocError>
     requires each { length module.now.lines.items ≡ length module.now.tree }
-    ensures standings { IfOk result (λ standings. standings.items
-        ≡ map (standing_of module.now.tree) (places module.now.tree)) }
+    ensures walked { IfOk result (IsWalked module.now.tree) }
     ensures faults { OnOk result (least.new.fault ≡ least_of least.old.fault
         (nodes_faults number module.now.tree module.now.lines.items names.now
         (length module.now.tree))) }
@@ -238,5 +238,5 @@ pub(crate) fn walk_module<'m>(
         names,
     };
     site.visit_all(least)?;
-    Ok(standings)
+    Ok(Walked { standings, scopes })
 }

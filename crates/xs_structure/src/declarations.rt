@@ -54,7 +54,7 @@ fn is_declaration(tree: &Tree, n: Node) -> bool
     if matches!(tree.kind(n), Kind::Element) && is_top_level(tree, n) {
         return true;
     }
-    matches!(row_of(tree, n), Row::Other) && is_document_element(tree, n)
+    is_document_element(tree, n) && matches!(row_of(tree, n), Row::Other)
 }
 
 /// Adds a node to the declarations of a module, if it is one.

@@ -19,7 +19,7 @@ use crate::in_force::InForce;
 use std::alloc::{AllocError, Global};
 use xs_elements::kept::XML_URI;
 use xs_elements::reading::Reading;
-use xs_elements::rows::{Row, XSLT_URI, is_top_level, row_of};
+use xs_elements::rows::{Row, XSLT_URI, is_top_level};
 use xs_elements::scope::value_of;
 use xs_elements::words::first_word;
 use xs_tree::{Node, Tree};
@@ -148,13 +148,19 @@ impl<'s> Namespaces<'s> {
     }
 
     /// What the next node declares comes into force, by the namespaces in scope there.
-    pub(crate) fn enter(&mut self, tree: &Tree, n: Node, scope: &'s Scope) -> Result<(), AllocError>
+    pub(crate) fn enter(
+        &mut self,
+        tree: &Tree,
+        n: Node,
+        row: Row,
+        scope: &'s Scope,
+    ) -> Result<(), AllocError>
         requires inside { n < length tree.now }
+        requires row { row ≡ row_of tree.now n }
         requires scope { scope.now.pairs.items ≡ scope_at tree.now n }
         requires namespaces { AreNamespaces tree.now n self.old }
         ensures { OnOk result (AreNamespaces tree.now (n + 1) self.new) }
     {
-        let row = row_of(tree, n);
         let end = tree.subtree_end(n);
         let extensions = extension_value(tree, n, row);
         enter_value(&mut self.extensions, scope, extensions, end)?;

@@ -25,6 +25,8 @@ use xs_tree::{Kind, Node, Tree};
 /// How a node stands in its module.
 #[derive(Clone, Copy)]
 pub struct Standing {
+    /// What it is, by its name.
+    pub row: Row,
     /// How many nodes are around it, itself among them.
     pub depth: u32,
     /// How it is read.
@@ -156,16 +158,18 @@ fn is_left_out(tree: &Tree, n: Node, namespaces: &Namespaces<'_>) -> bool
 fn standing_at(
     tree: &Tree,
     n: Node,
+    row: Row,
     namespaces: &Namespaces<'_>,
     parent: Option<Standing>,
 ) -> Standing
     requires inside { n < length tree.now }
+    requires row { row ≡ row_of tree.now n }
     requires namespaces { AreNamespaces tree.now (n + 1) namespaces.now }
     requires parent { parent ≡ option_map (standing_of tree.now) (at tree.now n).parent }
     ensures { result ≡ standing_of tree.now n }
 {
-    let row = row_of(tree, n);
     Standing {
+        row,
         depth: depth_at(tree, n, parent),
         reading: namespaces.reading_of(tree, n, row),
         is_seen: is_seen(tree, n, row, parent),
@@ -183,9 +187,10 @@ pub fn standings(alloc: Global, tree: &Tree, scopes: &Scopes) -> Result<Vec<Stan
     let mut standings = Vec::new(alloc);
     for place in 0..tree.len() as u32 {
         let n = Node::at(place);
-        namespaces.enter(tree, n, scopes.get(tree, n))?;
+        let row = row_of(tree, n);
+        namespaces.enter(tree, n, row, scopes.get(tree, n))?;
         let parent = parent_standing(&standings, tree, n);
-        standings.push(standing_at(tree, n, &namespaces, parent))?;
+        standings.push(standing_at(tree, n, row, &namespaces, parent))?;
     }
     Ok(standings)
 }

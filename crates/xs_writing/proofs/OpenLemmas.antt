@@ -1,5 +1,5 @@
 -- The open elements, with one more.
-use Rattle.std.proofs.Common.{◌≡◌, ℕ, List, [], ◌∷◌, ◌++◌, drop, length, map, refl, reverse, sym, ◌∙◌, ap, subst, append_assoc}
+use Rattle.std.proofs.Common.{◌≡◌, ℕ, List, [], ◌∷◌, ◌++◌, Option, Some, drop, length, map, refl, reverse, sym, ◌∙◌, ap, subst, append_assoc}
 use Rattle.std.proofs.lemmas.List.{length-map, reverse-append}
 use Rattle.xs_pyx.specs.declared.line.Line.{Line}
 use Rattle.xs_pyx.specs.declared.line.Line.TheVariants as line
@@ -10,7 +10,7 @@ use Rattle.xs_writing.specs.Lines.{OpenElement, attribute_lines, declaration, el
 use Rattle.xs_writing.specs.declared.scope.Declared.{Declared}
 use Rattle.xs_writing.specs.declared.tag.StartTag.{StartTag}
 use Rattle.xs_writing.specs.declared.writer.Frame.{Frame}
-use Rattle.xs_writing.specs.steps.Open.{AreTheirs, binding, bindings_of, opened}
+use Rattle.xs_writing.specs.steps.Open.{AreStillTheirs, AreTheirs, binding, bindings_of, in_force, opened}
 use Rattle.xs_writing.specs.steps.Tags.{IsTag}
 
 drop-front : (xs ys : List Binding) → drop (length xs) (xs ++ ys) ≡ ys
@@ -58,17 +58,17 @@ entered_theirs items now f ds new all more is count theirs =
     (subst (AreTheirs (f ∷ reverse items)) (sym is) (one_theirs (reverse items) f ds (bindings_of all) counted theirs))
 
 -- ---- a start tag, by its parts
-pub tag_is : (tag : StartTag) (around : List OpenElement) (name : Label) (es : List Event) (ds m all : List Binding) (start : List ℕ)
+pub tag_is : (tag : StartTag) (around : List OpenElement) (name : Label) (es : List Event) (m all : List Binding) (start : List ℕ)
     (begun first joined last : List Line)
-    → scope_of around ≡ ds ++ outermost → m ≡ bindings_before name es → all ≡ with_attributes m (attributes_in es)
+    → m ≡ bindings_before name es → all ≡ with_attributes m (attributes_in es)
     → last ≡ attribute_lines m (attributes_in es) → start ≡ element_name name
-    → bindings_of tag.declared.items ≡ declared (ds ++ outermost) all → begun ≡ line.Start start ∷ []
+    → bindings_of tag.declared.items ≡ declared (scope_of around) all → begun ≡ line.Start start ∷ []
     → first ≡ map declaration (bindings_of tag.declared.items) → joined ≡ begun ++ first → tag.lines.items ≡ joined ++ last → IsTag tag around name es
 unfolding bindings
-tag_is tag around name es ds m all start begun first joined last inner is whole attributes named new starts firsts more end =
+tag_is tag around name es m all start begun first joined last is whole attributes named new starts firsts more end =
     let bound : all ≡ bindings name es = whole ∙ ap (λ x. with_attributes x (attributes_in es)) is in
     let declares : bindings_of tag.declared.items ≡ declared (scope_of around) (bindings name es) =
-    new ∙ ap (declared (ds ++ outermost)) bound ∙ ap (λ s. declared s (bindings name es)) (sym inner) in
+    new ∙ ap (declared (scope_of around)) bound in
     let lasts : last ≡ attribute_lines (bindings_before name es) (attributes_in es) = attributes ∙ ap (λ x. attribute_lines x (attributes_in es)) is in
     record {
       declared = declares;
@@ -77,3 +77,15 @@ tag_is tag around name es ds m all start begun first joined last inner is whole 
           ∙ ap (λ x. line.Start (element_name name) ∷ x ++ last) (firsts ∙ ap (map declaration) declares)
           ∙ ap (λ x. line.Start (element_name name) ∷ map declaration (declared (scope_of around) (bindings name es)) ++ x) lasts;
     }
+
+-- ---- where it is still known what is in force
+pub still_opened : (around : List OpenElement) (fs : List Frame) (known : Option (List Binding)) (ds : List Binding) → known ≡ Some ds
+    → opened fs (in_force known) ≡ around → opened fs ds ≡ around
+still_opened around fs known ds is view = subst (λ k. opened fs (in_force k) ≡ around) is view
+
+pub still_theirs : (fs : List Frame) (known : Option (List Binding)) (ds : List Binding) → known ≡ Some ds → AreStillTheirs fs known → AreTheirs fs ds
+still_theirs fs known ds is theirs = subst (AreStillTheirs fs) is theirs
+
+pub scope_still : (around : List OpenElement) (fs : List Frame) (known : Option (List Binding)) (ds : List Binding) → known ≡ Some ds
+    → opened fs (in_force known) ≡ around → AreStillTheirs fs known → scope_of around ≡ ds ++ outermost
+scope_still around fs known ds is view theirs = scope_is around fs ds (still_opened around fs known ds is view) (still_theirs fs known ds is theirs)

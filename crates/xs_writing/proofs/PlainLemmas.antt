@@ -1,6 +1,6 @@
 -- A start tag that declares nothing.
 use Rattle.std.proofs.Common.{◌≡◌, ℕ, Bool, true, false, if◌then◌else◌, List, [], ◌∷◌, ◌++◌, Option, None, Some, cond, refl, sym, ◌∙◌, ap, subst, unwrap_or}
-use Rattle.std.proofs.Common.{Result, Ok, Err, IfOk}
+use Rattle.std.proofs.Common.{Result, Ok, Err}
 use Rattle.std.specs.Prelude.{◌&&◌, OnOk, filter, not}
 use Rattle.std.specs.BTreeMap.{insert_entry, is_at}
 use Rattle.std.specs.List.{AllByRecursion}
@@ -17,7 +17,7 @@ use Rattle.xs_trace.specs.Label.{Label}
 use Rattle.xs_trace.specs.declared.event.Event.{Event}
 use Rattle.xs_trace.specs.declared.event.Event.TheVariants.{Start, Space, Attr, Chars, End, Comment, Pi}
 use Rattle.xs_writing.specs.Bindings.{Attribute, Binding, added, attribute_prefix, attributes_in, bindings, bindings_before, binds, declared, is_in_tag, is_new}
-use Rattle.xs_writing.specs.Bindings.{keeps_prefix, needs_prefix, order_of_prefixes, outermost, own_binding, spaces_in, uri_in, with_attribute, with_attributes}
+use Rattle.xs_writing.specs.Bindings.{keeps_prefix, needs_prefix, order_of_prefixes, own_binding, spaces_in, uri_in, with_attribute, with_attributes}
 use Rattle.xs_writing.specs.Bindings.{with_spaces}
 use Rattle.xs_writing.specs.Lines.{OpenElement, attribute_lines, bytes_of, element_name, entered, name_with, scope_of, tag_lines}
 use Rattle.xs_writing.specs.steps.InForce.{are_plain, is_in_force, is_plain, is_plain_tag, keeps_own, own_lines, plain_lines}
@@ -205,19 +205,15 @@ plain_entered around name es h =
     let nothing = declares-nothing (scope_of around) name es h in rw nothing.none refl
 
 -- ---- as the writer has it
-pub plain_here : (around : List OpenElement) (ds : List Binding) (name : Label) (es : List Event) (plain : Bool) → scope_of around ≡ ds ++ outermost
-    → plain ≡ is_plain_tag (ds ++ outermost) name es → plain ≡ true → is_plain_tag (scope_of around) name es ≡ true
-plain_here around ds name es plain inner is h = ap (λ s. is_plain_tag s name es) inner ∙ sym is ∙ h
-
 pub plain_written : {X E : Type 0} (r : Result X E) (around : List OpenElement) (name : Label) (es : List Event) (old new : List ℕ)
     → is_plain_tag (scope_of around) name es ≡ true → new ≡ old ++ bytes_of (plain_lines name es)
     → OnOk r (new ≡ old ++ bytes_of (tag_lines around name es))
 plain_written (Ok x) around name es old new h is = is ∙ ap (λ ls. old ++ bytes_of ls) (plain_lines-are around name es h)
 plain_written (Err e) around name es old new h is = tt
 
-pub plain_opened : {E : Type 0} (r : Result (List OpenElement) E) (around : List OpenElement) (name : Label) (es : List Event) (none : List Binding)
+pub plain_opened : {X E : Type 0} (r : Result X E) (around now : List OpenElement) (name : Label) (es : List Event) (none : List Binding)
     → is_plain_tag (scope_of around) name es ≡ true → none ≡ []
-    → IfOk r (λ w. w ≡ record { name = element_name name; scope = none ++ scope_of around } ∷ around) → IfOk r (λ w. w ≡ entered around name es)
-plain_opened (Ok w) around name es none h no_binding is =
+    → OnOk r (now ≡ record { name = element_name name; scope = none ++ scope_of around } ∷ around) → OnOk r (now ≡ entered around name es)
+plain_opened (Ok x) around now name es none h no_binding is =
     is ∙ ap (λ ds. record { name = element_name name; scope = ds ++ scope_of around } ∷ around) no_binding ∙ sym (plain_entered around name es h)
-plain_opened (Err e) around name es none h no_binding is = tt
+plain_opened (Err e) around now name es none h no_binding is = tt

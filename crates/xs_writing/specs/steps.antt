@@ -3,3 +3,4 @@ pub mod Stream
 pub mod Tables
 pub mod Open
 pub mod Tags
+pub mod Unfolding

@@ -56,6 +56,47 @@ impl ElementName {
     }
 }
 
+/// Appends the line of a text. After a refusal a part of it.
+#[tactic(auto, unfolding(xs_pyx::specs::Writing::written))]
+pub(crate) fn append_chars(out: &mut Vec<u8>, text: &TextBuf) -> Result<(), AllocError>
+    ensures written { OnOk result
+        (out.new.items ≡ out.old.items ++ written (line_of.Chars text.now)) }
+    ensures kept { take (length out.old.items) out.new.items ≡ out.old.items }
+    ensures utf8 { IsUtf8 out.old.items → IsUtf8 out.new.items }
+{
+    append_byte(out, b'-')?;
+    append_data(out, text.as_str())
+}
+
+/// Appends the line of a comment. After a refusal a part of it.
+#[tactic(auto, unfolding(xs_pyx::specs::Writing::written))]
+pub(crate) fn append_comment(out: &mut Vec<u8>, text: &TextBuf) -> Result<(), AllocError>
+    ensures written { OnOk result
+        (out.new.items ≡ out.old.items ++ written (line_of.Comment text.now)) }
+    ensures kept { take (length out.old.items) out.new.items ≡ out.old.items }
+    ensures utf8 { IsUtf8 out.old.items → IsUtf8 out.new.items }
+{
+    append_byte(out, b'C')?;
+    append_data(out, text.as_str())
+}
+
+/// Appends the line of a processing instruction. After a refusal a part of it.
+#[tactic(auto, unfolding(xs_pyx::specs::Writing::written))]
+pub(crate) fn append_instruction(
+    out: &mut Vec<u8>,
+    target: &TextBuf,
+    value: &TextBuf,
+) -> Result<(), AllocError>
+    ensures written { OnOk result
+        (out.new.items ≡ out.old.items ++ written (line_of.Pi target.now value.now)) }
+    ensures kept { take (length out.old.items) out.new.items ≡ out.old.items }
+    ensures utf8 { IsUtf8 out.old.items → IsUtf8 out.new.items }
+{
+    append_byte(out, b'?')?;
+    append_text(out, target.as_str())?;
+    append_value(out, value.as_str())
+}
+
 /// Appends the lines of a start tag that declares nothing, where its attributes keep their
 /// prefixes. After a refusal a part of them.
 #[tactic(auto, unfolding(crate::specs::Lines::bytes_of))]
@@ -146,7 +187,17 @@ fn append_value(out: &mut Vec<u8>, value: &str) -> Result<(), AllocError>
     ensures utf8 { IsUtf8 out.old.items → IsUtf8 out.new.items }
 {
     append_byte(out, b' ')?;
-    append_escaped(out, value)?;
+    append_data(out, value)
+}
+
+/// Appends data and a line feed.
+fn append_data(out: &mut Vec<u8>, text: &str) -> Result<(), AllocError>
+    ensures written { OnOk result
+        (out.new.items ≡ out.old.items ++ escaped text.now ++ line_feed ∷ []) }
+    ensures kept { take (length out.old.items) out.new.items ≡ out.old.items }
+    ensures utf8 { IsUtf8 out.old.items → IsUtf8 out.new.items }
+{
+    append_escaped(out, text)?;
     append_byte(out, b'\n')
 }
 

@@ -15,8 +15,8 @@ use xs_trace::event::Event;
 /// more may be added, are kept.
 #[derive(Drop)]
 pub struct PyxStream<'e> {
-    builder: Builder<'e>,
-    writer: PyxWriter,
+    pub(crate) builder: Builder<'e>,
+    pub(crate) writer: PyxWriter,
 }
 
 impl<'e> PyxStream<'e> {
@@ -43,11 +43,9 @@ impl<'e> PyxStream<'e> {
     {
         let PyxStream {
             mut builder,
-            writer,
+            mut writer,
         } = self;
-        builder.take(event)?;
-        let writer = writer.write(out, builder.settled())?;
-        builder.forget();
+        take_event(&mut builder, &mut writer, out, event)?;
         Ok(PyxStream { builder, writer })
     }
 
@@ -64,4 +62,24 @@ impl<'e> PyxStream<'e> {
         let _writer = writer.write(out, rest.events())?;
         Ok(())
     }
+}
+
+/// Takes an event into a builder, and appends the lines of what stays for good by now. After a
+/// refusal some of them may be there.
+pub(crate) fn take_event<'e>(
+    builder: &mut Builder<'e>,
+    writer: &mut PyxWriter,
+    out: &mut Vec<u8>,
+    event: &'e Event,
+) -> Result<(), AllocError>
+    ensures taken { OnOk result ((old : List ℕ) (es : List Event)
+        → HasTaken (state builder.old) writer.old old out.old.items es
+        → HasTaken (state builder.new) writer.new old out.new.items (es ++ event.now ∷ [])) }
+    ensures kept { take (length out.old.items) out.new.items ≡ out.old.items }
+    ensures utf8 { IsUtf8 out.old.items → IsUtf8 out.new.items }
+{
+    builder.take(event)?;
+    writer.append(out, builder.settled())?;
+    builder.forget();
+    Ok(())
 }

@@ -32,7 +32,7 @@ pub(crate) struct BoundTag {
 
 impl BoundTag {
     /// The line of an attribute is added; no other event is one.
-    #[tactic(auto, unfolding(crate::specs::Lines::attribute_lines, crate::specs::Bindings::with_attributes))]
+    #[tactic(auto, unfolding(crate::specs::steps::Unfolding::attribute_by_attribute))]
     fn with_event(self, alloc: Global, event: &Event) -> Result<BoundTag, AllocError>
         ensures { IfOk result (λ tag. (more : List Attribute)
             → comes_to tag more ≡ comes_to self (cons_option (attribute_of event.now) more)) }
@@ -49,7 +49,7 @@ impl BoundTag {
     }
 
     /// The line of an attribute is added.
-    #[tactic(auto, unfolding(crate::specs::Lines::attribute_lines, crate::specs::Bindings::with_attributes))]
+    #[tactic(auto, unfolding(crate::specs::steps::Unfolding::attribute_by_attribute))]
     fn with_attribute(
         self,
         alloc: Global,
@@ -71,7 +71,7 @@ impl BoundTag {
 }
 
 /// The lines of the attributes among the events after a start, and the bindings after them.
-#[tactic(auto, unfolding(crate::specs::Bindings::attributes_in, crate::specs::Bindings::with_attributes, crate::specs::Lines::attribute_lines))]
+#[tactic(auto, unfolding(crate::specs::steps::Unfolding::attribute_by_attribute))]
 pub(crate) fn bound_attributes(
     alloc: Global,
     bindings: TagBindings,

@@ -49,7 +49,7 @@ impl Model for TagBindings {
 impl TagBindings {
     /// The binding of an element's name, and those of its namespace nodes, among the events after
     /// its start, that bind another prefix.
-    #[tactic(auto, unfolding(crate::specs::Bindings::bindings_before, crate::specs::Bindings::uri_in))]
+    #[tactic(auto, unfolding(crate::specs::steps::Unfolding::space_by_space))]
     pub(crate) fn of(
         alloc: Global,
         name: &Label,
@@ -71,7 +71,7 @@ impl TagBindings {
     }
 
     /// Binds the prefix that an attribute is written with, and answers it.
-    #[tactic(auto, unfolding(crate::specs::Bindings::attribute_prefix, crate::specs::Bindings::with_attribute))]
+    #[tactic(auto, unfolding(crate::specs::steps::Unfolding::one_attribute))]
     pub(crate) fn bind(mut self, name: &Label) -> Result<(TagBindings, TextBuf), AllocError>
         ensures { IfOk result (λ r. (r.0 ≡ with_attribute self name.now)
             × (r.1 ≡ attribute_prefix self name.now)) }
@@ -131,7 +131,7 @@ impl TagBindings {
     }
 
     /// The bindings of the namespace nodes of a start tag are added.
-    #[tactic(auto, unfolding(crate::specs::Bindings::spaces_in, crate::specs::Bindings::with_spaces))]
+    #[tactic(auto, unfolding(crate::specs::steps::Unfolding::space_by_space))]
     fn with_spaces(self, added: &[Event]) -> Result<TagBindings, AllocError>
         ensures { IfOk result (λ m. m ≡ with_spaces self (spaces_in added.now)) }
     {

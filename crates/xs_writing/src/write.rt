@@ -8,7 +8,7 @@ ghost use Rattle.xs_writing.specs.Lines.{pyx};
 ghost use Rattle.xs_writing.specs.steps.Stream.{HasTaken};
 ghost use denote.Ref.{Bor};
 
-use crate::stream::PyxStream;
+use crate::stream::{PyxStream, take_event};
 use std::alloc::AllocError;
 use xs_trace::event::Event;
 
@@ -65,9 +65,13 @@ fn take_all<'e, I: Iterator<Item = &'e Event> + Drop>(
     ensures kept { take (length out.old.items) out.new.items ≡ out.old.items }
     ensures utf8 { IsUtf8 out.old.items → IsUtf8 out.new.items }
 {
-    let mut stream = PyxStream::new(*out.allocator())?;
+    let stream = PyxStream::new(*out.allocator())?;
+    let PyxStream {
+        mut builder,
+        mut writer,
+    } = stream;
     for event in events {
-        stream = stream.take(out, event)?;
+        take_event(&mut builder, &mut writer, out, event)?;
     }
-    Ok(stream)
+    Ok(PyxStream { builder, writer })
 }

@@ -1,16 +1,19 @@
 //! A writer of a result, which takes its events as they come to stay.
 ghost use Rattle.std.specs.Prelude.{◌≡◌, ◌∷◌, ◌++◌, [], IfOk, List, OnOk, length, take};
 ghost use Rattle.std.specs.Str.{IsUtf8};
-ghost use Rattle.xs_pyx.specs.Writing.{written};
 ghost use Rattle.xs_trace.specs.declared.event.Event.{Event};
 ghost use Rattle.xs_trace.specs.declared.event.Event.TheVariants as event_of;
+ghost use Rattle.xs_writing.specs.Bindings.{declared};
 ghost use Rattle.xs_writing.specs.Lines.{bytes_of, element_name, entered, lines, open_after};
 ghost use Rattle.xs_writing.specs.Lines.{scope_of, tag_lines};
+ghost use Rattle.xs_writing.specs.steps.InForce.{is_plain_tag};
 ghost use Rattle.xs_writing.specs.steps.Open.{bindings_of};
 ghost use Rattle.xs_writing.specs.steps.Tags.{IsTag};
 
 use crate::in_force::is_plain_tag;
-use crate::name_lines::{ElementName, append_plain_tag};
+use crate::name_lines::{
+    ElementName, append_chars, append_comment, append_instruction, append_plain_tag,
+};
 use crate::names::name_with;
 use crate::scope::{Declared, Scope};
 use crate::tag::{BoundTag, StartTag, bound_attributes, declaration_lines};
@@ -35,7 +38,8 @@ struct Frame {
 #[derive(Drop)]
 pub struct PyxWriter {
     alloc: Global,
-    scope: Scope,
+    /// What is in force; none after memory ran out, from when on nothing is written.
+    scope: Option<Scope>,
     /// The open elements, the innermost last.
     elements: Vec<Frame>,
 }
@@ -43,13 +47,13 @@ pub struct PyxWriter {
 impl Model for PyxWriter {
     ghost use Rattle.std.specs.Prelude.{List, reverse};
     ghost use Rattle.xs_writing.specs.Lines.{OpenElement};
-    ghost use Rattle.xs_writing.specs.steps.Open.{AreTheirs, opened};
+    ghost use Rattle.xs_writing.specs.steps.Open.{AreStillTheirs, in_force, opened};
 
     ghost Value = { List OpenElement };
 
-    ghost view = { λ w. opened (reverse w.elements.items) w.scope };
+    ghost view = { λ w. opened (reverse w.elements.items) (in_force w.scope) };
 
-    ghost invariant = { λ w. AreTheirs (reverse w.elements.items) w.scope };
+    ghost invariant = { λ w. AreStillTheirs (reverse w.elements.items) w.scope };
 }
 
 impl PyxWriter {
@@ -59,14 +63,13 @@ impl PyxWriter {
     {
         Ok(PyxWriter {
             alloc,
-            scope: Scope::outermost(alloc)?,
+            scope: Some(Scope::outermost(alloc)?),
             elements: Vec::new(alloc),
         })
     }
 
     /// Appends the lines of events that stay. A start tag has to be whole: its namespace nodes and
     /// attributes come in one call with its start. After a refusal some lines may be there.
-    #[tactic(auto, unfolding(crate::specs::Lines::bytes_of, crate::specs::Lines::lines, crate::specs::Lines::open_after))]
     pub fn write(self, out: &mut Vec<u8>, events: &[Event]) -> Result<PyxWriter, AllocError>
         ensures written { OnOk result
             (out.new.items ≡ out.old.items ++ bytes_of (lines self events.now)) }
@@ -75,68 +78,92 @@ impl PyxWriter {
         ensures utf8 { IsUtf8 out.old.items → IsUtf8 out.new.items }
     {
         let mut writer = self;
-        let mut rest = events;
-        while let Some((event, behind)) = rest.split_first() {
-            writer = writer.event(out, event, behind)?;
-            rest = behind;
-        }
+        writer.append(out, events)?;
         Ok(writer)
     }
 
+    /// The same in place. After a refusal every further call may be refused.
+    #[tactic(auto, unfolding(crate::specs::steps::Unfolding::event_by_event))]
+    pub fn append(&mut self, out: &mut Vec<u8>, events: &[Event]) -> Result<(), AllocError>
+        ensures written { OnOk result
+            (out.new.items ≡ out.old.items ++ bytes_of (lines self.old events.now)) }
+        ensures opened { OnOk result (self.new ≡ open_after self.old events.now) }
+        ensures kept { take (length out.old.items) out.new.items ≡ out.old.items }
+        ensures utf8 { IsUtf8 out.old.items → IsUtf8 out.new.items }
+    {
+        let mut rest = events;
+        while let Some((event, behind)) = rest.split_first() {
+            self.event(out, event, behind)?;
+            rest = behind;
+        }
+        Ok(())
+    }
+
     /// Writes an event, after which these come.
-    #[tactic(auto, unfolding(crate::specs::Lines::bytes_of, crate::specs::Lines::lines, crate::specs::Lines::open_after))]
+    #[tactic(auto, unfolding(crate::specs::steps::Unfolding::event_by_event))]
     fn event(
-        self,
+        &mut self,
         out: &mut Vec<u8>,
         event: &Event,
         behind: &[Event],
-    ) -> Result<PyxWriter, AllocError>
-        ensures written { IfOk result (λ writer.
-            out.new.items ++ bytes_of (lines writer behind.now)
-            ≡ out.old.items ++ bytes_of (lines self (event.now ∷ behind.now))) }
-        ensures opened { IfOk result (λ writer.
-            open_after writer behind.now ≡ open_after self (event.now ∷ behind.now)) }
+    ) -> Result<(), AllocError>
+        ensures written { OnOk result
+            (out.new.items ++ bytes_of (lines self.new behind.now)
+            ≡ out.old.items ++ bytes_of (lines self.old (event.now ∷ behind.now))) }
+        ensures opened { OnOk result
+            (open_after self.new behind.now ≡ open_after self.old (event.now ∷ behind.now)) }
         ensures kept { take (length out.old.items) out.new.items ≡ out.old.items }
         ensures utf8 { IsUtf8 out.old.items → IsUtf8 out.new.items }
     {
         match event {
             Event::Start(name) => self.start(out, name, behind),
-            Event::Space { .. } => Ok(self),
-            Event::Attr { .. } => Ok(self),
-            Event::Chars(text) => self.line(out, &Line::Chars(text.copy()?)),
+            Event::Space { .. } => Ok(()),
+            Event::Attr { .. } => Ok(()),
+            Event::Chars(text) => append_chars(out, text),
             Event::End => self.end(out),
-            Event::Comment(text) => self.line(out, &Line::Comment(text.copy()?)),
-            Event::Pi { target, value } => {
-                let line = Line::Pi {
-                    target: target.copy()?,
-                    value: value.copy()?,
-                };
-                self.line(out, &line)
-            }
+            Event::Comment(text) => append_comment(out, text),
+            Event::Pi { target, value } => append_instruction(out, target, value),
         }
     }
 
     /// Writes the start tag of an element, which is then open.
-    fn start(
-        self,
-        out: &mut Vec<u8>,
-        name: &Label,
-        behind: &[Event],
-    ) -> Result<PyxWriter, AllocError>
+    fn start(&mut self, out: &mut Vec<u8>, name: &Label, behind: &[Event]) -> Result<(), AllocError>
         ensures written { OnOk result (out.new.items
-            ≡ out.old.items ++ bytes_of (tag_lines self name.now behind.now)) }
-        ensures opened { IfOk result (λ writer. writer ≡ entered self name.now behind.now) }
+            ≡ out.old.items ++ bytes_of (tag_lines self.old name.now behind.now)) }
+        ensures opened { OnOk result (self.new ≡ entered self.old name.now behind.now) }
         ensures kept { take (length out.old.items) out.new.items ≡ out.old.items }
         ensures utf8 { IsUtf8 out.old.items → IsUtf8 out.new.items }
     {
-        if is_plain_tag(&self.scope, name, behind)? {
+        if self.is_plain_tag(name, behind)? {
             append_plain_tag(out, name, behind)?;
-            let alloc = self.alloc;
-            return self.enter(name, Vec::new(alloc));
+            return self.enter(name, Vec::new(self.alloc));
         }
         let tag = self.start_tag(name, behind)?;
         append_lines(out, &tag.lines)?;
         self.enter(name, tag.declared)
+    }
+
+    /// Whether the start tag of an element declares nothing here, and its attributes keep their
+    /// prefixes.
+    fn is_plain_tag(&self, name: &Label, behind: &[Event]) -> Result<bool, AllocError>
+        ensures { IfOk result (λ holds. holds
+            ≡ is_plain_tag (scope_of self.now) name.now behind.now) }
+    {
+        match &self.scope {
+            Some(scope) => is_plain_tag(scope, name, behind),
+            None => Err(AllocError),
+        }
+    }
+
+    /// The bindings of a start tag that are new here, in their order.
+    fn declared(&self, tag: &TagBindings) -> Result<Vec<Declared>, AllocError>
+        ensures { IfOk result (λ all.
+            bindings_of all.items ≡ declared (scope_of self.now) tag.now) }
+    {
+        match &self.scope {
+            Some(scope) => scope.declared(self.alloc, tag),
+            None => Err(AllocError),
+        }
     }
 
     /// The start tag of an element.
@@ -150,7 +177,7 @@ impl PyxWriter {
             bindings,
             mut lines,
         } = bound_attributes(alloc, bindings, behind)?;
-        let declared = self.scope.declared(alloc, &bindings)?;
+        let declared = self.declared(&bindings)?;
         let name = name_with(alloc, name.prefix(), name.local())?;
         let mut all = Vec::new(alloc);
         all.push(Line::Start(name))?;
@@ -164,71 +191,48 @@ impl PyxWriter {
     }
 
     /// An element is open, with these declarations.
-    fn enter(self, name: &Label, declared: Vec<Declared>) -> Result<PyxWriter, AllocError>
-        ensures { IfOk result (λ writer. writer ≡ record {
+    fn enter(&mut self, name: &Label, declared: Vec<Declared>) -> Result<(), AllocError>
+        ensures { OnOk result (self.new ≡ record {
           name = element_name name.now;
-          scope = bindings_of declared.items ++ scope_of self;
-        } ∷ self) }
+          scope = bindings_of declared.items ++ scope_of self.old;
+        } ∷ self.old) }
     {
-        let PyxWriter {
-            alloc,
-            scope,
-            mut elements,
-        } = self;
-        elements.push(Frame {
-            name: ElementName::of(name)?,
-            declared: declared.len(),
-        })?;
-        let scope = scope.with_recent(name.prefix())?;
-        Ok(PyxWriter {
-            alloc,
-            scope: scope.enter(declared)?,
-            elements,
-        })
-    }
-
-    /// Writes the end of the innermost open element.
-    #[tactic(auto, unfolding(crate::specs::Lines::bytes_of, crate::specs::Lines::lines, crate::specs::Lines::open_after))]
-    fn end(self, out: &mut Vec<u8>) -> Result<PyxWriter, AllocError>
-        ensures written { IfOk result (λ writer. (es : List Event)
-            → out.new.items ++ bytes_of (lines writer es)
-            ≡ out.old.items ++ bytes_of (lines self (event_of.End ∷ es))) }
-        ensures opened { IfOk result (λ writer. (es : List Event)
-            → open_after writer es ≡ open_after self (event_of.End ∷ es)) }
-        ensures kept { take (length out.old.items) out.new.items ≡ out.old.items }
-        ensures utf8 { IsUtf8 out.old.items → IsUtf8 out.new.items }
-    {
-        let PyxWriter {
-            alloc,
-            scope,
-            mut elements,
-        } = self;
-        match elements.pop() {
-            Some(Frame { name, declared }) => {
-                name.append_end(out)?;
-                Ok(PyxWriter {
-                    alloc,
-                    scope: scope.leave(declared)?,
-                    elements,
-                })
+        match self.scope.take() {
+            Some(scope) => {
+                self.elements.push(Frame {
+                    name: ElementName::of(name)?,
+                    declared: declared.len(),
+                })?;
+                let scope = scope.with_recent(name.prefix())?;
+                self.scope = Some(scope.enter(declared)?);
+                Ok(())
             }
-            None => Ok(PyxWriter {
-                alloc,
-                scope,
-                elements,
-            }),
+            None => Err(AllocError),
         }
     }
 
-    /// Writes a line that opens and closes nothing.
-    fn line(self, out: &mut Vec<u8>, line: &Line) -> Result<PyxWriter, AllocError>
-        ensures written { OnOk result (out.new.items ≡ out.old.items ++ written line.now) }
-        ensures same { IfOk result (λ writer. writer ≡ self) }
+    /// Writes the end of the innermost open element.
+    #[tactic(auto, unfolding(crate::specs::steps::Unfolding::event_by_event))]
+    fn end(&mut self, out: &mut Vec<u8>) -> Result<(), AllocError>
+        ensures written { OnOk result ((es : List Event)
+            → out.new.items ++ bytes_of (lines self.new es)
+            ≡ out.old.items ++ bytes_of (lines self.old (event_of.End ∷ es))) }
+        ensures opened { OnOk result ((es : List Event)
+            → open_after self.new es ≡ open_after self.old (event_of.End ∷ es)) }
         ensures kept { take (length out.old.items) out.new.items ≡ out.old.items }
         ensures utf8 { IsUtf8 out.old.items → IsUtf8 out.new.items }
     {
-        write_line(out, line)?;
-        Ok(self)
+        match self.elements.pop() {
+            Some(Frame { name, declared }) => match self.scope.take() {
+                Some(scope) => {
+                    name.append_end(out)?;
+                    self.scope = Some(scope.leave(declared)?);
+                    Ok(())
+                }
+                None => Err(AllocError),
+            },
+            None => Ok(()),
+        }
     }
 }
 

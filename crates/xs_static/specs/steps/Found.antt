@@ -1,10 +1,10 @@
 -- The faults that the walk meets, in its order.
-use Rattle.std.specs.Prelude.{ℕ, zero, suc, ◌==◌, ◌&&◌, ◌||◌, not, Bool, false, List, [], ◌∷◌, ◌++◌, length, map, get_or, slice_get, Option, Some, None, if◌then◌else◌}
+use Rattle.std.specs.Prelude.{ℕ, zero, suc, ◌&&◌, ◌||◌, not, Bool, false, List, [], ◌++◌, length, get_or, slice_get, if◌then◌else◌}
 use Rattle.std.specs.Option.{option_map_or}
 use Rattle.xs_modules.specs.Numbering.{ModuleData}
 use Rattle.xs_elements.specs.declared.forms.Form.{Form}
 use Rattle.xs_elements.specs.Forms.{sees_locals}
-use Rattle.xs_elements.specs.Nodes.{Name, ancestors_or_self, own_name}
+use Rattle.xs_elements.specs.Nodes.{Name, own_name}
 use Rattle.xs_elements.specs.Reading.{is_seen}
 use Rattle.xs_elements.specs.Rows.{row_of, is_call_template}
 use Rattle.xs_structure.specs.Bindings.{has_binding, shadows}
@@ -13,7 +13,7 @@ use Rattle.xs_static.specs.declared.names.Names.{Names}
 use Rattle.xs_static.specs.Faults.{is_too_deep}
 use Rattle.xs_static.specs.steps.Elements.{attributes_least, own_least}
 use Rattle.xs_static.specs.steps.InForce.{is_among}
-use Rattle.xs_static.specs.steps.Least.{any_fault, fault_of, fault_where, least_of}
+use Rattle.xs_static.specs.steps.Least.{any_fault, fault_where}
 use Rattle.xs_static.specs.steps.Misplaced.{misplaced_faults}
 use Rattle.xs_tree.specs.Kinds.{is_element_kind}
 use Rattle.xs_tree.specs.Record.{Record, at}

@@ -1,6 +1,5 @@
 -- The local bindings that are visible where the walk is.
 use Rattle.std.specs.Prelude.{◌≡◌, ℕ, zero, suc, ◌<◌, ◌≤◌, ◌&&◌, ◌||◌, nat_le, nat_lt, Bool, false, List, [], ◌∷◌, length, reverse}
-use Rattle.std.specs.List.{list_any}
 use Rattle.xs_static.specs.declared.locals.Locals.{Locals}
 use Rattle.xs_static.specs.declared.locals.OpenBinding.{OpenBinding}
 use Rattle.xs_structure.specs.Bindings.{is_visible_as}

@@ -1,5 +1,5 @@
 -- The bindings in force and the open elements, as the writer keeps them.
-use Rattle.std.specs.Prelude.{◌≡◌, ℕ, List, [], ◌∷◌, ◌++◌, drop, map}
+use Rattle.std.specs.Prelude.{◌≡◌, ℕ, List, [], ◌∷◌, ◌++◌, Option, None, Some, drop, map}
 use Rattle.xs_writing.specs.Bindings.{Binding, outermost, uri_in}
 use Rattle.xs_writing.specs.Lines.{OpenElement}
 use Rattle.xs_writing.specs.declared.scope.Declared.{Declared}
@@ -34,3 +34,12 @@ opened (f ∷ fs) ds = record { name = f.name; scope = ds ++ outermost } ∷ ope
 abbrev pub AreTheirs : List Frame → List Binding → Type 0
 AreTheirs [] ds = ds ≡ []
 AreTheirs (f ∷ fs) ds = AreTheirs fs (drop f.declared ds)
+
+-- what is in force, where it is known: it is not after memory ran out
+abbrev pub in_force : Option (List Binding) → List Binding
+in_force None = []
+in_force (Some ds) = ds
+
+abbrev pub AreStillTheirs : List Frame → Option (List Binding) → Type 0
+AreStillTheirs fs None = Unit {0}
+AreStillTheirs fs (Some ds) = AreTheirs fs ds

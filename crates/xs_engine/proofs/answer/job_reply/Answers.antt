@@ -1,11 +1,8 @@
-use Rattle.std.proofs.Common.{lit<}
 use Rattle.xs_modules.specs.Results.{modules_data}
 use Rattle.xs_modules.specs.Reading.{refused, unread, out_of_memory}
-use Rattle.xs_engine.specs.ReadBack.{ReadsBackFiles}
 use Rattle.xs_engine.specs.Reply.{job_data}
 use Rattle.xs_engine.proofs.DueLemmas.{module_owed, modules_owed, fault_owed}
 use Rattle.xs_engine.proofs.FetchLemmas.{named, modules_asked, all_asked}
-use Rattle.xs_engine.proofs.ReadBackLemmas.{no_result, reads_modules}
 use Rattle.xs_engine.proofs.answer.job_reply.Goals as goal
 
 -- The modules were read.
@@ -35,8 +32,8 @@ returns-in-Err-Failed-clause-fetches g c =
 pub returns-in-Err-Failed-clause-due : goal.returns-in-Err-Failed-clause-due
 returns-in-Err-Failed-clause-due g c =
     let comes = rw c.in-Err-Failed.field-0-is at c.in-Err-Failed.ensures.modules in
-    fault_owed c.read_fault_reply.result _ (g.L.Library.failed c.args.library.now) (g.L.Library.failed c.read_modules.new.library) c.in-Err-Failed.name
-    comes.fails c.read_fault_reply.ensures
+    fault_owed c.read_fault_reply.result (Unit {0}) _ (g.L.Library.failed c.args.library.now) (g.L.Library.failed c.read_modules.new.library)
+    c.in-Err-Failed.name comes.fails c.read_fault_reply.ensures
 
 pub returns-in-Err-Refused-clause-fetches : goal.returns-in-Err-Refused-clause-fetches
 returns-in-Err-Refused-clause-fetches g c =
@@ -56,22 +53,3 @@ returns-in-Err-NoMemory-clause-fetches g c =
     let comes = rw c.in-Err-NoMemory.field-0-is at c.in-Err-NoMemory.ensures.modules in
     modules_asked (job_data c.args.job.now) (g.L.Library.files c.args.library.now) out_of_memory _ _ _ _
     (named _ _ c.as_str.result.now c.args.job.now.sheet _ _ _ _ c.as_str.ensures.text comes)
-
--- What a result says.
-pub returns-in-Ok-clause-reads_back : goal.returns-in-Ok-clause-reads_back
-returns-in-Ok-clause-reads_back g c =
-    reads_modules c.modules_reply.result (g.L.Library.files c.args.library.now) (job_data c.args.job.now) c.in-Ok.ensures.modules.0
-    (modules_data c.in-Ok.modules) (g.L.Library.asked c.args.library.now) (g.L.Library.asked c.read_modules.new.library)
-    (g.L.Library.failed c.args.library.now) (g.L.Library.failed c.read_modules.new.library)
-    (named _ _ c.as_str.result.now c.args.job.now.sheet _ _ _ _ c.as_str.ensures.text c.in-Ok.ensures.modules.1)
-    c.in-Ok.ensures.modules.2 (rw c.in-Ok.ensures.files at c.modules_reply.ensures.reads_back)
-
-pub returns-in-Err-Failed-clause-reads_back : goal.returns-in-Err-Failed-clause-reads_back
-returns-in-Err-Failed-clause-reads_back g c =
-    no_result c.read_fault_reply.result (λ bytes. ReadsBackFiles (g.L.Library.files c.args.library.now) (job_data c.args.job.now) bytes) _
-    c.read_fault_reply.ensures (lit< tt)
-
-pub returns-in-Err-Refused-clause-reads_back : goal.returns-in-Err-Refused-clause-reads_back
-returns-in-Err-Refused-clause-reads_back g c =
-    no_result c.refused_reply.result (λ bytes. ReadsBackFiles (g.L.Library.files c.args.library.now) (job_data c.args.job.now) bytes) _
-    c.refused_reply.ensures (lit< tt)

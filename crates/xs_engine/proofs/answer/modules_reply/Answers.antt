@@ -1,10 +1,9 @@
-use Rattle.std.proofs.Common.{refl, lit<}
+use Rattle.std.proofs.Common.{refl}
 use Rattle.xs_modules.specs.Results.{modules_data}
-use Rattle.xs_engine.specs.ReadBack.{ReadsBackModules}
 use Rattle.xs_engine.specs.Reply.{job_data}
 use Rattle.xs_engine.proofs.DueLemmas.{checked_owed, run_owed, static_owed}
 use Rattle.xs_engine.proofs.FetchLemmas.{sheet_asked_for, source_left}
-use Rattle.xs_engine.proofs.ReadBackLemmas.{no_result, reads_checked, reads_run}
+use Rattle.xs_well_put.specs.Named.{IsNamedSheet}
 use Rattle.xs_engine.proofs.answer.modules_reply.Goals as goal
 
 -- A run of a compiled stylesheet.
@@ -18,7 +17,9 @@ returns-in-Ok-clause-asks g c =
 pub returns-in-Ok-clause-due : goal.returns-in-Ok-clause-due
 returns-in-Ok-clause-due g c =
     run_owed (g.L.Library.files c.args.library.now) (job_data c.args.job.now) (modules_data c.args.modules.now)
-    (g.L.Library.failed c.args.library.now) (g.L.Library.failed c.run_reply.new.library) c.run_reply.result c.in-Ok.sheet _
+    (g.L.Library.failed c.args.library.now) (g.L.Library.failed c.run_reply.new.library) c.run_reply.result
+    (IsNamedSheet c.in-Ok.sheet) c.in-Ok.sheet _
+    (c.sheets_are_named.ensures (modules_data c.args.modules.now) c.in-Ok.sheet c.requires c.modules_are_trees.ensures c.in-Ok.ensures.stands)
     c.in-Some.is c.in-Ok.ensures.accepted c.in-Ok.ensures.stands c.run_reply.ensures.due
 
 -- A static fault, or want of memory.
@@ -43,21 +44,3 @@ pub returns-in-None-clause-due : goal.returns-in-None-clause-due
 returns-in-None-clause-due g c =
     checked_owed (g.L.Library.files c.args.library.now) (job_data c.args.job.now) (modules_data c.args.modules.now)
     (g.L.Library.failed c.args.library.now) (g.L.Library.failed c.args.library.now) c.check_reply.result c.in-None.is refl c.check_reply.ensures.answer
-
--- What a result says.
-pub returns-in-Ok-clause-reads_back : goal.returns-in-Ok-clause-reads_back
-returns-in-Ok-clause-reads_back g c =
-    reads_run c.run_reply.result (g.L.Library.files c.args.library.now) (job_data c.args.job.now) (modules_data c.args.modules.now) c.in-Ok.sheet _
-    c.in-Some.is c.in-Ok.ensures.stands
-    (c.run_reply.ensures.reads_back
-    (c.sheets_are_named.ensures (modules_data c.args.modules.now) c.in-Ok.sheet c.requires c.modules_are_trees.ensures c.in-Ok.ensures.stands))
-
-pub returns-in-Err-Refused-clause-reads_back : goal.returns-in-Err-Refused-clause-reads_back
-returns-in-Err-Refused-clause-reads_back g c =
-    no_result c.static_reply.result
-    (λ bytes. ReadsBackModules (job_data c.args.job.now).source (g.L.Library.files c.args.library.now) (job_data c.args.job.now)
-    (modules_data c.args.modules.now) bytes) _ c.static_reply.ensures.answer (lit< tt)
-
-pub returns-in-None-clause-reads_back : goal.returns-in-None-clause-reads_back
-returns-in-None-clause-reads_back g c =
-    reads_checked c.check_reply.result (g.L.Library.files c.args.library.now) (job_data c.args.job.now) (modules_data c.args.modules.now) c.in-None.is

@@ -1,5 +1,19 @@
+use Rattle.xs_words.specs.Results.{texts}
+use Rattle.xs_engine.specs.Job.{request_of}
+use Rattle.xs_engine.specs.Reply.{request_data}
+use Rattle.xs_engine.proofs.DueLemmas.{job_owed, usage_owed}
 use Rattle.xs_engine.proofs.FetchLemmas.{nothing_asked}
 use Rattle.xs_engine.proofs.answer.reply_to.Goals as goal
+
+pub returns-in-None-clause-due : goal.returns-in-None-clause-due
+returns-in-None-clause-due g c =
+    job_owed c.job_reply.result (Unit {0}) (g.L.Library.files c.args.library.now) (request_of (texts c.args.words.now)) (request_data c.in-Ok.request)
+    (g.L.Library.failed c.args.library.now) (g.L.Library.failed c.job_reply.new.library) c.in-Ok.ensures c.in-None.is c.job_reply.ensures.due
+
+pub returns-in-Err-Usage-clause-due : goal.returns-in-Err-Usage-clause-due
+returns-in-Err-Usage-clause-due g c =
+    usage_owed c.usage_reply.result (Unit {0}) (g.L.Library.files c.args.library.now) (request_of (texts c.args.words.now))
+    (g.L.Library.failed c.args.library.now) (rw c.in-Err-Usage.field-0-is at c.in-Err-Usage.ensures) c.usage_reply.ensures
 
 pub returns-clause-fetches : goal.returns-clause-fetches
 returns-clause-fetches g c =

@@ -1,10 +1,9 @@
-use Rattle.std.proofs.Common.{[], refl, lit<}
-use Rattle.xs_engine.specs.Job.{inputs_on}
-use Rattle.xs_engine.specs.ReadBack.{ReadsBackInputs}
+use Rattle.std.proofs.Common.{refl}
+use Rattle.xs_making.specs.Laws.{AreWell}
+use Rattle.xs_well_put.specs.Named.{IsNamedSheet}
 use Rattle.xs_engine.specs.Reply.{job_data}
 use Rattle.xs_engine.proofs.DueLemmas.{evaluated_owed, fault_owed, refused_owed}
 use Rattle.xs_engine.proofs.FetchLemmas.{after_source}
-use Rattle.xs_engine.proofs.ReadBackLemmas.{no_result, reads_source}
 use Rattle.xs_engine.proofs.answer.run_reply.Goals as goal
 
 -- The source is asked for.
@@ -31,9 +30,10 @@ returns-in-Err-NoMemory-clause-asks g c =
 pub returns-in-Ok-Ok-clause-due : goal.returns-in-Ok-Ok-clause-due
 returns-in-Ok-Ok-clause-due g c =
     let gives = rw c.in-Ok-Ok.field-0-is at c.in-Ok-Ok.ensures.tree in
+    let well : AreWell c.in-Ok-Ok.tree = rw c.in-Ok-Ok.field-0-is at c.in-Ok-Ok.ensures.well in
     evaluated_owed (g.L.Library.files c.args.library.now) (job_data c.args.job.now) c.args.sheet.now c.args.source.now
     (g.L.Library.failed c.args.library.now) (g.L.Library.failed c.read_source.new.library)
-    c.evaluate.result c.in-Ok-Ok.tree c.as_str.result.now refl c.as_str.ensures.text
+    c.evaluate.result (IsNamedSheet c.args.sheet.now) (AreWell c.in-Ok-Ok.tree) c.in-Ok-Ok.tree c.as_str.result.now well refl c.as_str.ensures.text
     c.in-Ok-Ok.ensures.failed gives c.evaluate.ensures.answer
 
 pub returns-in-Ok-Err-clause-due : goal.returns-in-Ok-Err-clause-due
@@ -41,30 +41,11 @@ returns-in-Ok-Err-clause-due g c =
     let gives = rw c.in-Ok-Err.field-0-is at c.in-Ok-Err.ensures.tree in
     refused_owed (g.L.Library.files c.args.library.now) (job_data c.args.job.now) c.args.sheet.now c.args.source.now
     (g.L.Library.failed c.args.library.now) (g.L.Library.failed c.read_source.new.library)
-    c.refused_reply.result c.in-Ok-Err.fault.number c.in-Ok-Err.fault.line c.as_str.result.now c.as_str.ensures.text
+    c.refused_reply.result (IsNamedSheet c.args.sheet.now) c.in-Ok-Err.fault.number c.in-Ok-Err.fault.line c.as_str.result.now c.as_str.ensures.text
     c.in-Ok-Err.ensures.failed gives c.refused_reply.ensures
 
 pub returns-in-Err-Failed-clause-due : goal.returns-in-Err-Failed-clause-due
 returns-in-Err-Failed-clause-due g c =
     let grew = rw (c.in-Err-Failed.field-0-is, c.as_str.ensures.text) at c.in-Err-Failed.ensures.failed in
-    fault_owed c.read_fault_reply.result _ (g.L.Library.failed c.args.library.now) (g.L.Library.failed c.read_source.new.library) c.args.source.now
-    grew c.read_fault_reply.ensures
-
-pub returns-in-Ok-Ok-clause-reads_back : goal.returns-in-Ok-Ok-clause-reads_back
-returns-in-Ok-Ok-clause-reads_back g c = λ named.
-    let gives = rw c.in-Ok-Ok.field-0-is at c.in-Ok-Ok.ensures.tree in
-    let well = rw c.in-Ok-Ok.field-0-is at c.in-Ok-Ok.ensures.well in
-    reads_source c.evaluate.result (g.L.Library.files c.args.library.now) (job_data c.args.job.now) c.args.sheet.now c.args.source.now
-    c.in-Ok-Ok.tree c.as_str.result.now refl c.as_str.ensures.text gives (c.evaluate.ensures.reads_back named well)
-
-pub returns-in-Ok-Err-clause-reads_back : goal.returns-in-Ok-Err-clause-reads_back
-returns-in-Ok-Err-clause-reads_back g c = λ named.
-    no_result c.refused_reply.result
-    (λ bytes. ReadsBackInputs (g.L.Library.files c.args.library.now) (job_data c.args.job.now) c.args.sheet.now
-    (inputs_on (job_data c.args.job.now) c.args.source.now) [] bytes) _ c.refused_reply.ensures (lit< tt)
-
-pub returns-in-Err-Failed-clause-reads_back : goal.returns-in-Err-Failed-clause-reads_back
-returns-in-Err-Failed-clause-reads_back g c = λ named.
-    no_result c.read_fault_reply.result
-    (λ bytes. ReadsBackInputs (g.L.Library.files c.args.library.now) (job_data c.args.job.now) c.args.sheet.now
-    (inputs_on (job_data c.args.job.now) c.args.source.now) [] bytes) _ c.read_fault_reply.ensures (lit< tt)
+    fault_owed c.read_fault_reply.result (IsNamedSheet c.args.sheet.now) _ (g.L.Library.failed c.args.library.now)
+    (g.L.Library.failed c.read_source.new.library) c.args.source.now grew c.read_fault_reply.ensures

@@ -1,4 +1,3 @@
-use Rattle.std.proofs.Common.{arith}
 use Rattle.xs_block.specs.Chain.{items_of}
 use Rattle.xs_engine.specs.Items.{events_in}
 use Rattle.xs_engine.proofs.ReadBackLemmas.{count_end, count_more, texts_end, texts_more}

@@ -1,35 +1,32 @@
-use Rattle.std.proofs.Common.{refl}
 use Rattle.xs_words.specs.Results.{texts}
 use Rattle.xs_engine.specs.Job.{is_streamed, request_of}
-use Rattle.xs_engine.specs.Reply.{account_of, reply_of}
+use Rattle.xs_engine.specs.Reply.{account_of, answer_of}
 use Rattle.xs_engine.proofs.GivesLemmas.{at_once, gives, gives_nothing, gives_only, nothing_at_once}
 use Rattle.xs_engine.proofs.JobLemmas.{never_streamed}
 use Rattle.xs_engine.proofs.RefusalLemmas.{decides, decides_nothing, listed_fault, never_listed, own_or_cut}
-use Rattle.xs_engine.proofs.ReadBackLemmas.{nothing_read_back, written_read_back}
-use Rattle.xs_engine.specs.ReadBack.{ReadsBackOf}
 use Rattle.xs_engine.proofs.top.transform.Goals as goal
 
 -- There is a reply, and it was written.
 pub returns-in-Ok-clause-gives : goal.returns-in-Ok-clause-gives
 returns-in-Ok-clause-gives g c = λ _. (
-  reply_of c.in-Ok.reply,
-  c.in-Ok.ensures.due,
+  answer_of c.in-Ok.reply c.in-Ok.ensures.due.document,
+  c.in-Ok.ensures.due.answers,
   gives (is_streamed (request_of (texts c.args.words.now))) (account_of c.report_of.result)
       (g.O.Sink.held c.args.out.now) (g.O.Sink.held c.deliver-status.new.out) (g.E.Sink.held c.args.err.now) (g.E.Sink.held c.deliver-status.new.err)
-      (reply_of c.in-Ok.reply) c.deliver-status.result c.report_of.ensures.status c.report_of.ensures.ticks c.report_of.ensures.fault refl
-      c.report_of.ensures.pieces c.deliver-status.ensures.writes,
+      c.in-Ok.reply c.in-Ok.ensures.due.document c.deliver-status.result c.report_of.ensures.status c.report_of.ensures.ticks
+      c.report_of.ensures.fault c.report_of.ensures.pieces c.deliver-status.ensures.writes (c.in-Ok.ensures.due.reads tt),
 )
 
 pub returns-in-Ok-clause-only : goal.returns-in-Ok-clause-only
 returns-in-Ok-clause-only g c =
     gives_only (g.L.Library.files c.args.library.now) _ (g.L.Library.failed c.args.library.now) (g.L.Library.failed c.reply_to.new.library)
-    (reply_of c.in-Ok.reply) (is_streamed (request_of (texts c.args.words.now))) (account_of c.report_of.result)
+    (answer_of c.in-Ok.reply c.in-Ok.ensures.due.document) (is_streamed (request_of (texts c.args.words.now))) (account_of c.report_of.result)
     (g.O.Sink.held c.args.out.now) (g.O.Sink.held c.deliver-status.new.out) (g.E.Sink.held c.args.err.now) (g.E.Sink.held c.deliver-status.new.err)
-    c.in-Ok.ensures.due
+    c.in-Ok.ensures.due.answers
     (gives (is_streamed (request_of (texts c.args.words.now))) (account_of c.report_of.result)
     (g.O.Sink.held c.args.out.now) (g.O.Sink.held c.deliver-status.new.out) (g.E.Sink.held c.args.err.now) (g.E.Sink.held c.deliver-status.new.err)
-    (reply_of c.in-Ok.reply) c.deliver-status.result c.report_of.ensures.status c.report_of.ensures.ticks c.report_of.ensures.fault refl
-    c.report_of.ensures.pieces c.deliver-status.ensures.writes)
+    c.in-Ok.reply c.in-Ok.ensures.due.document c.deliver-status.result c.report_of.ensures.status c.report_of.ensures.ticks
+    c.report_of.ensures.fault c.report_of.ensures.pieces c.deliver-status.ensures.writes (c.in-Ok.ensures.due.reads tt))
 
 pub returns-in-Ok-clause-at_once : goal.returns-in-Ok-clause-at_once
 returns-in-Ok-clause-at_once g c = λ _.
@@ -44,15 +41,19 @@ returns-in-Ok-clause-unstreamed g c = never_streamed (texts c.args.words.now)
 pub returns-in-Ok-clause-refused_only : goal.returns-in-Ok-clause-refused_only
 returns-in-Ok-clause-refused_only g c =
     listed_fault (g.L.Library.files c.args.library.now) (request_of (texts c.args.words.now)) (g.L.Library.failed c.args.library.now)
-    (g.L.Library.failed c.reply_to.new.library) (reply_of c.in-Ok.reply) c.report_of.result.status c.report_of.result.fault c.in-Ok.ensures.due
-    (own_or_cut (reply_of c.in-Ok.reply) c.deliver-status.result c.report_of.result.status c.report_of.ensures.status c.deliver-status.ensures.status)
+    (g.L.Library.failed c.reply_to.new.library) (answer_of c.in-Ok.reply c.in-Ok.ensures.due.document) c.report_of.result.status
+    c.report_of.result.fault c.in-Ok.ensures.due.answers
+    (own_or_cut (answer_of c.in-Ok.reply c.in-Ok.ensures.due.document) c.deliver-status.result c.report_of.result.status c.report_of.ensures.status
+    c.deliver-status.ensures.status)
     c.report_of.ensures.fault
 
 pub returns-in-Ok-clause-decided : goal.returns-in-Ok-clause-decided
 returns-in-Ok-clause-decided g c = λ stays.
     decides (g.L.Library.files c.args.library.now) (request_of (texts c.args.words.now)) (g.L.Library.failed c.args.library.now)
-    (g.L.Library.failed c.reply_to.new.library) (reply_of c.in-Ok.reply) c.report_of.result.status c.in-Ok.ensures.due stays
-    (own_or_cut (reply_of c.in-Ok.reply) c.deliver-status.result c.report_of.result.status c.report_of.ensures.status c.deliver-status.ensures.status)
+    (g.L.Library.failed c.reply_to.new.library) (answer_of c.in-Ok.reply c.in-Ok.ensures.due.document) c.report_of.result.status
+    c.in-Ok.ensures.due.answers stays
+    (own_or_cut (answer_of c.in-Ok.reply c.in-Ok.ensures.due.document) c.deliver-status.result c.report_of.result.status c.report_of.ensures.status
+    c.deliver-status.ensures.status)
 
 -- Memory ran out.
 pub returns-in-Err-clause-refused_only : goal.returns-in-Err-clause-refused_only
@@ -78,14 +79,3 @@ returns-in-Err-clause-at_once g c = λ _.
 
 pub returns-in-Err-clause-unstreamed : goal.returns-in-Err-clause-unstreamed
 returns-in-Err-clause-unstreamed g c = never_streamed (texts c.args.words.now)
-
--- What the lines of the result say.
-pub returns-in-Ok-clause-reads_back : goal.returns-in-Ok-clause-reads_back
-returns-in-Ok-clause-reads_back g c =
-    written_read_back (ReadsBackOf (request_of (texts c.args.words.now)) (g.L.Library.files c.args.library.now)) (reply_of c.in-Ok.reply)
-    c.deliver-status.result c.report_of.result.status (g.O.Sink.held c.args.out.now) (g.O.Sink.held c.deliver-status.new.out)
-    (g.E.Sink.held c.args.err.now) (g.E.Sink.held c.deliver-status.new.err) c.report_of.ensures.status c.deliver-status.ensures.writes
-    c.in-Ok.ensures.reads_back
-
-pub returns-in-Err-clause-reads_back : goal.returns-in-Err-clause-reads_back
-returns-in-Err-clause-reads_back g c = λ ok. absurd (nothing_read_back c.report_of-in-Err.result.status c.report_of-in-Err.ensures.status ok)

@@ -29,11 +29,11 @@ returns c =
     let circle = c.in_ok-first_circle.field-0 in
     record {
       first = first_in_places ms names places c.meet_fault.new.self.fault circle
-          (subst (λ (xs : List Module). AreTrees (map module_data xs)) c.deref-2.ensures.value c.in_ok-standings.ensures.trees)
+          (subst (λ (xs : List Module). AreTrees (map module_data xs)) c.deref-2.ensures.value c.in_ok-walked.ensures.trees)
           c.requires.sound.some (c.deref.ensures.value ∙ c.in_ok-declared.ensures.places) c.in_ok-names.ensures.names c.in_ok-first_circle.ensures
           (c.meet_fault.ensures
           ∙ ap (λ (o : Option StaticFault). least_of o (option_to_list circle))
-          (c.in_ok-standings.ensures.faults
+          (c.in_ok-walked.ensures.faults
           ∙ ap (λ (xs : List Module). least_of c.of.new.least.fault (modules_faults (map module_data xs) names (length (map module_data xs))))
           c.deref-2.ensures.value
           ∙ ap (λ (o : Option StaticFault). least_of o (modules_faults ms names (length ms)))

@@ -1,18 +1,17 @@
-use Rattle.std.proofs.Common.{◌≡◌, ◌∙◌, ◌++◌, List, map, subst, sym, OnOk, ◌<◌, length, arith}
+use Rattle.std.proofs.Common.{◌≡◌, ◌++◌, List, map, subst, sym, OnOk, ◌<◌, length, arith}
 use Rattle.std.proofs.lemmas.List.{length-map}
 use Rattle.xs_static.specs.Circles.{Declared}
 use Rattle.xs_static.specs.Declarations.{declared}
 use Rattle.xs_modules.specs.Results.{module_data, modules_data}
-use Rattle.xs_static.proofs.SetLemmas.{table-at, module-at, declaration-at}
+use Rattle.xs_static.proofs.SetLemmas.{walked-at, module-at, declaration-at}
 use Rattle.xs_static.proofs.sets.push_declaration.Goals as goal
 
-pub push_in-requires-clause-table : goal.push_in-requires-clause-table
-push_in-requires-clause-table c =
+pub push_in-requires-clause-walked : goal.push_in-requires-clause-walked
+push_in-requires-clause-walked c =
     let lt : c.args.place.0 < length c.args.modules.now.list.items =
     omega (arith, c.requires.inside.«module», length-map c.args.modules.now.list.items module_data) in
-    c.deref.ensures.value
-    ∙ table-at c.args.modules.now.list.items c.args.standings.now c.args.place.0 c.index-module.result.now c.index-standings-number.result lt
-    c.index-module.ensures c.index-standings-number.is c.requires.standings
+    walked-at c.args.modules.now.list.items c.args.walked.now c.args.place.0 c.index-module.result.now c.index-walked-number.result lt
+    c.index-module.ensures c.index-walked-number.is c.requires.walked
 
 pub returns : goal.returns
 returns c =

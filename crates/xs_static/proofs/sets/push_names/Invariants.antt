@@ -8,7 +8,7 @@ use Rattle.xs_static.proofs.sets.push_names.Given as goal
 -- what was added, and the names that are left, are all
 abbrev pub invariant-loop-word : goal.invariant-loop-word
 invariant-loop-word l = record {
-  same : map name_data l.out.items ++ names_in l.tree l.n l.rest ≡ map name_data l.initial.out.items ++ names_in l.tree l.n l.value;
+  same : map name_data l.out.items ++ names_in l.scope.pairs.items l.rest ≡ map name_data l.initial.out.items ++ names_in l.scope.pairs.items l.value;
   text : shadow (Utf8 l.rest);
 }
 

@@ -15,9 +15,9 @@ loop-event-init g c = record {
 pub loop-event-preserved : goal.loop-event-preserved
 loop-event-preserved g c = record {
   taken =
-      subst (λ es. HasTaken (state c.in_ok-stream-2.stream.builder) c.in_ok-stream-2.stream.writer c.args.out.now.items c.take.new.out.items es)
+      subst (λ es. HasTaken (state c.take_event.new.builder) c.take_event.new.writer c.args.out.now.items c.take_event.new.out.items es)
       (sym (map-append (λ e. e.now) c.loop-event.yielded (c.in-Some.event ∷ [])))
-      (c.in_ok-stream-2.ensures.taken c.args.out.now.items (map (λ e. e.now) c.loop-event.yielded) c.loop-event.invariant.taken);
-  kept = kept-twice c.args.out.now.items c.loop-event.out.items c.take.new.out.items c.loop-event.invariant.kept c.in_ok-stream-2.ensures.kept;
-  utf8 = λ u. c.in_ok-stream-2.ensures.utf8 (c.loop-event.invariant.utf8 u);
+      (c.in_ok-take_event.ensures.taken c.args.out.now.items (map (λ e. e.now) c.loop-event.yielded) c.loop-event.invariant.taken);
+  kept = kept-twice c.args.out.now.items c.loop-event.out.items c.take_event.new.out.items c.loop-event.invariant.kept c.in_ok-take_event.ensures.kept;
+  utf8 = λ u. c.in_ok-take_event.ensures.utf8 (c.loop-event.invariant.utf8 u);
 }

@@ -1,4 +1,4 @@
-use Rattle.std.proofs.Common.{ℕ, List, false, refl, sym, subst}
+use Rattle.std.proofs.Common.{◌<◌, ℕ, List, false, length, refl, rules, sym, subst}
 use Rattle.std.proofs.lemmas.Result.{err_from_is_err_and}
 use Rattle.xs_sheet.specs.declared.body.InstrKind.{InstrKind}
 use Rattle.xs_sheet.specs.declared.body.SortDecl.{SortDecl}
@@ -42,14 +42,21 @@ pub returns-in_err-name-in-Element-clause-told : goal.returns-in_err-name-in-Ele
 returns-in_err-name-in-Element-clause-told g c =
     let p = err_from_is_err_and c.from_residual-in_err-name-in-Element.result c.from_residual-in_err-name-in-Element.ensures.1 in
     let t : Evaluation = c.args.self.now in
+    let v : Evaluation = c.made_name.new.self in
     let s = g.R.Tally.state c.args.recorder.now in
     let sets = c.in-Element.sets in
     let body = c.in-Element.body in
-    subst (λ (k : InstrKind). IsStepBy {A = Evaluation} {B = Unit {0}} (λ u. t) (begun k c.args.site c.args.scope t s)
+    subst (λ (k : InstrKind). IsStepBy {A = Evaluation} {B = Unit {0}} (λ u. v) (begun k c.args.site c.args.scope t s)
     c.from_residual-in_err-name-in-Element.result (g.R.Tally.state c.made_name.new.recorder)) (sym c.in-Element.is)
     (stack-exit (λ x. x) (name_steps t.world c.args.site c.args.scope.focus (last c.args.scope.seen t.slots) false c.in-Element.name s)
-    (λ label m. element_put label sets body c.args.scope t m) t _ c.from_residual-in_err-name-in-Element.result _ _
+    (λ label m. element_put label sets body c.args.scope t m) v _ c.from_residual-in_err-name-in-Element.result _ _
     (λ label. element-grows label sets body c.args.scope t) p.1 p.2 c.in_err-name-in-Element.ensures.told)
+
+pub begin_element-requires-sync-K : goal.begin_element-requires-sync-K
+begin_element-requires-sync-K g c κs within =
+    let same = c.in_ok-name-in-Element.ensures.same in
+    let node = subst (λ (t : Evaluation). c.args.scope.focus.node < length t.world.tree) (sym same) c.requires.node in
+    (search rules, ((refl, tt), node))
 
 pub returns-in-Number-clause-told : goal.returns-in-Number-clause-told
 returns-in-Number-clause-told g c =

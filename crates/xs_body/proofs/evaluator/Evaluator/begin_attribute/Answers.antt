@@ -1,7 +1,7 @@
 use Rattle.std.proofs.lemmas.Result.{err_from_is_err_and}
-use Rattle.std.proofs.Common.{true}
+use Rattle.std.proofs.Common.{◌<◌, length, refl, rules, subst, sym, true}
 use Rattle.xs_semantics.specs.declared.made.Made.TheVariants as made
-use Rattle.xs_body.specs.steps.Frames.{last, made_begun}
+use Rattle.xs_body.specs.steps.Frames.{Evaluation, last, made_begun}
 use Rattle.xs_body.specs.steps.Making.{name_steps}
 use Rattle.xs_body.proofs.ExitLemmas.{stack-exit}
 use Rattle.xs_body.proofs.GrowthLemmas.{made-grows}
@@ -15,3 +15,8 @@ returns-in_err-name-clause-told g c =
     (name_steps t.world c.args.site c.args.scope.focus (last c.args.scope.seen t.slots) true c.args.name.now (g.R.Tally.state c.args.recorder.now))
     (λ label m. made_begun (made.Attribute label) c.args.body.now c.args.site c.args.scope t m) _ _ c.from_residual.result _ _
     (λ label. made-grows (made.Attribute label) c.args.body.now c.args.site c.args.scope t) p.1 p.2 c.in_err-name.ensures.told
+
+pub begin_made-requires-sync-K : goal.begin_made-requires-sync-K
+begin_made-requires-sync-K g c κs within =
+    let node = subst (λ (t : Evaluation). c.args.scope.focus.node < length t.world.tree) (sym c.in_ok-name.ensures.same) c.requires.node in
+    (search rules, ((refl, tt), node))

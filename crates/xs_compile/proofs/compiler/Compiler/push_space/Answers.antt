@@ -26,7 +26,7 @@ returns c =
     let ready = c.requires.ready in
     let tree = tree-at ms c.args.self.now.locals.items ready.state.locals c.args.number ready.within.«module» in
     let old = c.args.spaces.now.items in
-    c.in_ok-push.ensures.items ∙ ap (λ (x : List ℕ × List ℕ). old ++ x ∷ []) c.in_ok-pair.ensures
+    c.in_ok-push.ensures.items ∙ ap (λ (x : List ℕ × List ℕ). old ++ x ∷ []) (c.in_ok-pair.ensures ∙ c.requires.pair)
     ∙ sym (ap (λ (b : Bool). if b then old else old ++ pair_at rs c.args.space ∷ [])
     (sym (space-left-out rs tree c.args.n c.args.space c.requires.inside c.requires.space)
     ∙ sym (ap (λ (s : Standing). s.is_left_out) c.standing.ensures) ∙ c.if-standing.false))

@@ -1,6 +1,6 @@
 use Rattle.std.proofs.Common.{◌∙◌, ◌++◌, ◌∷◌, [], ap, append_assoc, filter, map, sym, ℕ, List}
 use Rattle.std.specs.Prelude.{not}
-use Rattle.xs_compile.proofs.MakingLemmas.{spaces-more}
+use Rattle.xs_compile.proofs.MakingLemmas.{pair-next, pair-none, spaces-more}
 use Rattle.xs_structure.specs.Excluded.{is_left_out}
 use Rattle.xs_compile.specs.steps.State.{modules_of}
 use Rattle.xs_elements.specs.Nodes.{pair_at}
@@ -30,8 +30,22 @@ loop-space-preserved c =
       append_assoc c.loop-space.yielded (c.in-Some.space ∷ []) c.next.new.self
           ∙ ap (λ (xs : List ℕ). c.loop-space.yielded ++ xs) (sym c.in-Some.ensures.steps) ∙ c.loop-space.invariant.2,
       spaces-more (λ s. is_left_out rs n (at rs s).text) (pair_at rs) c.in-Some.space c.next.new.self c.loop-space.spaces.items c.push_space.new.spaces.items _
-          c.in_ok-push_space.ensures
+          c.in_ok-push_space-in-Some-split_first.ensures
           (ap (λ (ks : List ℕ). c.loop-space.spaces.items
           ++ map (pair_at rs) (filter (λ s. not (is_left_out rs n (at rs s).text)) ks)) (sym c.in-Some.ensures.steps)
           ∙ c.loop-space.invariant.3),
+      (pair-next (pair_at rs) c.in-Some.space c.next.new.self _ c.in-Some-split_first.pair.now c.loop-space.rest.now c.in-Some-split_first.others.now
+          c.loop-space.invariant.4 c.in-Some.ensures.steps c.in-Some-split_first.ensures.cases.0).1,
     )
+
+pub push_space-requires-clause-pair : goal.push_space-requires-clause-pair
+push_space-requires-clause-pair c =
+    let rs = records_at (modules_of c.args.self.now) c.args.number in
+    (pair-next (pair_at rs) c.in-Some.space c.next.new.self _ c.in-Some-split_first.pair.now c.loop-space.rest.now c.in-Some-split_first.others.now
+    c.loop-space.invariant.4 c.in-Some.ensures.steps c.in-Some-split_first.ensures.cases.0).0
+
+pub unreachable-requires : goal.unreachable-requires
+unreachable-requires c =
+    let rs = records_at (modules_of c.args.self.now) c.args.number in
+    absurd (pair-none (pair_at rs) c.in-Some.space c.next.new.self _ c.loop-space.rest.now c.loop-space.invariant.4 c.in-Some.ensures.steps
+    c.in-None-split_first.ensures.cases)

@@ -19,9 +19,9 @@ loop-place-init g c =
     let cs = candidates c.args.templates.now in
     let found : Key → Option ℕ = found_in c.args.self.now.last in
     let own : Key = node_key c.args.mode (at c.args.tree.now c.args.node) in
-    let named : c.copied-named.result ≡ found (key_data c.node_key.result) = c.copied-named.ensures ∙ c.get.ensures.value in
-    let unnamed : c.copied-unnamed.result ≡ found (key_data c.any_key.result) = c.copied-unnamed.ensures ∙ c.get-2.ensures.value in
-    search-none p cs (has_key (map key_of cs) own) (has_key (map key_of cs) (any_key c.args.mode)) c.copied-named.result c.copied-unnamed.result
+    let named : c.last_of-named.result ≡ found (key_data c.node_key.result) = c.last_of-named.ensures in
+    let unnamed : c.last_of-unnamed.result ≡ found (key_data c.any_key.result) = c.last_of-unnamed.ensures in
+    search-none p cs (has_key (map key_of cs) own) (has_key (map key_of cs) (any_key c.args.mode)) c.last_of-named.result c.last_of-unnamed.result
     (named ∙ ap found c.node_key.ensures ∙ c.requires.indexed.last_is own)
     (unnamed ∙ ap found c.any_key.ensures ∙ c.requires.indexed.last_is (any_key c.args.mode))
 
