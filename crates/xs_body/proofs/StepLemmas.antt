@@ -60,7 +60,7 @@ use Rattle.xs_body.specs.steps.Frames.{passing_left, work_steps, stack_steps, st
 use Rattle.xs_body.specs.steps.Frames.{run_by, run_begun, applied_begun, template_begun, built_in_begun, rule_begun, entry_begun, entering}
 use Rattle.xs_body.specs.steps.Frames.{declaration_begun, sets_works, inside_begun, copied_begun, element_put, made_begun}
 use Rattle.xs_body.specs.steps.Frames.{call_begun, imports_begun, content_begun, passes_on, pass_begun, params_first, param_begun, fallbacks_begun}
-use Rattle.xs_body.specs.steps.Frames.{begun, advanced}
+use Rattle.xs_body.specs.steps.Frames.{begun, advanced, rest_works}
 use Rattle.xs_body.specs.steps.Making.{attributes_steps, copy_steps, events_steps, literal_steps, made_at, made_ended}
 use Rattle.xs_body.proofs.MakingLemmas.{attributes-told, copy-told, ended-told as made-ended, events-told, literal-told, name-told, target-told}
 use Rattle.xs_body.proofs.SetLemmas.{served}
@@ -463,26 +463,40 @@ fallbacks-begin : (bs : List Body) (p : Site) (c : Scope) (t : Evaluation) (s : 
 fallbacks-begin [] p c t s = refl
 fallbacks-begin (b ∷ bs) p c t s = behind (all_bodies (b ∷ bs) t.world (calls_at t.world c.focus) c.focus (last c.seen t.slots)) t.slots t s
 
--- an instruction, and what is left of its body, which a work tells
+-- a body at its end, without values of its own, is nothing to be done
+end-same : (n : ℕ) (c : Scope) (t : Evaluation) (s : State Task) →
+    Go (slots_are (without n t.slots) t) s ≡ Go (pushed (cond (n == 0) [] (rest [] (record { focus = c.focus; seen = c.seen; own = n }) ∷ [])) t) s
+end-same zero c t s = ap (λ vs. Go (slots_are vs t) s) (without-none t.slots)
+end-same (suc n) c t s =
+    let q : (suc n == 0) ≡ false = grind (arith, nat_tests) in
+    ap (λ b. Go (pushed (cond b [] (rest [] (record { focus = c.focus; seen = c.seen; own = suc n }) ∷ [])) t) s) (sym q)
+
+rest-same : (is : List Instr) (c : Scope) (t : Evaluation) (s : State Task) → Go (pushed (rest is c ∷ []) t) s ≡ Go (pushed (rest_works is c) t) s
+rest-same [] c t s = end-same c.own c t s
+rest-same (i ∷ is) c t s = refl
+
+-- an instruction, and what is left of its body, which works tell
 joined : (x : Trace Task) (is : List Instr) (c : Scope) (t : Evaluation) (s : State Task) →
     Then (x ⨾ instrs_trace is t.world (calls_at t.world c.focus) c.focus (last c.seen t.slots)) (slots_are (without c.own t.slots) t) s
-    ≡ Then x (pushed (rest is (more 0 c) ∷ []) t) s
+    ≡ Then x (pushed (rest_works is (more 0 c)) t) s
 joined x is c t s =
     twice x (instrs_trace is t.world (calls_at t.world c.focus) c.focus (last c.seen t.slots)) (without c.own t.slots) (rest is c) t s (λ m. refl)
     ∙ ap (λ (d : Scope). Then x (pushed (rest is d ∷ []) t) s) (sym (more-none c))
+    ∙ then-same (play x s) (λ u m. Go (pushed (rest is (more 0 c) ∷ []) t) m) (λ u m. Go (pushed (rest_works is (more 0 c)) t) m)
+    (λ u m. rest-same is (more 0 c) t m)
 
 nothing : (is : List Instr) (c : Scope) (t : Evaluation) (s : State Task) →
     Then (instrs_trace is t.world (calls_at t.world c.focus) c.focus (last c.seen t.slots)) (slots_are (without c.own t.slots) t) s ≡ Go
-    (pushed (rest is (more 0 c) ∷ []) t) s
+    (pushed (rest_works is (more 0 c)) t) s
 nothing is c t s = joined [] is c t s
 
 -- each kind of instruction
 begins-so : (kind : InstrKind) (p : Site) (is : List Instr) (c : Scope) (t : Evaluation) (s : State Task) →
     Then (instr_trace kind p t.world (calls_at t.world c.focus) c.focus (last c.seen t.slots) (instrs_trace is t.world (calls_at t.world c.focus) c.focus))
     (slots_are (without c.own t.slots) t) s
-    ≡ and_then (begun kind p c (pushed (rest is (after kind c) ∷ []) t) s) Go
+    ≡ and_then (begun kind p c (pushed (rest_works is (after kind c)) t) s) Go
 begins-so (ApplyTemplates nodes passed) p is c t s =
-    let u : Evaluation = pushed (rest is (more 0 c) ∷ []) t in
+    let u : Evaluation = pushed (rest_works is (more 0 c)) t in
     let vs : List Value = last c.seen t.slots in
     let h : List ℕ → Trace Task = λ ns. passing passed p t.world (calls_at t.world c.focus) c.focus vs
     (λ ps. called_with t.world (calls_at t.world c.focus) (by_rules nodes.mode ns) ps p c.focus) in
@@ -494,11 +508,11 @@ begins-so (CallTemplate i passed) p is c t s =
     joined (passing passed p t.world (calls_at t.world c.focus) c.focus (last c.seen t.slots)
     (λ ps. called_with t.world (calls_at t.world c.focus) (by_number i) ps p c.focus)) is
     c t s
-    ∙ passing-begins passed (by_number i) p c (pushed (rest is (more 0 c) ∷ []) t) s
+    ∙ passing-begins passed (by_number i) p c (pushed (rest_works is (more 0 c)) t) s
 begins-so ApplyImports p is c t s =
-    joined (imports (calls_at t.world c.focus) p c.focus c.focus.rule) is c t s ∙ imports-begin p c.focus c.focus.rule (pushed (rest is (more 0 c) ∷ []) t) s
+    joined (imports (calls_at t.world c.focus) p c.focus c.focus.rule) is c t s ∙ imports-begin p c.focus c.focus.rule (pushed (rest_works is (more 0 c)) t) s
 begins-so (ForEach select sorts body) p is c t s =
-    let u : Evaluation = pushed (rest is (more 0 c) ∷ []) t in
+    let u : Evaluation = pushed (rest_works is (more 0 c)) t in
     let vs : List Value = last c.seen t.slots in
     let f : List ℕ → Focus = λ ns. in_list (length ns) (without_rule c.focus) in
     let h : List ℕ → Trace Task = λ ns. spread t.world (body_job body vs) p (λ g. body_trace body t.world (calls_at t.world c.focus) g vs) (f ns) ns in
@@ -507,14 +521,14 @@ begins-so (ForEach select sorts body) p is c t s =
     (λ ns m. run_begun (body_job body vs) p (f ns) ns (each_left body p (over (f ns) c) 1 ns) u m) s (λ ns m.
     runs (body_job body vs) p (λ g. body_trace body t.world (calls_at t.world c.focus) g vs) (f ns) ns (each_left body p (over (f ns) c) 1 ns) u m (λ n. refl))
 begins-so (ValueOf select) p is c t s =
-    let u : Evaluation = pushed (rest is (more 0 c) ∷ []) t in
+    let u : Evaluation = pushed (rest_works is (more 0 c)) t in
     let r : Run (List ℕ) = text_run t.world select c.focus (last c.seen t.slots) in
     joined (evaluated p r (chars p)) is c t s
     ∙ alone (evaluated p r (chars p)) (and_then (limited p r s) (λ text m. chars_steps p text m)) u s
     (then-same (limited p r s) (λ text m. chars_steps p text m) (λ text m. play (chars p text) m) (λ text m. chars-told p text m) ∙ sym
     (play-evaluated p r (chars p) s))
 begins-so (CopyOf select) p is c t s =
-    let u : Evaluation = pushed (rest is (more 0 c) ∷ []) t in
+    let u : Evaluation = pushed (rest_works is (more 0 c)) t in
     let r : Run Value = value_run t.world select c.focus (last c.seen t.slots) in
     let h : Value → Trace Task = λ v. puts_all p (value_events t.world.tree v) in
     joined (evaluated p r h) is c t s
@@ -522,7 +536,7 @@ begins-so (CopyOf select) p is c t s =
     (then-same (limited p r s) (λ v m. copy_steps t.world.tree p v m) (λ v m. play (h v) m) (λ v m. copy-told t.world.tree p v m)
     ∙ sym (play-evaluated p r h s))
 begins-so (Copy sets body) p is c t s =
-    let u : Evaluation = pushed (rest is (more 0 c) ∷ []) t in
+    let u : Evaluation = pushed (rest_works is (more 0 c)) t in
     let kind : Kind = (at t.world.tree c.focus.node).kind in
     let x : Trace Task = puts_all p (shallow_copy t.world.tree c.focus.node) in
     let y : Trace Task = copied_content kind sets (calls_at t.world c.focus) p c.focus
@@ -533,14 +547,14 @@ begins-so (Copy sets body) p is c t s =
     ∙ before (events_steps p (shallow_copy t.world.tree c.focus.node) s) (λ m. play y m) (λ q m. Go u m)
     (λ m. Goes (copied_begun kind sets body c u) m) Go (λ m. copied-begins kind sets p body c u m)
 begins-so (Number decl) p is c t s =
-    let u : Evaluation = pushed (rest is (more 0 c) ∷ []) t in
+    let u : Evaluation = pushed (rest_works is (more 0 c)) t in
     let r : Run (List ℕ) = number_run t.world decl c.focus (last c.seen t.slots) in
     joined (evaluated p r (chars p)) is c t s
     ∙ alone (evaluated p r (chars p)) (and_then (limited p r s) (λ text m. chars_steps p text m)) u s
     (then-same (limited p r s) (λ text m. chars_steps p text m) (λ text m. play (chars p text) m) (λ text m. chars-told p text m) ∙ sym
     (play-evaluated p r (chars p) s))
 begins-so (Choose choice) p is c t s =
-    let u : Evaluation = pushed (rest is (more 0 c) ∷ []) t in
+    let u : Evaluation = pushed (rest_works is (more 0 c)) t in
     let vs : List Value = last c.seen t.slots in
     let r : Run Body = chosen choice t.world c.focus vs in
     joined (choice_trace choice p t.world (calls_at t.world c.focus) c.focus vs) is c t s
@@ -550,15 +564,15 @@ begins-so (Choose choice) p is c t s =
     (λ body m. Go (pushed (rest (instrs_of body) (inner c) ∷ []) u) m) (λ body m. inside body c u m)
     ∙ sym (then-then (limited p r s) (λ body m. Goes (pushed (rest (instrs_of body) (inner c) ∷ []) u) m) Go)
 begins-so (If test body) p is c t s =
-    let u : Evaluation = pushed (rest is (more 0 c) ∷ []) t in
+    let u : Evaluation = pushed (rest_works is (more 0 c)) t in
     let r : Run Bool = test_run t.world test c.focus (last c.seen t.slots) in
     let h : Bool → Trace Task = λ b. cond b (body_trace body t.world (calls_at t.world c.focus) c.focus (last c.seen t.slots)) [] in
     joined (evaluated p r h) is c t s ∙ brings p r h u (λ b m. Goes (pushed (cond b (rest (instrs_of body) (inner c) ∷ []) []) u) m) s
     (λ b m. if-begins b body c u m)
-begins-so (Text text) p is c t s = joined (chars p text) is c t s ∙ alone (chars p text) (chars_steps p text s) (pushed (rest is (more 0 c) ∷ []) t) s
+begins-so (Text text) p is c t s = joined (chars p text) is c t s ∙ alone (chars p text) (chars_steps p text s) (pushed (rest_works is (more 0 c)) t) s
     (chars-told p text s)
 begins-so (Element name sets body) p is c t s =
-    let u : Evaluation = pushed (rest is (more 0 c) ∷ []) t in
+    let u : Evaluation = pushed (rest_works is (more 0 c)) t in
     let r : Run Label = name_run t.world false name c.focus (last c.seen t.slots) in
     let y : Trace Task = calls_at t.world c.focus (using sets) p c.focus
     ⨾ (body_trace body t.world (calls_at t.world c.focus) c.focus (last c.seen t.slots) ⨾ Put End ∷ []) in
@@ -568,7 +582,7 @@ begins-so (Element name sets body) p is c t s =
     before (put (Start label) m) (λ n. play y n) (λ q n. Go u n) (λ n. Goes (inside_begun sets body c u) n) Go (λ n. inside-begins sets p body c u n))
     ∙ ap (λ g. and_then (and_then g f) Go) (sym (name-told t.world p c.focus (last c.seen t.slots) false name s))
 begins-so (Attribute name body) p is c t s =
-    let u : Evaluation = pushed (rest is (more 0 c) ∷ []) t in
+    let u : Evaluation = pushed (rest_works is (more 0 c)) t in
     let r : Run Label = name_run t.world true name c.focus (last c.seen t.slots) in
     let content : Trace Task = body_trace body t.world (calls_at t.world c.focus) (captured_in c.focus) (last c.seen t.slots) in
     let h : Label → Trace Task = λ label. makes (made.Attribute label) p content in
@@ -577,9 +591,9 @@ begins-so (Attribute name body) p is c t s =
     ∙ ap (λ g. and_then (and_then g f) Go) (sym (name-told t.world p c.focus (last c.seen t.slots) true name s))
 begins-so (Comment body) p is c t s =
     joined (makes made.Comment p (body_trace body t.world (calls_at t.world c.focus) (captured_in c.focus) (last c.seen t.slots))) is c t s
-    ∙ made-begins made.Comment body p c (pushed (rest is (more 0 c) ∷ []) t) s
+    ∙ made-begins made.Comment body p c (pushed (rest_works is (more 0 c)) t) s
 begins-so (Pi name body) p is c t s =
-    let u : Evaluation = pushed (rest is (more 0 c) ∷ []) t in
+    let u : Evaluation = pushed (rest_works is (more 0 c)) t in
     let r : Run (List ℕ) = target_run t.world name c.focus (last c.seen t.slots) in
     let content : Trace Task = body_trace body t.world (calls_at t.world c.focus) (captured_in c.focus) (last c.seen t.slots) in
     let h : List ℕ → Trace Task = λ target. makes (made.Instruction target) p content in
@@ -587,7 +601,7 @@ begins-so (Pi name body) p is c t s =
     joined (evaluated p r h) is c t s ∙ brings p r h u f s (λ target m. made-begins (made.Instruction target) body p c u m)
     ∙ ap (λ g. and_then (and_then g f) Go) (sym (target-told t.world p c.focus (last c.seen t.slots) name s))
 begins-so (Message terminate body) p is c t s =
-    let u : Evaluation = pushed (rest is (more 0 c) ∷ []) t in
+    let u : Evaluation = pushed (rest_works is (more 0 c)) t in
     let h : List Event → Trace Task = λ es. says p (fragment_text es) ⨾ ended_if terminate p in
     joined (captured (body_trace body t.world (calls_at t.world c.focus) (captured_in c.focus) (last c.seen t.slots)) h) is c t s
     ∙ captures body c h u (pushed (say p terminate ∷ []) u) s (λ m.
@@ -596,10 +610,10 @@ begins-so (Message terminate body) p is c t s =
 begins-so (Variable' site name content) p is c t s =
     content-begins content p c (λ x. instrs_trace is t.world (calls_at t.world c.focus) c.focus (last c.seen t.slots ++ x ∷ []))
     (slots_are (without c.own t.slots) t)
-    (pushed (rest is (bound c) ∷ []) t) s (λ x m.
-    binds (instrs_trace is t.world (calls_at t.world c.focus) c.focus) c t x m)
+    (pushed (rest_works is (bound c)) t) s (λ x m.
+    binds (instrs_trace is t.world (calls_at t.world c.focus) c.focus) c t x m ∙ rest-same is (bound c) (filled_up (x ∷ []) t) m)
 begins-so (Literal start body) p is c t s =
-    let u : Evaluation = pushed (rest is (more 0 c) ∷ []) t in
+    let u : Evaluation = pushed (rest_works is (more 0 c)) t in
     let x : Trace Task = body_trace body t.world (calls_at t.world c.focus) c.focus (last c.seen t.slots) ⨾ Put End ∷ [] in
     let attributes : Trace Task = literal_attributes start.attributes p t.world c.focus (last c.seen t.slots) in
     let sets : Trace Task = calls_at t.world c.focus (using start.sets) p c.focus in
@@ -615,7 +629,7 @@ begins-so (Literal start body) p is c t s =
     followed sets (attributes ⨾ x) u v_all m (λ n. followed attributes x u v n (λ q. inside-ends body c u q) ∙ behind attributes v.slots v n)
     ∙ sets-begin start.sets p c.focus v_all m)
 begins-so (Extension fallbacks) p is c t s =
-    let u : Evaluation = pushed (rest is (more 0 c) ∷ []) t in
+    let u : Evaluation = pushed (rest_works is (more 0 c)) t in
     joined (fallbacks_trace fallbacks p t.world (calls_at t.world c.focus) c.focus (last c.seen t.slots)) is c t s
     ∙ ap (λ x. Then x u s) (fallbacks-bodies fallbacks p t.world (calls_at t.world c.focus) c.focus (last c.seen t.slots))
     ∙ fallbacks-begin (bodies_of fallbacks) p c u s
@@ -628,8 +642,8 @@ advances (rest (i ∷ is) c) t index s =
     let x : Trace Task = instr_trace i.kind i.site t.world (calls_at t.world c.focus) c.focus (last c.seen t.slots)
     (instrs_trace is t.world (calls_at t.world c.focus) c.focus) in
     sym (behind (Tick i.site ∷ x) (without c.own t.slots) t s)
-    ∙ ticks i.site x (slots_are (without c.own t.slots) t) (pushed (rest is (after i.kind c) ∷ []) t)
-    (λ m. begun i.kind i.site c (pushed (rest is (after i.kind c) ∷ []) t) m) s (begins-so i.kind i.site is c t)
+    ∙ ticks i.site x (slots_are (without c.own t.slots) t) (pushed (rest_works is (after i.kind c)) t)
+    (λ m. begun i.kind i.site c (pushed (rest_works is (after i.kind c)) t) m) s (begins-so i.kind i.site is c t)
 advances fill t index s = refl
 advances (each_left body p c i []) t index s = refl
 advances (each_left body p c i (n ∷ ns)) t index s =

@@ -40,7 +40,7 @@ use Rattle.xs_body.specs.steps.Frames.{entering, call_begun}
 use Rattle.xs_body.specs.steps.Frames.{imports_begun, content_begun, passes_on, pass_begun, params_first, fragment_at, param_begun}
 use Rattle.xs_body.specs.steps.Frames.{fallbacks_begun, next_body, looping, loop_begun, number_steps, value_steps, begun}
 use Rattle.xs_body.specs.steps.Frames.{advanced, copied_begun, copy_of_steps, declaration_begun, element_put, in_template, inside_begun, made_begun}
-use Rattle.xs_body.specs.steps.Frames.{sets_begun, sets_works}
+use Rattle.xs_body.specs.steps.Frames.{rest_works, sets_begun, sets_works}
 use Rattle.xs_body.specs.steps.Making.{attributes_steps, events_steps, literal_steps, made_ended, name_steps, target_steps}
 
 abbrev Keeps : World → Step Task Evaluation → Type 0
@@ -205,7 +205,7 @@ begun-keeps (Extension fallbacks) p c t s = fallbacks-keep (bodies_of fallbacks)
 advanced-keeps : (b : Work) (t : Evaluation) (s : State Task) → Keeps t.world (advanced b t s)
 advanced-keeps (rest [] c) t s = refl
 advanced-keeps (rest (i ∷ is) c) t s =
-    let u : Evaluation = pushed (rest is (after i.kind c) ∷ []) t in
+    let u : Evaluation = pushed (rest_works is (after i.kind c)) t in
     then-keeps t.world (ticked i.site s) (λ q m. begun i.kind i.site c u m) (λ q m. begun-keeps i.kind i.site c u m)
 advanced-keeps fill t s = refl
 advanced-keeps (each_left body p c i []) t s = refl

@@ -67,8 +67,8 @@ pub record IsParams (rs : List Record) (p : ParamsLeft) : Type 0 where
 abbrev pub IsInside : List Record → Frame → Type 0
 IsInside rs (frame.Rest is c) = c.focus.node < length rs
 IsInside rs frame.Fill = Unit {0}
-IsInside rs (frame.Each e) = IsEach rs e
-IsInside rs (frame.Apply a) = IsApply rs a
+IsInside rs (frame.Each e) = IsEach rs e.value
+IsInside rs (frame.Apply a) = IsApply rs a.value
 IsInside rs (frame.Bodies bodies c) = c.focus.node < length rs
 IsInside rs frame.End = Unit {0}
 IsInside rs (frame.Sets names f) = f.node < length rs
@@ -76,9 +76,9 @@ IsInside rs (frame.Declared name i f) = f.node < length rs
 IsInside rs (frame.Attributes a) = a.scope.focus.node < length rs
 IsInside rs (frame.Make m p) = Unit {0}
 IsInside rs (frame.Say p terminate) = Unit {0}
-IsInside rs (frame.Pass p) = IsPassing rs p
-IsInside rs (frame.Take p) = IsPassing rs p
-IsInside rs (frame.Params p) = IsParams rs p
+IsInside rs (frame.Pass p) = IsPassing rs p.value
+IsInside rs (frame.Take p) = IsPassing rs p.value
+IsInside rs (frame.Params p) = IsParams rs p.value
 
 -- an evaluation is over a sound world, and those of its frames and of the values of local bindings are in the tree
 pub record IsEvaluator (w : World) (fs : List Frame) (vs : List Value) : Type 0 where

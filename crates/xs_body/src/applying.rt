@@ -129,27 +129,28 @@ impl<'a, K: KeyFinder> Evaluator<'a, K> {
             let task = task_over(self.alloc, job, site, focus);
             return leave(self.alloc, grain, task, nodes.nodes(), recorder);
         }
-        self.push(Frame::Apply(ApplyLeft {
+        let left = ApplyLeft {
             nodes,
             next: 0,
             position: 1,
             rules,
             site,
             focus,
-        }))?;
+        };
+        self.push(Frame::Apply(Box::new(self.alloc, left)?))?;
         Ok(())
     }
 
     /// The rule for the next node begins.
     pub(crate) fn apply_next<R: Recorder<Task = Task<'a>>>(
         &mut self,
-        left: ApplyLeft<'a>,
+        left: Box<ApplyLeft<'a>>,
         recorder: &mut R,
     ) -> Result<(), Halt>
         requires holes { IsSome self.old.world.grain → R.takes_holes ≡ true }
-        requires left { IsApply self.old.world.tree left }
+        requires left { IsApply self.old.world.tree left.value }
         ensures told { IsStepBy (λ u. self.new)
-            (advanced (apply_work left.entry) self.old
+            (advanced (apply_work left.entry.value) self.old
             (R.state recorder.old)) result (R.state recorder.new) }
         ensures kept { R.kept recorder.new ≡ R.kept recorder.old }
     {
@@ -163,17 +164,16 @@ impl<'a, K: KeyFinder> Evaluator<'a, K> {
     fn apply_at<R: Recorder<Task = Task<'a>>>(
         &mut self,
         node: Node,
-        left: ApplyLeft<'a>,
+        left: Box<ApplyLeft<'a>>,
         recorder: &mut R,
     ) -> Result<(), Halt>
         requires holes { IsSome self.old.world.grain → R.takes_holes ≡ true }
-        requires left { IsApply self.old.world.tree left }
+        requires left { IsApply self.old.world.tree left.value }
         requires node { node < length self.old.world.tree }
-        requires below { left.next < length (nodes_in left.nodes) }
         ensures told { IsStepBy (λ u. self.new)
-            (advanced (apply_left left.entry.rules.mode left.entry.rules.passed left.entry.site
-            left.entry.focus left.entry.position
-            (node ∷ drop (left.entry.next + 1) (nodes_in left.entry.nodes))) self.old
+            (advanced (apply_left left.entry.value.rules.mode left.entry.value.rules.passed
+            left.entry.value.site left.entry.value.focus left.entry.value.position
+            (node ∷ drop (left.entry.value.next + 1) (nodes_in left.entry.value.nodes))) self.old
             (R.state recorder.old)) result (R.state recorder.new) }
         ensures kept { R.kept recorder.new ≡ R.kept recorder.old }
     {
@@ -182,7 +182,7 @@ impl<'a, K: KeyFinder> Evaluator<'a, K> {
         let focus = left.focus.at_node(node, left.position);
         recorder.tick(site)?;
         let rules = left.rules.copy(self.alloc)?;
-        left.next += 1;
+        left.next = left.next.checked_add(1).ok_or(AllocError)?;
         left.position = left.position.checked_add(1).ok_or(AllocError)?;
         self.push(Frame::Apply(left))?;
         self.enter_fitting(rules, site, focus, recorder)
@@ -211,26 +211,27 @@ impl<'a, K: KeyFinder> Evaluator<'a, K> {
             let task = task_over(self.alloc, job, site, focus);
             return leave(self.alloc, grain, task, nodes.nodes(), recorder);
         }
-        self.push(Frame::Each(EachLeft {
+        let left = EachLeft {
             nodes,
             next: 0,
             position: 1,
             body,
             site,
             scope: scope.over(focus),
-        }))?;
+        };
+        self.push(Frame::Each(Box::new(self.alloc, left)?))?;
         Ok(())
     }
 
     /// A body for the next node begins.
     pub(crate) fn do_next<R: Recorder<Task = Task<'a>>>(
         &mut self,
-        left: EachLeft<'a>,
+        left: Box<EachLeft<'a>>,
         recorder: &mut R,
     ) -> Result<(), Halt>
-        requires left { IsEach self.old.world.tree left }
+        requires left { IsEach self.old.world.tree left.value }
         ensures told { IsStepBy (λ u. self.new)
-            (advanced (each_work left.entry) self.old
+            (advanced (each_work left.entry.value) self.old
             (R.state recorder.old)) result (R.state recorder.new) }
         ensures kept { R.kept recorder.new ≡ R.kept recorder.old }
     {
@@ -244,16 +245,15 @@ impl<'a, K: KeyFinder> Evaluator<'a, K> {
     fn do_at<R: Recorder<Task = Task<'a>>>(
         &mut self,
         node: Node,
-        left: EachLeft<'a>,
+        left: Box<EachLeft<'a>>,
         recorder: &mut R,
     ) -> Result<(), Halt>
-        requires left { IsEach self.old.world.tree left }
+        requires left { IsEach self.old.world.tree left.value }
         requires node { node < length self.old.world.tree }
-        requires below { left.next < length (nodes_in left.nodes) }
         ensures told { IsStepBy (λ u. self.new)
-            (advanced (each_left left.entry.body.now left.entry.site left.entry.scope
-            left.entry.position (node ∷ drop (left.entry.next + 1) (nodes_in left.entry.nodes)))
-            self.old
+            (advanced (each_left left.entry.value.body.now left.entry.value.site
+            left.entry.value.scope left.entry.value.position
+            (node ∷ drop (left.entry.value.next + 1) (nodes_in left.entry.value.nodes))) self.old
             (R.state recorder.old)) result (R.state recorder.new) }
         ensures kept { R.kept recorder.new ≡ R.kept recorder.old }
     {
@@ -262,7 +262,7 @@ impl<'a, K: KeyFinder> Evaluator<'a, K> {
         let focus = left.scope.focus.at_node(node, left.position);
         let scope = left.scope.over(focus);
         recorder.tick(left.site)?;
-        left.next += 1;
+        left.next = left.next.checked_add(1).ok_or(AllocError)?;
         left.position = left.position.checked_add(1).ok_or(AllocError)?;
         self.push(Frame::Each(left))?;
         self.push_body(body, scope)?;

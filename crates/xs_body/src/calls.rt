@@ -73,7 +73,7 @@ impl<'a, K: KeyFinder> Evaluator<'a, K> {
         if passing.left.is_empty() {
             return self.call(passing, recorder);
         }
-        self.push(Frame::Pass(passing))?;
+        self.push(Frame::Pass(Box::new(self.alloc, passing)?))?;
         Ok(())
     }
 
@@ -158,7 +158,7 @@ impl<'a, K: KeyFinder> Evaluator<'a, K> {
     {
         let scope = passing.scope;
         recorder.open_capture()?;
-        self.push(Frame::Take(passing))?;
+        self.push(Frame::Take(Box::new(self.alloc, passing)?))?;
         self.push_body(body, scope.captured())?;
         Ok(())
     }

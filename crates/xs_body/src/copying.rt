@@ -11,7 +11,7 @@ ghost use Rattle.xs_value.specs.Conversion.{IsIn, text_value};
 
 use crate::evaluator::Evaluator;
 use crate::frames::Scope;
-use crate::putting::{put_events, put_text};
+use crate::putting::{put_events, put_taken, put_text};
 use crate::task::Task;
 use std::alloc::AllocError;
 use xs_making::{RecentLabels, copy_events};
@@ -93,10 +93,11 @@ impl<'a, K: KeyFinder> Evaluator<'a, K> {
         ensures kept { R.kept recorder.new ≡ R.kept recorder.old }
     {
         let mut labels = RecentLabels::new(self.alloc);
+        let mut events = Vec::new(self.alloc);
         let mut left = nodes;
         while let Some((node, others)) = left.split_first() {
-            let events = copied(self.tree, *node, true, &mut labels)?;
-            put_events(site, events.as_slice(), recorder)?;
+            copied(self.tree, *node, true, &mut labels, &mut events)?;
+            put_taken(site, &mut events, recorder)?;
             left = others;
         }
         Ok(())
@@ -118,8 +119,8 @@ impl<'a, K: KeyFinder> Evaluator<'a, K> {
         ensures kept { R.kept recorder.new ≡ R.kept recorder.old }
     {
         let node = Node::at(scope.focus.node);
-        let events = copied(self.tree, node, false, &mut self.labels)?;
-        put_events(site, events.as_slice(), recorder)?;
+        copied(self.tree, node, false, &mut self.labels, &mut self.events)?;
+        put_taken(site, &mut self.events, recorder)?;
         self.begin_copied(sets, body, scope)?;
         Ok(())
     }
@@ -148,17 +149,17 @@ impl<'a, K: KeyFinder> Evaluator<'a, K> {
     }
 }
 
-/// The events of a copy of a node, with all that is in it or alone.
+/// Makes the events of a copy of a node, with all that is in it or alone.
 fn copied(
     tree: &Tree,
     node: Node,
     deep: bool,
     labels: &mut RecentLabels,
-) -> Result<Vec<Event>, AllocError>
+    events: &mut Vec<Event>,
+) -> Result<(), AllocError>
     requires node { node < length tree.now }
-    ensures copied { IfOk result (λ events. events.items ≡ copy_of deep tree.now node) }
+    ensures copied { OnOk result (events.new.items ≡ copy_of deep tree.now node) }
 {
-    let mut events = Vec::new(labels.allocator());
-    copy_events(tree, node, deep, labels, &mut events)?;
-    Ok(events)
+    events.clear();
+    copy_events(tree, node, deep, labels, events)
 }

@@ -25,6 +25,7 @@ use xs_semantics::index::SheetIndex;
 use xs_sheet::body::Body;
 use xs_sheet::scoped::{Namespaces, ScopedExpr, ValueTemplate};
 use xs_sheet::sheet::Sheet;
+use xs_trace::event::Event;
 use xs_trace::fault::Fault;
 use xs_trace::item::Site;
 use xs_trace::recorder::{Halt, Tally};
@@ -54,6 +55,8 @@ pub(crate) struct Evaluator<'a, K: KeyFinder> {
     slots: Vec<Value>,
     /// The names that were copied last.
     pub(crate) labels: RecentLabels,
+    /// The events of a copy, until they are put.
+    pub(crate) events: Vec<Event>,
 }
 
 impl<'a, K: KeyFinder> Model for Evaluator<'a, K> {
@@ -118,6 +121,7 @@ impl<'a, K: KeyFinder> Evaluator<'a, K> {
             frames: Vec::new(alloc),
             slots,
             labels: RecentLabels::new(alloc),
+            events: Vec::new(alloc),
         }
     }
 

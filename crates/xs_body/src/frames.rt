@@ -129,7 +129,7 @@ pub struct AttributesLeft<'a> {
     pub scope: Scope,
 }
 
-/// One thing that is still to be done.
+/// One thing that is still to be done. The large ones are in boxes, since each step moves a frame.
 #[derive(Drop)]
 pub enum Frame<'a> {
     /// What is left of a body.
@@ -137,9 +137,9 @@ pub enum Frame<'a> {
     /// The end of the content of a binding, whose value is a slot more.
     Fill,
     /// A body for each node that is left.
-    Each(EachLeft<'a>),
+    Each(Box<EachLeft<'a>>),
     /// The rule for each node that is left.
-    Apply(ApplyLeft<'a>),
+    Apply(Box<ApplyLeft<'a>>),
     /// Bodies that are left, one after another.
     Bodies(&'a [Body], Scope),
     /// The end of an element.
@@ -155,9 +155,9 @@ pub enum Frame<'a> {
     /// The end of a message, which may end the run.
     Say { site: Site, terminate: bool },
     /// The parameters of a call that are left.
-    Pass(Passing<'a>),
+    Pass(Box<Passing<'a>>),
     /// The end of the content of such a parameter, and the rest of the call.
-    Take(Passing<'a>),
+    Take(Box<Passing<'a>>),
     /// The parameters of a template that are left, and its body.
-    Params(ParamsLeft<'a>),
+    Params(Box<ParamsLeft<'a>>),
 }

@@ -71,6 +71,23 @@ pub(crate) fn put_events<R: Recorder>(
     Ok(())
 }
 
+/// Puts events, one after another, and takes them.
+pub(crate) fn put_taken<R: Recorder>(
+    site: Site,
+    events: &mut Vec<Event>,
+    recorder: &mut R,
+) -> Result<(), Halt>
+    ensures told { IsStep (events_steps site events.old.items (R.state recorder.old))
+        result (R.state recorder.new) }
+    ensures kept { R.kept recorder.new ≡ R.kept recorder.old }
+{
+    events.reverse();
+    while let Some(event) = events.pop() {
+        put_event(recorder, site, event)?;
+    }
+    Ok(())
+}
+
 /// Puts an event that another owns.
 fn put_copied<R: Recorder>(site: Site, event: &Event, recorder: &mut R) -> Result<(), Halt>
     ensures told { IsStep (put_at site event.now (R.state recorder.old))

@@ -1,13 +1,15 @@
 //! The loop over what is still to be done.
 
-ghost use Rattle.std.specs.Prelude.{◌≡◌, ◌<◌, ◌∷◌, length, true, IsSome};
+ghost use Rattle.std.specs.Prelude.{◌≡◌, ◌<◌, ◌∷◌, length, true, IsSome, OnOk};
 ghost use Rattle.xs_body.specs.Inside.{IsInside};
-ghost use Rattle.xs_body.specs.steps.Frames.{advanced, rest, stack_told, work_of};
+ghost use Rattle.xs_body.specs.steps.Frames.{advanced, end_works, pushed, rest, rest_works};
+ghost use Rattle.xs_body.specs.steps.Frames.{stack_told, work_of};
 ghost use Rattle.xs_trace.specs.Play.{IsStep, IsStepBy};
 
 use crate::evaluator::Evaluator;
 use crate::frames::{Frame, Scope};
 use crate::task::Task;
+use std::alloc::AllocError;
 use xs_sheet::body::Instr;
 use xs_trace::event::Event;
 use xs_trace::recorder::{Halt, Recorder};
@@ -68,9 +70,9 @@ impl<'a, K: KeyFinder> Evaluator<'a, K> {
             Frame::Attributes(left) => self.put_attributes(left, recorder),
             Frame::Make(made, site) => self.end_made(made, site, recorder),
             Frame::Say { site, terminate } => self.end_message(site, terminate, recorder),
-            Frame::Pass(passing) => self.pass_next(passing, recorder),
-            Frame::Take(passing) => self.take_value(passing, recorder),
-            Frame::Params(left) => self.next_param(left, recorder),
+            Frame::Pass(passing) => self.pass_next(Box::into_inner(passing), recorder),
+            Frame::Take(passing) => self.take_value(Box::into_inner(passing), recorder),
+            Frame::Params(left) => self.next_param(Box::into_inner(left), recorder),
         }
     }
 
@@ -113,7 +115,33 @@ impl<'a, K: KeyFinder> Evaluator<'a, K> {
         ensures kept { R.kept recorder.new ≡ R.kept recorder.old }
     {
         recorder.tick(instr.site)?;
-        self.push(Frame::Rest(behind, scope.after(&instr.kind)?))?;
+        self.push_rest(behind, scope.after(&instr.kind)?)?;
         self.begin(&instr.kind, instr.site, scope, recorder)
+    }
+
+    /// Puts what is left of a body before the others, if anything is.
+    #[inline(always)]
+    fn push_rest(&mut self, instrs: &'a [Instr], scope: Scope) -> Result<(), AllocError>
+        requires node { scope.focus.node < length self.old.world.tree }
+        ensures pushed { OnOk result
+            (self.new ≡ pushed (rest_works instrs.now scope) self.old) }
+    {
+        if instrs.is_empty() {
+            self.push_end(scope)
+        } else {
+            self.push(Frame::Rest(instrs, scope))
+        }
+    }
+
+    /// The end of a body, if it takes values away.
+    #[inline(always)]
+    fn push_end(&mut self, scope: Scope) -> Result<(), AllocError>
+        requires node { scope.focus.node < length self.old.world.tree }
+        ensures pushed { OnOk result (self.new ≡ pushed (end_works scope) self.old) }
+    {
+        if scope.own == 0 {
+            return Ok(());
+        }
+        self.push(Frame::Rest(&[], scope))
     }
 }

@@ -275,20 +275,21 @@ fn evaluator_for<'a, K: KeyFinder>(
                 seen,
                 own: 0,
             };
-            evaluator.push(Frame::Each(EachLeft {
+            let left = EachLeft {
                 nodes,
                 next: 0,
                 position: task.first,
                 body: *body,
                 site: task.site,
                 scope,
-            }))?;
+            };
+            evaluator.push(Frame::Each(Box::new(alloc, left)?))?;
             Ok(evaluator)
         }
         Job::Rules(mode, passed) => {
             let mut evaluator = Evaluator::new(alloc, world, Vec::new(alloc));
             let passed = passed.copy(alloc)?;
-            evaluator.push(Frame::Apply(ApplyLeft {
+            let left = ApplyLeft {
                 nodes,
                 next: 0,
                 position: task.first,
@@ -298,7 +299,8 @@ fn evaluator_for<'a, K: KeyFinder>(
                 },
                 site: task.site,
                 focus: task.focus,
-            }))?;
+            };
+            evaluator.push(Frame::Apply(Box::new(alloc, left)?))?;
             Ok(evaluator)
         }
     }

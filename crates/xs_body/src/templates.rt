@@ -226,7 +226,7 @@ impl<'a, K: KeyFinder> Evaluator<'a, K> {
         if left.left.is_empty() {
             self.push_body(left.body, left.scope)
         } else {
-            self.push(Frame::Params(left))
+            self.push(Frame::Params(Box::new(self.alloc, left)?))
         }
     }
 

@@ -1,6 +1,6 @@
 -- Lists of rules with their keys, as they are made and as they are searched.
 use Rattle.std.proofs.Common.{◌≡◌, ℕ, zero, suc, ◌+◌, ◌<◌, ◌≤◌, Bool, true, cond, List, [], ◌∷◌, ◌++◌, length, map, slice_get, Option, Some, None}
-use Rattle.std.proofs.Common.{option_map, append_assoc, refl, sym, ap, subst, ◌∙◌, arith, take, ◌⊎◌, inl, inr}
+use Rattle.std.proofs.Common.{IfSome, option_map, append_assoc, refl, sym, ap, subst, ◌∙◌, arith, take, ◌⊎◌, inl, inr}
 use Rattle.std.proofs.lemmas.List.{length-append, length-map, length-take-le, map-append, take_more}
 use Rattle.std.proofs.lemmas.Option.{get_or_from_slice_get, slice_get-map, slice_get_within}
 use Rattle.std.proofs.Math.ListN.{get_or-append}
@@ -14,13 +14,21 @@ use Rattle.xs_xpath.specs.Tree.{Tree}
 use Rattle.xs_rules.specs.declared.candidates.Best.{Best}
 use Rattle.xs_rules.specs.declared.candidates.Looked.{Looked}
 use Rattle.xs_rules.specs.declared.lists.Entry.{Entry}
-use Rattle.xs_rules.specs.Rules.{Candidate, candidate, candidates, candidates_of}
+use Rattle.xs_rules.specs.declared.ranks.Rank.{Rank}
+use Rattle.xs_rules.specs.Rules.{Candidate, candidate, candidates, candidates_of, rank_of}
 use Rattle.xs_rules.specs.steps.Candidates.{best_before, passes}
 use Rattle.xs_rules.specs.steps.Index.{IsIndexed, Key, any_key, at_entry, candidate_at, entry, has_key, is_key, key_at, key_of, last_below, later, moved_back, node_key, nth_of}
 use Rattle.xs_rules.proofs.ChainLemmas.{above, chains-less, last-more, last-same, last-some}
 use Rattle.xs_rules.proofs.KeyLemmas.{key-same, passing-key}
 use Rattle.xs_rules.proofs.RuleLemmas.{candidates-push}
 use Rattle.xs_rules.proofs.SearchLemmas.{IsComplete, IsSearched, search-place, search-step}
+
+-- the rank that an entry has, and that of a rule
+abbrev rank_at : Entry → Rank
+rank_at e = e.rank
+
+abbrev rank_in : Candidate → Rank
+rank_in c = c.rank
 
 -- ---- one rule more
 
@@ -52,15 +60,20 @@ entries-length : (ts : List Template) (cs : List Candidate) (entries : List Entr
 entries-length ts cs entries e = sym (length-map entries (at_entry ts)) ∙ ap (λ l. length l) e ∙ length-map cs Some
 
 pub indexed-push : (ts : List Template) (cs : List Candidate) (c : Candidate) (entries : List Entry) (e : Entry) (found more : Key → Option ℕ)
-    → IsIndexed ts cs entries found → at_entry ts e ≡ Some c → e.previous ≡ found (key_of c)
+    → IsIndexed ts cs entries found → at_entry ts e ≡ Some c → e.rank ≡ c.rank → e.previous ≡ found (key_of c)
     → ((q : Key) → more q ≡ cond (is_key q (key_of c)) (Some (length entries)) (found q))
     → IsIndexed ts (cs ++ c ∷ []) (entries ++ e ∷ []) more
-indexed-push ts cs c entries e found more i at_c prev f = record {
+indexed-push ts cs c entries e found more i at_c rank_is prev f = record {
   each =
       map-append (at_entry ts) entries (e ∷ [])
       ∙ ap (λ l. l ++ at_entry ts e ∷ []) i.each
       ∙ ap (λ o. map Some cs ++ o ∷ []) at_c
       ∙ sym (map-append Some cs (c ∷ []));
+  ranks =
+      map-append rank_at entries (e ∷ [])
+      ∙ ap (λ l. l ++ e.rank ∷ []) i.ranks
+      ∙ ap (λ r. map rank_in cs ++ r ∷ []) rank_is
+      ∙ sym (map-append rank_in cs (c ∷ []));
   previous = λ k x s. by_place k x (push-cases entries e x k s);
   last_is =
       λ q. f q
@@ -94,6 +107,7 @@ pub indexed-none : (ts : List Template) (entries : List Entry) (found : Key → 
     → IsIndexed ts [] entries found
 indexed-none ts entries found e f = record {
   each = ap (map (at_entry ts)) e;
+  ranks = ap (map rank_at) e;
   previous = λ i x s. (let q : None ≡ Some x = sym (ap (λ l. slice_get l i) e) ∙ s in absurd (cc));
   last_is = λ q. f q;
 }
@@ -107,18 +121,18 @@ candidate-is ts number k t p e a b c =
     ∙ ap (λ (o : Option Tree). option_map (candidate number t p) o) c
 
 -- the alternatives of a template's pattern, one after another
-pub alternative-more : (ts : List Template) (cs : List Candidate) (number place : ℕ) (t : Template) (p : ScopedPattern) (e : Tree) (k : Key)
+pub alternative-more : (ts : List Template) (cs : List Candidate) (number place : ℕ) (t : Template) (p : ScopedPattern) (e : Tree) (r : Rank) (k : Key)
     (entries pushed : List Entry) (found more : Key → Option ℕ)
     → IsIndexed ts (cs ++ map (candidate number t p) (take place p.pattern)) entries found
     → slice_get ts number ≡ Some t → t.pattern ≡ Some p → slice_get p.pattern place ≡ Some e
-    → k ≡ key_of (candidate number t p e) → pushed ≡ entries ++ entry number place (found k) ∷ []
+    → r ≡ rank_of t e → k ≡ key_of (candidate number t p e) → pushed ≡ entries ++ entry number place r (found k) ∷ []
     → ((q : Key) → more q ≡ cond (is_key q k) (Some (length entries)) (found q))
     → IsIndexed ts (cs ++ map (candidate number t p) (take (place + 1) p.pattern)) pushed more
-alternative-more ts cs number place t p e k entries pushed found more i of_number of_pattern of_place key_is entries_are f =
+alternative-more ts cs number place t p e r k entries pushed found more i of_number of_pattern of_place rank_is key_is entries_are f =
     subst (λ l. IsIndexed ts l pushed more) list_is
     (subst (λ l. IsIndexed ts ((cs ++ map (candidate number t p) (take place es)) ++ c ∷ []) l more) (sym entries_are)
-    (indexed-push ts (cs ++ map (candidate number t p) (take place es)) c entries (entry number place (found k)) found more i
-    (candidate-is ts number place t p e of_number of_pattern of_place) (ap found key_is)
+    (indexed-push ts (cs ++ map (candidate number t p) (take place es)) c entries (entry number place r (found k)) found more i
+    (candidate-is ts number place t p e of_number of_pattern of_place) rank_is (ap found key_is)
     (λ q. f q ∙ ap (λ x. cond (is_key q x) (Some (length entries)) (found q)) key_is)))
   where
     es : List Tree
@@ -167,6 +181,17 @@ entry-at ts cs entries found j e i s =
         → (c : Candidate) × (slice_get cs j ≡ Some c) × (at_entry ts e ≡ Some c)
     by_candidate None a b = cc
     by_candidate (Some c) a b = let q : at_entry ts e ≡ Some c = cc in (c, a, q)
+
+-- an entry has its rule's rank
+pub entry-rank : (ts : List Template) (cs : List Candidate) (entries : List Entry) (found : Key → Option ℕ) (j : ℕ) (e : Entry) → IsIndexed ts cs entries found
+    → slice_get entries j ≡ Some e → IfSome (at_entry ts e) (λ c. e.rank ≡ c.rank)
+entry-rank ts cs entries found j e i s =
+    let w : (c : Candidate) × (slice_get cs j ≡ Some c) × (at_entry ts e ≡ Some c) = entry-at ts cs entries found j e i s in
+    let same : Some e.rank ≡ Some w.0.rank =
+    sym (slice_get-map rank_at entries j ∙ ap (option_map rank_at) s) ∙ ap (λ l. slice_get l j) i.ranks ∙ slice_get-map rank_in cs j
+    ∙ ap (option_map rank_in) w.1 in
+    let is : e.rank ≡ w.0.rank = cc in
+    subst (λ (o : Option Candidate). IfSome o (λ c. e.rank ≡ c.rank)) (sym w.2) is
 
 key-of : (cs : List Candidate) (m : ℕ) (c : Candidate) → slice_get cs m ≡ Some c → key_at (map key_of cs) m ≡ key_of c
 key-of cs m c s =

@@ -1,6 +1,6 @@
 -- The best of the rules that match, as they are gone over from the last one.
 use Rattle.std.proofs.Common.{◌≡◌, ℕ, ◌+◌, ◌==◌, ◌&&◌, Bool, true, false, cond, List, [], ◌∷◌, ◌++◌, filter, length, map, Option, Some, None, option_map}
-use Rattle.std.proofs.Common.{refl, sym, ap, ◌∙◌, arith, append_assoc}
+use Rattle.std.proofs.Common.{IfSome, refl, sym, ap, ◌∙◌, arith, append_assoc}
 use Rattle.std.proofs.lemmas.Bool.{true≢false}
 use Rattle.std.proofs.lemmas.List.{append-nil}
 use Rattle.std.specs.Option.{option_map_or}
@@ -12,6 +12,7 @@ use Rattle.xs_value.specs.Tables.{Table}
 use Rattle.xs_xpath.specs.Tree.{Tree}
 use Rattle.xs_rules.specs.declared.candidates.Best.{Best}
 use Rattle.xs_rules.specs.declared.candidates.Looked.{Looked}
+use Rattle.xs_rules.specs.declared.ranks.Rank.{Rank}
 use Rattle.xs_rules.specs.Ranks.{highest, or_above, outranks}
 use Rattle.xs_rules.specs.Rules.{Candidate, candidate, candidates, candidates_of, chosen_among, rule_of, takes}
 use Rattle.xs_rules.specs.steps.Candidates.{best_before, best_of, is_matching, looks_at, or_best, passes, rule_of_best}
@@ -178,6 +179,13 @@ one-below p c o e = by_test (p c)
 pub one-passed : (p : Candidate → Bool) (c : Candidate) (o : Option Best) → p c ≡ false → o ≡ best_before p (c ∷ []) o
 unfolding best_before
 one-passed p c o f = sym (ap (λ b. cond b (or_best c o) o) f)
+
+-- a rule that may be there
+pub option-below : (p : Candidate → Bool) (c : Option Candidate) (r : Rank) (o : Option Best) → IfSome c (λ c. r ≡ c.rank)
+    → option_map_or (λ (b : Best). outranks r b.rank) o true ≡ false → o ≡ option_map_or (λ c. best_before p (c ∷ []) o) c o
+option-below p None r o same e = refl
+option-below p (Some c) r o same e =
+    one-below p c o (sym (ap (λ (s : Rank). option_map_or (λ (b : Best). outranks s b.rank) o true) same) ∙ e)
 
 -- none
 pub none-before : (p : Candidate → Bool) (o : Option Best) → best_before p [] o ≡ o

@@ -116,12 +116,14 @@ fn best_of_pattern<K: KeyFinder>(
     let mut best = best;
     let mut rest = pattern.pattern.alternatives();
     while let Some((alternative, before)) = rest.split_last() {
+        let rank = rank_of(template, alternative);
         best = best_of_alternative(
             alloc,
             number,
             template,
             pattern,
             alternative,
+            rank,
             tree,
             node,
             keys,
@@ -140,12 +142,14 @@ fn best_of_alternative<K: KeyFinder>(
     template: &Template,
     pattern: &ScopedPattern,
     alternative: &Expr,
+    rank: Rank,
     tree: &Tree,
     node: Node,
     keys: &K,
     table: Option<&RuleTable>,
     best: Option<Best>,
 ) -> Result<Option<Best>, AllocError>
+    requires rank { rank ≡ rank_of template.now (tree_from alternative.now) }
     requires node { node < length tree.now }
     requires tables { TablesIn tree.now (K.tables keys.now) }
     requires table { IfSome table (λ t. IsTable tree.now
@@ -154,7 +158,6 @@ fn best_of_alternative<K: KeyFinder>(
         ≡ best_before (is_matching (K.tables keys.now) tree.now node)
         (candidate number template.now pattern.now (tree_from alternative.now) ∷ []) best) }
 {
-    let rank = rank_of(template, alternative);
     if !is_above(rank, best) {
         return Ok(best);
     }
@@ -175,8 +178,8 @@ fn best_of_alternative<K: KeyFinder>(
     Ok(best)
 }
 
-// Whether there is no later rule, or one that is outranked.
-fn is_above(rank: Rank, best: Option<Best>) -> bool
+/// Whether there is no later rule, or one that is outranked.
+pub(crate) fn is_above(rank: Rank, best: Option<Best>) -> bool
     ensures { result ≡ option_map_or (λ b. outranks rank b.rank) best true }
 {
     match best {
@@ -185,9 +188,9 @@ fn is_above(rank: Rank, best: Option<Best>) -> bool
     }
 }
 
-// Where an alternative of a template's pattern stands among others: by the priority that is
-// written, or else the default one.
-fn rank_of(template: &Template, alternative: &Expr) -> Rank
+/// Where an alternative of a template's pattern stands among others: by the priority that is
+/// written, or else the default one.
+pub(crate) fn rank_of(template: &Template, alternative: &Expr) -> Rank
     ensures { result ≡ rank_of template.now (tree_from alternative.now) }
 {
     let priority = match template.priority {
@@ -210,12 +213,14 @@ pub(crate) fn rule_of_best(best: Option<Best>) -> Rule
     }
 }
 
-/// The rule of one of a template's alternatives, by its number, before the best one after it.
+/// The rule of one of a template's alternatives, by its number and with its rank, before the best
+/// one after it.
 pub(crate) fn best_of_nth<K: KeyFinder>(
     alloc: Global,
     number: u32,
     template: &Template,
     place: usize,
+    rank: Rank,
     looked: Looked,
     tree: &Tree,
     node: Node,
@@ -226,6 +231,8 @@ pub(crate) fn best_of_nth<K: KeyFinder>(
 ) -> Result<Option<Best>, AllocError>
     requires node { node < length tree.now }
     requires tables { TablesIn tree.now (K.tables keys.now) }
+    requires rank { IfSome (option_and_then (nth_of number template.now place)
+        template.now.pattern) (λ c. rank ≡ c.rank) }
     requires table { IsTableOf tree.now
         (option_and_then (nth_of number template.now place) template.now.pattern)
         (option_copied table) }
@@ -243,6 +250,7 @@ pub(crate) fn best_of_nth<K: KeyFinder>(
                 template,
                 pattern,
                 alternative,
+                rank,
                 looked,
                 tree,
                 node,
@@ -263,6 +271,7 @@ fn best_of_rule<K: KeyFinder>(
     template: &Template,
     pattern: &ScopedPattern,
     alternative: &Expr,
+    rank: Rank,
     looked: Looked,
     tree: &Tree,
     node: Node,
@@ -271,6 +280,7 @@ fn best_of_rule<K: KeyFinder>(
     table: Option<&RuleTable>,
     best: Option<Best>,
 ) -> Result<Option<Best>, AllocError>
+    requires rank { rank ≡ rank_of template.now (tree_from alternative.now) }
     requires node { node < length tree.now }
     requires tables { TablesIn tree.now (K.tables keys.now) }
     requires table { IfSome table (λ t. IsTable tree.now
@@ -291,6 +301,7 @@ fn best_of_rule<K: KeyFinder>(
         template,
         pattern,
         alternative,
+        rank,
         tree,
         node,
         keys,

@@ -1,7 +1,7 @@
 //! The rules of a stylesheet in its order, in chains of those of one mode, kind and name.
 
 ghost use Rattle.std.specs.Prelude.{◌≡◌, ◌<◌, ◌∷◌, ◌++◌, [], List, None, OnOk, IfOk, length};
-ghost use Rattle.std.specs.Prelude.{Some, if◌then◌else◌, map, option_copied, slice_get};
+ghost use Rattle.std.specs.Prelude.{IfSome, Some, if◌then◌else◌, map, option_copied, slice_get};
 ghost use Rattle.std.specs.Option.{option_map_or};
 ghost use Rattle.xs_sheet.specs.declared.declarations.Template.{Template};
 ghost use Rattle.xs_value.specs.Tables.{TablesIn};
@@ -12,8 +12,9 @@ ghost use Rattle.xs_rules.specs.steps.Index.{AreTables, IsIndexed, IsTableOf, Ke
 ghost use Rattle.xs_rules.specs.steps.Index.{entry, is_key, key_data, later, moved_back};
 ghost use Rattle.xs_rules.specs.steps.Lists.{found_in};
 
-use crate::candidates::{Best, Looked, best_of_nth, rule_of_best};
+use crate::candidates::{Best, Looked, best_of_nth, is_above, rank_of, rule_of_best};
 use crate::choice::Rule;
+use crate::ranks::Rank;
 use crate::rule_keys::{RuleKey, any_key, is_key, key_of, node_key};
 use crate::tables::{RuleTable, table_at};
 use indexmap::IndexMap;
@@ -33,6 +34,8 @@ pub(crate) struct Entry {
     pub(crate) template: u32,
     /// Which of the pattern's alternatives it is.
     pub(crate) alternative: usize,
+    /// By what it is compared with others.
+    pub(crate) rank: Rank,
     /// The last rule before it with its key.
     pub(crate) previous: Option<usize>,
 }
@@ -91,16 +94,24 @@ impl<'a> Lists<'a> {
     {
         let alternatives = pattern.pattern.alternatives();
         for place in 0..alternatives.len() {
-            let key = key_of(template.mode, &alternatives[place]);
-            self.add(number, place, key)?;
+            let alternative = &alternatives[place];
+            let rank = rank_of(template, alternative);
+            let key = key_of(template.mode, alternative);
+            self.add(number, place, rank, key)?;
         }
         Ok(())
     }
 
-    // Adds a rule with its key.
-    fn add(&mut self, template: u32, alternative: usize, key: RuleKey<'a>) -> Result<(), AllocError>
+    // Adds a rule with its rank and its key.
+    fn add(
+        &mut self,
+        template: u32,
+        alternative: usize,
+        rank: Rank,
+        key: RuleKey<'a>,
+    ) -> Result<(), AllocError>
         ensures entries { OnOk result (self.new.entries.items ≡ self.old.entries.items
-            ++ entry template alternative (found_in self.old.last (key_data key.entry)) ∷ []) }
+            ++ entry template alternative rank (found_in self.old.last (key_data key.entry)) ∷ []) }
         ensures found { OnOk result ((q : Key) → found_in self.new.last q
             ≡ (if is_key q (key_data key.entry) then Some (length self.old.entries.items)
             else found_in self.old.last q)) }
@@ -110,6 +121,7 @@ impl<'a> Lists<'a> {
         self.entries.push(Entry {
             template,
             alternative,
+            rank,
             previous,
         })?;
         self.last.insert(key, place)?;
@@ -180,7 +192,8 @@ impl<'a> Lists<'a> {
     }
 }
 
-// The rule of an entry before the best one after it, where it is looked at and matches.
+// The rule of an entry before the best one after it, where it is above that one, is looked at and
+// matches.
 fn best_at<K: KeyFinder>(
     alloc: Global,
     templates: &[Template],
@@ -195,11 +208,15 @@ fn best_at<K: KeyFinder>(
 ) -> Result<Option<Best>, AllocError>
     requires node { node < length tree.now }
     requires tables { TablesIn tree.now (K.tables keys.now) }
+    requires rank { IfSome (at_entry templates.now entry) (λ c. entry.rank ≡ c.rank) }
     requires table { IsTableOf tree.now (at_entry templates.now entry) (option_copied table) }
     ensures best { IfOk result (λ found. found ≡ option_map_or (λ c. best_before
         (passes looked (K.tables keys.now) tree.now mode node) (c ∷ []) best)
         (at_entry templates.now entry) best) }
 {
+    if !is_above(entry.rank, best) {
+        return Ok(best);
+    }
     match templates.get(entry.template as usize) {
         None => Ok(best),
         Some(template) => best_of_nth(
@@ -207,6 +224,7 @@ fn best_at<K: KeyFinder>(
             entry.template,
             template,
             entry.alternative,
+            entry.rank,
             looked,
             tree,
             node,

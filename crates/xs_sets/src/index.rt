@@ -4,7 +4,7 @@ ghost use Rattle.std.specs.Prelude.{◌≡◌, true, IfOk, map};
 ghost use Rattle.xs_sets.specs.Indexed.{IsSetIndex, declarations_in};
 ghost use Rattle.xs_sets.specs.steps.Marks.{is_closed};
 
-use crate::lists::{Lists, lists_of};
+use crate::lists::{Lists, list_of, lists_of};
 use crate::marks::Marks;
 use crate::order::by_precedence;
 use crate::reach::marks_of;
@@ -43,7 +43,7 @@ impl<'a> SetIndex<'a> {
         if !self.marks.has(name) {
             return &[];
         }
-        match self.lists.get(&(name.uri(), name.local())) {
+        match list_of(&self.lists, name) {
             None => &[],
             Some(list) => list.as_slice(),
         }

@@ -1,14 +1,17 @@
 //! The declarations of attribute sets by name.
 
 ghost use Rattle.std.specs.Prelude.{◌≡◌, ◌++◌, ◌∷◌, [], false, filter, map, true, IfOk, OnOk};
-ghost use Rattle.std.specs.Prelude.{if◌then◌else◌};
+ghost use Rattle.std.specs.Prelude.{if◌then◌else◌, option_copied};
+ghost use Rattle.indexmap.specs.IndexMap.{get_by};
 ghost use Rattle.xs_trace.specs.Label.{Label};
 ghost use Rattle.xs_sets.specs.Declarations.{has_name};
 ghost use Rattle.xs_sets.specs.Indexed.{grouped, is_of};
 
+use crate::marks::{FEW_NAMES, is_of};
 use indexmap::IndexMap;
 use std::alloc::{AllocError, Global};
 use xs_sheet::declarations::AttrSet;
+use xs_trace::event::Label;
 
 /// A namespace URI and a local part (Namespaces in XML 1.0, 2.1).
 pub(crate) type Expanded<'a> = (&'a str, &'a str);
@@ -26,6 +29,30 @@ pub(crate) fn lists_of<'a>(alloc: Global, sets: &[&'a AttrSet]) -> Result<Lists<
         add(alloc, &mut lists, set)?;
     }
     Ok(lists)
+}
+
+/// The declarations of a name, if there are any.
+pub(crate) fn list_of<'l, 'a>(lists: &'l Lists<'a>, name: &'l Label) -> Option<&'l Vec<&'a AttrSet>>
+    ensures { option_copied result ≡ get_by (is_of name.now) lists.now }
+{
+    if lists.len() > FEW_NAMES {
+        return lists.get(&(name.uri(), name.local()));
+    }
+    list_among_few(lists, name)
+}
+
+/// The same, by going over the names.
+fn list_among_few<'l, 'a>(lists: &'l Lists<'a>, name: &Label) -> Option<&'l Vec<&'a AttrSet>>
+    ensures { option_copied result ≡ get_by (is_of name.now) lists.now }
+{
+    let mut left = lists.as_slice();
+    while let Some(((other, list), others)) = left.split_first() {
+        if is_of(name, other) {
+            return Some(list);
+        }
+        left = others;
+    }
+    None
 }
 
 /// Adds a declaration to those of its name.

@@ -2,13 +2,17 @@
 
 ghost use Rattle.std.specs.Prelude.{◌≡◌, not, IfOk};
 ghost use Rattle.std.specs.List.{list_any};
-ghost use Rattle.xs_sets.specs.Indexed.{is_marked};
+ghost use Rattle.indexmap.specs.IndexSet.{contains_by};
+ghost use Rattle.xs_sets.specs.Indexed.{is_marked, is_of};
 ghost use Rattle.xs_sets.specs.steps.Marks.{are_none, is_closed, is_closed_at, is_idle};
 
 use crate::lists::Expanded;
 use indexmap::IndexSet;
 use xs_sheet::declarations::AttrSet;
 use xs_trace::event::Label;
+
+/// The most names that are gone over one after another, which takes less time than a hash.
+pub(crate) const FEW_NAMES: usize = 8;
 
 /// The names of the sets that are marked.
 #[derive(Drop)]
@@ -24,7 +28,17 @@ impl<'a> Marks<'a> {
     pub(crate) fn has(&self, name: &Label) -> bool
         ensures { result ≡ is_marked self.now name.now }
     {
-        self.all || self.names.contains(&(name.uri(), name.local()))
+        self.all || self.has_name(name)
+    }
+
+    /// Whether a name is one of those that are marked.
+    fn has_name(&self, name: &Label) -> bool
+        ensures { result ≡ contains_by (is_of name.now) self.now.names }
+    {
+        if self.names.len() > FEW_NAMES {
+            return self.names.contains(&(name.uri(), name.local()));
+        }
+        is_among(name, self.names.as_slice())
     }
 
     /// Whether all declarations of the sets that are not marked are idle.
@@ -68,6 +82,25 @@ impl<'a> Marks<'a> {
         }
         false
     }
+}
+
+/// Whether a name is one of these, by going over them.
+fn is_among(name: &Label, names: &[Expanded<'_>]) -> bool
+    ensures { result ≡ list_any (is_of name.now) names.now }
+{
+    for other in names {
+        if is_of(name, other) {
+            return true;
+        }
+    }
+    false
+}
+
+/// Whether a name has these two parts.
+pub(crate) fn is_of(name: &Label, other: &Expanded<'_>) -> bool
+    ensures { result ≡ is_of name.now other.now }
+{
+    name.uri() == other.0 && name.local() == other.1
 }
 
 /// Whether a declaration has no attribute.

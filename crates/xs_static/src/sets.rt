@@ -212,22 +212,22 @@ fn is_attribute_set(row: Row) -> bool
 fn push_named<'m>(
     alloc: Global,
     module: &'m Module,
-    number: u32,
     walked: &'m Walked,
-    n: Node,
+    place: Place,
     name: Option<Expanded<'m>>,
     out: &mut Vec<Declaration<'m>>,
 ) -> Result<(), AllocError>
-    requires inside { n < length module.now.tree }
+    requires inside { place.1 < length module.now.tree }
     requires lines { length module.now.lines.items ≡ length module.now.tree }
     requires walked { IsWalked module.now.tree walked.now }
     ensures { OnOk result (map declared out.new.items ≡ map declared out.old.items
-        ++ declared_as module.now.tree (slice_index module.now.lines.items n) («number», n)
+        ++ declared_as module.now.tree (slice_index module.now.lines.items place.1) place
         (option_map name_data name.entry)) }
 {
     let Some(name) = name else {
         return Ok(());
     };
+    let (number, n) = place;
     let sets = own_sets(alloc, &module.tree, walked, n)?;
     let place = crate::circles::Place {
         module: number,
@@ -241,21 +241,21 @@ fn push_named<'m>(
 fn push_in<'m>(
     alloc: Global,
     module: &'m Module,
-    number: u32,
     walked: &'m Walked,
-    n: Node,
+    place: Place,
     out: &mut Vec<Declaration<'m>>,
 ) -> Result<(), AllocError>
-    requires inside { n < length module.now.tree }
+    requires inside { place.1 < length module.now.tree }
     requires lines { length module.now.lines.items ≡ length module.now.tree }
     requires walked { IsWalked module.now.tree walked.now }
     ensures { OnOk result (map declared out.new.items ≡ map declared out.old.items
-        ++ declaration_from module.now.tree (slice_index module.now.lines.items n)
-        («number», n)) }
+        ++ declaration_from module.now.tree (slice_index module.now.lines.items place.1)
+        place) }
 {
+    let n = place.1;
     if is_attribute_set(row_of(&module.tree, n)) {
         let name = own_name(&module.tree, n);
-        return push_named(alloc, module, number, walked, n, name, out);
+        return push_named(alloc, module, walked, place, name, out);
     }
     Ok(())
 }
@@ -274,10 +274,10 @@ fn push_declaration<'m>(
     ensures { OnOk result (map declared out.new.items ≡ map declared out.old.items
         ++ declaration_at (modules_data modules.now) place) }
 {
-    let (number, n) = place;
+    let number = place.0;
     let module = &modules.list[number as usize];
     let walked = &walked[number as usize];
-    push_in(alloc, module, number, walked, n, out)
+    push_in(alloc, module, walked, place, out)
 }
 
 /// The declarations of attribute sets that have names.

@@ -6,6 +6,7 @@ pub mod laws;
 mod least;
 mod name_lines;
 mod names;
+mod plain_text;
 mod scope;
 mod stream;
 mod tag;

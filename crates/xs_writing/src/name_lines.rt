@@ -10,6 +10,7 @@ ghost use Rattle.xs_writing.specs.Bindings.{Attribute, attribute_of, attributes_
 ghost use Rattle.xs_writing.specs.Lines.{bytes_of, element_name};
 ghost use Rattle.xs_writing.specs.steps.InForce.{own_lines, plain_lines};
 
+use crate::plain_text::is_long_and_plain;
 use crate::tag_bindings::is_in_tag;
 use std::alloc::AllocError;
 use std::marker::Model;
@@ -207,6 +208,9 @@ fn append_escaped(out: &mut Vec<u8>, value: &str) -> Result<(), AllocError>
     ensures kept { take (length out.old.items) out.new.items ≡ out.old.items }
     ensures utf8 { IsUtf8 out.old.items → IsUtf8 out.new.items }
 {
+    if is_long_and_plain(value) {
+        return append_text(out, value);
+    }
     escape_into(out, value)?;
     Ok(())
 }

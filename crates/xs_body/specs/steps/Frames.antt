@@ -197,6 +197,14 @@ stack_steps w (x ∷ xs) vs s = and_then (work_steps w x vs s) (λ us m. stack_s
 abbrev pub stack_told : Evaluation → State Task → Told Task
 stack_told t s = stack_steps t.world t.works t.slots s
 
+-- what is left of a body, if anything is: instructions, or values of its own, which its end takes away
+abbrev pub end_works : Scope → List Work
+end_works c = if c.own == 0 then [] else rest [] c ∷ []
+
+abbrev pub rest_works : List Instr → Scope → List Work
+rest_works [] c = end_works c
+rest_works (i ∷ is) c = rest (i ∷ is) c ∷ []
+
 -- ---- a step
 
 abbrev pub pushed : List Work → Evaluation → Evaluation
@@ -416,7 +424,7 @@ begun (Extension fallbacks) p c t s = fallbacks_begun (bodies_of fallbacks) p c 
 -- the next step of the work that is first, before the others
 abbrev pub advanced : Work → Evaluation → State Task → Step Task Evaluation
 advanced (rest [] c) t s = Goes (slots_are (without c.own t.slots) t) s
-advanced (rest (i ∷ is) c) t s = and_then (ticked i.site s) (λ u m. begun i.kind i.site c (pushed (rest is (after i.kind c) ∷ []) t) m)
+advanced (rest (i ∷ is) c) t s = and_then (ticked i.site s) (λ u m. begun i.kind i.site c (pushed (rest_works is (after i.kind c)) t) m)
 advanced fill t s = Goes (filled_up (fragment_at s ∷ []) t) (popped s)
 advanced (each_left body p c i []) t s = Goes t s
 advanced (each_left body p c i (n ∷ ns)) t s =
@@ -480,8 +488,8 @@ attributes_work a = attributes_left a.attributes.now a.site a.scope
 abbrev pub work_of : Frame → Work
 work_of (frame.Rest is c) = rest is.now c
 work_of frame.Fill = fill
-work_of (frame.Each e) = each_work e
-work_of (frame.Apply a) = apply_work a
+work_of (frame.Each e) = each_work e.value
+work_of (frame.Apply a) = apply_work a.value
 work_of (frame.Bodies bodies c) = bodies_left bodies.now c
 work_of frame.End = end_element
 work_of (frame.Sets names f) = sets_left names.now f
@@ -489,9 +497,9 @@ work_of (frame.Declared name i f) = declared_left name.now i f
 work_of (frame.Attributes a) = attributes_work a
 work_of (frame.Make m p) = make m p
 work_of (frame.Say p terminate) = say p terminate
-work_of (frame.Pass p) = pass_work p
-work_of (frame.Take p) = take_work p
-work_of (frame.Params p) = params_work p
+work_of (frame.Pass p) = pass_work p.value
+work_of (frame.Take p) = take_work p.value
+work_of (frame.Params p) = params_work p.value
 
 -- the last frame is the next
 abbrev pub evaluation_of : World → List Frame → List Value → Evaluation

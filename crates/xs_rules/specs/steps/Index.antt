@@ -17,6 +17,7 @@ use Rattle.xs_pattern.specs.Matching.{steps_of}
 use Rattle.xs_pattern.specs.steps.Above.{IsAbove}
 use Rattle.xs_pattern.specs.steps.Marks.{AreMarks}
 use Rattle.xs_rules.specs.declared.lists.Entry.{Entry}
+use Rattle.xs_rules.specs.declared.ranks.Rank.{Rank}
 use Rattle.xs_rules.specs.declared.tables.RuleTable.{RuleTable}
 use Rattle.xs_rules.specs.declared.tables.RuleTable.TheVariants.{Above, Matches}
 use Rattle.xs_rules.specs.Rules.{Candidate, candidate}
@@ -106,12 +107,13 @@ candidate_at ts number k =
 abbrev pub at_entry : List Template → Entry → Option Candidate
 at_entry ts e = candidate_at ts e.template e.alternative
 
-abbrev pub entry : (template alternative : ℕ) → Option ℕ → Entry
-entry number k previous = record { template = number; alternative = k; previous = previous }
+abbrev pub entry : (template alternative : ℕ) → Rank → Option ℕ → Entry
+entry number k rank previous = record { template = number; alternative = k; rank = rank; previous = previous }
 
--- The entries stand for rules, each knows the one before it with its key, and the last one with each key is found.
+-- The entries stand for rules, each has its rule's rank and knows the one before it with its key, and the last one with each key is found.
 pub record IsIndexed (ts : List Template) (cs : List Candidate) (entries : List Entry) (found : Key → Option ℕ) : Type 0 where
   pub each : map (at_entry ts) entries ≡ map Some cs
+  pub ranks : map (λ (e : Entry). e.rank) entries ≡ map (λ (c : Candidate). c.rank) cs
   pub previous : (i : ℕ) (e : Entry) → slice_get entries i ≡ Some e → e.previous ≡ last_below (has_key (map key_of cs) (key_at (map key_of cs) i)) i
   pub last_is : (q : Key) → found q ≡ last_below (has_key (map key_of cs) q) (length cs)
 

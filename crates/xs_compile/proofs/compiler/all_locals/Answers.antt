@@ -1,8 +1,7 @@
-use Rattle.std.proofs.Common.{◌≡◌, ◌∙◌, ◌<◌, ◌+◌, ap, arith, get_or, length, map, refl, subst, sym, take, ℕ, zero, suc, List, Option, Some, [], ◌∷◌}
+use Rattle.std.proofs.Common.{◌≡◌, ◌∙◌, ◌<◌, ◌+◌, ap, arith, length, map, subst, sym, take, List, Option, []}
 use Rattle.std.proofs.lemmas.List.{length-map}
 use Rattle.std.specs.List.{AllZip}
 use Rattle.std.specs.Option.{option_map_or}
-use Rattle.std.specs.Prelude.{slice_get}
 use Rattle.xs_structure.proofs.PassingLemmas.{get_map}
 use Rattle.xs_compile.proofs.StateLemmas.{standings-in}
 use Rattle.xs_compile.proofs.ZipLemmas.{item-got, zip-more}

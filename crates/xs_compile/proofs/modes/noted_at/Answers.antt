@@ -1,4 +1,4 @@
-use Rattle.std.proofs.Common.{◌≡◌, ◌∙◌}
+use Rattle.std.proofs.Common.{◌∙◌}
 use Rattle.xs_compile.proofs.ModeLemmas.{no-mode}
 use Rattle.xs_compile.proofs.modes.noted_at.Goals as goal
 

@@ -16,7 +16,7 @@ returns-then-not-is_above g c = record {
   best =
       one-below (is_matching (g.K.KeyFinder.tables c.args.keys.now) c.args.tree.now c.args.node)
       (candidate c.args.number c.args.template.now c.args.pattern.now (tree_from c.args.alternative.now)) c.args.best
-      (ap (λ (r : Rank). option_map_or (λ (b : Best). outranks r b.rank) c.args.best true) (sym c.rank_of-rank.ensures)
+      (ap (λ (r : Rank). option_map_or (λ (b : Best). outranks r b.rank) c.args.best true) (sym c.requires.rank)
       ∙ sym c.is_above.ensures ∙ c.if-not-is_above.true);
 }
 
@@ -28,10 +28,10 @@ matches_by-requires-clause-table g c κs within =
 pub returns-then-branch : goal.returns-then-branch
 returns-then-branch g c = record {
   best =
-      ap (λ (r : Rank). Some (let b : Best = record { template = c.args.number; rank = r } in b)) c.rank_of-rank.ensures
+      ap (λ (r : Rank). Some (let b : Best = record { template = c.args.number; rank = r } in b)) c.requires.rank
       ∙ one-taken (is_matching (g.K.KeyFinder.tables c.args.keys.now) c.args.tree.now c.args.node)
       (candidate c.args.number c.args.template.now c.args.pattern.now (tree_from c.args.alternative.now)) c.args.best
-      (ap (λ (r : Rank). option_map_or (λ (b : Best). outranks r b.rank) c.args.best true) (sym c.rank_of-rank.ensures)
+      (ap (λ (r : Rank). option_map_or (λ (b : Best). outranks r b.rank) c.args.best true) (sym c.requires.rank)
       ∙ sym c.is_above.ensures ∙ c.if-not-is_above.false)
       (ap (λ (ps : List (List ℕ × List ℕ)). matches_path (g.K.KeyFinder.tables c.args.keys.now) (pattern_context c.args.tree.now ps c.args.node)
       (tree_from c.args.alternative.now)) (sym c.scope.ensures)

@@ -1,4 +1,4 @@
-use Rattle.std.proofs.Common.{◌≡◌, ◌+◌, ◌<◌, ◌∷◌, [], List, None, Some, ap, arith, get_or, length, slice_get, sym, ◌∙◌}
+use Rattle.std.proofs.Common.{◌≡◌, ◌+◌, ◌<◌, ◌∷◌, [], List, None, Some, ap, arith, get_or, length, pos, slice_get, sym, ◌∙◌}
 use Rattle.std.proofs.lemmas.List.{length-append}
 use Rattle.std.proofs.lemmas.Option.{slice_get-get_or}
 use Rattle.xs_rules.specs.declared.lists.Entry.{Entry}
@@ -10,9 +10,10 @@ pub loop-entry-preserved : goal.loop-entry-preserved
 loop-entry-preserved c =
     let es : List Entry = c.args.entries.now in
     let k = c.loop-entry.entry-index in
-    let e : Entry = get_or es k (entry 0 0 None) in
+    let none : Entry = entry 0 0 (record { precedence = 0; priority = pos 0 }) None in
+    let e : Entry = get_or es k none in
     let inside : k < length es = omega (arith, c.loop-entry-test.true) in
-    let read : slice_get es k ≡ Some e = slice_get-get_or es k (entry 0 0 None) inside in
+    let read : slice_get es k ≡ Some e = slice_get-get_or es k none inside in
     let more : length c.push.new.self.items ≡ length c.loop-entry.tables.items + 1 =
     ap (λ l. length l) c.in_ok-push.ensures.items ∙ length-append c.loop-entry.tables.items (c.in_ok-table.table ∷ []) in
     record {

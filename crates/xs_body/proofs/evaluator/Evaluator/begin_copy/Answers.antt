@@ -9,17 +9,17 @@ use Rattle.xs_body.specs.steps.Frames.{Evaluation, copied_begun}
 use Rattle.xs_body.specs.steps.Making.{events_steps}
 use Rattle.xs_body.proofs.evaluator.Evaluator.begin_copy.Goals as goal
 
-pub returns-in_err-put_events-clause-told : goal.returns-in_err-put_events-clause-told
-returns-in_err-put_events-clause-told g c =
-    let p = err_from_is_err_and c.from_residual-in_err-put_events.result c.from_residual-in_err-put_events.ensures.1 in
+pub returns-in_err-put_taken-clause-told : goal.returns-in_err-put_taken-clause-told
+returns-in_err-put_taken-clause-told g c =
+    let p = err_from_is_err_and c.from_residual-in_err-put_taken.result c.from_residual-in_err-put_taken.ensures.1 in
     let rs = c.args.self.now.world.tree in
     let n = c.args.scope.focus.node in
     let s = g.R.Tally.state c.args.recorder.now in
     let t = copied_begun (at rs n).kind c.args.sets.now c.args.body.now c.args.scope c.args.self.now in
-    let q : c.as_slice.result.now ≡ shallow_copy rs n =
-    c.as_slice.ensures.value ∙ c.in_ok-events.ensures.copied ∙ ap (λ (e : Evaluation). shallow_copy e.world.tree c.at-node.result) c.self.view_is
+    let q : c.copied.new.events.items ≡ shallow_copy rs n =
+    c.in_ok-copied.ensures.copied ∙ ap (λ (e : Evaluation). shallow_copy e.world.tree c.at-node.result) c.self.view_is
     ∙ ap (shallow_copy rs) c.at-node.ensures in
-    passes (λ x. x) _ _ (events_steps c.args.site c.as_slice.result.now s) (λ u m. Goes t m) (g.R.Tally.state c.put_events.new.recorder)
-    c.from_residual-in_err-put_events.result _ _
+    passes (λ x. x) _ _ (events_steps c.args.site c.copied.new.events.items s) (λ u m. Goes t m) (g.R.Tally.state c.put_taken.new.recorder)
+    c.from_residual-in_err-put_taken.result _ _
     (ap (λ (es : List Event). and_then (events_steps c.args.site es s) (λ u m. Goes t m)) (sym q)) (λ u. goes-grows t) p.1 p.2
-    c.in_err-put_events.ensures.told
+    c.in_err-put_taken.ensures.told

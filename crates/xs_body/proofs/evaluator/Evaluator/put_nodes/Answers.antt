@@ -10,22 +10,22 @@ use Rattle.xs_body.specs.steps.Making.{events_steps, nodes_steps}
 use Rattle.xs_body.proofs.MakingLemmas.{nodes-grow}
 use Rattle.xs_body.proofs.evaluator.Evaluator.put_nodes.Goals as goal
 
-pub returns-in_err-put_events-clause-told : goal.returns-in_err-put_events-clause-told
-returns-in_err-put_events-clause-told g c =
-    let p = err_from_is_err_and c.from_residual-in_err-put_events.result c.from_residual-in_err-put_events.ensures.1 in
+pub returns-in_err-put_taken-clause-told : goal.returns-in_err-put_taken-clause-told
+returns-in_err-put_taken-clause-told g c =
+    let p = err_from_is_err_and c.from_residual-in_err-put_taken.result c.from_residual-in_err-put_taken.ensures.1 in
     let site = c.args.site in
     let rs = c.args.self.now.world.tree in
     let n = c.in-Some.node.now in
     let others = c.in-Some.others.now in
     let s = g.R.Tally.state c.loop-node.recorder in
     let e : c.loop-node.left.now ≡ (n ∷ others) = search rules in
-    let q : c.as_slice.result.now ≡ deep_copy rs n =
-    c.as_slice.ensures.value ∙ c.in_ok-events.ensures.copied ∙ ap (λ (t : Evaluation). deep_copy t.world.tree n) c.self.view_is in
-    passes (λ x. x) (λ x. x) _ (events_steps site c.as_slice.result.now s) (λ u m. nodes_steps rs site others m)
-    (g.R.Tally.state c.put_events.new.recorder) c.from_residual-in_err-put_events.result _ _
+    let q : c.copied.new.events.items ≡ deep_copy rs n =
+    c.in_ok-copied.ensures.copied ∙ ap (λ (t : Evaluation). deep_copy t.world.tree n) c.self.view_is in
+    passes (λ x. x) (λ x. x) _ (events_steps site c.copied.new.events.items s) (λ u m. nodes_steps rs site others m)
+    (g.R.Tally.state c.put_taken.new.recorder) c.from_residual-in_err-put_taken.result _ _
     (c.loop-node.invariant.0.0 ∙ ap (λ ns. nodes_steps rs site ns s) e
     ∙ ap (λ (es : List Event). and_then (events_steps site es s) (λ u m. nodes_steps rs site others m)) (sym q)) (λ u. nodes-grow rs site others) p.1 p.2
-    c.in_err-put_events.ensures.told
+    c.in_err-put_taken.ensures.told
 
 pub loop-node-preserved : goal.loop-node-preserved
 loop-node-preserved g c =
@@ -35,14 +35,14 @@ loop-node-preserved g c =
     let others = c.in-Some.others.now in
     let s = g.R.Tally.state c.loop-node.recorder in
     let e : c.loop-node.left.now ≡ (n ∷ others) = search rules in
-    let q : c.as_slice.result.now ≡ deep_copy rs n =
-    c.as_slice.ensures.value ∙ c.in_ok-events.ensures.copied ∙ ap (λ (t : Evaluation). deep_copy t.world.tree n) c.self.view_is in
+    let q : c.copied.new.events.items ≡ deep_copy rs n =
+    c.in_ok-copied.ensures.copied ∙ ap (λ (t : Evaluation). deep_copy t.world.tree n) c.self.view_is in
     let within : ℕ → Type 0 = λ m. m < length rs in (
       (
         c.loop-node.invariant.0.0 ∙ ap (λ ns. nodes_steps rs site ns s) e
             ∙ ap (λ (es : List Event). and_then (events_steps site es s) (λ u m. nodes_steps rs site others m)) (sym q)
-            ∙ ap (λ h. and_then h (λ u m. nodes_steps rs site others m)) c.in_ok-put_events.ensures.told,
-        c.in_ok-put_events.ensures.kept ∙ c.loop-node.invariant.0.1,
+            ∙ ap (λ h. and_then h (λ u m. nodes_steps rs site others m)) c.in_ok-put_taken.ensures.told,
+        c.in_ok-put_taken.ensures.kept ∙ c.loop-node.invariant.0.1,
       ),
       All-tail within n others (subst (All within) e c.loop-node.invariant.1),
     )

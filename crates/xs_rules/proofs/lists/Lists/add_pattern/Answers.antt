@@ -19,9 +19,10 @@ loop-place-preserved c = λ ts cs of_number of_pattern i.
     let of_place : slice_get c.args.pattern.now.pattern c.loop-place.place ≡ Some (tree_from e) =
     subst (λ xs. slice_get xs c.loop-place.place ≡ Some (tree_from e)) c.alternatives-alternatives.ensures
     (slice_get-map tree_from es c.loop-place.place ∙ ap (option_map tree_from) read) in
-    alternative-more ts cs c.args.number c.loop-place.place c.args.template.now c.args.pattern.now (tree_from e) (key_data c.key_of-key.result)
-    c.loop-place.self.entries.items c.add.new.self.entries.items (found_in c.loop-place.self.last) (found_in c.add.new.self.last)
-    (c.loop-place.invariant ts cs of_number of_pattern i) of_number of_pattern of_place c.key_of-key.ensures c.in_ok-add.ensures.entries
+    alternative-more ts cs c.args.number c.loop-place.place c.args.template.now c.args.pattern.now (tree_from e)
+    c.rank_of-rank.result (key_data c.key_of-key.result) c.loop-place.self.entries.items
+    c.add.new.self.entries.items (found_in c.loop-place.self.last) (found_in c.add.new.self.last)
+    (c.loop-place.invariant ts cs of_number of_pattern i) of_number of_pattern of_place c.rank_of-rank.ensures c.key_of-key.ensures c.in_ok-add.ensures.entries
     c.in_ok-add.ensures.found
 
 pub returns : goal.returns

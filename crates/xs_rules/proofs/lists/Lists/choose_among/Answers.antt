@@ -9,7 +9,7 @@ use Rattle.xs_rules.specs.steps.Candidates.{passes, rule_of_best}
 use Rattle.xs_rules.specs.steps.Index.{IsTableOf, Key, any_key, at_entry, has_key, key_data, key_of, later, moved_back, node_key}
 use Rattle.xs_rules.specs.steps.Lists.{found_in}
 use Rattle.xs_rules.proofs.ChainLemmas.{above}
-use Rattle.xs_rules.proofs.IndexLemmas.{complete, index-inside, index-less, index-step}
+use Rattle.xs_rules.proofs.IndexLemmas.{complete, entry-rank, index-inside, index-less, index-step}
 use Rattle.xs_rules.proofs.SearchLemmas.{IsSearched, search-end, search-none}
 use Rattle.xs_rules.proofs.lists.Lists.choose_among.Goals as goal
 
@@ -51,6 +51,20 @@ best_at-requires-clause-table g c κs within =
     slice_get_read c.args.self.now.entries.items (length c.args.self.now.entries.items) c.in-Some.place entry refl inside c.index-entry.ensures in
     subst (λ (o : Option RuleTable). IsTableOf c.args.tree.now (at_entry c.args.templates.now entry) o) (sym c.table_at-table.ensures)
     (c.requires.rule_tables.each c.in-Some.place entry read)
+
+pub best_at-requires-clause-rank : goal.best_at-requires-clause-rank
+best_at-requires-clause-rank g c κs within =
+    let p : Candidate → Bool = passes c.args.looked (g.K.KeyFinder.tables c.args.keys.now) c.args.tree.now c.args.mode c.args.node in
+    let cs : List Candidate = candidates c.args.templates.now in
+    let entry : Entry = c.index-entry.result.now in
+    let inside : c.in-Some.place < length c.args.self.now.entries.items =
+    index-inside p c.args.templates.now cs c.args.self.now.entries.items (found_in c.args.self.now.last)
+    (has_key (map key_of cs) (node_key c.args.mode (at c.args.tree.now c.args.node))) (has_key (map key_of cs) (any_key c.args.mode))
+    c.loop-place.named c.loop-place.unnamed c.loop-place.best c.in-Some.place c.requires.indexed c.loop-place.invariant
+    (sym c.later.ensures ∙ c.in-Some.is) in
+    let read : slice_get c.args.self.now.entries.items c.in-Some.place ≡ Some entry =
+    slice_get_read c.args.self.now.entries.items (length c.args.self.now.entries.items) c.in-Some.place entry refl inside c.index-entry.ensures in
+    entry-rank c.args.templates.now cs c.args.self.now.entries.items (found_in c.args.self.now.last) c.in-Some.place entry c.requires.indexed read
 
 pub loop-place-smaller : goal.loop-place-smaller
 loop-place-smaller g c =

@@ -1,4 +1,4 @@
-use Rattle.std.proofs.Common.{◌≡◌, ◌∙◌, ap, refl, ℕ, List, [], Bool, false, reverse}
+use Rattle.std.proofs.Common.{◌∙◌, ap, List, Bool, reverse}
 use Rattle.std.specs.Prelude.{◌||◌}
 use Rattle.xs_static.specs.declared.locals.OpenBinding.{OpenBinding}
 use Rattle.xs_static.specs.steps.Locals.{comes}

@@ -1,4 +1,4 @@
-use Rattle.std.proofs.Common.{◌≡◌, ◌∙◌, ap, sym, arith, ℕ, List, Option, Some, None, Bor}
+use Rattle.std.proofs.Common.{◌∙◌, ap, sym, arith, ℕ, List, Option, Bor}
 use Rattle.std.specs.Prelude.{option_map}
 use Rattle.xs_elements.specs.Nodes.{name_data}
 use Rattle.xs_static.proofs.LocalsLemmas.{later-count, no-binding}

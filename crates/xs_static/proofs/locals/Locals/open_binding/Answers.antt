@@ -1,8 +1,8 @@
-use Rattle.std.proofs.Common.{◌≡◌, ◌∙◌, ◌+◌, ap, refl, sym, subst, arith, ℕ, List, [], ◌∷◌, Bool, false, reverse, Option, Some}
+use Rattle.std.proofs.Common.{◌≡◌, ◌∙◌, ◌+◌, ap, sym, subst, arith, List, ◌∷◌, reverse}
 use Rattle.std.specs.Prelude.{◌||◌}
 use Rattle.xs_static.specs.declared.locals.OpenBinding.{OpenBinding}
 use Rattle.xs_structure.specs.InForce.{in_force_at}
-use Rattle.xs_static.specs.steps.Locals.{AreNested, comes, open_in}
+use Rattle.xs_static.specs.steps.Locals.{AreNested, comes}
 use Rattle.xs_static.proofs.LocalsLemmas.{new-binding, nested-more, stack-pushed}
 use Rattle.xs_static.proofs.locals.Locals.open_binding.Goals as goal
 

@@ -1,8 +1,8 @@
-use Rattle.std.proofs.Common.{◌≡◌, ◌∙◌, ap, refl, sym, subst, arith, ℕ, List, [], ◌∷◌, Bool, false, length, reverse, Option, Some, ◌-◌}
+use Rattle.std.proofs.Common.{◌≡◌, ◌∙◌, ap, sym, subst, arith, List, ◌∷◌, false, length, reverse, ◌-◌}
 use Rattle.std.specs.Prelude.{◌||◌, slice_get}
 use Rattle.xs_static.specs.declared.locals.OpenBinding.{OpenBinding}
 use Rattle.xs_structure.specs.InForce.{in_force_at}
-use Rattle.xs_static.specs.steps.Locals.{AreNested, comes, open_in}
+use Rattle.xs_static.specs.steps.Locals.{AreNested, comes}
 use Rattle.xs_static.proofs.LocalsLemmas.{passed-one, popped-last, rest-nested, stack-popped}
 use Rattle.xs_static.proofs.locals.Locals.pass.Goals as goal
 

@@ -1,4 +1,4 @@
-use Rattle.std.proofs.Common.{◌≡◌, ℕ, List, length}
+use Rattle.std.proofs.Common.{length}
 use Rattle.xs_static.specs.steps.Locals.{AreLocals}
 use Rattle.xs_static.proofs.locals.Locals.pass.Given as goal
 

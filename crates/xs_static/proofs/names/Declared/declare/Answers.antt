@@ -1,4 +1,4 @@
-use Rattle.std.proofs.Common.{◌≡◌, ◌∙◌, ◌==◌, ap, ℕ, List, Bor}
+use Rattle.std.proofs.Common.{◌==◌}
 use Rattle.xs_elements.specs.Nodes.{name_data}
 use Rattle.xs_static.proofs.DeclaredLemmas.{put-name, put-ranked}
 use Rattle.xs_static.specs.steps.Declared.{is_ranked}

@@ -1,11 +1,10 @@
-use Rattle.std.proofs.Common.{◌≡◌, ◌∙◌, ap, refl, sym, ℕ, List, [], Option}
+use Rattle.std.proofs.Common.{◌∙◌, ap, sym, List, [], Option}
 use Rattle.std.specs.Option.{option_map_or}
 use Rattle.xs_elements.specs.Nodes.{own_name}
 use Rattle.xs_elements.specs.Rows.{is_template, is_variable, row_of}
 use Rattle.xs_modules.specs.Numbering.{ModuleData}
 use Rattle.xs_modules.specs.Results.{module_data, modules_data}
 use Rattle.xs_static.proofs.DeclaredLemmas.{answer-as, line-of, met-names, module-of, noted, noted-as}
-use Rattle.xs_structure.specs.Modules.{line_at, precedence_at, records_at}
 use Rattle.xs_tree.specs.Record.{Record}
 use Rattle.xs_static.proofs.names.Names.declare.Goals as goal
 

@@ -1,8 +1,7 @@
-use Rattle.std.proofs.Common.{◌≡◌, ◌∙◌, ◌∷◌, [], ap, refl, sym, rules, List}
+use Rattle.std.proofs.Common.{◌≡◌, ◌∷◌, rules}
 use Rattle.std.proofs.lemmas.Grind.{common_steps}
 use Rattle.xs_modules.specs.Results.{modules_data}
 use Rattle.xs_static.proofs.DeclaredLemmas.{ends_with, first-inside, goes_on, starts}
-use Rattle.xs_structure.specs.Modules.{Place}
 use Rattle.xs_static.proofs.names.Names.of.Goals as goal
 
 pub loop-place-init : goal.loop-place-init

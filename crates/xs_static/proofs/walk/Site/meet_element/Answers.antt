@@ -1,4 +1,3 @@
-use Rattle.std.proofs.Common.{◌≡◌, ◌∙◌, ap, refl, sym}
 use Rattle.xs_elements.specs.Reading.{is_seen}
 use Rattle.xs_static.proofs.MeetLemmas.{on_ok}
 use Rattle.xs_static.proofs.FoundLemmas.{met-deep, met-seen, seen-of}

@@ -1,4 +1,4 @@
-use Rattle.std.proofs.Common.{◌≡◌, ◌∙◌, sym}
+use Rattle.std.proofs.Common.{◌∙◌, sym}
 use Rattle.xs_static.proofs.MeetLemmas.{on_ok}
 use Rattle.xs_static.proofs.FoundLemmas.{met-element, met-other}
 use Rattle.xs_static.proofs.walk.Site.meet_node.Goals as goal

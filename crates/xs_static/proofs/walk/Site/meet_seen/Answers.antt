@@ -1,4 +1,4 @@
-use Rattle.std.proofs.Common.{◌≡◌, ◌∙◌, ◌<◌, ◌≤◌, ap, refl, sym, subst, arith, ℕ, List, Option, Some, Bor, length}
+use Rattle.std.proofs.Common.{◌≡◌, ◌∙◌, ◌<◌, ap, sym, subst, arith, ℕ, List, length}
 use Rattle.xs_static.proofs.FoundLemmas.{known-is, met-in-element}
 use Rattle.xs_static.proofs.LocalsLemmas.{in_force-is}
 use Rattle.xs_static.specs.steps.Elements.{known_by}
