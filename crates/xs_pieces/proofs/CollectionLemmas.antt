@@ -1,9 +1,10 @@
 -- Collections that read as good states.
 use Rattle.std.proofs.Common.{◌≡◌, ◌<◌, ◌≤◌, ◌+◌, ℕ, zero, suc, List, [], ◌∷◌, ◌++◌, length, get_or, slice_get, Option, Some, None, Bool, true, false, cond}
 use Rattle.std.proofs.Common.{eqb}
-use Rattle.std.proofs.Common.{refl, sym, ap, subst, ◌∙◌, arith}
+use Rattle.std.proofs.Common.{refl, sym, ap, subst, ◌∙◌, arith, append_assoc}
 use Rattle.std.specs.List.{All, Contains}
 use Rattle.std.proofs.lemmas.Bool.Decides.{nat_tests}
+use Rattle.std.proofs.lemmas.List.{append-nil}
 use Rattle.std.proofs.lemmas.List.Elements.{All-head, All-tail}
 use Rattle.xs_trace.specs.Mark.{Tick, Put, Say, Stop, Need, Hole, Trace, ◌⨾◌, GoesOn, tick_count, events_of}
 use Rattle.xs_trace.specs.Cut.{End, Whole, Fault, Needs, Spent, Full, cut_from, nowhere, cut, Allows, IsEnd}
@@ -408,10 +409,109 @@ module _ {H : Type 0} (own whole : H → Trace H) (fills : (t : H) → whole t �
         let f = fit.within in
         omega arith
 
+-- ---- each place of the tree is there
+
+none-below : {H : Type 0} → (own : H → Trace H) (p : List ℕ) (t : H) → task_at own None p ≡ Some t → ⊥
+none-below own [] t e = absurd (cc)
+none-below own (k ∷ p) t e = absurd (cc)
+
+got : {H : Type 0} → (xs : List H) (k : ℕ) (c : H) → slice_get xs k ≡ Some c → k < length xs
+got [] k c e = absurd (cc)
+got (x ∷ xs) zero c e = omega arith
+got (x ∷ xs) (suc k) c e = let i = got xs k c e in omega arith
+
+pub at-place : {H : Type 0} → (place : H → List ℕ) (ps : List (Piece H)) (k : ℕ) (q : List ℕ) → k < length (places_in place ps) →
+    get_or (places_in place ps) k q ≡ q → (d : Piece H) × (k < length ps) × (place (get_or ps k d).task ≡ q)
+at-place place [] k q h e = absurd (omega (arith, h))
+at-place place (p ∷ ps) zero q h e = (p, omega arith, e)
+at-place place (p ∷ ps) (suc k) q h e =
+    let r = at-place place ps k q (omega (arith, h)) e in
+    (r.0, omega (arith, r.1), r.2)
+
+module _ {H : Type 0} (place : H → List ℕ) (own whole : H → Trace H) (fills : (t : H) → whole t ≡ fill whole (own t)) (root : H) (l : Limits)
+    (ps : List (Piece H)) (t : ℕ) (good : IsGood (facts_of own root l) l.ticks (state_of place ps t)) (all : All (λ p. is_finished p.outcome ≡ true) ps) where
+  child-is-there : (q : List ℕ) (x : H) (k : ℕ) (c : H) → task_at own (Some root) q ≡ Some x → Contains (places_in place ps) q → Fits l (whole x) →
+      slice_get (tasks_of (own x)) k ≡ Some c → Contains (places_in place ps) (q ++ k ∷ [])
+  child-is-there q x k c is there fits e =
+      let r = at-place place ps there.0 q there.1 there.2 in
+      let f = fits-own l whole (own x) (subst (λ (z : Trace H). Fits l z) (fills x) fits) in
+      let n : holes_in own l (task_at own (Some root) (place (get_or ps there.0 r.0).task)) ≡ length (tasks_of (own x)) =
+      ap (λ (p : List ℕ). holes_in own l (task_at own (Some root) p)) r.2 ∙ ap (holes_in own l) is
+      ∙ ap (λ (z : Trace H). length (tasks_of z)) (cut-all (own x) nowhere l.ticks l.events f.goes_on f.within f.allowed) in
+      let i = got (tasks_of (own x)) k c e in
+      subst (λ (p : List ℕ). Contains (places_in place ps) (p ++ k ∷ [])) r.2
+      (child-there place own root l ps t good there.0 r.0 r.1 (all there.0 r.0 r.1) k (omega (arith, i, n)))
+
+  below-is-there : (q : List ℕ) (x : H) → task_at own (Some root) q ≡ Some x → Contains (places_in place ps) q → Fits l (whole x) → (p : List ℕ) (y : H) →
+      task_at own (Some x) p ≡ Some y → Contains (places_in place ps) (q ++ p)
+  below-is-there q x is there fits [] y e = subst (λ (p : List ℕ). Contains (places_in place ps) p) (sym (append-nil q)) there
+  below-is-there q x is there fits (k ∷ p) y e =
+      by (slice_get (tasks_of (own x)) k) refl e
+      (λ c is there fits e. below-is-there (q ++ k ∷ []) c is there fits p y e)
+    where
+      by : (o : Option H) → slice_get (tasks_of (own x)) k ≡ o → task_at own o p ≡ Some y →
+          ((c : H) → task_at own (Some root) (q ++ k ∷ []) ≡ Some c → Contains (places_in place ps) (q ++ k ∷ []) → Fits l (whole c) →
+          task_at own (Some c) p ≡ Some y → Contains (places_in place ps) ((q ++ k ∷ []) ++ p)) →
+          Contains (places_in place ps) (q ++ k ∷ p)
+      by None g e below = absurd (none-below own p y e)
+      by (Some c) g e below =
+          subst (λ (z : List ℕ). Contains (places_in place ps) z) (append_assoc q (k ∷ []) p)
+          (below c (at-child own (Some root) q k ∙ ap (λ (o : Option H). task_at own o (k ∷ [])) is ∙ g)
+          (child-is-there q x k c is there fits g)
+          (fits-holes l whole (own x) (subst (λ (z : Trace H). Fits l z) (fills x) fits) k c g) e)
+
+-- ---- the total, where all are finished
+
+all-finished : {H : Type 0} → (place : H → List ℕ) (places : List (List ℕ)) (ps : List (Piece H)) → All (λ p. is_finished p.outcome ≡ true) ps →
+    (finished_in place ps ≡ places_in place ps) × (dropped_in place places ps ≡ [])
+all-finished place places [] a = (refl, refl)
+all-finished {H} place places (p ∷ ps) a =
+    let e = All-head (λ (x : Piece H). is_finished x.outcome ≡ true) p ps a in
+    let i = all-finished place places ps (All-tail (λ (x : Piece H). is_finished x.outcome ≡ true) p ps a) in (
+      ap (λ b. cond b (place p.task ∷ finished_in place ps) (finished_in place ps)) e ∙ ap (λ (z : List (List ℕ)). place p.task ∷ z) i.0,
+      ap (λ b. cond b (dropped_in place places ps) (dropped place places p ∷ dropped_in place places ps)) e ∙ i.1,
+    )
+
+module _ {H : Type 0} (own whole : H → Trace H) (fills : (t : H) → whole t ≡ fill whole (own t)) (l : Limits) (place : H → List ℕ) (root : H)
+    (fit : Fits l (whole root)) where
+  pieces-weigh : (ps : List (Piece H)) → All (λ p. task_at own (Some root) (place p.task) ≡ Some p.task) ps →
+      total (λ p. ticks_in own l (task_at own (Some root) p)) (places_in place ps)
+      + total (λ p. children (weight own whole fills l root) p (holes_in own l (task_at own (Some root) p))) (places_in place ps)
+      ≡ total (weight own whole fills l root) (places_in place ps)
+  pieces-weigh [] a = omega arith
+  pieces-weigh (p ∷ ps) a =
+      let i = pieces-weigh ps (All-tail (λ p. task_at own (Some root) (place p.task) ≡ Some p.task) p ps a) in
+      let at : task_at own (Some root) (place p.task) ≡ Some p.task = All-head (λ p. task_at own (Some root) (place p.task) ≡ Some p.task) p ps a in
+      let here = weighs own whole fills l root p.task (place p.task) at
+      (fits-at own whole fills l (Some root) (place p.task) p.task (λ s i. subst (λ (z : H). Fits l (whole z)) (some_same i) fit) at) in
+      omega arith
+
+  total-is : (ps : List (Piece H)) (t : ℕ) → All (λ p. task_at own (Some root) (place p.task) ≡ Some p.task) ps →
+      IsGood (facts_of own root l) l.ticks (state_of place ps t) → All (λ p. is_finished p.outcome ≡ true) ps → t ≡ tick_count (whole root)
+  total-is ps t tasks g all =
+      let e = all-finished place (places_in place ps) ps all in
+      let w = pieces-weigh ps tasks in
+      let c = g.counted (weight own whole fills l root) in
+      let s = g.summed in
+      let a = ap (total (weight own whole fills l root)) e.0 in
+      let b = ap (total (λ p. children (weight own whole fills l root) p (holes_in own l (task_at own (Some root) p)))) e.0 in
+      let d = ap (total (λ p. ticks_in own l (task_at own (Some root) p))) e.0 in
+      let f = ap (total (λ (x : Progress). weight own whole fills l root x.place)) e.1 in
+      let h = ap (total (λ (x : Progress). children (weight own whole fills l root) x.place x.given)) e.1 in
+      let k = ap (total (λ (x : Progress). x.spent)) e.1 in
+      omega arith
+
 pub whole-is-complete : (H : Type 0) → WholeIsComplete H
 whole-is-complete H place own whole fills root l ps t tasks good w =
-    let le = total-fits own whole fills l place root (fits-whole l (whole root) w) ps t tasks good in
-    (le, λ k d h. finished (is_finished (get_or ps k d).outcome) (λ e. let a = missing-above place own root l ps t good k d h e in omega (arith, a, le)))
+    let fit = fits-whole l (whole root) w in
+    let le = total-fits own whole fills l place root fit ps t tasks good in
+    let all : All (λ p. is_finished p.outcome ≡ true) ps = λ k d h.
+    finished (is_finished (get_or ps k d).outcome) (λ e. let a = missing-above place own root l ps t good k d h e in omega (arith, a, le)) in record {
+      within = le;
+      ticks = total-is own whole fills l place root fit ps t tasks good all;
+      finished = all;
+      there = λ p x e. below-is-there place own whole fills root l ps t good all [] root refl (root-there place own root l ps t good) fit p x e;
+    }
   where
     finished : (b : Bool) → (b ≡ false → ⊥) → b ≡ true
     finished true f = refl

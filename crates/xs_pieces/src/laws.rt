@@ -8,8 +8,8 @@ pub fn tree_laws<H, K>()
     ensures { TreeLaws H K }
 {}
 
-/// Where a whole run is within its limits, all its pieces are finished, and their total is within
-/// the limit.
+/// Where a whole run is within its limits, its collection has each place of the tree, all pieces
+/// are finished, and their total is all ticks.
 pub fn whole_is_complete<H>()
     ensures { WholeIsComplete H }
 {}

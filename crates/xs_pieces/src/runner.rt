@@ -14,7 +14,7 @@ use xs_trace::item::{Item, Limits};
 use xs_trace::place::Place;
 use xs_trace::total::Total;
 
-/// Runs the pieces of a tree.
+/// A tree of pieces, and what runs a task with all that is below it.
 pub trait Runner {
     /// What a piece is to do.
     type Task: Drop;
@@ -35,30 +35,6 @@ pub trait Runner {
     fn place<'t>(&self, task: &'t Self::Task) -> &'t Place
         ensures place { result.now ≡ place_of self.now task.now };
 
-    /// What a task does itself, cut at the limits, with a hole for each task that it leaves; these
-    /// are appended to the children, in order. Its ticks are added to the total.
-    fn run<T: Total + Drop>(
-        &self,
-        alloc: Global,
-        task: &Self::Task,
-        limits: Limits,
-        desk: Desk<T>,
-        children: &mut Vec<Self::Task>,
-    ) -> Ran<T>
-        requires ready { IsReady (is_own self.now) (place_of self.now) (own self.now)
-            (whole self.now) }
-        requires task { is_own self.now task.now }
-        requires open { T.last desk.share ≤ T.most desk.share }
-        ensures piece { IfOk result.outcome (IsPiece (own self.now task.now) limits
-            (T.most desk.share) (T.added desk.share) (T.added result.desk.share)
-            (T.last result.desk.share) children.old.items children.new.items) }
-        ensures refused { OnErr result.outcome (children.new.items ≡ children.old.items) }
-        ensures kept { T.kept result.desk.share ≡ T.kept desk.share }
-        ensures most { T.most result.desk.share ≡ T.most desk.share }
-        ensures blocks { IfOk result.outcome (λ o.
-            desk.pool ≤ part_blocks o.parts.items + result.desk.pool) }
-        ensures free { OnErr result.outcome (desk.pool ≤ result.desk.pool) };
-
     /// All that a task does, with what it leaves to others, cut at the limits. The blocks come from
     /// the pool.
     fn run_whole(
@@ -74,4 +50,31 @@ pub trait Runner {
         ensures outcome { IfOk result (IsOutcome (whole self.now task.now) limits) }
         ensures blocks { IfOk result (λ o. pool.old ≤ part_blocks o.parts.items + pool.new) }
         ensures free { OnErr result (pool.old ≤ pool.new) };
+}
+
+/// Runs single pieces of a tree, whose ticks go into a total of which `T` is a share.
+pub trait PieceRunner<T: Total + Drop>: Runner {
+    /// What a task does itself, cut at the limits, with a hole for each task that it leaves; these
+    /// are appended to the children, in order. Its ticks are added to the total.
+    fn run(
+        &self,
+        alloc: Global,
+        task: &Self::Task,
+        limits: Limits,
+        desk: Desk<T>,
+        children: &mut Vec<Self::Task>,
+    ) -> Ran<T>
+        requires ready { IsReady (Self.is_own self.now) (Self.place_of self.now)
+            (Self.own self.now) (Self.whole self.now) }
+        requires task { Self.is_own self.now task.now }
+        requires open { T.last desk.share ≤ T.most desk.share }
+        ensures piece { IfOk result.outcome (IsPiece (Self.own self.now task.now) limits
+            (T.most desk.share) (T.added desk.share) (T.added result.desk.share)
+            (T.last result.desk.share) children.old.items children.new.items) }
+        ensures refused { OnErr result.outcome (children.new.items ≡ children.old.items) }
+        ensures kept { T.kept result.desk.share ≡ T.kept desk.share }
+        ensures most { T.most result.desk.share ≡ T.most desk.share }
+        ensures blocks { IfOk result.outcome (λ o.
+            desk.pool ≤ part_blocks o.parts.items + result.desk.pool) }
+        ensures free { OnErr result.outcome (desk.pool ≤ result.desk.pool) };
 }

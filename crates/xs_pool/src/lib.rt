@@ -3,4 +3,4 @@
 
 mod next;
 pub mod sequential;
-mod sole;
+pub mod sole;

@@ -7,7 +7,7 @@ ghost use Rattle.xs_pool.specs.steps.Running.{waiting, ran_at, IsRun, IsNext};
 
 use std::alloc::{AllocError, Global};
 use xs_pieces::piece::{Desk, Piece, Ran};
-use xs_pieces::runner::Runner;
+use xs_pieces::runner::PieceRunner;
 use xs_record::outcome::Outcome;
 use xs_trace::item::{Ended, Limits};
 use xs_trace::total::Total;
@@ -20,7 +20,7 @@ pub(crate) struct Next<T> {
 }
 
 /// Runs the piece at an index. Its children wait, unless it ended in the total.
-pub(crate) fn run_next<R: Runner, T: Total + Drop>(
+pub(crate) fn run_next<R: PieceRunner<T>, T: Total + Drop>(
     alloc: Global,
     runner: &R,
     pieces: &mut Vec<Piece<R::Task>>,

@@ -10,7 +10,7 @@ use crate::sole::SoleTotal;
 use std::alloc::{AllocError, Global};
 use xs_block::pool::Pool;
 use xs_pieces::piece::{Collected, Desk, Piece};
-use xs_pieces::runner::Runner;
+use xs_pieces::runner::{PieceRunner, Runner};
 use xs_trace::item::Limits;
 use xs_trace::place::Claim;
 use xs_trace::total::Total;
@@ -25,7 +25,7 @@ struct Run<H, T> {
 
 /// Runs the root's task and all that tasks leave, first in, first out, until all have been run or
 /// one ended in the total. Pieces that are left then were not run.
-pub fn run_all<R: Runner>(
+pub fn run_all<R: PieceRunner<SoleTotal>>(
     alloc: Global,
     runner: &R,
     root: R::Task,
@@ -62,7 +62,7 @@ pub fn run_all<R: Runner>(
 }
 
 /// Runs the root's task and all that tasks leave, first in, first out.
-fn run_pieces<R: Runner, T: Total + Drop>(
+fn run_pieces<R: PieceRunner<T>, T: Total + Drop>(
     alloc: Global,
     runner: &R,
     root: R::Task,

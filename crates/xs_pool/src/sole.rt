@@ -13,7 +13,7 @@ use xs_trace::total::Total;
 /// A ledger and its only share, and the most that its word may come to. Each addition is of at
 /// most 1,024 ticks, and each but the last was answered with at most the limit.
 #[derive(Drop)]
-pub(crate) struct SoleTotal {
+pub struct SoleTotal {
     ledger: Ledger,
     share: Share,
     limit: u64,

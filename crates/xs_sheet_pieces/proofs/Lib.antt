@@ -1,1 +1,5 @@
+pub mod ValueLemmas
+pub mod RunLemmas
+pub mod StayLemmas
 pub mod PlaceLemmas
+pub mod PieceLemmas

@@ -1,16 +1,15 @@
 -- The tree of pieces of a stylesheet can be run in pieces.
-use Rattle.std.proofs.Common.{◌≡◌, ℕ, zero, suc, ◌+◌, ◌<◌, List, [], ◌∷◌, ◌++◌, slice_get, Some, None, refl, sym, ap, subst, ◌∙◌, arith}
-use Rattle.std.proofs.lemmas.Option.{none-some, same_Some}
+use Rattle.std.proofs.Common.{◌≡◌, ℕ, suc, ◌<◌, List, [], ◌∷◌, ◌++◌, Some, None, refl, sym, ap, ◌∙◌}
 use Rattle.std.specs.List.{All}
 use Rattle.std.specs.Option.{IsSome}
-use Rattle.xs_trace.specs.Fill.{fill, tasks_of, HolesAre}
+use Rattle.xs_trace.specs.Fill.{fill, HolesAre}
 use Rattle.xs_trace.specs.Mark.{Tick, Put, Say, Stop, Need, Hole, Trace, ◌⨾◌, NeedsNothing}
 use Rattle.xs_trace.specs.declared.item.Site.{Site}
 use Rattle.xs_pieces.specs.Ready.{IsReady}
-use Rattle.xs_pieces.specs.Tree.{ArePlaced, BeginsWithTick, Falls, task_at}
-use Rattle.xs_pieces.proofs.TreeLemmas.{at-child}
+use Rattle.xs_pieces.specs.Tree.{ArePlaced, BeginsWithTick, Falls}
 use Rattle.xs_semantics.specs.declared.focus.Focus.{Focus}
 use Rattle.xs_semantics.specs.Ranks.{HasNodes, rank_of}
+use Rattle.xs_semantics.specs.Ranks.{BeginsWithTick as BeginsWithTick'}
 use Rattle.xs_semantics.specs.Tasks.{Task}
 use Rattle.xs_semantics.specs.Trace.{calls_at, each, job_trace, task_trace}
 use Rattle.xs_semantics.specs.World.{World, with_grain}
@@ -18,6 +17,8 @@ use Rattle.xs_semantics.proofs.FullLemmas.{tasks-begin}
 use Rattle.xs_semantics.proofs.GrainLemmas.{task-filled}
 use Rattle.xs_semantics.proofs.NeedLemmas.{settled-needs, task-needs}
 use Rattle.xs_semantics.proofs.RankLemmas.{tasks-fall}
+use Rattle.xs_body.specs.Inside.{IsTaskIn, IsWorld}
+use Rattle.xs_sheet_pieces.proofs.StayLemmas.{task_stays}
 use Rattle.xs_sheet_pieces.specs.Placed.{IsOwn, Placed, at_place, marks, own, placed_from, whole}
 
 -- ---- traces with places
@@ -94,59 +95,30 @@ marks-fill w p n (Hole c ∷ x) =
 whole-fills : (w : World) (t : Placed) → whole w t ≡ fill (whole w) (own w t)
 whole-fills w t = sym (ap marks (task-filled w t.task)) ∙ marks-fill w t.place 0 (task_trace w t.task)
 
--- ---- the tasks of holes, by their numbers
-holes-by-number : (P : Placed → Type 0) (y : Trace Placed) → ((k : ℕ) (c : Placed) → slice_get (tasks_of y) k ≡ Some c → P c) → HolesAre P y
-holes-by-number P [] f = tt
-holes-by-number P (Tick s ∷ y) f = holes-by-number P y f
-holes-by-number P (Put e ∷ y) f = holes-by-number P y f
-holes-by-number P (Say t ∷ y) f = holes-by-number P y f
-holes-by-number P (Stop n s ∷ y) f = holes-by-number P y f
-holes-by-number P (Need g s ∷ y) f = holes-by-number P y f
-holes-by-number P (Hole c ∷ y) f = (f zero c refl, holes-by-number P y (λ k d e. f (suc k) d e))
-
-at-number : (P : Placed → Type 0) (y : Trace Placed) → HolesAre P y → (k : ℕ) (c : Placed) → slice_get (tasks_of y) k ≡ Some c → P c
-at-number P [] h k c e = absurd (none-some c e)
-at-number P (Tick s ∷ y) h k c e = at-number P y h k c e
-at-number P (Put v ∷ y) h k c e = at-number P y h k c e
-at-number P (Say t ∷ y) h k c e = at-number P y h k c e
-at-number P (Stop n s ∷ y) h k c e = at-number P y h k c e
-at-number P (Need g s ∷ y) h k c e = at-number P y h k c e
-at-number P (Hole d ∷ y) h zero c e = subst P (same_Some d c e) h.0
-at-number P (Hole d ∷ y) h (suc k) c e = at-number P y h.1 k c e
-
--- the place of the task of a hole
-abbrev IsPlaceOf : List ℕ → ℕ → Placed → Type 0
-IsPlaceOf p i c = c.place ≡ p ++ i ∷ []
-
-placed-at : (p : List ℕ) (n : ℕ) (x : Trace Task) (k : ℕ) (c : Placed) → slice_get (tasks_of (placed_from p n x)) k ≡ Some c → IsPlaceOf p (n + k) c
-placed-at p n [] k c e = absurd (none-some c e)
-placed-at p n (Tick s ∷ x) k c e = placed-at p n x k c e
-placed-at p n (Put v ∷ x) k c e = placed-at p n x k c e
-placed-at p n (Say t ∷ x) k c e = placed-at p n x k c e
-placed-at p n (Stop f s ∷ x) k c e = placed-at p n x k c e
-placed-at p n (Need g s ∷ x) k c e = placed-at p n x k c e
-placed-at p n (Hole d ∷ x) zero c e =
-    let q : n ≡ n + zero = omega arith in
-    sym (ap (λ (t : Placed). t.place) (same_Some (at_place (p ++ n ∷ []) d) c e)) ∙ ap (λ i. p ++ i ∷ []) q
-placed-at p n (Hole d ∷ x) (suc k) c e =
-    let q : suc n + k ≡ n + suc k = omega arith in placed-at p (suc n) x k c e ∙ ap (λ i. p ++ i ∷ []) q
-
 -- ---- the tree
-own-child : (w : World) (root t : Placed) → (w.grain ≡ Some 0 → ⊥) → IsOwn w root t → (k : ℕ) (c : Placed) → slice_get (tasks_of (own w t)) k ≡ Some c →
-    IsOwn w root c
-own-child w root t some o k c e =
-    let q : k ≡ 0 + k = omega arith in
-    let at : c.place ≡ t.place ++ k ∷ [] = placed-at t.place 0 (task_trace w t.task) k c e ∙ ap (λ i. t.place ++ i ∷ []) (sym q) in
-    let nodes : HolesAre (λ (d : Placed). HasNodes d.task.nodes) (own w t) =
-    holes-placed _ (λ (d : Placed). HasNodes d.task.nodes) (λ p d h. h.0) t.place 0 (task_trace w t.task) (tasks-begin w t.task some) in
-    record {
-      stands = ap (λ p. task_at (own w) (Some root) p) at ∙ at-child (own w) (Some root) t.place k ∙ ap (λ v. task_at (own w) v (k ∷ [])) o.stands ∙ e;
-      nodes = at-number (λ (d : Placed). HasNodes d.task.nodes) (own w t) nodes k c e;
-    }
+pub stay-inside : (w : World) (t : Task) → IsWorld w → IsTaskIn w.tree t → HolesAre (IsTaskIn w.tree) (task_trace w t)
+stay-inside w t world inside = task_stays w (record { globals = world.globals; tables = world.tables }) t inside
 
-pub is-ready : (w : World) (root : Placed) → All IsSome w.globals → (w.grain ≡ Some 0 → ⊥) → IsReady (IsOwn w root) (λ t. t.place) (own w) (whole w)
-is-ready w root all some = record {
-  inside = λ t o. holes-by-number (IsOwn w root) (own w t) (own-child w root t some o);
+-- what holds of the tasks of holes by two laws
+both-hold : (P Q : Task → Type 0) (x : Trace Task) → HolesAre P x → HolesAre Q x → HolesAre (λ c. P c × Q c) x
+both-hold P Q [] h k = tt
+both-hold P Q (Tick s ∷ x) h k = both-hold P Q x h k
+both-hold P Q (Put e ∷ x) h k = both-hold P Q x h k
+both-hold P Q (Say t ∷ x) h k = both-hold P Q x h k
+both-hold P Q (Stop f s ∷ x) h k = both-hold P Q x h k
+both-hold P Q (Need g s ∷ x) h k = both-hold P Q x h k
+both-hold P Q (Hole c ∷ x) h k = ((h.0, k.0), both-hold P Q x h.1 k.1)
+
+own-holes : (w : World) (t : Placed) → IsWorld w → (w.grain ≡ Some 0 → ⊥) → IsOwn w t → HolesAre (IsOwn w) (own w t)
+own-holes w t world some o =
+    let P : Task → Type 0 = λ c. HasNodes c.nodes × BeginsWithTick' (task_trace w c) in
+    let Q : Task → Type 0 = λ c. IsTaskIn w.tree c in
+    holes-placed (λ c. P c × Q c) (IsOwn w) (λ p c h. record { nodes = h.0.0; inside = h.1 }) t.place 0 (task_trace w t.task)
+    (both-hold P Q (task_trace w t.task) (tasks-begin w t.task some) (stay-inside w t.task world o.inside))
+
+pub is-ready : (w : World) → IsWorld w → All IsSome w.globals → (w.grain ≡ Some 0 → ⊥) → IsReady (IsOwn w) (λ t. t.place) (own w) (whole w)
+is-ready w world all some = record {
+  inside = λ t o. own-holes w t world some o;
   placed = λ t o. are-placed t.place 0 (task_trace w t.task);
   root_begins = λ t o e. own-begins w t o.nodes;
   begins = λ t o. holes-placed _ (λ (c : Placed). BeginsWithTick (own w c)) (λ p c h. own-begins w (at_place p c) h.0) t.place 0

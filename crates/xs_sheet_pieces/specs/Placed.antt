@@ -1,7 +1,7 @@
 -- The tree of pieces of a run of a stylesheet: its tasks with their places.
-use Rattle.std.specs.Prelude.{◌≡◌, ℕ, suc, List, [], ◌∷◌, ◌++◌, None, Some}
+use Rattle.std.specs.Prelude.{ℕ, suc, List, [], ◌∷◌, ◌++◌, None}
 use Rattle.xs_trace.specs.Mark.{Tick, Put, Say, Stop, Need, Hole, Trace}
-use Rattle.xs_pieces.specs.Tree.{task_at}
+use Rattle.xs_body.specs.Inside.{IsTaskIn}
 use Rattle.xs_semantics.specs.Ranks.{HasNodes}
 use Rattle.xs_semantics.specs.Tasks.{Task}
 use Rattle.xs_semantics.specs.Trace.{task_trace}
@@ -43,7 +43,12 @@ own w t = placed_from t.place 0 (task_trace w t.task)
 abbrev pub whole : World → Placed → Trace Placed
 whole w t = marks (task_trace (with_grain None w) t.task)
 
--- the task of the tree of a root at its place, which has nodes
-pub record IsOwn (w : World) (root t : Placed) : Type 0 where
-  pub stands : task_at (own w) (Some root) t.place ≡ Some t
+-- a task that has nodes, which are in the documents, as those of its values are
+pub record IsOwn (w : World) (t : Placed) : Type 0 where
   pub nodes : HasNodes t.task.nodes
+  pub inside : IsTaskIn w.tree t.task
+
+-- tasks at their places below a place, by their numbers from n on
+abbrev pub placed_tasks : List ℕ → ℕ → List Task → List Placed
+placed_tasks p n [] = []
+placed_tasks p n (t ∷ ts) = at_place (p ++ n ∷ []) t ∷ placed_tasks p (suc n) ts

@@ -1,4 +1,7 @@
-//! The tree of pieces that a run of a stylesheet makes.
+//! The tree of pieces that a run of a stylesheet makes, and what runs them.
 #![tactic(auto)]
 
+mod children;
 pub mod laws;
+pub mod placed;
+pub mod runner;

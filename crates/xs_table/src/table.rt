@@ -1,6 +1,9 @@
 //! A runner over a table: each row is what a piece does itself, and names the rows of its children.
 
 ghost use Rattle.std.specs.Prelude.{◌≡◌, ◌+◌, ◌<◌, ◌≤◌, ◌^◌, ◌∷◌, [], length, true, IfOk};
+ghost use Rattle.std.specs.Prelude.{OnErr};
+ghost use Rattle.xs_record.specs.Outcome.{part_blocks};
+ghost use Rattle.xs_record.specs.Piece.{IsPiece};
 ghost use Rattle.xs_table.specs.Table.{child_of, entries_marks, entry_marks, number_after};
 ghost use Rattle.xs_table.specs.Table.{own_marks, whole_marks, IsTableReady};
 ghost use Rattle.xs_trace.specs.Mark.{Hole};
@@ -10,7 +13,7 @@ use std::alloc::{AllocError, Global};
 use std::mem::replace;
 use xs_block::pool::Pool;
 use xs_pieces::piece::{Desk, Ran};
-use xs_pieces::runner::Runner;
+use xs_pieces::runner::{PieceRunner, Runner};
 use xs_record::outcome::Outcome;
 use xs_record::piece::{Finished, PieceRecorder};
 use xs_trace::event::Event;
@@ -94,31 +97,6 @@ impl Runner for TableRunner {
         &task.place
     }
 
-    /// The entries of its row.
-    fn run<T: Total + Drop>(
-        &self,
-        alloc: Global,
-        task: &RowTask,
-        limits: Limits,
-        desk: Desk<T>,
-        children: &mut Vec<RowTask>,
-    ) -> Ran<T> {
-        let Desk { share, pool } = desk;
-        let mut recorder: PieceRecorder<T, RowTask> = PieceRecorder::new(
-            alloc, limits, share, pool,
-        );
-        let told = record_own(&self.rows, task, &mut recorder);
-        let Finished {
-            outcome,
-            total,
-            pool,
-        } = recorder.finish(told, children);
-        Ran {
-            outcome,
-            desk: Desk { share: total, pool },
-        }
-    }
-
     /// The entries of its row, with those of its children in their holes.
     fn run_whole(
         &self,
@@ -141,6 +119,44 @@ impl Runner for TableRunner {
         let finished = recorder.finish(told, &mut children);
         *pool = finished.pool;
         finished.outcome
+    }
+}
+
+impl<T: Total + Drop> PieceRunner<T> for TableRunner {
+    /// The entries of its row.
+    fn run(
+        &self,
+        alloc: Global,
+        task: &RowTask,
+        limits: Limits,
+        desk: Desk<T>,
+        children: &mut Vec<RowTask>,
+    ) -> Ran<T>
+        requires open { T.last desk.share ≤ T.most desk.share }
+        ensures piece { IfOk result.outcome (IsPiece (own_marks self.now.rows.items task.now) limits
+            (T.most desk.share) (T.added desk.share) (T.added result.desk.share)
+            (T.last result.desk.share) children.old.items children.new.items) }
+        ensures refused { OnErr result.outcome (children.new.items ≡ children.old.items) }
+        ensures kept { T.kept result.desk.share ≡ T.kept desk.share }
+        ensures most { T.most result.desk.share ≡ T.most desk.share }
+        ensures blocks { IfOk result.outcome (λ o.
+            desk.pool ≤ part_blocks o.parts.items + result.desk.pool) }
+        ensures free { OnErr result.outcome (desk.pool ≤ result.desk.pool) }
+    {
+        let Desk { share, pool } = desk;
+        let mut recorder: PieceRecorder<T, RowTask> = PieceRecorder::new(
+            alloc, limits, share, pool,
+        );
+        let told = record_own(&self.rows, task, &mut recorder);
+        let Finished {
+            outcome,
+            total,
+            pool,
+        } = recorder.finish(told, children);
+        Ran {
+            outcome,
+            desk: Desk { share: total, pool },
+        }
     }
 }
 

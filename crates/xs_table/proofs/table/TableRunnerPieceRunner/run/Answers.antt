@@ -5,7 +5,7 @@ use Rattle.xs_table.specs.declared.table.Row.{Row}
 use Rattle.xs_table.specs.declared.table.RowTask.{RowTask}
 use Rattle.xs_table.proofs.PieceLemmas.{piece-is}
 use Rattle.xs_table.proofs.TableLemmas.{needs-nothing}
-use Rattle.xs_table.proofs.table.TableRunnerRunner.run.Goals as goal
+use Rattle.xs_table.proofs.table.TableRunnerPieceRunner.run.Goals as goal
 
 pub finish-outcome-requires : goal.finish-outcome-requires
 finish-outcome-requires g c =

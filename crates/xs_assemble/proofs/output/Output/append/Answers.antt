@@ -1,0 +1,15 @@
+use Rattle.std.proofs.Common.{ap, ◌∙◌, length}
+use Rattle.xs_block.specs.Chain.{items_of}
+use Rattle.xs_block.proofs.ChainLemmas.{items-append}
+use Rattle.xs_assemble.proofs.BlockLemmas.{chains-joined, given-back}
+use Rattle.xs_assemble.proofs.output.Output.append.Goals as goal
+
+pub returns-clause-joined : goal.returns-clause-joined
+returns-clause-joined c = ap items_of c.append_chain.ensures.joined ∙ items-append c.args.self.now.items c.args.items
+
+pub returns-clause-blocks : goal.returns-clause-blocks
+returns-clause-blocks c = chains-joined c.append_chain.new.first c.args.self.now.items c.args.items c.args.pool.now c.append_chain.ensures.joined
+
+pub returns-then-not-can_append-clause-blocks : goal.returns-then-not-can_append-clause-blocks
+returns-then-not-can_append-clause-blocks c =
+    given-back (length c.args.items) (length c.args.self.now.items) c.args.pool.now c.give_back.new.self c.give_back.ensures.free

@@ -1,0 +1,224 @@
+//! What has been assembled.
+
+ghost use Rattle.std.specs.Prelude.{◌≡◌, ◌+◌, ◌≤◌, ◌++◌, ◌∷◌, [], length, OnOk, true};
+ghost use Rattle.xs_assemble.specs.Blocks.{Keeps};
+ghost use Rattle.xs_assemble.specs.Reading.{site_of};
+ghost use Rattle.xs_assemble.specs.steps.Joining.{last_items, limit_at, Joins};
+ghost use Rattle.xs_assemble.specs.steps.Joining.{JoinsEnd, JoinsFront};
+ghost use Rattle.xs_block.specs.Chain.{items_of};
+ghost use Rattle.xs_pieces.specs.Collection.{is_done};
+ghost use Rattle.xs_record.specs.Store.{pending};
+ghost use Rattle.xs_trace.specs.Cut.{nowhere};
+
+use crate::limit::{Limit, Walk};
+use std::alloc::{AllocError, Global};
+use xs_block::chain::{Chain, append_chain};
+use xs_block::pool::Pool;
+use xs_trace::event::Event;
+use xs_trace::item::{Ended, Item, Limits, Site, Spot};
+use xs_trace::recorder::Halt;
+
+/// Items that were joined, and what is left of the limits after them.
+#[derive(Drop)]
+pub(crate) struct Output {
+    pub(crate) items: Chain<Item>,
+    pub(crate) limit: Limit,
+}
+
+impl Output {
+    /// Nothing was joined yet.
+    pub(crate) fn new(alloc: Global, limits: Limits) -> Output
+        ensures items { items_of result.items ≡ [] }
+        ensures limit { result.limit
+            ≡ record { at = nowhere; left = limits.ticks; room = limits.events } }
+    {
+        Output {
+            items: Chain::new(alloc),
+            limit: Limit {
+                at: Site { module: 0, line: 0 },
+                left: limits.ticks,
+                room: limits.events,
+            },
+        }
+    }
+
+    /// Joins items, as far as they are within what is left. No item is copied.
+    pub(crate) fn join(&mut self, pool: &mut Pool<Item>, items: Chain<Item>) -> Result<(), Halt>
+        ensures joined { Joins (items_of items) self.old.limit (items_of self.old.items) result
+            (items_of self.new.items) self.new.limit }
+        ensures blocks { Keeps (length items + length self.old.items + pool.old)
+            (length self.new.items + pool.new) }
+    {
+        match self.limit.walk(&items) {
+            Err(_refused) => {
+                pool.give_back(items);
+                Err(Halt::NoMemory)
+            }
+            Ok(walk) => match walk.end {
+                None => {
+                    self.append(pool, items)?;
+                    self.limit = walk.limit;
+                    Ok(())
+                }
+                Some(halt) => self.join_front(pool, items, walk, halt),
+            },
+        }
+    }
+
+    /// Joins the items of which not all are within what is left, and those ticks of the first one
+    /// past it that are.
+    fn join_front(
+        &mut self,
+        pool: &mut Pool<Item>,
+        items: Chain<Item>,
+        walk: Walk,
+        halt: Halt,
+    ) -> Result<(), Halt>
+        ensures joined { JoinsFront (items_of items) walk halt (items_of self.old.items) result
+            (items_of self.new.items) self.new.limit }
+        ensures blocks { Keeps (length items + length self.old.items + pool.old)
+            (length self.new.items + pool.new) }
+    {
+        let mut items = items;
+        pool.truncate(&mut items, walk.count);
+        match push_left(pool, &mut items, walk.limit, halt) {
+            Err(_refused) => {
+                pool.give_back(items);
+                Err(Halt::NoMemory)
+            }
+            Ok(()) => {
+                self.append(pool, items)?;
+                self.limit = limit_at(walk.limit, halt);
+                Err(halt)
+            }
+        }
+    }
+
+    /// Joins a chain.
+    fn append(&mut self, pool: &mut Pool<Item>, items: Chain<Item>) -> Result<(), AllocError>
+        ensures joined { OnOk result (items_of self.new.items
+            ≡ items_of self.old.items ++ items_of items) }
+        ensures limit { self.new.limit ≡ self.old.limit }
+        ensures blocks { Keeps (length items + length self.old.items + pool.old)
+            (length self.new.items + pool.new) }
+    {
+        if !self.items.can_append(&items) {
+            pool.give_back(items);
+            return Err(AllocError);
+        }
+        append_chain(&mut self.items, items);
+        Ok(())
+    }
+
+    /// Joins the mark that made an end: here too it makes the end, or is the last one.
+    pub(crate) fn join_end(
+        &mut self,
+        alloc: Global,
+        pool: &mut Pool<Item>,
+        ended: Ended,
+    ) -> Result<(), Halt>
+        requires done { is_done ended ≡ true }
+        ensures joined { JoinsEnd ended self.old.limit (items_of self.old.items) result
+            (items_of self.new.items) self.new.limit }
+        ensures blocks { Keeps (length self.old.items + pool.old)
+            (length self.new.items + pool.new) }
+    {
+        match ended {
+            Ended::Whole => Ok(()),
+            Ended::Fault(spot) => Err(Halt::Fault(spot.fault, site_of(spot))),
+            Ended::Spent(spot) => self.join_one(
+                alloc,
+                pool,
+                Item::Run {
+                    module: spot.module,
+                    line: spot.line,
+                    ticks: 1,
+                },
+            ),
+            Ended::Full(_) => self.join_one(alloc, pool, Item::Put(Event::End)),
+            Ended::Over { .. } => unreachable!(),
+        }
+    }
+
+    /// Joins an item, if it is within what is left.
+    fn join_one(&mut self, alloc: Global, pool: &mut Pool<Item>, item: Item) -> Result<(), Halt>
+        ensures joined { Joins (item ∷ []) self.old.limit (items_of self.old.items) result
+            (items_of self.new.items) self.new.limit }
+        ensures blocks { Keeps (length self.old.items + pool.old)
+            (length self.new.items + pool.new) }
+    {
+        let mut items = Chain::new(alloc);
+        pool.reserve(&items, 1)?;
+        pool.push(&mut items, item);
+        self.join(pool, items)
+    }
+}
+
+/// Pushes the ticks that are left on a chain, where the next one is too many.
+fn push_left(
+    pool: &mut Pool<Item>,
+    items: &mut Chain<Item>,
+    limit: Limit,
+    halt: Halt,
+) -> Result<(), AllocError>
+    ensures pushed { OnOk result
+        (items_of items.new ≡ items_of items.old ++ last_items limit halt) }
+    ensures blocks { length items.old + pool.old ≤ length items.new + pool.new }
+{
+    match halt {
+        Halt::Spent(site) => push_ticks(pool, items, site, limit.left),
+        Halt::Fault(_, _) | Halt::Needs(_, _) | Halt::Full(_) => Ok(()),
+        Halt::Over { .. } | Halt::NoMemory => Ok(()),
+    }
+}
+
+/// Pushes some ticks at an instruction on a chain.
+fn push_ticks(
+    pool: &mut Pool<Item>,
+    items: &mut Chain<Item>,
+    site: Site,
+    ticks: u64,
+) -> Result<(), AllocError>
+    ensures pushed { OnOk result
+        (items_of items.new ≡ items_of items.old ++ pending site ticks) }
+    ensures blocks { length items.old + pool.old ≤ length items.new + pool.new }
+{
+    if ticks == 0 {
+        return Ok(());
+    }
+    pool.reserve(items, 1)?;
+    pool.push(
+        items,
+        Item::Run {
+            module: site.module,
+            line: site.line,
+            ticks,
+        },
+    );
+    Ok(())
+}
+
+/// What is left after an end: no ticks, where the next one was too many.
+fn limit_at(limit: Limit, halt: Halt) -> Limit
+    ensures limit { result ≡ limit_at limit halt }
+{
+    match halt {
+        Halt::Spent(_) => Limit {
+            at: limit.at,
+            left: 0,
+            room: limit.room,
+        },
+        Halt::Fault(_, _) | Halt::Needs(_, _) | Halt::Full(_) => limit,
+        Halt::Over { .. } | Halt::NoMemory => limit,
+    }
+}
+
+/// The instruction of a spot.
+fn site_of(spot: Spot) -> Site
+    ensures site { result ≡ site_of spot }
+{
+    Site {
+        module: spot.module,
+        line: spot.line,
+    }
+}
