@@ -1,10 +1,21 @@
 //! Chains of blocks and their pool: 65 items in two blocks, joined and cut chains, refused memory.
 
-use crate::check;
 use std::alloc::{AllocError, Global};
-use std::test::Fail;
 use xs_block::chain::{Chain, append_chain};
 use xs_block::pool::Pool;
+
+// Adds a number to a chain, with memory for it.
+fn push_number(
+    alloc: Global,
+    pool: &mut Pool<Box<u32>>,
+    chain: &mut Chain<Box<u32>>,
+    n: u32,
+) -> Result<(), AllocError> {
+    pool.reserve(chain, 1)?;
+    let item = Box::new(alloc, n)?;
+    pool.push(chain, item);
+    Ok(())
+}
 
 // A chain of the numbers from `first` to below `end`, with memory for each as it comes.
 fn numbers(
@@ -15,9 +26,7 @@ fn numbers(
 ) -> Result<Chain<Box<u32>>, AllocError> {
     let mut chain = Chain::new(alloc);
     for n in first..end {
-        let item = Box::new(alloc, n)?;
-        pool.reserve(&chain, 1)?;
-        pool.push(&mut chain, item);
+        push_number(alloc, pool, &mut chain, n)?;
     }
     Ok(chain)
 }
@@ -49,59 +58,97 @@ fn gives_to(chain: Chain<Box<u32>>, end: u32) -> bool {
     wanted.next().is_none()
 }
 
-#[test]
-fn makes_room_for_65_items_in_two_blocks(rt: HostRuntime) -> Result<(), Fail> {
-    let mut pool: Pool<u64> = Pool::new(rt.alloc());
-    let chain = Chain::new(rt.alloc());
-    pool.reserve(&chain, 65)?;
-    check(&rt, &[pool.free_blocks() == 2, pool.spare(&chain) == 128]);
-    Ok(())
+// Whether a pool has two blocks for 65 items of an empty chain.
+fn makes_room(pool: &mut Pool<u64>, chain: &Chain<u64>) -> Result<bool, AllocError> {
+    pool.reserve(chain, 65)?;
+    Ok(pool.free_blocks() == 2 && pool.spare(chain) == 128)
 }
 
 #[test]
-fn holds_65_items_in_two_blocks(rt: HostRuntime) -> Result<(), Fail> {
+fn makes_room_for_65_items_in_two_blocks(rt: HostRuntime) -> Result<(), AllocError> {
     let mut pool = Pool::new(rt.alloc());
-    let chain = numbers(rt.alloc(), &mut pool, 0, 65)?;
-    check(
-        &rt,
-        &[
-            chain.blocks() == 2,
-            pool.free_blocks() == 0,
-            pool.spare(&chain) == 63,
-            counts_to(&chain, 65),
-        ],
-    );
-    pool.give_back(chain);
-    assert!(rt; pool.free_blocks() == 2);
+    let chain = Chain::new(rt.alloc());
+    let is_made = makes_room(&mut pool, &chain);
+    drop(chain);
+    drop(pool);
+    assert!(rt; is_made?);
     Ok(())
 }
 
+// Whether a chain has 65 numbers in two blocks, and leaves the pool none.
+fn is_in_two_blocks(pool: &Pool<Box<u32>>, chain: &Chain<Box<u32>>) -> bool {
+    chain.blocks() == 2
+        && pool.free_blocks() == 0
+        && pool.spare(chain) == 63
+        && counts_to(chain, 65)
+}
+
+// Whether 65 numbers are in two blocks, which the pool gets back.
+fn holds_65(alloc: Global, pool: &mut Pool<Box<u32>>) -> Result<bool, AllocError> {
+    let chain = numbers(alloc, pool, 0, 65)?;
+    let is_held = is_in_two_blocks(pool, &chain);
+    pool.give_back(chain);
+    Ok(is_held && pool.free_blocks() == 2)
+}
+
 #[test]
-fn joins_and_cuts(rt: HostRuntime) -> Result<(), Fail> {
+fn holds_65_items_in_two_blocks(rt: HostRuntime) -> Result<(), AllocError> {
+    let mut pool = Pool::new(rt.alloc());
+    let is_held = holds_65(rt.alloc(), &mut pool);
+    drop(pool);
+    assert!(rt; is_held?);
+    Ok(())
+}
+
+// Joins a chain to another, where both fit; whether it did.
+fn join(chain: &mut Chain<Box<u32>>, more: Chain<Box<u32>>) -> bool {
+    if chain.can_append(&more) {
+        append_chain(chain, more);
+        return true;
+    }
+    drop(more);
+    false
+}
+
+// Whether a chain has 75 numbers in three blocks.
+fn is_joined(pool: &Pool<Box<u32>>, chain: &Chain<Box<u32>>) -> bool {
+    chain.blocks() == 3 && pool.spare(chain) == 59 && counts_to(chain, 75)
+}
+
+// Cuts a chain of three blocks to 66 numbers; whether it has two blocks after.
+fn cut(pool: &mut Pool<Box<u32>>, chain: &mut Chain<Box<u32>>) -> bool {
+    pool.truncate(chain, 66);
+    chain.blocks() == 2
+        && pool.free_blocks() == 1
+        && pool.spare(chain) == 126
+        && counts_to(chain, 66)
+}
+
+// Whether 5 numbers are joined to a chain of 70, and all but 66 are cut off.
+fn joins_and_cuts_chain(
+    alloc: Global,
+    pool: &mut Pool<Box<u32>>,
+    chain: &mut Chain<Box<u32>>,
+) -> Result<bool, AllocError> {
+    let more = numbers(alloc, pool, 70, 75)?;
+    let is_empty = more.is_empty();
+    Ok(join(chain, more) && !is_empty && is_joined(pool, chain) && cut(pool, chain))
+}
+
+// Whether a chain of 70 numbers, to which 5 are joined, gives 66 once it is cut.
+fn gives_66(alloc: Global, pool: &mut Pool<Box<u32>>) -> Result<bool, AllocError> {
+    let mut chain = sent(numbers(alloc, pool, 0, 70)?);
+    let is_cut = joins_and_cuts_chain(alloc, pool, &mut chain);
+    let is_given = gives_to(chain, 66);
+    Ok(is_cut? && is_given)
+}
+
+#[test]
+fn joins_and_cuts(rt: HostRuntime) -> Result<(), AllocError> {
     let mut pool = sent(Pool::new(rt.alloc()));
-    let mut chain = sent(numbers(rt.alloc(), &mut pool, 0, 70)?);
-    let more = numbers(rt.alloc(), &mut pool, 70, 75)?;
-    assert!(rt; !more.is_empty() && chain.can_append(&more));
-    append_chain(&mut chain, more);
-    check(
-        &rt,
-        &[
-            chain.blocks() == 3,
-            pool.spare(&chain) == 59,
-            counts_to(&chain, 75),
-        ],
-    );
-    pool.truncate(&mut chain, 66);
-    check(
-        &rt,
-        &[
-            chain.blocks() == 2,
-            pool.free_blocks() == 1,
-            pool.spare(&chain) == 126,
-            counts_to(&chain, 66),
-        ],
-    );
-    assert!(rt; gives_to(chain, 66));
+    let is_given = gives_66(rt.alloc(), &mut pool);
+    drop(pool);
+    assert!(rt; is_given?);
     Ok(())
 }
 
@@ -116,22 +163,21 @@ fn fill(pool: &mut Pool<u32>, chain: &mut Chain<u32>) -> u32 {
     200
 }
 
-#[test]
-fn keeps_its_blocks_where_memory_is_refused(rt: HostRuntime) -> Result<(), Fail> {
-    let mut pool = Pool::new(rt.alloc());
-    let mut chain = Chain::new(rt.alloc());
+// Whether a pool keeps the blocks that it made for 200 items, also where memory was refused.
+fn keeps_blocks(pool: &mut Pool<u32>, mut chain: Chain<u32>) -> bool {
     let refused = pool.reserve(&chain, 200).is_err();
     let made = pool.free_blocks();
-    let pushed = fill(&mut pool, &mut chain);
-    check(
-        &rt,
-        &[
-            refused || pushed == 200,
-            pool.free_blocks() + chain.blocks() == made,
-        ],
-    );
+    let pushed = fill(pool, &mut chain);
+    let held = pool.free_blocks().wrapping_add(chain.blocks());
     pool.truncate(&mut chain, 64);
     pool.give_back(chain);
-    assert!(rt; pool.free_blocks() == made);
-    Ok(())
+    (refused || pushed == 200) && held == made && pool.free_blocks() == made
+}
+
+#[test]
+fn keeps_its_blocks_where_memory_is_refused(rt: HostRuntime) {
+    let mut pool = Pool::new(rt.alloc());
+    let is_kept = keeps_blocks(&mut pool, Chain::new(rt.alloc()));
+    drop(pool);
+    assert!(rt; is_kept);
 }

@@ -1,6 +1,5 @@
 //! Each kind of library and sink once, and a sink that fails in mid-piece.
 
-use crate::check;
 use std::alloc::{AllocError, Global};
 use std::fmt::Display;
 use std::test::Fail;
@@ -12,11 +11,15 @@ use xs_outside::{
 
 const SHEET: &[u8] = b"(r\n)r\n";
 
+// A file of a library.
+fn sheet(alloc: Global) -> Result<(String, Vec<u8>), AllocError> {
+    let name = String::from_str(alloc, "s.pyx")?;
+    Ok((name, Vec::from_slice(alloc, SHEET)?))
+}
+
 // A library of one file, which fails its second fetch.
 fn one_file(alloc: Global) -> Result<MemLibrary, AllocError> {
-    let name = String::from_str(alloc, "s.pyx")?;
-    let bytes = Vec::from_slice(alloc, SHEET)?;
-    let files = vec![in alloc; (name, bytes)]?;
+    let files = vec![in alloc; sheet(alloc)?]?;
     Ok(MemLibrary::new(alloc, files, vec![in alloc; 2]?))
 }
 
@@ -34,77 +37,106 @@ fn fails<L: Library>(alloc: Global, library: &mut L, name: &str) -> bool {
     matches!(library.fetch(alloc, name, 100), Err(FetchEnd::Failed))
 }
 
+// Whether a library of one file fails its second fetch, and one of another name.
+fn fails_second(alloc: Global, library: &mut MemLibrary) -> bool {
+    has_sheet(alloc, library, "s.pyx", 100)
+        && fails(alloc, library, "s.pyx")
+        && fails(alloc, library, "lib.pyx")
+        && has_sheet(alloc, library, "s.pyx", 2)
+}
+
 #[test]
-fn files_in_memory(rt: HostRuntime) -> Result<(), Fail> {
-    let alloc = rt.alloc();
-    let mut library = one_file(alloc)?;
-    check(
-        &rt,
-        &[
-            has_sheet(alloc, &mut library, "s.pyx", 100),
-            fails(alloc, &mut library, "s.pyx"),
-            fails(alloc, &mut library, "lib.pyx"),
-            has_sheet(alloc, &mut library, "s.pyx", 2),
-        ],
-    );
+fn files_in_memory(rt: HostRuntime) -> Result<(), AllocError> {
+    let mut library = one_file(rt.alloc())?;
+    let is_so = fails_second(rt.alloc(), &mut library);
+    drop(library);
+    assert!(rt; is_so);
     Ok(())
 }
 
-// Whether a file is found, whole and cut, while it is there, and neither it nor a folder after.
-fn is_found_while_there(rt: &HostRuntime, path: &str) -> io::Result<bool> {
+// Whether a file is found, whole and cut.
+fn is_found(rt: &HostRuntime, path: &str) -> bool {
     let alloc = rt.alloc();
     let mut library = FileLibrary::new(alloc, rt);
+    has_sheet(alloc, &mut library, path, 100) && has_sheet(alloc, &mut library, path, 2)
+}
+
+// Whether neither a file is found nor a folder.
+fn is_gone(rt: &HostRuntime, path: &str) -> bool {
+    let alloc = rt.alloc();
+    let mut library = FileLibrary::new(alloc, rt);
+    fails(alloc, &mut library, path) && fails(alloc, &mut library, "/tmp")
+}
+
+// Whether a file is found while it is there, and not after.
+fn is_found_while_there(rt: &HostRuntime, path: &str) -> io::Result<bool> {
     fs::write(rt, path, SHEET)?;
-    let is_found = has_sheet(alloc, &mut library, path, 100)
-        && has_sheet(alloc, &mut library, path, 2);
+    let is_found = is_found(rt, path);
     fs::remove_file(rt, path)?;
-    Ok(is_found && fails(alloc, &mut library, path) && fails(alloc, &mut library, "/tmp"))
+    Ok(is_found && is_gone(rt, path))
 }
 
 #[test]
-fn files_of_the_system(rt: HostRuntime) -> Result<(), Fail> {
+fn files_of_the_system(rt: HostRuntime) -> io::Result<()> {
     let id = std::process::id(rt.process());
     let path = format!(in rt.alloc(); "/tmp/xs_outside_{id}.pyx")?;
-    assert!(rt; is_found_while_there(&rt, path.as_str())?);
+    let found = is_found_while_there(&rt, path.as_str());
+    drop(path);
+    assert!(rt; found?);
     Ok(())
 }
 
-#[test]
-fn bytes_in_memory(rt: HostRuntime) -> Result<(), Fail> {
-    let alloc = rt.alloc();
-    let mut sink = MemSink::new(alloc, 4, vec![in alloc; 4]?);
-    check(
-        &rt,
-        &[
-            matches!(sink.write(b""), Ok(0)),
-            sink.write(b"text").is_err(),
-        ],
-    );
+// Whether a sink takes so many of some bytes at once.
+fn takes<S: Sink>(sink: &mut S, bytes: &[u8], count: usize) -> bool {
+    match sink.write(bytes) {
+        Ok(taken) => taken == count,
+        Err(_) => false,
+    }
+}
+
+// Whether a sink without room takes no text.
+fn refuses(sink: &mut MemSink) -> bool {
+    takes(sink, b"", 0) && sink.write(b"text").is_err()
+}
+
+// Whether a write fails in mid-piece.
+fn fails_inside(sink: &mut MemSink) -> bool {
+    write_whole(sink, b"(o\nAxmlns:p u1\n").is_err() && sink.held() == b"(o\nA".as_slice()
+}
+
+// Whether the writes after it are held.
+fn goes_on(sink: &mut MemSink) -> bool {
+    write_whole(sink, b"xmlns").is_ok() && sink.held() == b"(o\nAxmlns".as_slice()
+}
+
+// Whether a sink takes four bytes at once, and fails its fourth write.
+fn takes_four(sink: &mut MemSink) -> Result<bool, AllocError> {
+    let is_refused = refuses(sink);
     sink.reserve(100)?;
-    check(
-        &rt,
-        &[
-            write_whole(&mut sink, b"(o\nAxmlns:p u1\n").is_err(),
-            sink.held() == b"(o\nA".as_slice(),
-        ],
-    );
-    write_whole(&mut sink, b"xmlns")?;
-    assert!(rt; sink.held() == b"(o\nAxmlns".as_slice());
-    Ok(())
+    Ok(is_refused && fails_inside(sink) && goes_on(sink))
 }
 
 #[test]
-fn no_more_than_the_room(rt: HostRuntime) -> Result<(), Fail> {
-    let alloc = rt.alloc();
-    let mut sink = MemSink::new(alloc, 4, Vec::new(alloc));
+fn bytes_in_memory(rt: HostRuntime) -> Result<(), AllocError> {
+    let mut sink = MemSink::new(rt.alloc(), 4, vec![in rt.alloc(); 4]?);
+    let is_so = takes_four(&mut sink);
+    drop(sink);
+    assert!(rt; is_so?);
+    Ok(())
+}
+
+// Whether a sink with room for two bytes takes no more.
+fn takes_two(sink: &mut MemSink) -> Result<bool, AllocError> {
     sink.reserve(2)?;
-    check(
-        &rt,
-        &[
-            matches!(sink.write(b"text"), Ok(2)),
-            sink.held() == b"te".as_slice(),
-        ],
-    );
+    Ok(takes(sink, b"text", 2) && sink.held() == b"te".as_slice())
+}
+
+#[test]
+fn no_more_than_the_room(rt: HostRuntime) -> Result<(), AllocError> {
+    let mut sink = MemSink::new(rt.alloc(), 4, Vec::new(rt.alloc()));
+    let is_so = takes_two(&mut sink);
+    drop(sink);
+    assert!(rt; is_so?);
     Ok(())
 }
 
@@ -130,26 +162,19 @@ impl Print for Stuck {
     }
 }
 
+// Whether a stream that takes nothing is refused a text.
+fn is_stuck() -> bool {
+    let mut stuck = StreamSink::new(Stuck);
+    takes(&mut stuck, b"", 0) && stuck.write(b"text").is_err()
+}
+
 #[test]
 fn streams(rt: HostRuntime) -> Result<(), Fail> {
     let mut out = OutSink::new(rt.stdout());
-    let mut err = ErrSink::new(rt.stderr());
-    check(
-        &rt,
-        &[
-            matches!(out.write(b"result\n"), Ok(7)),
-            matches!(err.write(b"line\n"), Ok(5)),
-        ],
-    );
+    assert!(rt; takes(&mut out, b"result\n", 7));
     write_whole(&mut out, b"")?;
-    let mut stuck = StreamSink::new(Stuck);
-    check(
-        &rt,
-        &[
-            matches!(stuck.write(b""), Ok(0)),
-            stuck.write(b"text").is_err(),
-        ],
-    );
+    assert!(rt; takes(&mut ErrSink::new(rt.stderr()), b"line\n", 5));
+    assert!(rt; is_stuck());
     Ok(())
 }
 

@@ -4,9 +4,7 @@
 ghost use Rattle.std.specs.Prelude.{◌≡◌, ◌≤◌, IfOk};
 ghost use Rattle.xs_ledger.specs.Shares.{ledger_id, seats_of, share_ledger_id, IsShareOf, IsUnused};
 
-use crate::check;
 use std::alloc::{AllocError, Global};
-use std::test::Fail;
 use std::thread;
 use xs_ledger::ledger::{Ledger, Share};
 use xs_ledger::total::LedgerTotal;
@@ -50,16 +48,12 @@ fn add_once(ledger: &Ledger, mut share: Share, n: u32) -> Share
 }
 
 #[test]
-fn answers_the_word_after_each_addition(rt: HostRuntime) -> Result<(), Fail> {
+fn answers_the_word_after_each_addition(rt: HostRuntime) -> Result<(), AllocError> {
     let (ledger, mut one, mut two) = ledger_for_two(rt.alloc())?;
-    check(
-        &rt,
-        &[
-            ledger.add(&mut one, 10) == 10,
-            ledger.add(&mut two, 10) == 20,
-            total_of_two(rt.alloc(), ledger, one, two)? == 20,
-        ],
-    );
+    let first = ledger.add(&mut one, 10);
+    let second = ledger.add(&mut two, 10);
+    let total = total_of_two(rt.alloc(), ledger, one, two)?;
+    assert!(rt; first == 10 && second == 20 && total == 20);
     Ok(())
 }
 
@@ -74,29 +68,39 @@ fn add_within(total: &mut LedgerTotal<'_>, count: u64) -> Option<u64>
     }
 }
 
+// Whether 1024 are added, and do not go above the limit.
+fn stays_below(total: &mut LedgerTotal<'_>) -> bool
+    ensures ledger { share_ledger_id total.new.share ≡ share_ledger_id total.old.share }
+{
+    let added = add_within(total, 1024);
+    added == Some(1024) && total.above() == None
+}
+
+// Whether one more goes above the limit of 1030, and another is not added.
+fn goes_above(total: &mut LedgerTotal<'_>) -> bool
+    ensures ledger { share_ledger_id total.new.share ≡ share_ledger_id total.old.share }
+{
+    let added = add_within(total, 1);
+    let above = total.above();
+    let refused = add_within(total, 1);
+    added == Some(1031) && above == Some(1031) && refused == None
+}
+
 #[test]
-fn a_share_as_a_total_goes_above_its_limit_once(rt: HostRuntime) -> Result<(), Fail> {
+fn a_share_as_a_total_goes_above_its_limit_once(rt: HostRuntime) -> Result<(), AllocError> {
     let (ledger, one, mut two) = ledger_for_two(rt.alloc())?;
     let mut total = LedgerTotal::new(&ledger, one, 1030, 0);
-    check(
-        &rt,
-        &[
-            total.limit() == 1030,
-            add_within(&mut total, 1024) == Some(1024),
-            total.above() == None,
-            ledger.add(&mut two, 6) == 1030,
-            add_within(&mut total, 1) == Some(1031),
-            total.above() == Some(1031),
-            add_within(&mut total, 1) == None,
-        ],
-    );
+    let is_below = total.limit() == 1030 && stays_below(&mut total);
+    let others = ledger.add(&mut two, 6);
+    let is_above = goes_above(&mut total);
     let one = total.into_share();
-    assert!(rt; total_of_two(rt.alloc(), ledger, one, two)? == 1031);
+    let sum = total_of_two(rt.alloc(), ledger, one, two)?;
+    assert!(rt; is_below && is_above && others == 1030 && sum == 1031);
     Ok(())
 }
 
 #[test]
-fn counts_what_two_threads_add(rt: HostRuntime) -> Result<(), Fail> {
+fn counts_what_two_threads_add(rt: HostRuntime) -> Result<(), AllocError> {
     let (ledger, one, two) = ledger_for_two(rt.alloc())?;
     let counted = &ledger;
     let (one, two) = thread::join(
@@ -104,7 +108,8 @@ fn counts_what_two_threads_add(rt: HostRuntime) -> Result<(), Fail> {
         move || add_once(counted, one, 1024),
         move || add_once(counted, two, 3),
     );
-    assert!(rt; total_of_two(rt.alloc(), ledger, one, two)? == 1027);
+    let total = total_of_two(rt.alloc(), ledger, one, two)?;
+    assert!(rt; total == 1027);
     Ok(())
 }
 
@@ -113,7 +118,8 @@ fn makes_all_shares_or_refuses(rt: HostRuntime) {
     let made = Ledger::new(rt.alloc(), 64);
     match made {
         Ok((ledger, shares)) => {
-            check(&rt, &[shares.len() == 64, ledger.close(shares) == 0]);
+            assert!(rt; shares.len() == 64);
+            assert!(rt; ledger.close(shares) == 0);
         }
         Err(AllocError) => {}
     }

@@ -27,16 +27,3 @@ mod recorders;
 mod trace_laws;
 #[cfg(test)]
 mod writing;
-
-#[cfg(test)]
-use std::process::Abort;
-
-/// Fails where one of some checks does not hold, and says its number, from 1.
-#[cfg(test)]
-pub(crate) fn check(rt: &impl Abort, checks: &[bool]) {
-    let mut number = 1_u32;
-    for holds in checks {
-        assert!(*rt; *holds, "check {number} fails");
-        number = number.wrapping_add(1);
-    }
-}

@@ -1,10 +1,9 @@
 //! The machine of pieces and workers: a root and its child, on one worker and on two.
 
-ghost use Rattle.std.specs.Prelude.{IfOk};
+ghost use Rattle.std.specs.Prelude.{◌≤◌, IfOk};
 ghost use Rattle.xs_core.specs.Facts.{AreFew};
 
 use std::alloc::{AllocError, Global};
-use std::test::Fail;
 use xs_core::machine::Core;
 use xs_core::piece::PieceFacts;
 use xs_core::step::Step;
@@ -52,10 +51,36 @@ fn answers(core: &mut Core, steps: &[Step], wanted: bool) -> Result<bool, AllocE
     Ok(true)
 }
 
+// Whether a machine allows some steps, refuses others after them, and has a root and its child.
+fn takes(core: &mut Core, allowed: &[Step], refused: &[Step]) -> Result<bool, AllocError> {
+    Ok(
+        answers(core, allowed, true)?
+            && answers(core, refused, false)?
+            && has_places(core, &[&[], &[0]])?,
+    )
+}
+
+// Whether the machine of a root and its child does so, with this many workers and this budget.
+fn takes_steps(
+    alloc: Global,
+    workers: u32,
+    budget: u64,
+    allowed: &[Step],
+    refused: &[Step],
+) -> Result<bool, AllocError>
+    requires workers { 1 ≤ workers }
+{
+    let facts = two_pieces(alloc)?;
+    let made = Core::new(alloc, &facts, workers, budget);
+    drop(facts);
+    let mut core = made?;
+    let taken = takes(&mut core, allowed, refused);
+    drop(core);
+    taken
+}
+
 #[test]
-fn finishes_a_root_and_its_child(rt: HostRuntime) -> Result<(), Fail> {
-    let facts = two_pieces(rt.alloc())?;
-    let mut core = Core::new(rt.alloc(), &facts, 1, 1)?;
+fn finishes_a_root_and_its_child(rt: HostRuntime) -> Result<(), AllocError> {
     let take = Step::Take { worker: 0 };
     let spend = Step::Spend {
         worker: 0,
@@ -64,17 +89,13 @@ fn finishes_a_root_and_its_child(rt: HostRuntime) -> Result<(), Fail> {
     let give = Step::Give { worker: 0 };
     let finish = Step::Finish { worker: 0 };
     let allowed = [take, spend, give, finish, take, finish];
-    assert!(rt; answers(&mut core, &allowed, true)?);
     let refused = [take, spend, give, finish, Step::Discard { worker: 0 }];
-    assert!(rt; answers(&mut core, &refused, false)?);
-    assert!(rt; has_places(&core, &[&[], &[0]])?);
+    assert!(rt; takes_steps(rt.alloc(), 1, 1, &allowed, &refused)?);
     Ok(())
 }
 
 #[test]
-fn drops_above_the_budget(rt: HostRuntime) -> Result<(), Fail> {
-    let facts = two_pieces(rt.alloc())?;
-    let mut core = Core::new(rt.alloc(), &facts, 2, 0)?;
+fn drops_above_the_budget(rt: HostRuntime) -> Result<(), AllocError> {
     let steal = Step::Steal {
         thief: 1,
         victim: 0,
@@ -90,9 +111,7 @@ fn drops_above_the_budget(rt: HostRuntime) -> Result<(), Fail> {
     let discard = Step::Discard { worker: 1 };
     let give = Step::Give { worker: 1 };
     let allowed = [steal, miss, spend, give, discard, discard];
-    assert!(rt; answers(&mut core, &allowed, true)?);
     let refused = [steal, discard, Step::Take { worker: 2 }];
-    assert!(rt; answers(&mut core, &refused, false)?);
-    assert!(rt; has_places(&core, &[&[], &[0]])?);
+    assert!(rt; takes_steps(rt.alloc(), 2, 0, &allowed, &refused)?);
     Ok(())
 }

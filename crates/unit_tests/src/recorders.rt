@@ -3,10 +3,8 @@
 ghost use Rattle.std.specs.Prelude.{◌≡◌, true};
 ghost use Rattle.xs_trace.specs.Kept.{NeedsNone};
 
-use crate::check;
 use std::alloc::{AllocError, Global};
 use std::cmp::Ordering;
-use std::test::Fail;
 use xs_block::pool::Pool;
 use xs_record::brief::Brief;
 use xs_record::outcome::{Outcome, Part};
@@ -39,9 +37,14 @@ fn place_of(alloc: Global, numbers: &[u64]) -> Result<Place, AllocError> {
     Ok(place)
 }
 
+// A copy of the place with these numbers.
+fn copy_of(alloc: Global, numbers: &[u64]) -> Result<Place, AllocError> {
+    place_of(alloc, numbers)?.copy()
+}
+
 // How the copy of one place compares with another.
 fn compared(alloc: Global, numbers: &[u64], others: &[u64]) -> Result<Ordering, AllocError> {
-    let copy = place_of(alloc, numbers)?.copy()?;
+    let copy = copy_of(alloc, numbers)?;
     let other = place_of(alloc, others)?;
     Ok(compare_places(&copy, &other))
 }
@@ -52,16 +55,18 @@ fn has_numbers(alloc: Global, numbers: &[u64]) -> Result<bool, AllocError> {
     Ok(place.numbers() == numbers)
 }
 
+// Whether places are in the order of their numbers.
+fn are_in_order(alloc: Global) -> Result<bool, AllocError> {
+    Ok(
+        compared(alloc, &[], &[3, 1])? == Ordering::Less
+            && compared(alloc, &[3, 1], &[2])? == Ordering::Greater,
+    )
+}
+
 #[test]
-fn places(rt: HostRuntime) -> Result<(), Fail> {
-    check(
-        &rt,
-        &[
-            has_numbers(rt.alloc(), &[3, 1])?,
-            compared(rt.alloc(), &[], &[3, 1])? == Ordering::Less,
-            compared(rt.alloc(), &[3, 1], &[2])? == Ordering::Greater,
-        ],
-    );
+fn places(rt: HostRuntime) -> Result<(), AllocError> {
+    assert!(rt; has_numbers(rt.alloc(), &[3, 1])?);
+    assert!(rt; are_in_order(rt.alloc())?);
     Ok(())
 }
 
@@ -77,16 +82,26 @@ const ONE_EVENT: Limits = Limits {
     events: Some(1),
 };
 
+// An end that is captured alone; answers how many events were captured.
+fn capture<R: Recorder<Task = u64>>(recorder: &mut R) -> Result<usize, Halt> {
+    recorder.open_capture()?;
+    put_event(recorder, SITE, Event::End)?;
+    Ok(recorder.close_capture().events().len())
+}
+
+// An end and a message.
+fn put_and_say<R: Recorder<Task = u64>>(alloc: Global, recorder: &mut R) -> Result<(), Halt> {
+    put_event(recorder, SITE, Event::End)?;
+    say_message(recorder, SITE, TextBuf::of(alloc, "hi")?)
+}
+
 // Three ticks, an end that is captured alone, an end and a message; answers how many events were
 // captured.
 fn record<R: Recorder<Task = u64>>(alloc: Global, recorder: &mut R) -> Result<usize, Halt> {
     recorder.tick(SITE)?;
     recorder.ticks(SITE, 2)?;
-    recorder.open_capture()?;
-    put_event(recorder, SITE, Event::End)?;
-    let captured = recorder.close_capture().events().len();
-    put_event(recorder, SITE, Event::End)?;
-    say_message(recorder, SITE, TextBuf::of(alloc, "hi")?)?;
+    let captured = capture(recorder)?;
+    put_and_say(alloc, recorder)?;
     Ok(captured)
 }
 
@@ -130,78 +145,75 @@ fn is_full_run(outcome: &Outcome) -> bool {
         && matches!(&outcome.ended, Ended::Full(spot) if spot.fault == Fault::TooManyEvents)
 }
 
+// Whether a recorder of one event records it, and no other.
+fn takes_one_event<R: Recorder<Task = u64>>(alloc: Global, recorder: &mut R) -> bool {
+    record(alloc, recorder) == Ok(1) && recorder.put(Event::End) == Err(Halt::Full(SITE))
+}
+
+// Whether a recorder of two ticks records no third one, at once or alone.
+fn takes_two_ticks<R: Recorder<Task = u64>>(recorder: &mut R) -> bool {
+    recorder.ticks(SITE, 3) == Err(Halt::Spent(SITE))
+        && recorder.tick(SITE) == Err(Halt::Spent(SITE))
+}
+
+// What a piece gave, and how far its total is above its limit.
+fn told(finished: Finished<LocalTotal>) -> (Result<Outcome, AllocError>, Option<u64>) {
+    let above = finished.total.above();
+    (finished.outcome, above)
+}
+
+// Whether a run ended at a second event, and below its total's limit.
+fn is_full(finished: Finished<LocalTotal>) -> Result<bool, AllocError> {
+    let (outcome, above) = told(finished);
+    Ok(above == None && is_full_run(&outcome?))
+}
+
+// Whether a run had two ticks, and ended at the next.
+fn is_spent(finished: Finished<LocalTotal>) -> Result<bool, AllocError> {
+    let outcome = finished.outcome?;
+    Ok(
+        outcome.ticks == 2
+            && matches!(&outcome.ended, Ended::Spent(spot) if spot.fault == Fault::Budget),
+    )
+}
+
 #[test]
-fn records_a_run(rt: HostRuntime) -> Result<(), Fail> {
+fn records_a_run(rt: HostRuntime) -> Result<(), AllocError> {
     let mut run = recorder(rt.alloc(), ONE_EVENT, 9, 0);
-    check(
-        &rt,
-        &[
-            record(rt.alloc(), &mut run) == Ok(1),
-            run.put(Event::End) == Err(Halt::Full(SITE)),
-        ],
-    );
+    assert!(rt; takes_one_event(rt.alloc(), &mut run));
     let mut children = Vec::new(rt.alloc());
     let finished = run.finish(Err(Halt::Full(SITE)), &mut children);
-    check(
-        &rt,
-        &[
-            is_full_run(&finished.outcome?),
-            finished.total.above() == None,
-            children.is_empty(),
-        ],
-    );
+    let is_alone = children.is_empty();
+    drop(children);
+    let is_whole = is_full(finished)?;
+    assert!(rt; is_whole && is_alone);
     Ok(())
 }
 
 #[test]
-fn stops_at_its_limit(rt: HostRuntime) -> Result<(), Fail> {
+fn stops_at_its_limit(rt: HostRuntime) -> Result<(), AllocError> {
     let mut run = recorder(rt.alloc(), TWO_TICKS, 2, 0);
-    check(
-        &rt,
-        &[
-            run.ticks(SITE, 3) == Err(Halt::Spent(SITE)),
-            run.tick(SITE) == Err(Halt::Spent(SITE)),
-        ],
-    );
+    assert!(rt; takes_two_ticks(&mut run));
     let mut children = Vec::new(rt.alloc());
-    let outcome = run.finish(Err(Halt::Spent(SITE)), &mut children).outcome?;
-    check(
-        &rt,
-        &[
-            outcome.ticks == 2,
-            matches!(&outcome.ended, Ended::Spent(spot) if spot.fault == Fault::Budget),
-        ],
-    );
+    let finished = run.finish(Err(Halt::Spent(SITE)), &mut children);
+    assert!(rt; is_spent(finished)?);
     Ok(())
 }
 
 #[test]
-fn keeps_no_ticks(rt: HostRuntime) -> Result<(), Fail> {
+fn keeps_no_ticks(rt: HostRuntime) {
     let mut brief: Brief<u64> = Brief::new(rt.alloc(), ONE_EVENT);
-    check(
-        &rt,
-        &[
-            record(rt.alloc(), &mut brief) == Ok(1),
-            brief.left() == 6,
-            brief.put(Event::End) == Err(Halt::Full(SITE)),
-            are_both(brief.finish().as_slice()),
-        ],
-    );
-    Ok(())
+    assert!(rt; takes_one_event(rt.alloc(), &mut brief));
+    assert!(rt; brief.left() == 6);
+    assert!(rt; are_both(brief.finish().as_slice()));
 }
 
 #[test]
 fn spends_without_keeping(rt: HostRuntime) {
     let mut brief: Brief<u64> = Brief::new(rt.alloc(), TWO_TICKS);
-    check(
-        &rt,
-        &[
-            brief.ticks(SITE, 3) == Err(Halt::Spent(SITE)),
-            brief.tick(SITE) == Err(Halt::Spent(SITE)),
-            brief.hole(7) == Err(Halt::NoMemory),
-            brief.finish().is_empty(),
-        ],
-    );
+    assert!(rt; takes_two_ticks(&mut brief));
+    assert!(rt; brief.hole(7) == Err(Halt::NoMemory));
+    assert!(rt; brief.finish().is_empty());
 }
 
 // Some ticks, an end, a hole and a message.
@@ -252,37 +264,44 @@ fn has_a_hole(outcome: &Outcome) -> bool {
         && matches!(&outcome.ended, Ended::Whole)
 }
 
-#[test]
-fn records_a_piece(rt: HostRuntime) -> Result<(), Fail> {
-    let mut children = Vec::new(rt.alloc());
-    let finished = piece(rt.alloc(), 0, 5, &mut children);
-    check(
-        &rt,
-        &[
-            has_a_hole(&finished.outcome?),
-            finished.total.above() == None,
-            children.as_slice() == [7].as_slice(),
-        ],
-    );
-    Ok(())
+// Whether a piece has a hole, and ended below its total's limit.
+fn is_piece_with_a_hole(finished: Finished<LocalTotal>) -> Result<bool, AllocError> {
+    let (outcome, above) = told(finished);
+    Ok(above == None && has_a_hole(&outcome?))
 }
 
 #[test]
-fn ends_over_a_total(rt: HostRuntime) -> Result<(), Fail> {
+fn records_a_piece(rt: HostRuntime) -> Result<(), AllocError> {
+    let mut children = Vec::new(rt.alloc());
+    let finished = piece(rt.alloc(), 0, 5, &mut children);
+    assert!(rt; children.as_slice() == [7].as_slice());
+    assert!(rt; is_piece_with_a_hole(finished)?);
+    Ok(())
+}
+
+// Whether a piece ended after 1,024 ticks, since its total was above its limit.
+fn is_over(finished: Finished<LocalTotal>) -> Result<bool, AllocError> {
+    let (outcome, above) = told(finished);
+    let outcome = outcome?;
+    Ok(
+        above == Some(2524)
+            && outcome.ticks == 1024
+            && matches!(&outcome.ended, Ended::Over { total: 2524 }),
+    )
+}
+
+#[test]
+fn ends_over_a_total(rt: HostRuntime) -> Result<(), AllocError> {
     let mut children = Vec::new(rt.alloc());
     let finished = piece(rt.alloc(), 1500, 1500, &mut children);
-    let outcome = finished.outcome?;
-    check(
-        &rt,
-        &[
-            outcome.ticks == 1024,
-            matches!(&outcome.ended, Ended::Over { total: 2524 }),
-            finished.total.above() == Some(2524),
-            finished.total.limit() == 2000,
-            children.is_empty(),
-        ],
-    );
+    assert!(rt; children.is_empty() && finished.total.limit() == 2000);
+    assert!(rt; is_over(finished)?);
     Ok(())
+}
+
+// Whether a piece adds 1,024 of 1,025 ticks to its total.
+fn adds_all_but_one(piece: &mut PieceRecorder<LocalTotal, u64>) -> bool {
+    piece.ticks(SITE, 1025) == Ok(()) && piece.due() == 1 && piece.total().above() == None
 }
 
 #[test]
@@ -292,14 +311,8 @@ fn adds_its_ticks(rt: HostRuntime) {
         events: None,
     };
     let mut piece = recorder(rt.alloc(), limits, 2000, 0);
-    check(
-        &rt,
-        &[
-            piece.ticks(SITE, 1025) == Ok(()),
-            piece.due() == 1,
-            piece.total().above() == None,
-        ],
-    );
+    assert!(rt; adds_all_but_one(&mut piece));
+    drop(piece);
 }
 
 #[test]
@@ -308,12 +321,7 @@ fn meters(rt: HostRuntime) {
         limit: Some(2),
         spent: 0,
     };
-    check(
-        &rt,
-        &[
-            tick_several(&mut meter, SITE, 2) == Ok(()),
-            meter.tick(SITE) == Err(Halt::Spent(SITE)),
-            meter.spent == 2,
-        ],
-    );
+    assert!(rt; tick_several(&mut meter, SITE, 2) == Ok(()));
+    assert!(rt; meter.tick(SITE) == Err(Halt::Spent(SITE)));
+    assert!(rt; meter.spent == 2);
 }

@@ -1,0 +1,17 @@
+//! Rows on expressions: numbers, strings, what texts are parsed to, axes, values and patterns.
+
+mod answers;
+mod calls;
+mod documents;
+mod evaluated;
+mod fields;
+pub(crate) mod files;
+mod matched;
+mod names;
+mod numbers;
+mod parsed;
+mod settings;
+mod shown;
+mod strings;
+mod tables;
+mod values;

@@ -1,0 +1,252 @@
+//! Values of expressions and value templates, with their ticks.
+
+ghost use Rattle.std.specs.Prelude.{◌↔◌, [], IsTrue};
+ghost use Rattle.std.specs.List.{All};
+ghost use Rattle.xs_eval.specs.Conditions.{IsContext, IsInIf};
+ghost use Rattle.xs_value.specs.Conversion.{IsIn};
+
+use crate::answer::Answer;
+use crate::expressions::calls::Call;
+use crate::expressions::fields::{cut, whole};
+use crate::expressions::parsed::{parsed_bound, parsed_parts, put_fault};
+use crate::expressions::settings::Settings;
+use crate::expressions::values::show_value;
+use crate::lookups::value_named;
+use std::alloc::Global;
+use xs_eval::context::Context;
+use xs_eval::evaluate::evaluate;
+use xs_eval::templates::evaluate_avt;
+use xs_trace::item::Site;
+use xs_trace::meter::Meter;
+use xs_trace::recorder::Halt;
+use xs_tree::{Node, Tree};
+use xs_value::conversion::is_in;
+use xs_value::keys::NoKeys;
+use xs_value::value::Value;
+use xs_xpath::avt::AvtPart;
+use xs_xpath::expr::Expr;
+
+/// What is evaluated.
+#[derive(Clone, Copy)]
+enum Asked<'a> {
+    Expression(&'a Expr),
+    Template(&'a [AvtPart]),
+}
+
+// The ends of comparisons, and their letters.
+const LETTERS: &[(&str, &str)] = &[
+    ("true", "T"),
+    ("false", "F"),
+    ("fault 51", "1"),
+    ("fault 52", "2"),
+];
+
+// A limit above the ticks of each row.
+const AMPLE: u64 = 1_000_000;
+
+// Where expressions stand.
+const SITE: Site = Site { module: 0, line: 1 };
+
+// Whether the nodes of values are in the tree.
+fn are_in(tree: &Tree, values: &[Value]) -> bool
+    ensures { IsTrue result ↔ All (IsIn tree.now) values.now }
+{
+    values.iter().all(|v| is_in(tree, v))
+}
+
+// Whether the nodes of a value are in the tree, where there is one.
+fn is_in_if(tree: &Tree, value: &Option<Value>) -> bool
+    ensures { IsTrue result ↔ IsInIf tree.now value.now }
+{
+    match value {
+        Some(v) => is_in(tree, v),
+        None => true,
+    }
+}
+
+// Whether the nodes of those values that are there are in the tree.
+fn are_in_if(tree: &Tree, values: &[Option<Value>]) -> bool
+    ensures { IsTrue result ↔ All (IsInIf tree.now) values.now }
+{
+    values.iter().all(|value| is_in_if(tree, value))
+}
+
+// Adds how an evaluation without a value ended.
+fn put_halt(out: &mut Answer, halt: Halt) {
+    let end = match halt {
+        Halt::Fault(fault, _) => return out.put_count("fault ", fault.number() as u64),
+        Halt::Needs(global, _) => return out.put_count("needs ", global as u64),
+        Halt::NoMemory => return out.refuse(),
+        Halt::Spent(_) => "spent",
+        Halt::Full(_) => "full",
+        Halt::Over { .. } => "over",
+    };
+    out.put(end);
+}
+
+// Adds the end of an evaluation at the node at a place, under a limit of ticks, and says how many
+// it took.
+fn put_end(out: &mut Answer, settings: &Settings, asked: Asked<'_>, place: u32, limit: u64) -> u64 {
+    let tree: &Tree = &settings.tree;
+    let is_there = (place as usize) < tree.len() && (settings.current as usize) < tree.len();
+    if !is_there || !are_in(tree, &settings.locals) || !are_in_if(tree, &settings.globals) {
+        out.put("no such node");
+        return 0;
+    }
+    let context = Context {
+        tree,
+        node: Node::at(place),
+        position: settings.position,
+        size: settings.size,
+        current: Node::at(settings.current),
+        locals: &settings.locals,
+        globals: &settings.globals,
+        scope: &settings.scope,
+    };
+    match asked {
+        Asked::Expression(expr) => put_value(out, settings.alloc, expr, &context, limit),
+        Asked::Template(parts) => put_text(out, settings.alloc, parts, &context, limit),
+    }
+}
+
+// Adds the value of an expression, or how it ended without one, and says its ticks.
+fn put_value(out: &mut Answer, alloc: Global, expr: &Expr, context: &Context<'_>, limit: u64) -> u64
+    requires { IsContext [] context.now }
+{
+    let mut meter = Meter {
+        limit: Some(limit),
+        spent: 0,
+    };
+    match evaluate(alloc, expr, context, &NoKeys, SITE, &mut meter) {
+        Ok(value) => {
+            show_value(out, context.tree, &value);
+            drop(value);
+        }
+        Err(halt) => put_halt(out, halt),
+    }
+    meter.spent
+}
+
+// Adds the text of a value template, or how it ended without one, and says its ticks.
+fn put_text(
+    out: &mut Answer,
+    alloc: Global,
+    parts: &[AvtPart],
+    context: &Context<'_>,
+    limit: u64,
+) -> u64
+    requires { IsContext [] context.now }
+{
+    let mut meter = Meter {
+        limit: Some(limit),
+        spent: 0,
+    };
+    match evaluate_avt(alloc, parts, context, &NoKeys, SITE, &mut meter) {
+        Ok(text) => out.put_in("'", text.as_str(), "'"),
+        Err(halt) => put_halt(out, halt),
+    }
+    meter.spent
+}
+
+// Whether an evaluation under a limit spends it and has this end.
+fn ends_so(
+    out: &mut Answer,
+    settings: &Settings,
+    asked: Asked<'_>,
+    place: u32,
+    limit: u64,
+    end: &[u8],
+) -> bool {
+    let mut found = Answer::new(settings.alloc);
+    let ticks = put_end(&mut found, settings, asked, place, limit);
+    found.held(out) == end && ticks == limit
+}
+
+// Adds the end of an evaluation under an ample limit, and says its ticks. Where it ends otherwise
+// under a limit of just these ticks, or not as spent under one tick less, it adds this too.
+fn put_tried(out: &mut Answer, settings: &Settings, asked: Asked<'_>, place: u32) -> u64 {
+    let mut end = Answer::new(settings.alloc);
+    let ticks = put_end(&mut end, settings, asked, place, AMPLE);
+    let end = end.held(out);
+    out.put_bytes(end);
+    if !ends_so(out, settings, asked, place, ticks, end) {
+        out.put(", otherwise at its limit");
+    }
+    if ticks > 0 && !ends_so(out, settings, asked, place, ticks - 1, b"spent") {
+        out.put(", not spent by one tick less");
+    }
+    ticks
+}
+
+/// Adds the answer of a call that evaluates.
+pub(crate) fn add_answer(out: &mut Answer, settings: &Settings, call: Call, rest: &str) {
+    let (place, text) = cut(rest);
+    let place = whole(place);
+    let ticks = match call {
+        Call::Value => put_expression(out, settings, text, place),
+        Call::Text => put_template(out, settings, text, place),
+        _ => compare(out, settings, place, text),
+    };
+    out.put_count(" | ", ticks);
+}
+
+// Adds the value of an expression, and says its ticks.
+fn put_expression(out: &mut Answer, settings: &Settings, text: &str, place: u32) -> u64 {
+    match parsed_bound(settings, text) {
+        Ok(expr) => put_tried(out, settings, Asked::Expression(&expr), place),
+        Err(fault) => {
+            put_fault(out, fault);
+            0
+        }
+    }
+}
+
+// Adds the text of a value template, and says its ticks.
+fn put_template(out: &mut Answer, settings: &Settings, text: &str, place: u32) -> u64 {
+    match parsed_parts(settings, text) {
+        Ok(parts) => put_tried(out, settings, Asked::Template(&parts), place),
+        Err(fault) => {
+            put_fault(out, fault);
+            0
+        }
+    }
+}
+
+// Adds how two operands compare under each operator, a letter for each, and says the ticks of one
+// comparison. After a letter stands `?` where its comparison takes other ticks than the one before.
+fn compare(out: &mut Answer, settings: &Settings, place: u32, text: &str) -> u64 {
+    let (left, right) = cut(text);
+    let mut ticks = put_operated(out, settings, place, left, " = ", right);
+    for operator in &[" != ", " < ", " <= ", " > ", " >= "] {
+        let next = put_operated(out, settings, place, left, operator, right);
+        if next != ticks {
+            out.put("?");
+        }
+        ticks = next;
+    }
+    ticks
+}
+
+// Adds the letter of how two operands compare under an operator, and says its ticks.
+fn put_operated(
+    out: &mut Answer,
+    settings: &Settings,
+    place: u32,
+    left: &str,
+    operator: &str,
+    right: &str,
+) -> u64 {
+    let mut text = Answer::new(settings.alloc);
+    text.put_in(left, operator, right);
+    let text = text.held_text(out);
+    put_letter(out, settings, text, place)
+}
+
+// Adds the letter of how a comparison ends, and says its ticks.
+fn put_letter(out: &mut Answer, settings: &Settings, text: &str, place: u32) -> u64 {
+    let mut end = Answer::new(settings.alloc);
+    let ticks = put_expression(&mut end, settings, text, place);
+    let end = end.held_text(out);
+    out.put(value_named(LETTERS, end).unwrap_or(&"?"));
+    ticks
+}

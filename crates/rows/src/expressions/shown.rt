@@ -1,0 +1,170 @@
+//! The trees of expressions, in a compact form. `./a` is a path that begins at the context node,
+//! `root/a` one that begins at the root; `{a + b}` has operators with their operands, `(a)` is in
+//! brackets, and `u:a` is a name with the URI `u`.
+
+use crate::answer::Answer;
+use crate::expressions::names::{AXES, OPERATORS, function_name};
+use crate::lookups::name_of;
+use xs_trace::text::TextBuf;
+use xs_tree::Axis;
+use xs_xpath::avt::AvtPart;
+use xs_xpath::expr::Expr;
+use xs_xpath::name::{NodeTest, Slot};
+use xs_xpath::token::Operator;
+
+// Appends a name, with its URI where it has one.
+fn show_name(out: &mut Answer, uri: &TextBuf, local: &str) {
+    out.put(uri.as_str());
+    if !uri.as_str().is_empty() {
+        out.put(":");
+    }
+    out.put(local);
+}
+
+// Appends an axis; the child axis is left out.
+fn show_axis(out: &mut Answer, axis: Axis) {
+    if axis != Axis::Child {
+        out.put(name_of(AXES, &axis));
+        out.put("::");
+    }
+}
+
+// Appends a node test.
+fn show_test(out: &mut Answer, test: &NodeTest) {
+    match test {
+        NodeTest::Any => out.put("*"),
+        NodeTest::Uri(uri) => show_name(out, uri, "*"),
+        NodeTest::Name(uri, local) => show_name(out, uri, local.as_str()),
+        NodeTest::Node => out.put("node()"),
+        NodeTest::Text => out.put("text()"),
+        NodeTest::Comment => out.put("comment()"),
+        NodeTest::Pi => out.put("pi()"),
+        NodeTest::Target(target) => out.put_in("pi(", target.as_str(), ")"),
+    }
+}
+
+// Appends the slot of a variable, if it has one.
+fn show_slot(out: &mut Answer, slot: Option<Slot>) {
+    let (kind, number) = match slot {
+        None => return,
+        Some(Slot::Local(number)) => ("#L", number),
+        Some(Slot::Global(number)) => ("#G", number),
+    };
+    out.put_count(kind, number as u64);
+}
+
+// Appends predicates.
+#[cycle(show)]
+fn show_predicates(out: &mut Answer, predicates: &[Expr]) {
+    for e in predicates {
+        out.put("[");
+        show(out, e);
+        out.put("]");
+    }
+}
+
+// Appends the steps of a path.
+#[cycle(show)]
+fn show_steps(out: &mut Answer, steps: &[Expr]) {
+    for e in steps {
+        out.put("/");
+        show(out, e);
+    }
+}
+
+// Appends operands, and the operators between them.
+#[cycle(show)]
+fn show_chain(out: &mut Answer, operators: &[Operator], operands: &[Expr]) {
+    let mut left = operators;
+    for e in operands {
+        show(out, e);
+        if let Some((operator, after)) = left.split_first() {
+            out.put_in(" ", name_of(OPERATORS, &(*operator as u8)), " ");
+            left = after;
+        }
+    }
+}
+
+/// Appends trees, and a text between them.
+#[cycle(show)]
+pub(crate) fn show_all(out: &mut Answer, between: &str, es: &[Expr]) {
+    let mut is_first = true;
+    for e in es {
+        if !is_first {
+            out.put(between);
+        }
+        is_first = false;
+        show(out, e);
+    }
+}
+
+/// Appends a tree.
+#[cycle(show)]
+pub(crate) fn show(out: &mut Answer, e: &Expr) {
+    match e {
+        Expr::Variable(uri, local, slot) => {
+            out.put("$");
+            show_name(out, uri, local.as_str());
+            show_slot(out, *slot);
+        }
+        Expr::Call(function, arguments) => {
+            out.put_in("", function_name(*function), "(");
+            show_all(out, ",", arguments);
+            out.put(")");
+        }
+        Expr::Negative(signs, e) => {
+            out.put_times("-", *signs);
+            show(out, e);
+        }
+        Expr::Chain(operators, operands) => {
+            out.put("{");
+            show_chain(out, operators, operands);
+            out.put("}");
+        }
+        Expr::Group(e) => {
+            out.put("(");
+            show(out, e);
+            out.put(")");
+        }
+        Expr::Step(axis, test, predicates) => {
+            show_axis(out, *axis);
+            show_test(out, test);
+            show_predicates(out, predicates);
+        }
+        Expr::Filter(e, predicates) => {
+            show(out, e);
+            show_predicates(out, predicates);
+        }
+        Expr::Path(e, steps) => {
+            show(out, e);
+            show_steps(out, steps);
+        }
+        _ => show_leaf(out, e),
+    }
+}
+
+// Appends a tree without others in it.
+fn show_leaf(out: &mut Answer, e: &Expr) {
+    match e {
+        Expr::Number(number) => out.put_number(*number),
+        Expr::Literal(text) => out.put_in("'", text.as_str(), "'"),
+        Expr::Here => out.put("."),
+        Expr::Root => out.put("root"),
+        Expr::Descend => out.put("descend"),
+        _ => (),
+    }
+}
+
+/// Appends the parts of a value template.
+pub(crate) fn show_parts(out: &mut Answer, parts: &[AvtPart]) {
+    for part in parts {
+        match part {
+            AvtPart::Fixed(text) => out.put_in("<", text.as_str(), ">"),
+            AvtPart::Computed(e) => {
+                out.put("[");
+                show(out, e);
+                out.put("]");
+            }
+        }
+    }
+}

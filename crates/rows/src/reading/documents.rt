@@ -1,0 +1,125 @@
+//! Rows on documents: their faults, and their trees.
+
+use crate::answer::Answer;
+use crate::reading::notation::put_decoded;
+use crate::reading::trees::put_tree_of;
+use std::alloc::{AllocError, Global};
+use xs_build::{BuildFault, Built, build_tree};
+use xs_tree::Tree;
+
+/// The most bytes of a document whose row gives no limit.
+const LIMIT: u16 = 65_000;
+
+/// Adds a text to what documents begin with, as often as the number before it says; `#` in it is
+/// the number of the time, from 0.
+pub(crate) fn put_start(start: &mut Answer, repeated: &str) {
+    let (times, text) = repeated.split_once(' ').unwrap_or(("0", ""));
+    for time in 0..times.parse::<u16>().unwrap_or(0) {
+        let mut is_first = true;
+        for piece in text.split('#') {
+            if !is_first {
+                start.put_count("", time as u64);
+            }
+            put_decoded(start, piece);
+            is_first = false;
+        }
+    }
+}
+
+/// Adds the first fault of a document, which begins with `start`; its limit comes after ` | `.
+pub(crate) fn put_fault_of(out: &mut Answer, alloc: Global, start: &Answer, input: &str) {
+    let (document, limit) = input.split_once(" | ").unwrap_or((input, ""));
+    let mut bytes = Answer::new(alloc);
+    bytes.put_bytes(start.held(out));
+    put_decoded(&mut bytes, document);
+    let limit = limit.parse::<u16>().unwrap_or(LIMIT);
+    match build_tree(alloc, bytes.held(out), limit as u64).err() {
+        None => out.put("no fault"),
+        Some(fault) => put_fault(out, fault),
+    }
+}
+
+// Adds a fault.
+fn put_fault(out: &mut Answer, fault: BuildFault) {
+    match fault {
+        BuildFault::Bad { number, line } => {
+            out.put_count("fault ", number as u64);
+            out.put_count(" at line ", line as u64);
+        }
+        BuildFault::NoMemory => out.refuse(),
+    }
+}
+
+// Adds a line with a fault.
+fn put_fault_line(out: &mut Answer, fault: BuildFault) {
+    out.put("= ");
+    put_fault(out, fault);
+    out.put("\n");
+}
+
+/// The input of a row of several lines.
+#[derive(Drop)]
+pub(crate) struct Row<'t> {
+    alloc: Global,
+    /// The document.
+    pub(crate) document: Answer,
+    /// The nodes, a line for each.
+    pub(crate) nodes: Answer,
+    /// The nodes that are added after stripping.
+    pub(crate) later_nodes: Answer,
+    /// An `x` at the place of each node that is marked.
+    pub(crate) marks: &'t str,
+}
+
+impl<'t> Row<'t> {
+    /// A row without input.
+    pub(crate) fn new(alloc: Global) -> Row<'t> {
+        Row {
+            alloc,
+            document: Answer::new(alloc),
+            nodes: Answer::new(alloc),
+            later_nodes: Answer::new(alloc),
+            marks: "",
+        }
+    }
+
+    /// Removes the input.
+    pub(crate) fn clear(&mut self) {
+        self.document.clear();
+        self.nodes.clear();
+        self.later_nodes.clear();
+        self.marks = "";
+    }
+
+    /// Adds a line to the document.
+    pub(crate) fn put_line(&mut self, line: &str) {
+        put_decoded(&mut self.document, line);
+        self.document.put("\n");
+    }
+
+    /// Adds the tree of the document, or its fault.
+    pub(crate) fn put_document(&self, out: &mut Answer) {
+        match build_tree(self.alloc, self.document.held(out), LIMIT as u64) {
+            Ok(built) => put_tree_of(out, self.alloc, self, built),
+            Err(fault) => put_fault_line(out, fault),
+        }
+    }
+
+    /// Adds the tree of the nodes.
+    pub(crate) fn put_nodes(&self, out: &mut Answer) {
+        match root_alone(self.alloc) {
+            Ok(built) => put_tree_of(out, self.alloc, self, built),
+            Err(_) => out.refuse(),
+        }
+    }
+}
+
+// The tree of a root alone.
+fn root_alone(alloc: Global) -> Result<Built, AllocError> {
+    let mut lines = Vec::new(alloc);
+    lines.push(0)?;
+    Ok(Built {
+        tree: Tree::new(alloc)?,
+        lines,
+    })
+}

@@ -1,0 +1,193 @@
+//! Lists of events in one line, what stays of them, and how it is written.
+
+use crate::answer::{Answer, text_of};
+use std::alloc::{AllocError, Global};
+use xs_result::{build, write_text};
+use xs_trace::event::{Event, Fragment, Label};
+use xs_trace::text::TextBuf;
+use xs_writing::{PyxStream, write_pyx};
+
+/// The name `{URI}prefix:local`; the URI in braces, and the prefix with its colon, may be left out.
+fn label(alloc: Global, name: &str) -> Result<Label, AllocError> {
+    let (uri, rest) = name.split_once('}').unwrap_or(("", name));
+    let (prefix, local) = rest.split_once(':').unwrap_or(("", rest));
+    let uri = TextBuf::of(alloc, uri.strip_prefix('{').unwrap_or(""))?;
+    let local = TextBuf::of(alloc, local)?;
+    let prefix = TextBuf::of(alloc, prefix)?;
+    Label::of(alloc, uri, local, prefix)
+}
+
+/// The event that a line says, in the letters of PYX lines; `:` begins a namespace node.
+pub(crate) fn event(alloc: Global, line: &str) -> Result<Event, AllocError> {
+    if let Some(name) = line.strip_prefix('(') {
+        return Ok(Event::Start(label(alloc, name)?));
+    }
+    if let Some(text) = line.strip_prefix('-') {
+        return Ok(Event::Chars(TextBuf::of(alloc, text)?));
+    }
+    if let Some(text) = line.strip_prefix('C') {
+        return Ok(Event::Comment(TextBuf::of(alloc, text)?));
+    }
+    match line.split_once(' ') {
+        Some((name, value)) => named_event(alloc, name, value),
+        None => Ok(Event::End),
+    }
+}
+
+/// The event of a line with a name and a value.
+fn named_event(alloc: Global, name: &str, value: &str) -> Result<Event, AllocError> {
+    let value = TextBuf::of(alloc, value)?;
+    if let Some(name) = name.strip_prefix('A') {
+        let name = label(alloc, name)?;
+        return Ok(Event::Attr { name, value });
+    }
+    if let Some(prefix) = name.strip_prefix(':') {
+        let prefix = TextBuf::of(alloc, prefix)?;
+        return Ok(Event::Space { prefix, uri: value });
+    }
+    let target = TextBuf::of(alloc, name.strip_prefix('?').unwrap_or(""))?;
+    Ok(Event::Pi { target, value })
+}
+
+/// Adds the line that says an event.
+fn put_event(out: &mut Answer, event: &Event) {
+    match event {
+        Event::Start(name) => put_label(out, "(", name),
+        Event::Attr { name, value } => {
+            put_label(out, "A", name);
+            put_named(out, " ", value.as_str());
+        }
+        Event::Space { prefix, uri } => {
+            put_named(out, ":", prefix.as_str());
+            put_named(out, " ", uri.as_str());
+        }
+        Event::Chars(text) => put_named(out, "-", text.as_str()),
+        Event::End => out.put(")"),
+        Event::Comment(text) => put_named(out, "C", text.as_str()),
+        Event::Pi { target, value } => {
+            put_named(out, "?", target.as_str());
+            put_named(out, " ", value.as_str());
+        }
+    }
+}
+
+/// Adds a sign and a name.
+fn put_label(out: &mut Answer, sign: &str, name: &Label) {
+    out.put(sign);
+    if !name.uri().is_empty() {
+        out.put_in("{", name.uri(), "}");
+    }
+    if !name.prefix().is_empty() {
+        out.put_in("", name.prefix(), ":");
+    }
+    out.put(name.local());
+}
+
+/// Adds a sign and a text.
+fn put_named(out: &mut Answer, sign: &str, text: &str) {
+    out.put(sign);
+    out.put(text);
+}
+
+/// Takes the event that a line says, if there is one.
+fn push_event(out: &mut Answer, alloc: Global, all: &mut Vec<Event>, line: &str) {
+    if !line.is_empty() {
+        match event(alloc, line) {
+            Ok(event) => {
+                if all.push(event).is_err() {
+                    out.refuse();
+                }
+            }
+            Err(_) => out.refuse(),
+        }
+    }
+}
+
+/// The events that lines say, which stand between slashes.
+fn events(out: &mut Answer, alloc: Global, lines: &str) -> Vec<Event> {
+    let mut all = Vec::new(alloc);
+    for line in lines.split('/') {
+        push_event(out, alloc, &mut all, line);
+    }
+    all
+}
+
+/// Adds what stays of events.
+pub(crate) fn put_fragment(out: &mut Answer, alloc: Global, lines: &str) {
+    let put = events(out, alloc, lines);
+    match fragment(alloc, &put) {
+        Ok(fragment) => put_events(out, fragment.events()),
+        Err(_) => out.refuse(),
+    }
+}
+
+/// A copy of what stays of events.
+fn fragment(alloc: Global, put: &[Event]) -> Result<Fragment, AllocError> {
+    build(alloc, put.iter())?.copy()
+}
+
+/// Adds the lines that say events, with slashes between them.
+fn put_events(out: &mut Answer, events: &[Event]) {
+    if events.is_empty() {
+        out.put("nothing");
+    }
+    let mut is_first = true;
+    for event in events {
+        if !is_first {
+            out.put("/");
+        }
+        put_event(out, event);
+        is_first = false;
+    }
+}
+
+/// How events are written.
+pub(crate) enum Form {
+    /// As their text, after another one.
+    Text,
+    /// As their lines, at once.
+    Pyx,
+    /// As their lines, as the events come.
+    Stream,
+}
+
+/// Adds what is written of events.
+pub(crate) fn put_written(out: &mut Answer, alloc: Global, form: &Form, lines: &str) {
+    let put = events(out, alloc, lines);
+    let written = match form {
+        Form::Text => text(alloc, &put),
+        Form::Pyx => pyx(alloc, &put),
+        Form::Stream => streamed(out, alloc, &put),
+    };
+    match written {
+        Ok(written) => out.put_escaped(text_of(&written)),
+        Err(_) => out.refuse(),
+    }
+}
+
+/// The text of events, which is put after another text.
+fn text(alloc: Global, put: &[Event]) -> Result<Vec<u8>, AllocError> {
+    let mut text = Vec::from_slice(alloc, b"> ")?;
+    write_text(&mut text, put.iter())?;
+    Ok(text)
+}
+
+/// The lines of events.
+fn pyx(alloc: Global, put: &[Event]) -> Result<Vec<u8>, AllocError> {
+    let mut lines = Vec::new(alloc);
+    write_pyx(&mut lines, put.iter())?;
+    Ok(lines)
+}
+
+/// The lines of events that come one by one; adds how many bytes of them there are after each.
+fn streamed(out: &mut Answer, alloc: Global, put: &[Event]) -> Result<Vec<u8>, AllocError> {
+    let mut lines = Vec::new(alloc);
+    let mut stream = PyxStream::new(alloc)?;
+    for event in put {
+        stream = stream.take(&mut lines, event)?;
+        out.put_count("", lines.len() as u64);
+        out.put(" ");
+    }
+    stream.finish(&mut lines)?;
+    Ok(lines)
+}

@@ -1,0 +1,314 @@
+//! The rows of a file, one line after another.
+
+use crate::answer::Answer;
+use crate::lookups::value_named;
+use crate::runs::answers::{put_fields, put_parts, put_pieces};
+use crate::runs::calls::put_options;
+use crate::runs::events::{put_fragment, put_written};
+use crate::runs::parts::{CALLS, Call, PARTS, Part};
+use crate::runs::replies::put_replies;
+use crate::runs::setup::{Outcome, Setup};
+use crate::runs::texts::{push_word, push_words, put_decoded};
+use std::alloc::Global;
+use std::thread::Threads;
+
+/// The arguments of a run that says none.
+const PLAIN: &str = "s.pyx src.pyx";
+
+/// Where a line stands.
+#[derive(Clone, Copy)]
+enum At {
+    /// Outside of the rows of several lines.
+    Outside,
+    /// In the input of a row that says no arguments.
+    Input,
+    /// After a line with the arguments of a run.
+    Arguments,
+    /// In an answer.
+    Answer,
+}
+
+/// What the lines before say of those after them.
+#[derive(Drop)]
+struct Rows<'t> {
+    alloc: Global,
+    setup: Setup<'t>,
+    at: At,
+    in_file: bool,
+    /// The arguments of the next run, and its budget before them.
+    words: &'t str,
+    budget: &'t str,
+    /// The options with which each run is made, between bars.
+    with: &'t str,
+    /// What is called for a row in one line.
+    call: Option<&'static Call>,
+}
+
+/// Adds a row file with each answer computed.
+pub(crate) fn put_rows<R: Threads + Sync>(out: &mut Answer, rt: &R, alloc: Global, file: &str) {
+    let mut rows = Rows {
+        alloc,
+        setup: Setup::new(alloc),
+        at: At::Outside,
+        in_file: false,
+        words: "",
+        budget: "",
+        with: "",
+        call: None,
+    };
+    for line in file.lines() {
+        rows.take_line(out, rt, line);
+    }
+    rows.end_row(out, rt);
+    drop(rows);
+}
+
+impl<'t> Rows<'t> {
+    /// Takes a line.
+    fn take_line<R: Threads + Sync>(&mut self, out: &mut Answer, rt: &R, line: &'t str) {
+        if line.is_empty() || line.starts_with('#') {
+            self.end_row(out, rt);
+            self.in_file = false;
+            out.put_line(line);
+        } else if let Some(part) = line.strip_prefix("= ") {
+            self.in_file = false;
+            self.take_part(out, rt, line, part);
+        } else if self.in_file {
+            self.setup.put_line(line);
+            out.put_line(line);
+        } else if !matches!(self.at, At::Answer) {
+            self.take_row(out, rt, line);
+        }
+    }
+
+    /// Takes a row in one line.
+    fn take_row<R: Threads + Sync>(&self, out: &mut Answer, rt: &R, line: &str) {
+        match line.split_once(" ==>") {
+            Some((input, _)) => {
+                out.put(input);
+                out.put(" ==> ");
+                self.put_called(out, rt, input);
+                out.put("\n");
+            }
+            None => {
+                out.put("= this line is no row:\n");
+                out.put_line(line);
+            }
+        }
+    }
+
+    /// Takes the line that begins a part.
+    fn take_part<R: Threads + Sync>(
+        &mut self,
+        out: &mut Answer,
+        rt: &R,
+        line: &str,
+        part: &'t str,
+    ) {
+        let (word, rest) = part.split_once(' ').unwrap_or((part, ""));
+        match value_named(PARTS, word) {
+            Some(Part::Answer) => return self.answer(out, rt),
+            Some(Part::File) => self.take_file(out, word, rest),
+            Some(part) => self.take_input(out, rt, part, rest),
+            None => out.put("= no part has this word:\n"),
+        }
+        out.put_line(line);
+    }
+
+    /// Takes a part that is neither an answer nor a file.
+    fn take_input<R: Threads + Sync>(
+        &mut self,
+        out: &mut Answer,
+        rt: &R,
+        part: &Part,
+        rest: &'t str,
+    ) {
+        match part {
+            Part::Row => {
+                self.end_row(out, rt);
+                self.take_arguments("", PLAIN);
+                self.at = At::Input;
+            }
+            Part::Arguments => self.take_run(out, rt, "", rest),
+            Part::Budget => self.take_run(out, rt, rest, PLAIN),
+            _ => self.take_setting(out, part, rest),
+        }
+    }
+
+    /// Takes the arguments of another run, and the budget before them, if there is one.
+    fn take_run<R: Threads + Sync>(
+        &mut self,
+        out: &mut Answer,
+        rt: &R,
+        budget: &'t str,
+        words: &'t str,
+    ) {
+        if let At::Arguments = self.at {
+            self.answer(out, rt);
+        }
+        self.take_arguments(budget, words);
+    }
+
+    /// Takes the arguments of a run, and the budget before them, if there is one.
+    fn take_arguments(&mut self, budget: &'t str, words: &'t str) {
+        self.budget = budget;
+        self.words = words;
+        self.at = At::Arguments;
+    }
+
+    /// Takes a setting.
+    fn take_setting(&mut self, out: &mut Answer, part: &Part, rest: &'t str) {
+        match part {
+            Part::With => self.with = rest,
+            Part::Call => self.call = value_named(CALLS, rest),
+            Part::Most => self.setup.set_most(rest),
+            _ => out.note(self.setup.add_failing(rest)),
+        }
+    }
+
+    /// Begins a file: of the row, or outside of a row one of all rows that follow.
+    fn take_file(&mut self, out: &mut Answer, word: &str, rest: &'t str) {
+        if let At::Answer = self.at {
+            self.at = At::Outside;
+            self.setup.clear();
+        }
+        let is_shared = matches!(self.at, At::Outside);
+        self.in_file = self.setup.add_file(out, word, rest, is_shared);
+    }
+
+    /// Ends a row; a run that has no answer yet gets one.
+    fn end_row<R: Threads + Sync>(&mut self, out: &mut Answer, rt: &R) {
+        self.answer(out, rt);
+        self.setup.clear();
+        self.at = At::Outside;
+    }
+
+    /// Adds the answer of the run that has none yet: what it gives with the first of the options,
+    /// and with each that gives something else.
+    fn answer<R: Threads + Sync>(&mut self, out: &mut Answer, rt: &R) {
+        if let At::Outside | At::Answer = self.at {
+            return;
+        }
+        self.at = At::Answer;
+        let (options, others) = match self.with.split_once(" | ") {
+            Some((options, others)) => (options, Some(others)),
+            None => (self.with, None),
+        };
+        let mut first = Answer::new(self.alloc);
+        self.put_run(&mut first, rt, options);
+        out.put_answer(&first);
+        if let Some(others) = others {
+            self.put_others(out, rt, &first, others);
+        }
+    }
+
+    /// Adds what a run gives with each of the options that gives something else than the first.
+    fn put_others<R: Threads + Sync>(
+        &self,
+        out: &mut Answer,
+        rt: &R,
+        first: &Answer,
+        others: &str,
+    ) {
+        for options in others.split(" | ") {
+            self.put_other(out, rt, first, options);
+        }
+    }
+
+    /// Adds what a run gives with these options, where it is something else than the first.
+    fn put_other<R: Threads + Sync>(
+        &self,
+        out: &mut Answer,
+        rt: &R,
+        first: &Answer,
+        options: &str,
+    ) {
+        let mut parts = Answer::new(self.alloc);
+        self.put_run(&mut parts, rt, options);
+        if !parts.is_same(first) {
+            out.put("= differs ");
+            out.put_line(options);
+            out.put_answer(&parts);
+        }
+    }
+
+    /// Adds what a run gives with these options.
+    fn put_run<R: Threads + Sync>(&self, out: &mut Answer, rt: &R, options: &str) {
+        let mut words = Vec::new(self.alloc);
+        push_words(out, self.alloc, &mut words, options);
+        if !self.budget.is_empty() {
+            push_words(out, self.alloc, &mut words, "--budget");
+            push_words(out, self.alloc, &mut words, self.budget);
+        }
+        push_words(out, self.alloc, &mut words, self.words);
+        match self.setup.run(out, rt, &words, b"") {
+            Ok(outcome) => {
+                self.put_outcome(out, &outcome);
+                drop(outcome);
+            }
+            Err(_) => out.refuse(),
+        }
+    }
+
+    /// Adds what a run gave.
+    fn put_outcome(&self, out: &mut Answer, outcome: &Outcome) {
+        put_parts(out, outcome);
+        if self.with.is_empty() {
+            put_pieces(out, &outcome.report);
+        }
+    }
+
+    /// Adds the answer of a row in one line.
+    fn put_called<R: Threads + Sync>(&self, out: &mut Answer, rt: &R, input: &str) {
+        match self.call {
+            Some(Call::ReadWords) => put_options(out, self.alloc, input),
+            Some(Call::Build) => put_fragment(out, self.alloc, input),
+            Some(Call::Write(form)) => put_written(out, self.alloc, form, input),
+            Some(Call::RunReply) => self.put_replies(out, rt, input),
+            Some(_) => self.put_transformed(out, rt, input),
+            None => out.put("no such call"),
+        }
+    }
+
+    /// Adds the answers of the stylesheet, compiled once, on sources whose names are the input.
+    fn put_replies<R: Threads + Sync>(&self, out: &mut Answer, rt: &R, input: &str) {
+        match self.setup.library(out, b"") {
+            Ok(mut library) => {
+                put_replies(out, rt, self.alloc, &mut library, input);
+                drop(library);
+            }
+            Err(_) => out.refuse(),
+        }
+    }
+
+    /// Adds the answer of a run in one line, of which the row says the arguments, the budget, or a
+    /// text of the files.
+    fn put_transformed<R: Threads + Sync>(&self, out: &mut Answer, rt: &R, input: &str) {
+        let mut text = Answer::new(self.alloc);
+        put_decoded(&mut text, input);
+        let words = self.words_of(out, input);
+        let text = text.held(out);
+        match self.setup.run(out, rt, &words, text) {
+            Ok(outcome) => {
+                put_fields(out, &outcome);
+                drop(outcome);
+            }
+            Err(_) => out.refuse(),
+        }
+    }
+
+    /// The arguments of a run that a row in one line says.
+    fn words_of(&self, out: &mut Answer, input: &str) -> Vec<String> {
+        let mut words = Vec::new(self.alloc);
+        if let Some(Call::Arguments) = self.call {
+            push_words(out, self.alloc, &mut words, input);
+            return words;
+        }
+        if let Some(Call::Budget) = self.call {
+            push_words(out, self.alloc, &mut words, "--budget");
+            push_word(out, self.alloc, &mut words, input);
+        }
+        push_words(out, self.alloc, &mut words, PLAIN);
+        words
+    }
+}

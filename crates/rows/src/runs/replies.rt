@@ -1,0 +1,130 @@
+//! A stylesheet that is compiled once and run on several sources (docs/LIBRARY.md).
+
+ghost use Rattle.xs_modules.specs.Results.{modules_data};
+ghost use Rattle.xs_modules.specs.Sound.{IsSound as AreSound};
+ghost use Rattle.xs_sheet.specs.Sound.{IsSound};
+
+use crate::answer::{Answer, text_of};
+use crate::runs::answers::{put_line, put_short};
+use crate::stylesheets::modules::{put_end, put_fault, put_numbered};
+use std::alloc::{AllocError, Global};
+use std::thread::Threads;
+use xs_compile::{CompileEnd, compile};
+use xs_engine::{Job, Reply, run_reply};
+use xs_modules::{Modules, read_modules};
+use xs_outside::MemLibrary;
+use xs_sheet::sheet::Sheet;
+use xs_trace::text::TextBuf;
+
+/// Adds what the stylesheet of the library gives for each of some sources, or its fault.
+pub(crate) fn put_replies<R: Threads + Sync>(
+    out: &mut Answer,
+    rt: &R,
+    alloc: Global,
+    library: &mut MemLibrary,
+    names: &str,
+) {
+    match read_modules(alloc, library, "s.pyx") {
+        Ok(modules) => put_by_modules(out, rt, alloc, &modules, library, names),
+        Err(end) => put_end(out, &end),
+    }
+}
+
+/// Adds what modules give for each of some sources, or their fault.
+fn put_by_modules<R: Threads + Sync>(
+    out: &mut Answer,
+    rt: &R,
+    alloc: Global,
+    modules: &Modules,
+    library: &mut MemLibrary,
+    names: &str,
+)
+    requires sound { AreSound (modules_data modules.now) }
+{
+    match compile(alloc, modules) {
+        Ok(sheet) => {
+            put_by_sheet(out, rt, alloc, &sheet, library, names);
+            drop(sheet);
+        }
+        Err(CompileEnd::Refused(fault)) => put_fault(out, modules, Some(fault)),
+        Err(CompileEnd::NoMemory) => out.refuse(),
+    }
+}
+
+/// Adds what a stylesheet gives for each of some sources.
+fn put_by_sheet<R: Threads + Sync>(
+    out: &mut Answer,
+    rt: &R,
+    alloc: Global,
+    sheet: &Sheet,
+    library: &mut MemLibrary,
+    names: &str,
+)
+    requires sound { IsSound sheet.now }
+{
+    let mut is_first = true;
+    for name in names.split(' ') {
+        out.put(if is_first { "" } else { "; " });
+        is_first = false;
+        match reply_on(rt, alloc, sheet, library, name) {
+            Ok(reply) => {
+                put_reply(out, &reply);
+                drop(reply);
+            }
+            Err(_) => out.refuse(),
+        }
+    }
+}
+
+/// What a stylesheet gives for a source, with a text for its parameter `word`.
+fn reply_on<R: Threads + Sync>(
+    rt: &R,
+    alloc: Global,
+    sheet: &Sheet,
+    library: &mut MemLibrary,
+    name: &str,
+) -> Result<Reply, AllocError>
+    requires sound { IsSound sheet.now }
+{
+    let name = TextBuf::of(alloc, name)?;
+    let job = greeting_job(alloc)?;
+    let reply = run_reply(rt, alloc, &job, &name, sheet, library);
+    drop(job);
+    reply
+}
+
+/// A job with a text for the parameter `word`.
+fn greeting_job(alloc: Global) -> Result<Job, AllocError> {
+    let sheet = TextBuf::of(alloc, "s.pyx")?;
+    let given = vec![in alloc; greeting(alloc)?]?;
+    Ok(Job {
+        sheet,
+        source: None,
+        given,
+        budget: 1000,
+        most_events: None,
+    })
+}
+
+/// The name of the parameter `word`, and its text.
+fn greeting(alloc: Global) -> Result<(TextBuf, TextBuf), AllocError> {
+    let name = TextBuf::of(alloc, "word")?;
+    Ok((name, TextBuf::of(alloc, "Good day")?))
+}
+
+/// Adds a reply: its status, its ticks, its lines for the user, its fault, and its result.
+fn put_reply(out: &mut Answer, reply: &Reply) {
+    out.put_count("", reply.status as u64);
+    out.put_count(" | ", reply.ticks);
+    for line in text_of(&reply.lines).split_inclusive('\n') {
+        out.put(" | ");
+        put_line(out, line);
+    }
+    if let Some(fault) = &reply.fault {
+        out.put(" | ");
+        put_numbered(out, fault.number, fault.module.as_str(), fault.line);
+    }
+    out.put(" | \"");
+    put_short(out, text_of(&reply.result));
+    out.put("\"");
+}

@@ -1,0 +1,241 @@
+//! What XSLT says of the elements of a stylesheet, as texts.
+
+ghost use Rattle.std.specs.Prelude.{◌<◌, length};
+
+use crate::answer::Answer;
+use crate::lookups::name_of;
+use crate::stylesheets::values::put_expanded;
+use std::alloc::Global;
+use xs_elements::attributes::{Need, attributes, form_named};
+use xs_elements::contents::{Before, Content, content_of, holds_text, may_stand};
+use xs_elements::forms::{Form, forbids_current, forbids_key, forbids_variables, sees_locals};
+use xs_elements::kept::{is_kept, own_space};
+use xs_elements::rows::{Row, is_document_element, is_top_level, row_of};
+use xs_elements::scope::{Expanded, expanded, has, own_name, scope_at, uri_of, value_of};
+use xs_elements::value::{is_bad, is_unbound, is_unsupported};
+use xs_elements::words::first_word;
+use xs_tree::{Kind, Node, Tree};
+
+/// Adds an expanded name, if there is one.
+fn put_expanded_if(out: &mut Answer, name: Option<Expanded<'_>>) {
+    match name {
+        Some((uri, local)) => put_expanded(out, uri, local),
+        None => out.put("?"),
+    }
+}
+
+/// Adds the name that an element gives to what it declares, if it gives one.
+fn put_own_name(out: &mut Answer, tree: &Tree, node: Node)
+    requires { node < length tree.now }
+{
+    if let Some(value) = value_of(tree, node, "", "name") {
+        let name = expanded(tree, node, value);
+        out.put(", name ");
+        put_expanded_if(out, name);
+        if own_name(tree, node) != name {
+            out.put(" and another of its own");
+        }
+    }
+}
+
+/// Adds what an element is, and what holds in it.
+fn put_element(out: &mut Answer, tree: &Tree, node: Node)
+    requires { node < length tree.now }
+{
+    out.put(tree.local(node));
+    out.put(match row_of(tree, node) {
+        Row::Unknown => " unknown",
+        Row::Other => " literal",
+        _ => " of XSLT",
+    });
+    if is_document_element(tree, node) {
+        out.put(", document element");
+    }
+    if is_top_level(tree, node) {
+        out.put(", top level");
+    }
+    put_own_name(out, tree, node);
+    if has(tree, node, "select") {
+        out.put(", select");
+    }
+    if let Some(uri) = uri_of(tree, node, "") {
+        out.put_in(", default ", uri, "");
+    }
+    out.put(match own_space(tree, node) {
+        Some(true) => ", space preserved",
+        Some(false) => ", space not preserved",
+        None => "",
+    });
+}
+
+/// Adds whether a text is kept in its element.
+fn put_text(out: &mut Answer, tree: &Tree, node: Node)
+    requires { node < length tree.now }
+{
+    let Some(parent) = tree.parent(node) else {
+        return;
+    };
+    let preserves = own_space(tree, parent) == Some(true);
+    let kept = is_kept(tree, node, row_of(tree, parent), preserves);
+    out.put(if kept { "text kept" } else { "text stripped" });
+}
+
+/// Adds what each element and text is.
+pub(crate) fn put_elements(out: &mut Answer, tree: &Tree) {
+    for place in 0..tree.len() as u32 {
+        let node = Node::at(place);
+        let kind = tree.kind(node);
+        if kind == Kind::Element || kind == Kind::Text {
+            if !out.is_empty() {
+                out.put("; ");
+            }
+            if kind == Kind::Element {
+                put_element(out, tree, node);
+            } else {
+                put_text(out, tree, node);
+            }
+        }
+    }
+}
+
+/// The contents of elements, by their names.
+const CONTENTS: &[(&str, Content)] = &[
+    ("nothing", Content::Nothing),
+    ("declarations", Content::TopLevel),
+    ("attributes", Content::Attributes),
+    ("sorts and parameters", Content::SortsAndParameters),
+    ("parameters", Content::Parameters),
+    ("branches", Content::Branches),
+    ("text alone", Content::TextAlone),
+    ("body", Content::Body),
+    ("parameters and body", Content::ParametersAndBody),
+    ("sorts and body", Content::SortsAndBody),
+    ("unread", Content::Unread),
+];
+
+/// Adds the content of the document element, and whether each element in it may stand there.
+pub(crate) fn put_contents(out: &mut Answer, tree: &Tree) {
+    let mut content = Content::Unread;
+    let mut before = Before::none();
+    for place in 0..tree.len() as u32 {
+        let node = Node::at(place);
+        if is_document_element(tree, node) {
+            content = content_of(row_of(tree, node), has(tree, node, "select"));
+            let end = if holds_text(content) {
+                " with text:"
+            } else {
+                ":"
+            };
+            out.put_in("", name_of(CONTENTS, &content), end);
+        } else if tree.kind(node) == Kind::Element {
+            let row = row_of(tree, node);
+            let has_namespace = !tree.uri(node).is_empty();
+            let stands = may_stand(content, row, has_namespace, before);
+            out.put(if stands { " yes" } else { " no" });
+            before = before.and(row);
+        }
+    }
+}
+
+/// The forms of values, by their names.
+const FORMS: &[(&str, Form)] = &[
+    ("anything", Form::Anything),
+    ("version", Form::Version),
+    ("expression", Form::Expression),
+    ("expression of a key", Form::KeyUse),
+    ("pattern of a template", Form::TemplatePattern),
+    ("pattern of a key", Form::KeyPattern),
+    ("pattern of a number", Form::NumberPattern),
+    ("value template", Form::ValueTemplate),
+    ("yes or no", Form::YesOrNo),
+    ("level", Form::Level),
+    ("name", Form::Name),
+    ("names", Form::Names),
+    ("sets", Form::Sets),
+    ("name tests", Form::Tests),
+    ("prefix", Form::Prefix),
+    ("prefixes", Form::Prefixes),
+    ("priority", Form::Priority),
+];
+
+/// Adds a form, and what its values may not have.
+fn put_form(out: &mut Answer, form: Form) {
+    out.put(name_of(FORMS, &form));
+    if forbids_variables(form) {
+        out.put(", no variables");
+    }
+    if !sees_locals(form) {
+        out.put(", no local ones");
+    }
+    if forbids_current(form) {
+        out.put(", no current()");
+    }
+    if forbids_key(form) {
+        out.put(", no key()");
+    }
+}
+
+/// Whether an element has to have an attribute with this local part.
+fn is_required(row: Row, local: &str) -> bool {
+    for attribute in attributes(row) {
+        if attribute.0 == local {
+            return attribute.1 == Need::Required;
+        }
+    }
+    false
+}
+
+/// Adds what an attribute of an element has to be, and whether it is.
+fn put_value(out: &mut Answer, alloc: Global, tree: &Tree, element: Node, attribute: Node)
+    requires element { element < length tree.now }
+    requires attribute { attribute < length tree.now }
+{
+    let row = row_of(tree, element);
+    let local = tree.local(attribute);
+    let Some(form) = form_named(row, local) else {
+        return;
+    };
+    if is_required(row, local) {
+        out.put("required ");
+    }
+    put_form(out, form);
+    let Ok(scope) = scope_at(alloc, tree, element) else {
+        return out.refuse();
+    };
+    let value = tree.text(attribute);
+    out.put(if is_bad(form, value) {
+        ": bad"
+    } else if is_unsupported(form, value) {
+        ": unsupported"
+    } else if is_unbound(form, &scope, value) {
+        ": unbound"
+    } else {
+        ": good"
+    });
+}
+
+/// Adds what each attribute of an element below the document element has to be.
+pub(crate) fn put_values(out: &mut Answer, alloc: Global, tree: &Tree) {
+    for place in 0..tree.len() as u32 {
+        let attribute = Node::at(place);
+        if tree.kind(attribute) == Kind::Attribute
+            && let Some(element) = tree.parent(attribute)
+            && !is_document_element(tree, element)
+        {
+            put_value(out, alloc, tree, element, attribute);
+        }
+    }
+}
+
+/// Adds the first word of each attribute below the document element, and what is after it.
+pub(crate) fn put_first_words(out: &mut Answer, tree: &Tree) {
+    for place in 0..tree.len() as u32 {
+        let node = Node::at(place);
+        if tree.kind(node) == Kind::Attribute
+            && let Some((word, rest)) = first_word(tree.text(node))
+        {
+            out.put_in("'", word, "' and ");
+            out.put_in("'", rest, "'");
+        }
+    }
+}
