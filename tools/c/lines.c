@@ -106,3 +106,9 @@ bool lines_next(struct lines *lines, struct line *line) {
     }
     return false;
 }
+
+void lines_drain(struct lines *lines) {
+    ssize_t got = 1;
+    while (got > 0 || (got < 0 && errno == EINTR))
+        got = read(lines->file, lines->bytes, lines->room);
+}

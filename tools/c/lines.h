@@ -33,4 +33,7 @@ void lines_close(struct lines *lines);
 /* The next line or part. False: there is none, or `fault` says why it can't be had. */
 bool lines_next(struct lines *lines, struct line *line);
 
+/* Reads to the end of the file and drops what comes. */
+void lines_drain(struct lines *lines);
+
 #endif

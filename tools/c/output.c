@@ -56,6 +56,7 @@ static void write_buffer(struct output *out, size_t kept) {
     if (!out->fault)
         out->fault = write_all(out->file, out->bytes, out->used - kept);
     memmove(out->bytes, out->bytes + out->used - kept, kept);
+    out->passed += out->used - kept;
     out->used = kept;
 }
 

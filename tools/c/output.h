@@ -8,6 +8,7 @@
 
 #include <stdbool.h>
 #include <stddef.h>
+#include <stdint.h>
 #include <string.h>
 
 enum { OUTPUT_ROOM = 1 << 17 };
@@ -18,6 +19,7 @@ struct output {
     bool is_held;
     char *bytes;
     size_t used;
+    uint64_t passed; /* bytes that have left the buffer */
     int fault; /* the errno of the first call that failed, or 0 */
 };
 
@@ -41,6 +43,11 @@ static inline char *output_room(struct output *out, size_t length) {
     if (length > OUTPUT_ROOM - out->used)
         output_flush(out);
     return out->bytes + out->used;
+}
+
+/* How many bytes were put so far. */
+static inline uint64_t output_count(const struct output *out) {
+    return out->passed + out->used;
 }
 
 static inline void output_took(struct output *out, const char *end) {

@@ -1,6 +1,6 @@
 /* Writes PYX lines as an XML document: what the script tools/pyx2xml does, at xslt's pace.
  *
- * usage: pyx2xml [--fragment] [FILE]
+ * usage: pyx2xml [--fragment | --result] [FILE]
  *
  * One pass over a file or a pipe, with memory for one line (of a text a part), the names
  * of one start tag and of the open elements, and the bindings in scope. The document is
@@ -8,6 +8,11 @@
  * right, so that a beginning is no document. Of a fragment a beginning may be one: with
  * --fragment nothing is written before that. Lines that are refused get FILE:LINE and the
  * reason on standard error, and status 1.
+ *
+ * With --result the lines are what a program is still writing, and the caller holds what
+ * comes: a document or else a piece of one, which of them is reported on standard error
+ * (shape.h). All lines are read even where they are refused, so that the program's own
+ * end is that of its work.
  */
 #include <errno.h>
 #include <fcntl.h>
@@ -25,16 +30,20 @@
 #include "names.h"
 #include "output.h"
 #include "refusal.h"
+#include "shape.h"
 
 enum { REFUSED = 1, USAGE = 2 };
 
 struct options {
     bool is_fragment;
+    bool is_result; /* a document or a fragment */
     const char *file;
 };
 
 struct converter {
-    bool is_fragment;
+    bool is_fragment; /* or may become one */
+    bool is_result;
+    struct shape shape; /* of a result */
     struct lines lines;
     struct output out;
     struct refusal refusal;
@@ -82,6 +91,19 @@ static void add_instruction(struct converter *to, unsigned long number, struct t
     output_text(&to->out, "?>");
 }
 
+/* Writes a text or a part of one. */
+static enum reason write_text(struct converter *to, struct text text) {
+    uint64_t from = output_count(&to->out);
+    if (to->elements.depth == 0 && !to->is_fragment)
+        return is_blank(text) ? FINE : TEXT_OUTSIDE;
+    if (!put_text(&to->out, text, false))
+        return NO_CHARACTER;
+    struct span span = {from, output_count(&to->out)};
+    if (to->is_result && to->elements.depth == 0 && !shape_text(&to->shape, text, span))
+        return NO_MEMORY;
+    return FINE;
+}
+
 /* A `-` line or a part of one. What comes first in the order of reasons counts, in
  * whichever part it stands. */
 static void add_text(struct converter *to, struct line *line) {
@@ -93,10 +115,8 @@ static void add_text(struct converter *to, struct line *line) {
         reason = BAD_ESCAPE;
     else if (line->ends && !line->has_line_feed)
         reason = NO_LINE_FEED;
-    else if (to->elements.depth == 0 && !to->is_fragment)
-        reason = is_blank(text) ? FINE : TEXT_OUTSIDE;
-    else if (!put_text(&to->out, text, false))
-        reason = NO_CHARACTER;
+    else
+        reason = write_text(to, text);
     if (reason != FINE && (!is_refused(&to->refusal) || reason < to->refusal.reason))
         to->refusal = (struct refusal){.reason = reason, .number = line->number};
 }
@@ -126,6 +146,14 @@ static enum reason read_line(const struct converter *to, const struct line *line
     return line->has_line_feed ? FINE : NO_LINE_FEED;
 }
 
+/* Notes what a line says of the shape of a result. */
+static void note_shape(struct converter *to, unsigned long number, char kind, struct text name) {
+    if (kind == 'A')
+        shape_attribute(&to->shape, number, name);
+    else if (kind == '(' && to->elements.depth == 0 && !shape_element(&to->shape, number, name))
+        refuse_line(&to->refusal, number, NO_MEMORY);
+}
+
 /* A line that is no text. */
 static void add_line(struct converter *to, const struct line *line) {
     struct text name = {NULL, 0}, text = {NULL, 0};
@@ -136,6 +164,8 @@ static void add_line(struct converter *to, const struct line *line) {
         finish_start(&to->elements, is_empty); /* a fault of an earlier line comes first */
     if (is_refused(&to->refusal))
         return;
+    if (reason == FINE && to->is_result)
+        note_shape(to, line->number, kind, name);
     if (reason != FINE)
         refuse_line(&to->refusal, line->number, reason);
     else if (kind == '(')
@@ -181,15 +211,16 @@ static void convert(struct converter *to) {
         refuse_line(&to->refusal, to->lines.number, TRUNCATED);
     else if (!to->elements.has_top && !to->is_fragment)
         refuse_line(&to->refusal, to->lines.number, NO_ROOT);
-    if (!to->is_fragment)
+    if (to->is_result ? shape_is_document(&to->shape) : !to->is_fragment)
         output_byte(&to->out, '\n');
 }
 
 /* Opens all that a converter needs. False: out of memory. */
-static bool open_converter(struct converter *to, bool is_fragment, int file) {
-    *to = (struct converter){.is_fragment = is_fragment};
+static bool open_converter(struct converter *to, const struct options *options, int file) {
+    bool is_fragment = options->is_fragment || options->is_result;
+    *to = (struct converter){.is_fragment = is_fragment, .is_result = options->is_result};
     bool has_lines = lines_open(&to->lines, file);
-    bool has_output = output_open(&to->out, STDOUT_FILENO, is_fragment);
+    bool has_output = output_open(&to->out, STDOUT_FILENO, options->is_fragment);
     return elements_open(&to->elements, &to->out, &to->refusal, is_fragment) && has_lines
         && has_output;
 }
@@ -198,6 +229,7 @@ static void close_converter(struct converter *to) {
     lines_close(&to->lines);
     output_close(&to->out);
     elements_close(&to->elements);
+    shape_close(&to->shape);
     free(to->refusal.subject);
 }
 
@@ -224,6 +256,8 @@ static int finish(struct converter *to, const char *name) {
         return complain_of(&to->refusal, name);
     if (!output_finish(&to->out))
         return complain("standard output", strerror(to->out.fault));
+    if (to->is_result)
+        shape_print(stderr, &to->shape);
     return 0;
 }
 
@@ -234,8 +268,10 @@ static int run(const struct options *options) {
         return complain(name, strerror(errno));
     struct converter to;
     int status = REFUSED;
-    if (open_converter(&to, options->is_fragment, file)) {
+    if (open_converter(&to, options, file)) {
         convert(&to);
+        if (options->is_result)
+            lines_drain(&to.lines);
         status = finish(&to, name);
     } else {
         complain(name, "out of memory");
@@ -250,24 +286,28 @@ static int run(const struct options *options) {
 static bool read_options(int count, char **given, struct options *options) {
     static const struct option OPTIONS[] = {
         {"fragment", no_argument, NULL, 'f'},
+        {"result", no_argument, NULL, 'r'},
         {NULL, 0, NULL, 0},
     };
     int option;
     *options = (struct options){.file = NULL};
     while ((option = getopt_long(count, given, "", OPTIONS, NULL)) != -1) {
-        if (option != 'f')
+        if (option == 'f')
+            options->is_fragment = true;
+        else if (option == 'r')
+            options->is_result = true;
+        else
             return false;
-        options->is_fragment = true;
     }
     if (optind < count)
         options->file = given[optind++];
-    return optind == count;
+    return optind == count && !(options->is_fragment && options->is_result);
 }
 
 int main(int count, char **given) {
     struct options options;
     if (!read_options(count, given, &options)) {
-        fprintf(stderr, "usage: pyx2xml [--fragment] [FILE]\n");
+        fprintf(stderr, "usage: pyx2xml [--fragment | --result] [FILE]\n");
         return USAGE;
     }
     signal(SIGPIPE, SIG_IGN);

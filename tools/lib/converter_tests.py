@@ -137,6 +137,7 @@ def arguments(tests, env):
     doctype = b"<!DOCTYPE a><a/>"
     tests.check("--drop-doctype", run("xml2pyx", doctype, "--drop-doctype", env=env), (0, b"(a\n)a\n", ""))
     tests.check("--fragment", run("pyx2xml", b"-x\n", "--fragment", env=env), (0, b"x", ""))
+    tests.check("both flags", run("pyx2xml", b"", "--fragment", "--result", env=env)[0], 2)
     wanted = (1, b"", "pyx2xml: standard input:2: XML has no such character\n")
     tests.check("--fragment refused", run("pyx2xml", b"-x\n-\x01\n", "--fragment", env=env), wanted)
     table_of_lines(tests, env)

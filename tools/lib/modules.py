@@ -158,6 +158,7 @@ class Folder:
         self.names = {}  # by XML names
         self.modules = {}  # by XML names, those that were read
         self.paths = {}  # of an XML name, where the file is if not there
+        self.has_too_many = False  # modules, so that the program refuses the stylesheet
 
     def name(self, xml):
         """The name in the folder of the module with this name."""
@@ -197,6 +198,7 @@ class Folder:
             above += (xml,)
             mentioned = [resolved(xml, href) for kind, href, _ in self.modules[xml].parts if kind != "output"]
             todo.extend((other, above) for other in reversed(mentioned) if other not in above)
+        self.has_too_many = bool(todo)
 
     def mention(self, xml):
         """The first module that mentions this one, and where."""
@@ -208,6 +210,8 @@ class Folder:
 
     def output(self, xml, above=()):
         """What the outputs of a stylesheet say of the result, by attribute: its own last word, or else its imports' (XSLT 1.0, 16)."""
+        if self.has_too_many:
+            return {}
         own, imports = self.outputs_of(xml, above)
         said = {}
         for other, inside in imports:

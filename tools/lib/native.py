@@ -7,12 +7,7 @@ or no place to write, there is no program, and the converters in Python do the s
 slowly. The environment variable XSLT_CONVERTERS=python asks for these.
 """
 
-import glob
 import os
-import shlex
-import shutil
-import subprocess
-import tempfile
 
 SOURCES = os.path.join(os.path.dirname(os.path.dirname(os.path.realpath(__file__))), "c")
 FLAGS = ["-std=gnu11", "-O2"]
@@ -23,7 +18,7 @@ PROGRAMS = {
         ["-lexpat"],
     ),
     "pyx2xml": (
-        ["pyx2xml", "characters", "elements", "lines", "names", "output", "refusal", "scopes"],
+        ["pyx2xml", "characters", "elements", "lines", "names", "output", "refusal", "scopes", "shape"],
         [],
     ),
 }
@@ -44,12 +39,18 @@ def is_new(path):
     """Whether a program is there and no source is newer."""
     if not os.path.exists(path):
         return False
-    sources = glob.glob(os.path.join(SOURCES, "*.[ch]"))
-    return max(map(os.path.getmtime, sources), default=0) <= os.path.getmtime(path)
+    with os.scandir(SOURCES) as entries:
+        sources = [entry.stat().st_mtime for entry in entries if entry.name.endswith((".c", ".h"))]
+    return max(sources, default=0) <= os.path.getmtime(path)
 
 
 def build(name, path):
     """Compiles a program; whether that succeeded."""
+    import shlex  # most runs need none of these
+    import shutil
+    import subprocess
+    import tempfile
+
     compiler = shlex.split(os.environ.get("CC", "cc"))
     if not compiler or not shutil.which(compiler[0]):
         return False

@@ -5,8 +5,6 @@ import os
 import sys
 import tempfile
 
-from lib import results
-
 
 @contextlib.contextmanager
 def replacing(path):
@@ -36,19 +34,16 @@ def mode_of(path):
     return 0o666 & ~mask
 
 
-def write(result, said, path):
-    """Writes a result as the stylesheet's outputs say, as XML where it is none of text: why that failed, or nothing."""
+def write(result, path):
+    """Writes a result: why that failed, or nothing."""
     name = "standard output" if path in (None, "-") else path
     try:
-        made = result if said.get("method") == "text" else results.as_xml(result, said)
         if path in (None, "-"):
-            results.copy(made, sys.stdout.buffer)
+            result.copy(sys.stdout.buffer)
             sys.stdout.flush()
         else:
             with replacing(path) as out:
-                results.copy(made, out)
+                result.copy(out)
         return ""
-    except results.Unwritable as fault:
-        return f"the result, line {fault}"
     except OSError as fault:
         return f"{name}: {fault.strerror}"

@@ -1,40 +1,160 @@
-"""The result of a run, as text or as XML."""
+"""The result of a run, as text or as XML.
+
+A result is held in a file without a name until it is whole and the program's status is known.
+Where the converter in C can be had it runs beside the program and reads its lines from a pipe.
+"""
 
 import os
-import shutil
 import subprocess
 import tempfile
+from collections import namedtuple
 
-from lib import native
+from lib import native, pipes
 
 PART = 1 << 20
 NO_DOCUMENT = ("Unbalanced", "NoRoot")
 
+# Whether a result is a document, and no piece of one; the name of its first element, empty where a text comes first; whether that
+# declares a default namespace; and where white space stands that a document leaves out.
+Shape = namedtuple("Shape", "is_document name is_in_default blanks", defaults=(False, "", False, ()))
+
 
 class Unwritable(Exception):
-    """Why no XML can hold a result: the line of the result and the reason."""
+    """Why no XML can hold a result."""
 
 
-def as_xml(result, said=None, is_fragment=False):
-    """A file with the XML that PYX lines represent: a document, or else a piece of one; before it what the outputs of a stylesheet ask for."""
-    made = tempfile.TemporaryFile()
-    if said is not None:
-        made.write(head(said, top_element(result), is_fragment).encode())
-        made.flush()
-    result.seek(0)
-    reason = convert(result, made, is_fragment)
-    if not reason:
-        made.seek(0)
-        return made
-    made.close()
-    if not is_fragment and reason.partition(": ")[2].startswith(NO_DOCUMENT):
-        return as_xml(result, said, True)
-    raise Unwritable(reason)
+def open_result(said):
+    """What becomes of the program's output where the outputs of the stylesheet say this."""
+    if said.get("method") == "text":
+        return TextResult()
+    program = native.program("pyx2xml")
+    return PipedResult(program, said) if program else LinesResult(said)
 
 
-def top_element(result):
+class TextResult:
+    """A result of text: what the program writes."""
+
+    def __init__(self):
+        self.held = tempfile.TemporaryFile()
+        self.target = self.held.fileno()  # for the program
+
+    def __enter__(self):
+        return self
+
+    def __exit__(self, *_):
+        self.held.close()
+
+    def begin(self):
+        """The program has begun."""
+
+    def finish(self):
+        """The program has ended: why no XML can hold the result, or nothing."""
+        return ""
+
+    def copy(self, out):
+        """Writes the result."""
+        self.copy_span(out, 0, os.fstat(self.held.fileno()).st_size)
+
+    def copy_span(self, out, begin, end):
+        """Writes a part of what is held, which may be long."""
+        self.held.seek(begin)
+        while begin < end:
+            part = self.held.read(min(PART, end - begin))
+            out.write(part)
+            begin += len(part)
+
+
+class XmlResult(TextResult):
+    """A result of XML, with the declarations that the outputs of a stylesheet ask for."""
+
+    def __init__(self, said):
+        super().__init__()
+        self.said = said
+        self.shape = Shape()
+
+    def copy(self, out):
+        out.write(head(self.said, self.shape).encode())
+        at = 0
+        for begin, end in self.shape.blanks:
+            self.copy_span(out, at, begin)
+            at = end
+        self.copy_span(out, at, os.fstat(self.held.fileno()).st_size)
+
+
+class LinesResult(XmlResult):
+    """A result whose lines are converted after the program has ended."""
+
+    def finish(self):
+        from lib import pyx2xml
+
+        lines = self.held
+        name, is_in_default = top_element(lines)
+        reason = ""
+        for is_document in (True, False):
+            lines.seek(0)
+            self.held = tempfile.TemporaryFile()
+            self.shape = Shape(is_document, name, is_in_default)
+            try:
+                pyx2xml.Converter(self.held, not is_document).convert(lines)
+                self.held.flush()
+                return ""
+            except pyx2xml.Refused as fault:
+                reason = str(fault)
+            if not reason.partition(": ")[2].startswith(NO_DOCUMENT):
+                break
+        return "line " + reason
+
+
+class PipedResult(XmlResult):
+    """A result whose lines go by a pipe to a converter that runs beside the program."""
+
+    def __init__(self, program, said):
+        super().__init__(said)
+        read_end, self.target = os.pipe()
+        pipes.widen(self.target)
+        self.converter = subprocess.Popen([program, "--result"], stdin=read_end, stdout=self.held, stderr=subprocess.PIPE)
+        os.close(read_end)
+
+    def __exit__(self, *_):
+        self.begin()
+        self.converter.communicate()
+        super().__exit__()
+
+    def begin(self):
+        """The pipe is the program's alone, so that the converter notices its end."""
+        if self.target is not None:
+            os.close(self.target)
+        self.target = None
+
+    def finish(self):
+        said = self.converter.stderr.read().decode(errors="replace")
+        status = self.converter.wait()
+        if status < 0:
+            return f"the converter was ended by signal {-status}"
+        if status:
+            reason = said.removeprefix("pyx2xml: ").rstrip("\n")
+            reason = reason.replace("standard output:", f"held in {tempfile.gettempdir()}:", 1)
+            return reason.replace("standard input:", "line ", 1)
+        self.shape = shape_of(said.splitlines())
+        return ""
+
+
+def shape_of(facts):
+    """What the converter has found."""
+    shape = Shape()
+    for kind, *values in map(str.split, facts):
+        if kind == "top":
+            shape = shape._replace(name=values[0])
+        elif kind == "blank":
+            shape = shape._replace(blanks=(*shape.blanks, tuple(map(int, values))))
+        else:
+            shape = shape._replace(**{"document": {"is_document": True}, "default": {"is_in_default": True}}[kind])
+    return shape
+
+
+def top_element(lines):
     """The name of the first element of a result, empty where a text comes first, and whether it declares a default namespace."""
-    begin = os.pread(result.fileno(), PART, 0).decode(errors="replace").split("\n")
+    begin = os.pread(lines.fileno(), PART, 0).decode(errors="replace").split("\n")
     for line, after in zip(begin, begin[1:]):
         if line.startswith("-"):
             break
@@ -43,16 +163,16 @@ def top_element(result):
     return "", False
 
 
-def head(said, top, is_fragment):
+def head(said, shape):
     """The declarations that come before a result (XSLT 1.0, 16.1 and 16.2). It is always written in UTF-8."""
-    name, is_in_default = top
-    is_html = said.get("method", "html" if name.lower() == "html" and not is_in_default else "xml") == "html"
+    name = shape.name
+    is_html = said.get("method", "html" if name.lower() == "html" and not shape.is_in_default else "xml") == "html"
     system, public = said.get("doctype-system"), said.get("doctype-public")
     made = ""
     if not is_html and said.get("omit-xml-declaration") != "yes":
         standalone = f' standalone="{said["standalone"]}"' if "standalone" in said else ""
         made += f'<?xml version="1.0" encoding="UTF-8"{standalone}?>\n'
-    if name and not is_fragment and (system is not None or (is_html and public is not None)):
+    if name and shape.is_document and (system is not None or (is_html and public is not None)):
         ids = " PUBLIC " + quoted(public) if public is not None else " SYSTEM"
         ids += " " + quoted(system) if system is not None else ""
         made += f"<!DOCTYPE {name}{ids}>\n"
@@ -61,41 +181,3 @@ def head(said, top, is_fragment):
 
 def quoted(text):
     return f"'{text}'" if '"' in text else f'"{text}"'
-
-
-def convert(result, made, is_fragment):
-    """Writes lines as XML: why they are refused, or nothing."""
-    program = native.program("pyx2xml")
-    if not program:
-        from lib import pyx2xml
-
-        try:
-            pyx2xml.Converter(made, is_fragment).convert(result)
-            return ""
-        except pyx2xml.Refused as fault:
-            return str(fault)
-    command = [program, *(["--fragment"] if is_fragment else [])]
-    done = subprocess.run(command, stdin=result, stdout=made, stderr=subprocess.PIPE, check=False)
-    said = done.stderr.decode(errors="replace").rstrip("\n")
-    return said.removeprefix("pyx2xml: standard input:") if done.returncode else ""
-
-
-def copy(result, out):
-    """Copies a file that may be long."""
-    result.seek(0)
-    shutil.copyfileobj(result, out, PART)
-
-
-def bytes_of_xml(lines, said=None):
-    """The XML of PYX lines in memory."""
-    with as_xml(io_file(lines), said) as made:
-        return made.read()
-
-
-def io_file(data):
-    """A file with these bytes, one that other programs can read."""
-    file = tempfile.TemporaryFile()
-    file.write(data)
-    file.flush()
-    file.seek(0)
-    return file

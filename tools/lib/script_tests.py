@@ -43,17 +43,20 @@ try)
     ;;
 esac
 """
-# Stands for the kit's prover: it refuses a crate that holds `wrong`, and cannot read one that holds `unreadable`.
+# Stands for the kit's prover: it refuses a crate that holds `wrong`, cannot read one that holds `unreadable`, and knows a
+# function `made` by its name alone.
 RATTLE = r"""#!/bin/sh
+verdict=logic
+case "$*" in *"--only made::made"*) exit 2 ;; *--only*) verdict=only ;; esac
 if grep -q unreadable src/lib.rt; then
     echo "src/lib.rt:1:1: error: \`x\`: it is not in scope"
-elif grep -q wrong src/lib.rt; then
+elif cat src/*.rt | grep -q wrong; then
     echo 'note: src/lib.rt:7:1: it is not proved that the value is right (`returns`); what is known allows others'
 else
-    echo "logic=proved functions=1"
+    echo "$verdict=proved functions=1"
     exit 0
 fi
-echo logic=not-proved
+echo "$verdict=not-proved"
 exit 1
 """
 EDIT = "file: src/lib.rt\nold: {}\nnew: {}\n"
@@ -61,6 +64,8 @@ REPOSITORY = {
     "crates.txt": "# a comment\nlow: arrayvec\nhigh: low\nabove: high\nxslt: high\n",
     "crates/low/src/lib.rt": "one two\n",
     "crates/high/src/lib.rt": "one two\n",
+    "crates/high/src/made.rt": "pub fn made() -> u8\n    ensures { five }\n{\n    three\n}\n",
+    "crates/high/must-fail/body.md": EDIT.replace("lib", "made").format("three", "wrong"),
     "crates/xslt/src/main.rt": "one two\n",
     "crates/high/must-fail/of_the_gate.edit": EDIT.format("two", "wrong"),
     "crates/high/must-fail/kept.md": EDIT.format("one", "wrong"),
@@ -82,13 +87,20 @@ LOOKS = ["first-look: nothing is proved here; ./xslt proves and builds the progr
 LOOKS += ["first-look: compiling the program, which takes some two minutes"]
 NOT_TRIED = "low/{}: NOT TRIED: {}"
 KEPT_LOW = [
+    "low: the crate: proved without an edit [0 s]",
     "low/proved: NOT REFUSED: the crate is still proved with it [0 s]",
     "low/refused: refused: src/lib.rt:7: the value is right (`returns`) [0 s]",
     NOT_TRIED.format("twice", "an old text is in src/lib.rt 2 times, and not once"),
     NOT_TRIED.format("unread", "the prover did not read it: src/lib.rt:1:1: error: `x`: it is not in scope [0 s]"),
-    "low: proved without an edit [0 s]",
 ]
-KEPT_HIGH = ["high/kept: refused: src/lib.rt:7: the value is right (`returns`) [0 s]", "high: proved without an edit [0 s]"]
+KEPT_BODY = [
+    "high: made: proved without an edit [0 s]",
+    "high/body: refused: src/lib.rt:7: the value is right (`returns`) [0 s]",
+]
+KEPT_HIGH = [
+    "high: the crate: proved without an edit [0 s]",
+    "high/kept: refused: src/lib.rt:7: the value is right (`returns`) [0 s]",
+]
 SCRIPTS = {
     "xslt builds": (
         ["xslt", "a b", "c"], {}, 4, "a b c\n",
@@ -115,13 +127,21 @@ SCRIPTS = {
     "first-look without its file": (
         ["tools/first-look", "mine/sheet.pyx", "no.pyx"], {}, 125, "", ["first-look: there is no file no.pyx"],
     ),
-    "edits": (["tools/edits"], {}, 1, "\n".join([*KEPT_LOW, *KEPT_HIGH, "2 refused, 3 not refused"]) + "\n", ["low: building the library"]),
+    "edits": (
+        ["tools/edits"], {}, 1, "\n".join([*KEPT_LOW, *KEPT_BODY, *KEPT_HIGH, "3 refused, 3 not refused"]) + "\n",
+        ["low: building the library"],
+    ),
     "edits of one crate": (
-        ["tools/edits", "high"], {}, 0, "\n".join([*KEPT_HIGH, "1 refused, 0 not refused"]) + "\n", ["low: building the library"],
+        ["tools/edits", "high"], {}, 0, "\n".join([*KEPT_BODY, *KEPT_HIGH, "2 refused, 0 not refused"]) + "\n",
+        ["low: building the library"],
+    ),
+    "edits by checks of the whole crate": (
+        ["tools/edits", "--whole", "high"], {}, 0,
+        "\n".join([KEPT_HIGH[0], KEPT_BODY[1], KEPT_HIGH[1], "2 refused, 0 not refused"]) + "\n", ["low: building the library"],
     ),
     "edits of the gate too": (
         ["tools/edits", "--all", "--jobs", "2", "high"], {}, 0,
-        "\n".join([KEPT_HIGH[0], KEPT_HIGH[0].replace("kept", "of_the_gate"), KEPT_HIGH[1], "2 refused, 0 not refused"]) + "\n",
+        "\n".join([*KEPT_BODY, *KEPT_HIGH, KEPT_HIGH[1].replace("kept", "of_the_gate"), "3 refused, 0 not refused"]) + "\n",
         ["low: building the library"],
     ),
     "edits of no crate": (["tools/edits", "no"], {}, 2, "", ["edits: crates.txt has no crate no"]),

@@ -7,7 +7,7 @@ import sys
 import tempfile
 import time
 
-from lib import faults, outputs, sources
+from lib import faults, outputs, results, sources
 from lib.modules import Folder
 from lib.options import TOP, USAGE, Options, Usage
 
@@ -84,7 +84,7 @@ class Shell:
         self.folder.add_sheet(self.sheet)
         clock.stop("stylesheet")
         if self.options.is_check:
-            status, fault = self.execute([self.folder.name(self.sheet)], None, subprocess.DEVNULL)
+            status, fault = self.execute([self.folder.name(self.sheet)], None, None)
             self.report(fault, None)
             clock.stop("check")
             self.report_time(clock, self.sheet)
@@ -132,33 +132,43 @@ class Shell:
         name = self.read_standard_input(xml)
         path = os.path.join(self.folder.path, "source.pyx")
         source = sources.open_source(name, self.folder.paths.get(name, name), self.options.drop_doctype, path)
-        with tempfile.TemporaryFile() as result:
+        said = self.folder.output(self.sheet)
+        with results.open_result(said) as result:
             inputs = [self.folder.name(self.sheet), source.name, *self.options.parameters]
             status, fault = self.execute(inputs, source, result)
             clock.stop("source and program")
             if fault and fault.file == source.name and source.reason:
                 status = READ_FAULT
             self.report(fault, source)
-            said = self.folder.output(self.sheet) if status in (0, WRITE_FAULT) else {}
-            if status == 0 or (status == WRITE_FAULT and said.get("method") == "text" and not out):
-                reason = outputs.write(result, said, out)
-                if reason:
-                    print(f"xslt-xml: {reason}", file=sys.stderr)
-                    status = WRITE_FAULT
+            status = self.write(result, out, status, said.get("method") == "text")
             clock.stop("result")
         return status, fault
+
+    def write(self, result, out, status, is_text):
+        """Writes a result that is whole, or the beginning of a text: the status."""
+        reason = result.finish() if status in (0, WRITE_FAULT) else ""
+        if reason:
+            reason = f"the result, {reason}"
+        elif status == 0 or (status == WRITE_FAULT and is_text and not out):
+            reason = outputs.write(result, out)
+        if reason:
+            print(f"xslt-xml: {reason}", file=sys.stderr)
+            return WRITE_FAULT
+        return status
 
     def execute(self, inputs, source, result):
         """Runs the program in the folder and passes on what it says except a fault: the status, and the fault."""
         command = [self.program, *self.options.passed_on, *inputs]
         try:
             program = subprocess.Popen(
-                command, cwd=self.folder.path, stdout=result, stderr=subprocess.PIPE,
+                command, cwd=self.folder.path, stdout=result.target if result else subprocess.DEVNULL, stderr=subprocess.PIPE,
                 pass_fds=source.ends if source else (),
+                restore_signals=False,  # a pipe that nobody reads is a write fault of the program, not its end
             )
         finally:
-            if source:
-                source.begin()
+            for each in (source, result):
+                if each:
+                    each.begin()
         fault = None
         with program.stderr:
             for line in program.stderr:

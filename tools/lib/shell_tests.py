@@ -1,14 +1,16 @@
 """Tests tools/xslt-xml and tools/check-xml, on a program in the place of the real one, and on that where it is built."""
 
 import glob
+import io
 import os
 import re
 import subprocess
 import sys
 import tempfile
+from unittest import mock
 
 from lib import nearest, results, xpath
-from lib.converter_tests import EXAMPLES, TOOLS, implementations
+from lib.converter_tests import EXAMPLES, PYTHON, TOOLS, implementations, random_samples, samples_of
 from lib.modules import Folder, Module
 from lib.samples import lines
 
@@ -265,6 +267,16 @@ def write_files(folder, files):
             file.write(text)
 
 
+def xml_of(lines_there, said):
+    """The XML of a result with these lines."""
+    with results.open_result(said) as result, io.BytesIO() as made:
+        os.write(result.target, lines_there)
+        result.begin()
+        reason = result.finish()
+        result.copy(made)
+        return reason or made.getvalue().decode()
+
+
 def runs_of_xml(tests):
     """Runs on XML: the arguments that the program gets, its status, names and lines of XML, the form of the result."""
     for env in implementations():
@@ -283,7 +295,48 @@ def runs_of_xml(tests):
             folder.modules[xml] = Module(xml, xml, xml, parts=[(*row, None) for row in rows])
         tests.check("outputs: " + name, folder.output("s"), wanted)
     for name, (said, result, wanted) in WRITTEN.items():
-        tests.check("a result as XML: " + name, results.bytes_of_xml(result, said).decode(), wanted)
+        tests.check("a result as XML: " + name, xml_of(result, said), wanted)
+
+
+def large_documents(tests):
+    """Documents that no pipe holds at once: each part may be the first to end, and none waits for another."""
+    rows = "<b c='d'>é</b>\n" * 60000
+    xml, shown = f"<r>{rows}</r>", f'{DECLARED}<r>{rows}</r>\n'.replace("'", '"')
+    files = {"s.xsl": SHEET.format(""), "no.xsl": BODY.format('<x:value-of select="$no"/>'), "r.xml": xml, "bad.xml": xml[:-1], "out": "old"}
+    control = "xslt-xml: the result, line {}: XML has no such character\n"
+    for env in implementations():
+        run = lambda *arguments: run_xml(folder, "xslt-xml", "--program", STAND_IN, *arguments, env=env)
+        with tempfile.TemporaryDirectory() as folder:
+            write_files(folder, files)
+            tests.check("a large document", run("s.xsl", "r.xml")[:2], (0, shown))
+            tests.check("a large piece of one", run("s.xsl", "r.xml", "b=x")[:2], (0, shown[:-1] + "x"))
+            tests.check("one that a file gets", run("s.xsl", "-o", "made", "r.xml")[:2], (0, ""))
+            with open(os.path.join(folder, "made"), encoding="utf-8") as made:
+                tests.check("what it gets", made.read(), shown)
+            status, result, err = run("s.xsl", "bad.xml")
+            tests.check("a large document that ends too soon", (status, result, "bad.xml:60001:1: error: unclosed token" in err), (2, "", True))
+            got = run("no.xsl", "r.xml")
+            tests.check("a fault before it is read", (got[0], got[1], "error: variable $no is" in got[2]), (3, "", True))
+            got = run("s.xsl", "-o", "out", "r.xml", "b=\x01")
+            tests.check("a result that no XML can hold", (*got[:2], reported(got[2])), (5, "", control.format(60000 * 5 + 3)))
+            with open(os.path.join(folder, "out"), encoding="utf-8") as kept:
+                tests.check("what -o leaves then", (kept.read(), sorted(os.listdir(folder))), ("old", sorted([*files, "made"])))
+
+
+def converted_results(tests):
+    """Both converters give the same XML of a result, and one that is ended is reported."""
+    rows = [*samples_of("pyx2xml"), *random_samples("pyx2xml", 100)] if len(implementations()) > 1 else ()
+    for name, data in rows:
+        with mock.patch.dict(os.environ, PYTHON):
+            wanted = xml_of(data, {})
+        tests.check("a result by both converters: " + name, xml_of(data, {}), wanted)
+    with tempfile.TemporaryDirectory() as folder:
+        program = os.path.join(folder, "converter")
+        write_files(folder, {"converter": "#!/bin/sh\nkill -9 $$\n"})
+        os.chmod(program, 0o755)
+        with results.PipedResult(program, {}) as result:
+            result.begin()
+            tests.check("a converter that is ended", result.finish(), "the converter was ended by signal 9")
 
 
 def programs():
@@ -381,7 +434,7 @@ def expectations(folder):
         with open(folder + "sheet.xsl", encoding="utf-8") as file:
             sheet = file.read()
         said = {"method": each for each in ("html", "xml") if f'method="{each}"' in sheet}
-        result = results.bytes_of_xml(result.encode(), said).decode()
+        result = xml_of(result.encode(), said)
     return arguments, result, int(expected["expected.status"])
 
 
@@ -399,4 +452,6 @@ def test(tests):
     runs_of_xml(tests)
     reports(tests)
     outputs(tests)
+    large_documents(tests)
+    converted_results(tests)
     examples_of_xml(tests)

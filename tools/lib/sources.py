@@ -4,18 +4,13 @@ Where the converter in C can be had it runs beside the program and hands over it
 a pipe; else the lines are written to a file first.
 """
 
-import contextlib
-import fcntl
 import os
 import re
 import subprocess
 import tempfile
 from array import array
 
-from lib import native, xml2pyx
-
-PIPE = 1 << 20
-SET_PIPE_SIZE = getattr(fcntl, "F_SETPIPE_SZ", None)
+from lib import native, pipes, xml2pyx
 
 
 def open_source(xml, path, drop_doctype, lines):
@@ -76,7 +71,7 @@ class PipedSource(MissingSource):
         self.complaint = tempfile.TemporaryFile()
         with open(path, "rb") as source:
             read_end, write_end = os.pipe()
-            widen(write_end)
+            pipes.widen(write_end)
             command = [program, *self.options]
             self.converter = subprocess.Popen(command, stdin=source, stdout=write_end, stderr=self.complaint)
             os.close(write_end)
@@ -105,10 +100,3 @@ class PipedSource(MissingSource):
                 return row
             with open(table, encoding="ascii") as places:
                 return next((int(place) for at, place in enumerate(places, 1) if at == row), row)
-
-
-def widen(pipe):
-    """Gives a pipe more room, where the system allows it."""
-    if SET_PIPE_SIZE:
-        with contextlib.suppress(OSError):
-            fcntl.fcntl(pipe, SET_PIPE_SIZE, PIPE)

@@ -2,7 +2,7 @@
 """A program in the place of xslt, for the tests of tools/xslt-xml: it finds faults by single texts.
 
 It reads a stylesheet's lines with the modules that they mention, refuses what has one of
-the texts of RULES, and gives the source's lines as the result. A parameter a=N is the status.
+the texts of RULES, and gives the source's lines as the result. A parameter a=N is the status, b=TEXT a text after them.
 """
 
 import sys
@@ -34,8 +34,10 @@ class Program:
             refuse(3, 12, "Truncated", self.inputs[1], len(lines))
         if self.call:
             refuse(4, 55, "TooDeep", *self.call)
+        said = dict(each.split("=", 1) for each in self.inputs[2:])
+        lines[-1:] = [f"-{said['b']}", ""] if "b" in said else [""]
         sys.stdout.buffer.write("\n".join(lines).encode())
-        return int(self.inputs[2][2:]) if self.inputs[2:] else 0
+        return int(said.get("a", 0))
 
     def module(self, name, above):
         self.read.append(name)
