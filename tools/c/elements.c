@@ -101,7 +101,7 @@ static bool expand(const struct elements *to, struct text name, struct expanded 
         made->space = &DECLARATIONS;
         return true;
     }
-    is_qname(name, &prefix, &made->local);
+    split_name(name, &prefix, &made->local);
     made->space = prefix.length > 0 ? scopes_find(&to->scopes, prefix) : NULL;
     return made->space || prefix.length == 0;
 }
@@ -128,7 +128,7 @@ static void test_attributes(struct elements *to) {
     if (repeated != NOWHERE)
         fault = DOUBLE_ATTRIBUTE;
     if (fault == UNBOUND_PREFIX)
-        is_qname(name, &name, &local);
+        split_name(name, &name, &local);
     refuse(to->refusal, to->attributes[place].number, fault,
            fault == NO_CHARACTER ? (struct text){NULL, 0} : name);
 }
@@ -138,7 +138,7 @@ void finish_start(struct elements *to, bool is_empty) {
     if (to->start == 0)
         return;
     bind(to);
-    is_qname(open_name(to), &prefix, &local);
+    split_name(open_name(to), &prefix, &local);
     if (prefix.length > 0 && !scopes_find(&to->scopes, prefix))
         refuse(to->refusal, to->start, UNBOUND_PREFIX, prefix);
     if (!is_refused(to->refusal))

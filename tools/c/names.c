@@ -65,42 +65,57 @@ static bool is_in(uint32_t code, const struct range *ranges, size_t count) {
     return false;
 }
 
-/* XML 1.0, 2.3: NameStartChar, without the colon. */
+/* XML 1.0, 2.3: NameStartChar beyond ASCII. */
 static bool starts_name(uint32_t code) {
     static const struct range STARTS[] = {
-        {'a', 'z'}, {'A', 'Z'}, {'_', '_'}, {0xc0, 0xd6}, {0xd8, 0xf6}, {0xf8, 0x2ff},
+        {0xc0, 0xd6}, {0xd8, 0xf6}, {0xf8, 0x2ff},
         {0x370, 0x37d}, {0x37f, 0x1fff}, {0x200c, 0x200d}, {0x2070, 0x218f}, {0x2c00, 0x2fef},
         {0x3001, 0xd7ff}, {0xf900, 0xfdcf}, {0xfdf0, 0xfffd}, {0x10000, 0xeffff},
     };
     return is_in(code, STARTS, sizeof STARTS / sizeof *STARTS);
 }
 
-/* XML 1.0, 2.3: NameChar, without the colon. */
+/* XML 1.0, 2.3: NameChar beyond ASCII. */
 static bool continues_name(uint32_t code) {
     static const struct range MORE[] = {
-        {'-', '.'}, {'0', '9'}, {0xb7, 0xb7}, {0x300, 0x36f}, {0x203f, 0x2040},
+        {0xb7, 0xb7}, {0x300, 0x36f}, {0x203f, 0x2040},
     };
     return starts_name(code) || is_in(code, MORE, sizeof MORE / sizeof *MORE);
+}
+
+/* Whether the character at a place may stand there in a name; how many bytes it has. */
+static bool is_of_name(const byte *at, bool is_first, size_t *length) {
+    enum { STARTS = 1, CONTINUES = 2, BOTH = 3 };
+    static const byte ASCII[0x80] = {
+        ['a' ... 'z'] = BOTH, ['A' ... 'Z'] = BOTH, ['_'] = BOTH,
+        ['0' ... '9'] = CONTINUES, ['-'] = CONTINUES, ['.'] = CONTINUES,
+    };
+    *length = 1;
+    if (at[0] < 0x80)
+        return ASCII[at[0]] & (is_first ? STARTS : CONTINUES);
+    uint32_t code = character(at, length);
+    return is_first ? starts_name(code) : continues_name(code);
 }
 
 bool is_ncname(struct text text) {
     const byte *at = (const byte *)text.bytes, *end = at + text.length;
     bool is_name = text.length > 0;
-    for (bool is_first = true; is_name && at < end; is_first = false) {
-        size_t length;
-        uint32_t code = character(at, &length);
-        is_name = is_first ? starts_name(code) : continues_name(code);
-        at += length;
-    }
+    for (size_t length; is_name && at < end; at += length)
+        is_name = is_of_name(at, at == (const byte *)text.bytes, &length);
     return is_name;
 }
 
-bool is_qname(struct text text, struct text *prefix, struct text *local) {
+bool split_name(struct text text, struct text *prefix, struct text *local) {
     const char *colon = memchr(text.bytes, ':', text.length);
     size_t before = colon ? (size_t)(colon - text.bytes) : 0, skipped = colon ? before + 1 : 0;
     *prefix = (struct text){text.bytes, before};
     *local = (struct text){text.bytes + skipped, text.length - skipped};
-    return (!colon || is_ncname(*prefix)) && is_ncname(*local);
+    return colon != NULL;
+}
+
+bool is_qname(struct text text, struct text *prefix, struct text *local) {
+    bool has_colon = split_name(text, prefix, local);
+    return (!has_colon || is_ncname(*prefix)) && is_ncname(*local);
 }
 
 /* Prints one character of ASCII or beyond, escaped where that is needed. */

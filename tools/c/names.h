@@ -13,6 +13,9 @@ bool is_utf8(struct text text);
 /* A name without a colon. */
 bool is_ncname(struct text text);
 
+/* Splits a text at its first colon, if it has one; else the prefix is empty. */
+bool split_name(struct text text, struct text *prefix, struct text *local);
+
 /* A name with one colon or none; the prefix is empty where there is none. */
 bool is_qname(struct text text, struct text *prefix, struct text *local);
 

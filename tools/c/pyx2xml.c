@@ -121,6 +121,11 @@ static void add_text(struct converter *to, struct line *line) {
         to->refusal = (struct refusal){.reason = reason, .number = line->number};
 }
 
+/* Whether a line may begin so. */
+static bool is_kind(char byte) {
+    return byte == '(' || byte == 'A' || byte == '-' || byte == ')' || byte == '?' || byte == 'C';
+}
+
 /* The fault of a whole line before its meaning, if there is one. Its text is unescaped. */
 static enum reason read_line(const struct converter *to, const struct line *line,
                              struct text *name, struct text *text) {
@@ -129,7 +134,7 @@ static enum reason read_line(const struct converter *to, const struct line *line
     size_t rest = line->length > 0 ? line->length - 1 : 0;
     if (!is_utf8((struct text){bytes, line->length}))
         return BAD_UTF8;
-    if (!kind || !strchr("(A-)?C", kind))
+    if (!is_kind(kind))
         return BAD_KIND;
     if (kind == 'A' && to->elements.start == 0)
         return LONE_ATTRIBUTE;

@@ -11,16 +11,13 @@ from collections import namedtuple
 
 from lib import native, pipes
 
-PART = 1 << 20
+PART = 1 << 18
+HEAD = 1 << 20
 NO_DOCUMENT = ("Unbalanced", "NoRoot")
 
 # Whether a result is a document, and no piece of one; the name of its first element, empty where a text comes first; whether that
 # declares a default namespace; and where white space stands that a document leaves out.
 Shape = namedtuple("Shape", "is_document name is_in_default blanks", defaults=(False, "", False, ()))
-
-
-class Unwritable(Exception):
-    """Why no XML can hold a result."""
 
 
 def open_result(said):
@@ -58,8 +55,9 @@ class TextResult:
     def copy_span(self, out, begin, end):
         """Writes a part of what is held, which may be long."""
         self.held.seek(begin)
+        buffer = memoryview(bytearray(min(PART, end - begin)))
         while begin < end:
-            part = self.held.read(min(PART, end - begin))
+            part = buffer[: self.held.readinto(buffer[: end - begin])]
             out.write(part)
             begin += len(part)
 
@@ -141,20 +139,20 @@ class PipedResult(XmlResult):
 
 def shape_of(facts):
     """What the converter has found."""
-    shape = Shape()
+    is_document, name, is_in_default, blanks = False, "", False, []
     for kind, *values in map(str.split, facts):
         if kind == "top":
-            shape = shape._replace(name=values[0])
+            name = values[0]
         elif kind == "blank":
-            shape = shape._replace(blanks=(*shape.blanks, tuple(map(int, values))))
-        else:
-            shape = shape._replace(**{"document": {"is_document": True}, "default": {"is_in_default": True}}[kind])
-    return shape
+            blanks.append(tuple(map(int, values)))
+        is_document |= kind == "document"
+        is_in_default |= kind == "default"
+    return Shape(is_document, name, is_in_default, blanks)
 
 
 def top_element(lines):
     """The name of the first element of a result, empty where a text comes first, and whether it declares a default namespace."""
-    begin = os.pread(lines.fileno(), PART, 0).decode(errors="replace").split("\n")
+    begin = os.pread(lines.fileno(), HEAD, 0).decode(errors="replace").split("\n")
     for line, after in zip(begin, begin[1:]):
         if line.startswith("-"):
             break

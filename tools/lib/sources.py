@@ -4,6 +4,7 @@ Where the converter in C can be had it runs beside the program and hands over it
 a pipe; else the lines are written to a file first.
 """
 
+import itertools
 import os
 import re
 import subprocess
@@ -98,5 +99,5 @@ class PipedSource(MissingSource):
             done = subprocess.run(command, stdin=source, stdout=subprocess.DEVNULL, check=False)
             if done.returncode != 0:
                 return row
-            with open(table, encoding="ascii") as places:
-                return next((int(place) for at, place in enumerate(places, 1) if at == row), row)
+            with open(table, "rb") as places:
+                return int(next(itertools.islice(places, row - 1, None), row))
