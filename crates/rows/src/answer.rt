@@ -21,11 +21,6 @@ impl Answer {
         }
     }
 
-    /// Removes the text.
-    pub(crate) fn clear(&mut self) {
-        self.bytes.clear();
-    }
-
     /// Takes note that memory was refused.
     pub(crate) fn refuse(&mut self) {
         self.is_refused = true;
@@ -122,20 +117,10 @@ impl Answer {
         self.put(if holds { "true" } else { "false" });
     }
 
-    /// Whether nothing was added.
-    pub(crate) fn is_empty(&self) -> bool {
-        self.bytes.is_empty()
-    }
-
     /// Adds what another answer has.
     pub(crate) fn put_answer(&mut self, other: &Answer) {
         let bytes = other.held(self);
         self.put_bytes(bytes);
-    }
-
-    /// Whether both have the same bytes.
-    pub(crate) fn is_same(&self, other: &Answer) -> bool {
-        self.bytes == other.bytes
     }
 
     /// The bytes so far, of which something else is written: it is refused where they were.

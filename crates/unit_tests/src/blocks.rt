@@ -59,20 +59,19 @@ fn gives_to(chain: Chain<Box<u32>>, end: u32) -> bool {
 }
 
 // Whether a pool has two blocks for 65 items of an empty chain.
-fn makes_room(pool: &mut Pool<u64>, chain: &Chain<u64>) -> Result<bool, AllocError> {
+fn has_room(pool: &mut Pool<u64>, chain: &Chain<u64>) -> Result<bool, AllocError> {
     pool.reserve(chain, 65)?;
     Ok(pool.free_blocks() == 2 && pool.spare(chain) == 128)
 }
 
-#[test]
-fn makes_room_for_65_items_in_two_blocks(rt: HostRuntime) -> Result<(), AllocError> {
-    let mut pool = Pool::new(rt.alloc());
-    let chain = Chain::new(rt.alloc());
-    let is_made = makes_room(&mut pool, &chain);
+// Whether a pool makes room for 65 items in two blocks.
+fn makes_room(alloc: Global) -> Result<bool, AllocError> {
+    let mut pool = Pool::new(alloc);
+    let chain = Chain::new(alloc);
+    let is_made = has_room(&mut pool, &chain);
     drop(chain);
     drop(pool);
-    assert!(rt; is_made?);
-    Ok(())
+    is_made
 }
 
 // Whether a chain has 65 numbers in two blocks, and leaves the pool none.
@@ -89,15 +88,6 @@ fn holds_65(alloc: Global, pool: &mut Pool<Box<u32>>) -> Result<bool, AllocError
     let is_held = is_in_two_blocks(pool, &chain);
     pool.give_back(chain);
     Ok(is_held && pool.free_blocks() == 2)
-}
-
-#[test]
-fn holds_65_items_in_two_blocks(rt: HostRuntime) -> Result<(), AllocError> {
-    let mut pool = Pool::new(rt.alloc());
-    let is_held = holds_65(rt.alloc(), &mut pool);
-    drop(pool);
-    assert!(rt; is_held?);
-    Ok(())
 }
 
 // Joins a chain to another, where both fit; whether it did.
@@ -143,13 +133,12 @@ fn gives_66(alloc: Global, pool: &mut Pool<Box<u32>>) -> Result<bool, AllocError
     Ok(is_cut? && is_given)
 }
 
-#[test]
-fn joins_and_cuts(rt: HostRuntime) -> Result<(), AllocError> {
-    let mut pool = sent(Pool::new(rt.alloc()));
-    let is_given = gives_66(rt.alloc(), &mut pool);
+// Whether this is so of a pool that may go to another thread.
+fn joins_and_cuts(alloc: Global) -> Result<bool, AllocError> {
+    let mut pool = sent(Pool::new(alloc));
+    let is_given = gives_66(alloc, &mut pool);
     drop(pool);
-    assert!(rt; is_given?);
-    Ok(())
+    is_given
 }
 
 // Adds up to 200 numbers while there is room for one, and says how many.
@@ -174,10 +163,21 @@ fn keeps_blocks(pool: &mut Pool<u32>, mut chain: Chain<u32>) -> bool {
     (refused || pushed == 200) && held == made && pool.free_blocks() == made
 }
 
-#[test]
-fn keeps_its_blocks_where_memory_is_refused(rt: HostRuntime) {
-    let mut pool = Pool::new(rt.alloc());
-    let is_kept = keeps_blocks(&mut pool, Chain::new(rt.alloc()));
+// Whether 65 items are in two blocks.
+fn holds_items(alloc: Global) -> Result<bool, AllocError> {
+    let mut pool = Pool::new(alloc);
+    let is_held = holds_65(alloc, &mut pool);
     drop(pool);
-    assert!(rt; is_kept);
+    is_held
+}
+
+#[test]
+fn chains_and_their_pool(rt: HostRuntime) -> Result<(), AllocError> {
+    let mut pool = Pool::new(rt.alloc());
+    assert!(rt; keeps_blocks(&mut pool, Chain::new(rt.alloc())));
+    drop(pool);
+    assert!(rt; makes_room(rt.alloc())?);
+    assert!(rt; holds_items(rt.alloc())?);
+    assert!(rt; joins_and_cuts(rt.alloc())?);
+    Ok(())
 }

@@ -45,13 +45,12 @@ fn fails_second(alloc: Global, library: &mut MemLibrary) -> bool {
         && has_sheet(alloc, library, "s.pyx", 2)
 }
 
-#[test]
-fn files_in_memory(rt: HostRuntime) -> Result<(), AllocError> {
-    let mut library = one_file(rt.alloc())?;
-    let is_so = fails_second(rt.alloc(), &mut library);
+// Whether a library in memory does so.
+fn has_a_file(alloc: Global) -> Result<bool, AllocError> {
+    let mut library = one_file(alloc)?;
+    let is_so = fails_second(alloc, &mut library);
     drop(library);
-    assert!(rt; is_so);
-    Ok(())
+    Ok(is_so)
 }
 
 // Whether a file is found, whole and cut.
@@ -116,13 +115,12 @@ fn takes_four(sink: &mut MemSink) -> Result<bool, AllocError> {
     Ok(is_refused && fails_inside(sink) && goes_on(sink))
 }
 
-#[test]
-fn bytes_in_memory(rt: HostRuntime) -> Result<(), AllocError> {
-    let mut sink = MemSink::new(rt.alloc(), 4, vec![in rt.alloc(); 4]?);
+// Whether a sink in memory does so.
+fn takes_four_at_once(alloc: Global) -> Result<bool, AllocError> {
+    let mut sink = MemSink::new(alloc, 4, vec![in alloc; 4]?);
     let is_so = takes_four(&mut sink);
     drop(sink);
-    assert!(rt; is_so?);
-    Ok(())
+    is_so
 }
 
 // Whether a sink with room for two bytes takes no more.
@@ -131,12 +129,19 @@ fn takes_two(sink: &mut MemSink) -> Result<bool, AllocError> {
     Ok(takes(sink, b"text", 2) && sink.held() == b"te".as_slice())
 }
 
-#[test]
-fn no_more_than_the_room(rt: HostRuntime) -> Result<(), AllocError> {
-    let mut sink = MemSink::new(rt.alloc(), 4, Vec::new(rt.alloc()));
+// Whether a sink in memory does so.
+fn takes_no_more(alloc: Global) -> Result<bool, AllocError> {
+    let mut sink = MemSink::new(alloc, 4, Vec::new(alloc));
     let is_so = takes_two(&mut sink);
     drop(sink);
-    assert!(rt; is_so?);
+    is_so
+}
+
+#[test]
+fn files_and_bytes_in_memory(rt: HostRuntime) -> Result<(), AllocError> {
+    assert!(rt; has_a_file(rt.alloc())?);
+    assert!(rt; takes_four_at_once(rt.alloc())?);
+    assert!(rt; takes_no_more(rt.alloc())?);
     Ok(())
 }
 

@@ -20,6 +20,8 @@ mod making;
 #[cfg(test)]
 mod numbers;
 #[cfg(test)]
+mod pieces;
+#[cfg(test)]
 mod probe;
 #[cfg(test)]
 mod recorders;

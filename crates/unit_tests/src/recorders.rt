@@ -177,43 +177,58 @@ fn is_spent(finished: Finished<LocalTotal>) -> Result<bool, AllocError> {
     )
 }
 
-#[test]
-fn records_a_run(rt: HostRuntime) -> Result<(), AllocError> {
-    let mut run = recorder(rt.alloc(), ONE_EVENT, 9, 0);
-    assert!(rt; takes_one_event(rt.alloc(), &mut run));
-    let mut children = Vec::new(rt.alloc());
+// Whether a run records one event, and ends at the next.
+fn records_a_run(alloc: Global) -> Result<bool, AllocError> {
+    let mut run = recorder(alloc, ONE_EVENT, 9, 0);
+    let is_taken = takes_one_event(alloc, &mut run);
+    let mut children = Vec::new(alloc);
     let finished = run.finish(Err(Halt::Full(SITE)), &mut children);
     let is_alone = children.is_empty();
     drop(children);
     let is_whole = is_full(finished)?;
-    assert!(rt; is_whole && is_alone);
-    Ok(())
+    Ok(is_taken && is_alone && is_whole)
 }
 
-#[test]
-fn stops_at_its_limit(rt: HostRuntime) -> Result<(), AllocError> {
-    let mut run = recorder(rt.alloc(), TWO_TICKS, 2, 0);
-    assert!(rt; takes_two_ticks(&mut run));
-    let mut children = Vec::new(rt.alloc());
+// Whether a run records two ticks, and ends at the next.
+fn stops_at_its_limit(alloc: Global) -> Result<bool, AllocError> {
+    let mut run = recorder(alloc, TWO_TICKS, 2, 0);
+    let is_taken = takes_two_ticks(&mut run);
+    let mut children = Vec::new(alloc);
     let finished = run.finish(Err(Halt::Spent(SITE)), &mut children);
-    assert!(rt; is_spent(finished)?);
+    drop(children);
+    let is_stopped = is_spent(finished)?;
+    Ok(is_taken && is_stopped)
+}
+
+// Whether an attempt keeps an event and a message, and no ticks.
+fn keeps_no_ticks(alloc: Global) -> bool {
+    let mut brief: Brief<u64> = Brief::new(alloc, ONE_EVENT);
+    let is_taken = takes_one_event(alloc, &mut brief);
+    let left = brief.left();
+    let items = brief.finish();
+    let is_kept = are_both(items.as_slice());
+    drop(items);
+    is_taken && left == 6 && is_kept
+}
+
+// Whether an attempt spends two ticks, and keeps nothing.
+fn spends_without_keeping(alloc: Global) -> bool {
+    let mut brief: Brief<u64> = Brief::new(alloc, TWO_TICKS);
+    let is_taken = takes_two_ticks(&mut brief);
+    let is_refused = brief.hole(7) == Err(Halt::NoMemory);
+    let items = brief.finish();
+    let is_empty = items.is_empty();
+    drop(items);
+    is_taken && is_refused && is_empty
+}
+
+#[test]
+fn runs_and_attempts(rt: HostRuntime) -> Result<(), AllocError> {
+    assert!(rt; records_a_run(rt.alloc())?);
+    assert!(rt; stops_at_its_limit(rt.alloc())?);
+    assert!(rt; keeps_no_ticks(rt.alloc()));
+    assert!(rt; spends_without_keeping(rt.alloc()));
     Ok(())
-}
-
-#[test]
-fn keeps_no_ticks(rt: HostRuntime) {
-    let mut brief: Brief<u64> = Brief::new(rt.alloc(), ONE_EVENT);
-    assert!(rt; takes_one_event(rt.alloc(), &mut brief));
-    assert!(rt; brief.left() == 6);
-    assert!(rt; are_both(brief.finish().as_slice()));
-}
-
-#[test]
-fn spends_without_keeping(rt: HostRuntime) {
-    let mut brief: Brief<u64> = Brief::new(rt.alloc(), TWO_TICKS);
-    assert!(rt; takes_two_ticks(&mut brief));
-    assert!(rt; brief.hole(7) == Err(Halt::NoMemory));
-    assert!(rt; brief.finish().is_empty());
 }
 
 // Some ticks, an end, a hole and a message.
@@ -270,13 +285,14 @@ fn is_piece_with_a_hole(finished: Finished<LocalTotal>) -> Result<bool, AllocErr
     Ok(above == None && has_a_hole(&outcome?))
 }
 
-#[test]
-fn records_a_piece(rt: HostRuntime) -> Result<(), AllocError> {
-    let mut children = Vec::new(rt.alloc());
-    let finished = piece(rt.alloc(), 0, 5, &mut children);
-    assert!(rt; children.as_slice() == [7].as_slice());
-    assert!(rt; is_piece_with_a_hole(finished)?);
-    Ok(())
+// Whether a piece has a hole, and its child.
+fn records_a_piece(alloc: Global) -> Result<bool, AllocError> {
+    let mut children = Vec::new(alloc);
+    let finished = piece(alloc, 0, 5, &mut children);
+    let has_child = children.as_slice() == [7].as_slice();
+    drop(children);
+    let is_recorded = is_piece_with_a_hole(finished)?;
+    Ok(has_child && is_recorded)
 }
 
 // Whether a piece ended after 1,024 ticks, since its total was above its limit.
@@ -290,13 +306,14 @@ fn is_over(finished: Finished<LocalTotal>) -> Result<bool, AllocError> {
     )
 }
 
-#[test]
-fn ends_over_a_total(rt: HostRuntime) -> Result<(), AllocError> {
-    let mut children = Vec::new(rt.alloc());
-    let finished = piece(rt.alloc(), 1500, 1500, &mut children);
-    assert!(rt; children.is_empty() && finished.total.limit() == 2000);
-    assert!(rt; is_over(finished)?);
-    Ok(())
+// Whether a piece ends above the limit of its total.
+fn ends_over_a_total(alloc: Global) -> Result<bool, AllocError> {
+    let mut children = Vec::new(alloc);
+    let finished = piece(alloc, 1500, 1500, &mut children);
+    let is_alone = children.is_empty() && finished.total.limit() == 2000;
+    drop(children);
+    let is_ended = is_over(finished)?;
+    Ok(is_alone && is_ended)
 }
 
 // Whether a piece adds 1,024 of 1,025 ticks to its total.
@@ -304,24 +321,34 @@ fn adds_all_but_one(piece: &mut PieceRecorder<LocalTotal, u64>) -> bool {
     piece.ticks(SITE, 1025) == Ok(()) && piece.due() == 1 && piece.total().above() == None
 }
 
-#[test]
-fn adds_its_ticks(rt: HostRuntime) {
+// Whether a piece adds its ticks to its total.
+fn adds_its_ticks(alloc: Global) -> bool {
     let limits = Limits {
         ticks: 2000,
         events: None,
     };
-    let mut piece = recorder(rt.alloc(), limits, 2000, 0);
-    assert!(rt; adds_all_but_one(&mut piece));
+    let mut piece = recorder(alloc, limits, 2000, 0);
+    let is_added = adds_all_but_one(&mut piece);
     drop(piece);
+    is_added
 }
 
-#[test]
-fn meters(rt: HostRuntime) {
+// Whether a meter of two ticks takes two, and no third one.
+fn meters() -> bool {
     let mut meter = Meter {
         limit: Some(2),
         spent: 0,
     };
-    assert!(rt; tick_several(&mut meter, SITE, 2) == Ok(()));
-    assert!(rt; meter.tick(SITE) == Err(Halt::Spent(SITE)));
-    assert!(rt; meter.spent == 2);
+    let is_taken = tick_several(&mut meter, SITE, 2) == Ok(());
+    let is_spent = meter.tick(SITE) == Err(Halt::Spent(SITE));
+    is_taken && is_spent && meter.spent == 2
+}
+
+#[test]
+fn pieces_and_meters(rt: HostRuntime) -> Result<(), AllocError> {
+    assert!(rt; records_a_piece(rt.alloc())?);
+    assert!(rt; ends_over_a_total(rt.alloc())?);
+    assert!(rt; adds_its_ticks(rt.alloc()));
+    assert!(rt; meters());
+    Ok(())
 }

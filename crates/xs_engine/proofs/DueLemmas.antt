@@ -29,7 +29,7 @@ use Rattle.xs_engine.proofs.FirstFaultLemmas.{one_fault}
 use Rattle.xs_engine.proofs.OneAnswerLemmas.{one-evaluated}
 use Rattle.xs_engine.proofs.ReplyLemmas.{plain_reply, replies_so, reply_is}
 use Rattle.xs_engine.specs.Headline.{OnlyDue, WhereKnown, files_for}
-use Rattle.xs_engine.specs.Reply.{FileGives, IsCheckAnswer, IsChecked, Replies, reply_of}
+use Rattle.xs_engine.specs.Reply.{FileGives, IsChecked, IsPlain, Replies, check_answer}
 use Rattle.xs_words.specs.Choice.{Pair}
 
 -- what follows of an answer that is owed
@@ -45,12 +45,12 @@ owed_behind P failed middle failed' a e owed = subst (λ f. Owed P f failed' a) 
 
 -- a reply whose answer is owed
 reply_owed : {E : Type 0} (r : Result Reply E) (N : Type 0) (P : Answer → Type 0) (failed failed' : List (List ℕ)) (a : Answer) → Owed P failed failed' a
-    → IfOk r (λ reply. reply_of reply ≡ a) → IfOk r (Replies N (Owed P failed failed'))
+    → IfOk r (IsPlain a) → IfOk r (Replies N (Owed P failed failed'))
 reply_owed r N P failed failed' a owed is = reply_is r N (Owed P failed failed') a owed is
 
 -- a fetch failed
 pub fault_owed : {E : Type 0} (r : Result Reply E) (N : Type 0) (P : Answer → Type 0) (failed failed' : List (List ℕ)) (name : List ℕ)
-    → failed' ≡ failed ++ name ∷ [] → IfOk r (λ reply. reply_of reply ≡ read_fault name) → IfOk r (Replies N (Owed P failed failed'))
+    → failed' ≡ failed ++ name ∷ [] → IfOk r (IsPlain (read_fault name)) → IfOk r (Replies N (Owed P failed failed'))
 fault_owed r N P failed failed' name grew is = reply_owed r N P failed failed' (read_fault name) (fault name grew refl) is
 
 -- the bytes of a file
@@ -81,7 +81,7 @@ module _ (files : Option Files) (job : Job) (sheet : Sheet) (source : List ℕ) 
 
   -- the source is no document
   pub refused_owed : {E : Type 0} (r : Result Reply E) (N : Type 0) (number line : ℕ) (name : List ℕ) → name ≡ source → failed' ≡ failed
-      → FileGives source_of files name (bad number line) → IfOk r (λ reply. reply_of reply ≡ refused_file number source line)
+      → FileGives source_of files name (bad number line) → IfOk r (IsPlain (refused_file number source line))
       → IfOk r (Replies N Owes)
   refused_owed r N number line name same stays given is =
       reply_owed r N (IsSheetAnswer files job sheet (inputs_on job source)) failed failed' (refused_file number source line)
@@ -97,10 +97,10 @@ module _ (files : Option Files) (job : Job) (sheet : Sheet) (source : List ℕ) 
       (subst (λ left. IsInputsAnswer files job sheet left (named_document [] records ∷ []) a) (sym none) over))) is
 
 -- a stylesheet that is only checked
-checked_answer : (files : Option Files) (job : Job) (modules : List ModuleData) (a : Answer) → job.source ≡ None → (f : Option StaticFault)
-    → IsCheckAnswer f modules a → IsStaticAnswer f files job modules a
-checked_answer files job modules a none None is = subst (λ s. IsFaultlessAnswer s files job modules a) (sym none) is
-checked_answer files job modules a none (Some f) is = is
+checked_answer : (files : Option Files) (job : Job) (modules : List ModuleData) → job.source ≡ None → (f : Option StaticFault)
+    → IsStaticAnswer f files job modules (check_answer f modules)
+checked_answer files job modules none None = subst (λ s. IsFaultlessAnswer s files job modules (check_answer None modules)) (sym none) refl
+checked_answer files job modules none (Some f) = refl
 
 module _ (files : Option Files) (job : Job) (modules : List ModuleData) (failed failed' : List (List ℕ)) where
   abbrev pub OwesModules : Answer → Type 0
@@ -108,7 +108,7 @@ module _ (files : Option Files) (job : Job) (modules : List ModuleData) (failed 
 
   -- a static fault
   pub static_owed : {E : Type 0} (r : Result Reply E) (f : StaticFault) → failed' ≡ failed → IsFirstFault modules (Some f)
-      → IfOk r (λ reply. reply_of reply ≡ refused_file f.number (module_name modules f.«module») f.line)
+      → IfOk r (IsPlain (refused_file f.number (module_name modules f.«module») f.line))
       → IfOk r (Replies (Unit {0}) OwesModules)
   static_owed r f stays first same =
       reply_owed r (Unit {0}) (IsModulesAnswer files job modules) failed failed' (refused_file f.number (module_name modules f.«module») f.line)
@@ -116,10 +116,10 @@ module _ (files : Option Files) (job : Job) (modules : List ModuleData) (failed 
 
   -- the stylesheet is only checked
   pub checked_owed : {E : Type 0} (r : Result Reply E) → job.source ≡ None → failed' ≡ failed
-      → IfOk r (λ reply. IsChecked modules (reply_of reply)) → IfOk r (Replies (Unit {0}) OwesModules)
+      → IfOk r (IsChecked modules) → IfOk r (Replies (Unit {0}) OwesModules)
   checked_owed r none stays is =
-      plain_reply r (Unit {0}) (IsChecked modules) OwesModules
-      (λ a h. own stays (record { fault = h.fault; first = h.first; answers = checked_answer files job modules a none h.fault h.answers })) is
+      plain_reply r (Unit {0}) (IsChecked modules) OwesModules (λ reply h. check_answer h.fault modules)
+      (λ reply h. own stays (record { fault = h.fault; first = h.first; answers = checked_answer files job modules none h.fault })) (λ reply h. h.answers) is
 
   -- a run of a compiled stylesheet that stands for them
   pub run_owed : {E : Type 0} (r : Result Reply E) (N : Type 0) (sheet : Sheet) (source : List ℕ) → N → job.source ≡ Some source
@@ -137,7 +137,7 @@ module _ (files : Option Files) (job : Job) (modules : List ModuleData) (failed 
 -- a module is refused
 pub module_owed : {E : Type 0} (r : Result Reply E) (files : Option Files) (job : Job) (number line : ℕ) (name : List ℕ)
     (asked asked' failed failed' : List (List ℕ)) → ComesTo (refused number name line) files [] 0 (named_by_words job.sheet ∷ []) asked asked' failed failed'
-    → IfOk r (λ reply. reply_of reply ≡ refused_file number name line) → IfOk r (Replies (Unit {0}) (Owed (IsAnswer files job) failed failed'))
+    → IfOk r (IsPlain (refused_file number name line)) → IfOk r (Replies (Unit {0}) (Owed (IsAnswer files job) failed failed'))
 module_owed r files job number line name asked asked' failed failed' comes is =
     reply_owed r (Unit {0}) (IsAnswer files job) failed failed' (refused_file number name line)
     (own (comes.fails ∙ append-nil failed)
@@ -160,7 +160,7 @@ not_both xs ys name grew stays = omega (arith, ap length (sym stays ∙ grew), l
 
 -- the words are refused
 pub usage_owed : {E : Type 0} (r : Result Reply E) (N : Type 0) (files : Option Files) (request : Option Request) (failed : List (List ℕ))
-    → request ≡ None → IfOk r (λ reply. reply_of reply ≡ usage) → IfOk r (Replies N (IsDue files request failed failed))
+    → request ≡ None → IfOk r (IsPlain usage) → IfOk r (Replies N (IsDue files request failed failed))
 usage_owed r N files request failed none is =
     reply_is r N (IsDue files request failed failed) usage (subst (λ q. IsDue files q failed failed usage) (sym none) (refl, refl)) is
 

@@ -1,66 +1,70 @@
--- What an evaluation owes, by what was settled and kept.
-use Rattle.std.proofs.Common.{◌≡◌, ◌<◌, ◌≤◌, ◌∙◌, ◌+◌, ◌-◌, ◌++◌, ℕ, arith, [], ◌∷◌, List, length, get_or, Result, Ok, Err, Option, Some, None, IfOk}
-use Rattle.std.proofs.Common.{ap, refl, sym, subst, append-nil, vec_len}
+-- What an evaluation owes, by what was settled and run.
+use Rattle.std.proofs.Common.{◌≡◌, ◌<◌, ◌≤◌, ◌∙◌, ◌+◌, ◌-◌, ◌++◌, ℕ, suc, arith, [], ◌∷◌, List, length, map, Result, Ok, Err, Option, Some, None, IfOk}
+use Rattle.std.proofs.Common.{ap, refl, sym, subst, append-nil}
+use Rattle.xs_assemble.specs.Assembled.{EndsIn}
+use Rattle.xs_assemble.specs.declared.assembled.Executed.{Executed}
 use Rattle.xs_block.specs.Chain.{items_of}
-use Rattle.xs_semantics.specs.Globals.{SettlesAll, settled, with_globals}
-use Rattle.xs_body.specs.Results.{IsWholeRun}
+use Rattle.xs_semantics.specs.Globals.{SettlesAll, settled}
 use Rattle.xs_globals.specs.Results.{settled_by, settled_of, told_in}
 use Rattle.xs_semantics.specs.Tasks.{Task}
-use Rattle.xs_semantics.specs.Trace.{root_task, task_trace}
-use Rattle.xs_semantics.specs.World.{World, ground, with_grain}
+use Rattle.xs_semantics.specs.World.{World, ground}
 use Rattle.xs_globals.specs.declared.settled.Settled.{Settled}
-use Rattle.xs_engine.proofs.EndLemmas.{reported}
+use Rattle.xs_engine.proofs.EndLemmas.{stopped_answers, whole_answers, whole_end}
 use Rattle.xs_engine.proofs.ReplyLemmas.{replies_so, reply_is}
-use Rattle.xs_engine.specs.Answer.{Answer, document_of, stopped_answer, whole_answer}
+use Rattle.xs_engine.specs.Answer.{Answer, Pieces, document_of, message_lines, no_pieces, result_of, stats_lines, stopped_answer, whole_answer}
 use Rattle.xs_keys.specs.KeyTables.{tables_of}
 use Rattle.xs_value.specs.Tables.{Table}
-use Rattle.xs_engine.specs.Evaluation.{IsCutAnswer, IsEndAnswer, IsEvaluated, IsEvaluatedFrom, IsEvaluatedOn, IsEvaluatedOver, in_globals, in_root, root_cut}
+use Rattle.xs_engine.specs.Evaluation.{IsCutAnswer, IsEvaluated, IsEvaluatedFrom, IsEvaluatedOn, IsEvaluatedOver, in_globals, in_root, root_cut, root_pieces}
+use Rattle.xs_engine.specs.Headline.{AreRun, claimed_places}
 use Rattle.xs_engine.specs.Inputs.{joined, joined_later, named_document}
 use Rattle.xs_engine.specs.Items.{events_in, messages_in}
 use Rattle.xs_engine.specs.Job.{Job}
+use Rattle.xs_engine.specs.Ran.{IsRan}
 use Rattle.xs_engine.specs.ReadBack.{ReadsAs}
-use Rattle.xs_engine.specs.Reply.{Replies, answer_of, reply_of}
+use Rattle.xs_engine.specs.Reply.{IsPlain, Plain, Replies, RunsPieces, answer_of, reply_of}
+use Rattle.xs_engine.specs.declared.reply.Pieces.{Pieces as CodePieces}
 use Rattle.xs_engine.specs.declared.reply.Reply.{Reply}
+use Rattle.xs_engine.specs.declared.status.TheConstants.{OK, RUN_FAULT}
 use Rattle.xs_reading_back.specs.Events.{IsResult}
-use Rattle.xs_record.specs.declared.outcome.Outcome.{Outcome}
-use Rattle.xs_record.specs.declared.outcome.Part.{Part}
 use Rattle.xs_rules.specs.WhiteSpace.{stripped}
 use Rattle.xs_semantics.specs.declared.index.SheetIndex.{SheetIndex}
+use Rattle.xs_sheet.specs.declared.declarations.Method.{Method}
 use Rattle.xs_sheet.specs.declared.declarations.StripRule.{StripRule}
 use Rattle.xs_sheet.specs.declared.sheet.Sheet.{Sheet}
-use Rattle.xs_value.specs.declared.value.Value.{Value}
-use Rattle.xs_trace.proofs.CutLemmas.{cut-longest}
-use Rattle.xs_trace.specs.Cut.{Cut, End, Whole, Fault, Needs, Spent, Full, cut, nowhere}
-use Rattle.xs_trace.specs.Kept.{ended_by, marks_of}
-use Rattle.xs_trace.specs.Mark.{Trace, events_of, messages_of, tick_count}
-use Rattle.xs_trace.specs.declared.item.Ended.{Ended}
-use Rattle.xs_trace.specs.declared.item.Ended.TheVariants as ended
+use Rattle.xs_trace.specs.Cut.{Cut}
+use Rattle.xs_trace.specs.Mark.{events_of, messages_of, tick_count}
+use Rattle.xs_trace.specs.declared.event.Event.{Event}
 use Rattle.xs_trace.specs.declared.item.Spot.{Spot}
+use Rattle.xs_trace.specs.declared.place.Claim.{Claim}
 use Rattle.xs_tree.specs.Record.{Record}
 use Rattle.xs_tree.specs.Stripping.{without}
 use Rattle.xs_well_put.specs.Laws.{RunsPutResults}
 use Rattle.xs_well_put.specs.Named.{IsNamedWorld}
 
--- a whole run takes no more ticks than its limit
-pub run_within : (x : Trace Task) (b : ℕ) (m : Option ℕ) (o : Outcome) → IsWholeRun (cut x b m) o → o.ticks ≤ b
-run_within x b m o run = let l = cut-longest x nowhere b m in omega (arith, run.ticks, l.within)
+-- an answer with these pieces, of which the result is these lines
+abbrev in_full : Option (List Event) → Pieces → Answer → Answer
+in_full document pieces a = record a { pieces = pieces; document = document }
 
--- it has one part
-pub has_part : (c : Cut Task) (o : Outcome) → IsWholeRun c o → 0 < vec_len o.parts
-has_part c o run = let e : length o.parts.items ≡ 1 = ap length run.only in omega (arith, e, o.parts.ok.0)
+-- with these lines for the user
+abbrev with_lines : List ℕ → Answer → Answer
+with_lines lines a = record a { lines = lines }
 
--- and the marks of the items of its first part are all that passed
-pub marks-passed : (c : Cut Task) (o : Outcome) (p : Part) → IsWholeRun c o → p ≡ get_or o.parts.items 0 p → marks_of (items_of p.items) ≡ c.passed
-marks-passed c o p run first =
-    ap (λ (q : Part). marks_of (items_of q.items)) (first ∙ ap (λ (ps : List Part). get_or ps 0 p) run.only) ∙ run.marks
+-- there are as many places as claims
+claims-counted : (cs : List Claim) → length (claimed_places cs) ≡ length cs
+claims-counted [] = refl
+claims-counted (c ∷ cs) = ap suc (claims-counted cs)
 
--- an end that was reported as whole
-whole_end : (e : End) → ended_by e ≡ Some ended.Whole → e ≡ Whole
-whole_end Whole h = refl
-whole_end (Fault f p) h = absurd (cc)
-whole_end (Needs g p) h = absurd (cc)
-whole_end (Spent p) h = absurd (cc)
-whole_end (Full p) h = absurd (cc)
+-- a whole answer of which its pieces and its document are not yet said
+abbrev plain_whole : Method → List (List ℕ) → List Event → ℕ → Answer
+plain_whole method says events ticks = record {
+  status = OK;
+  result = result_of method events;
+  lines = message_lines says;
+  fault = None;
+  ticks = ticks;
+  pieces = no_pieces;
+  document = None;
+}
 
 -- the source alone is all documents
 pub one_document : (source : List Record) → joined (named_document [] source ∷ []) ≡ source
@@ -84,127 +88,143 @@ over_index r N job sheet index tree keys same is =
     replies_so r N N (IsEvaluated job (ground sheet index tree keys)) (IsEvaluatedOn job sheet tree) (λ n. n)
     (λ a by. (index, subst (λ (ts : List Table). IsEvaluated job (ground sheet index tree ts) a) same by)) is
 
--- a runner over the values of the globals, with no grain, as the world has none
-root_world : (w runner : World) (globals values : List (Option Value)) → runner ≡ with_grain None (with_globals w globals) → globals ≡ values
-    → w.grain ≡ None → with_grain None runner ≡ with_globals w values
-root_world w runner globals values is same none =
-    ap (with_grain None) is ∙ ap (λ vs. with_grain None (with_globals w vs)) same ∙ ap (λ g. with_grain g (with_globals w values)) (sym none)
-
--- what the runner gave of the root's task is the cut of the root's trace
-pub root_run : (job : Job) (w : World) (z : Settled) (globals : List (Option Value)) (runner : World) (task : Task) (o : Outcome)
-    → runner ≡ with_grain None (with_globals w globals) → globals ≡ z.values.items → w.grain ≡ None → task ≡ root_task runner
-    → IsWholeRun (cut (task_trace (with_grain None runner) task) (job.budget - z.ticks) job.most_events) o → IsWholeRun (root_cut job w (told_in z)) o
-root_run job w z globals runner task o over values none is run =
-    subst (λ r. IsWholeRun (cut (task_trace r (root_task r)) (job.budget - z.ticks) job.most_events) o)
-    (root_world w runner globals z.values.items over values none)
-    (subst (λ t. IsWholeRun (cut (task_trace (with_grain None runner) t) (job.budget - z.ticks) job.most_events) o) is run)
-
 module _ (job : Job) (w : World) (z : Settled) (settles : SettlesAll w job.given job.budget (settled_of z)) where
   -- the run ended in a global
   pub ended_in_globals : {E : Type 0} (r : Result Reply E) (N : Type 0) (s : Spot) → z.end ≡ Some s
-      → IfOk r (λ reply. reply_of reply ≡ stopped_answer w.sheet.modules s (z.says.items ++ []) z.ticks)
+      → IfOk r (IsPlain (stopped_answer w.sheet.modules s (z.says.items ++ []) z.ticks no_pieces))
       → IfOk r (Replies N (IsEvaluated job w))
   ended_in_globals r N s is same =
-      reply_is r N (IsEvaluated job w) (stopped_answer w.sheet.modules s (z.says.items ++ []) z.ticks)
+      reply_is r N (IsEvaluated job w) (stopped_answer w.sheet.modules s (z.says.items ++ []) z.ticks no_pieces)
       (in_globals {t = told_in z} {s = s} (subst (λ e. SettlesAll w job.given job.budget (settled_by e (told_in z))) is settles)
-      (ap (λ says. stopped_answer w.sheet.modules s says z.ticks) (append-nil z.says.items))) same
+      (ap (λ says. stopped_answer w.sheet.modules s says z.ticks no_pieces) (append-nil z.says.items))) same
 
-  module _ (o : Outcome) (p : Part) (sheet : Sheet) (of : sheet ≡ w.sheet) (none : z.end ≡ None) (run : IsWholeRun (root_cut job w (told_in z)) o)
-      (first : p ≡ get_or o.parts.items 0 p) where
+  module _ (sheet : Sheet) (of : sheet ≡ w.sheet) (none : z.end ≡ None) (e : Executed) (ran : IsRan job w (told_in z) e) where
     -- the globals are settled
     all_settled : SettlesAll w job.given job.budget (settled (told_in z))
-    all_settled = subst (λ e. SettlesAll w job.given job.budget (settled_by e (told_in z))) none settles
+    all_settled = subst (λ k. SettlesAll w job.given job.budget (settled_by k (told_in z))) none settles
 
-    from_root : (a : Answer) → IsCutAnswer w.sheet (told_in z) (root_cut job w (told_in z)) a → IsEvaluated job w a
-    from_root a is = in_root {t = told_in z} all_settled is
+    abbrev events : List Event
+    events = events_in (items_of e.assembled.items)
 
-    -- the cut of the root's trace ended as the run
-    ends_as : (e : Ended) → o.ended ≡ e → ended_by (root_cut job w (told_in z)).end ≡ Some e
-    ends_as e is = run.ended ∙ ap (λ x. Some x) is
+    abbrev says : List (List ℕ)
+    says = z.says.items ++ messages_in (items_of e.assembled.items)
 
-    -- the events and messages of the items are those of all that passed
-    events-passed : events_in (items_of p.items) ≡ events_of (root_cut job w (told_in z)).passed
-    events-passed = ap events_of (marks-passed (root_cut job w (told_in z)) o p run first)
+    abbrev ticks : ℕ
+    ticks = z.ticks + e.assembled.ticks
 
-    messages-passed : messages_in (items_of p.items) ≡ messages_of (root_cut job w (told_in z)).passed
-    messages-passed = ap messages_of (marks-passed (root_cut job w (told_in z)) o p run first)
+    abbrev due : Pieces
+    due = root_pieces job w (told_in z)
+
+    abbrev d : Cut Task
+    d = root_cut job w (told_in z)
 
     -- what a whole run put can be written
-    put_result : RunsPutResults → IsNamedWorld w → o.ended ≡ ended.Whole → IsResult (events_in (items_of p.items))
+    put_result : RunsPutResults → IsNamedWorld w → e.assembled.end ≡ None → IsResult events
     put_result law named is =
-        let c = root_cut job w (told_in z) in
-        subst IsResult (sym events-passed)
-        (law w job.given job.budget (told_in z) (job.budget - z.ticks) job.most_events named all_settled (whole_end c.end (ends_as ended.Whole is)))
+        subst IsResult (sym ran.events)
+        (law w job.given job.budget (told_in z) (job.budget - z.ticks) job.most_events named all_settled
+        (whole_end d.end (subst (EndsIn d.end) is ran.end)))
+
+    whole_due : e.assembled.end ≡ None → IsEvaluated job w (whole_answer sheet.method job.stats says events ticks due)
+    whole_due is =
+        let a : IsCutAnswer job.stats w.sheet (told_in z) due d
+        (whole_answer w.sheet.method job.stats (z.says.items ++ messages_of d.passed) (events_of d.passed) (z.ticks + tick_count d.passed) due) =
+        whole_answers job.stats w.sheet d.passed (z.says.items ++ messages_of d.passed) (z.ticks + tick_count d.passed) due d.end
+        (subst (EndsIn d.end) is ran.end) in
+        let same : whole_answer w.sheet.method job.stats (z.says.items ++ messages_of d.passed) (events_of d.passed) (z.ticks + tick_count d.passed) due
+        ≡ whole_answer sheet.method job.stats says events ticks due =
+        ap (λ (q : Sheet). whole_answer q.method job.stats (z.says.items ++ messages_of d.passed) (events_of d.passed) (z.ticks + tick_count d.passed) due)
+        (sym of)
+        ∙ ap (λ ms. whole_answer sheet.method job.stats (z.says.items ++ ms) (events_of d.passed) (z.ticks + tick_count d.passed) due) (sym ran.messages)
+        ∙ ap (λ es. whole_answer sheet.method job.stats says es (z.ticks + tick_count d.passed) due) (sym ran.events)
+        ∙ ap (λ n. whole_answer sheet.method job.stats says events (z.ticks + n) due) (sym ran.ticks) in
+        in_root {t = told_in z} all_settled (subst (IsCutAnswer job.stats w.sheet (told_in z) due d) same a)
+
+    stopped_due : (s : Spot) → e.assembled.end ≡ Some s → IsEvaluated job w (stopped_answer sheet.modules s says ticks due)
+    stopped_due s is =
+        let a : IsCutAnswer job.stats w.sheet (told_in z) due d
+        (stopped_answer w.sheet.modules s (z.says.items ++ messages_of d.passed) (z.ticks + tick_count d.passed) due) =
+        stopped_answers job.stats w.sheet d.passed (z.says.items ++ messages_of d.passed) (z.ticks + tick_count d.passed) due d.end s
+        (subst (EndsIn d.end) is ran.end) in
+        let same : stopped_answer w.sheet.modules s (z.says.items ++ messages_of d.passed) (z.ticks + tick_count d.passed) due
+        ≡ stopped_answer sheet.modules s says ticks due =
+        ap (λ (q : Sheet). stopped_answer q.modules s (z.says.items ++ messages_of d.passed) (z.ticks + tick_count d.passed) due) (sym of)
+        ∙ ap (λ ms. stopped_answer sheet.modules s (z.says.items ++ ms) (z.ticks + tick_count d.passed) due) (sym ran.messages)
+        ∙ ap (λ n. stopped_answer sheet.modules s says (z.ticks + n) due) (sym ran.ticks) in
+        in_root {t = told_in z} all_settled (subst (IsCutAnswer job.stats w.sheet (told_in z) due d) same a)
+
+    -- the reply has its pieces
+    runs : (reply : Reply) (pieces : CodePieces) → reply.pieces ≡ pieces → pieces.claims.items ≡ e.claims.items → pieces.inline ≡ e.assembled.inline
+        → pieces.worked ≡ e.worked → (reply.status ≡ OK → e.assembled.end ≡ None) → RunsPieces due reply
+    runs reply pieces has c i k ok =
+        let all = ran.run in
+        let q : AreRun due (reply.status ≡ OK) e.claims.items e.assembled.inline e.worked = record {
+          claimed = all.claimed;
+          workers = all.workers;
+          whole = λ s. all.whole (ok s);
+          taken = all.taken;
+          again = all.again;
+          bound = all.bound;
+          idle = all.idle;
+        } in
+        subst (λ (p : CodePieces). AreRun due (reply.status ≡ OK) p.claims.items p.inline p.worked) (sym has)
+        (subst (λ cs. AreRun due (reply.status ≡ OK) cs pieces.inline pieces.worked) (sym c)
+        (subst (λ n. AreRun due (reply.status ≡ OK) e.claims.items n pieces.worked) (sym i)
+        (subst (λ n. AreRun due (reply.status ≡ OK) e.claims.items e.assembled.inline n) (sym k) q)))
 
     -- the root came to its end
-    pub whole_in_root : {E : Type 0} → RunsPutResults → (r : Result Reply E) → o.ended ≡ ended.Whole
-        → IfOk r (λ reply. answer_of reply (document_of sheet.method (events_in (items_of p.items)))
-        ≡ whole_answer sheet.method (z.says.items ++ messages_in (items_of p.items)) (events_in (items_of p.items)) (z.ticks + o.ticks))
-        → IfOk r (λ reply. IsResult (events_in (items_of p.items)) → ReadsAs (document_of sheet.method (events_in (items_of p.items))) reply.result.items)
-        → IfOk r (Replies (IsNamedWorld w) (IsEvaluated job w))
-    whole_in_root law (Err e) is same reads = tt
-    whole_in_root law (Ok reply) is same reads =
-        let c = root_cut job w (told_in z) in
-        let d = document_of sheet.method (events_in (items_of p.items)) in
-        let all : answer_of reply d ≡ whole_answer w.sheet.method (z.says.items ++ messages_of c.passed) (events_of c.passed) (z.ticks + tick_count c.passed) =
-        same
-        ∙ ap (λ (q : Sheet). whole_answer q.method (z.says.items ++ messages_in (items_of p.items)) (events_in (items_of p.items)) (z.ticks + o.ticks)) of
-        ∙ ap (λ ms. whole_answer w.sheet.method (z.says.items ++ ms) (events_in (items_of p.items)) (z.ticks + o.ticks)) messages-passed
-        ∙ ap (λ es. whole_answer w.sheet.method (z.says.items ++ messages_of c.passed) es (z.ticks + o.ticks)) events-passed
-        ∙ ap (λ n. whole_answer w.sheet.method (z.says.items ++ messages_of c.passed) (events_of c.passed) (z.ticks + n)) run.ticks in
+    whole_so : RunsPutResults → (before all : Reply) (pieces : CodePieces) → e.assembled.end ≡ None → pieces.claims.items ≡ e.claims.items
+        → pieces.inline ≡ e.assembled.inline → pieces.worked ≡ e.worked
+        → reply_of before ≡ plain_whole sheet.method says events ticks
+        → (IsResult events → ReadsAs (document_of sheet.method events) before.result.items)
+        → reply_of all ≡ with_lines (before.lines.items ++ stats_lines job.stats before.ticks (length pieces.claims.items)) (reply_of before)
+        → all.pieces ≡ pieces → Replies (IsNamedWorld w) (IsEvaluated job w) all
+    whole_so law before all pieces is c i k plain reads with has =
+        let claimed = ran.run.whole is in
+        let count : length pieces.claims.items ≡ length due.places =
+        ap length c ∙ sym (claims-counted e.claims.items) ∙ ap length claimed.0 in
+        let lines : before.lines.items ≡ message_lines says = ap (λ (a : Answer). a.lines) plain in
+        let took : before.ticks ≡ ticks = ap (λ (a : Answer). a.ticks) plain in
+        let result : before.result.items ≡ all.result.items = sym (ap (λ (a : Answer). a.result) with) in
+        let same : answer_of all (document_of sheet.method events) due ≡ whole_answer sheet.method job.stats says events ticks due =
+        ap (in_full (document_of sheet.method events) due) with
+        ∙ ap (λ a. in_full (document_of sheet.method events) due
+        (with_lines (before.lines.items ++ stats_lines job.stats before.ticks (length pieces.claims.items)) a)) plain
+        ∙ ap (λ ls. in_full (document_of sheet.method events) due
+        (with_lines (ls ++ stats_lines job.stats before.ticks (length pieces.claims.items)) (plain_whole sheet.method says events ticks))) lines
+        ∙ ap (λ n. in_full (document_of sheet.method events) due
+        (with_lines (message_lines says ++ stats_lines job.stats n (length pieces.claims.items)) (plain_whole sheet.method says events ticks))) took
+        ∙ ap (λ n. in_full (document_of sheet.method events) due
+        (with_lines (message_lines says ++ stats_lines job.stats ticks n) (plain_whole sheet.method says events ticks))) count in
         record {
-          document = d;
-          answers =
-              from_root (answer_of reply d) (subst (IsCutAnswer w.sheet (told_in z) c) (sym all)
-              (reported w.sheet c.passed (z.says.items ++ messages_of c.passed) (z.ticks + tick_count c.passed) c.end ended.Whole
-              (ends_as ended.Whole is)));
-          reads = λ named. reads (put_result law named is);
+          document = document_of sheet.method events;
+          pieces = due;
+          answers = subst (IsEvaluated job w) (sym same) (whole_due is);
+          run = runs all pieces has c i k (λ s. is);
+          reads = λ named. subst (ReadsAs (document_of sheet.method events)) result (reads (put_result law named is));
         }
 
+    pub whole_in_root : {E : Type 0} → RunsPutResults → (r : Result Reply E) (before : Reply) (pieces : CodePieces) → e.assembled.end ≡ None
+        → pieces.claims.items ≡ e.claims.items → pieces.inline ≡ e.assembled.inline → pieces.worked ≡ e.worked
+        → reply_of before ≡ plain_whole sheet.method says events ticks
+        → (IsResult events → ReadsAs (document_of sheet.method events) before.result.items)
+        → IfOk r (λ all. reply_of all
+        ≡ with_lines (before.lines.items ++ stats_lines job.stats before.ticks (length pieces.claims.items)) (reply_of before))
+        → IfOk r (λ all. all.pieces ≡ pieces) → IfOk r (Replies (IsNamedWorld w) (IsEvaluated job w))
+    whole_in_root law (Err x) before pieces is c i k plain reads with has = tt
+    whole_in_root law (Ok all) before pieces is c i k plain reads with has = whole_so law before all pieces is c i k plain reads with has
+
     -- or it ended in a fault, or at a limit
-    pub stopped_in_root : {E : Type 0} (r : Result Reply E) (N : Type 0) (s : Spot)
-        → IsEndAnswer w.sheet (root_cut job w (told_in z)).end (root_cut job w (told_in z)).passed
-        (z.says.items ++ messages_of (root_cut job w (told_in z)).passed) (z.ticks + tick_count (root_cut job w (told_in z)).passed)
-        (stopped_answer w.sheet.modules s (z.says.items ++ messages_of (root_cut job w (told_in z)).passed)
-        (z.ticks + tick_count (root_cut job w (told_in z)).passed))
-        → IfOk r (λ reply. reply_of reply ≡ stopped_answer sheet.modules s (z.says.items ++ messages_in (items_of p.items))
-        (z.ticks + o.ticks))
-        → IfOk r (Replies N (IsEvaluated job w))
-    stopped_in_root r N s is same =
-        let c = root_cut job w (told_in z) in
-        let names = w.sheet.modules in
-        let all : stopped_answer sheet.modules s (z.says.items ++ messages_in (items_of p.items)) (z.ticks + o.ticks)
-        ≡ stopped_answer names s (z.says.items ++ messages_of c.passed) (z.ticks + tick_count c.passed) =
-        ap (λ (q : Sheet). stopped_answer q.modules s (z.says.items ++ messages_in (items_of p.items)) (z.ticks + o.ticks)) of
-        ∙ ap (λ ms. stopped_answer names s (z.says.items ++ ms) (z.ticks + o.ticks)) messages-passed
-        ∙ ap (λ n. stopped_answer names s (z.says.items ++ messages_of c.passed) (z.ticks + n)) run.ticks in
-        reply_is r N (IsEvaluated job w) (stopped_answer sheet.modules s (z.says.items ++ messages_in (items_of p.items)) (z.ticks + o.ticks))
-        (from_root (stopped_answer sheet.modules s (z.says.items ++ messages_in (items_of p.items)) (z.ticks + o.ticks))
-        (subst (IsCutAnswer w.sheet (told_in z) c) (sym all) is)) same
-
-    pub fault_in_root : {E : Type 0} (r : Result Reply E) (N : Type 0) (s : Spot) → o.ended ≡ ended.Fault s
-        → IfOk r (λ reply. reply_of reply ≡ stopped_answer sheet.modules s (z.says.items ++ messages_in (items_of p.items))
-        (z.ticks + o.ticks))
-        → IfOk r (Replies N (IsEvaluated job w))
-    fault_in_root r N s is same =
-        let c = root_cut job w (told_in z) in
-        stopped_in_root r N s (reported w.sheet c.passed (z.says.items ++ messages_of c.passed) (z.ticks + tick_count c.passed) c.end
-        (ended.Fault s) (ends_as (ended.Fault s) is)) same
-
-    pub spent_in_root : {E : Type 0} (r : Result Reply E) (N : Type 0) (s : Spot) → o.ended ≡ ended.Spent s
-        → IfOk r (λ reply. reply_of reply ≡ stopped_answer sheet.modules s (z.says.items ++ messages_in (items_of p.items))
-        (z.ticks + o.ticks))
-        → IfOk r (Replies N (IsEvaluated job w))
-    spent_in_root r N s is same =
-        let c = root_cut job w (told_in z) in
-        stopped_in_root r N s (reported w.sheet c.passed (z.says.items ++ messages_of c.passed) (z.ticks + tick_count c.passed) c.end
-        (ended.Spent s) (ends_as (ended.Spent s) is)) same
-
-    pub full_in_root : {E : Type 0} (r : Result Reply E) (N : Type 0) (s : Spot) → o.ended ≡ ended.Full s
-        → IfOk r (λ reply. reply_of reply ≡ stopped_answer sheet.modules s (z.says.items ++ messages_in (items_of p.items))
-        (z.ticks + o.ticks))
-        → IfOk r (Replies N (IsEvaluated job w))
-    full_in_root r N s is same =
-        let c = root_cut job w (told_in z) in
-        stopped_in_root r N s (reported w.sheet c.passed (z.says.items ++ messages_of c.passed) (z.ticks + tick_count c.passed) c.end
-        (ended.Full s) (ends_as (ended.Full s) is)) same
+    pub stopped_in_root : (N : Type 0) (before all : Reply) (pieces : CodePieces) (s : Spot) → e.assembled.end ≡ Some s → pieces.claims.items ≡ e.claims.items
+        → pieces.inline ≡ e.assembled.inline → pieces.worked ≡ e.worked
+        → IsPlain (stopped_answer sheet.modules s says ticks no_pieces) before → reply_of all ≡ reply_of before → all.pieces ≡ pieces
+        → Replies N (IsEvaluated job w) all
+    stopped_in_root N before all pieces s is c i k plain with has =
+        let a : reply_of all ≡ stopped_answer sheet.modules s says ticks no_pieces = with ∙ ap (λ (p : Plain). p.answer) plain in
+        record {
+          document = None;
+          pieces = due;
+          answers = subst (IsEvaluated job w) (sym (ap (in_full None due) a)) (stopped_due s is);
+          run = runs all pieces has c i k (λ ok. let f : all.status ≡ RUN_FAULT = ap (λ (x : Answer). x.status) a in absurd (omega (arith, ok, f)));
+          reads = λ named. tt;
+        }

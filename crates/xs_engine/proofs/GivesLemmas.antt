@@ -3,15 +3,14 @@ use Rattle.std.proofs.Common.{◌≡◌, ◌≢◌, ℕ, ◌⊎◌, Bool, List, 
 use Rattle.xs_outside.specs.Edge.{Files}
 use Rattle.xs_engine.specs.declared.reply.Reply.{Reply}
 use Rattle.xs_engine.specs.declared.status.TheConstants.{NO_MEMORY, OK, WRITE_FAULT}
-use Rattle.xs_engine.specs.Answer.{Answer, Place}
+use Rattle.xs_engine.specs.Answer.{Answer, Pieces}
 use Rattle.xs_engine.specs.Job.{Request}
-use Rattle.xs_engine.specs.Headline.{Account, AreClaimed, AreSome, AtOnce, Gained, Gives, IsCutShort, IsWritten, OneFault, OnlyDue, Writes, claimed_places, none}
+use Rattle.xs_engine.specs.Headline.{Account, AreClaimed, AreRun, AtOnce, Gained, Gives, IsCutShort, IsWritten, OneFault, OnlyDue, Writes}
 use Rattle.xs_engine.specs.Due.{IsDue}
 use Rattle.xs_engine.specs.ReadBack.{ReadsAs}
-use Rattle.xs_engine.specs.Reply.{answer_of, reply_of}
+use Rattle.xs_engine.specs.Reply.{RunsPieces, answer_of, reply_of}
 use Rattle.xs_engine.proofs.DueLemmas.{each_due, only_due}
 use Rattle.xs_trace.specs.declared.event.Event.{Event}
-use Rattle.xs_trace.specs.declared.place.Claim.{Claim}
 
 -- a sink that was not written to holds what it held, and nothing more
 pub stays : (held : Option (List ℕ)) (P : List ℕ → Type 0) → P [] → Gained held held P
@@ -23,32 +22,32 @@ pub gains : (before after : Option (List ℕ)) (P : List ℕ → Type 0) → Gai
 gains None after P h = tt
 gains (Some b) after P h = (h.0, h.1, tt)
 
--- a run that has no pieces has no claims
-no_claims : (places : List Place) (claims : List Claim) → claims ≡ [] → places ≡ [] → AreSome (claimed_places claims) places
-no_claims places claims c p = subst (λ cs. AreSome (claimed_places cs) places) (sym c) (subst (λ ps. AreSome [] ps) (sym p) none)
-
-claimed : (a : Answer) (account : Account) → a.places ≡ [] → (account.pieces ≡ 0) × (account.inline ≡ 0) × (account.claims ≡ [])
-    → AreClaimed a account
-claimed a account p u = record {
-  number = u.0 ∙ sym (ap length u.2);
-  claimed = no_claims a.places account.claims u.2 p;
-  whole = λ ok. (ap claimed_places u.2 ∙ sym p, u.1);
+-- the report has how the pieces of a reply were run
+pub claimed : (reply : Reply) (document : Option (List Event)) (pieces : Pieces) (account : Account) → RunsPieces pieces reply
+    → account.pieces ≡ length reply.pieces.claims.items → account.claims ≡ reply.pieces.claims.items → account.inline ≡ reply.pieces.inline
+    → account.worked ≡ reply.pieces.worked → AreClaimed (answer_of reply document pieces) account
+claimed reply document pieces account run n c i w = record {
+  number = n ∙ ap length (sym c);
+  run =
+      subst (λ cs. AreRun pieces (reply.status ≡ OK) cs account.inline account.worked) (sym c)
+      (subst (λ m. AreRun pieces (reply.status ≡ OK) reply.pieces.claims.items m account.worked) (sym i)
+      (subst (λ m. AreRun pieces (reply.status ≡ OK) reply.pieces.claims.items reply.pieces.inline m) (sym w) run));
 }
 
 module _ (streamed : Bool) (account : Account) (out out' err err' : Option (List ℕ)) where
   -- what was written of a reply, with this account
-  pub gives : (reply : Reply) (document : Option (List Event)) (ended : ℕ) → account.status ≡ ended → account.ticks ≡ reply.ticks
-      → account.fault ≡ reply.fault → (account.pieces ≡ 0) × (account.inline ≡ 0) × (account.claims ≡ [])
+  pub gives : (reply : Reply) (document : Option (List Event)) (pieces : Pieces) (ended : ℕ) → account.status ≡ ended → account.ticks ≡ reply.ticks
+      → account.fault ≡ reply.fault → AreClaimed (answer_of reply document pieces) account
       → Writes (reply_of reply) ended out out' err err' → ReadsAs document reply.result.items
-      → Gives streamed (answer_of reply document) account out out' err err'
-  gives reply document ended e t f u w reads = record {
+      → Gives streamed (answer_of reply document pieces) account out out' err err'
+  gives reply document pieces ended e t f c w reads = record {
     status = subst (λ s. (s ≡ reply.status) ⊎ IsCutShort s) (sym e) w.status;
     result = subst (λ s. Gained out out' (IsWritten reply.result.items s)) (sym e) w.result;
     lines = subst (λ s. Gained err err' (IsWritten reply.lines.items s)) (sym e) w.lines;
     lines_first = λ _. w.lines_first;
     ticks = λ _. t;
     fault = λ _. f;
-    pieces = λ _. claimed (answer_of reply document) account refl u;
+    pieces = λ _. c;
     document = λ _. reads;
   }
 

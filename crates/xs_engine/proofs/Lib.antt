@@ -1,3 +1,4 @@
+pub mod ClaimLemmas
 pub mod CutFileLemmas
 pub mod DueLemmas
 pub mod EndLemmas
@@ -10,6 +11,8 @@ pub mod JobLemmas
 pub mod OneAnswerLemmas
 pub mod OneOrderLemmas
 pub mod OneSettlingLemmas
+pub mod PlaceLemmas
+pub mod RanLemmas
 pub mod ReadBackLemmas
 pub mod RefusalLemmas
 pub mod ReplyLemmas

@@ -1,5 +1,5 @@
 -- Files decide whether a run is refused.
-use Rattle.std.proofs.Common.{◌≡◌, ℕ, ◌⊎◌, inl, inr, List, [], ◌∷◌, ◌++◌, map, Option, Some, None, refl, sym, ap, subst, ◌∙◌, arith}
+use Rattle.std.proofs.Common.{◌≡◌, ℕ, Bool, ◌⊎◌, inl, inr, List, [], ◌∷◌, ◌++◌, map, Option, Some, None, refl, sym, ap, subst, ◌∙◌, arith}
 use Rattle.std.proofs.lemmas.List.Elements.{All-head, All-tail}
 use Rattle.std.specs.List.{All}
 use Rattle.xs_outside.specs.Edge.{Files}
@@ -21,7 +21,7 @@ use Rattle.xs_tree.specs.Record.{Record}
 use Rattle.xs_words.specs.Choice.{Pair}
 use Rattle.xs_engine.specs.declared.reply.ReportedFault.{ReportedFault}
 use Rattle.xs_engine.specs.declared.status.TheConstants.{NO_MEMORY, OK, READ_FAULT, REFUSED, RUN_FAULT, USAGE, WRITE_FAULT}
-use Rattle.xs_engine.specs.Answer.{Answer, reported}
+use Rattle.xs_engine.specs.Answer.{Answer, Pieces, reported}
 use Rattle.xs_engine.specs.Due.{IsAnswer, IsBytesAnswer, IsDue, IsEndAnswer, IsFaultlessAnswer, IsFile, IsInputsAnswer, IsModulesAnswer, IsReadAnswer}
 use Rattle.xs_engine.specs.Due.{IsRunAnswer, IsStaticAnswer, Owed, fault, own}
 use Rattle.xs_engine.specs.Evaluation as run
@@ -69,18 +69,18 @@ own_or_cut a written status e (inl same) = inl (e ∙ same)
 own_or_cut a written status e (inr failed) = inr (inl (e ∙ failed))
 
 -- ---- an evaluation is no refusal
-cut-status : (sheet : Sheet) (e : cut.End) (passed : Trace Task) (says : List (List ℕ)) (ticks : ℕ) (a : Answer)
-    → run.IsEndAnswer sheet e passed says ticks a → IsRun a.status
-cut-status sheet Whole passed says ticks a is = inl (ap status_in is)
-cut-status sheet (Fault f s) passed says ticks a is = inr (ap status_in is)
-cut-status sheet (Needs g s) passed says ticks a is = absurd is
-cut-status sheet (Spent s) passed says ticks a is = inr (ap status_in is)
-cut-status sheet (Full s) passed says ticks a is = inr (ap status_in is)
+cut-status : (stats : Bool) (sheet : Sheet) (e : cut.End) (passed : Trace Task) (says : List (List ℕ)) (ticks : ℕ) (pieces : Pieces) (a : Answer)
+    → run.IsEndAnswer stats sheet e passed says ticks pieces a → IsRun a.status
+cut-status stats sheet Whole passed says ticks pieces a is = inl (ap status_in is)
+cut-status stats sheet (Fault f s) passed says ticks pieces a is = inr (ap status_in is)
+cut-status stats sheet (Needs g s) passed says ticks pieces a is = absurd is
+cut-status stats sheet (Spent s) passed says ticks pieces a is = inr (ap status_in is)
+cut-status stats sheet (Full s) passed says ticks pieces a is = inr (ap status_in is)
 
 run-status : (job : Job) (w : World) (a : Answer) → IsEvaluated job w a → IsRun a.status
 run-status job w a (in_globals k e) = inr (ap status_in e)
 run-status job w a (in_root {t = t} k e) =
-    cut-status w.sheet (run.root_cut job w t).end (run.root_cut job w t).passed _ _ a e
+    cut-status job.stats w.sheet (run.root_cut job w t).end (run.root_cut job w t).passed _ _ (run.root_pieces job w t) a e
 
 evaluated-status : (job : Job) (sheet : Sheet) (ds : List Document) (a : Answer) → IsEvaluatedOver job sheet ds a → IsRun a.status
 evaluated-status job sheet ds a is = run-status job _ a is.1

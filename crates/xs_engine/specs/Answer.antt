@@ -1,5 +1,5 @@
 -- What a run owes to whoever called it.
-use Rattle.std.specs.Prelude.{ℕ, List, [], ◌∷◌, ◌++◌, Option, Some, None, codes, slice_get}
+use Rattle.std.specs.Prelude.{ℕ, Bool, true, false, List, [], ◌∷◌, ◌++◌, length, Option, Some, None, codes, slice_get}
 use Rattle.std.specs.Fmt.{decimal}
 use Rattle.std.specs.List.{flat_map}
 use Rattle.std.specs.Option.{unwrap_or}
@@ -21,16 +21,25 @@ use Rattle.xs_engine.specs.Faults.{fault_name, run_fault_name}
 abbrev pub Place : Type 0
 Place = List ℕ
 
--- its status, the bytes of the result, the bytes of the lines for the user, the fault that ended it, the ticks that it spent, the
--- places of its pieces in order (none where it does not come to pieces), and, where the result is the lines of a document, the events
--- of that
+-- The pieces of a run: the places of all of them in order, how many ticks they may take, and how many of these passed the cut.
+pub record Pieces : Type 0 where
+  pub places : List Place
+  pub limit : ℕ
+  pub ticks : ℕ
+
+-- a run that does not come to pieces
+abbrev pub no_pieces : Pieces
+no_pieces = record { places = []; limit = 0; ticks = 0 }
+
+-- its status, the bytes of the result, the bytes of the lines for the user, the fault that ended it, the ticks that it spent, its
+-- pieces, and, where the result is the lines of a document, the events of that
 pub record Answer : Type 0 where
   pub status : ℕ
   pub result : List ℕ
   pub lines : List ℕ
   pub fault : Option ReportedFault
   pub ticks : ℕ
-  pub places : List Place
+  pub pieces : Pieces
   pub document : Option (List Event)
 
 -- the line that refuses the words
@@ -58,7 +67,7 @@ message_line text = codes "message " ++ escaped text ++ 10 ∷ []
 
 -- the words are refused
 abbrev pub usage : Answer
-usage = record { status = USAGE; result = []; lines = usage_line; fault = None; ticks = 0; places = []; document = None }
+usage = record { status = USAGE; result = []; lines = usage_line; fault = None; ticks = 0; pieces = no_pieces; document = None }
 
 -- a name could not be read
 abbrev pub read_fault : List ℕ → Answer
@@ -68,7 +77,7 @@ read_fault name = record {
   lines = file_fault_line UNREADABLE name 0;
   fault = Some (reported UNREADABLE name 0);
   ticks = 0;
-  places = [];
+  pieces = no_pieces;
   document = None;
 }
 
@@ -80,13 +89,13 @@ refused_file fault name line = record {
   lines = file_fault_line fault name line;
   fault = Some (reported fault name line);
   ticks = 0;
-  places = [];
+  pieces = no_pieces;
   document = None;
 }
 
 -- a stylesheet that was only checked has no fault
 abbrev pub faultless : Answer
-faultless = record { status = OK; result = []; lines = []; fault = None; ticks = 0; places = []; document = None }
+faultless = record { status = OK; result = []; lines = []; fault = None; ticks = 0; pieces = no_pieces; document = None }
 
 -- the lines of all messages, in order
 abbrev pub message_lines : List (List ℕ) → List ℕ
@@ -103,15 +112,24 @@ abbrev pub document_of : Method → List Event → Option (List Event)
 document_of Pyx events = Some (built events)
 document_of Text events = None
 
+-- the line that reports how many ticks and pieces a run took
+abbrev pub stats_line : (ticks pieces : ℕ) → List ℕ
+stats_line ticks pieces = codes "stats " ++ decimal ticks ++ codes " " ++ decimal pieces ++ 10 ∷ []
+
+-- it is there where it is asked for
+abbrev pub stats_lines : (stats : Bool) → (ticks pieces : ℕ) → List ℕ
+stats_lines false ticks pieces = []
+stats_lines true ticks pieces = stats_line ticks pieces
+
 -- The evaluation came to its end: the result is that of these events.
-abbrev pub whole_answer : Method → (says : List (List ℕ)) → List Event → (ticks : ℕ) → Answer
-whole_answer method says events ticks = record {
+abbrev pub whole_answer : Method → (stats : Bool) → (says : List (List ℕ)) → List Event → (ticks : ℕ) → Pieces → Answer
+whole_answer method stats says events ticks pieces = record {
   status = OK;
   result = result_of method events;
-  lines = message_lines says;
+  lines = message_lines says ++ stats_lines stats ticks (length pieces.places);
   fault = None;
   ticks = ticks;
-  places = [];
+  pieces = pieces;
   document = document_of method events;
 }
 
@@ -120,14 +138,14 @@ abbrev pub name_in : List (List ℕ) → ℕ → List ℕ
 name_in names n = unwrap_or (slice_get names n) []
 
 -- The evaluation ended in a fault, at a line of a module: there are the messages before it, and no result.
-abbrev pub stopped_answer : (names : List (List ℕ)) → Spot → (says : List (List ℕ)) → (ticks : ℕ) → Answer
-stopped_answer names spot says ticks = record {
+abbrev pub stopped_answer : (names : List (List ℕ)) → Spot → (says : List (List ℕ)) → (ticks : ℕ) → Pieces → Answer
+stopped_answer names spot says ticks pieces = record {
   status = RUN_FAULT;
   result = [];
   lines = message_lines says
       ++ fault_line (fault_number spot.fault) (run_fault_name spot.fault) (name_in names spot.«module») spot.line;
   fault = Some (reported (fault_number spot.fault) (name_in names spot.«module») spot.line);
   ticks = ticks;
-  places = [];
+  pieces = pieces;
   document = None;
 }

@@ -1,12 +1,13 @@
 -- What a compiled stylesheet makes of a source, cut at the limits of a job.
-use Rattle.std.specs.Prelude.{◌≡◌, ℕ, ◌+◌, ◌-◌, List, ◌++◌}
+use Rattle.std.specs.Prelude.{◌≡◌, ℕ, ◌+◌, ◌-◌, Bool, List, ◌++◌, Some}
 use Rattle.xs_semantics.specs.Globals.{SettlesAll, Table, ended, settled, with_globals}
 use Rattle.xs_semantics.specs.Tasks.{Task}
 use Rattle.xs_semantics.specs.Trace.{root_task, task_trace}
-use Rattle.xs_semantics.specs.World.{World, ground}
-use Rattle.xs_engine.specs.Answer.{Answer, stopped_answer, whole_answer}
+use Rattle.xs_semantics.specs.World.{World, ground, with_grain}
+use Rattle.xs_engine.specs.Answer.{Answer, Pieces, no_pieces, stopped_answer, whole_answer}
 use Rattle.xs_engine.specs.Inputs.{Document, joined}
 use Rattle.xs_engine.specs.Job.{Job}
+use Rattle.xs_engine.specs.Places.{task_places}
 use Rattle.xs_keys.specs.KeyTables.{tables_of}
 use Rattle.xs_rules.specs.WhiteSpace.{stripped}
 use Rattle.xs_semantics.specs.declared.index.SheetIndex.{SheetIndex}
@@ -19,31 +20,48 @@ use Rattle.xs_trace.specs.declared.item.Spot.{Spot}
 use Rattle.xs_tree.specs.Record.{Record}
 use Rattle.xs_tree.specs.Stripping.{without}
 
--- By the end of a cut, whose messages and ticks are these with those before it. Once all globals have values nothing needs one.
-abbrev pub IsEndAnswer : Sheet → End → Trace Task → (says : List (List ℕ)) → (ticks : ℕ) → Answer → Type 0
-IsEndAnswer sheet Whole passed says ticks answer = answer ≡ whole_answer sheet.method says (events_of passed) ticks
-IsEndAnswer sheet (Fault fault site) passed says ticks answer = answer ≡ stopped_answer sheet.modules (spot fault site) says ticks
-IsEndAnswer sheet (Needs global site) passed says ticks answer = ⊥
-IsEndAnswer sheet (Spent site) passed says ticks answer = answer ≡ stopped_answer sheet.modules (spot Budget site) says ticks
-IsEndAnswer sheet (Full site) passed says ticks answer = answer ≡ stopped_answer sheet.modules (spot TooManyEvents site) says ticks
+-- By the end of a cut, whose messages and ticks are these with those before it, and by its pieces. Once all globals have values
+-- nothing needs one.
+abbrev pub IsEndAnswer : (stats : Bool) → Sheet → End → Trace Task → (says : List (List ℕ)) → (ticks : ℕ) → Pieces → Answer → Type 0
+IsEndAnswer stats sheet Whole passed says ticks pieces answer =
+    answer ≡ whole_answer sheet.method stats says (events_of passed) ticks pieces
+IsEndAnswer stats sheet (Fault fault site) passed says ticks pieces answer =
+    answer ≡ stopped_answer sheet.modules (spot fault site) says ticks pieces
+IsEndAnswer stats sheet (Needs global site) passed says ticks pieces answer = ⊥
+IsEndAnswer stats sheet (Spent site) passed says ticks pieces answer =
+    answer ≡ stopped_answer sheet.modules (spot Budget site) says ticks pieces
+IsEndAnswer stats sheet (Full site) passed says ticks pieces answer =
+    answer ≡ stopped_answer sheet.modules (spot TooManyEvents site) says ticks pieces
 
--- behind what was said and taken for the globals
-abbrev pub IsCutAnswer : Sheet → Table → Cut Task → Answer → Type 0
-IsCutAnswer sheet t c answer =
-    IsEndAnswer sheet c.end c.passed (t.says ++ messages_of c.passed) (t.ticks + tick_count c.passed) answer
+-- after what was said and taken for the globals
+abbrev pub IsCutAnswer : (stats : Bool) → Sheet → Table → Pieces → Cut Task → Answer → Type 0
+IsCutAnswer stats sheet t pieces c answer =
+    IsEndAnswer stats sheet c.end c.passed (t.says ++ messages_of c.passed) (t.ticks + tick_count c.passed) pieces answer
 
 -- what the root of the source takes over the values of the globals, cut at what is left of the budget and at the most events
 -- (XSLT 1.0, 5.1)
 abbrev pub root_cut : Job → World → Table → Cut Task
 root_cut job w t = cut (task_trace (with_globals w t.values) (root_task (with_globals w t.values))) (job.budget - t.ticks) job.most_events
 
+-- the world in which more nodes than the grain are left to further pieces
+abbrev pub in_pieces : Job → World → Table → World
+in_pieces job w t = with_grain (Some job.grain) (with_globals w t.values)
+
+-- the pieces into which the root's trace is cut up; by what they put, say and take they change nothing
+abbrev pub root_pieces : Job → World → Table → Pieces
+root_pieces job w t = record {
+  places = task_places (in_pieces job w t) (root_task (in_pieces job w t));
+  limit = job.budget - t.ticks;
+  ticks = tick_count (root_cut job w t).passed;
+}
+
 -- The globals are settled first, by the texts that are given (11.4), and then the root of the source takes its template; the run may
 -- end in either.
 pub data IsEvaluated (job : Job) (w : World) (answer : Answer) : Type 0 where
   in_globals : {t : Table} {s : Spot} → SettlesAll w job.given job.budget (ended t s)
-      → answer ≡ stopped_answer w.sheet.modules s t.says t.ticks → IsEvaluated job w answer
+      → answer ≡ stopped_answer w.sheet.modules s t.says t.ticks no_pieces → IsEvaluated job w answer
   in_root : {t : Table} → SettlesAll w job.given job.budget (settled t)
-      → IsCutAnswer w.sheet t (root_cut job w t) answer → IsEvaluated job w answer
+      → IsCutAnswer job.stats w.sheet t (root_pieces job w t) (root_cut job w t) answer → IsEvaluated job w answer
 
 -- Over a tree, with the tables of its keys (12.2); by which index the rules of the stylesheet are found changes nothing.
 abbrev pub IsEvaluatedOn : Job → Sheet → List Record → Answer → Type 0

@@ -1,9 +1,10 @@
 -- What holds after a run, whatever its words, files, sinks, workers and schedule.
-use Rattle.std.specs.Prelude.{◌≡◌, ◌≢◌, ℕ, ◌⊎◌, Bool, false, List, [], ◌∷◌, ◌++◌, map, length, Option, Some, None, IfSome}
+use Rattle.std.specs.List.{All}
+use Rattle.std.specs.Prelude.{◌≡◌, ◌≢◌, ◌<◌, ◌≤◌, ◌+◌, ◌*◌, ℕ, ◌⊎◌, Bool, false, List, [], ◌∷◌, ◌++◌, map, length, Option, Some, None, IfSome}
 use Rattle.xs_outside.specs.Edge.{Files, IsBeginning, raised}
 use Rattle.xs_engine.specs.declared.reply.ReportedFault.{ReportedFault}
 use Rattle.xs_engine.specs.declared.status.TheConstants.{OK, RUN_FAULT, WRITE_FAULT, NO_MEMORY}
-use Rattle.xs_engine.specs.Answer.{Answer, Place}
+use Rattle.xs_engine.specs.Answer.{Answer, Pieces, Place}
 use Rattle.xs_engine.specs.Due.{IsDue}
 use Rattle.xs_engine.specs.Job.{Request}
 use Rattle.xs_engine.specs.Made.{files_of}
@@ -54,7 +55,7 @@ pub record Writes (due : Answer) (ended : ℕ) (out out_after err err_after : Op
   pub lines_first : LinesFirst due.lines out out_after err err_after
 
 -- What a report says besides what was written: the status, the ticks, the fault, the number of pieces, how many of them were evaluated
--- again in their place, and the claims.
+-- again in their place, the claims, and how many ticks all pieces took.
 pub record Account : Type 0 where
   pub status : ℕ
   pub ticks : ℕ
@@ -62,6 +63,7 @@ pub record Account : Type 0 where
   pub pieces : ℕ
   pub inline : ℕ
   pub claims : List Claim
+  pub worked : ℕ
 
 -- some of these, in their order
 pub data AreSome {A : Type 0} : List A → List A → Type 0 where
@@ -72,12 +74,25 @@ pub data AreSome {A : Type 0} : List A → List A → Type 0 where
 abbrev pub claimed_places : List Claim → List Place
 claimed_places claims = map (λ claim. claim.place) claims
 
--- The pieces of a run, by their places in order: as many as claims; each was claimed at most once, in that order, and no other place
--- was; where the run came to its end, each was, and none was evaluated again.
+-- How the pieces that are due were run, by the claims in the order of places, how many pieces were evaluated again in their place, and
+-- how many ticks all took.
+pub record AreRun (due : Pieces) (is_whole : Type 0) (claims : List Claim) (inline worked : ℕ) : Type 0 where
+  -- each was claimed at most once, by the first worker, and no other place was
+  pub claimed : AreSome (claimed_places claims) due.places
+  pub workers : All (λ claim. claim.worker ≡ 0) claims
+  -- where the run came to its end, each was, none was evaluated again, and they took the ticks that are due and no more
+  pub whole : is_whole → (claimed_places claims ≡ due.places) × (inline ≡ 0) × (worked ≡ due.ticks)
+  -- they took the ticks that are due, and maybe more; one is evaluated again only where that is above their limit; and there is a bound
+  pub taken : due.ticks ≤ worked
+  pub again : 0 < inline → due.limit < worked
+  pub bound : worked ≤ 2 * due.limit + 1024
+  -- where there are none, nothing was done
+  pub idle : due.places ≡ [] → (inline ≡ 0) × (worked ≡ 0)
+
+-- The pieces of a run: as many as claims, which are of those that are due.
 pub record AreClaimed (due : Answer) (account : Account) : Type 0 where
   pub number : account.pieces ≡ length account.claims
-  pub claimed : AreSome (claimed_places account.claims) due.places
-  pub whole : due.status ≡ OK → (claimed_places account.claims ≡ due.places) × (account.inline ≡ 0)
+  pub run : AreRun due.pieces (due.status ≡ OK) account.claims account.inline account.worked
 
 -- A run gave what is due: the report has this account, and the sinks hold these bytes before the run and after.
 pub record Gives (streamed : Bool) (due : Answer) (account : Account) (out out_after err err_after : Option (List ℕ)) : Type 0 where

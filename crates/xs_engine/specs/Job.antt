@@ -17,6 +17,9 @@ pub record Job : Type 0 where
   -- how many ticks it may take, and how many events it may put, where there is a limit
   pub budget : ℕ
   pub most_events : Option ℕ
+  -- how many nodes of a loop make a piece, and whether the ticks and pieces are reported
+  pub grain : ℕ
+  pub stats : Bool
 
 abbrev pub file_of : Pair → List ℕ
 file_of input = input.1
@@ -50,11 +53,11 @@ abbrev pub has_none : List Pair → Bool
 has_none [] = true
 has_none (pair ∷ pairs) = false
 
--- Nothing is asked for that is not supported: no ticks and pieces are reported, no profile and no place of a tick, the result is not
--- streamed, and there are no further documents.
+-- Nothing is asked for that is not supported: no profile and no place of a tick, the result is not streamed, and there are no
+-- further documents.
 abbrev pub is_supported : Choice → Bool
 is_supported choice =
-    not (choice.stats || (choice.profile || choice.stream))
+    not (choice.profile || choice.stream)
     && (is_none choice.at && has_none choice.documents)
 
 -- a stylesheet on a source
@@ -66,6 +69,8 @@ source_job choice sheet source texts = record {
   given = texts;
   budget = choice.budget;
   most_events = choice.max_events;
+  grain = choice.grain;
+  stats = choice.stats;
 }
 
 -- a stylesheet alone
@@ -77,24 +82,28 @@ check_job choice sheet = record {
   given = [];
   budget = choice.budget;
   most_events = choice.max_events;
+  grain = choice.grain;
+  stats = choice.stats;
 }
 
 -- a stylesheet on a source, both of which are made
-abbrev pub made_job : (budget : ℕ) → (most_events : Option ℕ) → Job
-made_job budget most_events = record {
+abbrev pub made_job : (budget : ℕ) → (most_events : Option ℕ) → (grain : ℕ) → (stats : Bool) → Job
+made_job budget most_events grain stats = record {
   sheet = made_sheet;
   source = Some made_source;
   documents = [];
   given = [];
   budget = budget;
   most_events = most_events;
+  grain = grain;
+  stats = stats;
 }
 
--- The workers and the grain change nothing.
+-- The workers change nothing.
 abbrev pub work_request : Choice → Work → Request
 work_request choice (files sheet source texts) = plain (source_job choice sheet source texts)
 work_request choice (check sheet) = plain (check_job choice sheet)
-work_request choice (load count) = record (plain (made_job choice.budget choice.max_events)) { made = Some count }
+work_request choice (load count) = record (plain (made_job choice.budget choice.max_events choice.grain choice.stats)) { made = Some count }
 
 abbrev pub supported_request : Choice → Option Request
 supported_request choice = where_it_holds (is_supported choice) (Some (work_request choice choice.job))

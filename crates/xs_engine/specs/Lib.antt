@@ -8,6 +8,8 @@ pub mod Items
 pub mod Inputs
 pub mod Job
 pub mod Made
+pub mod Places
+pub mod Ran
 pub mod Read
 pub mod ReadBack
 pub mod Refusals

@@ -1,5 +1,5 @@
 -- A reply as an answer, a job and a stylesheet as the code has them, and what the reading of a source gives.
-use Rattle.std.specs.Prelude.{◌≡◌, ◌≢◌, ℕ, List, [], ◌∷◌, ◌++◌, ◌⊎◌, Option, Some, None, Result, Ok, Err}
+use Rattle.std.specs.Prelude.{◌≡◌, ◌≢◌, ◌≤◌, ◌^◌, ℕ, List, [], ◌∷◌, ◌++◌, ◌⊎◌, Option, Some, None, Result, Ok, Err}
 use Rattle.xs_outside.specs.Edge.{Files}
 use Rattle.xs_outside.specs.declared.edge.FetchEnd.{FetchEnd}
 use Rattle.xs_outside.specs.declared.edge.FetchEnd.TheVariants.{Failed, NoMemory}
@@ -10,12 +10,13 @@ use Rattle.xs_engine.specs.declared.reply.Reply.{Reply}
 use Rattle.xs_engine.specs.declared.top.Report.{Report}
 use Rattle.xs_engine.specs.declared.status.TheConstants.{OK}
 use Rattle.xs_trace.specs.declared.event.Event.{Event}
+use Rattle.xs_trace.specs.declared.place.Claim.{Claim}
 use Rattle.xs_modules.specs.Numbering.{ModuleData}
 use Rattle.xs_static.specs.Faults.{IsFirstFault}
 use Rattle.xs_static.specs.declared.fault.StaticFault.{StaticFault}
-use Rattle.xs_engine.specs.Answer.{Answer, faultless, refused_file}
+use Rattle.xs_engine.specs.Answer.{Answer, Pieces, faultless, no_pieces, refused_file}
 use Rattle.xs_engine.specs.Run.{module_name}
-use Rattle.xs_engine.specs.Headline.{Account}
+use Rattle.xs_engine.specs.Headline.{Account, AreRun}
 use Rattle.xs_engine.specs.Inputs.{AsksInputs}
 use Rattle.xs_engine.specs.Job.{Job, Request, files_on, plain}
 use Rattle.xs_engine.specs.Read.{Read}
@@ -29,31 +30,71 @@ job_data job = record {
   given = job.given.items;
   budget = job.budget;
   most_events = job.most_events;
+  grain = job.grain;
+  stats = job.stats;
 }
+
+-- the numbers of a job are within their limits
+pub record IsWithin (job : Job) : Type 0 where
+  pub budget : job.budget ≤ 2 ^ 40
+  pub grain : 1 ≤ job.grain
 
 abbrev pub request_data : CodeRequest → Request
 request_data request = record (plain (job_data request.job)) { made = request.made }
 
--- a reply as an answer, of which the result is the lines of these events
-abbrev pub answer_of : Reply → (document : Option (List Event)) → Answer
-answer_of reply document = record {
+-- a reply as an answer, which has these pieces, and of which the result is the lines of these events
+abbrev pub answer_of : Reply → (document : Option (List Event)) → Pieces → Answer
+answer_of reply document pieces = record {
   status = reply.status;
   result = reply.result.items;
   lines = reply.lines.items;
   fault = reply.fault;
   ticks = reply.ticks;
-  places = [];
+  pieces = pieces;
   document = document;
 }
 
--- a reply without such lines
+-- a reply without such lines and without pieces
 abbrev pub reply_of : Reply → Answer
-reply_of reply = answer_of reply None
+reply_of reply = answer_of reply None no_pieces
 
--- A reply is an answer of which P says this; and where N holds, its result reads back as the events of this very answer.
+-- what a reply has besides: the claims, the pieces that were evaluated again, and the ticks of all
+pub record Plain : Type 0 where
+  pub answer : Answer
+  pub claims : List Claim
+  pub inline : ℕ
+  pub worked : ℕ
+
+abbrev pub plain_of : Reply → Plain
+plain_of reply = record {
+  answer = reply_of reply;
+  claims = reply.pieces.claims.items;
+  inline = reply.pieces.inline;
+  worked = reply.pieces.worked;
+}
+
+abbrev pub without_pieces : Answer → Plain
+without_pieces answer = record { answer = answer; claims = []; inline = 0; worked = 0 }
+
+-- a reply is an answer that has no pieces
+abbrev pub IsPlain : Answer → Reply → Type 0
+IsPlain answer reply = plain_of reply ≡ without_pieces answer
+
+-- a reply took no ticks and has no pieces
+abbrev pub IsUnspent : Reply → Type 0
+IsUnspent reply = (reply.ticks ≡ 0) × (reply.pieces.claims.items ≡ []) × (reply.pieces.inline ≡ 0) × (reply.pieces.worked ≡ 0)
+
+-- the pieces of a reply were run, of which these are due
+abbrev pub RunsPieces : Pieces → Reply → Type 0
+RunsPieces due reply = AreRun due (reply.status ≡ OK) reply.pieces.claims.items reply.pieces.inline reply.pieces.worked
+
+-- A reply is an answer of which P says this, and its pieces were run; and where N holds, its result reads back as the events of this
+-- very answer.
 pub record Replies (N : Type 0) (P : Answer → Type 0) (reply : Reply) : Type 0 where
   pub document : Option (List Event)
-  pub answers : P (answer_of reply document)
+  pub pieces : Pieces
+  pub answers : P (answer_of reply document pieces)
+  pub run : RunsPieces pieces reply
   pub reads : N → ReadsAs document reply.result.items
 
 abbrev pub account_of : Report → Account
@@ -64,6 +105,7 @@ account_of report = record {
   pieces = report.pieces;
   inline = report.inline;
   claims = report.claims.items;
+  worked = report.worked;
 }
 
 -- only a status of 0 has a result
@@ -93,11 +135,11 @@ abbrev pub GoesTo : (source name : List ℕ) → Type 0
 GoesTo source name = name ≡ source
 
 -- the answer of a stylesheet that is only checked: its first static fault, or nothing
-abbrev pub IsCheckAnswer : Option StaticFault → List ModuleData → Answer → Type 0
-IsCheckAnswer None modules answer = answer ≡ faultless
-IsCheckAnswer (Some fault) modules answer = answer ≡ refused_file fault.number (module_name modules fault.«module») fault.line
+abbrev pub check_answer : Option StaticFault → List ModuleData → Answer
+check_answer None modules = faultless
+check_answer (Some fault) modules = refused_file fault.number (module_name modules fault.«module») fault.line
 
-pub record IsChecked (modules : List ModuleData) (answer : Answer) : Type 0 where
+pub record IsChecked (modules : List ModuleData) (reply : Reply) : Type 0 where
   pub fault : Option StaticFault
   pub first : IsFirstFault modules fault
-  pub answers : IsCheckAnswer fault modules answer
+  pub answers : IsPlain (check_answer fault modules) reply

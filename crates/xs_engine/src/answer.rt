@@ -13,8 +13,8 @@ ghost use Rattle.xs_engine.specs.Fetches.{Fetches, GoesOn, Grew, JobFetches};
 ghost use Rattle.xs_engine.specs.Headline.{HasTicks};
 ghost use Rattle.xs_engine.specs.Job.{inputs_on, request_of};
 ghost use Rattle.xs_engine.specs.Made.{made_files};
-ghost use Rattle.xs_engine.specs.Reply.{AsksSource, GoesTo, IsChecked, IsWholeOrEmpty};
-ghost use Rattle.xs_engine.specs.Reply.{Replies, job_data, reply_of};
+ghost use Rattle.xs_engine.specs.Reply.{AsksSource, GoesTo, IsChecked, IsPlain, IsUnspent};
+ghost use Rattle.xs_engine.specs.Reply.{IsWholeOrEmpty, IsWithin, Replies, job_data};
 ghost use Rattle.xs_engine.specs.Run.{module_name};
 ghost use Rattle.xs_runs_read_back.specs.Laws.{AreTrees};
 ghost use Rattle.xs_well_put.specs.Named.{IsNamedSheet};
@@ -52,7 +52,7 @@ pub fn reply_to<R: Threads + Sync, L: Library>(
     ensures read_fault_only { IfOk result (λ reply. reply.status ≡ READ_FAULT
         → length (L.failed library.old) < length (L.failed library.new)) }
     ensures status { IfOk result (λ reply. reply.status < WRITE_FAULT) }
-    ensures ticks { IfOk result (λ reply. HasTicks reply.status ⊎ (reply.ticks ≡ 0)) }
+    ensures ticks { IfOk result (λ reply. HasTicks reply.status ⊎ IsUnspent reply) }
     ensures whole_only { IfOk result IsWholeOrEmpty }
 {
     match read_request(alloc, words) {
@@ -72,12 +72,13 @@ fn made_reply<R: Threads + Sync>(
     job: &Job,
     count: u32,
 ) -> Result<Reply, AllocError>
+    requires within { IsWithin (job_data job.now) }
     ensures answer { IfOk result (Replies (Unit {0})
         (IsAnswer (Some (made_files count)) (job_data job.now))) }
     ensures read { IfOk result (λ reply. reply.status ≢ READ_FAULT) }
     ensures status { IfOk result (λ reply.
         (reply.status ≢ USAGE) × (reply.status < WRITE_FAULT)) }
-    ensures ticks { IfOk result (λ reply. HasTicks reply.status ⊎ (reply.ticks ≡ 0)) }
+    ensures ticks { IfOk result (λ reply. HasTicks reply.status ⊎ IsUnspent reply) }
     ensures whole_only { IfOk result IsWholeOrEmpty }
 {
     let (sheet, source) = load_case(alloc, count)?;
@@ -92,6 +93,7 @@ fn job_reply<R: Threads + Sync, L: Library>(
     job: &Job,
     library: &mut L,
 ) -> Result<Reply, AllocError>
+    requires within { IsWithin (job_data job.now) }
     ensures files { L.files library.new ≡ L.files library.old }
     ensures fetches { JobFetches (job_data job.now) (L.files library.old)
         (L.asked library.old) (L.asked library.new) (L.failed library.old) (L.failed library.new) }
@@ -102,7 +104,7 @@ fn job_reply<R: Threads + Sync, L: Library>(
         → length (L.failed library.old) < length (L.failed library.new)) }
     ensures status { IfOk result (λ reply.
         (reply.status ≢ USAGE) × (reply.status < WRITE_FAULT)) }
-    ensures ticks { IfOk result (λ reply. HasTicks reply.status ⊎ (reply.ticks ≡ 0)) }
+    ensures ticks { IfOk result (λ reply. HasTicks reply.status ⊎ IsUnspent reply) }
     ensures whole_only { IfOk result IsWholeOrEmpty }
 {
     match read_modules(alloc, library, job.sheet.as_str()) {
@@ -128,7 +130,8 @@ fn modules_reply<R: Threads + Sync, L: Library>(
     modules: &Modules,
     library: &mut L,
 ) -> Result<Reply, AllocError>
-    requires { IsSound (modules_data modules.now) }
+    requires sound { IsSound (modules_data modules.now) }
+    requires within { IsWithin (job_data job.now) }
     ensures files { L.files library.new ≡ L.files library.old }
     ensures asks { Grew (AsksSource (GoesOn (job_data job.now) (modules_data modules.now))
         (L.files library.old) (job_data job.now))
@@ -140,7 +143,7 @@ fn modules_reply<R: Threads + Sync, L: Library>(
         → length (L.failed library.old) < length (L.failed library.new)) }
     ensures status { IfOk result (λ reply.
         (reply.status ≢ USAGE) × (reply.status < WRITE_FAULT)) }
-    ensures ticks { IfOk result (λ reply. HasTicks reply.status ⊎ (reply.ticks ≡ 0)) }
+    ensures ticks { IfOk result (λ reply. HasTicks reply.status ⊎ IsUnspent reply) }
     ensures whole_only { IfOk result IsWholeOrEmpty }
 {
     xs_runs_read_back::laws::sheets_are_named();
@@ -167,11 +170,10 @@ fn modules_are_trees(modules: &Modules)
 /// The answer of a stylesheet that is only checked: its first static fault, or nothing.
 fn check_reply(alloc: Global, modules: &Modules) -> Result<Reply, AllocError>
     requires { IsSound (modules_data modules.now) }
-    ensures answer { IfOk result (λ reply.
-        IsChecked (modules_data modules.now) (reply_of reply)) }
+    ensures answer { IfOk result (IsChecked (modules_data modules.now)) }
     ensures status { IfOk result (λ reply.
         (reply.status ≡ OK) ⊎ (reply.status ≡ REFUSED)) }
-    ensures ticks { IfOk result (λ reply. reply.ticks ≡ 0) }
+    ensures ticks { IfOk result IsUnspent }
     ensures whole_only { IfOk result IsWholeOrEmpty }
 {
     match first_fault(alloc, modules)? {
@@ -183,10 +185,10 @@ fn check_reply(alloc: Global, modules: &Modules) -> Result<Reply, AllocError>
 /// A static fault, told by the name of its module.
 fn static_reply(alloc: Global, modules: &Modules, fault: StaticFault) -> Result<Reply, AllocError>
     requires { fault.«module» < length (modules_data modules.now) }
-    ensures answer { IfOk result (λ reply. reply_of reply ≡ refused_file fault.number
-        (module_name (modules_data modules.now) fault.«module») fault.line) }
+    ensures answer { IfOk result (IsPlain (refused_file fault.number
+        (module_name (modules_data modules.now) fault.«module») fault.line)) }
     ensures status { IfOk result (λ reply. reply.status ≡ REFUSED) }
-    ensures ticks { IfOk result (λ reply. reply.ticks ≡ 0) }
+    ensures ticks { IfOk result IsUnspent }
     ensures whole_only { IfOk result IsWholeOrEmpty }
 {
     let module = &modules.list[fault.module as usize];
@@ -203,6 +205,7 @@ pub fn run_reply<R: Threads + Sync, L: Library>(
     library: &mut L,
 ) -> Result<Reply, AllocError>
     requires sound { SheetIsSound sheet.now }
+    requires within { IsWithin (job_data job.now) }
     ensures files { L.files library.new ≡ L.files library.old }
     ensures asks { Grew (AsksSource (GoesTo source.now)
         (L.files library.old) (job_data job.now))
@@ -215,7 +218,7 @@ pub fn run_reply<R: Threads + Sync, L: Library>(
         → length (L.failed library.old) < length (L.failed library.new)) }
     ensures status { IfOk result (λ reply.
         (reply.status ≢ USAGE) × (reply.status < WRITE_FAULT)) }
-    ensures ticks { IfOk result (λ reply. HasTicks reply.status ⊎ (reply.ticks ≡ 0)) }
+    ensures ticks { IfOk result (λ reply. HasTicks reply.status ⊎ IsUnspent reply) }
     ensures whole_only { IfOk result IsWholeOrEmpty }
 {
     match read_source(alloc, source.as_str(), library) {

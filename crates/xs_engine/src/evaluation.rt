@@ -1,15 +1,16 @@
 //! What a stylesheet makes of a source, cut at the limits of a job.
 
 ghost use Rattle.std.specs.List.{All};
-ghost use Rattle.std.specs.Prelude.{◌≡◌, ◌≤◌, ◌⊎◌, [], ◌∷◌, IfOk, IsSome, None, OnOk};
+ghost use Rattle.std.specs.Prelude.{◌≡◌, ◌≤◌, ◌+◌, ◌⊎◌, [], ◌∷◌, IfOk, IsSome, None, OnOk};
 ghost use Rattle.xs_semantics.specs.Globals.{SettlesAll};
-ghost use Rattle.xs_semantics.specs.World.{ground};
-ghost use Rattle.xs_globals.specs.Results.{settled_of};
+ghost use Rattle.xs_semantics.specs.World.{World as Over, ground};
+ghost use Rattle.xs_globals.specs.Results.{settled_of, told_in};
 ghost use Rattle.xs_eval.specs.Conditions.{IsInIf};
 ghost use Rattle.xs_engine.specs.declared.status.TheConstants.{OK, RUN_FAULT};
 ghost use Rattle.xs_engine.specs.Evaluation.{IsEvaluated, IsEvaluatedOn, IsEvaluatedOver};
 ghost use Rattle.xs_engine.specs.Inputs.{named_document};
-ghost use Rattle.xs_engine.specs.Reply.{IsWholeOrEmpty, Replies, job_data};
+ghost use Rattle.xs_engine.specs.Ran.{IsRan};
+ghost use Rattle.xs_engine.specs.Reply.{IsWholeOrEmpty, IsWithin, Replies, job_data};
 ghost use Rattle.xs_making.specs.Laws.{AreWell};
 ghost use Rattle.xs_well_put.specs.Named.{IsNamedSheet, IsNamedWorld};
 ghost use Rattle.xs_rules.specs.Indexed.{IsIndex, IsPrepared};
@@ -21,12 +22,13 @@ ghost use Rattle.xs_sheet.specs.Sound.{IsSound};
 ghost use Rattle.xs_tree.specs.Stripping.{without};
 
 use crate::job::Job;
-use crate::reply::{Reply, stopped_reply, whole_reply};
+use crate::reply::{Pieces, Reply, stopped_reply, whole_reply, with_pieces, with_stats};
 use std::alloc::{AllocError, Global};
 use std::thread::Threads;
+use xs_assemble::assembled::Executed;
+use xs_assemble::execute::execute;
 use xs_block::chain::Chain;
 use xs_block::pool::Pool;
-use xs_body::runner::SheetRunner;
 use xs_body::world::World;
 use xs_globals::settled::Settled;
 use xs_globals::settling::settle;
@@ -35,7 +37,8 @@ use xs_rules::white_space::strip_space;
 use xs_semantics::index::SheetIndex;
 use xs_sheet::declarations::StripRule;
 use xs_sheet::sheet::Sheet;
-use xs_trace::item::{Ended, Limits};
+use xs_sheet_pieces::runner::SheetPieces;
+use xs_trace::item::Limits;
 use xs_tree::Tree;
 use xs_value::keys::KeyFinder;
 
@@ -49,6 +52,7 @@ pub fn evaluate<R: Threads + Sync>(
     source: Tree,
 ) -> Result<Reply, AllocError>
     requires sound { IsSound sheet.now }
+    requires job { IsWithin (job_data job.now) }
     ensures answer { IfOk result (Replies (IsNamedSheet sheet.now × AreWell source)
         (IsEvaluatedOver (job_data job.now) sheet.now (named_document [] source ∷ []))) }
     ensures status { IfOk result (λ reply.
@@ -82,6 +86,7 @@ fn evaluate_over<R: Threads + Sync>(
     tree: &Tree,
 ) -> Result<Reply, AllocError>
     requires sound { IsSound sheet.now }
+    requires job { IsWithin (job_data job.now) }
     ensures answer { IfOk result (Replies (IsNamedSheet sheet.now × AreWell tree.now)
         (IsEvaluatedOn (job_data job.now) sheet.now tree.now)) }
     ensures status { IfOk result (λ reply.
@@ -94,24 +99,26 @@ fn evaluate_over<R: Threads + Sync>(
 }
 
 /// The same by an index and by keys: the globals, and then the root.
-fn evaluate_by<K: KeyFinder>(
+fn evaluate_by(
     alloc: Global,
     job: &Job,
     sheet: &Sheet,
     index: &SheetIndex<'_>,
     tree: &Tree,
-    keys: &K,
+    keys: &KeyCells,
 ) -> Result<Reply, AllocError>
     requires sound { IsSound sheet.now }
+    requires job { IsWithin (job_data job.now) }
     requires index { IsIndex index.now.rules }
     requires prepared { IsPrepared index.now.rules tree.now }
     requires templates { index.now.rules.templates.now ≡ sheet.now.templates }
     requires sets { IsSetIndex sheet.now.sets index.now.sets }
-    requires counters { AreCounters (K.tables keys.now) tree.now index.now.counters }
-    requires tables { TablesIn tree.now (K.tables keys.now) }
+    requires counters { AreCounters (⟦<KeyCells as KeyFinder>⟧.tables keys.now) tree.now
+        index.now.counters }
+    requires tables { TablesIn tree.now (⟦<KeyCells as KeyFinder>⟧.tables keys.now) }
     ensures answer { IfOk result (Replies (IsNamedSheet sheet.now × AreWell tree.now)
         (IsEvaluated (job_data job.now)
-        (ground sheet.now index.now tree.now (K.tables keys.now)))) }
+        (ground sheet.now index.now tree.now (⟦<KeyCells as KeyFinder>⟧.tables keys.now)))) }
     ensures status { IfOk result (λ reply.
         (reply.status ≡ OK) ⊎ (reply.status ≡ RUN_FAULT)) }
     ensures whole_only { IfOk result IsWholeOrEmpty }
@@ -136,11 +143,11 @@ fn evaluate_by<K: KeyFinder>(
 }
 
 /// What the root of a source takes, once the globals are settled, cut at what is left of the limits
-/// (XSLT 1.0, 5.1).
-fn root_reply<K: KeyFinder>(
+/// (XSLT 1.0, 5.1). It is run in pieces.
+fn root_reply(
     alloc: Global,
     job: &Job,
-    world: &World<'_, K>,
+    world: &World<'_, KeyCells>,
     settled: &Settled,
 ) -> Result<Reply, AllocError>
     requires settled { SettlesAll world.now
@@ -150,36 +157,72 @@ fn root_reply<K: KeyFinder>(
     requires inside { All (IsInIf world.now.tree) settled.now.values.items }
     requires values { All IsSome settled.now.values.items }
     requires within { settled.now.ticks ≤ job.now.budget }
+    requires job { IsWithin (job_data job.now) }
     ensures answer { IfOk result (Replies (IsNamedWorld world.now)
         (IsEvaluated (job_data job.now) world.now)) }
     ensures status { IfOk result (λ reply.
         (reply.status ≡ OK) ⊎ (reply.status ≡ RUN_FAULT)) }
     ensures whole_only { IfOk result IsWholeOrEmpty }
 {
-    xs_well_put::laws::runs_put_results();
+    xs_sheet_pieces::laws::sheet_is_ready();
+    xs_sheet_pieces::laws::whole_is_run();
     let sheet = world.sheet;
-    let runner = SheetRunner::new(
+    let runner = SheetPieces::new(
         world.sheet,
         world.index,
         world.tree,
         world.keys,
         &settled.values,
-        None,
+        Some(job.grain),
     );
-    let task = runner.root_task(alloc)?;
+    let root = runner.root_task(alloc)?;
     let limits = Limits {
         ticks: job.budget - settled.ticks,
         events: job.most_events,
     };
     let mut pool = Pool::new(alloc);
-    let outcome = runner.run_whole(alloc, &task, limits, &mut pool)?;
-    let part = &outcome.parts[0];
-    let ticks = settled.ticks + outcome.ticks;
-    match outcome.ended {
-        Ended::Whole => whole_reply(alloc, sheet.method, &settled.says, &part.items, ticks),
-        Ended::Fault(spot) => stopped_reply(alloc, sheet, spot, &settled.says, &part.items, ticks),
-        Ended::Spent(spot) => stopped_reply(alloc, sheet, spot, &settled.says, &part.items, ticks),
-        Ended::Full(spot) => stopped_reply(alloc, sheet, spot, &settled.says, &part.items, ticks),
-        Ended::Over { .. } => unreachable!(),
+    let executed = execute(alloc, &runner, root, limits, &mut pool)?;
+    executed_reply(alloc, job, sheet, settled, executed)
+}
+
+/// What the root's pieces came to, as an answer.
+fn executed_reply(
+    alloc: Global,
+    job: &Job,
+    sheet: &Sheet,
+    settled: &Settled,
+    executed: Executed,
+) -> Result<Reply, AllocError>
+    requires within { settled.now.ticks + executed.assembled.ticks ≤ job.now.budget }
+    ensures answer { (w : Over) → sheet.now ≡ w.sheet → SettlesAll w
+        (job_data job.now).given job.now.budget (settled_of settled.now) →
+        settled.now.end ≡ None →
+        IsRan (job_data job.now) w (told_in settled.now) executed →
+        IfOk result (Replies (IsNamedWorld w) (IsEvaluated (job_data job.now) w)) }
+    ensures status { IfOk result (λ reply.
+        (reply.status ≡ OK) ⊎ (reply.status ≡ RUN_FAULT)) }
+    ensures whole_only { IfOk result IsWholeOrEmpty }
+{
+    xs_well_put::laws::runs_put_results();
+    let Executed {
+        assembled,
+        claims,
+        worked,
+    } = executed;
+    let ticks = settled.ticks + assembled.ticks;
+    let pieces = Pieces {
+        claims,
+        inline: assembled.inline,
+        worked,
+    };
+    match assembled.end {
+        None => {
+            let reply = whole_reply(alloc, sheet.method, &settled.says, &assembled.items, ticks)?;
+            with_stats(reply, pieces, job.stats)
+        }
+        Some(spot) => {
+            let reply = stopped_reply(alloc, sheet, spot, &settled.says, &assembled.items, ticks)?;
+            Ok(with_pieces(reply, pieces))
+        }
     }
 }

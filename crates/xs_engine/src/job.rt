@@ -3,7 +3,7 @@
 ghost use Rattle.std.specs.Prelude.{◌≡◌, IfOk};
 ghost use Rattle.xs_words.specs.Results.{Gives, job_told, texts, told};
 ghost use Rattle.xs_engine.specs.Job.{is_supported, made_job, request_of, work_request};
-ghost use Rattle.xs_engine.specs.Reply.{job_data, request_data};
+ghost use Rattle.xs_engine.specs.Reply.{IsWithin, job_data, request_data};
 
 use crate::made::{MADE_SHEET, MADE_SOURCE};
 use std::alloc::{AllocError, Global};
@@ -23,6 +23,10 @@ pub struct Job {
     pub budget: u64,
     /// How many events it may put, where there is a limit.
     pub most_events: Option<u64>,
+    /// How many nodes of a loop make a piece.
+    pub grain: u32,
+    /// Whether its ticks and pieces are reported.
+    pub stats: bool,
 }
 
 /// What the words of a run ask for.
@@ -38,7 +42,8 @@ pub struct Request {
 /// What the words ask for. `Usage` exactly where they are refused, or ask for what is not
 /// supported.
 pub fn read_request(alloc: Global, words: &[String]) -> Result<Request, WordsEnd>
-    ensures { Gives request_data (request_of (texts words.now)) result }
+    ensures gives { Gives request_data (request_of (texts words.now)) result }
+    ensures within { IfOk result (λ request. IsWithin (job_data request.job)) }
 {
     match read_words(alloc, words) {
         Ok(options) => {
@@ -59,9 +64,7 @@ pub fn read_request(alloc: Global, words: &[String]) -> Result<Request, WordsEnd
 fn is_supported(options: &Options) -> bool
     ensures { result ≡ is_supported (told options.now) }
 {
-    !(options.stats || options.profile || options.stream)
-        && options.at.is_none()
-        && options.documents.is_empty()
+    !(options.profile || options.stream) && options.at.is_none() && options.documents.is_empty()
 }
 
 /// What options ask for: a stylesheet on a source, one that is only checked, or files that are
@@ -73,6 +76,8 @@ fn work_request(alloc: Global, options: Options) -> Result<Request, AllocError>
     let Options {
         budget,
         max_events,
+        grain,
+        stats,
         job,
         ..
     } = options;
@@ -88,6 +93,8 @@ fn work_request(alloc: Global, options: Options) -> Result<Request, AllocError>
                 given,
                 budget,
                 most_events: max_events,
+                grain,
+                stats,
             },
             made: None,
         }),
@@ -98,19 +105,27 @@ fn work_request(alloc: Global, options: Options) -> Result<Request, AllocError>
                 given: Vec::new(alloc),
                 budget,
                 most_events: max_events,
+                grain,
+                stats,
             },
             made: None,
         }),
         Work::Load(count) => Ok(Request {
-            job: made_job(alloc, budget, max_events)?,
+            job: made_job(alloc, budget, max_events, grain, stats)?,
             made: Some(count),
         }),
     }
 }
 
 /// A stylesheet on a source, both of which are made.
-fn made_job(alloc: Global, budget: u64, most_events: Option<u64>) -> Result<Job, AllocError>
-    ensures { IfOk result (λ job. job_data job ≡ made_job budget most_events) }
+fn made_job(
+    alloc: Global,
+    budget: u64,
+    most_events: Option<u64>,
+    grain: u32,
+    stats: bool,
+) -> Result<Job, AllocError>
+    ensures { IfOk result (λ job. job_data job ≡ made_job budget most_events grain stats) }
 {
     Ok(Job {
         sheet: TextBuf::of(alloc, MADE_SHEET)?,
@@ -118,5 +133,7 @@ fn made_job(alloc: Global, budget: u64, most_events: Option<u64>) -> Result<Job,
         given: Vec::new(alloc),
         budget,
         most_events,
+        grain,
+        stats,
     })
 }

@@ -1,14 +1,16 @@
 //! Replies: a status, and all that is to be written with it.
 
-ghost use Rattle.std.specs.Prelude.{◌≡◌, ◌++◌, IfOk, OnOk};
+ghost use Rattle.std.specs.Prelude.{◌≡◌, ◌++◌, [], IfOk, None, OnOk, length};
 ghost use Rattle.std.specs.Fmt.{decimal};
 ghost use Rattle.xs_block.specs.Chain.{items_of};
 ghost use Rattle.xs_engine.specs.Answer.{document_of, fault_line, faultless, file_fault_line};
-ghost use Rattle.xs_engine.specs.Answer.{name_in, read_fault, refused_file, reported};
-ghost use Rattle.xs_engine.specs.Answer.{stopped_answer, usage, whole_answer};
+ghost use Rattle.xs_engine.specs.Answer.{message_lines as lines_of, name_in, no_pieces};
+ghost use Rattle.xs_engine.specs.Answer.{read_fault, refused_file, reported, result_of};
+ghost use Rattle.xs_engine.specs.Answer.{stats_line, stats_lines, stopped_answer, usage};
 ghost use Rattle.xs_engine.specs.Items.{events_in, messages_in};
 ghost use Rattle.xs_engine.specs.ReadBack.{ReadsAs};
-ghost use Rattle.xs_engine.specs.Reply.{answer_of, reply_of};
+ghost use Rattle.xs_engine.specs.Reply.{IsPlain, reply_of};
+ghost use Rattle.xs_engine.specs.declared.status.TheConstants.{OK};
 ghost use Rattle.xs_reading_back.specs.Events.{IsResult};
 
 use crate::faults::{UNREADABLE, fault_name, run_fault_name};
@@ -21,6 +23,7 @@ use xs_sheet::declarations::Method;
 use xs_sheet::sheet::Sheet;
 use xs_text::escape_into;
 use xs_trace::item::{Item, Spot};
+use xs_trace::place::Claim;
 use xs_trace::text::TextBuf;
 use xs_words::USAGE as USAGE_LINE;
 
@@ -48,11 +51,39 @@ pub struct Reply {
     pub fault: Option<ReportedFault>,
     /// The ticks that passed the cut.
     pub ticks: u64,
+    /// How its pieces were run.
+    pub pieces: Pieces,
+}
+
+/// How the pieces of a run were run.
+#[derive(Debug, Drop)]
+pub struct Pieces {
+    /// Who claimed which place, in the order of places.
+    pub claims: Vec<Claim>,
+    /// How many pieces were evaluated again in their place.
+    pub inline: u64,
+    /// How many ticks they took, with those that were taken again.
+    pub worked: u64,
+}
+
+impl Pieces {
+    /// No pieces.
+    pub fn none(alloc: Global) -> Pieces
+        ensures claims { result.claims.items ≡ [] }
+        ensures inline { result.inline ≡ 0 }
+        ensures worked { result.worked ≡ 0 }
+    {
+        Pieces {
+            claims: Vec::new(alloc),
+            inline: 0,
+            worked: 0,
+        }
+    }
 }
 
 /// Refused words.
 pub fn usage_reply(alloc: Global) -> Result<Reply, AllocError>
-    ensures { IfOk result (λ reply. reply_of reply ≡ usage) }
+    ensures { IfOk result (IsPlain usage) }
 {
     let mut lines = Vec::new(alloc);
     lines.extend_from_slice(USAGE_LINE.as_bytes())?;
@@ -63,12 +94,13 @@ pub fn usage_reply(alloc: Global) -> Result<Reply, AllocError>
         lines,
         fault: None,
         ticks: 0,
+        pieces: Pieces::none(alloc),
     })
 }
 
 /// A file that could not be read.
 pub fn read_fault_reply(alloc: Global, name: &TextBuf) -> Result<Reply, AllocError>
-    ensures { IfOk result (λ reply. reply_of reply ≡ read_fault name.now) }
+    ensures { IfOk result (IsPlain (read_fault name.now)) }
 {
     let lines = file_fault(alloc, UNREADABLE, name, 0)?;
     Ok(Reply {
@@ -77,6 +109,7 @@ pub fn read_fault_reply(alloc: Global, name: &TextBuf) -> Result<Reply, AllocErr
         lines,
         fault: Some(reported(alloc, UNREADABLE, name.as_str(), 0)?),
         ticks: 0,
+        pieces: Pieces::none(alloc),
     })
 }
 
@@ -87,7 +120,7 @@ pub fn refused_reply(
     name: &TextBuf,
     line: u32,
 ) -> Result<Reply, AllocError>
-    ensures { IfOk result (λ reply. reply_of reply ≡ refused_file fault name.now line) }
+    ensures { IfOk result (IsPlain (refused_file fault name.now line)) }
 {
     let lines = file_fault(alloc, fault, name, line)?;
     Ok(Reply {
@@ -96,12 +129,13 @@ pub fn refused_reply(
         lines,
         fault: Some(reported(alloc, fault, name.as_str(), line)?),
         ticks: 0,
+        pieces: Pieces::none(alloc),
     })
 }
 
 /// A stylesheet that was only checked, and has no fault.
 pub fn faultless_reply(alloc: Global) -> Reply
-    ensures { reply_of result ≡ faultless }
+    ensures { IsPlain faultless result }
 {
     Reply {
         status: OK,
@@ -109,6 +143,7 @@ pub fn faultless_reply(alloc: Global) -> Reply
         lines: Vec::new(alloc),
         fault: None,
         ticks: 0,
+        pieces: Pieces::none(alloc),
     }
 }
 
@@ -121,10 +156,15 @@ pub fn whole_reply(
     items: &Chain<Item>,
     ticks: u64,
 ) -> Result<Reply, AllocError>
-    ensures answer { IfOk result (λ reply.
-        answer_of reply (document_of method (events_in (items_of items.now)))
-        ≡ whole_answer method (says.now ++ messages_in (items_of items.now))
-        (events_in (items_of items.now)) ticks) }
+    ensures answer { IfOk result (λ reply. reply_of reply ≡ record {
+      status = OK;
+      result = result_of method (events_in (items_of items.now));
+      lines = lines_of (says.now ++ messages_in (items_of items.now));
+      fault = None;
+      ticks = ticks;
+      pieces = no_pieces;
+      document = None;
+    }) }
     ensures reads_back { IfOk result (λ reply. IsResult (events_in (items_of items.now))
         → ReadsAs (document_of method (events_in (items_of items.now))) reply.result.items) }
 {
@@ -134,6 +174,7 @@ pub fn whole_reply(
         lines: message_lines(alloc, says, items)?,
         fault: None,
         ticks,
+        pieces: Pieces::none(alloc),
     })
 }
 
@@ -146,8 +187,8 @@ pub fn stopped_reply(
     items: &Chain<Item>,
     ticks: u64,
 ) -> Result<Reply, AllocError>
-    ensures { IfOk result (λ reply. reply_of reply ≡ stopped_answer sheet.now.modules spot
-        (says.now ++ messages_in (items_of items.now)) ticks) }
+    ensures { IfOk result (IsPlain (stopped_answer sheet.now.modules spot
+        (says.now ++ messages_in (items_of items.now)) ticks no_pieces)) }
 {
     let result = Vec::new(alloc);
     let messages = message_lines(alloc, says, items)?;
@@ -166,7 +207,67 @@ pub fn stopped_reply(
         lines,
         fault: Some(reported(alloc, number, name, spot.line)?),
         ticks,
+        pieces: Pieces::none(alloc),
     })
+}
+
+/// The same of a run that came to its end in pieces: with the line that reports how many ticks and
+/// pieces it took, where that is asked for.
+pub fn with_stats(reply: Reply, pieces: Pieces, stats: bool) -> Result<Reply, AllocError>
+    ensures answer { IfOk result (λ all. reply_of all ≡ record (reply_of reply) {
+      lines = reply.lines.items
+          ++ stats_lines stats reply.ticks (length pieces.claims.items);
+    }) }
+    ensures pieces { IfOk result (λ all. all.pieces ≡ pieces) }
+{
+    let mut all = with_pieces(reply, pieces);
+    if stats {
+        let count = all.pieces.claims.len() as u64;
+        append_stats(&mut all.lines, all.ticks, count)?;
+    }
+    Ok(all)
+}
+
+/// The same of a run in pieces.
+pub fn with_pieces(reply: Reply, pieces: Pieces) -> Reply
+    ensures answer { reply_of result ≡ reply_of reply }
+    ensures pieces { result.pieces ≡ pieces }
+{
+    let Reply {
+        status,
+        result,
+        lines,
+        fault,
+        ticks,
+        ..
+    } = reply;
+    Reply {
+        status,
+        result,
+        lines,
+        fault,
+        ticks,
+        pieces,
+    }
+}
+
+/// Appends the line that reports how many ticks and pieces a run took.
+fn append_stats(lines: &mut Vec<u8>, ticks: u64, pieces: u64) -> Result<(), AllocError>
+    ensures { OnOk result (lines.new.items ≡ lines.old.items ++ stats_line ticks pieces) }
+{
+    lines.extend_from_slice(b"stats ")?;
+    append_count(lines, ticks)?;
+    lines.extend_from_slice(b" ")?;
+    append_count(lines, pieces)?;
+    lines.extend_from_slice(b"\n")
+}
+
+/// Appends a count in decimal.
+fn append_count(out: &mut Vec<u8>, count: u64) -> Result<(), AllocError>
+    ensures { OnOk result (out.new.items ≡ out.old.items ++ decimal count) }
+{
+    let mut digits = Buffer::new();
+    out.extend_from_slice(digits.format(count).as_bytes())
 }
 
 /// The name of a module of a stylesheet, by its number.

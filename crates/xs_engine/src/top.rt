@@ -12,7 +12,7 @@ ghost use Rattle.xs_engine.specs.Reply.{account_of};
 
 use crate::answer::reply_to;
 use crate::deliver::deliver;
-use crate::reply::ReportedFault;
+use crate::reply::{Pieces, Reply, ReportedFault};
 use crate::status::NO_MEMORY;
 use std::alloc::Global;
 use std::thread::Threads;
@@ -35,6 +35,8 @@ pub struct Report {
     pub inline: u64,
     /// Each place that a worker claimed, sorted.
     pub claims: Vec<Claim>,
+    /// How many ticks all pieces took, with those that were evaluated again in their place.
+    pub worked: u64,
 }
 
 /// Runs the processor on the words after its name.
@@ -85,7 +87,8 @@ pub fn transform<R: Threads + Sync, L: Library, O: Sink, E: Sink, G: Gate>(
         → length (L.failed library.old) < length (L.failed library.new) }
     ensures ticks { HasTicks result.status ⊎ (result.ticks ≡ 0) }
     ensures unexplained { result.status ≡ NO_MEMORY → result.fault ≡ None }
-    ensures pieces { (result.pieces ≡ 0) × (result.inline ≡ 0) × (result.claims.items ≡ []) }
+    ensures pieces { HasTicks result.status ⊎ ((result.pieces ≡ 0) × (result.inline ≡ 0)
+        × (result.claims.items ≡ []) × (result.worked ≡ 0)) }
 
     // The result is written once the evaluation has ended, which is so of every run, as yet.
     ensures at_once { is_streamed (request_of (texts words.now)) ≡ false → AtOnce result.status
@@ -102,25 +105,59 @@ pub fn transform<R: Threads + Sync, L: Library, O: Sink, E: Sink, G: Gate>(
     match reply_to(rt, alloc, words, library) {
         Ok(reply) => {
             let status = deliver(&reply, out, err);
-            report_of(alloc, status, reply.ticks, reply.fault)
+            report_of(status, reply)
         }
-        Err(_) => report_of(alloc, NO_MEMORY, 0, None),
+        Err(_) => refused_memory(alloc),
     }
 }
 
-/// A report of a run without pieces.
-fn report_of(alloc: Global, status: u8, ticks: u64, fault: Option<ReportedFault>) -> Report
+/// The report of a reply, which ended with this status.
+fn report_of(status: u8, reply: Reply) -> Report
     ensures status { result.status ≡ status }
-    ensures ticks { result.ticks ≡ ticks }
-    ensures fault { result.fault ≡ fault }
-    ensures pieces { (result.pieces ≡ 0) × (result.inline ≡ 0) × (result.claims.items ≡ []) }
+    ensures ticks { result.ticks ≡ reply.ticks }
+    ensures fault { result.fault ≡ reply.fault }
+    ensures pieces { result.pieces ≡ length reply.pieces.claims.items }
+    ensures inline { result.inline ≡ reply.pieces.inline }
+    ensures claims { result.claims.items ≡ reply.pieces.claims.items }
+    ensures worked { result.worked ≡ reply.pieces.worked }
 {
+    let Reply {
+        fault,
+        ticks,
+        pieces,
+        ..
+    } = reply;
+    let Pieces {
+        claims,
+        inline,
+        worked,
+    } = pieces;
     Report {
         status,
         ticks,
         fault,
+        pieces: claims.len() as u64,
+        inline,
+        claims,
+        worked,
+    }
+}
+
+/// The report of a run that was out of memory.
+fn refused_memory(alloc: Global) -> Report
+    ensures status { result.status ≡ NO_MEMORY }
+    ensures ticks { result.ticks ≡ 0 }
+    ensures fault { result.fault ≡ None }
+    ensures pieces { (result.pieces ≡ 0) × (result.inline ≡ 0) × (result.claims.items ≡ [])
+        × (result.worked ≡ 0) }
+{
+    Report {
+        status: NO_MEMORY,
+        ticks: 0,
+        fault: None,
         pieces: 0,
         inline: 0,
         claims: Vec::new(alloc),
+        worked: 0,
     }
 }

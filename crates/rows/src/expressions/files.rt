@@ -2,6 +2,7 @@
 
 use crate::answer::Answer;
 use crate::expressions::answers::add_answer;
+use crate::expressions::documents::lines_of;
 use crate::expressions::fields::unescaped;
 use crate::expressions::settings::Settings;
 use std::rt::Files;
@@ -47,7 +48,13 @@ fn add_setting<R: Files + AllocGlobal>(
     out.put(setting);
     let setting = unescaped(settings.alloc, setting);
     let setting = setting.held_text(out);
-    settings.set(out, rt, setting);
+    match setting.strip_prefix("document ") {
+        Some(name) => {
+            let lines = lines_of(out, rt, name);
+            settings.set_document(out, &lines);
+        }
+        None => settings.set(out, setting),
+    }
 }
 
 // Adds a row: its input as it stands, and its answer, which is `none` where it has no text.

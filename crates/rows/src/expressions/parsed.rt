@@ -63,20 +63,20 @@ pub(crate) fn parsed(settings: &Settings, text: &str) -> Result<Box<Expr>, Parse
 
 /// The expression of a text, its variables bound to their slots.
 pub(crate) fn parsed_bound(settings: &Settings, text: &str) -> Result<Box<Expr>, ParseFault> {
+    match Slots::of(settings.alloc, &settings.slots) {
+        Ok(slots) => parsed_by(settings, text, &slots),
+        Err(_) => Err(ParseFault::NoMemory),
+    }
+}
+
+// The expression of a text, its variables bound to these slots.
+fn parsed_by(settings: &Settings, text: &str, slots: &Slots<'_>) -> Result<Box<Expr>, ParseFault> {
     if text.len() > MOST {
         return Err(ParseFault::NoMemory);
     }
     match parse_expr(settings.alloc, text, &settings.scope) {
-        Ok(expr) => bound(settings, expr),
+        Ok(expr) => boxed(settings.alloc, bind(expr, slots)),
         Err(fault) => Err(fault),
-    }
-}
-
-// An expression whose variables are bound to their slots.
-fn bound(settings: &Settings, expr: Expr) -> Result<Box<Expr>, ParseFault> {
-    match Slots::of(settings.alloc, &settings.slots) {
-        Ok(slots) => boxed(settings.alloc, bind(expr, &slots)),
-        Err(_) => Err(ParseFault::NoMemory),
     }
 }
 

@@ -1,13 +1,11 @@
 //! Settings, which hold for the rows after them.
 
 use crate::answer::Answer;
-use crate::expressions::documents::lines_of;
 use crate::expressions::fields::{whole, word};
 use crate::expressions::values::{label, operand};
 use crate::lookups::value_named;
 use std::alloc::{AllocError, Global};
 use std::mem::replace;
-use std::rt::Files;
 use xs_build::build_tree;
 use xs_trace::event::Label;
 use xs_trace::text::TextBuf;
@@ -22,7 +20,6 @@ const MOST: u64 = 10_000_000;
 /// What a setting sets.
 enum Setting {
     Clear,
-    Document,
     Prefix,
     Prefixes,
     Local,
@@ -35,7 +32,6 @@ enum Setting {
 /// The names of the settings.
 const SETTINGS: &[(&str, Setting)] = &[
     ("clear", Setting::Clear),
-    ("document", Setting::Document),
     ("prefix", Setting::Prefix),
     ("prefixes", Setting::Prefixes),
     ("local", Setting::Local),
@@ -88,11 +84,10 @@ impl Settings {
     }
 
     /// Sets what a setting says, whose first word is its name.
-    pub(crate) fn set<R: Files + AllocGlobal>(&mut self, out: &mut Answer, rt: &R, setting: &str) {
+    pub(crate) fn set(&mut self, out: &mut Answer, setting: &str) {
         let (name, rest) = word(setting);
         match value_named(SETTINGS, name) {
             Some(Setting::Clear) => self.clear(out),
-            Some(Setting::Document) => self.set_document(out, rt, rest),
             Some(Setting::Prefix) => self.add_prefix(out, rest),
             Some(Setting::Prefixes) => self.add_prefixes(out, rest),
             Some(Setting::Local) => self.add_local(out, rest),
@@ -112,9 +107,8 @@ impl Settings {
         }
     }
 
-    // Sets the document.
-    fn set_document<R: Files + AllocGlobal>(&mut self, out: &mut Answer, rt: &R, text: &str) {
-        let lines = lines_of(out, rt, text);
+    /// Sets the document, by its lines.
+    pub(crate) fn set_document(&mut self, out: &mut Answer, lines: &Answer) {
         match build_tree(self.alloc, lines.held(out), MOST) {
             Ok(built) => self.set_tree(out, built.tree),
             Err(_) => out.put(" no document"),
@@ -124,7 +118,7 @@ impl Settings {
     // Sets the tree of the document.
     fn set_tree(&mut self, out: &mut Answer, tree: Tree) {
         match Box::new(self.alloc, tree) {
-            Ok(tree) => self.tree = tree,
+            Ok(tree) => drop(replace(&mut self.tree, tree)),
             Err(_) => out.refuse(),
         }
     }

@@ -85,9 +85,9 @@ impl<'t> Row<'t> {
 
     /// Removes the input.
     pub(crate) fn clear(&mut self) {
-        self.document.clear();
-        self.nodes.clear();
-        self.later_nodes.clear();
+        self.document.bytes.clear();
+        self.nodes.bytes.clear();
+        self.later_nodes.bytes.clear();
         self.marks = "";
     }
 

@@ -8,14 +8,19 @@ use std::str::from_utf8;
 pub(crate) fn put_decoded(out: &mut Answer, written: &str) {
     let mut is_first = true;
     for piece in written.split("\\x{") {
-        let plain = if is_first {
-            piece
-        } else {
-            put_numbered(out, piece)
-        };
-        put_plain(out, plain);
+        put_piece(out, piece, is_first);
         is_first = false;
     }
+}
+
+// Adds a piece, which begins with a number unless it is the first one.
+fn put_piece(out: &mut Answer, piece: &str, is_first: bool) {
+    let plain = if is_first {
+        piece
+    } else {
+        put_numbered(out, piece)
+    };
+    put_plain(out, plain);
 }
 
 // Adds the byte with the number before a bracket, and says what is after the bracket.

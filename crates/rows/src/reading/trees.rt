@@ -32,14 +32,14 @@ struct Written<'a> {
 
 // The node that a line such as `attribute in 1: x "y"` writes.
 fn read_node(line: &str) -> Option<Written<'_>> {
-    let (place, content) = line.split_once(": ")?;
-    let (word, parent) = place.split_once(" in ")?;
-    let (local, text) = content.split_once('"')?;
+    let (place, content) = line.split_once(": ").unwrap_or((line, ""));
+    let (word, parent) = place.split_once(" in ").unwrap_or((place, ""));
+    let (local, text) = content.split_once('"').unwrap_or((content, ""));
     Some(Written {
         kind: *value_named(KINDS, word)?,
         parent: Node::at(parent.parse::<u32>().unwrap_or(u32::MAX)),
         local: local.trim_end(),
-        text: text.strip_suffix('"')?,
+        text: text.strip_suffix('"').unwrap_or(text),
     })
 }
 

@@ -17,13 +17,12 @@ pub(crate) fn put_parts(out: &mut Answer, outcome: &Outcome) {
 }
 
 /// Adds how many pieces were claimed, how many evaluated in their place, and how many claims there
-/// are, where a run had pieces.
+/// are, where a run had more than one piece.
 pub(crate) fn put_pieces(out: &mut Answer, report: &Report) {
-    let claims = report.claims.len();
-    if report.pieces != 0 || report.inline != 0 || claims != 0 {
+    if report.pieces > 1 || report.inline != 0 {
         out.put_count("= pieces ", report.pieces);
         out.put_count(" ", report.inline);
-        out.put_count(" ", claims as u64);
+        out.put_count(" ", report.claims.len() as u64);
         out.put("\n");
     }
 }

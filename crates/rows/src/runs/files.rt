@@ -225,7 +225,7 @@ impl<'t> Rows<'t> {
     ) {
         let mut parts = Answer::new(self.alloc);
         self.put_run(&mut parts, rt, options);
-        if !parts.is_same(first) {
+        if parts.bytes != first.bytes {
             out.put("= differs ");
             out.put_line(options);
             out.put_answer(&parts);

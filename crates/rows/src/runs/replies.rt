@@ -1,5 +1,7 @@
 //! A stylesheet that is compiled once and run on several sources (docs/LIBRARY.md).
 
+ghost use Rattle.std.specs.Prelude.{IfOk};
+ghost use Rattle.xs_engine.specs.Reply.{IsWithin, job_data};
 ghost use Rattle.xs_modules.specs.Results.{modules_data};
 ghost use Rattle.xs_modules.specs.Sound.{IsSound as AreSound};
 ghost use Rattle.xs_sheet.specs.Sound.{IsSound};
@@ -94,7 +96,9 @@ fn reply_on<R: Threads + Sync>(
 }
 
 /// A job with a text for the parameter `word`.
-fn greeting_job(alloc: Global) -> Result<Job, AllocError> {
+fn greeting_job(alloc: Global) -> Result<Job, AllocError>
+    ensures within { IfOk result (λ job. IsWithin (job_data job)) }
+{
     let sheet = TextBuf::of(alloc, "s.pyx")?;
     let given = vec![in alloc; greeting(alloc)?]?;
     Ok(Job {
@@ -103,6 +107,8 @@ fn greeting_job(alloc: Global) -> Result<Job, AllocError> {
         given,
         budget: 1000,
         most_events: None,
+        grain: 16,
+        stats: false,
     })
 }
 

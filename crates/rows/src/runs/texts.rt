@@ -7,14 +7,15 @@ use std::alloc::Global;
 /// space, `\?` a byte that UTF-8 does not have, and `<<3:ab>>` the same as `ababab`.
 pub(crate) fn put_decoded(out: &mut Answer, text: &str) {
     for part in text.split("<<") {
-        match part.split_once(">>") {
-            Some((repeat, plain)) => {
-                put_repeat(out, repeat);
-                put_plain(out, plain);
-            }
-            None => put_plain(out, part),
-        }
+        put_part(out, part);
     }
+}
+
+/// Adds a part: where it has `>>`, what is repeated before it, and what follows.
+fn put_part(out: &mut Answer, part: &str) {
+    let (repeat, plain) = part.split_once(">>").unwrap_or(("", part));
+    put_repeat(out, repeat);
+    put_plain(out, plain);
 }
 
 /// Adds a text as often as the number before its colon says.

@@ -86,7 +86,7 @@ pub(crate) fn put_elements(out: &mut Answer, tree: &Tree) {
         let node = Node::at(place);
         let kind = tree.kind(node);
         if kind == Kind::Element || kind == Kind::Text {
-            if !out.is_empty() {
+            if !out.bytes.is_empty() {
                 out.put("; ");
             }
             if kind == Kind::Element {

@@ -14,7 +14,7 @@ fn put_answer_to(out: &mut Answer, alloc: Global, settings: &Settings<'_>, input
     let mut answer = Answer::new(alloc);
     let text = input.held_text(&mut answer);
     put_answer(&mut answer, alloc, settings, text);
-    if answer.is_empty() {
+    if answer.bytes.is_empty() {
         answer.put("none");
     }
     let text = answer.held_text(out);

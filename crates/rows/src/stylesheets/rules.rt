@@ -103,24 +103,24 @@ fn compare(
     Ok(())
 }
 
-/// Takes away each rule that is another one by the index of the stylesheet, without tables.
-fn compare_climbing(
+/// Takes away each rule that is another one by an index, as it is and with tables.
+fn compare_both(
     rules: &mut [Option<Rule>],
     alloc: Global,
-    sheet: &Sheet,
+    index: &mut RuleIndex<'_>,
     tree: &Tree,
     among: Among,
 ) -> Result<(), AllocError>
-    requires few { length sheet.now.templates < 2 ^ 32 }
+    requires index { IsIndex index.old }
+    requires prepared { IsPrepared index.old tree.now }
 {
-    let index = RuleIndex::new(alloc, sheet)?;
-    let compared = compare(rules, alloc, &index, tree, among);
-    drop(index);
-    compared
+    compare(rules, alloc, index, tree, among)?;
+    index.prepare(alloc, tree)?;
+    compare(rules, alloc, index, tree, among)
 }
 
-/// Takes away each rule that is another one by the index of the stylesheet, with tables.
-fn compare_prepared(
+/// Takes away each rule that is another one by the index of the stylesheet.
+fn compare_indexed(
     rules: &mut [Option<Rule>],
     alloc: Global,
     sheet: &Sheet,
@@ -130,10 +130,7 @@ fn compare_prepared(
     requires few { length sheet.now.templates < 2 ^ 32 }
 {
     let mut index = RuleIndex::new(alloc, sheet)?;
-    let compared = match index.prepare(alloc, tree) {
-        Ok(()) => compare(rules, alloc, &index, tree, among),
-        Err(refused) => Err(refused),
-    };
+    let compared = compare_both(rules, alloc, &mut index, tree, among);
     drop(index);
     compared
 }
@@ -149,8 +146,7 @@ fn rules_of(
     let mut rules = Vec::new(alloc);
     if sheet.templates.as_slice().len() < MOST {
         push_rules(&mut rules, alloc, sheet, tree, among)?;
-        compare_climbing(&mut rules, alloc, sheet, tree, among)?;
-        compare_prepared(&mut rules, alloc, sheet, tree, among)?;
+        compare_indexed(&mut rules, alloc, sheet, tree, among)?;
     }
     Ok(rules)
 }

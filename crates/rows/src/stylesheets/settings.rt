@@ -87,17 +87,22 @@ pub(crate) struct Settings<'t> {
 fn put_numbered(out: &mut Answer, text: &str, number: u32) {
     let mut is_first = true;
     for part in text.split('#') {
-        if is_first {
-            out.put(part);
-        } else if let Some(rest) = part.strip_prefix('+') {
-            out.put_count("", number.saturating_add(1) as u64);
-            out.put(rest);
-        } else {
-            out.put_count("", number as u64);
-            out.put(part);
-        }
+        put_part(out, part, number, is_first);
         is_first = false;
     }
+}
+
+/// Adds a part, after a number unless it is the first one.
+fn put_part(out: &mut Answer, part: &str, number: u32, is_first: bool) {
+    if is_first {
+        return out.put(part);
+    }
+    let (number, text) = match part.strip_prefix('+') {
+        Some(text) => (number.saturating_add(1), text),
+        None => (number, part),
+    };
+    out.put_count("", number as u64);
+    out.put(text);
 }
 
 /// Adds what stands after a number, so many times.

@@ -11,7 +11,7 @@ use xs_trace::item::Site;
 
 /// Begins a declaration: what it is.
 fn put_word(out: &mut Answer, word: &str) {
-    if !out.is_empty() {
+    if !out.bytes.is_empty() {
         out.put("; ");
     }
     out.put(word);

@@ -19,7 +19,7 @@ returns-in-Ok-clause-due g c =
     run_owed (g.L.Library.files c.args.library.now) (job_data c.args.job.now) (modules_data c.args.modules.now)
     (g.L.Library.failed c.args.library.now) (g.L.Library.failed c.run_reply.new.library) c.run_reply.result
     (IsNamedSheet c.in-Ok.sheet) c.in-Ok.sheet _
-    (c.sheets_are_named.ensures (modules_data c.args.modules.now) c.in-Ok.sheet c.requires c.modules_are_trees.ensures c.in-Ok.ensures.stands)
+    (c.sheets_are_named.ensures (modules_data c.args.modules.now) c.in-Ok.sheet c.requires.sound c.modules_are_trees.ensures c.in-Ok.ensures.stands)
     c.in-Some.is c.in-Ok.ensures.accepted c.in-Ok.ensures.stands c.run_reply.ensures.due
 
 -- A static fault, or want of memory.

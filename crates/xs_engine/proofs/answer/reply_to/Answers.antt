@@ -8,12 +8,12 @@ use Rattle.xs_engine.proofs.answer.reply_to.Goals as goal
 pub returns-in-None-clause-due : goal.returns-in-None-clause-due
 returns-in-None-clause-due g c =
     job_owed c.job_reply.result (Unit {0}) (g.L.Library.files c.args.library.now) (request_of (texts c.args.words.now)) (request_data c.in-Ok.request)
-    (g.L.Library.failed c.args.library.now) (g.L.Library.failed c.job_reply.new.library) c.in-Ok.ensures c.in-None.is c.job_reply.ensures.due
+    (g.L.Library.failed c.args.library.now) (g.L.Library.failed c.job_reply.new.library) c.in-Ok.ensures.gives c.in-None.is c.job_reply.ensures.due
 
 pub returns-in-Err-Usage-clause-due : goal.returns-in-Err-Usage-clause-due
 returns-in-Err-Usage-clause-due g c =
     usage_owed c.usage_reply.result (Unit {0}) (g.L.Library.files c.args.library.now) (request_of (texts c.args.words.now))
-    (g.L.Library.failed c.args.library.now) (rw c.in-Err-Usage.field-0-is at c.in-Err-Usage.ensures) c.usage_reply.ensures
+    (g.L.Library.failed c.args.library.now) (rw c.in-Err-Usage.field-0-is at c.in-Err-Usage.ensures.gives) c.usage_reply.ensures
 
 pub returns-clause-fetches : goal.returns-clause-fetches
 returns-clause-fetches g c =

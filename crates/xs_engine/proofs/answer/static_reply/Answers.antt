@@ -1,6 +1,6 @@
 use Rattle.std.proofs.Common.{◌≡◌, IfOk, sym, subst}
 use Rattle.xs_engine.specs.Answer.{refused_file}
-use Rattle.xs_engine.specs.Reply.{reply_of}
+use Rattle.xs_engine.specs.Reply.{IsPlain}
 use Rattle.xs_engine.proofs.SheetLemmas.{known_module, name_there}
 use Rattle.xs_engine.proofs.answer.static_reply.Goals as goal
 
@@ -9,5 +9,5 @@ returns-clause-answer c =
     let modules = c.args.modules.now.list.items in
     let name = name_there modules c.args.fault.module c.index-module.result.now (known_module modules c.args.fault.module c.requires)
     c.index-module.ensures in
-    subst (λ n. IfOk c.refused_reply.result (λ reply. reply_of reply ≡ refused_file c.args.fault.number n c.args.fault.line)) (sym name)
+    subst (λ n. IfOk c.refused_reply.result (IsPlain (refused_file c.args.fault.number n c.args.fault.line))) (sym name)
     c.refused_reply.ensures

@@ -1,4 +1,5 @@
 use Rattle.xs_making.specs.Laws.{AreWell}
+use Rattle.xs_keys.specs.KeyTables.{tables_of}
 use Rattle.xs_semantics.specs.World.{ground}
 use Rattle.xs_well_put.specs.Named.{IsNamedSheet, IsNamedWorld}
 use Rattle.xs_engine.specs.Evaluation.{IsEvaluated}
@@ -9,17 +10,19 @@ use Rattle.xs_engine.proofs.ReplyLemmas.{replies_so}
 use Rattle.xs_engine.proofs.evaluation.evaluate_by.Goals as goal
 
 pub returns-in-Some-clause-answer : goal.returns-in-Some-clause-answer
-returns-in-Some-clause-answer g c =
-    let w = ground c.args.sheet.now c.args.index.now c.args.tree.now (g.K.KeyFinder.tables c.args.keys.now) in
+returns-in-Some-clause-answer c =
+    let w = ground c.args.sheet.now c.args.index.now c.args.tree.now (tables_of c.args.keys.now.tree.value c.args.keys.now.sheet.value.keys) in
     ended_in_globals (job_data c.args.job.now) w c.in_ok-settled.settled
     (rw c.deref.ensures.value at c.in_ok-settled.ensures.settles) c.stopped_reply.result (IsNamedSheet c.args.sheet.now × AreWell c.args.tree.now)
     c.in-Some.spot c.in-Some.is
     (rw (c.deref-in-Some.ensures.value, c.new-nothing.ensures.empty) at c.stopped_reply.ensures)
 
 pub returns-clause-answer : goal.returns-clause-answer
-returns-clause-answer g c =
-    let w = ground c.args.sheet.now c.args.index.now c.args.tree.now (g.K.KeyFinder.tables c.args.keys.now) in
+returns-clause-answer c =
+    let w = ground c.args.sheet.now c.args.index.now c.args.tree.now (tables_of c.args.keys.now.tree.value c.args.keys.now.sheet.value.keys) in
     replies_so c.root_reply.result (IsNamedWorld w) (IsNamedSheet c.args.sheet.now × AreWell c.args.tree.now)
     (IsEvaluated (job_data c.args.job.now) w) (IsEvaluated (job_data c.args.job.now) w)
-    (λ h. ground_named c.args.sheet.now c.args.index.now c.args.tree.now (g.K.KeyFinder.tables c.args.keys.now) h.0 c.len-count.ensures.tree h.1)
+    (λ h.
+    ground_named c.args.sheet.now c.args.index.now c.args.tree.now (tables_of c.args.keys.now.tree.value c.args.keys.now.sheet.value.keys)
+    h.0 c.len-count.ensures.tree h.1)
     (λ a is. is) c.root_reply.ensures.answer

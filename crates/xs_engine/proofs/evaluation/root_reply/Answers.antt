@@ -1,57 +1,31 @@
-use Rattle.std.proofs.Common.{◌∙◌, None, ap, arith}
+use Rattle.std.proofs.Common.{◌∙◌, Some, ap, arith, subst}
+use Rattle.xs_body.specs.Inside.{IsWorld}
 use Rattle.xs_semantics.specs.Globals.{with_globals}
 use Rattle.xs_semantics.specs.World.{World, with_grain}
-use Rattle.xs_well_put.specs.Named.{IsNamedWorld}
 use Rattle.xs_engine.specs.Reply.{job_data}
-use Rattle.xs_engine.proofs.EvaluationLemmas.{fault_in_root, full_in_root, has_part, root_run, run_within, spent_in_root, whole_in_root}
+use Rattle.xs_engine.proofs.RanLemmas.{is_ran, ready, run_within}
 use Rattle.xs_engine.proofs.evaluation.root_reply.Goals as goal
 
-pub overflow_add-ticks : goal.overflow_add-ticks
-overflow_add-ticks g c = let few = run_within _ _ _ _ c.in_ok-outcome.ensures.whole in omega arith
+pub returns-clause-answer : goal.returns-clause-answer
+returns-clause-answer c =
+    let grain = c.args.job.now.grain in
+    c.executed_reply.ensures.answer c.args.world.now (ap (λ (w : World). w.sheet) c.world.view_is) c.requires.settled c.requires.none
+    (is_ran (job_data c.args.job.now) c.args.world.now c.args.settled.now c.new-runner.result c.in_ok-root.root c.in_ok-executed.executed
+    c.requires.whole
+    (c.new-runner.ensures ∙ ap (λ (w : World). with_grain (Some grain) (with_globals w c.deref.result.now)) c.world.view_is
+    ∙ ap (λ vs. with_grain (Some grain) (with_globals c.args.world.now vs)) c.deref.ensures.value)
+    c.in_ok-root.ensures.task c.whole_is_run.ensures c.in_ok-executed.ensures.cut c.in_ok-executed.ensures.claims
+    c.in_ok-executed.ensures.whole c.in_ok-executed.ensures.taken c.in_ok-executed.ensures.only_above c.in_ok-executed.ensures.worked)
 
-pub index-part-requires : goal.index-part-requires
-index-part-requires g c = has_part _ _ c.in_ok-outcome.ensures.whole
+pub execute-requires-clause-ready : goal.execute-requires-clause-ready
+execute-requires-clause-ready c =
+    let grain = c.args.job.now.grain in
+    ready c.sheet_is_ready.ensures.ready c.new-runner.result c.args.world.now c.args.settled.now.values.items grain
+    (c.new-runner.ensures ∙ ap (λ (w : World). with_grain (Some grain) (with_globals w c.deref.result.now)) c.world.view_is
+    ∙ ap (λ vs. with_grain (Some grain) (with_globals c.args.world.now vs)) c.deref.ensures.value)
+    (subst IsWorld c.world.view_is c.world.invariant) c.requires.inside c.requires.values c.requires.job.grain
 
-pub returns-in-Whole-clause-answer : goal.returns-in-Whole-clause-answer
-returns-in-Whole-clause-answer g c =
-    whole_in_root (job_data c.args.job.now) c.args.world.now c.args.settled.now c.requires.settled
-    c.in_ok-outcome.outcome c.index-part.result.now c.world.inside.sheet.now (ap (λ (w : World). w.sheet) c.world.view_is) c.requires.none
-    (root_run (job_data c.args.job.now) c.args.world.now c.args.settled.now c.deref.result.now
-    c.new-runner.result c.in_ok-task.task c.in_ok-outcome.outcome
-    (c.new-runner.ensures ∙ ap (λ (w : World). with_grain None (with_globals w c.deref.result.now)) c.world.view_is) c.deref.ensures.value c.requires.whole
-    c.in_ok-task.ensures.task c.in_ok-outcome.ensures.whole) c.index-part.ensures
-    c.runs_put_results.ensures c.whole_reply.result c.in-Whole.is
-    (rw c.deref-in-Whole.ensures.value at c.whole_reply.ensures.answer) c.whole_reply.ensures.reads_back
-
-pub returns-in-Fault-clause-answer : goal.returns-in-Fault-clause-answer
-returns-in-Fault-clause-answer g c =
-    fault_in_root (job_data c.args.job.now) c.args.world.now c.args.settled.now c.requires.settled
-    c.in_ok-outcome.outcome c.index-part.result.now c.world.inside.sheet.now (ap (λ (w : World). w.sheet) c.world.view_is) c.requires.none
-    (root_run (job_data c.args.job.now) c.args.world.now c.args.settled.now c.deref.result.now
-    c.new-runner.result c.in_ok-task.task c.in_ok-outcome.outcome
-    (c.new-runner.ensures ∙ ap (λ (w : World). with_grain None (with_globals w c.deref.result.now)) c.world.view_is) c.deref.ensures.value c.requires.whole
-    c.in_ok-task.ensures.task c.in_ok-outcome.ensures.whole) c.index-part.ensures
-    c.stopped_reply.result (IsNamedWorld c.args.world.now) c.in-Fault.spot c.in-Fault.is
-    (rw c.deref-in-Fault.ensures.value at c.stopped_reply.ensures)
-
-pub returns-in-Spent-clause-answer : goal.returns-in-Spent-clause-answer
-returns-in-Spent-clause-answer g c =
-    spent_in_root (job_data c.args.job.now) c.args.world.now c.args.settled.now c.requires.settled
-    c.in_ok-outcome.outcome c.index-part.result.now c.world.inside.sheet.now (ap (λ (w : World). w.sheet) c.world.view_is) c.requires.none
-    (root_run (job_data c.args.job.now) c.args.world.now c.args.settled.now c.deref.result.now
-    c.new-runner.result c.in_ok-task.task c.in_ok-outcome.outcome
-    (c.new-runner.ensures ∙ ap (λ (w : World). with_grain None (with_globals w c.deref.result.now)) c.world.view_is) c.deref.ensures.value c.requires.whole
-    c.in_ok-task.ensures.task c.in_ok-outcome.ensures.whole) c.index-part.ensures
-    c.stopped_reply-in-Spent.result (IsNamedWorld c.args.world.now) c.in-Spent.spot c.in-Spent.is
-    (rw c.deref-in-Spent.ensures.value at c.stopped_reply-in-Spent.ensures)
-
-pub returns-in-Full-clause-answer : goal.returns-in-Full-clause-answer
-returns-in-Full-clause-answer g c =
-    full_in_root (job_data c.args.job.now) c.args.world.now c.args.settled.now c.requires.settled
-    c.in_ok-outcome.outcome c.index-part.result.now c.world.inside.sheet.now (ap (λ (w : World). w.sheet) c.world.view_is) c.requires.none
-    (root_run (job_data c.args.job.now) c.args.world.now c.args.settled.now c.deref.result.now
-    c.new-runner.result c.in_ok-task.task c.in_ok-outcome.outcome
-    (c.new-runner.ensures ∙ ap (λ (w : World). with_grain None (with_globals w c.deref.result.now)) c.world.view_is) c.deref.ensures.value c.requires.whole
-    c.in_ok-task.ensures.task c.in_ok-outcome.ensures.whole) c.index-part.ensures
-    c.stopped_reply-in-Full.result (IsNamedWorld c.args.world.now) c.in-Full.spot c.in-Full.is
-    (rw c.deref-in-Full.ensures.value at c.stopped_reply-in-Full.ensures)
+pub executed_reply-requires : goal.executed_reply-requires
+executed_reply-requires c =
+    let few = run_within c.new-runner.result c.in_ok-root.root _ _ c.in_ok-executed.executed c.in_ok-executed.ensures.cut in
+    omega (arith, few, c.requires.within)
