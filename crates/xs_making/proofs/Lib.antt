@@ -3,3 +3,4 @@ mod CopyLemmas
 mod LawLemmas
 mod WalkLemmas
 mod WellLemmas
+mod PlainLemmas

@@ -7,6 +7,7 @@ mod labels;
 pub mod laws;
 mod leaves;
 mod names;
+mod plain_names;
 mod recent;
 mod texts;
 

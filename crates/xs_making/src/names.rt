@@ -1,11 +1,12 @@
 //! The names of elements, attributes and processing instructions of the result.
-ghost use Rattle.std.specs.Prelude.{◌≡◌, option_map};
+ghost use Rattle.std.specs.Prelude.{◌≡◌, None, Some, option_map, true};
 ghost use Rattle.xs_making.specs.Names.{bound_uri, default_uri, is_forbidden, is_target};
 ghost use Rattle.xs_making.specs.Names.{is_xml, pi_target, result_name, uri_for};
 ghost use Rattle.xs_making.specs.Results.{IsMade};
 
 use crate::ends::MakeEnd;
 use crate::labels::XML_URI;
+use crate::plain_names::is_plain;
 use crate::recent::RecentLabels;
 use std::alloc::Global;
 use xs_text::{is_ncname, split_qname};
@@ -25,6 +26,52 @@ const XMLNS_URI: &str = "http://www.w3.org/2000/xmlns/";
 /// of `xmlns`; else 61 where the text has a prefix that is bound to nothing and no namespace is
 /// given.
 pub fn result_name(
+    labels: &mut RecentLabels,
+    text: &str,
+    uri: Option<&str>,
+    scope: &Scope,
+    is_attribute: bool,
+) -> Result<Label, MakeEnd>
+    ensures { IsMade (result_name scope.now.pairs.items is_attribute
+        (option_map (λ u. u.now) uri.entry) text.now) result }
+{
+    match uri {
+        Some(_) => made_name(labels, text, uri, scope, is_attribute),
+        None => unplaced_name(labels, text, scope, is_attribute),
+    }
+}
+
+/// The name to which no namespace is given.
+fn unplaced_name(
+    labels: &mut RecentLabels,
+    text: &str,
+    scope: &Scope,
+    is_attribute: bool,
+) -> Result<Label, MakeEnd>
+    ensures { IsMade (result_name scope.now.pairs.items is_attribute None text.now) result }
+{
+    if is_attribute {
+        return attribute_name(labels, text, scope);
+    }
+    made_name(labels, text, None, scope, is_attribute)
+}
+
+/// The same of an attribute: one without a prefix is the same in any scope, and is made once.
+fn attribute_name(labels: &mut RecentLabels, text: &str, scope: &Scope) -> Result<Label, MakeEnd>
+    ensures { IsMade (result_name scope.now.pairs.items true None text.now) result }
+{
+    if let Some(name) = labels.plain(text)? {
+        return Ok(name);
+    }
+    let made = made_name(labels, text, None, scope, true)?;
+    if is_plain(&made, text) {
+        labels.keep_plain(&made)?;
+    }
+    Ok(made)
+}
+
+/// The name that is made of a text anew.
+fn made_name(
     labels: &mut RecentLabels,
     text: &str,
     uri: Option<&str>,

@@ -1,8 +1,10 @@
 //! Names that are put again and again, which share their texts.
-ghost use Rattle.std.specs.Prelude.{◌≡◌, true, IfOk};
+ghost use Rattle.std.specs.Prelude.{◌≡◌, true, IfOk, IfSome};
 ghost use Rattle.xs_making.specs.Labels.{put_label};
+ghost use Rattle.xs_making.specs.steps.Plain.{IsPlain, IsPlainName};
 
 use crate::labels::{put_label, put_prefix};
+use crate::plain_names::PlainName;
 use std::alloc::{AllocError, Global};
 use xs_trace::event::Label;
 
@@ -16,6 +18,8 @@ pub struct RecentLabels {
     alloc: Global,
     /// A name lies in the slot that its local part chooses. Before the first name there is no slot.
     slots: Vec<Option<Label>>,
+    /// The same for names of attributes without a prefix, each with its text as the local part.
+    plain: Vec<Option<PlainName>>,
 }
 
 impl RecentLabels {
@@ -24,6 +28,7 @@ impl RecentLabels {
         RecentLabels {
             alloc,
             slots: Vec::new(alloc),
+            plain: Vec::new(alloc),
         }
     }
 
@@ -45,6 +50,32 @@ impl RecentLabels {
         let label = put_label(self.alloc, uri, local, prefix)?;
         self.keep(slot, label.copy()?)?;
         Ok(label)
+    }
+
+    /// The name of an attribute that a text is, if it was kept.
+    pub(crate) fn plain(&self, text: &str) -> Result<Option<Label>, AllocError>
+        ensures { IfOk result (λ found. IfSome found (λ name. IsPlain text.now name)) }
+    {
+        match self.plain.get(slot_of(text)) {
+            Some(Some(kept)) => kept.name_of(text),
+            Some(None) => Ok(None),
+            None => Ok(None),
+        }
+    }
+
+    /// Keeps the name of an attribute.
+    pub(crate) fn keep_plain(&mut self, name: &Label) -> Result<(), AllocError>
+        requires { IsPlainName name.now }
+    {
+        let slot = slot_of(name.local());
+        for _ in self.plain.len()..SLOTS {
+            self.plain.push(None)?;
+        }
+        let name = PlainName::of(name.copy()?);
+        if let Some(kept) = self.plain.get_mut(slot) {
+            *kept = Some(name);
+        }
+        Ok(())
     }
 
     /// Keeps a name in a slot, in place of the one that was there.

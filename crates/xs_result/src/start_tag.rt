@@ -1,9 +1,10 @@
 //! The start tag that is open, to which attributes and namespace nodes may be added.
 
-ghost use Rattle.std.specs.Prelude.{◌≡◌, ◌++◌, ◌∷◌, [], IfOk, None, OnOk, Some, false};
+ghost use Rattle.std.specs.Prelude.{◌≡◌, ◌++◌, ◌∷◌, [], ℕ, IfOk, List, None, OnErr, OnOk, Some};
+ghost use Rattle.std.specs.Prelude.{false, if◌then◌else◌};
 ghost use Rattle.xs_result.specs.steps.Building.{is_open};
-ghost use Rattle.xs_result.specs.steps.Places.{is_attribute, is_named, place_of, revalued};
-ghost use Rattle.xs_result.specs.steps.Places.{with_attribute};
+ghost use Rattle.xs_result.specs.steps.Places.{has_parts, is_attribute, place_in, place_of};
+ghost use Rattle.xs_result.specs.steps.Places.{revalued, with_attribute};
 ghost use Rattle.xs_trace.specs.Label.{Label};
 
 use indexmap::IndexMap;
@@ -12,23 +13,32 @@ use std::marker::Model;
 use xs_trace::event::{Event, Label};
 use xs_trace::text::TextBuf;
 
-/// A namespace URI and a local part (Namespaces in XML 1.0, 2.1).
+/// The local part and the namespace URI of a name (Namespaces in XML 1.0, 2.1): the local part
+/// first, since by it names mostly differ.
 type Expanded<'e> = (&'e str, &'e str);
 
-/// How many names are forgotten in place, so that their room is kept for the next start tag.
-const FEW: usize = 16;
+/// A name, and the place of the attribute of this name.
+type Placed<'e> = (Expanded<'e>, usize);
+
+/// The most names that are gone over one after another, which takes less time than a hash.
+const FEW: usize = 8;
+
+/// How many others are forgotten in place, so that their room is kept for the next start tag.
+const MANY: usize = 16;
 
 /// The events of a start tag: the start of the element, and what was added to it. It is empty where
 /// no start tag is open. Contracts see it as its events.
 #[derive(Drop)]
 pub(crate) struct StartTag<'e> {
     events: Vec<Event>,
-    /// The places of its attributes.
-    places: IndexMap<Expanded<'e>, usize>,
+    /// The places of its first few attributes.
+    few: Vec<Placed<'e>>,
+    /// Those of the others.
+    others: IndexMap<Expanded<'e>, usize>,
 }
 
 impl<'e> Model for StartTag<'e> {
-    ghost use Rattle.std.specs.Prelude.{◌≡◌, ℕ, List};
+    ghost use Rattle.std.specs.Prelude.{◌≡◌, ◌++◌, ℕ, List};
     ghost use Rattle.xs_result.specs.steps.Places.{place_in, place_of};
     ghost use Rattle.xs_trace.specs.declared.event.Event.{Event};
 
@@ -37,7 +47,8 @@ impl<'e> Model for StartTag<'e> {
     ghost view = { λ t. t.events.items };
 
     ghost invariant = { λ t. (uri local : List ℕ)
-        → place_in t.places uri local ≡ place_of uri local t.events.items };
+        → place_in (t.few.items ++ t.others.entries) uri local
+        ≡ place_of uri local t.events.items };
 }
 
 impl<'e> StartTag<'e> {
@@ -47,7 +58,8 @@ impl<'e> StartTag<'e> {
     {
         StartTag {
             events: Vec::new(alloc),
-            places: IndexMap::new(alloc),
+            few: Vec::new(alloc),
+            others: IndexMap::new(alloc),
         }
     }
 
@@ -72,15 +84,20 @@ impl<'e> StartTag<'e> {
     pub(crate) fn put(&mut self, name: &'e Label, value: &TextBuf) -> Result<(), AllocError>
         ensures { OnOk result (self.new ≡ with_attribute name.now value.now self.old) }
     {
-        let expanded = (name.uri(), name.local());
-        match self.places.get(&expanded) {
-            Some(place) => {
-                let place = *place;
-                self.replace(place, value)?;
-            }
-            None => self.add(expanded, name, value)?,
+        match self.place(name) {
+            Some(place) => self.replace(place, value),
+            None => self.add(name, value),
         }
-        Ok(())
+    }
+
+    /// The place of the attribute of a name.
+    fn place(&self, name: &Label) -> Option<usize>
+        ensures { result ≡ place_of name.now.uri name.now.local self.now }
+    {
+        match place_among(self.few.as_slice(), name) {
+            Some(place) => Some(place),
+            None => place_beyond(&self.others, name),
+        }
     }
 
     /// Gives the attribute at a place, which is the first of a name, another value.
@@ -95,13 +112,7 @@ impl<'e> StartTag<'e> {
     }
 
     /// An attribute of a name that it does not have.
-    fn add(
-        &mut self,
-        expanded: Expanded<'e>,
-        name: &Label,
-        value: &TextBuf,
-    ) -> Result<(), AllocError>
-        requires named { is_named expanded name.now }
+    fn add(&mut self, name: &'e Label, value: &TextBuf) -> Result<(), AllocError>
         requires new { place_of name.now.uri name.now.local self.old ≡ None }
         ensures { OnOk result (self.new ≡ with_attribute name.now value.now self.old) }
     {
@@ -111,9 +122,10 @@ impl<'e> StartTag<'e> {
         };
         let place = self.events.len();
         self.events.push(event)?;
-        match self.places.insert(expanded, place) {
-            Ok(_) => Ok(()),
-            Err(_failed) => {
+        let expanded = (name.local(), name.uri());
+        match keep(&mut self.few, &mut self.others, expanded, place) {
+            Ok(()) => Ok(()),
+            Err(_refused) => {
                 let _ = self.events.pop();
                 Err(AllocError)
             }
@@ -126,12 +138,75 @@ impl<'e> StartTag<'e> {
         ensures empty { OnOk result (self.new ≡ []) }
     {
         events.append(&mut self.events)?;
-        if self.places.len() > FEW {
-            let _many = std::mem::replace(&mut self.places, IndexMap::new(alloc));
-        } else {
-            self.places.clear();
-        }
+        self.few.clear();
+        forget(alloc, &mut self.others);
         Ok(())
+    }
+}
+
+/// The place that names have for one of them, by going over them.
+fn place_among(names: &[Placed<'_>], name: &Label) -> Option<usize>
+    ensures { result ≡ place_in names.now name.now.uri name.now.local }
+{
+    for placed in names {
+        if has_parts(name, &placed.0) {
+            return Some(placed.1);
+        }
+    }
+    None
+}
+
+/// The place that a map has for a name.
+fn place_beyond(others: &IndexMap<Expanded<'_>, usize>, name: &Label) -> Option<usize>
+    ensures { result ≡ place_in others.now.entries name.now.uri name.now.local }
+{
+    if others.is_empty() {
+        return None;
+    }
+    others.get(&(name.local(), name.uri())).copied()
+}
+
+/// Whether a name has these two parts.
+fn has_parts(name: &Label, parts: &Expanded<'_>) -> bool
+    ensures { result ≡ has_parts name.now.uri name.now.local parts.now }
+{
+    name.local() == parts.0 && name.uri() == parts.1
+}
+
+/// Keeps the place of the attribute of a new name, among the first few or the others.
+fn keep<'e>(
+    few: &mut Vec<Placed<'e>>,
+    others: &mut IndexMap<Expanded<'e>, usize>,
+    name: Expanded<'e>,
+    place: usize,
+) -> Result<(), AllocError>
+    requires new { place_in (few.old.items ++ others.old.entries) name.1.now name.0.now ≡ None }
+    ensures kept { OnOk result ((uri local : List ℕ)
+        → place_in (few.new.items ++ others.new.entries) uri local
+        ≡ (if has_parts uri local name.entry then Some place
+        else place_in (few.old.items ++ others.old.entries) uri local)) }
+    ensures few { OnErr result (few.new.items ≡ few.old.items) }
+    ensures others { OnErr result (others.new.entries ≡ others.old.entries) }
+{
+    if others.is_empty() && few.len() < FEW {
+        few.push((name, place))?;
+        return Ok(());
+    }
+    others.insert(name, place)?;
+    Ok(())
+}
+
+/// Forgets all names.
+fn forget<'e>(alloc: Global, others: &mut IndexMap<Expanded<'e>, usize>)
+    ensures { others.new.entries ≡ [] }
+{
+    if others.is_empty() {
+        return;
+    }
+    if others.len() > MANY {
+        let _many = std::mem::replace(others, IndexMap::new(alloc));
+    } else {
+        others.clear();
     }
 }
 

@@ -9,6 +9,7 @@ use Rattle.std.specs.Option.{option_and_then, option_map_or}
 use Rattle.xs_sheet.specs.declared.declarations.Template.{Template}
 use Rattle.xs_sheet.specs.declared.scoped.ScopedPattern.{ScopedPattern}
 use Rattle.xs_tree.specs.Record.{Record, at}
+use Rattle.xs_tree.specs.Shape.{IsTree}
 use Rattle.xs_value.specs.Tables.{Table}
 use Rattle.xs_xpath.specs.Tree.{Tree}
 use Rattle.xs_rules.specs.declared.candidates.Best.{Best}
@@ -197,11 +198,11 @@ key-of : (cs : List Candidate) (m : ℕ) (c : Candidate) → slice_get cs m ≡ 
 key-of cs m c s =
     get_or_from_slice_get (map key_of cs) m (key_of c) (any_key 0) (slice_get-map key_of cs m ∙ ap (option_map key_of) s)
 
--- each rule that takes a node is in the chain of the node's key or in that of rules for any name
-pub complete : (looked : Looked) (keys : List Table) (rs : List Record) (mode n : ℕ) (cs : List Candidate) → n < length rs
+-- each rule that takes a node is in the chain of the node's key or in that of rules for several kinds or names
+pub complete : (looked : Looked) (keys : List Table) (rs : List Record) (mode n : ℕ) (cs : List Candidate) → IsTree rs → n < length rs
     → IsComplete (passes looked keys rs mode n) cs (has_key (map key_of cs) (node_key mode (at rs n))) (has_key (map key_of cs) (any_key mode))
-complete looked keys rs mode n cs h = λ m c s e.
-    elim (passing-key looked keys rs mode n c h e) [
+complete looked keys rs mode n cs t h = λ m c s e.
+    elim (passing-key looked keys rs mode n c t h e) [
       | inl q ↦ inl (ap (is_key (node_key mode (at rs n))) (key-of cs m c s) ∙ q)
       | inr q ↦ inr (ap (is_key (any_key mode)) (key-of cs m c s) ∙ q)
     ]
@@ -214,16 +215,16 @@ chain-key ks q i j o a b m =
     ap (λ k. is_key k (key_at ks m)) (sym (key-same q (key_at ks j) e))
 
 pub index-step : (looked : Looked) (keys : List Table) (rs : List Record) (mode n : ℕ) (ts : List Template) (cs : List Candidate) (entries : List Entry)
-    (found : Key → Option ℕ) (o g : Option ℕ) (best now : Option Best) (j : ℕ) (e : Entry) → n < length rs → IsIndexed ts cs entries found
+    (found : Key → Option ℕ) (o g : Option ℕ) (best now : Option Best) (j : ℕ) (e : Entry) → IsTree rs → n < length rs → IsIndexed ts cs entries found
     → IsSearched (passes looked keys rs mode n) cs (has_key (map key_of cs) (node_key mode (at rs n))) (has_key (map key_of cs) (any_key mode)) o g best
     → later o g ≡ Some j → slice_get entries j ≡ Some e
     → now ≡ option_map_or (λ c. best_before (passes looked keys rs mode n) (c ∷ []) best) (at_entry ts e) best
     → IsSearched (passes looked keys rs mode n) cs (has_key (map key_of cs) (node_key mode (at rs n))) (has_key (map key_of cs) (any_key mode))
     (moved_back o j e.previous) (moved_back g j e.previous) now
-index-step looked keys rs mode n ts cs entries found o g best now j e h i s l at_e is =
+index-step looked keys rs mode n ts cs entries found o g best now j e t h i s l at_e is =
     let w : (c : Candidate) × (slice_get cs j ≡ Some c) × (at_entry ts e ≡ Some c) = entry-at ts cs entries found j e i at_e in
     search-step (passes looked keys rs mode n) cs (has_key ks (node_key mode (at rs n))) (has_key ks (any_key mode)) (has_key ks (key_at ks j)) o g
-    e.previous best now j w.0 (complete looked keys rs mode n cs h) s l w.1
+    e.previous best now j w.0 (complete looked keys rs mode n cs t h) s l w.1
     (is ∙ ap (λ x. option_map_or (λ c. best_before (passes looked keys rs mode n) (c ∷ []) best) x best) w.2) (i.previous j e at_e)
     (λ q. chain-key ks (node_key mode (at rs n)) s.until j o s.of_named q) (λ q. chain-key ks (any_key mode) s.until j g s.of_unnamed q)
   where

@@ -1,4 +1,4 @@
--- A rule that matches a node has the node's key, or that of rules for any name.
+-- A rule that matches a node has the node's key, or that of rules for several kinds or names.
 use Rattle.std.proofs.Common.{◌≡◌, ℕ, ◌<◌, ◌==◌, ◌&&◌, Bool, true, false, List, [], ◌∷◌, length, reverse, Option, Some, None, refl, sym, ap, subst, ◌∙◌, ◌⊎◌, inl, inr}
 use Rattle.std.proofs.lemmas.Bool.{and_from, and_parts, cases_Bool, eq-eqb, eqb-true, true≢false}
 use Rattle.std.proofs.lemmas.Slice.Eq.{bytes_eq-Decides}
@@ -7,23 +7,25 @@ use Rattle.xs_tree.specs.declared.axes.Axis.{Axis}
 use Rattle.xs_tree.specs.declared.axes.Axis.TheVariants.{Child, Attribute as AttributeAxis}
 use Rattle.xs_tree.specs.declared.kinds.Kind.{Kind}
 use Rattle.xs_tree.specs.declared.kinds.Kind.TheVariants as kind
-use Rattle.xs_tree.specs.Kinds.{is_attribute_kind, is_element_kind}
+use Rattle.xs_tree.specs.Kinds.{is_attribute_kind, is_element_kind, is_root_kind, is_text_kind}
 use Rattle.xs_tree.specs.Record.{Record, at, name_local, name_uri}
+use Rattle.xs_tree.specs.Shape.{IsTree}
 use Rattle.xs_value.specs.Tables.{Table}
 use Rattle.xs_xpath.specs.declared.name.NodeTest.{NodeTest}
 use Rattle.xs_xpath.specs.declared.name.NodeTest.TheVariants.{Any, Uri, Name, Node, Text, Comment, Pi, Target}
-use Rattle.xs_xpath.specs.Tree.{Tree, Trees, step}
+use Rattle.xs_xpath.specs.Tree.{Tree, Trees, root, step}
 use Rattle.xs_eval.specs.Context.{Context}
 use Rattle.xs_eval.specs.Evaluation.{runs_of_trees}
-use Rattle.xs_eval.specs.Paths.{is_named, is_pi_kind, passes as passes_test}
+use Rattle.xs_eval.specs.Paths.{is_comment_kind, is_named, is_pi_kind, passes as passes_test}
 use Rattle.xs_pattern.specs.Matching.{ends_path, matches_path, pattern_context, placed_at, selected, start_of, step_nodes, steps_of}
 use Rattle.xs_pattern.specs.Predicates.{is_among}
 use Rattle.xs_pattern.proofs.ClimbLemmas.{ends-no_parent, ends-parent}
+use Rattle.xs_pattern.proofs.StartLemmas.{root-among}
 use Rattle.xs_pattern.proofs.StepLemmas.{passes-not}
 use Rattle.xs_rules.specs.declared.candidates.Looked.{Looked}
 use Rattle.xs_rules.specs.Rules.{Candidate}
 use Rattle.xs_rules.specs.steps.Candidates.{looks_at, passes}
-use Rattle.xs_rules.specs.steps.Index.{Key, any_key, is_key, key, key_of, kind_key, last_key, node_key, step_key}
+use Rattle.xs_rules.specs.steps.Index.{Key, any_key, is_key, key, key_of, kind_key, node_key, path_key, start_key, step_key, unnamed_key}
 
 -- equal keys
 bytes_eq-true : (xs ys : List ℕ) → bytes_eq xs ys ≡ true → xs ≡ ys
@@ -96,7 +98,37 @@ pi-is kind.Space e = cc
 pi-is kind.Text e = cc
 pi-is kind.Comment e = cc
 
--- ---- the last step of a path that ends at a node
+root-is : (k : Kind) → is_root_kind k ≡ true → k ≡ kind.Root
+root-is kind.Root e = refl
+root-is kind.Element e = cc
+root-is kind.Attribute e = cc
+root-is kind.Space e = cc
+root-is kind.Text e = cc
+root-is kind.Comment e = cc
+root-is kind.Pi e = cc
+
+text-is : (k : Kind) → is_text_kind k ≡ true → k ≡ kind.Text
+text-is kind.Text e = refl
+text-is kind.Root e = cc
+text-is kind.Element e = cc
+text-is kind.Attribute e = cc
+text-is kind.Space e = cc
+text-is kind.Comment e = cc
+text-is kind.Pi e = cc
+
+comment-is : (k : Kind) → is_comment_kind k ≡ true → k ≡ kind.Comment
+comment-is kind.Comment e = refl
+comment-is kind.Root e = cc
+comment-is kind.Element e = cc
+comment-is kind.Attribute e = cc
+comment-is kind.Space e = cc
+comment-is kind.Text e = cc
+comment-is kind.Pi e = cc
+
+unnamed-is : (m n kind : ℕ) → (n == m) ≡ true → is_key (unnamed_key m kind) (unnamed_key n kind) ≡ true
+unnamed-is m n kind e = key-is m n kind [] [] [] [] e refl refl
+
+-- ---- the last step of a path that ends at a node, or where it begins
 
 abbrev Either : ℕ → Record → Key → Type 0
 Either mode r k = (is_key (node_key mode r) k ≡ true) ⊎ (is_key (any_key mode) k ≡ true)
@@ -143,23 +175,34 @@ test-key m mode axis (Target target) es r e t =
 test-key m mode axis Any es r e t = inr (any-is mode m e)
 test-key m mode axis (Uri uri) es r e t = inr (any-is mode m e)
 test-key m mode axis Node es r e t = inr (any-is mode m e)
-test-key m mode axis Text es r e t = inr (any-is mode m e)
-test-key m mode axis Comment es r e t = inr (any-is mode m e)
+test-key m mode axis Text es r e t =
+    inl (ap (λ k. is_key (kind_key mode k (name_uri r) (name_local r)) (unnamed_key m 5)) (text-is r.kind t) ∙ unnamed-is mode m 5 e)
+test-key m mode axis Comment es r e t =
+    inl (ap (λ k. is_key (kind_key mode k (name_uri r) (name_local r)) (unnamed_key m 6)) (comment-is r.kind t) ∙ unnamed-is mode m 6 e)
 test-key m mode axis Pi es r e t = inr (any-is mode m e)
 
-path-key : (keys : List Table) (c : Context) (start : Tree) (steps : List Tree) (m mode n : ℕ) → n < length c.tree → (m == mode) ≡ true
-    → ends_path keys c start steps n ≡ true → Either mode (at c.tree n) (last_key m steps)
-path-key keys c start [] m mode n h e t = inr (any-is mode m e)
-path-key keys c start (step axis which es ∷ before) m mode n h e t =
-    test-key m mode axis which es (at c.tree n) e (test-passed keys c start axis which es before n h t)
-path-key keys c start (_ ∷ before) m mode n h e t = inr (any-is mode m e)
+start-key : (keys : List Table) (c : Context) (start : Tree) (m mode n : ℕ) → IsTree c.tree → (m == mode) ≡ true
+    → ends_path keys c start [] n ≡ true → Either mode (at c.tree n) (start_key m start)
+unfolding ends_path
+start-key keys c root m mode n t e ends =
+    let r : Record = at c.tree n in
+    let is : is_root_kind r.kind ≡ true = sym (root-among c.tree n t) ∙ ends in
+    inl (ap (λ k. is_key (kind_key mode k (name_uri r) (name_local r)) (unnamed_key m 4)) (root-is r.kind is) ∙ unnamed-is mode m 4 e)
+start-key keys c _ m mode n t e ends = inr (any-is mode m e)
+
+path-key : (keys : List Table) (c : Context) (start : Tree) (steps : List Tree) (m mode n : ℕ) → IsTree c.tree → n < length c.tree → (m == mode) ≡ true
+    → ends_path keys c start steps n ≡ true → Either mode (at c.tree n) (path_key m start steps)
+path-key keys c start [] m mode n t h e ends = start-key keys c start m mode n t e ends
+path-key keys c start (step axis which es ∷ before) m mode n t h e ends =
+    test-key m mode axis which es (at c.tree n) e (test-passed keys c start axis which es before n h ends)
+path-key keys c start (_ ∷ before) m mode n t h e ends = inr (any-is mode m e)
 
 -- ---- a rule that takes a node
 
-pub passing-key : (looked : Looked) (keys : List Table) (rs : List Record) (mode n : ℕ) (c : Candidate) → n < length rs
+pub passing-key : (looked : Looked) (keys : List Table) (rs : List Record) (mode n : ℕ) (c : Candidate) → IsTree rs → n < length rs
     → passes looked keys rs mode n c ≡ true → Either mode (at rs n) (key_of c)
 unfolding matches_path
-passing-key looked keys rs mode n c h e =
+passing-key looked keys rs mode n c t h e =
     let p = and_parts (looks_at looked c.rank.precedence) (c.mode == mode && matches_path keys (pattern_context rs c.scope n) c.alternative) e in
     let q = and_parts (c.mode == mode) (matches_path keys (pattern_context rs c.scope n) c.alternative) p.1 in
-    path-key keys (pattern_context rs c.scope n) (start_of c.alternative) (reverse (steps_of c.alternative)) c.mode mode n h q.0 q.1
+    path-key keys (pattern_context rs c.scope n) (start_of c.alternative) (reverse (steps_of c.alternative)) c.mode mode n t h q.0 q.1

@@ -153,8 +153,8 @@ impl<'a> Lists<'a> {
     }
 
     /// The rule that a node takes of those that are looked at. The rules with the node's key and
-    /// those for any name are two chains, which are gone along together from their ends. A rule
-    /// that has a table is tried by it.
+    /// those that may match nodes of several kinds or names are two chains, which are gone along
+    /// together from their ends. A rule that has a table is tried by it.
     pub(crate) fn choose_among<K: KeyFinder>(
         &self,
         alloc: Global,
@@ -176,6 +176,9 @@ impl<'a> Lists<'a> {
             (passes looked (K.tables keys.now) tree.now mode node)
             (candidates templates.now) None)) }
     {
+        // `len` says that it is a tree, whose roots are the nodes that `/` matches.
+        let count = tree.len();
+        prove!((node.place() as usize) < count);
         let mut named = self.last_of(&node_key(mode, tree, node));
         let mut unnamed = self.last_of(&any_key(mode));
         let mut best = None;

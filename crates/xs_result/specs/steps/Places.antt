@@ -1,9 +1,8 @@
 -- The attributes of a start tag, and where they stand.
-use Rattle.std.specs.Prelude.{◌≡◌, ℕ, suc, ◌&&◌, Bool, true, false, List, [], ◌∷◌, Option, Some, None, option_map, if◌then◌else◌}
+use Rattle.std.specs.Prelude.{ℕ, suc, ◌&&◌, Bool, true, false, List, [], ◌∷◌, Option, Some, None, option_map, if◌then◌else◌}
 use denote.Ref.{Bor}
-use Rattle.std.specs.HashMap.{get_by}
+use Rattle.std.specs.Map.{lookup}
 use Rattle.std.specs.Str.{bytes_eq}
-use Rattle.indexmap.specs.IndexMap.{IndexMap}
 use Rattle.xs_trace.specs.declared.event.Event.{Event}
 use Rattle.xs_trace.specs.declared.event.Event.TheVariants.{Start, Space, Attr, Chars, End, Comment, Pi}
 use Rattle.xs_trace.specs.Label.{Label}
@@ -48,10 +47,13 @@ unfoldable pub place_of : (uri local : List ℕ) → List Event → Option ℕ
 place_of uri local [] = None
 place_of uri local (e ∷ es) = if is_attribute_of uri local e then Some 0 else option_map suc (place_of uri local es)
 
--- the place that a table has for a name
-abbrev pub place_in : {S : Type 0} → IndexMap (Bor (List ℕ) × Bor (List ℕ)) ℕ S → (uri local : List ℕ) → Option ℕ
-place_in places uri local = get_by (λ k. bytes_eq uri k.0.now && bytes_eq local k.1.now) places
+-- the local part and the URI of an expanded name, as the code has them
+abbrev pub Parts : Type 0
+Parts = Bor (List ℕ) × Bor (List ℕ)
 
--- an expanded name is that of a label
-abbrev pub is_named : Bor (List ℕ) × Bor (List ℕ) → Label → Type 0
-is_named expanded name = (expanded.0.now ≡ name.uri) × (expanded.1.now ≡ name.local)
+abbrev pub has_parts : (uri local : List ℕ) → Parts → Bool
+has_parts uri local k = bytes_eq local k.0.now && bytes_eq uri k.1.now
+
+-- the place that a list of names has for one of them
+abbrev pub place_in : List (Parts × ℕ) → (uri local : List ℕ) → Option ℕ
+place_in names uri local = lookup (has_parts uri local) names

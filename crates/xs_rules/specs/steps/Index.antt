@@ -12,8 +12,8 @@ use Rattle.xs_tree.specs.declared.kinds.Kind.TheVariants.{Root, Element, Attribu
 use Rattle.xs_tree.specs.Record.{Record, name_local, name_uri}
 use Rattle.xs_xpath.specs.declared.name.NodeTest.{NodeTest}
 use Rattle.xs_xpath.specs.declared.name.NodeTest.TheVariants.{Any, Uri, Name, Node, Text, Comment, Pi, Target}
-use Rattle.xs_xpath.specs.Tree.{Tree, step}
-use Rattle.xs_pattern.specs.Matching.{steps_of}
+use Rattle.xs_xpath.specs.Tree.{Tree, root, step}
+use Rattle.xs_pattern.specs.Matching.{start_of, steps_of}
 use Rattle.xs_pattern.specs.steps.Above.{IsAbove}
 use Rattle.xs_pattern.specs.steps.Marks.{AreMarks}
 use Rattle.xs_rules.specs.declared.lists.Entry.{Entry}
@@ -22,8 +22,8 @@ use Rattle.xs_rules.specs.declared.tables.RuleTable.{RuleTable}
 use Rattle.xs_rules.specs.declared.tables.RuleTable.TheVariants.{Above, Matches}
 use Rattle.xs_rules.specs.Rules.{Candidate, candidate}
 
--- Where a rule is found: its mode, and the kind and the name of the nodes that it may match; of a rule that may match others too, no
--- kind, which is 0, and no name.
+-- Where a rule is found: its mode, and the kind and the name of the nodes that it may match, where they have a name; of a rule that may
+-- match others too, no kind, which is 0, and no name.
 pub record Key : Type 0 where
   pub mode : ℕ
   pub kind : ℕ
@@ -33,8 +33,11 @@ pub record Key : Type 0 where
 abbrev pub key : (mode kind : ℕ) → (uri local : List ℕ) → Key
 key mode kind uri local = record { mode = mode; kind = kind; uri = uri; local = local }
 
+abbrev pub unnamed_key : (mode kind : ℕ) → Key
+unnamed_key mode kind = key mode kind [] []
+
 abbrev pub any_key : (mode : ℕ) → Key
-any_key mode = key mode 0 [] []
+any_key mode = unnamed_key mode 0
 
 abbrev pub is_key : Key → Key → Bool
 is_key q k = q.mode == k.mode && q.kind == k.kind && bytes_eq q.uri k.uri && bytes_eq q.local k.local
@@ -55,30 +58,36 @@ test_key mode axis (Target target) = key mode 3 [] target
 test_key mode axis Any = any_key mode
 test_key mode axis (Uri uri) = any_key mode
 test_key mode axis Node = any_key mode
-test_key mode axis Text = any_key mode
-test_key mode axis Comment = any_key mode
+test_key mode axis Text = unnamed_key mode 5
+test_key mode axis Comment = unnamed_key mode 6
 test_key mode axis Pi = any_key mode
 
 abbrev pub step_key : (mode : ℕ) → Tree → Key
 step_key mode (step axis which es) = test_key mode axis which
 step_key mode _ = any_key mode
 
-abbrev pub last_key : (mode : ℕ) → (steps : List Tree) → Key
-last_key mode [] = any_key mode
-last_key mode (s ∷ before) = step_key mode s
+-- or of a path without steps by where it begins
+abbrev pub start_key : (mode : ℕ) → Tree → Key
+start_key mode root = unnamed_key mode 4
+start_key mode _ = any_key mode
+
+-- the steps with the last one first
+abbrev pub path_key : (mode : ℕ) → (start : Tree) → (steps : List Tree) → Key
+path_key mode start [] = start_key mode start
+path_key mode start (s ∷ before) = step_key mode s
 
 abbrev pub key_of : Candidate → Key
-key_of c = last_key c.mode (reverse (steps_of c.alternative))
+key_of c = path_key c.mode (start_of c.alternative) (reverse (steps_of c.alternative))
 
 -- the key of the rules for a node that are not for others too
 abbrev pub kind_key : (mode : ℕ) → Kind → (uri local : List ℕ) → Key
 kind_key mode Element uri local = key mode 1 uri local
 kind_key mode Attribute uri local = key mode 2 uri local
 kind_key mode PiKind uri local = key mode 3 [] local
-kind_key mode Root uri local = any_key mode
+kind_key mode Root uri local = unnamed_key mode 4
+kind_key mode TextKind uri local = unnamed_key mode 5
+kind_key mode CommentKind uri local = unnamed_key mode 6
 kind_key mode Space uri local = any_key mode
-kind_key mode TextKind uri local = any_key mode
-kind_key mode CommentKind uri local = any_key mode
 
 abbrev pub node_key : (mode : ℕ) → Record → Key
 node_key mode r = kind_key mode r.kind (name_uri r) (name_local r)

@@ -106,8 +106,8 @@ loop-place-preserved g c =
     (subst (λ y. IsSearched p cs own any (moved_back c.loop-place.named c.in-Some.place entry.previous) y c.in_ok-best.best)
     (sym c.moved_back-unnamed.ensures)
     (index-step c.args.looked keys c.args.tree.now c.args.mode c.args.node c.args.templates.now cs c.args.self.now.entries.items
-    (found_in c.args.self.now.last) c.loop-place.named c.loop-place.unnamed c.loop-place.best c.in_ok-best.best c.in-Some.place entry c.requires.node
-    c.requires.indexed c.loop-place.invariant l read c.in_ok-best.ensures.best))
+    (found_in c.args.self.now.last) c.loop-place.named c.loop-place.unnamed c.loop-place.best c.in_ok-best.best c.in-Some.place entry
+    c.len-count.ensures.tree c.requires.node c.requires.indexed c.loop-place.invariant l read c.in_ok-best.ensures.best))
 
 pub returns : goal.returns
 returns g c =
@@ -120,6 +120,6 @@ returns g c =
           ∙ ap rule_of_best
           (search-end p cs (has_key (map key_of cs) (node_key c.args.mode (at c.args.tree.now c.args.node)))
           (has_key (map key_of cs) (any_key c.args.mode)) c.loop-place.named c.loop-place.unnamed c.loop-place.best
-          (complete c.args.looked keys c.args.tree.now c.args.mode c.args.node cs c.requires.node) c.loop-place.invariant
+          (complete c.args.looked keys c.args.tree.now c.args.mode c.args.node cs c.len-count.ensures.tree c.requires.node) c.loop-place.invariant
           (sym c.later.ensures ∙ c.in_default.is));
     }
