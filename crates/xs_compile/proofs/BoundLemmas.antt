@@ -26,12 +26,13 @@ use Rattle.xs_static.specs.Expressions.{any_unknown, expressions, expressions_if
 use Rattle.xs_structure.specs.Modules.{Place, records_at}
 use Rattle.xs_tree.specs.Record.{places}
 use Rattle.xs_tree.specs.Shape.{IsTree}
+use Rattle.xs_parser.specs.declared.fault.Fault.{Fault as ParseFault}
+use Rattle.xs_parser.specs.Faults.{expr_in}
+use Rattle.xs_parser.specs.Templates.{template_in}
 use Rattle.xs_xpath.specs.Binding.{bound, bounds}
-use Rattle.xs_xpath.specs.declared.fault.Fault.{Fault as ParseFault}
 use Rattle.xs_xpath.specs.declared.name.Slot.{Slot}
 use Rattle.xs_xpath.specs.declared.name.Slot.TheVariants.{Local, Global}
-use Rattle.xs_xpath.specs.Faults.{expr_in}
-use Rattle.xs_xpath.specs.Templates.{Part, text, computed, template_in}
+use Rattle.xs_xpath.specs.Templates.{Part, text, computed}
 use Rattle.xs_xpath.specs.Tree.{Tree, Trees, number, literal, variable, call, negative, chain, group, here, root, step, descend, filter as filtered, path, no_trees, first_tree}
 
 some-same : {X : Type 0} (a b : X) → Some a ≡ Some b → a ≡ b

@@ -27,13 +27,13 @@ use Rattle.xs_static.specs.Faults.{IsFirstFault, forbidden, of_form}
 use Rattle.xs_structure.specs.Modules.{Place, records_at}
 use Rattle.xs_tree.specs.Kinds.{is_element_kind}
 use Rattle.xs_tree.specs.Record.{Record, at, attributes}
-use Rattle.xs_xpath.specs.declared.fault.Fault.{Fault as ParseFault}
+use Rattle.xs_parser.specs.declared.fault.Fault.{Fault as ParseFault}
+use Rattle.xs_parser.specs.Faults.{expr_in, outcome_in, pattern_in}
+use Rattle.xs_parser.specs.Lexing.{begun, lexed}
+use Rattle.xs_parser.specs.Reading.{level, read, tree_by}
 use Rattle.xs_xpath.specs.declared.name.Slot.{Slot}
 use Rattle.xs_xpath.specs.Binding.{bound, bounds}
-use Rattle.xs_xpath.specs.Faults.{expr_in, outcome_in, pattern_in}
-use Rattle.xs_xpath.specs.Lexing.{begun, lexed}
-use Rattle.xs_xpath.specs.Outcome.{alternatives, listed}
-use Rattle.xs_xpath.specs.Reading.{level, read, tree_by}
+use Rattle.xs_xpath.specs.Patterns.{alternatives, listed}
 use Rattle.xs_xpath.specs.Tree.{Tree, Trees, number, literal, variable, call, negative, chain, group, here, root, step, descend, filter, path, no_trees, first_tree}
 use Rattle.xs_xpath.specs.Uses.{is_sought_call, is_sought_variable, use_any, uses, uses_current, uses_key, uses_variables}
 

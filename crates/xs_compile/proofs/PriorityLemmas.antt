@@ -13,7 +13,7 @@ use Rattle.std.specs.Prelude.{◌&&◌, nat_le, codes, neg_ℤ, pos}
 use Rattle.std.specs.Str.Parse.{digits_value, digits_value_after}
 use Rattle.xs_compile.specs.Priorities.{priority_in, tenthousandths}
 use Rattle.xs_elements.specs.Values.{are_digits, is_number, is_point, unsigned}
-use Rattle.xs_xpath.specs.Lexing.{is_digit}
+use Rattle.xs_xpath.specs.Digits.{is_digit}
 
 -- ---- a sign
 pub minus_priority : (text digits : List ℕ) → text ≡ 45 ∷ digits → neg_ℤ (pos (tenthousandths digits)) ≡ priority_in text

@@ -32,11 +32,11 @@ use Rattle.xs_text.specs.Names.{QName, qname_of}
 use Rattle.xs_trace.specs.Label.{Label}
 use Rattle.xs_tree.specs.Kinds.{is_element_kind}
 use Rattle.xs_tree.specs.Record.{Record, at, attributes, is_attribute, local_at, uri_at}
-use Rattle.xs_xpath.specs.declared.fault.Fault.{Fault as ParseFault}
-use Rattle.xs_xpath.specs.declared.fault.Fault.TheVariants.{Syntax, UnknownFunction, ArgCount, BadLiteral, TooNested, NotPattern, UnboundPrefix}
-use Rattle.xs_xpath.specs.Faults.{expr_in, outcome_in, pattern_in}
-use Rattle.xs_xpath.specs.Outcome.{number_of_fault}
-use Rattle.xs_xpath.specs.Templates.{template_in}
+use Rattle.xs_parser.specs.declared.fault.Fault.{Fault as ParseFault}
+use Rattle.xs_parser.specs.declared.fault.Fault.TheVariants.{Syntax, UnknownFunction, ArgCount, BadLiteral, TooNested, NotPattern, UnboundPrefix}
+use Rattle.xs_parser.specs.Faults.{expr_in, outcome_in, pattern_in}
+use Rattle.xs_parser.specs.Outcome.{number_of_fault}
+use Rattle.xs_parser.specs.Templates.{template_in}
 
 -- ---- outcomes without a fault
 record IsClean (A : Type 0) (o : Result A ParseFault) : Type 0 where

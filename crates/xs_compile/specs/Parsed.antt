@@ -6,12 +6,13 @@ use Rattle.xs_sheet.specs.declared.scoped.ScopedExpr.{ScopedExpr}
 use Rattle.xs_sheet.specs.declared.scoped.ScopedPattern.{ScopedPattern}
 use Rattle.xs_sheet.specs.declared.scoped.ValueTemplate.{ValueTemplate}
 use Rattle.xs_structure.specs.Modules.{Place}
+use Rattle.xs_parser.specs.Faults.{expr_in, pattern_in}
+use Rattle.xs_parser.specs.Templates.{template_in}
 use Rattle.xs_xpath.specs.declared.name.Slot.{Slot}
 use Rattle.xs_xpath.specs.declared.scope.Scope.{Scope}
 use Rattle.xs_xpath.specs.Binding.{bound}
-use Rattle.xs_xpath.specs.Faults.{expr_in, pattern_in}
-use Rattle.xs_xpath.specs.Outcome.{alternatives}
-use Rattle.xs_xpath.specs.Templates.{Part, text, computed, template_in}
+use Rattle.xs_xpath.specs.Patterns.{alternatives}
+use Rattle.xs_xpath.specs.Templates.{Part, text, computed}
 use Rattle.xs_structure.specs.Parts.{pairs_at}
 use Rattle.xs_compile.specs.Slots.{slot_at}
 

@@ -2,17 +2,18 @@
 
 ghost use Rattle.std.specs.Prelude.{◌≡◌, ◌<◌, ◌^◌, Some, IsOk, IfOk, OnOk, length, option_map};
 ghost use Rattle.std.specs.Result.{result_ok};
+ghost use Rattle.xs_parser.specs.Faults.{expr_in, pattern_in};
+ghost use Rattle.xs_parser.specs.Templates.{template_in};
 ghost use Rattle.xs_xpath.specs.AvtParts.{parts_from};
 ghost use Rattle.xs_xpath.specs.Exprs.{tree_from, trees_from};
-ghost use Rattle.xs_xpath.specs.Faults.{expr_in, pattern_in};
-ghost use Rattle.xs_xpath.specs.Outcome.{alternatives};
-ghost use Rattle.xs_xpath.specs.Templates.{template_in};
+ghost use Rattle.xs_xpath.specs.Patterns.{alternatives};
 
 use std::alloc::{AllocError, Global};
-use xs_xpath::avt::{AvtPart, parse_avt};
+use xs_parser::avt::parse_avt;
+use xs_parser::fault::ParseFault;
+use xs_parser::parse::{parse_expr, parse_pattern};
+use xs_xpath::avt::AvtPart;
 use xs_xpath::expr::Expr;
-use xs_xpath::fault::ParseFault;
-use xs_xpath::parse::{parse_expr, parse_pattern};
 use xs_xpath::pattern::Pattern;
 use xs_xpath::scope::Scope;
 

@@ -5,7 +5,7 @@ ghost use Rattle.std.specs.List.{list_all};
 ghost use Rattle.std.specs.Str.Parse.{digits_value_after};
 ghost use Rattle.xs_compile.specs.Priorities.{priority_in, tenthousandths};
 ghost use Rattle.xs_elements.specs.Values.{is_number, unsigned};
-ghost use Rattle.xs_xpath.specs.Lexing.{is_digit};
+ghost use Rattle.xs_xpath.specs.Digits.{is_digit};
 
 use xs_elements::value::split_point;
 

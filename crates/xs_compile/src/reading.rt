@@ -10,9 +10,9 @@ ghost use Rattle.xs_compile.specs.steps.Rows.{has_name, needs, takes_expression,
 ghost use Rattle.xs_compile.specs.steps.Rows.{takes_template};
 ghost use Rattle.xs_compile.specs.steps.State.{IsReady, modules_of, source_of};
 ghost use Rattle.xs_structure.specs.Places.{IsIn};
-ghost use Rattle.xs_xpath.specs.Faults.{expr_in, pattern_in};
+ghost use Rattle.xs_parser.specs.Faults.{expr_in, pattern_in};
+ghost use Rattle.xs_parser.specs.Templates.{template_in};
 ghost use Rattle.xs_xpath.specs.Names.{uri_of};
-ghost use Rattle.xs_xpath.specs.Templates.{template_in};
 
 use crate::compiler::Compiler;
 use crate::labels::{label_in, labels_in};

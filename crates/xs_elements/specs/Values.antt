@@ -7,7 +7,7 @@ use Rattle.xs_elements.specs.declared.forms.Form.{Form}
 use Rattle.xs_elements.specs.declared.forms.Form.TheVariants.{Version, YesOrNo, Level, Name, Names, Sets, Tests, Prefix, Prefixes, Priority}
 use Rattle.xs_elements.specs.WhiteSpace.{words}
 use Rattle.xs_text.specs.Names.{is_ncname, qname_of}
-use Rattle.xs_xpath.specs.Lexing.{is_digit}
+use Rattle.xs_xpath.specs.Digits.{is_digit}
 use Rattle.xs_xpath.specs.Names.{is_bound}
 
 -- a name (XSLT 1.0, 2.4): a QName of Namespaces in XML 1.0

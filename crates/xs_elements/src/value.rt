@@ -8,7 +8,7 @@ ghost use Rattle.xs_elements.specs.Values.{is_prefix, is_qname, is_unbound, is_u
 ghost use Rattle.xs_elements.specs.Values.{is_unbound_prefix, is_unbound_test, is_unbound_word};
 ghost use Rattle.xs_elements.specs.Values.{is_unsupported, prefix_of_test, unsigned};
 ghost use Rattle.xs_elements.specs.WhiteSpace.{words};
-ghost use Rattle.xs_xpath.specs.Lexing.{is_digit};
+ghost use Rattle.xs_xpath.specs.Digits.{is_digit};
 ghost use Rattle.xs_xpath.specs.Names.{is_bound};
 
 use crate::forms::Form;

@@ -15,7 +15,7 @@ use Rattle.xs_tree.proofs.WalkLemmas.{IsPlaced-at}
 use Rattle.xs_value.specs.Tables.{Table}
 use Rattle.xs_xpath.specs.declared.expr.Expr.{Expr}
 use Rattle.xs_xpath.specs.Exprs.{tree_from, trees_from}
-use Rattle.xs_xpath.specs.Outcome.{listed}
+use Rattle.xs_xpath.specs.Patterns.{listed}
 use Rattle.xs_xpath.specs.Tree as syntax
 use Rattle.xs_xpath.specs.Tree.{Tree, Trees, no_trees, first_tree}
 use Rattle.xs_xpath.specs.Uses.{use_any, uses, uses_current, uses_key}

@@ -10,7 +10,7 @@ use Rattle.xs_xpath.specs.declared.expr.Expr.TheVariants as expr
 use Rattle.xs_xpath.specs.declared.expr.Expr.TheFolds.{fold-roll-Expr}
 use Rattle.xs_xpath.specs.declared.name.NodeTest.{NodeTest}
 use Rattle.xs_xpath.specs.Exprs.{tree_from, tree_step, trees_from}
-use Rattle.xs_xpath.specs.Outcome.{listed}
+use Rattle.xs_xpath.specs.Patterns.{listed}
 use Rattle.xs_xpath.specs.Tree.{Tree, descend, here, no_trees, root, step, trees}
 use Rattle.xs_eval.specs.Context.{Context}
 use Rattle.xs_eval.specs.Evaluation.{runs_of}

@@ -10,8 +10,7 @@ use Rattle.xs_tree.specs.Axis.{axis_list}
 use Rattle.xs_tree.specs.Record.{Record, at}
 use Rattle.xs_value.specs.Tables.{Table}
 use Rattle.xs_xpath.specs.declared.name.NodeTest.{NodeTest}
-use Rattle.xs_xpath.specs.Outcome.{listed}
-use Rattle.xs_xpath.specs.Patterns.{is_pattern_axis}
+use Rattle.xs_xpath.specs.Patterns.{listed, is_pattern_axis}
 use Rattle.xs_xpath.specs.Tree.{Tree, number, literal, variable, call, negative, chain, group, here, root, step, descend, filter, path}
 use Rattle.xs_eval.specs.Context.{Context, at_node}
 use Rattle.xs_eval.specs.Evaluation.{run_of_tree, runs_of_trees}

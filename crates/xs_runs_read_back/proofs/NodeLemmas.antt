@@ -25,8 +25,7 @@ use Rattle.xs_making.specs.Laws.{AreWell, BindsNoXmlns, IsNamed, IsSpace, IsWell
 use Rattle.xs_structure.specs.Excluded.{copied_spaces, excludes, is_left_out}
 use Rattle.xs_compile.specs.Aliases.{prefix_uri}
 use Rattle.xs_compile.specs.Labels.{own_label}
-use Rattle.xs_xpath.specs.Lexing.{is_nil}
-use Rattle.xs_xpath.specs.Names.{uri_in, uri_of}
+use Rattle.xs_xpath.specs.Names.{is_nil, uri_in, uri_of}
 use Rattle.xs_well_put.specs.Named.{IsNamedLabel, IsNamedSpace}
 
 -- ---- lists

@@ -8,8 +8,9 @@ use Rattle.xs_static.proofs.BooleanLemmas.{and-false, or-false}
 use Rattle.xs_static.specs.declared.expressions.Found.{Found}
 use Rattle.xs_static.specs.Expressions.{any_unknown, has_unknown, is_forbidden_in}
 use Rattle.xs_static.specs.steps.Parsing.{found_tree}
-use Rattle.xs_xpath.specs.Faults.{pattern_in}
-use Rattle.xs_xpath.specs.Outcome.{HasAlternatives, alternatives, listed, number_of_fault}
+use Rattle.xs_parser.specs.Faults.{pattern_in}
+use Rattle.xs_parser.specs.Outcome.{HasAlternatives, number_of_fault}
+use Rattle.xs_xpath.specs.Patterns.{alternatives, listed}
 use Rattle.xs_xpath.specs.Tree.{Tree, Trees, chain, first_tree, no_trees, trees}
 use Rattle.xs_xpath.specs.Uses.{uses_variables, uses_current, uses_key}
 

@@ -15,11 +15,12 @@ use Rattle.xs_static.specs.Faults.{Fault, bad_syntax, unknown_function, arg_coun
 use Rattle.xs_static.specs.steps.Elements.{value_least}
 use Rattle.xs_static.specs.steps.Parsing.{findings, found_nothing, found_parts, found_tree}
 use Rattle.xs_static.specs.steps.Shown.{IsLeastNumber, has_in_value}
-use Rattle.xs_xpath.specs.declared.fault.Fault.TheVariants.{Syntax, UnknownFunction, ArgCount, BadLiteral, TooNested, NotPattern, UnboundPrefix}
-use Rattle.xs_xpath.specs.declared.fault.Fault.{Fault as TextFault}
-use Rattle.xs_xpath.specs.Faults.{outcome_in}
-use Rattle.xs_xpath.specs.Outcome.{number_of_fault}
-use Rattle.xs_xpath.specs.Templates.{Part, template_in}
+use Rattle.xs_parser.specs.declared.fault.Fault.TheVariants.{Syntax, UnknownFunction, ArgCount, BadLiteral, TooNested, NotPattern, UnboundPrefix}
+use Rattle.xs_parser.specs.declared.fault.Fault.{Fault as TextFault}
+use Rattle.xs_parser.specs.Faults.{outcome_in}
+use Rattle.xs_parser.specs.Outcome.{number_of_fault}
+use Rattle.xs_parser.specs.Templates.{template_in}
+use Rattle.xs_xpath.specs.Templates.{Part}
 use Rattle.xs_xpath.specs.Tree.{Tree}
 
 -- ---- faults of a text as an expression

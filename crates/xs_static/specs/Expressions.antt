@@ -2,9 +2,10 @@
 use Rattle.std.specs.Prelude.{ℕ, ◌==◌, ◌&&◌, ◌||◌, not, Bool, false, List, [], ◌∷◌, Result, Ok, Err, if◌then◌else◌}
 use Rattle.xs_elements.specs.declared.forms.Form.{Form}
 use Rattle.xs_elements.specs.Forms.{is_expression, is_pattern, is_value_template, forbids_variables, forbids_current, forbids_key}
-use Rattle.xs_xpath.specs.Faults.{outcome_in}
-use Rattle.xs_xpath.specs.Outcome.{number_of_fault}
-use Rattle.xs_xpath.specs.Templates.{Part, text, computed, template_in}
+use Rattle.xs_parser.specs.Faults.{outcome_in}
+use Rattle.xs_parser.specs.Outcome.{number_of_fault}
+use Rattle.xs_parser.specs.Templates.{template_in}
+use Rattle.xs_xpath.specs.Templates.{Part, text, computed}
 use Rattle.xs_xpath.specs.Tree.{Tree, Trees, number, literal, variable, call, negative, chain, group, here, root, step, descend, filter, path, no_trees, first_tree}
 use Rattle.xs_xpath.specs.Uses.{uses_variables, uses_current, uses_key}
 

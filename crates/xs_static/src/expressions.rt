@@ -6,18 +6,19 @@ ghost use Rattle.xs_static.specs.Expressions.{is_forbidden_in};
 ghost use Rattle.xs_static.specs.steps.InForce.{visible_in};
 ghost use Rattle.xs_static.specs.steps.Parsing.{IsFoundFault, findings, found_nothing, found_parts};
 ghost use Rattle.xs_static.specs.steps.Parsing.{found_tree};
+ghost use Rattle.xs_parser.specs.Faults.{expr_in, pattern_in};
+ghost use Rattle.xs_parser.specs.Outcome.{number_of_fault};
+ghost use Rattle.xs_parser.specs.Templates.{template_in};
 ghost use Rattle.xs_xpath.specs.Exprs.{tree_from, trees_from};
-ghost use Rattle.xs_xpath.specs.Faults.{expr_in, pattern_in};
-ghost use Rattle.xs_xpath.specs.Outcome.{number_of_fault};
-ghost use Rattle.xs_xpath.specs.Templates.{template_in};
 
 use crate::variables::{Visible, any_unknown, has_unknown, has_unknown_part};
 use std::alloc::{AllocError, Global};
 use xs_elements::forms::{Form, forbids_current, forbids_key, forbids_variables, is_pattern};
-use xs_xpath::avt::{AvtPart, parse_avt};
+use xs_parser::avt::parse_avt;
+use xs_parser::fault::ParseFault;
+use xs_parser::parse::{parse_expr, parse_pattern};
+use xs_xpath::avt::AvtPart;
 use xs_xpath::expr::Expr;
-use xs_xpath::fault::ParseFault;
-use xs_xpath::parse::{parse_expr, parse_pattern};
 use xs_xpath::scope::Scope;
 use xs_xpath::uses::{uses_current, uses_key, uses_variables};
 

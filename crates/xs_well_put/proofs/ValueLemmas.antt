@@ -21,16 +21,12 @@ use Rattle.xs_value.specs.Conversion.{number_value, text_value}
 use Rattle.xs_value.specs.NodeSet.{in_order, union_of}
 use Rattle.xs_value.specs.Tables.{Table, table_at}
 use Rattle.xs_xpath.specs.declared.name.Function.{Function}
-use Rattle.xs_xpath.specs.declared.name.Function.TheVariants.{Last, Position, Count, Id, LocalName, NamespaceUri, Name, String, Concat, StartsWith, Contains}
-use Rattle.xs_xpath.specs.declared.name.Function.TheVariants.{SubstringBefore, SubstringAfter, Substring, StringLength, NormalizeSpace, Translate}
-use Rattle.xs_xpath.specs.declared.name.Function.TheVariants.{Boolean as ToBoolean, Not, True, False, Lang, Number, Sum, Floor, Ceiling, Round, Key, Current}
-use Rattle.xs_xpath.specs.declared.name.Function.TheVariants.{GenerateId, SystemProperty, ElementAvailable, FunctionAvailable, UnparsedEntityUri}
+use Rattle.xs_xpath.specs.declared.name.Function.TheVariants.{Last, Position, Count, Id, LocalName, NamespaceUri, Name, String, Concat, StartsWith, Contains, SubstringBefore, SubstringAfter, Substring, StringLength, NormalizeSpace, Translate, Boolean as ToBoolean, Not, True, False, Lang, Number, Sum, Floor, Ceiling, Round, Key, Current, GenerateId, SystemProperty, ElementAvailable, FunctionAvailable, UnparsedEntityUri}
 use Rattle.xs_xpath.specs.declared.name.NodeTest.TheVariants.{Node}
 use Rattle.xs_xpath.specs.declared.name.Slot.{Slot}
 use Rattle.xs_xpath.specs.declared.name.Slot.TheVariants.{Local, Global}
 use Rattle.xs_xpath.specs.declared.token.Operator.{Operator}
-use Rattle.xs_xpath.specs.declared.token.Operator.TheVariants.{Or, And, Equal, Unequal, Less, LessEqual, Greater, GreaterEqual, Plus, Minus, Times, Div, Mod}
-use Rattle.xs_xpath.specs.declared.token.Operator.TheVariants.{Union}
+use Rattle.xs_xpath.specs.declared.token.Operator.TheVariants.{Or, And, Equal, Unequal, Less, LessEqual, Greater, GreaterEqual, Plus, Minus, Times, Div, Mod, Union}
 use Rattle.xs_tree.specs.declared.axes.Axis.TheVariants.{DescendantOrSelf}
 use Rattle.xs_xpath.specs.Tree as syntax
 use Rattle.xs_xpath.specs.Tree.{Tree, Trees, no_trees, first_tree}

@@ -1,24 +1,4 @@
-mod PartLemmas
-mod CompleteLemmas
-mod SoundLemmas
-mod ReadSoundLemmas
-mod KeptLemmas
-mod PathLemmas
-mod LevelLemmas
-mod ReadLemmas
-pub mod RunLemmas
-mod TokenLemmas
-mod SpellLemmas
-mod FoundLemmas
-mod FirstByteLemmas
-mod LexLemmas
-mod VerdictLemmas
-mod TextLemmas
-mod PatternLemmas
-mod PieceLemmas
-mod PlaceLemmas
-mod AvtLemmas
-mod TemplateLemmas
 mod BindLemmas
 mod RisingLemmas
 mod RowLemmas
+pub mod RunLemmas

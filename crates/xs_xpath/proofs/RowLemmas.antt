@@ -1,12 +1,9 @@
 -- What the tables of names say is what the definitions do.
-use Rattle.std.proofs.Common.{◌≡◌, ℕ, Bool, true, false, List, [], ◌∷◌, ◌++◌, Option, Some, None, refl, ap, ◌∙◌}
+use Rattle.std.proofs.Common.{◌≡◌, ℕ, Bool, true, false, List, [], ◌∷◌, ◌++◌, Option, Some, refl, ap, ◌∙◌}
 use Rattle.std.specs.Prelude.{if◌then◌else◌}
 use Rattle.std.specs.Str.{bytes_eq}
-use Rattle.xs_tree.specs.declared.axes.Axis.{Axis}
-use Rattle.xs_xpath.specs.declared.name.Function.{Function}
-use Rattle.xs_xpath.specs.Lexing.{axis_named}
-use Rattle.xs_xpath.specs.Names.{function_named, node_function, or_else, string_function, value_function}
-use Rattle.xs_xpath.specs.steps.Rows.{axes, first_named, functions, node_functions, string_functions, value_functions, xslt_functions}
+use Rattle.xs_xpath.specs.Names.{function_named, node_function, or_else, string_function}
+use Rattle.xs_xpath.specs.steps.Rows.{first_named, functions, node_functions, string_functions, value_functions, xslt_functions}
 
 unless : {A : Type 0} → (test : Bool) (a : A) (x y z : Option A) → x ≡ or_else y z → (if test then Some a else x) ≡ or_else (if test then Some a else y) z
 unless true a x y z e = refl
@@ -26,7 +23,3 @@ functions_named name =
     ∙ ap (or_else (node_function name))
     (named-append string_functions (value_functions ++ xslt_functions) name
     ∙ ap (or_else (string_function name)) (named-append value_functions xslt_functions name))
-
-pub axes_named : (name : List ℕ) → first_named axes name ≡ axis_named name
-unfolding axes
-axes_named name = refl

@@ -1,20 +1,14 @@
--- What the names of tokens stand for (XPath 1.0, 1 and 2.3): in a scope, the pairs of prefix and URI that are in force.
-use Rattle.std.specs.Prelude.{ℕ, Bool, true, false, ◌||◌, if◌then◌else◌, List, [], ◌∷◌, Option, Some, None, is_some, Result, Ok, Err, codes}
+-- What names stand for (XPath 1.0, 1 and 2.3): in a scope, the pairs of prefix and URI that are in force.
+use Rattle.std.specs.Prelude.{ℕ, Bool, true, false, ◌||◌, if◌then◌else◌, List, [], ◌∷◌, Option, Some, None, is_some, codes}
 use Rattle.std.specs.Option.{unwrap_or}
 use Rattle.std.specs.Str.{bytes_eq}
-use Rattle.xs_num.specs.declared.number.Number.{Number as Value}
-use Rattle.xs_num.specs.declared.number.Number.TheVariants.{NaN}
-use Rattle.xs_num.specs.declared.number.NumFault.{NumFault}
-use Rattle.xs_num.specs.Text.{number_in}
 use Rattle.xs_xpath.specs.declared.name.Function.{Function}
 use Rattle.xs_xpath.specs.declared.name.Function.TheVariants.{Last, Position, Count, Id, LocalName, NamespaceUri, Name as NameOf, String, Concat, StartsWith, Contains, SubstringBefore, SubstringAfter, Substring, StringLength, NormalizeSpace, Translate, Boolean, Not, True, False, Lang, Number as NumberOf, Sum, Floor, Ceiling, Round, Key, Current, GenerateId, SystemProperty, ElementAvailable, FunctionAvailable, UnparsedEntityUri}
-use Rattle.xs_xpath.specs.declared.name.NodeTest.TheVariants.{Uri, Name}
-use Rattle.xs_xpath.specs.declared.token.Atom.TheVariants.{Number as NumberAtom, Variable as VariableAtom}
-use Rattle.xs_xpath.specs.declared.token.Token.{Token}
-use Rattle.xs_xpath.specs.declared.token.Token.TheVariants.{Call, Test, Atom}
-use Rattle.xs_xpath.specs.declared.token.Lexeme.{Lexeme}
-use Rattle.xs_xpath.specs.declared.token.Lexeme.TheVariants.{Ready, AnyOf, Named, Called, Variable, Number}
-use Rattle.xs_xpath.specs.Lexing.{is_nil, unprefixed}
+
+-- whether a text is empty
+abbrev pub is_nil : List ℕ → Bool
+is_nil [] = true
+is_nil (b ∷ bs) = false
 
 -- the URI that a prefix is bound to
 abbrev pub uri_in : List (List ℕ × List ℕ) → List ℕ → Option (List ℕ)
@@ -86,17 +80,3 @@ or_else (Some a) b = Some a
 
 unfoldable pub function_named : List ℕ → Option Function
 function_named name = or_else (node_function name) (or_else (string_function name) (or_else (value_function name) (xslt_function name)))
-
-abbrev pub number_of : Result Value NumFault → Value
-number_of (Ok n) = n
-number_of (Err fault) = NaN
-
--- The token whose names are resolved. A function that is unknown and a number that is none of this profile are faults, and
--- stand for any function and number here.
-abbrev pub token_in : List (List ℕ × List ℕ) → Lexeme → Token
-token_in pairs (Ready token) = token
-token_in pairs (AnyOf prefix) = Test (Uri (uri_of pairs prefix))
-token_in pairs (Named q) = Test (Name (uri_of pairs q.prefix) q.local)
-token_in pairs (Called q) = Call (unwrap_or (unprefixed function_named q) Last)
-token_in pairs (Variable q) = Atom (VariableAtom (uri_of pairs q.prefix) q.local)
-token_in pairs (Number text) = Atom (NumberAtom (number_of (number_in text)))

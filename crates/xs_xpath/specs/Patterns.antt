@@ -69,3 +69,12 @@ are_unions (op ∷ ops) = is_union op && are_unions ops
 abbrev pub is_pattern : Tree → Bool
 is_pattern (chain ops es) = are_unions ops && are_pattern_paths es
 is_pattern e = is_pattern_path e
+
+-- the alternatives of a pattern
+abbrev pub listed : Trees → List Tree
+listed no_trees = []
+listed (first_tree e es) = e ∷ listed es
+
+abbrev pub alternatives : Tree → List Tree
+alternatives (chain ops es) = listed es
+alternatives e = e ∷ []

@@ -1,8 +1,3 @@
--- What the code mirrors: the parts, the states and the loops of the reader. No public contract cites these files.
-pub mod Cuttings
-pub mod Parts
+-- What the code mirrors: its tables, and scopes whose prefixes rise. No public contract cites these files.
 pub mod Rising
 pub mod Rows
-pub mod Scan
-pub mod SoFar
-pub mod States

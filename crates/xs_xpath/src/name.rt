@@ -62,13 +62,6 @@ pub enum NodeTest {
     Target(TextBuf),
 }
 
-/// A name as it is written: its prefix, which may be empty, and its local part.
-#[derive(Drop)]
-pub struct QName {
-    pub prefix: TextBuf,
-    pub local: TextBuf,
-}
-
 /// Where the value of a variable is kept.
 #[derive(Clone, Copy)]
 pub enum Slot {

@@ -5,11 +5,12 @@ use Rattle.xs_static.specs.declared.expressions.Found.{Found}
 use Rattle.xs_elements.specs.declared.forms.Form.{Form}
 use Rattle.xs_static.specs.Expressions.{expressions, has_unknown, is_forbidden_in, is_parsed}
 use Rattle.xs_elements.specs.Forms.{is_pattern, is_value_template}
-use Rattle.xs_xpath.specs.declared.fault.ParseFault.{ParseFault}
-use Rattle.xs_xpath.specs.declared.fault.ParseFault.TheVariants.{Bad, NoMemory}
-use Rattle.xs_xpath.specs.Faults.{outcome_in}
-use Rattle.xs_xpath.specs.Outcome.{number_of_fault}
-use Rattle.xs_xpath.specs.Templates.{Part, template_in}
+use Rattle.xs_parser.specs.declared.fault.ParseFault.{ParseFault}
+use Rattle.xs_parser.specs.declared.fault.ParseFault.TheVariants.{Bad, NoMemory}
+use Rattle.xs_parser.specs.Faults.{outcome_in}
+use Rattle.xs_parser.specs.Outcome.{number_of_fault}
+use Rattle.xs_parser.specs.Templates.{template_in}
+use Rattle.xs_xpath.specs.Templates.{Part}
 use Rattle.xs_xpath.specs.Tree.{Tree}
 
 abbrev pub found_fault : ℕ → Found

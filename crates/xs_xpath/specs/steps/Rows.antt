@@ -2,8 +2,6 @@
 use Rattle.std.specs.Prelude.{ℕ, List, [], ◌∷◌, ◌++◌, Option, Some, None, codes, if◌then◌else◌}
 use Rattle.std.specs.Borrow.{Bor}
 use Rattle.std.specs.Str.{bytes_eq}
-use Rattle.xs_tree.specs.declared.axes.Axis.{Axis}
-use Rattle.xs_tree.specs.declared.axes.Axis.TheVariants.{Child, Descendant, Parent, Ancestor, FollowingSibling, PrecedingSibling, Following, Preceding, Attribute, Namespace, SelfNode, DescendantOrSelf, AncestorOrSelf}
 use Rattle.xs_xpath.specs.declared.name.Function.{Function}
 use Rattle.xs_xpath.specs.declared.name.Function.TheVariants.{Last, Position, Count, Id, LocalName, NamespaceUri, Name, String, Concat, StartsWith, Contains, SubstringBefore, SubstringAfter, Substring, StringLength, NormalizeSpace, Translate, Boolean, Not, True, False, Lang, Number, Sum, Floor, Ceiling, Round, Key, Current, GenerateId, SystemProperty, ElementAvailable, FunctionAvailable, UnparsedEntityUri}
 
@@ -69,21 +67,3 @@ xslt_functions =
 
 unfoldable pub functions : List (List ℕ × Function)
 functions = node_functions ++ (string_functions ++ (value_functions ++ xslt_functions))
-
--- the axes (XPath 1.0, 2.2)
-unfoldable pub axes : List (List ℕ × Axis)
-axes =
-    (codes "child", Child)
-    ∷ (codes "descendant", Descendant)
-    ∷ (codes "parent", Parent)
-    ∷ (codes "ancestor", Ancestor)
-    ∷ (codes "following-sibling", FollowingSibling)
-    ∷ (codes "preceding-sibling", PrecedingSibling)
-    ∷ (codes "following", Following)
-    ∷ (codes "preceding", Preceding)
-    ∷ (codes "attribute", Attribute)
-    ∷ (codes "namespace", Namespace)
-    ∷ (codes "self", SelfNode)
-    ∷ (codes "descendant-or-self", DescendantOrSelf)
-    ∷ (codes "ancestor-or-self", AncestorOrSelf)
-    ∷ []

@@ -3,7 +3,7 @@ use Rattle.std.specs.List.{list_all}
 use Rattle.std.specs.Prelude.{codes}
 use Rattle.std.specs.Str.Parse.{digits_value_after}
 use Rattle.xs_compile.proofs.PriorityLemmas.{number_fits, number_is, part_fits, parted, zeros_digits, zeros_few, zeros_fit}
-use Rattle.xs_xpath.specs.Lexing.{is_digit}
+use Rattle.xs_xpath.specs.Digits.{is_digit}
 use Rattle.xs_compile.proofs.priorities.tenthousandths.Goals as goal
 
 pub digits_after-all-requires-clause-few : goal.digits_after-all-requires-clause-few

@@ -2,7 +2,7 @@ use Rattle.std.proofs.Common.{sym, subst, IsOk}
 use Rattle.xs_compile.proofs.ValidLemmas.{said_pattern}
 use Rattle.xs_structure.specs.Parts.{pairs_at}
 use Rattle.xs_compile.specs.steps.State.{modules_of}
-use Rattle.xs_xpath.specs.Faults.{pattern_in}
+use Rattle.xs_parser.specs.Faults.{pattern_in}
 use Rattle.xs_compile.proofs.compiler.Compiler.pattern_of.Goals as goal
 
 pub pattern-requires-clause-valid : goal.pattern-requires-clause-valid

@@ -3,7 +3,7 @@ use Rattle.xs_compile.proofs.ValidLemmas.{valid_put}
 use Rattle.xs_structure.specs.Parts.{pairs_at}
 use Rattle.xs_compile.specs.steps.State.{modules_of}
 use Rattle.xs_structure.specs.Modules.{Place}
-use Rattle.xs_xpath.specs.Templates.{template_in}
+use Rattle.xs_parser.specs.Templates.{template_in}
 use Rattle.xs_compile.proofs.compiler.Compiler.put_attribute.Goals as goal
 
 pub template-requires-clause-valid : goal.template-requires-clause-valid

@@ -2,7 +2,7 @@ use Rattle.std.proofs.Common.{sym, subst, IsOk}
 use Rattle.xs_compile.proofs.ValidLemmas.{said_template}
 use Rattle.xs_structure.specs.Parts.{pairs_at}
 use Rattle.xs_compile.specs.steps.State.{modules_of}
-use Rattle.xs_xpath.specs.Templates.{template_in}
+use Rattle.xs_parser.specs.Templates.{template_in}
 use Rattle.xs_compile.proofs.compiler.Compiler.template_of.Goals as goal
 
 pub template-requires-clause-valid : goal.template-requires-clause-valid

@@ -1,0 +1,9 @@
+-- What the table of the axes' names says is what the definition does.
+use Rattle.std.proofs.Common.{◌≡◌, ℕ, List, refl}
+use Rattle.xs_xpath.specs.steps.Rows.{first_named}
+use Rattle.xs_parser.specs.Lexing.{axis_named}
+use Rattle.xs_parser.specs.steps.Rows.{axes}
+
+pub axes_named : (name : List ℕ) → first_named axes name ≡ axis_named name
+unfolding axes
+axes_named name = refl

@@ -1,7 +1,0 @@
-use Rattle.xs_xpath.specs.Grammar.{same}
-use Rattle.xs_xpath.proofs.CompleteLemmas.{tree_by-Spells}
-use Rattle.xs_xpath.proofs.ReadSoundLemmas.{SpellsExpr-tree_of}
-use Rattle.xs_xpath.proofs.laws.tokens_are_read.Goals as goal
-
-pub returns : goal.returns
-returns c = λ ts e. (tree_by-Spells same ts e, SpellsExpr-tree_of ts e)
