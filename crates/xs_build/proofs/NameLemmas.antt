@@ -1,22 +1,28 @@
 -- The name of an element or an attribute, by that of another node.
-use Rattle.std.proofs.Common.{◌≡◌, ℕ, ◌<◌, List, [], ◌∷◌, ◌++◌, Option, None, Some, Result, Ok, Err, Bool, true, false, length, eqb, refl, sym, ◌∙◌, ap, arith, unwrap_or}
+use Rattle.std.proofs.Common.{◌≡◌, ℕ, ◌<◌, List, [], ◌∷◌, ◌++◌, Option, None, Some, Result, Ok, Err, Bool, true, false, length, eqb, refl, sym, ◌∙◌, ap, arith, subst, unwrap_or}
+use Rattle.std.specs.Prelude.{is_some, IfSome}
 use Rattle.std.proofs.lemmas.Bool.Decides.{nat_tests}
 use Rattle.std.proofs.lemmas.Slice.Eq.{bytes_eq-Decides}
 use Rattle.std.specs.Str.{bytes_eq}
 use Rattle.xs_tree.specs.declared.names.Name.{Name}
 use Rattle.xs_tree.specs.Record.{Record, at}
+use Rattle.xs_tree.specs.declared.kinds.Kind.{Kind}
+use Rattle.xs_tree.specs.declared.kinds.Kind.TheVariants.{Root, Element, Attribute, Space, Text, Comment, Pi}
+use Rattle.xs_tree.specs.Kinds.{bears_name, has_local_name}
+use Rattle.xs_tree.specs.Shape.{CanBear, IsTree}
 use Rattle.xs_tree.proofs.ShapeLemmas.{at-append, length-added}
 use Rattle.xs_build.specs.declared.fault.BuildFault.{BuildFault}
 use Rattle.xs_build.specs.declared.fault.BuildFault.TheVariants.{Bad, NoMemory}
 use Rattle.xs_build.specs.declared.known.NodeName.{NodeName}
 use Rattle.xs_build.specs.declared.known.NodeName.TheVariants.{Known, New}
-use Rattle.xs_build.specs.Faults.{bad_name, unbound_prefix}
+use Rattle.xs_build.specs.Faults.{bad_line, bad_name, unbound_prefix}
 use Rattle.std.specs.Prelude.{option_map}
-use Rattle.xs_build.specs.Namespaces.{Bindings, QName, uri_in, uri_of, named, element_name, attribute_name, qname_of}
+use Rattle.xs_build.specs.Namespaces.{Bindings, QName, uri_in, uri_of, named, element_name, attribute_name, qname_of, declared_prefix}
 use Rattle.xs_build.specs.Nodes.{local_name, text_node}
-use Rattle.xs_build.specs.steps.Lines.{Step, bad, needs}
-use Rattle.xs_build.specs.steps.Names.{Finds, IsNamed, Resolves, full_name}
-use Rattle.xs_build.specs.steps.State.{with_text_node}
+use Rattle.xs_build.specs.declared.tag_names.Expanded.{Expanded}
+use Rattle.xs_build.specs.steps.Lines.{Context, Step, bad, needs, scope_of, named_step, plain_step, written_step, attribute_step}
+use Rattle.xs_build.specs.steps.Names.{Finds, IsAttribute, IsNamed, Resolves, full_name}
+use Rattle.xs_build.specs.steps.State.{State, Steps, context, taken, with_text_node}
 
 -- the URI that is bound, or none, is that of the name
 name_of_bound : (scope : Bindings) (prefix local uri : List ℕ) → uri_in scope prefix ≡ Some uri
@@ -131,3 +137,58 @@ attribute_local scope w name h = by_uri (uri_of scope [] w.prefix) h
     by_uri : (uri : Option (List ℕ)) → option_map (named w) uri ≡ Some name → name.local ≡ w.local
     by_uri None e = absurd (cc)
     by_uri (Some uri) e = sym (ap (λ (n : Option Name). (unwrap_or n name).local) e)
+
+-- what is known of an element whose written name was read before
+pub element_found : (r : Option ℕ) (rs : List Record) (scope : Bindings) (written : List ℕ) (w : QName) → qname_of written ≡ Some w
+    → IfSome r (λ node. IsNamed rs (Known node)) → IfSome r (λ node. element_name scope w ≡ (at rs node).name)
+    → IfSome r (λ node. (line : ℕ) → Finds (Ok (Known node)) rs scope written line)
+element_found None rs scope written w read named same = tt
+element_found (Some node) rs scope written w read named same = λ line. finds (Ok (Known node)) rs scope written line w read (named, same ∙ named.1)
+
+-- what is known of an attribute whose written name was read before
+pub attribute_is : (written : List ℕ) (scope : Bindings) (w : QName) (name : Option Name) (full : Name) (local : List ℕ) → qname_of written ≡ Some w
+    → declared_prefix w ≡ None → attribute_name scope w ≡ name → name ≡ Some full → w.local ≡ local → IsAttribute written scope full local
+attribute_is written scope w name full local read plain same is last =
+    let found : attribute_name scope w ≡ Some full = same ∙ is in
+    record { parts = w; read = read; plain = plain; found = found; last = attribute_local scope w full found ∙ last }
+
+-- the line of an attribute of which this is the name
+pub attribute_known : (c : Context) (seen : List Expanded) (written value : List ℕ) (full : Name) (local : List ℕ) → c.tag ≡ Some seen
+    → IsAttribute written (scope_of c.around) full local → attribute_step c written value ≡ named_step c seen value full
+unfolding attribute_step plain_step
+attribute_known c seen written value full local tag is =
+    ap (λ t. needs t bad_line (λ seen. needs (qname_of written) bad_name (λ w. written_step c seen value w (declared_prefix w)))) tag
+    ∙ ap (λ o. needs o bad_name (λ w. written_step c seen value w (declared_prefix w))) is.read
+    ∙ ap (written_step c seen value is.parts) is.plain
+    ∙ ap (λ o. needs o unbound_prefix (named_step c seen value)) is.found
+
+-- so a line that was taken as that of this name was taken as what is written
+pub step_known : (r : Result (Unit {0}) BuildFault) (s t : State) (seen : List Expanded) (written value : List ℕ) (full : Name) (local : List ℕ)
+    → s.tag ≡ Some seen → IsAttribute written (scope_of s.around) full local → Steps r (taken s (named_step (context s) seen value full)) t
+    → Steps r (taken s (attribute_step (context s) written value)) t
+step_known r s t seen written value full local tag is h =
+    subst (λ (x : Step). Steps r (taken s x) t) (sym (attribute_known (context s) seen written value full local tag is)) h
+
+-- the root has no name
+pub root_unnamed : (rs : List Record) (root : ℕ) → IsTree rs → root ≡ 0 → (at rs root).name ≡ None
+root_unnamed rs root t is = ap (λ n. (at rs n).name) is ∙ ap (λ (r : Record). r.name) t.first
+
+-- a node of a kind that bears no name
+pub bears_none : (kind : Kind) (name : Option Name) (text : List ℕ) → bears_name kind ≡ false → name ≡ None → CanBear kind name text
+bears_none kind name text none is = record {
+  named = ap is_some is ∙ sym none;
+  spelled = λ local. absurd (no_local kind none local);
+  plain = λ element. absurd (no_element kind none element);
+}
+  where
+    no_local : (kind : Kind) → bears_name kind ≡ false → has_local_name kind ≡ true → ⊥
+    no_local Root a b = absurd (cc)
+    no_local Element a b = absurd (cc)
+    no_local Attribute a b = absurd (cc)
+    no_local Space a b = absurd (cc)
+    no_local Text a b = absurd (cc)
+    no_local Comment a b = absurd (cc)
+    no_local Pi a b = absurd (cc)
+
+    no_element : (kind : Kind) → bears_name kind ≡ false → kind ≡ Element → ⊥
+    no_element kind a b = absurd (cc (ap bears_name b))

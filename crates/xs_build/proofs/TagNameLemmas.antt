@@ -14,18 +14,37 @@ same_bytes xs ys =
     same_from_decides (bytes_eq xs ys) (bytes_eq ys xs) (bytes_eq-Decides xs ys)
     (λ t. sym ((bytes_eq-Decides ys xs).0 t), λ e. (bytes_eq-Decides ys xs).1 (sym e))
 
-same_either_way : (a b : Expanded) → same_name a b ≡ same_name b a
-same_either_way a b =
-    ap (λ x. x && bytes_eq a.local b.local) (same_bytes a.uri b.uri) ∙ ap (λ x. bytes_eq b.uri a.uri && x) (same_bytes a.local b.local)
+-- two names as they are compared, local parts first
+abbrev pub is_same : Expanded → Expanded → Bool
+is_same a b = bytes_eq a.local b.local && bytes_eq a.uri b.uri
 
-any_either_way : (name : Expanded) (xs : List Expanded) → list_any (λ x. same_name x name) xs ≡ list_any (same_name name) xs
+and_flip : (p q : Bool) → (p && q) ≡ (q && p)
+and_flip true true = refl
+and_flip true false = refl
+and_flip false true = refl
+and_flip false false = refl
+
+same_either_order : (a b : Expanded) → is_same a b ≡ same_name a b
+same_either_order a b = and_flip (bytes_eq a.local b.local) (bytes_eq a.uri b.uri)
+
+same_either_way : (a b : Expanded) → is_same a b ≡ same_name b a
+same_either_way a b =
+    ap (λ x. x && bytes_eq a.uri b.uri) (same_bytes a.local b.local) ∙ ap (λ x. bytes_eq b.local a.local && x) (same_bytes a.uri b.uri)
+    ∙ same_either_order b a
+
+any_either_way : (name : Expanded) (xs : List Expanded) → list_any (λ x. is_same x name) xs ≡ list_any (same_name name) xs
 any_either_way name [] = refl
 any_either_way name (x ∷ xs) =
-    ap (λ b. b || list_any (λ x. same_name x name) xs) (same_either_way x name) ∙ ap (λ b. same_name name x || b) (any_either_way name xs)
+    ap (λ b. b || list_any (λ x. is_same x name) xs) (same_either_way x name) ∙ ap (λ b. same_name name x || b) (any_either_way name xs)
+
+any_either_order : (name : Expanded) (xs : List Expanded) → list_any (is_same name) xs ≡ list_any (same_name name) xs
+any_either_order name [] = refl
+any_either_order name (x ∷ xs) =
+    ap (λ b. b || list_any (is_same name) xs) (same_either_order name x) ∙ ap (λ b. same_name name x || b) (any_either_order name xs)
 
 -- the names of a tag, and whether one of the first few is this one
 module _ (few others names : List Expanded) (name : Expanded) (found : Bool) (view : few ++ others ≡ names)
-    (found_is : found ≡ list_any (λ x. same_name x name) few) where
+    (found_is : found ≡ list_any (λ x. is_same x name) few) where
   found_among : (found || list_any (same_name name) others) ≡ list_any (same_name name) names
   found_among =
       ap (λ b. b || list_any (same_name name) others) (found_is ∙ any_either_way name few) ∙ sym (list_any-append (same_name name) few others)
@@ -34,9 +53,9 @@ module _ (few others names : List Expanded) (name : Expanded) (found : Bool) (vi
   pub found_in_few : found ≡ true → false ≡ not (list_any (same_name name) names)
   found_in_few is_so = ap (λ b. not (b || list_any (same_name name) others)) (sym is_so) ∙ ap not found_among
 
-  pub found_in_others : (is_new : Bool) → found ≡ false → is_new ≡ not (list_any (same_name name) others)
+  pub found_in_others : (is_new : Bool) → found ≡ false → is_new ≡ not (list_any (is_same name) others)
       → is_new ≡ not (list_any (same_name name) names)
-  found_in_others is_new is_not is = is ∙ ap (λ b. not (b || list_any (same_name name) others)) (sym is_not) ∙ ap not found_among
+  found_in_others is_new is_not is = is ∙ ap not (any_either_order name others) ∙ ap (λ b. not (b || list_any (same_name name) others)) (sym is_not) ∙ ap not found_among
 
   pub found_nowhere : found ≡ false → others ≡ [] → true ≡ not (list_any (same_name name) names)
-  found_nowhere is_not none = found_in_others true is_not (ap (λ xs. not (list_any (same_name name) xs)) (sym none))
+  found_nowhere is_not none = found_in_others true is_not (ap (λ xs. not (list_any (is_same name) xs)) (sym none))

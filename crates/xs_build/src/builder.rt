@@ -13,6 +13,7 @@ use crate::fault::{BuildFault, NO_ROOT, TRUNCATED};
 use crate::known::KnownNames;
 use crate::nodes::put_text;
 use crate::opened::{Opened, is_inside};
+use crate::pending_text::PendingText;
 use crate::tag_names::TagNames;
 use std::alloc::{AllocError, Global};
 use xs_pyx::LineView;
@@ -26,7 +27,7 @@ pub struct Builder<'a> {
     /// The line of each node, also of the text before the next line.
     pub lines: Vec<u32>,
     /// The text before the next line, which is no node yet; empty where there is none.
-    pub text: String,
+    pub text: PendingText<'a>,
     /// The elements that are open, the innermost last.
     pub around: Vec<Opened<'a>>,
     /// The names that were read before.
@@ -49,7 +50,7 @@ impl<'a> Builder<'a> {
         Ok(Builder {
             tree: Tree::new(alloc)?,
             lines: vec![in alloc; 0]?,
-            text: String::new(alloc),
+            text: PendingText::new(alloc),
             around: Vec::new(alloc),
             known: KnownNames::new(alloc)?,
             seen: TagNames::new(alloc),

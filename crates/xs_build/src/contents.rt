@@ -1,6 +1,6 @@
 //! Lines that are texts, processing instructions and comments.
 
-ghost use Rattle.std.specs.Prelude.{◌≡◌, false, [], OnOk, reverse, string_bytes};
+ghost use Rattle.std.specs.Prelude.{◌≡◌, false, [], IfSome, reverse};
 ghost use Rattle.xs_build.specs.steps.Lines.{gives, past, instruction_step, comment_step};
 ghost use Rattle.xs_build.specs.steps.Invariant.{IsGood};
 ghost use Rattle.xs_build.specs.steps.State.{state, context, moved, spoken, spoken_inside};
@@ -15,15 +15,16 @@ use std::alloc::Global;
 use xs_tree::MOST_NODES;
 
 impl<'a> Builder<'a> {
-    /// Takes a text.
+    /// Takes a text, which is `line` where the document holds it as it is.
     #[inline(always)]
     #[tactic(auto, unfolding(crate::specs::steps::State::spoken))]
-    pub fn chars(&mut self, text: &str) -> Result<(), BuildFault>
+    pub fn chars(&mut self, text: &str, line: Option<&'a str>) -> Result<(), BuildFault>
+        requires same { IfSome line (λ line. line.now ≡ text.now) }
         ensures step { Steps result (spoken (state self.old) text.now) (state self.new) }
     {
         self.follows = false;
         if is_inside(self.around.as_slice()) {
-            return self.text_inside(text);
+            return self.text_inside(text, line);
         }
         if !is_white(text) {
             return Err(self.bad(UNBALANCED));
@@ -33,29 +34,31 @@ impl<'a> Builder<'a> {
 
     /// Takes a text in an element.
     #[inline(always)]
-    fn text_inside(&mut self, text: &str) -> Result<(), BuildFault>
-        requires { self.old.follows ≡ false }
+    fn text_inside(&mut self, text: &str, line: Option<&'a str>) -> Result<(), BuildFault>
+        requires follows { self.old.follows ≡ false }
+        requires same { IfSome line (λ line. line.now ≡ text.now) }
         ensures step { Steps result (spoken_inside (state self.old) text.now) (state self.new) }
     {
         if self.text.is_empty() && !text.is_empty() {
-            return self.first_text(text);
+            return self.first_text(text, line);
         }
-        self.text.push_str(text)?;
+        self.text.push(text)?;
         Ok(())
     }
 
     /// Takes the first text of a node.
     #[inline(always)]
-    fn first_text(&mut self, text: &str) -> Result<(), BuildFault>
+    fn first_text(&mut self, text: &str, line: Option<&'a str>) -> Result<(), BuildFault>
         requires follows { self.old.follows ≡ false }
-        requires quiet { string_bytes self.old.text ≡ [] }
+        requires quiet { self.old.text ≡ [] }
+        requires same { IfSome line (λ line. line.now ≡ text.now) }
         ensures step { Steps result (spoken_first (state self.old) text.now) (state self.new) }
     {
         if self.lines.len() >= MOST_NODES {
             return Err(self.bad(TOO_LARGE));
         }
         self.lines.push(self.line)?;
-        self.text.push_str(text)?;
+        self.text.begin(text, line)?;
         Ok(())
     }
 

@@ -1,5 +1,6 @@
 //! Lines with data, which is read where it stands unless it has escapes.
 
+ghost use Rattle.std.specs.Prelude.{◌≡◌, IfOk, string_bytes};
 ghost use Rattle.xs_pyx.specs.Views.{data_shown, IsReadableData};
 ghost use Rattle.xs_build.specs.steps.Lines.{attribute_step, instruction_step, comment_step};
 ghost use Rattle.xs_build.specs.steps.Invariant.{IsGood};
@@ -7,7 +8,7 @@ ghost use Rattle.xs_build.specs.steps.State.{state, context, taken, moved, spoke
 
 use crate::builder::Builder;
 use crate::fault::BuildFault;
-use std::alloc::Global;
+use std::alloc::{AllocError, Global};
 use xs_pyx::Data;
 
 impl<'a> Builder<'a> {
@@ -27,7 +28,7 @@ impl<'a> Builder<'a> {
         match value {
             Data::Plain(value) => self.attribute(alloc, name, value),
             Data::Escaped(_) => {
-                let value = value.to_text(alloc)?;
+                let value = read_out(alloc, value)?;
                 self.attribute(alloc, name, value.as_str())
             }
         }
@@ -35,16 +36,16 @@ impl<'a> Builder<'a> {
 
     /// Takes a text.
     #[inline(always)]
-    pub fn text_line(&mut self, alloc: Global, text: Data<'_>) -> Result<(), BuildFault>
+    pub fn text_line(&mut self, alloc: Global, text: Data<'a>) -> Result<(), BuildFault>
         requires readable { IsReadableData text }
         ensures step { Steps result
             (spoken (state self.old) (data_shown text.entry)) (state self.new) }
     {
         match text {
-            Data::Plain(text) => self.chars(text),
+            Data::Plain(text) => self.chars(text, Some(text)),
             Data::Escaped(_) => {
-                let text = text.to_text(alloc)?;
-                self.chars(text.as_str())
+                let text = read_out(alloc, text)?;
+                self.chars(text.as_str(), None)
             }
         }
     }
@@ -65,7 +66,7 @@ impl<'a> Builder<'a> {
         match text {
             Data::Plain(text) => self.instruction(alloc, target, text),
             Data::Escaped(_) => {
-                let text = text.to_text(alloc)?;
+                let text = read_out(alloc, text)?;
                 self.instruction(alloc, target, text.as_str())
             }
         }
@@ -81,9 +82,22 @@ impl<'a> Builder<'a> {
         match text {
             Data::Plain(text) => self.comment(text),
             Data::Escaped(_) => {
-                let text = text.to_text(alloc)?;
+                let text = read_out(alloc, text)?;
                 self.comment(text.as_str())
             }
         }
+    }
+}
+
+/// The data that is written so, in memory of its own.
+fn read_out(alloc: Global, written: Data<'_>) -> Result<String, AllocError>
+    requires { IsReadableData written }
+    ensures { IfOk result (λ text. string_bytes text ≡ data_shown written.entry) }
+{
+    let mut bytes = Vec::new(alloc);
+    written.append_to(&mut bytes)?;
+    match String::from_utf8(bytes) {
+        Ok(text) => Ok(text),
+        Err(_) => unreachable!(),
     }
 }

@@ -81,9 +81,25 @@ impl<'a> Builder<'a> {
         }
     }
 
-    /// The name of an element that is written so.
+    /// The name of an element that is written so: that of a node that has it, where one is known.
     #[inline(always)]
     fn name_in(
+        &self,
+        alloc: Global,
+        scope: &Scope,
+        written: &'a str,
+    ) -> Result<NodeName, BuildFault>
+        ensures { Finds result self.now.tree scope.now written.now self.now.line }
+    {
+        if let Some(like) = self.known.find_element(written, &self.tree, scope) {
+            return Ok(NodeName::Known(like));
+        }
+        self.new_name(alloc, scope, written)
+    }
+
+    /// The name of an element that is written so, made anew.
+    #[inline(never)]
+    fn new_name(
         &self,
         alloc: Global,
         scope: &Scope,
@@ -97,8 +113,7 @@ impl<'a> Builder<'a> {
         }
     }
 
-    /// The name that this is for an element: that of a node that has it, where one is known.
-    #[inline(always)]
+    /// The name that this is for an element.
     fn resolved(
         &self,
         alloc: Global,
@@ -108,9 +123,6 @@ impl<'a> Builder<'a> {
         ensures { Resolves result self.now.tree
             (element_name scope.now (parts_of name.now)) self.now.line }
     {
-        if let Some(like) = name.find_element(&self.tree, scope) {
-            return Ok(NodeName::Known(like));
-        }
         match scope.element_name(alloc, name.prefix, name.local)? {
             Some(name) => Ok(NodeName::New(name)),
             None => Err(self.bad(UNBOUND_PREFIX)),

@@ -1,11 +1,12 @@
 //! Names that were read before, so that none is tried, taken apart or made again.
 
-ghost use Rattle.std.specs.Prelude.{◌≡◌, ◌<◌, All, IfSome, Some, length, option_map};
+ghost use Rattle.std.specs.Prelude.{◌≡◌, ◌<◌, ℕ, All, IfSome, Ok, Some, length, option_map};
 ghost use Rattle.xs_build.specs.Namespaces.{attribute_name, element_name, qname_of};
-ghost use Rattle.xs_build.specs.steps.Names.{IsNamed};
+ghost use Rattle.xs_build.specs.steps.Names.{Finds, IsAttribute, IsNamed, full_name};
 ghost use Rattle.xs_build.specs.steps.Known.{parts_of, IsRead};
 ghost use Rattle.xs_tree.specs.Record.{at};
 
+use crate::qnames::declared_prefix;
 use crate::scope::Scope;
 use std::alloc::{AllocError, Global};
 use std::marker::Model;
@@ -115,6 +116,41 @@ impl<'a> KnownNames<'a> {
         matching(&self.names[place], written)
     }
 
+    /// A node with the name of an element that is written so where these bindings are in force;
+    /// none where no such node is known.
+    #[inline(always)]
+    pub fn find_element(&self, written: &str, tree: &Tree, scope: &Scope) -> Option<Node>
+        ensures { IfSome result (λ node. (line : ℕ) → Finds (Ok (NodeName.Known node)) tree.now
+            scope.now written.now line) }
+    {
+        let name = self.look_up(written)?;
+        name.find_element(tree, scope)
+    }
+
+    /// A node with the name of an attribute that is written so where these bindings are in force,
+    /// and the local part of that name; none where no such node is known, or where the attribute is
+    /// a declaration.
+    #[inline(always)]
+    pub fn find_attribute(
+        &self,
+        written: &str,
+        tree: &Tree,
+        scope: &Scope,
+    ) -> Option<(Node, &'a str)>
+        ensures named { IfSome result (λ found. IsNamed tree.now (NodeName.Known found.0)) }
+        ensures same { IfSome result (λ found. IsAttribute written.now scope.now
+            (full_name tree.now (NodeName.Known found.0)) found.1.now) }
+    {
+        let name = self.look_up(written)?;
+        match declared_prefix(name.prefix, name.local) {
+            Some(_) => None,
+            None => {
+                let node = name.find_attribute(tree, scope)?;
+                Some((node, name.local))
+            }
+        }
+    }
+
     /// The QName that is written so; none where it is none.
     #[inline(always)]
     pub fn read(&self, written: &'a str) -> Option<ReadName<'a>>
@@ -178,7 +214,7 @@ impl ReadName<'_> {
     /// A node that has the name that this is for an element where these bindings are in force; none
     /// where none is known.
     #[inline(always)]
-    pub fn find_element(&self, tree: &Tree, scope: &Scope) -> Option<Node>
+    fn find_element(&self, tree: &Tree, scope: &Scope) -> Option<Node>
         ensures named { IfSome result (λ node. IsNamed tree.now (NodeName.Known node)) }
         ensures same { IfSome result
             (λ node. element_name scope.now (parts_of self.now) ≡ (at tree.now node).name) }
@@ -194,7 +230,8 @@ impl ReadName<'_> {
 
     /// A node that has the name that this is for an attribute where these bindings are in force;
     /// none where none is known.
-    pub fn find_attribute(&self, tree: &Tree, scope: &Scope) -> Option<Node>
+    #[inline(always)]
+    fn find_attribute(&self, tree: &Tree, scope: &Scope) -> Option<Node>
         ensures named { IfSome result (λ node. IsNamed tree.now (NodeName.Known node)) }
         ensures same { IfSome result
             (λ node. attribute_name scope.now (parts_of self.now) ≡ (at tree.now node).name) }

@@ -13,6 +13,7 @@ pub mod laws;
 mod local_part;
 mod nodes;
 mod opened;
+mod pending_text;
 mod qnames;
 mod scope;
 mod spaces;

@@ -3,7 +3,7 @@
 //! There is room for each of them, as nodes are counted before they are added.
 
 ghost use Rattle.std.specs.Prelude.{◌≡◌, ◌+◌, ◌<◌, ◌≤◌, IsTrue, true, Some, [], ◌∷◌, ◌++◌, length};
-ghost use Rattle.std.specs.Prelude.{false, is_some, reverse, IfOk, IfSome, OnOk};
+ghost use Rattle.std.specs.Prelude.{false, None, reverse, IfOk, OnOk};
 ghost use Rattle.xs_tree.specs.Kinds.{bears_name, can_hold, has_local_name};
 ghost use Rattle.xs_tree.specs.Record.{at};
 ghost use Rattle.xs_tree.specs.Shape.{CanBear, IsLocalName, IsOpen, KeepsOrder};
@@ -22,28 +22,28 @@ use crate::spaces::{copy_spaces, put_spaces};
 use std::alloc::{AllocError, Global};
 use xs_tree::{Kind, Name, NameText, Node, Tree, TreeFault};
 
-/// Adds a node for which there is room.
+/// Adds a node for which there is room, with a new name.
 #[inline(always)]
-fn put(
+fn put_new(
     tree: &mut Tree,
     kind: Kind,
-    name: Option<Name>,
+    name: Name,
     text: &str,
     parent: Node,
 ) -> Result<Node, AllocError>
     requires within { parent < length tree.old }
     requires held { IsTrue (can_hold (at tree.old parent).kind kind) }
-    requires named { is_some name ≡ bears_name kind }
-    requires spelled { has_local_name kind ≡ true → IfSome name IsLocalName }
+    requires named { bears_name kind ≡ true }
+    requires spelled { has_local_name kind ≡ true → IsLocalName name }
     requires plain { kind ≡ Kind.Element → text.now ≡ [] }
     requires open { IsOpen tree.old parent }
     requires order { KeepsOrder tree.old parent kind }
     requires room { length tree.old < most_nodes }
     ensures put { OnOk result (tree.new ≡ tree.old
-        ++ record { kind = kind; name = name; text = text.now; parent = Some parent } ∷ []) }
+        ++ record { kind = kind; name = Some name; text = text.now; parent = Some parent } ∷ []) }
     ensures node { IfOk result (λ node. node ≡ length tree.old) }
 {
-    match tree.add(kind, name, text, parent) {
+    match tree.add(kind, Some(name), text, parent) {
         Ok(node) => Ok(node),
         Err(TreeFault::NoMemory) => Err(AllocError),
         Err(TreeFault::TooLarge) => unreachable!(),
@@ -78,7 +78,7 @@ fn put_named(
 {
     match name {
         NodeName::Known(like) => put_like(tree, kind, like, text, parent),
-        NodeName::New(name) => put(tree, kind, Some(name), text, parent),
+        NodeName::New(name) => put_new(tree, kind, name, text, parent),
     }
 }
 
@@ -113,6 +113,24 @@ fn put_like(
     }
 }
 
+/// Adds a node without a name for which there is room, like the first root, which has none.
+#[inline(always)]
+fn put_unnamed(tree: &mut Tree, kind: Kind, text: &str, parent: Node) -> Result<(), AllocError>
+    requires within { parent < length tree.old }
+    requires held { IsTrue (can_hold (at tree.old parent).kind kind) }
+    requires unnamed { bears_name kind ≡ false }
+    requires open { IsOpen tree.old parent }
+    requires order { KeepsOrder tree.old parent kind }
+    requires room { length tree.old < most_nodes }
+    ensures put { OnOk result (tree.new ≡ tree.old
+        ++ record { kind = kind; name = None; text = text.now; parent = Some parent } ∷ []) }
+{
+    // That the records are a tree, so that the first is a root.
+    let _count = tree.len();
+    put_like(tree, kind, Node::root(), text, parent)?;
+    Ok(())
+}
+
 /// Adds the text, unless it is empty.
 #[inline(always)]
 pub fn put_text(tree: &mut Tree, around: &[Opened<'_>], text: &str) -> Result<(), AllocError>
@@ -126,7 +144,7 @@ pub fn put_text(tree: &mut Tree, around: &[Opened<'_>], text: &str) -> Result<()
     if text.is_empty() {
         return Ok(());
     }
-    put(tree, Kind::Text, None, text, innermost(around))?;
+    put_unnamed(tree, Kind::Text, text, innermost(around))?;
     Ok(())
 }
 
@@ -160,22 +178,41 @@ pub fn put_element(
     Ok(node)
 }
 
-/// Adds an attribute.
+/// Adds an attribute of a new name.
 pub fn put_attribute(
     tree: &mut Tree,
     around: &[Opened<'_>],
-    name: NodeName,
+    name: Name,
     value: &str,
 ) -> Result<Node, AllocError>
     requires well { IsWell tree.old (reverse around.now) }
     requires within { 0 < length around.now }
-    requires named { IsNamed tree.old name }
     requires order { KeepsOrder tree.old (innermost (reverse around.now)) Kind.Attribute }
     requires room { length tree.old < most_nodes }
-    ensures put { OnOk result (tree.new ≡ tree.old ++ attribute (full_name tree.old name) value.now
+    ensures put { OnOk result (tree.new ≡ tree.old ++ attribute name value.now
         (innermost (reverse around.now)) ∷ []) }
 {
-    put_named(tree, Kind::Attribute, name, value, innermost(around))
+    put_new(tree, Kind::Attribute, name, value, innermost(around))
+}
+
+/// Adds an attribute with the name of another node.
+pub fn put_attribute_like(
+    tree: &mut Tree,
+    around: &[Opened<'_>],
+    like: Node,
+    value: &str,
+) -> Result<(), AllocError>
+    requires well { IsWell tree.old (reverse around.now) }
+    requires within { 0 < length around.now }
+    requires named { IsNamed tree.old (NodeName.Known like) }
+    requires order { KeepsOrder tree.old (innermost (reverse around.now)) Kind.Attribute }
+    requires room { length tree.old < most_nodes }
+    ensures put { OnOk result (tree.new ≡ tree.old
+        ++ attribute (full_name tree.old (NodeName.Known like)) value.now
+        (innermost (reverse around.now)) ∷ []) }
+{
+    put_like(tree, Kind::Attribute, like, value, innermost(around))?;
+    Ok(())
 }
 
 /// Adds a comment.
@@ -185,8 +222,7 @@ pub fn put_comment(tree: &mut Tree, around: &[Opened<'_>], text: &str) -> Result
     ensures put { OnOk result (tree.new ≡ tree.old ++ comment text.now
         (innermost (reverse around.now)) ∷ []) }
 {
-    put(tree, Kind::Comment, None, text, innermost(around))?;
-    Ok(())
+    put_unnamed(tree, Kind::Comment, text, innermost(around))
 }
 
 /// Adds a processing instruction.
@@ -203,7 +239,7 @@ pub fn put_instruction(
         (innermost (reverse around.now)) ∷ []) }
 {
     let name = local_name(alloc, target)?;
-    put(tree, Kind::Pi, Some(name), text, innermost(around))?;
+    put_new(tree, Kind::Pi, name, text, innermost(around))?;
     Ok(())
 }
 

@@ -1,6 +1,7 @@
 //! What names declare, and which declarations and targets may be (Namespaces in XML 1.0).
 
-ghost use Rattle.std.specs.Prelude.{◌≡◌, ◌&&◌, not, option_map};
+ghost use Rattle.std.specs.Prelude.{◌≡◌, ◌&&◌, [], None, Some, codes, if◌then◌else◌, not, option_map};
+ghost use Rattle.std.specs.Str.{bytes_eq};
 ghost use Rattle.xs_build.specs.Namespaces.{QName, is_empty, is_ncname, declared_prefix};
 ghost use Rattle.xs_build.specs.Namespaces.{is_bad_binding, is_xml};
 ghost use Rattle.xs_text.specs.WhiteSpace.{is_blank};
@@ -19,6 +20,15 @@ fn is_nothing(text: &str) -> bool
     text.is_empty()
 }
 
+/// The prefix that an attribute without a prefix declares: the empty one, where it is `xmlns`.
+#[inline(always)]
+fn default_prefix(local: &str) -> Option<&'static str>
+    ensures { option_map (λ p. p.now) result
+        ≡ (if bytes_eq local.now (codes "xmlns") then Some [] else None) }
+{
+    if local == "xmlns" { Some("") } else { None }
+}
+
 /// The prefix that an attribute of this name declares (empty: the default namespace); none where it
 /// declares none.
 #[tactic(auto, unfolding(crate::specs::Namespaces::declared_prefix))]
@@ -26,8 +36,8 @@ pub fn declared_prefix<'a>(prefix: &str, local: &'a str) -> Option<&'a str>
     ensures { option_map (λ p. p.now) result ≡ declared_prefix
         (record { prefix = prefix.now; local = local.now }) }
 {
-    if is_nothing(prefix) && local == "xmlns" {
-        return Some("");
+    if is_nothing(prefix) {
+        return default_prefix(local);
     }
     if prefix == "xmlns" { Some(local) } else { None }
 }

@@ -2,6 +2,7 @@
 
 ghost use Rattle.std.specs.Prelude.{◌≡◌, [], ◌^◌, ◌<◌, List, IfOk, OnOk, length, map, option_map};
 ghost use Rattle.std.specs.Prelude.{Some, option_copied, true, unwrap_or};
+ghost use Rattle.std.specs.Str.{bytes_eq};
 ghost use Rattle.xs_build.specs.Namespaces.{Bindings, outermost, bound, scope_with, uri_in, named};
 ghost use Rattle.xs_build.specs.Namespaces.{element_name, attribute_name};
 ghost use Rattle.xs_build.specs.steps.Views.{bindings_of};
@@ -67,6 +68,18 @@ fn bind_all(
         bind(bindings, prefix, uri)?;
     }
     Ok(())
+}
+
+/// Whether two texts are the same, of which the first is often empty.
+#[inline(always)]
+#[tactic(auto, using(crate::proofs::TextLemmas::same_as_empty))]
+fn are_same(text: &str, other: &str) -> bool
+    ensures { result ≡ bytes_eq text.now other.now }
+{
+    if text.is_empty() {
+        return other.is_empty();
+    }
+    text == other
 }
 
 /// A name without a prefix.
@@ -227,11 +240,14 @@ impl Scope {
     }
 
     /// Whether this is the name of an attribute with this prefix and local part.
+    #[inline(always)]
     pub fn is_attribute_name(&self, name: &Name, prefix: &str, local: &str) -> bool
         ensures { result ≡ true → attribute_name self.now
             (record { prefix = prefix.now; local = local.now }) ≡ Some name.now }
     {
-        name.prefix.as_str() == prefix && name.local.as_str() == local && self.has_own_uri(name)
+        are_same(name.prefix.as_str(), prefix)
+            && name.local.as_str() == local
+            && self.has_own_uri(name)
     }
 
     /// Whether the URI of an attribute's name is the one that its prefix stands for, which is none

@@ -13,10 +13,10 @@ use xs_tree::NameText;
 /// A namespace URI, empty for none, and a local part (Namespaces in XML 1.0, 2.1).
 #[derive(Drop, Debug, PartialEq, Eq, Hash)]
 pub struct Expanded<'a> {
+    /// The local part, which is compared first.
+    pub local: LocalPart<'a>,
     /// The namespace URI, empty for none.
     pub uri: NameText,
-    /// The local part.
-    pub local: LocalPart<'a>,
 }
 
 /// The most names that are compared one by one.

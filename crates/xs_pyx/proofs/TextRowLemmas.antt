@@ -1,15 +1,15 @@
 -- The first row of a text, found by a search for the first line feed or backslash.
-use Rattle.std.proofs.Common.{◌≡◌, ℕ, ◌+◌, ◌-◌, ◌<◌, Bool, true, false, List, Option, Some, None, length, get_or, take, drop, refl, sym, ◌∙◌, ap, subst, arith}
-use Rattle.std.specs.List.{list_any, before_first}
+use Rattle.std.proofs.Common.{◌≡◌, ℕ, ◌+◌, ◌-◌, ◌<◌, Bool, true, false, List, Option, Some, None, length, get_or, take, drop, sym, ◌∙◌, ap, subst, arith}
+use Rattle.std.specs.List.{list_any}
 use Rattle.std.specs.Str.{IsUtf8, IsCharBoundary}
 use Rattle.std.proofs.lemmas.Bool.Decides.{nat_tests}
 use Rattle.std.proofs.lemmas.List.{get_or-take, length-take, take_rest, drop_all}
 use Rattle.std.proofs.lemmas.Str.{IsCharBoundary-before_ascii, IsCharBoundary-after_ascii}
 use Rattle.memchr.specs.Find.{IsFirstByte, is_byte2}
-use Rattle.xs_text.proofs.FirstByteLemmas.{any-nowhere, any-fewer, before-none, is_the}
+use Rattle.xs_text.proofs.FirstByteLemmas.{any-nowhere, before-none}
 use Rattle.xs_pyx.specs.Row.{Row, first_row, behind_row, is_line_feed}
 use Rattle.xs_pyx.proofs.ReadLemmas.{is_backslash}
-use Rattle.xs_pyx.proofs.RowLemmas.{row-found, behind-found, row-nowhere, behind-nowhere}
+use Rattle.xs_pyx.proofs.RowLemmas.{row-found, behind-found, behind-nowhere}
 use Rattle.xs_pyx.proofs.SearchLemmas.{is_some-searched, position-searched}
 
 abbrev is_either : ℕ → Bool

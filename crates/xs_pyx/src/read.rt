@@ -6,7 +6,7 @@ ghost use Rattle.std.specs.Str.{IsCharBoundary};
 ghost use Rattle.xs_text.specs.Escapes.{unescaped};
 ghost use Rattle.xs_pyx.specs.Row.{first_row, behind_row, rows_of, is_line_feed};
 ghost use Rattle.xs_pyx.specs.Reading.{reading, kind_reading, rest_reading, begins_line, line_of};
-ghost use Rattle.xs_pyx.specs.Reading.{name_in, value_in, data_of};
+ghost use Rattle.xs_pyx.specs.Reading.{name_in, says, value_in, data_of};
 ghost use Rattle.xs_pyx.specs.Results.{Reads, Finds, SaysLine};
 ghost use Rattle.xs_pyx.specs.Views.{data_shown, line_shown, told, HasReadable, IsReadable};
 ghost use Rattle.xs_pyx.specs.Views.{IsReadableData, IsViewing, has_backslash};
@@ -44,6 +44,7 @@ fn has_backslash(text: &str) -> bool
 
 /// Whether no byte of the text is a backslash. `is_plain` only where that is known; then the text
 /// is not searched.
+#[inline(always)]
 fn is_itself(text: &str, is_plain: bool) -> bool
     requires { is_plain ≡ true → has_backslash text.now ≡ false }
     ensures { result ≡ true → has_backslash text.now ≡ false }
@@ -95,6 +96,22 @@ fn view_attribute(rest: &str, is_plain: bool) -> LineView<'_>
     LineView::Attr {
         name,
         value: view_data(value, is_plain),
+    }
+}
+
+/// The attribute of a line without a backslash behind its first byte.
+#[inline(always)]
+#[tactic(auto, using(crate::proofs::ReadLemmas::unescaped_itself, crate::proofs::ReadLemmas::value_plain))]
+fn view_plain_attribute(rest: &str) -> LineView<'_>
+    requires { has_backslash rest.now ≡ false }
+    ensures shown { line_shown result
+        ≡ Line.Attr (name_in rest.now) (data_of (value_in rest.now)) }
+    ensures readable { IsReadable result }
+{
+    let (name, value) = split_name(rest);
+    LineView::Attr {
+        name,
+        value: Data::Plain(value),
     }
 }
 
@@ -161,7 +178,7 @@ fn view_rest(kind: u8, rest: &str, ended: bool, is_plain: bool) -> Result<LineVi
 }
 
 /// What a line that is text says. `is_plain` only where it holds no backslash.
-#[inline(always)]
+#[inline(never)]
 fn view_text(text: &str, ended: bool, is_plain: bool) -> Result<LineView<'_>, Fault>
     requires { is_plain ≡ true → has_backslash text.now ≡ false }
     ensures { IsViewing result (kind_reading text.now ended) }
@@ -170,6 +187,54 @@ fn view_text(text: &str, ended: bool, is_plain: bool) -> Result<LineView<'_>, Fa
         [kind, ..] if begins_line(*kind) => view_rest(*kind, &text[1..], ended, is_plain),
         _ => Err(Fault::BadLine),
     }
+}
+
+/// What a line without a backslash says whose end is a line feed.
+#[inline(always)]
+fn view_plain(text: &str) -> Result<LineView<'_>, Fault>
+    requires { has_backslash text.now ≡ false }
+    ensures { IsViewing result (kind_reading text.now true) }
+{
+    match text.as_bytes() {
+        [kind, ..] if begins_line(*kind) => Ok(view_plain_rest(*kind, &text[1..])),
+        _ => Err(Fault::BadLine),
+    }
+}
+
+/// The line with this first byte and this rest, which holds no backslash.
+#[inline(always)]
+#[tactic(auto, using(crate::proofs::ReadLemmas::unescaped_itself, crate::proofs::ReadLemmas::value_plain))]
+fn view_plain_rest(kind: u8, rest: &str) -> LineView<'_>
+    requires begins { IsTrue (begins_line kind) }
+    requires plain { has_backslash rest.now ≡ false }
+    ensures shown { says (line_shown result) ≡ rest_reading kind rest.now true }
+    ensures readable { IsReadable result }
+{
+    match kind {
+        START => LineView::Start(rest),
+        ATTRIBUTE => view_plain_attribute(rest),
+        TEXT => LineView::Chars(Data::Plain(rest)),
+        END => LineView::End(rest),
+        INSTRUCTION => view_instruction(rest, true),
+        COMMENT => LineView::Comment(Data::Plain(rest)),
+        _ => unreachable!(),
+    }
+}
+
+/// What a line that is text says, of which the most are plain. `is_plain` only where it holds no
+/// backslash.
+#[inline(always)]
+fn view_found(text: &str, ended: bool, is_plain: bool) -> Result<LineView<'_>, Fault>
+    requires { is_plain ≡ true → has_backslash text.now ≡ false }
+    ensures { IsViewing result (kind_reading text.now ended) }
+{
+    if !is_plain {
+        return view_text(text, ended, false);
+    }
+    if !ended {
+        return view_text(text, false, true);
+    }
+    view_plain(text)
 }
 
 /// What a line by itself says.
@@ -208,7 +273,7 @@ fn view_text_row(text: &str, ended: bool, is_plain: bool) -> Result<LineView<'_>
     requires { is_plain ≡ true → has_backslash text.now ≡ false }
     ensures { IsViewing result (reading (record { bytes = text.now; ended = ended })) }
 {
-    view_text(text, ended, is_plain)
+    view_found(text, ended, is_plain)
 }
 
 /// `view_line` for a text, which is not tried for UTF-8 again.

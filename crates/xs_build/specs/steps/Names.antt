@@ -7,7 +7,7 @@ use Rattle.xs_build.specs.declared.fault.BuildFault.TheVariants.{Bad, NoMemory}
 use Rattle.xs_build.specs.declared.known.NodeName.{NodeName}
 use Rattle.xs_build.specs.declared.known.NodeName.TheVariants.{Known, New}
 use Rattle.xs_build.specs.Faults.{unbound_prefix}
-use Rattle.xs_build.specs.Namespaces.{Bindings}
+use Rattle.xs_build.specs.Namespaces.{Bindings, QName, qname_of, declared_prefix, attribute_name}
 use Rattle.xs_build.specs.Nodes.{local_name}
 use Rattle.xs_build.specs.steps.State.{Names}
 
@@ -32,7 +32,10 @@ abbrev pub Finds : Result NodeName BuildFault → List Record → Bindings → L
 Finds (Ok found) rs scope written line = IsNamed rs found × Names (Ok (full_name rs found)) scope written line
 Finds (Err fault) rs scope written line = Names (Err fault) scope written line
 
--- what was found is this name, and nothing was where there is none
-abbrev pub NamesAttribute : Option NodeName → List Record → Option Name → Type 0
-NamesAttribute (Some found) rs name = IsNamed rs found × (name ≡ Some (full_name rs found))
-NamesAttribute None rs name = name ≡ None
+-- An attribute that is written so is no declaration, and where these bindings are in force this is its name, with this local part.
+pub record IsAttribute (written : List ℕ) (scope : Bindings) (full : Name) (local : List ℕ) : Type 0 where
+  pub parts : QName
+  pub read : qname_of written ≡ Some parts
+  pub plain : declared_prefix parts ≡ None
+  pub found : attribute_name scope parts ≡ Some full
+  pub last : full.local ≡ local

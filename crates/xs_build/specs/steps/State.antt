@@ -1,6 +1,6 @@
 -- What the builder has read so far, and what one more line makes of it.
 use Rattle.std.specs.Prelude.{◌≡◌, ℕ, ◌+◌, List, [], ◌∷◌, ◌++◌, Option, None, Some, Result, Ok, Err, Bool, true, false, not, ◌&&◌, nat_le, if◌then◌else◌}
-use Rattle.std.specs.Prelude.{length, map, reverse, string_bytes}
+use Rattle.std.specs.Prelude.{length, map, reverse}
 use Rattle.xs_pyx.specs.Row.{Row}
 use Rattle.xs_pyx.specs.declared.line.Line.{Line}
 use Rattle.xs_pyx.specs.declared.line.Line.TheVariants.{Start, Attr, Chars, End, Pi, Comment}
@@ -31,7 +31,7 @@ abbrev pub state : Builder → State
 state b = record {
   records = b.tree;
   lines = b.lines.items;
-  text = string_bytes b.text;
+  text = b.text;
   around = reverse b.around.items;
   begun = b.begun;
   tag = if b.follows then Some b.seen else None;

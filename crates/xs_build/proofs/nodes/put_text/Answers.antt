@@ -5,7 +5,7 @@ use Rattle.xs_build.proofs.nodes.put_text.Goals as goal
 
 pub returns-clause-well : goal.returns-clause-well
 returns-clause-well c =
-    rw c.in_ok-put.ensures.put
+    rw c.in_ok-put_unnamed.ensures.put
     (well_added c.args.tree.now (reverse c.args.around.now) (record {
       kind = Text;
       name = None;

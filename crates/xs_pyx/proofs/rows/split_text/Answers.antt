@@ -1,6 +1,6 @@
-use Rattle.std.proofs.Common.{Some, None, true, false, take}
+use Rattle.std.proofs.Common.{Some, None, true, false}
 use Rattle.xs_pyx.proofs.RowLemmas.{row-nowhere}
-use Rattle.xs_pyx.proofs.TextRowLemmas.{cut_before_feed, cut_behind_feed, found_in, text_row_found, taken_found, taken_nowhere, row_plain}
+use Rattle.xs_pyx.proofs.TextRowLemmas.{cut_behind_feed, found_in, text_row_found, taken_found, taken_nowhere, row_plain}
 use Rattle.xs_pyx.proofs.rows.split_text.Goals as goal
 
 pub returns-in-Some-clause-first : goal.returns-in-Some-clause-first

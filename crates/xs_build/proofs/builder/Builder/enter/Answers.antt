@@ -1,4 +1,4 @@
-use Rattle.std.proofs.Common.{◌≡◌, ◌∙◌, ap, reverse, string_bytes}
+use Rattle.std.proofs.Common.{◌≡◌, ◌∙◌, ap, reverse}
 use Rattle.xs_build.specs.steps.Lines.{innermost}
 use Rattle.xs_build.specs.steps.Names.{full_name}
 use Rattle.xs_build.specs.steps.State.{State, state}
@@ -9,14 +9,14 @@ use Rattle.xs_build.proofs.builder.Builder.enter.Goals as goal
 pub put_element-requires-clause-named : goal.put_element-requires-clause-named
 put_element-requires-clause-named c =
     rw (ap (λ (s : State). s.records) c.in_ok-end_text.ensures.ended)
-    (named_behind c.args.self.now.tree (innermost (reverse c.args.self.now.around.items)) (string_bytes c.args.self.now.text) c.args.full c.requires.named)
+    (named_behind c.args.self.now.tree (innermost (reverse c.args.self.now.around.items)) c.args.self.now.text c.args.full c.requires.named)
 
 pub returns : goal.returns
 returns c =
     let tree = c.end_text.new.self.tree in
     let full_is : full_name tree c.args.full ≡ full_name c.args.self.now.tree c.args.full =
     ap (λ (s : State). full_name s.records c.args.full) c.in_ok-end_text.ensures.ended
-    ∙ full_behind c.args.self.now.tree (innermost (reverse c.args.self.now.around.items)) (string_bytes c.args.self.now.text) c.args.full
+    ∙ full_behind c.args.self.now.tree (innermost (reverse c.args.self.now.around.items)) c.args.self.now.text c.args.full
     c.requires.named in
     record {
       entered = entered_is (state c.args.self.now) c.args.name (full_name c.args.self.now.tree c.args.full) c.args.scope
