@@ -31,6 +31,18 @@ impl Answer {
         self.is_refused = self.is_refused || outcome.is_err();
     }
 
+    /// Takes a value that was made into a list, or takes note that memory was refused.
+    pub(crate) fn take<T: Drop>(&mut self, list: &mut Vec<T>, made: Result<T, AllocError>) {
+        match made {
+            Ok(value) => {
+                if list.push(value).is_err() {
+                    self.refuse();
+                }
+            }
+            Err(_) => self.refuse(),
+        }
+    }
+
     /// Adds a byte.
     pub(crate) fn put_byte(&mut self, byte: u8) {
         let outcome = self.bytes.push(byte);
@@ -46,6 +58,19 @@ impl Answer {
     /// Adds a text.
     pub(crate) fn put(&mut self, text: &str) {
         self.put_bytes(text.as_bytes());
+    }
+
+    /// Adds a text, where something holds.
+    pub(crate) fn put_if(&mut self, holds: bool, text: &str) {
+        if holds {
+            self.put(text);
+        }
+    }
+
+    /// Adds a text, unless nothing is there yet.
+    pub(crate) fn put_between(&mut self, text: &str) {
+        let has_some = !self.bytes.is_empty();
+        self.put_if(has_some, text);
     }
 
     /// Adds a text and a line end.
@@ -66,6 +91,13 @@ impl Answer {
         self.put(before);
         self.put(text);
         self.put(after);
+    }
+
+    /// Adds a text between two others, if it is not empty.
+    pub(crate) fn put_part(&mut self, before: &str, text: &str, after: &str) {
+        if !text.is_empty() {
+            self.put_in(before, text, after);
+        }
     }
 
     /// Adds a text in one line, as PYX lines escape it.
@@ -115,6 +147,12 @@ impl Answer {
     /// Adds whether something holds.
     pub(crate) fn put_bool(&mut self, holds: bool) {
         self.put(if holds { "true" } else { "false" });
+    }
+
+    /// Adds what another answer has in one line, `none` where it is empty.
+    pub(crate) fn put_result(&mut self, other: &Answer) {
+        let text = other.held_text(self);
+        self.put_escaped(if text.is_empty() { "none" } else { text });
     }
 
     /// Adds what another answer has.

@@ -1,22 +1,12 @@
 //! Files of a library in memory.
 
-use crate::answer::Answer;
-use std::alloc::Global;
+use std::alloc::{AllocError, Global};
 
-/// Takes a file, by its name and its bytes.
-pub(crate) fn push_file(
-    out: &mut Answer,
+/// A file by its name and its bytes.
+pub(crate) fn file_of(
     alloc: Global,
-    files: &mut Vec<(String, Vec<u8>)>,
     name: &str,
     bytes: Vec<u8>,
-) {
-    match String::from_str(alloc, name) {
-        Ok(name) => {
-            if files.push((name, bytes)).is_err() {
-                out.refuse();
-            }
-        }
-        Err(_) => out.refuse(),
-    }
+) -> Result<(String, Vec<u8>), AllocError> {
+    Ok((String::from_str(alloc, name)?, bytes))
 }

@@ -4,9 +4,11 @@
 
 mod answer;
 mod expressions;
+mod fields;
 mod library;
 mod lookups;
 mod reading;
+mod repeats;
 mod runs;
 mod stylesheets;
 

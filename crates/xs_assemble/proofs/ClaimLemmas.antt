@@ -110,6 +110,14 @@ module _ {H : Type 0} (IsOwn : H → Type 0) (place : H → List ℕ) (own : H �
       let f : Claim → ℕ = λ c. h c.place in
       total-map h (λ (c : Claim). c.place) ds ∙ total-sum f ds ∙ sum_by-IsPermutation f cs ds same ∙ sym (total-sum f cs) ∙ claims.places h
 
+  -- so they are claims of these
+  pub sorted-claims : AreClaims place 1 ps ds
+  sorted-claims = record {
+    places = λ h. sym (total-map h (λ (c : Claim). c.place) ds) ∙ claims-weigh h;
+    workers = All-permutation (λ c. c.worker < 1) cs ds same claims.workers;
+    root = All-permutation (λ c. c.place ≡ [] → c.worker ≡ 0) cs ds same claims.root;
+  }
+
   -- a piece that is there is of the tree
   of-piece : (p : List ℕ) (k : ℕ) (d : Piece H) → k < length ps → place (get_or ps k d).task ≡ p → (t : H) × (task_at own (Some root) p ≡ Some t)
   of-piece p k d h e = ((get_or ps k d).task, ap (task_at own (Some root)) (sym e) ∙ coll.tasks k d h)

@@ -1,5 +1,5 @@
--- The claims of a run in pieces.
-use Rattle.std.specs.Prelude.{◌≡◌, ◌<◌, ◌≤◌, ◌++◌, ◌∷◌, ℕ, List, map, Some}
+-- The claims of a run in pieces, and what they gave.
+use Rattle.std.specs.Prelude.{◌≡◌, ◌<◌, ◌≤◌, ◌+◌, ◌++◌, ◌∷◌, [], ℕ, List, map, Option, Some}
 use Rattle.std.specs.Cmp.Lexicographic.{slice_cmp}
 use Rattle.std.specs.List.{All, Contains}
 use Rattle.std.specs.List.Sorted.{IsSortedBy}
@@ -8,8 +8,13 @@ use Rattle.xs_trace.specs.Mark.{Trace}
 use Rattle.xs_trace.specs.declared.item.Limits.{Limits}
 use Rattle.xs_trace.specs.declared.place.Claim.{Claim}
 use Rattle.xs_core.specs.Good.{total, is_place}
+use Rattle.xs_record.specs.declared.outcome.Outcome.{Outcome}
 use Rattle.xs_pieces.specs.Tree.{task_at}
-use Rattle.xs_pieces.specs.Collection.{holes_in, ticks_in}
+use Rattle.xs_pieces.specs.Collection.{holes_in, ticks_in, AreClaims, IsCollection}
+use Rattle.xs_pieces.specs.declared.piece.Piece.{Piece}
+use Rattle.xs_assemble.specs.Inline.{inline_in}
+use Rattle.xs_assemble.specs.Reading.{read, whole_at, Finds}
+use Rattle.xs_assemble.specs.declared.assembled.Executed.{Executed}
 
 abbrev pub claimed_places : List Claim → List (List ℕ)
 claimed_places cs = map (λ c. c.place) cs
@@ -32,3 +37,18 @@ IsReached own root l p = (q : List ℕ) (k : ℕ) (r : List ℕ) → p ≡ q ++ 
 -- the ticks of the claimed pieces, each of which takes what its task does itself, cut at the limits
 abbrev pub claimed_ticks : {H : Type 0} → (own : H → Trace H) → H → Limits → List Claim → ℕ
 claimed_ticks own root l cs = total (λ p. ticks_in own l (task_at own (Some root) p)) (claimed_places cs)
+
+-- What came of a run is what a collection of the tree came to: its claims are of the pieces that were run there, and the missing
+-- pieces that its reading reaches were run in their place. All ticks are those of the collection, which are at most the limit and
+-- 1,024, and of these.
+pub record IsJoined {H : Type 0} (IsOwn : H → Type 0) (place : H → List ℕ) (own whole : H → Trace H) (root : H) (l : Limits)
+    (e : Executed) : Type 0 where
+  pub pieces : List (Piece H)
+  pub spent : ℕ
+  pub collection : IsCollection IsOwn place own root l pieces spent
+  pub few : spent ≤ l.ticks + 1024
+  pub claims : AreClaims place 1 pieces e.claims.items
+  pub worked : e.worked ≡ spent + e.assembled.inline_ticks
+  pub inline : (find : List ℕ → Option Outcome) (depth : ℕ) → Finds place pieces find depth →
+      inline_in (whole_at own whole root) (read find depth []) l.ticks l.events
+      ≡ record { count = e.assembled.inline; ticks = e.assembled.inline_ticks }

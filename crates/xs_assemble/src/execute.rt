@@ -5,7 +5,7 @@ ghost use Rattle.std.specs.Prelude.{◌≡◌, ◌+◌, ◌*◌, ◌<◌, ◌≤
 ghost use Rattle.std.specs.Prelude.{IfOk, None, OnErr};
 ghost use Rattle.xs_assemble.specs.Assembled.{IsAssembled};
 ghost use Rattle.xs_assemble.specs.Claims.{claimed_places, claimed_ticks};
-ghost use Rattle.xs_assemble.specs.Claims.{AreAll, AreOfTree, IsReached};
+ghost use Rattle.xs_assemble.specs.Claims.{AreAll, AreOfTree, IsJoined, IsReached};
 ghost use Rattle.xs_pieces.specs.Ready.{IsReady};
 ghost use Rattle.xs_trace.specs.Cut.{cut};
 
@@ -35,6 +35,8 @@ pub fn execute<R: PieceRunner<SoleTotal>>(
     requires limit { limits.ticks ≤ 2 ^ 40 }
     ensures cut { IfOk result (λ e.
         IsAssembled (cut (R.whole runner.now root) limits.ticks limits.events) e.assembled) }
+    ensures joined { IfOk result (IsJoined (R.is_own runner.now) (R.place_of runner.now)
+        (R.own runner.now) (R.whole runner.now) root limits) }
     ensures worked { IfOk result (λ e. e.worked ≤ 2 * limits.ticks + 1024) }
     ensures only_above { IfOk result (λ e. 0 < e.assembled.inline → limits.ticks < e.worked) }
     ensures overspent { IfOk result (λ e. 0 < e.assembled.inline →

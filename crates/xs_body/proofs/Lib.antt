@@ -16,3 +16,4 @@ pub mod AttemptLemmas
 pub mod PassedLemmas
 pub mod PartLemmas
 pub mod WholeLemmas
+pub mod TaskLemmas

@@ -1,16 +1,10 @@
--- What has to be in the tree.
-use Rattle.std.specs.Prelude.{◌≡◌, ℕ, ◌<◌, All, List, length}
-use Rattle.xs_counting.specs.steps.Tables.{AreCounters}
-use Rattle.xs_rules.specs.Indexed.{IsIndex, IsPrepared}
-use Rattle.xs_sets.specs.Indexed.{IsSetIndex}
-use Rattle.xs_sheet.specs.Sound.{IsSound}
+-- What has to be in the tree of an evaluation: the nodes of its frames and values.
+use Rattle.std.specs.Prelude.{◌<◌, All, List, length}
 use Rattle.xs_tree.specs.Record.{Record}
-use Rattle.xs_value.specs.declared.value.Value.{Value}
 use Rattle.xs_value.specs.Conversion.{IsIn}
-use Rattle.xs_value.specs.Tables.{TablesIn}
-use Rattle.xs_eval.specs.Conditions.{IsInIf}
+use Rattle.xs_value.specs.declared.value.Value.{Value}
+pub use Rattle.xs_semantics.specs.Inside.{AreNodes, AreValues, IsJobIn, IsTaskIn, IsWorld}
 use Rattle.xs_semantics.specs.World.{World}
-use Rattle.xs_semantics.specs.Tasks.{Job, body_job, rules_job, Task}
 use Rattle.xs_body.specs.declared.frames.Callee.{Callee}
 use Rattle.xs_body.specs.declared.frames.Callee.TheVariants as callee
 use Rattle.xs_body.specs.declared.frames.ApplyLeft.{ApplyLeft}
@@ -22,24 +16,6 @@ use Rattle.xs_body.specs.declared.frames.Passing.{Passing}
 use Rattle.xs_body.specs.declared.attempts.Attempt.{Attempt}
 use Rattle.xs_body.specs.declared.attempts.Attempt.TheVariants as attempt
 use Rattle.xs_body.specs.steps.Lists.{nodes_in}
-
--- the stylesheet is sound, and the index is that of its rules, prepared for the tree, of its attribute sets, and of the numbers that are
--- counted; the nodes of the globals' values and of the keys' tables are in the tree
-pub record IsWorld (w : World) : Type 0 where
-  pub sheet : IsSound w.sheet
-  pub index : IsIndex w.index.rules
-  pub prepared : IsPrepared w.index.rules w.tree
-  pub templates : w.index.rules.templates.now ≡ w.sheet.templates
-  pub sets : IsSetIndex w.sheet.sets w.index.sets
-  pub counters : AreCounters w.keys w.tree w.index.counters
-  pub globals : All (IsInIf w.tree) w.globals
-  pub tables : TablesIn w.tree w.keys
-
-abbrev pub AreNodes : List Record → List ℕ → Type 0
-AreNodes rs ns = All (λ n. n < length rs) ns
-
-abbrev pub AreValues : List Record → List Value → Type 0
-AreValues rs vs = All (IsIn rs) vs
 
 -- those of what a call waits for
 abbrev pub AreCallees : List Record → Callee → Type 0
@@ -85,15 +61,6 @@ pub record IsEvaluator (w : World) (fs : List Frame) (vs : List Value) : Type 0 
   pub world : IsWorld w
   pub frames : All (IsInside w.tree) fs
   pub slots : AreValues w.tree vs
-
--- those of a task
-abbrev pub IsJobIn : List Record → Job → Type 0
-IsJobIn rs (body_job body vs) = AreValues rs vs
-IsJobIn rs (rules_job mode ps) = AreValues rs ps.values
-
-pub record IsTaskIn (rs : List Record) (t : Task) : Type 0 where
-  pub job : IsJobIn rs t.job
-  pub nodes : AreNodes rs t.nodes
 
 -- those of the value of an attempt
 abbrev pub IsAttemptIn : List Record → Attempt → Type 0

@@ -1,11 +1,12 @@
 //! Runs over nodes: bodies for each of them, and rules for each of them (XSLT 1.0, 8 and 5.4).
 
-ghost use Rattle.std.specs.Prelude.{◌≡◌, ◌<◌, ◌+◌, ◌∷◌, drop, length, true, IfOk, IsSome};
+ghost use Rattle.std.specs.Prelude.{◌≡◌, ◌<◌, ◌+◌, ◌∷◌, [], drop, length, true, IfOk, IsSome};
+ghost use Rattle.std.specs.Prelude.{OnOk};
 ghost use Rattle.std.specs.List.{All};
 ghost use Rattle.xs_body.specs.Inside.{AreNodes, AreValues, IsApply, IsEach};
 ghost use Rattle.xs_body.specs.steps.Frames.{advanced, applied_begun, apply_begun, apply_left};
 ghost use Rattle.xs_body.specs.steps.Frames.{apply_work, bindings_of, each_left};
-ghost use Rattle.xs_body.specs.steps.Frames.{each_work, last, loop_begun};
+ghost use Rattle.xs_body.specs.steps.Frames.{each_work, last, loop_begun, pushed};
 ghost use Rattle.xs_body.specs.steps.Lists.{AreOrdered, nodes_in};
 ghost use Rattle.xs_semantics.specs.World.{nodes_or_children};
 ghost use Rattle.xs_trace.specs.Play.{Goes, IsStepBy, and_then, ticked_by};
@@ -137,8 +138,17 @@ impl<'a, K: KeyFinder> Evaluator<'a, K> {
             site,
             focus,
         };
-        self.push(Frame::Apply(Box::new(self.alloc, left)?))?;
+        self.push_apply(left)?;
         Ok(())
+    }
+
+    /// Puts the rules for nodes before the others.
+    pub(crate) fn push_apply(&mut self, left: ApplyLeft<'a>) -> Result<(), AllocError>
+        requires left { IsApply self.old.world.tree left }
+        ensures pushed { OnOk result
+            (self.new ≡ pushed (apply_work left.entry ∷ []) self.old) }
+    {
+        self.push(Frame::Apply(Box::new(self.alloc, left)?))
     }
 
     /// The rule for the next node begins.
@@ -219,8 +229,17 @@ impl<'a, K: KeyFinder> Evaluator<'a, K> {
             site,
             scope: scope.over(focus),
         };
-        self.push(Frame::Each(Box::new(self.alloc, left)?))?;
+        self.push_each(left)?;
         Ok(())
+    }
+
+    /// Puts a body for each of some nodes before the others.
+    pub(crate) fn push_each(&mut self, left: EachLeft<'a>) -> Result<(), AllocError>
+        requires left { IsEach self.old.world.tree left }
+        ensures pushed { OnOk result
+            (self.new ≡ pushed (each_work left.entry ∷ []) self.old) }
+    {
+        self.push(Frame::Each(Box::new(self.alloc, left)?))
     }
 
     /// A body for the next node begins.

@@ -46,6 +46,9 @@ impl<'a, K: KeyFinder> Evaluator<'a, K> {
         ensures kept { R.kept recorder.new ≡ R.kept recorder.old }
     {
         let params = passed.params.as_slice();
+        if params.is_empty() {
+            return self.call_with(Passed::none(), callee, site, scope.focus, recorder);
+        }
         let passing = Passing {
             left: params,
             all: params,
@@ -54,45 +57,46 @@ impl<'a, K: KeyFinder> Evaluator<'a, K> {
             site,
             scope,
         };
-        self.pass_on(passing, recorder)
+        self.push(Frame::Pass(Box::new(self.alloc, passing)?))?;
+        Ok(())
     }
 
     /// What is called, once no parameter is left.
     fn pass_on<R: Recorder<Task = Task<'a>>>(
         &mut self,
-        passing: Passing<'a>,
+        passing: Box<Passing<'a>>,
         recorder: &mut R,
     ) -> Result<(), Halt>
         requires holes { IsSome self.old.world.grain → R.takes_holes ≡ true }
-        requires passing { IsPassing self.old.world.tree passing }
+        requires passing { IsPassing self.old.world.tree passing.value }
         ensures told { IsStepBy (λ u. self.new)
-            (passing_on passing.entry.values.items passing.entry self.old
+            (passing_on passing.entry.value.values.items passing.entry.value self.old
             (R.state recorder.old)) result (R.state recorder.new) }
         ensures kept { R.kept recorder.new ≡ R.kept recorder.old }
     {
         if passing.left.is_empty() {
-            return self.call(passing, recorder);
+            return self.call(Box::into_inner(passing), recorder);
         }
-        self.push(Frame::Pass(Box::new(self.alloc, passing)?))?;
+        self.push(Frame::Pass(passing))?;
         Ok(())
     }
 
     /// The next parameter of a call, or the call.
     pub(crate) fn pass_next<R: Recorder<Task = Task<'a>>>(
         &mut self,
-        passing: Passing<'a>,
+        passing: Box<Passing<'a>>,
         recorder: &mut R,
     ) -> Result<(), Halt>
         requires holes { IsSome self.old.world.grain → R.takes_holes ≡ true }
-        requires passing { IsPassing self.old.world.tree passing }
+        requires passing { IsPassing self.old.world.tree passing.value }
         ensures told { IsStepBy (λ u. self.new)
-            (advanced (pass_work passing.entry) self.old
+            (advanced (pass_work passing.entry.value) self.old
             (R.state recorder.old)) result (R.state recorder.new) }
         ensures kept { R.kept recorder.new ≡ R.kept recorder.old }
     {
         let mut passing = passing;
         match passing.left.split_first() {
-            None => self.call(passing, recorder),
+            None => self.call(Box::into_inner(passing), recorder),
             Some((binding, behind)) => {
                 passing.left = behind;
                 self.pass(&binding.content, passing, recorder)
@@ -104,13 +108,13 @@ impl<'a, K: KeyFinder> Evaluator<'a, K> {
     fn pass<R: Recorder<Task = Task<'a>>>(
         &mut self,
         content: &'a Content,
-        passing: Passing<'a>,
+        passing: Box<Passing<'a>>,
         recorder: &mut R,
     ) -> Result<(), Halt>
         requires holes { IsSome self.old.world.grain → R.takes_holes ≡ true }
-        requires passing { IsPassing self.old.world.tree passing }
+        requires passing { IsPassing self.old.world.tree passing.value }
         ensures told { IsStepBy (λ u. self.new)
-            (passing_begun content.now passing.entry self.old
+            (passing_begun content.now passing.entry.value self.old
             (R.state recorder.old)) result (R.state recorder.new) }
         ensures kept { R.kept recorder.new ≡ R.kept recorder.old }
     {
@@ -128,13 +132,13 @@ impl<'a, K: KeyFinder> Evaluator<'a, K> {
     fn pass_selected<R: Recorder<Task = Task<'a>>>(
         &mut self,
         expr: &ScopedExpr,
-        passing: Passing<'a>,
+        passing: Box<Passing<'a>>,
         recorder: &mut R,
     ) -> Result<(), Halt>
         requires holes { IsSome self.old.world.grain → R.takes_holes ≡ true }
-        requires passing { IsPassing self.old.world.tree passing }
+        requires passing { IsPassing self.old.world.tree passing.value }
         ensures told { IsStepBy (λ u. self.new)
-            (passing_begun (Select expr.now) passing.entry self.old
+            (passing_begun (Select expr.now) passing.entry.value self.old
             (R.state recorder.old)) result (R.state recorder.new) }
         ensures kept { R.kept recorder.new ≡ R.kept recorder.old }
     {
@@ -146,19 +150,19 @@ impl<'a, K: KeyFinder> Evaluator<'a, K> {
     fn pass_content<R: Recorder<Task = Task<'a>>>(
         &mut self,
         body: &'a Body,
-        passing: Passing<'a>,
+        passing: Box<Passing<'a>>,
         recorder: &mut R,
     ) -> Result<(), Halt>
-        requires passing { IsPassing self.old.world.tree passing }
+        requires passing { IsPassing self.old.world.tree passing.value }
         ensures told { IsStepBy (λ u. self.new)
-            (Goes (pushed (rest (instrs_of body.now) (captured_scope passing.entry.scope)
-            ∷ take_work passing.entry ∷ []) self.old)
+            (Goes (pushed (rest (instrs_of body.now) (captured_scope passing.entry.value.scope)
+            ∷ take_work passing.entry.value ∷ []) self.old)
             (opened (R.state recorder.old))) result (R.state recorder.new) }
         ensures kept { R.kept recorder.new ≡ R.kept recorder.old }
     {
         let scope = passing.scope;
         recorder.open_capture()?;
-        self.push(Frame::Take(Box::new(self.alloc, passing)?))?;
+        self.push(Frame::Take(passing))?;
         self.push_body(body, scope.captured())?;
         Ok(())
     }
@@ -168,14 +172,15 @@ impl<'a, K: KeyFinder> Evaluator<'a, K> {
     fn push_value<R: Recorder<Task = Task<'a>>>(
         &mut self,
         value: Value,
-        passing: Passing<'a>,
+        passing: Box<Passing<'a>>,
         recorder: &mut R,
     ) -> Result<(), Halt>
         requires holes { IsSome self.old.world.grain → R.takes_holes ≡ true }
         requires value { IsIn self.old.world.tree value }
-        requires passing { IsPassing self.old.world.tree passing }
+        requires passing { IsPassing self.old.world.tree passing.value }
         ensures told { IsStepBy (λ u. self.new)
-            (passing_on (passing.entry.values.items ++ value ∷ []) passing.entry self.old
+            (passing_on (passing.entry.value.values.items ++ value ∷ [])
+            passing.entry.value self.old
             (R.state recorder.old)) result (R.state recorder.new) }
         ensures kept { R.kept recorder.new ≡ R.kept recorder.old }
     {
@@ -187,13 +192,13 @@ impl<'a, K: KeyFinder> Evaluator<'a, K> {
     /// The content of a parameter that is passed has ended.
     pub(crate) fn take_value<R: Recorder<Task = Task<'a>>>(
         &mut self,
-        passing: Passing<'a>,
+        passing: Box<Passing<'a>>,
         recorder: &mut R,
     ) -> Result<(), Halt>
         requires holes { IsSome self.old.world.grain → R.takes_holes ≡ true }
-        requires passing { IsPassing self.old.world.tree passing }
+        requires passing { IsPassing self.old.world.tree passing.value }
         ensures told { IsStepBy (λ u. self.new)
-            (advanced (take_work passing.entry) self.old
+            (advanced (take_work passing.entry.value) self.old
             (R.state recorder.old)) result (R.state recorder.new) }
         ensures kept { R.kept recorder.new ≡ R.kept recorder.old }
     {
@@ -226,14 +231,35 @@ impl<'a, K: KeyFinder> Evaluator<'a, K> {
             ..
         } = passing;
         let passed = Passed::of(all, values);
+        self.call_with(passed, callee, site, scope.focus, recorder)
+    }
+
+    /// What is called begins, with these parameters.
+    fn call_with<R: Recorder<Task = Task<'a>>>(
+        &mut self,
+        passed: Passed<'a>,
+        callee: Callee,
+        site: Site,
+        focus: Focus,
+        recorder: &mut R,
+    ) -> Result<(), Halt>
+        requires holes { IsSome self.old.world.grain → R.takes_holes ≡ true }
+        requires node { focus.node < length self.old.world.tree }
+        requires passed { AreValues self.old.world.tree passed.values }
+        requires callee { AreCallees self.old.world.tree callee }
+        ensures told { IsStepBy (λ u. self.new)
+            (call_begun (called_of callee) passed.entry site focus self.old
+            (R.state recorder.old)) result (R.state recorder.new) }
+        ensures kept { R.kept recorder.new ≡ R.kept recorder.old }
+    {
         match callee {
             Callee::Template(template) => {
-                self.call_template(template, passed, site, scope.focus, recorder)
+                self.call_template(template, passed, site, focus, recorder)
             }
             Callee::Rules(mode, nodes) => {
                 let passed = passed.shared(self.alloc)?;
                 let rules = Rules { mode, passed };
-                self.apply(rules, nodes, site, scope.focus, recorder)
+                self.apply(rules, nodes, site, focus, recorder)
             }
         }
     }

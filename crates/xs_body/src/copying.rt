@@ -11,7 +11,7 @@ ghost use Rattle.xs_value.specs.Conversion.{IsIn, text_value};
 
 use crate::evaluator::Evaluator;
 use crate::frames::Scope;
-use crate::putting::{put_events, put_taken, put_text};
+use crate::putting::{put_copied_text, put_events, put_taken, put_text};
 use crate::task::Task;
 use std::alloc::AllocError;
 use xs_making::{RecentLabels, copy_events};
@@ -58,7 +58,7 @@ impl<'a, K: KeyFinder> Evaluator<'a, K> {
         match value {
             Value::Nodes(nodes) => self.put_nodes(nodes.nodes(), site, recorder),
             Value::Piece(fragment) => put_events(site, fragment.events(), recorder),
-            Value::Chars(text) => put_text(site, text.copy()?, recorder),
+            Value::Chars(text) => put_copied_text(site, text, recorder),
             Value::Bool(_) => self.put_as_text(value, site, recorder),
             Value::Number(_) => self.put_as_text(value, site, recorder),
         }

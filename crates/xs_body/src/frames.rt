@@ -14,7 +14,7 @@ use xs_trace::item::Site;
 use xs_value::value::Value;
 
 /// Where a body is evaluated, and which of the values on the stack are its local variables.
-#[derive(Clone, Copy, Debug)]
+#[derive(Clone, Copy)]
 pub struct Scope {
     /// The current node and what goes with it.
     pub focus: Focus,

@@ -7,7 +7,7 @@ ghost use Rattle.xs_trace.specs.Play.{IsStep, IsStepBy};
 
 use crate::evaluator::Evaluator;
 use crate::frames::{Callee, Frame, Scope};
-use crate::putting::{events_text, put_text};
+use crate::putting::{events_text, put_copied_text};
 use crate::task::Task;
 use std::alloc::AllocError;
 use xs_semantics::focus::Focus;
@@ -53,7 +53,7 @@ impl<'a, K: KeyFinder> Evaluator<'a, K> {
             InstrKind::ValueOf(select) => self.put_value(select, site, scope, recorder),
             InstrKind::Choose(choice) => self.begin_choice(choice, site, scope, recorder),
             InstrKind::If { test, body } => self.begin_if(test, body, site, scope, recorder),
-            InstrKind::Text(text) => put_text(site, text.copy()?, recorder),
+            InstrKind::Text(text) => put_copied_text(site, text, recorder),
             InstrKind::Message { terminate, body } => {
                 self.begin_message(*terminate, body, site, scope, recorder)
             }

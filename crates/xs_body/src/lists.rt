@@ -46,8 +46,7 @@ impl NodeList {
     pub(crate) fn count(&self) -> Result<u32, AllocError>
         ensures { IfOk result (λ count. count ≡ length (nodes_in self.now)) }
     {
-        let nodes = self.nodes();
-        u32::try_from(nodes.len()).map_err(|_| AllocError)
+        count_of(self.nodes())
     }
 
     /// The node that comes next.
@@ -58,6 +57,16 @@ impl NodeList {
     {
         let nodes = self.nodes();
         nodes.get(next).copied()
+    }
+}
+
+/// How many nodes these are.
+pub(crate) fn count_of(nodes: &[Node]) -> Result<u32, AllocError>
+    ensures { IfOk result (λ count. count ≡ length nodes.now) }
+{
+    match u32::try_from(nodes.len()) {
+        Ok(count) => Ok(count),
+        Err(_) => Err(AllocError),
     }
 }
 

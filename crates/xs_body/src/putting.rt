@@ -34,6 +34,19 @@ pub(crate) fn put_text<R: Recorder>(site: Site, text: TextBuf, recorder: &mut R)
     }
 }
 
+/// Puts a text that another owns, if it is not empty.
+pub(crate) fn put_copied_text<R: Recorder>(
+    site: Site,
+    text: &TextBuf,
+    recorder: &mut R,
+) -> Result<(), Halt>
+    ensures told { IsStep (chars_steps site text.now (R.state recorder.old))
+        result (R.state recorder.new) }
+    ensures kept { R.kept recorder.new ≡ R.kept recorder.old }
+{
+    put_text(site, text.copy()?, recorder)
+}
+
 impl<'a, K: KeyFinder> Evaluator<'a, K> {
     /// Puts the string of an expression (XSLT 1.0, 7.6.1).
     pub(crate) fn put_value<R: Recorder<Task = Task<'a>>>(

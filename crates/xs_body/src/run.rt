@@ -70,9 +70,9 @@ impl<'a, K: KeyFinder> Evaluator<'a, K> {
             Frame::Attributes(left) => self.put_attributes(left, recorder),
             Frame::Make(made, site) => self.end_made(made, site, recorder),
             Frame::Say { site, terminate } => self.end_message(site, terminate, recorder),
-            Frame::Pass(passing) => self.pass_next(Box::into_inner(passing), recorder),
-            Frame::Take(passing) => self.take_value(Box::into_inner(passing), recorder),
-            Frame::Params(left) => self.next_param(Box::into_inner(left), recorder),
+            Frame::Pass(passing) => self.pass_next(passing, recorder),
+            Frame::Take(passing) => self.take_value(passing, recorder),
+            Frame::Params(left) => self.next_param(left, recorder),
         }
     }
 

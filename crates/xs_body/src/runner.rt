@@ -8,7 +8,6 @@ ghost use Rattle.xs_body.specs.Inside.{IsTaskIn, IsWorld};
 ghost use Rattle.xs_body.specs.Results.{IsWholeRun};
 ghost use Rattle.xs_semantics.specs.Trace.{root_task, task_trace};
 ghost use Rattle.xs_semantics.specs.World.{with_grain};
-ghost use Rattle.xs_body.specs.steps.Frames.{begun_with};
 ghost use Rattle.xs_body.specs.steps.Runs.{is_over};
 ghost use Rattle.xs_record.specs.Outcome.{IsOutcome, part_blocks};
 ghost use Rattle.xs_record.specs.Piece.{IsPiece};
@@ -16,11 +15,9 @@ ghost use Rattle.xs_trace.specs.Cut.{cut};
 ghost use Rattle.xs_trace.specs.Play.{IsStep, play};
 
 use crate::evaluator::Evaluator;
-use crate::frames::{ApplyLeft, EachLeft, Frame, Rules, Scope};
-use crate::lists::NodeList;
 use crate::passed::Passed;
 use crate::task::{Job, Task};
-use crate::tasks::copied_values;
+use crate::tasks::locals_of;
 use crate::world::World;
 use std::alloc::{AllocError, Global};
 use std::marker::Model;
@@ -251,57 +248,8 @@ pub fn tell_task<'a, K: KeyFinder, R: Recorder<Task = Task<'a>>>(
         result (R.state recorder.new) }
     ensures kept { R.kept recorder.new ≡ R.kept recorder.old }
 {
-    let mut evaluator = evaluator_for(alloc, world, task)?;
+    let locals = locals_of(alloc, task)?;
+    let mut evaluator = Evaluator::new(alloc, world, locals);
+    evaluator.begin_task(task)?;
     evaluator.finish(recorder)
-}
-
-/// The evaluation that a task begins with.
-fn evaluator_for<'a, K: KeyFinder>(
-    alloc: Global,
-    world: &World<'a, K>,
-    task: &Task<'a>,
-) -> Result<Evaluator<'a, K>, AllocError>
-    requires task { IsTaskIn world.now.tree task.now }
-    ensures begun { IfOk result (λ evaluator. evaluator ≡ begun_with world.now task.now) }
-{
-    let nodes = NodeList::List(Vec::from_slice(alloc, task.nodes.as_slice())?);
-    match &task.job {
-        Job::Body(body, locals) => {
-            let slots = copied_values(alloc, locals)?;
-            let seen = slots.len();
-            let mut evaluator = Evaluator::new(alloc, world, slots);
-            let scope = Scope {
-                focus: task.focus,
-                seen,
-                own: 0,
-            };
-            let left = EachLeft {
-                nodes,
-                next: 0,
-                position: task.first,
-                body: *body,
-                site: task.site,
-                scope,
-            };
-            evaluator.push(Frame::Each(Box::new(alloc, left)?))?;
-            Ok(evaluator)
-        }
-        Job::Rules(mode, passed) => {
-            let mut evaluator = Evaluator::new(alloc, world, Vec::new(alloc));
-            let passed = passed.copy(alloc)?;
-            let left = ApplyLeft {
-                nodes,
-                next: 0,
-                position: task.first,
-                rules: Rules {
-                    mode: *mode,
-                    passed,
-                },
-                site: task.site,
-                focus: task.focus,
-            };
-            evaluator.push(Frame::Apply(Box::new(alloc, left)?))?;
-            Ok(evaluator)
-        }
-    }
 }

@@ -1,18 +1,24 @@
 //! Runs that are left to tasks, and tasks that begin.
 
-ghost use Rattle.std.specs.Prelude.{◌≡◌, [], map, true, IfOk, IsSome};
+ghost use Rattle.std.specs.Prelude.{◌≡◌, ◌∷◌, [], map, true, IfOk, IsSome, OnOk};
 ghost use Rattle.std.specs.Arc.{arc_value};
 ghost use Rattle.xs_semantics.specs.Tasks.{grain_over, shared, task_behind};
-ghost use Rattle.xs_body.specs.steps.Jobs.{job_of};
+ghost use Rattle.xs_body.specs.Inside.{AreNodes, AreValues, IsTaskIn};
+ghost use Rattle.xs_body.specs.steps.Frames.{apply_left, begun_with, each_left, idle, pushed};
+ghost use Rattle.xs_body.specs.steps.Jobs.{job_of, locals_of};
 ghost use Rattle.xs_body.specs.steps.Sharing.{share_of, share_step};
 ghost use Rattle.xs_trace.specs.Mark.{Hole};
 ghost use Rattle.xs_trace.specs.Play.{IsStep, IsStepBy, play};
 
 use crate::evaluator::Evaluator;
+use crate::frames::{ApplyLeft, EachLeft, Rules, Scope};
+use crate::lists::{NodeList, count_of};
+use crate::passed::Passed;
 use crate::task::{Job, Task};
 use std::alloc::{AllocError, Global};
 use std::sync::Arc;
 use xs_semantics::focus::Focus;
+use xs_sheet::body::Body;
 use xs_trace::item::Site;
 use xs_trace::recorder::{Halt, Recorder};
 use xs_tree::Node;
@@ -32,6 +38,67 @@ impl<'a, K: KeyFinder> Evaluator<'a, K> {
             Some(grain) if size > grain => Some(grain),
             _ => None,
         }
+    }
+
+    /// A task begins, before anything else is to be done.
+    pub(crate) fn begin_task(&mut self, task: &Task<'a>) -> Result<(), AllocError>
+        requires task { IsTaskIn self.old.world.tree task.now }
+        requires idle { self.old ≡ idle self.old.world (locals_of task.now.job) }
+        ensures { OnOk result (self.new ≡ begun_with self.old.world task.now) }
+    {
+        match &task.job {
+            Job::Body(body, locals) => {
+                let locals = locals.as_slice();
+                self.begin_loop(*body, locals.len(), task)
+            }
+            Job::Rules(mode, passed) => self.begin_rules(*mode, passed, task),
+        }
+    }
+
+    /// A body for each node of a task begins.
+    fn begin_loop(&mut self, body: &'a Body, seen: usize, task: &Task<'a>) -> Result<(), AllocError>
+        requires nodes { AreNodes self.old.world.tree task.now.nodes }
+        ensures { OnOk result (self.new ≡ pushed (each_left body.now task.now.site
+            (record { focus = task.now.focus; seen = seen; own = 0 }) task.now.first
+            task.now.nodes ∷ []) self.old) }
+    {
+        let nodes = Vec::from_slice(self.alloc, task.nodes.as_slice())?;
+        self.push_each(EachLeft {
+            nodes: NodeList::List(nodes),
+            next: 0,
+            position: task.first,
+            body,
+            site: task.site,
+            scope: Scope {
+                focus: task.focus,
+                seen,
+                own: 0,
+            },
+        })
+    }
+
+    /// The rules for the nodes of a task begin.
+    fn begin_rules(
+        &mut self,
+        mode: u32,
+        passed: &Passed<'a>,
+        task: &Task<'a>,
+    ) -> Result<(), AllocError>
+        requires nodes { AreNodes self.old.world.tree task.now.nodes }
+        requires passed { AreValues self.old.world.tree passed.now.values }
+        ensures { OnOk result (self.new ≡ pushed (apply_left mode passed.now task.now.site
+            task.now.focus task.now.first task.now.nodes ∷ []) self.old) }
+    {
+        let nodes = Vec::from_slice(self.alloc, task.nodes.as_slice())?;
+        let passed = passed.copy(self.alloc)?;
+        self.push_apply(ApplyLeft {
+            nodes: NodeList::List(nodes),
+            next: 0,
+            position: task.first,
+            rules: Rules { mode, passed },
+            site: task.site,
+            focus: task.focus,
+        })
     }
 }
 
@@ -120,14 +187,16 @@ fn share<'a, R: Recorder<Task = Task<'a>>>(
 fn behind<'a>(alloc: Global, task: &Task<'a>, node: Node) -> Result<Task<'a>, AllocError>
     ensures { IfOk result (λ t. t ≡ task_behind task.now node) }
 {
-    let count = u32::try_from(task.nodes.len()).map_err(|_| AllocError)?;
+    let count = count_of(task.nodes.as_slice())?;
     let first = task.first.checked_add(count).ok_or(AllocError)?;
+    let nodes = Vec::from_slice(alloc, &[node])?;
+    let job = copy_job(alloc, &task.job)?;
     Ok(Task {
-        job: copy_job(alloc, &task.job)?,
+        job,
         site: task.site,
         focus: task.focus,
         first,
-        nodes: Vec::from_slice(alloc, &[node])?,
+        nodes,
     })
 }
 
@@ -138,6 +207,16 @@ fn copy_job<'a>(alloc: Global, job: &Job<'a>) -> Result<Job<'a>, AllocError>
     match job {
         Job::Body(body, locals) => Ok(Job::Body(*body, Arc::try_clone(locals)?)),
         Job::Rules(mode, passed) => Ok(Job::Rules(*mode, passed.copy(alloc)?)),
+    }
+}
+
+/// The local variables that a task sees.
+pub(crate) fn locals_of(alloc: Global, task: &Task<'_>) -> Result<Vec<Value>, AllocError>
+    ensures { IfOk result (λ locals. locals.items ≡ locals_of task.now.job) }
+{
+    match &task.job {
+        Job::Body(_, locals) => copied_values(alloc, locals),
+        Job::Rules(_, _) => Ok(Vec::new(alloc)),
     }
 }
 

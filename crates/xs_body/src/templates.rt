@@ -207,38 +207,45 @@ impl<'a, K: KeyFinder> Evaluator<'a, K> {
     {
         let sheet = self.sheet;
         if let Some(template) = sheet.templates.as_slice().get(template as usize) {
-            return self.push_params(ParamsLeft {
-                left: template.params.as_slice(),
+            let params = template.params.as_slice();
+            let scope = Scope::outer(focus);
+            if params.is_empty() {
+                return self.push_body(&template.body, scope);
+            }
+            let left = ParamsLeft {
+                left: params,
                 passed,
                 body: &template.body,
-                scope: Scope::outer(focus),
-            });
+                scope,
+            };
+            return self.push(Frame::Params(Box::new(self.alloc, left)?));
         }
         Ok(())
     }
 
     /// Puts the parameters that are left before the others, or else the body.
-    fn push_params(&mut self, left: ParamsLeft<'a>) -> Result<(), AllocError>
-        requires left { IsParams self.old.world.tree left }
-        ensures pushed { OnOk result (self.new ≡ pushed (params_first left.entry.left.now
-            left.entry.passed left.entry.body.now left.entry.scope ∷ []) self.old) }
+    fn push_params(&mut self, left: Box<ParamsLeft<'a>>) -> Result<(), AllocError>
+        requires left { IsParams self.old.world.tree left.value }
+        ensures pushed { OnOk result (self.new ≡ pushed (params_first left.entry.value.left.now
+            left.entry.value.passed left.entry.value.body.now left.entry.value.scope
+            ∷ []) self.old) }
     {
         if left.left.is_empty() {
             self.push_body(left.body, left.scope)
         } else {
-            self.push(Frame::Params(Box::new(self.alloc, left)?))
+            self.push(Frame::Params(left))
         }
     }
 
     /// The next parameter of a template, or its body (11.4).
     pub(crate) fn next_param<R: Recorder<Task = Task<'a>>>(
         &mut self,
-        left: ParamsLeft<'a>,
+        left: Box<ParamsLeft<'a>>,
         recorder: &mut R,
     ) -> Result<(), Halt>
-        requires left { IsParams self.old.world.tree left }
+        requires left { IsParams self.old.world.tree left.value }
         ensures told { IsStepBy (λ u. self.new)
-            (advanced (params_work left.entry) self.old
+            (advanced (params_work left.entry.value) self.old
             (R.state recorder.old)) result (R.state recorder.new) }
         ensures kept { R.kept recorder.new ≡ R.kept recorder.old }
     {
@@ -259,13 +266,13 @@ impl<'a, K: KeyFinder> Evaluator<'a, K> {
     fn bind_param<R: Recorder<Task = Task<'a>>>(
         &mut self,
         binding: &'a Binding,
-        left: ParamsLeft<'a>,
+        left: Box<ParamsLeft<'a>>,
         recorder: &mut R,
     ) -> Result<(), Halt>
-        requires left { IsParams self.old.world.tree left }
+        requires left { IsParams self.old.world.tree left.value }
         ensures told { IsStepBy (λ u. self.new)
-            (advanced (params_left (binding.now ∷ left.entry.left.now) left.entry.passed
-            left.entry.body.now left.entry.scope) self.old
+            (advanced (params_left (binding.now ∷ left.entry.value.left.now) left.entry.value.passed
+            left.entry.value.body.now left.entry.value.scope) self.old
             (R.state recorder.old)) result (R.state recorder.new) }
         ensures kept { R.kept recorder.new ≡ R.kept recorder.old }
     {

@@ -5,37 +5,34 @@ ghost use Rattle.xs_modules.specs.Results.{modules_data};
 ghost use Rattle.xs_modules.specs.Sound.{IsSound};
 ghost use Rattle.xs_sheet.specs.Sound.{IsSound as SheetIsSound};
 ghost use Rattle.xs_words.specs.Results.{texts};
-ghost use Rattle.xs_engine.specs.declared.status.TheConstants.{OK, READ_FAULT, USAGE};
-ghost use Rattle.xs_engine.specs.declared.status.TheConstants.{REFUSED, WRITE_FAULT};
-ghost use Rattle.xs_engine.specs.Answer.{refused_file};
-ghost use Rattle.xs_engine.specs.Due.{IsAnswer, IsDue, IsModulesAnswer, IsSheetAnswer, Owed};
-ghost use Rattle.xs_engine.specs.Fetches.{Fetches, GoesOn, Grew, JobFetches};
-ghost use Rattle.xs_engine.specs.Headline.{HasTicks};
-ghost use Rattle.xs_engine.specs.Job.{inputs_on, request_of};
-ghost use Rattle.xs_engine.specs.Made.{made_files};
-ghost use Rattle.xs_engine.specs.Reply.{AsksSource, GoesTo, IsChecked, IsPlain, IsUnspent};
-ghost use Rattle.xs_engine.specs.Reply.{IsWholeOrEmpty, IsWithin, Replies, job_data};
-ghost use Rattle.xs_engine.specs.Run.{module_name};
+ghost use Rattle.xs_answer.specs.declared.status.TheConstants.{READ_FAULT, USAGE, WRITE_FAULT};
+ghost use Rattle.xs_answer.specs.Due.{IsAnswer, IsDue, IsModulesAnswer, IsSheetAnswer, Owed};
+ghost use Rattle.xs_answer.specs.Fetches.{Fetches, GoesOn, Grew, JobFetches};
+ghost use Rattle.xs_answer.specs.Headline.{HasTicks};
+ghost use Rattle.xs_answer.specs.Job.{inputs_on, request_of};
+ghost use Rattle.xs_answer.specs.Made.{made_files};
+ghost use Rattle.xs_answer.specs.Reply.{AsksSource, GoesTo, IsUnspent};
+ghost use Rattle.xs_answer.specs.Reply.{IsWholeOrEmpty, IsWithin, Replies, job_data};
 ghost use Rattle.xs_runs_read_back.specs.Laws.{AreTrees};
 ghost use Rattle.xs_well_put.specs.Named.{IsNamedSheet};
 
 use crate::evaluation::evaluate;
-use crate::job::{Job, read_request};
-use crate::made::MadeFiles;
-use crate::reading::read_source;
-use crate::reply::{Reply, faultless_reply, read_fault_reply, refused_reply, usage_reply};
 use std::alloc::{AllocError, Global};
 use std::thread::Threads;
+use xs_answer::checking::{check_reply, static_reply};
+use xs_answer::job::{Job, read_request};
+use xs_answer::made::MadeFiles;
+use xs_answer::reading::read_source;
+use xs_answer::reply::{Reply, read_fault_reply, refused_reply, usage_reply};
 use xs_compile::{CompileEnd, compile};
 use xs_load::load_case;
 use xs_modules::{Modules, ModulesEnd, read_modules};
 use xs_outside::{FetchEnd, Library};
 use xs_sheet::sheet::Sheet;
-use xs_static::{StaticFault, first_fault};
 use xs_trace::text::TextBuf;
 use xs_words::WordsEnd;
 
-/// The answer of a run: a function of the words and of the files that it comes to.
+/// The answer of a run: a function of the arguments and of the files that it comes to.
 pub fn reply_to<R: Threads + Sync, L: Library>(
     rt: &R,
     alloc: Global,
@@ -165,34 +162,6 @@ fn modules_are_trees(modules: &Modules)
     for number in 0..modules.list.len() {
         let _count = modules.list[number].tree.len();
     }
-}
-
-/// The answer of a stylesheet that is only checked: its first static fault, or nothing.
-fn check_reply(alloc: Global, modules: &Modules) -> Result<Reply, AllocError>
-    requires { IsSound (modules_data modules.now) }
-    ensures answer { IfOk result (IsChecked (modules_data modules.now)) }
-    ensures status { IfOk result (λ reply.
-        (reply.status ≡ OK) ⊎ (reply.status ≡ REFUSED)) }
-    ensures ticks { IfOk result IsUnspent }
-    ensures whole_only { IfOk result IsWholeOrEmpty }
-{
-    match first_fault(alloc, modules)? {
-        Some(fault) => static_reply(alloc, modules, fault),
-        None => Ok(faultless_reply(alloc)),
-    }
-}
-
-/// A static fault, told by the name of its module.
-fn static_reply(alloc: Global, modules: &Modules, fault: StaticFault) -> Result<Reply, AllocError>
-    requires { fault.«module» < length (modules_data modules.now) }
-    ensures answer { IfOk result (IsPlain (refused_file fault.number
-        (module_name (modules_data modules.now) fault.«module») fault.line)) }
-    ensures status { IfOk result (λ reply. reply.status ≡ REFUSED) }
-    ensures ticks { IfOk result IsUnspent }
-    ensures whole_only { IfOk result IsWholeOrEmpty }
-{
-    let module = &modules.list[fault.module as usize];
-    refused_reply(alloc, fault.number, &module.name, fault.line)
 }
 
 /// The answer of a run of a compiled stylesheet on a source.

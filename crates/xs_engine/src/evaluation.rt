@@ -1,41 +1,36 @@
 //! What a stylesheet makes of a source, cut at the limits of a job.
 
 ghost use Rattle.std.specs.List.{All};
-ghost use Rattle.std.specs.Prelude.{◌≡◌, ◌≤◌, ◌+◌, ◌⊎◌, [], ◌∷◌, IfOk, IsSome, None, OnOk};
+ghost use Rattle.std.specs.Prelude.{◌≡◌, ◌≤◌, ◌⊎◌, [], ◌∷◌, IfOk, IsSome, None};
 ghost use Rattle.xs_semantics.specs.Globals.{SettlesAll};
-ghost use Rattle.xs_semantics.specs.World.{World as Over, ground};
-ghost use Rattle.xs_globals.specs.Results.{settled_of, told_in};
+ghost use Rattle.xs_semantics.specs.World.{ground};
+ghost use Rattle.xs_globals.specs.Results.{settled_of};
 ghost use Rattle.xs_eval.specs.Conditions.{IsInIf};
-ghost use Rattle.xs_engine.specs.declared.status.TheConstants.{OK, RUN_FAULT};
-ghost use Rattle.xs_engine.specs.Evaluation.{IsEvaluated, IsEvaluatedOn, IsEvaluatedOver};
-ghost use Rattle.xs_engine.specs.Inputs.{named_document};
-ghost use Rattle.xs_engine.specs.Ran.{IsRan};
-ghost use Rattle.xs_engine.specs.Reply.{IsWholeOrEmpty, IsWithin, Replies, job_data};
+ghost use Rattle.xs_answer.specs.declared.status.TheConstants.{OK, RUN_FAULT};
+ghost use Rattle.xs_answer.specs.Evaluation.{IsEvaluated, IsEvaluatedOn, IsEvaluatedOver};
+ghost use Rattle.xs_answer.specs.Inputs.{named_document};
+ghost use Rattle.xs_answer.specs.Reply.{IsWholeOrEmpty, IsWithin, Replies, job_data};
 ghost use Rattle.xs_making.specs.Laws.{AreWell};
 ghost use Rattle.xs_well_put.specs.Named.{IsNamedSheet, IsNamedWorld};
 ghost use Rattle.xs_rules.specs.Indexed.{IsIndex, IsPrepared};
 ghost use Rattle.xs_sets.specs.Indexed.{IsSetIndex};
 ghost use Rattle.xs_counting.specs.steps.Tables.{AreCounters};
 ghost use Rattle.xs_value.specs.Tables.{TablesIn};
-ghost use Rattle.xs_rules.specs.WhiteSpace.{stripped};
 ghost use Rattle.xs_sheet.specs.Sound.{IsSound};
-ghost use Rattle.xs_tree.specs.Stripping.{without};
 
-use crate::job::Job;
-use crate::reply::{Pieces, Reply, stopped_reply, whole_reply, with_pieces, with_stats};
 use std::alloc::{AllocError, Global};
 use std::thread::Threads;
-use xs_assemble::assembled::Executed;
+use xs_answer::executed::executed_reply;
+use xs_answer::job::Job;
+use xs_answer::reading::strip;
+use xs_answer::reply::{Reply, stopped_reply};
 use xs_assemble::execute::execute;
-use xs_block::chain::Chain;
 use xs_block::pool::Pool;
 use xs_body::world::World;
 use xs_globals::settled::Settled;
 use xs_globals::settling::settle;
 use xs_keys::keys::KeyCells;
-use xs_rules::white_space::strip_space;
 use xs_semantics::index::SheetIndex;
-use xs_sheet::declarations::StripRule;
 use xs_sheet::sheet::Sheet;
 use xs_sheet_pieces::runner::SheetPieces;
 use xs_trace::item::Limits;
@@ -63,18 +58,6 @@ pub fn evaluate<R: Threads + Sync>(
     let mut tree = source;
     strip(alloc, &mut tree, sheet.strips.as_slice())?;
     evaluate_over(rt, alloc, job, sheet, &tree)
-}
-
-/// Strips white space of a source as the rules say (XSLT 1.0, 3.4). Most stylesheets have none, and
-/// then the source is not looked through.
-#[tactic(auto, using(crate::proofs::StripLemmas::stripped_without_rules))]
-fn strip(alloc: Global, tree: &mut Tree, rules: &[StripRule]) -> Result<(), AllocError>
-    ensures stripped { OnOk result (tree.new ≡ without (stripped rules.now tree.old) tree.old) }
-{
-    if rules.is_empty() {
-        return Ok(());
-    }
-    strip_space(alloc, tree, rules)
 }
 
 /// The same of a source that is stripped: the tables of its keys are made first.
@@ -134,10 +117,7 @@ fn evaluate_by(
     };
     let settled = settle(alloc, &world, &job.given, job.budget)?;
     match settled.end {
-        Some(spot) => {
-            let nothing = Chain::new(alloc);
-            stopped_reply(alloc, sheet, spot, &settled.says, &nothing, settled.ticks)
-        }
+        Some(spot) => stopped_reply(alloc, sheet, spot, &settled.says, &[], settled.ticks),
         None => root_reply(alloc, job, &world, &settled),
     }
 }
@@ -164,8 +144,8 @@ fn root_reply(
         (reply.status ≡ OK) ⊎ (reply.status ≡ RUN_FAULT)) }
     ensures whole_only { IfOk result IsWholeOrEmpty }
 {
-    xs_sheet_pieces::laws::sheet_is_ready();
-    xs_sheet_pieces::laws::whole_is_run();
+    xs_task_tree::laws::sheet_is_ready();
+    xs_task_tree::laws::whole_is_run();
     let sheet = world.sheet;
     let runner = SheetPieces::new(
         world.sheet,
@@ -182,47 +162,5 @@ fn root_reply(
     };
     let mut pool = Pool::new(alloc);
     let executed = execute(alloc, &runner, root, limits, &mut pool)?;
-    executed_reply(alloc, job, sheet, settled, executed)
-}
-
-/// What the root's pieces came to, as an answer.
-fn executed_reply(
-    alloc: Global,
-    job: &Job,
-    sheet: &Sheet,
-    settled: &Settled,
-    executed: Executed,
-) -> Result<Reply, AllocError>
-    requires within { settled.now.ticks + executed.assembled.ticks ≤ job.now.budget }
-    ensures answer { (w : Over) → sheet.now ≡ w.sheet → SettlesAll w
-        (job_data job.now).given job.now.budget (settled_of settled.now) →
-        settled.now.end ≡ None →
-        IsRan (job_data job.now) w (told_in settled.now) executed →
-        IfOk result (Replies (IsNamedWorld w) (IsEvaluated (job_data job.now) w)) }
-    ensures status { IfOk result (λ reply.
-        (reply.status ≡ OK) ⊎ (reply.status ≡ RUN_FAULT)) }
-    ensures whole_only { IfOk result IsWholeOrEmpty }
-{
-    xs_well_put::laws::runs_put_results();
-    let Executed {
-        assembled,
-        claims,
-        worked,
-    } = executed;
-    let ticks = settled.ticks + assembled.ticks;
-    let pieces = Pieces {
-        claims,
-        inline: assembled.inline,
-        worked,
-    };
-    match assembled.end {
-        None => {
-            let reply = whole_reply(alloc, sheet.method, &settled.says, &assembled.items, ticks)?;
-            with_stats(reply, pieces, job.stats)
-        }
-        Some(spot) => {
-            let reply = stopped_reply(alloc, sheet, spot, &settled.says, &assembled.items, ticks)?;
-            Ok(with_pieces(reply, pieces))
-        }
-    }
+    executed_reply(alloc, job, sheet, &settled.says, settled.ticks, executed)
 }

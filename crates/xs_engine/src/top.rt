@@ -1,45 +1,23 @@
 //! The top call.
 
 ghost use Rattle.std.specs.Prelude.{◌≡◌, ◌≢◌, ◌<◌, ◌≤◌, ◌⊎◌, [], false, length, None};
-ghost use Rattle.xs_engine.specs.declared.status.TheConstants.{NO_MEMORY, READ_FAULT};
-ghost use Rattle.xs_engine.specs.declared.status.TheConstants.{REFUSED, USAGE};
+ghost use Rattle.xs_answer.specs.declared.status.TheConstants.{NO_MEMORY, READ_FAULT};
+ghost use Rattle.xs_answer.specs.declared.status.TheConstants.{REFUSED, USAGE};
 ghost use Rattle.xs_words.specs.Results.{texts};
-ghost use Rattle.xs_engine.specs.Fetches.{Fetches};
-ghost use Rattle.xs_engine.specs.Headline.{AtOnce, Gained, Gives, HasTicks, OfDue, OnlyDue};
-ghost use Rattle.xs_engine.specs.Job.{is_streamed, request_of};
-ghost use Rattle.xs_engine.specs.Refusals.{Decides, IsListed};
-ghost use Rattle.xs_engine.specs.Reply.{account_of};
+ghost use Rattle.xs_answer.specs.Fetches.{Fetches};
+ghost use Rattle.xs_answer.specs.Headline.{AtOnce, Gained, Gives, HasTicks, OfDue, OnlyDue};
+ghost use Rattle.xs_answer.specs.Job.{is_streamed, request_of};
+ghost use Rattle.xs_answer.specs.Refusals.{Decides, IsListed};
+ghost use Rattle.xs_answer.specs.Reply.{account_of};
 
 use crate::answer::reply_to;
-use crate::deliver::deliver;
-use crate::reply::{Pieces, Reply, ReportedFault};
-use crate::status::NO_MEMORY;
 use std::alloc::Global;
 use std::thread::Threads;
+use xs_answer::deliver::deliver;
+use xs_answer::report::{Report, refused_memory, report_of};
 use xs_outside::{Gate, Library, Sink};
-use xs_trace::place::Claim;
 
-/// What a run reports besides what it wrote.
-#[derive(Debug, Drop)]
-pub struct Report {
-    /// How the run ended, as `status` names it.
-    pub status: u8,
-    /// How many ticks passed the budget's cut; 0 but on `OK`, `RUN_FAULT`, and `WRITE_FAULT`, where
-    /// it is what it was for the status that was due.
-    pub ticks: u64,
-    /// The fault that ended the run, also where its line could not be written; none on `NO_MEMORY`.
-    pub fault: Option<ReportedFault>,
-    /// How many pieces the workers claimed.
-    pub pieces: u64,
-    /// How many pieces were evaluated again in their place.
-    pub inline: u64,
-    /// Each place that a worker claimed, sorted.
-    pub claims: Vec<Claim>,
-    /// How many ticks all pieces took, with those that were evaluated again in their place.
-    pub worked: u64,
-}
-
-/// Runs the processor on the words after its name.
+/// Runs the processor on the arguments after its name.
 ///
 /// Files come from `library`, the result goes to `out`, and lines for the user go to `err`. The
 /// report has the status.
@@ -57,8 +35,8 @@ pub fn transform<R: Threads + Sync, L: Library, O: Sink, E: Sink, G: Gate>(
     ensures fetches { Fetches (request_of (texts words.now)) (L.files library.old)
         (L.asked library.old) (L.asked library.new) (L.failed library.old) (L.failed library.new) }
 
-    // What the words and the files define is what the report and the sinks get; and the lines of a
-    // result are those of a document with the same elements, attributes, texts, comments and
+    // What the arguments and the files define is what the report and the sinks get; and the lines
+    // of a result are those of a document with the same elements, attributes, texts, comments and
     // instructions as what that run put.
     ensures gives { result.status ≢ NO_MEMORY
         → OfDue (L.files library.old) (request_of (texts words.now))
@@ -66,7 +44,7 @@ pub fn transform<R: Threads + Sync, L: Library, O: Sink, E: Sink, G: Gate>(
         (λ due. Gives (is_streamed (request_of (texts words.now))) due (account_of result)
         (O.held out.old) (O.held out.new) (E.held err.old) (E.held err.new)) }
 
-    // Where the files are known, the words and these files define one answer alone.
+    // Where the files are known, the arguments and these files define one answer alone.
     ensures only { OnlyDue (L.files library.old) (request_of (texts words.now))
         (L.failed library.old) (L.failed library.new)
         (λ due. Gives (is_streamed (request_of (texts words.now))) due (account_of result)
@@ -108,56 +86,5 @@ pub fn transform<R: Threads + Sync, L: Library, O: Sink, E: Sink, G: Gate>(
             report_of(status, reply)
         }
         Err(_) => refused_memory(alloc),
-    }
-}
-
-/// The report of a reply, which ended with this status.
-fn report_of(status: u8, reply: Reply) -> Report
-    ensures status { result.status ≡ status }
-    ensures ticks { result.ticks ≡ reply.ticks }
-    ensures fault { result.fault ≡ reply.fault }
-    ensures pieces { result.pieces ≡ length reply.pieces.claims.items }
-    ensures inline { result.inline ≡ reply.pieces.inline }
-    ensures claims { result.claims.items ≡ reply.pieces.claims.items }
-    ensures worked { result.worked ≡ reply.pieces.worked }
-{
-    let Reply {
-        fault,
-        ticks,
-        pieces,
-        ..
-    } = reply;
-    let Pieces {
-        claims,
-        inline,
-        worked,
-    } = pieces;
-    Report {
-        status,
-        ticks,
-        fault,
-        pieces: claims.len() as u64,
-        inline,
-        claims,
-        worked,
-    }
-}
-
-/// The report of a run that was out of memory.
-fn refused_memory(alloc: Global) -> Report
-    ensures status { result.status ≡ NO_MEMORY }
-    ensures ticks { result.ticks ≡ 0 }
-    ensures fault { result.fault ≡ None }
-    ensures pieces { (result.pieces ≡ 0) × (result.inline ≡ 0) × (result.claims.items ≡ [])
-        × (result.worked ≡ 0) }
-{
-    Report {
-        status: NO_MEMORY,
-        ticks: 0,
-        fault: None,
-        pieces: 0,
-        inline: 0,
-        claims: Vec::new(alloc),
-        worked: 0,
     }
 }

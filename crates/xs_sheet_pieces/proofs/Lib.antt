@@ -1,5 +1,1 @@
-pub mod ValueLemmas
-pub mod RunLemmas
-pub mod StayLemmas
-pub mod PlaceLemmas
-pub mod PieceLemmas
+mod PieceLemmas

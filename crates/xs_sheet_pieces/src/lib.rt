@@ -2,6 +2,5 @@
 #![tactic(auto)]
 
 mod children;
-pub mod laws;
 pub mod placed;
 pub mod runner;

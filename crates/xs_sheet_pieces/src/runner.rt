@@ -2,11 +2,11 @@
 
 ghost use Rattle.std.specs.List.{All};
 ghost use Rattle.std.specs.Prelude.{◌≡◌, ◌+◌, ◌≤◌, [], IfOk, IsSome, OnErr};
-ghost use Rattle.xs_body.specs.Inside.{IsWorld};
+ghost use Rattle.xs_semantics.specs.Inside.{IsWorld};
 ghost use Rattle.xs_record.specs.Outcome.{IsOutcome, part_blocks};
 ghost use Rattle.xs_record.specs.Piece.{IsPiece};
 ghost use Rattle.xs_semantics.specs.Trace.{root_task};
-ghost use Rattle.xs_sheet_pieces.specs.Placed.{IsOwn, at_place, own, whole};
+ghost use Rattle.xs_task_tree.specs.Placed.{IsOwn, at_place, own, whole};
 
 use crate::children::adopt;
 use crate::placed::PlacedTask;
@@ -104,7 +104,7 @@ impl<'a> SheetPieces<'a> {
 }
 
 impl<'a> Runner for SheetPieces<'a> {
-    ghost use Rattle.xs_sheet_pieces.specs.Placed.{IsOwn, own, whole};
+    ghost use Rattle.xs_task_tree.specs.Placed.{IsOwn, own, whole};
 
     type Task = PlacedTask<'a>;
 

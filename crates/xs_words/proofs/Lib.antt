@@ -3,3 +3,4 @@ pub mod DigitLemmas
 pub mod InputLemmas
 pub mod OptionLemmas
 pub mod RowLemmas
+pub mod WithinLemmas

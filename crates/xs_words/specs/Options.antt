@@ -1,5 +1,5 @@
 -- The options that words stand for, and which words stand for none.
-use Rattle.std.specs.Prelude.{ℕ, ◌&&◌, ◌||◌, Bool, false, not, List, []}
+use Rattle.std.specs.Prelude.{ℕ, ◌≤◌, ◌^◌, ◌&&◌, ◌||◌, Bool, false, not, List, []}
 use Rattle.std.specs.Prelude.{Option, Some, None, is_some, option_map, unwrap_or, codes}
 use Rattle.std.specs.Str.{bytes_eq}
 use Rattle.clap.specs.Words.{Row, all_of, first_of}
@@ -83,3 +83,9 @@ choice_of_rows rows =
 -- What the words after the program's name ask for; none where they are refused.
 unfoldable pub options_of : List Text → Option Choice
 options_of words = given (rows_of_words words) choice_of_rows
+
+-- Whatever the words, the numbers of their options are within limits.
+pub record AreWithin (choice : Choice) : Type 0 where
+  pub budget : (1 ≤ choice.budget) × (choice.budget ≤ 2 ^ 40)
+  pub workers : (1 ≤ choice.workers) × (choice.workers ≤ 64)
+  pub grain : (1 ≤ choice.grain) × (choice.grain ≤ 65536)

@@ -1,9 +1,9 @@
 //! The words after the program's name, as options.
 
-ghost use Rattle.std.specs.Prelude.{◌≡◌, ◌≢◌};
+ghost use Rattle.std.specs.Prelude.{◌≡◌, ◌≢◌, IfOk};
 ghost use Rattle.clap.specs.Words.{kind_of};
 ghost use Rattle.clap.specs.declared.error.kind.ErrorKind.TheVariants.{OutOfMemory};
-ghost use Rattle.xs_words.specs.Options.{choice_of_rows, options_of};
+ghost use Rattle.xs_words.specs.Options.{choice_of_rows, options_of, AreWithin};
 ghost use Rattle.xs_words.specs.Results.{Gives, texts, told};
 ghost use Rattle.xs_words.specs.Rows.{rows_in};
 ghost use Rattle.xs_words.specs.declared.choice.WordsEnd.TheVariants.{Usage};
@@ -25,7 +25,8 @@ pub const USAGE: &str = "\
 /// What the words after the program's name ask for. `Usage` exactly where `clap` refuses the words,
 /// or they break the rule on options and inputs.
 pub fn read_words(alloc: Global, words: &[String]) -> Result<Options, WordsEnd>
-    ensures { Gives told (options_of (texts words.now)) result }
+    ensures gives { Gives told (options_of (texts words.now)) result }
+    ensures within { IfOk result (λ options. AreWithin (told options)) }
 {
     let command = command_line(alloc)?;
     match command.try_get_matches_from(words) {

@@ -1,13 +1,20 @@
 //! The calls that rows make, and their names.
 
+use crate::expressions::parsed::Form;
+
 /// What a call is about.
 pub(crate) enum Subject {
+    /// Values.
     Evaluated,
-    Parsed,
-    Matched,
-    Tables,
+    /// What a text is parsed to in a form.
+    Parsed(Form),
+    /// Scopes and axes.
+    Found,
+    /// Values that the row writes.
     Values,
+    /// Numbers.
     Numbers,
+    /// Strings.
     Strings,
 }
 
@@ -56,20 +63,29 @@ pub(crate) const CALLS: &[(&str, (Subject, Call))] = &[
     ("value", (Subject::Evaluated, Call::Value)),
     ("compare", (Subject::Evaluated, Call::Compare)),
     ("text", (Subject::Evaluated, Call::Text)),
-    ("expression", (Subject::Parsed, Call::Expression)),
-    ("pattern", (Subject::Parsed, Call::Pattern)),
-    ("template", (Subject::Parsed, Call::Template)),
-    ("bound", (Subject::Parsed, Call::Bound)),
-    ("long", (Subject::Parsed, Call::Long)),
-    ("uri", (Subject::Parsed, Call::Uri)),
-    ("uris", (Subject::Parsed, Call::Uris)),
-    ("axis", (Subject::Matched, Call::Axis)),
-    ("match", (Subject::Matched, Call::Match)),
-    ("match-faulty", (Subject::Matched, Call::MatchFaulty)),
-    ("match-at", (Subject::Matched, Call::MatchAt)),
-    ("table", (Subject::Tables, Call::Table)),
-    ("count", (Subject::Tables, Call::Count)),
-    ("marks", (Subject::Tables, Call::Marks)),
+    (
+        "expression",
+        (Subject::Parsed(Form::Expression), Call::Expression),
+    ),
+    ("pattern", (Subject::Parsed(Form::Pattern), Call::Pattern)),
+    (
+        "template",
+        (Subject::Parsed(Form::Template), Call::Template),
+    ),
+    ("bound", (Subject::Parsed(Form::Bound), Call::Bound)),
+    ("long", (Subject::Parsed(Form::Expression), Call::Long)),
+    ("uri", (Subject::Found, Call::Uri)),
+    ("uris", (Subject::Found, Call::Uris)),
+    ("axis", (Subject::Found, Call::Axis)),
+    ("match", (Subject::Parsed(Form::Pattern), Call::Match)),
+    (
+        "match-faulty",
+        (Subject::Parsed(Form::Pattern), Call::MatchFaulty),
+    ),
+    ("match-at", (Subject::Parsed(Form::Pattern), Call::MatchAt)),
+    ("table", (Subject::Parsed(Form::Pattern), Call::Table)),
+    ("count", (Subject::Parsed(Form::Pattern), Call::Count)),
+    ("marks", (Subject::Parsed(Form::Pattern), Call::Marks)),
     ("convert", (Subject::Values, Call::Convert)),
     ("compared", (Subject::Values, Call::Compared)),
     ("join", (Subject::Values, Call::Join)),

@@ -1,7 +1,7 @@
 //! The documents of rows.
 
 use crate::answer::Answer;
-use crate::expressions::fields::put_repeated;
+use crate::expressions::texts::put_repeated;
 use std::fs;
 use std::rt::Files;
 

@@ -7,10 +7,10 @@ ghost use Rattle.xs_value.specs.Conversion.{IsIn};
 
 use crate::answer::Answer;
 use crate::expressions::calls::Call;
-use crate::expressions::fields::{cut, whole};
-use crate::expressions::parsed::{parsed_bound, parsed_parts, put_fault};
+use crate::expressions::parsed::{Form, Parsed, parse, put_fault};
 use crate::expressions::settings::Settings;
 use crate::expressions::values::show_value;
+use crate::fields::{cut, whole};
 use crate::lookups::value_named;
 use std::alloc::Global;
 use xs_eval::context::Context;
@@ -25,13 +25,6 @@ use xs_value::keys::NoKeys;
 use xs_value::value::Value;
 use xs_xpath::avt::AvtPart;
 use xs_xpath::expr::Expr;
-
-/// What is evaluated.
-#[derive(Clone, Copy)]
-enum Asked<'a> {
-    Expression(&'a Expr),
-    Template(&'a [AvtPart]),
-}
 
 // The ends of comparisons, and their letters.
 const LETTERS: &[(&str, &str)] = &[
@@ -86,7 +79,7 @@ fn put_halt(out: &mut Answer, halt: Halt) {
 
 // Adds the end of an evaluation at the node at a place, under a limit of ticks, and says how many
 // it took.
-fn put_end(out: &mut Answer, settings: &Settings, asked: Asked<'_>, place: u32, limit: u64) -> u64 {
+fn put_end(out: &mut Answer, settings: &Settings, parsed: &Parsed, place: u32, limit: u64) -> u64 {
     let tree: &Tree = &settings.tree;
     let is_there = (place as usize) < tree.len() && (settings.current as usize) < tree.len();
     if !is_there || !are_in(tree, &settings.locals) || !are_in_if(tree, &settings.globals) {
@@ -103,76 +96,72 @@ fn put_end(out: &mut Answer, settings: &Settings, asked: Asked<'_>, place: u32, 
         globals: &settings.globals,
         scope: &settings.scope,
     };
-    match asked {
-        Asked::Expression(expr) => put_value(out, settings.alloc, expr, &context, limit),
-        Asked::Template(parts) => put_text(out, settings.alloc, parts, &context, limit),
-    }
-}
-
-// Adds the value of an expression, or how it ended without one, and says its ticks.
-fn put_value(out: &mut Answer, alloc: Global, expr: &Expr, context: &Context<'_>, limit: u64) -> u64
-    requires { IsContext [] context.now }
-{
     let mut meter = Meter {
         limit: Some(limit),
         spent: 0,
     };
-    match evaluate(alloc, expr, context, &NoKeys, SITE, &mut meter) {
+    match parsed {
+        Parsed::Expression(expr) => put_value(out, settings.alloc, expr, &context, &mut meter),
+        Parsed::Template(parts) => put_text(out, settings.alloc, parts, &context, &mut meter),
+        Parsed::Pattern(_) => out.put("a pattern has no value"),
+    }
+    meter.spent
+}
+
+// Adds the value of an expression, or how it ended without one.
+fn put_value(out: &mut Answer, alloc: Global, expr: &Expr, context: &Context<'_>, meter: &mut Meter)
+    requires { IsContext [] context.now }
+{
+    match evaluate(alloc, expr, context, &NoKeys, SITE, meter) {
         Ok(value) => {
             show_value(out, context.tree, &value);
             drop(value);
         }
         Err(halt) => put_halt(out, halt),
     }
-    meter.spent
 }
 
-// Adds the text of a value template, or how it ended without one, and says its ticks.
+// Adds the text of a value template, or how it ended without one.
 fn put_text(
     out: &mut Answer,
     alloc: Global,
     parts: &[AvtPart],
     context: &Context<'_>,
-    limit: u64,
-) -> u64
+    meter: &mut Meter,
+)
     requires { IsContext [] context.now }
 {
-    let mut meter = Meter {
-        limit: Some(limit),
-        spent: 0,
-    };
-    match evaluate_avt(alloc, parts, context, &NoKeys, SITE, &mut meter) {
+    match evaluate_avt(alloc, parts, context, &NoKeys, SITE, meter) {
         Ok(text) => out.put_in("'", text.as_str(), "'"),
         Err(halt) => put_halt(out, halt),
     }
-    meter.spent
 }
 
 // Whether an evaluation under a limit spends it and has this end.
 fn ends_so(
     out: &mut Answer,
     settings: &Settings,
-    asked: Asked<'_>,
+    parsed: &Parsed,
     place: u32,
     limit: u64,
     end: &[u8],
 ) -> bool {
     let mut found = Answer::new(settings.alloc);
-    let ticks = put_end(&mut found, settings, asked, place, limit);
+    let ticks = put_end(&mut found, settings, parsed, place, limit);
     found.held(out) == end && ticks == limit
 }
 
 // Adds the end of an evaluation under an ample limit, and says its ticks. Where it ends otherwise
 // under a limit of just these ticks, or not as spent under one tick less, it adds this too.
-fn put_tried(out: &mut Answer, settings: &Settings, asked: Asked<'_>, place: u32) -> u64 {
+fn put_tried(out: &mut Answer, settings: &Settings, parsed: &Parsed, place: u32) -> u64 {
     let mut end = Answer::new(settings.alloc);
-    let ticks = put_end(&mut end, settings, asked, place, AMPLE);
+    let ticks = put_end(&mut end, settings, parsed, place, AMPLE);
     let end = end.held(out);
     out.put_bytes(end);
-    if !ends_so(out, settings, asked, place, ticks, end) {
+    if !ends_so(out, settings, parsed, place, ticks, end) {
         out.put(", otherwise at its limit");
     }
-    if ticks > 0 && !ends_so(out, settings, asked, place, ticks - 1, b"spent") {
+    if ticks > 0 && !ends_so(out, settings, parsed, place, ticks - 1, b"spent") {
         out.put(", not spent by one tick less");
     }
     ticks
@@ -180,31 +169,24 @@ fn put_tried(out: &mut Answer, settings: &Settings, asked: Asked<'_>, place: u32
 
 /// Adds the answer of a call that evaluates.
 pub(crate) fn add_answer(out: &mut Answer, settings: &Settings, call: Call, rest: &str) {
-    let (place, text) = cut(rest);
+    let (place, text) = cut(rest, " | ");
     let place = whole(place);
     let ticks = match call {
-        Call::Value => put_expression(out, settings, text, place),
-        Call::Text => put_template(out, settings, text, place),
+        Call::Value => put_parsed(out, settings, Form::Bound, text, place),
+        Call::Text => put_parsed(out, settings, Form::Template, text, place),
         _ => compare(out, settings, place, text),
     };
     out.put_count(" | ", ticks);
 }
 
-// Adds the value of an expression, and says its ticks.
-fn put_expression(out: &mut Answer, settings: &Settings, text: &str, place: u32) -> u64 {
-    match parsed_bound(settings, text) {
-        Ok(expr) => put_tried(out, settings, Asked::Expression(&expr), place),
-        Err(fault) => {
-            put_fault(out, fault);
-            0
+// Adds what a text of a form gives, and says its ticks.
+fn put_parsed(out: &mut Answer, settings: &Settings, form: Form, text: &str, place: u32) -> u64 {
+    match parse(settings, form, text) {
+        Ok(parsed) => {
+            let ticks = put_tried(out, settings, &parsed, place);
+            drop(parsed);
+            ticks
         }
-    }
-}
-
-// Adds the text of a value template, and says its ticks.
-fn put_template(out: &mut Answer, settings: &Settings, text: &str, place: u32) -> u64 {
-    match parsed_parts(settings, text) {
-        Ok(parts) => put_tried(out, settings, Asked::Template(&parts), place),
         Err(fault) => {
             put_fault(out, fault);
             0
@@ -215,20 +197,18 @@ fn put_template(out: &mut Answer, settings: &Settings, text: &str, place: u32) -
 // Adds how two operands compare under each operator, a letter for each, and says the ticks of one
 // comparison. After a letter stands `?` where its comparison takes other ticks than the one before.
 fn compare(out: &mut Answer, settings: &Settings, place: u32, text: &str) -> u64 {
-    let (left, right) = cut(text);
-    let mut ticks = put_operated(out, settings, place, left, " = ", right);
+    let (left, right) = cut(text, " | ");
+    let mut ticks = put_letter(out, settings, place, left, " = ", right);
     for operator in &[" != ", " < ", " <= ", " > ", " >= "] {
-        let next = put_operated(out, settings, place, left, operator, right);
-        if next != ticks {
-            out.put("?");
-        }
+        let next = put_letter(out, settings, place, left, operator, right);
+        out.put_if(next != ticks, "?");
         ticks = next;
     }
     ticks
 }
 
 // Adds the letter of how two operands compare under an operator, and says its ticks.
-fn put_operated(
+fn put_letter(
     out: &mut Answer,
     settings: &Settings,
     place: u32,
@@ -238,14 +218,8 @@ fn put_operated(
 ) -> u64 {
     let mut text = Answer::new(settings.alloc);
     text.put_in(left, operator, right);
-    let text = text.held_text(out);
-    put_letter(out, settings, text, place)
-}
-
-// Adds the letter of how a comparison ends, and says its ticks.
-fn put_letter(out: &mut Answer, settings: &Settings, text: &str, place: u32) -> u64 {
     let mut end = Answer::new(settings.alloc);
-    let ticks = put_expression(&mut end, settings, text, place);
+    let ticks = put_parsed(&mut end, settings, Form::Bound, text.held_text(out), place);
     let end = end.held_text(out);
     out.put(value_named(LETTERS, end).unwrap_or(&"?"));
     ticks

@@ -3,8 +3,9 @@
 use crate::answer::Answer;
 use crate::expressions::answers::add_answer;
 use crate::expressions::documents::lines_of;
-use crate::expressions::fields::unescaped;
 use crate::expressions::settings::Settings;
+use crate::expressions::texts::unescaped;
+use crate::fields::{cut, is_comment};
 use std::rt::Files;
 
 /// Adds the rows of a file.
@@ -18,7 +19,7 @@ pub(crate) fn put_rows<R: Files + AllocGlobal>(out: &mut Answer, rt: &R, text: &
     }
 }
 
-// Adds lines, each as it stands or with its answer.
+// Adds lines, each as it is or with its answer.
 fn add_lines<R: Files + AllocGlobal>(
     out: &mut Answer,
     rt: &R,
@@ -26,26 +27,25 @@ fn add_lines<R: Files + AllocGlobal>(
     text: &str,
 ) {
     for line in text.lines() {
-        if let Some(setting) = line.strip_prefix("= ") {
-            add_setting(out, rt, settings, setting);
-        } else if line.is_empty() || line.starts_with('#') {
-            out.put(line);
-        } else {
-            add_row(out, settings, line);
-        }
+        add_line(out, rt, settings, line);
         out.put("\n");
     }
 }
 
-// Sets what a setting says, and adds its line.
-fn add_setting<R: Files + AllocGlobal>(
-    out: &mut Answer,
-    rt: &R,
-    settings: &mut Settings,
-    setting: &str,
-) {
-    out.put("= ");
-    out.put(setting);
+// Adds a line as it is or with its answer, and sets what a setting says.
+fn add_line<R: Files + AllocGlobal>(out: &mut Answer, rt: &R, settings: &mut Settings, line: &str) {
+    if let Some(setting) = line.strip_prefix("= ") {
+        out.put(line);
+        set(out, rt, settings, setting);
+    } else if is_comment(line) {
+        out.put(line);
+    } else {
+        add_row(out, settings, line);
+    }
+}
+
+// Sets what a setting says.
+fn set<R: Files + AllocGlobal>(out: &mut Answer, rt: &R, settings: &mut Settings, setting: &str) {
     let setting = unescaped(settings.alloc, setting);
     let setting = setting.held_text(out);
     match setting.strip_prefix("document ") {
@@ -57,15 +57,12 @@ fn add_setting<R: Files + AllocGlobal>(
     }
 }
 
-// Adds a row: its input as it stands, and its answer, which is `none` where it has no text.
+// Adds a row: its input as it is, and its answer, which is `none` where it has no text.
 fn add_row(out: &mut Answer, settings: &Settings, line: &str) {
-    let (input, _) = line.split_once(" ==> ").unwrap_or((line, ""));
-    out.put(input);
-    out.put(" ==> ");
+    let (input, _) = cut(line, " ==> ");
+    out.put_in("", input, " ==> ");
     let input = unescaped(settings.alloc, input);
     let mut answer = Answer::new(settings.alloc);
-    let input = input.held_text(&mut answer);
-    add_answer(&mut answer, settings, input);
-    let answer = answer.held_text(out);
-    out.put_escaped(if answer.is_empty() { "none" } else { answer });
+    add_answer(&mut answer, settings, input.held_text(out));
+    out.put_result(&answer);
 }

@@ -1,11 +1,15 @@
 //! The nodes of axes, and those that match patterns.
 
+ghost use Rattle.std.specs.Prelude.{◌<◌, length};
+
 use crate::answer::Answer;
 use crate::expressions::calls::Call;
-use crate::expressions::fields::{cut, whole, word};
 use crate::expressions::names::AXES;
-use crate::expressions::parsed::{parsed, parsed_pattern, put_fault};
+use crate::expressions::parsed::{Form, put_parsed};
 use crate::expressions::settings::Settings;
+use crate::expressions::shown::show_all;
+use crate::expressions::tables;
+use crate::fields::{cut, whole};
 use crate::lookups::value_named;
 use std::alloc::AllocError;
 use xs_axes::axis_nodes;
@@ -14,33 +18,19 @@ use xs_eval::evaluate::evaluate;
 use xs_pattern::matching::matches;
 use xs_trace::item::Site;
 use xs_trace::meter::Meter;
-use xs_tree::{Axis, Node, Tree};
+use xs_tree::{Axis, Node};
 use xs_value::keys::NoKeys;
 use xs_value::value::Value;
 use xs_xpath::expr::Expr;
 use xs_xpath::pattern::Pattern;
 
-/// Adds the answer of a call with an axis or a pattern.
-pub(crate) fn add_answer(out: &mut Answer, settings: &Settings, call: Call, rest: &str) {
-    match call {
-        Call::Axis => {
-            let (name, place) = word(rest);
-            put_axis(out, settings, name, whole(place));
-        }
-        Call::Match => put_both(out, settings, rest),
-        Call::MatchFaulty => put_matching(out, settings, rest),
-        _ => {
-            let (place, text) = cut(rest);
-            put_match(out, settings, whole(place), text);
-        }
-    }
-}
-
-// Adds the nodes of an axis from the node at a place, in the axis' order.
-fn put_axis(out: &mut Answer, settings: &Settings, name: &str, place: u32) {
+/// Adds the nodes of an axis from the node at a place, in the axis' order.
+pub(crate) fn put_axis(out: &mut Answer, settings: &Settings, axis: &str) {
+    let (name, place) = cut(axis, " ");
     let Some(axis) = value_named(AXES, name) else {
         return out.put("no such axis");
     };
+    let place = whole(place);
     if place as usize >= settings.tree.len() {
         return out.put("no such node");
     }
@@ -51,65 +41,52 @@ fn put_axis(out: &mut Answer, settings: &Settings, name: &str, place: u32) {
 
 // Adds the place of a node after others; at the beginning there are none.
 fn put_place(out: &mut Answer, node: Node) {
-    if !out.bytes.is_empty() {
-        out.put(" ");
-    }
+    out.put_between(" ");
     out.put_count("", node.place() as u64);
 }
 
-// Adds the nodes of the document that match a pattern to nothing.
-fn put_matching(out: &mut Answer, settings: &Settings, text: &str) {
-    match parsed_pattern(settings, text) {
-        Ok(pattern) => {
-            let outcome = put_matches(out, settings, &pattern);
-            out.note(outcome);
-        }
-        Err(fault) => put_fault(out, fault),
+/// Adds what a call says of a pattern.
+pub(crate) fn put_of_pattern(
+    out: &mut Answer,
+    settings: &Settings,
+    call: Call,
+    place: u32,
+    pattern: &Pattern,
+) {
+    match call {
+        Call::Pattern => show_all(out, " or ", &pattern.alternatives),
+        Call::MatchAt => put_match(out, settings, place, pattern),
+        Call::Match | Call::MatchFaulty => put_matches(out, settings, pattern),
+        _ => tables::put_answer(out, settings, call, pattern),
     }
+}
+
+// Whether a node of the document matches a pattern.
+fn is_match(settings: &Settings, pattern: &Pattern, node: Node) -> Result<bool, AllocError>
+    requires { node < length settings.now.tree }
+{
+    let (tree, scope) = (&settings.tree, &settings.scope);
+    matches(settings.alloc, pattern, scope, tree, node, &NoKeys)
 }
 
 // Adds the nodes of the document that match a pattern.
-fn put_matches(out: &mut Answer, settings: &Settings, pattern: &Pattern) -> Result<(), AllocError> {
-    let tree: &Tree = &settings.tree;
-    for place in 0..tree.len() as u32 {
+fn put_matches(out: &mut Answer, settings: &Settings, pattern: &Pattern) {
+    for place in 0..settings.tree.len() as u32 {
         let node = Node::at(place);
-        if matches(
-            settings.alloc,
-            pattern,
-            &settings.scope,
-            tree,
-            node,
-            &NoKeys,
-        )? {
-            put_place(out, node);
+        match is_match(settings, pattern, node) {
+            Ok(true) => put_place(out, node),
+            Ok(false) => (),
+            Err(_) => out.refuse(),
         }
     }
-    Ok(())
 }
 
 // Adds whether the node at a place matches a pattern.
-fn put_match(out: &mut Answer, settings: &Settings, place: u32, text: &str) {
-    match parsed_pattern(settings, text) {
-        Ok(pattern) => put_is_match(out, settings, place, &pattern),
-        Err(fault) => put_fault(out, fault),
-    }
-}
-
-// Adds whether the node at a place matches a pattern.
-fn put_is_match(out: &mut Answer, settings: &Settings, place: u32, pattern: &Pattern) {
-    let tree: &Tree = &settings.tree;
-    if place as usize >= tree.len() {
+fn put_match(out: &mut Answer, settings: &Settings, place: u32, pattern: &Pattern) {
+    if place as usize >= settings.tree.len() {
         return out.put("no such node");
     }
-    let node = Node::at(place);
-    match matches(
-        settings.alloc,
-        pattern,
-        &settings.scope,
-        tree,
-        node,
-        &NoKeys,
-    ) {
+    match is_match(settings, pattern, Node::at(place)) {
         Ok(is_matched) => out.put_bool(is_matched),
         Err(_) => out.refuse(),
     }
@@ -135,29 +112,16 @@ fn is_in_value(settings: &Settings, expr: &Expr, from: Node, node: Node) -> bool
         limit: None,
         spent: 0,
     };
-    match evaluate(settings.alloc, expr, &context, &NoKeys, site, &mut meter) {
-        Ok(value) => {
-            let is_there = has_node(&value, node);
-            drop(value);
-            is_there
-        }
-        Err(_) => false,
-    }
-}
-
-// Whether a value has a node.
-fn has_node(value: &Value, node: Node) -> bool {
-    match value {
-        Value::Nodes(nodes) => nodes.nodes().contains(&node),
-        _ => false,
-    }
+    let value = evaluate(settings.alloc, expr, &context, &NoKeys, site, &mut meter);
+    let is_there = matches!(&value, Ok(Value::Nodes(nodes)) if nodes.nodes().contains(&node));
+    drop(value);
+    is_there
 }
 
 // Whether a node is in the value of an expression from itself or an ancestor (XSLT 1.0, 5.2).
-fn is_selected(settings: &Settings, expr: &Expr, node: Node) -> bool {
-    if node.place() as usize >= settings.tree.len() {
-        return false;
-    }
+fn is_selected(settings: &Settings, expr: &Expr, node: Node) -> bool
+    requires { node < length settings.now.tree }
+{
     for from in axis_nodes(&settings.tree, node, Axis::AncestorOrSelf) {
         if is_in_value(settings, expr, from, node) {
             return true;
@@ -166,16 +130,8 @@ fn is_selected(settings: &Settings, expr: &Expr, node: Node) -> bool {
     false
 }
 
-// Adds the nodes that are in the value of an expression from themselves or an ancestor to nothing.
-fn put_selected(out: &mut Answer, settings: &Settings, text: &str) {
-    match parsed(settings, text) {
-        Ok(expr) => put_all_selected(out, settings, &expr),
-        Err(fault) => put_fault(out, fault),
-    }
-}
-
-// Adds the nodes that are in the value of an expression from themselves or an ancestor.
-fn put_all_selected(out: &mut Answer, settings: &Settings, expr: &Expr) {
+/// Adds the nodes that are in the value of an expression from themselves or an ancestor.
+pub(crate) fn put_selected(out: &mut Answer, settings: &Settings, expr: &Expr) {
     for place in 0..settings.tree.len() as u32 {
         let node = Node::at(place);
         if is_selected(settings, expr, node) {
@@ -184,12 +140,19 @@ fn put_all_selected(out: &mut Answer, settings: &Settings, expr: &Expr) {
     }
 }
 
-// Adds the nodes that match a pattern to nothing, and those that are in its value as an expression,
-// where these are others.
-fn put_both(out: &mut Answer, settings: &Settings, text: &str) {
-    put_matching(out, settings, text);
+/// Adds the nodes that match a pattern to nothing, and those that are in its value as an
+/// expression, where these are others.
+pub(crate) fn put_both(out: &mut Answer, settings: &Settings, text: &str) {
+    put_parsed(out, settings, Form::Pattern, Call::Match, 0, text);
     let mut selected = Answer::new(settings.alloc);
-    put_selected(&mut selected, settings, text);
+    put_parsed(
+        &mut selected,
+        settings,
+        Form::Expression,
+        Call::Match,
+        0,
+        text,
+    );
     let selected = selected.held(out);
     if out.bytes.as_slice() != selected {
         out.put(", as expressions ");

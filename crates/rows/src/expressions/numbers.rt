@@ -2,7 +2,7 @@
 
 use crate::answer::Answer;
 use crate::expressions::calls::Call;
-use crate::expressions::fields::word;
+use crate::fields::cut;
 use std::cmp::Ordering;
 use xs_num::arithmetic::{add, compare, div, mul, neg, rem, sub};
 use xs_num::number::{Num, NumFault};
@@ -19,15 +19,12 @@ pub(crate) fn add_outcome(out: &mut Answer, outcome: Result<Num, NumFault>) {
 
 /// The number that a text spells, 0 where it spells none.
 pub(crate) fn number(text: &str) -> Num {
-    match read_num(text) {
-        Ok(number) => number,
-        Err(_) => Num::from(0),
-    }
+    read_num(text).unwrap_or(Num::from(0))
 }
 
 /// Appends the answer of a call with numbers.
 pub(crate) fn add_answer(out: &mut Answer, call: Call, rest: &str) {
-    let (left, right) = word(rest);
+    let (left, right) = cut(rest, " ");
     match call {
         Call::Number => add_outcome(out, read_num(rest)),
         Call::Negate => out.put_number(neg(number(rest))),

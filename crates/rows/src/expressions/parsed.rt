@@ -1,17 +1,22 @@
 //! What texts are parsed to, and the scopes that they are parsed in.
 
+ghost use Rattle.std.specs.Prelude.{◌<◌, ◌^◌, length};
+
 use crate::answer::Answer;
 use crate::expressions::calls::Call;
-use crate::expressions::fields::{put_repeated, whole, word};
+use crate::expressions::matched::{put_both, put_of_pattern, put_selected};
 use crate::expressions::settings::Settings;
-use crate::expressions::shown::{show, show_all, show_parts};
-use std::alloc::Global;
+use crate::expressions::shown::{show, show_parts};
+use crate::expressions::texts::put_repeated;
+use crate::fields::{cut, whole};
 use xs_parser::avt::parse_avt;
 use xs_parser::fault::ParseFault;
 use xs_parser::parse::{parse_expr, parse_pattern};
+use xs_trace::event::Label;
 use xs_xpath::avt::AvtPart;
 use xs_xpath::bind::{Slots, bind};
 use xs_xpath::expr::Expr;
+use xs_xpath::name::Slot;
 use xs_xpath::pattern::Pattern;
 use xs_xpath::scope::Scope;
 use xs_xpath::uses::{has_unbound, uses_current, uses_key, uses_variables};
@@ -19,17 +24,25 @@ use xs_xpath::uses::{has_unbound, uses_current, uses_key, uses_variables};
 // The most bytes of a text.
 const MOST: usize = 100_000_000;
 
-/// Adds the answer of a call with a text that is parsed.
-pub(crate) fn add_answer(out: &mut Answer, settings: &Settings, call: Call, rest: &str) {
-    match call {
-        Call::Expression => show_expression(out, settings, rest),
-        Call::Pattern => show_pattern(out, settings, rest),
-        Call::Template => show_template(out, settings, rest),
-        Call::Bound => show_bound(out, settings, rest),
-        Call::Long => put_long(out, settings, rest),
-        Call::Uri => out.put(settings.scope.uri_in(rest).unwrap_or("")),
-        _ => put_found(out, &settings.scope, rest),
-    }
+/// As what a text is parsed.
+#[derive(Clone, Copy)]
+pub(crate) enum Form {
+    /// As an expression.
+    Expression,
+    /// As an expression, and its variables are bound to their slots.
+    Bound,
+    /// As a pattern.
+    Pattern,
+    /// As a value template.
+    Template,
+}
+
+/// What a text is parsed to.
+#[derive(Drop)]
+pub(crate) enum Parsed {
+    Expression(Expr),
+    Pattern(Pattern),
+    Template(Vec<AvtPart>),
 }
 
 /// Adds a fault by `!`, its number, `@` and its place.
@@ -43,130 +56,148 @@ pub(crate) fn put_fault(out: &mut Answer, fault: ParseFault) {
     }
 }
 
-// An expression in a box.
-fn boxed(alloc: Global, expr: Expr) -> Result<Box<Expr>, ParseFault> {
-    match Box::new(alloc, expr) {
-        Ok(expr) => Ok(expr),
-        Err(_) => Err(ParseFault::NoMemory),
-    }
-}
-
-/// The expression of a text.
-pub(crate) fn parsed(settings: &Settings, text: &str) -> Result<Box<Expr>, ParseFault> {
+/// What a text is parsed to.
+pub(crate) fn parse(settings: &Settings, form: Form, text: &str) -> Result<Parsed, ParseFault> {
     if text.len() > MOST {
         return Err(ParseFault::NoMemory);
     }
-    match parse_expr(settings.alloc, text, &settings.scope) {
-        Ok(expr) => boxed(settings.alloc, expr),
-        Err(fault) => Err(fault),
+    match form {
+        Form::Expression => expression(settings, text, &[]),
+        Form::Bound => expression(settings, text, &settings.slots),
+        Form::Pattern => pattern(settings, text),
+        Form::Template => template(settings, text),
     }
 }
 
-/// The expression of a text, its variables bound to their slots.
-pub(crate) fn parsed_bound(settings: &Settings, text: &str) -> Result<Box<Expr>, ParseFault> {
-    match Slots::of(settings.alloc, &settings.slots) {
-        Ok(slots) => parsed_by(settings, text, &slots),
+// The expression of a text, its variables bound to these slots.
+fn expression(
+    settings: &Settings,
+    text: &str,
+    slots: &[(Label, Slot)],
+) -> Result<Parsed, ParseFault>
+    requires short { length text.now < 2 ^ 32 }
+{
+    match Slots::of(settings.alloc, slots) {
+        Ok(slots) => bound(settings, text, &slots),
         Err(_) => Err(ParseFault::NoMemory),
     }
 }
 
 // The expression of a text, its variables bound to these slots.
-fn parsed_by(settings: &Settings, text: &str, slots: &Slots<'_>) -> Result<Box<Expr>, ParseFault> {
-    if text.len() > MOST {
-        return Err(ParseFault::NoMemory);
-    }
+fn bound(settings: &Settings, text: &str, slots: &Slots<'_>) -> Result<Parsed, ParseFault>
+    requires short { length text.now < 2 ^ 32 }
+{
     match parse_expr(settings.alloc, text, &settings.scope) {
-        Ok(expr) => boxed(settings.alloc, bind(expr, slots)),
+        Ok(expr) => Ok(Parsed::Expression(bind(expr, slots))),
         Err(fault) => Err(fault),
     }
 }
 
-/// The pattern of a text.
-pub(crate) fn parsed_pattern(settings: &Settings, text: &str) -> Result<Pattern, ParseFault> {
-    if text.len() > MOST {
-        return Err(ParseFault::NoMemory);
+// The pattern of a text.
+fn pattern(settings: &Settings, text: &str) -> Result<Parsed, ParseFault>
+    requires short { length text.now < 2 ^ 32 }
+{
+    match parse_pattern(settings.alloc, text, &settings.scope) {
+        Ok(pattern) => Ok(Parsed::Pattern(pattern)),
+        Err(fault) => Err(fault),
     }
-    parse_pattern(settings.alloc, text, &settings.scope)
 }
 
-/// The parts of the value template of a text.
-pub(crate) fn parsed_parts(settings: &Settings, text: &str) -> Result<Vec<AvtPart>, ParseFault> {
-    if text.len() > MOST {
-        return Err(ParseFault::NoMemory);
+// The parts of the value template of a text.
+fn template(settings: &Settings, text: &str) -> Result<Parsed, ParseFault>
+    requires short { length text.now < 2 ^ 32 }
+{
+    match parse_avt(settings.alloc, text, &settings.scope) {
+        Ok(parts) => Ok(Parsed::Template(parts)),
+        Err(fault) => Err(fault),
     }
-    parse_avt(settings.alloc, text, &settings.scope)
 }
 
-// Adds the tree of an expression.
-fn show_expression(out: &mut Answer, settings: &Settings, text: &str) {
-    match parsed(settings, text) {
-        Ok(expr) => show(out, &expr),
+/// Adds the answer of a call with a text that is parsed.
+pub(crate) fn add_answer(
+    out: &mut Answer,
+    settings: &Settings,
+    form: Form,
+    call: Call,
+    rest: &str,
+) {
+    match call {
+        Call::Match => put_both(out, settings, rest),
+        Call::MatchAt => {
+            let (place, text) = cut(rest, " | ");
+            put_parsed(out, settings, form, call, whole(place), text);
+        }
+        Call::Long => {
+            let mut text = Answer::new(settings.alloc);
+            put_repeated(&mut text, rest);
+            let text = text.held_text(out);
+            put_parsed(out, settings, form, call, 0, text);
+        }
+        _ => put_parsed(out, settings, form, call, 0, rest),
+    }
+}
+
+/// Adds what a call says of a text, at a place where it asks of one, or the fault of the text.
+pub(crate) fn put_parsed(
+    out: &mut Answer,
+    settings: &Settings,
+    form: Form,
+    call: Call,
+    place: u32,
+    text: &str,
+) {
+    match parse(settings, form, text) {
+        Ok(parsed) => {
+            put_of(out, settings, call, place, &parsed);
+            drop(parsed);
+        }
         Err(fault) => put_fault(out, fault),
     }
 }
 
-// Adds the trees of a pattern.
-fn show_pattern(out: &mut Answer, settings: &Settings, text: &str) {
-    match parsed_pattern(settings, text) {
-        Ok(pattern) => show_all(out, " or ", &pattern.alternatives),
-        Err(fault) => put_fault(out, fault),
+// Adds what a call says of what was parsed.
+fn put_of(out: &mut Answer, settings: &Settings, call: Call, place: u32, parsed: &Parsed) {
+    match parsed {
+        Parsed::Expression(expr) => put_of_expression(out, settings, call, expr),
+        Parsed::Pattern(pattern) => put_of_pattern(out, settings, call, place, pattern),
+        Parsed::Template(parts) => show_parts(out, parts),
     }
 }
 
-// Adds the parts of a value template.
-fn show_template(out: &mut Answer, settings: &Settings, text: &str) {
-    match parsed_parts(settings, text) {
-        Ok(parts) => show_parts(out, &parts),
-        Err(fault) => put_fault(out, fault),
-    }
-}
-
-// Adds the tree of an expression whose variables are bound.
-fn show_bound(out: &mut Answer, settings: &Settings, text: &str) {
-    match parsed_bound(settings, text) {
-        Ok(expr) => show_with_uses(out, &expr),
-        Err(fault) => put_fault(out, fault),
+// Adds what a call says of an expression.
+fn put_of_expression(out: &mut Answer, settings: &Settings, call: Call, expr: &Expr) {
+    match call {
+        Call::Expression => show(out, expr),
+        Call::Bound => show_with_uses(out, expr),
+        Call::Long => out.put("read"),
+        _ => put_selected(out, settings, expr),
     }
 }
 
 // Adds a tree, and letters for what it refers to: variables, some of them unbound, the current
 // node, and keys.
 fn show_with_uses(out: &mut Answer, e: &Expr) {
+    let (variables, current, key) = (uses_variables(e), uses_current(e), uses_key(e));
     show(out, e);
-    if uses_variables(e) || uses_current(e) || uses_key(e) {
-        out.put(" | ");
-    }
-    put_letter(out, uses_variables(e), "v");
-    put_letter(out, has_unbound(e), "u");
-    put_letter(out, uses_current(e), "c");
-    put_letter(out, uses_key(e), "k");
+    out.put_if(variables || current || key, " | ");
+    out.put_if(variables, "v");
+    out.put_if(has_unbound(e), "u");
+    out.put_if(current, "c");
+    out.put_if(key, "k");
 }
 
-// Adds a letter, if there is something of its kind.
-fn put_letter(out: &mut Answer, is_used: bool, letter: &str) {
-    if is_used {
-        out.put(letter);
-    }
+/// Adds the URI of a prefix.
+pub(crate) fn put_uri(out: &mut Answer, scope: &Scope, prefix: &str) {
+    out.put(scope.uri_in(prefix).unwrap_or(""));
 }
 
-// Adds that an expression made of repeated pieces is read.
-fn put_long(out: &mut Answer, settings: &Settings, pieces: &str) {
-    let mut text = Answer::new(settings.alloc);
-    put_repeated(&mut text, pieces);
-    match parsed(settings, text.held_text(out)) {
-        Ok(_) => out.put("read"),
-        Err(fault) => put_fault(out, fault),
-    }
-}
-
-// Adds how many of the prefixes with the numbers from one to another have the URI with that number.
-fn put_found(out: &mut Answer, scope: &Scope, numbers: &str) {
-    let (first, last) = word(numbers);
+/// Adds how many of the prefixes with the numbers from one to another have the URI with that
+/// number.
+pub(crate) fn put_found(out: &mut Answer, scope: &Scope, numbers: &str) {
+    let (first, last) = cut(numbers, " ");
     let mut found = 0_u64;
     for number in whole(first)..=whole(last) {
-        if is_found(out, scope, number as u64) {
-            found = found.saturating_add(1);
-        }
+        found = found.saturating_add(is_found(out, scope, number as u64) as u64);
     }
     out.put_count("", found);
 }

@@ -1,9 +1,10 @@
 //! Settings, which hold for the rows after them.
 
 use crate::answer::Answer;
-use crate::expressions::fields::{whole, word};
-use crate::expressions::values::{label, operand};
+use crate::expressions::values::operand;
+use crate::fields::{cut, cut_prefix, whole};
 use crate::lookups::value_named;
+use crate::runs::events::label_of;
 use std::alloc::{AllocError, Global};
 use std::mem::replace;
 use xs_build::build_tree;
@@ -46,7 +47,7 @@ const SETTINGS: &[(&str, Setting)] = &[
 pub(crate) struct Settings {
     pub(crate) alloc: Global,
     /// The document.
-    pub(crate) tree: Box<Tree>,
+    pub(crate) tree: Tree,
     /// The prefixes and their URIs, in lines.
     prefixes: Answer,
     /// The same as a scope.
@@ -68,7 +69,7 @@ pub(crate) struct Settings {
 impl Settings {
     /// An empty document, no prefixes and no variables.
     pub(crate) fn new(alloc: Global) -> Result<Settings, AllocError> {
-        let tree = Box::new(alloc, Tree::new(alloc)?)?;
+        let tree = Tree::new(alloc)?;
         Ok(Settings {
             alloc,
             tree,
@@ -85,7 +86,7 @@ impl Settings {
 
     /// Sets what a setting says, whose first word is its name.
     pub(crate) fn set(&mut self, out: &mut Answer, setting: &str) {
-        let (name, rest) = word(setting);
+        let (name, rest) = cut(setting, " ");
         match value_named(SETTINGS, name) {
             Some(Setting::Clear) => self.clear(out),
             Some(Setting::Prefix) => self.add_prefix(out, rest),
@@ -110,16 +111,8 @@ impl Settings {
     /// Sets the document, by its lines.
     pub(crate) fn set_document(&mut self, out: &mut Answer, lines: &Answer) {
         match build_tree(self.alloc, lines.held(out), MOST) {
-            Ok(built) => self.set_tree(out, built.tree),
+            Ok(built) => drop(replace(&mut self.tree, built.tree)),
             Err(_) => out.put(" no document"),
-        }
-    }
-
-    // Sets the tree of the document.
-    fn set_tree(&mut self, out: &mut Answer, tree: Tree) {
-        match Box::new(self.alloc, tree) {
-            Ok(tree) => drop(replace(&mut self.tree, tree)),
-            Err(_) => out.refuse(),
         }
     }
 
@@ -131,103 +124,78 @@ impl Settings {
 
     // Adds the prefixes with the numbers from one to another, `p1000` for `u1000`.
     fn add_prefixes(&mut self, out: &mut Answer, numbers: &str) {
-        let (first, last) = word(numbers);
+        let (first, last) = cut(numbers, " ");
         let (first, last) = (whole(first), whole(last));
         for step in 0..=first.abs_diff(last) {
-            let number = if first <= last {
-                first.saturating_add(step)
-            } else {
-                first.saturating_sub(step)
-            };
-            self.prefixes.put_count("p", number as u64);
-            self.prefixes.put_count(" u", number as u64);
-            self.prefixes.put("\n");
+            self.put_prefix(step_from(first, last, step));
         }
         self.set_scope(out);
+    }
+
+    // Adds the prefix with a number to the lines.
+    fn put_prefix(&mut self, number: u32) {
+        self.prefixes.put_count("p", number as u64);
+        self.prefixes.put_count(" u", number as u64);
+        self.prefixes.put("\n");
     }
 
     // Makes the scope of the prefixes.
     fn set_scope(&mut self, out: &mut Answer) {
         let mut pairs = Vec::new(self.alloc);
         for line in self.prefixes.held_text(out).lines() {
-            let (prefix, uri) = word(line);
-            push_pair(out, &mut pairs, prefix, uri);
+            out.take(&mut pairs, prefix_of(self.alloc, line));
         }
         self.scope = Scope::of(pairs);
     }
 
     // Adds a local variable with its value.
     fn add_local(&mut self, out: &mut Answer, text: &str) {
-        let (name, value) = word(text);
+        let (name, value) = cut(text, " ");
         let slot = Slot::Local(number_of(self.locals.len()));
-        self.add_slot(out, name, slot);
-        match operand(self.alloc, value) {
-            Ok(value) => {
-                let outcome = self.locals.push(value);
-                if outcome.is_err() {
-                    out.refuse();
-                }
-                drop(outcome);
-            }
-            Err(_) => out.refuse(),
-        }
+        let variable = self.variable(name, slot);
+        out.take(&mut self.slots, variable);
+        let value = operand(self.alloc, value);
+        out.take(&mut self.locals, value);
     }
 
     // Adds a global variable, with its value where it has one.
     fn add_global(&mut self, out: &mut Answer, text: &str) {
-        let (name, value) = word(text);
+        let (name, value) = cut(text, " ");
         let slot = Slot::Global(number_of(self.globals.len()));
-        self.add_slot(out, name, slot);
-        match operand_if(self.alloc, value) {
-            Ok(value) => {
-                let outcome = self.globals.push(value);
-                if outcome.is_err() {
-                    out.refuse();
-                }
-                drop(outcome);
-            }
-            Err(_) => out.refuse(),
-        }
+        let variable = self.variable(name, slot);
+        out.take(&mut self.slots, variable);
+        let value = operand_if(self.alloc, value);
+        out.take(&mut self.globals, value);
     }
 
-    // Adds a variable with its slot.
-    fn add_slot(&mut self, out: &mut Answer, name: &str, slot: Slot) {
-        match self.expanded(name) {
-            Ok(name) => {
-                let outcome = self.slots.push((name, slot));
-                if outcome.is_err() {
-                    out.refuse();
-                }
-            }
-            Err(_) => out.refuse(),
-        }
+    // A variable with its slot.
+    fn variable(&self, name: &str, slot: Slot) -> Result<(Label, Slot), AllocError> {
+        let (prefix, local) = cut_prefix(name, ":");
+        let name = label_of(self.alloc, self.uri_of(prefix), "", local)?;
+        Ok((name, slot))
     }
 
-    // The name of a variable.
-    fn expanded(&self, name: &str) -> Result<Label, AllocError> {
-        let (prefix, local) = name.split_once(':').unwrap_or(("", name));
+    // The URI of the prefix of a variable, which is none where there is no prefix.
+    fn uri_of(&self, prefix: &str) -> &str {
         if prefix.is_empty() {
-            return label(self.alloc, "", local);
+            return "";
         }
-        label(self.alloc, self.scope.uri_in(prefix).unwrap_or(""), local)
+        self.scope.uri_in(prefix).unwrap_or("")
     }
 }
 
-// Adds a prefix with its URI.
-fn push_pair(out: &mut Answer, pairs: &mut Vec<(TextBuf, TextBuf)>, prefix: &str, uri: &str) {
-    match pair(*pairs.allocator(), prefix, uri) {
-        Ok(pair) => {
-            let outcome = pairs.push(pair);
-            if outcome.is_err() {
-                out.refuse();
-            }
-        }
-        Err(_) => out.refuse(),
+// The number some steps from a first one towards a last one.
+fn step_from(first: u32, last: u32, step: u32) -> u32 {
+    if first <= last {
+        first.saturating_add(step)
+    } else {
+        first.saturating_sub(step)
     }
 }
 
-// A prefix with its URI.
-fn pair(alloc: Global, prefix: &str, uri: &str) -> Result<(TextBuf, TextBuf), AllocError> {
+// A prefix with its URI, which is a word before it.
+fn prefix_of(alloc: Global, line: &str) -> Result<(TextBuf, TextBuf), AllocError> {
+    let (prefix, uri) = cut(line, " ");
     let prefix = TextBuf::of(alloc, prefix)?;
     Ok((prefix, TextBuf::of(alloc, uri)?))
 }

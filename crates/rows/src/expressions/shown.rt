@@ -14,18 +14,14 @@ use xs_xpath::token::Operator;
 
 // Appends a name, with its URI where it has one.
 fn show_name(out: &mut Answer, uri: &TextBuf, local: &str) {
-    out.put(uri.as_str());
-    if !uri.as_str().is_empty() {
-        out.put(":");
-    }
+    out.put_part("", uri.as_str(), ":");
     out.put(local);
 }
 
 // Appends an axis; the child axis is left out.
 fn show_axis(out: &mut Answer, axis: Axis) {
     if axis != Axis::Child {
-        out.put(name_of(AXES, &axis));
-        out.put("::");
+        out.put_in("", name_of(AXES, &axis), "::");
     }
 }
 
@@ -90,11 +86,9 @@ fn show_chain(out: &mut Answer, operators: &[Operator], operands: &[Expr]) {
 pub(crate) fn show_all(out: &mut Answer, between: &str, es: &[Expr]) {
     let mut is_first = true;
     for e in es {
-        if !is_first {
-            out.put(between);
-        }
-        is_first = false;
+        out.put_if(!is_first, between);
         show(out, e);
+        is_first = false;
     }
 }
 

@@ -2,8 +2,8 @@
 
 use crate::answer::Answer;
 use crate::expressions::calls::Call;
-use crate::expressions::fields::cut;
 use crate::expressions::numbers::number;
+use crate::fields::cut;
 use std::alloc::AllocError;
 use xs_strings::normalization::normalize_space;
 use xs_strings::positions::{char_count, substring};
@@ -23,14 +23,14 @@ pub(crate) fn add_answer(out: &mut Answer, call: Call, rest: &str) {
 
 // Adds the string that a call gives.
 fn add_string(out: &mut Vec<u8>, call: Call, rest: &str) -> Result<(), AllocError> {
-    let (text, other) = cut(rest);
+    let (text, other) = cut(rest, " | ");
     match call {
         Call::NormalizeSpace => normalize_space(out, rest),
         Call::Substring => add_substring(out, text, other),
         Call::SubstringBefore => substring_before(out, text, other),
         Call::SubstringAfter => substring_after(out, text, other),
         _ => {
-            let (from, to) = cut(other);
+            let (from, to) = cut(other, " | ");
             translate(out, text, from, to)
         }
     }

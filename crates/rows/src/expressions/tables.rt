@@ -1,161 +1,134 @@
-//! Tables of what stands before the last `//` of a pattern, and of the nodes that match one.
+//! Tables of what is before the last `//` of a pattern, and of the nodes that match one.
 
 ghost use Rattle.xs_pattern.specs.steps.Above.{IsAbove};
 ghost use Rattle.xs_xpath.specs.Exprs.{tree_from};
 
 use crate::answer::Answer;
 use crate::expressions::calls::Call;
-use crate::expressions::parsed::{parsed_pattern, put_fault};
 use crate::expressions::settings::Settings;
-use std::alloc::{AllocError, Global};
 use xs_pattern::above::{above_of, is_marked};
 use xs_pattern::marks::marks_of;
 use xs_pattern::matching::{matches_path, matches_path_by};
-use xs_tree::{Node, Tree};
+use xs_tree::Node;
 use xs_value::keys::NoKeys;
 use xs_xpath::expr::Expr;
 use xs_xpath::pattern::Pattern;
-use xs_xpath::scope::Scope;
 
-// Whether matching by a table says of each node what matching without it says.
-fn is_agreed(
-    alloc: Global,
-    tree: &Tree,
-    alternative: &Expr,
-    scope: &Scope,
-    marks: &[bool],
-) -> Result<bool, AllocError>
-    requires { IsAbove tree.now (tree_from alternative.now) marks.now }
-{
-    for place in 0..tree.len() as u32 {
-        let node = Node::at(place);
-        let climbed = matches_path(alloc, alternative, scope, tree, node, &NoKeys)?;
-        let found = matches_path_by(alloc, alternative, scope, tree, node, &NoKeys, Some(marks))?;
-        if climbed != found {
-            return Ok(false);
+/// Adds how many nodes match a pattern by its tables, or whether its tables say of each node what
+/// is found without them.
+pub(crate) fn put_answer(out: &mut Answer, settings: &Settings, call: Call, pattern: &Pattern) {
+    let agreed = match call {
+        Call::Count => return put_count(out, settings, pattern),
+        Call::Marks => "as matched",
+        _ => "as climbed",
+    };
+    for alternative in &pattern.alternatives {
+        match is_agreed(out, settings, call, alternative) {
+            Some(true) => (),
+            Some(false) => return out.put_in("not ", agreed, ""),
+            None => return out.put("no table"),
         }
     }
-    Ok(true)
+    out.put(agreed);
+}
+
+// Adds how many nodes match the alternatives of a pattern, by their tables.
+fn put_count(out: &mut Answer, settings: &Settings, pattern: &Pattern) {
+    let mut count = 0_u64;
+    for alternative in &pattern.alternatives {
+        let more = count_of(out, settings, alternative);
+        count = count.saturating_add(more);
+    }
+    out.put_count("", count);
 }
 
 // How many nodes match an alternative, by its table.
-fn count_by(
-    alloc: Global,
-    tree: &Tree,
-    alternative: &Expr,
-    scope: &Scope,
-    marks: &[bool],
-) -> Result<u64, AllocError>
-    requires { IsAbove tree.now (tree_from alternative.now) marks.now }
-{
-    let mut found = 0_u64;
-    for place in 0..tree.len() as u32 {
-        let node = Node::at(place);
-        if matches_path_by(alloc, alternative, scope, tree, node, &NoKeys, Some(marks))? {
-            found = found.saturating_add(1);
+fn count_of(out: &mut Answer, settings: &Settings, alternative: &Expr) -> u64 {
+    let mut count = 0_u64;
+    if let Some(found) = by_table(out, settings, alternative) {
+        for is_found in &found {
+            count = count.saturating_add(*is_found as u64);
         }
     }
-    Ok(found)
+    count
 }
 
-/// Adds the answer of a call that makes tables.
-pub(crate) fn add_answer(out: &mut Answer, settings: &Settings, call: Call, rest: &str) {
-    match parsed_pattern(settings, rest) {
-        Ok(pattern) => put_answer(out, settings, call, &pattern),
-        Err(fault) => put_fault(out, fault),
+// Whether an alternative has a table, and it says of each node what is found without it.
+fn is_agreed(
+    out: &mut Answer,
+    settings: &Settings,
+    call: Call,
+    alternative: &Expr,
+) -> Option<bool> {
+    let found = match call {
+        Call::Marks => by_marks(out, settings, alternative),
+        _ => by_table(out, settings, alternative),
+    };
+    let climbed = by_climbing(out, settings, alternative);
+    match &found {
+        Some(found) => Some(*found == climbed),
+        None => None,
     }
 }
 
-// Adds the answer of a call that makes tables for a pattern.
-fn put_answer(out: &mut Answer, settings: &Settings, call: Call, pattern: &Pattern) {
+// Whether each node matches an alternative.
+fn by_climbing(out: &mut Answer, settings: &Settings, alternative: &Expr) -> Vec<bool> {
     let (alloc, tree, scope) = (settings.alloc, &settings.tree, &settings.scope);
-    match call {
-        Call::Count => put_found(out, found(alloc, tree, pattern, scope)),
-        Call::Marks => put_told(out, marks(alloc, tree, pattern, scope)),
-        _ => put_told(out, table(alloc, tree, pattern, scope)),
-    }
-}
-
-// Adds how many nodes were found.
-fn put_found(out: &mut Answer, found: Result<u64, AllocError>) {
-    match found {
-        Ok(found) => out.put_count("", found),
-        Err(_) => out.refuse(),
-    }
-}
-
-// Adds what is said of a table.
-fn put_told(out: &mut Answer, told: Result<&'static str, AllocError>) {
-    match told {
-        Ok(told) => out.put(told),
-        Err(_) => out.refuse(),
-    }
-}
-
-// Whether each alternative of a pattern has a table, by which the same nodes match as by climbing
-// from each of them.
-fn table(
-    alloc: Global,
-    tree: &Tree,
-    pattern: &Pattern,
-    scope: &Scope,
-) -> Result<&'static str, AllocError> {
-    for alternative in &pattern.alternatives {
-        let Some(marks) = above_of(alloc, alternative, tree)? else {
-            return Ok("no table");
-        };
-        if !is_agreed(alloc, tree, alternative, scope, &marks)? {
-            return Ok("not as climbed");
-        }
-    }
-    Ok("as climbed")
-}
-
-// Whether each alternative of a pattern has a table of the nodes that match, and these are the
-// ones that match when each is looked at.
-fn marks(
-    alloc: Global,
-    tree: &Tree,
-    pattern: &Pattern,
-    scope: &Scope,
-) -> Result<&'static str, AllocError> {
-    for alternative in &pattern.alternatives {
-        let Some(marks) = marks_of(alloc, alternative, scope, tree)? else {
-            return Ok("no table");
-        };
-        if !are_matches(alloc, tree, alternative, scope, &marks)? {
-            return Ok("not as matched");
-        }
-    }
-    Ok("as matched")
-}
-
-// Whether the nodes that are marked are those that match an alternative.
-fn are_matches(
-    alloc: Global,
-    tree: &Tree,
-    alternative: &Expr,
-    scope: &Scope,
-    marks: &[bool],
-) -> Result<bool, AllocError> {
+    let mut found = Vec::new(alloc);
     for place in 0..tree.len() as u32 {
         let node = Node::at(place);
-        let matched = matches_path(alloc, alternative, scope, tree, node, &NoKeys)?;
-        if matched != is_marked(marks, node) {
-            return Ok(false);
-        }
+        let matched = matches_path(alloc, alternative, scope, tree, node, &NoKeys);
+        out.take(&mut found, matched);
     }
-    Ok(true)
+    found
 }
 
-// How many nodes match the alternatives of a pattern, by their tables.
-fn found(alloc: Global, tree: &Tree, pattern: &Pattern, scope: &Scope) -> Result<u64, AllocError> {
-    let mut found = 0_u64;
-    for alternative in &pattern.alternatives {
-        if let Some(marks) = above_of(alloc, alternative, tree)? {
-            let more = count_by(alloc, tree, alternative, scope, &marks)?;
-            found = found.saturating_add(more);
+// Whether each node matches an alternative by its table of what is before its last `//`, if it has
+// one.
+fn by_table(out: &mut Answer, settings: &Settings, alternative: &Expr) -> Option<Vec<bool>> {
+    match above_of(settings.alloc, alternative, &settings.tree) {
+        Ok(Some(above)) => Some(by_above(out, settings, alternative, &above)),
+        Ok(None) => None,
+        Err(_) => {
+            out.refuse();
+            None
         }
     }
-    Ok(found)
+}
+
+// Whether each node matches an alternative, by this table.
+fn by_above(out: &mut Answer, settings: &Settings, alternative: &Expr, above: &[bool]) -> Vec<bool>
+    requires { IsAbove settings.now.tree (tree_from alternative.now) above.now }
+{
+    let (alloc, tree, scope) = (settings.alloc, &settings.tree, &settings.scope);
+    let mut found = Vec::new(alloc);
+    for place in 0..tree.len() as u32 {
+        let node = Node::at(place);
+        let above = Some(above);
+        let matched = matches_path_by(alloc, alternative, scope, tree, node, &NoKeys, above);
+        out.take(&mut found, matched);
+    }
+    found
+}
+
+// Whether each node matches an alternative by its table of the nodes that match, if it has one.
+fn by_marks(out: &mut Answer, settings: &Settings, alternative: &Expr) -> Option<Vec<bool>> {
+    let (alloc, tree, scope) = (settings.alloc, &settings.tree, &settings.scope);
+    match marks_of(alloc, alternative, scope, tree) {
+        Ok(Some(marks)) => Some(from_marks(out, settings, &marks)),
+        Ok(None) => None,
+        Err(_) => {
+            out.refuse();
+            None
+        }
+    }
+}
+
+// Whether each node is marked.
+fn from_marks(out: &mut Answer, settings: &Settings, marks: &[bool]) -> Vec<bool> {
+    let mut found = Vec::new(settings.alloc);
+    for place in 0..settings.tree.len() as u32 {
+        out.take(&mut found, Ok(is_marked(marks, Node::at(place))));
+    }
+    found
 }

@@ -4,15 +4,15 @@ ghost use Rattle.xs_value.specs.Conversion.{IsIn};
 
 use crate::answer::Answer;
 use crate::expressions::calls::Call;
-use crate::expressions::fields::{cut, whole};
 use crate::expressions::names::COMPARISONS;
 use crate::expressions::numbers::{add_outcome, number};
 use crate::expressions::settings::Settings;
+use crate::fields::{cut, whole};
 use crate::lookups::value_named;
 use crate::runs::events::event;
 use std::alloc::{AllocError, Global};
 use xs_num::number::NumFault;
-use xs_trace::event::{Fragment, Label};
+use xs_trace::event::Fragment;
 use xs_trace::text::TextBuf;
 use xs_tree::{Node, Tree};
 use xs_value::comparison::{CompareOp, compare_values};
@@ -75,26 +75,13 @@ fn push_events(fragment: &mut Fragment, alloc: Global, lines: &str) -> Result<()
     Ok(())
 }
 
-/// A name, without a prefix.
-pub(crate) fn label(alloc: Global, uri: &str, local: &str) -> Result<Label, AllocError> {
-    let uri = TextBuf::of(alloc, uri)?;
-    let local = TextBuf::of(alloc, local)?;
-    let prefix = TextBuf::of(alloc, "")?;
-    Label::of(alloc, uri, local, prefix)
-}
-
 /// Adds the places of nodes.
 pub(crate) fn add_places(out: &mut Answer, nodes: &[Node]) {
-    if nodes.is_empty() {
-        out.put("none");
-    }
-    let mut is_first = true;
+    out.put_if(nodes.is_empty(), "none");
+    let mut before = "";
     for node in nodes {
-        if !is_first {
-            out.put(" ");
-        }
-        is_first = false;
-        out.put_count("", node.place() as u64);
+        out.put_count(before, node.place() as u64);
+        before = " ";
     }
 }
 
@@ -163,34 +150,23 @@ fn put_text(out: &mut Answer, tree: &Tree, value: &Value)
 
 // Adds whether two values compare so.
 fn put_compared(out: &mut Answer, settings: &Settings, text: &str) {
-    let (left, rest) = cut(text);
-    match operand(settings.alloc, left) {
-        Ok(left) => {
-            put_compared_to(out, settings, &left, rest);
-            drop(left);
-        }
-        Err(_) => out.refuse(),
+    let (left, rest) = cut(text, " | ");
+    let (name, right) = cut(rest, " | ");
+    let mut values = Vec::new(settings.alloc);
+    out.take(&mut values, operand(settings.alloc, left));
+    out.take(&mut values, operand(settings.alloc, right));
+    if let [left, right] = values.as_slice() {
+        put_comparison(out, &settings.tree, name, left, right);
     }
+    drop(values);
 }
 
-// Adds whether a value compares so to another.
-fn put_compared_to(out: &mut Answer, settings: &Settings, left: &Value, rest: &str) {
-    let (name, right) = cut(rest);
-    let op = *value_named(COMPARISONS, name).unwrap_or(&CompareOp::Eq);
-    match operand(settings.alloc, right) {
-        Ok(right) => {
-            put_comparison(out, &settings.tree, op, left, &right);
-            drop(right);
-        }
-        Err(_) => out.refuse(),
-    }
-}
-
-// Adds whether two values compare so.
-fn put_comparison(out: &mut Answer, tree: &Tree, op: CompareOp, left: &Value, right: &Value) {
+// Adds whether two values compare as an operator says.
+fn put_comparison(out: &mut Answer, tree: &Tree, operator: &str, left: &Value, right: &Value) {
     if !is_in(tree, left) || !is_in(tree, right) {
         return out.put("no such node");
     }
+    let op = *value_named(COMPARISONS, operator).unwrap_or(&CompareOp::Eq);
     match compare_values(*out.bytes.allocator(), tree, op, left, right) {
         Ok(holds) => out.put_bool(holds),
         Err(fault) => put_value_fault(out, fault),
@@ -199,7 +175,7 @@ fn put_comparison(out: &mut Answer, tree: &Tree, op: CompareOp, left: &Value, ri
 
 // Adds the nodes of two sets.
 fn put_joined(out: &mut Answer, alloc: Global, text: &str) {
-    let (left, right) = cut(text);
+    let (left, right) = cut(text, " | ");
     match union_of(alloc, left, right) {
         Ok(both) => add_places(out, both.nodes()),
         Err(_) => out.refuse(),
@@ -215,28 +191,28 @@ fn union_of(alloc: Global, left: &str, right: &str) -> Result<NodeSet, AllocErro
 // Adds a list of nodes, gathered from a slice, one by one and from a slice again, how many it has,
 // and its set.
 fn put_gathered(out: &mut Answer, alloc: Global, text: &str) {
-    let (first, rest) = cut(text);
-    let (next, last) = cut(rest);
-    match gathered(alloc, first, next, last) {
+    let (first, rest) = cut(text, " | ");
+    match gathered(alloc, first, rest) {
         Ok(list) => put_list(out, list),
         Err(_) => out.refuse(),
     }
 }
 
 // A list of nodes, gathered from a slice, one by one and from a slice again.
-fn gathered(alloc: Global, first: &str, next: &str, last: &str) -> Result<NodeList, AllocError> {
+fn gathered(alloc: Global, first: &str, rest: &str) -> Result<NodeList, AllocError> {
     let mut list = NodeList::from_slice(alloc, &nodes(alloc, first)?)?;
-    push_nodes(&mut list, next)?;
-    list.extend_from_slice(&nodes(alloc, last)?)?;
+    gather(&mut list, alloc, rest)?;
     Ok(list)
 }
 
-// Adds the nodes at some places one by one.
-fn push_nodes(list: &mut NodeList, places: &str) -> Result<(), AllocError> {
-    for place in places.split_whitespace() {
+// Adds nodes to a list, one by one and from a slice.
+fn gather(list: &mut NodeList, alloc: Global, places: &str) -> Result<(), AllocError> {
+    let (next, last) = cut(places, " | ");
+    for place in next.split_whitespace() {
         list.push(Node::at(whole(place)))?;
     }
-    Ok(())
+    let last = nodes(alloc, last)?;
+    list.extend_from_slice(&last)
 }
 
 // Adds a list of nodes, how many it has, and its set.

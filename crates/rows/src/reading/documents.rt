@@ -1,8 +1,10 @@
 //! Rows on documents: their faults, and their trees.
 
 use crate::answer::Answer;
+use crate::fields::cut;
 use crate::reading::notation::put_decoded;
 use crate::reading::trees::put_tree_of;
+use crate::repeats::put_repeated;
 use std::alloc::{AllocError, Global};
 use xs_build::{BuildFault, Built, build_tree};
 use xs_tree::Tree;
@@ -10,25 +12,17 @@ use xs_tree::Tree;
 /// The most bytes of a document whose row gives no limit.
 const LIMIT: u16 = 65_000;
 
-/// Adds a text to what documents begin with, as often as the number before it says; `#` in it is
-/// the number of the time, from 0.
+/// Adds a repeated text to what documents begin with.
 pub(crate) fn put_start(start: &mut Answer, repeated: &str) {
-    let (times, text) = repeated.split_once(' ').unwrap_or(("0", ""));
-    for time in 0..times.parse::<u16>().unwrap_or(0) {
-        let mut is_first = true;
-        for piece in text.split('#') {
-            if !is_first {
-                start.put_count("", time as u64);
-            }
-            put_decoded(start, piece);
-            is_first = false;
-        }
-    }
+    let mut text = Answer::new(*start.bytes.allocator());
+    put_repeated(&mut text, repeated);
+    let text = text.held_text(start);
+    put_decoded(start, text);
 }
 
 /// Adds the first fault of a document, which begins with `start`; its limit comes after ` | `.
 pub(crate) fn put_fault_of(out: &mut Answer, alloc: Global, start: &Answer, input: &str) {
-    let (document, limit) = input.split_once(" | ").unwrap_or((input, ""));
+    let (document, limit) = cut(input, " | ");
     let mut bytes = Answer::new(alloc);
     bytes.put_bytes(start.held(out));
     put_decoded(&mut bytes, document);
@@ -48,13 +42,6 @@ fn put_fault(out: &mut Answer, fault: BuildFault) {
         }
         BuildFault::NoMemory => out.refuse(),
     }
-}
-
-// Adds a line with a fault.
-fn put_fault_line(out: &mut Answer, fault: BuildFault) {
-    out.put("= ");
-    put_fault(out, fault);
-    out.put("\n");
 }
 
 /// The input of a row of several lines.
@@ -101,7 +88,11 @@ impl<'t> Row<'t> {
     pub(crate) fn put_document(&self, out: &mut Answer) {
         match build_tree(self.alloc, self.document.held(out), LIMIT as u64) {
             Ok(built) => put_tree_of(out, self.alloc, self, built),
-            Err(fault) => put_fault_line(out, fault),
+            Err(fault) => {
+                out.put("= ");
+                put_fault(out, fault);
+                out.put("\n");
+            }
         }
     }
 

@@ -1,6 +1,7 @@
 //! Row files, line by line.
 
 use crate::answer::Answer;
+use crate::fields::{cut, is_comment};
 use crate::lookups::value_named;
 use crate::reading::documents::{Row, put_start};
 use crate::reading::subjects::{SUBJECTS, Subject, put_answer};
@@ -72,11 +73,11 @@ pub(crate) fn put_rows(out: &mut Answer, alloc: Global, text: &str) {
 impl<'t> RowFile<'t> {
     // Takes a line.
     fn take(&mut self, out: &mut Answer, line: &'t str) {
-        if line.is_empty() || line.starts_with('#') {
+        if is_comment(line) {
             self.end_row(out);
             out.put_line(line);
         } else if let Some(setting) = line.strip_prefix("= ") {
-            let (word, value) = setting.split_once(' ').unwrap_or((setting, ""));
+            let (word, value) = cut(setting, " ");
             if self.set(out, word, value) {
                 out.put_line(line);
             } else {
@@ -119,9 +120,8 @@ impl<'t> RowFile<'t> {
 
     // Adds a row of one line with its answer.
     fn put_row(&self, out: &mut Answer, line: &str) {
-        let (input, _) = line.split_once(" ==> ").unwrap_or((line, ""));
-        out.put(input);
-        out.put(" ==> ");
+        let (input, _) = cut(line, " ==> ");
+        out.put_in("", input, " ==> ");
         match self.subject {
             Some(subject) => put_answer(out, self.alloc, subject, &self.start, input),
             None => out.put("unknown subject"),

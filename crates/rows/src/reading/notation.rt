@@ -2,34 +2,27 @@
 //! and any other character itself.
 
 use crate::answer::Answer;
+use crate::fields::{cut, cut_prefix};
 use std::str::from_utf8;
 
 /// Adds the bytes that a text of a row represents.
 pub(crate) fn put_decoded(out: &mut Answer, written: &str) {
-    let mut is_first = true;
-    for piece in written.split("\\x{") {
-        put_piece(out, piece, is_first);
-        is_first = false;
+    let (plain, numbered) = cut(written, "\\x{");
+    put_plain(out, plain);
+    if !numbered.is_empty() {
+        for piece in numbered.split("\\x{") {
+            put_numbered(out, piece);
+        }
     }
 }
 
-// Adds a piece, which begins with a number unless it is the first one.
-fn put_piece(out: &mut Answer, piece: &str, is_first: bool) {
-    let plain = if is_first {
-        piece
-    } else {
-        put_numbered(out, piece)
-    };
-    put_plain(out, plain);
-}
-
-// Adds the byte with the number before a bracket, and says what is after the bracket.
-fn put_numbered<'t>(out: &mut Answer, piece: &'t str) -> &'t str {
-    let (digits, after) = piece.split_once('}').unwrap_or(("", piece));
+// Adds the byte with the number before a bracket, and what is after the bracket.
+fn put_numbered(out: &mut Answer, piece: &str) {
+    let (digits, after) = cut_prefix(piece, "}");
     if let Ok(byte) = u8::from_str_radix(digits, 16) {
         out.put_byte(byte);
     }
-    after
+    put_plain(out, after);
 }
 
 // Adds a text without numbers.

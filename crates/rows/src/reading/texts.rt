@@ -46,9 +46,7 @@ pub(crate) fn put_name(out: &mut Answer, text: &str) {
 pub(crate) fn put_characters(out: &mut Answer, alloc: Global, subject: &Subject, codes: &str) {
     let mut is_first = true;
     for code in codes.split(' ') {
-        if !is_first {
-            out.put(" ");
-        }
+        out.put_if(!is_first, " ");
         put_character(out, alloc, subject, code);
         is_first = false;
     }

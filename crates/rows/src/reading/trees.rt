@@ -3,6 +3,7 @@
 ghost use Rattle.std.specs.Prelude.{◌<◌, length};
 
 use crate::answer::Answer;
+use crate::fields::cut;
 use crate::lookups::{name_of, value_named};
 use crate::reading::documents::Row;
 use crate::reading::notation::quote;
@@ -32,9 +33,9 @@ struct Written<'a> {
 
 // The node that a line such as `attribute in 1: x "y"` writes.
 fn read_node(line: &str) -> Option<Written<'_>> {
-    let (place, content) = line.split_once(": ").unwrap_or((line, ""));
-    let (word, parent) = place.split_once(" in ").unwrap_or((place, ""));
-    let (local, text) = content.split_once('"').unwrap_or((content, ""));
+    let (place, content) = cut(line, ": ");
+    let (word, parent) = cut(place, " in ");
+    let (local, text) = cut(content, "\"");
     Some(Written {
         kind: *value_named(KINDS, word)?,
         parent: Node::at(parent.parse::<u32>().unwrap_or(u32::MAX)),
@@ -121,9 +122,7 @@ fn add_written(out: &mut Answer, built: &mut Built, node: Written<'_>, name: Opt
 fn strip(out: &mut Answer, alloc: Global, built: &mut Built, marks: &str) {
     let mut marked = Vec::new(alloc);
     for mark in marks.as_bytes() {
-        if marked.push(*mark == b'x').is_err() {
-            out.refuse();
-        }
+        out.take(&mut marked, Ok(*mark == b'x'));
     }
     if built.lines.len() == built.tree.len() {
         out.note(built.tree.strip_numbers(&marked, &mut built.lines));
@@ -178,14 +177,7 @@ fn put_text(out: &mut Answer, alloc: Global, tree: &Tree, node: Node)
 
 // Adds a name with its prefix, and its URI in braces.
 fn put_name(out: &mut Answer, name: &Name) {
-    put_part(out, "", name.prefix.as_str(), ":");
-    put_part(out, "", name.local.as_str(), " ");
-    put_part(out, "{", name.uri.as_str(), "} ");
-}
-
-// Adds a part of a name between two texts, if it is not empty.
-fn put_part(out: &mut Answer, before: &str, part: &str, after: &str) {
-    if !part.is_empty() {
-        out.put_in(before, part, after);
-    }
+    out.put_part("", name.prefix.as_str(), ":");
+    out.put_part("", name.local.as_str(), " ");
+    out.put_part("{", name.uri.as_str(), "} ");
 }

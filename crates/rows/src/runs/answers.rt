@@ -36,11 +36,16 @@ fn put_result(out: &mut Answer, text: &str) {
     } else if !text.is_empty() {
         out.put("= text\n");
         for line in text.split_inclusive('\n') {
-            out.put("-");
-            out.put_escaped(line);
-            out.put("\n");
+            put_text_line(out, line);
         }
     }
+}
+
+/// Adds a line of a text after a sign, with escapes.
+fn put_text_line(out: &mut Answer, line: &str) {
+    out.put("-");
+    out.put_escaped(line);
+    out.put("\n");
 }
 
 /// Adds the lines for the user, as they are; one that has no end is marked.
@@ -48,54 +53,61 @@ fn put_lines(out: &mut Answer, lines: &str) {
     if !lines.is_empty() {
         out.put("= lines\n");
         out.put(lines);
-        if !lines.ends_with('\n') {
-            out.put(" (no line end)\n");
-        }
+        out.put_if(!lines.ends_with('\n'), " (no line end)\n");
     }
 }
 
 /// Adds an answer in one line: status, ticks, the lines for the user and the result, without those
 /// that are empty.
 pub(crate) fn put_fields(out: &mut Answer, outcome: &Outcome) {
-    out.put_count("", outcome.report.status as u64);
-    out.put_count(" | ", outcome.report.ticks);
-    for line in text_of(outcome.lines.held()).split_inclusive('\n') {
-        out.put(" | ");
-        put_line(out, line);
-    }
-    let result = text_of(outcome.result.held());
+    put_spent(
+        out,
+        outcome.report.status,
+        outcome.report.ticks,
+        outcome.lines.held(),
+    );
+    let result = outcome.result.held();
     if !result.is_empty() {
-        out.put(" | \"");
         put_short(out, result);
-        out.put("\"");
     }
 }
 
-/// Adds a text in one line; a long one of a single letter as a row says it, `<<300:a>>`.
-pub(crate) fn put_short(out: &mut Answer, text: &str) {
-    let first = text.bytes().next().unwrap_or(0);
-    let mut is_run = text.len() > 80;
-    for byte in text.bytes() {
-        is_run = is_run && byte == first;
+/// Adds a status, ticks and the lines for the user.
+pub(crate) fn put_spent(out: &mut Answer, status: u8, ticks: u64, lines: &[u8]) {
+    out.put_count("", status as u64);
+    out.put_count(" | ", ticks);
+    for line in text_of(lines).split_inclusive('\n') {
+        put_line(out, line);
     }
-    if is_run {
-        out.put_count("<<", text.len() as u64);
-        out.put(":");
-        out.put_byte(first);
-        out.put(">>");
+}
+
+/// Adds a result in one line; a long one of a single letter as a row says it, `<<300:a>>`.
+pub(crate) fn put_short(out: &mut Answer, bytes: &[u8]) {
+    out.put(" | \"");
+    if bytes.len() > 80 && is_run(bytes) {
+        out.put_count("<<", bytes.len() as u64);
+        out.put_in(":", text_of(&bytes[..1]), ">>");
     } else {
-        out.put_escaped(text);
+        out.put_escaped(text_of(bytes));
     }
+    out.put("\"");
+}
+
+/// Whether bytes are all the same.
+fn is_run(bytes: &[u8]) -> bool {
+    for byte in bytes {
+        if Some(byte) != bytes.first() {
+            return false;
+        }
+    }
+    true
 }
 
 /// Adds a line for the user, without its end.
-pub(crate) fn put_line(out: &mut Answer, line: &str) {
-    match line.strip_suffix('\n') {
-        Some(USAGE) => out.put("usage"),
-        Some(line) => out.put(line),
-        None => {
-            out.put(line);
-            out.put(" (no line end)");
-        }
-    }
+fn put_line(out: &mut Answer, line: &str) {
+    let whole = line.strip_suffix('\n');
+    let text = whole.unwrap_or(line);
+    out.put(" | ");
+    out.put(if text == USAGE { "usage" } else { text });
+    out.put_if(whole.is_none(), " (no line end)");
 }

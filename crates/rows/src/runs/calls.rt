@@ -65,13 +65,7 @@ fn put_numbers(out: &mut Answer, options: &Options) {
 
 /// Adds the options that have no value.
 fn put_flags(out: &mut Answer, options: &Options) {
-    if options.stats {
-        out.put(" | stats");
-    }
-    if options.profile {
-        out.put(" | profile");
-    }
-    if options.stream {
-        out.put(" | stream");
-    }
+    out.put_if(options.stats, " | stats");
+    out.put_if(options.profile, " | profile");
+    out.put_if(options.stream, " | stream");
 }

@@ -1,20 +1,31 @@
 //! Lists of events in one line, what stays of them, and how it is written.
 
 use crate::answer::{Answer, text_of};
+use crate::fields::cut_prefix;
 use std::alloc::{AllocError, Global};
 use xs_result::{build, write_text};
 use xs_trace::event::{Event, Fragment, Label};
 use xs_trace::text::TextBuf;
 use xs_writing::{PyxStream, write_pyx};
 
-/// The name `{URI}prefix:local`; the URI in braces, and the prefix with its colon, may be left out.
-fn label(alloc: Global, name: &str) -> Result<Label, AllocError> {
-    let (uri, rest) = name.split_once('}').unwrap_or(("", name));
-    let (prefix, local) = rest.split_once(':').unwrap_or(("", rest));
-    let uri = TextBuf::of(alloc, uri.strip_prefix('{').unwrap_or(""))?;
+/// The name with this URI, prefix and local part.
+pub(crate) fn label_of(
+    alloc: Global,
+    uri: &str,
+    prefix: &str,
+    local: &str,
+) -> Result<Label, AllocError> {
+    let uri = TextBuf::of(alloc, uri)?;
     let local = TextBuf::of(alloc, local)?;
     let prefix = TextBuf::of(alloc, prefix)?;
     Label::of(alloc, uri, local, prefix)
+}
+
+/// The name `{URI}prefix:local`; the URI in braces, and the prefix with its colon, may be left out.
+fn label(alloc: Global, name: &str) -> Result<Label, AllocError> {
+    let (uri, rest) = cut_prefix(name, "}");
+    let (prefix, local) = cut_prefix(rest, ":");
+    label_of(alloc, uri.strip_prefix('{').unwrap_or(""), prefix, local)
 }
 
 /// The event that a line says, in the letters of PYX lines; `:` begins a namespace node.
@@ -74,12 +85,8 @@ fn put_event(out: &mut Answer, event: &Event) {
 /// Adds a sign and a name.
 fn put_label(out: &mut Answer, sign: &str, name: &Label) {
     out.put(sign);
-    if !name.uri().is_empty() {
-        out.put_in("{", name.uri(), "}");
-    }
-    if !name.prefix().is_empty() {
-        out.put_in("", name.prefix(), ":");
-    }
+    out.put_part("{", name.uri(), "}");
+    out.put_part("", name.prefix(), ":");
     out.put(name.local());
 }
 
@@ -89,25 +96,13 @@ fn put_named(out: &mut Answer, sign: &str, text: &str) {
     out.put(text);
 }
 
-/// Takes the event that a line says, if there is one.
-fn push_event(out: &mut Answer, alloc: Global, all: &mut Vec<Event>, line: &str) {
-    if !line.is_empty() {
-        match event(alloc, line) {
-            Ok(event) => {
-                if all.push(event).is_err() {
-                    out.refuse();
-                }
-            }
-            Err(_) => out.refuse(),
-        }
-    }
-}
-
-/// The events that lines say, which stand between slashes.
+/// The events that lines say, which have slashes between them.
 fn events(out: &mut Answer, alloc: Global, lines: &str) -> Vec<Event> {
     let mut all = Vec::new(alloc);
     for line in lines.split('/') {
-        push_event(out, alloc, &mut all, line);
+        if !line.is_empty() {
+            out.take(&mut all, event(alloc, line));
+        }
     }
     all
 }
@@ -128,16 +123,12 @@ fn fragment(alloc: Global, put: &[Event]) -> Result<Fragment, AllocError> {
 
 /// Adds the lines that say events, with slashes between them.
 fn put_events(out: &mut Answer, events: &[Event]) {
-    if events.is_empty() {
-        out.put("nothing");
-    }
-    let mut is_first = true;
+    out.put_if(events.is_empty(), "nothing");
+    let mut before = "";
     for event in events {
-        if !is_first {
-            out.put("/");
-        }
+        out.put(before);
         put_event(out, event);
-        is_first = false;
+        before = "/";
     }
 }
 

@@ -1,6 +1,7 @@
 //! The rows of a file, one line after another.
 
 use crate::answer::Answer;
+use crate::fields::{cut, is_comment};
 use crate::lookups::value_named;
 use crate::runs::answers::{put_fields, put_parts, put_pieces};
 use crate::runs::calls::put_options;
@@ -8,7 +9,7 @@ use crate::runs::events::{put_fragment, put_written};
 use crate::runs::parts::{CALLS, Call, PARTS, Part};
 use crate::runs::replies::put_replies;
 use crate::runs::setup::{Outcome, Setup};
-use crate::runs::texts::{push_word, push_words, put_decoded};
+use crate::runs::texts::{push_words, put_decoded, word_of};
 use std::alloc::Global;
 use std::thread::Threads;
 
@@ -66,7 +67,7 @@ pub(crate) fn put_rows<R: Threads + Sync>(out: &mut Answer, rt: &R, alloc: Globa
 impl<'t> Rows<'t> {
     /// Takes a line.
     fn take_line<R: Threads + Sync>(&mut self, out: &mut Answer, rt: &R, line: &'t str) {
-        if line.is_empty() || line.starts_with('#') {
+        if is_comment(line) {
             self.end_row(out, rt);
             self.in_file = false;
             out.put_line(line);
@@ -85,8 +86,7 @@ impl<'t> Rows<'t> {
     fn take_row<R: Threads + Sync>(&self, out: &mut Answer, rt: &R, line: &str) {
         match line.split_once(" ==>") {
             Some((input, _)) => {
-                out.put(input);
-                out.put(" ==> ");
+                out.put_in("", input, " ==> ");
                 self.put_called(out, rt, input);
                 out.put("\n");
             }
@@ -105,7 +105,7 @@ impl<'t> Rows<'t> {
         line: &str,
         part: &'t str,
     ) {
-        let (word, rest) = part.split_once(' ').unwrap_or((part, ""));
+        let (word, rest) = cut(part, " ");
         match value_named(PARTS, word) {
             Some(Part::Answer) => return self.answer(out, rt),
             Some(Part::File) => self.take_file(out, word, rest),
@@ -162,7 +162,7 @@ impl<'t> Rows<'t> {
             Part::With => self.with = rest,
             Part::Call => self.call = value_named(CALLS, rest),
             Part::Most => self.setup.set_most(rest),
-            _ => out.note(self.setup.add_failing(rest)),
+            _ => self.setup.add_failing(out, rest),
         }
     }
 
@@ -190,28 +190,14 @@ impl<'t> Rows<'t> {
             return;
         }
         self.at = At::Answer;
-        let (options, others) = match self.with.split_once(" | ") {
-            Some((options, others)) => (options, Some(others)),
-            None => (self.with, None),
-        };
+        let (options, others) = cut(self.with, " | ");
         let mut first = Answer::new(self.alloc);
         self.put_run(&mut first, rt, options);
         out.put_answer(&first);
-        if let Some(others) = others {
-            self.put_others(out, rt, &first, others);
-        }
-    }
-
-    /// Adds what a run gives with each of the options that gives something else than the first.
-    fn put_others<R: Threads + Sync>(
-        &self,
-        out: &mut Answer,
-        rt: &R,
-        first: &Answer,
-        others: &str,
-    ) {
-        for options in others.split(" | ") {
-            self.put_other(out, rt, first, options);
+        if !others.is_empty() {
+            for options in others.split(" | ") {
+                self.put_other(out, rt, &first, options);
+            }
         }
     }
 
@@ -241,13 +227,9 @@ impl<'t> Rows<'t> {
             push_words(out, self.alloc, &mut words, self.budget);
         }
         push_words(out, self.alloc, &mut words, self.words);
-        match self.setup.run(out, rt, &words, b"") {
-            Ok(outcome) => {
-                self.put_outcome(out, &outcome);
-                drop(outcome);
-            }
-            Err(_) => out.refuse(),
-        }
+        let outcome = self.setup.run(out, rt, &words, b"");
+        self.put_outcome(out, &outcome);
+        drop(outcome);
     }
 
     /// Adds what a run gave.
@@ -272,13 +254,9 @@ impl<'t> Rows<'t> {
 
     /// Adds the answers of the stylesheet, compiled once, on sources whose names are the input.
     fn put_replies<R: Threads + Sync>(&self, out: &mut Answer, rt: &R, input: &str) {
-        match self.setup.library(out, b"") {
-            Ok(mut library) => {
-                put_replies(out, rt, self.alloc, &mut library, input);
-                drop(library);
-            }
-            Err(_) => out.refuse(),
-        }
+        let mut library = self.setup.library(out, b"");
+        put_replies(out, rt, self.alloc, &mut library, input);
+        drop(library);
     }
 
     /// Adds the answer of a run in one line, of which the row says the arguments, the budget, or a
@@ -288,13 +266,9 @@ impl<'t> Rows<'t> {
         put_decoded(&mut text, input);
         let words = self.words_of(out, input);
         let text = text.held(out);
-        match self.setup.run(out, rt, &words, text) {
-            Ok(outcome) => {
-                put_fields(out, &outcome);
-                drop(outcome);
-            }
-            Err(_) => out.refuse(),
-        }
+        let outcome = self.setup.run(out, rt, &words, text);
+        put_fields(out, &outcome);
+        drop(outcome);
     }
 
     /// The arguments of a run that a row in one line says.
@@ -306,7 +280,7 @@ impl<'t> Rows<'t> {
         }
         if let Some(Call::Budget) = self.call {
             push_words(out, self.alloc, &mut words, "--budget");
-            push_word(out, self.alloc, &mut words, input);
+            out.take(&mut words, word_of(self.alloc, input));
         }
         push_words(out, self.alloc, &mut words, PLAIN);
         words

@@ -1,13 +1,13 @@
 //! A stylesheet that is compiled once and run on several sources (docs/LIBRARY.md).
 
 ghost use Rattle.std.specs.Prelude.{IfOk};
-ghost use Rattle.xs_engine.specs.Reply.{IsWithin, job_data};
+ghost use Rattle.xs_answer.specs.Reply.{IsWithin, job_data};
 ghost use Rattle.xs_modules.specs.Results.{modules_data};
 ghost use Rattle.xs_modules.specs.Sound.{IsSound as AreSound};
 ghost use Rattle.xs_sheet.specs.Sound.{IsSound};
 
-use crate::answer::{Answer, text_of};
-use crate::runs::answers::{put_line, put_short};
+use crate::answer::Answer;
+use crate::runs::answers::{put_short, put_spent};
 use crate::stylesheets::modules::{put_end, put_fault, put_numbered};
 use std::alloc::{AllocError, Global};
 use std::thread::Threads;
@@ -66,15 +66,29 @@ fn put_by_sheet<R: Threads + Sync>(
 {
     let mut is_first = true;
     for name in names.split(' ') {
-        out.put(if is_first { "" } else { "; " });
+        out.put_if(!is_first, "; ");
+        put_by_source(out, rt, alloc, sheet, library, name);
         is_first = false;
-        match reply_on(rt, alloc, sheet, library, name) {
-            Ok(reply) => {
-                put_reply(out, &reply);
-                drop(reply);
-            }
-            Err(_) => out.refuse(),
+    }
+}
+
+/// Adds what a stylesheet gives for a source.
+fn put_by_source<R: Threads + Sync>(
+    out: &mut Answer,
+    rt: &R,
+    alloc: Global,
+    sheet: &Sheet,
+    library: &mut MemLibrary,
+    name: &str,
+)
+    requires sound { IsSound sheet.now }
+{
+    match reply_on(rt, alloc, sheet, library, name) {
+        Ok(reply) => {
+            put_reply(out, &reply);
+            drop(reply);
         }
+        Err(_) => out.refuse(),
     }
 }
 
@@ -120,17 +134,10 @@ fn greeting(alloc: Global) -> Result<(TextBuf, TextBuf), AllocError> {
 
 /// Adds a reply: its status, its ticks, its lines for the user, its fault, and its result.
 fn put_reply(out: &mut Answer, reply: &Reply) {
-    out.put_count("", reply.status as u64);
-    out.put_count(" | ", reply.ticks);
-    for line in text_of(&reply.lines).split_inclusive('\n') {
-        out.put(" | ");
-        put_line(out, line);
-    }
+    put_spent(out, reply.status, reply.ticks, &reply.lines);
     if let Some(fault) = &reply.fault {
         out.put(" | ");
         put_numbered(out, fault.number, fault.module.as_str(), fault.line);
     }
-    out.put(" | \"");
-    put_short(out, text_of(&reply.result));
-    out.put("\"");
+    put_short(out, &reply.result);
 }

@@ -1,9 +1,10 @@
 //! What a run is made of: files, and what fails of them and of the sinks.
 
 use crate::answer::Answer;
-use crate::library::push_file;
+use crate::fields::{cut, whole};
+use crate::library::file_of;
 use crate::runs::texts::put_decoded;
-use std::alloc::{AllocError, Global};
+use std::alloc::Global;
 use std::thread::Threads;
 use xs_engine::{Report, transform};
 use xs_outside::{MemLibrary, MemSink, OpenGate};
@@ -48,9 +49,8 @@ pub(crate) struct Setup<'t> {
     files: Vec<File<'t>>,
     /// How many of them further rows have, too.
     shared: usize,
-    failing_fetches: Vec<u64>,
-    failing_results: Vec<u64>,
-    failing_lines: Vec<u64>,
+    /// What fails: `fetch`, or a write of the sink `result` or `lines`, and its number.
+    failing: Vec<(&'t str, u64)>,
     most: usize,
 }
 
@@ -69,9 +69,7 @@ impl<'t> Setup<'t> {
             alloc,
             files: Vec::new(alloc),
             shared: 0,
-            failing_fetches: Vec::new(alloc),
-            failing_results: Vec::new(alloc),
-            failing_lines: Vec::new(alloc),
+            failing: Vec::new(alloc),
             most: ROOM,
         }
     }
@@ -79,9 +77,7 @@ impl<'t> Setup<'t> {
     /// Forgets what belonged to a row alone.
     pub(crate) fn clear(&mut self) {
         self.files.truncate(self.shared);
-        self.failing_fetches.clear();
-        self.failing_results.clear();
-        self.failing_lines.clear();
+        self.failing.clear();
         self.most = ROOM;
     }
 
@@ -97,13 +93,12 @@ impl<'t> Setup<'t> {
         let (name, line) = named(word, rest);
         let form = form_of(word, line);
         let mut text = Answer::new(self.alloc);
-        put_start(&mut text, form, line);
-        if word == "sheet" && !rest.is_empty() {
-            put_method(&mut text, rest);
+        text.put(line);
+        text.put_if(matches!(form, Form::Content), START);
+        if word == "sheet" {
+            text.put_part("(xsl:output\nAmethod ", rest, "\n)xsl:output\n");
         }
-        if self.files.push(File { name, text, form }).is_err() {
-            out.refuse();
-        }
+        out.take(&mut self.files, Ok(File { name, text, form }));
         if is_shared {
             self.shared = self.files.len();
         }
@@ -124,34 +119,38 @@ impl<'t> Setup<'t> {
     }
 
     /// Takes the number of a fetch, or of a write of a sink, that fails.
-    pub(crate) fn add_failing(&mut self, rest: &str) -> Result<(), AllocError> {
-        let (what, number) = rest.split_once(' ').unwrap_or((rest, ""));
-        let number = number.parse().unwrap_or(0);
-        match what {
-            "fetch" => self.failing_fetches.push(number)?,
-            "result" => self.failing_results.push(number)?,
-            _ => self.failing_lines.push(number)?,
+    pub(crate) fn add_failing(&mut self, out: &mut Answer, rest: &'t str) {
+        let (what, number) = cut(rest, " ");
+        out.take(&mut self.failing, Ok((what, whole(number) as u64)));
+    }
+
+    /// The numbers of the fetches, or of the writes of a sink, that fail.
+    fn failures(&self, out: &mut Answer, wanted: &str) -> Vec<u64> {
+        let mut numbers = Vec::new(self.alloc);
+        for (what, number) in &self.failing {
+            if *what == wanted {
+                out.take(&mut numbers, Ok(*number));
+            }
         }
-        Ok(())
+        numbers
     }
 
     /// The library of the files, in which a text takes its place.
-    pub(crate) fn library(&self, out: &mut Answer, text: &[u8]) -> Result<MemLibrary, AllocError> {
-        let failing = Vec::from_slice(self.alloc, &self.failing_fetches)?;
+    pub(crate) fn library(&self, out: &mut Answer, text: &[u8]) -> MemLibrary {
         let mut files = Vec::new(self.alloc);
         for file in self.files.iter().rev() {
             let bytes = bytes_of(out, self.alloc, file, text);
-            push_file(out, self.alloc, &mut files, file.name, bytes);
+            out.take(&mut files, file_of(self.alloc, file.name, bytes));
         }
-        Ok(MemLibrary::new(self.alloc, files, failing))
+        MemLibrary::new(self.alloc, files, self.failures(out, "fetch"))
     }
 
     /// An empty sink that fails the listed writes.
-    fn sink(&self, failing: &[u64]) -> Result<MemSink, AllocError> {
-        let failing = Vec::from_slice(self.alloc, failing)?;
+    fn sink(&self, out: &mut Answer, wanted: &str) -> MemSink {
+        let failing = self.failures(out, wanted);
         let mut sink = MemSink::new(self.alloc, self.most.max(1), failing);
-        sink.reserve(ROOM)?;
-        Ok(sink)
+        out.note(sink.reserve(ROOM));
+        sink
     }
 
     /// A run with these arguments, where a text takes its place in the files; where a file was
@@ -162,30 +161,25 @@ impl<'t> Setup<'t> {
         rt: &R,
         words: &[String],
         text: &[u8],
-    ) -> Result<Outcome, AllocError> {
-        let mut library = self.library(written, text)?;
-        let outcome = self.run_over(rt, words, &mut library);
-        drop(library);
-        outcome
-    }
-
-    /// A run with these arguments over a library.
-    fn run_over<R: Threads + Sync>(
-        &self,
-        rt: &R,
-        words: &[String],
-        library: &mut MemLibrary,
-    ) -> Result<Outcome, AllocError> {
-        let mut out = self.sink(&self.failing_results)?;
-        let mut err = self.sink(&self.failing_lines)?;
+    ) -> Outcome {
+        let mut library = self.library(written, text);
+        let mut result = self.sink(written, "result");
+        let mut lines = self.sink(written, "lines");
         let report = transform(
-            rt, self.alloc, words, library, &mut out, &mut err, &OpenGate,
+            rt,
+            self.alloc,
+            words,
+            &mut library,
+            &mut result,
+            &mut lines,
+            &OpenGate,
         );
-        Ok(Outcome {
+        drop(library);
+        Outcome {
             report,
-            result: out,
-            lines: err,
-        })
+            result,
+            lines,
+        }
     }
 }
 
@@ -194,7 +188,7 @@ fn named<'t>(word: &str, rest: &'t str) -> (&'t str, &'t str) {
     match word {
         "sheet" => ("s.pyx", ""),
         "source" => ("src.pyx", rest),
-        _ => rest.split_once(' ').unwrap_or((rest, "")),
+        _ => cut(rest, " "),
     }
 }
 
@@ -210,38 +204,15 @@ fn form_of(word: &str, line: &str) -> Form {
 /// The bytes of a file, in which a text takes its place.
 fn bytes_of(out: &mut Answer, alloc: Global, file: &File<'_>, text: &[u8]) -> Vec<u8> {
     let mut bytes = Answer::new(alloc);
-    put_file(&mut bytes, file.form, file.text.held_text(out), text);
+    let whole = file.text.held_text(out);
+    let (before, after) = cut(whole, PLACE);
+    put_part(&mut bytes, file.form, before);
+    if before.len() < whole.len() {
+        bytes.put_bytes(text);
+        put_part(&mut bytes, file.form, after);
+    }
+    bytes.put_if(matches!(file.form, Form::Content), END);
     bytes.into_held(out)
-}
-
-/// Adds the lines with which a file begins.
-fn put_start(out: &mut Answer, form: Form, line: &str) {
-    out.put(line);
-    if let Form::Content = form {
-        out.put(START);
-    }
-}
-
-/// Adds the output method of a stylesheet.
-fn put_method(out: &mut Answer, method: &str) {
-    out.put("(xsl:output\nAmethod ");
-    out.put(method);
-    out.put("\n)xsl:output\n");
-}
-
-/// Adds the bytes of a file, in which a text takes its place.
-fn put_file(out: &mut Answer, form: Form, file: &str, text: &[u8]) {
-    match file.split_once(PLACE) {
-        Some((before, after)) => {
-            put_part(out, form, before);
-            out.put_bytes(text);
-            put_part(out, form, after);
-        }
-        None => put_part(out, form, file),
-    }
-    if let Form::Content = form {
-        out.put(END);
-    }
 }
 
 /// Adds the bytes of a part of a file.

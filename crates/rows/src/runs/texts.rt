@@ -1,7 +1,8 @@
 //! Texts that are written in one line.
 
-use crate::answer::Answer;
-use std::alloc::Global;
+use crate::answer::{Answer, text_of};
+use crate::fields::{cut_prefix, whole};
+use std::alloc::{AllocError, Global};
 
 /// Adds the bytes that a text in one line means: `\n`, `\t`, `\r` and `\\` as in PYX lines, `\s` a
 /// space, `\?` a byte that UTF-8 does not have, and `<<3:ab>>` the same as `ababab`.
@@ -13,15 +14,15 @@ pub(crate) fn put_decoded(out: &mut Answer, text: &str) {
 
 /// Adds a part: where it has `>>`, what is repeated before it, and what follows.
 fn put_part(out: &mut Answer, part: &str) {
-    let (repeat, plain) = part.split_once(">>").unwrap_or(("", part));
+    let (repeat, plain) = cut_prefix(part, ">>");
     put_repeat(out, repeat);
     put_plain(out, plain);
 }
 
 /// Adds a text as often as the number before its colon says.
 fn put_repeat(out: &mut Answer, repeat: &str) {
-    let (count, text) = repeat.split_once(':').unwrap_or(("0", ""));
-    for _ in 0..count.parse::<u32>().unwrap_or(0) {
+    let (count, text) = cut_prefix(repeat, ":");
+    for _ in 0..whole(count) {
         put_plain(out, text);
     }
 }
@@ -57,21 +58,14 @@ fn escaped_byte(letter: u8) -> u8 {
 pub(crate) fn push_words(out: &mut Answer, alloc: Global, words: &mut Vec<String>, line: &str) {
     if !line.is_empty() {
         for word in line.split(' ') {
-            push_word(out, alloc, words, word);
+            out.take(words, word_of(alloc, word));
         }
     }
 }
 
-/// Takes a word.
-pub(crate) fn push_word(out: &mut Answer, alloc: Global, words: &mut Vec<String>, word: &str) {
-    let mut text = Answer::new(alloc);
-    put_decoded(&mut text, word);
-    match String::from_str(alloc, text.held_text(out)) {
-        Ok(word) => {
-            if words.push(word).is_err() {
-                out.refuse();
-            }
-        }
-        Err(_) => out.refuse(),
-    }
+/// The word that a text means.
+pub(crate) fn word_of(alloc: Global, text: &str) -> Result<String, AllocError> {
+    let mut word = Answer::new(alloc);
+    put_decoded(&mut word, text);
+    String::from_str(alloc, text_of(word.text()?))
 }

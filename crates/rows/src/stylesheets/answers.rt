@@ -13,7 +13,7 @@ use crate::stylesheets::rules::{put_count, put_imported, put_rules};
 use crate::stylesheets::settings::{RowKind, Settings};
 use crate::stylesheets::sheets::put_sheet;
 use crate::stylesheets::white_space::put_kept;
-use std::alloc::{AllocError, Global};
+use std::alloc::Global;
 use xs_build::{BuildFault, build_tree};
 use xs_compile::{CompileEnd, compile};
 use xs_modules::{Modules, read_modules};
@@ -38,22 +38,22 @@ pub(crate) fn put_answer(out: &mut Answer, alloc: Global, settings: &Settings<'_
     }
 }
 
-/// The tree of a document, if it is one.
-fn tree_of(out: &mut Answer, alloc: Global, lines: &str) -> Result<Option<Box<Tree>>, AllocError> {
+/// The tree of a document; adds that there is none where it is no document.
+fn tree_of(out: &mut Answer, alloc: Global, lines: &str) -> Option<Tree> {
     let text = module(alloc, lines);
     match build_tree(alloc, text.held(out), MOST) {
-        Ok(built) => Ok(Some(Box::new(alloc, built.tree)?)),
-        Err(BuildFault::NoMemory) => Err(AllocError),
-        Err(BuildFault::Bad { .. }) => Ok(None),
+        Ok(built) => return Some(built.tree),
+        Err(BuildFault::NoMemory) => out.refuse(),
+        Err(BuildFault::Bad { .. }) => out.put("no document"),
     }
+    None
 }
 
 /// The answer to a row that is one document.
 fn put_of_document(out: &mut Answer, alloc: Global, kind: &RowKind, input: &str) {
-    match tree_of(out, alloc, input) {
-        Ok(Some(tree)) => put_of_tree(out, alloc, kind, &tree),
-        Ok(None) => out.put("no document"),
-        Err(_) => out.refuse(),
+    if let Some(tree) = tree_of(out, alloc, input) {
+        put_of_tree(out, alloc, kind, &tree);
+        drop(tree);
     }
 }
 
@@ -156,10 +156,9 @@ fn put_of_set_document(
 ) {
     let document = settings.expanded(alloc, settings.document, "");
     let lines = document.held_text(out);
-    match tree_of(out, alloc, lines) {
-        Ok(Some(mut tree)) => put_of_both(out, alloc, kind, sheet, &mut tree),
-        Ok(None) => out.put("no document"),
-        Err(_) => out.refuse(),
+    if let Some(mut tree) = tree_of(out, alloc, lines) {
+        put_of_both(out, alloc, kind, sheet, &mut tree);
+        drop(tree);
     }
 }
 

@@ -1,7 +1,8 @@
 //! Stylesheets and documents from their compact form, which the row files explain.
 
 use crate::answer::Answer;
-use crate::library::push_file;
+use crate::fields::cut_prefix;
+use crate::library::file_of;
 use std::alloc::Global;
 use xs_outside::MemLibrary;
 
@@ -20,13 +21,6 @@ const SHORT: &[(char, &str, &str)] = &[
 fn put_end(out: &mut Answer, open: &mut Vec<&str>) {
     if let Some(name) = open.pop() {
         out.put_in(")", name, "\n");
-    }
-}
-
-/// Takes note of an element that is open.
-fn begin<'t>(out: &mut Answer, open: &mut Vec<&'t str>, name: &'t str) {
-    if open.push(name).is_err() {
-        out.refuse();
     }
 }
 
@@ -49,7 +43,7 @@ fn put_line<'t>(out: &mut Answer, open: &mut Vec<&'t str>, line: &'t str) {
     } else if !line.is_empty() && !put_short(out, line) {
         out.put_in("", line, "\n");
         if let Some(name) = line.strip_prefix('(') {
-            begin(out, open, name);
+            out.take(open, Ok(name));
         }
     }
 }
@@ -57,15 +51,12 @@ fn put_line<'t>(out: &mut Answer, open: &mut Vec<&'t str>, line: &'t str) {
 /// Adds a module: lines with semicolons between them, inside an `xsl:stylesheet` unless they begin
 /// with an exclamation mark.
 fn put_module<'t>(out: &mut Answer, open: &mut Vec<&'t str>, lines: &'t str) {
-    let inner = match lines.strip_prefix('!') {
-        Some(whole) => whole,
-        None => {
-            out.put(START);
-            begin(out, open, "xsl:stylesheet");
-            lines
-        }
-    };
-    for line in inner.split(';') {
+    let whole = lines.strip_prefix('!');
+    if whole.is_none() {
+        out.put(START);
+        out.take(open, Ok("xsl:stylesheet"));
+    }
+    for line in whole.unwrap_or(lines).split(';') {
         put_line(out, open, line);
     }
     for _ in 0..open.len() {
@@ -81,21 +72,21 @@ pub(crate) fn module(alloc: Global, lines: &str) -> Answer {
     out
 }
 
-/// The name of a module and its lines, with a colon between them.
-fn named(module: &str) -> (&str, &str) {
-    module.split_once(':').unwrap_or(("s", module))
-}
-
 /// A library of modules: the first one is `s`, and each other one, after a `^`, begins with its
 /// name and a colon.
 pub(crate) fn library(out: &mut Answer, alloc: Global, modules: &str) -> MemLibrary {
+    let mut named = Answer::new(alloc);
+    named.put_in("s:", modules, "");
     let mut files = Vec::new(alloc);
-    let mut is_first = true;
-    for part in modules.split('^') {
-        let (name, lines) = if is_first { ("s", part) } else { named(part) };
-        let bytes = module(alloc, lines).into_held(out);
-        push_file(out, alloc, &mut files, name, bytes);
-        is_first = false;
+    for module in named.held_text(out).split('^') {
+        push_module(out, alloc, &mut files, module);
     }
     MemLibrary::new(alloc, files, Vec::new(alloc))
+}
+
+/// Takes a module, which begins with its name and a colon.
+fn push_module(out: &mut Answer, alloc: Global, files: &mut Vec<(String, Vec<u8>)>, named: &str) {
+    let (name, lines) = cut_prefix(named, ":");
+    let bytes = module(alloc, lines).into_held(out);
+    out.take(files, file_of(alloc, name, bytes));
 }

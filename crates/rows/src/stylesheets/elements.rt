@@ -32,9 +32,7 @@ fn put_own_name(out: &mut Answer, tree: &Tree, node: Node)
         let name = expanded(tree, node, value);
         out.put(", name ");
         put_expanded_if(out, name);
-        if own_name(tree, node) != name {
-            out.put(" and another of its own");
-        }
+        out.put_if(own_name(tree, node) != name, " and another of its own");
     }
 }
 
@@ -48,16 +46,10 @@ fn put_element(out: &mut Answer, tree: &Tree, node: Node)
         Row::Other => " literal",
         _ => " of XSLT",
     });
-    if is_document_element(tree, node) {
-        out.put(", document element");
-    }
-    if is_top_level(tree, node) {
-        out.put(", top level");
-    }
+    out.put_if(is_document_element(tree, node), ", document element");
+    out.put_if(is_top_level(tree, node), ", top level");
     put_own_name(out, tree, node);
-    if has(tree, node, "select") {
-        out.put(", select");
-    }
+    out.put_if(has(tree, node, "select"), ", select");
     if let Some(uri) = uri_of(tree, node, "") {
         out.put_in(", default ", uri, "");
     }
@@ -86,9 +78,7 @@ pub(crate) fn put_elements(out: &mut Answer, tree: &Tree) {
         let node = Node::at(place);
         let kind = tree.kind(node);
         if kind == Kind::Element || kind == Kind::Text {
-            if !out.bytes.is_empty() {
-                out.put("; ");
-            }
+            out.put_between("; ");
             if kind == Kind::Element {
                 put_element(out, tree, node);
             } else {
@@ -121,12 +111,9 @@ pub(crate) fn put_contents(out: &mut Answer, tree: &Tree) {
         let node = Node::at(place);
         if is_document_element(tree, node) {
             content = content_of(row_of(tree, node), has(tree, node, "select"));
-            let end = if holds_text(content) {
-                " with text:"
-            } else {
-                ":"
-            };
-            out.put_in("", name_of(CONTENTS, &content), end);
+            out.put(name_of(CONTENTS, &content));
+            out.put_if(holds_text(content), " with text");
+            out.put(":");
         } else if tree.kind(node) == Kind::Element {
             let row = row_of(tree, node);
             let has_namespace = !tree.uri(node).is_empty();
@@ -161,18 +148,10 @@ const FORMS: &[(&str, Form)] = &[
 /// Adds a form, and what its values may not have.
 fn put_form(out: &mut Answer, form: Form) {
     out.put(name_of(FORMS, &form));
-    if forbids_variables(form) {
-        out.put(", no variables");
-    }
-    if !sees_locals(form) {
-        out.put(", no local ones");
-    }
-    if forbids_current(form) {
-        out.put(", no current()");
-    }
-    if forbids_key(form) {
-        out.put(", no key()");
-    }
+    out.put_if(forbids_variables(form), ", no variables");
+    out.put_if(!sees_locals(form), ", no local ones");
+    out.put_if(forbids_current(form), ", no current()");
+    out.put_if(forbids_key(form), ", no key()");
 }
 
 /// Whether an element has to have an attribute with this local part.
@@ -195,9 +174,7 @@ fn put_value(out: &mut Answer, alloc: Global, tree: &Tree, element: Node, attrib
     let Some(form) = form_named(row, local) else {
         return;
     };
-    if is_required(row, local) {
-        out.put("required ");
-    }
+    out.put_if(is_required(row, local), "required ");
     put_form(out, form);
     let Ok(scope) = scope_at(alloc, tree, element) else {
         return out.refuse();

@@ -5,7 +5,7 @@ use xs_modules::{Module, Modules, ModulesEnd};
 use xs_static::StaticFault;
 
 // The most modules that an answer names.
-const MOST: u32 = 6;
+const MOST: usize = 6;
 
 /// Adds a module: its name, the precedences that it imports and has, and the number of the module
 /// that mentions it.
@@ -15,25 +15,19 @@ fn put_module(out: &mut Answer, module: &Module) {
     if let Some((number, _)) = module.mention {
         out.put_count(" by ", number as u64);
     }
-    if module.lines.len() != module.tree.len() {
-        out.put(" with other lines");
-    }
+    out.put_if(module.lines.len() != module.tree.len(), " with other lines");
 }
 
 /// Adds the first modules, and how many there are where there are more.
 pub(crate) fn put_modules(out: &mut Answer, modules: &Modules) {
-    let mut count = 0_u32;
-    for module in &modules.list {
-        if count < MOST {
-            if count > 0 {
-                out.put("; ");
-            }
-            put_module(out, module);
-        }
-        count = count.saturating_add(1);
+    let mut is_first = true;
+    for module in modules.list.iter().take(MOST) {
+        out.put_if(!is_first, "; ");
+        put_module(out, module);
+        is_first = false;
     }
-    if count > MOST {
-        out.put_count("; .. ", count as u64);
+    if modules.list.len() > MOST {
+        out.put_count("; .. ", modules.list.len() as u64);
     }
 }
 

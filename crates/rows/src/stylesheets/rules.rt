@@ -64,129 +64,121 @@ fn indexed_rule(
     }
 }
 
-/// Adds the rule that each node takes, by the stylesheet.
-fn push_rules(
-    rules: &mut Vec<Option<Rule>>,
+/// The rules that the nodes of a document take, by the stylesheet.
+fn plain_rules(
+    out: &mut Answer,
     alloc: Global,
     sheet: &Sheet,
     tree: &Tree,
     among: Among,
-) -> Result<(), AllocError>
+) -> Vec<Rule>
     requires few { length sheet.now.templates < 2 ^ 32 }
 {
+    let mut rules = Vec::new(alloc);
     for place in 0..tree.len() as u32 {
-        let rule = rule_of(alloc, sheet, tree, Node::at(place), among)?;
-        rules.push(Some(rule))?;
+        let rule = rule_of(alloc, sheet, tree, Node::at(place), among);
+        out.take(&mut rules, rule);
     }
-    Ok(())
+    rules
 }
 
-/// Takes away each rule that is another one by an index.
-fn compare(
-    rules: &mut [Option<Rule>],
+/// The rules that the nodes of a document take, by an index.
+fn indexed_rules(
+    out: &mut Answer,
     alloc: Global,
     index: &RuleIndex<'_>,
     tree: &Tree,
     among: Among,
-) -> Result<(), AllocError>
+) -> Vec<Rule>
     requires index { IsIndex index.now }
     requires prepared { IsPrepared index.now tree.now }
 {
+    let mut rules = Vec::new(alloc);
     for place in 0..tree.len() as u32 {
-        let rule = indexed_rule(alloc, index, tree, Node::at(place), among)?;
-        if let Some(known) = rules.get_mut(place as usize)
-            && *known != Some(rule)
-        {
-            *known = None;
-        }
+        let rule = indexed_rule(alloc, index, tree, Node::at(place), among);
+        out.take(&mut rules, rule);
     }
-    Ok(())
+    rules
 }
 
-/// Takes away each rule that is another one by an index, as it is and with tables.
-fn compare_both(
-    rules: &mut [Option<Rule>],
+/// Whether rules are those by an index, as it is and with tables for the document.
+fn are_indexed(
+    out: &mut Answer,
     alloc: Global,
     index: &mut RuleIndex<'_>,
     tree: &Tree,
     among: Among,
-) -> Result<(), AllocError>
+    rules: &[Rule],
+) -> bool
     requires index { IsIndex index.old }
     requires prepared { IsPrepared index.old tree.now }
 {
-    compare(rules, alloc, index, tree, among)?;
-    index.prepare(alloc, tree)?;
-    compare(rules, alloc, index, tree, among)
-}
-
-/// Takes away each rule that is another one by the index of the stylesheet.
-fn compare_indexed(
-    rules: &mut [Option<Rule>],
-    alloc: Global,
-    sheet: &Sheet,
-    tree: &Tree,
-    among: Among,
-) -> Result<(), AllocError>
-    requires few { length sheet.now.templates < 2 ^ 32 }
-{
-    let mut index = RuleIndex::new(alloc, sheet)?;
-    let compared = compare_both(rules, alloc, &mut index, tree, among);
-    drop(index);
-    compared
-}
-
-/// The rules that the nodes of a document take, none for a node where the stylesheet and its
-/// indexes differ; none at all of too large a stylesheet.
-fn rules_of(
-    alloc: Global,
-    sheet: &Sheet,
-    tree: &Tree,
-    among: Among,
-) -> Result<Vec<Option<Rule>>, AllocError> {
-    let mut rules = Vec::new(alloc);
-    if sheet.templates.as_slice().len() < MOST {
-        push_rules(&mut rules, alloc, sheet, tree, among)?;
-        compare_indexed(&mut rules, alloc, sheet, tree, among)?;
-    }
-    Ok(rules)
-}
-
-/// How many nodes take a template, or are not agreed upon.
-fn count_chosen(rules: &[Option<Rule>]) -> u32 {
-    let mut count = 0_u32;
-    for rule in rules {
-        if *rule != Some(Rule::BuiltIn) {
-            count = count.saturating_add(1);
+    let plain = indexed_rules(out, alloc, index, tree, among);
+    match index.prepare(alloc, tree) {
+        Ok(()) => {
+            let prepared = indexed_rules(out, alloc, index, tree, among);
+            plain.as_slice() == rules && prepared.as_slice() == rules
         }
+        Err(_) => {
+            out.refuse();
+            false
+        }
+    }
+}
+
+/// The rules that the nodes of a document take, none of too large a stylesheet; adds `!` where the
+/// stylesheet and its indexes differ.
+fn rules_of(
+    out: &mut Answer,
+    alloc: Global,
+    sheet: &Sheet,
+    tree: &Tree,
+    among: Among,
+) -> Vec<Rule> {
+    if sheet.templates.as_slice().len() >= MOST {
+        return Vec::new(alloc);
+    }
+    let rules = plain_rules(out, alloc, sheet, tree, among);
+    match RuleIndex::new(alloc, sheet) {
+        Ok(mut index) => {
+            let is_agreed = are_indexed(out, alloc, &mut index, tree, among, &rules);
+            out.put_if(!is_agreed, "!");
+            drop(index);
+        }
+        Err(_) => out.refuse(),
+    }
+    rules
+}
+
+/// How many nodes take a template.
+fn count_chosen(rules: &[Rule]) -> u64 {
+    let mut count = 0_u64;
+    for rule in rules {
+        count = count.saturating_add((*rule != Rule::BuiltIn) as u64);
     }
     count
 }
 
-/// Adds the rules of all nodes but the namespace nodes: the number of a template, `-` for the
-/// built-in one, `!` where none is agreed.
-fn put_all(out: &mut Answer, rules: &[Option<Rule>], tree: &Tree) {
+/// Adds the rules of all nodes but the namespace nodes: the number of a template, or `-` for the
+/// built-in one.
+fn put_all(out: &mut Answer, rules: &[Rule], tree: &Tree) {
     for place in 0..tree.len() as u32 {
         if tree.kind(Node::at(place)) != Kind::Space {
             match rules.get(place as usize) {
-                Some(Some(Rule::Template(number))) => out.put_count("", *number as u64),
-                Some(Some(Rule::BuiltIn)) => out.put("-"),
-                _ => out.put("!"),
+                Some(Rule::Template(number)) => out.put_count("", *number as u64),
+                _ => out.put("-"),
             }
         }
     }
 }
 
-/// Adds the rules without a mode, and those of each mode that a node takes.
+/// Adds the rules without a mode, and those of each mode in which a node takes a template.
 pub(crate) fn put_rules(out: &mut Answer, alloc: Global, sheet: &Sheet, tree: &Tree) {
     for mode in 0..MODES {
-        match rules_of(alloc, sheet, tree, Among::Mode(mode)) {
-            Ok(rules) => {
-                if mode == 0 || count_chosen(&rules) > 0 {
-                    out.put(if mode == 0 { "" } else { " " });
-                    put_all(out, &rules, tree);
-                }
-            }
-            Err(_) => out.refuse(),
+        let rules = rules_of(out, alloc, sheet, tree, Among::Mode(mode));
+        if mode == 0 || count_chosen(&rules) > 0 {
+            out.put_if(mode > 0, " ");
+            put_all(out, &rules, tree);
         }
     }
 }
@@ -195,22 +187,15 @@ pub(crate) fn put_rules(out: &mut Answer, alloc: Global, sheet: &Sheet, tree: &T
 pub(crate) fn put_imported(out: &mut Answer, alloc: Global, sheet: &Sheet, tree: &Tree) {
     let mut under = 0_u32;
     for _ in sheet.templates.as_slice() {
-        out.put(if under > 0 { " " } else { "" });
-        match rules_of(alloc, sheet, tree, Among::ImportedUnder(under)) {
-            Ok(rules) => put_all(out, &rules, tree),
-            Err(_) => out.refuse(),
-        }
+        out.put_if(under > 0, " ");
+        let rules = rules_of(out, alloc, sheet, tree, Among::ImportedUnder(under));
+        put_all(out, &rules, tree);
         under = under.wrapping_add(1);
     }
 }
 
 /// Adds how many nodes take a template without a mode.
 pub(crate) fn put_count(out: &mut Answer, alloc: Global, sheet: &Sheet, tree: &Tree) {
-    let Ok(rules) = rules_of(alloc, sheet, tree, Among::Mode(0)) else {
-        return out.refuse();
-    };
-    if rules.contains(&None) {
-        out.put("not agreed, ");
-    }
-    out.put_count("", count_chosen(&rules) as u64);
+    let rules = rules_of(out, alloc, sheet, tree, Among::Mode(0));
+    out.put_count("", count_chosen(&rules));
 }

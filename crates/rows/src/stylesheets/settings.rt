@@ -1,8 +1,10 @@
 //! The settings of a row file.
 
 use crate::answer::Answer;
+use crate::fields::cut;
 use crate::lookups::value_named;
-use std::alloc::{AllocError, Global};
+use crate::repeats::put_repeated;
+use std::alloc::Global;
 
 /// How often names are replaced in a text: in its form, in its fields, and in what these stand for.
 const ROUNDS: u32 = 3;
@@ -83,36 +85,6 @@ pub(crate) struct Settings<'t> {
     repeats: Vec<(&'t str, &'t str)>,
 }
 
-/// Adds a text in which `#` is a number, and `#+` the next one.
-fn put_numbered(out: &mut Answer, text: &str, number: u32) {
-    let mut is_first = true;
-    for part in text.split('#') {
-        put_part(out, part, number, is_first);
-        is_first = false;
-    }
-}
-
-/// Adds a part, after a number unless it is the first one.
-fn put_part(out: &mut Answer, part: &str, number: u32, is_first: bool) {
-    if is_first {
-        return out.put(part);
-    }
-    let (number, text) = match part.strip_prefix('+') {
-        Some(text) => (number.saturating_add(1), text),
-        None => (number, part),
-    };
-    out.put_count("", number as u64);
-    out.put(text);
-}
-
-/// Adds what stands after a number, so many times.
-fn put_repeated(out: &mut Answer, repeat: &str) {
-    let (count, text) = repeat.split_once(' ').unwrap_or((repeat, ""));
-    for number in 0..count.parse::<u32>().unwrap_or(0) {
-        put_numbered(out, text, number);
-    }
-}
-
 impl<'t> Settings<'t> {
     /// No settings.
     pub(crate) fn new(alloc: Global) -> Settings<'t> {
@@ -125,8 +97,8 @@ impl<'t> Settings<'t> {
     }
 
     /// Takes a setting: its word and its text, with a space between them.
-    pub(crate) fn set(&mut self, setting: &'t str) -> Result<(), AllocError> {
-        let (word, text) = setting.split_once(' ').unwrap_or((setting, ""));
+    pub(crate) fn set(&mut self, out: &mut Answer, setting: &'t str) {
+        let (word, text) = cut(setting, " ");
         match value_named(SETTINGS, word) {
             Some(Setting::Rows) => {
                 self.kind = value_named(KINDS, text);
@@ -134,17 +106,9 @@ impl<'t> Settings<'t> {
             }
             Some(Setting::Form) => self.form = text,
             Some(Setting::Document) => self.document = text,
-            Some(Setting::Repeat) => return self.add_repeat(text),
+            Some(Setting::Repeat) => out.take(&mut self.repeats, Ok(cut(text, " "))),
             None => self.kind = None,
         }
-        Ok(())
-    }
-
-    /// Takes a name, and what is repeated for it.
-    fn add_repeat(&mut self, text: &'t str) -> Result<(), AllocError> {
-        let repeat = text.split_once(' ').unwrap_or((text, ""));
-        self.repeats.push(repeat)?;
-        Ok(())
     }
 
     /// Adds the text for which a name stands: the field of an input for a number.

@@ -11,9 +11,7 @@ use xs_trace::item::Site;
 
 /// Begins a declaration: what it is.
 fn put_word(out: &mut Answer, word: &str) {
-    if !out.bytes.is_empty() {
-        out.put("; ");
-    }
+    out.put_between("; ");
     out.put(word);
 }
 

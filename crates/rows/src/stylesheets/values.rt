@@ -10,16 +10,12 @@ use xs_xpath::name::{NodeTest, Slot};
 /// Adds a local part, and the URI of its namespace in square brackets.
 pub(crate) fn put_expanded(out: &mut Answer, uri: &str, local: &str) {
     out.put(local);
-    if !uri.is_empty() {
-        out.put_in("[", uri, "]");
-    }
+    out.put_part("[", uri, "]");
 }
 
 /// Adds a name: its prefix with a colon, its local part, its URI in square brackets.
 pub(crate) fn put_label(out: &mut Answer, name: &Label) {
-    if !name.prefix().is_empty() {
-        out.put_in("", name.prefix(), ":");
-    }
+    out.put_part("", name.prefix(), ":");
     put_expanded(out, name.uri(), name.local());
 }
 

@@ -12,7 +12,7 @@ fn put_marked(out: &mut Answer, tree: &Tree, marks: &[bool]) -> usize {
     let mut marked = 0_usize;
     for place in 0..tree.len() as u32 {
         if tree.kind(Node::at(place)) == Kind::Text {
-            if marks.get(place as usize).copied().unwrap_or(false) {
+            if marks.get(place as usize) == Some(&true) {
                 out.put("x");
                 marked = marked.wrapping_add(1);
             } else {
@@ -31,10 +31,9 @@ pub(crate) fn put_kept(out: &mut Answer, alloc: Global, rules: &[StripRule], tre
     };
     let gone = put_marked(out, tree, &marks);
     let before = tree.len();
-    if strip_space(alloc, tree, rules).is_err() {
-        out.refuse();
-    }
-    if tree.len().wrapping_add(gone) != before {
-        out.put(" but other nodes are stripped");
-    }
+    out.note(strip_space(alloc, tree, rules));
+    out.put_if(
+        tree.len().wrapping_add(gone) != before,
+        " but other nodes are stripped",
+    );
 }

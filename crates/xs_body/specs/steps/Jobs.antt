@@ -1,5 +1,7 @@
 -- What the code's jobs stand for.
+use Rattle.std.specs.Prelude.{List, []}
 use Rattle.std.specs.Arc.{arc_value}
+use Rattle.xs_value.specs.declared.value.Value.{Value}
 use Rattle.xs_body.specs.declared.task.Job.{Job}
 use Rattle.xs_body.specs.declared.task.Job.TheVariants.{Body, Rules}
 use Rattle.xs_semantics.specs.Tasks as tasks
@@ -8,3 +10,8 @@ use Rattle.xs_semantics.specs.Tasks.{body_job, rules_job}
 abbrev pub job_of : Job → tasks.Job
 job_of (Body body locals) = body_job body.now (arc_value locals).items
 job_of (Rules mode passed) = rules_job mode passed
+
+-- the local variables that it sees
+abbrev pub locals_of : tasks.Job → List Value
+locals_of (body_job body vs) = vs
+locals_of (rules_job mode ps) = []

@@ -1,8 +1,8 @@
 use Rattle.std.proofs.Common.{refl}
 use Rattle.xs_modules.specs.Results.{modules_data}
-use Rattle.xs_engine.specs.Reply.{job_data}
-use Rattle.xs_engine.proofs.DueLemmas.{checked_owed, run_owed, static_owed}
-use Rattle.xs_engine.proofs.FetchLemmas.{sheet_asked_for, source_left}
+use Rattle.xs_answer.specs.Reply.{job_data}
+use Rattle.xs_answer.proofs.DueLemmas.{checked_owed, run_owed, static_owed}
+use Rattle.xs_answer.proofs.FetchLemmas.{sheet_asked_for, source_left}
 use Rattle.xs_well_put.specs.Named.{IsNamedSheet}
 use Rattle.xs_engine.proofs.answer.modules_reply.Goals as goal
 
@@ -22,7 +22,7 @@ returns-in-Ok-clause-due g c =
     (c.sheets_are_named.ensures (modules_data c.args.modules.now) c.in-Ok.sheet c.requires.sound c.modules_are_trees.ensures c.in-Ok.ensures.stands)
     c.in-Some.is c.in-Ok.ensures.accepted c.in-Ok.ensures.stands c.run_reply.ensures.due
 
--- A static fault, or want of memory.
+-- A static fault, or out of memory.
 pub returns-in-Err-Refused-clause-asks : goal.returns-in-Err-Refused-clause-asks
 returns-in-Err-Refused-clause-asks g c = source_left _ _ _ _ _ _ _ refl refl
 

@@ -1,21 +1,24 @@
 use Rattle.xs_making.specs.Laws.{AreWell}
+use Rattle.xs_globals.specs.Results.{told_in}
 use Rattle.xs_keys.specs.KeyTables.{tables_of}
 use Rattle.xs_semantics.specs.World.{ground}
 use Rattle.xs_well_put.specs.Named.{IsNamedSheet, IsNamedWorld}
-use Rattle.xs_engine.specs.Evaluation.{IsEvaluated}
-use Rattle.xs_engine.specs.Reply.{job_data}
-use Rattle.xs_engine.proofs.EvaluationLemmas.{ended_in_globals}
-use Rattle.xs_engine.proofs.ReadBackLemmas.{ground_named}
-use Rattle.xs_engine.proofs.ReplyLemmas.{replies_so}
+use Rattle.xs_answer.specs.Evaluation.{IsEvaluated}
+use Rattle.xs_answer.specs.Reply.{job_data}
+use Rattle.xs_answer.proofs.EvaluationLemmas.{ended_in_globals}
+use Rattle.xs_answer.proofs.ReadBackLemmas.{ground_named}
+use Rattle.xs_answer.proofs.ReplyLemmas.{replies_so}
+use Rattle.xs_engine.proofs.SettledLemmas.{ended_globals}
 use Rattle.xs_engine.proofs.evaluation.evaluate_by.Goals as goal
 
 pub returns-in-Some-clause-answer : goal.returns-in-Some-clause-answer
 returns-in-Some-clause-answer c =
     let w = ground c.args.sheet.now c.args.index.now c.args.tree.now (tables_of c.args.keys.now.tree.value c.args.keys.now.sheet.value.keys) in
-    ended_in_globals (job_data c.args.job.now) w c.in_ok-settled.settled
-    (rw c.deref.ensures.value at c.in_ok-settled.ensures.settles) c.stopped_reply.result (IsNamedSheet c.args.sheet.now × AreWell c.args.tree.now)
-    c.in-Some.spot c.in-Some.is
-    (rw (c.deref-in-Some.ensures.value, c.new-nothing.ensures.empty) at c.stopped_reply.ensures)
+    ended_in_globals (job_data c.args.job.now) w (told_in c.in_ok-settled.settled) c.stopped_reply.result
+    (IsNamedSheet c.args.sheet.now × AreWell c.args.tree.now) c.in-Some.spot
+    (ended_globals (job_data c.args.job.now) w c.in_ok-settled.settled (rw c.deref.ensures.value at c.in_ok-settled.ensures.settles)
+    c.in-Some.spot c.in-Some.is)
+    (rw c.deref-in-Some.ensures.value at c.stopped_reply.ensures)
 
 pub returns-clause-answer : goal.returns-clause-answer
 returns-clause-answer c =

@@ -1,21 +1,27 @@
-use Rattle.std.proofs.Common.{◌∙◌, Some, ap, arith, subst}
-use Rattle.xs_body.specs.Inside.{IsWorld}
+use Rattle.std.proofs.Common.{◌∙◌, Some, ap, arith, refl, subst, sym}
+use Rattle.xs_semantics.specs.Inside.{IsWorld}
+use Rattle.xs_globals.specs.Results.{told_in}
 use Rattle.xs_semantics.specs.Globals.{with_globals}
 use Rattle.xs_semantics.specs.World.{World, with_grain}
-use Rattle.xs_engine.specs.Reply.{job_data}
-use Rattle.xs_engine.proofs.RanLemmas.{is_ran, ready, run_within}
+use Rattle.xs_answer.specs.Reply.{job_data}
+use Rattle.xs_answer.proofs.RanLemmas.{is_ran, ready, run_within}
+use Rattle.xs_engine.proofs.SettledLemmas.{all_settled}
 use Rattle.xs_engine.proofs.evaluation.root_reply.Goals as goal
 
 pub returns-clause-answer : goal.returns-clause-answer
 returns-clause-answer c =
     let grain = c.args.job.now.grain in
-    c.executed_reply.ensures.answer c.args.world.now (ap (λ (w : World). w.sheet) c.world.view_is) c.requires.settled c.requires.none
-    (is_ran (job_data c.args.job.now) c.args.world.now c.args.settled.now c.new-runner.result c.in_ok-root.root c.in_ok-executed.executed
+    c.executed_reply.ensures.answer c.args.world.now (told_in c.args.settled.now) (ap (λ (w : World). w.sheet) c.world.view_is)
+    (sym c.deref-2.ensures.value) refl
+    (all_settled (job_data c.args.job.now) c.args.world.now c.args.settled.now c.requires.settled c.requires.none)
+    (is_ran (job_data c.args.job.now) c.args.world.now (told_in c.args.settled.now) c.new-runner.result c.in_ok-root.root c.in_ok-executed.executed
     c.requires.whole
     (c.new-runner.ensures ∙ ap (λ (w : World). with_grain (Some grain) (with_globals w c.deref.result.now)) c.world.view_is
     ∙ ap (λ vs. with_grain (Some grain) (with_globals c.args.world.now vs)) c.deref.ensures.value)
     c.in_ok-root.ensures.task c.whole_is_run.ensures c.in_ok-executed.ensures.cut c.in_ok-executed.ensures.claims
-    c.in_ok-executed.ensures.whole c.in_ok-executed.ensures.taken c.in_ok-executed.ensures.only_above c.in_ok-executed.ensures.worked)
+    c.in_ok-executed.ensures.whole c.in_ok-executed.ensures.taken c.in_ok-executed.ensures.only_above c.in_ok-executed.ensures.overspent
+    c.in_ok-executed.ensures.worked
+    c.in_ok-executed.ensures.missing)
 
 pub execute-requires-clause-ready : goal.execute-requires-clause-ready
 execute-requires-clause-ready c =

@@ -1,8 +1,6 @@
-use Rattle.std.proofs.Common.{refl, subst, sym, rules}
-use Rattle.xs_body.specs.Inside.{IsInside, IsParams, IsPassing}
+use Rattle.std.proofs.Common.{refl, subst, rules}
+use Rattle.xs_body.specs.Inside.{IsInside}
 use Rattle.xs_body.specs.declared.frames.Frame.{Frame}
-use Rattle.xs_body.specs.declared.frames.ParamsLeft.{ParamsLeft}
-use Rattle.xs_body.specs.declared.frames.Passing.{Passing}
 use Rattle.xs_body.proofs.evaluator.Evaluator.advance.Goals as goal
 
 pub go_on-requires-sync-K : goal.go_on-requires-sync-K
@@ -22,21 +20,18 @@ apply_next-requires-sync-K g c κs within =
 
 pub pass_next-requires-sync-K : goal.pass_next-requires-sync-K
 pass_next-requires-sync-K g c κs within =
-    let rs = c.args.self.now.world.tree in
-    let first = subst (λ (f : Frame). IsInside rs f) c.in-Pass.is c.requires.first in
-    (search rules, ((refl, tt), (c.requires.holes, subst (λ (p : Passing). IsPassing rs p) (sym c.into_inner.ensures) first)))
+    let first = subst (λ (f : Frame). IsInside c.args.self.now.world.tree f) c.in-Pass.is c.requires.first in
+    (search rules, ((refl, tt), (c.requires.holes, first)))
 
 pub take_value-requires-sync-K : goal.take_value-requires-sync-K
 take_value-requires-sync-K g c κs within =
-    let rs = c.args.self.now.world.tree in
-    let first = subst (λ (f : Frame). IsInside rs f) c.in-Take.is c.requires.first in
-    (search rules, ((refl, tt), (c.requires.holes, subst (λ (p : Passing). IsPassing rs p) (sym c.into_inner-in-Take.ensures) first)))
+    let first = subst (λ (f : Frame). IsInside c.args.self.now.world.tree f) c.in-Take.is c.requires.first in
+    (search rules, ((refl, tt), (c.requires.holes, first)))
 
 pub next_param-requires-sync-K : goal.next_param-requires-sync-K
 next_param-requires-sync-K g c κs within =
-    let rs = c.args.self.now.world.tree in
-    let first = subst (λ (f : Frame). IsInside rs f) c.in-Params.is c.requires.first in
-    (search rules, ((refl, tt), subst (λ (p : ParamsLeft). IsParams rs p) (sym c.into_inner-in-Params.ensures) first))
+    let first = subst (λ (f : Frame). IsInside c.args.self.now.world.tree f) c.in-Params.is c.requires.first in
+    (search rules, ((refl, tt), first))
 
 pub put_attributes-requires-sync-K : goal.put_attributes-requires-sync-K
 put_attributes-requires-sync-K g c κs within =

@@ -1,8 +1,8 @@
-use Rattle.std.proofs.Common.{◌<◌, ℕ, List, false, length, refl, rules, sym, subst}
+use Rattle.std.proofs.Common.{◌<◌, List, false, length, refl, rules, sym, subst}
 use Rattle.std.proofs.lemmas.Result.{err_from_is_err_and}
 use Rattle.xs_sheet.specs.declared.body.InstrKind.{InstrKind}
 use Rattle.xs_sheet.specs.declared.body.SortDecl.{SortDecl}
-use Rattle.xs_trace.specs.Play.{IsStep, IsStepBy, and_then}
+use Rattle.xs_trace.specs.Play.{IsStepBy, and_then}
 use Rattle.xs_trace.specs.Run.{limited}
 use Rattle.xs_semantics.specs.World.{looped_nodes}
 use Rattle.xs_body.specs.steps.Lists.{nodes_in}
@@ -20,15 +20,13 @@ returns-in-ValueOf-clause-told g c =
     (g.R.Tally.state c.put_value.new.recorder)) (sym c.in-ValueOf.is)
     (stays-told (value_steps c.in-ValueOf.select c.args.site c.args.scope t s) t t _ c.put_value.result refl c.put_value.ensures.told)
 
-pub returns-in_ok-copy-in-Text-clause-told : goal.returns-in_ok-copy-in-Text-clause-told
-returns-in_ok-copy-in-Text-clause-told g c =
+pub returns-in-Text-clause-told : goal.returns-in-Text-clause-told
+returns-in-Text-clause-told g c =
     let t : Evaluation = c.args.self.now in
     let s = g.R.Tally.state c.args.recorder.now in
-    subst (λ (k : InstrKind). IsStepBy {A = Evaluation} {B = Unit {0}} (λ u. t) (begun k c.args.site c.args.scope t s) c.put_text.result
-    (g.R.Tally.state c.put_text.new.recorder)) (sym c.in-Text.is)
-    (stays-told (chars_steps c.args.site c.in-Text.text s) t t _ c.put_text.result refl
-    (subst (λ (x : List ℕ). IsStep (chars_steps c.args.site x s) c.put_text.result (g.R.Tally.state c.put_text.new.recorder))
-    c.in_ok-copy-in-Text.ensures.text c.put_text.ensures.told))
+    subst (λ (k : InstrKind). IsStepBy {A = Evaluation} {B = Unit {0}} (λ u. t) (begun k c.args.site c.args.scope t s) c.put_copied_text.result
+    (g.R.Tally.state c.put_copied_text.new.recorder)) (sym c.in-Text.is)
+    (stays-told (chars_steps c.args.site c.in-Text.text s) t t _ c.put_copied_text.result refl c.put_copied_text.ensures.told)
 
 pub returns-in-CopyOf-clause-told : goal.returns-in-CopyOf-clause-told
 returns-in-CopyOf-clause-told g c =

@@ -1,23 +1,12 @@
-use Rattle.std.proofs.Common.{◌≡◌, refl, ap, ◌∙◌, subst, rules}
+use Rattle.std.proofs.Common.{◌≡◌, refl, ap, rules}
 use Rattle.std.proofs.lemmas.List.Elements.{All-same}
 use Rattle.xs_value.specs.Conversion.{IsIn}
-use Rattle.xs_body.specs.Inside.{AreCallees}
 use Rattle.xs_semantics.specs.Tasks.{Params}
-use Rattle.xs_body.specs.declared.frames.Callee.{Callee}
 use Rattle.xs_body.proofs.evaluator.Evaluator.call.Goals as goal
 
-pub call_template-requires-sync-K : goal.call_template-requires-sync-K
-call_template-requires-sync-K g c κs within =
+pub call_with-requires-sync-K : goal.call_with-requires-sync-K
+call_with-requires-sync-K g c κs within =
     let rs = c.args.self.now.world.tree in
     let e : c.of-passed.result.values ≡ c.args.passing.values.items = ap (λ (ps : Params). ps.values) c.of-passed.ensures in
     let values = All-same (IsIn rs) c.of-passed.result.values c.args.passing.values.items e c.requires.passing.values in
-    (search rules, ((refl, tt), (c.requires.passing.node, values)))
-
-pub apply-requires-sync-K : goal.apply-requires-sync-K
-apply-requires-sync-K g c κs within =
-    let rs = c.args.self.now.world.tree in
-    let e : c.in_ok-passed-in-Rules.passed.values ≡ c.args.passing.values.items =
-    ap (λ (ps : Params). ps.values) (c.in_ok-passed-in-Rules.ensures ∙ c.of-passed.ensures) in
-    let values = All-same (IsIn rs) c.in_ok-passed-in-Rules.passed.values c.args.passing.values.items e c.requires.passing.values in
-    let nodes = subst (λ (x : Callee). AreCallees rs x) c.in-Rules.is c.requires.passing.callee in
-    (search rules, ((refl, tt), (c.requires.holes, (nodes, values))))
+    (search rules, ((refl, tt), (c.requires.holes, (c.requires.passing.node, (values, c.requires.passing.callee)))))

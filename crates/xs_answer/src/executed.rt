@@ -1,0 +1,61 @@
+//! What the pieces of a run came to, as a reply.
+
+ghost use Rattle.std.specs.Prelude.{◌≡◌, ◌≤◌, ◌+◌, ◌⊎◌, IfOk};
+ghost use Rattle.xs_semantics.specs.Globals.{settled, SettlesAll, Table};
+ghost use Rattle.xs_semantics.specs.World.{World};
+ghost use Rattle.xs_answer.specs.declared.status.TheConstants.{OK, RUN_FAULT};
+ghost use Rattle.xs_answer.specs.Evaluation.{IsEvaluated};
+ghost use Rattle.xs_answer.specs.Ran.{IsRan};
+ghost use Rattle.xs_answer.specs.Reply.{IsWholeOrEmpty, Replies, job_data};
+ghost use Rattle.xs_well_put.specs.Named.{IsNamedWorld};
+
+use crate::job::Job;
+use crate::reply::{Pieces, Reply, stopped_reply, whole_reply, with_pieces, with_stats};
+use std::alloc::{AllocError, Global};
+use xs_assemble::assembled::Executed;
+use xs_sheet::sheet::Sheet;
+use xs_trace::text::TextBuf;
+
+/// What the root's pieces came to, as a reply: after the messages and ticks of the globals.
+pub fn executed_reply(
+    alloc: Global,
+    job: &Job,
+    sheet: &Sheet,
+    says: &[TextBuf],
+    ticks: u64,
+    executed: Executed,
+) -> Result<Reply, AllocError>
+    requires within { ticks + executed.assembled.ticks ≤ job.now.budget }
+    ensures answer { (w : World) (t : Table) → sheet.now ≡ w.sheet →
+        t.says ≡ says.now → t.ticks ≡ ticks →
+        SettlesAll w (job_data job.now).given job.now.budget (settled t) →
+        IsRan (job_data job.now) w t executed →
+        IfOk result (Replies (IsNamedWorld w) (IsEvaluated (job_data job.now) w)) }
+    ensures status { IfOk result (λ reply.
+        (reply.status ≡ OK) ⊎ (reply.status ≡ RUN_FAULT)) }
+    ensures whole_only { IfOk result IsWholeOrEmpty }
+{
+    xs_well_put::laws::runs_put_results();
+    let Executed {
+        assembled,
+        claims,
+        worked,
+    } = executed;
+    let all = ticks + assembled.ticks;
+    let pieces = Pieces {
+        claims,
+        inline: assembled.inline,
+        worked,
+    };
+    match assembled.end {
+        None => {
+            let items = &assembled.items;
+            let reply = whole_reply(alloc, sheet.method, says, &assembled.says, items, all)?;
+            with_stats(reply, pieces, job.stats)
+        }
+        Some(spot) => {
+            let reply = stopped_reply(alloc, sheet, spot, says, &assembled.says, all)?;
+            Ok(with_pieces(reply, pieces))
+        }
+    }
+}

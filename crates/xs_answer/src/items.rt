@@ -1,0 +1,180 @@
+//! The bytes of a result, by the items of a run, and the lines of messages.
+
+ghost use Rattle.std.specs.Iterator.{YieldsFirstBy, item_count};
+ghost use Rattle.std.specs.List.{cons_option};
+ghost use Rattle.std.specs.Prelude.{◌≡◌, ◌<◌, ◌+◌, ◌^◌, ◌++◌, [], All, IfOk, OnOk, length};
+ghost use Rattle.std.specs.Prelude.{option_map};
+ghost use Rattle.xs_block.specs.Chain.{items_of};
+ghost use Rattle.xs_result.specs.Built.{built};
+ghost use Rattle.xs_result.specs.Text.{text_in};
+ghost use Rattle.xs_answer.specs.Answer.{document_of, message_line, message_lines, result_of};
+ghost use Rattle.xs_answer.specs.Items.{events_in, item_event};
+ghost use Rattle.xs_answer.specs.ReadBack.{ReadsAs};
+ghost use Rattle.xs_reading_back.specs.Events.{HasTexts, IsResult};
+ghost use Rattle.xs_reading_back.specs.Laws.{IsReadBack};
+ghost use Rattle.xs_writing.specs.Lines.{pyx};
+
+use std::alloc::{AllocError, Global};
+use std::marker::Model;
+use xs_block::chain::Chain;
+use xs_block::items::Items;
+use xs_reading_back::event_texts;
+use xs_result::write_text;
+use xs_sheet::declarations::Method;
+use xs_text::escape_into;
+use xs_trace::event::Event;
+use xs_trace::item::Item;
+use xs_trace::text::TextBuf;
+use xs_writing::write_pyx;
+
+/// The events among some items that are still to come. Contracts see it as the list of them.
+#[derive(Drop)]
+struct Events<'a> {
+    left: Items<'a, Item>,
+}
+
+impl<'a> Model for Events<'a> {
+    ghost use Rattle.std.specs.Prelude.{List};
+    ghost use Rattle.xs_trace.specs.declared.event.Event.{Event};
+    ghost use Rattle.xs_answer.specs.Items.{events_in};
+
+    ghost Value = { List Event };
+
+    ghost view = { λ e. events_in e.left };
+}
+
+impl<'a> Iterator for Events<'a> {
+    type Item = &'a Event;
+
+    ghost next_gives = { YieldsFirstBy (λ e. e.now) (λ a. a) };
+
+    ghost remaining = { item_count (λ a. a) };
+
+    #[tactic(auto, using(crate::proofs::ItemLemmas::events_after))]
+    fn next(&mut self) -> Option<&'a Event> {
+        while let Some(item) = self.left.next() {
+            if let Some(event) = event_of(item) {
+                return Some(event);
+            }
+        }
+        None
+    }
+}
+
+/// The event that an item is; nothing else is one.
+fn event_of(item: &Item) -> Option<&Event>
+    ensures { option_map (λ e. e.now) result ≡ item_event item.now }
+{
+    match item {
+        Item::Put(event) => Some(event),
+        _ => None,
+    }
+}
+
+/// The bytes of a result, of the events among the items, as a method writes them. The lines of
+/// events that are balanced and can be written read back as what stays of these.
+pub fn result_bytes(
+    alloc: Global,
+    method: Method,
+    items: &Chain<Item>,
+) -> Result<Vec<u8>, AllocError>
+    ensures bytes { IfOk result (λ bytes. bytes.items
+        ≡ result_of method (events_in (items_of items.now))) }
+    ensures reads_back { IfOk result (λ bytes. IsResult (events_in (items_of items.now))
+        → ReadsAs (document_of method (events_in (items_of items.now))) bytes.items) }
+{
+    match method {
+        Method::Pyx => result_lines(alloc, items),
+        Method::Text => result_text(alloc, items),
+    }
+}
+
+/// The lines of a result: of what stays of the events among the items.
+fn result_lines(alloc: Global, items: &Chain<Item>) -> Result<Vec<u8>, AllocError>
+    ensures lines { IfOk result (λ lines. lines.items ≡ pyx (events_in (items_of items.now))) }
+    ensures reads_back { IfOk result (λ lines. IsResult (events_in (items_of items.now))
+        → IsReadBack lines.items (built (events_in (items_of items.now)))) }
+{
+    xs_reading_back::laws::results_read_back();
+    check_events(items)?;
+    let mut lines = Vec::new(alloc);
+    let left = items.items();
+    write_pyx(&mut lines, Events { left })?;
+    Ok(lines)
+}
+
+/// Counts the events among some items, whose texts are UTF-8. No memory holds 2^64 of them.
+fn check_events(items: &Chain<Item>) -> Result<(), AllocError>
+    ensures texts { OnOk result (All HasTexts (events_in (items_of items.now))) }
+    ensures few { OnOk result (length (events_in (items_of items.now)) < 2 ^ 64) }
+{
+    let mut count = 0;
+    for item in items.items() {
+        count = count_event(count, item)?;
+    }
+    Ok(())
+}
+
+/// One more where an item is an event, whose texts are UTF-8.
+#[tactic(auto, using(crate::proofs::ReadBackLemmas::one_text))]
+fn count_event(count: u64, item: &Item) -> Result<u64, AllocError>
+    ensures texts { IfOk result (λ n. All HasTexts (cons_option (item_event item.now) [])) }
+    ensures counted { IfOk result (λ n.
+        n ≡ count + length (cons_option (item_event item.now) [])) }
+    ensures few { IfOk result (λ n. n < 2 ^ 64) }
+{
+    match item {
+        Item::Put(event) => {
+            event_texts(event);
+            if count == u64::MAX {
+                return Err(AllocError);
+            }
+            Ok(count + 1)
+        }
+        Item::Run { .. } | Item::Say(_) => Ok(count),
+    }
+}
+
+/// The text of a result: of the text nodes that stay of the events among the items.
+fn result_text(alloc: Global, items: &Chain<Item>) -> Result<Vec<u8>, AllocError>
+    ensures { IfOk result (λ text. text.items
+        ≡ text_in (built (events_in (items_of items.now)))) }
+{
+    let mut text = Vec::new(alloc);
+    let left = items.items();
+    write_text(&mut text, Events { left })?;
+    Ok(text)
+}
+
+/// The lines of messages, and of those after them.
+pub fn message_lines(
+    alloc: Global,
+    says: &[TextBuf],
+    more: &[TextBuf],
+) -> Result<Vec<u8>, AllocError>
+    ensures { IfOk result (λ lines. lines.items ≡ message_lines (says.now ++ more.now)) }
+{
+    let mut lines = Vec::new(alloc);
+    append_messages(&mut lines, says)?;
+    append_messages(&mut lines, more)?;
+    Ok(lines)
+}
+
+/// Appends the lines of messages.
+fn append_messages(lines: &mut Vec<u8>, says: &[TextBuf]) -> Result<(), AllocError>
+    ensures { OnOk result (lines.new.items ≡ lines.old.items ++ message_lines says.now) }
+{
+    for text in says {
+        append_message(lines, text)?;
+    }
+    Ok(())
+}
+
+/// Appends the line of a message.
+fn append_message(lines: &mut Vec<u8>, text: &TextBuf) -> Result<(), AllocError>
+    ensures { OnOk result (lines.new.items ≡ lines.old.items ++ message_line text.now) }
+{
+    lines.extend_from_slice(b"message ")?;
+    escape_into(lines, text.as_str())?;
+    lines.extend_from_slice(b"\n")
+}

@@ -1,0 +1,5 @@
+mod ValueLemmas
+mod RunLemmas
+mod StayLemmas
+mod PlaceLemmas
+mod WholeLemmas
