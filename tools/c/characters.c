@@ -2,6 +2,8 @@
 
 #include <string.h>
 
+#include "names.h"
+
 enum { PART = OUTPUT_ROOM / 16 };
 
 bool unescape(struct text *text, char *bytes) {
@@ -22,11 +24,6 @@ bool unescape(struct text *text, char *bytes) {
     }
     text->length = made;
     return true;
-}
-
-/* Whether the three bytes here are U+FFFE or U+FFFF, which XML does not have. */
-static bool is_no_character(const char *at, size_t left) {
-    return left >= 3 && memcmp(at, "\xef\xbf", 2) == 0 && (unsigned char)at[2] >= 0xbe;
 }
 
 static bool is_control(unsigned char byte) {

@@ -1,7 +1,9 @@
 #include "declaration.h"
 
 #include <string.h>
+#include <strings.h>
 
+#include "plain.h"
 #include "scopes.h"
 
 /* A head as units: bytes, or pairs of bytes in UTF-16. */
@@ -45,7 +47,7 @@ static size_t after_word(const struct units *units, size_t at, const char *word)
     return at;
 }
 
-static size_t after_spaces(const struct units *units, size_t at) {
+static size_t after_blanks(const struct units *units, size_t at) {
     while (is_space(unit(units, at)))
         at++;
     return at;
@@ -63,14 +65,14 @@ static size_t after_quoted(const struct units *units, size_t at) {
 
 /* White space, the name, an equals sign and a quoted text. */
 static size_t after_attribute(const struct units *units, size_t at, const char *name) {
-    size_t end = after_spaces(units, at);
+    size_t end = after_blanks(units, at);
     if (end == at)
         return NOWHERE;
     end = after_word(units, end, name);
     if (end == NOWHERE)
         return NOWHERE;
-    end = after_word(units, after_spaces(units, end), "=");
-    return end == NOWHERE ? NOWHERE : after_quoted(units, after_spaces(units, end));
+    end = after_word(units, after_blanks(units, end), "=");
+    return end == NOWHERE ? NOWHERE : after_quoted(units, after_blanks(units, end));
 }
 
 static size_t after_optional(const struct units *units, size_t at, const char *name) {
@@ -140,7 +142,7 @@ struct moved standing_alone(char *head, size_t *length) {
     size_t end = NOWHERE;
     if (kept != NOWHERE) {
         kept = after_optional(&units, kept, "encoding");
-        end = after_spaces(&units, after_optional(&units, kept, "standalone"));
+        end = after_blanks(&units, after_optional(&units, kept, "standalone"));
         end = after_word(&units, end, "?>");
     }
     if (end != NOWHERE) {
@@ -153,4 +155,37 @@ struct moved standing_alone(char *head, size_t *length) {
     if (odd)
         head[*length - 1] = rest;
     return moved;
+}
+
+typedef int comparison(const char *, const char *, size_t);
+
+/* Passes over an attribute of the XML declaration with this value, or over nothing. */
+static const char *after_given(const char *at, const char *name, const char *value,
+                               comparison *compare) {
+    const char *after = after_spaces(at);
+    if (after == at || strncmp(after, name, strlen(name)) != 0)
+        return at;
+    after = after_spaces(after + strlen(name));
+    if (*after != '=')
+        return at;
+    after = after_spaces(after + 1);
+    bool is_quoted = *after == '"' || *after == '\'';
+    size_t length = strlen(value);
+    if (!is_quoted || compare(after + 1, value, length) != 0 || after[length + 1] != *after)
+        return at;
+    return after + length + 2;
+}
+
+const char *after_plain_head(const char *head) {
+    head += strncmp(head, "\xef\xbb\xbf", 3) == 0 ? 3 : 0;
+    const char *version = head + 5;
+    if (strncmp(head, "<?xml", 5) != 0 || !is_a(version, IS_SPACE))
+        return head;
+    const char *at = after_given(version, "version", "1.0", strncmp);
+    if (at == version)
+        return NULL;
+    at = after_given(at, "encoding", "UTF-8", strncasecmp);
+    const char *alone = after_given(at, "standalone", "yes", strncmp);
+    at = after_spaces(alone > at ? alone : after_given(at, "standalone", "no", strncmp));
+    return at[0] == '?' && at[1] == '>' ? at + 2 : NULL;
 }

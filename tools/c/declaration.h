@@ -23,4 +23,9 @@ struct moved standing_alone(char *head, size_t *length);
 /* The encoding of a head in units of two bytes, or NULL. */
 const char *wide_encoding(const char *head, size_t length);
 
+/* The place after the byte order mark and the XML declaration of a head in UTF-8, after
+ * which there is a zero; the head itself where it has neither, and NULL where its
+ * declaration is not a plain one, of version 1.0. */
+const char *after_plain_head(const char *head);
+
 #endif

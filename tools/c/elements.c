@@ -22,9 +22,8 @@ bool elements_open(struct elements *to, struct output *out, struct refusal *refu
 
 void elements_close(struct elements *to) {
     scopes_close(&to->scopes);
-    free(to->names.bytes);
+    opened_close(&to->opened);
     free(to->texts.bytes);
-    free(to->ends);
     free(to->attributes);
     free(to->expanded);
 }
@@ -56,12 +55,6 @@ static size_t keep(struct elements *to, struct store *store, struct text text) {
     return begin;
 }
 
-/* The name of the innermost open element. */
-static struct text open_name(const struct elements *to) {
-    size_t from = to->depth > 1 ? to->ends[to->depth - 2] : 0;
-    return (struct text){to->names.bytes + from, to->names.used - from};
-}
-
 static struct text name_of(const struct elements *to, const struct attribute *attribute) {
     return (struct text){to->texts.bytes + attribute->name, attribute->name_length};
 }
@@ -85,9 +78,9 @@ static void bind(struct elements *to) {
         if (is_bad && attribute->fault != BAD_NAME)
             attribute->fault = BAD_NAMESPACE;
         const struct binding *bound = scopes_find(&to->scopes, prefix);
-        if (is_bad || (bound && bound->depth == to->depth))
+        if (is_bad || (bound && bound->depth == to->opened.depth))
             continue;
-        if (!scopes_bind(&to->scopes, prefix, uri, to->depth))
+        if (!scopes_bind(&to->scopes, prefix, uri, to->opened.depth))
             refuse_line(to->refusal, 0, NO_MEMORY);
     }
 }
@@ -138,7 +131,7 @@ void finish_start(struct elements *to, bool is_empty) {
     if (to->start == 0)
         return;
     bind(to);
-    split_name(open_name(to), &prefix, &local);
+    split_name(opened_last(&to->opened), &prefix, &local);
     if (prefix.length > 0 && !scopes_find(&to->scopes, prefix))
         refuse(to->refusal, to->start, UNBOUND_PREFIX, prefix);
     if (!is_refused(to->refusal))
@@ -152,7 +145,7 @@ void finish_start(struct elements *to, bool is_empty) {
 
 void open_element(struct elements *to, unsigned long number, struct text name) {
     struct text prefix, local;
-    if (to->depth == 0 && to->has_top && !to->is_fragment) {
+    if (to->opened.depth == 0 && to->has_top && !to->is_fragment) {
         refuse_line(to->refusal, number, SECOND_TOP);
         return;
     }
@@ -160,11 +153,10 @@ void open_element(struct elements *to, unsigned long number, struct text name) {
         refuse(to->refusal, number, BAD_NAME, name);
         return;
     }
-    to->ends = grow(to, to->ends, &to->most_depth, to->depth, sizeof *to->ends);
-    keep(to, &to->names, name);
-    if (is_refused(to->refusal))
+    if (!opened_push(&to->opened, name)) {
+        refuse_line(to->refusal, 0, NO_MEMORY);
         return;
-    to->ends[to->depth++] = to->names.used;
+    }
     to->has_top = true;
     to->start = number;
     output_byte(to->out, '<');
@@ -173,12 +165,12 @@ void open_element(struct elements *to, unsigned long number, struct text name) {
 
 void close_element(struct elements *to, unsigned long number, struct text name,
                           bool is_empty) {
-    if (to->depth == 0 || !same_text(open_name(to), name)) {
+    if (to->opened.depth == 0 || !same_text(opened_last(&to->opened), name)) {
         refuse_line(to->refusal, number, NOT_OPEN);
         return;
     }
-    scopes_leave(&to->scopes, to->depth--);
-    to->names.used -= name.length;
+    scopes_leave(&to->scopes, to->opened.depth);
+    opened_pop(&to->opened);
     if (is_empty)
         return;
     output_text(to->out, "</");

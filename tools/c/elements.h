@@ -1,10 +1,11 @@
-/* The open elements: their starts with attributes and declarations, tested and written. */
+/* The open elements of lines: their starts with attributes and declarations, tested and written. */
 #ifndef ELEMENTS_H
 #define ELEMENTS_H
 
 #include <stdbool.h>
 #include <stddef.h>
 
+#include "opened.h"
 #include "output.h"
 #include "refusal.h"
 #include "scopes.h"
@@ -21,11 +22,9 @@ struct elements {
     bool is_fragment;        /* any number of elements may be at the top */
     bool has_top;
     struct scopes scopes;
-    struct store names;       /* of the open elements, one after the other */
-    size_t *ends;             /* of these names */
-    size_t depth, most_depth; /* open elements, and for how many there is room */
-    unsigned long start;      /* the line of a start whose attributes are read, or 0 */
-    struct store texts;       /* of its attributes */
+    struct opened opened;
+    unsigned long start; /* the line of a start whose attributes are read, or 0 */
+    struct store texts;  /* of its attributes */
     struct attribute *attributes;
     size_t count, most_attributes;
     struct expanded *expanded; /* room for as many */

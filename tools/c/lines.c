@@ -5,11 +5,17 @@
 #include <string.h>
 #include <unistd.h>
 
-enum { ROOM = 1 << 18, PART = 1 << 16 };
+#include "blocks.h"
+
+#ifndef LINES_ROOM
+#define LINES_ROOM (1 << 18) /* tests have less */
+#endif
+
+enum { ROOM = LINES_ROOM, PART = ROOM / 4 };
 
 bool lines_open(struct lines *lines, int file) {
     *lines = (struct lines){.file = file, .room = ROOM};
-    lines->bytes = malloc(ROOM);
+    lines->bytes = malloc(ROOM + BLOCK);
     return lines->bytes != NULL;
 }
 
@@ -26,7 +32,7 @@ static void make_room(struct lines *lines) {
     lines->to = left;
     if (left <= lines->room / 2)
         return;
-    char *grown = realloc(lines->bytes, 2 * lines->room);
+    char *grown = realloc(lines->bytes, 2 * lines->room + BLOCK);
     if (!grown) {
         lines->fault = ENOMEM;
         return;
@@ -46,6 +52,7 @@ static void read_more(struct lines *lines) {
             lines->fault = errno;
         lines->is_at_end = got == 0;
         lines->to += got > 0 ? (size_t)got : 0;
+        memset(lines->bytes + lines->to, 0, BLOCK);
         return;
     }
 }

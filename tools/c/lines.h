@@ -17,7 +17,7 @@ struct line {
 
 struct lines {
     int file;
-    char *bytes;
+    char *bytes; /* with a block of zeros after those that were read */
     size_t room, from, to; /* what was read and not given yet */
     size_t searched;       /* how much of that has no line feed */
     unsigned long number;  /* of lines that were begun */

@@ -5,24 +5,29 @@
 
 typedef unsigned char byte;
 
-/* The number of bytes that are one character of UTF-8, or 0. */
-static size_t length_of(const byte *at, size_t left) {
-    static const byte SECOND[][3] = {
-        /* first byte, least and greatest second byte, where these are special */
-        {0xe0, 0xa0, 0xbf}, {0xed, 0x80, 0x9f}, {0xf0, 0x90, 0xbf}, {0xf4, 0x80, 0x8f},
-    };
-    size_t length = at[0] < 0x80 ? 1 : at[0] < 0xe0 ? 2 : at[0] < 0xf0 ? 3 : 4;
-    if (length == 1)
+static bool continues(byte next) {
+    return (next & 0xc0) == 0x80;
+}
+
+size_t character_length(const char *text, size_t left) {
+    const byte *at = (const byte *)text;
+    if (at[0] < 0x80)
         return 1;
-    if (at[0] < 0xc2 || at[0] > 0xf4 || length > left)
+    if (at[0] < 0xc2 || at[0] > 0xf4 || left < 2 || !continues(at[1]))
         return 0;
-    for (size_t next = 1; next < length; next++)
-        if ((at[next] & 0xc0) != 0x80)
-            return 0;
-    for (size_t row = 0; row < sizeof SECOND / sizeof *SECOND; row++)
-        if (at[0] == SECOND[row][0] && (at[1] < SECOND[row][1] || at[1] > SECOND[row][2]))
-            return 0;
-    return length;
+    if (at[0] < 0xe0)
+        return 2;
+    if (left < 3 || !continues(at[2]) || (at[0] == 0xe0 && at[1] < 0xa0)
+        || (at[0] == 0xed && at[1] > 0x9f))
+        return 0;
+    if (at[0] < 0xf0)
+        return 3;
+    bool is_beyond = (at[0] == 0xf0 && at[1] < 0x90) || (at[0] == 0xf4 && at[1] > 0x8f);
+    return left < 4 || !continues(at[3]) || is_beyond ? 0 : 4;
+}
+
+bool is_no_character(const char *at, size_t left) {
+    return left >= 3 && memcmp(at, "\xef\xbf", 2) == 0 && (byte)at[2] >= 0xbe;
 }
 
 bool is_utf8(struct text text) {
@@ -37,7 +42,7 @@ bool is_utf8(struct text text) {
         }
         if (at == end)
             return true;
-        size_t length = length_of(at, (size_t)(end - at));
+        size_t length = character_length((const char *)at, (size_t)(end - at));
         if (length == 0)
             return false;
         at += length;

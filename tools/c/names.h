@@ -7,6 +7,12 @@
 
 #include "scopes.h"
 
+/* The number of bytes that are one character of UTF-8, of so many at least one, or 0. */
+size_t character_length(const char *at, size_t left);
+
+/* Whether the bytes here begin with U+FFFE or U+FFFF, which XML does not have. */
+bool is_no_character(const char *at, size_t left);
+
 /* Whether bytes are UTF-8: no surrogates, nothing longer than it has to be. */
 bool is_utf8(struct text text);
 

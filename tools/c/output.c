@@ -32,6 +32,18 @@ static int write_all(int file, const char *bytes, size_t length) {
     return 0;
 }
 
+void output_restart(struct output *out) {
+    out->written = out->passed > out->written ? out->passed : out->written;
+    out->passed = out->used = 0;
+}
+
+/* Writes so many bytes of the buffer, except those that were written before a restart. */
+static int write_first(struct output *out, size_t length) {
+    uint64_t written = out->written > out->passed ? out->written - out->passed : 0;
+    size_t passed_over = written < length ? (size_t)written : length;
+    return write_all(out->file, out->bytes + passed_over, length - passed_over);
+}
+
 /* Opens a file without a name, which goes when it is closed: 0, or the errno. */
 static int open_temporary(int *file) {
     FILE *made = tmpfile();
@@ -54,7 +66,7 @@ static void write_buffer(struct output *out, size_t kept) {
             out->file = out->target;
     }
     if (!out->fault)
-        out->fault = write_all(out->file, out->bytes, out->used - kept);
+        out->fault = write_first(out, out->used - kept);
     memmove(out->bytes, out->bytes + out->used - kept, kept);
     out->passed += out->used - kept;
     out->used = kept;

@@ -11,7 +11,9 @@
 #include <stdint.h>
 #include <string.h>
 
-enum { OUTPUT_ROOM = 1 << 17 };
+#ifndef OUTPUT_ROOM
+#define OUTPUT_ROOM (1 << 18) /* tests have less */
+#endif
 
 struct output {
     int target; /* the file that gets the bytes in the end */
@@ -20,12 +22,16 @@ struct output {
     char *bytes;
     size_t used;
     uint64_t passed; /* bytes that have left the buffer */
+    uint64_t written; /* of the first bytes, that were written before a restart */
     int fault; /* the errno of the first call that failed, or 0 */
 };
 
 /* Starts output to a file that is open. Where it is held, that file gets nothing before
  * output_finish: for results of which a beginning may look whole. False: out of memory. */
 bool output_open(struct output *out, int target, bool is_held);
+
+/* Begins again with what has to begin as what was put so far: that is not written twice. */
+void output_restart(struct output *out);
 
 /* Empties the buffer except for its last byte. */
 void output_flush(struct output *out);

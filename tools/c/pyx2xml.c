@@ -3,11 +3,11 @@
  * usage: pyx2xml [--fragment | --result] [FILE]
  *
  * One pass over a file or a pipe, with memory for one line (of a text a part), the names
- * of one start tag and of the open elements, and the bindings in scope. The document is
- * written while the lines are read; its last byte comes only when all of them were found
- * right, so that a beginning is no document. Of a fragment a beginning may be one: with
- * --fragment nothing is written before that. Lines that are refused get FILE:LINE and the
- * reason on standard error, and status 1.
+ * of one start tag and of the open elements, and the bindings in scope; plain lines have a
+ * faster path (plain_pyx.h). The document is written while the lines are read; its last
+ * byte comes only when all of them were found right, so that a beginning is no document.
+ * Of a fragment a beginning may be one: with --fragment nothing is written before that.
+ * Lines that are refused get FILE:LINE and the reason on standard error, and status 1.
  *
  * With --result the lines are what a program is still writing, and the caller holds what
  * comes: a document or else a piece of one, which of them is reported on standard error
@@ -29,6 +29,7 @@
 #include "lines.h"
 #include "names.h"
 #include "output.h"
+#include "plain_pyx.h"
 #include "refusal.h"
 #include "shape.h"
 
@@ -94,12 +95,12 @@ static void add_instruction(struct converter *to, unsigned long number, struct t
 /* Writes a text or a part of one. */
 static enum reason write_text(struct converter *to, struct text text) {
     uint64_t from = output_count(&to->out);
-    if (to->elements.depth == 0 && !to->is_fragment)
+    if (to->elements.opened.depth == 0 && !to->is_fragment)
         return is_blank(text) ? FINE : TEXT_OUTSIDE;
     if (!put_text(&to->out, text, false))
         return NO_CHARACTER;
     struct span span = {from, output_count(&to->out)};
-    if (to->is_result && to->elements.depth == 0 && !shape_text(&to->shape, text, span))
+    if (to->is_result && to->elements.opened.depth == 0 && !shape_text(&to->shape, text, span))
         return NO_MEMORY;
     return FINE;
 }
@@ -155,7 +156,7 @@ static enum reason read_line(const struct converter *to, const struct line *line
 static void note_shape(struct converter *to, unsigned long number, char kind, struct text name) {
     if (kind == 'A')
         shape_attribute(&to->shape, number, name);
-    else if (kind == '(' && to->elements.depth == 0 && !shape_element(&to->shape, number, name))
+    else if (kind == '(' && to->elements.opened.depth == 0 && !shape_element(&to->shape, number, name))
         refuse_line(&to->refusal, number, NO_MEMORY);
 }
 
@@ -189,7 +190,10 @@ static void add_line(struct converter *to, const struct line *line) {
 static void convert_lines(struct converter *to) {
     struct line line;
     bool is_text = false;
-    while (!to->out.fault && lines_next(&to->lines, &line)) {
+    for (;;) {
+        convert_plain_pyx(&to->lines, &to->elements);
+        if (to->out.fault || !lines_next(&to->lines, &line))
+            return;
         if (line.begins) {
             is_text = line.length > 0 && line.bytes[0] == '-';
             if (is_text)
@@ -212,7 +216,7 @@ static void convert(struct converter *to) {
     if (is_refused(&to->refusal) || to->out.fault || to->lines.fault)
         return;
     finish_start(&to->elements, false);
-    if (to->elements.depth > 0)
+    if (to->elements.opened.depth > 0)
         refuse_line(&to->refusal, to->lines.number, TRUNCATED);
     else if (!to->elements.has_top && !to->is_fragment)
         refuse_line(&to->refusal, to->lines.number, NO_ROOT);

@@ -2,11 +2,12 @@
  *
  * usage: xml2pyx [--drop-doctype] [--lines TABLE] [FILE]
  *
- * One pass over a file or a pipe, with memory for one tag, the open elements, the
- * bindings in scope and the bytes that are read at once. Lines are written while the
- * document is read; their last line feed comes only when all of it was found well-formed,
- * so that a beginning is no document. A document that is refused gets FILE:LINE:COLUMN and
- * the reason on standard error, and status 1.
+ * One pass over a file or a pipe, and a second one over a file that is not plain
+ * (plain_xml.h), with memory for one tag, the open elements, the bindings in scope and the
+ * bytes that are read at once. Lines are written while the document is read; their last
+ * line feed comes only when all of it was found well-formed, so that a beginning is no
+ * document. A document that is refused gets FILE:LINE:COLUMN and the reason on standard
+ * error, and status 1.
  *
  * expat without namespaces gives declarations and attributes in their order; the rules
  * of namespaces are tested here. Where there is a document type declaration a second
@@ -28,6 +29,7 @@
 #include "escapes.h"
 #include "namespaces.h"
 #include "output.h"
+#include "plain_xml.h"
 #include "table.h"
 
 enum { REASON = 128, REFUSED = 1, USAGE = 2 };
@@ -304,7 +306,7 @@ static void begin(struct converter *to, char *head, size_t *length) {
 static int convert(struct converter *to, int file) {
     struct chunk chunk = {NULL, 0, 0};
     int fault = 0;
-    bool is_first = true, goes_on = true;
+    bool is_first = true, goes_on = to->options.table || !convert_plain_xml(file, &to->out);
     while (goes_on) {
         fault = chunk_fit(&chunk, to->is_inside);
         if (!fault)

@@ -26,6 +26,8 @@ EXAMPLES = os.path.join(TOOLS, "..", "examples")
 MODULES = {"xml2pyx": xml2pyx, "pyx2xml": pyx2xml}
 FLAGS = {"xml2pyx": "--drop-doctype", "pyx2xml": "--fragment"}
 PYTHON = {"XSLT_CONVERTERS": "python"}
+# Of programs whose buffers are so small that all sorts of texts go beyond one.
+SMALL = {"xml2pyx": ["-DOUTPUT_ROOM=512"], "pyx2xml": ["-DOUTPUT_ROOM=4096", "-DLINES_ROOM=256"]}
 
 
 def call(tool, data, flag=False):
@@ -178,10 +180,24 @@ def is_no_document(tool, output):
 
 
 def run_native(tool, data, flag=False):
-    """One run of a program in C: the output, or the place and reason of its refusal."""
-    done = subprocess.run(
-        [native.program(tool), *([FLAGS[tool]] if flag else [])], input=data, capture_output=True, check=False
-    )
+    """One run of a program in C on a pipe: the output, or the place and reason of its refusal."""
+    return answer(tool, subprocess.run(command(tool, native.program(tool), flag), input=data, capture_output=True, check=False))
+
+
+def run_on_file(tool, program, data, flag=False):
+    """The same on a file, for any program."""
+    with tempfile.TemporaryFile() as source:
+        source.write(data)
+        source.seek(0)
+        return answer(tool, subprocess.run(command(tool, program, flag), stdin=source, capture_output=True, check=False))
+
+
+def command(tool, program, flag):
+    return [program, *([FLAGS[tool]] if flag else [])]
+
+
+def answer(tool, done):
+    """What a run gave: the output, or the place and reason of its refusal."""
     if done.returncode == 0:
         return done.stdout
     said = re.fullmatch(tool + r": standard input:(.*)\n", done.stderr.decode(), re.DOTALL)
@@ -251,16 +267,40 @@ def compare_natives(tests):
         for tool in MODULES:
             rows = [(name, data, flag) for name, data in samples_of(tool) for flag in (False, True)]
             rows += [(name, data, number % 4 == 3) for number, (name, data) in enumerate(random_samples(tool, 500))]
-            found = pool.map(lambda row: run_native(tool, *row[1:]), rows)
+            found = list(pool.map(lambda row: run_native(tool, *row[1:]), rows))
             for (name, data, flag), got in zip(rows, found):
                 wanted = call(tool, data, flag)
                 if not agree(wanted, got):
                     tests.check(f"{tool} in C: {name}", got, wanted)
                 else:
                     tests.holds(name, True)
+            fast_paths(tests, pool, tool, rows)
     native_tables(tests)
     native_memory(tests)
     native_builds(tests)
+
+
+def fast_paths(tests, pool, tool, rows):
+    """On a file, where plain documents have a path of their own, the answers are byte for byte those on a pipe; they are the same
+    again where a tag or a line seldom ends in the buffer that it begins in."""
+    rows = [*rows, *unplain_ends(tool)]
+    wanted = list(pool.map(lambda row: run_native(tool, *row[1:]), rows))
+    with tempfile.TemporaryDirectory() as folder:
+        small = os.path.join(folder, tool)
+        tests.holds(f"{tool} with small buffers", native.build(tool, small, SMALL[tool]))
+        for program in (native.program(tool), small):
+            found = pool.map(lambda row: run_on_file(tool, program, *row[1:]), rows)
+            for (name, _, _), got, right in zip(rows, found, wanted):
+                tests.check(f"{program} on a file: {name}", got, right)
+
+
+def unplain_ends(tool):
+    """Documents of many buffers that are plain as far as their ends."""
+    begin, row, ends = {
+        "xml2pyx": (b"<a>", b"<b c='d'>e&amp;\n</b>\n", (b"</a>", b"<\xc3\xa9/></a>", b"&x;</a>", b"</b>", b"\xff</a>", b"</a><a/>", b"")),
+        "pyx2xml": (b"(a\n", b"(b\nAc d\n-e&\\n\n)b\n", (b")a\n", b"(\xc3\xa9\n)\xc3\xa9\n)a\n", b"-\\x\n)a\n", b")b\n", b")a\n(a\n)a\n", b"")),
+    }[tool]
+    return [(f"many rows before {end}", begin + 20000 * row + end, False) for end in ends]
 
 
 def native_tables(tests):

@@ -10,15 +10,17 @@ slowly. The environment variable XSLT_CONVERTERS=python asks for these.
 import os
 
 SOURCES = os.path.join(os.path.dirname(os.path.dirname(os.path.realpath(__file__))), "c")
-FLAGS = ["-std=gnu11", "-O2"]
+FLAGS = ["-std=gnu11", "-O3"]
 # Of each program its files and libraries.
 PROGRAMS = {
     "xml2pyx": (
-        ["xml2pyx", "chunks", "declaration", "encodings", "escapes", "namespaces", "output", "scopes", "table"],
+        ["xml2pyx", "chunks", "declaration", "encodings", "escapes", "names", "namespaces", "opened", "output", "plain"]
+        + ["plain_xml", "references", "scopes", "table"],
         ["-lexpat"],
     ),
     "pyx2xml": (
-        ["pyx2xml", "characters", "elements", "lines", "names", "output", "refusal", "scopes", "shape"],
+        ["pyx2xml", "characters", "elements", "lines", "names", "opened", "output", "plain", "plain_pyx", "refusal"]
+        + ["scopes", "shape"],
         [],
     ),
 }
@@ -44,8 +46,8 @@ def is_new(path):
     return max(sources, default=0) <= os.path.getmtime(path)
 
 
-def build(name, path):
-    """Compiles a program; whether that succeeded."""
+def build(name, path, flags=()):
+    """Compiles a program, with more flags; whether that succeeded."""
     import shlex  # most runs need none of these
     import shutil
     import subprocess
@@ -59,7 +61,7 @@ def build(name, path):
     os.makedirs(os.path.dirname(path), exist_ok=True)
     with tempfile.TemporaryDirectory(dir=os.path.dirname(path)) as folder:
         made = os.path.join(folder, name)
-        command = [*compiler, *FLAGS, "-o", made, *sources, *libraries]
+        command = [*compiler, *FLAGS, *flags, "-o", made, *sources, *libraries]
         if subprocess.run(command, capture_output=True, check=False).returncode != 0:
             return False
         os.replace(made, path)

@@ -4,6 +4,7 @@ A result is held in a file without a name until it is whole and the program's st
 Where the converter in C can be had it runs beside the program and reads its lines from a pipe.
 """
 
+import contextlib
 import os
 import subprocess
 import tempfile
@@ -53,7 +54,11 @@ class TextResult:
         self.copy_span(out, 0, os.fstat(self.held.fileno()).st_size)
 
     def copy_span(self, out, begin, end):
-        """Writes a part of what is held, which may be long."""
+        """Writes a part of what is held, which may be long: by the system where it can."""
+        out.flush()
+        with contextlib.suppress(OSError):  # what can't be written is reported below
+            while begin < end and (sent := os.sendfile(out.fileno(), self.held.fileno(), begin, end - begin)):
+                begin += sent
         self.held.seek(begin)
         buffer = memoryview(bytearray(min(PART, end - begin)))
         while begin < end:

@@ -66,7 +66,7 @@ def refuse(status, *fault):
 
 def lines_of(name):
     try:
-        with open(name, encoding="utf-8", newline="") as file:
+        with open(name, encoding="utf-8", errors="replace", newline="") as file:  # its end may be half a character
             return file.read().split("\n")
     except OSError:
         refuse(2, 70, "ReadFault", name, 0)
