@@ -38,40 +38,34 @@ fn sent<T: Send>(value: T) -> T {
 
 // Whether a chain has the numbers from 0 to below `end`.
 fn counts_to(chain: &Chain<Box<u32>>, end: u32) -> bool {
-    let mut wanted = 0..end;
+    let mut next = 0_u32;
+    let mut is_counted = true;
     for item in chain.items() {
-        if wanted.next() != Some(**item) {
-            return false;
-        }
+        is_counted = is_counted && **item == next;
+        next = next.wrapping_add(1);
     }
-    wanted.next().is_none()
+    is_counted && next == end
 }
 
 // Whether a chain gives the numbers from 0 to below `end`.
 fn gives_to(chain: Chain<Box<u32>>, end: u32) -> bool {
-    let mut wanted = 0..end;
+    let mut next = 0_u32;
+    let mut is_counted = true;
     for item in chain.into_items() {
-        if wanted.next() != Some(*item) {
-            return false;
-        }
+        is_counted = is_counted && *item == next;
+        next = next.wrapping_add(1);
     }
-    wanted.next().is_none()
-}
-
-// Whether a pool has two blocks for 65 items of an empty chain.
-fn has_room(pool: &mut Pool<u64>, chain: &Chain<u64>) -> Result<bool, AllocError> {
-    pool.reserve(chain, 65)?;
-    Ok(pool.free_blocks() == 2 && pool.spare(chain) == 128)
+    is_counted && next == end
 }
 
 // Whether a pool makes room for 65 items in two blocks.
-fn makes_room(alloc: Global) -> Result<bool, AllocError> {
-    let mut pool = Pool::new(alloc);
+fn makes_room(alloc: Global, pool: &mut Pool<Box<u32>>) -> Result<bool, AllocError> {
     let chain = Chain::new(alloc);
-    let is_made = has_room(&mut pool, &chain);
+    let made = pool.reserve(&chain, 65);
+    let has_room = pool.free_blocks() == 2 && pool.spare(&chain) == 128;
     drop(chain);
-    drop(pool);
-    is_made
+    made?;
+    Ok(has_room)
 }
 
 // Whether a chain has 65 numbers in two blocks, and leaves the pool none.
@@ -133,14 +127,6 @@ fn gives_66(alloc: Global, pool: &mut Pool<Box<u32>>) -> Result<bool, AllocError
     Ok(is_cut? && is_given)
 }
 
-// Whether this is so of a pool that may go to another thread.
-fn joins_and_cuts(alloc: Global) -> Result<bool, AllocError> {
-    let mut pool = sent(Pool::new(alloc));
-    let is_given = gives_66(alloc, &mut pool);
-    drop(pool);
-    is_given
-}
-
 // Adds up to 200 numbers while there is room for one, and says how many.
 fn fill(pool: &mut Pool<u32>, chain: &mut Chain<u32>) -> u32 {
     for n in 0..200 {
@@ -163,12 +149,14 @@ fn keeps_blocks(pool: &mut Pool<u32>, mut chain: Chain<u32>) -> bool {
     (refused || pushed == 200) && held == made && pool.free_blocks() == made
 }
 
-// Whether 65 items are in two blocks.
+// Whether a pool, which may go to another thread, does so.
 fn holds_items(alloc: Global) -> Result<bool, AllocError> {
-    let mut pool = Pool::new(alloc);
+    let mut pool = sent(Pool::new(alloc));
+    let is_made = makes_room(alloc, &mut pool);
     let is_held = holds_65(alloc, &mut pool);
+    let is_given = gives_66(alloc, &mut pool);
     drop(pool);
-    is_held
+    Ok(is_made? && is_held? && is_given?)
 }
 
 #[test]
@@ -176,8 +164,6 @@ fn chains_and_their_pool(rt: HostRuntime) -> Result<(), AllocError> {
     let mut pool = Pool::new(rt.alloc());
     assert!(rt; keeps_blocks(&mut pool, Chain::new(rt.alloc())));
     drop(pool);
-    assert!(rt; makes_room(rt.alloc())?);
     assert!(rt; holds_items(rt.alloc())?);
-    assert!(rt; joins_and_cuts(rt.alloc())?);
     Ok(())
 }

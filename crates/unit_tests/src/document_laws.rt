@@ -1,11 +1,9 @@
-//! What the relation between bytes and lines says of single rows, and the laws of documents.
+//! What the relation between bytes and lines says of single rows and of two documents.
 
 ghost use Rattle.std.specs.Prelude.{◌≡◌, ◌∷◌, [], true, false, codes};
 ghost use Rattle.xs_pyx.specs.Reading.{says, faulty};
 ghost use Rattle.xs_pyx.specs.Lines.{AreLines, Says};
 ghost use Rattle.xs_pyx.specs.declared.line.Line.TheVariants.{Attr, Chars, End, Pi, Start};
-
-use xs_build::laws;
 
 /// What single rows say.
 pub(crate) fn lines()
@@ -46,12 +44,3 @@ pub(crate) fn documents()
         (Start (codes "r") ∷ End (codes "r") ∷ []) }
     ensures none { AreLines [] [] }
 {}
-
-/// The laws of documents and their trees.
-pub(crate) fn trees() {
-    laws::documents_are_trees();
-    laws::names_resolve();
-    laws::documents_follow_grammar();
-    laws::grammar_is_enough();
-    laws::lines_go_by_step();
-}

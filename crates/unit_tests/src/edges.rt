@@ -93,55 +93,30 @@ fn takes<S: Sink>(sink: &mut S, bytes: &[u8], count: usize) -> bool {
     }
 }
 
-// Whether a sink without room takes no text.
-fn refuses(sink: &mut MemSink) -> bool {
-    takes(sink, b"", 0) && sink.write(b"text").is_err()
-}
-
-// Whether a write fails in mid-piece.
-fn fails_inside(sink: &mut MemSink) -> bool {
-    write_whole(sink, b"(o\nAxmlns:p u1\n").is_err() && sink.held() == b"(o\nA".as_slice()
-}
-
-// Whether the writes after it are held.
-fn goes_on(sink: &mut MemSink) -> bool {
-    write_whole(sink, b"xmlns").is_ok() && sink.held() == b"(o\nAxmlns".as_slice()
-}
-
-// Whether a sink takes four bytes at once, and fails its fourth write.
-fn takes_four(sink: &mut MemSink) -> Result<bool, AllocError> {
-    let is_refused = refuses(sink);
-    sink.reserve(100)?;
-    Ok(is_refused && fails_inside(sink) && goes_on(sink))
-}
-
-// Whether a sink in memory does so.
-fn takes_four_at_once(alloc: Global) -> Result<bool, AllocError> {
-    let mut sink = MemSink::new(alloc, 4, vec![in alloc; 4]?);
-    let is_so = takes_four(&mut sink);
-    drop(sink);
-    is_so
+// Whether a sink without room takes no text, and one that takes four bytes at once fails its fourth
+// write in mid-piece, and goes on.
+fn takes_four(mut sink: MemSink) -> bool {
+    let is_refused = takes(&mut sink, b"", 0) && sink.write(b"text").is_err();
+    let has_room = sink.reserve(100).is_ok();
+    let fails = write_whole(&mut sink, b"(o\nAxmlns:p u1\n").is_err();
+    let is_cut = sink.held() == b"(o\nA".as_slice();
+    let goes_on = write_whole(&mut sink, b"xmlns").is_ok();
+    let is_held = sink.held() == b"(o\nAxmlns".as_slice();
+    is_refused && has_room && fails && is_cut && goes_on && is_held
 }
 
 // Whether a sink with room for two bytes takes no more.
-fn takes_two(sink: &mut MemSink) -> Result<bool, AllocError> {
-    sink.reserve(2)?;
-    Ok(takes(sink, b"text", 2) && sink.held() == b"te".as_slice())
-}
-
-// Whether a sink in memory does so.
-fn takes_no_more(alloc: Global) -> Result<bool, AllocError> {
-    let mut sink = MemSink::new(alloc, 4, Vec::new(alloc));
-    let is_so = takes_two(&mut sink);
-    drop(sink);
-    is_so
+fn takes_two(mut sink: MemSink) -> bool {
+    let has_room = sink.reserve(2).is_ok();
+    has_room && takes(&mut sink, b"text", 2) && sink.held() == b"te".as_slice()
 }
 
 #[test]
 fn files_and_bytes_in_memory(rt: HostRuntime) -> Result<(), AllocError> {
-    assert!(rt; has_a_file(rt.alloc())?);
-    assert!(rt; takes_four_at_once(rt.alloc())?);
-    assert!(rt; takes_no_more(rt.alloc())?);
+    let alloc = rt.alloc();
+    assert!(rt; has_a_file(alloc)?);
+    assert!(rt; takes_four(MemSink::new(alloc, 4, vec![in alloc; 4]?)));
+    assert!(rt; takes_two(MemSink::new(alloc, 4, Vec::new(alloc))));
     Ok(())
 }
 

@@ -2,21 +2,19 @@
 #![tactic(auto)]
 
 #[cfg(test)]
-mod axes;
-#[cfg(test)]
 mod blocks;
 #[cfg(test)]
 mod document_laws;
 #[cfg(test)]
 mod edges;
 #[cfg(test)]
+mod laws;
+#[cfg(test)]
 mod ledgers;
 #[cfg(test)]
 mod loads;
 #[cfg(test)]
 mod machine;
-#[cfg(test)]
-mod making;
 #[cfg(test)]
 mod numbers;
 #[cfg(test)]
@@ -25,7 +23,3 @@ mod pieces;
 mod probe;
 #[cfg(test)]
 mod recorders;
-#[cfg(test)]
-mod trace_laws;
-#[cfg(test)]
-mod writing;

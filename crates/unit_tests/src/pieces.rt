@@ -1,19 +1,174 @@
-//! A run in pieces whose second piece ended in the total, and is run again in its place.
+//! Runs in pieces of which some are missing, and are run again in their places.
 
-ghost use Rattle.std.specs.Prelude.{◌≤◌, ◌^◌};
+ghost use Rattle.std.specs.Prelude.{◌≡◌, ◌≤◌, ◌^◌};
 
 use std::alloc::{AllocError, Global};
-use xs_assemble::assembled::Executed;
+use xs_assemble::assembled::{Assembled, Executed};
 use xs_assemble::execute::execute;
+use xs_block::chain::Chain;
 use xs_block::pool::Pool;
+use xs_pieces::runner::Runner;
+use xs_record::outcome::{Outcome, Part};
 use xs_table::table::{Entry, Row, TableRunner, table_is_ready};
+use xs_trace::event::Event;
 use xs_trace::fault::Fault;
-use xs_trace::item::{Limits, Site, Spot};
+use xs_trace::item::{Ended, Item, Limits, Site, Spot};
 use xs_trace::text::TextBuf;
 
 // The instruction at a line.
 fn at(line: u32) -> Site {
     Site { module: 0, line }
+}
+
+// The entries of a piece: for each child a hole, a tick and a message, and an event after them.
+fn entries(alloc: Global, line: u32, children: &[u32]) -> Result<Vec<Entry>, AllocError> {
+    let mut entries = Vec::new(alloc);
+    for child in children {
+        entries.push(Entry::Child(*child))?;
+        entries.push(Entry::Tick(at(line)))?;
+        entries.push(Entry::Say(TextBuf::of(alloc, "m")?))?;
+    }
+    entries.push(Entry::Put(Event::End))?;
+    Ok(entries)
+}
+
+// Adds a piece: a tick at a line, and entries with ticks at another one.
+fn push_row(
+    alloc: Global,
+    rows: &mut Vec<Row>,
+    line: u32,
+    children: &[u32],
+) -> Result<(), AllocError> {
+    let entries = entries(alloc, line.wrapping_add(10), children)?;
+    let site = at(line);
+    rows.push(Row { site, entries })?;
+    Ok(())
+}
+
+// A root with two children, which have two each: 13 ticks, in the order of the document at the
+// lines 1, 2, 3, 12, 4, 12, 11, 5, 6, 15, 7, 15 and 11.
+fn push_seven(alloc: Global, rows: &mut Vec<Row>) -> Result<(), AllocError> {
+    push_row(alloc, rows, 1, &[0, 3])?;
+    push_row(alloc, rows, 2, &[0, 1])?;
+    push_row(alloc, rows, 3, &[])?;
+    push_row(alloc, rows, 4, &[])?;
+    push_row(alloc, rows, 5, &[0, 1])?;
+    push_row(alloc, rows, 6, &[])?;
+    push_row(alloc, rows, 7, &[])
+}
+
+// Limits of so many ticks.
+fn limits_of(ticks: u64) -> Limits
+    ensures ticks { result.ticks ≡ ticks }
+{
+    Limits {
+        ticks,
+        events: None,
+    }
+}
+
+// What a run in pieces gives within so many ticks.
+fn in_pieces(alloc: Global, runner: &TableRunner, ticks: u64) -> Result<Executed, AllocError>
+    requires few { ticks ≤ 2 ^ 40 }
+{
+    let mut pool = Pool::new(alloc);
+    let root = runner.root_task(alloc);
+    table_is_ready();
+    execute(alloc, runner, root, limits_of(ticks), &mut pool)
+}
+
+// What a run as a whole gives within so many ticks.
+fn at_once(alloc: Global, runner: &TableRunner, ticks: u64) -> Result<Outcome, AllocError> {
+    let mut pool = Pool::new(alloc);
+    let root = runner.root_task(alloc);
+    table_is_ready();
+    runner.run_whole(alloc, &root, limits_of(ticks), &mut pool)
+}
+
+// Whether two items are the same.
+fn is_same(item: &Item, other: &Item) -> bool {
+    match (item, other) {
+        (
+            Item::Run { line, ticks, .. },
+            Item::Run {
+                line: at,
+                ticks: count,
+                ..
+            },
+        ) => { line == at && ticks == count }
+        (Item::Say(text), Item::Say(said)) => text.as_str() == said.as_str(),
+        (Item::Put(Event::End), Item::Put(Event::End)) => true,
+        _ => false,
+    }
+}
+
+// Whether two chains have the same items.
+fn are_same(items: &Chain<Item>, others: &Chain<Item>) -> bool {
+    let mut left = others.items();
+    let mut are_same = true;
+    for item in items.items() {
+        are_same = are_same && matches!(left.next(), Some(other) if is_same(item, other));
+    }
+    are_same && left.next().is_none()
+}
+
+// Whether a run in pieces ended as one at once did.
+fn ends_so(end: Option<Spot>, ended: &Ended) -> bool {
+    match ended {
+        Ended::Whole => end == None,
+        Ended::Fault(spot) | Ended::Spent(spot) | Ended::Full(spot) => end == Some(*spot),
+        Ended::Over { .. } => false,
+    }
+}
+
+// Whether a run in pieces gives what one at once gives.
+fn agrees(assembled: &Assembled, whole: &Outcome) -> bool {
+    matches!(whole.parts.as_slice(), [Part { items, hole: None }]
+        if are_same(&assembled.items, items))
+        && ends_so(assembled.end, &whole.ended)
+        && assembled.ticks == whole.ticks
+}
+
+// Whether within so many ticks a run in pieces gives what one at once gives, and so many pieces are
+// run again in their places.
+fn is_run_again(
+    alloc: Global,
+    runner: &TableRunner,
+    ticks: u64,
+    inline: u64,
+) -> Result<bool, AllocError>
+    requires few { ticks ≤ 2 ^ 40 }
+{
+    let run = in_pieces(alloc, runner, ticks)?;
+    let whole = at_once(alloc, runner, ticks)?;
+    Ok(agrees(&run.assembled, &whole) && run.assembled.inline == inline)
+}
+
+// Whether seven pieces do so within no tick, one tick, and so on.
+fn are_run_again(alloc: Global, runner: &TableRunner, inline: &[u64]) -> Result<bool, AllocError> {
+    let mut ticks = 0_u32;
+    for count in inline {
+        if !is_run_again(alloc, runner, ticks as u64, *count)? {
+            return Ok(false);
+        }
+        ticks = ticks.wrapping_add(1);
+    }
+    Ok(true)
+}
+
+// The root and its children run first, then theirs; the first one above the limit is the last one.
+// In the document's order the pieces begin at the ticks 1, 2, 3, 5, 8, 9 and 11.
+#[test]
+fn missing_pieces_are_run_in_their_places(rt: HostRuntime) -> Result<(), AllocError> {
+    let mut rows = Vec::new(rt.alloc());
+    let pushed = push_seven(rt.alloc(), &mut rows);
+    let runner = TableRunner { rows };
+    let inline = [0, 1, 1, 1, 1, 1, 2, 3, 3, 3, 3, 2, 1, 0, 0];
+    let are_run = are_run_again(rt.alloc(), &runner, &inline);
+    drop(runner);
+    pushed?;
+    assert!(rt; are_run?);
+    Ok(())
 }
 
 // A root with a tick, its child, a tick and a message; the child has three ticks, and a message
@@ -39,21 +194,6 @@ fn two_pieces(alloc: Global) -> Result<TableRunner, AllocError> {
     Ok(TableRunner { rows })
 }
 
-// What their run gives within so many ticks.
-fn executed(alloc: Global, ticks: u64) -> Result<Executed, AllocError>
-    requires few { ticks ≤ 2 ^ 40 }
-{
-    let runner = two_pieces(alloc)?;
-    let root = runner.root_task(alloc);
-    let limits = Limits {
-        ticks,
-        events: None,
-    };
-    let mut pool = Pool::new(alloc);
-    table_is_ready();
-    execute(alloc, &runner, root, limits, &mut pool)
-}
-
 // Whether these are one message, and it is the text.
 fn is_said(says: &[TextBuf], text: &str) -> bool {
     match says.first() {
@@ -67,7 +207,10 @@ fn is_said(says: &[TextBuf], text: &str) -> bool {
 fn ends_at(alloc: Global, ticks: u64, line: u32, worked: u64) -> Result<bool, AllocError>
     requires few { ticks ≤ 2 ^ 40 }
 {
-    let run = executed(alloc, ticks)?;
+    let runner = two_pieces(alloc)?;
+    let run = in_pieces(alloc, &runner, ticks);
+    drop(runner);
+    let run = run?;
     let spent = Spot {
         fault: Fault::Budget,
         module: 0,
