@@ -11,10 +11,7 @@ use Rattle.xs_value.specs.declared.value.Value.{Value}
 use Rattle.xs_value.specs.declared.value.Value.TheVariants.{Bool as Boolean, Number as Numeral, Chars, Nodes}
 use Rattle.xs_value.specs.Conversion.{bool_value, text_value}
 use Rattle.xs_xpath.specs.declared.name.Function.{Function}
-use Rattle.xs_xpath.specs.declared.name.Function.TheVariants.{Last, Position, Count, Id, LocalName, NamespaceUri, Name, String, Concat, StartsWith, Contains}
-use Rattle.xs_xpath.specs.declared.name.Function.TheVariants.{SubstringBefore, SubstringAfter, Substring, StringLength, NormalizeSpace, Translate}
-use Rattle.xs_xpath.specs.declared.name.Function.TheVariants.{Boolean as ToBoolean, Not, True, False, Lang, Number, Sum, Floor, Ceiling, Round, Key, Current}
-use Rattle.xs_xpath.specs.declared.name.Function.TheVariants.{GenerateId, SystemProperty, ElementAvailable, FunctionAvailable, UnparsedEntityUri}
+use Rattle.xs_xpath.specs.declared.name.Function.TheVariants.{Last, Position, Count, Id, LocalName, NamespaceUri, Name, String, Concat, StartsWith, Contains, SubstringBefore, SubstringAfter, Substring, StringLength, NormalizeSpace, Translate, Boolean as ToBoolean, Not, True, False, Lang, Number, Sum, Floor, Ceiling, Round, Key, Current, GenerateId, SystemProperty, ElementAvailable, FunctionAvailable, UnparsedEntityUri}
 use Rattle.xs_eval.specs.Context.{Context}
 use Rattle.xs_eval.specs.Functions.{first, second, third, first_or_node, written_name, name_part, count, does_start_with, does_contain, written, substring}
 use Rattle.xs_eval.specs.Functions.{string_length, number, sum, generated_id}
