@@ -48,7 +48,7 @@ void print_reason(FILE *out, const struct refusal *refusal) {
     struct text subject = {refusal->subject, refusal->length};
     fputs(REASONS[refusal->reason], out);
     if (refusal->reason == BAD_NAME)
-        print_ascii(out, subject);
+        print_ascii(out, subject.bytes ? subject : text_of(""));
     else if (subject.bytes)
         fwrite(subject.bytes, 1, subject.length, out);
 }

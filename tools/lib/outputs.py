@@ -6,6 +6,35 @@ import sys
 import tempfile
 
 
+def hold(path):
+    """A file without a name in which a result is held, and the folder that it is in: that of the output's, where it can be
+    given the output's name when it is whole."""
+    if path not in (None, "-") and hasattr(os, "O_TMPFILE"):
+        folder = os.path.dirname(os.path.realpath(path))
+        with contextlib.suppress(OSError):
+            return os.fdopen(os.open(folder, os.O_TMPFILE | os.O_RDWR, 0o600), "w+b"), folder
+    return tempfile.TemporaryFile(), tempfile.gettempdir()
+
+
+def name(held, path):
+    """Gives a held file the output's name, in the place of the file that has it: whether that could be done."""
+    path = os.path.realpath(path)
+    if os.path.exists(path) and not os.path.isfile(path):
+        return False
+    made = os.path.join(os.path.dirname(path), f".xslt-xml-{os.getpid()}")
+    try:
+        os.fchmod(held.fileno(), mode_of(path))
+        os.link(f"/proc/self/fd/{held.fileno()}", made, follow_symlinks=True)
+    except OSError:
+        return False
+    try:
+        os.replace(made, path)
+    except OSError:
+        os.unlink(made)
+        return False
+    return True
+
+
 @contextlib.contextmanager
 def replacing(path):
     """A file to write to, which takes the place of the one of this name when all went well."""
@@ -36,14 +65,13 @@ def mode_of(path):
 
 def write(result, path):
     """Writes a result: why that failed, or nothing."""
-    name = "standard output" if path in (None, "-") else path
     try:
         if path in (None, "-"):
             result.copy(sys.stdout.buffer)
             sys.stdout.flush()
-        else:
+        elif not (result.is_output() and name(result.held, path)):
             with replacing(path) as out:
                 result.copy(out)
         return ""
     except OSError as fault:
-        return f"{name}: {fault.strerror}"
+        return f"{'standard output' if path in (None, '-') else path}: {fault.strerror}"

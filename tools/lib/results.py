@@ -1,6 +1,7 @@
 """The result of a run, as text or as XML.
 
-A result is held in a file without a name until it is whole and the program's status is known.
+A result is held in a file without a name until it is whole and the program's status is known. It lies where the output will,
+so that the file itself can become the output.
 Where the converter in C can be had it runs beside the program and reads its lines from a pipe.
 """
 
@@ -10,7 +11,7 @@ import subprocess
 import tempfile
 from collections import namedtuple
 
-from lib import native, pipes
+from lib import native, outputs, pipes
 
 PART = 1 << 18
 HEAD = 1 << 20
@@ -21,19 +22,20 @@ NO_DOCUMENT = ("Unbalanced", "NoRoot")
 Shape = namedtuple("Shape", "is_document name is_in_default blanks", defaults=(False, "", False, ()))
 
 
-def open_result(said):
-    """What becomes of the program's output where the outputs of the stylesheet say this."""
+def open_result(said, path=None):
+    """What becomes of the program's output where the outputs of the stylesheet say this, and it goes to the file of this path."""
     if said.get("method") == "text":
-        return TextResult()
+        return TextResult(path)
     program = native.program("pyx2xml")
-    return PipedResult(program, said) if program else LinesResult(said)
+    return PipedResult(program, said, path) if program else LinesResult(said)
 
 
 class TextResult:
     """A result of text: what the program writes."""
 
-    def __init__(self):
-        self.held = tempfile.TemporaryFile()
+    def __init__(self, path=None):
+        self.held, self.folder = outputs.hold(path)
+        self.begun = ""  # the declarations that the held file begins with
         self.target = self.held.fileno()  # for the program
 
     def __enter__(self):
@@ -48,6 +50,10 @@ class TextResult:
     def finish(self):
         """The program has ended: why no XML can hold the result, or nothing."""
         return ""
+
+    def is_output(self):
+        """Whether the held file is the output as it is."""
+        return True
 
     def copy(self, out):
         """Writes the result."""
@@ -70,17 +76,20 @@ class TextResult:
 class XmlResult(TextResult):
     """A result of XML, with the declarations that the outputs of a stylesheet ask for."""
 
-    def __init__(self, said):
-        super().__init__()
+    def __init__(self, said, path=None):
+        super().__init__(path)
         self.said = said
         self.shape = Shape()
 
+    def is_output(self):
+        return not self.shape.blanks and head(self.said, self.shape) == self.begun
+
     def copy(self, out):
         out.write(head(self.said, self.shape).encode())
-        at = 0
+        at = before = len(self.begun.encode())
         for begin, end in self.shape.blanks:
-            self.copy_span(out, at, begin)
-            at = end
+            self.copy_span(out, at, before + begin)
+            at = before + end
         self.copy_span(out, at, os.fstat(self.held.fileno()).st_size)
 
 
@@ -111,8 +120,10 @@ class LinesResult(XmlResult):
 class PipedResult(XmlResult):
     """A result whose lines go by a pipe to a converter that runs beside the program."""
 
-    def __init__(self, program, said):
-        super().__init__(said)
+    def __init__(self, program, said, path=None):
+        super().__init__(said, path)
+        self.begun = head(said, self.shape)
+        os.write(self.held.fileno(), self.begun.encode())
         read_end, self.target = os.pipe()
         pipes.widen(self.target)
         self.converter = subprocess.Popen([program, "--result"], stdin=read_end, stdout=self.held, stderr=subprocess.PIPE)
@@ -136,7 +147,7 @@ class PipedResult(XmlResult):
             return f"the converter was ended by signal {-status}"
         if status:
             reason = said.removeprefix("pyx2xml: ").rstrip("\n")
-            reason = reason.replace("standard output:", f"held in {tempfile.gettempdir()}:", 1)
+            reason = reason.replace("standard output:", f"held in {self.folder}:", 1)
             return reason.replace("standard input:", "line ", 1)
         self.shape = shape_of(said.splitlines())
         return ""

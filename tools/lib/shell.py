@@ -133,7 +133,7 @@ class Shell:
         path = os.path.join(self.folder.path, "source.pyx")
         source = sources.open_source(name, self.folder.paths.get(name, name), self.options.drop_doctype, path)
         said = self.folder.output(self.sheet)
-        with results.open_result(said) as result:
+        with results.open_result(said, out) as result:
             inputs = [self.folder.name(self.sheet), source.name, *self.options.parameters]
             status, fault = self.execute(inputs, source, result)
             clock.stop("source and program")
