@@ -55,7 +55,8 @@ module _ (few others names : List Expanded) (name : Expanded) (found : Bool) (vi
 
   pub found_in_others : (is_new : Bool) → found ≡ false → is_new ≡ not (list_any (is_same name) others)
       → is_new ≡ not (list_any (same_name name) names)
-  found_in_others is_new is_not is = is ∙ ap not (any_either_order name others) ∙ ap (λ b. not (b || list_any (same_name name) others)) (sym is_not) ∙ ap not found_among
+  found_in_others is_new is_not is = is ∙ ap not (any_either_order name others)
+      ∙ ap (λ b. not (b || list_any (same_name name) others)) (sym is_not) ∙ ap not found_among
 
   pub found_nowhere : found ≡ false → others ≡ [] → true ≡ not (list_any (same_name name) names)
   found_nowhere is_not none = found_in_others true is_not (ap (λ xs. not (list_any (is_same name) xs)) (sym none))

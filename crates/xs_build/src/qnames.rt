@@ -1,6 +1,7 @@
 //! What names declare, and which declarations and targets may be (Namespaces in XML 1.0).
 
-ghost use Rattle.std.specs.Prelude.{◌≡◌, ◌&&◌, [], None, Some, codes, if◌then◌else◌, not, option_map};
+ghost use Rattle.std.specs.Prelude.{◌≡◌, ◌&&◌, [], None, Some, codes};
+ghost use Rattle.std.specs.Prelude.{if◌then◌else◌, not, option_map};
 ghost use Rattle.std.specs.Str.{bytes_eq};
 ghost use Rattle.xs_build.specs.Namespaces.{QName, is_empty, is_ncname, declared_prefix};
 ghost use Rattle.xs_build.specs.Namespaces.{is_bad_binding, is_xml};

@@ -2,7 +2,8 @@
 use Rattle.std.proofs.Common.{◌≡◌, ℕ, ◌<◌, ◌≤◌, ◌&&◌, ◌⊎◌, Bool, cond, List, [], ◌∷◌, All, filter, length, zero, suc, nat_le, nat_lt}
 use Rattle.std.proofs.Common.{refl, sym, ap, inl, inr, ◌∙◌, Result, Ok, Err}
 use Rattle.std.proofs.lemmas.Bool.{lt-ltb, le-ltb, lt-leb, le-leb}
-use Rattle.std.proofs.lemmas.List.Elements.{All-filter, All-head, All-map, All-nil, All-tail}
+use Rattle.std.proofs.lemmas.List.Elements.{All-append, All-filter, All-head, All-map, All-nil, All-tail}
+use Rattle.std.specs.List.{flat_map}
 use Rattle.xs_tree.specs.Axis.{is_same_document, root_of}
 use Rattle.xs_tree.specs.Record.{Record}
 use Rattle.xs_tree.specs.Shape.{EndsAt, IsTree}
@@ -14,6 +15,7 @@ use Rattle.xs_eval.specs.Context.{Context}
 use Rattle.xs_eval.specs.Keys.{found, found_for}
 use Rattle.xs_eval.specs.steps.Keys.{FindsNodes, IsDocumentOf, holds}
 use Rattle.xs_eval.specs.declared.keys.Document.{Document}
+use Rattle.xs_eval.proofs.InsideLemmas.{in_order_all}
 
 -- two tests that agree where all items are keep the same items
 pub filter-within : (P : ℕ → Type 0) (p q : ℕ → Bool) → ((k : ℕ) → P k → p k ≡ q k) → (xs : List ℕ) → All P xs → filter p xs ≡ filter q xs
@@ -66,6 +68,19 @@ pub held-inside : (c : Context) (ts : List Table) (k : ℕ) (text : List ℕ) �
     → All (λ n. n < length c.tree) (found_for c (table_at ts k) text)
 held-inside c ts k text h =
     All-filter (is_same_document c.tree c.node) (λ n. n < length c.tree) (nodes_of text (table_at ts k).entries) (table-inside c.tree ts k text h)
+
+each-inside : (c : Context) (ts : List Table) (k : ℕ) (texts : List (List ℕ)) → TablesIn c.tree ts
+    → All (λ n. n < length c.tree) (flat_map (found_for c (table_at ts k)) texts)
+each-inside c ts k [] h = All-nil (λ n. n < length c.tree)
+each-inside c ts k (text ∷ texts) h =
+    All-append (λ n. n < length c.tree) (found_for c (table_at ts k) text) (flat_map (found_for c (table_at ts k)) texts) (held-inside c ts k text h)
+    (each-inside c ts k texts h)
+
+-- those for some texts
+pub found-inside : (c : Context) (ts : List Table) (k : ℕ) (texts : List (List ℕ)) → TablesIn c.tree ts
+    → All (λ n. n < length c.tree) (found c (table_at ts k) texts)
+found-inside c ts k texts h =
+    in_order_all (λ n. n < length c.tree) (flat_map (found_for c (table_at ts k)) texts) (each-inside c ts k texts h)
 
 -- what is found for some texts is found for others that come to the same nodes
 pub finds-same : (c : Context) (t : Table) (xs ys : List (List ℕ)) (r : Result (List ℕ) KeyEnd) → found c t xs ≡ found c t ys → FindsNodes c t xs r

@@ -8,5 +8,6 @@ pub mod KeyLemmas
 pub mod AxisListLemmas
 pub mod LanguageLemmas
 pub mod PositionLemmas
+pub mod UnionLemmas
 pub mod UnitedLemmas
 pub mod TemplateLemmas

@@ -10,7 +10,6 @@ use Rattle.xs_trace.specs.Play.{Step, Goes, and_then, ticked, ticked_by, IsStep,
 use Rattle.xs_trace.specs.Run.{Run, Gives, Faults, give, tick, costs, fold, ◌>>=◌, limited}
 use Rattle.xs_trace.specs.declared.item.Site.{Site}
 use Rattle.xs_trace.specs.declared.recorder.Halt.{Halt}
-use Rattle.xs_trace.specs.declared.recorder.Halt.TheVariants as halt
 use Rattle.xs_trace.proofs.GrowthLemmas.{Grows, passes}
 use Rattle.xs_trace.proofs.PlayLemmas.{then-goes, then-same, then-then}
 use Rattle.xs_trace.proofs.RunLemmas.{limited-bind, limited-end, limited-grows, limited-more, limited-tick}

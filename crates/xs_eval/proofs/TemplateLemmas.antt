@@ -1,6 +1,6 @@
 -- A value template over the parts that were parsed, and over what they represent.
-use Rattle.std.proofs.Common.{◌≡◌, ℕ, List, [], ◌∷◌, map, refl, ap, ◌∙◌}
-use Rattle.xs_trace.specs.Run.{Answer, Gives, Faults, Lacks, Run, costs, fold, go_on, ◌>>=◌}
+use Rattle.std.proofs.Common.{◌≡◌, ℕ, List, [], ◌∷◌, map, refl, ap}
+use Rattle.xs_trace.specs.Run.{Answer, Gives, Faults, Lacks, Run, costs, fold, go_on}
 use Rattle.xs_value.specs.Tables.{Table}
 use Rattle.xs_xpath.specs.AvtParts.{part_from, parts_from}
 use Rattle.xs_xpath.specs.declared.avt.AvtPart.{AvtPart}

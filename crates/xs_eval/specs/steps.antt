@@ -4,3 +4,4 @@ pub mod Names
 pub mod Nodes
 pub mod Variables
 pub mod Positions
+pub mod Unions

@@ -1,6 +1,6 @@
 //! The arguments of a call, and values that are made of texts, nodes and numbers.
 
-ghost use Rattle.std.specs.Prelude.{◌≡◌, ◌<◌, ◌∷◌, [], IfOk, IfSome, length, slice_get, pos};
+ghost use Rattle.std.specs.Prelude.{◌≡◌, ◌<◌, ◌∷◌, [], IfOk, IfSome, Ok, length, slice_get, pos};
 ghost use Rattle.std.specs.List.{All};
 ghost use Rattle.std.specs.Cow.{cow_str_bytes};
 ghost use Rattle.std.specs.Option.{option_copied};
@@ -142,7 +142,9 @@ pub(crate) fn number_or_node(
         Some(v) => number_of(alloc, context.tree, v),
         None => {
             let text = node_text(alloc, context.tree, context.node)?;
-            computed(read_num(text.as_str()))
+            let number = read_num(text.as_str());
+            drop(text);
+            computed(number)
         }
     }
 }
@@ -184,16 +186,16 @@ pub(crate) fn node_or_first(
 }
 
 /// The value of a text.
-pub(crate) fn chars(alloc: Global, text: &str) -> Result<Value, AllocError>
-    ensures value { IfOk result (λ v. v ≡ Chars text.now) }
+pub(crate) fn chars(alloc: Global, text: &str) -> Result<Value, Trouble>
+    ensures value { Answers (Ok (Chars text.now)) result }
 {
     Ok(Value::Chars(TextBuf::of(alloc, text)?))
 }
 
 /// The value of a text, by its bytes.
-pub(crate) fn chars_of(bytes: Vec<u8>) -> Result<Value, AllocError>
+pub(crate) fn chars_of(bytes: Vec<u8>) -> Result<Value, Trouble>
     requires { IsUtf8 bytes.items }
-    ensures value { IfOk result (λ v. v ≡ Chars bytes.items) }
+    ensures value { Answers (Ok (Chars bytes.items)) result }
 {
     match String::from_utf8(bytes) {
         Ok(text) => Ok(Value::Chars(TextBuf::from_string(text)?)),

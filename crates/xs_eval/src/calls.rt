@@ -5,7 +5,7 @@ ghost use Rattle.std.specs.List.{All};
 ghost use Rattle.xs_trace.specs.Play.{IsStep};
 ghost use Rattle.xs_trace.specs.Run.{limited};
 ghost use Rattle.xs_value.specs.Conversion.{IsIn, text_value};
-ghost use Rattle.xs_value.specs.declared.value.Value.TheVariants.{Bool as Boolean, Chars, Nodes};
+ghost use Rattle.xs_value.specs.declared.value.Value.TheVariants.{Bool as Boolean, Nodes};
 ghost use Rattle.xs_eval.specs.Calls.{called, is_key};
 ghost use Rattle.xs_eval.specs.Conditions.{IsContext};
 ghost use Rattle.xs_eval.specs.Evaluation.{answered};
@@ -101,7 +101,7 @@ fn apply(
         Function::SystemProperty => property(alloc, context, values),
         Function::ElementAvailable => element_available(alloc, context, values),
         Function::FunctionAvailable => function_available(alloc, tree, values),
-        Function::UnparsedEntityUri => no_text(alloc),
+        Function::UnparsedEntityUri => chars(alloc, ""),
     }
 }
 
@@ -112,13 +112,6 @@ fn no_nodes(alloc: Global) -> Result<Value, Trouble>
     Ok(Value::Nodes(NodeSet::empty(alloc)?))
 }
 
-// No characters, as `unparsed-entity-uri` gives.
-fn no_text(alloc: Global) -> Result<Value, Trouble>
-    ensures value { Answers (Ok (Chars [])) result }
-{
-    Ok(chars(alloc, "")?)
-}
-
 // `lang`.
 fn lang(alloc: Global, context: &Context<'_>, values: &[Value]) -> Result<Value, Trouble>
     requires node { context.now.node < length context.now.tree }
@@ -127,7 +120,9 @@ fn lang(alloc: Global, context: &Context<'_>, values: &[Value]) -> Result<Value,
         (text_value context.now.tree (first values.now))))) result }
 {
     let wanted = text_at(alloc, context.tree, values, 0)?;
-    Ok(Value::Bool(is_in_language(context.tree, context.node, wanted.as_str())))
+    let is_in = is_in_language(context.tree, context.node, wanted.as_str());
+    drop(wanted);
+    Ok(Value::Bool(is_in))
 }
 
 // `number`.
@@ -162,7 +157,9 @@ fn property(alloc: Global, context: &Context<'_>, values: &[Value]) -> Result<Va
         (text_value context.now.tree (first values.now)))) result }
 {
     let name = text_at(alloc, context.tree, values, 0)?;
-    Ok(system_property(alloc, context.scope, name.as_str())?)
+    let property = system_property(alloc, context.scope, name.as_str());
+    drop(name);
+    property
 }
 
 // `element-available`.
@@ -176,7 +173,9 @@ fn element_available(
         (text_value context.now.tree (first values.now))))) result }
 {
     let name = text_at(alloc, context.tree, values, 0)?;
-    Ok(Value::Bool(is_element_available(context.scope, name.as_str())))
+    let is_available = is_element_available(context.scope, name.as_str());
+    drop(name);
+    Ok(Value::Bool(is_available))
 }
 
 // `function-available`.
@@ -186,7 +185,9 @@ fn function_available(alloc: Global, tree: &Tree, values: &[Value]) -> Result<Va
         (text_value tree.now (first values.now))))) result }
 {
     let name = text_at(alloc, tree, values, 0)?;
-    Ok(Value::Bool(is_function_available(name.as_str())))
+    let is_available = is_function_available(name.as_str());
+    drop(name);
+    Ok(Value::Bool(is_available))
 }
 
 // Whether a function is `key`.

@@ -12,17 +12,19 @@ ghost use Rattle.xs_eval.specs.Paths.{filter_expr, filtered, kept_of, path, sele
 ghost use Rattle.xs_eval.specs.Paths.{steps_from, through};
 ghost use Rattle.xs_eval.specs.steps.Nodes.{AreSome};
 
-use crate::arguments::{chars, into_set, single};
+use crate::arguments::{into_set, single};
 use crate::calls::answer;
 use crate::context::Context;
 use crate::node_tests::tested;
 use crate::operators::{decided, negate, operate};
 use crate::predicates::{count_of, kept_if, number_of, picked, selects};
+use crate::steps::{is_union_of_steps, only_step, unite_steps};
 use crate::trouble::settled;
 use crate::variables::variable;
 use std::alloc::Global;
 use xs_trace::item::Site;
 use xs_trace::recorder::{Halt, Tally, tick_several};
+use xs_trace::text::TextBuf;
 use xs_tree::{Axis, Node};
 use xs_value::keys::KeyFinder;
 use xs_value::node_list::NodeList;
@@ -158,8 +160,11 @@ fn evaluate_chain<K: KeyFinder, T: Tally>(
     ensures kept { T.kept tally.new ≡ T.kept tally.old }
     ensures inside { IfOk result (IsIn context.now.tree) }
 {
+    if is_union_of_steps(operators, operands) {
+        return unite_steps(alloc, operands, context, site, tally);
+    }
     match operands {
-        [] => Ok(chars(alloc, "")?),
+        [] => Ok(Value::Chars(TextBuf::of(alloc, "")?)),
         [first, rest @ ..] => {
             let left = evaluate(alloc, first, context, keys, site, tally)?;
             join_all(alloc, left, operators, rest, context, keys, site, tally)
@@ -453,6 +458,9 @@ fn evaluate_path<K: KeyFinder, T: Tally>(
     ensures kept { T.kept tally.new ≡ T.kept tally.old }
     ensures inside { IfOk result (IsIn context.now.tree) }
 {
+    if let Some(step) = only_step(start, steps) {
+        return evaluate(alloc, step, context, keys, site, tally);
+    }
     let mut nodes = evaluate_nodes(alloc, start, context, keys, site, tally)?;
     for step in steps {
         nodes = follow(alloc, step, nodes.nodes(), context, keys, site, tally)?;

@@ -10,7 +10,8 @@ ghost use Rattle.xs_value.specs.Conversion.{IsIn};
 ghost use Rattle.xs_value.specs.Tables.{table_at};
 ghost use Rattle.xs_eval.specs.Functions.{first, second};
 ghost use Rattle.xs_eval.specs.Keys.{from_table, keyed, number_of, sought};
-ghost use Rattle.xs_eval.specs.steps.Keys.{AddsNodes, FindsNodes, IsDocumentOf, holds};
+ghost use Rattle.xs_eval.specs.steps.Keys.{AddsNodes, FindsNodes, IsDocumentOf, IsSound};
+ghost use Rattle.xs_eval.specs.steps.Keys.{Seeks, holds};
 ghost use Rattle.xs_eval.specs.Names.{expanded_name};
 ghost use Rattle.xs_eval.specs.Conditions.{IsContext};
 
@@ -23,7 +24,7 @@ use xs_trace::fault::Fault;
 use xs_trace::item::Site;
 use xs_trace::recorder::{Halt, Tally, tick_several};
 use xs_tree::{Node, Tree};
-use xs_value::conversion::{lend_text, node_text};
+use xs_value::conversion::node_text;
 use xs_value::keys::{KeyEnd, KeyFinder};
 use xs_value::node_list::NodeList;
 use xs_value::node_set::NodeSet;
@@ -107,15 +108,29 @@ fn found_of<K: KeyFinder>(
     requires inside { All (IsIn context.now.tree) values.now }
     ensures found { FindsNodes context.now (table_at (K.tables keys.now) key)
         (sought context.now (second values.now)) result }
-    ensures inside { IfOk result (λ ns. All (λ k. k < length context.now.tree) ns) }
+{
+    match sought_nodes(values) {
+        Some(sought) => found_for_nodes(alloc, context, keys, key, sought),
+        None => {
+            let text = text_at(alloc, context.tree, values, 1)?;
+            let found = found_for_text(alloc, context, keys, key, text.as_str());
+            drop(text);
+            found
+        }
+    }
+}
+
+// The nodes whose string-values are looked up, where the second argument is a node-set.
+fn sought_nodes(values: &[Value]) -> Option<&[Node]>
+    ensures { Seeks (second values.now) result }
 {
     match values.get(1) {
-        Some(Value::Nodes(sought)) => found_for_nodes(alloc, context, keys, key, sought.nodes()),
-        Some(v) => {
-            let text = lend_text(alloc, context.tree, v)?;
-            found_for_text(alloc, context, keys, key, text.as_str())
-        }
-        None => found_for_text(alloc, context, keys, key, ""),
+        Some(Value::Nodes(nodes)) => Some(nodes.nodes()),
+        Some(Value::Bool(_)) => None,
+        Some(Value::Number(_)) => None,
+        Some(Value::Chars(_)) => None,
+        Some(Value::Piece(_)) => None,
+        None => None,
     }
 }
 
@@ -130,18 +145,10 @@ fn found_for_text<K: KeyFinder>(
     requires context { IsContext (K.tables keys.now) context.now }
     ensures found { FindsNodes context.now (table_at (K.tables keys.now) key) (text.now ∷ [])
         result }
-    ensures inside { IfOk result (λ ns. All (λ k. k < length context.now.tree) ns) }
 {
     let document = Document::of(context.tree, context.node);
-    let nodes = add_found(
-        alloc,
-        context,
-        &document,
-        keys,
-        key,
-        text,
-        NodeList::new(alloc),
-    )?;
+    let none = NodeList::new(alloc);
+    let nodes = add_found(alloc, context, &document, keys, key, text, none)?;
     Ok(NodeSet::of_list(nodes)?)
 }
 
@@ -158,41 +165,37 @@ fn found_for_nodes<K: KeyFinder>(
     requires sought { All (λ k. k < length context.now.tree) sought.now }
     ensures found { FindsNodes context.now (table_at (K.tables keys.now) key)
         (map (string_value context.now.tree) sought.now) result }
-    ensures inside { IfOk result (λ ns. All (λ k. k < length context.now.tree) ns) }
 {
-    if sought.len() < 2 {
-        return found_in_turn(alloc, context, keys, key, sought);
+    if let [node] = sought {
+        return found_for_node(alloc, context, keys, key, *node);
     }
     let index = index_texts(alloc, context.tree, sought)?;
-    found_for_index(alloc, context, keys, key, &index)
+    let found = found_for_index(alloc, context, keys, key, &index);
+    drop(index);
+    found
 }
 
-// The same for nodes whose texts are looked up in turn. Without a node the table may have a fault
-// all the same.
-fn found_in_turn<K: KeyFinder>(
+// The nodes that a key gives for the string-value of a node.
+fn found_for_node<K: KeyFinder>(
     alloc: Global,
     context: &Context<'_>,
     keys: &K,
     key: u32,
-    sought: &[Node],
+    sought: Node,
 ) -> Result<NodeSet, KeyEnd>
     requires context { IsContext (K.tables keys.now) context.now }
-    requires sought { All (λ k. k < length context.now.tree) sought.now }
+    requires sought { sought < length context.now.tree }
     ensures found { FindsNodes context.now (table_at (K.tables keys.now) key)
-        (map (string_value context.now.tree) sought.now) result }
-    ensures inside { IfOk result (λ ns. All (λ k. k < length context.now.tree) ns) }
+        (string_value context.now.tree sought ∷ []) result }
 {
-    let _found = keys.find(alloc, key, "")?;
-    let document = Document::of(context.tree, context.node);
-    let mut nodes = NodeList::new(alloc);
-    for node in sought {
-        let text = node_text(alloc, context.tree, *node)?;
-        nodes = add_found(alloc, context, &document, keys, key, text.as_str(), nodes)?;
-    }
-    Ok(NodeSet::of_list(nodes)?)
+    let text = node_text(alloc, context.tree, sought)?;
+    let found = found_for_text(alloc, context, keys, key, text.as_str());
+    drop(text);
+    found
 }
 
-// The nodes that a key gives for the texts of an index.
+// The nodes that a key gives for the texts of an index. Without a text the table may have a fault
+// all the same.
 fn found_for_index<K: KeyFinder>(
     alloc: Global,
     context: &Context<'_>,
@@ -203,15 +206,22 @@ fn found_for_index<K: KeyFinder>(
     requires context { IsContext (K.tables keys.now) context.now }
     ensures found { FindsNodes context.now (table_at (K.tables keys.now) key)
         (map cow_str_bytes index.now.keys) result }
-    ensures inside { IfOk result (λ ns. All (λ k. k < length context.now.tree) ns) }
 {
-    let _found = keys.find(alloc, key, "")?;
+    check_table(alloc, keys, key)?;
     let document = Document::of(context.tree, context.node);
     let mut nodes = NodeList::new(alloc);
     for text in index.iter() {
         nodes = add_found(alloc, context, &document, keys, key, text.as_str(), nodes)?;
     }
     Ok(NodeSet::of_list(nodes)?)
+}
+
+// Whether the table of a key has no fault.
+fn check_table<K: KeyFinder>(alloc: Global, keys: &K, key: u32) -> Result<(), KeyEnd>
+    ensures table { IsSound (table_at (K.tables keys.now) key) result }
+{
+    drop(keys.find(alloc, key, "")?);
+    Ok(())
 }
 
 // The nodes that a key gives for a text, of those that are in a document, after others.
@@ -226,10 +236,8 @@ fn add_found<K: KeyFinder>(
 ) -> Result<NodeList, KeyEnd>
     requires context { IsContext (K.tables keys.now) context.now }
     requires document { IsDocumentOf context.now.tree context.now.node document.now }
-    requires inside { All (λ k. k < length context.now.tree) before }
     ensures found { AddsNodes context.now (table_at (K.tables keys.now) key) text.now before
         result }
-    ensures inside { IfOk result (λ ns. All (λ k. k < length context.now.tree) ns) }
 {
     let found = keys.find(alloc, key, text)?;
     Ok(add_held(document, found.nodes(), before)?)

@@ -12,6 +12,7 @@ pub mod node_tests;
 mod nodes;
 mod operators;
 pub mod predicates;
+mod steps;
 mod strings;
 pub mod templates;
 mod trouble;

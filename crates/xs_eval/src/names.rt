@@ -1,15 +1,17 @@
 //! Names that a text spells, in the namespace declarations of the expression, and what they name
 //! (XSLT 1.0, 2.4, 12.4 and 15).
 
-ghost use Rattle.std.specs.Prelude.{◌≡◌, ◌||◌, IfOk, map};
+ghost use Rattle.std.specs.Prelude.{◌≡◌, ◌||◌, Ok, map};
 ghost use Rattle.std.specs.Option.{option_map};
 ghost use Rattle.xs_eval.specs.Names.{expanded_name, is_element_available, is_function_available};
 ghost use Rattle.xs_eval.specs.Names.{is_copying, is_flow, is_instruction, is_making, property};
 ghost use Rattle.xs_eval.specs.Names.{system_property};
+ghost use Rattle.xs_eval.specs.Results.{Answers};
 ghost use Rattle.xs_eval.specs.steps.Names.{instructions, lent_text, texts};
 
 use crate::arguments::chars;
-use std::alloc::{AllocError, Global};
+use crate::trouble::Trouble;
+use std::alloc::Global;
 use xs_num::number::Num;
 use xs_text::split_qname;
 use xs_value::value::Value;
@@ -114,8 +116,8 @@ pub(crate) fn is_function_available(text: &str) -> bool
 }
 
 /// `system-property`.
-pub(crate) fn system_property(alloc: Global, scope: &Scope, text: &str) -> Result<Value, AllocError>
-    ensures value { IfOk result (λ v. v ≡ system_property scope.now.pairs.items text.now) }
+pub(crate) fn system_property(alloc: Global, scope: &Scope, text: &str) -> Result<Value, Trouble>
+    ensures value { Answers (Ok (system_property scope.now.pairs.items text.now)) result }
 {
     match expanded_name(scope, text) {
         Some((uri, local)) => property(alloc, uri, local),
@@ -124,8 +126,8 @@ pub(crate) fn system_property(alloc: Global, scope: &Scope, text: &str) -> Resul
 }
 
 // A property by its name.
-fn property(alloc: Global, uri: &str, local: &str) -> Result<Value, AllocError>
-    ensures value { IfOk result (λ v. v ≡ property (uri.now, local.now)) }
+fn property(alloc: Global, uri: &str, local: &str) -> Result<Value, Trouble>
+    ensures value { Answers (Ok (property (uri.now, local.now))) result }
 {
     if uri != XSLT {
         return chars(alloc, "");

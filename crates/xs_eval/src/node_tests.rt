@@ -24,50 +24,64 @@ pub(crate) fn tested(
     ensures nodes { IfOk result (λ ns. ns ≡ tested axis test.now context.now) }
     ensures some { IfOk result (AreSome context.now.tree) }
 {
+    let mut found = NodeList::new(alloc);
+    find(axis, test, context, &mut found)?;
+    Ok(found)
+}
+
+/// Adds them to others.
+pub(crate) fn find(
+    axis: Axis,
+    test: &NodeTest,
+    context: &Context<'_>,
+    found: &mut NodeList,
+) -> Result<(), AllocError>
+    requires { context.now.node < length context.now.tree }
+    ensures nodes { OnOk result (found.new
+        ≡ found.old ++ tested axis test.now context.now) }
+{
     match axis {
-        Axis::Attribute => tested_attributes(alloc, test, context),
-        _ => tested_on_axis(alloc, axis, test, context),
+        Axis::Attribute => find_attributes(test, context, found),
+        _ => find_on_axis(axis, test, context, found),
     }
 }
 
-// The attributes of the context node that pass a test, in document order.
+// Adds the attributes of the context node that pass a test, in document order.
 #[tactic(auto, using(crate::proofs::AxisListLemmas::attributes_listed))]
-fn tested_attributes(
-    alloc: Global,
+fn find_attributes(
     test: &NodeTest,
     context: &Context<'_>,
-) -> Result<NodeList, AllocError>
+    found: &mut NodeList,
+) -> Result<(), AllocError>
     requires { context.now.node < length context.now.tree }
-    ensures nodes { IfOk result (λ ns. ns ≡ tested Attribute test.now context.now) }
-    ensures some { IfOk result (AreSome context.now.tree) }
+    ensures nodes { OnOk result (found.new
+        ≡ found.old ++ tested Attribute test.now context.now) }
 {
-    let mut found = NodeList::new(alloc);
     for node in context.tree.attributes(context.node) {
         push_if(
             passes(context.tree, Axis::Attribute, test, node),
             node,
-            &mut found,
+            found,
         )?;
     }
-    Ok(found)
+    Ok(())
 }
 
-// The nodes of any axis from the context node that pass a test, in the order of the axis.
-fn tested_on_axis(
-    alloc: Global,
+// Adds the nodes of any axis from the context node that pass a test, in the order of the axis.
+fn find_on_axis(
     axis: Axis,
     test: &NodeTest,
     context: &Context<'_>,
-) -> Result<NodeList, AllocError>
+    found: &mut NodeList,
+) -> Result<(), AllocError>
     requires { context.now.node < length context.now.tree }
-    ensures nodes { IfOk result (λ ns. ns ≡ tested axis test.now context.now) }
-    ensures some { IfOk result (AreSome context.now.tree) }
+    ensures nodes { OnOk result (found.new
+        ≡ found.old ++ tested axis test.now context.now) }
 {
-    let mut found = NodeList::new(alloc);
     for node in axis_nodes(context.tree, context.node, axis) {
-        push_if(passes(context.tree, axis, test, node), node, &mut found)?;
+        push_if(passes(context.tree, axis, test, node), node, found)?;
     }
-    Ok(found)
+    Ok(())
 }
 
 // Adds a node where it passes.

@@ -1,7 +1,7 @@
 //! The functions on nodes (XPath 1.0, 4.1; XSLT 1.0, 12.4), and `sum` (XPath 1.0, 4.4), on
 //! evaluated arguments.
 
-ghost use Rattle.std.specs.Prelude.{◌≡◌, ◌<◌, ◌++◌, IfOk, length, codes, pos, drop};
+ghost use Rattle.std.specs.Prelude.{◌≡◌, ◌<◌, ◌++◌, IfOk, Ok, length, codes, pos, drop};
 ghost use Rattle.std.specs.List.{All};
 ghost use Rattle.xs_num.specs.declared.number.Number.TheVariants.{Whole};
 ghost use Rattle.xs_num.specs.Text.{text_of};
@@ -47,8 +47,8 @@ pub(crate) fn local_name(
         (name_part name_local context.now.tree (first_or_node context.now values.now)) result }
 {
     match node_or_first(context, values)? {
-        Some(node) => Ok(chars(alloc, context.tree.local(node))?),
-        None => Ok(chars(alloc, "")?),
+        Some(node) => chars(alloc, context.tree.local(node)),
+        None => chars(alloc, ""),
     }
 }
 
@@ -64,8 +64,8 @@ pub(crate) fn namespace_uri(
         (name_part name_uri context.now.tree (first_or_node context.now values.now)) result }
 {
     match node_or_first(context, values)? {
-        Some(node) => Ok(chars(alloc, context.tree.uri(node))?),
-        None => Ok(chars(alloc, "")?),
+        Some(node) => chars(alloc, context.tree.uri(node)),
+        None => chars(alloc, ""),
     }
 }
 
@@ -77,15 +77,15 @@ pub(crate) fn name(alloc: Global, context: &Context<'_>, values: &[Value]) -> Re
         (name_part written_name context.now.tree (first_or_node context.now values.now)) result }
 {
     match node_or_first(context, values)? {
-        Some(node) => Ok(written_name(alloc, context.tree, node)?),
-        None => Ok(chars(alloc, "")?),
+        Some(node) => written_name(alloc, context.tree, node),
+        None => chars(alloc, ""),
     }
 }
 
 // The QName of a node, with the prefix that it was written with.
-fn written_name(alloc: Global, tree: &Tree, node: Node) -> Result<Value, AllocError>
+fn written_name(alloc: Global, tree: &Tree, node: Node) -> Result<Value, Trouble>
     requires { node < length tree.now }
-    ensures value { IfOk result (λ v. v ≡ Chars (written_name (at tree.now node))) }
+    ensures value { Answers (Ok (Chars (written_name (at tree.now node)))) result }
 {
     let prefix = tree.prefix(node);
     if prefix.is_empty() {
@@ -108,14 +108,14 @@ pub(crate) fn generate_id(
     ensures value { Answers (generated_id (first_or_node context.now values.now)) result }
 {
     match node_or_first(context, values)? {
-        Some(node) => Ok(id_of(alloc, node)?),
-        None => Ok(chars(alloc, "")?),
+        Some(node) => id_of(alloc, node),
+        None => chars(alloc, ""),
     }
 }
 
 // A name that no other node has.
-fn id_of(alloc: Global, node: Node) -> Result<Value, AllocError>
-    ensures value { IfOk result (λ v. v ≡ Chars (id_of node)) }
+fn id_of(alloc: Global, node: Node) -> Result<Value, Trouble>
+    ensures value { Answers (Ok (Chars (id_of node))) result }
 {
     let mut bytes = Vec::from_slice(alloc, b"n")?;
     write_num(&mut bytes, Num::from(node.place()))?;
@@ -149,6 +149,7 @@ fn and_number(alloc: Global, tree: &Tree, total: Num, node: Node) -> Result<Num,
     ensures value { Answers (and_number tree.now total node) result }
 {
     let text = node_text(alloc, tree, node)?;
-    let number = computed(read_num(text.as_str()))?;
-    computed(add(total, number))
+    let number = read_num(text.as_str());
+    drop(text);
+    computed(add(total, computed(number)?))
 }

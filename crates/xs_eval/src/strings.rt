@@ -4,6 +4,7 @@ ghost use Rattle.std.specs.Prelude.{◌≡◌, ◌<◌, Ok, length, slice_get};
 ghost use Rattle.std.specs.List.{All, flat_map};
 ghost use Rattle.std.specs.Str.{chars};
 ghost use Rattle.xs_strings.specs.Normalization.{normalized};
+ghost use Rattle.xs_strings.specs.Positions.{substring_of};
 ghost use Rattle.xs_strings.specs.Searching.{text_after, text_before};
 ghost use Rattle.xs_strings.specs.Translation.{translated};
 ghost use Rattle.xs_value.specs.Conversion.{IsIn, text_value};
@@ -52,7 +53,7 @@ pub(crate) fn concat(alloc: Global, tree: &Tree, values: &[Value]) -> Result<Val
     for v in values {
         text_into(tree, v, &mut bytes)?;
     }
-    Ok(chars_of(bytes)?)
+    chars_of(bytes)
 }
 
 /// `starts-with`.
@@ -64,7 +65,10 @@ pub(crate) fn starts_with(alloc: Global, tree: &Tree, values: &[Value]) -> Resul
 {
     let text = text_at(alloc, tree, values, 0)?;
     let start = text_at(alloc, tree, values, 1)?;
-    Ok(Value::Bool(begins(text.as_str(), start.as_str())))
+    let does_begin = begins(text.as_str(), start.as_str());
+    drop(start);
+    drop(text);
+    Ok(Value::Bool(does_begin))
 }
 
 // Whether a text begins with another.
@@ -83,7 +87,10 @@ pub(crate) fn contains(alloc: Global, tree: &Tree, values: &[Value]) -> Result<V
 {
     let text = text_at(alloc, tree, values, 0)?;
     let sought = text_at(alloc, tree, values, 1)?;
-    Ok(Value::Bool(holds(text.as_str(), sought.as_str())))
+    let does_hold = holds(text.as_str(), sought.as_str());
+    drop(sought);
+    drop(text);
+    Ok(Value::Bool(does_hold))
 }
 
 // Whether a text holds another.
@@ -112,9 +119,20 @@ pub(crate) fn substring_before(
 {
     let text = text_at(alloc, tree, values, 0)?;
     let sought = text_at(alloc, tree, values, 1)?;
+    let before = text_before(alloc, text.as_str(), sought.as_str());
+    drop(sought);
+    drop(text);
+    before
+}
+
+// The text before another in a text.
+fn text_before(alloc: Global, text: &str, sought: &str) -> Result<Value, Trouble>
+    ensures value { Answers (Ok (written (text_before (chars text.now)
+        (chars sought.now)))) result }
+{
     let mut bytes = Vec::new(alloc);
-    searching::substring_before(&mut bytes, text.as_str(), sought.as_str())?;
-    Ok(chars_of(bytes)?)
+    searching::substring_before(&mut bytes, text, sought)?;
+    chars_of(bytes)
 }
 
 /// `substring-after`.
@@ -130,9 +148,20 @@ pub(crate) fn substring_after(
 {
     let text = text_at(alloc, tree, values, 0)?;
     let sought = text_at(alloc, tree, values, 1)?;
+    let after = text_after(alloc, text.as_str(), sought.as_str());
+    drop(sought);
+    drop(text);
+    after
+}
+
+// The text after another in a text.
+fn text_after(alloc: Global, text: &str, sought: &str) -> Result<Value, Trouble>
+    ensures value { Answers (Ok (written (text_after (chars text.now)
+        (chars sought.now)))) result }
+{
     let mut bytes = Vec::new(alloc);
-    searching::substring_after(&mut bytes, text.as_str(), sought.as_str())?;
-    Ok(chars_of(bytes)?)
+    searching::substring_after(&mut bytes, text, sought)?;
+    chars_of(bytes)
 }
 
 /// `substring`.
@@ -140,12 +169,21 @@ pub(crate) fn substring(alloc: Global, tree: &Tree, values: &[Value]) -> Result<
     requires { All (IsIn tree.now) values.now }
     ensures value { Answers (substring tree.now values.now) result }
 {
-    let text = text_at(alloc, tree, values, 0)?;
     let from = number_at(alloc, tree, values, 1)?;
     let count = count_given(alloc, tree, values)?;
+    let text = text_at(alloc, tree, values, 0)?;
+    let part = part_of(alloc, text.as_str(), from, count);
+    drop(text);
+    part
+}
+
+// The characters of a text from a position on, and at most so many where their number is given.
+fn part_of(alloc: Global, text: &str, from: Num, count: Option<Num>) -> Result<Value, Trouble>
+    ensures value { Answers (Ok (written (substring_of (chars text.now) from count))) result }
+{
     let mut bytes = Vec::new(alloc);
-    positions::substring(&mut bytes, text.as_str(), from, count)?;
-    Ok(chars_of(bytes)?)
+    positions::substring(&mut bytes, text, from, count)?;
+    chars_of(bytes)
 }
 
 // How many characters a substring has at most, where that is given.
@@ -172,7 +210,9 @@ pub(crate) fn string_length(
         (text_value context.now.tree (first_or_node context.now values.now))) result }
 {
     let text = text_or_node(alloc, context, values)?;
-    Ok(Value::Number(natural(positions::char_count(text.as_str()))?))
+    let count = positions::char_count(text.as_str());
+    drop(text);
+    Ok(Value::Number(natural(count)?))
 }
 
 /// `normalize-space`.
@@ -187,9 +227,18 @@ pub(crate) fn normalize_space(
         (chars (text_value context.now.tree (first_or_node context.now values.now)))))) result }
 {
     let text = text_or_node(alloc, context, values)?;
+    let value = normalize(alloc, text.as_str());
+    drop(text);
+    value
+}
+
+// A text whose white space is normalized.
+fn normalize(alloc: Global, text: &str) -> Result<Value, Trouble>
+    ensures value { Answers (Ok (written (normalized (chars text.now)))) result }
+{
     let mut bytes = Vec::new(alloc);
-    normalization::normalize_space(&mut bytes, text.as_str())?;
-    Ok(chars_of(bytes)?)
+    normalization::normalize_space(&mut bytes, text)?;
+    chars_of(bytes)
 }
 
 /// `translate`.
@@ -203,7 +252,19 @@ pub(crate) fn translate(alloc: Global, tree: &Tree, values: &[Value]) -> Result<
     let text = text_at(alloc, tree, values, 0)?;
     let from = text_at(alloc, tree, values, 1)?;
     let to = text_at(alloc, tree, values, 2)?;
+    let value = replace_chars(alloc, text.as_str(), from.as_str(), to.as_str());
+    drop(to);
+    drop(from);
+    drop(text);
+    value
+}
+
+// A text whose characters are replaced by those at the same places of another.
+fn replace_chars(alloc: Global, text: &str, from: &str, to: &str) -> Result<Value, Trouble>
+    ensures value { Answers (Ok (written (translated (chars text.now) (chars from.now)
+        (chars to.now)))) result }
+{
     let mut bytes = Vec::new(alloc);
-    translation::translate(&mut bytes, text.as_str(), from.as_str(), to.as_str())?;
-    Ok(chars_of(bytes)?)
+    translation::translate(&mut bytes, text, from, to)?;
+    chars_of(bytes)
 }

@@ -1,6 +1,7 @@
 //! Attribute value templates (XSLT 1.0, 7.6.2).
 
 ghost use Rattle.std.specs.Prelude.{◌≡◌, [], ◌∷◌, ◌++◌, IfOk, IfSome};
+ghost use Rattle.std.specs.Cow.{cow_str_bytes};
 ghost use Rattle.std.specs.String.{string_bytes};
 ghost use Rattle.xs_trace.specs.Play.{IsStepBy};
 ghost use Rattle.xs_trace.specs.Run.{limited};
@@ -12,15 +13,16 @@ ghost use Rattle.xs_eval.specs.Templates.{and_part, template};
 use crate::context::Context;
 use crate::evaluate::evaluate;
 use std::alloc::{AllocError, Global};
+use std::borrow::CowStr;
 use xs_trace::item::Site;
 use xs_trace::recorder::{Halt, Tally};
 use xs_trace::text::TextBuf;
-use xs_value::conversion::lend_text;
+use xs_value::conversion::{lend_text, own_text};
 use xs_value::keys::KeyFinder;
 use xs_xpath::avt::AvtPart;
 
-/// The text of a value template: the texts of its parts, one after another; fixed text alone is
-/// shared. It ends as the first part that has another end than a value.
+/// The text of a value template, in memory of its own: the texts of its parts, one after another.
+/// It ends as the first part that has another end than a value.
 pub fn evaluate_avt<K: KeyFinder, T: Tally>(
     alloc: Global,
     parts: &[AvtPart],
@@ -35,18 +37,40 @@ pub fn evaluate_avt<K: KeyFinder, T: Tally>(
         (T.state tally.old)) result (T.state tally.new) }
     ensures kept { T.kept tally.new ≡ T.kept tally.old }
 {
+    let text = lend_avt(alloc, parts, context, keys, site, tally)?;
+    Ok(own_text(alloc, text)?)
+}
+
+/// The text of a value template; fixed text alone is lent.
+pub fn lend_avt<'t, K: KeyFinder, T: Tally>(
+    alloc: Global,
+    parts: &'t [AvtPart],
+    context: &Context<'_>,
+    keys: &K,
+    site: Site,
+    tally: &mut T,
+) -> Result<CowStr<'t, Global>, Halt>
+    requires context { IsContext (K.tables keys.now) context.now }
+    ensures told { IsStepBy (λ text. cow_str_bytes text) (limited site
+        (template (K.tables keys.now) (parts_from parts.now) context.now)
+        (T.state tally.old)) result (T.state tally.new) }
+    ensures kept { T.kept tally.new ≡ T.kept tally.old }
+{
     match fixed_alone(parts) {
-        Some(text) => Ok(text.copy()?),
-        None => evaluate_parts(alloc, parts, context, keys, site, tally),
+        Some(text) => Ok(CowStr::Borrowed(text)),
+        None => {
+            let text = evaluate_parts(alloc, parts, context, keys, site, tally)?;
+            Ok(CowStr::Owned(text))
+        }
     }
 }
 
 // The text of a template that is fixed text alone.
-fn fixed_alone(parts: &[AvtPart]) -> Option<&TextBuf>
+fn fixed_alone(parts: &[AvtPart]) -> Option<&str>
     ensures { IfSome result (λ text. parts.now ≡ Fixed text.now ∷ []) }
 {
     match parts {
-        [AvtPart::Fixed(text)] => Some(text),
+        [AvtPart::Fixed(text)] => Some(text.as_str()),
         _ => None,
     }
 }
@@ -59,9 +83,9 @@ fn evaluate_parts<K: KeyFinder, T: Tally>(
     keys: &K,
     site: Site,
     tally: &mut T,
-) -> Result<TextBuf, Halt>
+) -> Result<String, Halt>
     requires context { IsContext (K.tables keys.now) context.now }
-    ensures told { IsStepBy (λ text. text) (limited site
+    ensures told { IsStepBy (λ text. string_bytes text) (limited site
         (template (K.tables keys.now) (parts_from parts.now) context.now)
         (T.state tally.old)) result (T.state tally.new) }
     ensures kept { T.kept tally.new ≡ T.kept tally.old }
@@ -70,7 +94,7 @@ fn evaluate_parts<K: KeyFinder, T: Tally>(
     for part in parts {
         text = add_part(alloc, part, text, context, keys, site, tally)?;
     }
-    Ok(TextBuf::from_string(text)?)
+    Ok(text)
 }
 
 // The text of a part, after what is before it.

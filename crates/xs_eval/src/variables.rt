@@ -1,14 +1,16 @@
 //! The value of a variable (XPath 1.0, 3.1).
 
-ghost use Rattle.std.specs.Prelude.{slice_get};
+ghost use Rattle.std.specs.Prelude.{[], slice_get};
+ghost use Rattle.xs_trace.specs.Run.{give};
+ghost use Rattle.xs_value.specs.declared.value.Value.TheVariants.{Chars};
 ghost use Rattle.xs_eval.specs.Evaluation.{global, local, variable};
 ghost use Rattle.xs_eval.specs.steps.Variables.{Finds};
 
-use crate::arguments::chars;
 use crate::context::Context;
 use std::alloc::Global;
 use xs_trace::item::Site;
 use xs_trace::recorder::Halt;
+use xs_trace::text::TextBuf;
 use xs_value::value::Value;
 use xs_xpath::name::Slot;
 
@@ -24,7 +26,7 @@ pub(crate) fn variable(
     match slot {
         Some(Slot::Local(place)) => local(alloc, context.locals, place, site),
         Some(Slot::Global(place)) => global(alloc, context.globals, place, site),
-        None => Ok(chars(alloc, "")?),
+        None => empty(alloc, site),
     }
 }
 
@@ -32,10 +34,9 @@ pub(crate) fn variable(
 fn local(alloc: Global, locals: &[Value], place: u32, site: Site) -> Result<Value, Halt>
     ensures value { Finds site (local (slice_get locals.now place)) result }
 {
-    let _site = site;
     match locals.get(place as usize) {
         Some(v) => Ok(v.copy()?),
-        None => Ok(chars(alloc, "")?),
+        None => empty(alloc, site),
     }
 }
 
@@ -46,6 +47,14 @@ fn global(alloc: Global, globals: &[Option<Value>], place: u32, site: Site) -> R
     match globals.get(place as usize) {
         Some(Some(v)) => Ok(v.copy()?),
         Some(None) => Err(Halt::Needs(place, site)),
-        None => Ok(chars(alloc, "")?),
+        None => empty(alloc, site),
     }
+}
+
+// No characters, where there is no variable.
+fn empty(alloc: Global, site: Site) -> Result<Value, Halt>
+    ensures value { Finds site (give (Chars [])) result }
+{
+    let _site = site;
+    Ok(Value::Chars(TextBuf::of(alloc, "")?))
 }

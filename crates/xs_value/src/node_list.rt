@@ -90,7 +90,7 @@ impl NodeList {
                 Ok(())
             }
             Gathered::One(first) => {
-                let both = Vec::from_slice(alloc, &[*first, node])?;
+                let both = two_nodes(alloc, *first, node)?;
                 self.gathered = Gathered::Many(both);
                 Ok(())
             }
@@ -142,6 +142,16 @@ fn gathered_of(alloc: Global, nodes: &[Node]) -> Result<Gathered, AllocError>
         [node] => Ok(Gathered::One(*node)),
         _ => Ok(Gathered::Many(Vec::from_slice(alloc, nodes)?)),
     }
+}
+
+// Two nodes, with room for two more.
+fn two_nodes(alloc: Global, first: Node, second: Node) -> Result<Vec<Node>, AllocError>
+    ensures { IfOk result (λ nodes. nodes.items ≡ first ∷ second ∷ []) }
+{
+    let mut nodes = Vec::with_capacity(alloc, 4)?;
+    nodes.push(first)?;
+    nodes.push(second)?;
+    Ok(nodes)
 }
 
 // A node, and others after it.

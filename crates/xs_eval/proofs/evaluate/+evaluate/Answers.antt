@@ -27,6 +27,7 @@ use Rattle.xs_eval.proofs.StepLemmas.{by_case, closes, continues, costs_on, exit
 use Rattle.xs_eval.proofs.StepLemmas.{gives, goes_on, items_done, items_on, joins_here, joins_no_more}
 use Rattle.xs_eval.proofs.StepLemmas.{Rest, but_first, first_and_rest, first_and_rest_at}
 use Rattle.xs_eval.proofs.StepLemmas.{mapped_at, mapped_below, mapped_end, parts_on, placed_at, placed_below, placed_end, no_items, only_item, ticks_on}
+use Rattle.xs_eval.proofs.UnionLemmas.{only_runs, union_runs}
 use Rattle.xs_eval.proofs.evaluate.+evaluate.Goals as goal
 
 -- an expression of each kind that holds others in a list
@@ -167,6 +168,15 @@ evaluate_negative-returns-clause-told g t c =
     (λ v. given (negation c.args.signs c.args.context.now.tree v)) c.in_ok-v.v (g.T.Tally.state c.args.tally.now) s c.in_ok-v.ensures.told
     ∙ ap (λ (a : Context). limited c.args.site (given (negation c.args.signs a.tree c.in_ok-v.v)) s) (sym c.context.view_is))
     c.settled.ensures c.negate-negated.ensures.value
+
+-- a union of paths of one step
+pub evaluate_chain-returns-then-is_union_of_steps-clause-told : goal.evaluate_chain-returns-then-is_union_of_steps-clause-told
+evaluate_chain-returns-then-is_union_of_steps-clause-told g t c =
+    let keys = g.K.KeyFinder.tables c.args.keys.now in
+    continues (λ v. v) _ _ _ _
+    (ap (λ r. limited c.args.site r (g.T.Tally.state c.args.tally.now))
+    (union_runs keys c.args.operators.now c.args.operands.now c.args.context.now (sym c.is_union_of_steps.ensures ∙ c.if-is_union_of_steps.true)))
+    c.unite_steps.ensures.told
 
 -- operands joined
 pub evaluate_chain-returns-in_err-left-in-len1-up-clause-told : goal.evaluate_chain-returns-in_err-left-in-len1-up-clause-told
@@ -475,6 +485,15 @@ filter_each-returns-clause-told g t c =
     ∙ items_done c.args.site (judged c.args.context.now (length ns) m) (λ l. give l) (enumerate_from 1 ns) k c.loop-node.kept s
     (placed_end ns k (omega arith))
     ∙ gives c.args.site c.loop-node.kept s
+
+-- a relative path of one step
+pub evaluate_path-returns-in-Some-clause-told : goal.evaluate_path-returns-in-Some-clause-told
+evaluate_path-returns-in-Some-clause-told g t c =
+    let keys = g.K.KeyFinder.tables c.args.keys.now in
+    continues (λ v. v) _ _ _ _
+    (ap (λ r. limited c.args.site r (g.T.Tally.state c.args.tally.now))
+    (only_runs keys c.args.start.now c.args.steps.now c.in-Some.step.now c.args.context.now c.in-Some.ensures))
+    c.evaluate.ensures.told
 
 -- a path: where it begins
 pub evaluate_path-returns-in_err-nodes-clause-told : goal.evaluate_path-returns-in_err-nodes-clause-told

@@ -1,4 +1,4 @@
-use Rattle.std.proofs.Common.{◌≡◌, ◌++◌, ◌<◌, All, length, map}
+use Rattle.std.proofs.Common.{◌≡◌, ◌++◌, map}
 use Rattle.std.specs.Cow.{cow_str_bytes}
 use Rattle.std.specs.List.{flat_map}
 use Rattle.xs_value.specs.Tables.{table_at}
@@ -7,6 +7,5 @@ use Rattle.xs_eval.proofs.keys.found_for_index.Given as goal
 
 abbrev pub invariant-loop-text : goal.invariant-loop-text
 invariant-loop-text g l =
-    (l.nodes ++ flat_map (found_for l.context (table_at (g.K.KeyFinder.tables l.keys) l.key)) (map cow_str_bytes l.text-iterator)
-    ≡ flat_map (found_for l.context (table_at (g.K.KeyFinder.tables l.keys) l.key)) (map cow_str_bytes l.index.keys))
-    × All (λ k. k < length l.context.tree) l.nodes
+    l.nodes ++ flat_map (found_for l.context (table_at (g.K.KeyFinder.tables l.keys) l.key)) (map cow_str_bytes l.text-iterator)
+    ≡ flat_map (found_for l.context (table_at (g.K.KeyFinder.tables l.keys) l.key)) (map cow_str_bytes l.index.keys)

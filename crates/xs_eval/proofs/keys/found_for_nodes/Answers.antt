@@ -11,13 +11,16 @@ use Rattle.xs_eval.specs.Keys.{found_for}
 use Rattle.xs_eval.proofs.KeyLemmas.{finds-same}
 use Rattle.xs_eval.proofs.keys.found_for_nodes.Goals as goal
 
-pub returns-clause-found : goal.returns-clause-found
-returns-clause-found g c =
+pub returns : goal.returns
+returns g c =
     let around = c.args.context.now in
     let table = table_at (g.K.KeyFinder.tables c.args.keys.now) c.args.key in
     let index = c.in_ok-index.index.keys in
     let sought = map (string_value around.tree) c.args.sought.now in
     let is : IsIndexOf index sought = λ q.
     c.in_ok-index.ensures.texts q ∙ ap (λ (a : Context). list_any (bytes_eq q) (map (string_value a.tree) c.args.sought.now)) c.context.view_is in
-    finds-same around table (map cow_str_bytes index) sought c.found_for_index.result (united-index (found_for around table) index sought is)
-    c.found_for_index.ensures.found
+    record {
+      found =
+          finds-same around table (map cow_str_bytes index) sought c.found_for_index-found.result (united-index (found_for around table) index sought is)
+          c.found_for_index-found.ensures.found;
+    }

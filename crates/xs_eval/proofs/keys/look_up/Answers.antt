@@ -1,10 +1,12 @@
-use Rattle.std.proofs.Common.{◌≡◌, ◌∙◌, ap, length, sym}
+use Rattle.std.proofs.Common.{◌≡◌, ◌<◌, ◌∙◌, ap, length, sym}
+use Rattle.std.proofs.lemmas.List.Elements.{All-same}
 use Rattle.std.proofs.lemmas.Result.{err_from_is_err_and}
 use Rattle.xs_trace.specs.Run.{costs, give, limited}
 use Rattle.xs_value.specs.declared.value.Value.TheVariants.{Nodes}
 use Rattle.xs_value.specs.Tables.{table_at}
 use Rattle.xs_eval.specs.Functions.{second}
 use Rattle.xs_eval.specs.Keys.{found, from_table, sought}
+use Rattle.xs_eval.proofs.KeyLemmas.{found-inside}
 use Rattle.xs_eval.proofs.StepLemmas.{exits_at_costs}
 use Rattle.xs_eval.proofs.keys.look_up.Goals as goal
 
@@ -21,3 +23,11 @@ returns-in_err-tick_several-in-Ok-clause-told g c =
     exits_at_costs (λ v. v) c.args.site (length ns) (give (Nodes ns)) _ s (g.T.Tally.state c.tick_several.new.tally) c.from_residual.result _ _
     (ap (λ f. limited c.args.site (from_table ctx t f texts) s) c.in-Ok.ensures.found.0
     ∙ ap (λ l. limited c.args.site (costs (length l) (give (Nodes l))) s) same) p.1 p.2 c.in_err-tick_several-in-Ok.ensures.told
+
+pub returns-in_ok-tick_several-in-Ok-clause-inside : goal.returns-in_ok-tick_several-in-Ok-clause-inside
+returns-in_ok-tick_several-in-Ok-clause-inside g c =
+    let ctx = c.args.context.now in
+    let tables = g.K.KeyFinder.tables c.args.keys.now in
+    let texts = sought ctx (second c.args.values.now) in
+    All-same (λ k. k < length ctx.tree) c.in-Ok.found (found ctx (table_at tables c.args.key) texts) c.in-Ok.ensures.found.1
+    (found-inside ctx tables c.args.key texts c.requires.context.tables)

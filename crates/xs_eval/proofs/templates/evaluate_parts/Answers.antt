@@ -15,7 +15,8 @@ returns-in_err-text-clause-told g c =
     let f = and_parsed keys c.args.context.now in
     let l = c.loop-part in
     let s = g.T.Tally.state l.tally in
-    exits_in_items (λ (t : String Global). string_bytes t) (λ text. text) c.args.site f (λ text. give text) c.args.parts.now l.part-index c.part-item.result
+    exits_in_items (λ (t : String Global). string_bytes t) (λ (t : String Global). string_bytes t) c.args.site f (λ text. give text)
+    c.args.parts.now l.part-index c.part-item.result
     (string_bytes l.text) s (g.T.Tally.state c.add_part.new.tally)
     (limited c.args.site (template keys (parts_from c.args.parts.now) c.args.context.now) (g.T.Tally.state c.args.tally.now)) c.from_residual.result _ _
     (l.invariant.0 ∙ sym (gives_alone c.args.site (fold f (string_bytes l.text) (drop l.part-index c.args.parts.now)) s))

@@ -1,11 +1,9 @@
-use Rattle.std.proofs.Common.{◌≡◌, ℕ, ◌++◌, ◌<◌, List, ap, length, rules, subst, sym, ◌∙◌}
+use Rattle.std.proofs.Common.{◌++◌, ◌<◌, ap, length, subst, sym, ◌∙◌}
 use Rattle.xs_tree.specs.declared.axes.Axis.TheVariants.{Attribute as AttributeAxis}
 use Rattle.xs_tree.specs.Axis.{axis_list}
 use Rattle.xs_eval.specs.Context.{Context}
-use Rattle.xs_eval.specs.Paths.{tested}
-use Rattle.xs_eval.specs.steps.Nodes.{AreSome}
-use Rattle.xs_eval.proofs.AxisListLemmas.{axis-inside, next-inside, tested-some}
-use Rattle.xs_eval.proofs.node_tests.tested_attributes.Goals as goal
+use Rattle.xs_eval.proofs.AxisListLemmas.{axis-inside, next-inside}
+use Rattle.xs_eval.proofs.node_tests.find_attributes.Goals as goal
 
 pub passes-requires : goal.passes-requires
 passes-requires c =
@@ -14,8 +12,3 @@ passes-requires c =
     (axis_list AttributeAxis c.args.context.now.tree c.args.context.now.node)
     (sym (ap (λ xs. c.loop-node.yielded ++ xs) c.in-Some.ensures.steps) ∙ c.loop-node.invariant.2)
     (axis-inside AttributeAxis c.args.context.now.tree c.args.context.now.node))
-
-pub returns-clause-some : goal.returns-clause-some
-returns-clause-some c =
-    let e : c.loop-node.found ≡ tested AttributeAxis c.args.test.now c.args.context.now = search rules in
-    subst (λ (ns : List ℕ). AreSome c.args.context.now.tree ns) (sym e) (tested-some AttributeAxis c.args.test.now c.args.context.now)

@@ -3,12 +3,12 @@ use Rattle.xs_tree.specs.declared.axes.Axis.TheVariants.{Attribute as AttributeA
 use Rattle.xs_tree.specs.Axis.{axis_list}
 use Rattle.xs_tree.specs.Record.{at}
 use Rattle.xs_eval.specs.Paths.{passes, tested}
-use Rattle.xs_eval.proofs.node_tests.tested_attributes.Given as goal
+use Rattle.xs_eval.proofs.node_tests.find_attributes.Given as goal
 
--- what was found, with those that pass of the nodes that are left, is the whole
+-- what was found, with those that pass of the nodes that are left, is what was found before with the whole
 abbrev pub invariant-loop-node : goal.invariant-loop-node
 invariant-loop-node l =
     (goal.iterator-loop-node).can_next l.node-iterator ×
     (goal.iterator-loop-node).is_finite l.node-iterator ×
     (l.yielded ++ l.node-iterator ≡ axis_list AttributeAxis l.context.tree l.context.node) ×
-    (l.found ++ filter (λ k. passes AttributeAxis l.test (at l.context.tree k)) l.node-iterator ≡ tested AttributeAxis l.test l.context)
+    (l.found ++ filter (λ k. passes AttributeAxis l.test (at l.context.tree k)) l.node-iterator ≡ l.fn.found ++ tested AttributeAxis l.test l.context)

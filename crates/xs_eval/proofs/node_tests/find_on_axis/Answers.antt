@@ -1,0 +1,13 @@
+use Rattle.std.proofs.Common.{◌++◌, ◌<◌, ap, length, subst, sym, ◌∙◌}
+use Rattle.xs_tree.specs.Axis.{axis_list}
+use Rattle.xs_eval.specs.Context.{Context}
+use Rattle.xs_eval.proofs.AxisListLemmas.{axis-inside, next-inside}
+use Rattle.xs_eval.proofs.node_tests.find_on_axis.Goals as goal
+
+pub passes-requires : goal.passes-requires
+passes-requires c =
+    subst (λ (x : Context). c.in-Some.node < length x.tree) (sym c.context.view_is)
+    (next-inside (λ k. k < length c.args.context.now.tree) c.loop-node.yielded c.next.new.self c.in-Some.node
+    (axis_list c.args.axis c.args.context.now.tree c.args.context.now.node)
+    (sym (ap (λ xs. c.loop-node.yielded ++ xs) c.in-Some.ensures.steps) ∙ c.loop-node.invariant.2)
+    (axis-inside c.args.axis c.args.context.now.tree c.args.context.now.node))
