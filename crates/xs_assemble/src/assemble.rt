@@ -83,6 +83,7 @@ pub fn assemble<R: Runner>(
         output: Output::new(alloc, limits),
         inline: 0,
         inline_ticks: 0,
+        next: 0,
     };
     let ending = assemble_root(runner, alloc, pool, &mut work);
     let Work {
@@ -91,6 +92,7 @@ pub fn assemble<R: Runner>(
         output,
         inline,
         inline_ticks,
+        ..
     } = work;
     free_pieces(pool, pieces);
     free_open(pool, stack);

@@ -1,7 +1,7 @@
 //! A piece is opened: by what it did, or by all that its task does.
 
 ghost use Rattle.std.specs.List.{All, Contains, HoldsAt};
-ghost use Rattle.std.specs.Prelude.{◌≡◌, ◌+◌, ◌<◌, ◌≤◌, get_or, length, true, false};
+ghost use Rattle.std.specs.Prelude.{◌≡◌, ◌+◌, ◌<◌, ◌≤◌, get_or, length, true, false, IsTrue};
 ghost use Rattle.std.specs.Prelude.{IfNone, IfOk, IfSome, OnErr, OnOk, OnSome, Some};
 ghost use Rattle.xs_assemble.specs.Blocks.{piece_blocks, Keeps};
 ghost use Rattle.xs_assemble.specs.Inline.{Inline};
@@ -49,21 +49,36 @@ pub(crate) fn enter<R: Runner>(
     ensures turns { OnOk result (work_turns work.new ≤ 2 + work_turns work.old) }
     ensures blocks { Keeps (work_blocks work.old + pool.old) (work_blocks work.new + pool.new) }
 {
-    let index = find(runner, work.pieces.as_slice(), &place);
+    let index = find(runner, work.pieces.as_slice(), work.next, &place);
     work.stack.reserve(1)?;
     let outcome = outcome_at(runner, alloc, pool, work, index)?;
     work.stack.push_reserved(OpenPiece::of(place, outcome));
+    work.next = index + 1;
     Ok(())
 }
 
-/// The index of the piece at a place, found by halving.
-fn find<R: Runner>(runner: &R, pieces: &[Piece<R::Task>], place: &Place) -> usize
+/// The index of the piece at a place: as guessed, or else found by halving.
+fn find<R: Runner>(runner: &R, pieces: &[Piece<R::Task>], guess: usize, place: &Place) -> usize
     requires sorted { IsSorted (R.place_of runner.now) pieces.now }
     requires there { Contains (places_in (R.place_of runner.now) pieces.now) place.now }
     ensures within { result < length pieces.now }
     ensures place { HoldsAt (λ p. R.place_of runner.now p.task ≡ place.now) pieces.now result }
 {
+    if is_at(runner, pieces, guess, place) {
+        return guess;
+    }
     pieces.partition_point(|piece| compare_places(runner.place(&piece.task), place).is_lt())
+}
+
+/// Whether the piece at an index, if there is one, is the one at a place.
+fn is_at<R: Runner>(runner: &R, pieces: &[Piece<R::Task>], index: usize, place: &Place) -> bool
+    ensures at { IsTrue result → (index < length pieces.now)
+        × HoldsAt (λ p. R.place_of runner.now p.task ≡ place.now) pieces.now index }
+{
+    if index >= pieces.len() {
+        return false;
+    }
+    compare_places(runner.place(&pieces[index].task), place).is_eq()
 }
 
 /// What the piece at an index did, or else all that its task does within what is left.

@@ -69,6 +69,9 @@ impl<T: Drop> Pool<T> {
         ensures kept { self.old ≤ self.new }
         ensures fewest { self.old < self.new → spare_of (self.new - 1) chain.now < n }
     {
+        if n <= chain.slots() as u64 {
+            return Ok(());
+        }
         while self.spare(chain) < n {
             if self.free_blocks() >= MOST_BLOCKS - chain.blocks() {
                 return Err(AllocError);

@@ -1,3 +1,4 @@
 pub mod RunLemmas
 pub mod SoleLemmas
 pub mod StoppedLemmas
+pub mod SwapLemmas

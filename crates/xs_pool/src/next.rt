@@ -86,6 +86,7 @@ fn push_waiting<T: Drop>(pieces: &mut Vec<Piece<T>>, tasks: Vec<T>) -> Result<()
         (pieces.new.items ≡ pieces.old.items ++ map waiting tasks.items) }
 {
     let mut tasks = tasks;
+    pieces.reserve(tasks.len())?;
     tasks.reverse();
     while let Some(task) = tasks.pop() {
         pieces.push(Piece {

@@ -1,4 +1,4 @@
-//! All pieces on one thread, first in, first out.
+//! All pieces on one thread, in any order.
 
 ghost use Rattle.std.specs.Prelude.{◌≡◌, ◌++◌, ◌∷◌, ◌+◌, ◌<◌, ◌≤◌, ◌^◌, [], IfOk, OnOk, length};
 ghost use Rattle.xs_pieces.specs.Collection.{AreClaims, IsCollection};
@@ -42,11 +42,35 @@ pub fn run_all<R: PieceRunner<SoleTotal>>(
         AreClaims (R.place_of runner.now) 1 c.pieces.items c.claims.items) }
     ensures bounded { IfOk result (λ c. c.total ≤ limits.ticks + 1024) }
 {
+    run_in_order(alloc, runner, root, limits, &[])
+}
+
+/// Runs the root's task and all that tasks leave, in an order, until all have been run or one ended
+/// in the total. Of those that wait, the k-th to be run is the one with the k-th number; the first,
+/// where there is no such number, or fewer wait.
+pub fn run_in_order<R: PieceRunner<SoleTotal>>(
+    alloc: Global,
+    runner: &R,
+    root: R::Task,
+    limits: Limits,
+    order: &[u32],
+) -> Result<Collected<R::Task>, AllocError>
+    requires ready { IsReady (R.is_own runner.now) (R.place_of runner.now) (R.own runner.now)
+        (R.whole runner.now) }
+    requires root { R.is_own runner.now root }
+    requires place { R.place_of runner.now root ≡ [] }
+    requires limit { limits.ticks ≤ 2 ^ 40 }
+    ensures collection { IfOk result (λ c. IsCollection (R.is_own runner.now)
+        (R.place_of runner.now) (R.own runner.now) root limits c.pieces.items c.total) }
+    ensures claims { IfOk result (λ c.
+        AreClaims (R.place_of runner.now) 1 c.pieces.items c.claims.items) }
+    ensures bounded { IfOk result (λ c. c.total ≤ limits.ticks + 1024) }
+{
     let desk = Desk {
         share: SoleTotal::new(alloc, limits.ticks)?,
         pool: Pool::new(alloc),
     };
-    let ran = run_pieces(alloc, runner, root, limits, desk)?;
+    let ran = run_pieces(alloc, runner, root, limits, order, desk)?;
     let Run {
         pieces,
         claims,
@@ -61,12 +85,13 @@ pub fn run_all<R: PieceRunner<SoleTotal>>(
     })
 }
 
-/// Runs the root's task and all that tasks leave, first in, first out.
+/// Runs the root's task and all that tasks leave, in an order.
 fn run_pieces<R: PieceRunner<T>, T: Total + Drop>(
     alloc: Global,
     runner: &R,
     root: R::Task,
     limits: Limits,
+    order: &[u32],
     desk: Desk<T>,
 ) -> Result<Run<R::Task, T>, AllocError>
     requires ready { IsReady (R.is_own runner.now) (R.place_of runner.now) (R.own runner.now)
@@ -88,6 +113,8 @@ fn run_pieces<R: PieceRunner<T>, T: Total + Drop>(
     let mut desk = desk;
     let mut next = 0;
     while next < pieces.len() {
+        let chosen = choose(order, next, pieces.len());
+        pieces.swap(next, chosen);
         claim(runner, &mut claims, &pieces[next].task)?;
         let ran = run_next(alloc, runner, &mut pieces, next, limits, desk)?;
         let Next {
@@ -121,6 +148,24 @@ fn only_root<T: Drop>(alloc: Global, root: T) -> Result<Vec<Piece<T>>, AllocErro
         outcome: None,
     })?;
     Ok(pieces)
+}
+
+/// The index of the piece that is run next, of those that wait from an index on: that with the
+/// number which the order has there, or the first.
+fn choose(order: &[u32], first: usize, count: usize) -> usize
+    requires some { first < count }
+    ensures waits { first ≤ result }
+    ensures within { result < count }
+{
+    let Some(number) = order.get(first) else {
+        return first;
+    };
+    let number = *number as usize;
+    if number < count - first {
+        first + number
+    } else {
+        first
+    }
 }
 
 /// The first worker claims the piece of a task.

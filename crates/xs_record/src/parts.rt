@@ -201,7 +201,7 @@ fn take_last<H: Drop>(
         marks.old.blocks ≤ marks.new.blocks + length items) }
     ensures refused { OnErr result (marks.old.blocks ≤ marks.new.blocks) }
 {
-    before.reserve(1)?;
+    before.reserve_exact(1)?;
     marks.take()
 }
 

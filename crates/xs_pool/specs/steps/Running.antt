@@ -1,4 +1,4 @@
--- Pieces that are run one after another, first in, first out.
+-- Pieces that are run one after another.
 use Rattle.std.specs.Prelude.{◌≡◌, ◌<◌, ◌≤◌, ◌+◌, ◌++◌, ◌∷◌, [], ℕ, zero, suc, length, get_or, List, map, Option, Some, None, Bool, true, false}
 use Rattle.std.specs.List.{All}
 use Rattle.xs_trace.specs.Mark.{Trace}

@@ -12,7 +12,7 @@ assemble_root-ending-requires g c = record {
   entering = root-is-entered (g.R.Runner.is_own c.args.runner.now) (g.R.Runner.place_of c.args.runner.now) (g.R.Runner.own c.args.runner.now)
       (g.R.Runner.whole c.args.runner.now) c.requires.ready c.requires.collection.0 c.args.limits c.args.collected.pieces.items
       c.args.collected.total c.requires.collection.1
-      (record { pieces = c.in_ok-pieces.pieces; stack = c.new.result; output = c.new-2.result; inline = 0; inline_ticks = 0 })
+      (record { pieces = c.in_ok-pieces.pieces; stack = c.new.result; output = c.new-2.result; inline = 0; inline_ticks = 0; next = 0 })
       c.in_ok-pieces.ensures.sorted c.in_ok-pieces.ensures.same c.new.ensures.items c.new-2.ensures.items c.new-2.ensures.limit refl;
 }
 
@@ -21,7 +21,7 @@ conclude-requires g c = record {
   ended = root-ending (g.R.Runner.is_own c.args.runner.now) (g.R.Runner.place_of c.args.runner.now) (g.R.Runner.own c.args.runner.now)
       (g.R.Runner.whole c.args.runner.now) c.requires.ready c.requires.collection.0 c.args.limits c.args.collected.pieces.items
       c.args.collected.total c.requires.collection.1
-      (record { pieces = c.in_ok-pieces.pieces; stack = c.new.result; output = c.new-2.result; inline = 0; inline_ticks = 0 })
+      (record { pieces = c.in_ok-pieces.pieces; stack = c.new.result; output = c.new-2.result; inline = 0; inline_ticks = 0; next = 0 })
       c.in_ok-pieces.ensures.sorted c.in_ok-pieces.ensures.same c.new.ensures.items c.new-2.ensures.items c.new-2.ensures.limit refl
       c.assemble_root-ending.result c.assemble_root-ending.new.work c.assemble_root-ending.ensures.ended;
 }
@@ -31,7 +31,7 @@ overflow_sub-ticks g c =
     left-at-end (g.R.Runner.is_own c.args.runner.now) (g.R.Runner.place_of c.args.runner.now) (g.R.Runner.own c.args.runner.now)
     (g.R.Runner.whole c.args.runner.now) c.requires.ready c.requires.collection.0 c.args.limits c.args.collected.pieces.items
     c.args.collected.total c.requires.collection.1
-    (record { pieces = c.in_ok-pieces.pieces; stack = c.new.result; output = c.new-2.result; inline = 0; inline_ticks = 0 })
+    (record { pieces = c.in_ok-pieces.pieces; stack = c.new.result; output = c.new-2.result; inline = 0; inline_ticks = 0; next = 0 })
     c.in_ok-pieces.ensures.sorted c.in_ok-pieces.ensures.same c.new.ensures.items c.new-2.ensures.items c.new-2.ensures.limit refl
     c.assemble_root-ending.result c.assemble_root-ending.new.work c.assemble_root-ending.ensures.ended c.in-Ok.conclusion.end c.in-Ok.ensures.end
 
@@ -39,7 +39,7 @@ pub returns-in-Ok-clause-cut : goal.returns-in-Ok-clause-cut
 returns-in-Ok-clause-cut g c = λ root coll.
     is-assembled (g.R.Runner.is_own c.args.runner.now) (g.R.Runner.place_of c.args.runner.now) (g.R.Runner.own c.args.runner.now)
     (g.R.Runner.whole c.args.runner.now) c.requires.ready root c.args.limits c.args.collected.pieces.items c.args.collected.total coll
-    (record { pieces = c.in_ok-pieces.pieces; stack = c.new.result; output = c.new-2.result; inline = 0; inline_ticks = 0 })
+    (record { pieces = c.in_ok-pieces.pieces; stack = c.new.result; output = c.new-2.result; inline = 0; inline_ticks = 0; next = 0 })
     c.in_ok-pieces.ensures.sorted c.in_ok-pieces.ensures.same c.new.ensures.items c.new-2.ensures.items c.new-2.ensures.limit refl
     c.assemble_root-ending.result c.assemble_root-ending.new.work c.assemble_root-ending.ensures.ended c.in-Ok.conclusion.end c.in-Ok.ensures.end
     _ refl c.in-Ok.ensures.says refl refl
@@ -48,7 +48,7 @@ pub returns-in-Ok-clause-inline : goal.returns-in-Ok-clause-inline
 returns-in-Ok-clause-inline g c = λ root find depth coll f.
     is-inline (g.R.Runner.is_own c.args.runner.now) (g.R.Runner.place_of c.args.runner.now) (g.R.Runner.own c.args.runner.now)
     (g.R.Runner.whole c.args.runner.now) c.requires.ready root c.args.limits c.args.collected.pieces.items c.args.collected.total coll
-    (record { pieces = c.in_ok-pieces.pieces; stack = c.new.result; output = c.new-2.result; inline = 0; inline_ticks = 0 })
+    (record { pieces = c.in_ok-pieces.pieces; stack = c.new.result; output = c.new-2.result; inline = 0; inline_ticks = 0; next = 0 })
     c.in_ok-pieces.ensures.sorted c.in_ok-pieces.ensures.same c.new.ensures.items c.new-2.ensures.items c.new-2.ensures.limit refl
     c.assemble_root-ending.result c.assemble_root-ending.new.work c.assemble_root-ending.ensures.ended c.in-Ok.conclusion.end c.in-Ok.ensures.end find depth f
 
@@ -57,7 +57,7 @@ returns-in-Ok-clause-few g c =
     few-inline (g.R.Runner.is_own c.args.runner.now) (g.R.Runner.place_of c.args.runner.now) (g.R.Runner.own c.args.runner.now)
     (g.R.Runner.whole c.args.runner.now) c.requires.ready c.requires.collection.0 c.args.limits c.args.collected.pieces.items
     c.args.collected.total c.requires.collection.1
-    (record { pieces = c.in_ok-pieces.pieces; stack = c.new.result; output = c.new-2.result; inline = 0; inline_ticks = 0 })
+    (record { pieces = c.in_ok-pieces.pieces; stack = c.new.result; output = c.new-2.result; inline = 0; inline_ticks = 0; next = 0 })
     c.in_ok-pieces.ensures.sorted c.in_ok-pieces.ensures.same c.new.ensures.items c.new-2.ensures.items c.new-2.ensures.limit refl
     c.assemble_root-ending.result c.assemble_root-ending.new.work c.assemble_root-ending.ensures.ended c.in-Ok.conclusion.end c.in-Ok.ensures.end
 
@@ -66,7 +66,7 @@ returns-in-Ok-clause-only_above g c =
     inline-only-above (g.R.Runner.is_own c.args.runner.now) (g.R.Runner.place_of c.args.runner.now) (g.R.Runner.own c.args.runner.now)
     (g.R.Runner.whole c.args.runner.now) c.requires.ready c.requires.collection.0 c.args.limits c.args.collected.pieces.items
     c.args.collected.total c.requires.collection.1
-    (record { pieces = c.in_ok-pieces.pieces; stack = c.new.result; output = c.new-2.result; inline = 0; inline_ticks = 0 })
+    (record { pieces = c.in_ok-pieces.pieces; stack = c.new.result; output = c.new-2.result; inline = 0; inline_ticks = 0; next = 0 })
     c.in_ok-pieces.ensures.sorted c.in_ok-pieces.ensures.same c.new.ensures.items c.new-2.ensures.items c.new-2.ensures.limit refl
     c.assemble_root-ending.result c.assemble_root-ending.new.work c.assemble_root-ending.ensures.ended c.in-Ok.conclusion.end c.in-Ok.ensures.end
 
@@ -75,7 +75,7 @@ returns-in-Ok-clause-none g c =
     none-inline (g.R.Runner.is_own c.args.runner.now) (g.R.Runner.place_of c.args.runner.now) (g.R.Runner.own c.args.runner.now)
     (g.R.Runner.whole c.args.runner.now) c.requires.ready c.requires.collection.0 c.args.limits c.args.collected.pieces.items
     c.args.collected.total c.requires.collection.1
-    (record { pieces = c.in_ok-pieces.pieces; stack = c.new.result; output = c.new-2.result; inline = 0; inline_ticks = 0 })
+    (record { pieces = c.in_ok-pieces.pieces; stack = c.new.result; output = c.new-2.result; inline = 0; inline_ticks = 0; next = 0 })
     c.in_ok-pieces.ensures.sorted c.in_ok-pieces.ensures.same c.new.ensures.items c.new-2.ensures.items c.new-2.ensures.limit refl
     c.assemble_root-ending.result c.assemble_root-ending.new.work c.assemble_root-ending.ensures.ended c.in-Ok.conclusion.end c.in-Ok.ensures.end
 

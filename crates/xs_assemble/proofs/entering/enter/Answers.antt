@@ -27,7 +27,7 @@ returns-clause-entered g c =
     enters (g.R.Runner.is_own c.args.runner.now)
     (seen place (g.R.Runner.own c.args.runner.now) (g.R.Runner.whole c.args.runner.now) k) c.requires.ready t i c.args.place
     c.find-index.result (some-piece place w.pieces.items c.args.place h.there) c.in_ok-outcome.outcome c.of.result w
-    (record { pieces = w.pieces; stack = c.reserve.new.self; output = w.output; inline = w.inline; inline_ticks = w.inline_ticks })
+    (record { pieces = w.pieces; stack = c.reserve.new.self; output = w.output; inline = w.inline; inline_ticks = w.inline_ticks; next = w.next })
     c.outcome_at.new.work
     (record {
       pieces = c.outcome_at.new.work.pieces;
@@ -35,6 +35,7 @@ returns-clause-entered g c =
       output = c.outcome_at.new.work.output;
       inline = c.outcome_at.new.work.inline;
       inline_ticks = c.outcome_at.new.work.inline_ticks;
+      next = c.find-index.result + 1;
     })
     h refl c.in_ok-reserve.ensures.items refl refl
     (subst (λ (ps : List (Piece g.row.R-Task.Denot)). c.find-index.result < length ps) c.as_slice.ensures.value c.find-index.ensures.within)
@@ -49,7 +50,7 @@ returns-clause-turns g c =
     let e = ap open_turns c.in_ok-reserve.ensures.items in
     let n = entered-turns (g.R.Runner.whole c.args.runner.now) c.requires.ready.no_hole c.find-index.result
     (some-piece place w.pieces.items c.args.place c.requires.entering.3.there) c.in_ok-outcome.outcome c.of.result
-    (record { pieces = w.pieces; stack = c.reserve.new.self; output = w.output; inline = w.inline; inline_ticks = w.inline_ticks })
+    (record { pieces = w.pieces; stack = c.reserve.new.self; output = w.output; inline = w.inline; inline_ticks = w.inline_ticks; next = w.next })
     c.outcome_at.new.work
     (record {
       pieces = c.outcome_at.new.work.pieces;
@@ -57,6 +58,7 @@ returns-clause-turns g c =
       output = c.outcome_at.new.work.output;
       inline = c.outcome_at.new.work.inline;
       inline_ticks = c.outcome_at.new.work.inline_ticks;
+      next = c.find-index.result + 1;
     })
     (subst (λ (ps : List (Piece g.row.R-Task.Denot)). c.find-index.result < length ps) c.as_slice.ensures.value c.find-index.ensures.within)
     c.in_ok-outcome.ensures.outcome c.of.ensures.parts c.push_reserved.ensures.items refl in

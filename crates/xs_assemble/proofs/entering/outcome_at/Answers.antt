@@ -23,6 +23,7 @@ returns-in-None-clause-outcome g c =
       output = c.args.work.now.output;
       inline = c.args.work.now.inline;
       inline_ticks = c.args.work.now.inline_ticks;
+      next = c.args.work.now.next;
     })
     c.run_inline.new.work (ap (λ v. v.items) c.in-None.ensures.same) refl refl refl c.in-None.ensures.missing c.run_inline.ensures.ran
 

@@ -20,7 +20,14 @@ enter-requires g c =
         r.1,
         r.2,
         goes-some (g.R.Runner.is_own c.args.runner.now) case r.1 r.2 c.args.piece c.args.hole c.in-Some.number c.in-Ok.place w
-            (record { pieces = w.pieces; stack = c.push_open-in-Ok.new.stack; output = w.output; inline = w.inline; inline_ticks = w.inline_ticks })
+            (record {
+              pieces = w.pieces;
+              stack = c.push_open-in-Ok.new.stack;
+              output = w.output;
+              inline = w.inline;
+              inline_ticks = w.inline_ticks;
+              next = w.next;
+            })
             c.in-Some.is c.in-Ok.ensures.numbers r.3 refl refl refl c.in_ok-push_open-in-Ok.ensures.pushed,
       );
     }
@@ -32,7 +39,7 @@ returns-in-None-clause-gone g c =
     let w = c.args.work.now in
     let case = seen (g.R.Runner.place_of c.args.runner.now) (g.R.Runner.own c.args.runner.now) (g.R.Runner.whole c.args.runner.now) k in
     goes-none (g.R.Runner.is_own c.args.runner.now) case t i c.args.piece c.args.hole w
-    (record { pieces = w.pieces; stack = c.push_open.new.stack; output = w.output; inline = w.inline; inline_ticks = w.inline_ticks })
+    (record { pieces = w.pieces; stack = c.push_open.new.stack; output = w.output; inline = w.inline; inline_ticks = w.inline_ticks; next = w.next })
     c.in-None.is h refl refl refl e)
     c.push_open.ensures.pushed
 
@@ -73,7 +80,7 @@ returns-in_ok-push_open-in-Ok-clause-gone g c =
     let w = c.args.work.now in
     let case = seen (g.R.Runner.place_of c.args.runner.now) (g.R.Runner.own c.args.runner.now) (g.R.Runner.whole c.args.runner.now) k in
     e k t i (goes-some (g.R.Runner.is_own c.args.runner.now) case t i c.args.piece c.args.hole c.in-Some.number c.in-Ok.place w
-    (record { pieces = w.pieces; stack = c.push_open-in-Ok.new.stack; output = w.output; inline = w.inline; inline_ticks = w.inline_ticks })
+    (record { pieces = w.pieces; stack = c.push_open-in-Ok.new.stack; output = w.output; inline = w.inline; inline_ticks = w.inline_ticks; next = w.next })
     c.in-Some.is c.in-Ok.ensures.numbers h refl refl refl c.in_ok-push_open-in-Ok.ensures.pushed))
     c.enter.ensures.entered
 

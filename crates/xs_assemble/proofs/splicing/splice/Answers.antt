@@ -18,7 +18,7 @@ step-requires g c =
         r.1,
         r.2,
         pops (g.R.Runner.is_own c.args.runner.now) case r.1 r.2 c.in-Some.piece w
-            (record { pieces = w.pieces; stack = c.pop.new.self; output = w.output; inline = w.inline; inline_ticks = w.inline_ticks })
+            (record { pieces = w.pieces; stack = c.pop.new.self; output = w.output; inline = w.inline; inline_ticks = w.inline_ticks; next = w.next })
             (c.loop-piece.invariant.work r.0 r.1 r.2 r.3) refl refl refl c.in-Some.ensures.items,
       );
     }
@@ -32,7 +32,7 @@ loop-piece-preserved g c =
       work = λ k t i h.
           let case = seen (g.R.Runner.place_of c.args.runner.now) (g.R.Runner.own c.args.runner.now) (g.R.Runner.whole c.args.runner.now) k in
           c.in_ok-step.ensures.advances k t i (pops (g.R.Runner.is_own c.args.runner.now) case t i c.in-Some.piece w
-          (record { pieces = w.pieces; stack = c.pop.new.self; output = w.output; inline = w.inline; inline_ticks = w.inline_ticks })
+          (record { pieces = w.pieces; stack = c.pop.new.self; output = w.output; inline = w.inline; inline_ticks = w.inline_ticks; next = w.next })
           (c.loop-piece.invariant.work k t i h) refl refl refl c.in-Some.ensures.items);
       blocks = pops-blocks (work_blocks c.args.work.now + c.args.pool.now) w.stack.items c.pop.new.self.items c.in-Some.piece (length w.output.items)
           (piece_blocks w.pieces.items) c.loop-piece.pool (work_blocks c.step.new.work + c.step.new.pool) c.in-Some.ensures.items c.loop-piece.invariant.blocks
@@ -52,7 +52,7 @@ returns-in_err-step-clause-ended g c =
     let case = seen (g.R.Runner.place_of c.args.runner.now) (g.R.Runner.own c.args.runner.now) (g.R.Runner.whole c.args.runner.now) k in
     ends-advance (g.R.Runner.is_own c.args.runner.now) case t i c.from_residual.result p.0 _ c.step.new.work p.1 p.2
     (c.in_err-step.ensures.advances k t i (pops (g.R.Runner.is_own c.args.runner.now) case t i c.in-Some.piece w
-    (record { pieces = w.pieces; stack = c.pop.new.self; output = w.output; inline = w.inline; inline_ticks = w.inline_ticks })
+    (record { pieces = w.pieces; stack = c.pop.new.self; output = w.output; inline = w.inline; inline_ticks = w.inline_ticks; next = w.next })
     (c.loop-piece.invariant.work k t i h) refl refl refl c.in-Some.ensures.items))
 
 pub returns-in_err-step-clause-blocks : goal.returns-in_err-step-clause-blocks
@@ -69,7 +69,7 @@ returns-clause-ended g c =
     let case = seen (g.R.Runner.place_of c.args.runner.now) (g.R.Runner.own c.args.runner.now) (g.R.Runner.whole c.args.runner.now) k in
     let e : length w.stack.items ≡ 0 = search rules in
     none-left (g.R.Runner.is_own c.args.runner.now) case t i w
-    (record { pieces = w.pieces; stack = c.pop.new.self; output = w.output; inline = w.inline; inline_ticks = w.inline_ticks })
+    (record { pieces = w.pieces; stack = c.pop.new.self; output = w.output; inline = w.inline; inline_ticks = w.inline_ticks; next = w.next })
     _ (c.loop-piece.invariant.work k t i h) refl refl e
 
 pub returns-clause-blocks : goal.returns-clause-blocks

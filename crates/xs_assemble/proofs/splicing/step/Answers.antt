@@ -18,7 +18,7 @@ returns-in-None-clause-advances g c =
     let case = seen (g.R.Runner.place_of c.args.runner.now) (g.R.Runner.own c.args.runner.now) (g.R.Runner.whole c.args.runner.now) k in
     let e : length c.args.piece.parts.items ≡ 0 = search rules in
     ends-piece (g.R.Runner.is_own c.args.runner.now) case t i c.args.piece w
-    (record { pieces = w.pieces; stack = w.stack; output = c.join_end.new.self; inline = w.inline; inline_ticks = w.inline_ticks })
+    (record { pieces = w.pieces; stack = w.stack; output = c.join_end.new.self; inline = w.inline; inline_ticks = w.inline_ticks; next = w.next })
     c.join_end.result (no-parts c.args.piece.parts.items e) h refl refl refl c.join_end.ensures.joined
 
 pub returns-in-None-clause-turns : goal.returns-in-None-clause-turns
@@ -46,7 +46,7 @@ returns-in-Err-clause-advances g c =
     let case = seen (g.R.Runner.place_of c.args.runner.now) (g.R.Runner.own c.args.runner.now) (g.R.Runner.whole c.args.runner.now) k in
     part-ends (g.R.Runner.is_own c.args.runner.now) case t i c.args.piece
     (record { place = c.args.piece.place; parts = c.pop.new.self; ended = c.args.piece.ended }) c.in-Some.part w
-    (record { pieces = w.pieces; stack = w.stack; output = c.join.new.self; inline = w.inline; inline_ticks = w.inline_ticks })
+    (record { pieces = w.pieces; stack = w.stack; output = c.join.new.self; inline = w.inline; inline_ticks = w.inline_ticks; next = w.next })
     (Err c.in-Err.halt) c.in-Err.halt c.in-Err.halt c.in-Some.ensures.items refl refl h refl refl refl c.in-Err.ensures.joined
 
 pub returns-in-Err-clause-blocks : goal.returns-in-Err-clause-blocks
@@ -69,7 +69,7 @@ go_on-requires g c =
         r.2,
         part-goes (g.R.Runner.is_own c.args.runner.now) case r.1 r.2 c.args.piece
             (record { place = c.args.piece.place; parts = c.pop.new.self; ended = c.args.piece.ended }) c.in-Some.part w
-            (record { pieces = w.pieces; stack = w.stack; output = c.join.new.self; inline = w.inline; inline_ticks = w.inline_ticks })
+            (record { pieces = w.pieces; stack = w.stack; output = c.join.new.self; inline = w.inline; inline_ticks = w.inline_ticks; next = w.next })
             _ c.in-Some.ensures.items refl refl r.3 refl refl refl c.in-Ok.ensures.joined,
       );
     }
@@ -81,7 +81,7 @@ returns-in_ok-go_on-in-Ok-clause-advances g c =
     let case = seen (g.R.Runner.place_of c.args.runner.now) (g.R.Runner.own c.args.runner.now) (g.R.Runner.whole c.args.runner.now) k in
     c.in_ok-go_on-in-Ok.ensures.gone k t i (part-goes (g.R.Runner.is_own c.args.runner.now) case t i c.args.piece
     (record { place = c.args.piece.place; parts = c.pop.new.self; ended = c.args.piece.ended }) c.in-Some.part w
-    (record { pieces = w.pieces; stack = w.stack; output = c.join.new.self; inline = w.inline; inline_ticks = w.inline_ticks })
+    (record { pieces = w.pieces; stack = w.stack; output = c.join.new.self; inline = w.inline; inline_ticks = w.inline_ticks; next = w.next })
     _ c.in-Some.ensures.items refl refl h refl refl refl c.in-Ok.ensures.joined)
 
 pub returns-in_ok-go_on-in-Ok-clause-blocks : goal.returns-in_ok-go_on-in-Ok-clause-blocks

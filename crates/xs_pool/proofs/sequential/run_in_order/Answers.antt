@@ -3,7 +3,7 @@ use Rattle.xs_pieces.specs.Collection.{IsCollection}
 use Rattle.xs_ledger.specs.Additions.{last_answer}
 use Rattle.xs_ledger.specs.Shares.{additions, own}
 use Rattle.xs_pool.proofs.SoleLemmas.{closed, closed-within}
-use Rattle.xs_pool.proofs.sequential.run_all.Goals as goal
+use Rattle.xs_pool.proofs.sequential.run_in_order.Goals as goal
 
 pub returns-clause-collection : goal.returns-clause-collection
 returns-clause-collection g c =
