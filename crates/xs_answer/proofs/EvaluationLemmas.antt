@@ -25,7 +25,7 @@ use Rattle.xs_answer.specs.declared.reply.Reply.{Reply}
 use Rattle.xs_answer.specs.declared.status.TheConstants.{OK, RUN_FAULT}
 use Rattle.xs_reading_back.specs.Events.{IsResult}
 use Rattle.xs_rules.specs.WhiteSpace.{stripped}
-use Rattle.xs_semantics.specs.declared.index.SheetIndex.{SheetIndex}
+use Rattle.xs_sets.specs.declared.index.SetIndex.{SetIndex}
 use Rattle.xs_sheet.specs.declared.declarations.Method.{Method}
 use Rattle.xs_sheet.specs.declared.declarations.StripRule.{StripRule}
 use Rattle.xs_sheet.specs.declared.sheet.Sheet.{Sheet}
@@ -79,7 +79,7 @@ from_stripped r N M job sheet rules source tree m same is over =
     (λ a on. subst (λ rs. IsEvaluatedFrom job sheet rs a) (sym (one_document source)) (subst (λ t. IsEvaluatedOn job sheet t a) stripped_all on)) over
 
 -- over some index
-pub over_index : {E : Type 0} (r : Result Reply E) (N : Type 0) (job : Job) (sheet : Sheet) (index : SheetIndex) (tree : List Record) (keys : List KeyTable)
+pub over_index : {E : Type 0} (r : Result Reply E) (N : Type 0) (job : Job) (sheet : Sheet) (index : SetIndex) (tree : List Record) (keys : List KeyTable)
     → keys ≡ tables_of tree sheet.keys → IfOk r (Replies N (IsEvaluated job (ground sheet index tree keys)))
     → IfOk r (Replies N (IsEvaluatedOn job sheet tree))
 over_index r N job sheet index tree keys same is =

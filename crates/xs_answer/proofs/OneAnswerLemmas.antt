@@ -5,7 +5,7 @@ use Rattle.std.proofs.lemmas.Bool.{true≢false}
 use Rattle.xs_pieces.specs.Collection.{ticks_in}
 use Rattle.xs_pieces.specs.Tree.{task_at}
 use Rattle.xs_rules.specs.WhiteSpace.{stripped}
-use Rattle.xs_semantics.specs.declared.index.SheetIndex.{SheetIndex}
+use Rattle.xs_sets.specs.declared.index.SetIndex.{SetIndex}
 use Rattle.xs_sheet.specs.declared.sheet.Sheet.{Sheet}
 use Rattle.xs_trace.specs.Cut.{Cut, End, Whole, Fault, Needs, Spent, Full, cut}
 use Rattle.xs_trace.specs.Mark.{Trace, tick_count}
@@ -55,8 +55,8 @@ abbrev pieces-of : List Place → List Place → (Place → ℕ) → ℕ → ℕ
 pieces-of ps rs taken limit ticks = record { places = ps; reached = rs; taken = taken; limit = limit; ticks = ticks }
 
 -- ---- two indexes
-module _ (job : Job) (a : Sheet) (i j : SheetIndex) (rs : List Record) where
-  abbrev over : SheetIndex → World
+module _ (job : Job) (a : Sheet) (i j : SetIndex) (rs : List Record) where
+  abbrev over : SetIndex → World
   over index = ground a index rs (tables_of rs a.keys)
 
   settling-one : (r s : Settled) → SettlesAll (over i) job.given job.budget r → SettlesAll (over j) job.given job.budget s → r ≡ s

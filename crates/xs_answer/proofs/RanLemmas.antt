@@ -69,11 +69,7 @@ pub ready : SheetIsReady → (runner w : World) (globals : List (Option Value)) 
 ready law runner w globals g over is inside values some =
     let world : IsWorld (with_grain (Some g) (with_globals w globals)) = record {
       sheet = is.sheet;
-      index = is.index;
-      prepared = is.prepared;
-      templates = is.templates;
       sets = is.sets;
-      counters = is.counters;
       globals = inside;
       tables = is.tables;
     } in

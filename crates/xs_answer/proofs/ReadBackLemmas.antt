@@ -10,7 +10,7 @@ use Rattle.xs_reading_back.specs.Laws.{DocumentsAreWell, IsReadBack, ResultsRead
 use Rattle.xs_result.specs.Built.{built}
 use Rattle.xs_rules.specs.WhiteSpace.{stripped}
 use Rattle.xs_semantics.specs.World.{ground}
-use Rattle.xs_semantics.specs.declared.index.SheetIndex.{SheetIndex}
+use Rattle.xs_sets.specs.declared.index.SetIndex.{SetIndex}
 use Rattle.xs_sheet.specs.declared.declarations.StripRule.{StripRule}
 use Rattle.xs_sheet.specs.declared.sheet.Sheet.{Sheet}
 use Rattle.xs_trace.specs.declared.event.Event.{Event}
@@ -69,6 +69,6 @@ pub stripped_well : StrippedAreWell → (rules : List StripRule) (source tree : 
     → AreWell tree
 stripped_well law rules source tree is well = subst AreWell (sym is) (law (stripped rules source) source well)
 
-pub ground_named : (sheet : Sheet) (index : SheetIndex) (tree : List Record) (keys : List Table) → IsNamedSheet sheet → IsTree tree → AreWell tree
+pub ground_named : (sheet : Sheet) (index : SetIndex) (tree : List Record) (keys : List Table) → IsNamedSheet sheet → IsTree tree → AreWell tree
     → IsNamedWorld (ground sheet index tree keys)
 ground_named sheet index tree keys named shape well = record { sheet = named; shape = shape; tree = well; globals = tt; whole = refl }

@@ -10,7 +10,7 @@ use Rattle.xs_answer.specs.Job.{Job}
 use Rattle.xs_answer.specs.Places.{reached_places, taken_at, task_places}
 use Rattle.xs_keys.specs.KeyTables.{tables_of}
 use Rattle.xs_rules.specs.WhiteSpace.{stripped}
-use Rattle.xs_semantics.specs.declared.index.SheetIndex.{SheetIndex}
+use Rattle.xs_sets.specs.declared.index.SetIndex.{SetIndex}
 use Rattle.xs_sheet.specs.declared.sheet.Sheet.{Sheet}
 use Rattle.xs_trace.specs.Cut.{Cut, End, Whole, Fault, Needs, Spent, Full, cut}
 use Rattle.xs_trace.specs.Kept.{spot}
@@ -67,7 +67,7 @@ pub data IsEvaluated (job : Job) (w : World) (answer : Answer) : Type 0 where
 
 -- Over a tree, with the tables of its keys (12.2); by which index the rules of the stylesheet are found changes nothing.
 abbrev pub IsEvaluatedOn : Job → Sheet → List Record → Answer → Type 0
-IsEvaluatedOn job sheet records answer = (index : SheetIndex) × IsEvaluated job (ground sheet index records (tables_of records sheet.keys)) answer
+IsEvaluatedOn job sheet records answer = (index : SetIndex) × IsEvaluated job (ground sheet index records (tables_of records sheet.keys)) answer
 
 -- over a tree of which white space is stripped first (3.4)
 abbrev pub IsEvaluatedFrom : Job → Sheet → List Record → Answer → Type 0

@@ -23,7 +23,7 @@ pub stops-there : (k : Told Task) (t : Evaluation) (s : State Task) → k ≡ st
 stops-there k t s e n = e ∙ ap (λ xs. stack_steps t.world xs t.slots s) n
 
 abbrev pub HasSets : Evaluation → Type 0
-HasSets t = IsSetIndex t.world.sheet.sets t.world.index.sets
+HasSets t = IsSetIndex t.world.sheet.sets t.world.index
 
 comes-to : (k : Told Task) (t u : Evaluation) (b : Work) (s : State Task) → HasSets u → k ≡ stack_told t s → t ≡ pushed (b ∷ []) u →
     k ≡ and_then (advanced b u s) stack_told

@@ -334,14 +334,14 @@ drop-front (d ∷ ds) (suc i) =
     let e : suc (i + 1) ≡ suc i + 1 = omega arith in drop-front ds i ∙ ap (λ n. front (slice_get ds i) (drop n (d ∷ ds))) e
 
 declaration-begins : (o : Option AttrSet) (name : Label) (i : ℕ) (f : Focus) (t : Evaluation) (s : State Task) →
-    Then (declared_trace (front o (drop (i + 1) (declarations_in t.world.index.sets name))) t.world (calls_at t.world f) f) t s
+    Then (declared_trace (front o (drop (i + 1) (declarations_in t.world.index name))) t.world (calls_at t.world f) f) t s
     ≡ Go (declaration_begun o name i f t) s
 declaration-begins None name i f t s = refl
 declaration-begins (Some d) name i f t s =
     let w : World = t.world in
     let x : Trace Task = calls_at w f (using d.sets) d.site f in
     let own : Trace Task = instrs_trace d.attributes w (calls_at w f) f [] in
-    let y : Trace Task = declared_trace (drop (i + 1) (declarations_in w.index.sets name)) w (calls_at w f) f in
+    let y : Trace Task = declared_trace (drop (i + 1) (declarations_in w.index name)) w (calls_at w f) f in
     let u : Evaluation = pushed (declared_left name (i + 1) f ∷ []) t in
     let v : Evaluation = pushed (rest d.attributes (outer f) ∷ declared_left name (i + 1) f ∷ []) t in
     twice (x ⨾ own) y t.slots (declared_left name (i + 1) f) t s (λ m. refl)
@@ -635,7 +635,7 @@ begins-so (Extension fallbacks) p is c t s =
     ∙ fallbacks-begin (bodies_of fallbacks) p c u s
 
 -- each kind of work
-pub advances : (b : Work) (t : Evaluation) → IsSetIndex t.world.sheet.sets t.world.index.sets → (s : State Task) →
+pub advances : (b : Work) (t : Evaluation) → IsSetIndex t.world.sheet.sets t.world.index → (s : State Task) →
     Go (pushed (b ∷ []) t) s ≡ and_then (advanced b t s) Go
 advances (rest [] c) t index s = refl
 advances (rest (i ∷ is) c) t index s =
@@ -676,9 +676,9 @@ advances (sets_left (name ∷ names) f) t index s =
     sym (behind (x ⨾ y) t.slots t s)
     ∙ twice x y t.slots (sets_left names f) t s (λ m. refl)
     ∙ ap (λ z. Then z u s) (served t.world index f name)
-    ∙ behind (declared_trace (declarations_in t.world.index.sets name) t.world (calls_at t.world f) f) u.slots u s
+    ∙ behind (declared_trace (declarations_in t.world.index name) t.world (calls_at t.world f) f) u.slots u s
 advances (declared_left name i f) t index s =
-    let ds : List AttrSet = declarations_in t.world.index.sets name in
+    let ds : List AttrSet = declarations_in t.world.index name in
     sym (behind (declared_trace (drop i ds) t.world (calls_at t.world f) f) t.slots t s)
     ∙ ap (λ xs. Then (declared_trace xs t.world (calls_at t.world f) f) t s) (drop-front ds i)
     ∙ declaration-begins (slice_get ds i) name i f t s

@@ -17,7 +17,6 @@ use Rattle.xs_trace.specs.Total.{over}
 use Rattle.xs_trace.specs.declared.item.Limits.{Limits}
 use Rattle.xs_trace.specs.declared.recorder.Halt.{Halt}
 use Rattle.xs_trace.proofs.KeptLemmas.{need-comes-from-need}
-use Rattle.xs_body.specs.Inside.{IsWorld}
 use Rattle.xs_body.specs.Results.{IsWholeRun}
 use Rattle.xs_semantics.specs.Tasks.{Task}
 use Rattle.xs_semantics.specs.Trace.{task_trace}
@@ -30,20 +29,6 @@ use Rattle.xs_semantics.proofs.NeedLemmas.{settled-needs, task-needs}
 -- where there is no grain
 pub no-grain : {A : Type 0} (o : Option ℕ) → o ≡ None → IsSome o → A
 no-grain o e s = absurd (true≢false (sym s ∙ ap is_some e))
-
--- a world without a grain
-pub alone-world : (w : World) → IsWorld w → IsWorld (with_grain None w)
-alone-world w h =
-    record {
-      sheet = h.sheet;
-      index = h.index;
-      prepared = h.prepared;
-      templates = h.templates;
-      sets = h.sets;
-      counters = h.counters;
-      globals = h.globals;
-      tables = h.tables;
-    }
 
 -- a run over settled globals ends in no need
 pub task-settled : (w : World) (t : Task) (s m : State Task) (told : Result (Unit {0}) Halt) → All IsSome w.globals →

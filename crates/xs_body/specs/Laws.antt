@@ -10,7 +10,7 @@ use Rattle.xs_body.specs.steps.Frames.{Work, Evaluation, advanced, begun_with, p
 
 -- where the index of attribute sets is that of the stylesheet
 abbrev pub StepsAgree : Type 0
-StepsAgree = (b : Work) (t : Evaluation) (s : State Task) → IsSetIndex t.world.sheet.sets t.world.index.sets →
+StepsAgree = (b : Work) (t : Evaluation) (s : State Task) → IsSetIndex t.world.sheet.sets t.world.index →
     stack_told (pushed (b ∷ []) t) s ≡ and_then (advanced b t s) stack_told
 
 abbrev pub TasksBegin : Type 0

@@ -20,15 +20,15 @@ use crate::lists::{NodeList, children_of};
 use crate::task::{Job, Task};
 use crate::tasks::{leave, shared_values, task_over};
 use std::alloc::AllocError;
+use xs_semantics::finder::Finder;
 use xs_semantics::focus::Focus;
 use xs_sheet::body::{Applied, Body, Passed as PassedParams};
 use xs_sheet::scoped::ScopedExpr;
 use xs_trace::item::Site;
 use xs_trace::recorder::{Halt, Recorder};
 use xs_tree::Node;
-use xs_value::keys::KeyFinder;
 
-impl<'a, K: KeyFinder> Evaluator<'a, K> {
+impl<'a, K: Finder> Evaluator<'a, K> {
     /// The nodes to which templates are applied are found, and then come its parameters (5.4).
     pub(crate) fn begin_apply<R: Recorder<Task = Task<'a>>>(
         &mut self,

@@ -25,6 +25,7 @@ use crate::task::Task;
 use crate::world::World;
 use std::alloc::{AllocError, Global};
 use xs_record::brief::Brief;
+use xs_semantics::finder::Finder;
 use xs_semantics::focus::Focus;
 use xs_sheet::body::{Binding, Body, Content};
 use xs_sheet::scoped::ScopedExpr;
@@ -33,7 +34,6 @@ use xs_trace::item::{Item, Limits, Site, Spot};
 use xs_trace::recorder::{Halt, Recorder};
 use xs_trace::text::TextBuf;
 use xs_tree::Node;
-use xs_value::keys::KeyFinder;
 use xs_value::value::Value;
 
 /// What an attempt at a global comes to.
@@ -60,7 +60,7 @@ pub enum Attempt {
     },
 }
 
-impl<'a, K: KeyFinder> SheetRunner<'a, K> {
+impl<'a, K: Finder> SheetRunner<'a, K> {
     /// What the content of a global does, cut at a number of ticks.
     pub fn attempt(&self, alloc: Global, global: u32, limit: u64) -> Result<Attempt, AllocError>
         requires whole { self.now.grain ≡ None }
@@ -144,7 +144,7 @@ fn push_said(says: &mut Vec<TextBuf>, item: &Item) -> Result<(), AllocError>
 }
 
 /// Tells a recorder what the content of a global does, and gives its value.
-fn tell_global<'a, K: KeyFinder, R: Recorder<Task = Task<'a>>>(
+fn tell_global<'a, K: Finder, R: Recorder<Task = Task<'a>>>(
     alloc: Global,
     world: &World<'a, K>,
     global: u32,
@@ -165,7 +165,7 @@ fn tell_global<'a, K: KeyFinder, R: Recorder<Task = Task<'a>>>(
 }
 
 /// The same of its binding.
-fn tell_binding<'a, K: KeyFinder, R: Recorder<Task = Task<'a>>>(
+fn tell_binding<'a, K: Finder, R: Recorder<Task = Task<'a>>>(
     alloc: Global,
     world: &World<'a, K>,
     binding: &'a Binding,
@@ -186,7 +186,7 @@ fn tell_binding<'a, K: KeyFinder, R: Recorder<Task = Task<'a>>>(
 
 /// The focus of a global's content.
 #[tactic(auto, unfolding(xs_semantics::specs::Trace::most_depth))]
-fn global_focus<'a, K: KeyFinder>(world: &World<'a, K>) -> Focus
+fn global_focus<'a, K: Finder>(world: &World<'a, K>) -> Focus
     ensures { result ≡ global_focus world.now }
 {
     let set_levels = world.sheet.sets.as_slice().len();
@@ -194,7 +194,7 @@ fn global_focus<'a, K: KeyFinder>(world: &World<'a, K>) -> Focus
 }
 
 /// The value of an expression of a global.
-fn tell_selected<'a, K: KeyFinder, R: Recorder<Task = Task<'a>>>(
+fn tell_selected<'a, K: Finder, R: Recorder<Task = Task<'a>>>(
     alloc: Global,
     world: &World<'a, K>,
     expr: &ScopedExpr,
@@ -213,7 +213,7 @@ fn tell_selected<'a, K: KeyFinder, R: Recorder<Task = Task<'a>>>(
 }
 
 /// The fragment that the content of a global makes.
-fn tell_content<'a, K: KeyFinder, R: Recorder<Task = Task<'a>>>(
+fn tell_content<'a, K: Finder, R: Recorder<Task = Task<'a>>>(
     alloc: Global,
     world: &World<'a, K>,
     body: &'a Body,
@@ -235,7 +235,7 @@ fn tell_content<'a, K: KeyFinder, R: Recorder<Task = Task<'a>>>(
 }
 
 /// The evaluation that the content of a global begins with.
-fn content_evaluator<'a, K: KeyFinder>(
+fn content_evaluator<'a, K: Finder>(
     alloc: Global,
     world: &World<'a, K>,
     body: &'a Body,

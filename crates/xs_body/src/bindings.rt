@@ -13,17 +13,17 @@ use crate::frames::{Frame, Scope};
 use crate::task::Task;
 use std::alloc::{AllocError, Global};
 use xs_result::build;
+use xs_semantics::finder::Finder;
 use xs_sheet::body::{Body, Content};
 use xs_sheet::scoped::ScopedExpr;
 use xs_trace::event::Fragment;
 use xs_trace::item::Site;
 use xs_trace::recorder::{Halt, Recorder};
 use xs_trace::text::TextBuf;
-use xs_value::keys::KeyFinder;
 use xs_value::shared::SharedFragment;
 use xs_value::value::Value;
 
-impl<'a, K: KeyFinder> Evaluator<'a, K> {
+impl<'a, K: Finder> Evaluator<'a, K> {
     /// A binding fills a slot with its value, or begins its content (11.2).
     pub(crate) fn bind<R: Recorder<Task = Task<'a>>>(
         &mut self,

@@ -17,16 +17,16 @@ use crate::evaluator::Evaluator;
 use crate::frames::{Callee, Frame, Passing, Rules, Scope};
 use crate::passed::Passed;
 use crate::task::Task;
+use xs_semantics::finder::Finder;
 use xs_semantics::focus::Focus;
 use xs_sheet::body::{Body, Content, Passed as PassedParams};
 use xs_sheet::scoped::ScopedExpr;
 use xs_trace::item::Site;
 use xs_trace::recorder::{Halt, Recorder};
 use xs_trace::text::TextBuf;
-use xs_value::keys::KeyFinder;
 use xs_value::value::Value;
 
-impl<'a, K: KeyFinder> Evaluator<'a, K> {
+impl<'a, K: Finder> Evaluator<'a, K> {
     /// A call begins with its parameters.
     pub(crate) fn begin_call<R: Recorder<Task = Task<'a>>>(
         &mut self,

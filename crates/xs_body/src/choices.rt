@@ -8,13 +8,13 @@ ghost use Rattle.xs_trace.specs.Run.{limited};
 use crate::evaluator::Evaluator;
 use crate::frames::Scope;
 use crate::task::Task;
+use xs_semantics::finder::Finder;
 use xs_sheet::body::{Body, Choice, When};
 use xs_sheet::scoped::ScopedExpr;
 use xs_trace::item::Site;
 use xs_trace::recorder::{Halt, Recorder, Tally};
-use xs_value::keys::KeyFinder;
 
-impl<'a, K: KeyFinder> Evaluator<'a, K> {
+impl<'a, K: Finder> Evaluator<'a, K> {
     /// A body begins where a test holds (9.1).
     pub(crate) fn begin_if<R: Recorder<Task = Task<'a>>>(
         &mut self,

@@ -15,6 +15,7 @@ use crate::putting::{put_copied_text, put_events, put_taken, put_text};
 use crate::task::Task;
 use std::alloc::AllocError;
 use xs_making::{RecentLabels, copy_events};
+use xs_semantics::finder::Finder;
 use xs_sheet::body::Body;
 use xs_sheet::scoped::ScopedExpr;
 use xs_trace::event::{Event, Label};
@@ -22,10 +23,9 @@ use xs_trace::item::Site;
 use xs_trace::recorder::{Halt, Recorder};
 use xs_tree::{Kind, Node, Tree};
 use xs_value::conversion::to_text;
-use xs_value::keys::KeyFinder;
 use xs_value::value::Value;
 
-impl<'a, K: KeyFinder> Evaluator<'a, K> {
+impl<'a, K: Finder> Evaluator<'a, K> {
     /// Puts a copy of the value of an expression (11.3).
     pub(crate) fn put_copy<R: Recorder<Task = Task<'a>>>(
         &self,

@@ -2,6 +2,7 @@
 //! bindings.
 
 ghost use Rattle.std.specs.Prelude.{◌≡◌, ◌<◌, [], ◌∷◌, length, IfOk, IfSome, MatchOption, OnOk};
+ghost use Rattle.std.specs.Cow.{cow_str_bytes};
 ghost use Rattle.std.specs.List.{All};
 ghost use Rattle.xs_body.specs.Inside.{AreValues, IsInside, IsWorld};
 ghost use Rattle.xs_body.specs.steps.Frames.{filled_up, idle, instrs_of, last, pushed, rest};
@@ -16,12 +17,14 @@ ghost use Rattle.xs_value.specs.Conversion.{IsIn};
 use crate::frames::{Frame, Scope};
 use crate::world::World;
 use std::alloc::{AllocError, Global};
+use std::borrow::CowStr;
 use std::marker::Model;
 use xs_eval::context::Context;
 use xs_eval::evaluate::evaluate;
-use xs_eval::templates::evaluate_avt;
-use xs_making::RecentLabels;
-use xs_semantics::index::SheetIndex;
+use xs_eval::templates::{evaluate_avt, lend_avt};
+use xs_making::{RecentLabels, SheetTexts};
+use xs_semantics::finder::Finder;
+use xs_sets::index::SetIndex;
 use xs_sheet::body::Body;
 use xs_sheet::scoped::{Namespaces, ScopedExpr, ValueTemplate};
 use xs_sheet::sheet::Sheet;
@@ -32,21 +35,20 @@ use xs_trace::recorder::{Halt, Tally};
 use xs_trace::text::TextBuf;
 use xs_tree::{Node, Tree};
 use xs_value::conversion::{to_bool, to_text};
-use xs_value::keys::KeyFinder;
 use xs_value::node_set::NodeSet;
 use xs_value::value::Value;
 
 /// An evaluation that goes on. It is over a sound world, in whose tree all its nodes are
 /// (`IsEvaluator`).
 #[derive(Drop)]
-pub(crate) struct Evaluator<'a, K: KeyFinder> {
+pub(crate) struct Evaluator<'a, K: Finder> {
     /// Where what it makes is stored.
     pub(crate) alloc: Global,
     // What it is over: the fields of a `World`, so that contracts see one model and not two.
     pub(crate) sheet: &'a Sheet,
-    pub(crate) index: &'a SheetIndex<'a>,
+    pub(crate) index: &'a SetIndex<'a>,
     pub(crate) tree: &'a Tree,
-    pub(crate) keys: &'a K,
+    pub(crate) finder: &'a K,
     pub(crate) globals: &'a [Option<Value>],
     pub(crate) grain: Option<u32>,
     /// What is still to be done, the next last.
@@ -55,14 +57,17 @@ pub(crate) struct Evaluator<'a, K: KeyFinder> {
     slots: Vec<Value>,
     /// The names that were copied last.
     pub(crate) labels: RecentLabels,
+    /// Its copies of the stylesheet's texts and names.
+    pub(crate) texts: SheetTexts,
     /// The events of a copy, until they are put.
     pub(crate) events: Vec<Event>,
 }
 
-impl<'a, K: KeyFinder> Model for Evaluator<'a, K> {
+impl<'a, K: Finder> Model for Evaluator<'a, K> {
     ghost use Rattle.std.specs.Coded.{codes};
+    ghost use Rattle.std.specs.Prelude.{◌≡◌};
     ghost use denote.Signature.{static_lft};
-    ghost use Rattle.xs_semantics.specs.contracts.index.SheetIndex as of_index;
+    ghost use Rattle.xs_sets.specs.contracts.index.SetIndex as of_index;
     ghost use Rattle.xs_sheet.specs.contracts.sheet.Sheet as of_sheet;
     ghost use Rattle.xs_sheet.specs.contracts.body.Body as body;
     ghost use Rattle.xs_sheet.specs.contracts.body.Content as content;
@@ -89,7 +94,7 @@ impl<'a, K: KeyFinder> Model for Evaluator<'a, K> {
       sheet = e.sheet.now;
       index = e.index.now;
       tree = e.tree.now;
-      keys = K.tables e.keys.now;
+      keys = K.tables e.finder.now;
       globals = e.globals.now;
       grain = e.grain;
     }) e.frames.items e.slots.items };
@@ -98,13 +103,15 @@ impl<'a, K: KeyFinder> Model for Evaluator<'a, K> {
       sheet = e.sheet.now;
       index = e.index.now;
       tree = e.tree.now;
-      keys = K.tables e.keys.now;
+      keys = K.tables e.finder.now;
       globals = e.globals.now;
       grain = e.grain;
-    }) e.frames.items e.slots.items };
+    }) e.frames.items e.slots.items
+        × (K.sheet e.finder.now ≡ e.sheet.now) × (K.tree e.finder.now ≡ e.tree.now)
+        × K.is_ready e.finder.now };
 }
 
-impl<'a, K: KeyFinder> Evaluator<'a, K> {
+impl<'a, K: Finder> Evaluator<'a, K> {
     /// One with nothing to be done, and these values.
     pub(crate) fn new(alloc: Global, world: &World<'a, K>, slots: Vec<Value>) -> Evaluator<'a, K>
         requires slots { AreValues world.now.tree slots.items }
@@ -115,12 +122,13 @@ impl<'a, K: KeyFinder> Evaluator<'a, K> {
             sheet: world.sheet,
             index: world.index,
             tree: world.tree,
-            keys: world.keys,
+            finder: world.finder,
             globals: world.globals,
             grain: world.grain,
             frames: Vec::new(alloc),
             slots,
             labels: RecentLabels::new(alloc),
+            texts: SheetTexts::new(alloc),
             events: Vec::new(alloc),
         }
     }
@@ -226,7 +234,7 @@ impl<'a, K: KeyFinder> Evaluator<'a, K> {
             self.alloc,
             expr.expr.expr(),
             &context,
-            self.keys,
+            self.finder,
             site,
             tally,
         )
@@ -308,7 +316,32 @@ impl<'a, K: KeyFinder> Evaluator<'a, K> {
             self.alloc,
             template.parts.as_slice(),
             &context,
-            self.keys,
+            self.finder,
+            site,
+            tally,
+        )
+    }
+
+    /// The text of a value template, lent by the stylesheet where it is fixed (7.6.2).
+    pub(crate) fn lend_template<'t, T: Tally>(
+        &self,
+        template: &'t ValueTemplate,
+        site: Site,
+        scope: Scope,
+        tally: &mut T,
+    ) -> Result<CowStr<'t, Global>, Halt>
+        requires node { scope.focus.node < length self.now.world.tree }
+        ensures told { IsStepBy (λ text. cow_str_bytes text) (limited site
+            (template_run self.now.world template.now scope.focus
+            (last scope.seen self.now.slots)) (T.state tally.old)) result (T.state tally.new) }
+        ensures kept { T.kept tally.new ≡ T.kept tally.old }
+    {
+        let context = self.context(&template.scope, scope);
+        lend_avt(
+            self.alloc,
+            template.parts.as_slice(),
+            &context,
+            self.finder,
             site,
             tally,
         )

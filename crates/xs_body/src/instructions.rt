@@ -7,18 +7,18 @@ ghost use Rattle.xs_trace.specs.Play.{IsStep, IsStepBy};
 
 use crate::evaluator::Evaluator;
 use crate::frames::{Callee, Frame, Scope};
-use crate::putting::{events_text, put_copied_text};
+use crate::putting::events_text;
 use crate::task::Task;
 use std::alloc::AllocError;
+use xs_semantics::finder::Finder;
 use xs_semantics::focus::Focus;
 use xs_semantics::made::Made;
 use xs_sheet::body::{Body, Fallbacks, InstrKind};
 use xs_trace::fault::Fault;
 use xs_trace::item::Site;
 use xs_trace::recorder::{Halt, Recorder, say_message};
-use xs_value::keys::KeyFinder;
 
-impl<'a, K: KeyFinder> Evaluator<'a, K> {
+impl<'a, K: Finder> Evaluator<'a, K> {
     /// What an instruction does after its own tick, before what is left of its body.
     pub(crate) fn begin<R: Recorder<Task = Task<'a>>>(
         &mut self,
@@ -53,7 +53,7 @@ impl<'a, K: KeyFinder> Evaluator<'a, K> {
             InstrKind::ValueOf(select) => self.put_value(select, site, scope, recorder),
             InstrKind::Choose(choice) => self.begin_choice(choice, site, scope, recorder),
             InstrKind::If { test, body } => self.begin_if(test, body, site, scope, recorder),
-            InstrKind::Text(text) => put_copied_text(site, text, recorder),
+            InstrKind::Text(text) => self.put_fixed_text(text, site, recorder),
             InstrKind::Message { terminate, body } => {
                 self.begin_message(*terminate, body, site, scope, recorder)
             }

@@ -4,12 +4,11 @@ ghost use Rattle.std.specs.Prelude.{◌≡◌, IfOk};
 ghost use Rattle.std.specs.Option.{option_map_or};
 ghost use Rattle.xs_body.specs.steps.Making.{is_declaration, is_unbound, literal_steps};
 ghost use Rattle.xs_body.specs.steps.Making.{named_steps, space_steps, spaces_steps};
-ghost use Rattle.xs_making.specs.Labels.{put_label};
 ghost use Rattle.xs_semantics.specs.Making.{aliased, attribute_label, element_label};
 ghost use Rattle.xs_trace.specs.Play.{IsStep};
 
-use std::alloc::{AllocError, Global};
-use xs_making::{XML_URI, put_label, put_prefix};
+use std::alloc::AllocError;
+use xs_making::{SheetTexts, XML_URI};
 use xs_sheet::body::LiteralStart;
 use xs_sheet::declarations::Alias;
 use xs_trace::event::{Event, Label};
@@ -19,19 +18,19 @@ use xs_trace::text::TextBuf;
 
 /// Puts the start of a literal element and its namespace nodes.
 pub(crate) fn put_literal_start<R: Recorder>(
-    alloc: Global,
     aliases: &[Alias],
     start: &LiteralStart,
     site: Site,
+    texts: &mut SheetTexts,
     recorder: &mut R,
 ) -> Result<(), Halt>
     ensures told { IsStep (literal_steps aliases.now site start.now (R.state recorder.old))
         result (R.state recorder.new) }
     ensures kept { R.kept recorder.new ≡ R.kept recorder.old }
 {
-    let name = element_label(alloc, aliases, &start.name)?;
+    let name = element_label(aliases, &start.name, texts)?;
     put_event(recorder, site, Event::Start(name))?;
-    put_spaces(aliases, start.spaces.as_slice(), site, recorder)
+    put_spaces(aliases, start.spaces.as_slice(), site, texts, recorder)
 }
 
 /// Puts namespace nodes.
@@ -39,6 +38,7 @@ fn put_spaces<R: Recorder>(
     aliases: &[Alias],
     spaces: &[(TextBuf, TextBuf)],
     site: Site,
+    texts: &mut SheetTexts,
     recorder: &mut R,
 ) -> Result<(), Halt>
     ensures told { IsStep (spaces_steps aliases.now site spaces.now (R.state recorder.old))
@@ -47,7 +47,7 @@ fn put_spaces<R: Recorder>(
 {
     let mut left = spaces;
     while let Some((space, behind)) = left.split_first() {
-        put_space(aliases, &space.0, &space.1, site, recorder)?;
+        put_space(aliases, space, site, texts, recorder)?;
         left = behind;
     }
     Ok(())
@@ -56,38 +56,41 @@ fn put_spaces<R: Recorder>(
 /// Puts a namespace node, except for no namespace and for that of `xml`.
 fn put_space<R: Recorder>(
     aliases: &[Alias],
-    prefix: &TextBuf,
-    uri: &TextBuf,
+    space: &(TextBuf, TextBuf),
     site: Site,
+    texts: &mut SheetTexts,
     recorder: &mut R,
 ) -> Result<(), Halt>
-    ensures told { IsStep (space_steps site prefix.now (aliased aliases.now uri.now)
+    ensures told { IsStep (space_steps site space.now.0 (aliased aliases.now space.now.1)
         (R.state recorder.old)) result (R.state recorder.new) }
     ensures kept { R.kept recorder.new ≡ R.kept recorder.old }
 {
-    match alias_of(aliases, uri.as_str()) {
-        None => put_bound(prefix, uri, site, recorder),
-        Some(alias) => put_bound(prefix, &alias.to_uri, site, recorder),
+    let prefix = space.0.as_str();
+    let uri = space.1.as_str();
+    match alias_of(aliases, uri) {
+        None => put_bound(prefix, uri, site, texts, recorder),
+        Some(alias) => put_bound(prefix, alias.to_uri.as_str(), site, texts, recorder),
     }
 }
 
 /// Puts a namespace node without an alias.
 fn put_bound<R: Recorder>(
-    prefix: &TextBuf,
-    uri: &TextBuf,
+    prefix: &str,
+    uri: &str,
     site: Site,
+    texts: &mut SheetTexts,
     recorder: &mut R,
 ) -> Result<(), Halt>
     ensures told { IsStep (space_steps site prefix.now uri.now (R.state recorder.old))
         result (R.state recorder.new) }
     ensures kept { R.kept recorder.new ≡ R.kept recorder.old }
 {
-    if is_unbound(uri.as_str()) {
+    if is_unbound(uri) {
         return Ok(());
     }
     let space = Event::Space {
-        prefix: prefix.copy()?,
-        uri: uri.copy()?,
+        prefix: texts.text(prefix)?,
+        uri: texts.text(uri)?,
     };
     put_event(recorder, site, space)
 }
@@ -125,37 +128,30 @@ fn is_declaration(name: &Label) -> bool
 
 /// The name of an attribute of a literal element.
 pub(crate) fn attribute_label(
-    alloc: Global,
     aliases: &[Alias],
     name: &Label,
+    texts: &mut SheetTexts,
 ) -> Result<Label, AllocError>
     ensures label { IfOk result (λ label. label ≡ attribute_label aliases.now name.now) }
 {
     if name.uri().is_empty() {
-        return put_name(alloc, name);
+        return texts.label(name.uri(), name.local(), name.prefix());
     }
-    element_label(alloc, aliases, name)
+    element_label(aliases, name, texts)
 }
 
 /// The name of a literal element.
-fn element_label(alloc: Global, aliases: &[Alias], name: &Label) -> Result<Label, AllocError>
+fn element_label(
+    aliases: &[Alias],
+    name: &Label,
+    texts: &mut SheetTexts,
+) -> Result<Label, AllocError>
     ensures label { IfOk result (λ label. label ≡ element_label aliases.now name.now) }
 {
     match alias_of(aliases, name.uri()) {
-        None => put_name(alloc, name),
-        Some(alias) => put_label(alloc, alias.to_uri.as_str(), name.local(), name.prefix()),
+        None => texts.label(name.uri(), name.local(), name.prefix()),
+        Some(alias) => texts.label(alias.to_uri.as_str(), name.local(), name.prefix()),
     }
-}
-
-/// A name as it is put; it is shared where its prefix fits.
-fn put_name(alloc: Global, name: &Label) -> Result<Label, AllocError>
-    ensures label { IfOk result
-        (λ label. label ≡ put_label name.now.uri name.now.local name.now.prefix) }
-{
-    if put_prefix(name.uri(), name.prefix()) == name.prefix() {
-        return name.copy();
-    }
-    put_label(alloc, name.uri(), name.local(), name.prefix())
 }
 
 /// The alias of a namespace, where it has one.

@@ -17,6 +17,7 @@ use crate::literals::{attribute_label, put_attribute, put_literal_start};
 use crate::task::Task;
 use std::alloc::AllocError;
 use xs_making::{MakeEnd, RecentLabels, pi_target, result_name};
+use xs_semantics::finder::Finder;
 use xs_semantics::made::Made;
 use xs_sheet::body::{Body, LiteralStart, MadeName};
 use xs_sheet::scoped::ValueTemplate;
@@ -24,9 +25,8 @@ use xs_trace::event::{Event, Label};
 use xs_trace::item::Site;
 use xs_trace::recorder::{Halt, Recorder};
 use xs_trace::text::TextBuf;
-use xs_value::keys::KeyFinder;
 
-impl<'a, K: KeyFinder> Evaluator<'a, K> {
+impl<'a, K: Finder> Evaluator<'a, K> {
     /// A literal element begins: its start, its namespace nodes, and before its content the
     /// attributes of its sets and its own (7.1.1).
     pub(crate) fn begin_literal<R: Recorder<Task = Task<'a>>>(
@@ -44,7 +44,7 @@ impl<'a, K: KeyFinder> Evaluator<'a, K> {
         ensures kept { R.kept recorder.new ≡ R.kept recorder.old }
     {
         let aliases = self.sheet.aliases.as_slice();
-        put_literal_start(self.alloc, aliases, start, site, recorder)?;
+        put_literal_start(aliases, start, site, &mut self.texts, recorder)?;
         self.push(Frame::End)?;
         self.push_body(body, scope.inner())?;
         self.push(Frame::Attributes(AttributesLeft {
@@ -58,15 +58,16 @@ impl<'a, K: KeyFinder> Evaluator<'a, K> {
 
     /// Puts the attributes of a literal element, in their order (7.1.1).
     pub(crate) fn put_attributes<R: Recorder<Task = Task<'a>>>(
-        &self,
+        &mut self,
         all: AttributesLeft<'a>,
         recorder: &mut R,
     ) -> Result<(), Halt>
-        requires node { all.scope.focus.node < length self.now.world.tree }
-        ensures told { IsStep (attributes_steps self.now.world all.entry.site
-            all.entry.scope.focus (last all.entry.scope.seen self.now.slots)
+        requires node { all.scope.focus.node < length self.old.world.tree }
+        ensures told { IsStep (attributes_steps self.old.world all.entry.site
+            all.entry.scope.focus (last all.entry.scope.seen self.old.slots)
             all.entry.attributes.now (R.state recorder.old)) result (R.state recorder.new) }
         ensures kept { R.kept recorder.new ≡ R.kept recorder.old }
+        ensures same { self.new ≡ self.old }
     {
         let mut left = all.attributes;
         while let Some((attribute, others)) = left.split_first() {
@@ -78,21 +79,23 @@ impl<'a, K: KeyFinder> Evaluator<'a, K> {
 
     /// Puts an attribute of a literal element.
     fn put_literal<R: Recorder<Task = Task<'a>>>(
-        &self,
+        &mut self,
         attribute: &(Label, ValueTemplate),
         site: Site,
         scope: Scope,
         recorder: &mut R,
     ) -> Result<(), Halt>
-        requires node { scope.focus.node < length self.now.world.tree }
-        ensures told { IsStep (attribute_steps self.now.world site scope.focus
-            (last scope.seen self.now.slots) attribute.now (R.state recorder.old))
+        requires node { scope.focus.node < length self.old.world.tree }
+        ensures told { IsStep (attribute_steps self.old.world site scope.focus
+            (last scope.seen self.old.slots) attribute.now (R.state recorder.old))
             result (R.state recorder.new) }
         ensures kept { R.kept recorder.new ≡ R.kept recorder.old }
+        ensures same { self.new ≡ self.old }
     {
-        let value = self.template(&attribute.1, site, scope, recorder)?;
+        let value = self.lend_template(&attribute.1, site, scope, recorder)?;
+        let value = self.texts.text_of(value)?;
         let aliases = self.sheet.aliases.as_slice();
-        let name = attribute_label(self.alloc, aliases, &attribute.0)?;
+        let name = attribute_label(aliases, &attribute.0, &mut self.texts)?;
         put_attribute(name, value, site, recorder)
     }
 
@@ -223,9 +226,9 @@ impl<'a, K: KeyFinder> Evaluator<'a, K> {
         ensures kept { R.kept recorder.new ≡ R.kept recorder.old }
         ensures same { self.new ≡ self.old }
     {
-        let text = self.template(&name.name, site, scope, recorder)?;
+        let text = self.lend_template(&name.name, site, scope, recorder)?;
         let uri = self.namespace(&name.namespace, site, scope, recorder)?;
-        let made = named(name, is_attribute, &text, &uri, &mut self.labels);
+        let made = named(name, is_attribute, text.as_str(), &uri, &mut self.labels);
         made_at(site, made)
     }
 
@@ -243,7 +246,7 @@ impl<'a, K: KeyFinder> Evaluator<'a, K> {
             result (R.state recorder.new) }
         ensures kept { R.kept recorder.new ≡ R.kept recorder.old }
     {
-        let text = self.template(name, site, scope, recorder)?;
+        let text = self.lend_template(name, site, scope, recorder)?;
         made_at(site, pi_target(self.alloc, text.as_str()))
     }
 
@@ -272,7 +275,7 @@ impl<'a, K: KeyFinder> Evaluator<'a, K> {
 fn named(
     name: &MadeName,
     is_attribute: bool,
-    text: &TextBuf,
+    text: &str,
     uri: &Option<TextBuf>,
     labels: &mut RecentLabels,
 ) -> Result<Label, MakeEnd>
@@ -283,7 +286,7 @@ fn named(
         Some(uri) => Some(uri.as_str()),
     };
     let scope = name.scope.scope();
-    result_name(labels, text.as_str(), uri, scope, is_attribute)
+    result_name(labels, text, uri, scope, is_attribute)
 }
 
 /// What was made, or the fault at an instruction.

@@ -3,7 +3,7 @@
 ghost use Rattle.std.specs.Prelude.{◌≡◌, ◌<◌, length, IfOk, Ok, Some, option_map};
 ghost use Rattle.xs_body.specs.steps.Frames.{last, number_steps};
 ghost use Rattle.xs_body.specs.steps.Numbers.{formatting_of, numbered_of};
-ghost use Rattle.xs_counting.specs.Counted.{number_list};
+ghost use Rattle.xs_matching.specs.Counted.{number_list};
 ghost use Rattle.xs_eval.specs.Results.{given, numeric};
 ghost use Rattle.xs_num.specs.Text.{number_in};
 ghost use Rattle.xs_semantics.specs.Numbers.{format_run, formatting_run, group_in, numbered_by};
@@ -22,6 +22,7 @@ use std::alloc::{AllocError, Global};
 use xs_num::number::{Num, Number};
 use xs_num::reading::read_num;
 use xs_numbering::formatting::{list_text, value_text};
+use xs_semantics::finder::Finder;
 use xs_semantics::focus::Focus;
 use xs_sheet::body::NumberDecl;
 use xs_sheet::scoped::{ScopedExpr, ValueTemplate};
@@ -31,7 +32,6 @@ use xs_trace::recorder::{Halt, Recorder, Tally};
 use xs_trace::text::TextBuf;
 use xs_tree::Node;
 use xs_value::conversion::to_number;
-use xs_value::keys::KeyFinder;
 use xs_value::value::{Value, ValueFault};
 
 /// What is put: the number that `value` gives, or the numbers that are counted.
@@ -49,7 +49,7 @@ struct Formatting {
     group: Option<(TextBuf, u64)>,
 }
 
-impl<'a, K: KeyFinder> Evaluator<'a, K> {
+impl<'a, K: Finder> Evaluator<'a, K> {
     /// Puts a number (7.7).
     pub(crate) fn put_number<R: Recorder<Task = Task<'a>>>(
         &self,
@@ -102,8 +102,7 @@ impl<'a, K: KeyFinder> Evaluator<'a, K> {
             ≡ number_list self.now.world.keys self.now.world.tree decl.now focus.node) }
     {
         let node = Node::at(focus.node);
-        let counters = &self.index.counters;
-        counters.list(self.alloc, site, decl, self.tree, node, self.keys)
+        self.finder.numbers_of(self.alloc, site, decl, node)
     }
 
     /// The value of an expression as a number.

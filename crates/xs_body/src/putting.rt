@@ -10,6 +10,7 @@ use crate::evaluator::Evaluator;
 use crate::frames::Scope;
 use crate::task::Task;
 use std::alloc::{AllocError, Global};
+use xs_semantics::finder::Finder;
 use xs_sheet::scoped::ScopedExpr;
 use xs_trace::event::{Event, Fragment};
 use xs_trace::item::Site;
@@ -17,7 +18,6 @@ use xs_trace::recorder::{Halt, Recorder, put_event};
 use xs_trace::text::TextBuf;
 use xs_tree::Tree;
 use xs_value::conversion::to_text;
-use xs_value::keys::KeyFinder;
 use xs_value::shared::SharedFragment;
 use xs_value::value::Value;
 
@@ -47,7 +47,7 @@ pub(crate) fn put_copied_text<R: Recorder>(
     put_text(site, text.copy()?, recorder)
 }
 
-impl<'a, K: KeyFinder> Evaluator<'a, K> {
+impl<'a, K: Finder> Evaluator<'a, K> {
     /// Puts the string of an expression (XSLT 1.0, 7.6.1).
     pub(crate) fn put_value<R: Recorder<Task = Task<'a>>>(
         &self,
@@ -62,6 +62,22 @@ impl<'a, K: KeyFinder> Evaluator<'a, K> {
         ensures kept { R.kept recorder.new ≡ R.kept recorder.old }
     {
         let text = self.text(select, site, scope, recorder)?;
+        put_text(site, text, recorder)
+    }
+
+    /// Puts a text of the stylesheet (7.2).
+    pub(crate) fn put_fixed_text<R: Recorder<Task = Task<'a>>>(
+        &mut self,
+        text: &TextBuf,
+        site: Site,
+        recorder: &mut R,
+    ) -> Result<(), Halt>
+        ensures told { IsStep (chars_steps site text.now (R.state recorder.old))
+            result (R.state recorder.new) }
+        ensures kept { R.kept recorder.new ≡ R.kept recorder.old }
+        ensures same { self.new ≡ self.old }
+    {
+        let text = self.texts.text(text.as_str())?;
         put_text(site, text, recorder)
     }
 }

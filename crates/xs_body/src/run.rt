@@ -10,12 +10,12 @@ use crate::evaluator::Evaluator;
 use crate::frames::{Frame, Scope};
 use crate::task::Task;
 use std::alloc::AllocError;
+use xs_semantics::finder::Finder;
 use xs_sheet::body::Instr;
 use xs_trace::event::Event;
 use xs_trace::recorder::{Halt, Recorder};
-use xs_value::keys::KeyFinder;
 
-impl<'a, K: KeyFinder> Evaluator<'a, K> {
+impl<'a, K: Finder> Evaluator<'a, K> {
     /// Goes on to the end.
     pub(crate) fn finish<R: Recorder<Task = Task<'a>>>(
         &mut self,

@@ -25,14 +25,14 @@ use std::mem::replace;
 use xs_block::pool::Pool;
 use xs_record::outcome::{Outcome, Part};
 use xs_record::piece::{Finished, PieceRecorder};
+use xs_semantics::finder::Finder;
 use xs_semantics::focus::Focus;
-use xs_semantics::index::SheetIndex;
+use xs_sets::index::SetIndex;
 use xs_sheet::sheet::Sheet;
 use xs_trace::item::{Ended, Item, Limits, Site};
 use xs_trace::recorder::{Halt, Recorder};
 use xs_trace::total::{LocalTotal, Total};
 use xs_tree::{Node, Tree};
-use xs_value::keys::KeyFinder;
 use xs_value::value::Value;
 
 /// The most levels of templates.
@@ -43,14 +43,14 @@ const MOST_TICKS: u64 = 1_099_511_627_776;
 
 /// Runs a stylesheet. Contracts see it as what it runs over.
 #[derive(Drop)]
-pub struct SheetRunner<'a, K: KeyFinder> {
+pub struct SheetRunner<'a, K: Finder> {
     pub(crate) world: World<'a, K>,
 }
 
-impl<'a, K: KeyFinder> Model for SheetRunner<'a, K> {
+impl<'a, K: Finder> Model for SheetRunner<'a, K> {
     ghost use Rattle.std.specs.Coded.{codes};
     ghost use denote.Signature.{static_lft};
-    ghost use Rattle.xs_semantics.specs.contracts.index.SheetIndex as of_index;
+    ghost use Rattle.xs_sets.specs.contracts.index.SetIndex as of_index;
     ghost use Rattle.xs_sheet.specs.contracts.sheet.Sheet as of_sheet;
     ghost use Rattle.xs_semantics.specs.World.{World};
 
@@ -65,14 +65,14 @@ impl<'a, K: KeyFinder> Model for SheetRunner<'a, K> {
     ghost view = { λ r. r.world };
 }
 
-impl<'a, K: KeyFinder> SheetRunner<'a, K> {
+impl<'a, K: Finder> SheetRunner<'a, K> {
     /// A runner over these. Where there is a grain, `run` leaves runs over more nodes than that to
     /// tasks.
     pub fn new(
         sheet: &'a Sheet,
-        index: &'a SheetIndex<'a>,
+        index: &'a SetIndex<'a>,
         tree: &'a Tree,
-        keys: &'a K,
+        finder: &'a K,
         globals: &'a [Option<Value>],
         grain: Option<u32>,
     ) -> SheetRunner<'a, K>
@@ -80,15 +80,18 @@ impl<'a, K: KeyFinder> SheetRunner<'a, K> {
           sheet = sheet.now;
           index = index.now;
           tree = tree.now;
-          keys = K.tables keys.now;
+          keys = K.tables finder.now;
           globals = globals.now;
           grain = grain;
         }) }
+        requires sheet { K.sheet finder.now ≡ sheet.now }
+        requires tree { K.tree finder.now ≡ tree.now }
+        requires ready { K.is_ready finder.now }
         ensures { result ≡ record {
           sheet = sheet.now;
           index = index.now;
           tree = tree.now;
-          keys = K.tables keys.now;
+          keys = K.tables finder.now;
           globals = globals.now;
           grain = grain;
         } }
@@ -98,7 +101,7 @@ impl<'a, K: KeyFinder> SheetRunner<'a, K> {
                 sheet,
                 index,
                 tree,
-                keys,
+                finder,
                 globals,
                 grain,
             },
@@ -188,14 +191,14 @@ impl<'a, K: KeyFinder> SheetRunner<'a, K> {
 }
 
 /// A runner over the same that leaves nothing to tasks.
-fn without_grain<'a, K: KeyFinder>(world: &World<'a, K>) -> SheetRunner<'a, K>
+fn without_grain<'a, K: Finder>(world: &World<'a, K>) -> SheetRunner<'a, K>
     ensures { result ≡ with_grain None world.now }
 {
     SheetRunner::new(
         world.sheet,
         world.index,
         world.tree,
-        world.keys,
+        world.finder,
         world.globals,
         None,
     )
@@ -236,7 +239,7 @@ fn give_back(parts: Vec<Part>, pool: &mut Pool<Item>)
 }
 
 /// Tells a recorder what a task does.
-pub fn tell_task<'a, K: KeyFinder, R: Recorder<Task = Task<'a>>>(
+pub fn tell_task<'a, K: Finder, R: Recorder<Task = Task<'a>>>(
     alloc: Global,
     world: &World<'a, K>,
     task: &Task<'a>,

@@ -8,12 +8,12 @@ ghost use Rattle.xs_sets.specs.Indexed.{declarations_in};
 use crate::evaluator::Evaluator;
 use crate::frames::{Frame, Scope};
 use std::alloc::AllocError;
+use xs_semantics::finder::Finder;
 use xs_semantics::focus::Focus;
 use xs_sheet::declarations::AttrSet;
 use xs_trace::event::Label;
-use xs_value::keys::KeyFinder;
 
-impl<'a, K: KeyFinder> Evaluator<'a, K> {
+impl<'a, K: Finder> Evaluator<'a, K> {
     /// In a template, which may begin one level of templates less, and all levels of sets.
     pub(crate) fn in_template(&self, focus: Focus) -> Focus
         requires deep { 0 < focus.depth }
@@ -76,9 +76,9 @@ impl<'a, K: KeyFinder> Evaluator<'a, K> {
     /// The declaration of a set at a place among those of its name.
     fn declaration(&self, name: &'a Label, place: usize) -> Option<&'a AttrSet>
         ensures declaration { option_map (λ s. s.now) result
-            ≡ slice_get (declarations_in self.now.world.index.sets name.now) place }
+            ≡ slice_get (declarations_in self.now.world.index name.now) place }
     {
         let index = self.index;
-        index.sets.declarations(name).get(place).copied()
+        index.declarations(name).get(place).copied()
     }
 }

@@ -11,14 +11,14 @@ ghost use Rattle.xs_trace.specs.Run.{limited};
 use crate::evaluator::Evaluator;
 use crate::frames::Scope;
 use crate::lists::NodeList;
+use xs_semantics::finder::Finder;
 use xs_sheet::body::{Applied, SortDecl};
 use xs_sheet::scoped::ScopedExpr;
 use xs_sort::sorting::sorted;
 use xs_trace::item::Site;
 use xs_trace::recorder::{Halt, Recorder, Tally};
-use xs_value::keys::KeyFinder;
 
-impl<'a, K: KeyFinder> Evaluator<'a, K> {
+impl<'a, K: Finder> Evaluator<'a, K> {
     /// The nodes to which templates are applied, in their order (5.4).
     pub(crate) fn applied_nodes<R: Recorder>(
         &self,
@@ -86,7 +86,7 @@ impl<'a, K: KeyFinder> Evaluator<'a, K> {
             Some((first, _)) => {
                 let set = nodes.into_set()?;
                 let context = self.context(&first.select.scope, scope);
-                let ordered = sorted(self.alloc, &set, sorts, &context, self.keys, site, tally)?;
+                let ordered = sorted(self.alloc, &set, sorts, &context, self.finder, site, tally)?;
                 Ok(NodeList::List(ordered))
             }
         }

@@ -1,12 +1,12 @@
 //! Runs that are left to tasks, and tasks that begin.
 
-ghost use Rattle.std.specs.Prelude.{◌≡◌, ◌∷◌, [], map, true, IfOk, IsSome, OnOk};
+ghost use Rattle.std.specs.Prelude.{◌≡◌, ◌≤◌, ◌++◌, ◌∷◌, [], length, map, true, IfOk, IsSome, OnOk};
 ghost use Rattle.std.specs.Arc.{arc_value};
 ghost use Rattle.xs_semantics.specs.Tasks.{grain_over, shared, task_behind};
 ghost use Rattle.xs_body.specs.Inside.{AreNodes, AreValues, IsTaskIn};
 ghost use Rattle.xs_body.specs.steps.Frames.{apply_left, begun_with, each_left, idle, pushed};
 ghost use Rattle.xs_body.specs.steps.Jobs.{job_of, locals_of};
-ghost use Rattle.xs_body.specs.steps.Sharing.{share_of, share_step};
+ghost use Rattle.xs_body.specs.steps.Sharing.{filled, share_of, share_step};
 ghost use Rattle.xs_trace.specs.Mark.{Hole};
 ghost use Rattle.xs_trace.specs.Play.{IsStep, IsStepBy, play};
 
@@ -17,15 +17,15 @@ use crate::passed::Passed;
 use crate::task::{Job, Task};
 use std::alloc::{AllocError, Global};
 use std::sync::Arc;
+use xs_semantics::finder::Finder;
 use xs_semantics::focus::Focus;
 use xs_sheet::body::Body;
 use xs_trace::item::Site;
 use xs_trace::recorder::{Halt, Recorder};
 use xs_tree::Node;
-use xs_value::keys::KeyFinder;
 use xs_value::value::Value;
 
-impl<'a, K: KeyFinder> Evaluator<'a, K> {
+impl<'a, K: Finder> Evaluator<'a, K> {
     /// The grain, where a run of so many nodes is more than that.
     pub(crate) fn grain_over(&self, focus: Focus, size: u32) -> Option<u32>
         ensures grain { result ≡ grain_over self.now.world focus size }
@@ -147,8 +147,10 @@ pub(crate) fn leave<'a, R: Recorder<Task = Task<'a>>>(
     let mut sharing = Sharing { task, room: grain };
     let mut left = nodes;
     while let Some((node, behind)) = left.split_first() {
-        sharing = share(alloc, sharing, *node, grain, recorder)?;
-        left = behind;
+        let shared = share(alloc, sharing, *node, grain, recorder)?;
+        let parts = cut(behind, shared.room);
+        sharing = fill(shared, parts.0)?;
+        left = parts.1;
     }
     recorder.hole(sharing.task)
 }
@@ -181,6 +183,31 @@ fn share<'a, R: Recorder<Task = Task<'a>>>(
             room: room - 1,
         })
     }
+}
+
+/// Nodes, cut after so many of them.
+fn cut(nodes: &[Node], count: u32) -> (&[Node], &[Node])
+    ensures joined { nodes.now ≡ result.0.now ++ result.1.now }
+    ensures few { length result.0.now ≤ count }
+{
+    let count = count as usize;
+    if nodes.len() <= count {
+        return (nodes, &[]);
+    }
+    nodes.split_at(count)
+}
+
+/// A task takes nodes for which it has room.
+fn fill<'a>(sharing: Sharing<'a>, nodes: &[Node]) -> Result<Sharing<'a>, AllocError>
+    requires room { length nodes.now ≤ sharing.room }
+    ensures { IfOk result (λ z. share_of z ≡ filled (share_of sharing.entry) nodes.now) }
+{
+    let Sharing { mut task, room } = sharing;
+    task.nodes.extend_from_slice(nodes)?;
+    Ok(Sharing {
+        task,
+        room: room - nodes.len() as u32,
+    })
 }
 
 /// The task behind another, with its first node.

@@ -17,6 +17,7 @@ use crate::passed::Passed;
 use crate::putting::put_text;
 use crate::task::Task;
 use std::alloc::AllocError;
+use xs_semantics::finder::Finder;
 use xs_semantics::focus::Focus;
 use xs_sheet::body::Binding;
 use xs_trace::fault::Fault;
@@ -24,9 +25,8 @@ use xs_trace::item::Site;
 use xs_trace::recorder::{Halt, Recorder};
 use xs_trace::text::TextBuf;
 use xs_tree::{Kind, Node};
-use xs_value::keys::KeyFinder;
 
-impl<'a, K: KeyFinder> Evaluator<'a, K> {
+impl<'a, K: Finder> Evaluator<'a, K> {
     /// The template of a number begins, one level deeper (6).
     pub(crate) fn enter_named<R: Recorder<Task = Task<'a>>>(
         &mut self,

@@ -8,7 +8,7 @@ use Rattle.xs_tree.specs.Axis.{root_of}
 use Rattle.xs_tree.specs.Kinds.{is_child_kind, is_root_kind}
 use Rattle.xs_tree.specs.Record.{Record, at, is_place, name_local, name_uri}
 use Rattle.xs_counting.specs.declared.alike.Seen.{Seen}
-use Rattle.xs_counting.specs.Counted.{alike_any_number, alike_number}
+use Rattle.xs_matching.specs.Counted.{alike_any_number, alike_number}
 use Rattle.xs_numbering.specs.Counting.{has_level, is_alike, kind_number}
 use Rattle.xs_counting.specs.steps.Alike.{KindAndName, group_after, group_at, held_count, is_likeness, likeness, seen_by, seen_in}
 use Rattle.xs_numbering.specs.steps.Passes.{carried_on, children_seen, counted_on, held_by, running}

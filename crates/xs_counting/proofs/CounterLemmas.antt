@@ -2,7 +2,7 @@
 use Rattle.std.proofs.Common.{◌≡◌, ℕ, ◌<◌, Bool, true, false, List, [], ◌∷◌, Option, Some, None, Vec, get_or, length, map, refl, sym, subst, ap, ◌∙◌}
 use Rattle.std.specs.declared.alloc.Global.{Global}
 use Rattle.xs_counting.specs.declared.counter.Counter.{Counter}
-use Rattle.xs_counting.specs.Counted.{alike_any_number, alike_number, counts, is_from, level_of, number_list}
+use Rattle.xs_matching.specs.Counted.{alike_any_number, alike_number, counts, is_from, level_of, number_list}
 use Rattle.xs_counting.specs.steps.Alike.{is_likeness, likeness}
 use Rattle.xs_counting.specs.steps.Counters.{AlikeNumbers, AreCounts, AreFrom, AreNumbers, IsCounter, NumbersBy, alike_to}
 use Rattle.xs_numbering.specs.Counting.{any_number, is_alike, list_at, sibling_number}

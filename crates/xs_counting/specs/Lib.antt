@@ -1,3 +1,2 @@
 -- Counted is what a reader has to believe; steps says what the code mirrors.
-pub mod Counted
 pub mod steps

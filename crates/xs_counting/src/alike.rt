@@ -3,7 +3,7 @@
 
 ghost use Rattle.std.specs.Prelude.{◌≡◌, ◌<◌, ◌+◌, ◌^◌, ◌==◌, ◌&&◌, ℕ, IfOk, OnOk};
 ghost use Rattle.std.specs.Prelude.{if◌then◌else◌, length, map};
-ghost use Rattle.xs_counting.specs.Counted.{alike_any_number, alike_number};
+ghost use Rattle.xs_matching.specs.Counted.{alike_any_number, alike_number};
 ghost use Rattle.xs_numbering.specs.Counting.{has_level, is_alike};
 ghost use Rattle.xs_counting.specs.steps.Alike.{KindAndName, group_after, group_at, held_count};
 ghost use Rattle.xs_counting.specs.steps.Alike.{is_likeness, likeness, likeness_in, seen_by};

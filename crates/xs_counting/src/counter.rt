@@ -3,7 +3,7 @@
 
 ghost use Rattle.std.specs.Prelude.{◌≡◌, ◌<◌, ◌∷◌, ◌++◌, [], IfOk, OnOk, filter, get_or, length};
 ghost use Rattle.std.specs.Prelude.{map, not, take_while};
-ghost use Rattle.xs_counting.specs.Counted.{alike_number, level_of, number_list};
+ghost use Rattle.xs_matching.specs.Counted.{alike_number, level_of, number_list};
 ghost use Rattle.xs_counting.specs.steps.Counters.{AlikeNumbers, AreCounts, AreFrom, AreNumbers};
 ghost use Rattle.xs_counting.specs.steps.Counters.{IsCounter, NumbersBy, alike_to};
 ghost use Rattle.xs_numbering.specs.Counting.{is_alike, list_at, multiple, sibling_number};

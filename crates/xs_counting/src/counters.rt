@@ -2,7 +2,7 @@
 //! they stand. A place is a hint: the declaration of a table is compared before it is used.
 
 ghost use Rattle.std.specs.Prelude.{◌≡◌, ◌<◌, IfOk, IfSome, List, OnOk, length};
-ghost use Rattle.xs_counting.specs.Counted.{number_list};
+ghost use Rattle.xs_matching.specs.Counted.{number_list};
 ghost use Rattle.xs_counting.specs.steps.Counters.{IsCounter};
 ghost use Rattle.xs_counting.specs.steps.Tables.{AreCounters};
 ghost use Rattle.xs_tree.specs.Record.{Record};

@@ -12,9 +12,8 @@ ghost use Rattle.xs_answer.specs.Inputs.{named_document};
 ghost use Rattle.xs_answer.specs.Reply.{IsWholeOrEmpty, IsWithin, Replies, job_data};
 ghost use Rattle.xs_making.specs.Laws.{AreWell};
 ghost use Rattle.xs_well_put.specs.Named.{IsNamedSheet, IsNamedWorld};
-ghost use Rattle.xs_rules.specs.Indexed.{IsIndex, IsPrepared};
+ghost use Rattle.xs_finder.specs.Ready.{IsReady, tables_in};
 ghost use Rattle.xs_sets.specs.Indexed.{IsSetIndex};
-ghost use Rattle.xs_counting.specs.steps.Tables.{AreCounters};
 ghost use Rattle.xs_value.specs.Tables.{TablesIn};
 ghost use Rattle.xs_sheet.specs.Sound.{IsSound};
 
@@ -27,15 +26,14 @@ use xs_answer::reply::{Reply, stopped_reply};
 use xs_assemble::execute::execute;
 use xs_block::pool::Pool;
 use xs_body::world::World;
+use xs_finder::finder::SheetFinder;
 use xs_globals::settled::Settled;
 use xs_globals::settling::settle;
-use xs_keys::keys::KeyCells;
-use xs_semantics::index::SheetIndex;
+use xs_sets::index::SetIndex;
 use xs_sheet::sheet::Sheet;
 use xs_sheet_pieces::runner::SheetPieces;
 use xs_trace::item::Limits;
 use xs_tree::Tree;
-use xs_value::keys::KeyFinder;
 
 /// What a stylesheet makes of a source. White space is stripped from the source first; then the
 /// globals are settled, and then the root of the source takes its template.
@@ -60,7 +58,7 @@ pub fn evaluate<R: Threads + Sync>(
     evaluate_over(rt, alloc, job, sheet, &tree)
 }
 
-/// The same of a source that is stripped: the tables of its keys are made first.
+/// The same of a source that is stripped: what finds rules, nodes by key and numbers is made first.
 fn evaluate_over<R: Threads + Sync>(
     rt: &R,
     alloc: Global,
@@ -76,32 +74,30 @@ fn evaluate_over<R: Threads + Sync>(
         (reply.status ≡ OK) ⊎ (reply.status ≡ RUN_FAULT)) }
     ensures whole_only { IfOk result IsWholeOrEmpty }
 {
-    let keys = KeyCells::new(rt, alloc, sheet, tree)?;
-    let index = SheetIndex::over(alloc, sheet, tree, &keys)?;
-    evaluate_by(alloc, job, sheet, &index, tree, &keys)
+    let finder = SheetFinder::new(rt, alloc, sheet, tree)?;
+    let index = SetIndex::new(alloc, sheet.sets.as_slice())?;
+    evaluate_by(alloc, job, sheet, &index, tree, &finder)
 }
 
-/// The same by an index and by keys: the globals, and then the root.
+/// The same by an index and a finder: the globals, and then the root.
 fn evaluate_by(
     alloc: Global,
     job: &Job,
     sheet: &Sheet,
-    index: &SheetIndex<'_>,
+    index: &SetIndex<'_>,
     tree: &Tree,
-    keys: &KeyCells,
+    finder: &SheetFinder<'_>,
 ) -> Result<Reply, AllocError>
     requires sound { IsSound sheet.now }
     requires job { IsWithin (job_data job.now) }
-    requires index { IsIndex index.now.rules }
-    requires prepared { IsPrepared index.now.rules tree.now }
-    requires templates { index.now.rules.templates.now ≡ sheet.now.templates }
-    requires sets { IsSetIndex sheet.now.sets index.now.sets }
-    requires counters { AreCounters (⟦<KeyCells as KeyFinder>⟧.tables keys.now) tree.now
-        index.now.counters }
-    requires tables { TablesIn tree.now (⟦<KeyCells as KeyFinder>⟧.tables keys.now) }
+    requires sets { IsSetIndex sheet.now.sets index.now }
+    requires for_sheet { finder.now.sheet.now ≡ sheet.now }
+    requires for_tree { finder.now.tree.now ≡ tree.now }
+    requires ready { IsReady finder.now }
+    requires tables { TablesIn tree.now (tables_in finder.now) }
     ensures answer { IfOk result (Replies (IsNamedSheet sheet.now × AreWell tree.now)
         (IsEvaluated (job_data job.now)
-        (ground sheet.now index.now tree.now (⟦<KeyCells as KeyFinder>⟧.tables keys.now)))) }
+        (ground sheet.now index.now tree.now (tables_in finder.now)))) }
     ensures status { IfOk result (λ reply.
         (reply.status ≡ OK) ⊎ (reply.status ≡ RUN_FAULT)) }
     ensures whole_only { IfOk result IsWholeOrEmpty }
@@ -111,7 +107,7 @@ fn evaluate_by(
         sheet,
         index,
         tree,
-        keys,
+        finder,
         globals: &[],
         grain: None,
     };
@@ -124,10 +120,10 @@ fn evaluate_by(
 
 /// What the root of a source takes, once the globals are settled, cut at what is left of the limits
 /// (XSLT 1.0, 5.1). It is run in pieces.
-fn root_reply(
+fn root_reply<'a>(
     alloc: Global,
     job: &Job,
-    world: &World<'_, KeyCells>,
+    world: &World<'a, SheetFinder<'a>>,
     settled: &Settled,
 ) -> Result<Reply, AllocError>
     requires settled { SettlesAll world.now
@@ -151,7 +147,7 @@ fn root_reply(
         world.sheet,
         world.index,
         world.tree,
-        world.keys,
+        world.finder,
         &settled.values,
         Some(job.grain),
     );

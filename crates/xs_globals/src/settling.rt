@@ -20,15 +20,15 @@ use std::alloc::{AllocError, Global};
 use xs_body::attempts::Attempt;
 use xs_body::runner::SheetRunner;
 use xs_body::world::World;
+use xs_semantics::finder::Finder;
 use xs_trace::item::Spot;
 use xs_trace::text::TextBuf;
-use xs_value::keys::KeyFinder;
 use xs_value::value::Value;
 
 /// Settles the globals of a stylesheet over a world, by modules and lines, within a number of
 /// ticks. Its parameters may be given texts from outside. The values that the world has of globals
 /// are not used.
-pub fn settle<K: KeyFinder>(
+pub fn settle<K: Finder>(
     alloc: Global,
     world: &World<'_, K>,
     given: &[(TextBuf, TextBuf)],
@@ -54,7 +54,7 @@ pub fn settle<K: KeyFinder>(
 }
 
 /// Settles some globals in turn, but for those that have values.
-fn settle_in_turn<K: KeyFinder>(
+fn settle_in_turn<K: Finder>(
     alloc: Global,
     world: &World<'_, K>,
     budget: u64,
@@ -80,7 +80,7 @@ fn settle_in_turn<K: KeyFinder>(
 }
 
 /// The next global in turn, unless it has a value.
-fn settle_next<K: KeyFinder>(
+fn settle_next<K: Finder>(
     alloc: Global,
     world: &World<'_, K>,
     budget: u64,
@@ -104,7 +104,7 @@ fn settle_next<K: KeyFinder>(
 }
 
 /// Settles a global, and before it those that it needs.
-fn settle_one<K: KeyFinder>(
+fn settle_one<K: Finder>(
     alloc: Global,
     world: &World<'_, K>,
     budget: u64,
@@ -133,7 +133,7 @@ fn settle_one<K: KeyFinder>(
 }
 
 /// An attempt at the innermost of the globals under attempt, and what it leaves to be done.
-fn take_turn<K: KeyFinder>(
+fn take_turn<K: Finder>(
     alloc: Global,
     world: &World<'_, K>,
     budget: u64,
@@ -179,7 +179,7 @@ fn descend(
 }
 
 /// An attempt at a global, of which one was begun and which has no value.
-fn try_global<K: KeyFinder>(
+fn try_global<K: Finder>(
     alloc: Global,
     world: &World<'_, K>,
     budget: u64,
@@ -215,7 +215,7 @@ fn try_global<K: KeyFinder>(
 }
 
 /// An attempt at a global over some values.
-fn attempt_over<K: KeyFinder>(
+fn attempt_over<K: Finder>(
     alloc: Global,
     world: &World<'_, K>,
     values: &[Option<Value>],
@@ -234,7 +234,7 @@ fn attempt_over<K: KeyFinder>(
         world.sheet,
         world.index,
         world.tree,
-        world.keys,
+        world.finder,
         values,
         None,
     );

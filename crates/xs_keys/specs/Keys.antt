@@ -5,8 +5,8 @@ use Rattle.std.specs.List.{flat_map, list_any}
 use Rattle.std.specs.Str.{bytes_eq}
 use Rattle.xs_eval.specs.Evaluation.{run_of_tree}
 use Rattle.xs_eval.specs.Keys.{sought}
-use Rattle.xs_marks.specs.Matches.{is_match}
-use Rattle.xs_pattern.specs.Matching.{pattern_context}
+use Rattle.xs_matching.specs.Matching.{is_match}
+use Rattle.xs_matching.specs.Matching.{pattern_context}
 use Rattle.xs_sheet.specs.declared.declarations.KeyDecl.{KeyDecl}
 use Rattle.xs_trace.specs.Run.{Answer, Gives, Faults, Lacks}
 use Rattle.xs_trace.specs.declared.fault.Fault.{Fault}

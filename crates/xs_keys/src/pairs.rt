@@ -9,7 +9,7 @@ ghost use Rattle.xs_keys.specs.Keys.{faults_at, first_of, node_faults};
 ghost use Rattle.xs_keys.specs.steps.Pairs.{AreMarked, decls_in, either, node_pairs, paired};
 ghost use Rattle.xs_keys.specs.steps.Pairs.{pairs_at, pairs_in};
 ghost use Rattle.xs_marks.specs.Matches.{AreMatches};
-ghost use Rattle.xs_pattern.specs.Matching.{pattern_context};
+ghost use Rattle.xs_matching.specs.Matching.{pattern_context};
 ghost use Rattle.xs_tree.specs.Record.{string_value};
 ghost use Rattle.xs_value.specs.Conversion.{IsIn, text_value};
 

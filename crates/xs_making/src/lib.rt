@@ -1,6 +1,7 @@
 //! Making the nodes of a result: their names, their texts, and copies of the nodes of a tree.
 #![tactic(auto)]
 
+mod compared;
 mod copies;
 mod ends;
 mod labels;
@@ -9,6 +10,8 @@ mod leaves;
 mod names;
 mod plain_names;
 mod recent;
+mod sheet_texts;
+mod slots;
 mod texts;
 
 pub use copies::copy_events;
@@ -16,4 +19,5 @@ pub use ends::MakeEnd;
 pub use labels::{XML_URI, put_label, put_prefix};
 pub use names::{pi_target, result_name};
 pub use recent::RecentLabels;
+pub use sheet_texts::SheetTexts;
 pub use texts::{comment_text, pi_text};

@@ -3,6 +3,7 @@ ghost use Rattle.std.specs.Prelude.{◌≡◌, true, IfOk, IfSome};
 ghost use Rattle.xs_making.specs.Labels.{put_label};
 ghost use Rattle.xs_making.specs.steps.Plain.{IsPlain, IsPlainName};
 
+use crate::compared::is_text;
 use crate::labels::{put_label, put_prefix};
 use crate::plain_names::PlainName;
 use std::alloc::{AllocError, Global};
@@ -105,9 +106,9 @@ fn slot_of(local: &str) -> usize {
 }
 
 /// Whether a name has these texts.
-fn is_name(label: &Label, uri: &str, local: &str, prefix: &str) -> bool
+pub(crate) fn is_name(label: &Label, uri: &str, local: &str, prefix: &str) -> bool
     ensures { result ≡ true
         → label.now ≡ record { uri = uri.now; local = local.now; prefix = prefix.now } }
 {
-    label.local() == local && label.uri() == uri && label.prefix() == prefix
+    is_text(label.local(), local) && is_text(label.uri(), uri) && is_text(label.prefix(), prefix)
 }

@@ -1,13 +1,9 @@
 -- Tables of the nodes that match a pattern (XSLT 1.0, 5.2).
 use Rattle.std.specs.Prelude.{◌≡◌, ℕ, ◌<◌, Bool, false, List, get_or, length}
-use Rattle.xs_pattern.specs.Matching.{matches}
+use Rattle.xs_matching.specs.Matching.{is_match}
 use Rattle.xs_sheet.specs.declared.scoped.ScopedPattern.{ScopedPattern}
 use Rattle.xs_tree.specs.Record.{Record}
 use Rattle.xs_value.specs.Tables.{Table}
-
--- whether the node at n matches a pattern, over the tables of the keys
-abbrev pub is_match : List Table → List Record → ScopedPattern → ℕ → Bool
-is_match keys rs p n = matches keys rs p.scope p.pattern n
 
 -- a table says of each node whether it matches
 abbrev pub AreMatches : List Table → List Record → ScopedPattern → List Bool → Type 0

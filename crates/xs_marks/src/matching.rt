@@ -2,7 +2,7 @@
 
 ghost use Rattle.std.specs.Prelude.{◌≡◌, ◌<◌, ◌||◌, IfOk, IfSome, false, get_or, length, map};
 ghost use Rattle.xs_marks.specs.Matches.{AreMatches};
-ghost use Rattle.xs_pattern.specs.Matching.{matches_path, pattern_context};
+ghost use Rattle.xs_matching.specs.Matching.{matches_path, pattern_context};
 ghost use Rattle.xs_pattern.specs.steps.Marks.{AreMarks};
 ghost use Rattle.xs_tree.specs.Record.{places};
 ghost use Rattle.xs_value.specs.Tables.{TablesIn};

@@ -32,8 +32,8 @@ use Rattle.xs_eval.specs.Operators.{decided, negation, operated}
 use Rattle.xs_eval.specs.Paths.{Meaning, all_filtered, and_from, filter_expr, filtered, judged, kept_if, kept_of, path, selected, selects, step, steps_from, tested}
 use Rattle.xs_eval.specs.Paths.{through}
 use Rattle.xs_eval.specs.Results.{given, nodes_in}
-use Rattle.xs_pattern.specs.Matching as pattern
-use Rattle.xs_pattern.specs.Predicates.{all_kept, holds, kept, value_in}
+use Rattle.xs_matching.specs.Matching as pattern
+use Rattle.xs_matching.specs.Predicates.{all_kept, holds, kept, value_in}
 use Rattle.xs_pattern.specs.steps.Marks.{is_free}
 use Rattle.xs_pattern.proofs.PlaceLemmas.{bind-same, fold-same, or-none}
 

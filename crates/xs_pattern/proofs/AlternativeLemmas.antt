@@ -8,7 +8,7 @@ use Rattle.xs_value.specs.Tables.{Table}
 use Rattle.xs_xpath.specs.declared.expr.Expr.{Expr}
 use Rattle.xs_xpath.specs.Exprs.{tree_from, trees_from}
 use Rattle.xs_eval.proofs.StepLemmas.{from_here}
-use Rattle.xs_pattern.specs.Matching.{matches, matches_path, pattern_context}
+use Rattle.xs_matching.specs.Matching.{matches, matches_path, pattern_context}
 
 -- those from a place on
 abbrev pub From : List Table → List Record → List (List ℕ × List ℕ) → List Expr → ℕ → ℕ → Bool

@@ -20,7 +20,7 @@ use Rattle.xs_eval.specs.Context.{Context}
 use Rattle.xs_eval.specs.Evaluation.{run_of_tree}
 use Rattle.xs_eval.specs.Keys.{found, found_for, from_table, looked_up, number_of}
 use Rattle.xs_eval.specs.Names.{expanded_name}
-use Rattle.xs_pattern.specs.Predicates.{is_among, nodes_given, nodes_of as nodes_in, value_in}
+use Rattle.xs_matching.specs.Predicates.{is_among, nodes_given, nodes_of as nodes_in, value_in}
 use Rattle.xs_pattern.specs.steps.Keys.{has_node, key_call}
 
 -- ---- halving

@@ -9,7 +9,7 @@ use Rattle.xs_eval.specs.Context.{Context}
 use Rattle.xs_eval.specs.Paths.{Meaning, kept_if}
 use Rattle.xs_eval.specs.steps.Nodes.{AreSome}
 use Rattle.xs_eval.proofs.StepLemmas.{from_here, placed_at, placed_below, placed_end}
-use Rattle.xs_pattern.specs.Predicates.{all_kept, holds, is_among, kept}
+use Rattle.xs_matching.specs.Predicates.{all_kept, holds, is_among, kept}
 use Rattle.xs_pattern.specs.steps.Alone.{AreSaid, IsSaid}
 
 -- the nodes of those that pass, of nodes with their positions

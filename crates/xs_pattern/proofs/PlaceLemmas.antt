@@ -33,7 +33,7 @@ use Rattle.xs_eval.specs.Paths.{Meaning, all_filtered, and_from, filter_expr, fi
 use Rattle.xs_eval.specs.Paths.{through}
 use Rattle.xs_eval.specs.Results.{given, nodes_in}
 use Rattle.xs_value.specs.Conversion.{text_value}
-use Rattle.xs_pattern.specs.Predicates.{value_in}
+use Rattle.xs_matching.specs.Predicates.{value_in}
 use Rattle.xs_pattern.specs.steps.Alone.{IsSaid, said, said_by}
 
 -- what says the same at each position, among however many

@@ -16,7 +16,7 @@ use Rattle.xs_eval.specs.Context.{Context}
 use Rattle.xs_eval.specs.Evaluation.{runs_of}
 use Rattle.xs_eval.specs.Paths.{Meaning}
 use Rattle.xs_eval.proofs.CaseLemmas.{runs_listed}
-use Rattle.xs_pattern.specs.Matching.{selected, step_nodes, steps_of}
+use Rattle.xs_matching.specs.Matching.{selected, step_nodes, steps_of}
 use Rattle.xs_pattern.specs.steps.Above.{is_plain}
 use Rattle.xs_pattern.specs.steps.Climb.{backwards}
 

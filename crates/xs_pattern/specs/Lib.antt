@@ -1,4 +1,2 @@
--- Matching is what a reader has to believe; steps says what the code mirrors.
-pub mod Predicates
-pub mod Matching
+-- What the code mirrors (what it means is in xs_matching).
 pub mod steps

@@ -11,8 +11,8 @@ ghost use Rattle.xs_eval.specs.Evaluation.{runs_of};
 ghost use Rattle.xs_eval.specs.steps.Nodes.{AreSome};
 ghost use Rattle.xs_xpath.specs.Exprs.{tree_from, trees_from};
 ghost use Rattle.xs_xpath.specs.Patterns.{is_pattern_axis};
-ghost use Rattle.xs_pattern.specs.Matching.{selected, step_nodes};
-ghost use Rattle.xs_pattern.specs.Predicates.{is_among};
+ghost use Rattle.xs_matching.specs.Matching.{selected, step_nodes};
+ghost use Rattle.xs_matching.specs.Predicates.{is_among};
 ghost use Rattle.xs_pattern.specs.steps.Marks.{AreEndsIn, AreMarks, IsNextIn, has_marks};
 ghost use Rattle.xs_pattern.specs.steps.Marks.{is_free, is_selected};
 

@@ -6,9 +6,9 @@ ghost use Rattle.xs_value.specs.Tables.{TablesIn};
 ghost use Rattle.xs_xpath.specs.Exprs.{tree_from, trees_from};
 ghost use Rattle.xs_eval.specs.Conditions.{IsContext};
 ghost use Rattle.xs_eval.specs.Evaluation.{run_of};
-ghost use Rattle.xs_pattern.specs.Matching.{ends_path, matches, matches_path, pattern_context};
-ghost use Rattle.xs_pattern.specs.Matching.{placed_at};
-ghost use Rattle.xs_pattern.specs.Predicates.{is_among, nodes_given};
+ghost use Rattle.xs_matching.specs.Matching.{ends_path, matches, matches_path, pattern_context};
+ghost use Rattle.xs_matching.specs.Matching.{placed_at};
+ghost use Rattle.xs_matching.specs.Predicates.{is_among, nodes_given};
 ghost use Rattle.xs_pattern.specs.steps.Above.{IsAbove, IsAboveIn};
 ghost use Rattle.xs_pattern.specs.steps.Climb.{IsBehind, IsReached, backwards, ends_above};
 

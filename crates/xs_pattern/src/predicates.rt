@@ -5,7 +5,7 @@ ghost use Rattle.xs_eval.specs.Conditions.{IsContext};
 ghost use Rattle.xs_eval.specs.Evaluation.{run_of, runs_of};
 ghost use Rattle.xs_eval.specs.Paths.{kept_if};
 ghost use Rattle.xs_eval.specs.steps.Nodes.{AreSome};
-ghost use Rattle.xs_pattern.specs.Predicates.{all_kept, holds, is_among, kept};
+ghost use Rattle.xs_matching.specs.Predicates.{all_kept, holds, is_among, kept};
 ghost use Rattle.xs_pattern.specs.steps.Alone.{AreSaid};
 
 use crate::values::{holds, says};

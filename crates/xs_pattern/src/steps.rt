@@ -6,8 +6,8 @@ ghost use Rattle.xs_tree.specs.Shape.{IsTree};
 ghost use Rattle.xs_xpath.specs.Exprs.{tree_from};
 ghost use Rattle.xs_eval.specs.Conditions.{IsContext};
 ghost use Rattle.xs_eval.specs.Evaluation.{runs_of};
-ghost use Rattle.xs_pattern.specs.Matching.{is_descend, placed_at, selected, step_nodes};
-ghost use Rattle.xs_pattern.specs.Predicates.{is_among};
+ghost use Rattle.xs_matching.specs.Matching.{is_descend, placed_at, selected, step_nodes};
+ghost use Rattle.xs_matching.specs.Predicates.{is_among};
 ghost use Rattle.xs_pattern.specs.steps.Climb.{stands_on};
 
 use crate::node_tests::tested;

@@ -6,7 +6,7 @@ ghost use Rattle.xs_eval.specs.Conditions.{IsContext};
 ghost use Rattle.xs_eval.specs.Context.{at_node};
 ghost use Rattle.xs_eval.specs.Evaluation.{run_of};
 ghost use Rattle.xs_eval.specs.Paths.{selects};
-ghost use Rattle.xs_pattern.specs.Predicates.{holds, is_among, nodes_given, nodes_of, value_in};
+ghost use Rattle.xs_matching.specs.Predicates.{holds, is_among, nodes_given, nodes_of, value_in};
 ghost use Rattle.xs_pattern.specs.steps.Alone.{IsSaid, said, said_by};
 
 use crate::keys::is_among;

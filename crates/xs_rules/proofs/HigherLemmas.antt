@@ -1,9 +1,10 @@
 -- The highest of things of two sorts, from the highest of each sort.
-use Rattle.std.proofs.Common.{◌≡◌, ◌∙◌, ℕ, ◌==◌, ◌&&◌, ◌||◌, not, nat_lt, ap, refl, sym, arith, Bool, true, false, cond, List, [], ◌∷◌, filter, Option, None, Some}
+use Rattle.std.proofs.Common.{◌≡◌, ◌∙◌, ℕ, ◌==◌, ◌&&◌, ◌||◌, not, nat_lt, ap, refl, sym, arith}
+use Rattle.std.proofs.Common.{Bool, true, false, cond, List, [], ◌∷◌, filter, Option, None, Some}
 use Rattle.std.proofs.lemmas.Bool.{true≢false}
 use Rattle.std.proofs.lemmas.Int.{ints}
 use Rattle.std.specs.Prelude.{ℤ, int_lt}
-use Rattle.xs_rules.specs.declared.ranks.Rank.{Rank}
+use Rattle.xs_matching.specs.declared.ranks.Rank.{Rank}
 use Rattle.xs_rules.specs.Ranks.{highest, outranks}
 use Rattle.xs_rules.specs.steps.Strips.{higher}
 

@@ -3,9 +3,10 @@ mod HigherLemmas
 pub mod RuleLemmas
 pub mod WhiteSpaceLemmas
 mod AttributeLemmas
-pub mod ChainLemmas
+pub mod PlaceLemmas
 pub mod SearchLemmas
 pub mod KeyLemmas
+mod ListLemmas
 pub mod IndexLemmas
 mod StripIndexLemmas
 mod TableLemmas

@@ -12,10 +12,10 @@ use Rattle.xs_value.specs.Tables.{Table}
 use Rattle.xs_xpath.specs.Tree.{Tree}
 use Rattle.xs_rules.specs.declared.candidates.Best.{Best}
 use Rattle.xs_rules.specs.declared.candidates.Looked.{Looked}
-use Rattle.xs_rules.specs.declared.ranks.Rank.{Rank}
+use Rattle.xs_matching.specs.declared.ranks.Rank.{Rank}
 use Rattle.xs_rules.specs.Ranks.{highest, or_above, outranks}
 use Rattle.xs_rules.specs.Rules.{Candidate, candidate, candidates, candidates_of, chosen_among, rule_of, takes}
-use Rattle.xs_rules.specs.steps.Candidates.{best_before, best_of, is_matching, looks_at, or_best, passes, rule_of_best}
+use Rattle.xs_rules.specs.steps.Candidates.{best_before, best_of, best_with, is_matching, looks_at, or_best, passes, rule_of_best}
 
 -- ---- what stands after others
 
@@ -191,3 +191,29 @@ option-below p (Some c) r o same e =
 pub none-before : (p : Candidate → Bool) (o : Option Best) → best_before p [] o ≡ o
 unfolding best_before
 none-before p o = refl
+
+-- a rule that takes the node
+looked-best : (looked : Looked) (keys : List Table) (rs : List Record) (mode n : ℕ) (c : Candidate) (o : Option Best) (b : Bool) → takes keys rs mode n c ≡ true
+    → option_map_or (λ (x : Best). outranks c.rank x.rank) o true ≡ true → looks_at looked c.rank.precedence ≡ b
+    → cond b (Some (best_of c)) o ≡ best_before (passes looked keys rs mode n) (c ∷ []) o
+looked-best looked keys rs mode n c o true t above e =
+    one-taken (passes looked keys rs mode n) c o above (ap (λ b. b && takes keys rs mode n c) e ∙ t)
+looked-best looked keys rs mode n c o false t above e = one-passed (passes looked keys rs mode n) c o (ap (λ b. b && takes keys rs mode n c) e)
+
+above-or-below : (looked : Looked) (keys : List Table) (rs : List Record) (mode n : ℕ) (c : Candidate) (o : Option Best) (a : Bool)
+    → takes keys rs mode n c ≡ true → option_map_or (λ (x : Best). outranks c.rank x.rank) o true ≡ a
+    → cond a (cond (looks_at looked c.rank.precedence) (Some (best_of c)) o) o ≡ best_before (passes looked keys rs mode n) (c ∷ []) o
+above-or-below looked keys rs mode n c o true t e = looked-best looked keys rs mode n c o (looks_at looked c.rank.precedence) t e refl
+above-or-below looked keys rs mode n c o false t e = one-below (passes looked keys rs mode n) c o e
+
+pub certain-best : (looked : Looked) (keys : List Table) (rs : List Record) (mode n : ℕ) (c : Option Candidate) (number : ℕ) (r : Rank) (o : Option Best)
+    → option_map_or (takes keys rs mode n) c false ≡ true → IfSome c (λ c. r ≡ c.rank) → IfSome c (λ c. number ≡ c.template)
+    → cond (option_map_or (λ (b : Best). outranks r b.rank) o true) (cond (looks_at looked r.precedence) (Some (best_with number r)) o) o
+    ≡ option_map_or (λ c. best_before (passes looked keys rs mode n) (c ∷ []) o) c o
+certain-best looked keys rs mode n None number r o t rank_is number_is = absurd (true≢false (sym t))
+certain-best looked keys rs mode n (Some c) number r o t rank_is number_is =
+    ap (λ (s : Rank). cond (option_map_or (λ (b : Best). outranks s b.rank) o true)
+    (cond (looks_at looked s.precedence) (Some (best_with number s)) o) o) rank_is
+    ∙ ap (λ (k : ℕ). cond (option_map_or (λ (b : Best). outranks c.rank b.rank) o true)
+    (cond (looks_at looked c.rank.precedence) (Some (best_with k c.rank)) o) o) number_is
+    ∙ above-or-below looked keys rs mode n c o (option_map_or (λ (b : Best). outranks c.rank b.rank) o true) t refl

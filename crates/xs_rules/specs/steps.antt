@@ -1,4 +1,5 @@
 pub mod Candidates
 pub mod Index
+pub mod Kinds
 pub mod Lists
 pub mod Strips

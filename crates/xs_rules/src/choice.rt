@@ -8,19 +8,11 @@ ghost use Rattle.xs_rules.specs.steps.Candidates.{rule_of_best};
 
 use crate::candidates::{Looked, best_of_template, rule_of_best};
 use std::alloc::{AllocError, Global};
+pub use xs_matching::rule::Rule;
 use xs_sheet::declarations::Template;
 use xs_sheet::sheet::Sheet;
 use xs_tree::{Node, Tree};
 use xs_value::keys::KeyFinder;
-
-/// The rule that a node takes.
-#[derive(Clone, Copy, PartialEq, Eq, Debug)]
-pub enum Rule {
-    /// That of the template with this number.
-    Template(u32),
-    /// The built-in one (XSLT 1.0, 5.8).
-    BuiltIn,
-}
 
 /// The rule that a node takes in a mode: of those that match the highest (XSLT 1.0, 5.5).
 pub fn choose<K: KeyFinder>(

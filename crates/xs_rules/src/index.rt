@@ -39,7 +39,7 @@ impl<'a> RuleIndex<'a> {
         let templates = sheet.templates.as_slice();
         let mut lists = Lists::new(alloc);
         for number in 0..templates.len() {
-            lists.add_template(number as u32, &templates[number])?;
+            lists.add_template(alloc, number as u32, &templates[number])?;
         }
         Ok(RuleIndex {
             templates,

@@ -5,9 +5,12 @@
 mod candidates;
 pub mod choice;
 pub mod index;
+mod kind_lists;
 mod lists;
+mod places;
 mod ranks;
 mod rule_keys;
+mod rule_kinds;
 mod shapes;
 mod strip_index;
 mod tables;

@@ -1,31 +1,36 @@
-//! The rules of a stylesheet in its order, in chains of those of one mode, kind and name.
+//! The rules of a stylesheet in its order, and lists of their places by mode, kind and name.
 
-ghost use Rattle.std.specs.Prelude.{◌≡◌, ◌<◌, ◌∷◌, ◌++◌, [], List, None, OnOk, IfOk, length};
-ghost use Rattle.std.specs.Prelude.{IfSome, Some, if◌then◌else◌, map, option_copied, slice_get};
+ghost use Rattle.std.specs.Prelude.{◌≡◌, ◌<◌, ◌∷◌, ◌++◌, ℕ, [], false, length, List, map, None};
+ghost use Rattle.std.specs.Prelude.{if◌then◌else◌, IfOk, IfSome, OnOk, option_copied, slice_get};
+ghost use Rattle.std.specs.Prelude.{Some, true};
 ghost use Rattle.std.specs.Option.{option_map_or};
 ghost use Rattle.xs_sheet.specs.declared.declarations.Template.{Template};
+ghost use Rattle.xs_tree.specs.declared.kinds.Kind.{Kind};
+ghost use Rattle.xs_tree.specs.Record.{at};
 ghost use Rattle.xs_value.specs.Tables.{TablesIn};
-ghost use Rattle.xs_xpath.specs.Exprs.{trees_from};
-ghost use Rattle.xs_rules.specs.Rules.{Candidate, candidate, candidates, candidates_of};
-ghost use Rattle.xs_rules.specs.steps.Candidates.{best_before, passes, rule_of_best};
+ghost use Rattle.xs_xpath.specs.Exprs.{tree_from};
+ghost use Rattle.xs_rules.specs.Ranks.{outranks};
+ghost use Rattle.xs_rules.specs.Rules.{Candidate, candidate, candidates, candidates_of, takes};
+ghost use Rattle.xs_rules.specs.steps.Candidates.{best_before, best_with, looks_at, passes};
+ghost use Rattle.xs_rules.specs.steps.Candidates.{rule_of_best};
 ghost use Rattle.xs_rules.specs.steps.Index.{AreTables, IsIndexed, IsTableOf, Key, at_entry};
-ghost use Rattle.xs_rules.specs.steps.Index.{entry, is_key, key_data, later, moved_back};
-ghost use Rattle.xs_rules.specs.steps.Lists.{found_in};
+ghost use Rattle.xs_rules.specs.steps.Index.{has_key, key_of, may_match, node_key, with_place};
+ghost use Rattle.xs_rules.specs.steps.Lists.{named_in, unnamed_in};
 
 use crate::candidates::{Best, Looked, best_of_nth, is_above, rank_of, rule_of_best};
 use crate::choice::Rule;
+use crate::places::{Named, Unnamed, add_named, add_unnamed, kinds_of, later, named_by, without};
 use crate::ranks::Rank;
-use crate::rule_keys::{RuleKey, any_key, is_key, key_of, node_key};
+use crate::rule_keys::{key_of, node_key};
+use crate::rule_kinds::is_certain;
 use crate::tables::{RuleTable, table_at};
 use indexmap::IndexMap;
 use std::alloc::{AllocError, Global};
 use xs_sheet::declarations::Template;
 use xs_sheet::scoped::ScopedPattern;
-use xs_tree::{Node, Tree};
+use xs_tree::{Kind, Node, Tree};
 use xs_value::keys::KeyFinder;
-
-/// The most keys that are gone over one after another, which takes less time than a hash.
-const FEW_KEYS: usize = 8;
+use xs_xpath::expr::Expr;
 
 /// One rule: an alternative of a template's pattern.
 #[derive(Clone, Copy)]
@@ -36,50 +41,58 @@ pub(crate) struct Entry {
     pub(crate) alternative: usize,
     /// By what it is compared with others.
     pub(crate) rank: Rank,
-    /// The last rule before it with its key.
-    pub(crate) previous: Option<usize>,
+    /// Whether it matches each node for which it is in a list.
+    pub(crate) is_certain: bool,
 }
 
-/// The rules in the order of the stylesheet, and of each key the last one.
+/// The rules in the order of the stylesheet, and lists of their places. A rule for nodes of one
+/// kind and name is in the list of its key, any other in those of its mode for the kinds that it
+/// may match.
 #[derive(Drop)]
 pub(crate) struct Lists<'a> {
     pub(crate) entries: Vec<Entry>,
-    pub(crate) last: IndexMap<RuleKey<'a>, usize>,
+    pub(crate) named: Named<'a>,
+    pub(crate) unnamed: Unnamed,
 }
 
 impl<'a> Lists<'a> {
     /// Lists without rules.
     pub(crate) fn new(alloc: Global) -> Lists<'a>
         ensures entries { result.entries.items ≡ [] }
-        ensures found { (q : Key) → found_in result.last q ≡ None }
+        ensures named { (q : Key) → named_in result.named q ≡ [] }
+        ensures unnamed { (mode : ℕ) (kind : Kind) → unnamed_in result.unnamed mode kind ≡ [] }
     {
         Lists {
             entries: Vec::new(alloc),
-            last: IndexMap::new(alloc),
+            named: IndexMap::new(alloc),
+            unnamed: IndexMap::new(alloc),
         }
     }
 
     /// Adds the rules of a template with a number after those that are there.
     pub(crate) fn add_template(
         &mut self,
+        alloc: Global,
         number: u32,
         template: &'a Template,
     ) -> Result<(), AllocError>
         ensures indexed { OnOk result ((ts : List Template) (cs : List Candidate)
             → slice_get ts number ≡ Some template.entry.now
-            → IsIndexed ts cs self.old.entries.items (found_in self.old.last)
+            → IsIndexed ts cs self.old.entries.items
+            (named_in self.old.named) (unnamed_in self.old.unnamed)
             → IsIndexed ts (cs ++ candidates_of (number, template.entry.now))
-            self.new.entries.items (found_in self.new.last)) }
+            self.new.entries.items (named_in self.new.named) (unnamed_in self.new.unnamed)) }
     {
         match &template.pattern {
             None => Ok(()),
-            Some(pattern) => self.add_pattern(number, template, pattern),
+            Some(pattern) => self.add_pattern(alloc, number, template, pattern),
         }
     }
 
     // Adds the alternatives of a template's pattern.
     fn add_pattern(
         &mut self,
+        alloc: Global,
         number: u32,
         template: &'a Template,
         pattern: &'a ScopedPattern,
@@ -87,74 +100,78 @@ impl<'a> Lists<'a> {
         ensures indexed { OnOk result ((ts : List Template) (cs : List Candidate)
             → slice_get ts number ≡ Some template.entry.now
             → template.entry.now.pattern ≡ Some pattern.entry.now
-            → IsIndexed ts cs self.old.entries.items (found_in self.old.last)
+            → IsIndexed ts cs self.old.entries.items
+            (named_in self.old.named) (unnamed_in self.old.unnamed)
             → IsIndexed ts (cs ++ map (candidate number template.entry.now pattern.entry.now)
             pattern.entry.now.pattern)
-            self.new.entries.items (found_in self.new.last)) }
+            self.new.entries.items (named_in self.new.named) (unnamed_in self.new.unnamed)) }
     {
         let alternatives = pattern.pattern.alternatives();
         for place in 0..alternatives.len() {
             let alternative = &alternatives[place];
             let rank = rank_of(template, alternative);
-            let key = key_of(template.mode, alternative);
-            self.add(number, place, rank, key)?;
+            let is_certain = is_certain(alternative);
+            let entry = Entry {
+                template: number,
+                alternative: place,
+                rank,
+                is_certain,
+            };
+            self.add(alloc, entry, template.mode, alternative)?;
         }
         Ok(())
     }
 
-    // Adds a rule with its rank and its key.
+    // Adds a rule of a mode.
     fn add(
         &mut self,
-        template: u32,
-        alternative: usize,
-        rank: Rank,
-        key: RuleKey<'a>,
+        alloc: Global,
+        entry: Entry,
+        mode: u32,
+        alternative: &'a Expr,
     ) -> Result<(), AllocError>
-        ensures entries { OnOk result (self.new.entries.items ≡ self.old.entries.items
-            ++ entry template alternative rank (found_in self.old.last (key_data key.entry)) ∷ []) }
-        ensures found { OnOk result ((q : Key) → found_in self.new.last q
-            ≡ (if is_key q (key_data key.entry) then Some (length self.old.entries.items)
-            else found_in self.old.last q)) }
+        ensures entries { OnOk result (self.new.entries.items
+            ≡ self.old.entries.items ++ entry ∷ []) }
+        ensures named { OnOk result ((q : Key) → named_in self.new.named q
+            ≡ with_place (has_key q (key_of mode (tree_from alternative.entry.now)))
+            (length self.old.entries.items) (named_in self.old.named q)) }
+        ensures unnamed { OnOk result ((m : ℕ) (kind : Kind) → unnamed_in self.new.unnamed m kind
+            ≡ with_place (may_match m kind mode (tree_from alternative.entry.now))
+            (length self.old.entries.items) (unnamed_in self.old.unnamed m kind)) }
     {
         let place = self.entries.len();
-        let previous = self.last.get(&key).copied();
-        self.entries.push(Entry {
-            template,
-            alternative,
-            rank,
-            previous,
-        })?;
-        self.last.insert(key, place)?;
-        Ok(())
-    }
-
-    // The last rule with a key.
-    fn last_of(&self, key: &RuleKey<'_>) -> Option<usize>
-        ensures { result ≡ found_in self.now.last (key_data key.now) }
-    {
-        if self.last.len() > FEW_KEYS {
-            return self.last.get(key).copied();
+        self.entries.push(entry)?;
+        match key_of(mode, alternative) {
+            Some(key) => add_named(alloc, &mut self.named, key, place),
+            None => add_unnamed(alloc, &mut self.unnamed, mode, alternative, place),
         }
-        self.last_among_few(key)
     }
 
-    // The same, by going over the keys.
-    fn last_among_few(&self, key: &RuleKey<'_>) -> Option<usize>
-        ensures { result ≡ found_in self.now.last (key_data key.now) }
+    // The places of the rules for a node's kind and name alone.
+    fn named_for<'l>(&'l self, mode: u32, tree: &'l Tree, node: Node) -> &'l [usize]
+        requires { node < length tree.now }
+        ensures { result.now ≡ option_map_or (named_in self.now.named)
+            (node_key mode (at tree.now node)) [] }
     {
-        let mut left = self.last.as_slice();
-        while let Some(((other, last), others)) = left.split_first() {
-            if is_key(key, other) {
-                return Some(*last);
-            }
-            left = others;
+        match node_key(mode, tree, node) {
+            Some(key) => named_by(&self.named, &key),
+            None => &[],
         }
-        None
     }
 
-    /// The rule that a node takes of those that are looked at. The rules with the node's key and
-    /// those that may match nodes of several kinds or names are two chains, which are gone along
-    /// together from their ends. A rule that has a table is tried by it.
+    // The places of the rules for a kind of node, whatever the name.
+    fn unnamed_for(&self, mode: u32, kind: Kind) -> &[usize]
+        ensures { result.now ≡ unnamed_in self.now.unnamed mode kind }
+    {
+        match kinds_of(&self.unnamed, mode) {
+            Some(lists) => lists.of_kind(kind),
+            None => &[],
+        }
+    }
+
+    /// The rule that a node takes of those that are looked at. The rules for its name and those for
+    /// its kind are two lists, which are gone along together from their ends. A rule that has a
+    /// table is tried by it.
     pub(crate) fn choose_among<K: KeyFinder>(
         &self,
         alloc: Global,
@@ -167,7 +184,7 @@ impl<'a> Lists<'a> {
         rule_tables: &[Option<RuleTable>],
     ) -> Result<Rule, AllocError>
         requires indexed { IsIndexed templates.now (candidates templates.now)
-            self.now.entries.items (found_in self.now.last) }
+            self.now.entries.items (named_in self.now.named) (unnamed_in self.now.unnamed) }
         requires node { node < length tree.now }
         requires tables { TablesIn tree.now (K.tables keys.now) }
         requires rule_tables { AreTables templates.now self.now.entries.items tree.now
@@ -179,24 +196,55 @@ impl<'a> Lists<'a> {
         // `len` says that it is a tree, whose roots are the nodes that `/` matches.
         let count = tree.len();
         prove!((node.place() as usize) < count);
-        let mut named = self.last_of(&node_key(mode, tree, node));
-        let mut unnamed = self.last_of(&any_key(mode));
+        let mut named = self.named_for(mode, tree, node);
+        let mut unnamed = self.unnamed_for(mode, tree.kind(node));
         let mut best = None;
         while let Some(place) = later(named, unnamed) {
             let entry = self.entries[place];
             let table = table_at(rule_tables, place);
-            best = best_at(
+            best = best_of_entry(
                 alloc, templates, entry, looked, tree, node, mode, keys, table, best,
             )?;
-            named = moved_back(named, place, entry.previous);
-            unnamed = moved_back(unnamed, place, entry.previous);
+            named = without(named, place);
+            unnamed = without(unnamed, place);
         }
         Ok(rule_of_best(best))
     }
 }
 
 // The rule of an entry before the best one after it, where it is above that one, is looked at and
-// matches.
+// matches, which one that is certain does.
+fn best_of_entry<K: KeyFinder>(
+    alloc: Global,
+    templates: &[Template],
+    entry: Entry,
+    looked: Looked,
+    tree: &Tree,
+    node: Node,
+    mode: u32,
+    keys: &K,
+    table: Option<&RuleTable>,
+    best: Option<Best>,
+) -> Result<Option<Best>, AllocError>
+    requires node { node < length tree.now }
+    requires tables { TablesIn tree.now (K.tables keys.now) }
+    requires rank { IfSome (at_entry templates.now entry) (λ c. entry.rank ≡ c.rank) }
+    requires certain { entry.is_certain ≡ true → option_map_or
+        (takes (K.tables keys.now) tree.now mode node) (at_entry templates.now entry) false ≡ true }
+    requires table { IsTableOf tree.now (at_entry templates.now entry) (option_copied table) }
+    ensures best { IfOk result (λ found. found ≡ option_map_or (λ c. best_before
+        (passes looked (K.tables keys.now) tree.now mode node) (c ∷ []) best)
+        (at_entry templates.now entry) best) }
+{
+    if entry.is_certain {
+        return Ok(best_of_certain(entry, looked, best));
+    }
+    best_at(
+        alloc, templates, entry, looked, tree, node, mode, keys, table, best,
+    )
+}
+
+// The same of one that may not match.
 fn best_at<K: KeyFinder>(
     alloc: Global,
     templates: &[Template],
@@ -239,25 +287,28 @@ fn best_at<K: KeyFinder>(
     }
 }
 
-// The later of two places.
-fn later(named: Option<usize>, unnamed: Option<usize>) -> Option<usize>
-    ensures { result ≡ later named unnamed }
+// The same of one that matches.
+fn best_of_certain(entry: Entry, looked: Looked, best: Option<Best>) -> Option<Best>
+    ensures { result ≡ (if option_map_or (λ b. outranks entry.rank b.rank) best true
+        then (if looks_at looked entry.rank.precedence
+        then Some (best_with entry.template entry.rank) else best) else best) }
 {
-    match named {
-        None => unnamed,
-        Some(i) => match unnamed {
-            None => named,
-            Some(j) => { if i < j { unnamed } else { named } }
-        },
+    if !is_above(entry.rank, best) {
+        return best;
     }
+    best_where_looked_at(entry, looked, best)
 }
 
-// A place of a chain, or the one before it where it was passed.
-fn moved_back(chain: Option<usize>, place: usize, previous: Option<usize>) -> Option<usize>
-    ensures { result ≡ moved_back chain place previous }
+// The rule of an entry, where it is looked at, and otherwise the best one after it.
+fn best_where_looked_at(entry: Entry, looked: Looked, best: Option<Best>) -> Option<Best>
+    ensures { result ≡ (if looks_at looked entry.rank.precedence
+        then Some (best_with entry.template entry.rank) else best) }
 {
-    match chain {
-        None => None,
-        Some(i) => { if i == place { previous } else { chain } }
+    if !looked.looks_at(entry.rank.precedence) {
+        return best;
     }
+    Some(Best {
+        template: entry.template,
+        rank: entry.rank,
+    })
 }

@@ -1,37 +1,16 @@
-//! Import precedence and priority (XSLT 1.0, 2.6.2 and 5.5).
+//! Default priorities (XSLT 1.0, 5.5).
 
 ghost use Rattle.std.specs.Prelude.{◌≡◌};
 ghost use Rattle.std.specs.Option.{option_copied};
 ghost use Rattle.xs_rules.specs.Ranks.{bare_of, bare_test, default_priority, is_here, lone_step};
-ghost use Rattle.xs_rules.specs.Ranks.{lone_test, outranks, test_priority};
+ghost use Rattle.xs_rules.specs.Ranks.{lone_test, test_priority};
 ghost use Rattle.xs_xpath.specs.Exprs.{tree_from, trees_from};
 ghost use Rattle.xs_xpath.specs.Tree.{trees};
 
+pub use xs_matching::ranks::Rank;
 use xs_pattern::paths::{start_of, steps_of};
 use xs_xpath::expr::Expr;
 use xs_xpath::name::NodeTest;
-
-/// By what template rules and tests of elements are compared.
-#[derive(Clone, Copy, PartialEq, Eq, Debug)]
-pub struct Rank {
-    /// The import precedence.
-    pub precedence: u32,
-    /// The priority, in ten-thousandths.
-    pub priority: i64,
-}
-
-impl Rank {
-    /// Whether this is above another: by a higher precedence, or at the same one by a higher
-    /// priority.
-    pub(crate) fn outranks(self, other: Rank) -> bool
-        ensures { result ≡ outranks self other }
-    {
-        if other.precedence < self.precedence {
-            return true;
-        }
-        other.precedence == self.precedence && other.priority < self.priority
-    }
-}
 
 /// The priority of an alternative of a pattern without one that is written (XSLT 1.0, 5.5).
 pub(crate) fn default_priority(alternative: &Expr) -> i64
@@ -59,8 +38,8 @@ fn test_priority(test: &NodeTest) -> i64
     }
 }
 
-// The node test of a path that is one step without predicates.
-fn lone_test(alternative: &Expr) -> Option<&NodeTest>
+/// The node test of a path that is one step without predicates.
+pub(crate) fn lone_test(alternative: &Expr) -> Option<&NodeTest>
     ensures { option_copied result ≡ lone_test (tree_from alternative.now) }
 {
     if !is_here(start_of(alternative)) {

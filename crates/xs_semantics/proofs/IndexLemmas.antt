@@ -1,4 +1,4 @@
--- Nothing that a stylesheet does depends on the index by which its rules are found.
+-- Nothing that a stylesheet does depends on the index by which its attribute sets are found.
 use Rattle.std.proofs.Common.{◌≡◌, ℕ, ◌+◌, ◌-◌, length, List, [], ◌∷◌, slice_get, Option, Some, None, Bool, refl, sym, ap, subst, ◌∙◌}
 use Rattle.xs_sheet.specs.declared.body.Content.{Content}
 use Rattle.xs_sheet.specs.declared.body.Content.TheVariants.{Empty, Select, Body as Fragment}
@@ -10,7 +10,7 @@ use Rattle.xs_trace.specs.declared.fault.Fault.TheVariants as fault
 use Rattle.xs_trace.specs.declared.item.Site.{Site}
 use Rattle.xs_value.specs.declared.value.Value.{Value}
 use Rattle.xs_value.specs.declared.value.Value.TheVariants.{Piece}
-use Rattle.xs_semantics.specs.declared.index.SheetIndex.{SheetIndex}
+use Rattle.xs_sets.specs.declared.index.SetIndex.{SetIndex}
 use Rattle.xs_semantics.specs.declared.focus.Focus.{Focus}
 use Rattle.xs_semantics.specs.World.{World, at_node, with_index}
 use Rattle.xs_semantics.specs.Tasks.{Job, Task, grain_over}
@@ -38,7 +38,7 @@ same-spread : (o : Option ℕ) (job : Job) (p : Site) (x v : Focus → Trace Tas
 same-spread None job p x v f ns e = same-each p x v f e 1 ns
 same-spread (Some grain) job p x v f ns e = refl
 
-module _ (w : World) (index : SheetIndex) where
+module _ (w : World) (index : SetIndex) where
   abbrev V : World
   V = with_index index w
 
@@ -76,7 +76,7 @@ module _ (w : World) (index : SheetIndex) where
   value-same (Some g) = content-same g.binding.content
 
 -- settling
-module _ (w : World) (index : SheetIndex) (budget : ℕ) where
+module _ (w : World) (index : SetIndex) (budget : ℕ) where
   abbrev U : World
   U = with_index index w
 

@@ -37,7 +37,7 @@ use Rattle.xs_value.specs.Conversion.{bool_value, fragment_text, text_value}
 use Rattle.xs_eval.specs.Results.{given, nodes_in}
 use Rattle.xs_making.specs.Copies.{shallow_copy}
 use Rattle.xs_making.specs.Names.{pi_target, result_name}
-use Rattle.xs_semantics.specs.declared.index.SheetIndex.{SheetIndex}
+use Rattle.xs_sets.specs.declared.index.SetIndex.{SetIndex}
 use Rattle.xs_sets.specs.Declarations.{declarations_of}
 use Rattle.xs_semantics.specs.declared.focus.Focus.{Focus}
 use Rattle.xs_semantics.specs.declared.made.Made.{Made}
@@ -64,12 +64,12 @@ use Rattle.xs_semantics.specs.Trace.{calls_at}
 use Rattle.xs_semantics.proofs.LackLemmas.{LacksOnly, value-then, given-value, template-value, tree-settles}
 
 -- the same, with another grain and another index
-abbrev pub beside : Option ℕ → SheetIndex → World → World
+abbrev pub beside : Option ℕ → SetIndex → World → World
 beside grain index w = record w { index = index; grain = grain }
 
 -- A relation, which may be another one in captured content, that the parts of traces keep. A need is of a global without a value. In
 -- a run over nodes, what is done at each node with the second grain is the job of the run.
-pub record IsKept (w : World) (grain : Option ℕ) (index : SheetIndex) (R : Bool → Trace Task → Trace Task → Type 0) : Type 0 where
+pub record IsKept (w : World) (grain : Option ℕ) (index : SetIndex) (R : Bool → Trace Task → Trace Task → Type 0) : Type 0 where
   pub nothing : (b : Bool) → R b [] []
   pub joins : (b : Bool) (x v y z : Trace Task) → R b x v → R b y z → R b (x ⨾ y) (v ⨾ z)
   pub ticks : (b : Bool) (p : Site) (x v : Trace Task) → R b x v → R b (Tick p ∷ x) (Tick p ∷ v)
@@ -168,7 +168,7 @@ target-lacks w name f vs =
     value-then w.globals (template_run w name f vs) (λ text. given (pi_target text)) (template-lacks w name f vs)
     (λ text. given-value w.globals (pi_target text))
 
-module _ (w : World) (grain : Option ℕ) (index : SheetIndex) (R : Bool → Trace Task → Trace Task → Type 0) (keeps : IsKept w grain index R) where
+module _ (w : World) (grain : Option ℕ) (index : SetIndex) (R : Bool → Trace Task → Trace Task → Type 0) (keeps : IsKept w grain index R) where
   abbrev V : World
   V = beside grain index w
 

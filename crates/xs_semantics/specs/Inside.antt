@@ -1,8 +1,6 @@
 -- What has to be in the tree: the nodes of what a stylesheet is evaluated over, and of a task.
-use Rattle.std.specs.Prelude.{◌≡◌, ℕ, ◌<◌, All, List, length}
-use Rattle.xs_counting.specs.steps.Tables.{AreCounters}
+use Rattle.std.specs.Prelude.{ℕ, ◌<◌, All, List, length}
 use Rattle.xs_eval.specs.Conditions.{IsInIf}
-use Rattle.xs_rules.specs.Indexed.{IsIndex, IsPrepared}
 use Rattle.xs_sets.specs.Indexed.{IsSetIndex}
 use Rattle.xs_sheet.specs.Sound.{IsSound}
 use Rattle.xs_tree.specs.Record.{Record}
@@ -12,15 +10,11 @@ use Rattle.xs_value.specs.Tables.{TablesIn}
 use Rattle.xs_semantics.specs.Tasks.{Job, body_job, rules_job, Task}
 use Rattle.xs_semantics.specs.World.{World}
 
--- the stylesheet is sound, and the index is that of its rules, prepared for the tree, of its attribute sets, and of the numbers that are
--- counted; the nodes of the globals' values and of the keys' tables are in the tree
+-- the stylesheet is sound, and the index is that of its attribute sets; the nodes of the globals' values and of the keys' tables are in
+-- the tree
 pub record IsWorld (w : World) : Type 0 where
   pub sheet : IsSound w.sheet
-  pub index : IsIndex w.index.rules
-  pub prepared : IsPrepared w.index.rules w.tree
-  pub templates : w.index.rules.templates.now ≡ w.sheet.templates
-  pub sets : IsSetIndex w.sheet.sets w.index.sets
-  pub counters : AreCounters w.keys w.tree w.index.counters
+  pub sets : IsSetIndex w.sheet.sets w.index
   pub globals : All (IsInIf w.tree) w.globals
   pub tables : TablesIn w.tree w.keys
 

@@ -8,7 +8,7 @@ use Rattle.xs_trace.specs.Fill.{HolesAre, fill, tasks_of}
 use Rattle.xs_trace.specs.Mark.{Tick, Put, Say, Stop, Need, Hole, Trace, GoesOn, NeedsNothing, captured, events_of, messages_of, tick_count}
 use Rattle.xs_trace.specs.declared.event.Event.{Event}
 use Rattle.xs_value.specs.declared.value.Value.{Value}
-use Rattle.xs_semantics.specs.declared.index.SheetIndex.{SheetIndex}
+use Rattle.xs_sets.specs.declared.index.SetIndex.{SetIndex}
 use Rattle.xs_semantics.specs.declared.focus.Focus.{Focus}
 use Rattle.xs_semantics.specs.World.{World, captured_in, with_grain, with_index}
 use Rattle.xs_semantics.specs.Tasks.{Task}
@@ -54,16 +54,16 @@ AttemptsNeed = (w : World) (g : Option Global) → NeedsOnly w.globals (attempt_
 abbrev pub SettledNeedsNothing : Type 0
 SettledNeedsNothing = (w : World) (t : Task) → All IsSome w.globals → NeedsNothing (task_trace w t)
 
--- nothing that is done depends on the index by which rules are found
+-- nothing that is done depends on the index by which attribute sets are found
 abbrev pub TasksAreTheSame : Type 0
-TasksAreTheSame = (w : World) (index : SheetIndex) (t : Task) → task_trace (with_index index w) t ≡ task_trace w t
+TasksAreTheSame = (w : World) (index : SetIndex) (t : Task) → task_trace (with_index index w) t ≡ task_trace w t
 
 abbrev pub AttemptsAreTheSame : Type 0
-AttemptsAreTheSame = (w : World) (index : SheetIndex) (g : Option Global) →
+AttemptsAreTheSame = (w : World) (index : SetIndex) (g : Option Global) →
     (attempt_trace (with_index index w) g ≡ attempt_trace w g) × (attempt_value (with_index index w) g ≡ attempt_value w g)
 
 abbrev pub SettlingIsTheSame : Type 0
-SettlingIsTheSame = (w : World) (index : SheetIndex) (given : List (List ℕ × List ℕ)) (budget : ℕ) (r : Settled) →
+SettlingIsTheSame = (w : World) (index : SetIndex) (given : List (List ℕ × List ℕ)) (budget : ℕ) (r : Settled) →
     SettlesAll w given budget r → SettlesAll (with_index index w) given budget r
 
 -- the rank falls from a task to those that it leaves: their tree ends

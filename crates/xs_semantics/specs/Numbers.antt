@@ -1,6 +1,6 @@
 -- The text that `xsl:number` puts (XSLT 1.0, 7.7).
 use Rattle.std.specs.Prelude.{ℕ, zero, suc, List, codes, Option, Some, None, option_map, pos, negsuc, Result, Ok, Err}
-use Rattle.xs_counting.specs.Counted.{number_list}
+use Rattle.xs_matching.specs.Counted.{number_list}
 use Rattle.xs_num.specs.Text.{number_in}
 use Rattle.xs_num.specs.declared.number.Number.{Number}
 use Rattle.xs_num.specs.declared.number.Number.TheVariants.{Whole, NaN}

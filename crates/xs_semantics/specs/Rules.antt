@@ -1,8 +1,8 @@
 -- The rules for nodes (XSLT 1.0, 5.5 and 5.6).
 use Rattle.std.specs.Prelude.{ℕ, Option, Some, None}
-use Rattle.xs_rules.specs.declared.choice.Rule.{Rule}
-use Rattle.xs_rules.specs.declared.choice.Rule.TheVariants.{Template, BuiltIn}
-use Rattle.xs_rules.specs.Rules.{chosen, chosen_import}
+use Rattle.xs_matching.specs.declared.rule.Rule.{Rule}
+use Rattle.xs_matching.specs.declared.rule.Rule.TheVariants.{Template, BuiltIn}
+use Rattle.xs_matching.specs.Rules.{chosen, chosen_import}
 use Rattle.xs_semantics.specs.declared.focus.Focus.{Focus}
 use Rattle.xs_semantics.specs.World.{World}
 

@@ -14,14 +14,14 @@ use Rattle.xs_eval.specs.Context.{Context}
 use Rattle.xs_eval.specs.Evaluation.{run_of_tree}
 use Rattle.xs_eval.specs.Results.{given, nodes_in, numeric}
 use Rattle.xs_eval.specs.Templates.{template}
+use Rattle.xs_sets.specs.declared.index.SetIndex.{SetIndex}
 use Rattle.xs_sort.specs.Sorting.{sorted}
-use Rattle.xs_semantics.specs.declared.index.SheetIndex.{SheetIndex}
 use Rattle.xs_semantics.specs.declared.focus.Focus.{Focus}
 
 pub record World : Type 0 where
   pub sheet : Sheet
-  -- by which its rules and attribute sets are found; nothing that it does depends on this
-  pub index : SheetIndex
+  -- by which its attribute sets are found; nothing that it does depends on this
+  pub index : SetIndex
   -- the nodes of all documents
   pub tree : List Record
   -- the tables of the keys
@@ -177,9 +177,9 @@ abbrev pub with_grain : Option ℕ → World → World
 with_grain grain w = record w { grain = grain }
 
 -- the same, with another index
-abbrev pub with_index : SheetIndex → World → World
+abbrev pub with_index : SetIndex → World → World
 with_index index w = record w { index = index }
 
 -- one over which no global has a value yet, and nothing is left to tasks
-abbrev pub ground : Sheet → SheetIndex → List Record → List Table → World
+abbrev pub ground : Sheet → SetIndex → List Record → List Table → World
 ground sheet index tree keys = record { sheet = sheet; index = index; tree = tree; keys = keys; globals = []; grain = None }

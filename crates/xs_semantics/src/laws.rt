@@ -32,7 +32,7 @@ pub fn settled_needs_nothing()
     ensures { SettledNeedsNothing }
 {}
 
-/// Nothing that is done depends on the index by which rules are found.
+/// Nothing that is done depends on the index by which attribute sets are found.
 pub fn index_is_free()
     ensures tasks { TasksAreTheSame }
     ensures attempts { AttemptsAreTheSame }

@@ -1,7 +1,7 @@
 //! What a compiled stylesheet does: its definition, and the laws of that.
 #![tactic(auto)]
 
+pub mod finder;
 pub mod focus;
-pub mod index;
 pub mod laws;
 pub mod made;

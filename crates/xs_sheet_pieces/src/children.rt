@@ -67,8 +67,8 @@ fn put_at_places<'a>(
         placed.items ≡ placed_tasks place.now 0 tasks.entry.items) }
 {
     let mut tasks = tasks;
+    let mut placed = Vec::with_capacity(alloc, tasks.len())?;
     tasks.reverse();
-    let mut placed = Vec::new(alloc);
     while let Some(task) = tasks.pop() {
         let place = place.child(placed.len() as u64)?;
         placed.push(PlacedTask { place, task })?;

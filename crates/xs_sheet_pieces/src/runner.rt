@@ -2,6 +2,7 @@
 
 ghost use Rattle.std.specs.List.{All};
 ghost use Rattle.std.specs.Prelude.{◌≡◌, ◌+◌, ◌≤◌, [], IfOk, IsSome, OnErr};
+ghost use Rattle.xs_finder.specs.Ready.{IsReady, tables_in};
 ghost use Rattle.xs_semantics.specs.Inside.{IsWorld};
 ghost use Rattle.xs_record.specs.Outcome.{IsOutcome, part_blocks};
 ghost use Rattle.xs_record.specs.Piece.{IsPiece};
@@ -14,25 +15,24 @@ use std::alloc::{AllocError, Global};
 use std::marker::Model;
 use xs_block::pool::Pool;
 use xs_body::runner::SheetRunner;
-use xs_keys::keys::KeyCells;
+use xs_finder::finder::SheetFinder;
 use xs_pieces::piece::{Desk, Ran};
 use xs_pieces::runner::{PieceRunner, Runner};
 use xs_record::outcome::Outcome;
 use xs_record::piece::Finished;
-use xs_semantics::index::SheetIndex;
+use xs_sets::index::SetIndex;
 use xs_sheet::sheet::Sheet;
 use xs_trace::item::{Item, Limits};
 use xs_trace::place::Place;
 use xs_trace::total::Total;
 use xs_tree::Tree;
-use xs_value::keys::KeyFinder;
 use xs_value::value::Value;
 
 /// Runs a stylesheet in pieces, once all its globals have values. Contracts see it as what it runs
 /// over.
 #[derive(Drop)]
 pub struct SheetPieces<'a> {
-    runner: SheetRunner<'a, KeyCells>,
+    runner: SheetRunner<'a, SheetFinder<'a>>,
 }
 
 impl<'a> Model for SheetPieces<'a> {
@@ -40,7 +40,7 @@ impl<'a> Model for SheetPieces<'a> {
     ghost use Rattle.std.specs.List.{All};
     ghost use Rattle.std.specs.Option.{IsSome};
     ghost use denote.Signature.{static_lft};
-    ghost use Rattle.xs_semantics.specs.contracts.index.SheetIndex as of_index;
+    ghost use Rattle.xs_sets.specs.contracts.index.SetIndex as of_index;
     ghost use Rattle.xs_sheet.specs.contracts.sheet.Sheet as of_sheet;
     ghost use Rattle.xs_semantics.specs.World.{World};
 
@@ -61,9 +61,9 @@ impl<'a> SheetPieces<'a> {
     /// The pieces of a run over these. A run over more nodes than the grain is left to tasks.
     pub fn new(
         sheet: &'a Sheet,
-        index: &'a SheetIndex<'a>,
+        index: &'a SetIndex<'a>,
         tree: &'a Tree,
-        keys: &'a KeyCells,
+        finder: &'a SheetFinder<'a>,
         globals: &'a [Option<Value>],
         grain: Option<u32>,
     ) -> SheetPieces<'a>
@@ -71,22 +71,25 @@ impl<'a> SheetPieces<'a> {
           sheet = sheet.now;
           index = index.now;
           tree = tree.now;
-          keys = ⟦<KeyCells as KeyFinder>⟧.tables keys.now;
+          keys = tables_in finder.now;
           globals = globals.now;
           grain = grain;
         }) }
+        requires sheet { finder.now.sheet.now ≡ sheet.now }
+        requires tree { finder.now.tree.now ≡ tree.now }
+        requires ready { IsReady finder.now }
         requires settled { All IsSome globals.now }
         ensures { result ≡ record {
           sheet = sheet.now;
           index = index.now;
           tree = tree.now;
-          keys = ⟦<KeyCells as KeyFinder>⟧.tables keys.now;
+          keys = tables_in finder.now;
           globals = globals.now;
           grain = grain;
         } }
     {
         SheetPieces {
-            runner: SheetRunner::new(sheet, index, tree, keys, globals, grain),
+            runner: SheetRunner::new(sheet, index, tree, finder, globals, grain),
         }
     }
 

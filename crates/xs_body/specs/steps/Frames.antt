@@ -179,7 +179,7 @@ work_steps w (apply_left mode ps p f i ns) vs s = filled (each p (calls_at w f (
 work_steps w (bodies_left bodies c) vs s = filled (all_bodies bodies w (calls_at w c.focus) c.focus (last c.seen vs)) vs s
 work_steps w end_element vs s = and_then (put End s) (λ u m. Goes vs m)
 work_steps w (sets_left names f) vs s = filled (sets_trace names w (calls_at w f) f) vs s
-work_steps w (declared_left name i f) vs s = filled (declared_trace (drop i (declarations_in w.index.sets name)) w (calls_at w f) f) vs s
+work_steps w (declared_left name i f) vs s = filled (declared_trace (drop i (declarations_in w.index name)) w (calls_at w f) f) vs s
 work_steps w (attributes_left xs p c) vs s = filled (literal_attributes xs p w c.focus (last c.seen vs)) vs s
 work_steps w (make m p) vs s = filled (puts_all p (made_at m s)) vs (popped s)
 work_steps w (say p terminate) vs s = and_then (message_ended p terminate s) (λ u m. Goes vs m)
@@ -236,7 +236,7 @@ declaration_begun None name i f t = t
 declaration_begun (Some s) name i f t = pushed (sets_works s.sets f) (pushed (rest s.attributes (outer f) ∷ declared_left name (i + 1) f ∷ []) t)
 
 abbrev pub declared_begun : Label → ℕ → Focus → Evaluation → Evaluation
-declared_begun name i f t = declaration_begun (slice_get (declarations_in t.world.index.sets name) i) name i f t
+declared_begun name i f t = declaration_begun (slice_get (declarations_in t.world.index name) i) name i f t
 
 -- a run over nodes, which a work goes through, or which is left to tasks
 abbrev pub run_by : Option ℕ → Job → Site → Focus → List ℕ → Work → Evaluation → State Task → Step Task Evaluation

@@ -1,5 +1,5 @@
 -- A run that is left to tasks, node by node.
-use Rattle.std.specs.Prelude.{ℕ, ◌-◌, ◌==◌, List, map, if◌then◌else◌}
+use Rattle.std.specs.Prelude.{ℕ, ◌-◌, ◌==◌, ◌++◌, List, length, map, if◌then◌else◌}
 use Rattle.xs_trace.specs.Mark.{Hole}
 use Rattle.xs_trace.specs.Play.{Step, Goes, Told, play}
 use Rattle.xs_trace.specs.State.{State, shown}
@@ -19,6 +19,13 @@ abbrev pub share_step : (grain : ℕ) → Share → ℕ → State Task → Step 
 share_step grain z n s =
     if z.room == 0 then Goes (record { task = task_behind z.task n; room = grain - 1 }) (shown (Hole z.task) s)
     else Goes (record { task = with_node z.task n; room = z.room - 1 }) s
+
+-- nodes more, for which there is room
+abbrev pub with_nodes : Task → List ℕ → Task
+with_nodes t ns = record { job = t.job; site = t.site; focus = t.focus; first = t.first; nodes = t.nodes ++ ns }
+
+abbrev pub filled : Share → List ℕ → Share
+filled z ns = record { task = with_nodes z.task ns; room = z.room - length ns }
 
 -- what is told of the nodes that are left
 abbrev pub shares : (grain : ℕ) → Share → List ℕ → State Task → Told Task

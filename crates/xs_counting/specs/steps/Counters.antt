@@ -11,7 +11,7 @@ use Rattle.xs_sheet.specs.declared.scoped.ScopedPattern.{ScopedPattern}
 use Rattle.xs_tree.specs.Record.{Record, at, places}
 use Rattle.xs_value.specs.Tables.{Table}
 use Rattle.xs_counting.specs.declared.counter.Counter.{Counter}
-use Rattle.xs_counting.specs.Counted.{alike_any_number, alike_number}
+use Rattle.xs_matching.specs.Counted.{alike_any_number, alike_number}
 
 -- the marks of the nodes that match `count`, where there is one
 abbrev pub AreCounts : List Table → List Record → Option ScopedPattern → Option (Vec Bool Global) → Type 0

@@ -5,7 +5,7 @@ use Rattle.xs_value.specs.declared.value.Value.{Value}
 use Rattle.xs_value.specs.declared.value.Value.TheVariants.{Bool as Boolean, Number as Numeral, Chars, Nodes, Piece}
 use Rattle.xs_eval.specs.Context.{Context}
 use Rattle.xs_eval.specs.Paths.{Meaning}
-use Rattle.xs_pattern.specs.Predicates.{all_kept, holds, is_among}
+use Rattle.xs_matching.specs.Predicates.{all_kept, holds, is_among}
 
 -- what a value says of a node at whatever position: a number says nothing (XPath 1.0, 2.4), and where there is none, no node is kept
 abbrev pub said_by : Value → Option Bool

@@ -13,7 +13,7 @@ use Rattle.xs_xpath.specs.Tree.{Tree, here, root}
 use Rattle.xs_eval.specs.Context.{Context}
 use Rattle.xs_pattern.specs.declared.matching.Reached.{Reached}
 use Rattle.xs_pattern.specs.declared.matching.Reached.TheVariants.{Fits, Differs, Below}
-use Rattle.xs_pattern.specs.Matching.{ends_path, is_descend}
+use Rattle.xs_matching.specs.Matching.{ends_path, is_descend}
 
 -- whether a node of a kind stands on an axis of its parent, of the two that patterns have
 abbrev pub stands_on : Axis → Kind → Bool

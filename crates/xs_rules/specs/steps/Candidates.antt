@@ -2,12 +2,13 @@
 use Rattle.std.specs.Prelude.{ℕ, ◌&&◌, Bool, true, false, nat_le, nat_lt, List, [], ◌∷◌, Option, Some, None, if◌then◌else◌}
 use Rattle.xs_tree.specs.Record.{Record}
 use Rattle.xs_value.specs.Tables.{Table}
-use Rattle.xs_pattern.specs.Matching.{matches_path, pattern_context}
+use Rattle.xs_matching.specs.Matching.{matches_path, pattern_context}
 use Rattle.xs_rules.specs.declared.candidates.Best.{Best}
 use Rattle.xs_rules.specs.declared.candidates.Looked.{Looked}
 use Rattle.xs_rules.specs.declared.candidates.Looked.TheVariants.{All, Nothing, Within}
-use Rattle.xs_rules.specs.declared.choice.Rule.{Rule}
-use Rattle.xs_rules.specs.declared.choice.Rule.TheVariants.{Template as OfTemplate, BuiltIn}
+use Rattle.xs_matching.specs.declared.rule.Rule.{Rule}
+use Rattle.xs_matching.specs.declared.rule.Rule.TheVariants.{Template as OfTemplate, BuiltIn}
+use Rattle.xs_matching.specs.declared.ranks.Rank.{Rank}
 use Rattle.xs_rules.specs.Ranks.{or_above}
 use Rattle.xs_rules.specs.Rules.{Candidate, takes}
 
@@ -18,8 +19,11 @@ looks_at Nothing precedence = false
 looks_at (Within from below) precedence = nat_le from precedence && nat_lt precedence below
 
 -- what is kept of a candidate
+abbrev pub best_with : (template : ℕ) → Rank → Best
+best_with template rank = record { template = template; rank = rank }
+
 abbrev pub best_of : Candidate → Best
-best_of c = record { template = c.template; rank = c.rank }
+best_of c = best_with c.template c.rank
 
 abbrev pub or_best : Candidate → Option Best → Option Best
 or_best c o = or_above (λ (b : Best). b.rank) (best_of c) o

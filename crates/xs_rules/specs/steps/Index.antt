@@ -1,7 +1,9 @@
 -- Rules by mode, kind and name.
-use Rattle.std.specs.Prelude.{◌≡◌, ℕ, zero, suc, ◌==◌, ◌&&◌, Bool, List, [], ◌∷◌, reverse, map, length, get_or, Option, Some, None, IfSome, option_map, slice_get, nat_lt, if◌then◌else◌}
+use Rattle.std.specs.Prelude.{◌≡◌, ℕ, ◌==◌, ◌&&◌, ◌++◌, Bool, false, List, [], ◌∷◌, filter, reverse, map, length}
+use Rattle.std.specs.Prelude.{Option, Some, None, IfSome, is_none, option_map, slice_get, nat_lt, if◌then◌else◌}
 use Rattle.std.specs.Borrow.{Bor}
-use Rattle.std.specs.Option.{option_and_then}
+use Rattle.std.specs.List.{range_with_len}
+use Rattle.std.specs.Option.{option_and_then, option_map_or}
 use Rattle.std.specs.Str.{bytes_eq}
 use Rattle.xs_sheet.specs.declared.declarations.Template.{Template}
 use Rattle.xs_sheet.specs.declared.scoped.ScopedPattern.{ScopedPattern}
@@ -12,18 +14,17 @@ use Rattle.xs_tree.specs.declared.kinds.Kind.TheVariants.{Root, Element, Attribu
 use Rattle.xs_tree.specs.Record.{Record, name_local, name_uri}
 use Rattle.xs_xpath.specs.declared.name.NodeTest.{NodeTest}
 use Rattle.xs_xpath.specs.declared.name.NodeTest.TheVariants.{Any, Uri, Name, Node, Text, Comment, Pi, Target}
-use Rattle.xs_xpath.specs.Tree.{Tree, root, step}
-use Rattle.xs_pattern.specs.Matching.{start_of, steps_of}
+use Rattle.xs_xpath.specs.Tree.{Tree, step}
+use Rattle.xs_matching.specs.Matching.{steps_of}
 use Rattle.xs_pattern.specs.steps.Above.{IsAbove}
 use Rattle.xs_pattern.specs.steps.Marks.{AreMarks}
 use Rattle.xs_rules.specs.declared.lists.Entry.{Entry}
-use Rattle.xs_rules.specs.declared.ranks.Rank.{Rank}
 use Rattle.xs_rules.specs.declared.tables.RuleTable.{RuleTable}
 use Rattle.xs_rules.specs.declared.tables.RuleTable.TheVariants.{Above, Matches}
 use Rattle.xs_rules.specs.Rules.{Candidate, candidate}
+use Rattle.xs_rules.specs.steps.Kinds.{allows_kind, is_certain}
 
--- Where a rule is found: its mode, and the kind and the name of the nodes that it may match, where they have a name; of a rule that may
--- match others too, no kind, which is 0, and no name.
+-- Where a rule is found that matches nodes of one kind and name alone: its mode, the number of the kind, and the name.
 pub record Key : Type 0 where
   pub mode : ℕ
   pub kind : ℕ
@@ -33,12 +34,6 @@ pub record Key : Type 0 where
 abbrev pub key : (mode kind : ℕ) → (uri local : List ℕ) → Key
 key mode kind uri local = record { mode = mode; kind = kind; uri = uri; local = local }
 
-abbrev pub unnamed_key : (mode kind : ℕ) → Key
-unnamed_key mode kind = key mode kind [] []
-
-abbrev pub any_key : (mode : ℕ) → Key
-any_key mode = unnamed_key mode 0
-
 abbrev pub is_key : Key → Key → Bool
 is_key q k = q.mode == k.mode && q.kind == k.kind && bytes_eq q.uri k.uri && bytes_eq q.local k.local
 
@@ -47,63 +42,72 @@ abbrev pub key_data : ℕ × ℕ × Bor (List ℕ) × Bor (List ℕ) → Key
 key_data k = key k.0 k.1 k.2.now k.3.now
 
 -- by the axis and the name of the last step, or by its node test
-abbrev pub name_key : (mode : ℕ) → Axis → (uri local : List ℕ) → Key
-name_key mode Child uri local = key mode 1 uri local
-name_key mode AttributeAxis uri local = key mode 2 uri local
-name_key mode _ uri local = any_key mode
+abbrev pub name_key : (mode : ℕ) → Axis → (uri local : List ℕ) → Option Key
+name_key mode Child uri local = Some (key mode 1 uri local)
+name_key mode AttributeAxis uri local = Some (key mode 2 uri local)
+name_key mode _ uri local = None
 
-abbrev pub test_key : (mode : ℕ) → Axis → NodeTest → Key
+abbrev pub test_key : (mode : ℕ) → Axis → NodeTest → Option Key
 test_key mode axis (Name uri local) = name_key mode axis uri local
-test_key mode axis (Target target) = key mode 3 [] target
-test_key mode axis Any = any_key mode
-test_key mode axis (Uri uri) = any_key mode
-test_key mode axis Node = any_key mode
-test_key mode axis Text = unnamed_key mode 5
-test_key mode axis Comment = unnamed_key mode 6
-test_key mode axis Pi = any_key mode
+test_key mode axis (Target target) = Some (key mode 3 [] target)
+test_key mode axis Any = None
+test_key mode axis (Uri uri) = None
+test_key mode axis Node = None
+test_key mode axis Text = None
+test_key mode axis Comment = None
+test_key mode axis Pi = None
 
-abbrev pub step_key : (mode : ℕ) → Tree → Key
+abbrev pub step_key : (mode : ℕ) → Tree → Option Key
 step_key mode (step axis which es) = test_key mode axis which
-step_key mode _ = any_key mode
-
--- or of a path without steps by where it begins
-abbrev pub start_key : (mode : ℕ) → Tree → Key
-start_key mode root = unnamed_key mode 4
-start_key mode _ = any_key mode
+step_key mode _ = None
 
 -- the steps with the last one first
-abbrev pub path_key : (mode : ℕ) → (start : Tree) → (steps : List Tree) → Key
-path_key mode start [] = start_key mode start
-path_key mode start (s ∷ before) = step_key mode s
+abbrev pub path_key : (mode : ℕ) → (steps : List Tree) → Option Key
+path_key mode [] = None
+path_key mode (s ∷ before) = step_key mode s
 
-abbrev pub key_of : Candidate → Key
-key_of c = path_key c.mode (start_of c.alternative) (reverse (steps_of c.alternative))
+abbrev pub key_of : (mode : ℕ) → Tree → Option Key
+key_of mode e = path_key mode (reverse (steps_of e))
 
--- the key of the rules for a node that are not for others too
-abbrev pub kind_key : (mode : ℕ) → Kind → (uri local : List ℕ) → Key
-kind_key mode Element uri local = key mode 1 uri local
-kind_key mode Attribute uri local = key mode 2 uri local
-kind_key mode PiKind uri local = key mode 3 [] local
-kind_key mode Root uri local = unnamed_key mode 4
-kind_key mode TextKind uri local = unnamed_key mode 5
-kind_key mode CommentKind uri local = unnamed_key mode 6
-kind_key mode Space uri local = any_key mode
+-- the key of a node
+abbrev pub kind_key : (mode : ℕ) → Kind → (uri local : List ℕ) → Option Key
+kind_key mode Element uri local = Some (key mode 1 uri local)
+kind_key mode Attribute uri local = Some (key mode 2 uri local)
+kind_key mode PiKind uri local = Some (key mode 3 [] local)
+kind_key mode Root uri local = None
+kind_key mode TextKind uri local = None
+kind_key mode CommentKind uri local = None
+kind_key mode Space uri local = None
 
-abbrev pub node_key : (mode : ℕ) → Record → Key
+abbrev pub node_key : (mode : ℕ) → Record → Option Key
 node_key mode r = kind_key mode r.kind (name_uri r) (name_local r)
 
--- ---- chains: each rule knows the last one before it with its key
+-- ---- lists of the places of rules
 
--- the last place before n that passes
-abbrev pub last_below : (ℕ → Bool) → ℕ → Option ℕ
-last_below test zero = None
-last_below test (suc n) = if test n then Some n else last_below test n
+-- whether a rule has a key
+abbrev pub has_key : Key → Option Key → Bool
+has_key q o = option_map_or (λ k. is_key k q) o false
 
-abbrev pub key_at : List Key → ℕ → Key
-key_at ks i = get_or ks i (any_key 0)
+abbrev pub is_named : Key → Candidate → Bool
+is_named q c = has_key q (key_of c.mode c.alternative)
 
-abbrev pub has_key : List Key → Key → ℕ → Bool
-has_key ks q i = is_key q (key_at ks i)
+-- or has none, and is for nodes of a kind in a mode
+abbrev pub may_match : (mode : ℕ) → Kind → (of : ℕ) → Tree → Bool
+may_match mode kind of e = is_none (key_of of e) && of == mode && allows_kind e kind
+
+abbrev pub is_unnamed : (mode : ℕ) → Kind → Candidate → Bool
+is_unnamed mode kind c = may_match mode kind c.mode c.alternative
+
+-- the places of the rules that pass a test
+abbrev pub passes_at : (Candidate → Bool) → List Candidate → ℕ → Bool
+passes_at test cs i = option_map_or test (slice_get cs i) false
+
+abbrev pub places_of : (Candidate → Bool) → List Candidate → List ℕ
+places_of test cs = filter (passes_at test cs) (range_with_len 0 (length cs))
+
+-- with one more
+abbrev pub with_place : Bool → ℕ → List ℕ → List ℕ
+with_place is_in place places = if is_in then places ++ place ∷ [] else places
 
 -- the rule of an alternative of a template
 abbrev pub nth_of : ℕ → Template → ℕ → ScopedPattern → Option Candidate
@@ -116,25 +120,24 @@ candidate_at ts number k =
 abbrev pub at_entry : List Template → Entry → Option Candidate
 at_entry ts e = candidate_at ts e.template e.alternative
 
-abbrev pub entry : (template alternative : ℕ) → Rank → Option ℕ → Entry
-entry number k rank previous = record { template = number; alternative = k; rank = rank; previous = previous }
-
--- The entries stand for rules, each has its rule's rank and knows the one before it with its key, and the last one with each key is found.
-pub record IsIndexed (ts : List Template) (cs : List Candidate) (entries : List Entry) (found : Key → Option ℕ) : Type 0 where
+-- The entries represent rules, each knows its rule's rank and whether it is certain, and by its key or its mode and kinds each is found.
+pub record IsIndexed (ts : List Template) (cs : List Candidate) (entries : List Entry) (named : Key → List ℕ) (unnamed : ℕ → Kind → List ℕ) : Type 0 where
   pub each : map (at_entry ts) entries ≡ map Some cs
   pub ranks : map (λ (e : Entry). e.rank) entries ≡ map (λ (c : Candidate). c.rank) cs
-  pub previous : (i : ℕ) (e : Entry) → slice_get entries i ≡ Some e → e.previous ≡ last_below (has_key (map key_of cs) (key_at (map key_of cs) i)) i
-  pub last_is : (q : Key) → found q ≡ last_below (has_key (map key_of cs) q) (length cs)
+  pub certain : map (λ (e : Entry). e.is_certain) entries ≡ map (λ (c : Candidate). is_certain c.alternative) cs
+  pub named_are : (q : Key) → named q ≡ places_of (is_named q) cs
+  pub unnamed_are : (mode : ℕ) (kind : Kind) → unnamed mode kind ≡ places_of (is_unnamed mode kind) cs
 
--- the later of two places, and a place's chain after one that was passed
-abbrev pub later : Option ℕ → Option ℕ → Option ℕ
-later None b = b
-later (Some i) None = Some i
-later (Some i) (Some j) = if nat_lt i j then Some j else Some i
+-- The later of the last places of two lists, and a list without a place that is its last one; the last places stand first.
+abbrev pub later : (named unnamed : List ℕ) → Option ℕ
+later [] [] = None
+later [] (j ∷ js) = Some j
+later (i ∷ is) [] = Some i
+later (i ∷ is) (j ∷ js) = Some (if nat_lt i j then j else i)
 
-abbrev pub moved_back : Option ℕ → ℕ → Option ℕ → Option ℕ
-moved_back None place previous = None
-moved_back (Some i) place previous = if i == place then previous else Some i
+abbrev pub passed : (place : ℕ) → List ℕ → List ℕ
+passed place [] = []
+passed place (i ∷ is) = if i == place then is else i ∷ is
 
 -- ---- tables beside rules
 

@@ -1,6 +1,6 @@
 use Rattle.std.proofs.Common.{◌≡◌, map}
 use Rattle.std.specs.List.{range_with_len}
-use Rattle.xs_counting.specs.Counted.{alike_any_number}
+use Rattle.xs_matching.specs.Counted.{alike_any_number}
 use Rattle.xs_numbering.specs.steps.Passes.{is_marked}
 use Rattle.xs_counting.proofs.AlikeLemmas.{IsSeen}
 use Rattle.xs_counting.proofs.alike.alike_any_numbers.Given as goal

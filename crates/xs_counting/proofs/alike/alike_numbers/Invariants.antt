@@ -1,7 +1,7 @@
 use Rattle.std.proofs.Common.{◌≡◌, ℕ, map}
 use Rattle.std.specs.List.{range_with_len}
 use Rattle.xs_tree.specs.Record.{Record}
-use Rattle.xs_counting.specs.Counted.{alike_number}
+use Rattle.xs_matching.specs.Counted.{alike_number}
 use Rattle.xs_counting.specs.steps.Alike.{seen_in}
 use Rattle.xs_numbering.specs.steps.Passes.{children_seen}
 use Rattle.xs_counting.proofs.AlikeLemmas.{alike}

@@ -1,5 +1,5 @@
 use Rattle.std.proofs.Common.{◌≡◌, ◌<◌, true, cond, [], ◌∷◌, ◌++◌, map, sym, subst, ap, ◌∙◌}
-use Rattle.xs_counting.specs.Counted.{alike_number}
+use Rattle.xs_matching.specs.Counted.{alike_number}
 use Rattle.xs_counting.specs.steps.Counters.{alike_to}
 use Rattle.xs_numbering.specs.Counting.{sibling_number}
 use Rattle.xs_numbering.proofs.LevelLemmas.{number-in, table-long}

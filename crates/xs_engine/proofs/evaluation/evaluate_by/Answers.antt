@@ -1,6 +1,7 @@
+use mir.Syntax.{erased, named}
 use Rattle.xs_making.specs.Laws.{AreWell}
 use Rattle.xs_globals.specs.Results.{told_in}
-use Rattle.xs_keys.specs.KeyTables.{tables_of}
+use Rattle.xs_finder.specs.Ready.{tables_in}
 use Rattle.xs_semantics.specs.World.{ground}
 use Rattle.xs_well_put.specs.Named.{IsNamedSheet, IsNamedWorld}
 use Rattle.xs_answer.specs.Evaluation.{IsEvaluated}
@@ -8,12 +9,13 @@ use Rattle.xs_answer.specs.Reply.{job_data}
 use Rattle.xs_answer.proofs.EvaluationLemmas.{ended_in_globals}
 use Rattle.xs_answer.proofs.ReadBackLemmas.{ground_named}
 use Rattle.xs_answer.proofs.ReplyLemmas.{replies_so}
+use Rattle.xs_sheet_pieces.proofs.SyncLemmas.{finder_sync}
 use Rattle.xs_engine.proofs.SettledLemmas.{ended_globals}
 use Rattle.xs_engine.proofs.evaluation.evaluate_by.Goals as goal
 
 pub returns-in-Some-clause-answer : goal.returns-in-Some-clause-answer
 returns-in-Some-clause-answer c =
-    let w = ground c.args.sheet.now c.args.index.now c.args.tree.now (tables_of c.args.keys.now.tree.value c.args.keys.now.sheet.value.keys) in
+    let w = ground c.args.sheet.now c.args.index.now c.args.tree.now (tables_in c.args.finder.now) in
     ended_in_globals (job_data c.args.job.now) w (told_in c.in_ok-settled.settled) c.stopped_reply.result
     (IsNamedSheet c.args.sheet.now × AreWell c.args.tree.now) c.in-Some.spot
     (ended_globals (job_data c.args.job.now) w c.in_ok-settled.settled (rw c.deref.ensures.value at c.in_ok-settled.ensures.settles)
@@ -22,10 +24,23 @@ returns-in-Some-clause-answer c =
 
 pub returns-clause-answer : goal.returns-clause-answer
 returns-clause-answer c =
-    let w = ground c.args.sheet.now c.args.index.now c.args.tree.now (tables_of c.args.keys.now.tree.value c.args.keys.now.sheet.value.keys) in
+    let w = ground c.args.sheet.now c.args.index.now c.args.tree.now (tables_in c.args.finder.now) in
     replies_so c.root_reply.result (IsNamedWorld w) (IsNamedSheet c.args.sheet.now × AreWell c.args.tree.now)
     (IsEvaluated (job_data c.args.job.now) w) (IsEvaluated (job_data c.args.job.now) w)
     (λ h.
-    ground_named c.args.sheet.now c.args.index.now c.args.tree.now (tables_of c.args.keys.now.tree.value c.args.keys.now.sheet.value.keys)
+    ground_named c.args.sheet.now c.args.index.now c.args.tree.now (tables_in c.args.finder.now)
     h.0 c.len-count.ensures.tree h.1)
     (λ a is. is) c.root_reply.ensures.answer
+
+pub settle-requires-sync-K : goal.settle-requires-sync-K
+settle-requires-sync-K c κs =
+    search (
+      finder_sync (record { mir = named 3; lft = κs.1.1.1.0 }),
+      finder_sync (record { mir = erased; lft = κs.1.1.1.0 }),
+      finder_sync (record { mir = named 2; lft = κs.1.1.0 }),
+      finder_sync (record { mir = erased; lft = κs.1.1.0 }),
+      finder_sync (record { mir = named 1; lft = κs.1.0 }),
+      finder_sync (record { mir = erased; lft = κs.1.0 }),
+      finder_sync (record { mir = named 0; lft = κs.0 }),
+      finder_sync (record { mir = erased; lft = κs.0 }),
+    )

@@ -29,7 +29,7 @@ execute-requires-clause-ready c =
     ready c.sheet_is_ready.ensures.ready c.new-runner.result c.args.world.now c.args.settled.now.values.items grain
     (c.new-runner.ensures ∙ ap (λ (w : World). with_grain (Some grain) (with_globals w c.deref.result.now)) c.world.view_is
     ∙ ap (λ vs. with_grain (Some grain) (with_globals c.args.world.now vs)) c.deref.ensures.value)
-    (subst IsWorld c.world.view_is c.world.invariant) c.requires.inside c.requires.values c.requires.job.grain
+    (subst IsWorld c.world.view_is c.world.invariant.0) c.requires.inside c.requires.values c.requires.job.grain
 
 pub executed_reply-requires : goal.executed_reply-requires
 executed_reply-requires c =

@@ -1,5 +1,5 @@
 use Rattle.std.proofs.Common.{ℕ, ◌||◌, ◌∙◌, Bool, ap, false, get_or}
-use Rattle.xs_pattern.specs.Matching.{matches_path, pattern_context}
+use Rattle.xs_matching.specs.Matching.{matches_path, pattern_context}
 use Rattle.xs_xpath.specs.Exprs.{tree_from}
 use Rattle.xs_marks.proofs.MatchLemmas.{marks-more}
 use Rattle.xs_marks.proofs.matching.joined.Goals as goal

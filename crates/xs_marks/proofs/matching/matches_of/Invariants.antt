@@ -1,5 +1,5 @@
 use Rattle.std.proofs.Common.{◌≡◌, ℕ, ◌<◌, false, get_or, length, take}
-use Rattle.xs_pattern.specs.Matching.{matches}
+use Rattle.xs_matching.specs.Matching.{matches}
 use Rattle.xs_marks.proofs.matching.matches_of.Given as goal
 
 -- the marks are those of the alternatives that were passed

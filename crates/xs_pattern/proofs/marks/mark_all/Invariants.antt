@@ -1,5 +1,5 @@
 use Rattle.std.proofs.Common.{◌≡◌, ℕ, ◌<◌, ◌||◌, false, drop, get_or, length}
-use Rattle.xs_pattern.specs.Predicates.{is_among}
+use Rattle.xs_matching.specs.Predicates.{is_among}
 use Rattle.xs_pattern.proofs.marks.mark_all.Given as goal
 
 -- the marks that are there, with the nodes that are left, are all

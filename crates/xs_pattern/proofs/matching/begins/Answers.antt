@@ -8,8 +8,8 @@ use Rattle.xs_xpath.specs.declared.expr.Expr.{Expr}
 use Rattle.xs_eval.specs.Context.{Context}
 use Rattle.xs_eval.specs.Evaluation.{run_of}
 use Rattle.xs_eval.proofs.CaseLemmas.{run_root}
-use Rattle.xs_pattern.specs.Matching.{placed_at}
-use Rattle.xs_pattern.specs.Predicates.{is_among, nodes_of, value_in}
+use Rattle.xs_matching.specs.Matching.{placed_at}
+use Rattle.xs_matching.specs.Predicates.{is_among, nodes_of, value_in}
 use Rattle.xs_pattern.proofs.StartLemmas.{root-among}
 use Rattle.xs_pattern.proofs.matching.begins.Goals as goal
 

@@ -6,7 +6,7 @@ use Rattle.xs_xpath.specs.Tree.{Tree}
 use Rattle.xs_xpath.specs.declared.expr.Expr.{Expr}
 use Rattle.xs_eval.specs.Context.{Context}
 use Rattle.xs_eval.proofs.StepLemmas.{no_items}
-use Rattle.xs_pattern.specs.Matching.{ends_path}
+use Rattle.xs_matching.specs.Matching.{ends_path}
 use Rattle.xs_pattern.specs.steps.Climb.{backwards}
 use Rattle.xs_pattern.proofs.ClimbLemmas.{Gone, ends-no_parent, ends-parent, ends-start, gone-step, reached-behind}
 use Rattle.xs_pattern.proofs.TreeLemmas.{backwards-push}

@@ -9,8 +9,8 @@ use Rattle.xs_eval.specs.Evaluation.{runs_of}
 use Rattle.xs_eval.specs.Paths.{passes}
 use Rattle.xs_eval.proofs.InsideLemmas.{moved}
 use Rattle.xs_eval.proofs.StepLemmas.{no_items}
-use Rattle.xs_pattern.specs.Matching.{placed_at, step_nodes}
-use Rattle.xs_pattern.specs.Predicates.{is_among}
+use Rattle.xs_matching.specs.Matching.{placed_at, step_nodes}
+use Rattle.xs_matching.specs.Predicates.{is_among}
 use Rattle.xs_pattern.specs.steps.Alone.{AreSaid}
 use Rattle.xs_pattern.specs.steps.Climb.{stands_on}
 use Rattle.xs_pattern.proofs.StepLemmas.{passes-lone, passes-not, said-nodes, stands-not}

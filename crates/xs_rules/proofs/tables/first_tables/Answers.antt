@@ -1,8 +1,7 @@
-use Rattle.std.proofs.Common.{◌≡◌, ◌+◌, ◌<◌, ◌∷◌, [], List, None, Some, ap, arith, get_or, length, pos, slice_get, sym, ◌∙◌}
+use Rattle.std.proofs.Common.{◌≡◌, ◌+◌, ◌<◌, ◌∷◌, [], List, Some, ap, arith, false, get_or, length, pos, slice_get, sym, ◌∙◌}
 use Rattle.std.proofs.lemmas.List.{length-append}
 use Rattle.std.proofs.lemmas.Option.{slice_get-get_or}
 use Rattle.xs_rules.specs.declared.lists.Entry.{Entry}
-use Rattle.xs_rules.specs.steps.Index.{entry}
 use Rattle.xs_rules.proofs.TableLemmas.{tables-more}
 use Rattle.xs_rules.proofs.tables.first_tables.Goals as goal
 
@@ -10,7 +9,7 @@ pub loop-entry-preserved : goal.loop-entry-preserved
 loop-entry-preserved c =
     let es : List Entry = c.args.entries.now in
     let k = c.loop-entry.entry-index in
-    let none : Entry = entry 0 0 (record { precedence = 0; priority = pos 0 }) None in
+    let none : Entry = record { template = 0; alternative = 0; rank = record { precedence = 0; priority = pos 0 }; is_certain = false } in
     let e : Entry = get_or es k none in
     let inside : k < length es = omega (arith, c.loop-entry-test.true) in
     let read : slice_get es k ≡ Some e = slice_get-get_or es k none inside in

@@ -1,4 +1,4 @@
-use Rattle.std.proofs.Common.{refl, subst, rules}
+use Rattle.std.proofs.Common.{refl, subst, sym, rules}
 use Rattle.xs_body.specs.Inside.{IsInside}
 use Rattle.xs_body.specs.declared.frames.Frame.{Frame}
 use Rattle.xs_body.proofs.evaluator.Evaluator.advance.Goals as goal

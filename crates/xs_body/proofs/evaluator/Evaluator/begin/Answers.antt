@@ -23,10 +23,11 @@ returns-in-ValueOf-clause-told g c =
 pub returns-in-Text-clause-told : goal.returns-in-Text-clause-told
 returns-in-Text-clause-told g c =
     let t : Evaluation = c.args.self.now in
+    let v : Evaluation = c.put_fixed_text.new.self in
     let s = g.R.Tally.state c.args.recorder.now in
-    subst (λ (k : InstrKind). IsStepBy {A = Evaluation} {B = Unit {0}} (λ u. t) (begun k c.args.site c.args.scope t s) c.put_copied_text.result
-    (g.R.Tally.state c.put_copied_text.new.recorder)) (sym c.in-Text.is)
-    (stays-told (chars_steps c.args.site c.in-Text.text s) t t _ c.put_copied_text.result refl c.put_copied_text.ensures.told)
+    subst (λ (k : InstrKind). IsStepBy {A = Evaluation} {B = Unit {0}} (λ u. v) (begun k c.args.site c.args.scope t s) c.put_fixed_text.result
+    (g.R.Tally.state c.put_fixed_text.new.recorder)) (sym c.in-Text.is)
+    (stays-told (chars_steps c.args.site c.in-Text.text s) t v _ c.put_fixed_text.result c.put_fixed_text.ensures.same c.put_fixed_text.ensures.told)
 
 pub returns-in-CopyOf-clause-told : goal.returns-in-CopyOf-clause-told
 returns-in-CopyOf-clause-told g c =

@@ -1,4 +1,6 @@
 use Rattle.std.proofs.Common.{ap, refl}
+use Rattle.std.specs.Cow.{cow_str_bytes}
+use Rattle.std.specs.declared.alloc.Global.{Global}
 use Rattle.std.proofs.lemmas.Result.{err_from_is_err_and}
 use Rattle.xs_trace.specs.Play.{and_then}
 use Rattle.xs_trace.proofs.GrowthLemmas.{grows-then, passes}
@@ -17,9 +19,9 @@ returns-in_err-text-clause-told g c =
     let name = c.args.name.now in
     let site = c.args.site in
     let b = c.args.is_attribute in
-    passes (λ x. x) (λ x. x) _ _
+    passes (λ t. cow_str_bytes {Z = Global} t) (λ x. x) _ _
     (λ text m. and_then (namespace_steps w site f vs name.namespace m) (λ uri n. outcome_steps site (result_name name.scope b uri text) n))
-    (g.R.Tally.state c.template.new.tally) c.from_residual.result _ _ refl
+    (g.R.Tally.state c.lend_template.new.tally) c.from_residual.result _ _ refl
     (λ text m. grows-then m (namespace_steps w site f vs name.namespace m) (λ uri n. outcome_steps site (result_name name.scope b uri text) n)
     (namespace-grows w site f vs name.namespace m) (λ uri. outcome-grows site (result_name name.scope b uri text))) p.1 p.2 c.in_err-text.ensures.told
 
@@ -32,8 +34,8 @@ returns-in_err-uri-clause-told g c =
     let name = c.args.name.now in
     let site = c.args.site in
     let b = c.args.is_attribute in
-    let text = c.in_ok-text.text in
-    passes (λ x. x) (λ x. x) _ (namespace_steps w site f vs name.namespace (g.R.Tally.state c.template.new.tally))
+    let text = cow_str_bytes c.in_ok-text.text in
+    passes (λ x. x) (λ x. x) _ (namespace_steps w site f vs name.namespace (g.R.Tally.state c.lend_template.new.tally))
     (λ uri n. outcome_steps site (result_name name.scope b uri text) n) (g.R.Tally.state c.namespace.new.recorder)
     c.from_residual-in_err-uri.result _ _
     (ap (λ h. and_then h (λ t m. and_then (namespace_steps w site f vs name.namespace m) (λ uri n. outcome_steps site (result_name name.scope b uri t) n)))

@@ -1,4 +1,6 @@
 use Rattle.std.proofs.Common.{refl}
+use Rattle.std.specs.Cow.{cow_str_bytes}
+use Rattle.std.specs.declared.alloc.Global.{Global}
 use Rattle.std.proofs.lemmas.Result.{err_from_is_err_and}
 use Rattle.xs_trace.proofs.GrowthLemmas.{passes}
 use Rattle.xs_semantics.specs.Making.{attribute_label}
@@ -10,5 +12,6 @@ pub returns-in_err-value-clause-told : goal.returns-in_err-value-clause-told
 returns-in_err-value-clause-told g c =
     let p = err_from_is_err_and c.from_residual.result c.from_residual.ensures.1 in
     let name = attribute_label c.args.self.now.world.sheet.aliases c.args.attribute.now.0 in
-    passes (λ x. x) (λ x. x) _ _ (λ text m. named_steps c.args.site name text m) (g.R.Tally.state c.template.new.tally) c.from_residual.result _ _ refl
+    passes (λ t. cow_str_bytes {Z = Global} t) (λ x. x) _ _ (λ text m. named_steps c.args.site name text m) (g.R.Tally.state c.lend_template.new.tally)
+    c.from_residual.result _ _ refl
     (λ text. named-grows c.args.site name text) p.1 p.2 c.in_err-value.ensures.told

@@ -4,9 +4,10 @@ use Rattle.std.proofs.lemmas.Option.{slice_get-map, slice_get_read}
 use Rattle.xs_xpath.specs.declared.expr.Expr.{Expr}
 use Rattle.xs_xpath.specs.Exprs.{tree_from}
 use Rattle.xs_xpath.specs.Tree.{Tree}
+use Rattle.xs_rules.specs.declared.lists.Entry.{Entry}
 use Rattle.xs_rules.specs.Rules.{candidate}
-use Rattle.xs_rules.specs.steps.Index.{IsIndexed, key_data}
-use Rattle.xs_rules.specs.steps.Lists.{found_in}
+use Rattle.xs_rules.specs.steps.Index.{IsIndexed}
+use Rattle.xs_rules.specs.steps.Lists.{named_in, unnamed_in}
 use Rattle.xs_rules.proofs.IndexLemmas.{alternative-more}
 use Rattle.xs_rules.proofs.lists.Lists.add_pattern.Goals as goal
 
@@ -14,16 +15,17 @@ pub loop-place-preserved : goal.loop-place-preserved
 loop-place-preserved c = λ ts cs of_number of_pattern i.
     let es : List Expr = c.alternatives-alternatives.result.now in
     let e : Expr = c.index-alternatives-place.result in
+    let n : Entry =
+    record { template = c.args.number; alternative = c.loop-place.place; rank = c.rank_of-rank.result; is_certain = c.is_certain-is_certain.result } in
     let read : slice_get es c.loop-place.place ≡ Some e =
     slice_get_read es (length es) c.loop-place.place e refl (omega (arith, c.loop-place-test.true)) c.index-alternatives-place.is in
     let of_place : slice_get c.args.pattern.now.pattern c.loop-place.place ≡ Some (tree_from e) =
     subst (λ xs. slice_get xs c.loop-place.place ≡ Some (tree_from e)) c.alternatives-alternatives.ensures
     (slice_get-map tree_from es c.loop-place.place ∙ ap (option_map tree_from) read) in
-    alternative-more ts cs c.args.number c.loop-place.place c.args.template.now c.args.pattern.now (tree_from e)
-    c.rank_of-rank.result (key_data c.key_of-key.result) c.loop-place.self.entries.items
-    c.add.new.self.entries.items (found_in c.loop-place.self.last) (found_in c.add.new.self.last)
-    (c.loop-place.invariant ts cs of_number of_pattern i) of_number of_pattern of_place c.rank_of-rank.ensures c.key_of-key.ensures c.in_ok-add.ensures.entries
-    c.in_ok-add.ensures.found
+    alternative-more ts cs c.loop-place.place c.args.template.now c.args.pattern.now (tree_from e) n c.loop-place.self.entries.items
+    c.add.new.self.entries.items (named_in c.loop-place.self.named) (named_in c.add.new.self.named) (unnamed_in c.loop-place.self.unnamed)
+    (unnamed_in c.add.new.self.unnamed) (c.loop-place.invariant ts cs of_number of_pattern i) of_number of_pattern of_place refl c.rank_of-rank.ensures
+    c.is_certain-is_certain.ensures c.in_ok-add.ensures.entries c.in_ok-add.ensures.named c.in_ok-add.ensures.unnamed
 
 pub returns : goal.returns
 returns c = record {
@@ -33,6 +35,6 @@ returns c = record {
       sym (length-map c.alternatives-alternatives.result.now tree_from) ∙ ap length c.alternatives-alternatives.ensures in
       let all : length es ≤ c.loop-place.place = omega (arith, c.loop-place-test.false, same) in
       subst (λ xs. IsIndexed ts (cs ++ map (candidate c.args.number c.args.template.now c.args.pattern.now) xs)
-      c.loop-place.self.entries.items (found_in c.loop-place.self.last)) (take_all c.loop-place.place es all)
+      c.loop-place.self.entries.items (named_in c.loop-place.self.named) (unnamed_in c.loop-place.self.unnamed)) (take_all c.loop-place.place es all)
       (c.loop-place.invariant ts cs of_number of_pattern i);
 }

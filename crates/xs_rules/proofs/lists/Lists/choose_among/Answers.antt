@@ -1,4 +1,4 @@
-use Rattle.std.proofs.Common.{◌≡◌, ◌<◌, ℕ, Bool, List, Option, Some, ap, arith, length, map, refl, slice_get, subst, sym, ◌∙◌}
+use Rattle.std.proofs.Common.{◌≡◌, ◌+◌, ◌<◌, List, Option, Some, ap, arith, length, refl, reverse, slice_get, subst, sym, ◌∙◌}
 use Rattle.std.proofs.lemmas.Option.{slice_get_read}
 use Rattle.std.specs.Vec.{vec_len}
 use Rattle.xs_tree.specs.Record.{at}
@@ -6,120 +6,125 @@ use Rattle.xs_rules.specs.declared.lists.Entry.{Entry}
 use Rattle.xs_rules.specs.declared.tables.RuleTable.{RuleTable}
 use Rattle.xs_rules.specs.Rules.{Candidate, candidates}
 use Rattle.xs_rules.specs.steps.Candidates.{passes, rule_of_best}
-use Rattle.xs_rules.specs.steps.Index.{IsTableOf, Key, any_key, at_entry, has_key, key_data, key_of, later, moved_back, node_key}
-use Rattle.xs_rules.specs.steps.Lists.{found_in}
-use Rattle.xs_rules.proofs.ChainLemmas.{above}
-use Rattle.xs_rules.proofs.IndexLemmas.{complete, entry-rank, index-inside, index-less, index-step}
-use Rattle.xs_rules.proofs.SearchLemmas.{IsSearched, search-end, search-none}
+use Rattle.xs_rules.specs.steps.Index.{IsTableOf, at_entry, is_unnamed, later, passed, passes_at}
+use Rattle.xs_rules.specs.steps.Lists.{named_in, unnamed_in}
+use Rattle.xs_rules.proofs.IndexLemmas.{IsNodeSearched, complete, entry-rank, index-certain, index-inside, index-step, named-list, unnamed-list}
+use Rattle.xs_rules.proofs.KeyLemmas.{named_for}
+use Rattle.xs_rules.proofs.PlaceLemmas.{next-less}
+use Rattle.xs_rules.proofs.SearchLemmas.{search-end, search-none}
 use Rattle.xs_rules.proofs.lists.Lists.choose_among.Goals as goal
 
 pub loop-place-init : goal.loop-place-init
 loop-place-init g c =
     let p = passes c.args.looked (g.K.KeyFinder.tables c.args.keys.now) c.args.tree.now c.args.mode c.args.node in
-    let cs = candidates c.args.templates.now in
-    let found : Key → Option ℕ = found_in c.args.self.now.last in
-    let own : Key = node_key c.args.mode (at c.args.tree.now c.args.node) in
-    let named : c.last_of-named.result ≡ found (key_data c.node_key.result) = c.last_of-named.ensures in
-    let unnamed : c.last_of-unnamed.result ≡ found (key_data c.any_key.result) = c.last_of-unnamed.ensures in
-    search-none p cs (has_key (map key_of cs) own) (has_key (map key_of cs) (any_key c.args.mode)) c.last_of-named.result c.last_of-unnamed.result
-    (named ∙ ap found c.node_key.ensures ∙ c.requires.indexed.last_is own)
-    (unnamed ∙ ap found c.any_key.ensures ∙ c.requires.indexed.last_is (any_key c.args.mode))
+    let ts = c.args.templates.now in
+    let cs = candidates ts in
+    let es = c.args.self.now.entries.items in
+    let names = named_in c.args.self.now.named in
+    let kinds = unnamed_in c.args.self.now.unnamed in
+    let r = at c.args.tree.now c.args.node in
+    search-none p cs (passes_at (named_for c.args.mode r) cs) (passes_at (is_unnamed c.args.mode r.kind) cs) (reverse c.named_for-named.result.now)
+    (reverse c.unnamed_for-unnamed.result.now)
+    (named-list ts cs es names kinds c.args.mode r c.named_for-named.result.now c.requires.indexed c.named_for-named.ensures)
+    (unnamed-list ts cs es names kinds c.args.mode r.kind c.unnamed_for-unnamed.result.now c.requires.indexed
+    (c.unnamed_for-unnamed.ensures ∙ ap (kinds c.args.mode) c.kind.ensures.kind))
 
 pub index-entry-requires : goal.index-entry-requires
 index-entry-requires g c =
-    let p = passes c.args.looked (g.K.KeyFinder.tables c.args.keys.now) c.args.tree.now c.args.mode c.args.node in
     let cs = candidates c.args.templates.now in
     let inside : c.in-Some.place < length c.args.self.now.entries.items =
-    index-inside p c.args.templates.now cs c.args.self.now.entries.items (found_in c.args.self.now.last)
-    (has_key (map key_of cs) (node_key c.args.mode (at c.args.tree.now c.args.node))) (has_key (map key_of cs) (any_key c.args.mode))
-    c.loop-place.named c.loop-place.unnamed c.loop-place.best c.in-Some.place c.requires.indexed c.loop-place.invariant
-    (sym c.later.ensures ∙ c.in-Some.is) in
+    index-inside c.args.looked (g.K.KeyFinder.tables c.args.keys.now) c.args.tree.now c.args.mode c.args.node c.args.templates.now cs
+    c.args.self.now.entries.items (named_in c.args.self.now.named) (unnamed_in c.args.self.now.unnamed) (reverse c.loop-place.named.now)
+    (reverse c.loop-place.unnamed.now) c.loop-place.best c.in-Some.place c.requires.indexed c.loop-place.invariant (sym c.later.ensures ∙ c.in-Some.is) in
     let long : vec_len c.args.self.now.entries ≡ length c.args.self.now.entries.items = c.args.self.now.entries.ok.0 in
     omega (arith, inside, long)
 
-pub best_at-requires-clause-table : goal.best_at-requires-clause-table
-best_at-requires-clause-table g c κs within =
-    let p : Candidate → Bool = passes c.args.looked (g.K.KeyFinder.tables c.args.keys.now) c.args.tree.now c.args.mode c.args.node in
+pub best_of_entry-requires-clause-table : goal.best_of_entry-requires-clause-table
+best_of_entry-requires-clause-table g c κs within =
     let cs : List Candidate = candidates c.args.templates.now in
     let entry : Entry = c.index-entry.result.now in
     let inside : c.in-Some.place < length c.args.self.now.entries.items =
-    index-inside p c.args.templates.now cs c.args.self.now.entries.items (found_in c.args.self.now.last)
-    (has_key (map key_of cs) (node_key c.args.mode (at c.args.tree.now c.args.node))) (has_key (map key_of cs) (any_key c.args.mode))
-    c.loop-place.named c.loop-place.unnamed c.loop-place.best c.in-Some.place c.requires.indexed c.loop-place.invariant
-    (sym c.later.ensures ∙ c.in-Some.is) in
+    index-inside c.args.looked (g.K.KeyFinder.tables c.args.keys.now) c.args.tree.now c.args.mode c.args.node c.args.templates.now cs
+    c.args.self.now.entries.items (named_in c.args.self.now.named) (unnamed_in c.args.self.now.unnamed) (reverse c.loop-place.named.now)
+    (reverse c.loop-place.unnamed.now) c.loop-place.best c.in-Some.place c.requires.indexed c.loop-place.invariant (sym c.later.ensures ∙ c.in-Some.is) in
     let read : slice_get c.args.self.now.entries.items c.in-Some.place ≡ Some entry =
     slice_get_read c.args.self.now.entries.items (length c.args.self.now.entries.items) c.in-Some.place entry refl inside c.index-entry.ensures in
     subst (λ (o : Option RuleTable). IsTableOf c.args.tree.now (at_entry c.args.templates.now entry) o) (sym c.table_at-table.ensures)
     (c.requires.rule_tables.each c.in-Some.place entry read)
 
-pub best_at-requires-clause-rank : goal.best_at-requires-clause-rank
-best_at-requires-clause-rank g c κs within =
-    let p : Candidate → Bool = passes c.args.looked (g.K.KeyFinder.tables c.args.keys.now) c.args.tree.now c.args.mode c.args.node in
+pub best_of_entry-requires-clause-rank : goal.best_of_entry-requires-clause-rank
+best_of_entry-requires-clause-rank g c κs within =
     let cs : List Candidate = candidates c.args.templates.now in
     let entry : Entry = c.index-entry.result.now in
     let inside : c.in-Some.place < length c.args.self.now.entries.items =
-    index-inside p c.args.templates.now cs c.args.self.now.entries.items (found_in c.args.self.now.last)
-    (has_key (map key_of cs) (node_key c.args.mode (at c.args.tree.now c.args.node))) (has_key (map key_of cs) (any_key c.args.mode))
-    c.loop-place.named c.loop-place.unnamed c.loop-place.best c.in-Some.place c.requires.indexed c.loop-place.invariant
-    (sym c.later.ensures ∙ c.in-Some.is) in
+    index-inside c.args.looked (g.K.KeyFinder.tables c.args.keys.now) c.args.tree.now c.args.mode c.args.node c.args.templates.now cs
+    c.args.self.now.entries.items (named_in c.args.self.now.named) (unnamed_in c.args.self.now.unnamed) (reverse c.loop-place.named.now)
+    (reverse c.loop-place.unnamed.now) c.loop-place.best c.in-Some.place c.requires.indexed c.loop-place.invariant (sym c.later.ensures ∙ c.in-Some.is) in
     let read : slice_get c.args.self.now.entries.items c.in-Some.place ≡ Some entry =
     slice_get_read c.args.self.now.entries.items (length c.args.self.now.entries.items) c.in-Some.place entry refl inside c.index-entry.ensures in
-    entry-rank c.args.templates.now cs c.args.self.now.entries.items (found_in c.args.self.now.last) c.in-Some.place entry c.requires.indexed read
+    entry-rank c.args.templates.now cs c.args.self.now.entries.items (named_in c.args.self.now.named) (unnamed_in c.args.self.now.unnamed) c.in-Some.place
+    entry c.requires.indexed read
+
+pub best_of_entry-requires-clause-certain : goal.best_of_entry-requires-clause-certain
+best_of_entry-requires-clause-certain g c κs within = λ sure.
+    let keys = g.K.KeyFinder.tables c.args.keys.now in
+    let cs : List Candidate = candidates c.args.templates.now in
+    let es : List Entry = c.args.self.now.entries.items in
+    let names = named_in c.args.self.now.named in
+    let kinds = unnamed_in c.args.self.now.unnamed in
+    let entry : Entry = c.index-entry.result.now in
+    let l : later (reverse c.loop-place.named.now) (reverse c.loop-place.unnamed.now) ≡ Some c.in-Some.place = sym c.later.ensures ∙ c.in-Some.is in
+    let inside : c.in-Some.place < length es =
+    index-inside c.args.looked keys c.args.tree.now c.args.mode c.args.node c.args.templates.now cs es names kinds (reverse c.loop-place.named.now)
+    (reverse c.loop-place.unnamed.now) c.loop-place.best c.in-Some.place c.requires.indexed c.loop-place.invariant l in
+    let read : slice_get es c.in-Some.place ≡ Some entry = slice_get_read es (length es) c.in-Some.place entry refl inside c.index-entry.ensures in
+    index-certain c.args.looked keys c.args.tree.now c.args.mode c.args.node c.args.templates.now cs es names kinds (reverse c.loop-place.named.now)
+    (reverse c.loop-place.unnamed.now) c.loop-place.best c.in-Some.place entry c.len-count.ensures.tree c.requires.node c.requires.indexed
+    c.loop-place.invariant l read sure
 
 pub loop-place-smaller : goal.loop-place-smaller
 loop-place-smaller g c =
-    let keys = g.K.KeyFinder.tables c.args.keys.now in
-    let p : Candidate → Bool = passes c.args.looked keys c.args.tree.now c.args.mode c.args.node in
-    let cs : List Candidate = candidates c.args.templates.now in
-    let own : ℕ → Bool = has_key (map key_of cs) (node_key c.args.mode (at c.args.tree.now c.args.node)) in
-    let any : ℕ → Bool = has_key (map key_of cs) (any_key c.args.mode) in
-    let entry : Entry = c.index-entry.result.now in
-    let l : later c.loop-place.named c.loop-place.unnamed ≡ Some c.in-Some.place = sym c.later.ensures ∙ c.in-Some.is in
-    let inside : c.in-Some.place < length c.args.self.now.entries.items =
-    index-inside p c.args.templates.now cs c.args.self.now.entries.items (found_in c.args.self.now.last) own any c.loop-place.named c.loop-place.unnamed
-    c.loop-place.best c.in-Some.place c.requires.indexed c.loop-place.invariant l in
-    let read : slice_get c.args.self.now.entries.items c.in-Some.place ≡ Some entry =
-    slice_get_read c.args.self.now.entries.items (length c.args.self.now.entries.items) c.in-Some.place entry refl inside c.index-entry.ensures in
-    let less : above (later (moved_back c.loop-place.named c.in-Some.place entry.previous) (moved_back c.loop-place.unnamed c.in-Some.place entry.previous))
-    < above (later c.loop-place.named c.loop-place.unnamed) =
-    index-less c.args.templates.now cs c.args.self.now.entries.items (found_in c.args.self.now.last) c.loop-place.named c.loop-place.unnamed c.in-Some.place
-    entry c.requires.indexed l read in
-    subst (λ x. above (later x c.moved_back-unnamed.result) < above (later c.loop-place.named c.loop-place.unnamed)) (sym c.moved_back-named.ensures)
-    (subst (λ y. above (later (moved_back c.loop-place.named c.in-Some.place entry.previous) y) < above (later c.loop-place.named c.loop-place.unnamed))
-    (sym c.moved_back-unnamed.ensures) less)
+    let named = reverse c.loop-place.named.now in
+    let unnamed = reverse c.loop-place.unnamed.now in
+    let j = c.in-Some.place in
+    let less : length (passed j named) + length (passed j unnamed) < length named + length unnamed =
+    next-less named unnamed j (sym c.later.ensures ∙ c.in-Some.is) in
+    subst (λ x. length x + length (reverse c.without-unnamed.result.now) < length named + length unnamed) (sym c.without-named.ensures)
+    (subst (λ y. length (passed j named) + length y < length named + length unnamed) (sym c.without-unnamed.ensures) less)
 
 pub loop-place-preserved : goal.loop-place-preserved
 loop-place-preserved g c =
     let keys = g.K.KeyFinder.tables c.args.keys.now in
-    let p : Candidate → Bool = passes c.args.looked keys c.args.tree.now c.args.mode c.args.node in
     let cs : List Candidate = candidates c.args.templates.now in
-    let own : ℕ → Bool = has_key (map key_of cs) (node_key c.args.mode (at c.args.tree.now c.args.node)) in
-    let any : ℕ → Bool = has_key (map key_of cs) (any_key c.args.mode) in
+    let es : List Entry = c.args.self.now.entries.items in
+    let names = named_in c.args.self.now.named in
+    let kinds = unnamed_in c.args.self.now.unnamed in
     let entry : Entry = c.index-entry.result.now in
-    let l : later c.loop-place.named c.loop-place.unnamed ≡ Some c.in-Some.place = sym c.later.ensures ∙ c.in-Some.is in
-    let inside : c.in-Some.place < length c.args.self.now.entries.items =
-    index-inside p c.args.templates.now cs c.args.self.now.entries.items (found_in c.args.self.now.last) own any c.loop-place.named c.loop-place.unnamed
-    c.loop-place.best c.in-Some.place c.requires.indexed c.loop-place.invariant l in
-    let read : slice_get c.args.self.now.entries.items c.in-Some.place ≡ Some entry =
-    slice_get_read c.args.self.now.entries.items (length c.args.self.now.entries.items) c.in-Some.place entry refl inside c.index-entry.ensures in
-    subst (λ x. IsSearched p cs own any x c.moved_back-unnamed.result c.in_ok-best.best) (sym c.moved_back-named.ensures)
-    (subst (λ y. IsSearched p cs own any (moved_back c.loop-place.named c.in-Some.place entry.previous) y c.in_ok-best.best)
-    (sym c.moved_back-unnamed.ensures)
-    (index-step c.args.looked keys c.args.tree.now c.args.mode c.args.node c.args.templates.now cs c.args.self.now.entries.items
-    (found_in c.args.self.now.last) c.loop-place.named c.loop-place.unnamed c.loop-place.best c.in_ok-best.best c.in-Some.place entry
-    c.len-count.ensures.tree c.requires.node c.requires.indexed c.loop-place.invariant l read c.in_ok-best.ensures.best))
+    let l : later (reverse c.loop-place.named.now) (reverse c.loop-place.unnamed.now) ≡ Some c.in-Some.place = sym c.later.ensures ∙ c.in-Some.is in
+    let inside : c.in-Some.place < length es =
+    index-inside c.args.looked keys c.args.tree.now c.args.mode c.args.node c.args.templates.now cs es names kinds (reverse c.loop-place.named.now)
+    (reverse c.loop-place.unnamed.now) c.loop-place.best c.in-Some.place c.requires.indexed c.loop-place.invariant l in
+    let read : slice_get es c.in-Some.place ≡ Some entry = slice_get_read es (length es) c.in-Some.place entry refl inside c.index-entry.ensures in
+    subst (λ x. IsNodeSearched c.args.looked keys c.args.tree.now c.args.mode c.args.node cs x (reverse c.without-unnamed.result.now) c.in_ok-best.best)
+    (sym c.without-named.ensures)
+    (subst (λ y. IsNodeSearched c.args.looked keys c.args.tree.now c.args.mode c.args.node cs (passed c.in-Some.place (reverse c.loop-place.named.now)) y
+    c.in_ok-best.best) (sym c.without-unnamed.ensures)
+    (index-step c.args.looked keys c.args.tree.now c.args.mode c.args.node c.args.templates.now cs es names kinds (reverse c.loop-place.named.now)
+    (reverse c.loop-place.unnamed.now) c.loop-place.best c.in_ok-best.best c.in-Some.place entry c.len-count.ensures.tree c.requires.node c.requires.indexed
+    c.loop-place.invariant l read c.in_ok-best.ensures.best))
 
 pub returns : goal.returns
 returns g c =
     let keys = g.K.KeyFinder.tables c.args.keys.now in
     let p = passes c.args.looked keys c.args.tree.now c.args.mode c.args.node in
     let cs = candidates c.args.templates.now in
+    let r = at c.args.tree.now c.args.node in
     record {
       chosen =
           c.rule_of_best.ensures
           ∙ ap rule_of_best
-          (search-end p cs (has_key (map key_of cs) (node_key c.args.mode (at c.args.tree.now c.args.node)))
-          (has_key (map key_of cs) (any_key c.args.mode)) c.loop-place.named c.loop-place.unnamed c.loop-place.best
+          (search-end p cs (passes_at (named_for c.args.mode r) cs) (passes_at (is_unnamed c.args.mode r.kind) cs) (reverse c.loop-place.named.now)
+          (reverse c.loop-place.unnamed.now) c.loop-place.best
           (complete c.args.looked keys c.args.tree.now c.args.mode c.args.node cs c.len-count.ensures.tree c.requires.node) c.loop-place.invariant
           (sym c.later.ensures ∙ c.in_default.is));
     }

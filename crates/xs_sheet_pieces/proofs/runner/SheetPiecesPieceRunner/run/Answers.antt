@@ -1,3 +1,5 @@
+use mir.Syntax.{named}
+use Rattle.xs_sheet_pieces.proofs.SyncLemmas.{finder_sync}
 use Rattle.std.proofs.Common.{ℕ, ◌≤◌, subst}
 use Rattle.xs_block.specs.Chain.{most_blocks}
 use Rattle.xs_sheet_pieces.proofs.PieceLemmas.{blocks-adopted, free-adopted, piece-ran}
@@ -21,3 +23,6 @@ returns-clause-free g c =
     free-adopted c.adopt-outcome.result c.run-outcome.result.outcome c.args.desk.pool c.run-outcome.result.pool c.adopt-outcome.new.pool
     (subst (λ (n : ℕ). n ≤ most_blocks) c.free_blocks-free.ensures.free c.free_blocks-free.ensures.most) c.run-outcome.ensures.blocks
     c.run-outcome.ensures.free c.adopt-outcome.ensures.free
+
+pub run-outcome-requires-sync-K : goal.run-outcome-requires-sync-K
+run-outcome-requires-sync-K g c κs = λ _. search (finder_sync (record { mir = named 4; lft = κs.1.1.1.1.0 }))

@@ -4,6 +4,7 @@
 use Rattle.std.specs.Prelude.{ℕ, ◌&&◌, Bool, true, false, List, [], ◌∷◌, reverse, if◌then◌else◌}
 use Rattle.std.specs.List.{list_any}
 use Rattle.std.specs.Option.{option_map_or}
+use Rattle.xs_sheet.specs.declared.scoped.ScopedPattern.{ScopedPattern}
 use Rattle.xs_tree.specs.declared.axes.Axis.{Axis}
 use Rattle.xs_tree.specs.declared.axes.Axis.TheVariants.{AncestorOrSelf}
 use Rattle.xs_tree.specs.Axis.{axis_list}
@@ -15,7 +16,7 @@ use Rattle.xs_xpath.specs.Tree.{Tree, number, literal, variable, call, negative,
 use Rattle.xs_eval.specs.Context.{Context, at_node}
 use Rattle.xs_eval.specs.Evaluation.{run_of_tree, runs_of_trees}
 use Rattle.xs_eval.specs.Paths.{Meaning, tested}
-use Rattle.xs_pattern.specs.Predicates.{all_kept, is_among, nodes_given}
+use Rattle.xs_matching.specs.Predicates.{all_kept, is_among, nodes_given}
 
 -- the context in which a pattern is gone over: the node that is tried, under the namespace declarations in scope for the pattern.
 -- A pattern has no variables, and does not call `current` (5.3 and 12.4).
@@ -81,3 +82,7 @@ matches_path keys c e = ends_path keys c (start_of e) (reverse (steps_of e)) c.n
 -- whether the node at n matches a pattern, by its alternatives
 unfoldable pub matches : List Table → List Record → (scope : List (List ℕ × List ℕ)) → (alternatives : List Tree) → ℕ → Bool
 matches keys rs scope alternatives n = list_any (matches_path keys (pattern_context rs scope n)) alternatives
+
+-- the same of a pattern of a stylesheet
+abbrev pub is_match : List Table → List Record → ScopedPattern → ℕ → Bool
+is_match keys rs p n = matches keys rs p.scope p.pattern n

@@ -1,6 +1,6 @@
 -- The numbers that an instruction counts for a node (XSLT 1.0, 7.7), by the patterns of its declaration.
 use Rattle.std.specs.Prelude.{ℕ, Bool, false, List, Option, Some, None}
-use Rattle.xs_marks.specs.Matches.{is_match}
+use Rattle.xs_matching.specs.Matching.{is_match}
 use Rattle.xs_numbering.specs.Counting.{any_number, is_alike, list_at, sibling_number}
 use Rattle.xs_numbering.specs.declared.tables.Level.{Level}
 use Rattle.xs_numbering.specs.declared.tables.Level.TheVariants as level
