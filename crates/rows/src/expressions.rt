@@ -2,7 +2,6 @@
 
 mod answers;
 mod calls;
-mod documents;
 mod evaluated;
 pub(crate) mod files;
 mod matched;
@@ -10,8 +9,7 @@ mod names;
 mod numbers;
 mod parsed;
 mod settings;
-mod shown;
+pub(crate) mod shown;
 mod strings;
 mod tables;
-mod texts;
 mod values;

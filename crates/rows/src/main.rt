@@ -11,6 +11,7 @@ mod reading;
 mod repeats;
 mod runs;
 mod stylesheets;
+mod texts;
 
 use answer::Answer;
 use std::io::Write;
@@ -20,16 +21,17 @@ use std::{env, fs, io};
 
 // Writes the row files that the arguments name.
 fn main(rt: HostRuntime) -> io::Result<()> {
-    let mut out = Answer::new(rt.alloc());
+    let out = Answer::new(rt.alloc());
     for name in env::args(&rt)?.skip(1) {
-        put_file(&mut out, &rt, name.as_str());
+        put_file(&out, &rt, name.as_str());
     }
-    io::writer(&rt).write_all(out.text()?)
+    io::writer(&rt).write_all(&out.finish()?)
 }
 
 // Writes a row file, after a line with its name.
-fn put_file<R: Files + Threads + Sync + AllocGlobal>(out: &mut Answer, rt: &R, name: &str) {
-    out.put_in("== ", name, "\n");
+fn put_file<R: Files + Threads + Sync + AllocGlobal>(out: &Answer, rt: &R, name: &str) {
+    out.put("== ");
+    out.put_line(name);
     match fs::read_to_string(rt, name) {
         Ok(file) => put_rows(out, rt, name, file.as_str()),
         Err(_) => out.put("no such file\n"),
@@ -37,16 +39,11 @@ fn put_file<R: Files + Threads + Sync + AllocGlobal>(out: &mut Answer, rt: &R, n
 }
 
 // Writes the rows of a file: its folder says what they are about.
-fn put_rows<R: Files + Threads + Sync + AllocGlobal>(
-    out: &mut Answer,
-    rt: &R,
-    name: &str,
-    file: &str,
-) {
+fn put_rows<R: Files + Threads + Sync + AllocGlobal>(out: &Answer, rt: &R, name: &str, file: &str) {
     match name.split_once('/') {
-        Some(("reading", _)) => reading::files::put_rows(out, rt.alloc(), file),
+        Some(("reading", _)) => reading::files::put_rows(out, file),
         Some(("expressions", _)) => expressions::files::put_rows(out, rt, file),
-        Some(("stylesheets", _)) => stylesheets::files::put_rows(out, rt.alloc(), file),
-        _ => runs::files::put_rows(out, rt, rt.alloc(), file),
+        Some(("stylesheets", _)) => stylesheets::files::put_rows(out, file),
+        _ => runs::files::put_rows(out, rt, file),
     }
 }

@@ -7,4 +7,3 @@ pub(crate) mod files;
 mod parts;
 mod replies;
 mod setup;
-mod texts;

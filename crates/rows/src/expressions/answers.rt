@@ -10,7 +10,7 @@ use crate::fields::cut;
 use crate::lookups::value_named;
 
 /// Adds the answer of a row, whose first word is its call.
-pub(crate) fn add_answer(out: &mut Answer, settings: &Settings, input: &str) {
+pub(crate) fn add_answer(out: &Answer, settings: &Settings, input: &str) {
     let (name, rest) = cut(input, " ");
     let Some((subject, call)) = value_named(CALLS, name) else {
         return out.put("no such call");
@@ -18,18 +18,13 @@ pub(crate) fn add_answer(out: &mut Answer, settings: &Settings, input: &str) {
     match subject {
         Subject::Evaluated => evaluated::add_answer(out, settings, *call, rest),
         Subject::Parsed(form) => parsed::add_answer(out, settings, *form, *call, rest),
-        Subject::Found => add_found(out, settings, *call, rest),
+        Subject::Found => match call {
+            Call::Axis => put_axis(out, settings, rest),
+            Call::Uri => put_uri(out, &settings.scope, rest),
+            _ => put_found(out, &settings.scope, rest),
+        },
         Subject::Values => values::add_answer(out, settings, *call, rest),
         Subject::Numbers => numbers::add_answer(out, *call, rest),
         Subject::Strings => strings::add_answer(out, *call, rest),
-    }
-}
-
-// Adds the answer of a call with a scope or an axis.
-fn add_found(out: &mut Answer, settings: &Settings, call: Call, rest: &str) {
-    match call {
-        Call::Axis => put_axis(out, settings, rest),
-        Call::Uri => put_uri(out, &settings.scope, rest),
-        _ => put_found(out, &settings.scope, rest),
     }
 }

@@ -5,14 +5,13 @@ ghost use Rattle.std.specs.List.{All};
 ghost use Rattle.xs_eval.specs.Conditions.{IsContext, IsInIf};
 ghost use Rattle.xs_value.specs.Conversion.{IsIn};
 
-use crate::answer::Answer;
+use crate::answer::{Answer, text_of};
 use crate::expressions::calls::Call;
 use crate::expressions::parsed::{Form, Parsed, parse, put_fault};
 use crate::expressions::settings::Settings;
 use crate::expressions::values::show_value;
 use crate::fields::{cut, whole};
 use crate::lookups::value_named;
-use std::alloc::Global;
 use xs_eval::context::Context;
 use xs_eval::evaluate::evaluate;
 use xs_eval::templates::evaluate_avt;
@@ -65,7 +64,7 @@ fn are_in_if(tree: &Tree, values: &[Option<Value>]) -> bool
 }
 
 // Adds how an evaluation without a value ended.
-fn put_halt(out: &mut Answer, halt: Halt) {
+fn put_halt(out: &Answer, halt: Halt) {
     let end = match halt {
         Halt::Fault(fault, _) => return out.put_count("fault ", fault.number() as u64),
         Halt::Needs(global, _) => return out.put_count("needs ", global as u64),
@@ -79,7 +78,7 @@ fn put_halt(out: &mut Answer, halt: Halt) {
 
 // Adds the end of an evaluation at the node at a place, under a limit of ticks, and says how many
 // it took.
-fn put_end(out: &mut Answer, settings: &Settings, parsed: &Parsed, place: u32, limit: u64) -> u64 {
+fn put_end(out: &Answer, settings: &Settings, parsed: &Parsed, place: u32, limit: u64) -> u64 {
     let tree: &Tree = &settings.tree;
     let is_there = (place as usize) < tree.len() && (settings.current as usize) < tree.len();
     if !is_there || !are_in(tree, &settings.locals) || !are_in_if(tree, &settings.globals) {
@@ -101,18 +100,18 @@ fn put_end(out: &mut Answer, settings: &Settings, parsed: &Parsed, place: u32, l
         spent: 0,
     };
     match parsed {
-        Parsed::Expression(expr) => put_value(out, settings.alloc, expr, &context, &mut meter),
-        Parsed::Template(parts) => put_text(out, settings.alloc, parts, &context, &mut meter),
+        Parsed::Expression(expr) => put_value(out, expr, &context, &mut meter),
+        Parsed::Template(parts) => put_text(out, parts, &context, &mut meter),
         Parsed::Pattern(_) => out.put("a pattern has no value"),
     }
     meter.spent
 }
 
 // Adds the value of an expression, or how it ended without one.
-fn put_value(out: &mut Answer, alloc: Global, expr: &Expr, context: &Context<'_>, meter: &mut Meter)
+fn put_value(out: &Answer, expr: &Expr, context: &Context<'_>, meter: &mut Meter)
     requires { IsContext [] context.now }
 {
-    match evaluate(alloc, expr, context, &NoKeys, SITE, meter) {
+    match evaluate(out.alloc, expr, context, &NoKeys, SITE, meter) {
         Ok(value) => {
             show_value(out, context.tree, &value);
             drop(value);
@@ -122,43 +121,37 @@ fn put_value(out: &mut Answer, alloc: Global, expr: &Expr, context: &Context<'_>
 }
 
 // Adds the text of a value template, or how it ended without one.
-fn put_text(
-    out: &mut Answer,
-    alloc: Global,
-    parts: &[AvtPart],
-    context: &Context<'_>,
-    meter: &mut Meter,
-)
+fn put_text(out: &Answer, parts: &[AvtPart], context: &Context<'_>, meter: &mut Meter)
     requires { IsContext [] context.now }
 {
-    match evaluate_avt(alloc, parts, context, &NoKeys, SITE, meter) {
-        Ok(text) => out.put_in("'", text.as_str(), "'"),
+    match evaluate_avt(out.alloc, parts, context, &NoKeys, SITE, meter) {
+        Ok(text) => out.put_quoted(text.as_str()),
         Err(halt) => put_halt(out, halt),
     }
 }
 
 // Whether an evaluation under a limit spends it and has this end.
 fn ends_so(
-    out: &mut Answer,
+    out: &Answer,
     settings: &Settings,
     parsed: &Parsed,
     place: u32,
     limit: u64,
     end: &[u8],
 ) -> bool {
-    let mut found = Answer::new(settings.alloc);
-    let ticks = put_end(&mut found, settings, parsed, place, limit);
-    found.held(out) == end && ticks == limit
+    let found = Answer::new(settings.alloc);
+    let ticks = put_end(&found, settings, parsed, place, limit);
+    found.into_bytes(out).as_slice() == end && ticks == limit
 }
 
 // Adds the end of an evaluation under an ample limit, and says its ticks. Where it ends otherwise
 // under a limit of just these ticks, or not as spent under one tick less, it adds this too.
-fn put_tried(out: &mut Answer, settings: &Settings, parsed: &Parsed, place: u32) -> u64 {
-    let mut end = Answer::new(settings.alloc);
-    let ticks = put_end(&mut end, settings, parsed, place, AMPLE);
-    let end = end.held(out);
-    out.put_bytes(end);
-    if !ends_so(out, settings, parsed, place, ticks, end) {
+fn put_tried(out: &Answer, settings: &Settings, parsed: &Parsed, place: u32) -> u64 {
+    let end = Answer::new(settings.alloc);
+    let ticks = put_end(&end, settings, parsed, place, AMPLE);
+    let end = end.into_bytes(out);
+    out.put_bytes(&end);
+    if !ends_so(out, settings, parsed, place, ticks, &end) {
         out.put(", otherwise at its limit");
     }
     if ticks > 0 && !ends_so(out, settings, parsed, place, ticks - 1, b"spent") {
@@ -168,7 +161,7 @@ fn put_tried(out: &mut Answer, settings: &Settings, parsed: &Parsed, place: u32)
 }
 
 /// Adds the answer of a call that evaluates.
-pub(crate) fn add_answer(out: &mut Answer, settings: &Settings, call: Call, rest: &str) {
+pub(crate) fn add_answer(out: &Answer, settings: &Settings, call: Call, rest: &str) {
     let (place, text) = cut(rest, " | ");
     let place = whole(place);
     let ticks = match call {
@@ -180,7 +173,7 @@ pub(crate) fn add_answer(out: &mut Answer, settings: &Settings, call: Call, rest
 }
 
 // Adds what a text of a form gives, and says its ticks.
-fn put_parsed(out: &mut Answer, settings: &Settings, form: Form, text: &str, place: u32) -> u64 {
+fn put_parsed(out: &Answer, settings: &Settings, form: Form, text: &str, place: u32) -> u64 {
     match parse(settings, form, text) {
         Ok(parsed) => {
             let ticks = put_tried(out, settings, &parsed, place);
@@ -196,7 +189,7 @@ fn put_parsed(out: &mut Answer, settings: &Settings, form: Form, text: &str, pla
 
 // Adds how two operands compare under each operator, a letter for each, and says the ticks of one
 // comparison. After a letter stands `?` where its comparison takes other ticks than the one before.
-fn compare(out: &mut Answer, settings: &Settings, place: u32, text: &str) -> u64 {
+fn compare(out: &Answer, settings: &Settings, place: u32, text: &str) -> u64 {
     let (left, right) = cut(text, " | ");
     let mut ticks = put_letter(out, settings, place, left, " = ", right);
     for operator in &[" != ", " < ", " <= ", " > ", " >= "] {
@@ -209,18 +202,20 @@ fn compare(out: &mut Answer, settings: &Settings, place: u32, text: &str) -> u64
 
 // Adds the letter of how two operands compare under an operator, and says its ticks.
 fn put_letter(
-    out: &mut Answer,
+    out: &Answer,
     settings: &Settings,
     place: u32,
     left: &str,
     operator: &str,
     right: &str,
 ) -> u64 {
-    let mut text = Answer::new(settings.alloc);
-    text.put_in(left, operator, right);
-    let mut end = Answer::new(settings.alloc);
-    let ticks = put_parsed(&mut end, settings, Form::Bound, text.held_text(out), place);
-    let end = end.held_text(out);
-    out.put(value_named(LETTERS, end).unwrap_or(&"?"));
+    let text = Answer::new(settings.alloc);
+    text.put_both(left, operator);
+    text.put(right);
+    let end = Answer::new(settings.alloc);
+    let text = text.into_bytes(out);
+    let ticks = put_parsed(&end, settings, Form::Bound, text_of(&text), place);
+    let end = end.into_bytes(out);
+    out.put(value_named(LETTERS, text_of(&end)).unwrap_or(&"?"));
     ticks
 }

@@ -11,7 +11,6 @@ use crate::expressions::shown::show_all;
 use crate::expressions::tables;
 use crate::fields::{cut, whole};
 use crate::lookups::value_named;
-use std::alloc::AllocError;
 use xs_axes::axis_nodes;
 use xs_eval::context::Context;
 use xs_eval::evaluate::evaluate;
@@ -25,7 +24,7 @@ use xs_xpath::expr::Expr;
 use xs_xpath::pattern::Pattern;
 
 /// Adds the nodes of an axis from the node at a place, in the axis' order.
-pub(crate) fn put_axis(out: &mut Answer, settings: &Settings, axis: &str) {
+pub(crate) fn put_axis(out: &Answer, settings: &Settings, axis: &str) {
     let (name, place) = cut(axis, " ");
     let Some(axis) = value_named(AXES, name) else {
         return out.put("no such axis");
@@ -40,14 +39,14 @@ pub(crate) fn put_axis(out: &mut Answer, settings: &Settings, axis: &str) {
 }
 
 // Adds the place of a node after others; at the beginning there are none.
-fn put_place(out: &mut Answer, node: Node) {
+fn put_place(out: &Answer, node: Node) {
     out.put_between(" ");
-    out.put_count("", node.place() as u64);
+    out.put_whole(node.place() as u64);
 }
 
 /// Adds what a call says of a pattern.
 pub(crate) fn put_of_pattern(
-    out: &mut Answer,
+    out: &Answer,
     settings: &Settings,
     call: Call,
     place: u32,
@@ -62,34 +61,30 @@ pub(crate) fn put_of_pattern(
 }
 
 // Whether a node of the document matches a pattern.
-fn is_match(settings: &Settings, pattern: &Pattern, node: Node) -> Result<bool, AllocError>
+fn is_match(out: &Answer, settings: &Settings, pattern: &Pattern, node: Node) -> bool
     requires { node < length settings.now.tree }
 {
     let (tree, scope) = (&settings.tree, &settings.scope);
-    matches(settings.alloc, pattern, scope, tree, node, &NoKeys)
+    out.holds(matches(settings.alloc, pattern, scope, tree, node, &NoKeys))
 }
 
 // Adds the nodes of the document that match a pattern.
-fn put_matches(out: &mut Answer, settings: &Settings, pattern: &Pattern) {
+fn put_matches(out: &Answer, settings: &Settings, pattern: &Pattern) {
     for place in 0..settings.tree.len() as u32 {
         let node = Node::at(place);
-        match is_match(settings, pattern, node) {
-            Ok(true) => put_place(out, node),
-            Ok(false) => (),
-            Err(_) => out.refuse(),
+        if is_match(out, settings, pattern, node) {
+            put_place(out, node);
         }
     }
 }
 
 // Adds whether the node at a place matches a pattern.
-fn put_match(out: &mut Answer, settings: &Settings, place: u32, pattern: &Pattern) {
+fn put_match(out: &Answer, settings: &Settings, place: u32, pattern: &Pattern) {
     if place as usize >= settings.tree.len() {
         return out.put("no such node");
     }
-    match is_match(settings, pattern, Node::at(place)) {
-        Ok(is_matched) => out.put_bool(is_matched),
-        Err(_) => out.refuse(),
-    }
+    let is_matched = is_match(out, settings, pattern, Node::at(place));
+    out.put_bool(is_matched);
 }
 
 // Whether a node is in the value of an expression from another one.
@@ -131,7 +126,7 @@ fn is_selected(settings: &Settings, expr: &Expr, node: Node) -> bool
 }
 
 /// Adds the nodes that are in the value of an expression from themselves or an ancestor.
-pub(crate) fn put_selected(out: &mut Answer, settings: &Settings, expr: &Expr) {
+pub(crate) fn put_selected(out: &Answer, settings: &Settings, expr: &Expr) {
     for place in 0..settings.tree.len() as u32 {
         let node = Node::at(place);
         if is_selected(settings, expr, node) {
@@ -142,20 +137,13 @@ pub(crate) fn put_selected(out: &mut Answer, settings: &Settings, expr: &Expr) {
 
 /// Adds the nodes that match a pattern to nothing, and those that are in its value as an
 /// expression, where these are others.
-pub(crate) fn put_both(out: &mut Answer, settings: &Settings, text: &str) {
+pub(crate) fn put_both(out: &Answer, settings: &Settings, text: &str) {
     put_parsed(out, settings, Form::Pattern, Call::Match, 0, text);
-    let mut selected = Answer::new(settings.alloc);
-    put_parsed(
-        &mut selected,
-        settings,
-        Form::Expression,
-        Call::Match,
-        0,
-        text,
-    );
-    let selected = selected.held(out);
-    if out.bytes.as_slice() != selected {
+    let selected = Answer::new(settings.alloc);
+    put_parsed(&selected, settings, Form::Expression, Call::Match, 0, text);
+    let selected = selected.into_bytes(out);
+    if out.copy(out) != selected {
         out.put(", as expressions ");
-        out.put_bytes(selected);
+        out.put_bytes(&selected);
     }
 }

@@ -89,20 +89,14 @@ const FUNCTIONS: &[&str] = &[
     "unparsed-entity-uri",
 ];
 
-/// The name of a function, which is the one that it is found by.
+/// The name of a function: the first by which it is found.
 pub(crate) fn function_name(function: Function) -> &'static str {
     for name in FUNCTIONS {
-        if is_name_of(name, function) {
+        if let Some(other) = function_of(name.as_bytes())
+            && other as u8 == function as u8
+        {
             return name;
         }
     }
     ""
-}
-
-// Whether a function is found by a name.
-fn is_name_of(name: &str, function: Function) -> bool {
-    match function_of(name.as_bytes()) {
-        Some(other) => other as u8 == function as u8,
-        None => false,
-    }
 }

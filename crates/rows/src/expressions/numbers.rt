@@ -9,7 +9,7 @@ use xs_num::number::{Num, NumFault};
 use xs_num::reading::read_num;
 
 /// Appends a number, or why there is none.
-pub(crate) fn add_outcome(out: &mut Answer, outcome: Result<Num, NumFault>) {
+pub(crate) fn add_outcome(out: &Answer, outcome: Result<Num, NumFault>) {
     match outcome {
         Ok(number) => out.put_number(number),
         Err(NumFault::Fraction) => out.put("fraction"),
@@ -23,7 +23,7 @@ pub(crate) fn number(text: &str) -> Num {
 }
 
 /// Appends the answer of a call with numbers.
-pub(crate) fn add_answer(out: &mut Answer, call: Call, rest: &str) {
+pub(crate) fn add_answer(out: &Answer, call: Call, rest: &str) {
     let (left, right) = cut(rest, " ");
     match call {
         Call::Number => add_outcome(out, read_num(rest)),
@@ -33,7 +33,7 @@ pub(crate) fn add_answer(out: &mut Answer, call: Call, rest: &str) {
 }
 
 // Appends the answer of a call with two numbers.
-fn operate(out: &mut Answer, call: Call, a: Num, b: Num) {
+fn operate(out: &Answer, call: Call, a: Num, b: Num) {
     let outcome = match call {
         Call::Add => add(a, b),
         Call::Subtract => sub(a, b),

@@ -2,12 +2,11 @@
 
 ghost use Rattle.std.specs.Prelude.{◌<◌, ◌^◌, length};
 
-use crate::answer::Answer;
+use crate::answer::{Answer, text_of};
 use crate::expressions::calls::Call;
 use crate::expressions::matched::{put_both, put_of_pattern, put_selected};
 use crate::expressions::settings::Settings;
 use crate::expressions::shown::{show, show_parts};
-use crate::expressions::texts::put_repeated;
 use crate::fields::{cut, whole};
 use xs_parser::avt::parse_avt;
 use xs_parser::fault::ParseFault;
@@ -46,7 +45,7 @@ pub(crate) enum Parsed {
 }
 
 /// Adds a fault by `!`, its number, `@` and its place.
-pub(crate) fn put_fault(out: &mut Answer, fault: ParseFault) {
+pub(crate) fn put_fault(out: &Answer, fault: ParseFault) {
     match fault {
         ParseFault::Bad { number, at } => {
             out.put_count("!", number as u64);
@@ -114,24 +113,12 @@ fn template(settings: &Settings, text: &str) -> Result<Parsed, ParseFault>
 }
 
 /// Adds the answer of a call with a text that is parsed.
-pub(crate) fn add_answer(
-    out: &mut Answer,
-    settings: &Settings,
-    form: Form,
-    call: Call,
-    rest: &str,
-) {
+pub(crate) fn add_answer(out: &Answer, settings: &Settings, form: Form, call: Call, rest: &str) {
     match call {
         Call::Match => put_both(out, settings, rest),
         Call::MatchAt => {
             let (place, text) = cut(rest, " | ");
             put_parsed(out, settings, form, call, whole(place), text);
-        }
-        Call::Long => {
-            let mut text = Answer::new(settings.alloc);
-            put_repeated(&mut text, rest);
-            let text = text.held_text(out);
-            put_parsed(out, settings, form, call, 0, text);
         }
         _ => put_parsed(out, settings, form, call, 0, rest),
     }
@@ -139,7 +126,7 @@ pub(crate) fn add_answer(
 
 /// Adds what a call says of a text, at a place where it asks of one, or the fault of the text.
 pub(crate) fn put_parsed(
-    out: &mut Answer,
+    out: &Answer,
     settings: &Settings,
     form: Form,
     call: Call,
@@ -148,24 +135,19 @@ pub(crate) fn put_parsed(
 ) {
     match parse(settings, form, text) {
         Ok(parsed) => {
-            put_of(out, settings, call, place, &parsed);
+            match &parsed {
+                Parsed::Expression(expr) => put_of_expression(out, settings, call, expr),
+                Parsed::Pattern(pattern) => put_of_pattern(out, settings, call, place, pattern),
+                Parsed::Template(parts) => show_parts(out, parts),
+            }
             drop(parsed);
         }
         Err(fault) => put_fault(out, fault),
     }
 }
 
-// Adds what a call says of what was parsed.
-fn put_of(out: &mut Answer, settings: &Settings, call: Call, place: u32, parsed: &Parsed) {
-    match parsed {
-        Parsed::Expression(expr) => put_of_expression(out, settings, call, expr),
-        Parsed::Pattern(pattern) => put_of_pattern(out, settings, call, place, pattern),
-        Parsed::Template(parts) => show_parts(out, parts),
-    }
-}
-
 // Adds what a call says of an expression.
-fn put_of_expression(out: &mut Answer, settings: &Settings, call: Call, expr: &Expr) {
+fn put_of_expression(out: &Answer, settings: &Settings, call: Call, expr: &Expr) {
     match call {
         Call::Expression => show(out, expr),
         Call::Bound => show_with_uses(out, expr),
@@ -176,7 +158,7 @@ fn put_of_expression(out: &mut Answer, settings: &Settings, call: Call, expr: &E
 
 // Adds a tree, and letters for what it refers to: variables, some of them unbound, the current
 // node, and keys.
-fn show_with_uses(out: &mut Answer, e: &Expr) {
+fn show_with_uses(out: &Answer, e: &Expr) {
     let (variables, current, key) = (uses_variables(e), uses_current(e), uses_key(e));
     show(out, e);
     out.put_if(variables || current || key, " | ");
@@ -187,26 +169,27 @@ fn show_with_uses(out: &mut Answer, e: &Expr) {
 }
 
 /// Adds the URI of a prefix.
-pub(crate) fn put_uri(out: &mut Answer, scope: &Scope, prefix: &str) {
+pub(crate) fn put_uri(out: &Answer, scope: &Scope, prefix: &str) {
     out.put(scope.uri_in(prefix).unwrap_or(""));
 }
 
 /// Adds how many of the prefixes with the numbers from one to another have the URI with that
 /// number.
-pub(crate) fn put_found(out: &mut Answer, scope: &Scope, numbers: &str) {
+pub(crate) fn put_found(out: &Answer, scope: &Scope, numbers: &str) {
     let (first, last) = cut(numbers, " ");
     let mut found = 0_u64;
     for number in whole(first)..=whole(last) {
         found = found.saturating_add(is_found(out, scope, number as u64) as u64);
     }
-    out.put_count("", found);
+    out.put_whole(found);
 }
 
 // Whether the prefix with a number has the URI with that number.
-fn is_found(out: &mut Answer, scope: &Scope, number: u64) -> bool {
-    let mut prefix = Answer::new(*out.bytes.allocator());
-    let mut uri = Answer::new(*out.bytes.allocator());
-    prefix.put_count("p", number);
-    uri.put_count("u", number);
-    scope.uri_in(prefix.held_text(out)) == Some(uri.held_text(out))
+fn is_found(out: &Answer, scope: &Scope, number: u64) -> bool {
+    let pair = Answer::new(out.alloc);
+    pair.put_count("p", number);
+    pair.put_count(" u", number);
+    let pair = pair.into_bytes(out);
+    let (prefix, uri) = cut(text_of(&pair), " ");
+    scope.uri_in(prefix) == Some(uri)
 }

@@ -1,6 +1,6 @@
 //! Settings, which hold for the rows after them.
 
-use crate::answer::Answer;
+use crate::answer::{Answer, text_of};
 use crate::expressions::values::operand;
 use crate::fields::{cut, cut_prefix, whole};
 use crate::lookups::value_named;
@@ -48,9 +48,7 @@ pub(crate) struct Settings {
     pub(crate) alloc: Global,
     /// The document.
     pub(crate) tree: Tree,
-    /// The prefixes and their URIs, in lines.
-    prefixes: Answer,
-    /// The same as a scope.
+    /// The prefixes and their URIs.
     pub(crate) scope: Scope,
     /// The variables and their slots.
     pub(crate) slots: Vec<(Label, Slot)>,
@@ -73,7 +71,6 @@ impl Settings {
         Ok(Settings {
             alloc,
             tree,
-            prefixes: Answer::new(alloc),
             scope: Scope::of(Vec::new(alloc)),
             slots: Vec::new(alloc),
             locals: Vec::new(alloc),
@@ -85,12 +82,14 @@ impl Settings {
     }
 
     /// Sets what a setting says, whose first word is its name.
-    pub(crate) fn set(&mut self, out: &mut Answer, setting: &str) {
+    pub(crate) fn set(&mut self, out: &Answer, setting: &str) {
         let (name, rest) = cut(setting, " ");
         match value_named(SETTINGS, name) {
             Some(Setting::Clear) => self.clear(out),
-            Some(Setting::Prefix) => self.add_prefix(out, rest),
-            Some(Setting::Prefixes) => self.add_prefixes(out, rest),
+            Some(Setting::Prefix) => self.add_prefixes(out, rest),
+            Some(Setting::Prefixes) => {
+                self.add_prefixes(out, text_of(&numbered_prefixes(out, rest)));
+            }
             Some(Setting::Local) => self.add_local(out, rest),
             Some(Setting::Global) => self.add_global(out, rest),
             Some(Setting::Position) => self.position = whole(rest),
@@ -101,7 +100,7 @@ impl Settings {
     }
 
     // Sets everything as it was at first.
-    fn clear(&mut self, out: &mut Answer) {
+    fn clear(&mut self, out: &Answer) {
         match Settings::new(self.alloc) {
             Ok(settings) => drop(replace(self, settings)),
             Err(_) => out.refuse(),
@@ -109,63 +108,39 @@ impl Settings {
     }
 
     /// Sets the document, by its lines.
-    pub(crate) fn set_document(&mut self, out: &mut Answer, lines: &Answer) {
-        match build_tree(self.alloc, lines.held(out), MOST) {
+    pub(crate) fn set_document(&mut self, out: &Answer, lines: &str) {
+        match build_tree(self.alloc, lines.as_bytes(), MOST) {
             Ok(built) => drop(replace(&mut self.tree, built.tree)),
             Err(_) => out.put(" no document"),
         }
     }
 
-    // Adds a prefix, which is a word before its URI.
-    fn add_prefix(&mut self, out: &mut Answer, prefix: &str) {
-        self.prefixes.put_line(prefix);
-        self.set_scope(out);
-    }
-
-    // Adds the prefixes with the numbers from one to another, `p1000` for `u1000`.
-    fn add_prefixes(&mut self, out: &mut Answer, numbers: &str) {
-        let (first, last) = cut(numbers, " ");
-        let (first, last) = (whole(first), whole(last));
-        for step in 0..=first.abs_diff(last) {
-            self.put_prefix(step_from(first, last, step));
-        }
-        self.set_scope(out);
-    }
-
-    // Adds the prefix with a number to the lines.
-    fn put_prefix(&mut self, number: u32) {
-        self.prefixes.put_count("p", number as u64);
-        self.prefixes.put_count(" u", number as u64);
-        self.prefixes.put("\n");
-    }
-
-    // Makes the scope of the prefixes.
-    fn set_scope(&mut self, out: &mut Answer) {
-        let mut pairs = Vec::new(self.alloc);
-        for line in self.prefixes.held_text(out).lines() {
+    // Adds prefixes, each with its URI in a line.
+    fn add_prefixes(&mut self, out: &Answer, lines: &str) {
+        let scope = replace(&mut self.scope, Scope::of(Vec::new(self.alloc)));
+        let mut pairs = scope.pairs;
+        for line in lines.lines() {
             out.take(&mut pairs, prefix_of(self.alloc, line));
         }
         self.scope = Scope::of(pairs);
     }
 
     // Adds a local variable with its value.
-    fn add_local(&mut self, out: &mut Answer, text: &str) {
+    fn add_local(&mut self, out: &Answer, text: &str) {
         let (name, value) = cut(text, " ");
         let slot = Slot::Local(number_of(self.locals.len()));
         let variable = self.variable(name, slot);
         out.take(&mut self.slots, variable);
-        let value = operand(self.alloc, value);
-        out.take(&mut self.locals, value);
+        out.take(&mut self.locals, operand(out, value));
     }
 
     // Adds a global variable, with its value where it has one.
-    fn add_global(&mut self, out: &mut Answer, text: &str) {
+    fn add_global(&mut self, out: &Answer, text: &str) {
         let (name, value) = cut(text, " ");
         let slot = Slot::Global(number_of(self.globals.len()));
         let variable = self.variable(name, slot);
         out.take(&mut self.slots, variable);
-        let value = operand_if(self.alloc, value);
-        out.take(&mut self.globals, value);
+        out.take(&mut self.globals, operand_if(out, value));
     }
 
     // A variable with its slot.
@@ -182,6 +157,20 @@ impl Settings {
         }
         self.scope.uri_in(prefix).unwrap_or("")
     }
+}
+
+// The prefixes with the numbers from one to another, `p1000` for `u1000`, in lines.
+fn numbered_prefixes(out: &Answer, numbers: &str) -> Vec<u8> {
+    let (first, last) = cut(numbers, " ");
+    let (first, last) = (whole(first), whole(last));
+    let lines = Answer::new(out.alloc);
+    for step in 0..=first.abs_diff(last) {
+        let number = step_from(first, last, step);
+        lines.put_count("p", number as u64);
+        lines.put_count(" u", number as u64);
+        lines.put_byte(b'\n');
+    }
+    lines.into_bytes(out)
 }
 
 // The number some steps from a first one towards a last one.
@@ -201,11 +190,11 @@ fn prefix_of(alloc: Global, line: &str) -> Result<(TextBuf, TextBuf), AllocError
 }
 
 // The value that a row writes, if it writes one.
-fn operand_if(alloc: Global, text: &str) -> Result<Option<Value>, AllocError> {
+fn operand_if(out: &Answer, text: &str) -> Result<Option<Value>, AllocError> {
     if text.is_empty() {
         return Ok(None);
     }
-    Ok(Some(operand(alloc, text)?))
+    Ok(Some(operand(out, text)?))
 }
 
 // The number of a variable after so many.

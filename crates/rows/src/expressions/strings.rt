@@ -1,6 +1,6 @@
 //! Strings, by the calls of `xs_strings`.
 
-use crate::answer::Answer;
+use crate::answer::{Answer, text_of};
 use crate::expressions::calls::Call;
 use crate::expressions::numbers::number;
 use crate::fields::cut;
@@ -11,14 +11,13 @@ use xs_strings::searching::{substring_after, substring_before};
 use xs_strings::translation::translate;
 
 /// Adds the answer of a call with strings.
-pub(crate) fn add_answer(out: &mut Answer, call: Call, rest: &str) {
+pub(crate) fn add_answer(out: &Answer, call: Call, rest: &str) {
     if let Call::StringLength = call {
-        return out.put_count("", char_count(rest));
+        return out.put_whole(char_count(rest));
     }
-    out.put("'");
-    let outcome = add_string(&mut out.bytes, call, rest);
-    out.note(outcome);
-    out.put("'");
+    let mut text = Vec::new(out.alloc);
+    out.note(add_string(&mut text, call, rest));
+    out.put_quoted(text_of(&text));
 }
 
 // Adds the string that a call gives.

@@ -1,6 +1,6 @@
 //! Rows on documents: their faults, and their trees.
 
-use crate::answer::Answer;
+use crate::answer::{Answer, text_of};
 use crate::fields::cut;
 use crate::reading::notation::put_decoded;
 use crate::reading::trees::put_tree_of;
@@ -13,28 +13,27 @@ use xs_tree::Tree;
 const LIMIT: u16 = 65_000;
 
 /// Adds a repeated text to what documents begin with.
-pub(crate) fn put_start(start: &mut Answer, repeated: &str) {
-    let mut text = Answer::new(*start.bytes.allocator());
-    put_repeated(&mut text, repeated);
-    let text = text.held_text(start);
-    put_decoded(start, text);
+pub(crate) fn put_start(start: &Answer, repeated: &str) {
+    let text = Answer::new(start.alloc);
+    put_repeated(&text, repeated);
+    put_decoded(start, text_of(&text.into_bytes(start)));
 }
 
 /// Adds the first fault of a document, which begins with `start`; its limit comes after ` | `.
-pub(crate) fn put_fault_of(out: &mut Answer, alloc: Global, start: &Answer, input: &str) {
+pub(crate) fn put_fault_of(out: &Answer, start: &Answer, input: &str) {
     let (document, limit) = cut(input, " | ");
-    let mut bytes = Answer::new(alloc);
-    bytes.put_bytes(start.held(out));
-    put_decoded(&mut bytes, document);
+    let bytes = Answer::new(out.alloc);
+    bytes.put_bytes(&start.copy(out));
+    put_decoded(&bytes, document);
     let limit = limit.parse::<u16>().unwrap_or(LIMIT);
-    match build_tree(alloc, bytes.held(out), limit as u64).err() {
+    match build_tree(out.alloc, &bytes.into_bytes(out), limit as u64).err() {
         None => out.put("no fault"),
         Some(fault) => put_fault(out, fault),
     }
 }
 
 // Adds a fault.
-fn put_fault(out: &mut Answer, fault: BuildFault) {
+fn put_fault(out: &Answer, fault: BuildFault) {
     match fault {
         BuildFault::Bad { number, line } => {
             out.put_count("fault ", number as u64);
@@ -47,7 +46,6 @@ fn put_fault(out: &mut Answer, fault: BuildFault) {
 /// The input of a row of several lines.
 #[derive(Drop)]
 pub(crate) struct Row<'t> {
-    alloc: Global,
     /// The document.
     pub(crate) document: Answer,
     /// The nodes, a line for each.
@@ -62,7 +60,6 @@ impl<'t> Row<'t> {
     /// A row without input.
     pub(crate) fn new(alloc: Global) -> Row<'t> {
         Row {
-            alloc,
             document: Answer::new(alloc),
             nodes: Answer::new(alloc),
             later_nodes: Answer::new(alloc),
@@ -72,22 +69,22 @@ impl<'t> Row<'t> {
 
     /// Removes the input.
     pub(crate) fn clear(&mut self) {
-        self.document.bytes.clear();
-        self.nodes.bytes.clear();
-        self.later_nodes.bytes.clear();
+        self.document.clear();
+        self.nodes.clear();
+        self.later_nodes.clear();
         self.marks = "";
     }
 
     /// Adds a line to the document.
-    pub(crate) fn put_line(&mut self, line: &str) {
-        put_decoded(&mut self.document, line);
+    pub(crate) fn put_line(&self, line: &str) {
+        put_decoded(&self.document, line);
         self.document.put("\n");
     }
 
     /// Adds the tree of the document, or its fault.
-    pub(crate) fn put_document(&self, out: &mut Answer) {
-        match build_tree(self.alloc, self.document.held(out), LIMIT as u64) {
-            Ok(built) => put_tree_of(out, self.alloc, self, built),
+    pub(crate) fn put_document(&self, out: &Answer) {
+        match build_tree(out.alloc, &self.document.copy(out), LIMIT as u64) {
+            Ok(built) => put_tree_of(out, self, built),
             Err(fault) => {
                 out.put("= ");
                 put_fault(out, fault);
@@ -97,9 +94,9 @@ impl<'t> Row<'t> {
     }
 
     /// Adds the tree of the nodes.
-    pub(crate) fn put_nodes(&self, out: &mut Answer) {
-        match root_alone(self.alloc) {
-            Ok(built) => put_tree_of(out, self.alloc, self, built),
+    pub(crate) fn put_nodes(&self, out: &Answer) {
+        match root_alone(out.alloc) {
+            Ok(built) => put_tree_of(out, self, built),
             Err(_) => out.refuse(),
         }
     }

@@ -1,11 +1,10 @@
 //! Row files, line by line.
 
 use crate::answer::Answer;
-use crate::fields::{cut, is_comment};
+use crate::fields::{cut, is_comment, put_input};
 use crate::lookups::value_named;
 use crate::reading::documents::{Row, put_start};
 use crate::reading::subjects::{SUBJECTS, Subject, put_answer};
-use std::alloc::Global;
 
 /// What a line that is no setting is part of.
 #[derive(Clone, Copy)]
@@ -47,7 +46,6 @@ const WORDS: &[(&str, Word)] = &[
 /// A row file that is being written again.
 #[derive(Drop)]
 struct RowFile<'t> {
-    alloc: Global,
     subject: Option<&'static Subject>,
     start: Answer,
     part: Part,
@@ -55,13 +53,12 @@ struct RowFile<'t> {
 }
 
 /// Adds a row file with each of its answers computed anew.
-pub(crate) fn put_rows(out: &mut Answer, alloc: Global, text: &str) {
+pub(crate) fn put_rows(out: &Answer, text: &str) {
     let mut file = RowFile {
-        alloc,
         subject: None,
-        start: Answer::new(alloc),
+        start: Answer::new(out.alloc),
         part: Part::Lines,
-        row: Row::new(alloc),
+        row: Row::new(out.alloc),
     };
     for line in text.lines() {
         file.take(out, line);
@@ -72,7 +69,7 @@ pub(crate) fn put_rows(out: &mut Answer, alloc: Global, text: &str) {
 
 impl<'t> RowFile<'t> {
     // Takes a line.
-    fn take(&mut self, out: &mut Answer, line: &'t str) {
+    fn take(&mut self, out: &Answer, line: &'t str) {
         if is_comment(line) {
             self.end_row(out);
             out.put_line(line);
@@ -90,13 +87,13 @@ impl<'t> RowFile<'t> {
 
     // Takes a setting, or the word that begins a row or a part of its input, and says whether it is
     // one of these.
-    fn set(&mut self, out: &mut Answer, word: &str, value: &'t str) -> bool {
+    fn set(&mut self, out: &Answer, word: &str, value: &'t str) -> bool {
         let Some(word) = value_named(WORDS, word) else {
             return false;
         };
         match word {
             Word::Subject => self.subject = value_named(SUBJECTS, value),
-            Word::Start => put_start(&mut self.start, value),
+            Word::Start => put_start(&self.start, value),
             Word::Row => self.end_row(out),
             Word::Document => self.part = Part::Document,
             Word::Nodes => self.part = Part::Nodes,
@@ -107,7 +104,7 @@ impl<'t> RowFile<'t> {
     }
 
     // Takes a line of a part, or a row of one line.
-    fn take_line(&mut self, out: &mut Answer, line: &str) {
+    fn take_line(&self, out: &Answer, line: &str) {
         match self.part {
             Part::Lines => return self.put_row(out, line),
             Part::Document => self.row.put_line(line),
@@ -119,18 +116,17 @@ impl<'t> RowFile<'t> {
     }
 
     // Adds a row of one line with its answer.
-    fn put_row(&self, out: &mut Answer, line: &str) {
-        let (input, _) = cut(line, " ==> ");
-        out.put_in("", input, " ==> ");
+    fn put_row(&self, out: &Answer, line: &str) {
+        let input = put_input(out, line);
         match self.subject {
-            Some(subject) => put_answer(out, self.alloc, subject, &self.start, input),
+            Some(subject) => put_answer(out, subject, &self.start, input),
             None => out.put("unknown subject"),
         }
-        out.put("\n");
+        out.put_byte(b'\n');
     }
 
     // Adds the answer of a row of several lines, if it has none yet.
-    fn put_answer(&mut self, out: &mut Answer) {
+    fn put_answer(&mut self, out: &Answer) {
         match self.part {
             Part::Lines => out.put("unknown setting\n"),
             Part::Document => self.row.put_document(out),
@@ -141,7 +137,7 @@ impl<'t> RowFile<'t> {
     }
 
     // Ends a row of several lines, where there is one.
-    fn end_row(&mut self, out: &mut Answer) {
+    fn end_row(&mut self, out: &Answer) {
         if !matches!(self.part, Part::Lines) {
             self.put_answer(out);
         }

@@ -4,16 +4,16 @@ ghost use Rattle.xs_pyx.specs.Views.{IsReadable, IsReadableData};
 
 use crate::answer::Answer;
 use crate::reading::notation::{put_quoted, quote};
-use std::alloc::Global;
 use xs_pyx::{Data, Line, LineFault, LineView, Rest, next_line, skip_line, write_line};
 
 /// Adds what the first line of some bytes says, how many bytes it takes, how it is written, and
 /// what it leaves.
-pub(crate) fn put_first(out: &mut Answer, alloc: Global, bytes: &[u8]) {
-    match next_line(alloc, bytes) {
-        Ok(Some((line, size))) => put_found(out, alloc, line, size),
+pub(crate) fn put_first(out: &Answer, bytes: &[u8]) {
+    match next_line(out.alloc, bytes) {
+        Ok(Some((line, size))) => put_found(out, line, size),
         Ok(None) => out.put("nothing"),
-        Err(fault) => put_fault(out, fault),
+        Err(LineFault::Bad { number }) => out.put_count("fault ", number as u64),
+        Err(LineFault::NoMemory) => out.refuse(),
     }
     let rest = skip_line(bytes);
     if !rest.is_empty() {
@@ -22,28 +22,19 @@ pub(crate) fn put_first(out: &mut Answer, alloc: Global, bytes: &[u8]) {
     }
 }
 
-// Adds a fault.
-fn put_fault(out: &mut Answer, fault: LineFault) {
-    match fault {
-        LineFault::Bad { number } => out.put_count("fault ", number as u64),
-        LineFault::NoMemory => out.refuse(),
-    }
-}
-
 // Adds what a line says, how many bytes it took, and how it is written.
-fn put_found(out: &mut Answer, alloc: Global, line: Line, size: usize) {
+fn put_found(out: &Answer, line: Line, size: usize) {
     put_line(out, &line);
     out.put_count(", ", size as u64);
     out.put(" bytes, written ");
-    let mut written = Vec::new(alloc);
-    let outcome = write_line(&mut written, &line);
-    out.note(outcome);
+    let mut written = Vec::new(out.alloc);
+    out.note(write_line(&mut written, &line));
     quote(out, &written);
     drop(line);
 }
 
 // Adds a line by its kind and its texts.
-fn put_line(out: &mut Answer, line: &Line) {
+fn put_line(out: &Answer, line: &Line) {
     match line {
         Line::Start(name) => put_quoted(out, "start ", name.as_str()),
         Line::Attr { name, value } => {
@@ -62,9 +53,9 @@ fn put_line(out: &mut Answer, line: &Line) {
 
 /// Adds whether some bytes are UTF-8 as a whole, and their lines as they are in them, up to the
 /// first with a fault.
-pub(crate) fn put_views(out: &mut Answer, alloc: Global, bytes: &[u8]) {
+pub(crate) fn put_views(out: &Answer, bytes: &[u8]) {
     let mut rest = Rest::of(bytes);
-    out.put_count("", rest.bytes().len() as u64);
+    out.put_whole(rest.bytes().len() as u64);
     out.put(match rest {
         Rest::Text(_) => " bytes as text",
         Rest::Bytes(_) => " bytes as bytes",
@@ -72,7 +63,7 @@ pub(crate) fn put_views(out: &mut Answer, alloc: Global, bytes: &[u8]) {
     for _ in 0..bytes.len() {
         match rest.view_line() {
             Ok(Some((view, taken))) => {
-                put_view(out, alloc, view);
+                put_view(out, view);
                 out.put_count(", ", taken as u64);
                 out.put(" bytes");
                 rest = rest.behind(taken);
@@ -84,7 +75,7 @@ pub(crate) fn put_views(out: &mut Answer, alloc: Global, bytes: &[u8]) {
 }
 
 // Adds a line as it is in its bytes.
-fn put_view(out: &mut Answer, alloc: Global, view: LineView<'_>)
+fn put_view(out: &Answer, view: LineView<'_>)
     requires { IsReadable view }
 {
     out.put(" | ");
@@ -92,34 +83,33 @@ fn put_view(out: &mut Answer, alloc: Global, view: LineView<'_>)
         LineView::Start(name) => put_quoted(out, "start ", name),
         LineView::Attr { name, value } => {
             put_quoted(out, "attribute ", name);
-            put_data(out, alloc, value);
+            put_data(out, value);
         }
         LineView::Chars(text) => {
             out.put("text");
-            put_data(out, alloc, text);
+            put_data(out, text);
         }
         LineView::End(name) => put_quoted(out, "end ", name),
         LineView::Pi { target, value } => {
             put_quoted(out, "instruction ", target);
-            put_data(out, alloc, value);
+            put_data(out, value);
         }
         LineView::Comment(text) => {
             out.put("comment");
-            put_data(out, alloc, text);
+            put_data(out, text);
         }
     }
 }
 
 // Adds data by its form and the text that it shows.
-fn put_data(out: &mut Answer, alloc: Global, value: Data<'_>)
+fn put_data(out: &Answer, value: Data<'_>)
     requires { IsReadableData value }
 {
     out.put(match value {
         Data::Plain(_) => " plain ",
         Data::Escaped(_) => " escaped ",
     });
-    let mut text = Vec::new(alloc);
-    let outcome = value.append_to(&mut text);
-    out.note(outcome);
+    let mut text = Vec::new(out.alloc);
+    out.note(value.append_to(&mut text));
     quote(out, &text);
 }

@@ -6,7 +6,7 @@ use crate::fields::{cut, cut_prefix};
 use std::str::from_utf8;
 
 /// Adds the bytes that a text of a row represents.
-pub(crate) fn put_decoded(out: &mut Answer, written: &str) {
+pub(crate) fn put_decoded(out: &Answer, written: &str) {
     let (plain, numbered) = cut(written, "\\x{");
     put_plain(out, plain);
     if !numbered.is_empty() {
@@ -17,7 +17,7 @@ pub(crate) fn put_decoded(out: &mut Answer, written: &str) {
 }
 
 // Adds the byte with the number before a bracket, and what is after the bracket.
-fn put_numbered(out: &mut Answer, piece: &str) {
+fn put_numbered(out: &Answer, piece: &str) {
     let (digits, after) = cut_prefix(piece, "}");
     if let Ok(byte) = u8::from_str_radix(digits, 16) {
         out.put_byte(byte);
@@ -26,7 +26,7 @@ fn put_numbered(out: &mut Answer, piece: &str) {
 }
 
 // Adds a text without numbers.
-fn put_plain(out: &mut Answer, text: &str) {
+fn put_plain(out: &Answer, text: &str) {
     for byte in text.as_bytes() {
         out.put_byte(if *byte == b';' { b'\n' } else { *byte });
     }
@@ -34,7 +34,7 @@ fn put_plain(out: &mut Answer, text: &str) {
 
 /// Adds bytes in quotes. Of bytes that are not UTF-8 each that is not ASCII is written as its
 /// number.
-pub(crate) fn quote(out: &mut Answer, bytes: &[u8]) {
+pub(crate) fn quote(out: &Answer, bytes: &[u8]) {
     let is_text = from_utf8(bytes).is_ok();
     out.put("\"");
     for byte in bytes {
@@ -49,7 +49,7 @@ pub(crate) fn quote(out: &mut Answer, bytes: &[u8]) {
 }
 
 /// Adds a text in quotes, after a word.
-pub(crate) fn put_quoted(out: &mut Answer, word: &str, text: &str) {
+pub(crate) fn put_quoted(out: &Answer, word: &str, text: &str) {
     out.put(word);
     quote(out, text.as_bytes());
 }

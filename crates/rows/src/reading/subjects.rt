@@ -3,7 +3,6 @@
 use crate::answer::Answer;
 use crate::reading::notation::put_decoded;
 use crate::reading::{documents, lines, texts};
-use std::alloc::Global;
 use std::str::from_utf8;
 
 /// What rows are about.
@@ -42,42 +41,36 @@ pub(crate) const SUBJECTS: &[(&str, Subject)] = &[
 ];
 
 /// Adds the answer to an input, by the subject of its rows. A document begins with `start`.
-pub(crate) fn put_answer(
-    out: &mut Answer,
-    alloc: Global,
-    subject: &Subject,
-    start: &Answer,
-    input: &str,
-) {
+pub(crate) fn put_answer(out: &Answer, subject: &Subject, start: &Answer, input: &str) {
     match subject {
-        Subject::Documents => documents::put_fault_of(out, alloc, start, input),
+        Subject::Documents => documents::put_fault_of(out, start, input),
         Subject::NameCharacters | Subject::WhiteSpace => {
-            texts::put_characters(out, alloc, subject, input)
+            texts::put_characters(out, subject, input)
         }
-        _ => put_decoded_answer(out, alloc, subject, input),
+        _ => put_decoded_answer(out, subject, input),
     }
 }
 
 // Adds the answer to an input that represents bytes.
-fn put_decoded_answer(out: &mut Answer, alloc: Global, subject: &Subject, input: &str) {
-    let mut decoded = Answer::new(alloc);
-    put_decoded(&mut decoded, input);
-    let bytes = decoded.held(out);
+fn put_decoded_answer(out: &Answer, subject: &Subject, input: &str) {
+    let decoded = Answer::new(out.alloc);
+    put_decoded(&decoded, input);
+    let bytes = decoded.into_bytes(out);
     match subject {
-        Subject::Lines => lines::put_first(out, alloc, bytes),
-        Subject::Views => lines::put_views(out, alloc, bytes),
-        _ => put_answer_to_text(out, alloc, subject, bytes),
+        Subject::Lines => lines::put_first(out, &bytes),
+        Subject::Views => lines::put_views(out, &bytes),
+        _ => put_answer_to_text(out, subject, &bytes),
     }
 }
 
 // Adds the answer to a text.
-fn put_answer_to_text(out: &mut Answer, alloc: Global, subject: &Subject, bytes: &[u8]) {
+fn put_answer_to_text(out: &Answer, subject: &Subject, bytes: &[u8]) {
     let Ok(text) = from_utf8(bytes) else {
         return out.put("not UTF-8");
     };
     match subject {
-        Subject::Escapes => texts::put_escapes(out, alloc, text),
-        Subject::Data => texts::put_data(out, alloc, text),
+        Subject::Escapes => texts::put_escapes(out, text),
+        Subject::Data => texts::put_data(out, text),
         Subject::Names => texts::put_name(out, text),
         _ => texts::put_blank(out, text),
     }

@@ -2,7 +2,7 @@
 
 ghost use Rattle.std.specs.Prelude.{◌<◌, length};
 
-use crate::answer::Answer;
+use crate::answer::{Answer, text_of};
 use crate::fields::cut;
 use crate::lookups::{name_of, value_named};
 use crate::reading::documents::Row;
@@ -58,27 +58,22 @@ fn local_name(alloc: Global, local: &str) -> Result<Option<Name>, AllocError> {
 
 /// Adds the nodes of a row that can't be added to a tree, and the tree with the others and without
 /// the marked text nodes.
-pub(crate) fn put_tree_of(out: &mut Answer, alloc: Global, row: &Row<'_>, built: Built) {
+pub(crate) fn put_tree_of(out: &Answer, row: &Row<'_>, built: Built) {
     let mut built = built;
-    add_nodes(out, alloc, &mut built, &row.nodes);
-    strip(out, alloc, &mut built, row.marks);
-    add_nodes(out, alloc, &mut built, &row.later_nodes);
-    put_tree(out, alloc, &built);
+    add_nodes(out, &mut built, &row.nodes);
+    strip(out, &mut built, row.marks);
+    add_nodes(out, &mut built, &row.later_nodes);
+    out.put("= tree\n");
+    for place in 0..built.tree.len() {
+        put_node(out, &built, Node::at(place as u32));
+    }
     drop(built);
 }
 
-// Adds a tree, a line for each node.
-fn put_tree(out: &mut Answer, alloc: Global, built: &Built) {
-    out.put("= tree\n");
-    for place in 0..built.tree.len() {
-        put_node(out, alloc, built, Node::at(place as u32));
-    }
-}
-
 // Adds the nodes that lines write to a tree, and to the answer the lines whose node can't be added.
-fn add_nodes(out: &mut Answer, alloc: Global, built: &mut Built, lines: &Answer) {
-    for line in lines.held_text(out).lines() {
-        if !add_node(out, alloc, built, line) {
+fn add_nodes(out: &Answer, built: &mut Built, lines: &Answer) {
+    for line in text_of(&lines.copy(out)).lines() {
+        if !add_node(out, built, line) {
             out.put("= refused ");
             out.put_line(line);
         }
@@ -86,11 +81,11 @@ fn add_nodes(out: &mut Answer, alloc: Global, built: &mut Built, lines: &Answer)
 }
 
 // Adds the node that a line writes to a tree, and says whether it can be added.
-fn add_node(out: &mut Answer, alloc: Global, built: &mut Built, line: &str) -> bool {
+fn add_node(out: &Answer, built: &mut Built, line: &str) -> bool {
     let Some(written) = read_node(line) else {
         return false;
     };
-    match local_name(alloc, written.local) {
+    match local_name(out.alloc, written.local) {
         Ok(name) => add_written(out, built, written, name),
         Err(_) => {
             out.refuse();
@@ -100,7 +95,7 @@ fn add_node(out: &mut Answer, alloc: Global, built: &mut Built, line: &str) -> b
 }
 
 // Adds a node to a tree, and says whether it can be added. Its line is the place that it has now.
-fn add_written(out: &mut Answer, built: &mut Built, node: Written<'_>, name: Option<Name>) -> bool {
+fn add_written(out: &Answer, built: &mut Built, node: Written<'_>, name: Option<Name>) -> bool {
     let tree = &mut built.tree;
     if !tree.can_add(node.kind, &name, node.text, node.parent) {
         return false;
@@ -119,8 +114,8 @@ fn add_written(out: &mut Answer, built: &mut Built, node: Written<'_>, name: Opt
 }
 
 // Strips the marked text nodes, with their lines.
-fn strip(out: &mut Answer, alloc: Global, built: &mut Built, marks: &str) {
-    let mut marked = Vec::new(alloc);
+fn strip(out: &Answer, built: &mut Built, marks: &str) {
+    let mut marked = Vec::new(out.alloc);
     for mark in marks.as_bytes() {
         out.take(&mut marked, Ok(*mark == b'x'));
     }
@@ -131,26 +126,27 @@ fn strip(out: &mut Answer, alloc: Global, built: &mut Built, marks: &str) {
 }
 
 // Adds a node: where it is, its kind, its name and its text.
-fn put_node(out: &mut Answer, alloc: Global, built: &Built, node: Node)
+fn put_node(out: &Answer, built: &Built, node: Node)
     requires { node < length built.now.tree }
 {
     put_place(out, built, node);
     let tree = &built.tree;
-    out.put_in(": ", name_of(KINDS, &tree.kind(node)), " ");
+    out.put(": ");
+    out.put_ended(name_of(KINDS, &tree.kind(node)), b' ');
     if let Some(name) = tree.name(node) {
         put_name(out, name);
     }
-    put_text(out, alloc, tree, node);
-    out.put("\n");
+    put_text(out, tree, node);
+    out.put_byte(b'\n');
 }
 
 // Adds the place of a node, for a root or an element where its subtree ends, its parent and its
 // line.
-fn put_place(out: &mut Answer, built: &Built, node: Node)
+fn put_place(out: &Answer, built: &Built, node: Node)
     requires { node < length built.now.tree }
 {
     let tree = &built.tree;
-    out.put_count("", node.place() as u64);
+    out.put_whole(node.place() as u64);
     if tree.kind(node).has_content() {
         out.put_count("..", tree.subtree_end(node) as u64);
     }
@@ -163,21 +159,20 @@ fn put_place(out: &mut Answer, built: &Built, node: Node)
 }
 
 // Adds the text of a node, for a root or an element its string value.
-fn put_text(out: &mut Answer, alloc: Global, tree: &Tree, node: Node)
+fn put_text(out: &Answer, tree: &Tree, node: Node)
     requires { node < length tree.now }
 {
     if !tree.kind(node).has_content() {
         return quote(out, tree.text(node).as_bytes());
     }
-    let mut value = Vec::new(alloc);
-    let outcome = tree.string_value_into(node, &mut value);
-    out.note(outcome);
+    let mut value = Vec::new(out.alloc);
+    out.note(tree.string_value_into(node, &mut value));
     quote(out, &value);
 }
 
-// Adds a name with its prefix, and its URI in braces.
-fn put_name(out: &mut Answer, name: &Name) {
-    out.put_part("", name.prefix.as_str(), ":");
-    out.put_part("", name.local.as_str(), " ");
-    out.put_part("{", name.uri.as_str(), "} ");
+// Adds a name; that of a default namespace is empty.
+fn put_name(out: &Answer, name: &Name) {
+    let local = name.local.as_str();
+    out.put_name(name.uri.as_str(), name.prefix.as_str(), local);
+    out.put_if(!local.is_empty(), " ");
 }

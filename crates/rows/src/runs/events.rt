@@ -29,7 +29,7 @@ fn label(alloc: Global, name: &str) -> Result<Label, AllocError> {
 }
 
 /// The event that a line says, in the letters of PYX lines; `:` begins a namespace node.
-pub(crate) fn event(alloc: Global, line: &str) -> Result<Event, AllocError> {
+fn event(alloc: Global, line: &str) -> Result<Event, AllocError> {
     if let Some(name) = line.strip_prefix('(') {
         return Ok(Event::Start(label(alloc, name)?));
     }
@@ -61,56 +61,48 @@ fn named_event(alloc: Global, name: &str, value: &str) -> Result<Event, AllocErr
 }
 
 /// Adds the line that says an event.
-fn put_event(out: &mut Answer, event: &Event) {
+fn put_event(out: &Answer, event: &Event) {
     match event {
-        Event::Start(name) => put_label(out, "(", name),
+        Event::Start(name) => put_named(out, b'(', name),
         Event::Attr { name, value } => {
-            put_label(out, "A", name);
-            put_named(out, " ", value.as_str());
+            put_named(out, b'A', name);
+            out.put_signed(b' ', value.as_str());
         }
         Event::Space { prefix, uri } => {
-            put_named(out, ":", prefix.as_str());
-            put_named(out, " ", uri.as_str());
+            out.put_signed(b':', prefix.as_str());
+            out.put_signed(b' ', uri.as_str());
         }
-        Event::Chars(text) => put_named(out, "-", text.as_str()),
-        Event::End => out.put(")"),
-        Event::Comment(text) => put_named(out, "C", text.as_str()),
+        Event::Chars(text) => out.put_signed(b'-', text.as_str()),
+        Event::End => out.put_byte(b')'),
+        Event::Comment(text) => out.put_signed(b'C', text.as_str()),
         Event::Pi { target, value } => {
-            put_named(out, "?", target.as_str());
-            put_named(out, " ", value.as_str());
+            out.put_signed(b'?', target.as_str());
+            out.put_signed(b' ', value.as_str());
         }
     }
 }
 
 /// Adds a sign and a name.
-fn put_label(out: &mut Answer, sign: &str, name: &Label) {
-    out.put(sign);
-    out.put_part("{", name.uri(), "}");
-    out.put_part("", name.prefix(), ":");
-    out.put(name.local());
-}
-
-/// Adds a sign and a text.
-fn put_named(out: &mut Answer, sign: &str, text: &str) {
-    out.put(sign);
-    out.put(text);
+fn put_named(out: &Answer, sign: u8, name: &Label) {
+    out.put_byte(sign);
+    out.put_label(name);
 }
 
 /// The events that lines say, which have slashes between them.
-fn events(out: &mut Answer, alloc: Global, lines: &str) -> Vec<Event> {
-    let mut all = Vec::new(alloc);
+pub(crate) fn events(out: &Answer, lines: &str) -> Vec<Event> {
+    let mut all = Vec::new(out.alloc);
     for line in lines.split('/') {
         if !line.is_empty() {
-            out.take(&mut all, event(alloc, line));
+            out.take(&mut all, event(out.alloc, line));
         }
     }
     all
 }
 
 /// Adds what stays of events.
-pub(crate) fn put_fragment(out: &mut Answer, alloc: Global, lines: &str) {
-    let put = events(out, alloc, lines);
-    match fragment(alloc, &put) {
+pub(crate) fn put_fragment(out: &Answer, lines: &str) {
+    let put = events(out, lines);
+    match fragment(out.alloc, &put) {
         Ok(fragment) => put_events(out, fragment.events()),
         Err(_) => out.refuse(),
     }
@@ -122,7 +114,7 @@ fn fragment(alloc: Global, put: &[Event]) -> Result<Fragment, AllocError> {
 }
 
 /// Adds the lines that say events, with slashes between them.
-fn put_events(out: &mut Answer, events: &[Event]) {
+fn put_events(out: &Answer, events: &[Event]) {
     out.put_if(events.is_empty(), "nothing");
     let mut before = "";
     for event in events {
@@ -143,12 +135,12 @@ pub(crate) enum Form {
 }
 
 /// Adds what is written of events.
-pub(crate) fn put_written(out: &mut Answer, alloc: Global, form: &Form, lines: &str) {
-    let put = events(out, alloc, lines);
+pub(crate) fn put_written(out: &Answer, form: &Form, lines: &str) {
+    let put = events(out, lines);
     let written = match form {
-        Form::Text => text(alloc, &put),
-        Form::Pyx => pyx(alloc, &put),
-        Form::Stream => streamed(out, alloc, &put),
+        Form::Text => text(out.alloc, &put),
+        Form::Pyx => pyx(out.alloc, &put),
+        Form::Stream => streamed(out, &put),
     };
     match written {
         Ok(written) => out.put_escaped(text_of(&written)),
@@ -171,13 +163,13 @@ fn pyx(alloc: Global, put: &[Event]) -> Result<Vec<u8>, AllocError> {
 }
 
 /// The lines of events that come one by one; adds how many bytes of them there are after each.
-fn streamed(out: &mut Answer, alloc: Global, put: &[Event]) -> Result<Vec<u8>, AllocError> {
-    let mut lines = Vec::new(alloc);
-    let mut stream = PyxStream::new(alloc)?;
+fn streamed(out: &Answer, put: &[Event]) -> Result<Vec<u8>, AllocError> {
+    let mut lines = Vec::new(out.alloc);
+    let mut stream = PyxStream::new(out.alloc)?;
     for event in put {
         stream = stream.take(&mut lines, event)?;
-        out.put_count("", lines.len() as u64);
-        out.put(" ");
+        out.put_whole(lines.len() as u64);
+        out.put_byte(b' ');
     }
     stream.finish(&mut lines)?;
     Ok(lines)

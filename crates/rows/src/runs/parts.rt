@@ -2,6 +2,18 @@
 
 use crate::runs::events::Form;
 
+/// Which file a row gives.
+pub(crate) enum FileKind {
+    /// The content of the stylesheet.
+    Sheet,
+    /// That of another stylesheet.
+    Module,
+    /// The source.
+    Source,
+    /// Any file.
+    Other,
+}
+
 /// What a line that begins a part says.
 pub(crate) enum Part {
     /// A row begins.
@@ -11,7 +23,7 @@ pub(crate) enum Part {
     /// The budget of a run.
     Budget,
     /// A file.
-    File,
+    File(FileKind),
     /// The options with which each run is made.
     With,
     /// What is called for a row in one line.
@@ -29,10 +41,10 @@ pub(crate) const PARTS: &[(&str, Part)] = &[
     ("row", Part::Row),
     ("args", Part::Arguments),
     ("budget", Part::Budget),
-    ("sheet", Part::File),
-    ("module", Part::File),
-    ("source", Part::File),
-    ("file", Part::File),
+    ("sheet", Part::File(FileKind::Sheet)),
+    ("module", Part::File(FileKind::Module)),
+    ("source", Part::File(FileKind::Source)),
+    ("file", Part::File(FileKind::Other)),
     ("with", Part::With),
     ("call", Part::Call),
     ("most", Part::Most),

@@ -20,32 +20,30 @@ use xs_trace::text::TextBuf;
 
 /// Adds what the stylesheet of the library gives for each of some sources, or its fault.
 pub(crate) fn put_replies<R: Threads + Sync>(
-    out: &mut Answer,
+    out: &Answer,
     rt: &R,
-    alloc: Global,
     library: &mut MemLibrary,
     names: &str,
 ) {
-    match read_modules(alloc, library, "s.pyx") {
-        Ok(modules) => put_by_modules(out, rt, alloc, &modules, library, names),
+    match read_modules(out.alloc, library, "s.pyx") {
+        Ok(modules) => put_by_modules(out, rt, &modules, library, names),
         Err(end) => put_end(out, &end),
     }
 }
 
 /// Adds what modules give for each of some sources, or their fault.
 fn put_by_modules<R: Threads + Sync>(
-    out: &mut Answer,
+    out: &Answer,
     rt: &R,
-    alloc: Global,
     modules: &Modules,
     library: &mut MemLibrary,
     names: &str,
 )
     requires sound { AreSound (modules_data modules.now) }
 {
-    match compile(alloc, modules) {
+    match compile(out.alloc, modules) {
         Ok(sheet) => {
-            put_by_sheet(out, rt, alloc, &sheet, library, names);
+            put_by_sheet(out, rt, &sheet, library, names);
             drop(sheet);
         }
         Err(CompileEnd::Refused(fault)) => put_fault(out, modules, Some(fault)),
@@ -55,9 +53,8 @@ fn put_by_modules<R: Threads + Sync>(
 
 /// Adds what a stylesheet gives for each of some sources.
 fn put_by_sheet<R: Threads + Sync>(
-    out: &mut Answer,
+    out: &Answer,
     rt: &R,
-    alloc: Global,
     sheet: &Sheet,
     library: &mut MemLibrary,
     names: &str,
@@ -67,23 +64,22 @@ fn put_by_sheet<R: Threads + Sync>(
     let mut is_first = true;
     for name in names.split(' ') {
         out.put_if(!is_first, "; ");
-        put_by_source(out, rt, alloc, sheet, library, name);
+        put_by_source(out, rt, sheet, library, name);
         is_first = false;
     }
 }
 
 /// Adds what a stylesheet gives for a source.
 fn put_by_source<R: Threads + Sync>(
-    out: &mut Answer,
+    out: &Answer,
     rt: &R,
-    alloc: Global,
     sheet: &Sheet,
     library: &mut MemLibrary,
     name: &str,
 )
     requires sound { IsSound sheet.now }
 {
-    match reply_on(rt, alloc, sheet, library, name) {
+    match reply_on(rt, out.alloc, sheet, library, name) {
         Ok(reply) => {
             put_reply(out, &reply);
             drop(reply);
@@ -133,7 +129,7 @@ fn greeting(alloc: Global) -> Result<(TextBuf, TextBuf), AllocError> {
 }
 
 /// Adds a reply: its status, its ticks, its lines for the user, its fault, and its result.
-fn put_reply(out: &mut Answer, reply: &Reply) {
+fn put_reply(out: &Answer, reply: &Reply) {
     put_spent(out, reply.status, reply.ticks, &reply.lines);
     if let Some(fault) = &reply.fault {
         out.put(" | ");

@@ -1,9 +1,10 @@
 //! What a run is made of: files, and what fails of them and of the sinks.
 
-use crate::answer::Answer;
+use crate::answer::{Answer, text_of};
 use crate::fields::{cut, whole};
 use crate::library::file_of;
-use crate::runs::texts::put_decoded;
+use crate::runs::parts::FileKind;
+use crate::texts::put_decoded;
 use std::alloc::Global;
 use std::thread::Threads;
 use xs_engine::{Report, transform};
@@ -44,7 +45,6 @@ struct File<'t> {
 /// What the runs of a row have in common.
 #[derive(Drop)]
 pub(crate) struct Setup<'t> {
-    alloc: Global,
     /// The files, of which the last of a name counts.
     files: Vec<File<'t>>,
     /// How many of them further rows have, too.
@@ -66,7 +66,6 @@ impl<'t> Setup<'t> {
     /// No files, and nothing that fails.
     pub(crate) fn new(alloc: Global) -> Setup<'t> {
         Setup {
-            alloc,
             files: Vec::new(alloc),
             shared: 0,
             failing: Vec::new(alloc),
@@ -81,22 +80,22 @@ impl<'t> Setup<'t> {
         self.most = ROOM;
     }
 
-    /// Begins a file, by the word and the rest of the line that begins its part: one of a row, or
+    /// Begins a file, by its kind and the rest of the line that begins its part: one of a row, or
     /// of all rows that follow. Whether its lines follow.
     pub(crate) fn add_file(
         &mut self,
-        out: &mut Answer,
-        word: &str,
+        out: &Answer,
+        kind: &FileKind,
         rest: &'t str,
         is_shared: bool,
     ) -> bool {
-        let (name, line) = named(word, rest);
-        let form = form_of(word, line);
-        let mut text = Answer::new(self.alloc);
+        let (name, line, form) = file_in(kind, rest);
+        let text = Answer::new(out.alloc);
         text.put(line);
         text.put_if(matches!(form, Form::Content), START);
-        if word == "sheet" {
-            text.put_part("(xsl:output\nAmethod ", rest, "\n)xsl:output\n");
+        if matches!(kind, FileKind::Sheet) && !rest.is_empty() {
+            text.put("(xsl:output\nAmethod ");
+            text.put_both(rest, "\n)xsl:output\n");
         }
         out.take(&mut self.files, Ok(File { name, text, form }));
         if is_shared {
@@ -108,8 +107,7 @@ impl<'t> Setup<'t> {
     /// Adds a line to the last file.
     pub(crate) fn put_line(&mut self, line: &str) {
         if let Some(file) = self.files.last_mut() {
-            file.text.put(line);
-            file.text.put("\n");
+            file.text.put_line(line);
         }
     }
 
@@ -119,14 +117,14 @@ impl<'t> Setup<'t> {
     }
 
     /// Takes the number of a fetch, or of a write of a sink, that fails.
-    pub(crate) fn add_failing(&mut self, out: &mut Answer, rest: &'t str) {
+    pub(crate) fn add_failing(&mut self, out: &Answer, rest: &'t str) {
         let (what, number) = cut(rest, " ");
         out.take(&mut self.failing, Ok((what, whole(number) as u64)));
     }
 
     /// The numbers of the fetches, or of the writes of a sink, that fail.
-    fn failures(&self, out: &mut Answer, wanted: &str) -> Vec<u64> {
-        let mut numbers = Vec::new(self.alloc);
+    fn failures(&self, out: &Answer, wanted: &str) -> Vec<u64> {
+        let mut numbers = Vec::new(out.alloc);
         for (what, number) in &self.failing {
             if *what == wanted {
                 out.take(&mut numbers, Ok(*number));
@@ -136,19 +134,19 @@ impl<'t> Setup<'t> {
     }
 
     /// The library of the files, in which a text takes its place.
-    pub(crate) fn library(&self, out: &mut Answer, text: &[u8]) -> MemLibrary {
-        let mut files = Vec::new(self.alloc);
+    pub(crate) fn library(&self, out: &Answer, text: &[u8]) -> MemLibrary {
+        let mut files = Vec::new(out.alloc);
         for file in self.files.iter().rev() {
-            let bytes = bytes_of(out, self.alloc, file, text);
-            out.take(&mut files, file_of(self.alloc, file.name, bytes));
+            let bytes = bytes_of(out, file, text);
+            out.take(&mut files, file_of(out.alloc, file.name, bytes));
         }
-        MemLibrary::new(self.alloc, files, self.failures(out, "fetch"))
+        MemLibrary::new(out.alloc, files, self.failures(out, "fetch"))
     }
 
     /// An empty sink that fails the listed writes.
-    fn sink(&self, out: &mut Answer, wanted: &str) -> MemSink {
+    fn sink(&self, out: &Answer, wanted: &str) -> MemSink {
         let failing = self.failures(out, wanted);
-        let mut sink = MemSink::new(self.alloc, self.most.max(1), failing);
+        let mut sink = MemSink::new(out.alloc, self.most.max(1), failing);
         out.note(sink.reserve(ROOM));
         sink
     }
@@ -157,7 +155,7 @@ impl<'t> Setup<'t> {
     /// refused memory, what is written of the run is refused.
     pub(crate) fn run<R: Threads + Sync>(
         &self,
-        written: &mut Answer,
+        written: &Answer,
         rt: &R,
         words: &[String],
         text: &[u8],
@@ -167,7 +165,7 @@ impl<'t> Setup<'t> {
         let mut lines = self.sink(written, "lines");
         let report = transform(
             rt,
-            self.alloc,
+            written.alloc,
             words,
             &mut library,
             &mut result,
@@ -183,40 +181,39 @@ impl<'t> Setup<'t> {
     }
 }
 
-/// The name of a file, and its only line where it has one.
-fn named<'t>(word: &str, rest: &'t str) -> (&'t str, &'t str) {
-    match word {
-        "sheet" => ("s.pyx", ""),
-        "source" => ("src.pyx", rest),
-        _ => cut(rest, " "),
-    }
-}
-
-/// How the text of a file is written.
-fn form_of(word: &str, line: &str) -> Form {
-    match word {
-        "sheet" | "module" => Form::Content,
-        _ if line.is_empty() => Form::Whole,
-        _ => Form::Escaped,
-    }
+/// The name of a file, its only line where it has one, and how its text is written.
+fn file_in<'t>(kind: &FileKind, rest: &'t str) -> (&'t str, &'t str, Form) {
+    let (name, line) = match kind {
+        FileKind::Sheet => return ("s.pyx", "", Form::Content),
+        FileKind::Module => return (rest, "", Form::Content),
+        FileKind::Source => ("src.pyx", rest),
+        FileKind::Other => cut(rest, " "),
+    };
+    let form = if line.is_empty() {
+        Form::Whole
+    } else {
+        Form::Escaped
+    };
+    (name, line, form)
 }
 
 /// The bytes of a file, in which a text takes its place.
-fn bytes_of(out: &mut Answer, alloc: Global, file: &File<'_>, text: &[u8]) -> Vec<u8> {
-    let mut bytes = Answer::new(alloc);
-    let whole = file.text.held_text(out);
+fn bytes_of(out: &Answer, file: &File<'_>, text: &[u8]) -> Vec<u8> {
+    let bytes = Answer::new(out.alloc);
+    let whole = file.text.copy(out);
+    let whole = text_of(&whole);
     let (before, after) = cut(whole, PLACE);
-    put_part(&mut bytes, file.form, before);
+    put_part(&bytes, file.form, before);
     if before.len() < whole.len() {
         bytes.put_bytes(text);
-        put_part(&mut bytes, file.form, after);
+        put_part(&bytes, file.form, after);
     }
     bytes.put_if(matches!(file.form, Form::Content), END);
-    bytes.into_held(out)
+    bytes.into_bytes(out)
 }
 
 /// Adds the bytes of a part of a file.
-fn put_part(out: &mut Answer, form: Form, part: &str) {
+fn put_part(out: &Answer, form: Form, part: &str) {
     if let Form::Escaped = form {
         put_decoded(out, part);
     } else {

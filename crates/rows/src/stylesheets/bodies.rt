@@ -1,41 +1,42 @@
 //! Bodies and instructions, as texts.
 
 use crate::answer::Answer;
-use crate::stylesheets::values::{
-    put_label, put_labels, put_pattern_if, put_scoped, put_scoped_if, put_template, put_template_if,
-};
+use crate::lookups::name_of;
+use crate::stylesheets::values::{Shown, put_sets, put_some};
 use xs_sheet::body::{
     Applied, Binding, Body, Choice, Content, Instr, InstrKind, Level, LiteralStart, MadeName,
     NumberDecl, Passed, SortDecl,
 };
 use xs_sheet::scoped::ScopedExpr;
+use xs_trace::item::Site;
 
 /// Adds a body, in square brackets: each instruction after its line.
 #[cycle(bodies)]
-pub(crate) fn put_body(out: &mut Answer, body: &Body) {
-    out.put("[");
+pub(crate) fn put_body(out: &Answer, body: &Body) {
+    out.put_byte(b'[');
     for instr in body.instrs.as_slice() {
         put_instr(out, instr);
     }
-    out.put("]");
+    out.put_byte(b']');
 }
 
 /// Adds an instruction after its line.
 #[cycle(bodies)]
-pub(crate) fn put_instr(out: &mut Answer, instr: &Instr) {
-    put_line(out, instr.site.line);
+pub(crate) fn put_instr(out: &Answer, instr: &Instr) {
+    put_line(out, instr.site);
     put_kind(out, &instr.kind);
 }
 
 /// Adds a line.
-fn put_line(out: &mut Answer, line: u32) {
-    out.put_count(" ", line as u64);
-    out.put(":");
+fn put_line(out: &Answer, site: Site) {
+    out.put_byte(b' ');
+    out.put_whole(site.line as u64);
+    out.put_byte(b':');
 }
 
 /// Adds what an instruction does.
 #[cycle(bodies)]
-fn put_kind(out: &mut Answer, kind: &InstrKind) {
+fn put_kind(out: &Answer, kind: &InstrKind) {
     match kind {
         InstrKind::ApplyTemplates { nodes, passed } => {
             put_nodes(out, nodes);
@@ -72,16 +73,16 @@ fn put_kind(out: &mut Answer, kind: &InstrKind) {
 
 /// Adds an instruction that makes nodes.
 #[cycle(bodies)]
-fn put_made(out: &mut Answer, kind: &InstrKind) {
+fn put_made(out: &Answer, kind: &InstrKind) {
     match kind {
         InstrKind::Copy { sets, body } => {
             out.put("copy");
-            put_labels(out, " uses ", sets.as_slice());
+            put_sets(out, sets.as_slice());
             put_body(out, body);
         }
         InstrKind::Element { name, sets, body } => {
             put_made_name(out, "element ", name);
-            put_labels(out, " uses ", sets.as_slice());
+            put_sets(out, sets.as_slice());
             put_body(out, body);
         }
         InstrKind::Attribute { name, body } => {
@@ -94,15 +95,12 @@ fn put_made(out: &mut Answer, kind: &InstrKind) {
         }
         InstrKind::Pi { name, body } => {
             out.put("pi ");
-            put_template(out, name);
+            name.put(out);
             put_body(out, body);
         }
         InstrKind::Message { terminate, body } => {
-            out.put(if *terminate {
-                "message true"
-            } else {
-                "message false"
-            });
+            out.put("message ");
+            out.put_bool(*terminate);
             put_body(out, body);
         }
         InstrKind::Literal { start, body } => {
@@ -114,23 +112,23 @@ fn put_made(out: &mut Answer, kind: &InstrKind) {
 }
 
 /// Adds an instruction without a body.
-fn put_simple(out: &mut Answer, kind: &InstrKind) {
+fn put_simple(out: &Answer, kind: &InstrKind) {
     match kind {
         InstrKind::ApplyImports => out.put("imports"),
         InstrKind::ValueOf(select) => put_tested(out, "value", select),
         InstrKind::CopyOf(select) => put_tested(out, "copy-of", select),
         InstrKind::Number(number) => put_number(out, number),
-        InstrKind::Text(text) => out.put_in("'", text.as_str(), "'"),
+        InstrKind::Text(text) => out.put_quoted(text.as_str()),
         _ => (),
     }
 }
 
 /// Adds the branches of a choice.
 #[cycle(bodies)]
-fn put_choice(out: &mut Answer, choice: &Choice) {
+fn put_choice(out: &Answer, choice: &Choice) {
     out.put("choose");
     for when in choice.whens.as_slice() {
-        put_scoped(out, &when.test);
+        when.test.put(out);
         put_body(out, &when.body);
     }
     out.put("else");
@@ -139,92 +137,95 @@ fn put_choice(out: &mut Answer, choice: &Choice) {
 
 /// Adds the parameters that are passed.
 #[cycle(bodies)]
-fn put_passed(out: &mut Answer, passed: &Passed) {
+fn put_passed(out: &Answer, passed: &Passed) {
     for binding in passed.params.as_slice() {
         out.put(" with");
-        put_line(out, binding.site.line);
+        put_line(out, binding.site);
         put_binding(out, binding);
     }
 }
 
 /// Adds a binding.
 #[cycle(bodies)]
-pub(crate) fn put_binding(out: &mut Answer, binding: &Binding) {
-    out.put("$");
-    put_label(out, &binding.name);
+pub(crate) fn put_binding(out: &Answer, binding: &Binding) {
+    out.put_byte(b'$');
+    out.put_label(&binding.name);
     match &binding.content {
         Content::Empty => (),
-        Content::Select(e) => put_scoped(out, e),
+        Content::Select(e) => e.put(out),
         Content::Body(body) => put_body(out, body),
     }
 }
 
 /// Adds an expression after a word.
-fn put_tested(out: &mut Answer, word: &str, e: &ScopedExpr) {
+fn put_tested(out: &Answer, word: &str, e: &ScopedExpr) {
     out.put(word);
-    put_scoped(out, e);
+    e.put(out);
 }
 
 /// Adds the nodes to which templates are applied.
-fn put_nodes(out: &mut Answer, nodes: &Applied) {
+fn put_nodes(out: &Answer, nodes: &Applied) {
     out.put("apply");
-    put_scoped_if(out, "", &nodes.select);
+    put_some(out, "", &nodes.select);
     put_mode(out, nodes.mode);
     put_sorts(out, nodes.sorts.as_slice());
 }
 
 /// Adds a mode, except that of templates without one.
-pub(crate) fn put_mode(out: &mut Answer, mode: u32) {
+pub(crate) fn put_mode(out: &Answer, mode: u32) {
     if mode != 0 {
         out.put_count(" mode ", mode as u64);
     }
 }
 
 /// Adds sort keys.
-fn put_sorts(out: &mut Answer, sorts: &[SortDecl]) {
+fn put_sorts(out: &Answer, sorts: &[SortDecl]) {
     for sort in sorts {
         put_tested(out, " sort", &sort.select);
-        put_template_if(out, " type ", &sort.data_type);
-        put_template_if(out, " order ", &sort.order);
+        put_some(out, " type ", &sort.data_type);
+        put_some(out, " order ", &sort.order);
     }
 }
 
+/// The levels of numbers.
+const LEVELS: &[(&str, Level)] = &[
+    ("single", Level::Single),
+    ("multiple", Level::Multiple),
+    ("any", Level::Any),
+];
+
 /// Adds a number.
-fn put_number(out: &mut Answer, number: &NumberDecl) {
-    out.put(match number.level {
-        Level::Single => "number single",
-        Level::Multiple => "number multiple",
-        Level::Any => "number any",
-    });
-    put_pattern_if(out, " count", &number.count);
-    put_pattern_if(out, " from", &number.from);
-    put_scoped_if(out, " value", &number.value);
-    put_template_if(out, " format ", &number.format);
-    put_template_if(out, " separator ", &number.grouping_separator);
-    put_template_if(out, " size ", &number.grouping_size);
+fn put_number(out: &Answer, number: &NumberDecl) {
+    out.put_both("number ", name_of(LEVELS, &number.level));
+    put_some(out, " count", &number.count);
+    put_some(out, " from", &number.from);
+    put_some(out, " value", &number.value);
+    put_some(out, " format ", &number.format);
+    put_some(out, " separator ", &number.grouping_separator);
+    put_some(out, " size ", &number.grouping_size);
 }
 
 /// Adds a name that is made, after a word.
-fn put_made_name(out: &mut Answer, word: &str, name: &MadeName) {
+fn put_made_name(out: &Answer, word: &str, name: &MadeName) {
     out.put(word);
-    put_template(out, &name.name);
-    put_template_if(out, " in ", &name.namespace);
+    name.name.put(out);
+    put_some(out, " in ", &name.namespace);
 }
 
 /// Adds a literal element except for its content.
-fn put_start(out: &mut Answer, start: &LiteralStart) {
-    out.put("<");
-    put_label(out, &start.name);
+fn put_start(out: &Answer, start: &LiteralStart) {
+    out.put_byte(b'<');
+    out.put_label(&start.name);
     for (prefix, uri) in start.spaces.as_slice() {
-        out.put_in(" ", prefix.as_str(), "=");
-        out.put(uri.as_str());
+        out.put_signed(b' ', prefix.as_str());
+        out.put_signed(b'=', uri.as_str());
     }
-    put_labels(out, " uses ", start.sets.as_slice());
+    put_sets(out, start.sets.as_slice());
     for (name, value) in start.attributes.as_slice() {
-        out.put(" ");
-        put_label(out, name);
-        out.put("=");
-        put_template(out, value);
+        out.put_byte(b' ');
+        out.put_label(name);
+        out.put_byte(b'=');
+        value.put(out);
     }
-    out.put(">");
+    out.put_byte(b'>');
 }

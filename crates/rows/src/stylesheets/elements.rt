@@ -4,40 +4,33 @@ ghost use Rattle.std.specs.Prelude.{◌<◌, length};
 
 use crate::answer::Answer;
 use crate::lookups::name_of;
-use crate::stylesheets::values::put_expanded;
-use std::alloc::Global;
 use xs_elements::attributes::{Need, attributes, form_named};
 use xs_elements::contents::{Before, Content, content_of, holds_text, may_stand};
 use xs_elements::forms::{Form, forbids_current, forbids_key, forbids_variables, sees_locals};
 use xs_elements::kept::{is_kept, own_space};
 use xs_elements::rows::{Row, is_document_element, is_top_level, row_of};
-use xs_elements::scope::{Expanded, expanded, has, own_name, scope_at, uri_of, value_of};
+use xs_elements::scope::{expanded, has, own_name, scope_at, uri_of, value_of};
 use xs_elements::value::{is_bad, is_unbound, is_unsupported};
 use xs_elements::words::first_word;
 use xs_tree::{Kind, Node, Tree};
 
-/// Adds an expanded name, if there is one.
-fn put_expanded_if(out: &mut Answer, name: Option<Expanded<'_>>) {
-    match name {
-        Some((uri, local)) => put_expanded(out, uri, local),
-        None => out.put("?"),
-    }
-}
-
 /// Adds the name that an element gives to what it declares, if it gives one.
-fn put_own_name(out: &mut Answer, tree: &Tree, node: Node)
+fn put_own_name(out: &Answer, tree: &Tree, node: Node)
     requires { node < length tree.now }
 {
     if let Some(value) = value_of(tree, node, "", "name") {
         let name = expanded(tree, node, value);
         out.put(", name ");
-        put_expanded_if(out, name);
+        match name {
+            Some((uri, local)) => out.put_name(uri, "", local),
+            None => out.put_byte(b'?'),
+        }
         out.put_if(own_name(tree, node) != name, " and another of its own");
     }
 }
 
 /// Adds what an element is, and what holds in it.
-fn put_element(out: &mut Answer, tree: &Tree, node: Node)
+fn put_element(out: &Answer, tree: &Tree, node: Node)
     requires { node < length tree.now }
 {
     out.put(tree.local(node));
@@ -51,7 +44,7 @@ fn put_element(out: &mut Answer, tree: &Tree, node: Node)
     put_own_name(out, tree, node);
     out.put_if(has(tree, node, "select"), ", select");
     if let Some(uri) = uri_of(tree, node, "") {
-        out.put_in(", default ", uri, "");
+        out.put_both(", default ", uri);
     }
     out.put(match own_space(tree, node) {
         Some(true) => ", space preserved",
@@ -61,7 +54,7 @@ fn put_element(out: &mut Answer, tree: &Tree, node: Node)
 }
 
 /// Adds whether a text is kept in its element.
-fn put_text(out: &mut Answer, tree: &Tree, node: Node)
+fn put_text(out: &Answer, tree: &Tree, node: Node)
     requires { node < length tree.now }
 {
     let Some(parent) = tree.parent(node) else {
@@ -73,7 +66,7 @@ fn put_text(out: &mut Answer, tree: &Tree, node: Node)
 }
 
 /// Adds what each element and text is.
-pub(crate) fn put_elements(out: &mut Answer, tree: &Tree) {
+pub(crate) fn put_elements(out: &Answer, tree: &Tree) {
     for place in 0..tree.len() as u32 {
         let node = Node::at(place);
         let kind = tree.kind(node);
@@ -104,7 +97,7 @@ const CONTENTS: &[(&str, Content)] = &[
 ];
 
 /// Adds the content of the document element, and whether each element in it may stand there.
-pub(crate) fn put_contents(out: &mut Answer, tree: &Tree) {
+pub(crate) fn put_contents(out: &Answer, tree: &Tree) {
     let mut content = Content::Unread;
     let mut before = Before::none();
     for place in 0..tree.len() as u32 {
@@ -113,7 +106,7 @@ pub(crate) fn put_contents(out: &mut Answer, tree: &Tree) {
             content = content_of(row_of(tree, node), has(tree, node, "select"));
             out.put(name_of(CONTENTS, &content));
             out.put_if(holds_text(content), " with text");
-            out.put(":");
+            out.put_byte(b':');
         } else if tree.kind(node) == Kind::Element {
             let row = row_of(tree, node);
             let has_namespace = !tree.uri(node).is_empty();
@@ -145,15 +138,6 @@ const FORMS: &[(&str, Form)] = &[
     ("priority", Form::Priority),
 ];
 
-/// Adds a form, and what its values may not have.
-fn put_form(out: &mut Answer, form: Form) {
-    out.put(name_of(FORMS, &form));
-    out.put_if(forbids_variables(form), ", no variables");
-    out.put_if(!sees_locals(form), ", no local ones");
-    out.put_if(forbids_current(form), ", no current()");
-    out.put_if(forbids_key(form), ", no key()");
-}
-
 /// Whether an element has to have an attribute with this local part.
 fn is_required(row: Row, local: &str) -> bool {
     for attribute in attributes(row) {
@@ -164,8 +148,8 @@ fn is_required(row: Row, local: &str) -> bool {
     false
 }
 
-/// Adds what an attribute of an element has to be, and whether it is.
-fn put_value(out: &mut Answer, alloc: Global, tree: &Tree, element: Node, attribute: Node)
+/// Adds what an attribute of an element has to be, what it may not have, and whether it is good.
+fn put_value(out: &Answer, tree: &Tree, element: Node, attribute: Node)
     requires element { element < length tree.now }
     requires attribute { attribute < length tree.now }
 {
@@ -175,8 +159,12 @@ fn put_value(out: &mut Answer, alloc: Global, tree: &Tree, element: Node, attrib
         return;
     };
     out.put_if(is_required(row, local), "required ");
-    put_form(out, form);
-    let Ok(scope) = scope_at(alloc, tree, element) else {
+    out.put(name_of(FORMS, &form));
+    out.put_if(forbids_variables(form), ", no variables");
+    out.put_if(!sees_locals(form), ", no local ones");
+    out.put_if(forbids_current(form), ", no current()");
+    out.put_if(forbids_key(form), ", no key()");
+    let Ok(scope) = scope_at(out.alloc, tree, element) else {
         return out.refuse();
     };
     let value = tree.text(attribute);
@@ -192,27 +180,28 @@ fn put_value(out: &mut Answer, alloc: Global, tree: &Tree, element: Node, attrib
 }
 
 /// Adds what each attribute of an element below the document element has to be.
-pub(crate) fn put_values(out: &mut Answer, alloc: Global, tree: &Tree) {
+pub(crate) fn put_values(out: &Answer, tree: &Tree) {
     for place in 0..tree.len() as u32 {
         let attribute = Node::at(place);
         if tree.kind(attribute) == Kind::Attribute
             && let Some(element) = tree.parent(attribute)
             && !is_document_element(tree, element)
         {
-            put_value(out, alloc, tree, element, attribute);
+            put_value(out, tree, element, attribute);
         }
     }
 }
 
 /// Adds the first word of each attribute below the document element, and what is after it.
-pub(crate) fn put_first_words(out: &mut Answer, tree: &Tree) {
+pub(crate) fn put_first_words(out: &Answer, tree: &Tree) {
     for place in 0..tree.len() as u32 {
         let node = Node::at(place);
         if tree.kind(node) == Kind::Attribute
             && let Some((word, rest)) = first_word(tree.text(node))
         {
-            out.put_in("'", word, "' and ");
-            out.put_in("'", rest, "'");
+            out.put_quoted(word);
+            out.put(" and ");
+            out.put_quoted(rest);
         }
     }
 }

@@ -9,9 +9,9 @@ const MOST: usize = 6;
 
 /// Adds a module: its name, the precedences that it imports and has, and the number of the module
 /// that mentions it.
-fn put_module(out: &mut Answer, module: &Module) {
-    out.put_in("", module.name.as_str(), " ");
-    out.put_pair(module.imports_from, "-", module.precedence);
+fn put_module(out: &Answer, module: &Module) {
+    out.put_ended(module.name.as_str(), b' ');
+    out.put_pair(module.imports_from, b'-', module.precedence);
     if let Some((number, _)) = module.mention {
         out.put_count(" by ", number as u64);
     }
@@ -19,7 +19,7 @@ fn put_module(out: &mut Answer, module: &Module) {
 }
 
 /// Adds the first modules, and how many there are where there are more.
-pub(crate) fn put_modules(out: &mut Answer, modules: &Modules) {
+pub(crate) fn put_modules(out: &Answer, modules: &Modules) {
     let mut is_first = true;
     for module in modules.list.iter().take(MOST) {
         out.put_if(!is_first, "; ");
@@ -32,16 +32,16 @@ pub(crate) fn put_modules(out: &mut Answer, modules: &Modules) {
 }
 
 /// Adds a fault: its number, module and line.
-pub(crate) fn put_numbered(out: &mut Answer, number: u8, module: &str, line: u32) {
+pub(crate) fn put_numbered(out: &Answer, number: u8, module: &str, line: u32) {
     out.put_count("fault ", number as u64);
-    out.put_in(" ", module, " ");
-    out.put_count("", line as u64);
+    out.put_in(b' ', module, b' ');
+    out.put_whole(line as u64);
 }
 
 /// Adds why modules were not read.
-pub(crate) fn put_end(out: &mut Answer, end: &ModulesEnd) {
+pub(crate) fn put_end(out: &Answer, end: &ModulesEnd) {
     match end {
-        ModulesEnd::Failed { name } => out.put_in("failed ", name.as_str(), ""),
+        ModulesEnd::Failed { name } => out.put_both("failed ", name.as_str()),
         ModulesEnd::Refused {
             number,
             module,
@@ -52,7 +52,7 @@ pub(crate) fn put_end(out: &mut Answer, end: &ModulesEnd) {
 }
 
 /// Adds a static fault, if there is one.
-pub(crate) fn put_fault(out: &mut Answer, modules: &Modules, fault: Option<StaticFault>) {
+pub(crate) fn put_fault(out: &Answer, modules: &Modules, fault: Option<StaticFault>) {
     let Some(fault) = fault else {
         return;
     };

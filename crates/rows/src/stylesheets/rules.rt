@@ -65,46 +65,40 @@ fn indexed_rule(
 }
 
 /// The rules that the nodes of a document take, by the stylesheet.
-fn plain_rules(
-    out: &mut Answer,
-    alloc: Global,
-    sheet: &Sheet,
-    tree: &Tree,
-    among: Among,
-) -> Vec<Rule>
+fn plain_rules(out: &Answer, sheet: &Sheet, tree: &Tree, among: Among) -> Vec<Rule>
     requires few { length sheet.now.templates < 2 ^ 32 }
 {
-    let mut rules = Vec::new(alloc);
+    let mut rules = Vec::new(out.alloc);
     for place in 0..tree.len() as u32 {
-        let rule = rule_of(alloc, sheet, tree, Node::at(place), among);
-        out.take(&mut rules, rule);
+        out.take(
+            &mut rules,
+            rule_of(out.alloc, sheet, tree, Node::at(place), among),
+        );
     }
     rules
 }
 
-/// The rules that the nodes of a document take, by an index.
-fn indexed_rules(
-    out: &mut Answer,
-    alloc: Global,
-    index: &RuleIndex<'_>,
-    tree: &Tree,
-    among: Among,
-) -> Vec<Rule>
+/// Whether rules are those that the nodes of a document take, by an index.
+fn are_by(out: &Answer, index: &RuleIndex<'_>, tree: &Tree, among: Among, rules: &[Rule]) -> bool
     requires index { IsIndex index.now }
     requires prepared { IsPrepared index.now tree.now }
 {
-    let mut rules = Vec::new(alloc);
     for place in 0..tree.len() as u32 {
-        let rule = indexed_rule(alloc, index, tree, Node::at(place), among);
-        out.take(&mut rules, rule);
+        match indexed_rule(out.alloc, index, tree, Node::at(place), among) {
+            Ok(rule) => {
+                if rules.get(place as usize) != Some(&rule) {
+                    return false;
+                }
+            }
+            Err(_) => out.refuse(),
+        }
     }
-    rules
+    true
 }
 
 /// Whether rules are those by an index, as it is and with tables for the document.
 fn are_indexed(
-    out: &mut Answer,
-    alloc: Global,
+    out: &Answer,
     index: &mut RuleIndex<'_>,
     tree: &Tree,
     among: Among,
@@ -113,12 +107,9 @@ fn are_indexed(
     requires index { IsIndex index.old }
     requires prepared { IsPrepared index.old tree.now }
 {
-    let plain = indexed_rules(out, alloc, index, tree, among);
-    match index.prepare(alloc, tree) {
-        Ok(()) => {
-            let prepared = indexed_rules(out, alloc, index, tree, among);
-            plain.as_slice() == rules && prepared.as_slice() == rules
-        }
+    let are_plain = are_by(out, index, tree, among, rules);
+    match index.prepare(out.alloc, tree) {
+        Ok(()) => are_by(out, index, tree, among, rules) && are_plain,
         Err(_) => {
             out.refuse();
             false
@@ -128,20 +119,14 @@ fn are_indexed(
 
 /// The rules that the nodes of a document take, none of too large a stylesheet; adds `!` where the
 /// stylesheet and its indexes differ.
-fn rules_of(
-    out: &mut Answer,
-    alloc: Global,
-    sheet: &Sheet,
-    tree: &Tree,
-    among: Among,
-) -> Vec<Rule> {
+fn rules_of(out: &Answer, sheet: &Sheet, tree: &Tree, among: Among) -> Vec<Rule> {
     if sheet.templates.as_slice().len() >= MOST {
-        return Vec::new(alloc);
+        return Vec::new(out.alloc);
     }
-    let rules = plain_rules(out, alloc, sheet, tree, among);
-    match RuleIndex::new(alloc, sheet) {
+    let rules = plain_rules(out, sheet, tree, among);
+    match RuleIndex::new(out.alloc, sheet) {
         Ok(mut index) => {
-            let is_agreed = are_indexed(out, alloc, &mut index, tree, among, &rules);
+            let is_agreed = are_indexed(out, &mut index, tree, among, &rules);
             out.put_if(!is_agreed, "!");
             drop(index);
         }
@@ -161,21 +146,21 @@ fn count_chosen(rules: &[Rule]) -> u64 {
 
 /// Adds the rules of all nodes but the namespace nodes: the number of a template, or `-` for the
 /// built-in one.
-fn put_all(out: &mut Answer, rules: &[Rule], tree: &Tree) {
+fn put_all(out: &Answer, rules: &[Rule], tree: &Tree) {
     for place in 0..tree.len() as u32 {
         if tree.kind(Node::at(place)) != Kind::Space {
             match rules.get(place as usize) {
-                Some(Rule::Template(number)) => out.put_count("", *number as u64),
-                _ => out.put("-"),
+                Some(Rule::Template(number)) => out.put_whole(*number as u64),
+                _ => out.put_byte(b'-'),
             }
         }
     }
 }
 
 /// Adds the rules without a mode, and those of each mode in which a node takes a template.
-pub(crate) fn put_rules(out: &mut Answer, alloc: Global, sheet: &Sheet, tree: &Tree) {
+pub(crate) fn put_rules(out: &Answer, sheet: &Sheet, tree: &Tree) {
     for mode in 0..MODES {
-        let rules = rules_of(out, alloc, sheet, tree, Among::Mode(mode));
+        let rules = rules_of(out, sheet, tree, Among::Mode(mode));
         if mode == 0 || count_chosen(&rules) > 0 {
             out.put_if(mode > 0, " ");
             put_all(out, &rules, tree);
@@ -184,18 +169,18 @@ pub(crate) fn put_rules(out: &mut Answer, alloc: Global, sheet: &Sheet, tree: &T
 }
 
 /// Adds the rules among those imported under each template.
-pub(crate) fn put_imported(out: &mut Answer, alloc: Global, sheet: &Sheet, tree: &Tree) {
+pub(crate) fn put_imported(out: &Answer, sheet: &Sheet, tree: &Tree) {
     let mut under = 0_u32;
     for _ in sheet.templates.as_slice() {
         out.put_if(under > 0, " ");
-        let rules = rules_of(out, alloc, sheet, tree, Among::ImportedUnder(under));
+        let rules = rules_of(out, sheet, tree, Among::ImportedUnder(under));
         put_all(out, &rules, tree);
         under = under.wrapping_add(1);
     }
 }
 
 /// Adds how many nodes take a template without a mode.
-pub(crate) fn put_count(out: &mut Answer, alloc: Global, sheet: &Sheet, tree: &Tree) {
-    let rules = rules_of(out, alloc, sheet, tree, Among::Mode(0));
-    out.put_count("", count_chosen(&rules));
+pub(crate) fn put_count(out: &Answer, sheet: &Sheet, tree: &Tree) {
+    let rules = rules_of(out, sheet, tree, Among::Mode(0));
+    out.put_whole(count_chosen(&rules));
 }

@@ -1,6 +1,6 @@
 //! The settings of a row file.
 
-use crate::answer::Answer;
+use crate::answer::{Answer, text_of};
 use crate::fields::cut;
 use crate::lookups::value_named;
 use crate::repeats::put_repeated;
@@ -97,7 +97,7 @@ impl<'t> Settings<'t> {
     }
 
     /// Takes a setting: its word and its text, with a space between them.
-    pub(crate) fn set(&mut self, out: &mut Answer, setting: &'t str) {
+    pub(crate) fn set(&mut self, out: &Answer, setting: &'t str) {
         let (word, text) = cut(setting, " ");
         match value_named(SETTINGS, word) {
             Some(Setting::Rows) => {
@@ -112,7 +112,7 @@ impl<'t> Settings<'t> {
     }
 
     /// Adds the text for which a name stands: the field of an input for a number.
-    fn put_named(&self, out: &mut Answer, name: &str, input: &str) {
+    fn put_named(&self, out: &Answer, name: &str, input: &str) {
         if let Ok(number) = name.parse::<usize>() {
             let field = input.split(" | ").nth(number.saturating_sub(1));
             out.put(field.unwrap_or(""));
@@ -124,39 +124,37 @@ impl<'t> Settings<'t> {
         }
     }
 
-    /// Adds a text with what the names in it, each between two percent signs, represent.
-    fn put_replaced(&self, out: &mut Answer, text: &str, input: &str) {
+    /// A text with what the names in it, each between two percent signs, represent.
+    fn replaced(&self, out: &Answer, text: &str, input: &str) -> Vec<u8> {
+        let next = Answer::new(out.alloc);
         let mut is_name = false;
         for part in text.split('%') {
             if is_name {
-                self.put_named(out, part, input);
+                self.put_named(&next, part, input);
             } else {
-                out.put(part);
+                next.put(part);
             }
             is_name = !is_name;
         }
+        next.into_bytes(out)
     }
 
     /// A text without names.
-    pub(crate) fn expanded(&self, alloc: Global, text: &str, input: &str) -> Answer {
-        let mut out = Answer::new(alloc);
-        out.put(text);
-        for _ in 0..ROUNDS {
-            let mut next = Answer::new(alloc);
-            let text = out.held_text(&mut next);
-            self.put_replaced(&mut next, text, input);
-            out = next;
+    pub(crate) fn expanded(&self, out: &Answer, text: &str, input: &str) -> Vec<u8> {
+        let mut bytes = self.replaced(out, text, input);
+        for _ in 1..ROUNDS {
+            bytes = self.replaced(out, text_of(&bytes), input);
         }
-        out
+        bytes
     }
 
     /// The whole input of a row.
-    pub(crate) fn input(&self, alloc: Global, input: &str) -> Answer {
+    pub(crate) fn input(&self, out: &Answer, input: &str) -> Vec<u8> {
         let form = if self.form.is_empty() {
             input
         } else {
             self.form
         };
-        self.expanded(alloc, form, input)
+        self.expanded(out, form, input)
     }
 }

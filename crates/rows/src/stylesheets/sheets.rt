@@ -2,7 +2,7 @@
 
 use crate::answer::Answer;
 use crate::stylesheets::bodies::{put_binding, put_body, put_instr, put_mode};
-use crate::stylesheets::values::{put_label, put_labels, put_pattern, put_pattern_if, put_scoped};
+use crate::stylesheets::values::{Shown, put_sets, put_some};
 use xs_sheet::declarations::{
     Alias, AttrSet, Global, KeyDecl, Method, NameTest, StripRule, Template,
 };
@@ -10,50 +10,43 @@ use xs_sheet::sheet::Sheet;
 use xs_trace::item::Site;
 
 /// Begins a declaration: what it is.
-fn put_word(out: &mut Answer, word: &str) {
+fn put_word(out: &Answer, word: &str) {
     out.put_between("; ");
     out.put(word);
 }
 
 /// Begins a declaration: what it is, and its module and line.
-fn put_site(out: &mut Answer, word: &str, site: Site) {
+fn put_site(out: &Answer, word: &str, site: Site) {
     put_word(out, word);
-    out.put_pair(site.module, ".", site.line);
-    out.put(" ");
+    out.put_pair(site.module, b'.', site.line);
+    out.put_byte(b' ');
 }
 
-/// A declaration that is added as a text.
-trait Declaration {
-    /// Adds the declaration.
-    fn put(&self, out: &mut Answer);
-}
-
-impl Declaration for Template {
+impl Shown for Template {
     /// Adds a template: its module and line, its precedences, its pattern, name, priority and mode,
     /// its parameters, its body.
-    fn put(&self, out: &mut Answer) {
+    fn put(&self, out: &Answer) {
         put_site(out, "T ", self.site);
-        out.put_pair(self.imports_from, "-", self.precedence);
-        put_pattern_if(out, " match", &self.pattern);
-        if let Some(name) = &self.name {
-            out.put(" name ");
-            put_label(out, name);
-        }
+        out.put_pair(self.imports_from, b'-', self.precedence);
+        put_some(out, " match", &self.pattern);
+        put_some(out, " name ", &self.name);
         if let Some(priority) = self.priority {
-            out.put_signed(" priority ", priority);
+            out.put(" priority ");
+            out.put_if(priority < 0, "-");
+            out.put_whole(priority.unsigned_abs());
         }
         put_mode(out, self.mode);
         for param in self.params.as_slice() {
-            out.put(" ");
+            out.put_byte(b' ');
             put_binding(out, param);
         }
         put_body(out, &self.body);
     }
 }
 
-impl Declaration for Global {
+impl Shown for Global {
     /// Adds a global variable or parameter.
-    fn put(&self, out: &mut Answer) {
+    fn put(&self, out: &Answer) {
         put_site(out, "G ", self.binding.site);
         if self.param {
             out.put("param ");
@@ -62,60 +55,62 @@ impl Declaration for Global {
     }
 }
 
-impl Declaration for KeyDecl {
+impl Shown for KeyDecl {
     /// Adds a key.
-    fn put(&self, out: &mut Answer) {
+    fn put(&self, out: &Answer) {
         put_site(out, "K ", self.site);
-        put_label(out, &self.name);
-        put_pattern(out, &self.pattern);
-        put_scoped(out, &self.value);
+        out.put_label(&self.name);
+        self.pattern.put(out);
+        self.value.put(out);
     }
 }
 
-impl Declaration for AttrSet {
+impl Shown for AttrSet {
     /// Adds a declaration of an attribute set.
-    fn put(&self, out: &mut Answer) {
+    fn put(&self, out: &Answer) {
         put_site(out, "S ", self.site);
-        out.put_count("", self.precedence as u64);
-        out.put(" ");
-        put_label(out, &self.name);
-        put_labels(out, " uses ", self.sets.as_slice());
+        out.put_whole(self.precedence as u64);
+        out.put_byte(b' ');
+        out.put_label(&self.name);
+        put_sets(out, self.sets.as_slice());
         for attribute in self.attributes.as_slice() {
             put_instr(out, attribute);
         }
     }
 }
 
-impl Declaration for StripRule {
+impl Shown for StripRule {
     /// Adds a rule for white space.
-    fn put(&self, out: &mut Answer) {
+    fn put(&self, out: &Answer) {
         put_word(out, if self.strip { "W strip " } else { "W keep " });
         match &self.test {
-            NameTest::Any => out.put("*"),
-            NameTest::Uri(uri) => out.put_in("[", uri.as_str(), "]*"),
-            NameTest::Name(name) => put_label(out, name),
+            NameTest::Any => out.put_byte(b'*'),
+            NameTest::Uri(uri) => out.put_name(uri.as_str(), "", "*"),
+            NameTest::Name(name) => out.put_label(name),
         }
-        out.put_count(" ", self.precedence as u64);
+        out.put_byte(b' ');
+        out.put_whole(self.precedence as u64);
     }
 }
 
-impl Declaration for Alias {
+impl Shown for Alias {
     /// Adds an alias: both URIs.
-    fn put(&self, out: &mut Answer) {
+    fn put(&self, out: &Answer) {
         put_word(out, "A ");
-        out.put_in(self.from_uri.as_str(), "=", self.to_uri.as_str());
+        out.put_ended(self.from_uri.as_str(), b'=');
+        out.put(self.to_uri.as_str());
     }
 }
 
 /// Adds declarations.
-fn put_all<T: Declaration>(out: &mut Answer, declarations: &[T]) {
+fn put_all<T: Shown>(out: &Answer, declarations: &[T]) {
     for declaration in declarations {
         declaration.put(out);
     }
 }
 
 /// Adds all of a stylesheet.
-pub(crate) fn put_sheet(out: &mut Answer, sheet: &Sheet) {
+pub(crate) fn put_sheet(out: &Answer, sheet: &Sheet) {
     put_all(out, sheet.templates.as_slice());
     put_all(out, sheet.globals.as_slice());
     put_all(out, sheet.keys.as_slice());

@@ -6,29 +6,32 @@ use std::alloc::{AllocError, Global};
 
 /// Adds the bytes that a text in one line means: `\n`, `\t`, `\r` and `\\` as in PYX lines, `\s` a
 /// space, `\?` a byte that UTF-8 does not have, and `<<3:ab>>` the same as `ababab`.
-pub(crate) fn put_decoded(out: &mut Answer, text: &str) {
+pub(crate) fn put_decoded(out: &Answer, text: &str) {
     for part in text.split("<<") {
         put_part(out, part);
     }
 }
 
-/// Adds a part: where it has `>>`, what is repeated before it, and what follows.
-fn put_part(out: &mut Answer, part: &str) {
-    let (repeat, plain) = cut_prefix(part, ">>");
-    put_repeat(out, repeat);
-    put_plain(out, plain);
+/// The bytes that a text in one line means.
+pub(crate) fn decoded(alloc: Global, text: &str) -> Answer {
+    let bytes = Answer::new(alloc);
+    put_decoded(&bytes, text);
+    bytes
 }
 
-/// Adds a text as often as the number before its colon says.
-fn put_repeat(out: &mut Answer, repeat: &str) {
+/// Adds a part: where it has `>>`, the text before it as often as the number before its colon says,
+/// and what follows.
+fn put_part(out: &Answer, part: &str) {
+    let (repeat, plain) = cut_prefix(part, ">>");
     let (count, text) = cut_prefix(repeat, ":");
     for _ in 0..whole(count) {
         put_plain(out, text);
     }
+    put_plain(out, plain);
 }
 
 /// Adds a text without repetitions.
-fn put_plain(out: &mut Answer, text: &str) {
+fn put_plain(out: &Answer, text: &str) {
     let mut is_escaped = false;
     for byte in text.bytes() {
         if is_escaped {
@@ -55,17 +58,15 @@ fn escaped_byte(letter: u8) -> u8 {
 }
 
 /// Takes the words of a line, which are separated by single spaces; an empty line has none.
-pub(crate) fn push_words(out: &mut Answer, alloc: Global, words: &mut Vec<String>, line: &str) {
+pub(crate) fn push_words(out: &Answer, words: &mut Vec<String>, line: &str) {
     if !line.is_empty() {
         for word in line.split(' ') {
-            out.take(words, word_of(alloc, word));
+            out.take(words, word_of(out.alloc, word));
         }
     }
 }
 
 /// The word that a text means.
 pub(crate) fn word_of(alloc: Global, text: &str) -> Result<String, AllocError> {
-    let mut word = Answer::new(alloc);
-    put_decoded(&mut word, text);
-    String::from_str(alloc, text_of(word.text()?))
+    String::from_str(alloc, text_of(&decoded(alloc, text).finish()?))
 }
