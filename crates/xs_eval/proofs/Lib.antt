@@ -11,3 +11,4 @@ pub mod PositionLemmas
 pub mod UnionLemmas
 pub mod UnitedLemmas
 pub mod TemplateLemmas
+pub mod LiteralLemmas

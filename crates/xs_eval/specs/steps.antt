@@ -5,3 +5,4 @@ pub mod Nodes
 pub mod Variables
 pub mod Positions
 pub mod Unions
+pub mod Operands

@@ -12,6 +12,7 @@ ghost use Rattle.xs_eval.specs.Results.{Answers, AnswersBy, natural, nodes_in, n
 ghost use Rattle.xs_value.specs.declared.value.Value.TheVariants.{Bool, Number, Chars, Nodes};
 
 use crate::context::Context;
+use crate::operand::Operand;
 use crate::trouble::{Trouble, computed};
 use std::alloc::{AllocError, Global};
 use std::borrow::CowStr;
@@ -20,7 +21,7 @@ use xs_num::reading::read_num;
 use xs_trace::fault::Fault;
 use xs_trace::text::TextBuf;
 use xs_tree::{Node, Tree};
-use xs_value::conversion::{lend_text, node_text, to_bool, to_number};
+use xs_value::conversion::{node_text, to_number};
 use xs_value::node_set::NodeSet;
 use xs_value::value::{Value, ValueFault};
 
@@ -81,7 +82,7 @@ pub(crate) fn into_set(v: Value) -> Result<NodeSet, Trouble>
 pub(crate) fn text_at<'a>(
     alloc: Global,
     tree: &'a Tree,
-    values: &'a [Value],
+    values: &'a [Operand<'_>],
     place: usize,
 ) -> Result<CowStr<'a, Global>, AllocError>
     requires { All (IsIn tree.now) values.now }
@@ -89,7 +90,7 @@ pub(crate) fn text_at<'a>(
         ≡ text_value tree.now (argument values.now place)) }
 {
     match values.get(place) {
-        Some(v) => lend_text(alloc, tree, v),
+        Some(v) => v.text(alloc, tree),
         None => Ok(CowStr::Borrowed("")),
     }
 }
@@ -98,7 +99,7 @@ pub(crate) fn text_at<'a>(
 pub(crate) fn text_or_node<'a>(
     alloc: Global,
     context: &'a Context<'_>,
-    values: &'a [Value],
+    values: &'a [Operand<'_>],
 ) -> Result<CowStr<'a, Global>, AllocError>
     requires node { context.now.node < length context.now.tree }
     requires inside { All (IsIn context.now.tree) values.now }
@@ -106,7 +107,7 @@ pub(crate) fn text_or_node<'a>(
         ≡ text_value context.now.tree (first_or_node context.now values.now)) }
 {
     match values.first() {
-        Some(v) => lend_text(alloc, context.tree, v),
+        Some(v) => v.text(alloc, context.tree),
         None => node_text(alloc, context.tree, context.node),
     }
 }
@@ -115,14 +116,14 @@ pub(crate) fn text_or_node<'a>(
 pub(crate) fn number_at(
     alloc: Global,
     tree: &Tree,
-    values: &[Value],
+    values: &[Operand<'_>],
     place: usize,
 ) -> Result<Num, Trouble>
     requires { All (IsIn tree.now) values.now }
     ensures number { Answers (numeric (number_value tree.now (argument values.now place))) result }
 {
     match values.get(place) {
-        Some(v) => number_of(alloc, tree, v),
+        Some(v) => v.number(alloc, tree),
         None => Ok(Num::NAN),
     }
 }
@@ -131,7 +132,7 @@ pub(crate) fn number_at(
 pub(crate) fn number_or_node(
     alloc: Global,
     context: &Context<'_>,
-    values: &[Value],
+    values: &[Operand<'_>],
 ) -> Result<Num, Trouble>
     requires node { context.now.node < length context.now.tree }
     requires inside { All (IsIn context.now.tree) values.now }
@@ -139,7 +140,7 @@ pub(crate) fn number_or_node(
         (numeric (number_value context.now.tree (first_or_node context.now values.now))) result }
 {
     match values.first() {
-        Some(v) => number_of(alloc, context.tree, v),
+        Some(v) => v.number(alloc, context.tree),
         None => {
             let text = node_text(alloc, context.tree, context.node)?;
             let number = read_num(text.as_str());
@@ -150,21 +151,21 @@ pub(crate) fn number_or_node(
 }
 
 /// Whether an argument is true; one that is not there is not.
-pub(crate) fn truth_at(values: &[Value], place: usize) -> bool
+pub(crate) fn truth_at(values: &[Operand<'_>], place: usize) -> bool
     ensures { result ≡ bool_value (argument values.now place) }
 {
     match values.get(place) {
-        Some(v) => to_bool(v),
+        Some(v) => v.truth(),
         None => false,
     }
 }
 
 /// The nodes of an argument by its place, which has to be a node-set.
-pub(crate) fn nodes_at(values: &[Value], place: usize) -> Result<&[Node], Trouble>
+pub(crate) fn nodes_at<'b>(values: &'b [Operand<'_>], place: usize) -> Result<&'b [Node], Trouble>
     ensures nodes { AnswersBy (λ ns. ns.now) (nodes_in (argument values.now place)) result }
 {
     match values.get(place) {
-        Some(v) => nodes_of(v),
+        Some(v) => v.nodes(),
         None => Err(Trouble::Fault(Fault::NotNodes)),
     }
 }
@@ -172,7 +173,7 @@ pub(crate) fn nodes_at(values: &[Value], place: usize) -> Result<&[Node], Troubl
 /// The first node of the first argument, in document order; where it is left out, the context node.
 pub(crate) fn node_or_first(
     context: &Context<'_>,
-    values: &[Value],
+    values: &[Operand<'_>],
 ) -> Result<Option<Node>, Trouble>
     requires node { context.now.node < length context.now.tree }
     requires inside { All (IsIn context.now.tree) values.now }
@@ -180,7 +181,7 @@ pub(crate) fn node_or_first(
     ensures inside { IfOk result (λ n. IfSome n (λ k. k < length context.now.tree)) }
 {
     match values.first() {
-        Some(v) => Ok(nodes_of(v)?.first().copied()),
+        Some(v) => Ok(v.nodes()?.first().copied()),
         None => Ok(Some(context.node)),
     }
 }

@@ -19,6 +19,7 @@ use crate::context::Context;
 use crate::keys::find_by_key;
 use crate::languages::is_in_language;
 use crate::names::{is_element_available, is_function_available, system_property};
+use crate::operand::Operand;
 use crate::trouble::{Trouble, settled};
 use crate::{nodes, strings};
 use std::alloc::Global;
@@ -35,7 +36,7 @@ use xs_xpath::name::Function;
 pub(crate) fn answer<K: KeyFinder, T: Tally>(
     alloc: Global,
     function: Function,
-    values: &[Value],
+    values: &[Operand<'_>],
     context: &Context<'_>,
     keys: &K,
     site: Site,
@@ -60,7 +61,7 @@ fn apply(
     alloc: Global,
     function: Function,
     context: &Context<'_>,
-    values: &[Value],
+    values: &[Operand<'_>],
 ) -> Result<Value, Trouble>
     requires node { context.now.node < length context.now.tree }
     requires inside { All (IsIn context.now.tree) values.now }
@@ -113,7 +114,7 @@ fn no_nodes(alloc: Global) -> Result<Value, Trouble>
 }
 
 // `lang`.
-fn lang(alloc: Global, context: &Context<'_>, values: &[Value]) -> Result<Value, Trouble>
+fn lang(alloc: Global, context: &Context<'_>, values: &[Operand<'_>]) -> Result<Value, Trouble>
     requires node { context.now.node < length context.now.tree }
     requires inside { All (IsIn context.now.tree) values.now }
     ensures value { Answers (Ok (Boolean (is_in_language context.now.tree context.now.node
@@ -126,7 +127,7 @@ fn lang(alloc: Global, context: &Context<'_>, values: &[Value]) -> Result<Value,
 }
 
 // `number`.
-fn number(alloc: Global, context: &Context<'_>, values: &[Value]) -> Result<Value, Trouble>
+fn number(alloc: Global, context: &Context<'_>, values: &[Operand<'_>]) -> Result<Value, Trouble>
     requires node { context.now.node < length context.now.tree }
     requires inside { All (IsIn context.now.tree) values.now }
     ensures value { Answers
@@ -136,7 +137,7 @@ fn number(alloc: Global, context: &Context<'_>, values: &[Value]) -> Result<Valu
 }
 
 // `floor`, `ceiling` and `round`, since each number is whole.
-fn whole(alloc: Global, tree: &Tree, values: &[Value]) -> Result<Value, Trouble>
+fn whole(alloc: Global, tree: &Tree, values: &[Operand<'_>]) -> Result<Value, Trouble>
     requires { All (IsIn tree.now) values.now }
     ensures value { Answers (number tree.now (first values.now)) result }
 {
@@ -151,7 +152,7 @@ fn current(alloc: Global, context: &Context<'_>) -> Result<Value, Trouble>
 }
 
 // `system-property`.
-fn property(alloc: Global, context: &Context<'_>, values: &[Value]) -> Result<Value, Trouble>
+fn property(alloc: Global, context: &Context<'_>, values: &[Operand<'_>]) -> Result<Value, Trouble>
     requires { All (IsIn context.now.tree) values.now }
     ensures value { Answers (Ok (system_property context.now.scope
         (text_value context.now.tree (first values.now)))) result }
@@ -166,7 +167,7 @@ fn property(alloc: Global, context: &Context<'_>, values: &[Value]) -> Result<Va
 fn element_available(
     alloc: Global,
     context: &Context<'_>,
-    values: &[Value],
+    values: &[Operand<'_>],
 ) -> Result<Value, Trouble>
     requires { All (IsIn context.now.tree) values.now }
     ensures value { Answers (Ok (Boolean (is_element_available context.now.scope
@@ -179,7 +180,7 @@ fn element_available(
 }
 
 // `function-available`.
-fn function_available(alloc: Global, tree: &Tree, values: &[Value]) -> Result<Value, Trouble>
+fn function_available(alloc: Global, tree: &Tree, values: &[Operand<'_>]) -> Result<Value, Trouble>
     requires { All (IsIn tree.now) values.now }
     ensures value { Answers (Ok (Boolean (is_function_available
         (text_value tree.now (first values.now))))) result }

@@ -12,15 +12,16 @@ ghost use Rattle.xs_eval.specs.Paths.{filter_expr, filtered, kept_of, path, sele
 ghost use Rattle.xs_eval.specs.Paths.{steps_from, through};
 ghost use Rattle.xs_eval.specs.steps.Nodes.{AreSome};
 
-use crate::arguments::{into_set, single};
+use crate::arguments::single;
 use crate::calls::answer;
 use crate::context::Context;
 use crate::node_tests::tested;
+use crate::operand::{Operand, SetOperand};
 use crate::operators::{decided, negate, operate};
 use crate::predicates::{count_of, kept_if, number_of, picked, selects};
 use crate::steps::{is_union_of_steps, only_step, unite_steps};
 use crate::trouble::settled;
-use crate::variables::variable;
+use crate::variables::{lend, variable};
 use std::alloc::Global;
 use xs_trace::item::Site;
 use xs_trace::recorder::{Halt, Tally, tick_several};
@@ -54,13 +55,13 @@ pub fn evaluate<K: KeyFinder, T: Tally>(
 {
     match expr {
         Expr::Number(number) => Ok(Value::Number(*number)),
-        Expr::Literal(text) => Ok(Value::Chars(text.copy()?)),
+        Expr::Literal(text) => Ok(Value::Chars(TextBuf::of(alloc, text.as_str())?)),
         Expr::Variable(_, _, slot) => variable(alloc, *slot, context, site),
         Expr::Call(function, arguments) => {
             evaluate_call(alloc, *function, arguments, context, keys, site, tally)
         }
-        Expr::Negative(signs, operand) => {
-            evaluate_negative(alloc, *signs, operand, context, keys, site, tally)
+        Expr::Negative(signs, inner) => {
+            evaluate_negative(alloc, *signs, inner, context, keys, site, tally)
         }
         Expr::Chain(operators, operands) => {
             evaluate_chain(alloc, operators, operands, context, keys, site, tally)
@@ -90,13 +91,38 @@ pub fn evaluate<K: KeyFinder, T: Tally>(
     }
 }
 
+// An expression as an operand: what it lends, or its value.
+#[cycle(evaluate)]
+fn operand<'e, K: KeyFinder, T: Tally>(
+    alloc: Global,
+    expr: &'e Expr,
+    context: &Context<'e>,
+    keys: &K,
+    site: Site,
+    tally: &mut T,
+) -> Result<Operand<'e>, Halt>
+    requires context { IsContext (K.tables keys.now) context.now }
+    ensures told { IsStep (limited site (run_of (K.tables keys.now) expr.now context.now)
+        (T.state tally.old)) result (T.state tally.new) }
+    ensures kept { T.kept tally.new ≡ T.kept tally.old }
+    ensures inside { IfOk result (IsIn context.now.tree) }
+{
+    match lend(expr, context) {
+        Some(lent) => Ok(lent),
+        None => {
+            let v = evaluate(alloc, expr, context, keys, site, tally)?;
+            Ok(Operand::own(v))
+        }
+    }
+}
+
 // A call: its tick, its arguments from left to right, and then its function (XPath 1.0, 3.2).
 #[cycle(evaluate)]
-fn evaluate_call<K: KeyFinder, T: Tally>(
+fn evaluate_call<'e, K: KeyFinder, T: Tally>(
     alloc: Global,
     function: Function,
-    arguments: &[Expr],
-    context: &Context<'_>,
+    arguments: &'e [Expr],
+    context: &Context<'e>,
     keys: &K,
     site: Site,
     tally: &mut T,
@@ -112,7 +138,7 @@ fn evaluate_call<K: KeyFinder, T: Tally>(
     tally.tick(site)?;
     let mut values = Vec::new(alloc);
     for argument in arguments {
-        let v = evaluate(alloc, argument, context, keys, site, tally)?;
+        let v = operand(alloc, argument, context, keys, site, tally)?;
         values.push(v)?;
     }
     answer(alloc, function, &values, context, keys, site, tally)
@@ -120,23 +146,23 @@ fn evaluate_call<K: KeyFinder, T: Tally>(
 
 // Minus signs before an operand (XPath 1.0, 3.5).
 #[cycle(evaluate)]
-fn evaluate_negative<K: KeyFinder, T: Tally>(
+fn evaluate_negative<'e, K: KeyFinder, T: Tally>(
     alloc: Global,
     signs: usize,
-    operand: &Expr,
-    context: &Context<'_>,
+    inner: &'e Expr,
+    context: &Context<'e>,
     keys: &K,
     site: Site,
     tally: &mut T,
 ) -> Result<Value, Halt>
     requires context { IsContext (K.tables keys.now) context.now }
     ensures told { IsStep (limited site
-        (negative signs (run_of (K.tables keys.now) operand.now) context.now)
+        (negative signs (run_of (K.tables keys.now) inner.now) context.now)
         (T.state tally.old)) result (T.state tally.new) }
     ensures kept { T.kept tally.new ≡ T.kept tally.old }
     ensures inside { IfOk result (IsIn context.now.tree) }
 {
-    let v = evaluate(alloc, operand, context, keys, site, tally)?;
+    let v = operand(alloc, inner, context, keys, site, tally)?;
     let negated = negate(alloc, signs, context.tree, &v);
     drop(v);
     settled(negated, site)
@@ -144,11 +170,11 @@ fn evaluate_negative<K: KeyFinder, T: Tally>(
 
 // Operands that operators of one level join, to the left (XPath 1.0, 3.3 to 3.5).
 #[cycle(evaluate)]
-fn evaluate_chain<K: KeyFinder, T: Tally>(
+fn evaluate_chain<'e, K: KeyFinder, T: Tally>(
     alloc: Global,
     operators: &[Operator],
-    operands: &[Expr],
-    context: &Context<'_>,
+    operands: &'e [Expr],
+    context: &Context<'e>,
     keys: &K,
     site: Site,
     tally: &mut T,
@@ -166,7 +192,7 @@ fn evaluate_chain<K: KeyFinder, T: Tally>(
     match operands {
         [] => Ok(Value::Chars(TextBuf::of(alloc, "")?)),
         [first, rest @ ..] => {
-            let left = evaluate(alloc, first, context, keys, site, tally)?;
+            let left = operand(alloc, first, context, keys, site, tally)?;
             join_all(alloc, left, operators, rest, context, keys, site, tally)
         }
     }
@@ -174,12 +200,12 @@ fn evaluate_chain<K: KeyFinder, T: Tally>(
 
 // A left operand, joined with each operand after it.
 #[cycle(evaluate)]
-fn join_all<K: KeyFinder, T: Tally>(
+fn join_all<'e, K: KeyFinder, T: Tally>(
     alloc: Global,
-    left: Value,
+    left: Operand<'e>,
     operators: &[Operator],
-    operands: &[Expr],
-    context: &Context<'_>,
+    operands: &'e [Expr],
+    context: &Context<'e>,
     keys: &K,
     site: Site,
     tally: &mut T,
@@ -187,7 +213,8 @@ fn join_all<K: KeyFinder, T: Tally>(
     requires context { IsContext (K.tables keys.now) context.now }
     requires inside { IsIn context.now.tree left }
     ensures told { IsStep (limited site
-        (joined_from context.now left operators.now (runs_of (K.tables keys.now) operands.now))
+        (joined_from context.now left.entry operators.now
+        (runs_of (K.tables keys.now) operands.now))
         (T.state tally.old)) result (T.state tally.new) }
     ensures kept { T.kept tally.new ≡ T.kept tally.old }
     ensures inside { IfOk result (IsIn context.now.tree) }
@@ -196,25 +223,26 @@ fn join_all<K: KeyFinder, T: Tally>(
     let mut operators = operators;
     for right in operands {
         match operators {
-            [] => return Ok(left),
+            [] => return Ok(left.into_value(alloc)?),
             [operator, rest @ ..] => {
-                left = join(alloc, *operator, left, right, context, keys, site, tally)?;
+                let v = join(alloc, *operator, left, right, context, keys, site, tally)?;
+                left = Operand::own(v);
                 operators = rest;
             }
         }
     }
-    Ok(left)
+    Ok(left.into_value(alloc)?)
 }
 
 // Two operands joined. Where the left one decides `or` or `and`, the right one is not evaluated
 // (XPath 1.0, 3.4).
 #[cycle(evaluate)]
-fn join<K: KeyFinder, T: Tally>(
+fn join<'e, K: KeyFinder, T: Tally>(
     alloc: Global,
     operator: Operator,
-    left: Value,
-    right: &Expr,
-    context: &Context<'_>,
+    left: Operand<'e>,
+    right: &'e Expr,
+    context: &Context<'e>,
     keys: &K,
     site: Site,
     tally: &mut T,
@@ -222,7 +250,7 @@ fn join<K: KeyFinder, T: Tally>(
     requires context { IsContext (K.tables keys.now) context.now }
     requires inside { IsIn context.now.tree left }
     ensures told { IsStep (limited site
-        (joined operator left (run_of (K.tables keys.now) right.now) context.now)
+        (joined operator left.entry (run_of (K.tables keys.now) right.now) context.now)
         (T.state tally.old)) result (T.state tally.new) }
     ensures kept { T.kept tally.new ≡ T.kept tally.old }
     ensures inside { IfOk result (IsIn context.now.tree) }
@@ -238,12 +266,12 @@ fn join<K: KeyFinder, T: Tally>(
 
 // The right operand, and then the operator on both.
 #[cycle(evaluate)]
-fn join_right<K: KeyFinder, T: Tally>(
+fn join_right<'e, K: KeyFinder, T: Tally>(
     alloc: Global,
     operator: Operator,
-    left: Value,
-    right: &Expr,
-    context: &Context<'_>,
+    left: Operand<'e>,
+    right: &'e Expr,
+    context: &Context<'e>,
     keys: &K,
     site: Site,
     tally: &mut T,
@@ -251,12 +279,12 @@ fn join_right<K: KeyFinder, T: Tally>(
     requires context { IsContext (K.tables keys.now) context.now }
     requires inside { IsIn context.now.tree left }
     ensures told { IsStep (limited site
-        (right_operated operator left (run_of (K.tables keys.now) right.now) context.now)
+        (right_operated operator left.entry (run_of (K.tables keys.now) right.now) context.now)
         (T.state tally.old)) result (T.state tally.new) }
     ensures kept { T.kept tally.new ≡ T.kept tally.old }
     ensures inside { IfOk result (IsIn context.now.tree) }
 {
-    let v = evaluate(alloc, right, context, keys, site, tally)?;
+    let v = operand(alloc, right, context, keys, site, tally)?;
     let joined = operate(alloc, operator, context.tree, &left, &v);
     drop(left);
     drop(v);
@@ -291,11 +319,11 @@ fn evaluate_step<K: KeyFinder, T: Tally>(
 
 // An expression and its predicates (XPath 1.0, 3.3).
 #[cycle(evaluate)]
-fn evaluate_filter<K: KeyFinder, T: Tally>(
+fn evaluate_filter<'e, K: KeyFinder, T: Tally>(
     alloc: Global,
-    inner: &Expr,
+    inner: &'e Expr,
     predicates: &[Expr],
-    context: &Context<'_>,
+    context: &Context<'e>,
     keys: &K,
     site: Site,
     tally: &mut T,
@@ -317,7 +345,7 @@ fn evaluate_filter<K: KeyFinder, T: Tally>(
 fn keep_of_set<K: KeyFinder, T: Tally>(
     alloc: Global,
     predicates: &[Expr],
-    set: NodeSet,
+    set: SetOperand<'_>,
     context: &Context<'_>,
     keys: &K,
     site: Site,
@@ -326,7 +354,7 @@ fn keep_of_set<K: KeyFinder, T: Tally>(
     requires context { IsContext (K.tables keys.now) context.now }
     requires inside { All (λ k. k < length context.now.tree) set }
     ensures told { IsStep (limited site
-        (kept_of context.now (runs_of (K.tables keys.now) predicates.now) set)
+        (kept_of context.now (runs_of (K.tables keys.now) predicates.now) set.entry)
         (T.state tally.old)) result (T.state tally.new) }
     ensures kept { T.kept tally.new ≡ T.kept tally.old }
     ensures inside { IfOk result (IsIn context.now.tree) }
@@ -335,7 +363,7 @@ fn keep_of_set<K: KeyFinder, T: Tally>(
         [] => {
             // (that its nodes are in order is what this call's contract says)
             let _nodes = set.nodes();
-            Ok(Value::Nodes(set))
+            Ok(Value::Nodes(set.into_set()?))
         }
         [first, rest @ ..] => {
             let nodes = filter(alloc, first, set.nodes(), context, keys, site, tally)?;
@@ -441,11 +469,11 @@ fn filter_each<K: KeyFinder, T: Tally>(
 
 // Where a path begins, and each step from what the one before it gave (XPath 1.0, 2).
 #[cycle(evaluate)]
-fn evaluate_path<K: KeyFinder, T: Tally>(
+fn evaluate_path<'e, K: KeyFinder, T: Tally>(
     alloc: Global,
-    start: &Expr,
+    start: &'e Expr,
     steps: &[Expr],
-    context: &Context<'_>,
+    context: &Context<'e>,
     keys: &K,
     site: Site,
     tally: &mut T,
@@ -463,9 +491,10 @@ fn evaluate_path<K: KeyFinder, T: Tally>(
     }
     let mut nodes = evaluate_nodes(alloc, start, context, keys, site, tally)?;
     for step in steps {
-        nodes = follow(alloc, step, nodes.nodes(), context, keys, site, tally)?;
+        let reached = follow(alloc, step, nodes.nodes(), context, keys, site, tally)?;
+        nodes = SetOperand::own(reached);
     }
-    Ok(Value::Nodes(nodes))
+    Ok(Value::Nodes(nodes.into_set()?))
 }
 
 // A step from each node of a set, in document order.
@@ -516,7 +545,7 @@ fn follow_one<K: KeyFinder, T: Tally>(
     let set = evaluate_nodes(alloc, step, &around, keys, site, tally)?;
     // (that its nodes are in order is what this call's contract tells)
     let _nodes = set.nodes();
-    Ok(set)
+    Ok(set.into_set()?)
 }
 
 // A step from each of some nodes, whose nodes are put in order.
@@ -551,14 +580,14 @@ fn follow_each<K: KeyFinder, T: Tally>(
 // The nodes that an expression gives, which has to be a node-set (XPath 1.0, 3.3).
 #[cycle(evaluate)]
 #[inline(always)]
-fn evaluate_nodes<K: KeyFinder, T: Tally>(
+fn evaluate_nodes<'e, K: KeyFinder, T: Tally>(
     alloc: Global,
-    expr: &Expr,
-    context: &Context<'_>,
+    expr: &'e Expr,
+    context: &Context<'e>,
     keys: &K,
     site: Site,
     tally: &mut T,
-) -> Result<NodeSet, Halt>
+) -> Result<SetOperand<'e>, Halt>
     requires context { IsContext (K.tables keys.now) context.now }
     ensures told { IsStep (limited site
         (selected (run_of (K.tables keys.now) expr.now) context.now)
@@ -566,6 +595,6 @@ fn evaluate_nodes<K: KeyFinder, T: Tally>(
     ensures kept { T.kept tally.new ≡ T.kept tally.old }
     ensures inside { IfOk result (λ ns. All (λ k. k < length context.now.tree) ns) }
 {
-    let v = evaluate(alloc, expr, context, keys, site, tally)?;
-    settled(into_set(v), site)
+    let v = operand(alloc, expr, context, keys, site, tally)?;
+    settled(v.into_set(), site)
 }

@@ -18,6 +18,7 @@ ghost use Rattle.xs_eval.specs.Conditions.{IsContext};
 use crate::arguments::text_at;
 use crate::context::Context;
 use crate::names::expanded_name;
+use crate::operand::{Operand, Seen};
 use crate::predicates::kept_if;
 use std::alloc::{AllocError, Global};
 use xs_trace::fault::Fault;
@@ -37,7 +38,7 @@ pub(crate) fn find_by_key<K: KeyFinder, T: Tally>(
     alloc: Global,
     context: &Context<'_>,
     keys: &K,
-    values: &[Value],
+    values: &[Operand<'_>],
     site: Site,
     tally: &mut T,
 ) -> Result<Value, Halt>
@@ -73,7 +74,7 @@ fn look_up<K: KeyFinder, T: Tally>(
     context: &Context<'_>,
     keys: &K,
     key: u32,
-    values: &[Value],
+    values: &[Operand<'_>],
     site: Site,
     tally: &mut T,
 ) -> Result<Value, Halt>
@@ -102,7 +103,7 @@ fn found_of<K: KeyFinder>(
     context: &Context<'_>,
     keys: &K,
     key: u32,
-    values: &[Value],
+    values: &[Operand<'_>],
 ) -> Result<NodeSet, KeyEnd>
     requires context { IsContext (K.tables keys.now) context.now }
     requires inside { All (IsIn context.now.tree) values.now }
@@ -121,16 +122,26 @@ fn found_of<K: KeyFinder>(
 }
 
 // The nodes whose string-values are looked up, where the second argument is a node-set.
-fn sought_nodes(values: &[Value]) -> Option<&[Node]>
+fn sought_nodes<'b>(values: &'b [Operand<'_>]) -> Option<&'b [Node]>
     ensures { Seeks (second values.now) result }
 {
     match values.get(1) {
-        Some(Value::Nodes(nodes)) => Some(nodes.nodes()),
-        Some(Value::Bool(_)) => None,
-        Some(Value::Number(_)) => None,
-        Some(Value::Chars(_)) => None,
-        Some(Value::Piece(_)) => None,
+        Some(v) => sought_in(v),
         None => None,
+    }
+}
+
+// The nodes of an operand that is a node-set.
+fn sought_in<'b>(v: &'b Operand<'_>) -> Option<&'b [Node]>
+    ensures { Seeks v.now result }
+{
+    match v.seen() {
+        Seen::Value(Value::Nodes(nodes)) => Some(nodes.nodes()),
+        Seen::Value(Value::Bool(_)) => None,
+        Seen::Value(Value::Number(_)) => None,
+        Seen::Value(Value::Chars(_)) => None,
+        Seen::Value(Value::Piece(_)) => None,
+        Seen::Text(_) => None,
     }
 }
 

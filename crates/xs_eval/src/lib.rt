@@ -3,6 +3,7 @@
 
 mod arguments;
 mod calls;
+mod comparisons;
 pub mod context;
 pub mod evaluate;
 pub mod keys;
@@ -10,6 +11,7 @@ mod languages;
 mod names;
 pub mod node_tests;
 mod nodes;
+mod operand;
 mod operators;
 pub mod predicates;
 mod steps;

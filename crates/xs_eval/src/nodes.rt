@@ -15,6 +15,7 @@ ghost use Rattle.xs_eval.specs.Results.{Answers};
 
 use crate::arguments::{chars, chars_of, natural, node_or_first, nodes_at};
 use crate::context::Context;
+use crate::operand::Operand;
 use crate::trouble::{Trouble, computed};
 use std::alloc::{AllocError, Global};
 use xs_num::arithmetic::add;
@@ -27,7 +28,7 @@ use xs_value::conversion::node_text;
 use xs_value::value::Value;
 
 /// `count`.
-pub(crate) fn count(values: &[Value]) -> Result<Value, Trouble>
+pub(crate) fn count(values: &[Operand<'_>]) -> Result<Value, Trouble>
     ensures value { Answers (count (first values.now)) result }
 {
     let nodes = nodes_at(values, 0)?;
@@ -39,7 +40,7 @@ pub(crate) fn count(values: &[Value]) -> Result<Value, Trouble>
 pub(crate) fn local_name(
     alloc: Global,
     context: &Context<'_>,
-    values: &[Value],
+    values: &[Operand<'_>],
 ) -> Result<Value, Trouble>
     requires node { context.now.node < length context.now.tree }
     requires inside { All (IsIn context.now.tree) values.now }
@@ -56,7 +57,7 @@ pub(crate) fn local_name(
 pub(crate) fn namespace_uri(
     alloc: Global,
     context: &Context<'_>,
-    values: &[Value],
+    values: &[Operand<'_>],
 ) -> Result<Value, Trouble>
     requires node { context.now.node < length context.now.tree }
     requires inside { All (IsIn context.now.tree) values.now }
@@ -70,7 +71,11 @@ pub(crate) fn namespace_uri(
 }
 
 /// `name`.
-pub(crate) fn name(alloc: Global, context: &Context<'_>, values: &[Value]) -> Result<Value, Trouble>
+pub(crate) fn name(
+    alloc: Global,
+    context: &Context<'_>,
+    values: &[Operand<'_>],
+) -> Result<Value, Trouble>
     requires node { context.now.node < length context.now.tree }
     requires inside { All (IsIn context.now.tree) values.now }
     ensures value { Answers
@@ -101,7 +106,7 @@ fn written_name(alloc: Global, tree: &Tree, node: Node) -> Result<Value, Trouble
 pub(crate) fn generate_id(
     alloc: Global,
     context: &Context<'_>,
-    values: &[Value],
+    values: &[Operand<'_>],
 ) -> Result<Value, Trouble>
     requires node { context.now.node < length context.now.tree }
     requires inside { All (IsIn context.now.tree) values.now }
@@ -123,7 +128,7 @@ fn id_of(alloc: Global, node: Node) -> Result<Value, Trouble>
 }
 
 /// `sum`: node by node, each number added as soon as it is read.
-pub(crate) fn sum(alloc: Global, tree: &Tree, values: &[Value]) -> Result<Value, Trouble>
+pub(crate) fn sum(alloc: Global, tree: &Tree, values: &[Operand<'_>]) -> Result<Value, Trouble>
     requires { All (IsIn tree.now) values.now }
     ensures value { Answers (sum tree.now (first values.now)) result }
 {

@@ -7,26 +7,26 @@ ghost use Rattle.xs_eval.specs.Operators.{as_value, comparison, decided, negated
 ghost use Rattle.xs_eval.specs.Operators.{numbers, operated, union};
 ghost use Rattle.xs_eval.specs.Results.{Answers};
 
-use crate::arguments::{number_of, set_of};
+use crate::comparisons::compare_operands;
+use crate::operand::Operand;
 use crate::trouble::Trouble;
 use std::alloc::Global;
 use xs_num::arithmetic::{add, div, mul, neg, rem, sub};
 use xs_num::number::{Num, NumFault};
 use xs_trace::fault::Fault;
 use xs_tree::Tree;
-use xs_value::comparison::{CompareOp, compare_values};
-use xs_value::conversion::to_bool;
+use xs_value::comparison::CompareOp;
 use xs_value::value::{Value, ValueFault};
 use xs_xpath::token::Operator;
 
 /// What the left operand of `or` and `and` decides alone (XPath 1.0, 3.4).
 #[inline(always)]
-pub(crate) fn decided(operator: Operator, left: &Value) -> Option<bool>
+pub(crate) fn decided(operator: Operator, left: &Operand<'_>) -> Option<bool>
     ensures { result ≡ decided operator left.now }
 {
     match operator {
-        Operator::Or => { if to_bool(left) { Some(true) } else { None } }
-        Operator::And => { if to_bool(left) { None } else { Some(false) } }
+        Operator::Or => { if left.truth() { Some(true) } else { None } }
+        Operator::And => { if left.truth() { None } else { Some(false) } }
         Operator::Equal => None,
         Operator::Unequal => None,
         Operator::Less => None,
@@ -48,8 +48,8 @@ pub(crate) fn operate(
     alloc: Global,
     operator: Operator,
     tree: &Tree,
-    left: &Value,
-    right: &Value,
+    left: &Operand<'_>,
+    right: &Operand<'_>,
 ) -> Result<Value, Trouble>
     requires left { IsIn tree.now left.now }
     requires right { IsIn tree.now right.now }
@@ -57,8 +57,8 @@ pub(crate) fn operate(
     ensures inside { IfOk result (IsIn tree.now) }
 {
     match operator {
-        Operator::Or => Ok(Value::Bool(to_bool(right))),
-        Operator::And => Ok(Value::Bool(to_bool(right))),
+        Operator::Or => Ok(Value::Bool(right.truth())),
+        Operator::And => Ok(Value::Bool(right.truth())),
         Operator::Equal => compare(alloc, CompareOp::Eq, tree, left, right),
         Operator::Unequal => compare(alloc, CompareOp::Ne, tree, left, right),
         Operator::Less => compare(alloc, CompareOp::Lt, tree, left, right),
@@ -90,13 +90,18 @@ pub(crate) fn operate(
 }
 
 // Both operands as numbers, the left one first.
-fn numbers(alloc: Global, tree: &Tree, left: &Value, right: &Value) -> Result<(Num, Num), Trouble>
+fn numbers(
+    alloc: Global,
+    tree: &Tree,
+    left: &Operand<'_>,
+    right: &Operand<'_>,
+) -> Result<(Num, Num), Trouble>
     requires left { IsIn tree.now left.now }
     requires right { IsIn tree.now right.now }
     ensures numbers { Answers (numbers tree.now left.now right.now) result }
 {
-    let a = number_of(alloc, tree, left)?;
-    let b = number_of(alloc, tree, right)?;
+    let a = left.number(alloc, tree)?;
+    let b = right.number(alloc, tree)?;
     Ok((a, b))
 }
 
@@ -117,15 +122,15 @@ fn compare(
     alloc: Global,
     operator: CompareOp,
     tree: &Tree,
-    left: &Value,
-    right: &Value,
+    left: &Operand<'_>,
+    right: &Operand<'_>,
 ) -> Result<Value, Trouble>
     requires left { IsIn tree.now left.now }
     requires right { IsIn tree.now right.now }
     ensures value { Answers (comparison operator tree.now left.now right.now) result }
     ensures inside { IfOk result (IsIn tree.now) }
 {
-    match compare_values(alloc, tree, operator, left, right) {
+    match compare_operands(alloc, tree, operator, left, right) {
         Ok(holds) => Ok(Value::Bool(holds)),
         Err(ValueFault::Fraction) => Err(Trouble::Fault(Fault::Fraction)),
         Err(ValueFault::Range) => Err(Trouble::Fault(Fault::Range)),
@@ -134,25 +139,35 @@ fn compare(
 }
 
 // The union of two node-sets (XPath 1.0, 3.3).
-fn unite(alloc: Global, tree: &Tree, left: &Value, right: &Value) -> Result<Value, Trouble>
+fn unite(
+    alloc: Global,
+    tree: &Tree,
+    left: &Operand<'_>,
+    right: &Operand<'_>,
+) -> Result<Value, Trouble>
     requires left { IsIn tree.now left.now }
     requires right { IsIn tree.now right.now }
     ensures value { Answers (union left.now right.now) result }
     ensures inside { IfOk result (IsIn tree.now) }
 {
     let _tree = tree;
-    let a = set_of(left)?;
-    let b = set_of(right)?;
+    let a = left.set()?;
+    let b = right.set()?;
     Ok(Value::Nodes(a.union(alloc, b)?))
 }
 
 /// So many minus signs before a value (XPath 1.0, 3.5).
-pub(crate) fn negate(alloc: Global, signs: usize, tree: &Tree, v: &Value) -> Result<Value, Trouble>
+pub(crate) fn negate(
+    alloc: Global,
+    signs: usize,
+    tree: &Tree,
+    v: &Operand<'_>,
+) -> Result<Value, Trouble>
     requires { IsIn tree.now v.now }
     ensures value { Answers (negation signs tree.now v.now) result }
     ensures inside { IfOk result (IsIn tree.now) }
 {
-    let number = number_of(alloc, tree, v)?;
+    let number = v.number(alloc, tree)?;
     Ok(Value::Number(negated_by(signs, number)))
 }
 

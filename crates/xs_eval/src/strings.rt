@@ -14,21 +14,22 @@ ghost use Rattle.xs_eval.specs.Functions.{first_or_node, second, string_length, 
 ghost use Rattle.xs_eval.specs.Functions.{written};
 ghost use Rattle.xs_eval.specs.Results.{Answers, AnswersBy};
 
-use crate::arguments::{chars_of, natural, number_at, number_of, text_at, text_or_node};
+use crate::arguments::{chars_of, natural, number_at, text_at, text_or_node};
 use crate::context::Context;
+use crate::operand::Operand;
 use crate::trouble::Trouble;
 use std::alloc::Global;
 use xs_num::number::Num;
 use xs_strings::{normalization, positions, searching, translation};
 use xs_tree::Tree;
-use xs_value::conversion::{node_text, own_text, text_into, to_text};
+use xs_value::conversion::{node_text, own_text};
 use xs_value::value::Value;
 
 /// `string`.
 pub(crate) fn string(
     alloc: Global,
     context: &Context<'_>,
-    values: &[Value],
+    values: &[Operand<'_>],
 ) -> Result<Value, Trouble>
     requires node { context.now.node < length context.now.tree }
     requires inside { All (IsIn context.now.tree) values.now }
@@ -36,7 +37,7 @@ pub(crate) fn string(
         (text_value context.now.tree (first_or_node context.now values.now)))) result }
 {
     match values.first() {
-        Some(v) => Ok(Value::Chars(to_text(alloc, context.tree, v)?)),
+        Some(v) => Ok(Value::Chars(v.to_text(alloc, context.tree)?)),
         None => {
             let text = node_text(alloc, context.tree, context.node)?;
             Ok(Value::Chars(own_text(alloc, text)?))
@@ -45,19 +46,23 @@ pub(crate) fn string(
 }
 
 /// `concat`.
-pub(crate) fn concat(alloc: Global, tree: &Tree, values: &[Value]) -> Result<Value, Trouble>
+pub(crate) fn concat(alloc: Global, tree: &Tree, values: &[Operand<'_>]) -> Result<Value, Trouble>
     requires { All (IsIn tree.now) values.now }
     ensures value { Answers (Ok (Chars (flat_map (text_value tree.now) values.now))) result }
 {
     let mut bytes = Vec::new(alloc);
     for v in values {
-        text_into(tree, v, &mut bytes)?;
+        v.text_into(tree, &mut bytes)?;
     }
     chars_of(bytes)
 }
 
 /// `starts-with`.
-pub(crate) fn starts_with(alloc: Global, tree: &Tree, values: &[Value]) -> Result<Value, Trouble>
+pub(crate) fn starts_with(
+    alloc: Global,
+    tree: &Tree,
+    values: &[Operand<'_>],
+) -> Result<Value, Trouble>
     requires { All (IsIn tree.now) values.now }
     ensures value { Answers (Ok (Boolean (does_start_with
         (text_value tree.now (first values.now))
@@ -79,7 +84,7 @@ fn begins(text: &str, start: &str) -> bool
 }
 
 /// `contains`.
-pub(crate) fn contains(alloc: Global, tree: &Tree, values: &[Value]) -> Result<Value, Trouble>
+pub(crate) fn contains(alloc: Global, tree: &Tree, values: &[Operand<'_>]) -> Result<Value, Trouble>
     requires { All (IsIn tree.now) values.now }
     ensures value { Answers (Ok (Boolean (does_contain
         (text_value tree.now (first values.now))
@@ -110,7 +115,7 @@ fn holds(text: &str, sought: &str) -> bool
 pub(crate) fn substring_before(
     alloc: Global,
     tree: &Tree,
-    values: &[Value],
+    values: &[Operand<'_>],
 ) -> Result<Value, Trouble>
     requires { All (IsIn tree.now) values.now }
     ensures value { Answers (Ok (written (text_before
@@ -139,7 +144,7 @@ fn text_before(alloc: Global, text: &str, sought: &str) -> Result<Value, Trouble
 pub(crate) fn substring_after(
     alloc: Global,
     tree: &Tree,
-    values: &[Value],
+    values: &[Operand<'_>],
 ) -> Result<Value, Trouble>
     requires { All (IsIn tree.now) values.now }
     ensures value { Answers (Ok (written (text_after
@@ -165,7 +170,11 @@ fn text_after(alloc: Global, text: &str, sought: &str) -> Result<Value, Trouble>
 }
 
 /// `substring`.
-pub(crate) fn substring(alloc: Global, tree: &Tree, values: &[Value]) -> Result<Value, Trouble>
+pub(crate) fn substring(
+    alloc: Global,
+    tree: &Tree,
+    values: &[Operand<'_>],
+) -> Result<Value, Trouble>
     requires { All (IsIn tree.now) values.now }
     ensures value { Answers (substring tree.now values.now) result }
 {
@@ -187,13 +196,13 @@ fn part_of(alloc: Global, text: &str, from: Num, count: Option<Num>) -> Result<V
 }
 
 // How many characters a substring has at most, where that is given.
-fn count_given(alloc: Global, tree: &Tree, values: &[Value]) -> Result<Option<Num>, Trouble>
+fn count_given(alloc: Global, tree: &Tree, values: &[Operand<'_>]) -> Result<Option<Num>, Trouble>
     requires { All (IsIn tree.now) values.now }
     ensures count { AnswersBy (λ n. n)
         (count_given tree.now (slice_get values.now 2)) result }
 {
     match values.get(2) {
-        Some(v) => Ok(Some(number_of(alloc, tree, v)?)),
+        Some(v) => Ok(Some(v.number(alloc, tree)?)),
         None => Ok(None),
     }
 }
@@ -202,7 +211,7 @@ fn count_given(alloc: Global, tree: &Tree, values: &[Value]) -> Result<Option<Nu
 pub(crate) fn string_length(
     alloc: Global,
     context: &Context<'_>,
-    values: &[Value],
+    values: &[Operand<'_>],
 ) -> Result<Value, Trouble>
     requires node { context.now.node < length context.now.tree }
     requires inside { All (IsIn context.now.tree) values.now }
@@ -219,7 +228,7 @@ pub(crate) fn string_length(
 pub(crate) fn normalize_space(
     alloc: Global,
     context: &Context<'_>,
-    values: &[Value],
+    values: &[Operand<'_>],
 ) -> Result<Value, Trouble>
     requires node { context.now.node < length context.now.tree }
     requires inside { All (IsIn context.now.tree) values.now }
@@ -242,7 +251,11 @@ fn normalize(alloc: Global, text: &str) -> Result<Value, Trouble>
 }
 
 /// `translate`.
-pub(crate) fn translate(alloc: Global, tree: &Tree, values: &[Value]) -> Result<Value, Trouble>
+pub(crate) fn translate(
+    alloc: Global,
+    tree: &Tree,
+    values: &[Operand<'_>],
+) -> Result<Value, Trouble>
     requires { All (IsIn tree.now) values.now }
     ensures value { Answers (Ok (written (translated
         (chars (text_value tree.now (first values.now)))

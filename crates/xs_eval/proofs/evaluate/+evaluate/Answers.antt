@@ -85,6 +85,12 @@ evaluate-returns-in-Path-clause-told g t c =
     ∙ ap (λ e. path (run_of keys e) (runs_of keys c.in-Path.steps.items) ctx) (sym c.deref-in-Path.ensures)
     ∙ ap (λ es. path (run_of keys c.deref-in-Path.result.now) (runs_of keys es) ctx) (sym c.deref-in-Path-2.ensures.value)) c.evaluate_path.ensures.told
 
+-- an operand that is lent
+pub operand-returns-in-Some-clause-told : goal.operand-returns-in-Some-clause-told
+operand-returns-in-Some-clause-told g t c =
+    let s = g.T.Tally.state c.args.tally.now in
+    ap (λ r. limited c.args.site r s) (c.in-Some.ensures.run (g.K.KeyFinder.tables c.args.keys.now)) ∙ gives c.args.site c.in-Some.lent s
+
 -- a call: its tick
 pub evaluate_call-returns-in_err-tick-clause-told : goal.evaluate_call-returns-in_err-tick-clause-told
 evaluate_call-returns-in_err-tick-clause-told g t c =
@@ -116,7 +122,7 @@ evaluate_call-returns-in_err-v-clause-told g t c =
     let e = c.argument-item.result in
     exits_in_parts (λ v. v) (λ v. v) c.args.site (and_argument c.args.context.now) (answered keys c.args.context.now c.args.function) (map (run_of keys) es) k
     (run_of keys e) c.loop-argument.values.items (run_of keys e c.args.context.now) (λ v. c.loop-argument.values.items ++ v ∷ [])
-    (g.T.Tally.state c.loop-argument.tally) (g.T.Tally.state c.evaluate.new.tally) _ c.from_residual-in_err-v.result _ _ c.loop-argument.invariant.told
+    (g.T.Tally.state c.loop-argument.tally) (g.T.Tally.state c.operand.new.tally) _ c.from_residual-in_err-v.result _ _ c.loop-argument.invariant.told
     (mapped_below (run_of keys) es k (omega arith)) (mapped_at (run_of keys) es k e (omega arith) c.argument-item.is) refl p.1 p.2 c.in_err-v.ensures.told
 
 pub evaluate_call-loop-argument-preserved : goal.evaluate_call-loop-argument-preserved
@@ -129,7 +135,7 @@ evaluate_call-loop-argument-preserved g t c =
       told =
           parts_on c.args.site (and_argument c.args.context.now) (answered keys c.args.context.now c.args.function) (map (run_of keys) es) k
           (run_of keys e) c.loop-argument.values.items (run_of keys e c.args.context.now) (λ v. c.loop-argument.values.items ++ v ∷ [])
-          c.in_ok-v.v c.push.new.self.items (g.T.Tally.state c.loop-argument.tally) (g.T.Tally.state c.evaluate.new.tally) _
+          c.in_ok-v.v c.push.new.self.items (g.T.Tally.state c.loop-argument.tally) (g.T.Tally.state c.operand.new.tally) _
           c.loop-argument.invariant.told (mapped_below (run_of keys) es k (omega arith)) (mapped_at (run_of keys) es k e (omega arith) c.argument-item.is) refl
           c.in_ok-v.ensures.told c.in_ok-push.ensures.items;
       inside =
@@ -156,15 +162,15 @@ evaluate_call-returns-clause-told g t c =
 pub evaluate_negative-returns-in_err-v-clause-told : goal.evaluate_negative-returns-in_err-v-clause-told
 evaluate_negative-returns-in_err-v-clause-told g t c =
     let p = err_from_is_err_and c.from_residual.result c.from_residual.ensures.1 in
-    exits (λ v. v) (λ v. v) c.args.site (run_of (g.K.KeyFinder.tables c.args.keys.now) c.args.operand.now c.args.context.now)
+    exits (λ v. v) (λ v. v) c.args.site (run_of (g.K.KeyFinder.tables c.args.keys.now) c.args.inner.now c.args.context.now)
     (λ v. given (negation c.args.signs c.args.context.now.tree v)) _
-    (g.T.Tally.state c.args.tally.now) (g.T.Tally.state c.evaluate.new.tally) c.from_residual.result _ _ refl p.1 p.2 c.in_err-v.ensures.told
+    (g.T.Tally.state c.args.tally.now) (g.T.Tally.state c.operand.new.tally) c.from_residual.result _ _ refl p.1 p.2 c.in_err-v.ensures.told
 
 pub evaluate_negative-returns-clause-told : goal.evaluate_negative-returns-clause-told
 evaluate_negative-returns-clause-told g t c =
-    let s = g.T.Tally.state c.evaluate.new.tally in
+    let s = g.T.Tally.state c.operand.new.tally in
     closes (λ v. v) c.args.site (negation c.args.signs c.context.inside.tree.now c.in_ok-v.v) c.negate-negated.result _ c.settled.result s
-    (goes_on c.args.site (run_of (g.K.KeyFinder.tables c.args.keys.now) c.args.operand.now c.args.context.now)
+    (goes_on c.args.site (run_of (g.K.KeyFinder.tables c.args.keys.now) c.args.inner.now c.args.context.now)
     (λ v. given (negation c.args.signs c.args.context.now.tree v)) c.in_ok-v.v (g.T.Tally.state c.args.tally.now) s c.in_ok-v.ensures.told
     ∙ ap (λ (a : Context). limited c.args.site (given (negation c.args.signs a.tree c.in_ok-v.v)) s) (sym c.context.view_is))
     c.settled.ensures c.negate-negated.ensures.value
@@ -186,7 +192,7 @@ evaluate_chain-returns-in_err-left-in-len1-up-clause-told g t c =
     let e = c.first-item.result in
     exits (λ v. v) (λ v. v) c.args.site (run_of keys e c.args.context.now)
     (λ v. joined_from c.args.context.now v c.args.operators.now (runs_of keys (but_first c.args.operands.now))) _
-    (g.T.Tally.state c.args.tally.now) (g.T.Tally.state c.evaluate.new.tally) c.from_residual-in_err-left-in-len1-up.result _ _
+    (g.T.Tally.state c.args.tally.now) (g.T.Tally.state c.operand.new.tally) c.from_residual-in_err-left-in-len1-up.result _ _
     (ap (λ es. limited c.args.site (chain c.args.operators.now (runs_of keys es) c.args.context.now) (g.T.Tally.state c.args.tally.now))
     (first_and_rest c.args.operands.now e (omega arith) c.first-item.is)) p.1 p.2 c.in_err-left-in-len1-up.ensures.told
 
@@ -199,7 +205,7 @@ evaluate_chain-returns-in_ok-left-in-len1-up-clause-told g t c =
     (first_and_rest c.args.operands.now e (omega arith) c.first-item.is)
     ∙ goes_on c.args.site (run_of keys e c.args.context.now)
     (λ v. joined_from c.args.context.now v c.args.operators.now (runs_of keys (but_first c.args.operands.now))) c.in_ok-left-in-len1-up.left
-    (g.T.Tally.state c.args.tally.now) (g.T.Tally.state c.evaluate.new.tally) c.in_ok-left-in-len1-up.ensures.told)
+    (g.T.Tally.state c.args.tally.now) (g.T.Tally.state c.operand.new.tally) c.in_ok-left-in-len1-up.ensures.told)
     c.join_all.ensures.told
 
 -- two operands
@@ -208,11 +214,11 @@ join_right-returns-in_err-v-clause-told g t c =
     let p = err_from_is_err_and c.from_residual.result c.from_residual.ensures.1 in
     exits (λ v. v) (λ v. v) c.args.site (run_of (g.K.KeyFinder.tables c.args.keys.now) c.args.right.now c.args.context.now)
     (λ v. given (operated c.args.operator c.args.context.now.tree c.args.left v)) _
-    (g.T.Tally.state c.args.tally.now) (g.T.Tally.state c.evaluate.new.tally) c.from_residual.result _ _ refl p.1 p.2 c.in_err-v.ensures.told
+    (g.T.Tally.state c.args.tally.now) (g.T.Tally.state c.operand.new.tally) c.from_residual.result _ _ refl p.1 p.2 c.in_err-v.ensures.told
 
 pub join_right-returns-clause-told : goal.join_right-returns-clause-told
 join_right-returns-clause-told g t c =
-    let s = g.T.Tally.state c.evaluate.new.tally in
+    let s = g.T.Tally.state c.operand.new.tally in
     closes (λ v. v) c.args.site (operated c.args.operator c.context.inside.tree.now c.args.left c.in_ok-v.v) c.operate-joined.result _ c.settled.result s
     (goes_on c.args.site (run_of (g.K.KeyFinder.tables c.args.keys.now) c.args.right.now c.args.context.now)
     (λ v. given (operated c.args.operator c.args.context.now.tree c.args.left v)) c.in_ok-v.v (g.T.Tally.state c.args.tally.now) s c.in_ok-v.ensures.told
@@ -225,10 +231,11 @@ join_all-returns-in-empty-clause-told g t c =
     c.loop-right.invariant.told ∙ joins_no_more c.args.site c.args.context.now c.loop-right.left c.loop-right.operators.now
     (drop c.loop-right.right-index (map (run_of (g.K.KeyFinder.tables c.args.keys.now)) c.args.operands.now)) (g.T.Tally.state c.loop-right.tally)
     (no_items c.loop-right.operators.now (omega arith))
+    ∙ ap (λ v. Goes v (g.T.Tally.state c.loop-right.tally)) (sym c.in_ok-into_value-in-empty.ensures.value)
 
-pub join_all-returns-in_err-left-in-len1-up-clause-told : goal.join_all-returns-in_err-left-in-len1-up-clause-told
-join_all-returns-in_err-left-in-len1-up-clause-told g t c =
-    let p = err_from_is_err_and c.from_residual.result c.from_residual.ensures.1 in
+pub join_all-returns-in_err-v-in-len1-up-clause-told : goal.join_all-returns-in_err-v-in-len1-up-clause-told
+join_all-returns-in_err-v-in-len1-up-clause-told g t c =
+    let p = err_from_is_err_and c.from_residual-in_err-v-in-len1-up.result c.from_residual-in_err-v-in-len1-up.ensures.1 in
     let keys = g.K.KeyFinder.tables c.args.keys.now in
     let ms = map (run_of keys) c.args.operands.now in
     let k = c.loop-right.right-index in
@@ -236,12 +243,13 @@ join_all-returns-in_err-left-in-len1-up-clause-told g t c =
     let ops = c.loop-right.operators.now in
     let s = g.T.Tally.state c.loop-right.tally in
     exits (λ v. v) (λ v. v) c.args.site (joined (get_or ops 0 Or) c.loop-right.left (run_of keys e) c.args.context.now)
-    (λ v. joined_from c.args.context.now v (but_first ops) (drop (k + 1) ms)) _ s (g.T.Tally.state c.join.new.tally) c.from_residual.result _ _
+    (λ v. joined_from c.args.context.now v (but_first ops) (drop (k + 1) ms)) _ s (g.T.Tally.state c.join.new.tally)
+    c.from_residual-in_err-v-in-len1-up.result _ _
     (c.loop-right.invariant.told
     ∙ ap (λ o. limited c.args.site (joined_from c.args.context.now c.loop-right.left o (drop k ms)) s) (first_and_rest_at ops Or (omega arith))
     ∙ joins_here c.args.site c.args.context.now c.loop-right.left (get_or ops 0 Or) (but_first ops) ms k (run_of keys e) s
     (mapped_below (run_of keys) c.args.operands.now k (omega arith)) (mapped_at (run_of keys) c.args.operands.now k e (omega arith) c.right-item.is))
-    p.1 p.2 c.in_err-left-in-len1-up.ensures.told
+    p.1 p.2 c.in_err-v-in-len1-up.ensures.told
 
 pub join_all-loop-right-preserved : goal.join_all-loop-right-preserved
 join_all-loop-right-preserved g t c =
@@ -258,10 +266,12 @@ join_all-loop-right-preserved g t c =
           ∙ joins_here c.args.site c.args.context.now c.loop-right.left (get_or ops 0 Or) (but_first ops) ms k (run_of keys e) s
           (mapped_below (run_of keys) c.args.operands.now k (omega arith)) (mapped_at (run_of keys) c.args.operands.now k e (omega arith) c.right-item.is)
           ∙ goes_on c.args.site (joined (get_or ops 0 Or) c.loop-right.left (run_of keys e) c.args.context.now)
-          (λ v. joined_from c.args.context.now v (but_first ops) (drop (k + 1) ms)) c.in_ok-left-in-len1-up.left s (g.T.Tally.state c.join.new.tally)
-          c.in_ok-left-in-len1-up.ensures.told;
-      inside = c.in_ok-left-in-len1-up.ensures.inside;
-      kept = c.in_ok-left-in-len1-up.ensures.kept ∙ c.loop-right.invariant.kept;
+          (λ v. joined_from c.args.context.now v (but_first ops) (drop (k + 1) ms)) c.in_ok-v-in-len1-up.v s (g.T.Tally.state c.join.new.tally)
+          c.in_ok-v-in-len1-up.ensures.told
+          ∙ ap (λ v. limited c.args.site (joined_from c.args.context.now v (but_first ops) (drop (k + 1) ms)) (g.T.Tally.state c.join.new.tally))
+          (sym c.own-left.ensures.value);
+      inside = subst (IsIn c.args.context.now.tree) (sym c.own-left.ensures.value) c.in_ok-v-in-len1-up.ensures.inside;
+      kept = c.in_ok-v-in-len1-up.ensures.kept ∙ c.loop-right.invariant.kept;
     }
 
 -- a step: its ticks
@@ -308,13 +318,14 @@ evaluate_filter-returns-clause-told g t c =
     c.keep_of_set.ensures.told
 
 -- what predicates keep of a set
-pub keep_of_set-returns-in-empty-clause-told : goal.keep_of_set-returns-in-empty-clause-told
-keep_of_set-returns-in-empty-clause-told g t c =
+pub keep_of_set-returns-in_ok-into_set-in-empty-clause-told : goal.keep_of_set-returns-in_ok-into_set-in-empty-clause-told
+keep_of_set-returns-in_ok-into_set-in-empty-clause-told g t c =
     let keys = g.K.KeyFinder.tables c.args.keys.now in
     let s = g.T.Tally.state c.args.tally.now in
     ap (λ es. limited c.args.site (kept_of c.args.context.now (runs_of keys es) c.args.set) s) (no_items c.args.predicates.now (omega arith))
     ∙ gives c.args.site (Nodes (in_order c.args.set)) s
     ∙ ap (λ ns. Goes (Nodes ns) s) (in_order-same c.args.set c.nodes-nodes.ensures.list)
+    ∙ ap (λ ns. Goes (Nodes ns) s) (sym c.in_ok-into_set-in-empty.ensures.nodes)
 
 pub keep_of_set-filter-requires-clause-some : goal.keep_of_set-filter-requires-clause-some
 keep_of_set-filter-requires-clause-some g t c =
@@ -324,14 +335,14 @@ keep_of_set-filter-requires-clause-some g t c =
 
 pub keep_of_set-returns-in_err-nodes-in-len1-up-clause-told : goal.keep_of_set-returns-in_err-nodes-in-len1-up-clause-told
 keep_of_set-returns-in_err-nodes-in-len1-up-clause-told g t c =
-    let p = err_from_is_err_and c.from_residual.result c.from_residual.ensures.1 in
+    let p = err_from_is_err_and c.from_residual-in_err-nodes-in-len1-up.result c.from_residual-in_err-nodes-in-len1-up.ensures.1 in
     let keys = g.K.KeyFinder.tables c.args.keys.now in
     let ctx = c.args.context.now in
     let e = c.first-item.result in
     let es = e ∷ but_first c.args.predicates.now in
     let s = g.T.Tally.state c.args.tally.now in
     exits_in_items (λ ns. ns) (λ v. v) c.args.site (filtered ctx) (λ kept. give (Nodes (in_order kept))) (runs_of keys es) 0 (run_of keys e)
-    c.nodes.result.now s (g.T.Tally.state c.filter.new.tally) _ c.from_residual.result _ _
+    c.nodes.result.now s (g.T.Tally.state c.filter.new.tally) _ c.from_residual-in_err-nodes-in-len1-up.result _ _
     (ap (λ xs. limited c.args.site (kept_of ctx (runs_of keys xs) c.args.set) s) (first_and_rest c.args.predicates.now e (omega arith) c.first-item.is)
     ∙ ap (λ ns. limited c.args.site (kept_of ctx (runs_of keys es) ns) s) (sym c.nodes.ensures.nodes))
     (omega arith) refl p.1 p.2 c.in_err-nodes-in-len1-up.ensures.told
@@ -516,9 +527,9 @@ evaluate_path-loop-step-init g t c =
       kept = c.in_ok-nodes.ensures.kept;
     }
 
-pub evaluate_path-returns-in_err-nodes-2-clause-told : goal.evaluate_path-returns-in_err-nodes-2-clause-told
-evaluate_path-returns-in_err-nodes-2-clause-told g t c =
-    let p = err_from_is_err_and c.from_residual-in_err-nodes-2.result c.from_residual-in_err-nodes-2.ensures.1 in
+pub evaluate_path-returns-in_err-reached-clause-told : goal.evaluate_path-returns-in_err-reached-clause-told
+evaluate_path-returns-in_err-reached-clause-told g t c =
+    let p = err_from_is_err_and c.from_residual-in_err-reached.result c.from_residual-in_err-reached.ensures.1 in
     let keys = g.K.KeyFinder.tables c.args.keys.now in
     let es = c.args.steps.now in
     let k = c.loop-step.step-index in
@@ -526,10 +537,10 @@ evaluate_path-returns-in_err-nodes-2-clause-told g t c =
     let s = g.T.Tally.state c.loop-step.tally in
     let list = c.nodes-in-loop-step.ensures.nodes in
     exits_in_items (λ ns. ns) (λ v. v) c.args.site (through c.args.context.now) (λ reached. give (Nodes reached)) (map (run_of keys) es) k
-    (run_of keys e) c.nodes-in-loop-step.result.now s (g.T.Tally.state c.follow.new.tally) _ c.from_residual-in_err-nodes-2.result _ _
+    (run_of keys e) c.nodes-in-loop-step.result.now s (g.T.Tally.state c.follow.new.tally) _ c.from_residual-in_err-reached.result _ _
     (c.loop-step.invariant.told
     ∙ ap (λ ns. Rest c.args.site (through c.args.context.now) (λ reached. give (Nodes reached)) (map (run_of keys) es) k ns s) (sym list))
-    (mapped_below (run_of keys) es k (omega arith)) (mapped_at (run_of keys) es k e (omega arith) c.step-item.is) p.1 p.2 c.in_err-nodes-2.ensures.told
+    (mapped_below (run_of keys) es k (omega arith)) (mapped_at (run_of keys) es k e (omega arith) c.step-item.is) p.1 p.2 c.in_err-reached.ensures.told
 
 pub evaluate_path-loop-step-preserved : goal.evaluate_path-loop-step-preserved
 evaluate_path-loop-step-preserved g t c =
@@ -542,12 +553,14 @@ evaluate_path-loop-step-preserved g t c =
     record {
       told =
           items_on c.args.site (through c.args.context.now) (λ reached. give (Nodes reached)) (map (run_of keys) es) k
-          (run_of keys e) c.nodes-in-loop-step.result.now c.in_ok-nodes-2.nodes s (g.T.Tally.state c.follow.new.tally) _
+          (run_of keys e) c.nodes-in-loop-step.result.now c.in_ok-reached.reached s (g.T.Tally.state c.follow.new.tally) _
           (c.loop-step.invariant.told
           ∙ ap (λ ns. Rest c.args.site (through c.args.context.now) (λ reached. give (Nodes reached)) (map (run_of keys) es) k ns s) (sym list))
-          (mapped_below (run_of keys) es k (omega arith)) (mapped_at (run_of keys) es k e (omega arith) c.step-item.is) c.in_ok-nodes-2.ensures.told;
-      inside = c.in_ok-nodes-2.ensures.inside;
-      kept = c.in_ok-nodes-2.ensures.kept ∙ c.loop-step.invariant.kept;
+          (mapped_below (run_of keys) es k (omega arith)) (mapped_at (run_of keys) es k e (omega arith) c.step-item.is) c.in_ok-reached.ensures.told
+          ∙ ap (λ ns. Rest c.args.site (through c.args.context.now) (λ reached. give (Nodes reached)) (map (run_of keys) es) (k + 1) ns
+          (g.T.Tally.state c.follow.new.tally)) (sym c.own-nodes.ensures.nodes);
+      inside = subst (All (λ n. n < length c.args.context.now.tree)) (sym c.own-nodes.ensures.nodes) c.in_ok-reached.ensures.inside;
+      kept = c.in_ok-reached.ensures.kept ∙ c.loop-step.invariant.kept;
     }
 
 pub evaluate_path-returns-clause-told : goal.evaluate_path-returns-clause-told
@@ -560,6 +573,7 @@ evaluate_path-returns-clause-told g t c =
     ∙ items_done c.args.site (through c.args.context.now) (λ reached. give (Nodes reached)) (map (run_of keys) es) k c.loop-step.nodes s
     (mapped_end (run_of keys) es k (omega arith))
     ∙ gives c.args.site (Nodes c.loop-step.nodes) s
+    ∙ ap (λ ns. Goes (Nodes ns) s) (sym c.in_ok-into_set.ensures.nodes)
 
 -- a step from the one node of a set
 pub follow-follow_one-requires-clause-inside : goal.follow-follow_one-requires-clause-inside
@@ -615,13 +629,7 @@ follow_one-returns-clause-told g t c =
     ∙ items_done c.args.site (and_from ctx m) (λ l. give (in_order l)) (x ∷ []) 1 set s (omega arith)
     ∙ gives c.args.site (in_order set) s
     ∙ ap (λ l. Goes l s) (in_order-same set c.nodes-nodes.ensures.list)
-
-pub follow_one-returns-clause-inside : goal.follow_one-returns-clause-inside
-follow_one-returns-clause-inside g t c =
-    let ctx = c.args.context.now in
-    let around : c.at_node-around.result ≡ at_node ctx c.args.node ctx.position ctx.size =
-    c.at_node-around.ensures ∙ ap (λ (a : Context). at_node ctx c.args.node a.position a.size) c.context.view_is in
-    subst (λ (a : Context). All (λ n. n < length a.tree) c.in_ok-set.set) around c.in_ok-set.ensures.inside
+    ∙ ap (λ l. Goes l s) (sym c.in_ok-into_set.ensures.nodes)
 
 -- a step from each node
 pub follow_each-evaluate_nodes-requires-clause-context : goal.follow_each-evaluate_nodes-requires-clause-context
@@ -700,4 +708,4 @@ evaluate_nodes-returns-in_err-v-clause-told g t c =
     let p = err_from_is_err_and c.from_residual.result c.from_residual.ensures.1 in
     exits (λ v. v) (λ v. v) c.args.site (run_of (g.K.KeyFinder.tables c.args.keys.now) c.args.expr.now c.args.context.now)
     (λ v. given (nodes_in v)) _
-    (g.T.Tally.state c.args.tally.now) (g.T.Tally.state c.evaluate.new.tally) c.from_residual.result _ _ refl p.1 p.2 c.in_err-v.ensures.told
+    (g.T.Tally.state c.args.tally.now) (g.T.Tally.state c.operand.new.tally) c.from_residual.result _ _ refl p.1 p.2 c.in_err-v.ensures.told

@@ -16,23 +16,26 @@ use Rattle.xs_eval.proofs.evaluate.+evaluate.Given as goal
 abbrev pub decreases-evaluate : goal.decreases-evaluate
 decreases-evaluate g l = 8 * size-Expr l.expr.now
 
+abbrev pub decreases-operand : goal.decreases-operand
+decreases-operand g l = 8 * size-Expr l.expr.now + 1
+
 abbrev pub decreases-evaluate_call : goal.decreases-evaluate_call
-decreases-evaluate_call g l = 8 * most size-Expr l.arguments.now + 1
+decreases-evaluate_call g l = 8 * most size-Expr l.arguments.now + 2
 
 abbrev pub decreases-evaluate_negative : goal.decreases-evaluate_negative
-decreases-evaluate_negative g l = 8 * size-Expr l.operand.now + 1
+decreases-evaluate_negative g l = 8 * size-Expr l.inner.now + 2
 
 abbrev pub decreases-evaluate_chain : goal.decreases-evaluate_chain
-decreases-evaluate_chain g l = 8 * most size-Expr l.operands.now + 4
+decreases-evaluate_chain g l = 8 * most size-Expr l.operands.now + 5
 
 abbrev pub decreases-join_all : goal.decreases-join_all
-decreases-join_all g l = 8 * most size-Expr l.operands.now + 3
+decreases-join_all g l = 8 * most size-Expr l.operands.now + 4
 
 abbrev pub decreases-join : goal.decreases-join
-decreases-join g l = 8 * size-Expr l.right.now + 2
+decreases-join g l = 8 * size-Expr l.right.now + 3
 
 abbrev pub decreases-join_right : goal.decreases-join_right
-decreases-join_right g l = 8 * size-Expr l.right.now + 1
+decreases-join_right g l = 8 * size-Expr l.right.now + 2
 
 abbrev pub decreases-evaluate_step : goal.decreases-evaluate_step
 decreases-evaluate_step g l = 8 * most size-Expr l.predicates.now + 4
@@ -53,19 +56,19 @@ abbrev pub decreases-filter_each : goal.decreases-filter_each
 decreases-filter_each g l = 8 * size-Expr l.predicate.now + 1
 
 abbrev pub decreases-evaluate_path : goal.decreases-evaluate_path
-decreases-evaluate_path g l = 8 * max (size-Expr l.start.now) (most size-Expr l.steps.now) + 4
+decreases-evaluate_path g l = 8 * max (size-Expr l.start.now) (most size-Expr l.steps.now) + 5
 
 abbrev pub decreases-follow : goal.decreases-follow
-decreases-follow g l = 8 * size-Expr l.step.now + 3
+decreases-follow g l = 8 * size-Expr l.step.now + 4
 
 abbrev pub decreases-follow_one : goal.decreases-follow_one
-decreases-follow_one g l = 8 * size-Expr l.step.now + 2
+decreases-follow_one g l = 8 * size-Expr l.step.now + 3
 
 abbrev pub decreases-follow_each : goal.decreases-follow_each
-decreases-follow_each g l = 8 * size-Expr l.step.now + 2
+decreases-follow_each g l = 8 * size-Expr l.step.now + 3
 
 abbrev pub decreases-evaluate_nodes : goal.decreases-evaluate_nodes
-decreases-evaluate_nodes g l = 8 * size-Expr l.expr.now + 1
+decreases-evaluate_nodes g l = 8 * size-Expr l.expr.now + 2
 
 abbrev pub invariant-evaluate_call-loop-argument : goal.invariant-evaluate_call-loop-argument
 invariant-evaluate_call-loop-argument g l = record {
