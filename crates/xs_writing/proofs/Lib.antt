@@ -2,6 +2,7 @@ mod LineLemmas
 mod OpenLemmas
 mod OrderLemmas
 mod PlainLemmas
+mod PendingLemmas
 mod PlainTextLemmas
 mod ResolveLemmas
 mod ScopeLemmas

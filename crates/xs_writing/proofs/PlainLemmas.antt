@@ -193,13 +193,13 @@ declares-nothing around name es h =
       own = attributes-own around (attributes_in es) (bindings_before name es) events.attributes before;
     }
 
-plain_lines-are : (around : List OpenElement) (name : Label) (es : List Event) → is_plain_tag (scope_of around) name es ≡ true
+pub plain_lines-are : (around : List OpenElement) (name : Label) (es : List Event) → is_plain_tag (scope_of around) name es ≡ true
     → plain_lines name es ≡ tag_lines around name es
 plain_lines-are around name es h =
     let nothing = declares-nothing (scope_of around) name es h in
     sym (rw (nothing.none, nothing.own) refl)
 
-plain_entered : (around : List OpenElement) (name : Label) (es : List Event) → is_plain_tag (scope_of around) name es ≡ true
+pub plain_entered : (around : List OpenElement) (name : Label) (es : List Event) → is_plain_tag (scope_of around) name es ≡ true
     → entered around name es ≡ record { name = element_name name; scope = scope_of around } ∷ around
 plain_entered around name es h =
     let nothing = declares-nothing (scope_of around) name es h in rw nothing.none refl

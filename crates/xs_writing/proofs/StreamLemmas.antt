@@ -64,7 +64,7 @@ begins-joined : (xs ys : List Event) → begins_in_tag xs ≡ false → begins_i
 begins-joined [] ys h k = k
 begins-joined (x ∷ xs) ys h k = h
 
-begins-text : (text : List ℕ) → begins_in_tag (text_events text) ≡ false
+pub begins-text : (text : List ℕ) → begins_in_tag (text_events text) ≡ false
 unfolding text_events
 begins-text text = by_test (is_empty text)
   where
@@ -161,7 +161,7 @@ begins-tag s (Comment text) h = refl
 begins-tag s (Pi target value) h = refl
 
 -- ---- the bytes so far
-bytes-append : (xs ys : List Line) → bytes_of (xs ++ ys) ≡ bytes_of xs ++ bytes_of ys
+pub bytes-append : (xs ys : List Line) → bytes_of (xs ++ ys) ≡ bytes_of xs ++ bytes_of ys
 unfolding bytes_of
 bytes-append xs ys = flat_map-append written xs ys
 

@@ -4,3 +4,5 @@ pub mod Tables
 pub mod Open
 pub mod Tags
 pub mod Unfolding
+pub mod Pending
+pub mod Kept

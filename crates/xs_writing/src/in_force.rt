@@ -44,7 +44,7 @@ fn are_plain(scope: &Scope, behind: &[Event]) -> Result<bool, AllocError>
 }
 
 /// Whether nothing is declared for an event of a start tag.
-fn is_plain(scope: &Scope, event: &Event) -> Result<bool, AllocError>
+pub(crate) fn is_plain(scope: &Scope, event: &Event) -> Result<bool, AllocError>
     ensures { IfOk result (λ holds. holds ≡ is_plain (scope.now ++ outermost) event.now) }
 {
     match event {

@@ -4,8 +4,12 @@
 mod in_force;
 pub mod laws;
 mod least;
+mod lent;
 mod name_lines;
 mod names;
+mod open_tag;
+mod open_text;
+mod pending;
 mod plain_text;
 mod scope;
 mod stream;

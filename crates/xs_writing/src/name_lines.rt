@@ -8,7 +8,9 @@ ghost use Rattle.xs_pyx.specs.declared.line.Line.TheVariants as line_of;
 ghost use Rattle.xs_text.specs.Escapes.{escaped};
 ghost use Rattle.xs_writing.specs.Bindings.{Attribute, attribute_of, attributes_in};
 ghost use Rattle.xs_writing.specs.Lines.{bytes_of, element_name};
+ghost use Rattle.xs_result.specs.Built.{is_empty};
 ghost use Rattle.xs_writing.specs.steps.InForce.{own_lines, plain_lines};
+ghost use Rattle.xs_writing.specs.steps.Pending.{joined, text_lines};
 
 use crate::plain_text::is_long_and_plain;
 use crate::tag_bindings::is_in_tag;
@@ -69,6 +71,50 @@ pub(crate) fn append_chars(out: &mut Vec<u8>, text: &TextBuf) -> Result<(), Allo
     append_data(out, text.as_str())
 }
 
+/// Appends the line of a text that lies in pieces, unless it is empty. After a refusal a part of
+/// it.
+#[tactic(auto, unfolding(xs_pyx::specs::Writing::written, crate::specs::Lines::bytes_of))]
+pub(crate) fn append_joined(out: &mut Vec<u8>, texts: &[&TextBuf]) -> Result<(), AllocError>
+    ensures written { OnOk result
+        (out.new.items ≡ out.old.items ++ bytes_of (text_lines (joined texts.now))) }
+    ensures kept { take (length out.old.items) out.new.items ≡ out.old.items }
+    ensures utf8 { IsUtf8 out.old.items → IsUtf8 out.new.items }
+{
+    if are_empty(texts) {
+        return Ok(());
+    }
+    append_byte(out, b'-')?;
+    append_pieces(out, texts)?;
+    append_byte(out, b'\n')
+}
+
+/// Whether there is no byte in these texts.
+#[tactic(auto, using(crate::proofs::PendingLemmas::empty_first))]
+fn are_empty(texts: &[&TextBuf]) -> bool
+    ensures { result ≡ is_empty (joined texts.now) }
+{
+    for text in texts {
+        if !text.as_str().is_empty() {
+            return false;
+        }
+    }
+    true
+}
+
+/// Appends texts with their escapes, one after another.
+#[tactic(auto, using(crate::proofs::PendingLemmas::piece_written))]
+fn append_pieces(out: &mut Vec<u8>, texts: &[&TextBuf]) -> Result<(), AllocError>
+    ensures written { OnOk result
+        (out.new.items ≡ out.old.items ++ escaped (joined texts.now)) }
+    ensures kept { take (length out.old.items) out.new.items ≡ out.old.items }
+    ensures utf8 { IsUtf8 out.old.items → IsUtf8 out.new.items }
+{
+    for text in texts {
+        append_escaped(out, text.as_str())?;
+    }
+    Ok(())
+}
+
 /// Appends the line of a comment. After a refusal a part of it.
 #[tactic(auto, unfolding(xs_pyx::specs::Writing::written))]
 pub(crate) fn append_comment(out: &mut Vec<u8>, text: &TextBuf) -> Result<(), AllocError>
@@ -117,7 +163,7 @@ pub(crate) fn append_plain_tag(
 
 /// Appends the line of the start of an element.
 #[tactic(auto, unfolding(xs_pyx::specs::Writing::written))]
-fn append_start(out: &mut Vec<u8>, name: &Label) -> Result<(), AllocError>
+pub(crate) fn append_start(out: &mut Vec<u8>, name: &Label) -> Result<(), AllocError>
     ensures written { OnOk result
         (out.new.items ≡ out.old.items ++ written (line_of.Start (element_name name.now))) }
     ensures kept { take (length out.old.items) out.new.items ≡ out.old.items }
@@ -149,7 +195,7 @@ fn append_attributes(out: &mut Vec<u8>, behind: &[Event]) -> Result<(), AllocErr
 
 /// Appends the line of an attribute; no other event is one.
 #[tactic(auto, unfolding(crate::specs::Lines::bytes_of))]
-fn append_event(out: &mut Vec<u8>, event: &Event) -> Result<(), AllocError>
+pub(crate) fn append_event(out: &mut Vec<u8>, event: &Event) -> Result<(), AllocError>
     ensures written { OnOk result ((more : List Attribute)
         → out.new.items ++ bytes_of (own_lines more)
         ≡ out.old.items ++ bytes_of (own_lines (cons_option (attribute_of event.now) more))) }

@@ -1,5 +1,5 @@
 //! The bindings that are in force.
-ghost use Rattle.std.specs.Prelude.{◌≡◌, ◌∷◌, ◌++◌, [], ℕ, if◌then◌else◌, IfOk, List, OnOk};
+ghost use Rattle.std.specs.Prelude.{◌≡◌, ◌∷◌, ◌++◌, [], ℕ, if◌then◌else◌, true, IfOk, List, OnOk};
 ghost use Rattle.std.specs.Prelude.{drop, filter};
 ghost use Rattle.std.specs.BTreeMap.{is_at};
 ghost use Rattle.xs_writing.specs.Bindings.{Binding, declared, is_new, order_of_prefixes};
@@ -122,11 +122,30 @@ impl Scope {
         ensures { IfOk result (λ holds. holds
             ≡ is_in_force (self.now ++ outermost) prefix.now uri.now) }
     {
+        if self.is_bare(prefix) {
+            return Ok(uri.is_empty());
+        }
         if self.recent.as_str() == prefix {
             return Ok(!self.is_new(&self.recent, uri));
         }
         let key = TextKey::of_str(*self.log.allocator(), prefix)?;
         Ok(!self.is_new(&key, uri))
+    }
+
+    /// Whether nothing is declared, and a prefix is empty.
+    fn is_bare(&self, prefix: &str) -> bool
+        ensures none { result ≡ true → self.now ≡ [] }
+        ensures empty { result ≡ true → prefix.now ≡ [] }
+    {
+        if !self.log.is_empty() {
+            return false;
+        }
+        prefix.is_empty()
+    }
+
+    /// Whether a prefix is the recent one.
+    pub(crate) fn has_recent(&self, prefix: &str) -> bool {
+        self.recent.as_str() == prefix
     }
 
     /// The same, with a prefix as the recent one.

@@ -2,9 +2,9 @@
 ghost use Rattle.std.specs.Prelude.{◌≡◌, ◌++◌, ℕ, IfOk, List, OnErr, OnOk, length, map, take};
 ghost use Rattle.std.specs.Iterator.{Drains, IsFinite};
 ghost use Rattle.std.specs.Str.{IsUtf8};
-ghost use Rattle.xs_result.specs.steps.Views.{state};
 ghost use Rattle.xs_trace.specs.declared.event.Event.{Event};
 ghost use Rattle.xs_writing.specs.Lines.{pyx};
+ghost use Rattle.xs_writing.specs.steps.Kept.{kept};
 ghost use Rattle.xs_writing.specs.steps.Stream.{HasTaken};
 ghost use denote.Ref.{Bor};
 
@@ -59,7 +59,7 @@ fn take_all<'e, I: Iterator<Item = &'e Event> + Drop>(
     requires can { I.can_next events }
     requires ends { IsFinite (I.remaining events) }
     ensures taken { (es : List (Bor Event))
-        × IfOk result (λ stream. HasTaken (state stream.builder) stream.writer
+        × IfOk result (λ stream. HasTaken (kept stream.pending) stream.writer
         out.old.items out.new.items (map (λ e. e.now) es))
         × OnOk result (Drains I.next_gives events es) }
     ensures kept { take (length out.old.items) out.new.items ≡ out.old.items }
@@ -67,11 +67,11 @@ fn take_all<'e, I: Iterator<Item = &'e Event> + Drop>(
 {
     let stream = PyxStream::new(*out.allocator())?;
     let PyxStream {
-        mut builder,
+        mut pending,
         mut writer,
     } = stream;
     for event in events {
-        take_event(&mut builder, &mut writer, out, event)?;
+        take_event(&mut pending, &mut writer, out, event)?;
     }
-    Ok(PyxStream { builder, writer })
+    Ok(PyxStream { pending, writer })
 }

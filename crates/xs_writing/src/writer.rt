@@ -1,5 +1,5 @@
 //! A writer of a result, which takes its events as they come to stay.
-ghost use Rattle.std.specs.Prelude.{◌≡◌, ◌∷◌, ◌++◌, [], IfOk, List, OnOk, length, take};
+ghost use Rattle.std.specs.Prelude.{◌≡◌, ◌∷◌, ◌++◌, [], true, IfOk, List, OnOk, length, take};
 ghost use Rattle.std.specs.Str.{IsUtf8};
 ghost use Rattle.xs_trace.specs.declared.event.Event.{Event};
 ghost use Rattle.xs_trace.specs.declared.event.Event.TheVariants as event_of;
@@ -8,9 +8,11 @@ ghost use Rattle.xs_writing.specs.Lines.{bytes_of, element_name, entered, lines,
 ghost use Rattle.xs_writing.specs.Lines.{scope_of, tag_lines};
 ghost use Rattle.xs_writing.specs.steps.InForce.{is_plain_tag};
 ghost use Rattle.xs_writing.specs.steps.Open.{bindings_of};
+ghost use Rattle.xs_writing.specs.steps.Pending.{IsAlone, begun, is_simple, lent};
 ghost use Rattle.xs_writing.specs.steps.Tags.{IsTag};
 
 use crate::in_force::is_plain_tag;
+use crate::lent::{append_lent_tag, built, is_plain_lent, is_simple};
 use crate::name_lines::{
     ElementName, append_chars, append_comment, append_instruction, append_plain_tag,
 };
@@ -126,6 +128,128 @@ impl PyxWriter {
         }
     }
 
+    /// Writes an event, after which no part of a start tag comes.
+    #[tactic(auto, unfolding(crate::specs::steps::Unfolding::event_by_event))]
+    pub(crate) fn one(&mut self, out: &mut Vec<u8>, event: &Event) -> Result<(), AllocError>
+        ensures written { OnOk result
+            (out.new.items ≡ out.old.items ++ bytes_of (lines self.old (event.now ∷ []))) }
+        ensures opened { OnOk result (self.new ≡ open_after self.old (event.now ∷ [])) }
+        ensures kept { take (length out.old.items) out.new.items ≡ out.old.items }
+        ensures utf8 { IsUtf8 out.old.items → IsUtf8 out.new.items }
+    {
+        self.event(out, event, &[])
+    }
+
+    /// Writes a start tag, which is lent as its start and what was added to it. The element is then
+    /// open.
+    pub(crate) fn tag(&mut self, out: &mut Vec<u8>, tag: &[&Event]) -> Result<(), AllocError>
+        requires alone { IsAlone (begun tag.now) }
+        ensures written { OnOk result
+            (out.new.items ≡ out.old.items ++ bytes_of (lines self.old (begun tag.now).tag)) }
+        ensures opened { OnOk result (self.new ≡ open_after self.old (begun tag.now).tag) }
+        ensures kept { take (length out.old.items) out.new.items ≡ out.old.items }
+        ensures utf8 { IsUtf8 out.old.items → IsUtf8 out.new.items }
+    {
+        match tag.split_first() {
+            Some(parts) => self.tag_of(out, *parts.0, parts.1, tag),
+            None => self.built_tag(out, tag),
+        }
+    }
+
+    /// The same, by its first event.
+    fn tag_of(
+        &mut self,
+        out: &mut Vec<u8>,
+        start: &Event,
+        added: &[&Event],
+        tag: &[&Event],
+    ) -> Result<(), AllocError>
+        requires alone { IsAlone (begun tag.now) }
+        requires whole { lent tag.now ≡ start.now ∷ lent added.now }
+        ensures written { OnOk result
+            (out.new.items ≡ out.old.items ++ bytes_of (lines self.old (begun tag.now).tag)) }
+        ensures opened { OnOk result (self.new ≡ open_after self.old (begun tag.now).tag) }
+        ensures kept { take (length out.old.items) out.new.items ≡ out.old.items }
+        ensures utf8 { IsUtf8 out.old.items → IsUtf8 out.new.items }
+    {
+        match start {
+            Event::Start(name) => self.named_tag(out, name, added, tag),
+            _ => self.built_tag(out, tag),
+        }
+    }
+
+    /// The same, of an element with this name.
+    fn named_tag(
+        &mut self,
+        out: &mut Vec<u8>,
+        name: &Label,
+        added: &[&Event],
+        tag: &[&Event],
+    ) -> Result<(), AllocError>
+        requires alone { IsAlone (begun tag.now) }
+        requires whole { lent tag.now ≡ event_of.Start name.now ∷ lent added.now }
+        ensures written { OnOk result
+            (out.new.items ≡ out.old.items ++ bytes_of (lines self.old (begun tag.now).tag)) }
+        ensures opened { OnOk result (self.new ≡ open_after self.old (begun tag.now).tag) }
+        ensures kept { take (length out.old.items) out.new.items ≡ out.old.items }
+        ensures utf8 { IsUtf8 out.old.items → IsUtf8 out.new.items }
+    {
+        if self.is_plain_lent(name, added)? {
+            return self.plain_tag(out, name, added);
+        }
+        self.built_tag(out, tag)
+    }
+
+    /// Whether a start tag is written as it is lent: no two of its attributes have one name, and it
+    /// declares nothing. It may answer no where that is so.
+    fn is_plain_lent(&self, name: &Label, added: &[&Event]) -> Result<bool, AllocError>
+        ensures plain { IfOk result (λ holds. holds ≡ true
+            → is_plain_tag (scope_of self.now) name.now (lent added.now) ≡ true) }
+        ensures simple { IfOk result (λ holds. holds ≡ true → is_simple (lent added.now) ≡ true) }
+    {
+        if !is_simple(added) {
+            return Ok(false);
+        }
+        match &self.scope {
+            Some(scope) => is_plain_lent(scope, name, added),
+            None => Err(AllocError),
+        }
+    }
+
+    /// Writes such a start tag.
+    fn plain_tag(
+        &mut self,
+        out: &mut Vec<u8>,
+        name: &Label,
+        added: &[&Event],
+    ) -> Result<(), AllocError>
+        requires plain { is_plain_tag (scope_of self.old) name.now (lent added.now) ≡ true }
+        requires simple { is_simple (lent added.now) ≡ true }
+        ensures written { OnOk result (out.new.items ≡ out.old.items
+            ++ bytes_of (lines self.old (event_of.Start name.now ∷ lent added.now))) }
+        ensures opened { OnOk result
+            (self.new ≡ open_after self.old (event_of.Start name.now ∷ lent added.now)) }
+        ensures kept { take (length out.old.items) out.new.items ≡ out.old.items }
+        ensures utf8 { IsUtf8 out.old.items → IsUtf8 out.new.items }
+    {
+        append_lent_tag(out, name, added)?;
+        self.enter_plain(name)
+    }
+
+    /// Writes any start tag, of events that are made for it.
+    #[inline(never)]
+    fn built_tag(&mut self, out: &mut Vec<u8>, tag: &[&Event]) -> Result<(), AllocError>
+        requires alone { IsAlone (begun tag.now) }
+        ensures written { OnOk result
+            (out.new.items ≡ out.old.items ++ bytes_of (lines self.old (begun tag.now).tag)) }
+        ensures opened { OnOk result (self.new ≡ open_after self.old (begun tag.now).tag) }
+        ensures kept { take (length out.old.items) out.new.items ≡ out.old.items }
+        ensures utf8 { IsUtf8 out.old.items → IsUtf8 out.new.items }
+    {
+        let whole = built(self.alloc, tag)?;
+        self.append(out, whole.events())
+    }
+
     /// Writes the start tag of an element, which is then open.
     fn start(&mut self, out: &mut Vec<u8>, name: &Label, behind: &[Event]) -> Result<(), AllocError>
         ensures written { OnOk result (out.new.items
@@ -136,7 +260,7 @@ impl PyxWriter {
     {
         if self.is_plain_tag(name, behind)? {
             append_plain_tag(out, name, behind)?;
-            return self.enter(name, Vec::new(self.alloc));
+            return self.enter_plain(name);
         }
         let tag = self.start_tag(name, behind)?;
         append_lines(out, &tag.lines)?;
@@ -188,6 +312,29 @@ impl PyxWriter {
             declared,
             lines: all,
         })
+    }
+
+    /// An element is open that declares nothing.
+    fn enter_plain(&mut self, name: &Label) -> Result<(), AllocError>
+        ensures { OnOk result (self.new ≡ record {
+          name = element_name name.now;
+          scope = scope_of self.old;
+        } ∷ self.old) }
+    {
+        if !self.has_recent(name.prefix()) {
+            return self.enter(name, Vec::new(self.alloc));
+        }
+        let name = ElementName::of(name)?;
+        self.elements.push(Frame { name, declared: 0 })?;
+        Ok(())
+    }
+
+    /// Whether the last element had this prefix.
+    fn has_recent(&self, prefix: &str) -> bool {
+        match &self.scope {
+            Some(scope) => scope.has_recent(prefix),
+            None => false,
+        }
     }
 
     /// An element is open, with these declarations.

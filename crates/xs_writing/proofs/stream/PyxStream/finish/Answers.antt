@@ -1,9 +1,10 @@
-use Rattle.std.proofs.Common.{◌∙◌}
-use Rattle.xs_result.specs.steps.Views.{state}
-use Rattle.xs_writing.proofs.StreamLemmas.{stream_end}
+use Rattle.std.proofs.Common.{refl}
+use Rattle.xs_result.specs.steps.Building.{flushed}
+use Rattle.xs_writing.specs.steps.Kept.{kept}
+use Rattle.xs_writing.proofs.StreamLemmas.{on_ok, stream_end}
 use Rattle.xs_writing.proofs.stream.PyxStream.finish.Goals as goal
 
 pub returns-clause-written : goal.returns-clause-written
 returns-clause-written c =
-    λ old es h. stream_end (state c.args.self.builder) c.args.self.writer c.args.out.now.items c.write.new.out.items c.events.result.now
-    (c.events.ensures.events ∙ c.in_ok-rest.ensures) c.in_ok-_writer.ensures.written old es h
+    on_ok c.flush.result (λ written old es h. stream_end (kept c.args.self.pending) c.args.self.writer c.args.out.now.items c.flush.new.out.items
+    (flushed (kept c.args.self.pending)) refl written old es h) c.flush.ensures.written

@@ -1,0 +1,189 @@
+//! Start tags whose events are lent: those of which the lines are written from the events as they
+//! came, and any others, for which events are made.
+ghost use Rattle.std.specs.Prelude.{◌≡◌, ◌++◌, ◌&&◌, true, IfOk, OnOk, length, take};
+ghost use Rattle.std.specs.Str.{IsUtf8, bytes_eq};
+ghost use Rattle.xs_result.specs.steps.Building.{flushed};
+ghost use Rattle.xs_result.specs.steps.Places.{is_attribute_of};
+ghost use Rattle.xs_result.specs.steps.Views.{state};
+ghost use Rattle.xs_writing.specs.Bindings.{attributes_in, outermost};
+ghost use Rattle.xs_writing.specs.Lines.{bytes_of};
+ghost use Rattle.xs_writing.specs.steps.InForce.{are_plain, is_plain_tag, own_lines, plain_lines};
+ghost use Rattle.xs_writing.specs.steps.Pending.{begun, clashes, is_clear, is_simple, lent};
+
+use crate::in_force::is_plain;
+use crate::name_lines::{append_event, append_start};
+use crate::scope::Scope;
+use crate::tag_bindings::is_in_tag;
+use std::alloc::{AllocError, Global};
+use xs_result::Builder;
+use xs_trace::event::{Event, Fragment, Label};
+
+/// How many events a start tag has at most that are compared one with another.
+const FEW: usize = 9;
+
+/// Whether these events belong to a start tag, and no two attributes among them have one name. Of
+/// more than a few it answers no.
+pub(crate) fn is_simple(added: &[&Event]) -> bool
+    ensures { result ≡ true → is_simple (lent added.now) ≡ true }
+{
+    if added.len() > FEW {
+        return false;
+    }
+    are_apart(added)
+}
+
+/// The same of any number of events.
+#[tactic(auto, unfolding(crate::specs::steps::Pending::is_simple))]
+fn are_apart(added: &[&Event]) -> bool
+    ensures { result ≡ is_simple (lent added.now) }
+{
+    let mut behind = 0;
+    for event in added {
+        behind += 1;
+        if !is_in_tag(*event) {
+            return false;
+        }
+        if !is_clear(*event, &added[behind..]) {
+            return false;
+        }
+    }
+    true
+}
+
+/// Whether no later attribute has the name of an event.
+#[tactic(auto, unfolding(crate::specs::steps::Pending::is_clear))]
+fn is_clear(event: &Event, behind: &[&Event]) -> bool
+    ensures { result ≡ is_clear event.now (lent behind.now) }
+{
+    for later in behind {
+        if clashes(event, *later) {
+            return false;
+        }
+    }
+    true
+}
+
+/// Whether a later event is an attribute of the name that an earlier one has.
+fn clashes(event: &Event, later: &Event) -> bool
+    ensures { result ≡ clashes event.now later.now }
+{
+    match later {
+        Event::Attr { name, .. } => is_attribute_of(event, name),
+        Event::Start(_) => false,
+        Event::Space { .. } => false,
+        Event::Chars(_) => false,
+        Event::End => false,
+        Event::Comment(_) => false,
+        Event::Pi { .. } => false,
+    }
+}
+
+/// Whether an event is an attribute with this expanded name.
+fn is_attribute_of(event: &Event, name: &Label) -> bool
+    ensures { result ≡ is_attribute_of name.now.uri name.now.local event.now }
+{
+    match event {
+        Event::Attr { name: own, .. } => is_same(own, name),
+        Event::Start(_) => false,
+        Event::Space { .. } => false,
+        Event::Chars(_) => false,
+        Event::End => false,
+        Event::Comment(_) => false,
+        Event::Pi { .. } => false,
+    }
+}
+
+/// Whether two names have the same URI and local part.
+fn is_same(own: &Label, name: &Label) -> bool
+    ensures { result
+        ≡ (bytes_eq name.now.uri own.now.uri && bytes_eq name.now.local own.now.local) }
+{
+    name.uri() == own.uri() && name.local() == own.local()
+}
+
+/// Whether the start tag of an element declares nothing here, and its attributes keep their
+/// prefixes.
+pub(crate) fn is_plain_lent(
+    scope: &Scope,
+    name: &Label,
+    added: &[&Event],
+) -> Result<bool, AllocError>
+    ensures { IfOk result (λ holds. holds
+        ≡ is_plain_tag (scope.now ++ outermost) name.now (lent added.now)) }
+{
+    if !scope.is_in_force(name.prefix(), name.uri())? {
+        return Ok(false);
+    }
+    are_plain_lent(scope, added)
+}
+
+/// Whether nothing is declared for the events of a start tag.
+#[tactic(auto, unfolding(crate::specs::steps::InForce::are_plain))]
+fn are_plain_lent(scope: &Scope, added: &[&Event]) -> Result<bool, AllocError>
+    ensures { IfOk result (λ hold. hold ≡ are_plain (scope.now ++ outermost) (lent added.now)) }
+{
+    for event in added {
+        if !is_in_tag(*event) {
+            return Ok(true);
+        }
+        if !is_plain(scope, *event)? {
+            return Ok(false);
+        }
+    }
+    Ok(true)
+}
+
+/// Appends the lines of a start tag that declares nothing, where its attributes keep their
+/// prefixes. After a refusal a part of them.
+#[tactic(auto, unfolding(crate::specs::Lines::bytes_of))]
+pub(crate) fn append_lent_tag(
+    out: &mut Vec<u8>,
+    name: &Label,
+    added: &[&Event],
+) -> Result<(), AllocError>
+    ensures written { OnOk result
+        (out.new.items ≡ out.old.items ++ bytes_of (plain_lines name.now (lent added.now))) }
+    ensures kept { take (length out.old.items) out.new.items ≡ out.old.items }
+    ensures utf8 { IsUtf8 out.old.items → IsUtf8 out.new.items }
+{
+    append_start(out, name)?;
+    append_lent_attributes(out, added)
+}
+
+/// Appends the lines of the attributes of a start tag.
+#[tactic(auto, unfolding(crate::specs::Bindings::attributes_in, crate::specs::Lines::bytes_of))]
+fn append_lent_attributes(out: &mut Vec<u8>, added: &[&Event]) -> Result<(), AllocError>
+    ensures written { OnOk result (out.new.items
+        ≡ out.old.items ++ bytes_of (own_lines (attributes_in (lent added.now)))) }
+    ensures kept { take (length out.old.items) out.new.items ≡ out.old.items }
+    ensures utf8 { IsUtf8 out.old.items → IsUtf8 out.new.items }
+{
+    for event in added {
+        if !is_in_tag(*event) {
+            return Ok(());
+        }
+        append_event(out, *event)?;
+    }
+    Ok(())
+}
+
+/// What a builder makes of the events of a start tag.
+pub(crate) fn built(alloc: Global, tag: &[&Event]) -> Result<Fragment, AllocError>
+    ensures { IfOk result (λ events. events ≡ flushed (begun tag.now)) }
+{
+    let builder = taken(alloc, tag)?;
+    let events = builder.finish()?;
+    Ok(events)
+}
+
+/// A builder that took them.
+#[tactic(auto, unfolding(xs_result::specs::steps::Building::taken_all))]
+fn taken<'e>(alloc: Global, tag: &[&'e Event]) -> Result<Builder<'e>, AllocError>
+    ensures { IfOk result (λ builder. state builder ≡ begun tag.now) }
+{
+    let mut builder = Builder::new(alloc);
+    for event in tag {
+        builder.take(*event)?;
+    }
+    Ok(builder)
+}
