@@ -29,6 +29,7 @@ use xs_body::world::World;
 use xs_finder::finder::SheetFinder;
 use xs_globals::settled::Settled;
 use xs_globals::settling::settle;
+use xs_keys::keys::KeyCells;
 use xs_sets::index::SetIndex;
 use xs_sheet::sheet::Sheet;
 use xs_sheet_pieces::runner::SheetPieces;
@@ -74,7 +75,8 @@ fn evaluate_over<R: Threads + Sync>(
         (reply.status ≡ OK) ⊎ (reply.status ≡ RUN_FAULT)) }
     ensures whole_only { IfOk result IsWholeOrEmpty }
 {
-    let finder = SheetFinder::new(rt, alloc, sheet, tree)?;
+    let keys = KeyCells::new(rt, alloc, sheet, tree)?;
+    let finder = SheetFinder::new(alloc, sheet, tree, &keys)?;
     let index = SetIndex::new(alloc, sheet.sets.as_slice())?;
     evaluate_by(alloc, job, sheet, &index, tree, &finder)
 }

@@ -8,7 +8,7 @@ use Rattle.xs_finder.specs.declared.finder.SheetFinder.{SheetFinder}
 
 -- the tables of its keys
 abbrev pub tables_in : SheetFinder → List Table
-tables_in f = tables_of f.keys.tree.value f.keys.sheet.value.keys
+tables_in f = tables_of f.keys.now.tree.value f.keys.now.sheet.value.keys
 
 -- its index is that of the stylesheet's rules, prepared for the tree, and its counters are those of the tree and the keys, whose nodes are
 -- in the tree

@@ -2,13 +2,14 @@
 
 ghost use Rattle.std.specs.Prelude.{◌≡◌, ◌<◌, ◌^◌, IfOk, length};
 ghost use Rattle.xs_finder.specs.Ready.{IsReady, tables_in};
+ghost use Rattle.xs_keys.specs.Find.{IsKept};
 ghost use Rattle.xs_keys.specs.KeyTables.{tables_of};
 ghost use Rattle.xs_keys.specs.lemmas.TableLemmas.{are_tables};
 ghost use Rattle.xs_semantics.specs.Rules.{template_of};
-ghost use Rattle.xs_value.specs.Tables.{TablesIn};
+ghost use Rattle.xs_value.specs.Keys.{Finds};
+ghost use Rattle.xs_value.specs.Tables.{TablesIn, table_at};
 
 use std::alloc::{AllocError, Global};
-use std::thread::Threads;
 use xs_counting::counters::Counters;
 use xs_keys::keys::KeyCells;
 use xs_rules::choice::Rule;
@@ -26,7 +27,7 @@ pub struct SheetFinder<'a> {
     sheet: &'a Sheet,
     tree: &'a Tree,
     /// By which nodes are found by key (XSLT 1.0, 12.2).
-    keys: KeyCells,
+    keys: &'a KeyCells,
     /// By which rules are found (5.5).
     rules: RuleIndex<'a>,
     /// By which nodes are counted (7.7).
@@ -34,26 +35,26 @@ pub struct SheetFinder<'a> {
 }
 
 impl<'a> SheetFinder<'a> {
-    /// That of a stylesheet over a tree, in time linear in both, except for the keys, whose
-    /// declarations are evaluated over runs of nodes, many at once.
-    pub fn new<R: Threads + Sync>(
-        rt: &R,
+    /// That of a stylesheet over a tree and its keys, in time linear in both.
+    pub fn new(
         alloc: Global,
         sheet: &'a Sheet,
         tree: &'a Tree,
+        keys: &'a KeyCells,
     ) -> Result<SheetFinder<'a>, AllocError>
         requires templates { length sheet.now.templates < 2 ^ 32 }
-        requires keys { length sheet.now.keys < 2 ^ 32 }
+        requires keys { ⟦<KeyCells as KeyFinder>⟧.tables keys.now
+            ≡ tables_of tree.now sheet.now.keys }
+        requires inside { TablesIn tree.now (⟦<KeyCells as KeyFinder>⟧.tables keys.now) }
         ensures sheet { IfOk result (λ f. f.sheet.now ≡ sheet.now) }
         ensures tree { IfOk result (λ f. f.tree.now ≡ tree.now) }
         ensures tables { IfOk result (λ f. tables_in f ≡ tables_of tree.now sheet.now.keys) }
         ensures inside { IfOk result (λ f. TablesIn tree.now (tables_in f)) }
         ensures ready { IfOk result IsReady }
     {
-        let keys = KeyCells::new(rt, alloc, sheet, tree)?;
         let mut rules = RuleIndex::new(alloc, sheet)?;
         rules.prepare(alloc, tree)?;
-        let counters = Counters::over(alloc, sheet, tree, &keys)?;
+        let counters = Counters::over(alloc, sheet, tree, keys)?;
         Ok(SheetFinder {
             sheet,
             tree,
@@ -67,15 +68,19 @@ impl<'a> SheetFinder<'a> {
 impl<'a> KeyFinder for SheetFinder<'a> {
     ghost tables = { λ f. tables_in f };
 
-    ghost are_tables = { λ f. are_tables f.keys.tree.value f.keys.sheet.value.keys f.keys.few };
+    ghost are_tables = { λ f.
+        are_tables f.keys.now.tree.value f.keys.now.sheet.value.keys f.keys.now.few };
 
     /// The number of the key with a name.
     fn number_of(&self, uri: &str, local: &str) -> Option<u32> {
         self.keys.number_of(uri, local)
     }
 
-    /// The nodes, which are kept.
-    fn find(&self, alloc: Global, key: u32, text: &str) -> Result<Found<'_>, KeyEnd> {
+    /// The nodes, which are kept: it takes no memory.
+    fn find(&self, alloc: Global, key: u32, text: &str) -> Result<Found<'_>, KeyEnd>
+        ensures found { Finds (table_at (tables_in self.now) key) text.now result }
+        ensures kept { IsKept result }
+    {
         self.keys.find(alloc, key, text)
     }
 }
@@ -89,7 +94,7 @@ impl<'a> Finder for SheetFinder<'a> {
 
     /// The template of the rule that is found among those that the node's kind and name allow.
     fn rule_for(&self, alloc: Global, node: Node, mode: u32) -> Result<Option<u32>, AllocError> {
-        let rule = choose_with(alloc, &self.rules, self.tree, node, mode, &self.keys)?;
+        let rule = choose_with(alloc, &self.rules, self.tree, node, mode, self.keys)?;
         Ok(template_of(rule))
     }
 
@@ -102,7 +107,7 @@ impl<'a> Finder for SheetFinder<'a> {
         mode: u32,
     ) -> Result<Option<u32>, AllocError> {
         let rules = &self.rules;
-        let rule = choose_import_with(alloc, rules, self.tree, node, mode, &self.keys, under)?;
+        let rule = choose_import_with(alloc, rules, self.tree, node, mode, self.keys, under)?;
         Ok(template_of(rule))
     }
 
@@ -115,7 +120,7 @@ impl<'a> Finder for SheetFinder<'a> {
         node: Node,
     ) -> Result<Vec<u64>, AllocError> {
         self.counters
-            .list(alloc, site, decl, self.tree, node, &self.keys)
+            .list(alloc, site, decl, self.tree, node, self.keys)
     }
 }
 

@@ -1,6 +1,7 @@
-use mir.Syntax.{erased, named}
+use mir.Syntax.{named}
 use Rattle.xs_making.specs.Laws.{AreWell}
 use Rattle.xs_globals.specs.Results.{told_in}
+use Rattle.xs_finder.proofs.SyncLemmas.{finder_sync}
 use Rattle.xs_finder.specs.Ready.{tables_in}
 use Rattle.xs_semantics.specs.World.{ground}
 use Rattle.xs_well_put.specs.Named.{IsNamedSheet, IsNamedWorld}
@@ -9,7 +10,6 @@ use Rattle.xs_answer.specs.Reply.{job_data}
 use Rattle.xs_answer.proofs.EvaluationLemmas.{ended_in_globals}
 use Rattle.xs_answer.proofs.ReadBackLemmas.{ground_named}
 use Rattle.xs_answer.proofs.ReplyLemmas.{replies_so}
-use Rattle.xs_sheet_pieces.proofs.SyncLemmas.{finder_sync}
 use Rattle.xs_engine.proofs.SettledLemmas.{ended_globals}
 use Rattle.xs_engine.proofs.evaluation.evaluate_by.Goals as goal
 
@@ -33,14 +33,4 @@ returns-clause-answer c =
     (λ a is. is) c.root_reply.ensures.answer
 
 pub settle-requires-sync-K : goal.settle-requires-sync-K
-settle-requires-sync-K c κs =
-    search (
-      finder_sync (record { mir = named 3; lft = κs.1.1.1.0 }),
-      finder_sync (record { mir = erased; lft = κs.1.1.1.0 }),
-      finder_sync (record { mir = named 2; lft = κs.1.1.0 }),
-      finder_sync (record { mir = erased; lft = κs.1.1.0 }),
-      finder_sync (record { mir = named 1; lft = κs.1.0 }),
-      finder_sync (record { mir = erased; lft = κs.1.0 }),
-      finder_sync (record { mir = named 0; lft = κs.0 }),
-      finder_sync (record { mir = erased; lft = κs.0 }),
-    )
+settle-requires-sync-K c κs = search (finder_sync (record { mir = named 3; lft = κs.1.1.1.0 }))
