@@ -2,46 +2,21 @@
 
 ghost use Rattle.std.specs.Prelude.{◌≤◌, ◌^◌};
 
+use crate::pieces::{agrees, at_once, limits_of, seven_pieces};
 use std::alloc::{AllocError, Global};
 use xs_assemble::assemble::assemble;
-use xs_assemble::assembled::Assembled;
-use xs_block::chain::Chain;
 use xs_block::pool::Pool;
 use xs_pieces::piece::Piece;
 use xs_pieces::runner::Runner;
 use xs_pool::sequential::run_in_order;
 use xs_record::outcome::Outcome;
-use xs_table::table::{Entry, Row, RowTask, TableRunner, table_is_ready};
-use xs_trace::item::{Ended, Item, Limits, Site, Spot};
+use xs_table::table::{RowTask, TableRunner, table_is_ready};
+use xs_trace::item::Ended;
 
 // So many ticks has the tree; so many orders are tried, some of them more than once.
-const TICKS: u64 = 10;
+const TICKS: u64 = 13;
 
 const ORDERS: u32 = 144;
-
-// The row with a number, of a piece whose children have twice that number and one or two more.
-fn row_of(alloc: Global, number: u32) -> Result<Row, AllocError> {
-    let site = Site {
-        module: 0,
-        line: number,
-    };
-    let mut entries = Vec::new(alloc);
-    if number < 3 {
-        entries.push(Entry::Child(number))?;
-        entries.push(Entry::Tick(site))?;
-        entries.push(Entry::Child(number + 1))?;
-    }
-    Ok(Row { site, entries })
-}
-
-// The rows of seven pieces: a root, its two children, and two children of each of these.
-fn seven_pieces(alloc: Global) -> Result<TableRunner, AllocError> {
-    let mut rows = Vec::new(alloc);
-    for number in 0..7 {
-        rows.push(row_of(alloc, number)?)?;
-    }
-    Ok(TableRunner { rows })
-}
 
 // The order with a number: which of the pieces that wait comes next, where the most that can wait
 // are two, three, four, three and two.
@@ -75,58 +50,20 @@ fn is_finished(outcome: &Option<Outcome>) -> bool {
     }
 }
 
-// The lines of the ticks among items, one for each tick.
-fn lines_of(alloc: Global, items: &Chain<Item>) -> Result<Vec<u32>, AllocError> {
-    let mut lines = Vec::new(alloc);
-    for item in items.items() {
-        if let Item::Run { line, ticks, .. } = item {
-            for _ in 0..*ticks {
-                lines.push(*line)?;
-            }
-        }
-    }
-    Ok(lines)
-}
-
-// Where a run ended that was to be whole.
-fn end_of(ended: Ended) -> Option<Spot> {
-    match ended {
-        Ended::Spent(spot) | Ended::Fault(spot) | Ended::Full(spot) => Some(spot),
-        Ended::Whole | Ended::Over { .. } => None,
-    }
-}
-
-// Whether what pieces did is what a whole run did.
-fn is_whole(alloc: Global, assembled: &Assembled, whole: &Outcome) -> Result<bool, AllocError> {
-    let Some(part) = whole.parts.first() else {
-        return Ok(false);
-    };
-    let lines = lines_of(alloc, &assembled.items)?;
-    let others = lines_of(alloc, &part.items)?;
-    Ok(lines == others && assembled.ticks == whole.ticks && assembled.end == end_of(whole.ended))
-}
-
 // Which pieces are finished in an order, within so many ticks, where what they did, with the others
 // in their place, is what the whole run does; none, where it is not.
 fn tried(alloc: Global, runner: &TableRunner, ticks: u64, order: &[u32]) -> Result<u64, AllocError>
     requires few { ticks ≤ 2 ^ 40 }
 {
-    let limits = Limits {
-        ticks,
-        events: None,
-    };
+    let whole = at_once(alloc, runner, ticks)?;
+    let limits = limits_of(ticks);
     table_is_ready();
-    let mut pool = Pool::new(alloc);
     let root = runner.root_task(alloc);
-    let whole = runner.run_whole(alloc, &root, limits, &mut pool)?;
     let collected = run_in_order(alloc, runner, root, limits, order)?;
     let found = finished(&collected.pieces);
+    let mut pool = Pool::new(alloc);
     let assembled = assemble(alloc, runner, collected, limits, &mut pool)?;
-    if is_whole(alloc, &assembled, &whole)? {
-        Ok(found)
-    } else {
-        Ok(0)
-    }
+    Ok(if agrees(&assembled, &whole) { found } else { 0 })
 }
 
 // How many sets of finished pieces come up in all orders within all limits; 0 where a run differs

@@ -245,17 +245,14 @@ fn record_piece<R: Recorder<Task = u64>>(
     recorder.say(TextBuf::of(alloc, "hi")?)
 }
 
-// How a run ended that needs no global.
-fn needing_none(told: Result<(), Halt>) -> Result<(), Halt>
+// How a run ended that is whole, or above the limit of its total.
+fn whole_or_over(told: Result<(), Halt>) -> Result<(), Halt>
     ensures { NeedsNone result }
 {
     match told {
         Ok(()) => Ok(()),
-        Err(Halt::Fault(fault, site)) => Err(Halt::Fault(fault, site)),
-        Err(Halt::Needs(_, site) | Halt::Spent(site)) => Err(Halt::Spent(site)),
-        Err(Halt::Full(site)) => Err(Halt::Full(site)),
         Err(Halt::Over { total }) => Err(Halt::Over { total }),
-        Err(Halt::NoMemory) => Err(Halt::NoMemory),
+        Err(_) => Err(Halt::NoMemory),
     }
 }
 
@@ -267,7 +264,7 @@ fn piece(alloc: Global, others: u16, ticks: u64, children: &mut Vec<u64>) -> Fin
     };
     let mut piece = recorder(alloc, limits, 2000, others);
     let told = record_piece(alloc, &mut piece, ticks);
-    piece.finish(needing_none(told), children)
+    piece.finish(whole_or_over(told), children)
 }
 
 // Whether an outcome has five ticks, a part before the hole 0, and one after it.

@@ -1,8 +1,5 @@
 use Rattle.unit_tests.proofs.orders.tried.Goals as goal
 
-pub run_whole-requires-clause-ready : goal.run_whole-requires-clause-ready
-run_whole-requires-clause-ready c = (c.table_is_ready.ensures c.args.runner.now.rows.items).0
-
 pub run_in_order-requires-clause-ready : goal.run_in_order-requires-clause-ready
 run_in_order-requires-clause-ready c = (c.table_is_ready.ensures c.args.runner.now.rows.items).0
 
