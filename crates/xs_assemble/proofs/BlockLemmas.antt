@@ -1,13 +1,14 @@
 -- No block is lost.
 use Rattle.std.proofs.Common.{◌≡◌, ◌<◌, ◌≤◌, ◌+◌, ◌-◌, ℕ, zero, suc, List, [], ◌∷◌, ◌++◌, length, reverse, get_or, Option, Some, None, Result, Ok, Err}
-use Rattle.std.proofs.Common.{refl, sym, ap, ◌∙◌, arith, length-append}
+use Rattle.std.proofs.Common.{refl, sym, ap, ◌∙◌, arith}
 use Rattle.std.specs.List.{sum_by}
 use Rattle.std.specs.List.Sorted.{IsPermutation}
 use Rattle.std.specs.Prelude.{IfOk, IfSome, OnErr}
 use Rattle.std.proofs.lemmas.List.{reverse-append}
 use Rattle.std.proofs.lemmas.List.Sorted.{sum_by-IsPermutation}
 use Rattle.std.proofs.lemmas.List.Sums.{sum_by-cons}
-use Rattle.xs_block.specs.Chain.{cut, most_blocks, with_free}
+use Rattle.xs_block.specs.Chain.{Block, blocks_of, cut, most_blocks, with_free}
+use Rattle.xs_block.proofs.ChainLemmas.{blocks-append}
 use Rattle.xs_trace.specs.declared.item.Item.{Item}
 use Rattle.xs_core.specs.Good.{total}
 use Rattle.xs_record.specs.Outcome.{part_blocks}
@@ -107,10 +108,11 @@ given-back taken left pool back e =
     keeps-as (taken + left + pool) ((left + taken) + pool) (left + with_free pool taken) (left + back) (omega arith) (one-back left taken pool)
     (let i : left + with_free pool taken ≡ left + back = ap (λ k. left + k) (sym e) in omega (arith, i))
 
-pub chains-joined : (new old second : List (List Item)) (pool : ℕ) → new ≡ old ++ second → Keeps (length second + length old + pool) (length new + pool)
+pub chains-joined : (new old second : List (Block Item)) (pool : ℕ) → new ≡ old ++ second →
+    Keeps (blocks_of second + blocks_of old + pool) (blocks_of new + pool)
 chains-joined new old second pool e =
-    let i : length new ≡ length old + length second = ap length e ∙ length-append old second in
-    keeps-all (length second + length old + pool) (length new + pool) (omega (arith, i))
+    let i : blocks_of new ≡ blocks_of old + blocks_of second = ap blocks_of e ∙ blocks-append old second in
+    keeps-all (blocks_of second + blocks_of old + pool) (blocks_of new + pool) (omega (arith, i))
 
 -- a chain is cut and gets back a little, and then it is joined
 pub cut-joined : (whole kept more old new pool mid after back : ℕ) → kept ≤ whole → mid ≡ with_free pool (whole - kept) → kept + mid ≤ more + after →
@@ -127,13 +129,13 @@ pub cut-back : (whole kept more old pool mid after back : ℕ) → kept ≤ whol
 cut-back whole kept more old pool mid after back h e k j =
     cut-joined whole kept more old old pool mid after back h e k (given-back more old after back j)
 
-cut-length : (n : ℕ) (c : List (List Item)) → length (cut n c) ≤ length c
+cut-length : (n : ℕ) (c : List (Block Item)) → blocks_of (cut n c) ≤ blocks_of c
 cut-length zero c = omega arith
 cut-length (suc n) [] = omega arith
-cut-length (suc n) (b ∷ bs) = let i = cut-length (suc n - length b) bs in omega (arith, i)
+cut-length (suc n) (b ∷ bs) = let i = cut-length (suc n - length b.items) bs in omega (arith, i)
 
-pub kept-less : (n : ℕ) (old new : List (List Item)) → new ≡ cut n old → length new ≤ length old
-kept-less n old new e = let i = cut-length n old in let j = ap length e in omega (arith, i, j)
+pub kept-less : (n : ℕ) (old new : List (Block Item)) → new ≡ cut n old → blocks_of new ≤ blocks_of old
+kept-less n old new e = let i = cut-length n old in let j = ap blocks_of e in omega (arith, i, j)
 
 -- an item alone: there is room for it, and it is pushed and joined
 pub one-joined : (new none pool room mid old after : ℕ) → pool ≤ room → mid + new ≡ room + none → Keeps (new + old + mid) after → Keeps (old + pool) after
@@ -141,7 +143,7 @@ one-joined new none pool room mid old after h e k = keeps-as (old + pool) (new +
 
 -- ---- open pieces
 
-parts-pushed : (os ks : List Part) (p : Part) → os ≡ ks ++ p ∷ [] → part_blocks os ≡ part_blocks ks + length p.items
+parts-pushed : (os ks : List Part) (p : Part) → os ≡ ks ++ p ∷ [] → part_blocks os ≡ part_blocks ks + blocks_of p.items
 parts-pushed os ks p e = ap part_blocks e ∙ blocks-pushed ks p
 
 no-part-blocks : (ps : List Part) → length ps ≡ 0 → part_blocks ps ≡ 0
@@ -157,14 +159,14 @@ ends-blocks ps x y w pool back e k =
     (omega arith)
 
 -- a part of it is joined, and what follows
-pub goes-blocks : (os ks : List Part) (p : Part) (x y w pool mid after : ℕ) → os ≡ ks ++ p ∷ [] → Keeps (length p.items + x + pool) (y + mid) →
+pub goes-blocks : (os ks : List Part) (p : Part) (x y w pool mid after : ℕ) → os ≡ ks ++ p ∷ [] → Keeps (blocks_of p.items + x + pool) (y + mid) →
     Keeps (part_blocks ks + (y + w) + mid) after → Keeps (part_blocks os + (x + w) + pool) after
 goes-blocks os ks p x y w pool mid after e k j =
     let i = parts-pushed os ks p e in
     let z : ℕ = part_blocks ks + w in
     keeps-then (part_blocks os + (x + w) + pool) (part_blocks ks + (y + w) + mid) after
-    (keeps-as (part_blocks os + (x + w) + pool) (z + (length p.items + x + pool)) (z + (y + mid)) (part_blocks ks + (y + w) + mid) (omega (arith, i))
-    (keeps-more z (length p.items + x + pool) (y + mid) k) (omega arith))
+    (keeps-as (part_blocks os + (x + w) + pool) (z + (blocks_of p.items + x + pool)) (z + (y + mid)) (part_blocks ks + (y + w) + mid) (omega (arith, i))
+    (keeps-more z (blocks_of p.items + x + pool) (y + mid) k) (omega arith))
     j
 
 -- or the rest of it is free

@@ -3,7 +3,7 @@
 ghost use Rattle.std.specs.Cmp.Lexicographic.{slice_cmp};
 ghost use Rattle.std.specs.List.Sorted.{IsPermutation};
 ghost use Rattle.std.specs.Ordering.{nat_cmp};
-ghost use Rattle.std.specs.Prelude.{◌≡◌, ◌+◌, ◌<◌, ◌≤◌, [], ℕ, length, List, IfOk};
+ghost use Rattle.std.specs.Prelude.{◌≡◌, ◌+◌, ◌<◌, ◌≤◌, [], ℕ, List, IfOk};
 ghost use Rattle.std.specs.Prelude.{OnErr, Option};
 ghost use Rattle.xs_assemble.specs.Assembled.{IsAssembled};
 ghost use Rattle.xs_assemble.specs.Blocks.{piece_blocks, Keeps};
@@ -12,7 +12,7 @@ ghost use Rattle.xs_assemble.specs.Reading.{read, whole_at, Finds};
 ghost use Rattle.xs_assemble.specs.steps.Joining.{IsEnding, IsEndOf};
 ghost use Rattle.xs_assemble.specs.steps.Work.{seen, work_blocks, Ends};
 ghost use Rattle.xs_assemble.specs.steps.Work.{IsEntering, IsSorted, Known};
-ghost use Rattle.xs_block.specs.Chain.{items_of};
+ghost use Rattle.xs_block.specs.Chain.{blocks_of, items_of};
 ghost use Rattle.xs_pieces.specs.Collection.{IsCollection};
 ghost use Rattle.xs_pieces.specs.Ready.{IsReady};
 ghost use Rattle.xs_record.specs.declared.outcome.Outcome.{Outcome};
@@ -72,7 +72,7 @@ pub fn assemble<R: Runner>(
     ensures none { IfOk result (λ a. collected.total ≤ limits.ticks →
         (a.inline ≡ 0) × (a.inline_ticks ≡ 0)) }
     ensures blocks { IfOk result (λ a. Keeps (piece_blocks collected.pieces.items + pool.old)
-        (length a.items + pool.new)) }
+        (blocks_of a.items + pool.new)) }
     ensures free { OnErr result (pool.old ≤ pool.new) }
 {
     let _most = pool.free_blocks();

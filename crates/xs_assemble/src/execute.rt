@@ -1,11 +1,12 @@
 //! A run in pieces: they are run, and joined.
 
 ghost use Rattle.std.specs.List.{Contains};
-ghost use Rattle.std.specs.Prelude.{◌≡◌, ◌+◌, ◌*◌, ◌<◌, ◌≤◌, ◌^◌, [], length, ℕ, List};
+ghost use Rattle.std.specs.Prelude.{◌≡◌, ◌+◌, ◌*◌, ◌<◌, ◌≤◌, ◌^◌, [], ℕ, List};
 ghost use Rattle.std.specs.Prelude.{IfOk, None, OnErr};
 ghost use Rattle.xs_assemble.specs.Assembled.{IsAssembled};
 ghost use Rattle.xs_assemble.specs.Claims.{claimed_places, claimed_ticks};
 ghost use Rattle.xs_assemble.specs.Claims.{AreAll, AreOfTree, IsJoined, IsReached};
+ghost use Rattle.xs_block.specs.Chain.{blocks_of};
 ghost use Rattle.xs_pieces.specs.Ready.{IsReady};
 ghost use Rattle.xs_trace.specs.Cut.{cut};
 
@@ -54,7 +55,7 @@ pub fn execute<R: PieceRunner<SoleTotal>>(
     ensures whole { IfOk result (λ e. e.assembled.end ≡ None →
         AreAll (R.own runner.now) root e.claims.items
         × (e.assembled.inline ≡ 0) × (e.worked ≡ e.assembled.ticks)) }
-    ensures blocks { IfOk result (λ e. pool.old ≤ length e.assembled.items + pool.new) }
+    ensures blocks { IfOk result (λ e. pool.old ≤ blocks_of e.assembled.items + pool.new) }
     ensures free { OnErr result (pool.old ≤ pool.new) }
 {
     let _most = pool.free_blocks();

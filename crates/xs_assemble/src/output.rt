@@ -1,11 +1,11 @@
 //! What has been assembled.
 
-ghost use Rattle.std.specs.Prelude.{◌≡◌, ◌+◌, ◌≤◌, ◌++◌, ◌∷◌, [], length, OnOk, true};
+ghost use Rattle.std.specs.Prelude.{◌≡◌, ◌+◌, ◌≤◌, ◌++◌, ◌∷◌, [], OnOk, true};
 ghost use Rattle.xs_assemble.specs.Blocks.{Keeps};
 ghost use Rattle.xs_assemble.specs.Reading.{site_of};
 ghost use Rattle.xs_assemble.specs.steps.Joining.{last_items, limit_at, Joins};
 ghost use Rattle.xs_assemble.specs.steps.Joining.{JoinsEnd, JoinsFront};
-ghost use Rattle.xs_block.specs.Chain.{items_of};
+ghost use Rattle.xs_block.specs.Chain.{blocks_of, items_of};
 ghost use Rattle.xs_pieces.specs.Collection.{is_done};
 ghost use Rattle.xs_record.specs.Store.{pending};
 ghost use Rattle.xs_trace.specs.Cut.{nowhere};
@@ -46,8 +46,8 @@ impl Output {
     pub(crate) fn join(&mut self, pool: &mut Pool<Item>, items: Chain<Item>) -> Result<(), Halt>
         ensures joined { Joins (items_of items) self.old.limit (items_of self.old.items) result
             (items_of self.new.items) self.new.limit }
-        ensures blocks { Keeps (length items + length self.old.items + pool.old)
-            (length self.new.items + pool.new) }
+        ensures blocks { Keeps (blocks_of items + blocks_of self.old.items + pool.old)
+            (blocks_of self.new.items + pool.new) }
     {
         match self.limit.walk(&items) {
             Err(_refused) => {
@@ -76,8 +76,8 @@ impl Output {
     ) -> Result<(), Halt>
         ensures joined { JoinsFront (items_of items) walk halt (items_of self.old.items) result
             (items_of self.new.items) self.new.limit }
-        ensures blocks { Keeps (length items + length self.old.items + pool.old)
-            (length self.new.items + pool.new) }
+        ensures blocks { Keeps (blocks_of items + blocks_of self.old.items + pool.old)
+            (blocks_of self.new.items + pool.new) }
     {
         let mut items = items;
         pool.truncate(&mut items, walk.count);
@@ -99,8 +99,8 @@ impl Output {
         ensures joined { OnOk result (items_of self.new.items
             ≡ items_of self.old.items ++ items_of items) }
         ensures limit { self.new.limit ≡ self.old.limit }
-        ensures blocks { Keeps (length items + length self.old.items + pool.old)
-            (length self.new.items + pool.new) }
+        ensures blocks { Keeps (blocks_of items + blocks_of self.old.items + pool.old)
+            (blocks_of self.new.items + pool.new) }
     {
         if !self.items.can_append(&items) {
             pool.give_back(items);
@@ -120,8 +120,8 @@ impl Output {
         requires done { is_done ended ≡ true }
         ensures joined { JoinsEnd ended self.old.limit (items_of self.old.items) result
             (items_of self.new.items) self.new.limit }
-        ensures blocks { Keeps (length self.old.items + pool.old)
-            (length self.new.items + pool.new) }
+        ensures blocks { Keeps (blocks_of self.old.items + pool.old)
+            (blocks_of self.new.items + pool.new) }
     {
         match ended {
             Ended::Whole => Ok(()),
@@ -144,8 +144,8 @@ impl Output {
     fn join_one(&mut self, alloc: Global, pool: &mut Pool<Item>, item: Item) -> Result<(), Halt>
         ensures joined { Joins (item ∷ []) self.old.limit (items_of self.old.items) result
             (items_of self.new.items) self.new.limit }
-        ensures blocks { Keeps (length self.old.items + pool.old)
-            (length self.new.items + pool.new) }
+        ensures blocks { Keeps (blocks_of self.old.items + pool.old)
+            (blocks_of self.new.items + pool.new) }
     {
         let mut items = Chain::new(alloc);
         pool.reserve(&items, 1)?;
@@ -163,7 +163,7 @@ fn push_left(
 ) -> Result<(), AllocError>
     ensures pushed { OnOk result
         (items_of items.new ≡ items_of items.old ++ last_items limit halt) }
-    ensures blocks { length items.old + pool.old ≤ length items.new + pool.new }
+    ensures blocks { blocks_of items.old + pool.old ≤ blocks_of items.new + pool.new }
 {
     match halt {
         Halt::Spent(site) => push_ticks(pool, items, site, limit.left),
@@ -181,7 +181,7 @@ fn push_ticks(
 ) -> Result<(), AllocError>
     ensures pushed { OnOk result
         (items_of items.new ≡ items_of items.old ++ pending site ticks) }
-    ensures blocks { length items.old + pool.old ≤ length items.new + pool.new }
+    ensures blocks { blocks_of items.old + pool.old ≤ blocks_of items.new + pool.new }
 {
     if ticks == 0 {
         return Ok(());

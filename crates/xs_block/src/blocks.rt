@@ -1,24 +1,28 @@
 //! Lists of blocks, from which and to which blocks go without memory.
 
 ghost use Rattle.std.specs.Prelude.{◌≡◌, ℕ, ◌+◌, ◌-◌, ◌<◌, ◌≤◌, List, [], ◌∷◌, ◌++◌};
-ghost use Rattle.std.specs.Prelude.{length, map, take, drop, OnOk, OnErr, IsSome, ◌↔◌};
+ghost use Rattle.std.specs.Prelude.{length, map, take, drop, if◌then◌else◌, ◌↔◌};
+ghost use Rattle.std.specs.Prelude.{IfOk, OnOk, OnErr, IsSome};
+ghost use Rattle.std.specs.List.{All};
 ghost use Rattle.std.specs.Option.{option_to_list};
 ghost use Rattle.std.specs.Vec.{vec_items, vec_len, vec_capacity};
-ghost use Rattle.xs_block.specs.Chain.{items_of, slots_of, cut, most_blocks};
-ghost use Rattle.xs_block.specs.steps.Blocks.{with_last};
+ghost use Rattle.xs_block.specs.Chain.{blocks_of, items_of, slots_of, cut, front, most_blocks};
+ghost use Rattle.xs_block.specs.Chain.{block_slots, unsealed, sealed, sealed_block};
+ghost use Rattle.xs_block.specs.steps.Blocks.{block_of, with_last};
 
 use std::alloc::{AllocError, Global};
 use std::collections::LinkedList;
 use std::marker::Model;
 use std::mem::replace;
 
-/// The items that a block has room for.
+/// The items that a block of a pool has room for.
 pub(crate) const BLOCK: usize = 64;
 
 /// The most blocks of a list.
 pub(crate) const MOST_BLOCKS: usize = 0x7fff_ffff_ffff_ffff;
 
-/// Blocks, each a vector with room for 64 items. Contracts see the list of the items of each.
+/// Blocks, each a vector with room for 64 items; one with other room is sealed. Contracts see the
+/// items of each, and whether it is sealed.
 #[derive(Drop)]
 pub(crate) struct Blocks<T> {
     pub(crate) list: LinkedList<Vec<T>>,
@@ -27,15 +31,12 @@ pub(crate) struct Blocks<T> {
 
 impl<T> Model for Blocks<T> {
     ghost use Rattle.std.specs.Prelude.{List, map};
-    ghost use Rattle.std.specs.List.{All};
-    ghost use Rattle.std.specs.Vec.{vec_items};
-    ghost use Rattle.xs_block.specs.steps.Blocks.{IsBlock};
+    ghost use Rattle.xs_block.specs.Chain.{Block};
+    ghost use Rattle.xs_block.specs.steps.Blocks.{block_of};
 
-    ghost Value = { List (List T) };
+    ghost Value = { List (Block T) };
 
-    ghost view = { λ b. map vec_items b.list };
-
-    ghost invariant = { λ b. All IsBlock b.list };
+    ghost view = { λ b. map block_of b.list };
 }
 
 impl<T: Drop> Blocks<T> {
@@ -58,18 +59,30 @@ impl<T: Drop> Blocks<T> {
     }
 
     /// The free slots of the last one.
+    #[inline(always)]
     pub(crate) fn slots(&self) -> usize
         ensures slots { result ≡ slots_of self.now }
     {
         match self.list.back() {
-            Some(block) => BLOCK - block.len(),
+            Some(block) => free_slots(block),
             None => 0,
+        }
+    }
+
+    /// Whether the only one is sealed.
+    pub(crate) fn is_sealed(&self) -> bool
+        requires one { length self.now ≡ 1 }
+        ensures sealed { blocks_of self.now ≡ (if result then 0 else 1) }
+    {
+        match self.list.front() {
+            Some(block) => block.capacity() != BLOCK,
+            None => unreachable!(),
         }
     }
 
     /// One more, without items, at the end.
     pub(crate) fn add(&mut self) -> Result<(), AllocError>
-        ensures ok { OnOk result (self.new ≡ self.old ++ [] ∷ []) }
+        ensures ok { OnOk result (self.new ≡ self.old ++ unsealed [] ∷ []) }
         ensures err { OnErr result (self.new ≡ self.old) }
     {
         let block = Vec::with_capacity(self.alloc, BLOCK)?;
@@ -78,6 +91,7 @@ impl<T: Drop> Blocks<T> {
     }
 
     /// One more item in the last block.
+    #[inline(always)]
     pub(crate) fn push(&mut self, item: T)
         requires slots { 0 < slots_of self.old }
         ensures pushed { self.new ≡ with_last item self.old }
@@ -91,7 +105,7 @@ impl<T: Drop> Blocks<T> {
     /// Keeps the first `n` items of the only block, and returns how many of `n` are left over.
     pub(crate) fn trim(&mut self, n: u64) -> u64
         requires one { length self.old ≡ 1 }
-        ensures kept { self.new ≡ map (take n) self.old }
+        ensures kept { self.new ≡ map (front n) self.old }
         ensures left { result ≡ n - length (items_of self.old) }
     {
         match self.list.front_mut() {
@@ -101,6 +115,7 @@ impl<T: Drop> Blocks<T> {
     }
 
     /// Takes the first block off.
+    #[inline(never)]
     pub(crate) fn take_first(&mut self) -> Blocks<T>
         requires some { 0 < length self.old }
         ensures first { result ≡ take 1 self.old }
@@ -118,7 +133,7 @@ impl<T: Drop> Blocks<T> {
 
     /// Takes the first block out of the list, if there is one; the list's memory for it is freed.
     pub(crate) fn pop_first(&mut self) -> Option<Vec<T>>
-        ensures popped { self.old ≡ map vec_items (option_to_list result) ++ self.new }
+        ensures popped { self.old ≡ map block_of (option_to_list result) ++ self.new }
         ensures variant { IsSome result ↔ (0 < length self.old) }
     {
         self.list.pop_front()
@@ -137,11 +152,37 @@ impl<T: Drop> Blocks<T> {
         let _joined = self.list.append(&mut other.list);
     }
 
+    /// Moves the items of the last block, if it has free slots, to one in room for them alone, and
+    /// hands out the block that they were in. Out of memory all is as it was.
+    pub(crate) fn seal(&mut self) -> Result<Blocks<T>, AllocError>
+        ensures sealed { OnOk result (self.new ≡ sealed self.old) }
+        ensures emptied { IfOk result (λ free. All (λ block. block ≡ unsealed []) free) }
+        ensures blocks { IfOk result (λ free.
+            length free + blocks_of self.new ≡ blocks_of self.old) }
+        ensures few { IfOk result (λ free. length free ≤ 1) }
+        ensures refused { OnErr result (self.new ≡ self.old) }
+    {
+        if self.slots() == 0 {
+            return Ok(Blocks::new(self.alloc));
+        }
+        let mut free = LinkedList::new(self.alloc);
+        let place = free.push_back_mut(Vec::new(self.alloc))?;
+        let Some(block) = self.list.back_mut() else {
+            unreachable!();
+        };
+        let emptied = seal_block(self.alloc, block)?;
+        *place = emptied;
+        Ok(Blocks {
+            list: free,
+            alloc: self.alloc,
+        })
+    }
+
     /// Keeps the blocks of the first `n` items, and hands out the others.
     #[tactic(auto, using(crate::proofs::CutLemmas::cut_some, crate::proofs::CutLemmas::cut_nil))]
     pub(crate) fn cut(&mut self, n: u64) -> Blocks<T>
         ensures kept { self.new ≡ cut n self.old }
-        ensures rest { length result + length self.new ≡ length self.old }
+        ensures rest { blocks_of result + blocks_of self.new ≡ blocks_of self.old }
     {
         let blocks = self.len();
         let mut kept = Blocks::new(self.alloc);
@@ -167,4 +208,32 @@ fn trim_block<T: Drop>(block: &mut Vec<T>, n: u64) -> u64
         return 0;
     }
     n - len
+}
+
+/// The free slots of a block: none, where it is sealed.
+fn free_slots<T>(block: &Vec<T>) -> usize
+    ensures slots { result ≡ slots_of (block_of block.now ∷ []) }
+{
+    if block.capacity() != BLOCK {
+        return 0;
+    }
+    BLOCK - block.len()
+}
+
+/// Moves the items of a block with free slots to room for them alone, and returns the block without
+/// them. Out of memory it is as it was.
+fn seal_block<T: Drop>(alloc: Global, block: &mut Vec<T>) -> Result<Vec<T>, AllocError>
+    requires slots { 0 < block_slots (block_of block.old) }
+    ensures sealed { OnOk result (block_of block.new ≡ sealed_block (block_of block.old)) }
+    ensures emptied { IfOk result (λ emptied. block_of emptied ≡ unsealed []) }
+    ensures refused { OnErr result (block_of block.new ≡ block_of block.old) }
+{
+    let mut exact = Vec::with_capacity(alloc, block.len())?;
+    exact.append(block)?;
+    let emptied = replace(block, exact);
+    // With more room than was asked for it may be a block of 64 slots again.
+    if block.capacity() == BLOCK {
+        return Err(AllocError);
+    }
+    Ok(emptied)
 }

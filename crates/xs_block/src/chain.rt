@@ -1,16 +1,19 @@
 //! A chain: a list of items in blocks of 64.
 
 ghost use Rattle.std.specs.Prelude.{◌≡◌, ℕ, ◌+◌, ◌<◌, ◌≤◌, ◌↔◌, List, [], ◌∷◌, ◌++◌};
-ghost use Rattle.std.specs.Prelude.{length, IsTrue};
-ghost use Rattle.xs_block.specs.Chain.{items_of, slots_of, cut, most_blocks};
+ghost use Rattle.std.specs.Prelude.{length, IfOk, IsTrue, OnErr, OnOk};
+ghost use Rattle.std.specs.List.{All};
+ghost use Rattle.xs_block.specs.Chain.{blocks_of, items_of, slots_of, cut, most_blocks};
+ghost use Rattle.xs_block.specs.Chain.{unsealed, sealed};
 ghost use Rattle.xs_block.specs.steps.Blocks.{with_last};
 
 use crate::blocks::{Blocks, MOST_BLOCKS};
 use crate::items::{IntoItems, Items};
-use std::alloc::Global;
+use std::alloc::{AllocError, Global};
 use std::marker::Model;
 
-/// A list of items in blocks. Contracts see the list of its blocks, each as the list of its items.
+/// A list of items in blocks. Contracts see the list of its blocks: the items of each, and whether
+/// it is sealed.
 #[derive(Drop)]
 pub struct Chain<T> {
     blocks: Blocks<T>,
@@ -19,12 +22,13 @@ pub struct Chain<T> {
 impl<T> Model for Chain<T> {
     ghost use Rattle.std.specs.Prelude.{List, ℕ, ◌<◌, length};
     ghost use Rattle.std.specs.List.{All};
+    ghost use Rattle.xs_block.specs.Chain.{Block};
 
-    ghost Value = { List (List T) };
+    ghost Value = { List (Block T) };
 
     ghost view = { λ c. c.blocks };
 
-    ghost invariant = { λ c. All (λ block. 0 < length block) c.blocks };
+    ghost invariant = { λ c. All (λ block. 0 < length block.items) c.blocks };
 }
 
 impl<T: Drop> Chain<T> {
@@ -37,7 +41,7 @@ impl<T: Drop> Chain<T> {
         }
     }
 
-    /// The number of its blocks.
+    /// The number of its blocks, sealed ones among them.
     pub fn blocks(&self) -> usize
         ensures blocks { result ≡ length self.now }
         ensures most { result ≤ most_blocks }
@@ -53,6 +57,7 @@ impl<T: Drop> Chain<T> {
     }
 
     /// The free slots of the last block.
+    #[inline(always)]
     pub(crate) fn slots(&self) -> usize
         ensures slots { result ≡ slots_of self.now }
     {
@@ -81,6 +86,7 @@ impl<T: Drop> Chain<T> {
     }
 
     /// Appends an item to the last block.
+    #[inline(always)]
     pub(crate) fn push(&mut self, item: T)
         requires slots { 0 < slots_of self.old }
         ensures pushed { self.new ≡ with_last item self.old }
@@ -89,10 +95,11 @@ impl<T: Drop> Chain<T> {
     }
 
     /// Appends a block that was free, with an item in it.
+    #[inline(never)]
     pub(crate) fn push_block(&mut self, mut block: Blocks<T>, item: T)
-        requires free { block ≡ [] ∷ [] }
+        requires free { block ≡ unsealed [] ∷ [] }
         requires fits { length self.old < most_blocks }
-        ensures pushed { self.new ≡ self.old ++ (item ∷ []) ∷ [] }
+        ensures pushed { self.new ≡ self.old ++ unsealed (item ∷ []) ∷ [] }
     {
         block.push(item);
         self.blocks.append(block);
@@ -101,9 +108,22 @@ impl<T: Drop> Chain<T> {
     /// Keeps the first `n` items, and hands out the blocks after theirs.
     pub(crate) fn cut(&mut self, n: u64) -> Blocks<T>
         ensures kept { self.new ≡ cut n self.old }
-        ensures rest { length result + length self.new ≡ length self.old }
+        ensures rest { blocks_of result + blocks_of self.new ≡ blocks_of self.old }
     {
         self.blocks.cut(n)
+    }
+
+    /// Moves the items of the last block, if it has free slots, to one in room for them alone, and
+    /// hands out the block that they were in. Out of memory all is as it was.
+    pub(crate) fn seal(&mut self) -> Result<Blocks<T>, AllocError>
+        ensures sealed { OnOk result (self.new ≡ sealed self.old) }
+        ensures emptied { IfOk result (λ free. All (λ block. block ≡ unsealed []) free) }
+        ensures blocks { IfOk result (λ free.
+            length free + blocks_of self.new ≡ blocks_of self.old) }
+        ensures few { IfOk result (λ free. length free ≤ 1) }
+        ensures refused { OnErr result (self.new ≡ self.old) }
+    {
+        self.blocks.seal()
     }
 
     /// Its blocks.

@@ -18,12 +18,12 @@ pub struct Items<'a, T> {
 
 impl<'a, T> Model for Items<'a, T> {
     ghost use Rattle.std.specs.Prelude.{List, ◌++◌, map};
-    ghost use Rattle.std.specs.Vec.{vec_items};
     ghost use Rattle.xs_block.specs.Chain.{items_of};
+    ghost use Rattle.xs_block.specs.steps.Blocks.{block_of};
 
     ghost Value = { List T };
 
-    ghost view = { λ i. i.block.now ++ items_of (map vec_items i.blocks) };
+    ghost view = { λ i. i.block.now ++ items_of (map block_of i.blocks) };
 }
 
 impl<'a, T> Items<'a, T> {

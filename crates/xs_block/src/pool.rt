@@ -2,7 +2,8 @@
 
 ghost use Rattle.std.specs.Prelude.{◌≡◌, ℕ, ◌+◌, ◌-◌, ◌^◌, ◌<◌, ◌≤◌, min, [], ◌∷◌, ◌++◌};
 ghost use Rattle.std.specs.Prelude.{length, take, OnOk, OnErr};
-ghost use Rattle.xs_block.specs.Chain.{items_of, spare_of, cut, most_blocks, with_free};
+ghost use Rattle.xs_block.specs.Chain.{blocks_of, items_of, spare_of, cut, most_blocks, with_free};
+ghost use Rattle.xs_block.specs.Chain.{unsealed, sealed};
 
 use crate::blocks::{BLOCK, Blocks, MOST_BLOCKS};
 use crate::chain::Chain;
@@ -17,13 +18,14 @@ pub struct Pool<T> {
 
 impl<T> Model for Pool<T> {
     ghost use Rattle.std.specs.Prelude.{◌≡◌, ℕ, [], length};
+    ghost use Rattle.xs_block.specs.Chain.{unsealed};
     ghost use Rattle.std.specs.List.{All};
 
     ghost Value = { ℕ };
 
     ghost view = { λ p. length p.free };
 
-    ghost invariant = { λ p. All (λ block. block ≡ []) p.free };
+    ghost invariant = { λ p. All (λ block. block ≡ unsealed []) p.free };
 }
 
 impl<T: Drop> Pool<T> {
@@ -63,6 +65,7 @@ impl<T: Drop> Pool<T> {
 
     /// Makes room for `n` more items on a chain, with no more new blocks than that takes.
     /// Out of memory, the blocks that were made until then are free.
+    #[inline(always)]
     pub fn reserve(&mut self, chain: &Chain<T>, n: u64) -> Result<(), AllocError>
         ensures ok { OnOk result (n ≤ spare_of self.new chain.now) }
         ensures refused { OnErr result (spare_of self.new chain.now < n) }
@@ -82,6 +85,7 @@ impl<T: Drop> Pool<T> {
     }
 
     /// One more free block.
+    #[inline(never)]
     fn add(&mut self) -> Result<(), AllocError>
         ensures ok { OnOk result (self.new ≡ self.old + 1) }
         ensures err { OnErr result (self.new ≡ self.old) }
@@ -92,20 +96,21 @@ impl<T: Drop> Pool<T> {
     /// Takes a block.
     fn take(&mut self) -> Blocks<T>
         requires some { 0 < self.old }
-        ensures free { result ≡ [] ∷ [] }
+        ensures free { result ≡ unsealed [] ∷ [] }
         ensures rest { self.new + 1 ≡ self.old }
     {
         self.free.take_first()
     }
 
     /// Appends an item to a chain. It takes no memory.
+    #[inline(always)]
     pub fn push(&mut self, chain: &mut Chain<T>, item: T)
         requires spare { 0 < spare_of self.old chain.old }
         ensures items { items_of chain.new ≡ items_of chain.old ++ item ∷ [] }
         ensures earlier { take (length chain.old - 1) chain.new
             ≡ take (length chain.old - 1) chain.old }
         ensures spare { spare_of self.new chain.new + 1 ≡ spare_of self.old chain.old }
-        ensures blocks { self.new + length chain.new ≡ self.old + length chain.old }
+        ensures blocks { self.new + blocks_of chain.new ≡ self.old + blocks_of chain.old }
     {
         if chain.slots() == 0 {
             let block = self.take();
@@ -119,7 +124,7 @@ impl<T: Drop> Pool<T> {
     pub fn truncate(&mut self, chain: &mut Chain<T>, n: u64)
         ensures kept { chain.new ≡ cut n chain.old }
         ensures items { items_of chain.new ≡ take n (items_of chain.old) }
-        ensures free { self.new ≡ with_free self.old (length chain.old - length chain.new) }
+        ensures free { self.new ≡ with_free self.old (blocks_of chain.old - blocks_of chain.new) }
     {
         let rest = chain.cut(n);
         self.free(rest);
@@ -127,25 +132,42 @@ impl<T: Drop> Pool<T> {
 
     /// Takes the blocks of a chain back: all of them are free.
     pub fn give_back(&mut self, chain: Chain<T>)
-        ensures free { self.new ≡ with_free self.old (length chain) }
+        ensures free { self.new ≡ with_free self.old (blocks_of chain) }
     {
         self.free(chain.into_blocks());
     }
 
-    /// Some blocks are free; their items are dropped.
+    /// Seals a chain: the items of its last block, if that has free slots, move to room for them
+    /// alone, and the block is free. Out of memory all is as it was.
+    pub fn seal(&mut self, chain: &mut Chain<T>) -> Result<(), AllocError>
+        ensures sealed { OnOk result (chain.new ≡ sealed chain.old) }
+        ensures refused { OnErr result (chain.new ≡ chain.old) }
+        ensures items { items_of chain.new ≡ items_of chain.old }
+        ensures blocks { self.new + blocks_of chain.new ≡ self.old + blocks_of chain.old }
+    {
+        if self.free.len() == MOST_BLOCKS {
+            return Err(AllocError);
+        }
+        self.free.append(chain.seal()?);
+        Ok(())
+    }
+
+    /// Some blocks are free, except sealed ones; their items are dropped.
     fn free(&mut self, mut blocks: Blocks<T>)
-        ensures free { self.new ≡ with_free self.old (length blocks) }
+        ensures free { self.new ≡ with_free self.old (blocks_of blocks) }
     {
         while blocks.len() > 0 {
             let mut block = blocks.take_first();
-            let _left = block.trim(0);
-            self.gain(block);
+            if !block.is_sealed() {
+                let _left = block.trim(0);
+                self.gain(block);
+            }
         }
     }
 
     /// A block is free, if there is a number for one more.
     fn gain(&mut self, block: Blocks<T>)
-        requires free { block ≡ [] ∷ [] }
+        requires free { block ≡ unsealed [] ∷ [] }
         ensures free { self.new ≡ with_free self.old 1 }
     {
         if self.free.len() < MOST_BLOCKS {

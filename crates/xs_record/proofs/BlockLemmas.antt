@@ -1,10 +1,10 @@
 -- Blocks of parts, and of the pool that they come back to.
 use Rattle.std.proofs.Common.{◌≡◌, ℕ, ◌+◌, ◌-◌, ◌≤◌, List, [], ◌∷◌, ◌++◌, length, min, arith, ap, sym, subst, ◌∙◌}
-use Rattle.xs_block.specs.Chain.{most_blocks, with_free}
+use Rattle.xs_block.specs.Chain.{blocks_of, most_blocks, with_free}
 use Rattle.xs_record.specs.Outcome.{part_blocks}
 use Rattle.xs_record.specs.declared.outcome.Part.{Part}
 
-pub blocks-pushed : (ps : List Part) (p : Part) → part_blocks (ps ++ p ∷ []) ≡ part_blocks ps + length p.items
+pub blocks-pushed : (ps : List Part) (p : Part) → part_blocks (ps ++ p ∷ []) ≡ part_blocks ps + blocks_of p.items
 blocks-pushed [] p = omega arith
 blocks-pushed (q ∷ ps) p = omega (arith, blocks-pushed ps p)
 
@@ -37,17 +37,17 @@ one-back left taken pool n le k = up-to most_blocks left taken pool n le k
 
 -- a section more
 pub hole-blocks : (ps rs qs : List Part) (p : Part) (marks new now : ℕ) → rs ≡ ps → qs ≡ rs ++ p ∷ [] → part_blocks ps + marks ≡ now →
-    marks ≤ new + length p.items → now ≤ part_blocks qs + new
+    marks ≤ new + blocks_of p.items → now ≤ part_blocks qs + new
 hole-blocks ps rs qs p marks new now a b v h =
-    let q : part_blocks qs ≡ part_blocks ps + length p.items = ap part_blocks b ∙ blocks-pushed rs p ∙ ap (λ xs. part_blocks xs + length p.items) a in
+    let q : part_blocks qs ≡ part_blocks ps + blocks_of p.items = ap part_blocks b ∙ blocks-pushed rs p ∙ ap (λ xs. part_blocks xs + blocks_of p.items) a in
     omega (arith, q, v, h)
 
-pub loop-back : (held : ℕ) (ps qs : List Part) (p : Part) (pool back : ℕ) → ps ≡ qs ++ p ∷ [] → back ≡ with_free pool (length p.items) →
+pub loop-back : (held : ℕ) (ps qs : List Part) (p : Part) (pool back : ℕ) → ps ≡ qs ++ p ∷ [] → back ≡ with_free pool (blocks_of p.items) →
     Gives held (part_blocks ps + pool) → Gives held (part_blocks qs + back)
 loop-back held ps qs p pool back a b f n le k =
-    let e : part_blocks ps ≡ part_blocks qs + length p.items = ap part_blocks a ∙ blocks-pushed qs p in
+    let e : part_blocks ps ≡ part_blocks qs + blocks_of p.items = ap part_blocks a ∙ blocks-pushed qs p in
     let h : n ≤ part_blocks ps + pool = f n le k in
-    let g : n ≤ part_blocks qs + with_free pool (length p.items) = one-back (part_blocks qs) (length p.items) pool n le (omega (arith, e, h)) in
+    let g : n ≤ part_blocks qs + with_free pool (blocks_of p.items) = one-back (part_blocks qs) (blocks_of p.items) pool n le (omega (arith, e, h)) in
     subst (λ j. n ≤ part_blocks qs + j) (sym b) g
 
 pub end-back : (held : ℕ) (ps : List Part) (pool : ℕ) → length ps ≡ 0 → Gives held (part_blocks ps + pool) → Gives held pool
@@ -57,11 +57,11 @@ end-back held (p ∷ ps) pool e f n le k = absurd (omega (arith, e))
 -- ---- the end of a store
 
 pub finish-blocks : (ps rs qs : List Part) (p : Part) (marks new row pool now : ℕ) → rs ≡ ps → qs ≡ rs ++ p ∷ [] → part_blocks ps + marks ≡ now →
-    marks ≤ new + length p.items → row ≡ new → Gives row pool → Gives now (part_blocks qs + pool)
+    marks ≤ new + blocks_of p.items → row ≡ new → Gives row pool → Gives now (part_blocks qs + pool)
 finish-blocks ps rs qs p marks new row pool now a b v h e f n le k =
-    let q : part_blocks qs ≡ part_blocks ps + length p.items = ap part_blocks b ∙ blocks-pushed rs p ∙ ap (λ xs. part_blocks xs + length p.items) a in
-    let g : n ≤ (part_blocks ps + length p.items) + pool =
-    taken-back (part_blocks ps) marks new (length p.items) row pool h e f n le (omega (arith, k, v)) in
+    let q : part_blocks qs ≡ part_blocks ps + blocks_of p.items = ap part_blocks b ∙ blocks-pushed rs p ∙ ap (λ xs. part_blocks xs + blocks_of p.items) a in
+    let g : n ≤ (part_blocks ps + blocks_of p.items) + pool =
+    taken-back (part_blocks ps) marks new (blocks_of p.items) row pool h e f n le (omega (arith, k, v)) in
     omega (arith, g, q)
 
 pub refused-back : (ps rs : List Part) (marks new row pool now back : ℕ) → rs ≡ ps → part_blocks ps + marks ≡ now → marks ≤ new → row ≡ new →

@@ -1,6 +1,6 @@
 -- What a run of a piece gives: its parts, with holes by number.
-use Rattle.std.specs.Prelude.{◌≡◌, ◌+◌, ℕ, suc, List, [], ◌∷◌, ◌++◌, length, map, Option, Some, None}
-use Rattle.xs_block.specs.Chain.{items_of}
+use Rattle.std.specs.Prelude.{◌≡◌, ◌+◌, ℕ, suc, List, [], ◌∷◌, ◌++◌, map, Option, Some, None}
+use Rattle.xs_block.specs.Chain.{blocks_of, items_of}
 use Rattle.xs_trace.specs.Mark.{Hole, Trace, tick_count}
 use Rattle.xs_trace.specs.Cut.{cut}
 use Rattle.xs_trace.specs.Fill.{numbered}
@@ -39,7 +39,7 @@ AreParts n (p ∷ q ∷ ps) = (p.hole ≡ Some n) × (IsPacked (items_of p.items
 -- the blocks of parts
 abbrev pub part_blocks : List Part → ℕ
 part_blocks [] = 0
-part_blocks (p ∷ ps) = length p.items + part_blocks ps
+part_blocks (p ∷ ps) = blocks_of p.items + part_blocks ps
 
 -- What a run gives of a trace under limits: the marks that passed its cut, with the holes by their numbers; the end; the ticks.
 pub record IsOutcome {H : Type 0} (x : Trace H) (l : Limits) (o : Outcome) : Type 0 where

@@ -68,6 +68,7 @@ impl<R: Row, T> Marks<R, T> {
     }
 
     /// Whether a capture is open.
+    #[inline(always)]
     pub(crate) fn is_capturing(&self) -> bool
         ensures open { result ≡ is_open self.now.store.captures }
     {
@@ -97,6 +98,7 @@ impl<R: Row, T> Marks<R, T> {
     }
 
     /// An event, to the innermost capture or else among the marks.
+    #[inline(always)]
     pub(crate) fn put(&mut self, event: Event) -> Result<(), AllocError>
         ensures told { OnOk result
             (self.new.store ≡ put_into self.old.store.captures event self.old.store) }
@@ -113,6 +115,7 @@ impl<R: Row, T> Marks<R, T> {
     }
 
     /// An item that is no run of ticks.
+    #[inline(always)]
     pub(crate) fn push(&mut self, item: Item) -> Result<(), AllocError>
         requires single { IsSingle item }
         ensures told { OnOk result (self.new.store ≡ marked (item_marks item) self.old.store) }
@@ -174,6 +177,7 @@ impl<R: Row, T> Marks<R, T> {
 }
 
 /// Adds a run of ticks, if there are any.
+#[inline(always)]
 fn push_run<R: Row>(row: &mut R, site: Site, run: u64)
     requires spare { 0 < R.spare row.old }
     ensures items { R.items row.new ≡ R.items row.old ++ pending site run }

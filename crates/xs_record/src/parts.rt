@@ -2,7 +2,7 @@
 ghost use Rattle.std.specs.Prelude.{◌≡◌, ◌+◌, ◌<◌, ◌≤◌, ◌++◌, ◌∷◌, [], ℕ, length};
 ghost use Rattle.std.specs.Prelude.{OnOk, OnErr, IfOk};
 ghost use Rattle.std.specs.Vec.{vec_len, vec_capacity};
-ghost use Rattle.xs_block.specs.Chain.{items_of, most_blocks};
+ghost use Rattle.xs_block.specs.Chain.{blocks_of, items_of, most_blocks};
 ghost use Rattle.xs_trace.specs.Mark.{Hole};
 ghost use Rattle.xs_trace.specs.State.{top, below};
 ghost use Rattle.xs_trace.specs.Kept.{marks_of, item_marks, IsPacked, IsSingle};
@@ -71,6 +71,7 @@ impl<H: Drop> Parts<H> {
     }
 
     /// Whether a capture is open.
+    #[inline(always)]
     pub(crate) fn is_capturing(&self) -> bool
         ensures open { result ≡ is_open self.now.store.captures }
     {
@@ -88,6 +89,7 @@ impl<H: Drop> Parts<H> {
 
     /// An event, to the innermost capture or else among the marks.
     #[tactic(auto, using(crate::proofs::SectionLemmas::behind_put))]
+    #[inline(always)]
     pub(crate) fn put(&mut self, event: Event) -> Result<(), AllocError>
         ensures told { OnOk result
             (self.new.store ≡ put_into self.old.store.captures event self.old.store) }
@@ -198,7 +200,7 @@ fn take_last<H: Drop>(
     ensures items { IfOk result (λ items. marks_of (items_of items) ≡ marks.old.store.told) }
     ensures packed { IfOk result (λ items. IsPacked (items_of items)) }
     ensures blocks { IfOk result (λ items.
-        marks.old.blocks ≤ marks.new.blocks + length items) }
+        marks.old.blocks ≤ marks.new.blocks + blocks_of items) }
     ensures refused { OnErr result (marks.old.blocks ≤ marks.new.blocks) }
 {
     before.reserve_exact(1)?;

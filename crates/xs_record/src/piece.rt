@@ -95,12 +95,14 @@ impl<T: Total, H: Drop> Recorder for PieceRecorder<T, H> {
     ghost takes_holes = { true };
 
     /// One by one.
+    #[inline(always)]
     fn ticks(&mut self, site: Site, count: u64) -> Result<(), Halt> {
         tick_several(self, site, count)
     }
 
     /// To the innermost capture, or to the result while there is room.
     #[tactic(auto, using(crate::proofs::StoreLemmas::put_full, crate::proofs::StoreLemmas::put_spent, crate::proofs::StoreLemmas::put_captured))]
+    #[inline(always)]
     fn put(&mut self, event: Event) -> Result<(), Halt> {
         if self.parts.is_capturing() {
             self.parts.put(event)?;

@@ -42,7 +42,7 @@ pub trait Row {
         ensures spare { spare self.new + 1 ≡ spare self.old }
         ensures blocks { blocks self.new ≡ blocks self.old };
 
-    /// All items; none is left. It takes no memory.
+    /// All items; none is left. Memory may be taken, and none is needed.
     fn take(&mut self) -> Self::Taken
         ensures taken { Self.taken_items result ≡ items self.old }
         ensures items { items self.new ≡ [] }
@@ -58,8 +58,8 @@ pub struct ChainRow {
 }
 
 impl Row for ChainRow {
-    ghost use Rattle.std.specs.Prelude.{◌+◌, length};
-    ghost use Rattle.xs_block.specs.Chain.{items_of, spare_of};
+    ghost use Rattle.std.specs.Prelude.{◌+◌};
+    ghost use Rattle.xs_block.specs.Chain.{blocks_of, items_of, spare_of};
 
     type Taken = Chain<Item>;
 
@@ -67,24 +67,27 @@ impl Row for ChainRow {
 
     ghost spare = { λ r. spare_of r.pool r.chain };
 
-    ghost blocks = { λ r. r.pool + length r.chain };
+    ghost blocks = { λ r. r.pool + blocks_of r.chain };
 
     ghost taken_items = { items_of };
 
-    ghost taken_blocks = { length };
+    ghost taken_blocks = { blocks_of };
 
     /// By blocks of the pool, or new ones.
+    #[inline(always)]
     fn reserve(&mut self, count: u64) -> Result<(), AllocError> {
         self.pool.reserve(&self.chain, count)
     }
 
     /// In the last block, or the pool's first.
+    #[inline(always)]
     fn push(&mut self, item: Item) {
         self.pool.push(&mut self.chain, item);
     }
 
-    /// The chain.
+    /// The chain, sealed where there is memory for it.
     fn take(&mut self) -> Chain<Item> {
+        let _refused = self.pool.seal(&mut self.chain);
         replace(&mut self.chain, Chain::new(self.alloc))
     }
 }

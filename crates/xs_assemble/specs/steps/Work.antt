@@ -4,7 +4,7 @@ use Rattle.std.specs.Prelude.{Result, Ok, Err}
 use Rattle.std.specs.List.{All, Contains}
 use Rattle.std.specs.Cmp.Lexicographic.{slice_cmp}
 use Rattle.std.specs.Ordering.{is_lt, nat_cmp}
-use Rattle.xs_block.specs.Chain.{items_of}
+use Rattle.xs_block.specs.Chain.{Block, blocks_of, items_of}
 use Rattle.xs_trace.specs.Mark.{Trace, ◌⨾◌}
 use Rattle.xs_trace.specs.Cut.{Within}
 use Rattle.xs_trace.specs.Fill.{fill, tasks_of, HolesAre}
@@ -111,7 +111,7 @@ stack_read c [] = []
 stack_read c (o ∷ os) = open_read c o ⨾ stack_read c os
 
 -- what is recorded of what is left, after the items that were joined
-abbrev pub recorded_of : {H : Type 0} → Case H → Trace (List ℕ) → List (List Item) → Limit → Told H
+abbrev pub recorded_of : {H : Type 0} → Case H → Trace (List ℕ) → List (Block Item) → Limit → Told H
 recorded_of c x items m = play (fill (whole_in c) x) (state_at (marks_of (items_of items)) m)
 
 -- ---- pieces and open pieces
@@ -142,7 +142,7 @@ open_blocks os = total (λ o. part_blocks o.parts.items) os
 
 -- those of what was joined, of open pieces, and of those that were not opened yet
 abbrev pub work_blocks : {H : Type 0} → Work H → ℕ
-work_blocks w = length w.output.items + (open_blocks w.stack.items + piece_blocks w.pieces.items)
+work_blocks w = blocks_of w.output.items + (open_blocks w.stack.items + piece_blocks w.pieces.items)
 
 -- what was run in place so far
 abbrev pub inline_of : {H : Type 0} → Work H → Inline

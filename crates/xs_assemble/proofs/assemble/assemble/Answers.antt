@@ -1,6 +1,6 @@
-use Rattle.std.proofs.Common.{◌+◌, ◌≤◌, ℕ, length, refl, arith}
+use Rattle.std.proofs.Common.{◌+◌, ◌≤◌, ℕ, refl, arith}
 use Rattle.xs_assemble.proofs.AssemblyLemmas.{root-is-entered, root-ending, is-assembled, is-inline, few-inline, inline-only-above, left-at-end, none-inline}
-use Rattle.xs_block.specs.Chain.{most_blocks}
+use Rattle.xs_block.specs.Chain.{blocks_of, most_blocks}
 use Rattle.xs_assemble.specs.Blocks.{piece_blocks}
 use Rattle.xs_assemble.specs.steps.Work.{open_blocks, work_blocks}
 use Rattle.xs_assemble.proofs.BlockLemmas.{ends-back, ends-free, keeps-those, starts-blocks}
@@ -82,9 +82,10 @@ returns-in-Ok-clause-none g c =
 pub returns-in-Ok-clause-blocks : goal.returns-in-Ok-clause-blocks
 returns-in-Ok-clause-blocks g c =
     let u = c.assemble_root-ending.new.work in
-    ends-free (piece_blocks c.args.collected.pieces.items + c.args.pool.now) (length u.output.items) (open_blocks u.stack.items) (piece_blocks u.pieces.items)
+    ends-free (piece_blocks c.args.collected.pieces.items + c.args.pool.now) (blocks_of u.output.items) (open_blocks u.stack.items)
+    (piece_blocks u.pieces.items)
     c.assemble_root-ending.new.pool c.free_pieces.new.pool c.free_open.new.pool
-    (starts-blocks c.args.collected.pieces.items c.in_ok-pieces.pieces.items c.new.result.items (length c.new-2.result.items) c.args.pool.now
+    (starts-blocks c.args.collected.pieces.items c.in_ok-pieces.pieces.items c.new.result.items (blocks_of c.new-2.result.items) c.args.pool.now
     (work_blocks u + c.assemble_root-ending.new.pool) c.in_ok-pieces.ensures.same c.assemble_root-ending.ensures.blocks)
     c.free_pieces.ensures.blocks c.free_open.ensures.blocks
 
@@ -93,10 +94,10 @@ returns-clause-free g c =
     let u = c.assemble_root-ending.new.work in
     let held : ℕ = piece_blocks c.args.collected.pieces.items + c.args.pool.now in
     keeps-those c.args.pool.now (piece_blocks c.args.collected.pieces.items) c.give_back.new.self most
-    (ends-back held (length u.output.items) c.free_open.new.pool c.give_back.new.self
-    (ends-free held (length u.output.items) (open_blocks u.stack.items) (piece_blocks u.pieces.items)
+    (ends-back held (blocks_of u.output.items) c.free_open.new.pool c.give_back.new.self
+    (ends-free held (blocks_of u.output.items) (open_blocks u.stack.items) (piece_blocks u.pieces.items)
     c.assemble_root-ending.new.pool c.free_pieces.new.pool c.free_open.new.pool
-    (starts-blocks c.args.collected.pieces.items c.in_ok-pieces.pieces.items c.new.result.items (length c.new-2.result.items) c.args.pool.now
+    (starts-blocks c.args.collected.pieces.items c.in_ok-pieces.pieces.items c.new.result.items (blocks_of c.new-2.result.items) c.args.pool.now
     (work_blocks u + c.assemble_root-ending.new.pool) c.in_ok-pieces.ensures.same c.assemble_root-ending.ensures.blocks)
     c.free_pieces.ensures.blocks c.free_open.ensures.blocks)
     c.give_back.ensures.free)

@@ -1,5 +1,5 @@
-use Rattle.std.proofs.Common.{ap, ◌∙◌, length}
-use Rattle.xs_block.specs.Chain.{items_of}
+use Rattle.std.proofs.Common.{ap, ◌∙◌}
+use Rattle.xs_block.specs.Chain.{blocks_of, items_of}
 use Rattle.xs_block.proofs.ChainLemmas.{items-append}
 use Rattle.xs_assemble.proofs.BlockLemmas.{chains-joined, given-back}
 use Rattle.xs_assemble.proofs.output.Output.append.Goals as goal
@@ -12,4 +12,4 @@ returns-clause-blocks c = chains-joined c.append_chain.new.first c.args.self.now
 
 pub returns-then-not-can_append-clause-blocks : goal.returns-then-not-can_append-clause-blocks
 returns-then-not-can_append-clause-blocks c =
-    given-back (length c.args.items) (length c.args.self.now.items) c.args.pool.now c.give_back.new.self c.give_back.ensures.free
+    given-back (blocks_of c.args.items) (blocks_of c.args.self.now.items) c.args.pool.now c.give_back.new.self c.give_back.ensures.free

@@ -1,5 +1,5 @@
-use Rattle.std.proofs.Common.{refl, length}
-use Rattle.xs_block.specs.Chain.{items_of}
+use Rattle.std.proofs.Common.{refl}
+use Rattle.xs_block.specs.Chain.{blocks_of, items_of}
 use Rattle.xs_assemble.proofs.PassingLemmas.{joins-part, joins-whole}
 use Rattle.xs_assemble.proofs.BlockLemmas.{given-back}
 use Rattle.xs_assemble.proofs.output.Output.join.Goals as goal
@@ -16,7 +16,7 @@ returns-in-Some-clause-joined c =
 
 pub returns-in-Err-clause-blocks : goal.returns-in-Err-clause-blocks
 returns-in-Err-clause-blocks c =
-    given-back (length c.args.items) (length c.args.self.now.items) c.args.pool.now c.give_back.new.self c.give_back.ensures.free
+    given-back (blocks_of c.args.items) (blocks_of c.args.self.now.items) c.args.pool.now c.give_back.new.self c.give_back.ensures.free
 
 pub returns-in_ok-append-in-None-clause-blocks : goal.returns-in_ok-append-in-None-clause-blocks
 returns-in_ok-append-in-None-clause-blocks c = c.append.ensures.blocks

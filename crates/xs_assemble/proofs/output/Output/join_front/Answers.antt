@@ -1,5 +1,5 @@
-use Rattle.std.proofs.Common.{◌∙◌, ◌++◌, List, ap, length}
-use Rattle.xs_block.specs.Chain.{items_of}
+use Rattle.std.proofs.Common.{◌∙◌, ◌++◌, List, ap}
+use Rattle.xs_block.specs.Chain.{blocks_of, items_of}
 use Rattle.xs_trace.specs.declared.item.Item.{Item}
 use Rattle.xs_assemble.specs.steps.Joining.{last_items}
 use Rattle.xs_assemble.proofs.PassingLemmas.{fronts}
@@ -15,20 +15,20 @@ returns-in_ok-append-in-Ok-clause-joined c =
 
 pub returns-in-Err-clause-blocks : goal.returns-in-Err-clause-blocks
 returns-in-Err-clause-blocks c =
-    cut-back (length c.args.items) (length c.truncate.new.chain) (length c.push_left.new.items) (length c.args.self.now.items) c.args.pool.now
+    cut-back (blocks_of c.args.items) (blocks_of c.truncate.new.chain) (blocks_of c.push_left.new.items) (blocks_of c.args.self.now.items) c.args.pool.now
     c.truncate.new.self c.push_left.new.pool c.give_back.new.self (kept-less c.args.walk.count c.args.items c.truncate.new.chain c.truncate.ensures.kept)
     c.truncate.ensures.free c.push_left.ensures.blocks c.give_back.ensures.free
 
 pub returns-in_err-append-in-Ok-clause-blocks : goal.returns-in_err-append-in-Ok-clause-blocks
 returns-in_err-append-in-Ok-clause-blocks c =
-    cut-joined (length c.args.items) (length c.truncate.new.chain) (length c.push_left.new.items) (length c.args.self.now.items)
-    (length c.append.new.self.items) c.args.pool.now c.truncate.new.self c.push_left.new.pool c.append.new.pool
+    cut-joined (blocks_of c.args.items) (blocks_of c.truncate.new.chain) (blocks_of c.push_left.new.items) (blocks_of c.args.self.now.items)
+    (blocks_of c.append.new.self.items) c.args.pool.now c.truncate.new.self c.push_left.new.pool c.append.new.pool
     (kept-less c.args.walk.count c.args.items c.truncate.new.chain c.truncate.ensures.kept) c.truncate.ensures.free c.push_left.ensures.blocks
     c.append.ensures.blocks
 
 pub returns-in_ok-append-in-Ok-clause-blocks : goal.returns-in_ok-append-in-Ok-clause-blocks
 returns-in_ok-append-in-Ok-clause-blocks c =
-    cut-joined (length c.args.items) (length c.truncate.new.chain) (length c.push_left.new.items) (length c.args.self.now.items)
-    (length c.append.new.self.items) c.args.pool.now c.truncate.new.self c.push_left.new.pool c.append.new.pool
+    cut-joined (blocks_of c.args.items) (blocks_of c.truncate.new.chain) (blocks_of c.push_left.new.items) (blocks_of c.args.self.now.items)
+    (blocks_of c.append.new.self.items) c.args.pool.now c.truncate.new.self c.push_left.new.pool c.append.new.pool
     (kept-less c.args.walk.count c.args.items c.truncate.new.chain c.truncate.ensures.kept) c.truncate.ensures.free c.push_left.ensures.blocks
     c.append.ensures.blocks
