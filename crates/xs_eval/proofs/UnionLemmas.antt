@@ -343,26 +343,6 @@ union_runs keys ops es c h =
     let first = and_both (length ops + 1 == length es) (are_unions ops) last.0 in
     chain_unites keys ops es c (eqb-true (length ops + 1) (length es) first.0) first.1 last.1
 
--- ---- what the code records of a step
-
-ticks_give : {H : Type 0} (p : Site) (n : ℕ) (x : List ℕ) (s m : State H) (result : Result (Unit {0}) Halt) → IsStep (ticked_by n p s) result m
-    → IsStepBy (λ (u : Unit {0}). x) (limited p (costs n (give x)) s) result m
-ticks_give p n x s m (Ok u) h = costs_on p n (give x) u s m h ∙ gives p x m
-ticks_give p n x s m (Err y) h = exits_at_costs (λ (u : Unit {0}). x) p n (give x) _ s m (Err y) y y refl refl refl h
-
-pub steps_on : {H : Type 0} (p : Site) (c : Context) (o : Option (Axis × NodeTest)) (axis : Axis) (test : NodeTest) (old new : List ℕ) (n : ℕ)
-    (s m : State H) (result : Result (Unit {0}) Halt) → o ≡ Some (axis, test) → new ≡ old ++ tested axis test c → n + length old ≡ length new
-    → IsStep (ticked_by n p s) result m → IsStepBy (λ (u : Unit {0}). new) (limited p (and_tested c old o) s) result m
-steps_on p c o axis test old new n s m result e f l h =
-    let ns = tested axis test c in
-    let whole : length new ≡ length old + length ns = ap length f ∙ length-append old ns in
-    let k : length ns ≡ n = omega (arith, l, whole) in
-    continues (λ (u : Unit {0}). new) (limited p (and_tested c old o) s) (limited p (costs n (give new)) s) result m
-    (ap (λ i. limited p (and_tested c old i) s) e
-    ∙ ap (λ j. limited p (costs j (give (old ++ ns))) s) k
-    ∙ ap (λ l. limited p (costs n (give l)) s) (sym f))
-    (ticks_give p n new s m result h)
-
 -- what holds in any case
 pub always : {A E : Type 0} {Q : Type 0} (r : Result A E) → Q → OnOk r Q
 always (Ok x) h = h

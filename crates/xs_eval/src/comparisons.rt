@@ -10,7 +10,7 @@ ghost use Rattle.xs_value.specs.Results.{Answers};
 ghost use Rattle.xs_value.specs.declared.value.Value.TheVariants.{Chars, Nodes};
 ghost use Rattle.xs_eval.specs.steps.Operands.{compares_to, some_compares};
 
-use crate::operand::{Operand, Seen};
+use crate::operand::{Operand, Seen, text_of};
 use std::alloc::{AllocError, Global};
 use xs_trace::text::TextBuf;
 use xs_tree::{Node, Tree};
@@ -33,7 +33,7 @@ pub(crate) fn compare_operands(
     match left.seen() {
         Seen::Value(value) => compare_to(alloc, tree, operator, value, right),
         Seen::Text(text) => {
-            let value = Value::Chars(TextBuf::of(alloc, text)?);
+            let value = Value::Chars(text_of(alloc, text)?);
             let holds = compare_to(alloc, tree, operator, &value, right);
             drop(value);
             holds
@@ -66,35 +66,36 @@ fn compare_to_literal(
     tree: &Tree,
     operator: CompareOp,
     left: &Value,
-    text: &str,
+    literal: &TextBuf,
 ) -> Result<bool, ValueFault>
     requires left { IsIn tree.now left.now }
-    ensures compared { Answers (compared tree.now operator left.now (Chars text.now)) result }
+    ensures compared { Answers (compared tree.now operator left.now (Chars literal.now)) result }
 {
+    let text = literal.as_str();
     if is_ordering(operator) {
-        return compare_to_copy(alloc, tree, operator, left, text);
+        return compare_to_copy(alloc, tree, operator, left, literal);
     }
     match left {
         Value::Nodes(nodes) => Ok(some_compares(alloc, tree, operator, nodes.nodes(), text)?),
         Value::Chars(string) => Ok(compares_to(operator, string.as_str(), text)),
-        Value::Bool(_) => compare_to_copy(alloc, tree, operator, left, text),
-        Value::Number(_) => compare_to_copy(alloc, tree, operator, left, text),
-        Value::Piece(_) => compare_to_copy(alloc, tree, operator, left, text),
+        Value::Bool(_) => compare_to_copy(alloc, tree, operator, left, literal),
+        Value::Number(_) => compare_to_copy(alloc, tree, operator, left, literal),
+        Value::Piece(_) => compare_to_copy(alloc, tree, operator, left, literal),
     }
 }
 
-// The same, by a copy of the literal's text.
+// The same, where the literal becomes a value.
 fn compare_to_copy(
     alloc: Global,
     tree: &Tree,
     operator: CompareOp,
     left: &Value,
-    text: &str,
+    literal: &TextBuf,
 ) -> Result<bool, ValueFault>
     requires left { IsIn tree.now left.now }
-    ensures compared { Answers (compared tree.now operator left.now (Chars text.now)) result }
+    ensures compared { Answers (compared tree.now operator left.now (Chars literal.now)) result }
 {
-    let right = Value::Chars(TextBuf::of(alloc, text)?);
+    let right = Value::Chars(text_of(alloc, literal)?);
     let holds = compare_values(alloc, tree, operator, left, &right);
     drop(right);
     holds

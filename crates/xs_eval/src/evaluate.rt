@@ -16,7 +16,7 @@ use crate::arguments::single;
 use crate::calls::answer;
 use crate::context::Context;
 use crate::node_tests::tested;
-use crate::operand::{Operand, SetOperand};
+use crate::operand::{Operand, SetOperand, text_of};
 use crate::operators::{decided, negate, operate};
 use crate::predicates::{count_of, kept_if, number_of, picked, selects};
 use crate::steps::{is_union_of_steps, only_step, unite_steps};
@@ -55,7 +55,7 @@ pub fn evaluate<K: KeyFinder, T: Tally>(
 {
     match expr {
         Expr::Number(number) => Ok(Value::Number(*number)),
-        Expr::Literal(text) => Ok(Value::Chars(TextBuf::of(alloc, text.as_str())?)),
+        Expr::Literal(text) => Ok(Value::Chars(text_of(alloc, text)?)),
         Expr::Variable(_, _, slot) => variable(alloc, *slot, context, site),
         Expr::Call(function, arguments) => {
             evaluate_call(alloc, *function, arguments, context, keys, site, tally)

@@ -38,7 +38,7 @@ enum Held<'a> {
     // In a variable.
     Lent(&'a Value),
     // In the stylesheet, as the text of a string literal.
-    Text(&'a str),
+    Text(&'a TextBuf),
 }
 
 /// What an operand is read as.
@@ -47,7 +47,7 @@ pub(crate) enum Seen<'a> {
     /// A value.
     Value(&'a Value),
     /// The text of a string literal.
-    Text(&'a str),
+    Text(&'a TextBuf),
 }
 
 impl<'a> Model for Operand<'a> {
@@ -79,7 +79,7 @@ impl<'a> Operand<'a> {
     }
 
     /// A string literal (XPath 1.0, 3.7).
-    pub(crate) fn literal(text: &'a str) -> Operand<'a>
+    pub(crate) fn literal(text: &'a TextBuf) -> Operand<'a>
         ensures value { result ≡ Chars text.now }
     {
         Operand {
@@ -106,7 +106,7 @@ impl<'a> Operand<'a> {
         match self.held {
             Held::Own(value) => Ok(value),
             Held::Lent(value) => value.copy(),
-            Held::Text(text) => Ok(Value::Chars(TextBuf::of(alloc, text)?)),
+            Held::Text(text) => Ok(Value::Chars(text_of(alloc, text)?)),
         }
     }
 
@@ -128,7 +128,7 @@ impl<'a> Operand<'a> {
     {
         match self.seen() {
             Seen::Value(value) => to_bool(value),
-            Seen::Text(text) => !text.is_empty(),
+            Seen::Text(text) => !text.as_str().is_empty(),
         }
     }
 
@@ -139,7 +139,7 @@ impl<'a> Operand<'a> {
     {
         match self.seen() {
             Seen::Value(value) => number_of(alloc, tree, value),
-            Seen::Text(text) => computed(read_num(text)),
+            Seen::Text(text) => computed(read_num(text.as_str())),
         }
     }
 
@@ -154,7 +154,7 @@ impl<'a> Operand<'a> {
     {
         match self.seen() {
             Seen::Value(value) => lend_text(alloc, tree, value),
-            Seen::Text(text) => Ok(CowStr::Borrowed(text)),
+            Seen::Text(text) => Ok(CowStr::Borrowed(text.as_str())),
         }
     }
 
@@ -165,8 +165,8 @@ impl<'a> Operand<'a> {
     {
         match &self.held {
             Held::Own(value) => to_text(alloc, tree, value),
-            Held::Lent(value) => own_text(alloc, lend_text(alloc, tree, value)?),
-            Held::Text(text) => TextBuf::of(alloc, text),
+            Held::Lent(value) => lent_to_text(alloc, tree, value),
+            Held::Text(text) => text_of(alloc, text),
         }
     }
 
@@ -180,7 +180,7 @@ impl<'a> Operand<'a> {
     {
         match self.seen() {
             Seen::Value(value) => text_into(tree, value, out),
-            Seen::Text(text) => append_text(text, out),
+            Seen::Text(text) => append_text(text.as_str(), out),
         }
     }
 
@@ -202,6 +202,31 @@ impl<'a> Operand<'a> {
             Seen::Value(value) => set_of(value),
             Seen::Text(_) => Err(Trouble::Fault(Fault::NotNodes)),
         }
+    }
+}
+
+/// How long a text is at most that is copied where it becomes a value, so that no count of its
+/// owner is touched. A longer one is shared, so that the time does not grow with it.
+const SHORT: usize = 32;
+
+/// A text that is lent, as a value has it.
+pub(crate) fn text_of(alloc: Global, text: &TextBuf) -> Result<TextBuf, AllocError>
+    ensures { IfOk result (λ own. own ≡ text.now) }
+{
+    if text.as_str().len() > SHORT {
+        return text.copy();
+    }
+    TextBuf::of(alloc, text.as_str())
+}
+
+// A value that is lent, as a string.
+fn lent_to_text(alloc: Global, tree: &Tree, value: &Value) -> Result<TextBuf, AllocError>
+    requires { IsIn tree.now value.now }
+    ensures text { IfOk result (λ text. text ≡ text_value tree.now value.now) }
+{
+    match value {
+        Value::Chars(text) => text_of(alloc, text),
+        _ => own_text(alloc, lend_text(alloc, tree, value)?),
     }
 }
 

@@ -30,7 +30,7 @@ pub(crate) fn lend<'e>(expr: &'e Expr, context: &Context<'e>) -> Option<Operand<
     ensures inside { IfSome result (IsIn context.now.tree) }
 {
     match expr {
-        Expr::Literal(text) => Some(Operand::literal(text.as_str())),
+        Expr::Literal(text) => Some(Operand::literal(text)),
         Expr::Variable(_, _, slot) => lend_variable(*slot, context),
         _ => None,
     }
