@@ -76,7 +76,7 @@ if is_stale; then
     rm -f "$log"
     touch "$program"
 fi
-# Memory in large pages and large steps, where the C library is glibc: a document of 100 MB asks the system for memory
-# 7,000 times in place of 210,000.
-export GLIBC_TUNABLES=${GLIBC_TUNABLES:-glibc.malloc.hugetlb=1:glibc.malloc.top_pad=67108864}
+# Memory in large pages and steps of a megabyte, where the C library is glibc: a document of 100 MB asks the system for
+# memory 16,000 times in place of 180,000. Larger steps ask less often, and keep more.
+export GLIBC_TUNABLES=${GLIBC_TUNABLES:-glibc.malloc.hugetlb=1:glibc.malloc.top_pad=1048576}
 exec "$program" "$@"

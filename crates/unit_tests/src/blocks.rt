@@ -1,4 +1,5 @@
-//! Chains of blocks and their pool: 65 items in two blocks, joined and cut chains, refused memory.
+//! Chains of blocks and their pool: 65 items in two blocks, joined, cut and sealed chains, refused
+//! memory.
 
 use std::alloc::{AllocError, Global};
 use xs_block::chain::{Chain, append_chain};
@@ -127,6 +128,22 @@ fn gives_66(alloc: Global, pool: &mut Pool<Box<u32>>) -> Result<bool, AllocError
     Ok(is_cut? && is_given)
 }
 
+// Whether 80 numbers are the same once they are sealed, and the block of the last 16 is free; where
+// memory was refused, all is as it was.
+fn seals_80(alloc: Global, pool: &mut Pool<Box<u32>>) -> Result<bool, AllocError> {
+    let mut chain = numbers(alloc, pool, 0, 80)?;
+    let (free, spare) = match pool.seal(&mut chain) {
+        Ok(()) => (1, 64),
+        Err(_) => (0, 48),
+    };
+    let is_sealed = pool.free_blocks() == free && pool.spare(&chain) == spare;
+    let is_same = chain.blocks() == 2 && counts_to(&chain, 80);
+    pool.truncate(&mut chain, 70);
+    let is_cut = pool.free_blocks() == free && counts_to(&chain, 70);
+    pool.give_back(chain);
+    Ok(is_sealed && is_same && is_cut && pool.free_blocks() == 2)
+}
+
 // Adds up to 200 numbers while there is room for one, and says how many.
 fn fill(pool: &mut Pool<u32>, chain: &mut Chain<u32>) -> u32 {
     for n in 0..200 {
@@ -154,9 +171,10 @@ fn holds_items(alloc: Global) -> Result<bool, AllocError> {
     let mut pool = sent(Pool::new(alloc));
     let is_made = makes_room(alloc, &mut pool);
     let is_held = holds_65(alloc, &mut pool);
+    let is_sealed = seals_80(alloc, &mut pool);
     let is_given = gives_66(alloc, &mut pool);
     drop(pool);
-    Ok(is_made? && is_held? && is_given?)
+    Ok(is_made? && is_held? && is_sealed? && is_given?)
 }
 
 #[test]

@@ -4,6 +4,8 @@
 #[cfg(test)]
 mod blocks;
 #[cfg(test)]
+mod copies;
+#[cfg(test)]
 mod document_laws;
 #[cfg(test)]
 mod edges;

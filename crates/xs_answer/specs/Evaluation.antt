@@ -65,7 +65,7 @@ pub data IsEvaluated (job : Job) (w : World) (answer : Answer) : Type 0 where
   in_root : {t : Table} → SettlesAll w job.given job.budget (settled t)
       → IsCutAnswer job.stats w.sheet t (root_pieces job w t) (root_cut job w t) answer → IsEvaluated job w answer
 
--- Over a tree, with the tables of its keys (12.2); by which index the rules of the stylesheet are found changes nothing.
+-- Over a tree, with the tables of its keys (12.2); by which index the attribute sets are found (7.1.4) changes nothing.
 abbrev pub IsEvaluatedOn : Job → Sheet → List Record → Answer → Type 0
 IsEvaluatedOn job sheet records answer = (index : SetIndex) × IsEvaluated job (ground sheet index records (tables_of records sheet.keys)) answer
 

@@ -41,8 +41,10 @@ use Rattle.xs_body.specs.steps.Frames.{Work, rest, fill, each_left, apply_left, 
 use Rattle.xs_body.specs.steps.Frames.{make, say, pass, take_value, params_left, Evaluation, last}
 use Rattle.xs_body.specs.steps.Frames.{inner, over, bindings_of, instrs_of, bodies_of, chosen, all_bodies, without, filled, ended}
 use Rattle.xs_body.specs.steps.Frames.{copied_begun, copy_of_steps, element_put, in_template, inside_begun, made_begun, sets_works}
-use Rattle.xs_body.specs.steps.Making.{copy_steps, events_steps, literal_steps, made_at, name_steps, target_steps}
-use Rattle.xs_body.proofs.MakingLemmas.{copies-grow, events-grow, literal-grows, name-grows, target-grows}
+use Rattle.xs_body.specs.steps.Making.{copy_steps, literal_steps, made_at, name_steps, target_steps}
+use Rattle.xs_making.specs.steps.Putting.{events_steps}
+use Rattle.xs_body.proofs.MakingLemmas.{copies-grow, literal-grows, name-grows, target-grows}
+use Rattle.xs_making.proofs.PutLemmas.{events-grow}
 use Rattle.xs_semantics.specs.Trace.{calls_at}
 use Rattle.xs_body.specs.steps.Frames.{message_steps, message_ended, fragment_at, passing_left, work_steps, stack_steps, pushed, filled_up, stays}
 use Rattle.xs_body.specs.steps.Frames.{chars_steps, run_by, run_begun, applied_begun, built_in_begun, rule_begun, entry_begun}

@@ -30,6 +30,7 @@ use Rattle.xs_making.specs.declared.ends.MakeEnd.TheVariants as end
 use Rattle.xs_making.specs.Names.{pi_target, result_name}
 use Rattle.xs_making.specs.Results.{IsMade}
 use Rattle.xs_making.specs.Texts.{comment_text, instruction_text}
+use Rattle.xs_making.proofs.PutLemmas.{events-both, events-grow}
 use Rattle.xs_semantics.specs.declared.focus.Focus.{Focus}
 use Rattle.xs_semantics.specs.declared.made.Made.{Made}
 use Rattle.xs_semantics.specs.declared.made.Made.TheVariants as made
@@ -38,7 +39,8 @@ use Rattle.xs_semantics.specs.Making.{aliased, attribute_events, attribute_label
 use Rattle.xs_semantics.specs.Making.{made_events, space_events, target_run, text_events, texts_outside, value_events}
 use Rattle.xs_semantics.specs.Tasks.{Task}
 use Rattle.xs_semantics.specs.Trace.{begins, literal_attributes, puts, puts_all}
-use Rattle.xs_body.specs.steps.Making.{attribute_steps, attributes_steps, chars_steps, copy_steps, depth_after, events_steps, literal_steps, made_at}
+use Rattle.xs_body.specs.steps.Making.{attribute_steps, attributes_steps, chars_steps, copy_steps, depth_after, literal_steps, made_at}
+use Rattle.xs_making.specs.steps.Putting.{events_steps}
 use Rattle.xs_body.specs.steps.Making.{halted, is_declaration, is_unbound, made_ended, made_steps, name_steps, named_steps, namespace_steps, nodes_steps}
 use Rattle.xs_body.specs.steps.Making.{outcome_steps, space_steps, spaces_steps, target_steps, text_added}
 
@@ -49,14 +51,6 @@ events-told p (e ∷ es) s =
     ap (λ g. and_then g (λ u m. events_steps p es m)) (play-put p e s)
     ∙ then-same (play (puts p e) s) (λ u m. events_steps p es m) (λ u m. play (puts_all p es) m) (λ u m. events-told p es m)
     ∙ sym (play-then (puts p e) (puts_all p es) s)
-
-events-both : (p : Site) (ls bs : List Event) (s : State Task) →
-    events_steps p (ls ++ bs) s ≡ and_then (events_steps p ls s) (λ u m. events_steps p bs m)
-events-both p [] bs s = refl
-events-both p (e ∷ ls) bs s =
-    then-same (put_at p e s) (λ u m. events_steps p (ls ++ bs) m) (λ u m. and_then (events_steps p ls m) (λ v n. events_steps p bs n))
-    (λ u m. events-both p ls bs m)
-    ∙ sym (then-then (put_at p e s) (λ u m. events_steps p ls m) (λ v n. events_steps p bs n))
 
 event-told : (p : Site) (e : Event) (s : State Task) → put_at p e s ≡ events_steps p (e ∷ []) s
 event-told p e s = sym (then-goes (put_at p e s))
@@ -188,10 +182,6 @@ target-told w p f vs name s =
     ∙ sym (limited-bind p r (λ text. given (pi_target text)) s)
 
 -- ---- what was told stays
-pub events-grow : {H : Type 0} → (p : Site) (es : List Event) → Grows {H = H} (events_steps p es)
-events-grow p [] s = goes-grows tt s
-events-grow p (e ∷ es) s = grows-then s (put_at p e s) (λ u m. events_steps p es m) (put_at-grows p e s) (λ u. events-grow p es)
-
 pub space-grows : {H : Type 0} → (p : Site) (prefix uri : List ℕ) → Grows {H = H} (space_steps p prefix uri)
 space-grows {H = H} p prefix uri = by_test (is_unbound uri)
   where

@@ -61,7 +61,8 @@ use Rattle.xs_body.specs.steps.Frames.{run_by, run_begun, applied_begun, templat
 use Rattle.xs_body.specs.steps.Frames.{declaration_begun, sets_works, inside_begun, copied_begun, element_put, made_begun}
 use Rattle.xs_body.specs.steps.Frames.{call_begun, imports_begun, content_begun, passes_on, pass_begun, params_first, param_begun, fallbacks_begun}
 use Rattle.xs_body.specs.steps.Frames.{begun, advanced, rest_works}
-use Rattle.xs_body.specs.steps.Making.{attributes_steps, copy_steps, events_steps, literal_steps, made_at, made_ended}
+use Rattle.xs_body.specs.steps.Making.{attributes_steps, copy_steps, literal_steps, made_at, made_ended}
+use Rattle.xs_making.specs.steps.Putting.{events_steps}
 use Rattle.xs_body.proofs.MakingLemmas.{attributes-told, copy-told, ended-told as made-ended, events-told, literal-told, name-told, target-told}
 use Rattle.xs_body.proofs.SetLemmas.{served}
 use Rattle.xs_body.proofs.SlotLemmas.{last-more, without-more, last-none, without-none, more-none}

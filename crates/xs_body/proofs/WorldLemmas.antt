@@ -41,7 +41,8 @@ use Rattle.xs_body.specs.steps.Frames.{imports_begun, content_begun, passes_on, 
 use Rattle.xs_body.specs.steps.Frames.{fallbacks_begun, next_body, looping, loop_begun, number_steps, value_steps, begun}
 use Rattle.xs_body.specs.steps.Frames.{advanced, copied_begun, copy_of_steps, declaration_begun, element_put, in_template, inside_begun, made_begun}
 use Rattle.xs_body.specs.steps.Frames.{rest_works, sets_begun, sets_works}
-use Rattle.xs_body.specs.steps.Making.{attributes_steps, events_steps, literal_steps, made_ended, name_steps, target_steps}
+use Rattle.xs_body.specs.steps.Making.{attributes_steps, literal_steps, made_ended, name_steps, target_steps}
+use Rattle.xs_making.specs.steps.Putting.{events_steps}
 
 abbrev Keeps : World → Step Task Evaluation → Type 0
 Keeps w (Goes u m) = u.world ≡ w

@@ -10,6 +10,7 @@ use crate::literals::put_attribute;
 use std::alloc::{AllocError, Global};
 use xs_making::{comment_text, pi_text};
 use xs_semantics::made::Made;
+use xs_trace::characters::Characters;
 use xs_trace::event::Event;
 use xs_trace::item::Site;
 use xs_trace::recorder::{Halt, Recorder, put_event};
@@ -40,18 +41,18 @@ pub(crate) fn put_made<R: Recorder>(
     }
 }
 
-/// The texts of content, except for those in elements. Content that is one text is shared.
+/// The texts of content, except for those in elements. One that is shared stays so.
 pub(crate) fn content_text(alloc: Global, events: &[Event]) -> Result<TextBuf, AllocError>
     ensures { IfOk result (λ text. text ≡ content_text events.now) }
 {
     match lone_text(events) {
-        Some(text) => text.copy(),
+        Some(text) => text.to_text(alloc),
         None => joined_text(alloc, events),
     }
 }
 
 /// The text that is all of some content, if it is one text.
-fn lone_text(events: &[Event]) -> Option<&TextBuf>
+fn lone_text(events: &[Event]) -> Option<&Characters>
     ensures { IfSome result (λ text. text.now ≡ content_text events.now) }
 {
     match events {

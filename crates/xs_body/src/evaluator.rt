@@ -28,13 +28,13 @@ use xs_sets::index::SetIndex;
 use xs_sheet::body::Body;
 use xs_sheet::scoped::{Namespaces, ScopedExpr, ValueTemplate};
 use xs_sheet::sheet::Sheet;
-use xs_trace::event::Event;
+use xs_trace::characters::Characters;
 use xs_trace::fault::Fault;
 use xs_trace::item::Site;
 use xs_trace::recorder::{Halt, Tally};
 use xs_trace::text::TextBuf;
 use xs_tree::{Node, Tree};
-use xs_value::conversion::{to_bool, to_text};
+use xs_value::conversion::{to_bool, to_characters};
 use xs_value::node_set::NodeSet;
 use xs_value::value::Value;
 
@@ -59,8 +59,6 @@ pub(crate) struct Evaluator<'a, K: Finder> {
     pub(crate) labels: RecentLabels,
     /// Its copies of the stylesheet's texts and names.
     pub(crate) texts: SheetTexts,
-    /// The events of a copy, until they are put.
-    pub(crate) events: Vec<Event>,
 }
 
 impl<'a, K: Finder> Model for Evaluator<'a, K> {
@@ -129,7 +127,6 @@ impl<'a, K: Finder> Evaluator<'a, K> {
             slots,
             labels: RecentLabels::new(alloc),
             texts: SheetTexts::new(alloc),
-            events: Vec::new(alloc),
         }
     }
 
@@ -268,7 +265,7 @@ impl<'a, K: Finder> Evaluator<'a, K> {
         site: Site,
         scope: Scope,
         tally: &mut T,
-    ) -> Result<TextBuf, Halt>
+    ) -> Result<Characters, Halt>
         requires node { scope.focus.node < length self.now.world.tree }
         ensures told { IsStep (limited site
             (text_run self.now.world expr.now scope.focus (last scope.seen self.now.slots))
@@ -276,7 +273,7 @@ impl<'a, K: Finder> Evaluator<'a, K> {
         ensures kept { T.kept tally.new ≡ T.kept tally.old }
     {
         let value = self.value(expr, site, scope, tally)?;
-        Ok(to_text(self.alloc, self.tree, &value)?)
+        Ok(to_characters(self.alloc, self.tree, &value)?)
     }
 
     /// Whether its value as a boolean is true (9.1, 9.2).

@@ -26,6 +26,7 @@ use xs_semantics::finder::Finder;
 use xs_semantics::focus::Focus;
 use xs_sheet::body::NumberDecl;
 use xs_sheet::scoped::{ScopedExpr, ValueTemplate};
+use xs_trace::characters::Characters;
 use xs_trace::fault::Fault;
 use xs_trace::item::Site;
 use xs_trace::recorder::{Halt, Recorder, Tally};
@@ -201,7 +202,7 @@ impl<'a, K: Finder> Evaluator<'a, K> {
 
 impl Formatting {
     /// The text of what is put.
-    fn text_of(&self, alloc: Global, numbered: &Numbered) -> Result<TextBuf, AllocError>
+    fn text_of(&self, alloc: Global, numbered: &Numbered) -> Result<Characters, AllocError>
         ensures { IfOk result (λ text. text
             ≡ written (numbered_of numbered.now) (formatting_of self.now)) }
     {
@@ -209,10 +210,10 @@ impl Formatting {
         let group = self.group();
         match numbered {
             Numbered::Value(number) => {
-                TextBuf::from_string(value_text(alloc, *number, format, group)?)
+                Characters::from_string(value_text(alloc, *number, format, group)?)
             }
             Numbered::Counted(list) => {
-                TextBuf::from_string(list_text(alloc, list.as_slice(), format, group)?)
+                Characters::from_string(list_text(alloc, list.as_slice(), format, group)?)
             }
         }
     }

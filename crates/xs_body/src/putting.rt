@@ -2,7 +2,8 @@
 
 ghost use Rattle.std.specs.Prelude.{◌≡◌, ◌<◌, length, IfOk};
 ghost use Rattle.xs_body.specs.steps.Frames.{value_steps};
-ghost use Rattle.xs_body.specs.steps.Making.{chars_steps, events_steps};
+ghost use Rattle.xs_body.specs.steps.Making.{chars_steps};
+ghost use Rattle.xs_making.specs.steps.Putting.{events_steps};
 ghost use Rattle.xs_trace.specs.Play.{IsStep, put_at};
 ghost use Rattle.xs_value.specs.Conversion.{fragment_text};
 
@@ -12,6 +13,7 @@ use crate::task::Task;
 use std::alloc::{AllocError, Global};
 use xs_semantics::finder::Finder;
 use xs_sheet::scoped::ScopedExpr;
+use xs_trace::characters::Characters;
 use xs_trace::event::{Event, Fragment};
 use xs_trace::item::Site;
 use xs_trace::recorder::{Halt, Recorder, put_event};
@@ -22,12 +24,16 @@ use xs_value::shared::SharedFragment;
 use xs_value::value::Value;
 
 /// Puts a text that is not empty.
-pub(crate) fn put_text<R: Recorder>(site: Site, text: TextBuf, recorder: &mut R) -> Result<(), Halt>
+pub(crate) fn put_text<R: Recorder>(
+    site: Site,
+    text: Characters,
+    recorder: &mut R,
+) -> Result<(), Halt>
     ensures told { IsStep (chars_steps site text (R.state recorder.old))
         result (R.state recorder.new) }
     ensures kept { R.kept recorder.new ≡ R.kept recorder.old }
 {
-    if text.as_str().is_empty() {
+    if text.is_empty() {
         Ok(())
     } else {
         put_event(recorder, site, Event::Chars(text))
@@ -44,7 +50,7 @@ pub(crate) fn put_copied_text<R: Recorder>(
         result (R.state recorder.new) }
     ensures kept { R.kept recorder.new ≡ R.kept recorder.old }
 {
-    put_text(site, text.copy()?, recorder)
+    put_text(site, Characters::sharing(text)?, recorder)
 }
 
 impl<'a, K: Finder> Evaluator<'a, K> {
@@ -78,7 +84,7 @@ impl<'a, K: Finder> Evaluator<'a, K> {
         ensures same { self.new ≡ self.old }
     {
         let text = self.texts.text(text.as_str())?;
-        put_text(site, text, recorder)
+        put_text(site, Characters::from_text(text), recorder)
     }
 }
 
@@ -96,23 +102,6 @@ pub(crate) fn put_events<R: Recorder>(
     while let Some((event, behind)) = left.split_first() {
         put_copied(site, event, recorder)?;
         left = behind;
-    }
-    Ok(())
-}
-
-/// Puts events, one after another, and takes them.
-pub(crate) fn put_taken<R: Recorder>(
-    site: Site,
-    events: &mut Vec<Event>,
-    recorder: &mut R,
-) -> Result<(), Halt>
-    ensures told { IsStep (events_steps site events.old.items (R.state recorder.old))
-        result (R.state recorder.new) }
-    ensures kept { R.kept recorder.new ≡ R.kept recorder.old }
-{
-    events.reverse();
-    while let Some(event) = events.pop() {
-        put_event(recorder, site, event)?;
     }
     Ok(())
 }

@@ -20,10 +20,10 @@ use std::alloc::AllocError;
 use xs_semantics::finder::Finder;
 use xs_semantics::focus::Focus;
 use xs_sheet::body::Binding;
+use xs_trace::characters::Characters;
 use xs_trace::fault::Fault;
 use xs_trace::item::Site;
 use xs_trace::recorder::{Halt, Recorder};
-use xs_trace::text::TextBuf;
 use xs_tree::{Kind, Node};
 
 impl<'a, K: Finder> Evaluator<'a, K> {
@@ -189,7 +189,7 @@ impl<'a, K: Finder> Evaluator<'a, K> {
             result (R.state recorder.new) }
         ensures kept { R.kept recorder.new ≡ R.kept recorder.old }
     {
-        let text = TextBuf::of(self.alloc, self.tree.text(Node::at(focus.node)))?;
+        let text = Characters::of(self.alloc, self.tree.text(Node::at(focus.node)))?;
         put_text(site, text, recorder)
     }
 

@@ -2,5 +2,6 @@ mod SpacingLemmas
 mod CopyLemmas
 mod LawLemmas
 mod WalkLemmas
+pub mod PutLemmas
 mod WellLemmas
 mod PlainLemmas

@@ -1,37 +1,45 @@
 //! What single nodes of a tree put into the result.
-ghost use Rattle.std.specs.Prelude.{◌≡◌, ◌<◌, ◌++◌, length, OnOk, OnErr, IfOk};
-ghost use Rattle.xs_tree.specs.Record.{at};
+ghost use Rattle.std.specs.Prelude.{◌≡◌, ◌<◌, ◌∷◌, ◌&&◌, [], codes, length, IfOk};
+ghost use Rattle.std.specs.Str.{bytes_eq};
+ghost use Rattle.xs_tree.specs.Record.{at, name_local, name_uri};
 ghost use Rattle.xs_making.specs.Copies.{attribute_events, label_of, leaf_events};
 ghost use Rattle.xs_making.specs.Copies.{space_events, text_events};
 ghost use Rattle.xs_making.specs.Texts.{is_empty};
 ghost use Rattle.xs_making.specs.Labels.{xml_uri};
+ghost use Rattle.xs_making.specs.steps.Putting.{Puts};
 
 use crate::labels::XML_URI;
 use crate::recent::RecentLabels;
-use std::alloc::AllocError;
+use std::alloc::{AllocError, Global};
+use xs_trace::characters::Characters;
 use xs_trace::event::{Event, Label};
+use xs_trace::item::Site;
+use xs_trace::recorder::{Halt, Recorder, put_event};
 use xs_trace::text::TextBuf;
 use xs_tree::{Kind, Node, Tree};
 
 /// Puts the copy of a node that is no root and no element.
-pub(crate) fn put_leaf(
+#[inline(always)]
+pub(crate) fn put_leaf<R: Recorder>(
     tree: &Tree,
     n: Node,
+    site: Site,
     labels: &mut RecentLabels,
-    out: &mut Vec<Event>,
-) -> Result<(), AllocError>
+    recorder: &mut R,
+) -> Result<(), Halt>
     requires { n < length tree.now }
-    ensures put { OnOk result (out.new.items
-        ≡ out.old.items ++ leaf_events (at tree.now n).kind (at tree.now n)) }
-    ensures refused { OnErr result (out.new.items ≡ out.old.items) }
+    ensures told { Puts site (leaf_events (at tree.now n).kind (at tree.now n))
+        (R.state recorder.old) result (R.state recorder.new) }
+    ensures kept { R.kept recorder.new ≡ R.kept recorder.old }
 {
+    let alloc = labels.allocator();
     match tree.kind(n) {
         Kind::Root | Kind::Element => Ok(()),
-        Kind::Attribute => put_attribute(tree, n, labels, out),
-        Kind::Space => put_space(tree, n, out),
-        Kind::Text => put_text(tree, n, out),
-        Kind::Comment => put_comment(tree, n, out),
-        Kind::Pi => put_pi(tree, n, out),
+        Kind::Attribute => put_attribute(tree, n, site, labels, recorder),
+        Kind::Space => put_space(alloc, tree, n, site, recorder),
+        Kind::Text => put_text(alloc, tree, n, site, recorder),
+        Kind::Comment => put_comment(alloc, tree, n, site, recorder),
+        Kind::Pi => put_pi(alloc, tree, n, site, recorder),
     }
 }
 
@@ -43,80 +51,122 @@ pub(crate) fn label_of(tree: &Tree, n: Node, labels: &mut RecentLabels) -> Resul
     labels.label(tree.uri(n), tree.local(n), tree.prefix(n))
 }
 
+/// Puts one event.
+#[inline(always)]
+pub(crate) fn put_one<R: Recorder>(event: Event, site: Site, recorder: &mut R) -> Result<(), Halt>
+    ensures told { Puts site (event ∷ [])
+        (R.state recorder.old) result (R.state recorder.new) }
+    ensures kept { R.kept recorder.new ≡ R.kept recorder.old }
+{
+    put_event(recorder, site, event)
+}
+
 /// Puts a namespace node, but for no namespace and for that of `xml`.
-pub(crate) fn put_space(tree: &Tree, n: Node, out: &mut Vec<Event>) -> Result<(), AllocError>
+#[inline(always)]
+pub(crate) fn put_space<R: Recorder>(
+    alloc: Global,
+    tree: &Tree,
+    n: Node,
+    site: Site,
+    recorder: &mut R,
+) -> Result<(), Halt>
     requires { n < length tree.now }
-    ensures put { OnOk result (out.new.items ≡ out.old.items ++ space_events (at tree.now n)) }
-    ensures refused { OnErr result (out.new.items ≡ out.old.items) }
+    ensures told { Puts site (space_events (at tree.now n))
+        (R.state recorder.old) result (R.state recorder.new) }
+    ensures kept { R.kept recorder.new ≡ R.kept recorder.old }
 {
     let uri = tree.text(n);
     if uri.is_empty() || uri == XML_URI {
         return Ok(());
     }
-    let alloc = *out.allocator();
     let prefix = TextBuf::of(alloc, tree.local(n))?;
     let uri = TextBuf::of(alloc, uri)?;
-    out.push(Event::Space { prefix, uri })?;
-    Ok(())
+    put_one(Event::Space { prefix, uri }, site, recorder)
 }
 
 /// Puts an attribute, but for one that would be read as the declaration of a default namespace.
-pub(crate) fn put_attribute(
+#[inline(always)]
+pub(crate) fn put_attribute<R: Recorder>(
     tree: &Tree,
     n: Node,
+    site: Site,
     labels: &mut RecentLabels,
-    out: &mut Vec<Event>,
-) -> Result<(), AllocError>
+    recorder: &mut R,
+) -> Result<(), Halt>
     requires { n < length tree.now }
-    ensures put { OnOk result (out.new.items ≡ out.old.items ++ attribute_events (at tree.now n)) }
-    ensures refused { OnErr result (out.new.items ≡ out.old.items) }
+    ensures told { Puts site (attribute_events (at tree.now n))
+        (R.state recorder.old) result (R.state recorder.new) }
+    ensures kept { R.kept recorder.new ≡ R.kept recorder.old }
 {
-    if tree.uri(n).is_empty() && tree.local(n) == "xmlns" {
+    if is_declaration(tree, n) {
         return Ok(());
     }
     let name = label_of(tree, n, labels)?;
-    let value = TextBuf::of(*out.allocator(), tree.text(n))?;
-    out.push(Event::Attr { name, value })?;
-    Ok(())
+    let value = TextBuf::of(labels.allocator(), tree.text(n))?;
+    put_one(Event::Attr { name, value }, site, recorder)
+}
+
+/// Whether an attribute would be read as the declaration of a default namespace.
+fn is_declaration(tree: &Tree, n: Node) -> bool
+    requires { n < length tree.now }
+    ensures { result ≡ (is_empty (name_uri (at tree.now n))
+        && bytes_eq (name_local (at tree.now n)) (codes "xmlns")) }
+{
+    tree.uri(n).is_empty() && tree.local(n) == "xmlns"
 }
 
 /// Puts a text, unless it is empty.
-fn put_text(tree: &Tree, n: Node, out: &mut Vec<Event>) -> Result<(), AllocError>
+#[inline(always)]
+fn put_text<R: Recorder>(
+    alloc: Global,
+    tree: &Tree,
+    n: Node,
+    site: Site,
+    recorder: &mut R,
+) -> Result<(), Halt>
     requires { n < length tree.now }
-    ensures put { OnOk result (out.new.items ≡ out.old.items ++ text_events (at tree.now n)) }
-    ensures refused { OnErr result (out.new.items ≡ out.old.items) }
+    ensures told { Puts site (text_events (at tree.now n))
+        (R.state recorder.old) result (R.state recorder.new) }
+    ensures kept { R.kept recorder.new ≡ R.kept recorder.old }
 {
     let text = tree.text(n);
     if text.is_empty() {
         return Ok(());
     }
-    let text = TextBuf::of(*out.allocator(), text)?;
-    out.push(Event::Chars(text))?;
-    Ok(())
+    put_one(Event::Chars(Characters::of(alloc, text)?), site, recorder)
 }
 
 /// Puts a comment, as it is.
-fn put_comment(tree: &Tree, n: Node, out: &mut Vec<Event>) -> Result<(), AllocError>
+fn put_comment<R: Recorder>(
+    alloc: Global,
+    tree: &Tree,
+    n: Node,
+    site: Site,
+    recorder: &mut R,
+) -> Result<(), Halt>
     requires { n < length tree.now }
-    ensures put { OnOk result
-        (out.new.items ≡ out.old.items ++ leaf_events Kind.Comment (at tree.now n)) }
-    ensures refused { OnErr result (out.new.items ≡ out.old.items) }
+    ensures told { Puts site (leaf_events Kind.Comment (at tree.now n))
+        (R.state recorder.old) result (R.state recorder.new) }
+    ensures kept { R.kept recorder.new ≡ R.kept recorder.old }
 {
-    let text = TextBuf::of(*out.allocator(), tree.text(n))?;
-    out.push(Event::Comment(text))?;
-    Ok(())
+    let text = TextBuf::of(alloc, tree.text(n))?;
+    put_one(Event::Comment(text), site, recorder)
 }
 
 /// Puts a processing instruction, as it is.
-fn put_pi(tree: &Tree, n: Node, out: &mut Vec<Event>) -> Result<(), AllocError>
+fn put_pi<R: Recorder>(
+    alloc: Global,
+    tree: &Tree,
+    n: Node,
+    site: Site,
+    recorder: &mut R,
+) -> Result<(), Halt>
     requires { n < length tree.now }
-    ensures put { OnOk result
-        (out.new.items ≡ out.old.items ++ leaf_events Kind.Pi (at tree.now n)) }
-    ensures refused { OnErr result (out.new.items ≡ out.old.items) }
+    ensures told { Puts site (leaf_events Kind.Pi (at tree.now n))
+        (R.state recorder.old) result (R.state recorder.new) }
+    ensures kept { R.kept recorder.new ≡ R.kept recorder.old }
 {
-    let alloc = *out.allocator();
     let target = TextBuf::of(alloc, tree.local(n))?;
     let value = TextBuf::of(alloc, tree.text(n))?;
-    out.push(Event::Pi { target, value })?;
-    Ok(())
+    put_one(Event::Pi { target, value }, site, recorder)
 }

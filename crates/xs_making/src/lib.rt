@@ -4,6 +4,7 @@
 mod compared;
 mod copies;
 mod ends;
+mod event_list;
 mod labels;
 pub mod laws;
 mod leaves;
@@ -14,7 +15,7 @@ mod sheet_texts;
 mod slots;
 mod texts;
 
-pub use copies::copy_events;
+pub use copies::{copy_events, put_deep_copy, put_shallow_copy};
 pub use ends::MakeEnd;
 pub use labels::{XML_URI, put_label, put_prefix};
 pub use names::{pi_target, result_name};

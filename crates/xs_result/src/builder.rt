@@ -1,7 +1,7 @@
 //! The events that stay, as one comes after the other.
 
 ghost use Rattle.std.specs.Prelude.{◌≡◌, ◌++◌, ◌∷◌, [], IfOk, OnOk};
-ghost use Rattle.xs_result.specs.steps.Building.{began, behind, ended, flushed, forgotten};
+ghost use Rattle.xs_result.specs.steps.Building.{began, behind, ended, flushed};
 ghost use Rattle.xs_result.specs.steps.Building.{if_open, if_text, nothing, tagged, taken};
 ghost use Rattle.xs_result.specs.steps.Places.{with_attribute};
 ghost use Rattle.xs_result.specs.steps.Views.{state};
@@ -10,13 +10,11 @@ ghost use Rattle.xs_trace.specs.declared.event.Event.TheVariants.{Space};
 use crate::pending::PendingText;
 use crate::start_tag::StartTag;
 use std::alloc::{AllocError, Global};
+use xs_trace::characters::Characters;
 use xs_trace::event::{Event, Fragment, Label};
 use xs_trace::text::TextBuf;
 
 /// What stays of the events that came.
-///
-/// A caller may use what stays for good while more events come, and have it forgotten, so that the
-/// last start tag and the last text alone are kept.
 #[derive(Drop)]
 pub struct Builder<'e> {
     alloc: Global,
@@ -96,10 +94,10 @@ impl<'e> Builder<'e> {
     }
 
     /// A text, which goes on the one before.
-    fn chars(&mut self, text: &TextBuf) -> Result<(), AllocError>
+    fn chars(&mut self, text: &Characters) -> Result<(), AllocError>
         ensures { OnOk result (state self.new ≡ if_text text.now (state self.old)) }
     {
-        if text.as_str().is_empty() {
+        if text.is_empty() {
             return Ok(());
         }
         self.tag.close(self.alloc, &mut self.events)?;
@@ -142,21 +140,7 @@ impl<'e> Builder<'e> {
         Ok(())
     }
 
-    /// What stays for good, whatever comes, but for what was forgotten.
-    pub fn settled(&self) -> &[Event]
-        ensures { result.now ≡ (state self.now).closed }
-    {
-        self.events.as_slice()
-    }
-
-    /// Forgets what stays for good.
-    pub fn forget(&mut self)
-        ensures { state self.new ≡ forgotten (state self.old) }
-    {
-        self.events.clear();
-    }
-
-    /// All that stays, but for what was forgotten.
+    /// All that stays.
     pub fn finish(mut self) -> Result<Fragment, AllocError>
         ensures { IfOk result (λ fragment. fragment ≡ flushed (state self.entry)) }
     {

@@ -5,13 +5,13 @@ ghost use Rattle.xs_result.specs.steps.Building.{option_events, text_events};
 
 use std::alloc::{AllocError, Global};
 use std::marker::Model;
-use xs_trace::text::TextBuf;
+use xs_trace::characters::Characters;
 
 /// A text that may go on. Contracts see it as its bytes.
 #[derive(Drop)]
 pub(crate) struct PendingText {
-    /// The only piece so far, which is shared and not copied.
-    one: Option<TextBuf>,
+    /// The only piece so far.
+    one: Option<Characters>,
     /// Otherwise the pieces, joined.
     several: String,
 }
@@ -47,7 +47,7 @@ impl PendingText {
     }
 
     /// One piece more, at the end.
-    pub(crate) fn push(&mut self, text: &TextBuf) -> Result<(), AllocError>
+    pub(crate) fn push(&mut self, text: &Characters) -> Result<(), AllocError>
         ensures { OnOk result (self.new ≡ self.old ++ text.now) }
     {
         if self.as_str().is_empty() {
@@ -64,7 +64,7 @@ impl PendingText {
     }
 
     /// The text, which is ended; none where it is empty.
-    pub(crate) fn end(&mut self, alloc: Global) -> Result<Option<TextBuf>, AllocError>
+    pub(crate) fn end(&mut self, alloc: Global) -> Result<Option<Characters>, AllocError>
         ensures text { IfOk result (λ text. option_events text ≡ text_events self.old) }
         ensures empty { OnOk result (self.new ≡ []) }
     {
@@ -76,7 +76,7 @@ impl PendingText {
 
     /// The text, if it is not empty.
     #[tactic(auto, unfolding(crate::specs::steps::Building::text_events))]
-    fn text(&self, alloc: Global) -> Result<Option<TextBuf>, AllocError>
+    fn text(&self, alloc: Global) -> Result<Option<Characters>, AllocError>
         ensures { IfOk result (λ text. option_events text ≡ text_events self.now) }
     {
         if self.as_str().is_empty() {
@@ -84,7 +84,7 @@ impl PendingText {
         }
         match &self.one {
             Some(text) => Ok(Some(text.copy()?)),
-            None => Ok(Some(TextBuf::of(alloc, self.several.as_str())?)),
+            None => Ok(Some(Characters::of(alloc, self.several.as_str())?)),
         }
     }
 }

@@ -7,3 +7,4 @@ pub mod RunLemmas
 pub mod MeterLemmas
 pub mod FillLemmas
 pub mod KnownLemmas
+pub mod SyncLemmas

@@ -6,5 +6,5 @@ use Rattle.xs_trace.specs.declared.text.Block.TheVariants.{Short, Long}
 
 -- the bytes of a block
 abbrev pub block_bytes : Block → List ℕ
-block_bytes (Short text) = text.bytes
+block_bytes (Short text) = text
 block_bytes (Long text) = string_bytes text

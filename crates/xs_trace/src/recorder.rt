@@ -109,6 +109,7 @@ pub trait Recorder: Tally {
 }
 
 /// Some ticks at one instruction, one by one.
+#[inline(always)]
 pub fn tick_several<T: Tally>(tally: &mut T, site: Site, count: u64) -> Result<(), Halt>
     ensures told { IsStep (ticked_by count site (T.state tally.old)) result (T.state tally.new) }
     ensures kept { T.kept tally.new ≡ T.kept tally.old }

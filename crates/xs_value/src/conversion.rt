@@ -20,6 +20,7 @@ use std::borrow::CowStr;
 use xs_num::number::{Num, Number};
 use xs_num::reading::read_num;
 use xs_num::writing::write_num;
+use xs_trace::characters::Characters;
 use xs_trace::event::Event;
 use xs_trace::text::TextBuf;
 use xs_tree::{Node, Tree};
@@ -88,6 +89,27 @@ pub fn to_text(alloc: Global, tree: &Tree, v: &Value) -> Result<TextBuf, AllocEr
     match v {
         Value::Chars(text) => text.copy(),
         _ => own_text(alloc, lend_text(alloc, tree, v)?),
+    }
+}
+
+/// A value as a string (XPath 1.0, 4.2), as it is put into a result.
+pub fn to_characters(alloc: Global, tree: &Tree, v: &Value) -> Result<Characters, AllocError>
+    requires { IsIn tree.now v.now }
+    ensures text { IfOk result (λ text. text ≡ text_value tree.now v.now) }
+{
+    match v {
+        Value::Chars(text) => Characters::sharing(text),
+        _ => own_characters(alloc, lend_text(alloc, tree, v)?),
+    }
+}
+
+// A text that is lent or owned, as it is put into a result.
+fn own_characters(alloc: Global, text: CowStr<'_, Global>) -> Result<Characters, AllocError>
+    ensures text { IfOk result (λ own. own ≡ cow_str_bytes text.entry) }
+{
+    match text {
+        CowStr::Borrowed(text) => Characters::of(alloc, text),
+        CowStr::Owned(text) => Characters::from_string(text),
     }
 }
 

@@ -17,6 +17,7 @@ use crate::tag_bindings::is_in_tag;
 use std::alloc::AllocError;
 use std::marker::Model;
 use xs_text::escape_into;
+use xs_trace::characters::Characters;
 use xs_trace::event::{Event, Label};
 use xs_trace::text::TextBuf;
 
@@ -61,7 +62,7 @@ impl ElementName {
 
 /// Appends the line of a text. After a refusal a part of it.
 #[tactic(auto, unfolding(xs_pyx::specs::Writing::written))]
-pub(crate) fn append_chars(out: &mut Vec<u8>, text: &TextBuf) -> Result<(), AllocError>
+pub(crate) fn append_chars(out: &mut Vec<u8>, text: &Characters) -> Result<(), AllocError>
     ensures written { OnOk result
         (out.new.items ≡ out.old.items ++ written (line_of.Chars text.now)) }
     ensures kept { take (length out.old.items) out.new.items ≡ out.old.items }
@@ -74,7 +75,7 @@ pub(crate) fn append_chars(out: &mut Vec<u8>, text: &TextBuf) -> Result<(), Allo
 /// Appends the line of a text that lies in pieces, unless it is empty. After a refusal a part of
 /// it.
 #[tactic(auto, unfolding(xs_pyx::specs::Writing::written, crate::specs::Lines::bytes_of))]
-pub(crate) fn append_joined(out: &mut Vec<u8>, texts: &[&TextBuf]) -> Result<(), AllocError>
+pub(crate) fn append_joined(out: &mut Vec<u8>, texts: &[&Characters]) -> Result<(), AllocError>
     ensures written { OnOk result
         (out.new.items ≡ out.old.items ++ bytes_of (text_lines (joined texts.now))) }
     ensures kept { take (length out.old.items) out.new.items ≡ out.old.items }
@@ -90,11 +91,11 @@ pub(crate) fn append_joined(out: &mut Vec<u8>, texts: &[&TextBuf]) -> Result<(),
 
 /// Whether there is no byte in these texts.
 #[tactic(auto, using(crate::proofs::PendingLemmas::empty_first))]
-fn are_empty(texts: &[&TextBuf]) -> bool
+fn are_empty(texts: &[&Characters]) -> bool
     ensures { result ≡ is_empty (joined texts.now) }
 {
     for text in texts {
-        if !text.as_str().is_empty() {
+        if !text.is_empty() {
             return false;
         }
     }
@@ -103,7 +104,7 @@ fn are_empty(texts: &[&TextBuf]) -> bool
 
 /// Appends texts with their escapes, one after another.
 #[tactic(auto, using(crate::proofs::PendingLemmas::piece_written))]
-fn append_pieces(out: &mut Vec<u8>, texts: &[&TextBuf]) -> Result<(), AllocError>
+fn append_pieces(out: &mut Vec<u8>, texts: &[&Characters]) -> Result<(), AllocError>
     ensures written { OnOk result
         (out.new.items ≡ out.old.items ++ escaped (joined texts.now)) }
     ensures kept { take (length out.old.items) out.new.items ≡ out.old.items }

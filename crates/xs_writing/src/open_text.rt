@@ -7,12 +7,12 @@ ghost use Rattle.xs_writing.specs.steps.Pending.{text_lines};
 use crate::name_lines::append_joined;
 use std::alloc::{AllocError, Global};
 use std::marker::Model;
-use xs_trace::text::TextBuf;
+use xs_trace::characters::Characters;
 
 /// A text that may go on, in the pieces that came, which are lent. Contracts see it as its bytes.
 #[derive(Drop)]
 pub(crate) struct OpenText<'e> {
-    pieces: Vec<&'e TextBuf>,
+    pieces: Vec<&'e Characters>,
 }
 
 impl<'e> Model for OpenText<'e> {
@@ -35,7 +35,7 @@ impl<'e> OpenText<'e> {
     }
 
     /// One piece more, at the end.
-    pub(crate) fn push(&mut self, text: &'e TextBuf) -> Result<(), AllocError>
+    pub(crate) fn push(&mut self, text: &'e Characters) -> Result<(), AllocError>
         ensures { OnOk result (self.new ≡ self.old ++ text.now) }
     {
         self.pieces.push(text)?;

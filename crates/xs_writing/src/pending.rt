@@ -13,8 +13,8 @@ use crate::open_tag::OpenTag;
 use crate::open_text::OpenText;
 use crate::writer::PyxWriter;
 use std::alloc::{AllocError, Global};
+use xs_trace::characters::Characters;
 use xs_trace::event::{Event, Label};
-use xs_trace::text::TextBuf;
 
 /// The events that came and are not written yet, which are lent and not copied.
 #[derive(Drop)]
@@ -114,7 +114,7 @@ impl<'e> Pending<'e> {
         &mut self,
         writer: &mut PyxWriter,
         out: &mut Vec<u8>,
-        text: &'e TextBuf,
+        text: &'e Characters,
     ) -> Result<(), AllocError>
         ensures state { OnOk result (kept self.new ≡ forgotten (if_text text.now (kept self.old))) }
         ensures written { OnOk result (out.new.items ≡ out.old.items
@@ -124,7 +124,7 @@ impl<'e> Pending<'e> {
         ensures front { take (length out.old.items) out.new.items ≡ out.old.items }
         ensures utf8 { IsUtf8 out.old.items → IsUtf8 out.new.items }
     {
-        if text.as_str().is_empty() {
+        if text.is_empty() {
             return Ok(());
         }
         self.tag.write(writer, out)?;

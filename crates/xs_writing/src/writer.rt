@@ -71,20 +71,8 @@ impl PyxWriter {
     }
 
     /// Appends the lines of events that stay. A start tag has to be whole: its namespace nodes and
-    /// attributes come in one call with its start. After a refusal some lines may be there.
-    pub fn write(self, out: &mut Vec<u8>, events: &[Event]) -> Result<PyxWriter, AllocError>
-        ensures written { OnOk result
-            (out.new.items ≡ out.old.items ++ bytes_of (lines self events.now)) }
-        ensures opened { IfOk result (λ writer. writer ≡ open_after self events.now) }
-        ensures kept { take (length out.old.items) out.new.items ≡ out.old.items }
-        ensures utf8 { IsUtf8 out.old.items → IsUtf8 out.new.items }
-    {
-        let mut writer = self;
-        writer.append(out, events)?;
-        Ok(writer)
-    }
-
-    /// The same in place. After a refusal every further call may be refused.
+    /// attributes come in one call with its start. After a refusal some lines may be there, and
+    /// every further call may be refused.
     #[tactic(auto, unfolding(crate::specs::steps::Unfolding::event_by_event))]
     pub fn append(&mut self, out: &mut Vec<u8>, events: &[Event]) -> Result<(), AllocError>
         ensures written { OnOk result

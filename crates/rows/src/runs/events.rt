@@ -4,6 +4,7 @@ use crate::answer::{Answer, text_of};
 use crate::fields::cut_prefix;
 use std::alloc::{AllocError, Global};
 use xs_result::{build, write_text};
+use xs_trace::characters::Characters;
 use xs_trace::event::{Event, Fragment, Label};
 use xs_trace::text::TextBuf;
 use xs_writing::{PyxStream, write_pyx};
@@ -34,7 +35,7 @@ fn event(alloc: Global, line: &str) -> Result<Event, AllocError> {
         return Ok(Event::Start(label(alloc, name)?));
     }
     if let Some(text) = line.strip_prefix('-') {
-        return Ok(Event::Chars(TextBuf::of(alloc, text)?));
+        return Ok(Event::Chars(Characters::of(alloc, text)?));
     }
     if let Some(text) = line.strip_prefix('C') {
         return Ok(Event::Comment(TextBuf::of(alloc, text)?));

@@ -62,7 +62,8 @@ use Rattle.xs_semantics.specs.Trace.{body_trace, calls_at, content_trace, declar
 use Rattle.xs_semantics.specs.Trace.{puts_all, sets_trace}
 use Rattle.xs_body.specs.steps.Lists.{nodes_in}
 pub use Rattle.xs_body.specs.steps.Making.{chars_steps}
-use Rattle.xs_body.specs.steps.Making.{attributes_steps, copy_steps, events_steps, literal_steps, made_at, made_ended, name_steps}
+use Rattle.xs_body.specs.steps.Making.{attributes_steps, copy_steps, literal_steps, made_at, made_ended, name_steps}
+use Rattle.xs_making.specs.steps.Putting.{events_steps}
 use Rattle.xs_body.specs.steps.Making.{target_steps}
 
 -- ---- rows of the stylesheet as lists

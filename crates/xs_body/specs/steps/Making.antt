@@ -24,6 +24,7 @@ use Rattle.xs_making.specs.Copies.{deep_copy}
 use Rattle.xs_making.specs.Labels.{xml_uri}
 use Rattle.xs_making.specs.Names.{pi_target, result_name}
 use Rattle.xs_making.specs.Texts.{comment_text, instruction_text, is_empty}
+use Rattle.xs_making.specs.steps.Putting.{events_steps}
 use Rattle.xs_making.specs.declared.ends.MakeEnd.{MakeEnd}
 use Rattle.xs_making.specs.declared.ends.MakeEnd.TheVariants as end
 use Rattle.xs_semantics.specs.declared.focus.Focus.{Focus}
@@ -36,10 +37,6 @@ use Rattle.xs_semantics.specs.Making.{aliased, attribute_label, content_text, el
 -- ---- events
 abbrev pub chars_steps : {H : Type 0} → Site → List ℕ → State H → Told H
 chars_steps p t s = if length t == 0 then goes s else put_at p (Chars t) s
-
-abbrev pub events_steps : {H : Type 0} → Site → List Event → State H → Told H
-events_steps p [] s = goes s
-events_steps p (e ∷ es) s = and_then (put_at p e s) (λ u m. events_steps p es m)
 
 -- a namespace node, and an attribute, where they are put
 abbrev pub is_unbound : (uri : List ℕ) → Bool

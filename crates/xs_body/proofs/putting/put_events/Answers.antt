@@ -2,8 +2,8 @@ use Rattle.std.proofs.Common.{◌≡◌, ◌∷◌, ap, ◌∙◌, rules}
 use Rattle.std.proofs.lemmas.Result.{err_from_is_err_and}
 use Rattle.xs_trace.specs.Play.{put_at}
 use Rattle.xs_trace.proofs.GrowthLemmas.{passes}
-use Rattle.xs_body.specs.steps.Making.{events_steps}
-use Rattle.xs_body.proofs.MakingLemmas.{events-grow}
+use Rattle.xs_making.specs.steps.Putting.{events_steps}
+use Rattle.xs_making.proofs.PutLemmas.{events-grow}
 use Rattle.xs_body.proofs.putting.put_events.Goals as goal
 
 pub returns-in_err-put_copied-clause-told : goal.returns-in_err-put_copied-clause-told

@@ -11,7 +11,6 @@ returns-then-not-is_empty c =
     let i = c.loop-text.text-index in
     let texts = c.args.texts.now in
     let lt : i < length texts = omega arith in
-    let full : (length t.now == 0) ≡ false =
-    ap (λ x. length x == 0) (sym c.as_str.ensures.text) ∙ sym c.is_empty.ensures ∙ c.if-not-is_empty.true in
+    let full : (length t.now == 0) ≡ false = sym c.is_empty.ensures.empty ∙ c.if-not-is_empty.true in
     sym (full_first t.now (joined (drop (i + 1) texts)) full) ∙ ap (λ ts. is_empty (joined ts)) (sym (next texts i t lt c.text-item.is))
     ∙ c.loop-text.invariant

@@ -32,10 +32,11 @@ returns-in-Text-clause-told g c =
 pub returns-in-CopyOf-clause-told : goal.returns-in-CopyOf-clause-told
 returns-in-CopyOf-clause-told g c =
     let t : Evaluation = c.args.self.now in
+    let v : Evaluation = c.put_copy.new.self in
     let s = g.R.Tally.state c.args.recorder.now in
-    subst (λ (k : InstrKind). IsStepBy {A = Evaluation} {B = Unit {0}} (λ u. t) (begun k c.args.site c.args.scope t s) c.put_copy.result
+    subst (λ (k : InstrKind). IsStepBy {A = Evaluation} {B = Unit {0}} (λ u. v) (begun k c.args.site c.args.scope t s) c.put_copy.result
     (g.R.Tally.state c.put_copy.new.recorder)) (sym c.in-CopyOf.is)
-    (stays-told (copy_of_steps c.in-CopyOf.select c.args.site c.args.scope t s) t t _ c.put_copy.result refl c.put_copy.ensures.told)
+    (stays-told (copy_of_steps c.in-CopyOf.select c.args.site c.args.scope t s) t v _ c.put_copy.result c.put_copy.ensures.same c.put_copy.ensures.told)
 
 pub returns-in_err-name-in-Element-clause-told : goal.returns-in_err-name-in-Element-clause-told
 returns-in_err-name-in-Element-clause-told g c =
