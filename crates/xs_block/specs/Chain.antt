@@ -1,4 +1,4 @@
--- A chain as the list of its blocks, each the list of its items.
+-- A chain as the list of its blocks.
 use Rattle.std.specs.Prelude.{ℕ, zero, suc, ◌+◌, ◌-◌, ◌*◌, ◌^◌, ◌==◌, min, Bool, false, true, if◌then◌else◌, List, [], ◌∷◌, length, take}
 use Rattle.std.specs.List.{flat_map}
 
@@ -10,7 +10,7 @@ most_blocks = 2 ^ 63 - 1
 abbrev pub with_free : ℕ → ℕ → ℕ
 with_free free more = free + min more (most_blocks - free)
 
--- A block: its items, in room for 64. A sealed one is in room for its items alone, and no pool has it.
+-- A block: its items, in room for 64. A sealed one is in room of its own, and no pool has it.
 pub record Block (X : Type 0) : Type 0 where
   pub items : List X
   pub is_sealed : Bool

@@ -73,8 +73,8 @@ unfoldable pub row_named : List ℕ → Row
 row_named local = option_map_or (λ named. named.1) (find (is_row_name local) named_rows) Unknown
 
 -- a name with its element as the code has them
-abbrev pub row_data : Bor (List ℕ) × Row → List ℕ × Row
-row_data named = (named.0.now, named.1)
+abbrev pub row_data : Row × Bor (List ℕ) → List ℕ × Row
+row_data named = (named.1.now, named.0)
 
 -- What a node is. An element is XSLT's by its namespace, whatever its prefix (XSLT 1.0, 2.1).
 abbrev pub row_of : List Record → ℕ → Row

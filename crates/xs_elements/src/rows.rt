@@ -55,48 +55,48 @@ pub enum Row {
     NoElement,
 }
 
-/// The elements of XSLT by their local parts: those of the top level (2.2), instructions (5 to 13),
-/// and parts of instructions (9.2, 10, 11.6, 15).
-static ROWS: [(&str, Row); 35] = [
-    ("stylesheet", Row::Stylesheet),
-    ("transform", Row::Stylesheet),
-    ("import", Row::Import),
-    ("include", Row::Include),
-    ("strip-space", Row::StripSpace),
-    ("preserve-space", Row::PreserveSpace),
-    ("output", Row::Output),
-    ("key", Row::Key),
-    ("decimal-format", Row::DecimalFormat),
-    ("namespace-alias", Row::NamespaceAlias),
-    ("attribute-set", Row::AttributeSet),
-    ("variable", Row::Variable),
-    ("param", Row::Param),
-    ("template", Row::Template),
-    ("apply-templates", Row::ApplyTemplates),
-    ("call-template", Row::CallTemplate),
-    ("apply-imports", Row::ApplyImports),
-    ("for-each", Row::ForEach),
-    ("value-of", Row::ValueOf),
-    ("copy-of", Row::CopyOf),
-    ("copy", Row::Copy),
-    ("number", Row::Number),
-    ("choose", Row::Choose),
-    ("if", Row::If),
-    ("text", Row::Text),
-    ("element", Row::Element),
-    ("attribute", Row::Attribute),
-    ("comment", Row::Comment),
-    ("processing-instruction", Row::ProcessingInstruction),
-    ("message", Row::Message),
-    ("when", Row::When),
-    ("otherwise", Row::Otherwise),
-    ("fallback", Row::Fallback),
-    ("sort", Row::Sort),
-    ("with-param", Row::WithParam),
+/// The elements of XSLT with their local parts: those of the top level (2.2), instructions (5 to
+/// 13), and parts of instructions (9.2, 10, 11.6, 15).
+static ROWS: [(Row, &str); 35] = [
+    (Row::Stylesheet, "stylesheet"),
+    (Row::Stylesheet, "transform"),
+    (Row::Import, "import"),
+    (Row::Include, "include"),
+    (Row::StripSpace, "strip-space"),
+    (Row::PreserveSpace, "preserve-space"),
+    (Row::Output, "output"),
+    (Row::Key, "key"),
+    (Row::DecimalFormat, "decimal-format"),
+    (Row::NamespaceAlias, "namespace-alias"),
+    (Row::AttributeSet, "attribute-set"),
+    (Row::Variable, "variable"),
+    (Row::Param, "param"),
+    (Row::Template, "template"),
+    (Row::ApplyTemplates, "apply-templates"),
+    (Row::CallTemplate, "call-template"),
+    (Row::ApplyImports, "apply-imports"),
+    (Row::ForEach, "for-each"),
+    (Row::ValueOf, "value-of"),
+    (Row::CopyOf, "copy-of"),
+    (Row::Copy, "copy"),
+    (Row::Number, "number"),
+    (Row::Choose, "choose"),
+    (Row::If, "if"),
+    (Row::Text, "text"),
+    (Row::Element, "element"),
+    (Row::Attribute, "attribute"),
+    (Row::Comment, "comment"),
+    (Row::ProcessingInstruction, "processing-instruction"),
+    (Row::Message, "message"),
+    (Row::When, "when"),
+    (Row::Otherwise, "otherwise"),
+    (Row::Fallback, "fallback"),
+    (Row::Sort, "sort"),
+    (Row::WithParam, "with-param"),
 ];
 
-/// The elements of XSLT by their local parts.
-fn named_rows() -> &'static [(&'static str, Row)]
+/// The elements of XSLT with their local parts.
+fn named_rows() -> &'static [(Row, &'static str)]
     ensures { map row_data result.now ≡ named_rows }
 {
     &ROWS
@@ -107,7 +107,7 @@ fn named_rows() -> &'static [(&'static str, Row)]
 fn row_named(local: &str) -> Row
     ensures row { result ≡ row_named local.now }
 {
-    for (name, row) in named_rows() {
+    for (row, name) in named_rows() {
         if *name == local {
             return *row;
         }

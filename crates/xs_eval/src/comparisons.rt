@@ -1,5 +1,5 @@
 //! How two operands compare (XPath 1.0, 3.4). A string literal is compared where it is with nodes
-//! and with strings, by `=` and `!=`; for other comparisons its text is copied.
+//! and with strings, by `=` and `!=`; for other comparisons it becomes a value.
 
 ghost use Rattle.std.specs.Prelude.{◌≡◌, ◌<◌, IfOk, Ok, false, length};
 ghost use Rattle.std.specs.List.{All};

@@ -1,5 +1,6 @@
 //! The operands of operators and the arguments of calls. A string literal is lent by the
-//! stylesheet, and the value of a variable by its slot, so that no count of theirs is touched.
+//! stylesheet, and the value of a variable by its slot. Where a lent text becomes a value, a short
+//! one is copied, and a longer one is shared.
 
 ghost use Rattle.std.specs.Prelude.{◌≡◌, ◌++◌, IfOk, OnErr, OnOk};
 ghost use Rattle.std.specs.Cow.{cow_str_bytes};
@@ -207,7 +208,7 @@ impl<'a> Operand<'a> {
 
 /// How long a text is at most that is copied where it becomes a value, so that no count of its
 /// owner is touched. A longer one is shared, so that the time does not grow with it.
-const SHORT: usize = 32;
+const SHORT: usize = 30;
 
 /// A text that is lent, as a value has it.
 pub(crate) fn text_of(alloc: Global, text: &TextBuf) -> Result<TextBuf, AllocError>

@@ -42,6 +42,7 @@ pub fn evaluate_avt<K: KeyFinder, T: Tally>(
 }
 
 /// The text of a value template; fixed text alone is lent.
+#[inline(always)]
 pub fn lend_avt<'t, K: KeyFinder, T: Tally>(
     alloc: Global,
     parts: &'t [AvtPart],
@@ -66,6 +67,7 @@ pub fn lend_avt<'t, K: KeyFinder, T: Tally>(
 }
 
 // The text of a template that is fixed text alone.
+#[inline(always)]
 fn fixed_alone(parts: &[AvtPart]) -> Option<&str>
     ensures { IfSome result (λ text. parts.now ≡ Fixed text.now ∷ []) }
 {
@@ -76,6 +78,7 @@ fn fixed_alone(parts: &[AvtPart]) -> Option<&str>
 }
 
 // The texts of parts, one after another.
+#[inline(never)]
 fn evaluate_parts<K: KeyFinder, T: Tally>(
     alloc: Global,
     parts: &[AvtPart],

@@ -26,7 +26,7 @@ use Rattle.xs_sheet.specs.contracts.scoped.ScopedPattern as of_pattern
 use Rattle.xs_sheet.specs.contracts.scoped.ValueTemplate as of_value
 use Rattle.xs_sheet.specs.contracts.sheet.Sheet as of_sheet
 use Rattle.xs_trace.specs.contracts.event.Label as of_label
-use Rattle.xs_trace.specs.contracts.text.TextBuf as of_text
+use Rattle.xs_trace.proofs.SyncLemmas.{text_sync}
 use Rattle.xs_tree.specs.contracts.trees.Tree as of_tree
 use Rattle.xs_xpath.proofs.expr.Expr.TheLaws.TheKnot.{sync-Expr}
 use Rattle.xs_xpath.specs.contracts.expr.Expr as of_expr
@@ -34,9 +34,6 @@ use Rattle.xs_xpath.specs.contracts.expr.Expr as of_expr
 -- the tree, texts and names
 tree_sync : IsSync of_tree.the_row
 tree_sync = search (sendable, crosses, maps) depth 40 fits 20000
-
-text_sync : IsSync (of_text.the_field).row
-text_sync = search (sendable, crosses, maps) depth 40 fits 20000
 
 label_sync : IsSync (of_label.the_field).row
 label_sync = search (sendable, crosses, maps) depth 40 fits 20000

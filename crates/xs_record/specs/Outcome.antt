@@ -36,7 +36,7 @@ AreParts n [] = ⊥
 AreParts n (p ∷ []) = (p.hole ≡ None) × IsPacked (items_of p.items)
 AreParts n (p ∷ q ∷ ps) = (p.hole ≡ Some n) × (IsPacked (items_of p.items) × AreParts (suc n) (q ∷ ps))
 
--- the blocks of parts
+-- the blocks of a pool that parts hold
 abbrev pub part_blocks : List Part → ℕ
 part_blocks [] = 0
 part_blocks (p ∷ ps) = blocks_of p.items + part_blocks ps
