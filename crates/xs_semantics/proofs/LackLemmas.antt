@@ -6,10 +6,10 @@ use Rattle.std.specs.Str.{bytes_eq}
 use Rattle.xs_num.specs.Text.{number_in}
 use Rattle.xs_sheet.specs.declared.body.SortDecl.{SortDecl}
 use Rattle.xs_sheet.specs.declared.scoped.ValueTemplate.{ValueTemplate}
-use Rattle.xs_sort.specs.declared.keys.Direction.{Direction}
-use Rattle.xs_sort.specs.declared.keys.Direction.TheVariants.{Ascending, Descending}
-use Rattle.xs_sort.specs.declared.keys.Key.{Key}
-use Rattle.xs_sort.specs.declared.keys.Key.TheVariants.{Numeral}
+use Rattle.xs_order.specs.declared.keys.Direction.{Direction}
+use Rattle.xs_order.specs.declared.keys.Direction.TheVariants.{Ascending, Descending}
+use Rattle.xs_order.specs.declared.keys.Key.{Key}
+use Rattle.xs_order.specs.declared.keys.Key.TheVariants.{Numeral}
 use Rattle.xs_sort.specs.declared.orders.Order.{Order}
 use Rattle.xs_sort.specs.Sorting.{and_key, and_order, and_row, direction_in, in_turn, key_in, key_of, keys_of, order_in, order_of, orders_of, rows_of}
 use Rattle.xs_sort.specs.Sorting.{sorted, sorted_nodes, template_text, under}

@@ -1,7 +1,4 @@
--- Keys, InOrder and Sorting are what a reader has to believe; steps says what the code mirrors.
-pub mod Keys
-pub mod InOrder
+-- Sorting is what a reader has to believe; steps says what the code mirrors.
 pub mod Sorting
 pub mod Laws
-pub mod Rows
 pub mod steps

@@ -1,4 +1,2 @@
 -- What the code mirrors.
-pub mod Filled
-pub mod Front
 pub mod Given

@@ -9,10 +9,10 @@ ghost use Rattle.xs_sort.specs.steps.Given.{IsGiven};
 ghost use Rattle.xs_trace.specs.Play.{IsStep, IsStepBy};
 ghost use Rattle.xs_trace.specs.Run.{limited};
 
-use crate::keys::Direction;
 use std::alloc::Global;
 use xs_eval::context::Context;
 use xs_eval::templates::evaluate_avt;
+use xs_order::keys::Direction;
 use xs_sheet::body::SortDecl;
 use xs_sheet::scoped::ValueTemplate;
 use xs_trace::fault::Fault;

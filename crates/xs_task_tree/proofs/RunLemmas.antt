@@ -15,9 +15,9 @@ use Rattle.xs_eval.specs.Conditions.{IsContext, IsInIf}
 use Rattle.xs_eval.specs.Context.{Context}
 use Rattle.xs_eval.specs.Results.{given, nodes_in}
 use Rattle.xs_eval.proofs.AxisListLemmas.{axis-inside}
-use Rattle.xs_sort.specs.declared.keys.Key.{Key}
+use Rattle.xs_order.specs.declared.keys.Key.{Key}
 use Rattle.xs_sort.specs.declared.orders.Order.{Order}
-use Rattle.xs_sort.specs.InOrder.{in_order, insert}
+use Rattle.xs_order.specs.InOrder.{in_order, insert}
 use Rattle.xs_sort.specs.Sorting.{and_row, comes_before, in_turn, keys_of, orders_of, rows_of, sorted, sorted_nodes}
 use Rattle.xs_semantics.specs.declared.focus.Focus.{Focus}
 use Rattle.xs_semantics.specs.World.{World, applied_nodes, context, looped_nodes, nodes_or_children, nodes_run, sorted_run, value_run}

@@ -1,0 +1,4 @@
+mod FrontLemmas
+pub mod InOrderLemmas
+pub mod OrderLemmas
+mod ShiftLemmas

@@ -1,0 +1,7 @@
+-- Keys and InOrder are what a reader has to believe; steps says what the code mirrors.
+pub mod Keys
+pub mod InOrder
+pub mod Laws
+pub mod Rows
+pub mod Filled
+pub mod steps

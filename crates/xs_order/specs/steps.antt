@@ -1,0 +1,2 @@
+-- What the code mirrors.
+pub mod Front
