@@ -5,8 +5,7 @@ use xs_build::build_tree;
 use xs_making::{RecentLabels, copy_events};
 use xs_tree::{Node, Tree};
 
-/// How many events a copy of a node appends to a list that has those of another copy, if that is
-/// where they stand.
+/// How many events a copy of a node appends to a list that has those of another copy.
 fn appended(alloc: Global, tree: &Tree, node: Node, deep: bool) -> Result<usize, AllocError> {
     if node.place() as usize >= tree.len() {
         return Err(AllocError);

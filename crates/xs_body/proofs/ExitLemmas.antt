@@ -1,5 +1,7 @@
 -- Where a part ends a run, the step that begins with it ends it.
-use Rattle.std.proofs.Common.{◌≡◌, ◌||◌, ℕ, Bool, true, false, cond, Result, Ok, Err, refl, sym, subst, ap, ◌∙◌}
+use Rattle.std.proofs.Common.{◌≡◌, ◌==◌, ◌||◌, ℕ, List, [], ◌∷◌, length, Option, Some, Bool, true, false, cond, Result, Ok, Err, refl, sym, subst, ap, ◌∙◌}
+use Rattle.xs_sheet.specs.declared.body.Body.{Body}
+use Rattle.xs_sheet.specs.declared.body.LiteralStart.{LiteralStart}
 use Rattle.xs_trace.specs.State.{State}
 use Rattle.xs_trace.specs.Play.{Step, Goes, Told, and_then, IsStep, IsStepBy}
 use Rattle.xs_trace.specs.declared.item.Site.{Site}
@@ -8,8 +10,12 @@ use Rattle.xs_trace.proofs.GrowthLemmas.{Grows, passes, then-exit, goes-grows}
 use Rattle.xs_tree.specs.Kinds.{has_content, is_attribute_kind, is_text_kind}
 use Rattle.xs_tree.specs.Record.{Record, children}
 use Rattle.xs_semantics.specs.declared.focus.Focus.{Focus}
+use Rattle.xs_semantics.specs.declared.made.Made.{Made}
 use Rattle.xs_semantics.specs.Tasks.{Task, no_params}
-use Rattle.xs_body.specs.steps.Frames.{Evaluation, applied_begun, built_in_begun, chars_steps, stays}
+use Rattle.xs_body.specs.declared.frames.Scope.{Scope}
+use Rattle.xs_body.specs.steps.Frames.{Evaluation, applied_begun, attributes_left, built_in_begun, chars_steps, content_in, last, literal_inside, made_of}
+use Rattle.xs_body.specs.steps.Frames.{pushed, sets_works, stays}
+use Rattle.xs_body.specs.steps.Making.{attributes_steps, made_steps}
 
 -- what follows is a step of the evaluation
 pub stack-exit : {A C : Type 0} (view : C → A) (g : Step Task A) (f : A → State Task → Step Task Evaluation) (v : Evaluation) (m : State Task)
@@ -34,3 +40,26 @@ text-told mode p f r t v s m o a b e i =
     (cond (is_text_kind r.kind || is_attribute_kind r.kind) text (Goes t s))) a
     ∙ ap (λ (q : Bool). cond q text (Goes t s)) b in
     subst (λ (h : Step Task Evaluation). IsStepBy {A = Evaluation} {B = Unit {0}} (λ u. v) h o m) (sym k) (stays-told (chars_steps p r.text s) t v m o e i)
+
+-- what is made of the text of content
+pub made-text-told : (g : Step Task (Option (List ℕ))) (found : Option (List ℕ)) (text : List ℕ) (m : Made) (body : Body) (p : Site) (c : Scope)
+    (t v : Evaluation) (n k : State Task) (r : Result (Unit {0}) Halt) → g ≡ Goes found n → found ≡ Some text → v ≡ t → IsStep (made_steps m text p n) r k →
+    IsStepBy {A = Evaluation} {B = Unit {0}} (λ u. v) (and_then g (λ x q. made_of x m body p c t q)) r k
+made-text-told g found text m body p c t v n k r e is same told =
+    subst (λ (h : Step Task (Option (List ℕ))). IsStepBy {A = Evaluation} {B = Unit {0}} (λ u. v) (and_then h (λ x q. made_of x m body p c t q)) r k)
+    (sym e)
+    (subst (λ (o : Option (List ℕ)). IsStepBy {A = Evaluation} {B = Unit {0}} (λ u. v) (made_of o m body p c t n) r k) (sym is)
+    (stays-told (made_steps m text p n) t v k r same told))
+
+-- the attributes of a literal element without sets
+pub inside-told : (start : LiteralStart) (body : Body) (p : Site) (c : Scope) (t mid v : Evaluation) (s m : State Task) (r : Result (Unit {0}) Halt) →
+    (length start.sets == 0) ≡ true → mid ≡ content_in body c t → v ≡ mid →
+    IsStep (attributes_steps mid.world p c.focus (last c.seen mid.slots) start.attributes s) r m →
+    IsStepBy {A = Evaluation} {B = Unit {0}} (λ u. v) (literal_inside start body p c t s) r m
+inside-told start body p c t mid v s m r none is same told =
+    let g : Told Task = attributes_steps t.world p c.focus (last c.seen t.slots) start.attributes s in
+    let w : Evaluation = content_in body c t in
+    let own : IsStep g r m = subst (λ (e : Evaluation). IsStep (attributes_steps e.world p c.focus (last c.seen e.slots) start.attributes s) r m) is told in
+    subst (λ (b : Bool). IsStepBy {A = Evaluation} {B = Unit {0}} (λ u. v)
+    (cond b (stays g w) (Goes (pushed (sets_works start.sets c.focus) (pushed (attributes_left start.attributes p c ∷ []) w)) s)) r m) (sym none)
+    (stays-told g w v m r (same ∙ is) own)

@@ -1,23 +1,26 @@
 -- What was told stays at the beginning of what is told, in each step.
-use Rattle.std.proofs.Common.{ℕ, ◌==◌, ◌||◌, drop, length, List, [], ◌∷◌, ◌++◌, map, Option, Some, None, Bool, true, false, cond, refl}
+use Rattle.std.proofs.Common.{ℕ, ◌/◌, ◌==◌, ◌||◌, drop, length, List, [], ◌∷◌, ◌++◌, map, Option, Some, None, Bool, true, false, cond, refl}
 use Rattle.xs_sheet.specs.declared.body.Body.{Body}
 use Rattle.xs_sheet.specs.declared.body.Binding.{Binding}
 use Rattle.xs_sheet.specs.declared.body.Content.{Content}
 use Rattle.xs_sheet.specs.declared.body.Content.TheVariants.{Empty, Select, Body as Fragment}
+use Rattle.xs_sheet.specs.declared.body.Instr.{Instr}
 use Rattle.xs_sheet.specs.declared.body.InstrKind.{InstrKind, Variable'}
 use Rattle.xs_sheet.specs.declared.body.InstrKind.TheVariants.{ApplyTemplates, CallTemplate, ApplyImports, ForEach, ValueOf, CopyOf, Copy, Number, Choose, If}
 use Rattle.xs_sheet.specs.declared.body.InstrKind.TheVariants.{Text, Element, Attribute, Comment, Pi, Message, Literal, Extension}
+use Rattle.xs_sheet.specs.declared.body.LiteralStart.{LiteralStart}
 use Rattle.xs_sheet.specs.declared.scoped.ScopedExpr.{ScopedExpr}
 use Rattle.xs_trace.specs.Cut.{Fault}
 use Rattle.xs_trace.specs.Label.{Label}
 use Rattle.xs_trace.specs.Mark.{Hole, Trace}
 use Rattle.xs_trace.specs.Run.{limited}
 use Rattle.xs_trace.specs.State.{State, opened, popped, top}
-use Rattle.xs_trace.specs.Play.{Step, Goes, Told, and_then, goes, ticked, put, put_at, said_at, stops, play}
+use Rattle.xs_trace.specs.Play.{Step, Goes, Told, and_then, goes, ticked, ticked_by, put, put_at, said_at, stops, play}
+use Rattle.xs_trace.specs.declared.event.Event.TheVariants as event
 use Rattle.xs_trace.specs.declared.event.Event.TheVariants.{Start, Chars, End}
 use Rattle.xs_trace.specs.declared.fault.Fault.TheVariants as fault
 use Rattle.xs_trace.specs.declared.item.Site.{Site}
-use Rattle.xs_trace.proofs.GrowthLemmas.{Grows, same, grows-then, stops-grow, goes-grows, ticked-grows, put-grows, put_at-grows, said_at-grows, play-grows}
+use Rattle.xs_trace.proofs.GrowthLemmas.{Grows, same, grows-then, stops-grow, goes-grows, by-grows, ticked-grows, put-grows, put_at-grows, said_at-grows, play-grows}
 use Rattle.xs_trace.proofs.RunLemmas.{limited-grows}
 use Rattle.xs_tree.specs.Kinds.{has_content, is_attribute_kind, is_text_kind}
 use Rattle.xs_tree.specs.Record.{Record, at, children}
@@ -25,6 +28,7 @@ use Rattle.xs_value.specs.declared.value.Value.{Value}
 use Rattle.xs_value.specs.declared.value.Value.TheVariants.{Chars as String}
 use Rattle.xs_value.specs.Conversion.{fragment_text}
 use Rattle.xs_making.specs.Copies.{shallow_copy}
+use Rattle.xs_making.specs.Texts.{comment_text, instruction_text}
 use Rattle.xs_sets.specs.Indexed.{declarations_in}
 use Rattle.xs_semantics.specs.declared.focus.Focus.{Focus}
 use Rattle.xs_semantics.specs.declared.made.Made.{Made}
@@ -40,10 +44,12 @@ use Rattle.xs_semantics.specs.Trace.{instrs_trace, literal_attributes, params_tr
 use Rattle.xs_body.specs.steps.Frames.{Work, rest, fill, each_left, apply_left, bodies_left, end_element, sets_left, declared_left, attributes_left}
 use Rattle.xs_body.specs.steps.Frames.{make, say, pass, take_value, params_left, Evaluation, last}
 use Rattle.xs_body.specs.steps.Frames.{inner, over, bindings_of, instrs_of, bodies_of, chosen, all_bodies, without, filled, ended}
-use Rattle.xs_body.specs.steps.Frames.{copied_begun, copy_of_steps, element_put, in_template, inside_begun, made_begun, sets_works}
-use Rattle.xs_body.specs.steps.Making.{copy_steps, literal_steps, made_at, name_steps, target_steps}
-use Rattle.xs_making.specs.steps.Putting.{events_steps}
-use Rattle.xs_body.proofs.MakingLemmas.{copies-grow, literal-grows, name-grows, target-grows}
+use Rattle.xs_body.specs.steps.Frames.{content_in, copied_begun, copy_of_steps, element_put, in_template, inside_begun, literal_inside}
+use Rattle.xs_body.specs.steps.Frames.{lone_by, lone_steps, made_begun, made_of, selected_text}
+use Rattle.xs_body.specs.steps.Making.{attributes_steps, copy_steps, fixed_text, literal_steps, made_at, made_steps, name_steps, selected, target_steps}
+use Rattle.xs_body.specs.steps.Making.{text_ticked}
+use Rattle.xs_making.specs.Putting.{events_steps}
+use Rattle.xs_body.proofs.MakingLemmas.{attributes-grow, copies-grow, literal-grows, name-grows, named-grows, target-grows}
 use Rattle.xs_making.proofs.PutLemmas.{events-grow}
 use Rattle.xs_semantics.specs.Trace.{calls_at}
 use Rattle.xs_body.specs.steps.Frames.{message_steps, message_ended, fragment_at, passing_left, work_steps, stack_steps, pushed, filled_up, stays}
@@ -169,8 +175,46 @@ number-grows decl p c t s =
 pub element-grows : (name : Label) (sets : List Label) (body : Body) (c : Scope) (t : Evaluation) → Grows (element_put name sets body c t)
 element-grows name sets body c t = then-goes-grow (put (Start name)) (λ u. inside_begun sets body c t) (put-grows (Start name))
 
+pub text_ticked-grows : {H : Type 0} → (p : Site) (text : List ℕ) → Grows {H = H} (text_ticked p text)
+text_ticked-grows p text = then-goes-grow (ticked_by (length text / 256) p) (λ u. Some text) (by-grows (length text / 256) p)
+
+pub selected_text-grows : (select : ScopedExpr) (p : Site) (c : Scope) (t : Evaluation) → Grows (selected_text select p c t)
+selected_text-grows select p c t s =
+    grows-then s (limited p (text_run t.world select c.focus (last c.seen t.slots)) s) (λ text m. text_ticked p text m) (limited-grows p _ s)
+    (text_ticked-grows p)
+
+lone_by-grows : (text : Option (List ℕ)) (select : Option ScopedExpr) (p : Site) (c : Scope) (t : Evaluation) → Grows (lone_by text select p c t)
+lone_by-grows (Some text) select p c t = λ s. grows-then s (ticked p s) (λ u m. text_ticked p text m) (ticked-grows p s) (λ u. text_ticked-grows p text)
+lone_by-grows None (Some select) p c t = λ s.
+    grows-then s (ticked p s) (λ u m. selected_text select p c t m) (ticked-grows p s) (λ u. selected_text-grows select p c t)
+lone_by-grows None None p c t = goes-grows None
+
+pub lone-grows : (is : List Instr) (c : Scope) (t : Evaluation) → Grows (lone_steps is c t)
+lone-grows [] c t = goes-grows None
+lone-grows (i ∷ []) c t = lone_by-grows (fixed_text i.kind) (selected i.kind) i.site c t
+lone-grows (i ∷ j ∷ is) c t = goes-grows None
+
+made_steps-grow : (m : Made) (text : List ℕ) (p : Site) → Grows {H = Task} (made_steps m text p)
+made_steps-grow (made.Attribute name) text p = named-grows p name text
+made_steps-grow made.Comment text p = put_at-grows p (event.Comment (comment_text text))
+made_steps-grow (made.Instruction target) text p = put_at-grows p (event.Pi target (instruction_text text))
+
+pub made_of-grows : (text : Option (List ℕ)) (m : Made) (body : Body) (p : Site) (c : Scope) (t : Evaluation) → Grows (made_of text m body p c t)
+made_of-grows None m body p c t = opened-grows _
+made_of-grows (Some text) m body p c t = stays-grow (made_steps m text p) t (made_steps-grow m text p)
+
 pub made-grows : (m : Made) (body : Body) (p : Site) (c : Scope) (t : Evaluation) → Grows (made_begun m body p c t)
-made-grows m body p c t = opened-grows _
+made-grows m body p c t s =
+    grows-then s (lone_steps (instrs_of body) c t s) (λ text n. made_of text m body p c t n) (lone-grows (instrs_of body) c t s)
+    (λ text. made_of-grows text m body p c t)
+
+-- what is in a literal element
+pub literal_inside-grows : (start : LiteralStart) (body : Body) (p : Site) (c : Scope) (t : Evaluation) → Grows (literal_inside start body p c t)
+literal_inside-grows start body p c t =
+    if-grows (length start.sets == 0) (λ s. stays (attributes_steps t.world p c.focus (last c.seen t.slots) start.attributes s) (content_in body c t)) (Goes _)
+    (stays-grow (attributes_steps t.world p c.focus (last c.seen t.slots) start.attributes) (content_in body c t)
+    (attributes-grow t.world p c.focus (last c.seen t.slots) start.attributes))
+    (goes-grows _)
 
 copy-grows : (select : ScopedExpr) (p : Site) (c : Scope) (t : Evaluation) → Grows (copy_of_steps select p c t)
 copy-grows select p c t s =
@@ -211,10 +255,9 @@ begun-grows (Pi name body) p c t = λ s.
     (target-grows t.world p c.focus (last c.seen t.slots) name s) (λ target. made-grows (made.Instruction target) body p c t)
 begun-grows (Message terminate body) p c t = opened-grows _
 begun-grows (Variable' site name content) p c t = content-grows content p c t
-begun-grows (Literal start body) p c t =
-    then-goes-grow (literal_steps t.world.sheet.aliases p start)
-    (λ u. pushed (sets_works start.sets c.focus) (pushed (attributes_left start.attributes p c ∷ rest (instrs_of body) (inner c) ∷ end_element ∷ []) t))
-    (literal-grows t.world.sheet.aliases p start)
+begun-grows (Literal start body) p c t = λ s.
+    grows-then s (literal_steps t.world.sheet.aliases p start s) (λ u m. literal_inside start body p c t m) (literal-grows t.world.sheet.aliases p start s)
+    (λ u. literal_inside-grows start body p c t)
 begun-grows (Extension fallbacks) p c t = fallbacks-grow (bodies_of fallbacks) p c t
 
 filled-grows : (x : Trace Task) (vs : List Value) → Grows (filled x vs)

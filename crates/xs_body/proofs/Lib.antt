@@ -2,6 +2,7 @@ pub mod SlotLemmas
 pub mod RowLemmas
 pub mod MakingLemmas
 pub mod SetLemmas
+pub mod AloneLemmas
 pub mod GrowthLemmas
 pub mod ExitLemmas
 pub mod ChildLemmas

@@ -40,7 +40,7 @@ use Rattle.xs_semantics.specs.Making.{made_events, space_events, target_run, tex
 use Rattle.xs_semantics.specs.Tasks.{Task}
 use Rattle.xs_semantics.specs.Trace.{begins, literal_attributes, puts, puts_all}
 use Rattle.xs_body.specs.steps.Making.{attribute_steps, attributes_steps, chars_steps, copy_steps, depth_after, literal_steps, made_at}
-use Rattle.xs_making.specs.steps.Putting.{events_steps}
+use Rattle.xs_making.specs.Putting.{events_steps}
 use Rattle.xs_body.specs.steps.Making.{halted, is_declaration, is_unbound, made_ended, made_steps, name_steps, named_steps, namespace_steps, nodes_steps}
 use Rattle.xs_body.specs.steps.Making.{outcome_steps, space_steps, spaces_steps, target_steps, text_added}
 
@@ -69,13 +69,16 @@ named-told p name value s = by_test (is_declaration name)
     by_test true = refl
     by_test false = event-told p (event.Attr name value) s
 
-made-told : (m : Made) (text : List ℕ) (p : Site) (s : State Task) → made_steps m text p s ≡ events_steps p (made_events m text) s
-made-told (made.Attribute name) text p s = named-told p name text s
-made-told made.Comment text p s = event-told p (event.Comment (comment_text text)) s
-made-told (made.Instruction target) text p s = event-told p (event.Pi target (instruction_text text)) s
+made-put : (m : Made) (text : List ℕ) (p : Site) (s : State Task) → made_steps m text p s ≡ events_steps p (made_events m text) s
+made-put (made.Attribute name) text p s = named-told p name text s
+made-put made.Comment text p s = event-told p (event.Comment (comment_text text)) s
+made-put (made.Instruction target) text p s = event-told p (event.Pi target (instruction_text text)) s
+
+pub made-told : (m : Made) (text : List ℕ) (p : Site) (s : State Task) → made_steps m text p s ≡ play (puts_all p (made_events m text)) s
+made-told m text p s = made-put m text p s ∙ events-told p (made_events m text) s
 
 pub ended-told : (m : Made) (p : Site) (s : State Task) → made_ended m p s ≡ play (puts_all p (made_at m s)) (popped s)
-ended-told m p s = made-told m (content_text (top s.captures)) p (popped s) ∙ events-told p (made_at m s) (popped s)
+ended-told m p s = made-told m (content_text (top s.captures)) p (popped s)
 
 text-told : (p : Site) (t : List ℕ) (s : State Task) → chars_steps p t s ≡ events_steps p (text_events t) s
 text-told p [] s = refl

@@ -1,5 +1,5 @@
 -- A step tells the beginning of what the stack stands for, and leaves the rest to be done: by cases, without an induction.
-use Rattle.std.proofs.Common.{◌≡◌, ℕ, zero, suc, ◌+◌, ◌-◌, ◌==◌, ◌||◌, drop, length, List, [], ◌∷◌, ◌++◌, map, slice_get, Option, Some, None, Bool, true}
+use Rattle.std.proofs.Common.{◌≡◌, ℕ, zero, suc, ◌+◌, ◌-◌, ◌/◌, ◌==◌, ◌||◌, drop, length, List, [], ◌∷◌, ◌++◌, map, slice_get, Option, Some, None, Bool, true}
 use Rattle.std.proofs.Common.{false, cond, refl, sym, ap, ◌∙◌, arith}
 use Rattle.std.proofs.lemmas.Bool.Decides.{nat_tests}
 use Rattle.xs_sheet.specs.declared.body.Binding.{Binding}
@@ -12,16 +12,18 @@ use Rattle.xs_sheet.specs.declared.body.Instr.{Instr}
 use Rattle.xs_sheet.specs.declared.body.InstrKind.{InstrKind, Variable'}
 use Rattle.xs_sheet.specs.declared.body.InstrKind.TheVariants.{ApplyTemplates, CallTemplate, ApplyImports, ForEach, ValueOf, CopyOf, Copy, Number, Choose, If}
 use Rattle.xs_sheet.specs.declared.body.InstrKind.TheVariants.{Text, Element, Attribute, Comment, Pi, Message, Literal, Extension}
+use Rattle.xs_sheet.specs.declared.body.LiteralStart.{LiteralStart}
 use Rattle.xs_sheet.specs.declared.body.Passed.{Passed}
 use Rattle.xs_sheet.specs.declared.body.When.{When', out-When}
 use Rattle.xs_sheet.specs.declared.declarations.AttrSet.{AttrSet}
 use Rattle.xs_sheet.specs.declared.declarations.Template.{Template}
+use Rattle.xs_sheet.specs.declared.scoped.ScopedExpr.{ScopedExpr}
 use Rattle.xs_trace.specs.Cut.{Fault}
 use Rattle.xs_trace.specs.Label.{Label}
 use Rattle.xs_trace.specs.Mark.{Tick, Put, Stop, Hole, Trace, ◌⨾◌, captured}
 use Rattle.xs_trace.specs.Run.{Run, Gives, give, limited, evaluated}
 use Rattle.xs_trace.specs.State.{State, opened, popped, top}
-use Rattle.xs_trace.specs.Play.{Step, Goes, Told, and_then, goes, ticked, put, put_at, stops, play}
+use Rattle.xs_trace.specs.Play.{Step, Goes, Told, and_then, goes, ticked, ticked_by, put, put_at, stops, play}
 use Rattle.xs_trace.specs.declared.event.Event.{Event}
 use Rattle.xs_trace.specs.declared.event.Event.TheVariants.{Start, Chars, End}
 use Rattle.xs_trace.specs.declared.fault.Fault.TheVariants as fault
@@ -44,7 +46,7 @@ use Rattle.xs_body.specs.declared.frames.Scope.{Scope}
 use Rattle.xs_semantics.specs.World.{World, all_set_levels, at_node, in_list, captured_in, with_levels, by_rule, without_rule}
 use Rattle.xs_semantics.specs.World.{applied_nodes, looped_nodes, test_run, text_run, value_run}
 use Rattle.xs_semantics.specs.Numbers.{number_run}
-use Rattle.xs_semantics.specs.Making.{content_text, made_events, name_run, target_run, value_events}
+use Rattle.xs_semantics.specs.Making.{content_text, made_events, name_run, target_run, text_events, value_events}
 use Rattle.xs_semantics.specs.Tasks.{Params, no_params, value_passed, Job, body_job, rules_job, Task, tasks_for, grain_over}
 use Rattle.xs_semantics.specs.Rules.{rule_for, import_for}
 use Rattle.xs_semantics.specs.Trace.{Entry, named, fitting, overridden, using, Calls, each, spread_by, spread, applied, Called, by_number, by_rules}
@@ -58,12 +60,14 @@ use Rattle.xs_body.specs.steps.Frames.{without, inner, outer, over, captured_sco
 use Rattle.xs_body.specs.steps.Frames.{all_bodies, chosen_of, chosen, filled, ended, message_steps, message_ended, fragment_at}
 use Rattle.xs_body.specs.steps.Frames.{passing_left, work_steps, stack_steps, stack_told, pushed, slots_are, filled_up, stays, chars_steps}
 use Rattle.xs_body.specs.steps.Frames.{run_by, run_begun, applied_begun, template_begun, built_in_begun, rule_begun, entry_begun, entering}
-use Rattle.xs_body.specs.steps.Frames.{declaration_begun, sets_works, inside_begun, copied_begun, element_put, made_begun}
+use Rattle.xs_body.specs.steps.Frames.{content_in, declaration_begun, declared_begun, declared_works, sets_left_works, sets_works, inside_begun}
+use Rattle.xs_body.specs.steps.Frames.{copied_begun, element_put, literal_inside, lone_by, lone_steps, made_begun, made_of, selected_text}
 use Rattle.xs_body.specs.steps.Frames.{call_begun, imports_begun, content_begun, passes_on, pass_begun, params_first, param_begun, fallbacks_begun}
-use Rattle.xs_body.specs.steps.Frames.{begun, advanced, rest_works}
-use Rattle.xs_body.specs.steps.Making.{attributes_steps, copy_steps, literal_steps, made_at, made_ended}
-use Rattle.xs_making.specs.steps.Putting.{events_steps}
-use Rattle.xs_body.proofs.MakingLemmas.{attributes-told, copy-told, ended-told as made-ended, events-told, literal-told, name-told, target-told}
+use Rattle.xs_body.specs.steps.Frames.{begun, advanced, rest_works, value_steps}
+use Rattle.xs_body.specs.steps.Making.{attributes_steps, copy_steps, fixed_text, literal_steps, made_at, made_ended, made_steps, selected, text_ticked}
+use Rattle.xs_making.specs.Putting.{events_steps}
+use Rattle.xs_body.proofs.AloneLemmas.{content-alone, opened-run, opened-text, opened-tick}
+use Rattle.xs_body.proofs.MakingLemmas.{attributes-told, copy-told, ended-told as made-ended, events-told, literal-told, made-told, name-told, target-told}
 use Rattle.xs_body.proofs.SetLemmas.{served}
 use Rattle.xs_body.proofs.SlotLemmas.{last-more, without-more, last-none, without-none, more-none}
 use Rattle.xs_body.proofs.RowLemmas.{body-instrs, passing-bindings, fallbacks-bodies, fallback_trace}
@@ -181,14 +185,26 @@ inside body c t s =
     ap (λ y. Then y t s) (body-instrs body t.world (calls_at t.world c.focus) c.focus (last c.seen t.slots))
     ∙ ap (λ vs. Then x (slots_are vs t) s) (sym (without-none t.slots)) ∙ behind x (without 0 t.slots) t s
 
+-- a body at its end, without values of its own, is nothing to be done
+end-same : (n : ℕ) (c : Scope) (t : Evaluation) (s : State Task) →
+    Go (slots_are (without n t.slots) t) s ≡ Go (pushed (cond (n == 0) [] (rest [] (record { focus = c.focus; seen = c.seen; own = n }) ∷ [])) t) s
+end-same zero c t s = ap (λ vs. Go (slots_are vs t) s) (without-none t.slots)
+end-same (suc n) c t s =
+    let q : (suc n == 0) ≡ false = grind (arith, nat_tests) in
+    ap (λ b. Go (pushed (cond b [] (rest [] (record { focus = c.focus; seen = c.seen; own = suc n }) ∷ [])) t) s) (sym q)
+
+rest-same : (is : List Instr) (c : Scope) (t : Evaluation) (s : State Task) → Go (pushed (rest is c ∷ []) t) s ≡ Go (pushed (rest_works is c) t) s
+rest-same [] c t s = end-same c.own c t s
+rest-same (i ∷ is) c t s = refl
+
 -- a body, and then the end of its element
 inside-ends : (body : Body) (c : Scope) (t : Evaluation) (s : State Task) →
-    Then (body_trace body t.world (calls_at t.world c.focus) c.focus (last c.seen t.slots) ⨾ Put End ∷ []) t s
-    ≡ Go (pushed (rest (instrs_of body) (inner c) ∷ end_element ∷ []) t) s
+    Then (body_trace body t.world (calls_at t.world c.focus) c.focus (last c.seen t.slots) ⨾ Put End ∷ []) t s ≡ Go (content_in body c t) s
 inside-ends body c t s =
     let x : Trace Task = body_trace body t.world (calls_at t.world c.focus) c.focus (last c.seen t.slots) in
     twice x (Put End ∷ []) t.slots end_element t s (λ m. sym (then-then (put End m) (λ u n. goes n) (λ u n. Goes t.slots n)))
     ∙ inside body c (pushed (end_element ∷ []) t) s
+    ∙ rest-same (instrs_of body) (inner c) (pushed (end_element ∷ []) t) s
 
 -- captured content, and the works behind it, which take what it put
 captures : (body : Body) (c : Scope) (h : List Event → Trace Task) (v t : Evaluation) (s : State Task) →
@@ -334,23 +350,55 @@ drop-front (d ∷ ds) zero = refl
 drop-front (d ∷ ds) (suc i) =
     let e : suc (i + 1) ≡ suc i + 1 = omega arith in drop-front ds i ∙ ap (λ n. front (slice_get ds i) (drop n (d ∷ ds))) e
 
+-- the declarations of a set from a place on, if there is one at that place
+declared-same : (name : Label) (i : ℕ) (f : Focus) (t : Evaluation) (s : State Task) →
+    Go (pushed (declared_left name i f ∷ []) t) s ≡ Go (pushed (declared_works (slice_get (declarations_in t.world.index name) i) name i f) t) s
+declared-same name i f t s = by_place (slice_get ds i) refl
+  where
+    ds : List AttrSet
+    ds = declarations_in t.world.index name
+
+    by_place : (o : Option AttrSet) → slice_get ds i ≡ o →
+        Go (pushed (declared_left name i f ∷ []) t) s ≡ Go (pushed (declared_works (slice_get ds i) name i f) t) s
+    by_place None e =
+        ap (λ xs. and_then (filled (declared_trace xs t.world (calls_at t.world f) f) t.slots s) (λ us m. stack_steps t.world t.works us m))
+        (drop-front ds i ∙ ap (λ o. front o (drop (i + 1) ds)) e)
+        ∙ ap (λ o. Go (pushed (declared_works o name i f) t) s) (sym e)
+    by_place (Some d) e = ap (λ o. Go (pushed (declared_works o name i f) t) s) (sym e)
+
 declaration-begins : (o : Option AttrSet) (name : Label) (i : ℕ) (f : Focus) (t : Evaluation) (s : State Task) →
     Then (declared_trace (front o (drop (i + 1) (declarations_in t.world.index name))) t.world (calls_at t.world f) f) t s
-    ≡ Go (declaration_begun o name i f t) s
+    ≡ Go (declaration_begun o (slice_get (declarations_in t.world.index name) (i + 1)) name i f t) s
 declaration-begins None name i f t s = refl
 declaration-begins (Some d) name i f t s =
     let w : World = t.world in
+    let ds : List AttrSet = declarations_in w.index name in
     let x : Trace Task = calls_at w f (using d.sets) d.site f in
     let own : Trace Task = instrs_trace d.attributes w (calls_at w f) f [] in
-    let y : Trace Task = declared_trace (drop (i + 1) (declarations_in w.index name)) w (calls_at w f) f in
-    let u : Evaluation = pushed (declared_left name (i + 1) f ∷ []) t in
-    let v : Evaluation = pushed (rest d.attributes (outer f) ∷ declared_left name (i + 1) f ∷ []) t in
+    let y : Trace Task = declared_trace (drop (i + 1) ds) w (calls_at w f) f in
+    let u : Evaluation = pushed (declared_works (slice_get ds (i + 1)) name (i + 1) f) t in
+    let v : Evaluation = pushed (rest d.attributes (outer f) ∷ []) u in
     twice (x ⨾ own) y t.slots (declared_left name (i + 1) f) t s (λ m. refl)
+    ∙ then-same (play (x ⨾ own) s) (λ q m. Go (pushed (declared_left name (i + 1) f ∷ []) t) m) (λ q m. Go u m) (λ q m. declared-same name (i + 1) f t m)
     ∙ followed x own u v s (λ m.
     ap (λ vs. Then (instrs_trace d.attributes w (calls_at w f) f vs) u m) (sym (last-none t.slots))
     ∙ ap (λ vs. Then (instrs_trace d.attributes w (calls_at w f) f (last 0 t.slots)) (slots_are vs u) m) (sym (without-none t.slots))
     ∙ behind (instrs_trace d.attributes w (calls_at w f) f (last 0 t.slots)) (without 0 t.slots) u m)
     ∙ sets-begin d.sets d.site f v s
+
+declarations-begin : (name : Label) (i : ℕ) (f : Focus) (t : Evaluation) (s : State Task) →
+    Then (declared_trace (drop i (declarations_in t.world.index name)) t.world (calls_at t.world f) f) t s ≡ Go (declared_begun name i f t) s
+declarations-begin name i f t s =
+    let ds : List AttrSet = declarations_in t.world.index name in
+    ap (λ xs. Then (declared_trace xs t.world (calls_at t.world f) f) t s) (drop-front ds i) ∙ declaration-begins (slice_get ds i) name i f t s
+
+-- the sets that are left, if there are any
+sets-same : (names : List Label) (f : Focus) (t : Evaluation) (s : State Task) →
+    Go (pushed (sets_left names f ∷ []) t) s ≡ Go (pushed (sets_left_works names f) t) s
+sets-same [] f t s = refl
+sets-same (name ∷ names) f t s =
+    let q : (length (name ∷ names) == 0) ≡ false = grind (arith, nat_tests) in
+    ap (λ b. Go (pushed (cond b [] (sets_left (name ∷ names) f ∷ [])) t) s) (sym q)
 
 -- what is in an element, after the attributes of sets
 inside-begins : (sets : List Label) (p : Site) (body : Body) (c : Scope) (t : Evaluation) (s : State Task) →
@@ -358,10 +406,45 @@ inside-begins : (sets : List Label) (p : Site) (body : Body) (c : Scope) (t : Ev
     ⨾ (body_trace body t.world (calls_at t.world c.focus) c.focus (last c.seen t.slots) ⨾ Put End ∷ [])) t s
     ≡ Go (inside_begun sets body c t) s
 inside-begins sets p body c t s =
-    let u : Evaluation = pushed (rest (instrs_of body) (inner c) ∷ end_element ∷ []) t in
+    let u : Evaluation = content_in body c t in
     followed (calls_at t.world c.focus (using sets) p c.focus)
     (body_trace body t.world (calls_at t.world c.focus) c.focus (last c.seen t.slots) ⨾ Put End ∷ []) t u s (λ m. inside-ends body c t m)
     ∙ sets-begin sets p c.focus u s
+
+-- what is in a literal element
+literal-begins : (start : LiteralStart) (p : Site) (body : Body) (c : Scope) (t : Evaluation) (s : State Task) →
+    Then (calls_at t.world c.focus (using start.sets) p c.focus ⨾ (literal_attributes start.attributes p t.world c.focus (last c.seen t.slots)
+    ⨾ (body_trace body t.world (calls_at t.world c.focus) c.focus (last c.seen t.slots) ⨾ Put End ∷ []))) t s
+    ≡ and_then (literal_inside start body p c t s) Go
+literal-begins start p body c t s =
+    followed sets (attributes ⨾ x) t v s (λ m. followed attributes x t u m (λ q. inside-ends body c t q) ∙ behind attributes u.slots u m)
+    ∙ sets-begin start.sets p c.focus v s
+    ∙ by_test (length start.sets == 0)
+  where
+    x : Trace Task
+    x = body_trace body t.world (calls_at t.world c.focus) c.focus (last c.seen t.slots) ⨾ Put End ∷ []
+
+    attributes : Trace Task
+    attributes = literal_attributes start.attributes p t.world c.focus (last c.seen t.slots)
+
+    sets : Trace Task
+    sets = calls_at t.world c.focus (using start.sets) p c.focus
+
+    u : Evaluation
+    u = content_in body c t
+
+    v : Evaluation
+    v = pushed (attributes_left start.attributes p c ∷ []) u
+
+    own : Told Task
+    own = attributes_steps t.world p c.focus (last c.seen t.slots) start.attributes s
+
+    used : List Work
+    used = cond (c.focus.set_levels == 0) [] (sets_left start.sets (with_levels c.focus.depth (c.focus.set_levels - 1) c.focus) ∷ [])
+
+    by_test : (b : Bool) → Go (pushed (cond b [] used) v) s ≡ and_then (cond b (stays own u) (Goes (pushed (cond b [] used) v) s)) Go
+    by_test true = sym (behind attributes u.slots u s) ∙ alone attributes own u s (attributes-told t.world p c.focus (last c.seen t.slots) start.attributes s)
+    by_test false = refl
 
 copied-begins : (kind : Kind) (sets : List Label) (p : Site) (body : Body) (c : Scope) (t : Evaluation) (s : State Task) →
     Then (copied_content kind sets (calls_at t.world c.focus) p c.focus (body_trace body t.world (calls_at t.world c.focus) c.focus (last c.seen t.slots))) t s
@@ -379,14 +462,6 @@ copied-begins kind sets p body c t s = by_element (is_element_kind kind)
         ≡ Go (cond q (inside_begun sets body c t) (cond (is_root_kind kind) (pushed (rest (instrs_of body) (inner c) ∷ []) t) t)) s
     by_element true = inside-begins sets p body c t s
     by_element false = by_root (is_root_kind kind)
-
--- what is made of captured content
-made-begins : (m : Made) (body : Body) (p : Site) (c : Scope) (t : Evaluation) (s : State Task) →
-    Then (makes m p (body_trace body t.world (calls_at t.world c.focus) (captured_in c.focus) (last c.seen t.slots))) t s
-    ≡ and_then (made_begun m body p c t s) Go
-made-begins m body p c t s =
-    captures body c (λ es. puts_all p (made_events m (content_text es))) t (pushed (make m p ∷ []) t) s
-    (λ q. behind (puts_all p (made_at m q)) t.slots t (popped q))
 
 call-begins : (callee : Called) (ps : Params) (p : Site) (f : Focus) (t : Evaluation) (s : State Task) →
     Then (called_with t.world (calls_at t.world f) callee ps p f) t s ≡ and_then (call_begun callee ps p f t s) Go
@@ -464,18 +539,6 @@ fallbacks-begin : (bs : List Body) (p : Site) (c : Scope) (t : Evaluation) (s : 
 fallbacks-begin [] p c t s = refl
 fallbacks-begin (b ∷ bs) p c t s = behind (all_bodies (b ∷ bs) t.world (calls_at t.world c.focus) c.focus (last c.seen t.slots)) t.slots t s
 
--- a body at its end, without values of its own, is nothing to be done
-end-same : (n : ℕ) (c : Scope) (t : Evaluation) (s : State Task) →
-    Go (slots_are (without n t.slots) t) s ≡ Go (pushed (cond (n == 0) [] (rest [] (record { focus = c.focus; seen = c.seen; own = n }) ∷ [])) t) s
-end-same zero c t s = ap (λ vs. Go (slots_are vs t) s) (without-none t.slots)
-end-same (suc n) c t s =
-    let q : (suc n == 0) ≡ false = grind (arith, nat_tests) in
-    ap (λ b. Go (pushed (cond b [] (rest [] (record { focus = c.focus; seen = c.seen; own = suc n }) ∷ [])) t) s) (sym q)
-
-rest-same : (is : List Instr) (c : Scope) (t : Evaluation) (s : State Task) → Go (pushed (rest is c ∷ []) t) s ≡ Go (pushed (rest_works is c) t) s
-rest-same [] c t s = end-same c.own c t s
-rest-same (i ∷ is) c t s = refl
-
 -- an instruction, and what is left of its body, which works tell
 joined : (x : Trace Task) (is : List Instr) (c : Scope) (t : Evaluation) (s : State Task) →
     Then (x ⨾ instrs_trace is t.world (calls_at t.world c.focus) c.focus (last c.seen t.slots)) (slots_are (without c.own t.slots) t) s
@@ -490,6 +553,126 @@ nothing : (is : List Instr) (c : Scope) (t : Evaluation) (s : State Task) →
     Then (instrs_trace is t.world (calls_at t.world c.focus) c.focus (last c.seen t.slots)) (slots_are (without c.own t.slots) t) s ≡ Go
     (pushed (rest_works is (more 0 c)) t) s
 nothing is c t s = joined [] is c t s
+
+-- a text, and the string of an expression
+text-begins : (text : List ℕ) (p : Site) (is : List Instr) (c : Scope) (t : Evaluation) (s : State Task) →
+    Then (instr_trace (Text text) p t.world (calls_at t.world c.focus) c.focus (last c.seen t.slots)
+    (instrs_trace is t.world (calls_at t.world c.focus) c.focus)) (slots_are (without c.own t.slots) t) s
+    ≡ and_then (stays (chars_steps p text s) (pushed (rest_works is (more 0 c)) t)) Go
+text-begins text p is c t s = joined (chars p text) is c t s ∙ alone (chars p text) (chars_steps p text s) (pushed (rest_works is (more 0 c)) t) s
+    (chars-told p text s)
+
+value-begins : (select : ScopedExpr) (p : Site) (is : List Instr) (c : Scope) (t : Evaluation) (s : State Task) →
+    Then (instr_trace (ValueOf select) p t.world (calls_at t.world c.focus) c.focus (last c.seen t.slots)
+    (instrs_trace is t.world (calls_at t.world c.focus) c.focus)) (slots_are (without c.own t.slots) t) s
+    ≡ and_then (stays (value_steps select p c t s) (pushed (rest_works is (more 0 c)) t)) Go
+value-begins select p is c t s =
+    let u : Evaluation = pushed (rest_works is (more 0 c)) t in
+    let r : Run (List ℕ) = text_run t.world select c.focus (last c.seen t.slots) in
+    joined (evaluated p r (chars p)) is c t s
+    ∙ alone (evaluated p r (chars p)) (and_then (limited p r s) (λ text m. chars_steps p text m)) u s
+    (then-same (limited p r s) (λ text m. chars_steps p text m) (λ text m. play (chars p text) m) (λ text m. chars-told p text m) ∙ sym
+    (play-evaluated p r (chars p) s))
+
+-- what is made of captured content
+captured-begins : (m : Made) (body : Body) (p : Site) (c : Scope) (t : Evaluation) (s : State Task) →
+    Then (makes m p (body_trace body t.world (calls_at t.world c.focus) (captured_in c.focus) (last c.seen t.slots))) t s
+    ≡ Go (pushed (rest (instrs_of body) (captured_scope c) ∷ make m p ∷ []) t) (opened s)
+captured-begins m body p c t s =
+    captures body c (λ es. puts_all p (made_events m (content_text es))) t (pushed (make m p ∷ []) t) s
+    (λ q. behind (puts_all p (made_at m q)) t.slots t (popped q))
+
+-- what is made of a text, once its ticks are told
+made-text : (m : Made) (p q : Site) (text : List ℕ) (body : Body) (c : Scope) (t : Evaluation) (s : State Task) →
+    and_then (chars_steps q text (opened s)) (λ u n. Go (pushed (make m p ∷ []) t) n)
+    ≡ and_then (text_ticked q text s) (λ found n. and_then (made_of found m body p c t n) Go)
+made-text m p q text body c t s =
+    let made : List ℕ → Trace Task = λ xs. puts_all p (made_events m xs) in
+    let at_end : List Event → State Task → Told Task = λ es n. Then (made (content_text es)) t n in
+    then-same (chars_steps q text (opened s)) (λ u n. Go (pushed (make m p ∷ []) t) n) (λ u n. at_end (top n.captures) (popped n))
+    (λ u n. sym (behind (puts_all p (made_at m n)) t.slots t (popped n)))
+    ∙ opened-text q text at_end s
+    ∙ then-same (ticked_by (length text / 256) q s) (λ u n. at_end (text_events text) n) (λ u n. and_then (stays (made_steps m text p n) t) Go) (λ u n.
+    ap (λ xs. Then (made xs) t n) (content-alone text) ∙ alone (made text) (made_steps m text p n) t n (made-told m text p n))
+    ∙ sym (then-then (ticked_by (length text / 256) q s) (λ u n. Goes (Some text) n) (λ found n. and_then (made_of found m body p c t n) Go))
+
+-- content of one instruction that puts a text, and what is made of it
+made-alone : (m : Made) (p q : Site) (body : Body) (c : Scope) (t : Evaluation) (g : State Task → Told Task)
+    (h : State Task → Step Task (Option (List ℕ))) (s : State Task) →
+    ((n : State Task) → and_then (g (opened n)) (λ u o. Go (pushed (make m p ∷ []) t) o)
+    ≡ and_then (h n) (λ found o. and_then (made_of found m body p c t o) Go)) →
+    and_then (and_then (ticked q (opened s)) (λ u n. stays (g n) (pushed (make m p ∷ []) t))) Go
+    ≡ and_then (and_then (and_then (ticked q s) (λ u n. h n)) (λ found n. made_of found m body p c t n)) Go
+made-alone m p q body c t g h s e =
+    let v : Evaluation = pushed (make m p ∷ []) t in
+    let next : Option (List ℕ) → State Task → Step Task Evaluation = λ found n. made_of found m body p c t n in
+    let all : Step Task (Option (List ℕ)) = and_then (ticked q s) (λ u n. h n) in
+    then-then (ticked q (opened s)) (λ u n. stays (g n) v) Go
+    ∙ opened-tick q (λ u n. and_then (stays (g n) v) Go) s
+    ∙ then-same (ticked q s) (λ u n. and_then (stays (g (opened n)) v) Go) (λ u n. and_then (h n) (λ found o. and_then (next found o) Go)) (λ u n.
+    then-then (g (opened n)) (λ u o. Goes v o) Go ∙ e n)
+    ∙ sym (then-then (ticked q s) (λ u n. h n) (λ found o. and_then (next found o) Go))
+    ∙ sym (then-then all next Go)
+
+-- what is made of content that is one instruction, by its kind
+lone-begins : (kind : InstrKind) (q : Site) (m : Made) (body : Body) (p : Site) (c : Scope) (t : Evaluation) (s : State Task) →
+    instrs_of body ≡ record { site = q; kind = kind } ∷ [] →
+    Go (pushed (rest (instrs_of body) (captured_scope c) ∷ make m p ∷ []) t) (opened s)
+    ≡ and_then (and_then (lone_by (fixed_text kind) (selected kind) q c t s) (λ found n. made_of found m body p c t n)) Go
+lone-begins (Text text) q m body p c t s is =
+    let v : Evaluation = pushed (make m p ∷ []) t in
+    let d : Scope = captured_scope c in
+    let x : Trace Task = instr_trace (Text text) q t.world (calls_at t.world d.focus) d.focus (last d.seen v.slots)
+    (instrs_trace [] t.world (calls_at t.world d.focus) d.focus) in
+    ap (λ xs. Go (pushed (rest xs d ∷ []) v) (opened s)) is
+    ∙ sym (behind (Tick q ∷ x) (without 0 v.slots) v (opened s))
+    ∙ ticks q x (slots_are (without 0 v.slots) v) v (λ n. stays (chars_steps q text n) v) (opened s) (λ n. text-begins text q [] d v n)
+    ∙ made-alone m p q body c t (λ n. chars_steps q text n) (λ n. text_ticked q text n) s (λ n. made-text m p q text body c t n)
+lone-begins (ValueOf select) q m body p c t s is =
+    let v : Evaluation = pushed (make m p ∷ []) t in
+    let d : Scope = captured_scope c in
+    let x : Trace Task = instr_trace (ValueOf select) q t.world (calls_at t.world d.focus) d.focus (last d.seen v.slots)
+    (instrs_trace [] t.world (calls_at t.world d.focus) d.focus) in
+    let r : Run (List ℕ) = text_run t.world select c.focus (last c.seen t.slots) in
+    let told : Option (List ℕ) → State Task → Told Task = λ found o. and_then (made_of found m body p c t o) Go in
+    ap (λ xs. Go (pushed (rest xs d ∷ []) v) (opened s)) is
+    ∙ sym (behind (Tick q ∷ x) (without 0 v.slots) v (opened s))
+    ∙ ticks q x (slots_are (without 0 v.slots) v) v (λ n. stays (value_steps select q d v n) v) (opened s) (λ n. value-begins select q [] d v n)
+    ∙ made-alone m p q body c t (λ n. value_steps select q d v n) (λ n. selected_text select q c t n) s (λ n.
+    then-then (limited q r (opened n)) (λ text o. chars_steps q text o) (λ u o. Go v o)
+    ∙ opened-run q r (λ text o. and_then (chars_steps q text o) (λ u i. Go v i)) n
+    ∙ then-same (limited q r n) (λ text o. and_then (chars_steps q text (opened o)) (λ u i. Go v i)) (λ text o. and_then (text_ticked q text o) told)
+    (λ text o. made-text m p q text body c t o)
+    ∙ sym (then-then (limited q r n) (λ text o. text_ticked q text o) told))
+lone-begins (ApplyTemplates nodes passed) q m body p c t s is = refl
+lone-begins (CallTemplate i passed) q m body p c t s is = refl
+lone-begins ApplyImports q m body p c t s is = refl
+lone-begins (ForEach select sorts x) q m body p c t s is = refl
+lone-begins (CopyOf select) q m body p c t s is = refl
+lone-begins (Copy sets x) q m body p c t s is = refl
+lone-begins (Number decl) q m body p c t s is = refl
+lone-begins (Choose choice) q m body p c t s is = refl
+lone-begins (If test x) q m body p c t s is = refl
+lone-begins (Element name sets x) q m body p c t s is = refl
+lone-begins (Attribute name x) q m body p c t s is = refl
+lone-begins (Comment x) q m body p c t s is = refl
+lone-begins (Pi name x) q m body p c t s is = refl
+lone-begins (Message terminate x) q m body p c t s is = refl
+lone-begins (Variable' site name content) q m body p c t s is = refl
+lone-begins (Literal start x) q m body p c t s is = refl
+lone-begins (Extension fallbacks) q m body p c t s is = refl
+
+made-begins : (m : Made) (body : Body) (p : Site) (c : Scope) (t : Evaluation) (s : State Task) →
+    Then (makes m p (body_trace body t.world (calls_at t.world c.focus) (captured_in c.focus) (last c.seen t.slots))) t s
+    ≡ and_then (made_begun m body p c t s) Go
+made-begins m body p c t s = captured-begins m body p c t s ∙ by_content (instrs_of body) refl
+  where
+    by_content : (is : List Instr) → instrs_of body ≡ is →
+        Go (pushed (rest (instrs_of body) (captured_scope c) ∷ make m p ∷ []) t) (opened s)
+        ≡ and_then (and_then (lone_steps is c t s) (λ text n. made_of text m body p c t n)) Go
+    by_content [] e = refl
+    by_content (i ∷ []) e = lone-begins i.kind i.site m body p c t s e
+    by_content (i ∷ j ∷ is) e = refl
 
 -- each kind of instruction
 begins-so : (kind : InstrKind) (p : Site) (is : List Instr) (c : Scope) (t : Evaluation) (s : State Task) →
@@ -521,13 +704,7 @@ begins-so (ForEach select sorts body) p is c t s =
     ∙ brings p (looped_nodes t.world select sorts c.focus vs) h u
     (λ ns m. run_begun (body_job body vs) p (f ns) ns (each_left body p (over (f ns) c) 1 ns) u m) s (λ ns m.
     runs (body_job body vs) p (λ g. body_trace body t.world (calls_at t.world c.focus) g vs) (f ns) ns (each_left body p (over (f ns) c) 1 ns) u m (λ n. refl))
-begins-so (ValueOf select) p is c t s =
-    let u : Evaluation = pushed (rest_works is (more 0 c)) t in
-    let r : Run (List ℕ) = text_run t.world select c.focus (last c.seen t.slots) in
-    joined (evaluated p r (chars p)) is c t s
-    ∙ alone (evaluated p r (chars p)) (and_then (limited p r s) (λ text m. chars_steps p text m)) u s
-    (then-same (limited p r s) (λ text m. chars_steps p text m) (λ text m. play (chars p text) m) (λ text m. chars-told p text m) ∙ sym
-    (play-evaluated p r (chars p) s))
+begins-so (ValueOf select) p is c t s = value-begins select p is c t s
 begins-so (CopyOf select) p is c t s =
     let u : Evaluation = pushed (rest_works is (more 0 c)) t in
     let r : Run Value = value_run t.world select c.focus (last c.seen t.slots) in
@@ -570,8 +747,7 @@ begins-so (If test body) p is c t s =
     let h : Bool → Trace Task = λ b. cond b (body_trace body t.world (calls_at t.world c.focus) c.focus (last c.seen t.slots)) [] in
     joined (evaluated p r h) is c t s ∙ brings p r h u (λ b m. Goes (pushed (cond b (rest (instrs_of body) (inner c) ∷ []) []) u) m) s
     (λ b m. if-begins b body c u m)
-begins-so (Text text) p is c t s = joined (chars p text) is c t s ∙ alone (chars p text) (chars_steps p text s) (pushed (rest_works is (more 0 c)) t) s
-    (chars-told p text s)
+begins-so (Text text) p is c t s = text-begins text p is c t s
 begins-so (Element name sets body) p is c t s =
     let u : Evaluation = pushed (rest_works is (more 0 c)) t in
     let r : Run Label = name_run t.world false name c.focus (last c.seen t.slots) in
@@ -617,18 +793,13 @@ begins-so (Literal start body) p is c t s =
     let u : Evaluation = pushed (rest_works is (more 0 c)) t in
     let x : Trace Task = body_trace body t.world (calls_at t.world c.focus) c.focus (last c.seen t.slots) ⨾ Put End ∷ [] in
     let attributes : Trace Task = literal_attributes start.attributes p t.world c.focus (last c.seen t.slots) in
-    let sets : Trace Task = calls_at t.world c.focus (using start.sets) p c.focus in
-    let y : Trace Task = sets ⨾ (attributes ⨾ x) in
+    let y : Trace Task = calls_at t.world c.focus (using start.sets) p c.focus ⨾ (attributes ⨾ x) in
     let z : Trace Task = begins t.world start p in
-    let v : Evaluation = pushed (rest (instrs_of body) (inner c) ∷ end_element ∷ []) u in
-    let v_all : Evaluation = pushed (attributes_left start.attributes p c ∷ rest (instrs_of body) (inner c) ∷ end_element ∷ []) u in
     joined (z ⨾ y) is c t s
     ∙ ap (λ g. and_then g (λ q m. Go u m)) (play-then z y s)
     ∙ ap (λ g. and_then (and_then g (λ q m. play y m)) (λ q m. Go u m)) (sym (literal-told t.world p start s))
-    ∙ before (literal_steps t.world.sheet.aliases p start s) (λ m. play y m) (λ q m. Go u m)
-    (λ m. Goes (pushed (sets_works start.sets c.focus) v_all) m) Go (λ m.
-    followed sets (attributes ⨾ x) u v_all m (λ n. followed attributes x u v n (λ q. inside-ends body c u q) ∙ behind attributes v.slots v n)
-    ∙ sets-begin start.sets p c.focus v_all m)
+    ∙ before (literal_steps t.world.sheet.aliases p start s) (λ m. play y m) (λ q m. Go u m) (λ m. literal_inside start body p c u m) Go
+    (λ m. literal-begins start p body c u m)
 begins-so (Extension fallbacks) p is c t s =
     let u : Evaluation = pushed (rest_works is (more 0 c)) t in
     joined (fallbacks_trace fallbacks p t.world (calls_at t.world c.focus) c.focus (last c.seen t.slots)) is c t s
@@ -673,16 +844,14 @@ advances (sets_left [] f) t index s = refl
 advances (sets_left (name ∷ names) f) t index s =
     let x : Trace Task = declared_trace (declarations_of t.world.sheet.sets name) t.world (calls_at t.world f) f in
     let y : Trace Task = sets_trace names t.world (calls_at t.world f) f in
-    let u : Evaluation = pushed (sets_left names f ∷ []) t in
+    let u : Evaluation = pushed (sets_left_works names f) t in
     sym (behind (x ⨾ y) t.slots t s)
     ∙ twice x y t.slots (sets_left names f) t s (λ m. refl)
+    ∙ then-same (play x s) (λ q m. Go (pushed (sets_left names f ∷ []) t) m) (λ q m. Go u m) (λ q m. sets-same names f t m)
     ∙ ap (λ z. Then z u s) (served t.world index f name)
-    ∙ behind (declared_trace (declarations_in t.world.index name) t.world (calls_at t.world f) f) u.slots u s
+    ∙ declarations-begin name 0 f u s
 advances (declared_left name i f) t index s =
-    let ds : List AttrSet = declarations_in t.world.index name in
-    sym (behind (declared_trace (drop i ds) t.world (calls_at t.world f) f) t.slots t s)
-    ∙ ap (λ xs. Then (declared_trace xs t.world (calls_at t.world f) f) t s) (drop-front ds i)
-    ∙ declaration-begins (slice_get ds i) name i f t s
+    sym (behind (declared_trace (drop i (declarations_in t.world.index name)) t.world (calls_at t.world f) f) t.slots t s) ∙ declarations-begin name i f t s
 advances (attributes_left xs p c) t index s =
     let x : Trace Task = literal_attributes xs p t.world c.focus (last c.seen t.slots) in
     sym (behind x t.slots t s)

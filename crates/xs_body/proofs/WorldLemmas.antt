@@ -7,6 +7,7 @@ use Rattle.xs_sheet.specs.declared.body.Content.TheVariants.{Empty, Select, Body
 use Rattle.xs_sheet.specs.declared.body.InstrKind.{InstrKind, Variable'}
 use Rattle.xs_sheet.specs.declared.body.InstrKind.TheVariants.{ApplyTemplates, CallTemplate, ApplyImports, ForEach, ValueOf, CopyOf, Copy, Number, Choose, If}
 use Rattle.xs_sheet.specs.declared.body.InstrKind.TheVariants.{Text, Element, Attribute, Comment, Pi, Message, Literal, Extension}
+use Rattle.xs_sheet.specs.declared.body.LiteralStart.{LiteralStart}
 use Rattle.xs_sheet.specs.declared.declarations.AttrSet.{AttrSet}
 use Rattle.xs_sheet.specs.declared.declarations.Template.{Template}
 use Rattle.xs_trace.specs.Cut.{Fault}
@@ -26,6 +27,7 @@ use Rattle.xs_value.specs.declared.value.Value.{Value}
 use Rattle.xs_value.specs.declared.value.Value.TheVariants.{Chars as String}
 use Rattle.xs_sets.specs.Indexed.{declarations_in}
 use Rattle.xs_semantics.specs.declared.focus.Focus.{Focus}
+use Rattle.xs_semantics.specs.declared.made.Made.{Made}
 use Rattle.xs_semantics.specs.declared.made.Made.TheVariants as made
 use Rattle.xs_semantics.specs.World.{World, at_node, in_list, by_rule, value_run, looped_nodes, test_run, applied_nodes}
 use Rattle.xs_semantics.specs.Tasks.{Params, no_params, value_passed, Job, body_job, rules_job, Task, tasks_for, grain_over}
@@ -39,10 +41,10 @@ use Rattle.xs_body.specs.steps.Frames.{chars_steps, run_by, applied_begun, templ
 use Rattle.xs_body.specs.steps.Frames.{entering, call_begun}
 use Rattle.xs_body.specs.steps.Frames.{imports_begun, content_begun, passes_on, pass_begun, params_first, fragment_at, param_begun}
 use Rattle.xs_body.specs.steps.Frames.{fallbacks_begun, next_body, looping, loop_begun, number_steps, value_steps, begun}
-use Rattle.xs_body.specs.steps.Frames.{advanced, copied_begun, copy_of_steps, declaration_begun, element_put, in_template, inside_begun, made_begun}
-use Rattle.xs_body.specs.steps.Frames.{rest_works, sets_begun, sets_works}
-use Rattle.xs_body.specs.steps.Making.{attributes_steps, literal_steps, made_ended, name_steps, target_steps}
-use Rattle.xs_making.specs.steps.Putting.{events_steps}
+use Rattle.xs_body.specs.steps.Frames.{advanced, content_in, copied_begun, copy_of_steps, declaration_begun, declared_begun, element_put, in_template}
+use Rattle.xs_body.specs.steps.Frames.{inside_begun, literal_inside, lone_steps, made_begun, made_of, rest_works, sets_begun, sets_left_works, sets_works}
+use Rattle.xs_body.specs.steps.Making.{attributes_steps, literal_steps, made_ended, made_steps, name_steps, target_steps}
+use Rattle.xs_making.specs.Putting.{events_steps}
 
 abbrev Keeps : World → Step Task Evaluation → Type 0
 Keeps w (Goes u m) = u.world ≡ w
@@ -157,13 +159,35 @@ copied-keeps kind sets body c t = by_element (is_element_kind kind)
     by_element true = refl
     by_element false = by_root (is_root_kind kind)
 
+declaration-keeps : (here after : Option AttrSet) (name : Label) (i : ℕ) (f : Focus) (t : Evaluation) →
+    (declaration_begun here after name i f t).world ≡ t.world
+declaration-keeps None after name i f t = refl
+declaration-keeps (Some s) after name i f t = refl
+
+declared-keep : (name : Label) (i : ℕ) (f : Focus) (t : Evaluation) → (declared_begun name i f t).world ≡ t.world
+declared-keep name i f t =
+    let ds : List AttrSet = declarations_in t.world.index name in declaration-keeps (slice_get ds i) (slice_get ds (i + 1)) name i f t
+
 sets-keep : (names : List Label) (f : Focus) (t : Evaluation) → (sets_begun names f t).world ≡ t.world
 sets-keep [] f t = refl
-sets-keep (name ∷ names) f t = refl
+sets-keep (name ∷ names) f t = declared-keep name 0 f (pushed (sets_left_works names f) t)
 
-declaration-keeps : (o : Option AttrSet) (name : Label) (i : ℕ) (f : Focus) (t : Evaluation) → (declaration_begun o name i f t).world ≡ t.world
-declaration-keeps None name i f t = refl
-declaration-keeps (Some s) name i f t = refl
+made_of-keeps : (text : Option (List ℕ)) (m : Made) (body : Body) (p : Site) (c : Scope) (t : Evaluation) (s : State Task) →
+    Keeps t.world (made_of text m body p c t s)
+made_of-keeps None m body p c t s = refl
+made_of-keeps (Some text) m body p c t s = stays-keeps (made_steps m text p s) t
+
+made-keeps : (m : Made) (body : Body) (p : Site) (c : Scope) (t : Evaluation) (s : State Task) → Keeps t.world (made_begun m body p c t s)
+made-keeps m body p c t s =
+    then-keeps t.world (lone_steps (instrs_of body) c t s) (λ text n. made_of text m body p c t n) (λ text n. made_of-keeps text m body p c t n)
+
+literal-keeps : (start : LiteralStart) (body : Body) (p : Site) (c : Scope) (t : Evaluation) (s : State Task) →
+    Keeps t.world (literal_inside start body p c t s)
+literal-keeps start body p c t s =
+    let g : Told Task = attributes_steps t.world p c.focus (last c.seen t.slots) start.attributes s in
+    let v : Evaluation = content_in body c t in
+    if-keeps t.world (length start.sets == 0) (stays g v)
+    (Goes (pushed (sets_works start.sets c.focus) (pushed (attributes_left start.attributes p c ∷ []) v)) s) (stays-keeps g v) refl
 
 begun-keeps : (kind : InstrKind) (p : Site) (c : Scope) (t : Evaluation) (s : State Task) → Keeps t.world (begun kind p c t s)
 begun-keeps (ApplyTemplates nodes passed) p c t s =
@@ -190,17 +214,16 @@ begun-keeps (Element name sets body) p c t s =
     (λ label m. brings-keeps t (put (Start label) m) (λ u. inside_begun sets body c t) (λ u. refl))
 begun-keeps (Attribute name body) p c t s =
     then-keeps t.world (name_steps t.world p c.focus (last c.seen t.slots) true name s) (λ label m. made_begun (made.Attribute label) body p c t m)
-    (λ label m. refl)
-begun-keeps (Comment body) p c t s = refl
+    (λ label m. made-keeps (made.Attribute label) body p c t m)
+begun-keeps (Comment body) p c t s = made-keeps made.Comment body p c t s
 begun-keeps (Pi name body) p c t s =
     then-keeps t.world (target_steps t.world p c.focus (last c.seen t.slots) name s) (λ target m. made_begun (made.Instruction target) body p c t m)
-    (λ target m. refl)
+    (λ target m. made-keeps (made.Instruction target) body p c t m)
 begun-keeps (Message terminate body) p c t s = refl
 begun-keeps (Variable' site name content) p c t s = content-keeps content p c t s
 begun-keeps (Literal start body) p c t s =
-    brings-keeps t (literal_steps t.world.sheet.aliases p start s)
-    (λ u. pushed (sets_works start.sets c.focus) (pushed (attributes_left start.attributes p c ∷ rest (instrs_of body) (inner c) ∷ end_element ∷ []) t))
-    (λ u. refl)
+    then-keeps t.world (literal_steps t.world.sheet.aliases p start s) (λ u m. literal_inside start body p c t m)
+    (λ u m. literal-keeps start body p c t m)
 begun-keeps (Extension fallbacks) p c t s = fallbacks-keep (bodies_of fallbacks) p c t s
 
 advanced-keeps : (b : Work) (t : Evaluation) (s : State Task) → Keeps t.world (advanced b t s)
@@ -218,7 +241,7 @@ advanced-keeps (apply_left mode ps p f i (n ∷ ns)) t s =
 advanced-keeps (bodies_left bodies c) t s = bodies-keep bodies c t
 advanced-keeps end_element t s = stays-keeps (put End s) t
 advanced-keeps (sets_left names f) t s = sets-keep names f t
-advanced-keeps (declared_left name i f) t s = declaration-keeps (slice_get (declarations_in t.world.index name) i) name i f t
+advanced-keeps (declared_left name i f) t s = declared-keep name i f t
 advanced-keeps (attributes_left xs p c) t s = stays-keeps (attributes_steps t.world p c.focus (last c.seen t.slots) xs s) t
 advanced-keeps (make m p) t s = stays-keeps (made_ended m p s) t
 advanced-keeps (say p terminate) t s = stays-keeps (message_ended p terminate s) t

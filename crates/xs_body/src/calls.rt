@@ -28,6 +28,7 @@ use xs_value::value::Value;
 
 impl<'a, K: Finder> Evaluator<'a, K> {
     /// A call begins with its parameters.
+    #[inline(always)]
     pub(crate) fn begin_call<R: Recorder<Task = Task<'a>>>(
         &mut self,
         passed: &'a PassedParams,
@@ -235,6 +236,7 @@ impl<'a, K: Finder> Evaluator<'a, K> {
     }
 
     /// What is called begins, with these parameters.
+    #[inline(always)]
     fn call_with<R: Recorder<Task = Task<'a>>>(
         &mut self,
         passed: Passed<'a>,

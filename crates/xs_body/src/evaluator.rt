@@ -277,6 +277,7 @@ impl<'a, K: Finder> Evaluator<'a, K> {
     }
 
     /// Whether its value as a boolean is true (9.1, 9.2).
+    #[inline(always)]
     pub(crate) fn holds<T: Tally>(
         &self,
         expr: &ScopedExpr,
@@ -320,6 +321,7 @@ impl<'a, K: Finder> Evaluator<'a, K> {
     }
 
     /// The text of a value template, lent by the stylesheet where it is fixed (7.6.2).
+    #[inline(always)]
     pub(crate) fn lend_template<'t, T: Tally>(
         &self,
         template: &'t ValueTemplate,

@@ -20,6 +20,7 @@ use xs_trace::recorder::{Halt, Recorder, say_message};
 
 impl<'a, K: Finder> Evaluator<'a, K> {
     /// What an instruction does after its own tick, before what is left of its body.
+    #[inline(always)]
     pub(crate) fn begin<R: Recorder<Task = Task<'a>>>(
         &mut self,
         kind: &'a InstrKind,

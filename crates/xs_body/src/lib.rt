@@ -14,6 +14,7 @@ mod instructions;
 pub mod laws;
 mod lists;
 mod literals;
+mod lone;
 mod making;
 mod numbers;
 pub mod passed;

@@ -1,6 +1,6 @@
 //! What is put of literal elements (XSLT 1.0, 7.1.1).
 
-ghost use Rattle.std.specs.Prelude.{◌≡◌, IfOk};
+ghost use Rattle.std.specs.Prelude.{◌≡◌, ◌==◌, length, IfOk};
 ghost use Rattle.std.specs.Option.{option_map_or};
 ghost use Rattle.xs_body.specs.steps.Making.{is_declaration, is_unbound, literal_steps};
 ghost use Rattle.xs_body.specs.steps.Making.{named_steps, space_steps, spaces_steps};
@@ -31,6 +31,13 @@ pub(crate) fn put_literal_start<R: Recorder>(
     let name = element_label(aliases, &start.name, texts)?;
     put_event(recorder, site, Event::Start(name))?;
     put_spaces(aliases, start.spaces.as_slice(), site, texts, recorder)
+}
+
+/// Whether a literal element has no attribute sets.
+pub(crate) fn has_no_sets(start: &LiteralStart) -> bool
+    ensures { result ≡ (length start.now.sets == 0) }
+{
+    start.sets.as_slice().is_empty()
 }
 
 /// Puts namespace nodes.

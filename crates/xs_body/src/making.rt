@@ -1,9 +1,11 @@
 //! Elements, attributes, comments and processing instructions (XSLT 1.0, 7.1, 7.3 and 7.4).
 
 ghost use Rattle.std.specs.Prelude.{◌≡◌, ◌<◌, ◌∷◌, [], length, OnOk};
-ghost use Rattle.xs_body.specs.steps.Frames.{attribute_begun, element_put, inside_begun};
+ghost use Rattle.xs_body.specs.steps.Frames.{attribute_begun, captured_begun, content_in};
+ghost use Rattle.xs_body.specs.steps.Frames.{element_put, inside_begun, literal_inside};
 ghost use Rattle.xs_body.specs.steps.Frames.{instruction_begun, last, literal_begun, made_begun};
 ghost use Rattle.xs_body.specs.steps.Making.{attribute_steps, attributes_steps, halted};
+ghost use Rattle.xs_body.specs.steps.Making.{literal_steps};
 ghost use Rattle.xs_body.specs.steps.Making.{made_ended, name_steps, namespace_steps};
 ghost use Rattle.xs_body.specs.steps.Making.{target_steps};
 ghost use Rattle.xs_making.specs.Names.{result_name};
@@ -13,7 +15,7 @@ ghost use Rattle.xs_trace.specs.Play.{IsStep, IsStepBy};
 use crate::contents::{content_text, put_made};
 use crate::evaluator::Evaluator;
 use crate::frames::{AttributesLeft, Frame, Scope};
-use crate::literals::{attribute_label, put_attribute, put_literal_start};
+use crate::literals::{attribute_label, has_no_sets, put_attribute, put_literal_start};
 use crate::task::Task;
 use std::alloc::AllocError;
 use xs_making::{MakeEnd, RecentLabels, pi_target, result_name};
@@ -43,10 +45,47 @@ impl<'a, K: Finder> Evaluator<'a, K> {
             (R.state recorder.old)) result (R.state recorder.new) }
         ensures kept { R.kept recorder.new ≡ R.kept recorder.old }
     {
+        self.put_start(start, site, recorder)?;
+        self.begin_inside(start, body, site, scope, recorder)
+    }
+
+    /// Puts the start of a literal element and its namespace nodes (7.1.1).
+    fn put_start<R: Recorder<Task = Task<'a>>>(
+        &mut self,
+        start: &LiteralStart,
+        site: Site,
+        recorder: &mut R,
+    ) -> Result<(), Halt>
+        ensures told { IsStep (literal_steps self.old.world.sheet.aliases site start.now
+            (R.state recorder.old)) result (R.state recorder.new) }
+        ensures kept { R.kept recorder.new ≡ R.kept recorder.old }
+        ensures same { self.new ≡ self.old }
+    {
         let aliases = self.sheet.aliases.as_slice();
-        put_literal_start(aliases, start, site, &mut self.texts, recorder)?;
-        self.push(Frame::End)?;
-        self.push_body(body, scope.inner())?;
+        put_literal_start(aliases, start, site, &mut self.texts, recorder)
+    }
+
+    /// What is in a literal element begins: the attributes of its sets and its own, and then its
+    /// content. Where there are no sets, its own are put at once.
+    #[inline(always)]
+    fn begin_inside<R: Recorder<Task = Task<'a>>>(
+        &mut self,
+        start: &'a LiteralStart,
+        body: &'a Body,
+        site: Site,
+        scope: Scope,
+        recorder: &mut R,
+    ) -> Result<(), Halt>
+        requires node { scope.focus.node < length self.old.world.tree }
+        ensures told { IsStepBy (λ u. self.new)
+            (literal_inside start.now body.now site scope self.old
+            (R.state recorder.old)) result (R.state recorder.new) }
+        ensures kept { R.kept recorder.new ≡ R.kept recorder.old }
+    {
+        self.push_content(body, scope)?;
+        if has_no_sets(start) {
+            return self.put_own(start, site, scope, recorder);
+        }
         self.push(Frame::Attributes(AttributesLeft {
             attributes: start.attributes.as_slice(),
             site,
@@ -54,6 +93,38 @@ impl<'a, K: Finder> Evaluator<'a, K> {
         }))?;
         self.push_sets(start.sets.as_slice(), scope.focus)?;
         Ok(())
+    }
+
+    /// Puts the attributes of a literal element at once.
+    fn put_own<R: Recorder<Task = Task<'a>>>(
+        &mut self,
+        start: &'a LiteralStart,
+        site: Site,
+        scope: Scope,
+        recorder: &mut R,
+    ) -> Result<(), Halt>
+        requires node { scope.focus.node < length self.old.world.tree }
+        ensures told { IsStep (attributes_steps self.old.world site scope.focus
+            (last scope.seen self.old.slots) start.now.attributes (R.state recorder.old))
+            result (R.state recorder.new) }
+        ensures kept { R.kept recorder.new ≡ R.kept recorder.old }
+        ensures same { self.new ≡ self.old }
+    {
+        let left = AttributesLeft {
+            attributes: start.attributes.as_slice(),
+            site,
+            scope,
+        };
+        self.put_attributes(left, recorder)
+    }
+
+    /// Puts the content of an element and its end before what else is to be done.
+    fn push_content(&mut self, body: &'a Body, scope: Scope) -> Result<(), AllocError>
+        requires node { scope.focus.node < length self.old.world.tree }
+        ensures pushed { OnOk result (self.new ≡ content_in body.now scope self.old) }
+    {
+        self.push(Frame::End)?;
+        self.push_rest(body.instrs.as_slice(), scope.inner())
     }
 
     /// Puts the attributes of a literal element, in their order (7.1.1).
@@ -130,8 +201,7 @@ impl<'a, K: Finder> Evaluator<'a, K> {
         ensures begun { OnOk result
             (self.new ≡ inside_begun sets.now body.now scope self.old) }
     {
-        self.push(Frame::End)?;
-        self.push_body(body, scope.inner())?;
+        self.push_content(body, scope)?;
         self.push_sets(sets, scope.focus)
     }
 
@@ -173,7 +243,7 @@ impl<'a, K: Finder> Evaluator<'a, K> {
         self.begin_made(Made::Instruction(target), body, site, scope, recorder)
     }
 
-    /// The content begins of what is made of its text.
+    /// The content begins of what is made of its text. Where it is one text, that is put at once.
     pub(crate) fn begin_made<R: Recorder<Task = Task<'a>>>(
         &mut self,
         made: Made,
@@ -185,6 +255,29 @@ impl<'a, K: Finder> Evaluator<'a, K> {
         requires node { scope.focus.node < length self.old.world.tree }
         ensures told { IsStepBy (λ u. self.new)
             (made_begun made body.now site scope self.old
+            (R.state recorder.old)) result (R.state recorder.new) }
+        ensures kept { R.kept recorder.new ≡ R.kept recorder.old }
+    {
+        let found = self.lone_text(body, scope, recorder)?;
+        match found {
+            Some(text) => put_made(self.alloc, made, text, site, recorder),
+            None => self.begin_captured(made, body, site, scope, recorder),
+        }
+    }
+
+    /// The content begins of what is made of its text, which is captured.
+    #[inline(never)]
+    fn begin_captured<R: Recorder<Task = Task<'a>>>(
+        &mut self,
+        made: Made,
+        body: &'a Body,
+        site: Site,
+        scope: Scope,
+        recorder: &mut R,
+    ) -> Result<(), Halt>
+        requires node { scope.focus.node < length self.old.world.tree }
+        ensures told { IsStepBy (λ u. self.new)
+            (captured_begun made body.now site scope self.old
             (R.state recorder.old)) result (R.state recorder.new) }
         ensures kept { R.kept recorder.new ≡ R.kept recorder.old }
     {
@@ -211,6 +304,7 @@ impl<'a, K: Finder> Evaluator<'a, K> {
     }
 
     /// The name that an instruction makes: its text, then its namespace (7.1.2, 7.1.3).
+    #[inline(always)]
     pub(crate) fn made_name<R: Recorder<Task = Task<'a>>>(
         &mut self,
         name: &MadeName,
@@ -251,6 +345,7 @@ impl<'a, K: Finder> Evaluator<'a, K> {
     }
 
     /// The namespace that is given for a name, if one is.
+    #[inline(always)]
     fn namespace<R: Recorder<Task = Task<'a>>>(
         &self,
         namespace: &Option<ValueTemplate>,
@@ -272,6 +367,7 @@ impl<'a, K: Finder> Evaluator<'a, K> {
 }
 
 /// The name that a text is, with the namespace that is given, if one is.
+#[inline(always)]
 fn named(
     name: &MadeName,
     is_attribute: bool,
@@ -290,6 +386,7 @@ fn named(
 }
 
 /// What was made, or the fault at an instruction.
+#[inline(always)]
 fn made_at<T>(site: Site, made: Result<T, MakeEnd>) -> Result<T, Halt>
     ensures { result ≡ halted site made }
 {

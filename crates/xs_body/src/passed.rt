@@ -1,6 +1,7 @@
 //! Parameters that are passed to a template (XSLT 1.0, 11.6).
 
 ghost use Rattle.std.specs.Prelude.{◌≡◌, IfOk, option_map, None, Some, if◌then◌else◌};
+ghost use Rattle.std.specs.Str.{bytes_eq};
 ghost use Rattle.xs_body.specs.steps.Passed.{values_of};
 ghost use Rattle.xs_semantics.specs.Tasks.{last_passed, no_params, value_passed};
 ghost use Rattle.xs_sheet.specs.Sets.{is_same_label};
@@ -105,6 +106,7 @@ impl<'a> Passed<'a> {
     }
 
     /// The value that is passed for a name; of several of one name it is the last.
+    #[inline(always)]
     pub(crate) fn value(&self, name: &Label) -> Result<Option<Value>, AllocError>
         ensures value { IfOk result (λ value. value ≡ value_passed name.now self.now) }
     {
@@ -166,9 +168,18 @@ fn value_if<'v>(is_wanted: bool, value: &'v Value, found: Option<&'v Value>) -> 
     if is_wanted { Some(value) } else { found }
 }
 
-/// Whether two names are the same.
+/// Whether two names are the same. Their local parts, which differ more often, are compared first.
+#[inline(always)]
 fn is_same_label(left: &Label, right: &Label) -> bool
     ensures { result ≡ is_same_label left.now right.now }
 {
-    left.uri() == right.uri() && left.local() == right.local()
+    is_same_text(left.local(), right.local()) && is_same_text(left.uri(), right.uri())
+}
+
+/// Whether two texts are the same.
+#[inline(always)]
+fn is_same_text(left: &str, right: &str) -> bool
+    ensures { result ≡ bytes_eq left.now right.now }
+{
+    left.len() == right.len() && left == right
 }

@@ -3,7 +3,7 @@
 ghost use Rattle.std.specs.Prelude.{◌≡◌, ◌<◌, length, IfOk};
 ghost use Rattle.xs_body.specs.steps.Frames.{value_steps};
 ghost use Rattle.xs_body.specs.steps.Making.{chars_steps};
-ghost use Rattle.xs_making.specs.steps.Putting.{events_steps};
+ghost use Rattle.xs_making.specs.Putting.{events_steps};
 ghost use Rattle.xs_trace.specs.Play.{IsStep, put_at};
 ghost use Rattle.xs_value.specs.Conversion.{fragment_text};
 

@@ -121,7 +121,7 @@ impl<'a, K: Finder> Evaluator<'a, K> {
 
     /// Puts what is left of a body before the others, if anything is.
     #[inline(always)]
-    fn push_rest(&mut self, instrs: &'a [Instr], scope: Scope) -> Result<(), AllocError>
+    pub(crate) fn push_rest(&mut self, instrs: &'a [Instr], scope: Scope) -> Result<(), AllocError>
         requires node { scope.focus.node < length self.old.world.tree }
         ensures pushed { OnOk result
             (self.new ≡ pushed (rest_works instrs.now scope) self.old) }

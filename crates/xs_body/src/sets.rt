@@ -1,7 +1,8 @@
 //! Attribute sets (XSLT 1.0, 7.1.4).
 
-ghost use Rattle.std.specs.Prelude.{◌≡◌, ◌<◌, ◌-◌, length, option_map, slice_get, OnOk};
-ghost use Rattle.xs_body.specs.steps.Frames.{declared_begun, pushed, sets_begun, sets_works};
+ghost use Rattle.std.specs.Prelude.{◌≡◌, ◌<◌, ◌-◌, length, map, option_map, slice_get, OnOk};
+ghost use Rattle.xs_body.specs.steps.Frames.{declared_begun, declared_works, pushed, set_begun};
+ghost use Rattle.xs_body.specs.steps.Frames.{sets_begun, sets_left_works, sets_works};
 ghost use Rattle.xs_semantics.specs.World.{all_set_levels, with_levels};
 ghost use Rattle.xs_sets.specs.Indexed.{declarations_in};
 
@@ -38,7 +39,7 @@ impl<'a, K: Finder> Evaluator<'a, K> {
         self.push(Frame::Sets(names, focus))
     }
 
-    /// The next of some sets.
+    /// The next of some sets: its first declaration.
     pub(crate) fn next_set(&mut self, names: &'a [Label], focus: Focus) -> Result<(), AllocError>
         requires node { focus.node < length self.old.world.tree }
         ensures begun { OnOk result (self.new ≡ sets_begun names.now focus self.old) }
@@ -46,13 +47,25 @@ impl<'a, K: Finder> Evaluator<'a, K> {
         match names.split_first() {
             None => Ok(()),
             Some((name, others)) => {
-                self.push(Frame::Sets(others, focus))?;
-                self.push(Frame::Declared(name, 0, focus))
+                self.push_others(others, focus)?;
+                self.next_declaration(name, 0, focus)
             }
         }
     }
 
-    /// The next declaration of a set: first the sets that it uses, then its attributes.
+    /// Puts the sets that are left before what else is to be done, where there are any.
+    fn push_others(&mut self, names: &'a [Label], focus: Focus) -> Result<(), AllocError>
+        requires node { focus.node < length self.old.world.tree }
+        ensures pushed { OnOk result
+            (self.new ≡ pushed (sets_left_works names.now focus) self.old) }
+    {
+        if names.is_empty() {
+            return Ok(());
+        }
+        self.push(Frame::Sets(names, focus))
+    }
+
+    /// The next declaration of a set, before those after it.
     pub(crate) fn next_declaration(
         &mut self,
         name: &'a Label,
@@ -62,23 +75,59 @@ impl<'a, K: Finder> Evaluator<'a, K> {
         requires node { focus.node < length self.old.world.tree }
         ensures begun { OnOk result (self.new ≡ declared_begun name.now next focus self.old) }
     {
-        match self.declaration(name, next) {
+        let all = self.declarations(name);
+        match declaration_at(all, next) {
             None => Ok(()),
             Some(set) => {
                 let after = next.checked_add(1).ok_or(AllocError)?;
-                self.push(Frame::Declared(name, after, focus))?;
-                self.push(Frame::Rest(set.attributes.as_slice(), Scope::outer(focus)))?;
-                self.push_sets(set.sets.as_slice(), focus)
+                self.push_declared(name, after, declaration_at(all, after), focus)?;
+                self.begin_declaration(set, focus)
             }
         }
     }
 
-    /// The declaration of a set at a place among those of its name.
-    fn declaration(&self, name: &'a Label, place: usize) -> Option<&'a AttrSet>
-        ensures declaration { option_map (λ s. s.now) result
-            ≡ slice_get (declarations_in self.now.world.index name.now) place }
+    /// The declarations of a set.
+    fn declarations(&self, name: &'a Label) -> &'a [&'a AttrSet]
+        ensures all { map (λ s. s.now) result.now ≡ declarations_in self.now.world.index name.now }
     {
         let index = self.index;
-        index.declarations(name).get(place).copied()
+        index.declarations(name)
     }
+
+    /// Puts the declarations of a set from a place on before what else is to be done, where there
+    /// is one.
+    fn push_declared(
+        &mut self,
+        name: &'a Label,
+        place: usize,
+        declaration: Option<&'a AttrSet>,
+        focus: Focus,
+    ) -> Result<(), AllocError>
+        requires node { focus.node < length self.old.world.tree }
+        ensures pushed { OnOk result (self.new ≡ pushed
+            (declared_works (option_map (λ s. s.now) declaration.entry) name.now place focus)
+            self.old) }
+    {
+        match declaration {
+            None => Ok(()),
+            Some(_) => self.push(Frame::Declared(name, place, focus)),
+        }
+    }
+
+    /// A declaration of a set begins: first the sets that it uses, then its attributes.
+    fn begin_declaration(&mut self, set: &'a AttrSet, focus: Focus) -> Result<(), AllocError>
+        requires node { focus.node < length self.old.world.tree }
+        ensures begun { OnOk result (self.new ≡ set_begun set.now focus self.old) }
+    {
+        self.push(Frame::Rest(set.attributes.as_slice(), Scope::outer(focus)))?;
+        self.push_sets(set.sets.as_slice(), focus)
+    }
+}
+
+/// The declaration at a place.
+fn declaration_at<'a>(all: &'a [&'a AttrSet], place: usize) -> Option<&'a AttrSet>
+    ensures declaration { option_map (λ s. s.now) result
+        ≡ slice_get (map (λ s. s.now) all.now) place }
+{
+    all.get(place).copied()
 }

@@ -194,6 +194,7 @@ impl<'a, K: Finder> Evaluator<'a, K> {
     }
 
     /// A template begins, with its parameters.
+    #[inline(always)]
     fn begin_template(
         &mut self,
         template: u32,
@@ -224,6 +225,7 @@ impl<'a, K: Finder> Evaluator<'a, K> {
     }
 
     /// Puts the parameters that are left before the others, or else the body.
+    #[inline(always)]
     fn push_params(&mut self, left: Box<ParamsLeft<'a>>) -> Result<(), AllocError>
         requires left { IsParams self.old.world.tree left.value }
         ensures pushed { OnOk result (self.new ≡ pushed (params_first left.entry.value.left.now

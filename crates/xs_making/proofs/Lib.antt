@@ -1,3 +1,4 @@
+mod SpaceLemmas
 mod SpacingLemmas
 mod CopyLemmas
 mod LawLemmas

@@ -10,7 +10,8 @@ use Rattle.xs_trace.specs.declared.item.Site.{Site}
 use Rattle.xs_trace.specs.declared.recorder.Halt.{Halt}
 use Rattle.xs_trace.proofs.GrowthLemmas.{Grows, goes-grows, grows-then, passes, put_at-grows}
 use Rattle.xs_trace.proofs.PlayLemmas.{then-goes, then-same, then-then}
-use Rattle.xs_making.specs.steps.Putting.{Puts, events_steps, listed}
+use Rattle.xs_making.specs.Putting.{Puts, events_steps}
+use Rattle.xs_making.specs.steps.Listed.{listed}
 
 pub events-grow : {H : Type 0} → (p : Site) (es : List Event) → Grows {H = H} (events_steps p es)
 events-grow p [] s = goes-grows tt s

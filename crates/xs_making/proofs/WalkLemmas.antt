@@ -21,7 +21,7 @@ use Rattle.xs_tree.specs.Shape.{EndsAt, HasParentFrom, IsPlaced, IsTree}
 use Rattle.xs_tree.specs.Walk.{children_from}
 use Rattle.xs_tree.proofs.WalkLemmas.{HasParentFrom-own, IsPlaced-at, children-next, from_earlier, le_or_gt}
 use Rattle.xs_making.specs.Copies.{deep_copy, leaf_events, tag_events}
-use Rattle.xs_making.specs.steps.Putting.{Puts, events_steps}
+use Rattle.xs_making.specs.Putting.{Puts, events_steps}
 use Rattle.xs_making.specs.steps.Walk.{copies_from, inside, opening, opening_as}
 use Rattle.xs_making.proofs.CopyLemmas.{child-kind, child-parent, copy-element, copy-leaf, is_leaf}
 use Rattle.xs_making.proofs.PutLemmas.{events-after, events-then-end}

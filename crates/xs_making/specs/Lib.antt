@@ -3,5 +3,6 @@ pub mod Labels
 pub mod Names
 pub mod Results
 pub mod Copies
+pub mod Putting
 pub mod Laws
 pub mod steps

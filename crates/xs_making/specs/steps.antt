@@ -1,3 +1,3 @@
 pub mod Walk
 pub mod Plain
-pub mod Putting
+pub mod Listed

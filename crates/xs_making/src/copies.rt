@@ -8,13 +8,13 @@ ghost use Rattle.xs_tree.specs.Record.{at, attributes, namespaces};
 ghost use Rattle.xs_tree.specs.Shape.{IsTree};
 ghost use Rattle.xs_making.specs.Copies.{attribute_events, copy_of, deep_copy, shallow_copy};
 ghost use Rattle.xs_making.specs.Copies.{space_events, start_events, tag_events};
-ghost use Rattle.xs_making.specs.steps.Putting.{Puts};
+ghost use Rattle.xs_making.specs.Putting.{Puts};
 ghost use Rattle.xs_making.specs.steps.Walk.{inside, opening};
 
 use crate::event_list::EventList;
 use crate::leaves::{label_of, put_attribute, put_leaf, put_one, put_space};
 use crate::recent::RecentLabels;
-use std::alloc::{AllocError, Global};
+use std::alloc::AllocError;
 use xs_trace::event::Event;
 use xs_trace::item::Site;
 use xs_trace::recorder::{Halt, Recorder};
@@ -89,7 +89,8 @@ pub fn put_shallow_copy<R: Recorder>(
 
 /// Puts a node with all that is in it (XSLT 1.0, 11.3), one event after another.
 ///
-/// Names that were put before are shared, by `labels`.
+/// Names that were put before are shared, by `labels`. Out of memory, any part of the copy may have
+/// been put.
 pub fn put_deep_copy<R: Recorder>(
     tree: &Tree,
     node: Node,
@@ -144,15 +145,15 @@ fn put_start<R: Recorder>(
 {
     let name = label_of(tree, n, labels)?;
     put_one(Event::Start(name), site, recorder)?;
-    put_spaces(labels.allocator(), tree, n, site, recorder)
+    put_spaces(tree, n, site, labels, recorder)
 }
 
 /// Puts the namespace nodes of an element.
 fn put_spaces<R: Recorder>(
-    alloc: Global,
     tree: &Tree,
     n: Node,
     site: Site,
+    labels: &mut RecentLabels,
     recorder: &mut R,
 ) -> Result<(), Halt>
     requires { n < length tree.now }
@@ -161,7 +162,7 @@ fn put_spaces<R: Recorder>(
     ensures kept { R.kept recorder.new ≡ R.kept recorder.old }
 {
     for space in tree.namespaces(n) {
-        put_space(alloc, tree, space, site, recorder)?;
+        put_space(tree, space, site, labels, recorder)?;
     }
     Ok(())
 }

@@ -1,7 +1,7 @@
 //! A list of events as a recorder, without limits.
 ghost use Rattle.std.specs.Prelude.{◌≡◌, [], Err, true};
 ghost use Rattle.xs_trace.specs.declared.recorder.Halt.TheVariants.{NoMemory};
-ghost use Rattle.xs_making.specs.steps.Putting.{listed};
+ghost use Rattle.xs_making.specs.steps.Listed.{listed};
 
 use std::alloc::Global;
 use xs_trace::event::{Event, Fragment};

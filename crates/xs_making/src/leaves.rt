@@ -6,7 +6,7 @@ ghost use Rattle.xs_making.specs.Copies.{attribute_events, label_of, leaf_events
 ghost use Rattle.xs_making.specs.Copies.{space_events, text_events};
 ghost use Rattle.xs_making.specs.Texts.{is_empty};
 ghost use Rattle.xs_making.specs.Labels.{xml_uri};
-ghost use Rattle.xs_making.specs.steps.Putting.{Puts};
+ghost use Rattle.xs_making.specs.Putting.{Puts};
 
 use crate::labels::XML_URI;
 use crate::recent::RecentLabels;
@@ -36,7 +36,7 @@ pub(crate) fn put_leaf<R: Recorder>(
     match tree.kind(n) {
         Kind::Root | Kind::Element => Ok(()),
         Kind::Attribute => put_attribute(tree, n, site, labels, recorder),
-        Kind::Space => put_space(alloc, tree, n, site, recorder),
+        Kind::Space => put_space(tree, n, site, labels, recorder),
         Kind::Text => put_text(alloc, tree, n, site, recorder),
         Kind::Comment => put_comment(alloc, tree, n, site, recorder),
         Kind::Pi => put_pi(alloc, tree, n, site, recorder),
@@ -64,10 +64,10 @@ pub(crate) fn put_one<R: Recorder>(event: Event, site: Site, recorder: &mut R) -
 /// Puts a namespace node, but for no namespace and for that of `xml`.
 #[inline(always)]
 pub(crate) fn put_space<R: Recorder>(
-    alloc: Global,
     tree: &Tree,
     n: Node,
     site: Site,
+    labels: &mut RecentLabels,
     recorder: &mut R,
 ) -> Result<(), Halt>
     requires { n < length tree.now }
@@ -79,9 +79,8 @@ pub(crate) fn put_space<R: Recorder>(
     if uri.is_empty() || uri == XML_URI {
         return Ok(());
     }
-    let prefix = TextBuf::of(alloc, tree.local(n))?;
-    let uri = TextBuf::of(alloc, uri)?;
-    put_one(Event::Space { prefix, uri }, site, recorder)
+    let space = labels.space(tree.local(n), uri)?;
+    put_one(space, site, recorder)
 }
 
 /// Puts an attribute, but for one that would be read as the declaration of a default namespace.
@@ -102,7 +101,7 @@ pub(crate) fn put_attribute<R: Recorder>(
         return Ok(());
     }
     let name = label_of(tree, n, labels)?;
-    let value = TextBuf::of(labels.allocator(), tree.text(n))?;
+    let value = labels.value(tree.text(n))?;
     put_one(Event::Attr { name, value }, site, recorder)
 }
 

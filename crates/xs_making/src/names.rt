@@ -25,6 +25,7 @@ const XMLNS_URI: &str = "http://www.w3.org/2000/xmlns/";
 /// Fault 60 where the text is no QName, or `xmlns` for an attribute, or the namespace given is that
 /// of `xmlns`; else 61 where the text has a prefix that is bound to nothing and no namespace is
 /// given.
+#[inline(always)]
 pub fn result_name(
     labels: &mut RecentLabels,
     text: &str,
@@ -42,6 +43,7 @@ pub fn result_name(
 }
 
 /// The name to which no namespace is given.
+#[inline(always)]
 fn unplaced_name(
     labels: &mut RecentLabels,
     text: &str,
@@ -57,6 +59,7 @@ fn unplaced_name(
 }
 
 /// The same of an attribute: one without a prefix is the same in any scope, and is made once.
+#[inline(always)]
 fn attribute_name(labels: &mut RecentLabels, text: &str, scope: &Scope) -> Result<Label, MakeEnd>
     ensures { IsMade (result_name scope.now.pairs.items true None text.now) result }
 {
@@ -71,6 +74,7 @@ fn attribute_name(labels: &mut RecentLabels, text: &str, scope: &Scope) -> Resul
 }
 
 /// The name that is made of a text anew.
+#[inline(never)]
 fn made_name(
     labels: &mut RecentLabels,
     text: &str,

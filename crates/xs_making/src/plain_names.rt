@@ -22,6 +22,7 @@ impl PlainName {
     }
 
     /// The name that a text is, if it is this one.
+    #[inline(always)]
     pub(crate) fn name_of(&self, text: &str) -> Result<Option<Label>, AllocError>
         ensures { IfOk result (λ found. IfSome found (λ name. IsPlain text.now name)) }
     {
@@ -33,6 +34,7 @@ impl PlainName {
 }
 
 /// Whether a text is the local part of a name.
+#[inline(always)]
 fn is_local(name: &Label, text: &str) -> bool
     ensures { result ≡ true → name.now.local ≡ text.now }
 {

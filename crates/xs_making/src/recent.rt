@@ -1,5 +1,6 @@
-//! Names that are put again and again, which share their texts.
+//! Names, namespace nodes and values that are put again and again, which share their texts.
 ghost use Rattle.std.specs.Prelude.{◌≡◌, true, IfOk, IfSome};
+ghost use Rattle.xs_trace.specs.declared.event.Event.TheVariants as event_of;
 ghost use Rattle.xs_making.specs.Labels.{put_label};
 ghost use Rattle.xs_making.specs.steps.Plain.{IsPlain, IsPlainName};
 
@@ -7,13 +8,44 @@ use crate::compared::is_text;
 use crate::labels::{put_label, put_prefix};
 use crate::plain_names::PlainName;
 use std::alloc::{AllocError, Global};
-use xs_trace::event::Label;
+use xs_trace::event::{Event, Label};
+use xs_trace::text::TextBuf;
 
-/// How many names are kept.
+/// How many names are kept; so many namespace nodes and values too.
 const SLOTS: usize = 32;
 
-/// The names that were put last: one that is put again shares the texts of the first, and takes no
-/// memory of its own.
+/// The most bytes of a value that is kept: longer ones seldom recur.
+const SHORT_VALUE: usize = 16;
+
+/// A namespace node that was put.
+#[derive(Drop)]
+struct RecentSpace {
+    prefix: TextBuf,
+    uri: TextBuf,
+}
+
+impl RecentSpace {
+    /// Whether it has these texts.
+    fn is(&self, prefix: &str, uri: &str) -> bool
+        ensures { result ≡ true → event_of.Space self.now.prefix self.now.uri
+            ≡ event_of.Space prefix.now uri.now }
+    {
+        is_text(self.prefix.as_str(), prefix) && is_text(self.uri.as_str(), uri)
+    }
+
+    /// The event that puts it.
+    fn event(&self) -> Result<Event, AllocError>
+        ensures { IfOk result (λ event. event ≡ event_of.Space self.now.prefix self.now.uri) }
+    {
+        Ok(Event::Space {
+            prefix: self.prefix.copy()?,
+            uri: self.uri.copy()?,
+        })
+    }
+}
+
+/// The names, namespace nodes and values that were put last: one that is put again shares the texts
+/// of the first, and takes no memory of its own.
 #[derive(Drop)]
 pub struct RecentLabels {
     alloc: Global,
@@ -21,6 +53,10 @@ pub struct RecentLabels {
     slots: Vec<Option<Label>>,
     /// The same for names of attributes without a prefix, each with its text as the local part.
     plain: Vec<Option<PlainName>>,
+    /// The same for namespace nodes, by their prefixes.
+    spaces: Vec<Option<RecentSpace>>,
+    /// The same for short values of attributes.
+    values: Vec<Option<TextBuf>>,
 }
 
 impl RecentLabels {
@@ -30,6 +66,8 @@ impl RecentLabels {
             alloc,
             slots: Vec::new(alloc),
             plain: Vec::new(alloc),
+            spaces: Vec::new(alloc),
+            values: Vec::new(alloc),
         }
     }
 
@@ -53,7 +91,45 @@ impl RecentLabels {
         Ok(label)
     }
 
+    /// The event that puts a namespace node.
+    pub(crate) fn space(&mut self, prefix: &str, uri: &str) -> Result<Event, AllocError>
+        ensures { IfOk result (λ event. event ≡ event_of.Space prefix.now uri.now) }
+    {
+        let slot = slot_of(prefix);
+        if let Some(Some(space)) = self.spaces.get(slot) {
+            if space.is(prefix, uri) {
+                return space.event();
+            }
+        }
+        let space = RecentSpace {
+            prefix: TextBuf::of(self.alloc, prefix)?,
+            uri: TextBuf::of(self.alloc, uri)?,
+        };
+        let event = space.event()?;
+        self.keep_space(slot, space)?;
+        Ok(event)
+    }
+
+    /// The text of a value.
+    pub(crate) fn value(&mut self, text: &str) -> Result<TextBuf, AllocError>
+        ensures { IfOk result (λ value. value ≡ text.now) }
+    {
+        if text.len() > SHORT_VALUE {
+            return TextBuf::of(self.alloc, text);
+        }
+        let slot = slot_of(text);
+        if let Some(Some(value)) = self.values.get(slot) {
+            if is_text(value.as_str(), text) {
+                return value.copy();
+            }
+        }
+        let value = TextBuf::of(self.alloc, text)?;
+        self.keep_value(slot, value.copy()?)?;
+        Ok(value)
+    }
+
     /// The name of an attribute that a text is, if it was kept.
+    #[inline(always)]
     pub(crate) fn plain(&self, text: &str) -> Result<Option<Label>, AllocError>
         ensures { IfOk result (λ found. IfSome found (λ name. IsPlain text.now name)) }
     {
@@ -79,6 +155,28 @@ impl RecentLabels {
         Ok(())
     }
 
+    /// Keeps a namespace node in a slot, in place of the one that was there.
+    fn keep_space(&mut self, slot: usize, space: RecentSpace) -> Result<(), AllocError> {
+        for _ in self.spaces.len()..SLOTS {
+            self.spaces.push(None)?;
+        }
+        if let Some(kept) = self.spaces.get_mut(slot) {
+            *kept = Some(space);
+        }
+        Ok(())
+    }
+
+    /// Keeps a value in a slot, in place of the one that was there.
+    fn keep_value(&mut self, slot: usize, value: TextBuf) -> Result<(), AllocError> {
+        for _ in self.values.len()..SLOTS {
+            self.values.push(None)?;
+        }
+        if let Some(kept) = self.values.get_mut(slot) {
+            *kept = Some(value);
+        }
+        Ok(())
+    }
+
     /// Keeps a name in a slot, in place of the one that was there.
     fn keep(&mut self, slot: usize, label: Label) -> Result<(), AllocError> {
         for _ in self.slots.len()..SLOTS {
@@ -91,10 +189,10 @@ impl RecentLabels {
     }
 }
 
-/// The slot of the names with a local part: by its length and three of its bytes, so that the names
-/// of one document seldom share one.
-fn slot_of(local: &str) -> usize {
-    let bytes = local.as_bytes();
+/// The slot of a text: by its length and three of its bytes, so that the names of one document
+/// seldom share one.
+fn slot_of(text: &str) -> usize {
+    let bytes = text.as_bytes();
     let len = bytes.len();
     if len == 0 {
         return 0;

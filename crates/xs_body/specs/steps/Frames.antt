@@ -62,9 +62,9 @@ use Rattle.xs_semantics.specs.Trace.{body_trace, calls_at, content_trace, declar
 use Rattle.xs_semantics.specs.Trace.{puts_all, sets_trace}
 use Rattle.xs_body.specs.steps.Lists.{nodes_in}
 pub use Rattle.xs_body.specs.steps.Making.{chars_steps}
-use Rattle.xs_body.specs.steps.Making.{attributes_steps, copy_steps, literal_steps, made_at, made_ended, name_steps}
-use Rattle.xs_making.specs.steps.Putting.{events_steps}
-use Rattle.xs_body.specs.steps.Making.{target_steps}
+use Rattle.xs_body.specs.steps.Making.{attributes_steps, copy_steps, fixed_text, literal_steps, made_at, made_ended, made_steps, name_steps}
+use Rattle.xs_making.specs.Putting.{events_steps}
+use Rattle.xs_body.specs.steps.Making.{selected, target_steps, text_ticked}
 
 -- ---- rows of the stylesheet as lists
 
@@ -226,18 +226,33 @@ abbrev pub sets_works : List Label → Focus → List Work
 sets_works names f =
     if length names == 0 then [] else (if f.set_levels == 0 then [] else sets_left names (with_levels f.depth (f.set_levels - 1) f) ∷ [])
 
+-- the sets that are left, if there are any
+abbrev pub sets_left_works : List Label → Focus → List Work
+sets_left_works names f = if length names == 0 then [] else sets_left names f ∷ []
+
+-- the declarations of a set from a place on, if there is one at that place
+abbrev pub declared_works : Option AttrSet → Label → ℕ → Focus → List Work
+declared_works None name i f = []
+declared_works (Some s) name i f = declared_left name i f ∷ []
+
+abbrev pub set_begun : AttrSet → Focus → Evaluation → Evaluation
+set_begun s f t = pushed (sets_works s.sets f) (pushed (rest s.attributes (outer f) ∷ []) t)
+
+-- the declaration of a set at a place, before those after it
+abbrev pub declaration_begun : (here after : Option AttrSet) → Label → ℕ → Focus → Evaluation → Evaluation
+declaration_begun None after name i f t = t
+declaration_begun (Some s) after name i f t = set_begun s f (pushed (declared_works after name (i + 1) f) t)
+
+abbrev pub declarations_begun : List AttrSet → Label → ℕ → Focus → Evaluation → Evaluation
+declarations_begun ds name i f t = declaration_begun (slice_get ds i) (slice_get ds (i + 1)) name i f t
+
+abbrev pub declared_begun : Label → ℕ → Focus → Evaluation → Evaluation
+declared_begun name i f t = declarations_begun (declarations_in t.world.index name) name i f t
+
 -- the next of some sets
 abbrev pub sets_begun : List Label → Focus → Evaluation → Evaluation
 sets_begun [] f t = t
-sets_begun (name ∷ names) f t = pushed (declared_left name 0 f ∷ sets_left names f ∷ []) t
-
--- the declaration of a set at a place, before those after it
-abbrev pub declaration_begun : Option AttrSet → Label → ℕ → Focus → Evaluation → Evaluation
-declaration_begun None name i f t = t
-declaration_begun (Some s) name i f t = pushed (sets_works s.sets f) (pushed (rest s.attributes (outer f) ∷ declared_left name (i + 1) f ∷ []) t)
-
-abbrev pub declared_begun : Label → ℕ → Focus → Evaluation → Evaluation
-declared_begun name i f t = declaration_begun (slice_get (declarations_in t.world.index name) i) name i f t
+sets_begun (name ∷ names) f t = declared_begun name 0 f (pushed (sets_left_works names f) t)
 
 -- a run over nodes, which a work goes through, or which is left to tasks
 abbrev pub run_by : Option ℕ → Job → Site → Focus → List ℕ → Work → Evaluation → State Task → Step Task Evaluation
@@ -357,14 +372,21 @@ abbrev pub message_begun : Bool → Body → Site → Scope → Evaluation → S
 message_begun terminate body p c t s = Goes (pushed (rest (instrs_of body) (captured_scope c) ∷ say p terminate ∷ []) t) (opened s)
 
 -- what is in an element
+abbrev pub content_in : Body → Scope → Evaluation → Evaluation
+content_in body c t = pushed (rest_works (instrs_of body) (inner c)) (pushed (end_element ∷ []) t)
+
 abbrev pub inside_begun : List Label → Body → Scope → Evaluation → Evaluation
-inside_begun sets body c t = pushed (sets_works sets c.focus) (pushed (rest (instrs_of body) (inner c) ∷ end_element ∷ []) t)
+inside_begun sets body c t = pushed (sets_works sets c.focus) (content_in body c t)
+
+-- what is in a literal element: its attributes are put at once where it has no sets
+abbrev pub literal_inside : LiteralStart → Body → Site → Scope → Evaluation → State Task → Step Task Evaluation
+literal_inside start body p c t s =
+    if length start.sets == 0
+    then stays (attributes_steps t.world p c.focus (last c.seen t.slots) start.attributes s) (content_in body c t)
+    else Goes (pushed (sets_works start.sets c.focus) (pushed (attributes_left start.attributes p c ∷ []) (content_in body c t))) s
 
 abbrev pub literal_begun : LiteralStart → Body → Site → Scope → Evaluation → State Task → Step Task Evaluation
-literal_begun start body p c t s =
-    and_then (literal_steps t.world.sheet.aliases p start s)
-    (λ u m. Goes (pushed (sets_works start.sets c.focus)
-    (pushed (attributes_left start.attributes p c ∷ rest (instrs_of body) (inner c) ∷ end_element ∷ []) t)) m)
+literal_begun start body p c t s = and_then (literal_steps t.world.sheet.aliases p start s) (λ u m. literal_inside start body p c t m)
 
 abbrev pub element_put : Label → List Label → Body → Scope → Evaluation → State Task → Step Task Evaluation
 element_put name sets body c t s = and_then (put (Start name) s) (λ u m. Goes (inside_begun sets body c t) m)
@@ -373,9 +395,42 @@ abbrev pub element_begun : MadeName → List Label → Body → Site → Scope �
 element_begun name sets body p c t s =
     and_then (name_steps t.world p c.focus (last c.seen t.slots) false name s) (λ label m. element_put label sets body c t m)
 
--- what is made of captured content
+-- the text of content that is one instruction and puts a text alone; none of other content
+abbrev pub fixed_lone : List ℕ → Site → State Task → Step Task (Option (List ℕ))
+fixed_lone text p s = and_then (ticked p s) (λ u m. text_ticked p text m)
+
+abbrev pub selected_text : ScopedExpr → Site → Scope → Evaluation → State Task → Step Task (Option (List ℕ))
+selected_text select p c t s = and_then (limited p (text_run t.world select c.focus (last c.seen t.slots)) s) (λ text m. text_ticked p text m)
+
+abbrev pub selected_lone : ScopedExpr → Site → Scope → Evaluation → State Task → Step Task (Option (List ℕ))
+selected_lone select p c t s = and_then (ticked p s) (λ u m. selected_text select p c t m)
+
+abbrev pub lone_selected : Option ScopedExpr → Site → Scope → Evaluation → State Task → Step Task (Option (List ℕ))
+lone_selected None p c t s = Goes None s
+lone_selected (Some select) p c t s = selected_lone select p c t s
+
+abbrev pub lone_by : Option (List ℕ) → Option ScopedExpr → Site → Scope → Evaluation → State Task → Step Task (Option (List ℕ))
+lone_by None select p c t s = lone_selected select p c t s
+lone_by (Some text) select p c t s = fixed_lone text p s
+
+abbrev pub lone_instr : Instr → Scope → Evaluation → State Task → Step Task (Option (List ℕ))
+lone_instr i c t s = lone_by (fixed_text i.kind) (selected i.kind) i.site c t s
+
+abbrev pub lone_steps : List Instr → Scope → Evaluation → State Task → Step Task (Option (List ℕ))
+lone_steps [] c t s = Goes None s
+lone_steps (i ∷ []) c t s = lone_instr i c t s
+lone_steps (i ∷ j ∷ is) c t s = Goes None s
+
+-- what is made of content: of its text, or else of what is captured
+abbrev pub captured_begun : Made → Body → Site → Scope → Evaluation → State Task → Step Task Evaluation
+captured_begun m body p c t s = Goes (pushed (rest (instrs_of body) (captured_scope c) ∷ make m p ∷ []) t) (opened s)
+
+abbrev pub made_of : Option (List ℕ) → Made → Body → Site → Scope → Evaluation → State Task → Step Task Evaluation
+made_of None m body p c t s = captured_begun m body p c t s
+made_of (Some text) m body p c t s = stays (made_steps m text p s) t
+
 abbrev pub made_begun : Made → Body → Site → Scope → Evaluation → State Task → Step Task Evaluation
-made_begun m body p c t s = Goes (pushed (rest (instrs_of body) (captured_scope c) ∷ make m p ∷ []) t) (opened s)
+made_begun m body p c t s = and_then (lone_steps (instrs_of body) c t s) (λ text n. made_of text m body p c t n)
 
 abbrev pub attribute_begun : MadeName → Body → Site → Scope → Evaluation → State Task → Step Task Evaluation
 attribute_begun name body p c t s =

@@ -1,15 +1,20 @@
 -- What is put and made, step by step.
-use Rattle.std.specs.Prelude.{ℕ, ◌+◌, ◌-◌, ◌==◌, ◌&&◌, ◌||◌, List, [], ◌∷◌, codes, length, Option, Some, None, Bool, Result, Ok, Err, if◌then◌else◌}
+use Rattle.std.specs.Prelude.{ℕ, ◌+◌, ◌-◌, ◌/◌, ◌==◌, ◌&&◌, ◌||◌, List, [], ◌∷◌, codes, length, Option, Some, None, Bool, Result, Ok, Err, if◌then◌else◌}
 use Rattle.std.specs.Str.{bytes_eq}
+use Rattle.xs_sheet.specs.declared.body.InstrKind.{InstrKind, Variable'}
+use Rattle.xs_sheet.specs.declared.body.InstrKind.TheVariants as instr
+use Rattle.xs_sheet.specs.declared.body.InstrKind.TheVariants.{ApplyTemplates, CallTemplate, ApplyImports, ForEach, ValueOf, CopyOf, Copy, Number, Choose, If}
+use Rattle.xs_sheet.specs.declared.body.InstrKind.TheVariants.{Text, Element, Message, Literal, Extension}
 use Rattle.xs_sheet.specs.declared.body.LiteralStart.{LiteralStart}
 use Rattle.xs_sheet.specs.declared.body.MadeName.{MadeName}
 use Rattle.xs_sheet.specs.declared.declarations.Alias.{Alias}
+use Rattle.xs_sheet.specs.declared.scoped.ScopedExpr.{ScopedExpr}
 use Rattle.xs_sheet.specs.declared.scoped.ValueTemplate.{ValueTemplate}
 use Rattle.xs_trace.specs.Cut.{Fault}
 use Rattle.xs_trace.specs.Label.{Label}
 use Rattle.xs_trace.specs.Run.{limited}
 use Rattle.xs_trace.specs.State.{State, popped, top}
-use Rattle.xs_trace.specs.Play.{Step, Goes, Told, and_then, goes, put_at, stops}
+use Rattle.xs_trace.specs.Play.{Step, Goes, Told, and_then, goes, put_at, stops, ticked_by}
 use Rattle.xs_trace.specs.declared.event.Event.{Event}
 use Rattle.xs_trace.specs.declared.event.Event.TheVariants.{Start, Space, Attr, Chars, End, Comment, Pi}
 use Rattle.xs_trace.specs.declared.fault.Fault.{Fault as RunFault}
@@ -24,7 +29,7 @@ use Rattle.xs_making.specs.Copies.{deep_copy}
 use Rattle.xs_making.specs.Labels.{xml_uri}
 use Rattle.xs_making.specs.Names.{pi_target, result_name}
 use Rattle.xs_making.specs.Texts.{comment_text, instruction_text, is_empty}
-use Rattle.xs_making.specs.steps.Putting.{events_steps}
+use Rattle.xs_making.specs.Putting.{events_steps}
 use Rattle.xs_making.specs.declared.ends.MakeEnd.{MakeEnd}
 use Rattle.xs_making.specs.declared.ends.MakeEnd.TheVariants as end
 use Rattle.xs_semantics.specs.declared.focus.Focus.{Focus}
@@ -105,6 +110,55 @@ name_steps w p f vs is_attribute name s =
 
 abbrev pub target_steps : {H : Type 0} → World → Site → Focus → List Value → ValueTemplate → State H → Step H (List ℕ)
 target_steps w p f vs name s = and_then (limited p (template_run w name f vs) s) (λ text m. outcome_steps p (pi_target text) m)
+
+-- ---- content of one instruction that puts a text alone
+-- the text of the stylesheet that an instruction puts
+abbrev pub fixed_text : InstrKind → Option (List ℕ)
+fixed_text (ApplyTemplates nodes passed) = None
+fixed_text (CallTemplate i passed) = None
+fixed_text ApplyImports = None
+fixed_text (ForEach select sorts body) = None
+fixed_text (ValueOf select) = None
+fixed_text (CopyOf select) = None
+fixed_text (Copy sets body) = None
+fixed_text (Number decl) = None
+fixed_text (Choose choice) = None
+fixed_text (If test body) = None
+fixed_text (Text text) = Some text
+fixed_text (Element name sets body) = None
+fixed_text (instr.Attribute name body) = None
+fixed_text (instr.Comment body) = None
+fixed_text (instr.Pi name body) = None
+fixed_text (Message terminate body) = None
+fixed_text (Variable' site name content) = None
+fixed_text (Literal start body) = None
+fixed_text (Extension fallbacks) = None
+
+-- the expression whose string an instruction puts
+abbrev pub selected : InstrKind → Option ScopedExpr
+selected (ApplyTemplates nodes passed) = None
+selected (CallTemplate i passed) = None
+selected ApplyImports = None
+selected (ForEach select sorts body) = None
+selected (ValueOf select) = Some select
+selected (CopyOf select) = None
+selected (Copy sets body) = None
+selected (Number decl) = None
+selected (Choose choice) = None
+selected (If test body) = None
+selected (Text text) = None
+selected (Element name sets body) = None
+selected (instr.Attribute name body) = None
+selected (instr.Comment body) = None
+selected (instr.Pi name body) = None
+selected (Message terminate body) = None
+selected (Variable' site name content) = None
+selected (Literal start body) = None
+selected (Extension fallbacks) = None
+
+-- a text, after the ticks of the event that it would be
+abbrev pub text_ticked : {H : Type 0} → Site → List ℕ → State H → Step H (Option (List ℕ))
+text_ticked p text s = and_then (ticked_by (length text / 256) p s) (λ u m. Goes (Some text) m)
 
 -- ---- what is made of captured content
 abbrev pub made_at : {H : Type 0} → Made → State H → List Event

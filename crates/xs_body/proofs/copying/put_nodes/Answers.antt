@@ -4,7 +4,7 @@ use Rattle.std.proofs.lemmas.Result.{err_from_is_err_and}
 use Rattle.xs_trace.specs.Play.{and_then}
 use Rattle.xs_trace.proofs.GrowthLemmas.{passes}
 use Rattle.xs_making.specs.Copies.{deep_copy}
-use Rattle.xs_making.specs.steps.Putting.{events_steps}
+use Rattle.xs_making.specs.Putting.{events_steps}
 use Rattle.xs_body.specs.steps.Making.{nodes_steps}
 use Rattle.xs_body.proofs.MakingLemmas.{nodes-grow}
 use Rattle.xs_body.proofs.copying.put_nodes.Goals as goal

@@ -2,7 +2,7 @@ use Rattle.std.proofs.Common.{◌≡◌, ◌∷◌, ap, ◌∙◌, rules}
 use Rattle.std.proofs.lemmas.Result.{err_from_is_err_and}
 use Rattle.xs_trace.specs.Play.{put_at}
 use Rattle.xs_trace.proofs.GrowthLemmas.{passes}
-use Rattle.xs_making.specs.steps.Putting.{events_steps}
+use Rattle.xs_making.specs.Putting.{events_steps}
 use Rattle.xs_making.proofs.PutLemmas.{events-grow}
 use Rattle.xs_body.proofs.putting.put_events.Goals as goal
 

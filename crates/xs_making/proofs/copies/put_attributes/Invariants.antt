@@ -2,7 +2,7 @@ use Rattle.std.proofs.Common.{◌≡◌, ◌++◌}
 use Rattle.std.specs.List.{flat_map}
 use Rattle.xs_tree.specs.Record.{at, attributes}
 use Rattle.xs_making.specs.Copies.{attribute_events}
-use Rattle.xs_making.specs.steps.Putting.{events_steps}
+use Rattle.xs_making.specs.Putting.{events_steps}
 use Rattle.xs_making.proofs.copies.put_attributes.Given as goal
 
 -- what is told of all is told of those that are left

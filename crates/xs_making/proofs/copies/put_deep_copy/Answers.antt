@@ -1,6 +1,6 @@
 use Rattle.std.proofs.Common.{◌∙◌, subst, sym}
 use Rattle.xs_tree.specs.Record.{at}
-use Rattle.xs_making.specs.steps.Putting.{Puts}
+use Rattle.xs_making.specs.Putting.{Puts}
 use Rattle.xs_making.proofs.CopyLemmas.{copy-element, copy-leaf, copy-root, leaf-other}
 use Rattle.xs_making.proofs.copies.put_deep_copy.Goals as goal
 

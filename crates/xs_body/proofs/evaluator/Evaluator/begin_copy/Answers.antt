@@ -5,7 +5,7 @@ use Rattle.xs_trace.specs.declared.event.Event.{Event}
 use Rattle.xs_trace.proofs.GrowthLemmas.{goes-grows, passes}
 use Rattle.xs_tree.specs.Record.{at}
 use Rattle.xs_making.specs.Copies.{shallow_copy}
-use Rattle.xs_making.specs.steps.Putting.{events_steps}
+use Rattle.xs_making.specs.Putting.{events_steps}
 use Rattle.xs_body.specs.steps.Frames.{Evaluation, copied_begun}
 use Rattle.xs_body.proofs.evaluator.Evaluator.begin_copy.Goals as goal
 

@@ -1,8 +1,7 @@
 -- Events that are put at one instruction, in order.
-use Rattle.std.specs.Prelude.{List, [], ◌∷◌, None, Result, map}
+use Rattle.std.specs.Prelude.{List, [], ◌∷◌, Result}
 use Rattle.xs_trace.specs.Play.{IsStep, Told, and_then, goes, put_at}
-use Rattle.xs_trace.specs.Mark.{Put}
-use Rattle.xs_trace.specs.State.{State, Untimed, alone}
+use Rattle.xs_trace.specs.State.{State}
 use Rattle.xs_trace.specs.declared.event.Event.{Event}
 use Rattle.xs_trace.specs.declared.item.Site.{Site}
 use Rattle.xs_trace.specs.declared.recorder.Halt.{Halt}
@@ -14,7 +13,3 @@ events_steps p (e ∷ es) s = and_then (put_at p e s) (λ u m. events_steps p es
 -- what a call answers that puts these events, and the state that it leaves
 abbrev pub Puts : {H : Type 0} → Site → List Event → State H → Result (Unit {0}) Halt → State H → Type 0
 Puts p es old result new = IsStep (events_steps p es old) result new
-
--- a list of events as what was recorded, without limits
-abbrev pub listed : {H : Type 0} → List Event → State H
-listed es = record { told = Untimed (map Put es); captures = []; at = None; room = None; left = None; shared = alone }
