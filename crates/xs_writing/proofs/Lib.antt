@@ -1,3 +1,4 @@
+mod BoundLemmas
 mod LineLemmas
 mod OpenLemmas
 mod OrderLemmas

@@ -201,7 +201,7 @@ pub tag_opened : (w v : List OpenElement) (a b : List Event) → a ≡ b → v �
 tag_opened w v a b is h = h ∙ ap (open_after w) is
 
 -- ---- events of a start tag of which all stay
-inside-lines : (w : List OpenElement) (es : List Event) → is_simple es ≡ true → lines w es ≡ []
+pub inside-lines : (w : List OpenElement) (es : List Event) → is_simple es ≡ true → lines w es ≡ []
 unfolding lines is_simple
 inside-lines w [] h = refl
 inside-lines w (Space prefix uri ∷ es) h =
@@ -214,7 +214,7 @@ inside-lines w (End ∷ es) h = absurd (cc)
 inside-lines w (Comment text ∷ es) h = absurd (cc)
 inside-lines w (Pi target value ∷ es) h = absurd (cc)
 
-inside-opens : (w : List OpenElement) (es : List Event) → is_simple es ≡ true → open_after w es ≡ w
+pub inside-opens : (w : List OpenElement) (es : List Event) → is_simple es ≡ true → open_after w es ≡ w
 unfolding open_after is_simple
 inside-opens w [] h = refl
 inside-opens w (Space prefix uri ∷ es) h =
@@ -266,6 +266,18 @@ clear-more : (before : List Event) (e : Event) (es : List Event) → AreClear be
 clear-more [] e es h one = (one, tt)
 clear-more (b ∷ bs) e es h one = (h.0, clear-more bs e es h.1 one)
 
+-- what is no attribute clashes with nothing
+pub unnamed_clear : (e : Event) (es : List Event) → ((name : Label) → is_attribute_of name.uri name.local e ≡ false) → is_clear e es ≡ true
+unfolding is_clear
+unnamed_clear e [] none = refl
+unnamed_clear e (Attr name value ∷ es) none = rw (none name) (unnamed_clear e es none)
+unnamed_clear e (Start name ∷ es) none = unnamed_clear e es none
+unnamed_clear e (Space prefix uri ∷ es) none = unnamed_clear e es none
+unnamed_clear e (Chars text ∷ es) none = unnamed_clear e es none
+unnamed_clear e (End ∷ es) none = unnamed_clear e es none
+unnamed_clear e (Comment text ∷ es) none = unnamed_clear e es none
+unnamed_clear e (Pi target value ∷ es) none = unnamed_clear e es none
+
 -- one after another at the end
 open_behind : (first : Event) (before more : List Event) → is_open ((first ∷ before) ++ more) ≡ true
 open_behind first before more = refl
@@ -295,17 +307,6 @@ simple_taken (End ∷ es) first before s is clear simple = absurd (cc)
 simple_taken (Comment text ∷ es) first before s is clear simple = absurd (cc)
 simple_taken (Pi target value ∷ es) first before s is clear simple = absurd (cc)
 
-start-clear : (name : Label) (es : List Event) → is_clear (Start name) es ≡ true
-unfolding is_clear
-start-clear name [] = refl
-start-clear name (Start other ∷ es) = start-clear name es
-start-clear name (Space prefix uri ∷ es) = start-clear name es
-start-clear name (Attr other value ∷ es) = start-clear name es
-start-clear name (Chars text ∷ es) = start-clear name es
-start-clear name (End ∷ es) = start-clear name es
-start-clear name (Comment text ∷ es) = start-clear name es
-start-clear name (Pi target value ∷ es) = start-clear name es
-
 pub simple_begun : (tag : List (Bor Event)) (name : Label) (es : List Event) → lent tag ≡ Start name ∷ es → is_simple es ≡ true
     → (begun tag).tag ≡ Start name ∷ es
 unfolding taken_all
@@ -313,7 +314,7 @@ simple_begun tag name es is simple =
     ap (λ xs. (taken_all nothing xs).tag) is
     ∙ simple_taken es (Start name) [] (taken nothing (Start name))
     (ap (λ x. x.tag) (started nothing (Start name) name (record { closed = refl; text = refl }) refl refl))
-    (start-clear name es, tt) simple
+    (unnamed_clear (Start name) es (λ other. refl), tt) simple
 
 -- ---- an element that declares nothing
 turned : (items now : List Frame) (f : Frame) → now ≡ items ++ f ∷ [] → reverse now ≡ f ∷ reverse items

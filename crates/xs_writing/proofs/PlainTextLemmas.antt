@@ -1,6 +1,6 @@
 -- Texts of which each byte is written as itself.
-use Rattle.std.proofs.Common.{◌≡◌, ℕ, List, [], ◌∷◌, ◌++◌, Bool, false, Option, None, Some, is_some, sym, ◌∙◌, ap, arith}
-use Rattle.std.proofs.lemmas.Bool.{or_parts}
+use Rattle.std.proofs.Common.{◌≡◌, ℕ, ◌==◌, ◌&&◌, nat_lt, not, true, List, [], ◌∷◌, ◌++◌, Bool, false, Option, None, Some, is_some, length, sym, ◌∙◌, ap, arith}
+use Rattle.std.proofs.lemmas.Bool.{and_parts, or_parts}
 use Rattle.std.proofs.lemmas.Bool.Decides.{nat_tests}
 use Rattle.std.specs.List.{list_any}
 use Rattle.memchr.specs.Find.{IsFirstByte, is_byte2}
@@ -22,3 +22,15 @@ escaped_itself (x ∷ xs) one two =
     let first = or_parts (is_byte2 10 92 x) (list_any (is_byte2 10 92) xs) one in
     let second = or_parts (is_byte2 9 13 x) (list_any (is_byte2 9 13) xs) two in
     escaped-cons x xs ∙ ap (λ o. written_by o x ++ escaped xs) (no_letter x first.0 second.0) ∙ ap (λ ys. x ∷ ys) (escaped_itself xs first.1 second.1)
+
+no_pair : (b : ℕ) → (not (b == 92) && nat_lt 31 b) ≡ true → letter_of b ≡ None
+no_pair b printed = let parts = and_parts (not (b == 92)) (nat_lt 31 b) printed in grind (arith, nat_tests)
+
+pub printed_none : (xs : List ℕ) → length xs ≡ 0 → escaped xs ≡ xs
+printed_none [] none = escaped-nil
+printed_none (x ∷ xs) none = absurd (omega (arith, none))
+
+-- a byte that is neither a backslash nor a control character, before others that are written as themselves
+pub printed_first : (xs ys : List ℕ) (b : ℕ) → xs ≡ b ∷ ys → (not (b == 92) && nat_lt 31 b) ≡ true → escaped ys ≡ ys → escaped xs ≡ xs
+printed_first xs ys b is printed rest =
+    ap escaped is ∙ escaped-cons b ys ∙ ap (λ o. written_by o b ++ escaped ys) (no_pair b printed) ∙ ap (λ zs. b ∷ zs) rest ∙ sym is

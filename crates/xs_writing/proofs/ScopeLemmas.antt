@@ -1,10 +1,13 @@
 -- The bindings in force: one declaration more, and one less.
 use Rattle.std.proofs.Common.{◌≡◌, ℕ, zero, suc, ◌-◌, ◌<◌, List, [], ◌∷◌, ◌++◌, Bool, true, false, Option, Some, cond, drop, refl, sym, ◌∙◌, ap, subst, arith, reverse}
 use Rattle.std.proofs.lemmas.List.{reverse-append}
-use Rattle.std.specs.Prelude.{codes}
+use Rattle.std.specs.Prelude.{codes, not, unwrap_or}
+use Rattle.std.proofs.lemmas.Slice.Eq.{bytes_eq-Decides}
+use Rattle.std.specs.Str.{bytes_eq}
 use Rattle.std.specs.BTreeMap.{insert_entry, is_at}
 use Rattle.xs_writing.specs.Bindings.{Binding, order_of_prefixes, outermost, uri_in, xml_uri}
 use Rattle.xs_writing.specs.declared.scope.Undo.{Undo}
+use Rattle.xs_writing.specs.steps.InForce.{is_in_force}
 use Rattle.xs_writing.specs.steps.Open.{IsCurrent, KnowBefore, logged}
 use Rattle.xs_writing.proofs.OrderLemmas.{Rebinds, same_at, uri_in-first}
 
@@ -66,3 +69,20 @@ pub drop-one : (n : ℕ) (xs : List Binding) → 0 < n → drop n xs ≡ drop (n
 drop-one zero xs h = absurd (omega arith)
 drop-one (suc n) [] h = sym (drop-nil (suc n - 1))
 drop-one (suc n) (x ∷ xs) h = let e : n ≡ suc n - 1 = omega arith in ap (λ i. drop i xs) e
+
+-- ---- the recent prefix, whose URI is kept beside the table
+same_text : (a b : List ℕ) (t : Bool) → t ≡ not (bytes_eq a b) → t ≡ false → a ≡ b
+same_text a b t is differs = (bytes_eq-Decides a b).0 (by_test (bytes_eq a b) (sym is ∙ differs))
+  where
+    by_test : (s : Bool) → not s ≡ false → s ≡ true
+    by_test true h = refl
+    by_test false h = sym h
+
+pub recent_in_force : (table around : List Binding) (us : List Undo) (recent prefix uri : List ℕ) (bound : Option (List ℕ)) → IsKept table us
+    → bound ≡ uri_in table recent → (text : List ℕ) (t : Bool) → text ≡ recent → t ≡ not (bytes_eq text prefix) → t ≡ false → logged us ≡ around
+    → bytes_eq (unwrap_or bound []) uri ≡ true → is_in_force (around ++ outermost) prefix uri ≡ true
+recent_in_force table around us recent prefix uri bound kept is text t reads test differs view holds =
+    let same : recent ≡ prefix = sym reads ∙ same_text text prefix t test differs in
+    ap (λ bs. is_in_force (bs ++ outermost) prefix uri) (sym view)
+    ∙ ap (λ o. not (not (bytes_eq (unwrap_or o []) uri))) (sym (kept.0 prefix) ∙ ap (uri_in table) (sym same) ∙ sym is)
+    ∙ ap (λ t. not (not t)) holds

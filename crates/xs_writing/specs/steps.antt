@@ -1,3 +1,4 @@
+pub mod Bound
 pub mod InForce
 pub mod Stream
 pub mod Tables

@@ -5,7 +5,6 @@ ghost use Rattle.xs_writing.specs.steps.InForce.{are_plain, is_plain, is_plain_t
 
 use crate::scope::Scope;
 use crate::tag_bindings::{is_in_tag, needs_prefix};
-use crate::text_key::TextKey;
 use std::alloc::AllocError;
 use xs_trace::event::{Event, Label};
 
@@ -48,10 +47,7 @@ pub(crate) fn is_plain(scope: &Scope, event: &Event) -> Result<bool, AllocError>
     ensures { IfOk result (λ holds. holds ≡ is_plain (scope.now ++ outermost) event.now) }
 {
     match event {
-        Event::Space { prefix, uri } => {
-            let prefix = TextKey::of(prefix)?;
-            Ok(!scope.is_new(&prefix, uri.as_str()))
-        }
+        Event::Space { prefix, uri } => scope.has_space(prefix, uri),
         Event::Attr { name, .. } => keeps_own(scope, name),
         Event::Start(_) => Ok(true),
         Event::Chars(_) => Ok(true),

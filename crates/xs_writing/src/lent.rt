@@ -1,14 +1,14 @@
 //! Start tags whose events are lent: those of which the lines are written from the events as they
 //! came, and any others, for which events are made.
-ghost use Rattle.std.specs.Prelude.{◌≡◌, ◌++◌, ◌&&◌, true, IfOk, OnOk, length, take};
+ghost use Rattle.std.specs.Prelude.{◌≡◌, ◌++◌, ◌&&◌, false, true, IfOk, OnOk, length, take};
 ghost use Rattle.std.specs.Str.{IsUtf8, bytes_eq};
 ghost use Rattle.xs_result.specs.steps.Building.{flushed};
-ghost use Rattle.xs_result.specs.steps.Places.{is_attribute_of};
 ghost use Rattle.xs_result.specs.steps.Views.{state};
 ghost use Rattle.xs_writing.specs.Bindings.{attributes_in, outermost};
 ghost use Rattle.xs_writing.specs.Lines.{bytes_of};
 ghost use Rattle.xs_writing.specs.steps.InForce.{are_plain, is_plain_tag, own_lines, plain_lines};
-ghost use Rattle.xs_writing.specs.steps.Pending.{begun, clashes, is_clear, is_simple, lent};
+ghost use Rattle.xs_writing.specs.steps.Pending.{IsNamed, begun, clashes, is_clear, is_simple};
+ghost use Rattle.xs_writing.specs.steps.Pending.{lent};
 
 use crate::in_force::is_plain;
 use crate::name_lines::{append_event, append_start};
@@ -19,7 +19,7 @@ use xs_result::Builder;
 use xs_trace::event::{Event, Fragment, Label};
 
 /// How many events a start tag has at most that are compared one with another.
-const FEW: usize = 9;
+const FEW: usize = 24;
 
 /// Whether these events belong to a start tag, and no two attributes among them have one name. Of
 /// more than a few it answers no.
@@ -51,24 +51,44 @@ fn are_apart(added: &[&Event]) -> bool
 }
 
 /// Whether no later attribute has the name of an event.
-#[tactic(auto, unfolding(crate::specs::steps::Pending::is_clear))]
 fn is_clear(event: &Event, behind: &[&Event]) -> bool
     ensures { result ≡ is_clear event.now (lent behind.now) }
 {
+    match event {
+        Event::Attr { name, .. } => is_unique(event, name, name.local().as_bytes(), behind),
+        Event::Start(_) => true,
+        Event::Space { .. } => true,
+        Event::Chars(_) => true,
+        Event::End => true,
+        Event::Comment(_) => true,
+        Event::Pi { .. } => true,
+    }
+}
+
+/// Whether no later attribute has the name of an attribute, of which the local part is lent too.
+#[tactic(auto, unfolding(crate::specs::steps::Pending::is_clear))]
+fn is_unique(event: &Event, name: &Label, local: &[u8], behind: &[&Event]) -> bool
+    requires named { IsNamed name.now event.now }
+    requires local { local.now ≡ name.now.local }
+    ensures { result ≡ is_clear event.now (lent behind.now) }
+{
     for later in behind {
-        if clashes(event, *later) {
+        if clashes(event, name, local, *later) {
             return false;
         }
     }
     true
 }
 
-/// Whether a later event is an attribute of the name that an earlier one has.
-fn clashes(event: &Event, later: &Event) -> bool
+/// Whether a later event is an attribute of the name that an attribute has.
+fn clashes(event: &Event, name: &Label, local: &[u8], later: &Event) -> bool
+    requires named { IsNamed name.now event.now }
+    requires local { local.now ≡ name.now.local }
     ensures { result ≡ clashes event.now later.now }
 {
+    let _event = event;
     match later {
-        Event::Attr { name, .. } => is_attribute_of(event, name),
+        Event::Attr { name: other, .. } => is_same(name, local, other),
         Event::Start(_) => false,
         Event::Space { .. } => false,
         Event::Chars(_) => false,
@@ -78,27 +98,31 @@ fn clashes(event: &Event, later: &Event) -> bool
     }
 }
 
-/// Whether an event is an attribute with this expanded name.
-fn is_attribute_of(event: &Event, name: &Label) -> bool
-    ensures { result ≡ is_attribute_of name.now.uri name.now.local event.now }
-{
-    match event {
-        Event::Attr { name: own, .. } => is_same(own, name),
-        Event::Start(_) => false,
-        Event::Space { .. } => false,
-        Event::Chars(_) => false,
-        Event::End => false,
-        Event::Comment(_) => false,
-        Event::Pi { .. } => false,
-    }
-}
-
-/// Whether two names have the same URI and local part.
-fn is_same(own: &Label, name: &Label) -> bool
+/// Whether another name has the URI and the local part of a name. Most names of a tag differ in the
+/// length or the last byte of their local parts, so that these come first.
+fn is_same(own: &Label, local: &[u8], name: &Label) -> bool
+    requires local { local.now ≡ own.now.local }
     ensures { result
         ≡ (bytes_eq name.now.uri own.now.uri && bytes_eq name.now.local own.now.local) }
 {
+    if !ends_alike(name.local().as_bytes(), local) {
+        return false;
+    }
     name.uri() == own.uri() && name.local() == own.local()
+}
+
+/// Whether two texts have one length and one last byte.
+fn ends_alike(text: &[u8], other: &[u8]) -> bool
+    ensures alike { result ≡ false → bytes_eq text.now other.now ≡ false }
+{
+    let len = text.len();
+    if len != other.len() {
+        return false;
+    }
+    if len == 0 {
+        return true;
+    }
+    text[len - 1] == other[len - 1]
 }
 
 /// Whether the start tag of an element declares nothing here, and its attributes keep their
@@ -152,7 +176,7 @@ pub(crate) fn append_lent_tag(
 
 /// Appends the lines of the attributes of a start tag.
 #[tactic(auto, unfolding(crate::specs::Bindings::attributes_in, crate::specs::Lines::bytes_of))]
-fn append_lent_attributes(out: &mut Vec<u8>, added: &[&Event]) -> Result<(), AllocError>
+pub(crate) fn append_lent_attributes(out: &mut Vec<u8>, added: &[&Event]) -> Result<(), AllocError>
     ensures written { OnOk result (out.new.items
         ≡ out.old.items ++ bytes_of (own_lines (attributes_in (lent added.now)))) }
     ensures kept { take (length out.old.items) out.new.items ≡ out.old.items }

@@ -1,6 +1,7 @@
 //! The result of a run as the lines of a document.
 #![tactic(auto)]
 
+mod bound;
 mod in_force;
 pub mod laws;
 mod least;

@@ -1,5 +1,5 @@
 //! Lines that are written from names as events have them, with no text made for them.
-ghost use Rattle.std.specs.Prelude.{◌≡◌, ◌∷◌, ◌++◌, [], ◌<◌, IfOk, List, OnOk, length, take};
+ghost use Rattle.std.specs.Prelude.{◌≡◌, ◌∷◌, ◌++◌, [], ◌<◌, IfOk, List, OnOk, length, map, take};
 ghost use Rattle.std.specs.List.{cons_option};
 ghost use Rattle.std.specs.Str.{IsUtf8};
 ghost use Rattle.xs_pyx.specs.FirstBytes.{line_feed, space};
@@ -7,12 +7,14 @@ ghost use Rattle.xs_pyx.specs.Writing.{written};
 ghost use Rattle.xs_pyx.specs.declared.line.Line.TheVariants as line_of;
 ghost use Rattle.xs_text.specs.Escapes.{escaped};
 ghost use Rattle.xs_writing.specs.Bindings.{Attribute, attribute_of, attributes_in};
-ghost use Rattle.xs_writing.specs.Lines.{bytes_of, element_name};
+ghost use Rattle.xs_writing.specs.Lines.{bytes_of, declaration, declaration_name, element_name};
 ghost use Rattle.xs_result.specs.Built.{is_empty};
 ghost use Rattle.xs_writing.specs.steps.InForce.{own_lines, plain_lines};
+ghost use Rattle.xs_writing.specs.steps.Open.{binding, bindings_of};
 ghost use Rattle.xs_writing.specs.steps.Pending.{joined, text_lines};
 
-use crate::plain_text::is_long_and_plain;
+use crate::plain_text::is_plain;
+use crate::scope::Declared;
 use crate::tag_bindings::is_in_tag;
 use std::alloc::AllocError;
 use std::marker::Model;
@@ -214,6 +216,53 @@ pub(crate) fn append_event(out: &mut Vec<u8>, event: &Event) -> Result<(), Alloc
     }
 }
 
+/// Appends the lines of declarations.
+#[tactic(auto, unfolding(crate::specs::Lines::bytes_of))]
+pub(crate) fn append_declarations(
+    out: &mut Vec<u8>,
+    declared: &[Declared],
+) -> Result<(), AllocError>
+    ensures written { OnOk result (out.new.items
+        ≡ out.old.items ++ bytes_of (map declaration (bindings_of declared.now))) }
+    ensures kept { take (length out.old.items) out.new.items ≡ out.old.items }
+    ensures utf8 { IsUtf8 out.old.items → IsUtf8 out.new.items }
+{
+    let mut rest = declared;
+    while let Some((first, more)) = rest.split_first() {
+        append_declaration(out, first)?;
+        rest = more;
+    }
+    Ok(())
+}
+
+/// Appends the line of a declaration.
+#[tactic(auto, unfolding(xs_pyx::specs::Writing::written))]
+fn append_declaration(out: &mut Vec<u8>, declared: &Declared) -> Result<(), AllocError>
+    ensures written { OnOk result
+        (out.new.items ≡ out.old.items ++ written (declaration (binding declared.now))) }
+    ensures kept { take (length out.old.items) out.new.items ≡ out.old.items }
+    ensures utf8 { IsUtf8 out.old.items → IsUtf8 out.new.items }
+{
+    append_byte(out, b'A')?;
+    append_declaration_name(out, declared.prefix.as_str())?;
+    append_value(out, declared.uri.as_str())
+}
+
+/// Appends the name of the attribute that declares a prefix.
+fn append_declaration_name(out: &mut Vec<u8>, prefix: &str) -> Result<(), AllocError>
+    ensures written { OnOk result
+        (out.new.items ≡ out.old.items ++ declaration_name prefix.now) }
+    ensures kept { take (length out.old.items) out.new.items ≡ out.old.items }
+    ensures utf8 { IsUtf8 out.old.items → IsUtf8 out.new.items }
+{
+    if prefix.is_empty() {
+        return append_text(out, "xmlns");
+    }
+    append_text(out, "xmlns")?;
+    append_byte(out, b':')?;
+    append_text(out, prefix)
+}
+
 /// Appends the line of an attribute.
 #[tactic(auto, unfolding(xs_pyx::specs::Writing::written))]
 fn append_attribute(out: &mut Vec<u8>, name: &Label, value: &TextBuf) -> Result<(), AllocError>
@@ -255,7 +304,7 @@ fn append_escaped(out: &mut Vec<u8>, value: &str) -> Result<(), AllocError>
     ensures kept { take (length out.old.items) out.new.items ≡ out.old.items }
     ensures utf8 { IsUtf8 out.old.items → IsUtf8 out.new.items }
 {
-    if is_long_and_plain(value) {
+    if is_plain(value) {
         return append_text(out, value);
     }
     escape_into(out, value)?;

@@ -1,7 +1,8 @@
 //! The bindings that are in force.
 ghost use Rattle.std.specs.Prelude.{◌≡◌, ◌∷◌, ◌++◌, [], ℕ, if◌then◌else◌, true, IfOk, List, OnOk};
-ghost use Rattle.std.specs.Prelude.{drop, filter};
+ghost use Rattle.std.specs.Prelude.{drop, filter, unwrap_or};
 ghost use Rattle.std.specs.BTreeMap.{is_at};
+ghost use Rattle.std.specs.Str.{bytes_eq};
 ghost use Rattle.xs_writing.specs.Bindings.{Binding, declared, is_new, order_of_prefixes};
 ghost use Rattle.xs_writing.specs.Bindings.{outermost, uri_in};
 ghost use Rattle.xs_writing.specs.steps.InForce.{is_in_force};
@@ -38,19 +39,21 @@ pub(crate) struct Scope {
     log: Vec<Undo>,
     /// The prefix of the last element, as a key: the next one mostly has the same.
     recent: TextKey,
+    /// The URI of that prefix in the table, if it has one.
+    bound: Option<TextBuf>,
 }
 
 impl Model for Scope {
-    ghost use Rattle.std.specs.Prelude.{List, reverse};
-    ghost use Rattle.xs_writing.specs.Bindings.{Binding};
+    ghost use Rattle.std.specs.Prelude.{◌≡◌, List, reverse};
+    ghost use Rattle.xs_writing.specs.Bindings.{Binding, uri_in};
     ghost use Rattle.xs_writing.specs.steps.Open.{IsCurrent, KnowBefore, logged};
 
     ghost Value = { List Binding };
 
     ghost view = { λ s. logged (reverse s.log.items) };
 
-    ghost invariant = { λ s. IsCurrent s.current.entries (reverse s.log.items)
-        × KnowBefore (reverse s.log.items) };
+    ghost invariant = { λ s. (IsCurrent s.current.entries (reverse s.log.items)
+        × KnowBefore (reverse s.log.items)) × (s.bound ≡ uri_in s.current.entries s.recent) };
 }
 
 impl Scope {
@@ -61,10 +64,13 @@ impl Scope {
         let mut current = BTreeMap::new(alloc);
         let xml = TextBuf::of(alloc, "xml")?;
         let _ = current.insert(TextKey::of(&xml)?, TextBuf::of(alloc, XML_URI)?)?;
+        let recent = TextKey::of_str(alloc, "")?;
+        let bound = bound_to(&current, &recent)?;
         Ok(Scope {
             current,
             log: Vec::new(alloc),
-            recent: TextKey::of_str(alloc, "")?,
+            recent,
+            bound,
         })
     }
 
@@ -108,7 +114,7 @@ impl Scope {
 
     /// Whether a prefix is bound to another URI here, or to none.
     #[tactic(auto, unfolding(crate::specs::Bindings::uri_in))]
-    pub(crate) fn is_new(&self, prefix: &TextKey, uri: &str) -> bool
+    fn is_new(&self, prefix: &TextKey, uri: &str) -> bool
         ensures { result ≡ is_new (self.now ++ outermost) (prefix.now, uri.now) }
     {
         match self.current.get(prefix) {
@@ -125,11 +131,35 @@ impl Scope {
         if self.is_bare(prefix) {
             return Ok(uri.is_empty());
         }
-        if self.recent.as_str() == prefix {
-            return Ok(!self.is_new(&self.recent, uri));
+        if self.binds_recent(prefix, uri) {
+            return Ok(true);
         }
         let key = TextKey::of_str(*self.log.allocator(), prefix)?;
         Ok(!self.is_new(&key, uri))
+    }
+
+    /// The same of a namespace node.
+    pub(crate) fn has_space(&self, prefix: &TextBuf, uri: &TextBuf) -> Result<bool, AllocError>
+        ensures { IfOk result (λ holds. holds
+            ≡ is_in_force (self.now ++ outermost) prefix.now uri.now) }
+    {
+        if self.binds_recent(prefix.as_str(), uri.as_str()) {
+            return Ok(true);
+        }
+        let key = TextKey::of(prefix)?;
+        Ok(!self.is_new(&key, uri.as_str()))
+    }
+
+    /// Whether a prefix is the recent one, and is bound to a URI here; to none, where the URI is
+    /// empty.
+    fn binds_recent(&self, prefix: &str, uri: &str) -> bool
+        ensures { result ≡ true
+            → is_in_force (self.now ++ outermost) prefix.now uri.now ≡ true }
+    {
+        if self.recent.as_str() != prefix {
+            return false;
+        }
+        is_bound_to(&self.bound, uri)
     }
 
     /// Whether nothing is declared, and a prefix is empty.
@@ -159,13 +189,17 @@ impl Scope {
             current,
             log,
             recent,
+            bound,
         } = self;
         let _last = recent;
+        let _uri = bound;
         let recent = TextKey::of_str(*log.allocator(), prefix)?;
+        let bound = bound_to(&current, &recent)?;
         Ok(Scope {
             current,
             log,
             recent,
+            bound,
         })
     }
 
@@ -189,7 +223,9 @@ impl Scope {
             mut current,
             mut log,
             recent,
+            bound,
         } = self;
+        let _last = bound;
         let before = uri_of(&current, &declared.prefix)?;
         let Declared { prefix, uri } = declared;
         let _ = current.insert(TextKey::of(&prefix)?, uri.copy()?)?;
@@ -198,10 +234,12 @@ impl Scope {
             uri,
             before,
         })?;
+        let bound = bound_to(&current, &recent)?;
         Ok(Scope {
             current,
             log,
             recent,
+            bound,
         })
     }
 
@@ -226,24 +264,30 @@ impl Scope {
             current,
             mut log,
             recent,
+            bound,
         } = self;
         match log.pop() {
-            Some(last) => Ok(Scope {
-                current: undone(current, last)?,
-                log,
-                recent,
-            }),
+            Some(last) => {
+                let current = undone(current, last)?;
+                let bound = bound_to(&current, &recent)?;
+                Ok(Scope {
+                    current,
+                    log,
+                    recent,
+                    bound,
+                })
+            }
             None => Ok(Scope {
                 current,
                 log,
                 recent,
+                bound,
             }),
         }
     }
 }
 
 /// The URI that a table has for a prefix.
-#[tactic(auto, unfolding(crate::specs::Bindings::uri_in))]
 fn uri_of(
     current: &BTreeMap<TextKey, TextBuf>,
     prefix: &TextBuf,
@@ -251,9 +295,31 @@ fn uri_of(
     ensures { IfOk result (λ uri. uri ≡ uri_in current.now.entries prefix.now) }
 {
     let key = TextKey::of(prefix)?;
-    match current.get(&key) {
+    bound_to(current, &key)
+}
+
+/// The URI that a table has for a key.
+#[tactic(auto, unfolding(crate::specs::Bindings::uri_in))]
+fn bound_to(
+    current: &BTreeMap<TextKey, TextBuf>,
+    prefix: &TextKey,
+) -> Result<Option<TextBuf>, AllocError>
+    ensures { IfOk result (λ uri. uri ≡ uri_in current.now.entries prefix.now) }
+{
+    match current.get(prefix) {
         Some(uri) => Ok(Some(uri.copy()?)),
         None => Ok(None),
+    }
+}
+
+/// Whether a prefix to which a table gives this URI, or none, is bound to a URI; to none, where
+/// that is empty.
+fn is_bound_to(bound: &Option<TextBuf>, uri: &str) -> bool
+    ensures { result ≡ bytes_eq (unwrap_or bound.now []) uri.now }
+{
+    match bound {
+        Some(other) => other.as_str() == uri,
+        None => uri.is_empty(),
     }
 }
 

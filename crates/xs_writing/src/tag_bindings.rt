@@ -6,8 +6,12 @@ ghost use Rattle.xs_trace.specs.Label.{Label};
 ghost use Rattle.xs_writing.specs.Bindings.{Binding, added, attribute_prefix, binds};
 ghost use Rattle.xs_writing.specs.Bindings.{bindings_before, chosen_prefix, first_new};
 ghost use Rattle.xs_writing.specs.Bindings.{is_in_tag, keeps_prefix, needs_prefix, new_from};
-ghost use Rattle.xs_writing.specs.Bindings.{new_prefix, order_of_prefixes, prefix_for, space_of};
+ghost use Rattle.xs_writing.specs.Bindings.{is_new, new_prefix, order_of_prefixes, own_binding};
+ghost use Rattle.xs_writing.specs.Bindings.{prefix_for, space_of};
 ghost use Rattle.xs_writing.specs.Bindings.{spaces_in, uri_in, with_attribute, with_spaces};
+ghost use Rattle.xs_writing.specs.steps.Bound.{keep_own, may_keep};
+ghost use Rattle.xs_writing.specs.steps.InForce.{keeps_own};
+ghost use Rattle.xs_writing.specs.steps.Pending.{lent};
 ghost use Rattle.xs_writing.specs.steps.Tables.{AreBound};
 
 use crate::least::noted;
@@ -57,10 +61,31 @@ impl TagBindings {
     ) -> Result<TagBindings, AllocError>
         ensures { IfOk result (λ m. m ≡ bindings_before name.now added.now) }
     {
+        let bindings = TagBindings::own(alloc, name)?;
+        bindings.with_spaces(added)
+    }
+
+    /// The same, where the events are lent.
+    #[tactic(auto, unfolding(crate::specs::steps::Unfolding::space_by_space))]
+    pub(crate) fn lent(
+        alloc: Global,
+        name: &Label,
+        added: &[&Event],
+    ) -> Result<TagBindings, AllocError>
+        ensures { IfOk result (λ m. m ≡ bindings_before name.now (lent added.now)) }
+    {
+        let bindings = TagBindings::own(alloc, name)?;
+        bindings.with_lent_spaces(added)
+    }
+
+    /// The binding of an element's name.
+    #[tactic(auto, unfolding(crate::specs::steps::Unfolding::space_by_space))]
+    fn own(alloc: Global, name: &Label) -> Result<TagBindings, AllocError>
+        ensures { IfOk result (λ m. m ≡ own_binding name.now) }
+    {
         let prefix = TextBuf::of(alloc, name.prefix())?;
         let uri = TextBuf::of(alloc, name.uri())?;
-        let bindings = TagBindings::none(alloc).with(&prefix, &uri)?;
-        bindings.with_spaces(added)
+        TagBindings::none(alloc).with(&prefix, &uri)
     }
 
     /// The bindings, in the order of the prefixes.
@@ -147,6 +172,21 @@ impl TagBindings {
         Ok(bindings)
     }
 
+    /// The same, where the events are lent.
+    #[tactic(auto, unfolding(crate::specs::steps::Unfolding::space_by_space))]
+    fn with_lent_spaces(self, added: &[&Event]) -> Result<TagBindings, AllocError>
+        ensures { IfOk result (λ m. m ≡ with_spaces self (spaces_in (lent added.now))) }
+    {
+        let mut bindings = self;
+        for event in added {
+            if !is_in_tag(*event) {
+                return Ok(bindings);
+            }
+            bindings = bindings.with_space(*event)?;
+        }
+        Ok(bindings)
+    }
+
     /// The binding of a namespace node is added; no other event has one.
     #[tactic(auto, unfolding(crate::specs::Bindings::with_spaces))]
     fn with_space(self, event: &Event) -> Result<TagBindings, AllocError>
@@ -161,6 +201,58 @@ impl TagBindings {
             Event::End => Ok(self),
             Event::Comment(_) => Ok(self),
             Event::Pi { .. } => Ok(self),
+        }
+    }
+
+    /// Whether each attribute of a start tag needs no prefix, or its own is bound to its URI.
+    #[tactic(auto, unfolding(crate::specs::steps::Bound::keep_own))]
+    pub(crate) fn keep_own(&self, added: &[&Event]) -> Result<bool, AllocError>
+        ensures { IfOk result (λ keep. keep ≡ keep_own self.now (lent added.now)) }
+    {
+        for event in added {
+            if !self.may_keep(*event)? {
+                return Ok(false);
+            }
+        }
+        Ok(true)
+    }
+
+    /// The same of one event: of any but an attribute it is so.
+    fn may_keep(&self, event: &Event) -> Result<bool, AllocError>
+        ensures { IfOk result (λ keeps. keeps ≡ may_keep self.now event.now) }
+    {
+        match event {
+            Event::Attr { name, .. } => self.keeps_own(name),
+            Event::Start(_) => Ok(true),
+            Event::Space { .. } => Ok(true),
+            Event::Chars(_) => Ok(true),
+            Event::End => Ok(true),
+            Event::Comment(_) => Ok(true),
+            Event::Pi { .. } => Ok(true),
+        }
+    }
+
+    /// Whether an attribute needs no prefix, or its own is bound to its URI.
+    fn keeps_own(&self, name: &Label) -> Result<bool, AllocError>
+        ensures { IfOk result (λ keeps. keeps ≡ keeps_own self.now name.now) }
+    {
+        if !needs_prefix(name) {
+            return Ok(true);
+        }
+        if name.prefix().is_empty() {
+            return Ok(false);
+        }
+        let key = TextKey::of_str(self.alloc, name.prefix())?;
+        Ok(!self.is_new(&key, name.uri()))
+    }
+
+    /// Whether a prefix is bound to another URI, or to none.
+    fn is_new(&self, prefix: &TextKey, uri: &str) -> bool
+        ensures { result ≡ is_new self.now (prefix.now, uri.now) }
+    {
+        match self.uri_of(prefix) {
+            Some(other) => other.as_str() != uri,
+            None => !uri.is_empty(),
         }
     }
 

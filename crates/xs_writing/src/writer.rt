@@ -39,7 +39,7 @@ struct Frame {
 /// declarations are in force.
 #[derive(Drop)]
 pub struct PyxWriter {
-    alloc: Global,
+    pub(crate) alloc: Global,
     /// What is in force; none after memory ran out, from when on nothing is written.
     scope: Option<Scope>,
     /// The open elements, the innermost last.
@@ -185,7 +185,7 @@ impl PyxWriter {
         if self.is_plain_lent(name, added)? {
             return self.plain_tag(out, name, added);
         }
-        self.built_tag(out, tag)
+        self.declaring_tag(out, name, added, tag)
     }
 
     /// Whether a start tag is written as it is lent: no two of its attributes have one name, and it
@@ -226,7 +226,7 @@ impl PyxWriter {
 
     /// Writes any start tag, of events that are made for it.
     #[inline(never)]
-    fn built_tag(&mut self, out: &mut Vec<u8>, tag: &[&Event]) -> Result<(), AllocError>
+    pub(crate) fn built_tag(&mut self, out: &mut Vec<u8>, tag: &[&Event]) -> Result<(), AllocError>
         requires alone { IsAlone (begun tag.now) }
         ensures written { OnOk result
             (out.new.items ≡ out.old.items ++ bytes_of (lines self.old (begun tag.now).tag)) }
@@ -268,7 +268,7 @@ impl PyxWriter {
     }
 
     /// The bindings of a start tag that are new here, in their order.
-    fn declared(&self, tag: &TagBindings) -> Result<Vec<Declared>, AllocError>
+    pub(crate) fn declared(&self, tag: &TagBindings) -> Result<Vec<Declared>, AllocError>
         ensures { IfOk result (λ all.
             bindings_of all.items ≡ declared (scope_of self.now) tag.now) }
     {
@@ -326,7 +326,7 @@ impl PyxWriter {
     }
 
     /// An element is open, with these declarations.
-    fn enter(&mut self, name: &Label, declared: Vec<Declared>) -> Result<(), AllocError>
+    pub(crate) fn enter(&mut self, name: &Label, declared: Vec<Declared>) -> Result<(), AllocError>
         ensures { OnOk result (self.new ≡ record {
           name = element_name name.now;
           scope = bindings_of declared.items ++ scope_of self.old;

@@ -1,12 +1,14 @@
 -- The events that came and are not written yet, as they lie beside the writer.
 use Rattle.std.specs.Prelude.{◌≡◌, ℕ, List, [], ◌∷◌, ◌++◌, Bool, true, false, ◌&&◌, if◌then◌else◌, map, not}
 use Rattle.std.specs.List.{flat_map}
+use Rattle.std.specs.Str.{bytes_eq}
 use denote.Ref.{Bor}
 use Rattle.xs_pyx.specs.declared.line.Line.{Line}
 use Rattle.xs_pyx.specs.declared.line.Line.TheVariants as line
 use Rattle.xs_result.specs.Built.{is_empty}
 use Rattle.xs_result.specs.steps.Building.{State, nothing, taken, taken_all}
 use Rattle.xs_result.specs.steps.Places.{is_attribute_of}
+use Rattle.xs_trace.specs.Label.{Label}
 use Rattle.xs_trace.specs.declared.event.Event.{Event}
 use Rattle.xs_trace.specs.declared.event.Event.TheVariants.{Start, Space, Attr, Chars, End, Comment, Pi}
 use Rattle.xs_writing.specs.Bindings.{is_in_tag}
@@ -45,6 +47,10 @@ clashes e (Chars text) = false
 clashes e End = false
 clashes e (Comment text) = false
 clashes e (Pi target value) = false
+
+-- an attribute with this name
+abbrev pub IsNamed : Label → Event → Type 0
+IsNamed name e = (other : Label) → is_attribute_of other.uri other.local e ≡ (bytes_eq other.uri name.uri && bytes_eq other.local name.local)
 
 -- an event clashes with none of those after it
 unfoldable pub is_clear : Event → List Event → Bool

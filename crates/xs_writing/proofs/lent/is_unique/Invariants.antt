@@ -1,6 +1,6 @@
 use Rattle.std.proofs.Common.{◌≡◌, drop}
 use Rattle.xs_writing.specs.steps.Pending.{is_clear, lent}
-use Rattle.xs_writing.proofs.lent.is_clear.Given as goal
+use Rattle.xs_writing.proofs.lent.is_unique.Given as goal
 
 -- the rest decides
 abbrev pub invariant-loop-later : goal.invariant-loop-later

@@ -1,0 +1,89 @@
+//! Start tags of which each attribute keeps its prefix: their lines are written from the events as
+//! they came.
+ghost use Rattle.std.specs.Prelude.{◌≡◌, ◌∷◌, ◌++◌, true, OnOk, length, take};
+ghost use Rattle.std.specs.Str.{IsUtf8};
+ghost use Rattle.xs_trace.specs.declared.event.Event.TheVariants as event_of;
+ghost use Rattle.xs_writing.specs.Bindings.{bindings_before};
+ghost use Rattle.xs_writing.specs.Lines.{bytes_of, lines, open_after};
+ghost use Rattle.xs_writing.specs.steps.Bound.{bound_lines, keep_own};
+ghost use Rattle.xs_writing.specs.steps.Open.{bindings_of};
+ghost use Rattle.xs_writing.specs.steps.Pending.{IsAlone, begun, is_simple, lent};
+
+use crate::lent::{append_lent_attributes, is_simple};
+use crate::name_lines::{append_declarations, append_start};
+use crate::scope::Declared;
+use crate::tag_bindings::TagBindings;
+use crate::writer::PyxWriter;
+use std::alloc::AllocError;
+use xs_trace::event::{Event, Label};
+
+impl PyxWriter {
+    /// Writes the start tag of an element with this name, which is lent as a whole and as what was
+    /// added to its start.
+    pub(crate) fn declaring_tag(
+        &mut self,
+        out: &mut Vec<u8>,
+        name: &Label,
+        added: &[&Event],
+        tag: &[&Event],
+    ) -> Result<(), AllocError>
+        requires alone { IsAlone (begun tag.now) }
+        requires whole { lent tag.now ≡ event_of.Start name.now ∷ lent added.now }
+        ensures written { OnOk result
+            (out.new.items ≡ out.old.items ++ bytes_of (lines self.old (begun tag.now).tag)) }
+        ensures opened { OnOk result (self.new ≡ open_after self.old (begun tag.now).tag) }
+        ensures kept { take (length out.old.items) out.new.items ≡ out.old.items }
+        ensures utf8 { IsUtf8 out.old.items → IsUtf8 out.new.items }
+    {
+        if !is_simple(added) {
+            return self.built_tag(out, tag);
+        }
+        let bindings = TagBindings::lent(self.alloc, name, added)?;
+        if bindings.keep_own(added)? {
+            return self.bound_tag(out, name, added, &bindings);
+        }
+        self.built_tag(out, tag)
+    }
+
+    /// Writes the start tag of an element that has these bindings before its attributes, where each
+    /// of them keeps its prefix, and no two have one name. The element is then open.
+    pub(crate) fn bound_tag(
+        &mut self,
+        out: &mut Vec<u8>,
+        name: &Label,
+        added: &[&Event],
+        bindings: &TagBindings,
+    ) -> Result<(), AllocError>
+        requires bindings { bindings.now ≡ bindings_before name.now (lent added.now) }
+        requires own { keep_own bindings.now (lent added.now) ≡ true }
+        requires simple { is_simple (lent added.now) ≡ true }
+        ensures written { OnOk result (out.new.items ≡ out.old.items
+            ++ bytes_of (lines self.old (event_of.Start name.now ∷ lent added.now))) }
+        ensures opened { OnOk result
+            (self.new ≡ open_after self.old (event_of.Start name.now ∷ lent added.now)) }
+        ensures kept { take (length out.old.items) out.new.items ≡ out.old.items }
+        ensures utf8 { IsUtf8 out.old.items → IsUtf8 out.new.items }
+    {
+        let declared = self.declared(bindings)?;
+        append_bound_tag(out, name, &declared, added)?;
+        self.enter(name, declared)
+    }
+}
+
+/// Appends the lines of such a start tag with these declarations. After a refusal a part of them.
+#[tactic(auto, unfolding(crate::specs::Lines::bytes_of))]
+fn append_bound_tag(
+    out: &mut Vec<u8>,
+    name: &Label,
+    declared: &[Declared],
+    added: &[&Event],
+) -> Result<(), AllocError>
+    ensures written { OnOk result (out.new.items ≡ out.old.items
+        ++ bytes_of (bound_lines (bindings_of declared.now) name.now (lent added.now))) }
+    ensures kept { take (length out.old.items) out.new.items ≡ out.old.items }
+    ensures utf8 { IsUtf8 out.old.items → IsUtf8 out.new.items }
+{
+    append_start(out, name)?;
+    append_declarations(out, declared)?;
+    append_lent_attributes(out, added)
+}
