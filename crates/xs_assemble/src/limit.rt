@@ -1,7 +1,8 @@
 //! What is left of limits while items pass.
 
-ghost use Rattle.std.specs.Prelude.{◌≡◌, ◌==◌, if◌then◌else◌, IfOk, Some};
-ghost use Rattle.xs_assemble.specs.steps.Passing.{passed, passed_event, passed_ticks, walked};
+ghost use Rattle.std.specs.Prelude.{◌≡◌, ◌==◌, if◌then◌else◌, IfOk, Ok, Some};
+ghost use Rattle.xs_assemble.specs.steps.Passing.{Passes, passed, passed_event, passed_ticks};
+ghost use Rattle.xs_assemble.specs.steps.Passing.{walked};
 ghost use Rattle.xs_block.specs.Chain.{items_of};
 
 use std::alloc::AllocError;
@@ -29,9 +30,10 @@ pub(crate) struct Walk {
 }
 
 impl Limit {
-    /// Lets an item pass, if all of it is within what is left.
-    pub(crate) fn pass(self, item: &Item) -> Result<Limit, Halt>
-        ensures passed { result ≡ passed item.now self }
+    /// Lets an item pass, if all of it is within what is left. Otherwise nothing changes.
+    #[inline(always)]
+    fn pass(&mut self, item: &Item) -> Option<Halt>
+        ensures passes { Passes (passed item.now self.old) result self.old self.new }
     {
         match item {
             Item::Run {
@@ -46,49 +48,48 @@ impl Limit {
                 *ticks,
             ),
             Item::Put(_) => self.put(),
-            Item::Say(_) => Ok(self),
+            Item::Say(_) => None,
         }
     }
 
     /// Lets some ticks at a place pass.
-    fn tick(self, site: Site, ticks: u64) -> Result<Limit, Halt>
-        ensures passed { result ≡ (if ticks == 0 then Ok self else passed_ticks site ticks self) }
+    #[inline(always)]
+    fn tick(&mut self, site: Site, ticks: u64) -> Option<Halt>
+        ensures passes { Passes (if ticks == 0 then Ok self.old
+            else passed_ticks site ticks self.old) result self.old self.new }
     {
         if ticks == 0 {
-            return Ok(self);
+            return None;
         }
         if ticks > self.left {
-            return Err(Halt::Spent(site));
+            return Some(Halt::Spent(site));
         }
-        Ok(Limit {
-            at: site,
-            left: self.left - ticks,
-            room: self.room,
-        })
+        self.at = site;
+        self.left -= ticks;
+        None
     }
 
     /// Lets an event pass.
-    fn put(self) -> Result<Limit, Halt>
-        ensures passed { result ≡ passed_event self.room self }
+    #[inline(always)]
+    fn put(&mut self) -> Option<Halt>
+        ensures passes { Passes (passed_event self.old.room self.old) result self.old self.new }
     {
         match self.room {
-            None => Ok(self),
+            None => None,
             Some(room) => self.put_within(room),
         }
     }
 
     /// Lets an event pass, if there is room.
-    fn put_within(self, room: u64) -> Result<Limit, Halt>
-        ensures passed { result ≡ passed_event (Some room) self }
+    #[inline(always)]
+    fn put_within(&mut self, room: u64) -> Option<Halt>
+        ensures passes { Passes (passed_event (Some room) self.old) result self.old self.new }
     {
         if room == 0 {
-            return Err(Halt::Full(self.at));
+            return Some(Halt::Full(self.at));
         }
-        Ok(Limit {
-            at: self.at,
-            left: self.left,
-            room: Some(room - 1),
-        })
+        self.room = Some(room - 1);
+        None
     }
 
     /// Lets the items of a chain pass, as far as they are within what is left. No memory holds 2^64
@@ -99,15 +100,12 @@ impl Limit {
         let mut count: u64 = 0;
         let mut limit = self;
         for item in items.items() {
-            match limit.pass(item) {
-                Ok(after) => limit = after,
-                Err(halt) => {
-                    return Ok(Walk {
-                        count,
-                        limit,
-                        end: Some(halt),
-                    });
-                }
+            if let Some(halt) = limit.pass(item) {
+                return Ok(Walk {
+                    count,
+                    limit,
+                    end: Some(halt),
+                });
             }
             count = count.checked_add(1).ok_or(AllocError)?;
         }

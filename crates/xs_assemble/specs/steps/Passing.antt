@@ -1,5 +1,5 @@
 -- How far items pass what is left of limits.
-use Rattle.std.specs.Prelude.{◌==◌, ◌-◌, ◌+◌, ◌∷◌, [], ℕ, zero, suc, List, Option, Some, None, Result, Ok, Err, nat_lt, if◌then◌else◌}
+use Rattle.std.specs.Prelude.{◌≡◌, ◌==◌, ◌-◌, ◌+◌, ◌∷◌, [], ℕ, zero, suc, List, Option, Some, None, Result, Ok, Err, nat_lt, if◌then◌else◌}
 use Rattle.xs_trace.specs.declared.item.Item.{Item}
 use Rattle.xs_trace.specs.declared.item.Item.TheVariants as item
 use Rattle.xs_trace.specs.declared.item.Site.{Site}
@@ -23,6 +23,11 @@ abbrev pub passed : Item → Limit → Result Limit Halt
 passed (item.Run m l n) k = if n == 0 then Ok k else passed_ticks (record { «module» = m; line = l }) n k
 passed (item.Put e) k = passed_event k.room k
 passed (item.Say t) k = Ok k
+
+-- that a limit changes as an item passes, or stays as it was and the item does not
+abbrev pub Passes : Result Limit Halt → Option Halt → (old new : Limit) → Type 0
+Passes g None old new = g ≡ Ok new
+Passes g (Some h) old new = (g ≡ Err h) × (new ≡ old)
 
 -- one item more has passed, and so many more
 abbrev pub one_more : Walk → Walk

@@ -1,5 +1,6 @@
-use Rattle.std.proofs.Common.{◌≡◌, sym, rules}
+use Rattle.std.proofs.Common.{◌≡◌, Some, ap, ◌∙◌, rules}
 use Rattle.xs_block.specs.Chain.{items_of}
+use Rattle.xs_assemble.specs.declared.limit.Limit.{Limit}
 use Rattle.xs_assemble.proofs.PassingLemmas.{walk-begins, walk-done, walk-on, walk-stops}
 use Rattle.xs_assemble.proofs.limit.Limit.walk.Goals as goal
 
@@ -18,12 +19,13 @@ pub loop-item-preserved : goal.loop-item-preserved
 loop-item-preserved c = (
   tt,
   tt,
-  walk-on (items_of c.args.items.now) c.loop-item.item-iterator c.next.new.self c.in-Some.item.now c.args.self c.loop-item.limit _ c.loop-item.count _
-      c.loop-item.invariant.2 c.in-Some.ensures.steps (sym c.in-Ok.ensures.passed) (search rules),
+  walk-on (items_of c.args.items.now) c.loop-item.item-iterator c.next.new.self c.in-Some.item.now c.args.self c.loop-item.limit c.pass.new.self
+      c.loop-item.count _ c.loop-item.invariant.2 c.in-Some.ensures.steps c.in_default.ensures.passes (search rules),
 )
 
-pub returns-in-Err : goal.returns-in-Err
-returns-in-Err c = record {
-  walked = walk-stops (items_of c.args.items.now) c.loop-item.item-iterator c.next.new.self c.in-Some.item.now c.args.self c.loop-item.limit c.in-Err.halt
-      c.loop-item.count c.loop-item.invariant.2 c.in-Some.ensures.steps (sym c.in-Err.ensures.passed);
-}
+pub returns-in-Some-pass : goal.returns-in-Some-pass
+returns-in-Some-pass c =
+    let p = c.in-Some-pass.ensures.passes in
+    let e = walk-stops (items_of c.args.items.now) c.loop-item.item-iterator c.next.new.self c.in-Some.item.now c.args.self c.loop-item.limit
+    c.in-Some-pass.halt c.loop-item.count c.loop-item.invariant.2 c.in-Some.ensures.steps p.0 in
+    record { walked = ap (λ (m : Limit). record { count = c.loop-item.count; limit = m; end = Some c.in-Some-pass.halt }) p.1 ∙ e }
