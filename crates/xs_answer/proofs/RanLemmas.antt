@@ -12,7 +12,7 @@ use Rattle.xs_semantics.specs.World.{World, with_grain}
 use Rattle.std.specs.List.{All, Contains}
 use Rattle.std.specs.Option.{IsSome}
 use Rattle.xs_semantics.specs.Inside.{IsWorld}
-use Rattle.xs_eval.specs.Conditions.{IsInIf}
+use Rattle.xs_meaning.specs.Conditions.{IsInIf}
 use Rattle.xs_pieces.specs.Ready.{IsReady}
 use Rattle.xs_task_tree.specs.Laws.{SheetIsReady, WholeIsRun}
 use Rattle.xs_task_tree.specs.Placed.{IsOwn, Placed, at_place, own, whole}

@@ -1,11 +1,11 @@
 -- Content that is a text alone, in a capture and without one.
-use Rattle.std.proofs.Common.{◌≡◌, ℕ, ◌/◌, ◌==◌, length, List, [], ◌∷◌, ◌++◌, Bool, true, false, cond, Option, Some, append-nil, refl, sym, ap, ◌∙◌, arith}
+use Rattle.std.proofs.Common.{◌≡◌, ℕ, ◌/◌, ◌==◌, length, List, [], ◌∷◌, Bool, true, false, cond, Some, append-nil, refl, sym, ap, ◌∙◌, arith}
 use Rattle.std.proofs.lemmas.Bool.Decides.{nat_tests}
 use Rattle.xs_trace.specs.Cut.{Spent}
 use Rattle.xs_trace.specs.Mark.{ticks}
 use Rattle.xs_trace.specs.Run.{Answer, Gives, Faults, Lacks, Run, answered, limited}
 use Rattle.xs_trace.specs.State.{State, adds, after_tick, after_ticks, allows, opened, popped, top}
-use Rattle.xs_trace.specs.Play.{Step, Goes, Ends, Told, goes, and_then, number, put, put_at, ticked, ticked_by}
+use Rattle.xs_trace.specs.Play.{Step, Ends, goes, and_then, number, put, put_at, ticked, ticked_by}
 use Rattle.xs_trace.specs.declared.event.Event.{Event}
 use Rattle.xs_trace.specs.declared.event.Event.TheVariants.{Chars}
 use Rattle.xs_trace.specs.declared.item.Site.{Site}

@@ -1,5 +1,9 @@
 -- Where a part ends a run, the step that begins with it ends it.
 use Rattle.std.proofs.Common.{◌≡◌, ◌==◌, ◌||◌, ℕ, List, [], ◌∷◌, length, Option, Some, Bool, true, false, cond, Result, Ok, Err, refl, sym, subst, ap, ◌∙◌}
+use Rattle.std.proofs.Common.{arith}
+use Rattle.std.proofs.lemmas.Bool.{true≢false}
+use Rattle.std.proofs.lemmas.Bool.Decides.{nat_tests}
+use Rattle.xs_sheet.specs.declared.body.Binding.{Binding}
 use Rattle.xs_sheet.specs.declared.body.Body.{Body}
 use Rattle.xs_sheet.specs.declared.body.LiteralStart.{LiteralStart}
 use Rattle.xs_trace.specs.State.{State}
@@ -11,10 +15,10 @@ use Rattle.xs_tree.specs.Kinds.{has_content, is_attribute_kind, is_text_kind}
 use Rattle.xs_tree.specs.Record.{Record, children}
 use Rattle.xs_semantics.specs.declared.focus.Focus.{Focus}
 use Rattle.xs_semantics.specs.declared.made.Made.{Made}
-use Rattle.xs_semantics.specs.Tasks.{Task, no_params}
+use Rattle.xs_semantics.specs.Tasks.{Params, Task, no_params}
 use Rattle.xs_body.specs.declared.frames.Scope.{Scope}
 use Rattle.xs_body.specs.steps.Frames.{Evaluation, applied_begun, attributes_left, built_in_begun, chars_steps, content_in, last, literal_inside, made_of}
-use Rattle.xs_body.specs.steps.Frames.{pushed, sets_works, stays}
+use Rattle.xs_body.specs.steps.Frames.{instrs_of, outer, params_entered, params_first, pushed, rest_begun, sets_works, stays}
 use Rattle.xs_body.specs.steps.Making.{attributes_steps, made_steps}
 
 -- what follows is a step of the evaluation
@@ -63,3 +67,25 @@ inside-told start body p c t mid v s m r none is same told =
     subst (λ (b : Bool). IsStepBy {A = Evaluation} {B = Unit {0}} (λ u. v)
     (cond b (stays g w) (Goes (pushed (sets_works start.sets c.focus) (pushed (attributes_left start.attributes p c ∷ []) w)) s)) r m) (sym none)
     (stays-told g w v m r (same ∙ is) own)
+
+-- a template that begins at once: one without parameters, and one with some
+none-left : (bs : List Binding) → (length bs == 0) ≡ true → bs ≡ []
+none-left [] e = refl
+none-left (b ∷ bs) e = let q : (length (b ∷ bs) == 0) ≡ false = grind (arith, nat_tests) in absurd (true≢false (sym e ∙ q))
+
+pub body-entered : (bs : List Binding) (ps : Params) (body : Body) (f : Focus) (c : Scope) (t v : Evaluation) (s m : State Task) (r : Result (Unit {0}) Halt) →
+    (length bs == 0) ≡ true → c ≡ outer f → IsStepBy {A = Evaluation} {B = Unit {0}} (λ u. v) (rest_begun (instrs_of body) c t s) r m →
+    IsStepBy {A = Evaluation} {B = Unit {0}} (λ u. v) (params_entered bs ps body (outer f) t s) r m
+body-entered bs ps body f c t v s m r none is told =
+    subst (λ (xs : List Binding). IsStepBy {A = Evaluation} {B = Unit {0}} (λ u. v) (params_entered xs ps body (outer f) t s) r m)
+    (sym (none-left bs none))
+    (subst (λ (x : Scope). IsStepBy {A = Evaluation} {B = Unit {0}} (λ u. v) (rest_begun (instrs_of body) x t s) r m) is told)
+
+some-left : (bs : List Binding) (ps : Params) (body : Body) (c : Scope) (t : Evaluation) (s : State Task) → (length bs == 0) ≡ false →
+    params_entered bs ps body c t s ≡ Goes (pushed (params_first bs ps body c ∷ []) t) s
+some-left [] ps body c t s e = absurd (true≢false e)
+some-left (b ∷ bs) ps body c t s e = refl
+
+pub params-entered : (bs : List Binding) (ps : Params) (body : Body) (f : Focus) (t v : Evaluation) (s : State Task) → (length bs == 0) ≡ false →
+    v ≡ pushed (params_first bs ps body (outer f) ∷ []) t → params_entered bs ps body (outer f) t s ≡ Goes v s
+params-entered bs ps body f t v s some same = some-left bs ps body (outer f) t s some ∙ ap (λ (x : Evaluation). Goes x s) (sym same)

@@ -1,5 +1,5 @@
 -- What was told stays at the beginning of what is told, in each step.
-use Rattle.std.proofs.Common.{ℕ, ◌/◌, ◌==◌, ◌||◌, drop, length, List, [], ◌∷◌, ◌++◌, map, Option, Some, None, Bool, true, false, cond, refl}
+use Rattle.std.proofs.Common.{ℕ, ◌/◌, ◌==◌, ◌||◌, drop, length, List, [], ◌∷◌, ◌++◌, map, slice_get, Option, Some, None, Bool, true, false, cond, refl}
 use Rattle.xs_sheet.specs.declared.body.Body.{Body}
 use Rattle.xs_sheet.specs.declared.body.Binding.{Binding}
 use Rattle.xs_sheet.specs.declared.body.Content.{Content}
@@ -9,6 +9,7 @@ use Rattle.xs_sheet.specs.declared.body.InstrKind.{InstrKind, Variable'}
 use Rattle.xs_sheet.specs.declared.body.InstrKind.TheVariants.{ApplyTemplates, CallTemplate, ApplyImports, ForEach, ValueOf, CopyOf, Copy, Number, Choose, If}
 use Rattle.xs_sheet.specs.declared.body.InstrKind.TheVariants.{Text, Element, Attribute, Comment, Pi, Message, Literal, Extension}
 use Rattle.xs_sheet.specs.declared.body.LiteralStart.{LiteralStart}
+use Rattle.xs_sheet.specs.declared.declarations.Template.{Template}
 use Rattle.xs_sheet.specs.declared.scoped.ScopedExpr.{ScopedExpr}
 use Rattle.xs_trace.specs.Cut.{Fault}
 use Rattle.xs_trace.specs.Label.{Label}
@@ -36,7 +37,7 @@ use Rattle.xs_semantics.specs.declared.made.Made.TheVariants as made
 use Rattle.xs_body.specs.declared.frames.Scope.{Scope}
 use Rattle.xs_sheet.specs.declared.body.NumberDecl.{NumberDecl}
 use Rattle.xs_semantics.specs.Numbers.{number_run}
-use Rattle.xs_semantics.specs.World.{World, in_list, value_run, looped_nodes, text_run, test_run, applied_nodes}
+use Rattle.xs_semantics.specs.World.{World, by_rule, in_list, value_run, looped_nodes, text_run, test_run, applied_nodes}
 use Rattle.xs_semantics.specs.Tasks.{Params, no_params, Job, body_job, rules_job, Task, tasks_for, grain_over}
 use Rattle.xs_semantics.specs.Rules.{rule_for, import_for}
 use Rattle.xs_semantics.specs.Trace.{Entry, named, fitting, overridden, using, Called, by_number, by_rules, each, body_trace, declared_trace}
@@ -57,6 +58,7 @@ use Rattle.xs_body.specs.steps.Frames.{chars_steps, run_by, run_begun, applied_b
 use Rattle.xs_body.specs.steps.Frames.{entering, call_begun, imports_begun, content_begun, passes_on, pass_begun, param_begun}
 use Rattle.xs_body.specs.steps.Frames.{fallbacks_begun, looping, loop_begun}
 use Rattle.xs_body.specs.steps.Frames.{number_steps, value_steps, begun}
+use Rattle.xs_body.specs.steps.Frames.{after, entering_fitting, outer, params_entered, rest_begun, rest_works, rule_entered, template_entered}
 
 -- what is told, and then a value that tells nothing
 pub then-goes-grow : {H : Type 0} → {A B : Type 0} (g : State H → Step H A) (f : A → B) → Grows g → Grows (λ s. and_then (g s) (λ x m. Goes (f x) m))
@@ -259,6 +261,31 @@ begun-grows (Literal start body) p c t = λ s.
     grows-then s (literal_steps t.world.sheet.aliases p start s) (λ u m. literal_inside start body p c t m) (literal-grows t.world.sheet.aliases p start s)
     (λ u. literal_inside-grows start body p c t)
 begun-grows (Extension fallbacks) p c t = fallbacks-grow (bodies_of fallbacks) p c t
+
+pub rest-grows : (is : List Instr) (c : Scope) (t : Evaluation) → Grows (rest_begun is c t)
+rest-grows [] c t = goes-grows _
+rest-grows (i ∷ is) c t = λ s.
+    let u : Evaluation = pushed (rest_works is (after i.kind c)) t in
+    grows-then s (ticked i.site s) (λ q m. begun i.kind i.site c u m) (ticked-grows i.site s) (λ q. begun-grows i.kind i.site c u)
+
+params-grow : (bs : List Binding) (ps : Params) (body : Body) (c : Scope) (t : Evaluation) → Grows (params_entered bs ps body c t)
+params-grow [] ps body c t = rest-grows (instrs_of body) c t
+params-grow (b ∷ bs) ps body c t = goes-grows _
+
+template-grows : (o : Option Template) (ps : Params) (f : Focus) (t : Evaluation) → Grows (template_entered o ps f t)
+template-grows None ps f t = goes-grows t
+template-grows (Some template) ps f t = params-grow template.params ps template.body (outer f) t
+
+rule_entered-grows : (o : Option ℕ) (mode : ℕ) (ps : Params) (p : Site) (f : Focus) (t : Evaluation) → Grows (rule_entered o mode ps p f t)
+rule_entered-grows None mode ps p f t = built_in-grows mode p f (at t.world.tree f.node) t
+rule_entered-grows (Some rule) mode ps p f t = template-grows (slice_get t.world.sheet.templates rule) ps (by_rule rule mode f) t
+
+pub fitting-grows : (mode : ℕ) (ps : Params) (p : Site) (f : Focus) (t : Evaluation) → Grows (entering_fitting mode ps p f t)
+fitting-grows mode ps p f t =
+    let g : Focus = in_template t.world f in
+    let o : Option ℕ = rule_for t.world mode f.node in
+    if-grows (f.depth == 0) (stops (Fault fault.TooDeep p)) (rule_entered o mode ps p g t) (stops-grow (Fault fault.TooDeep p))
+    (rule_entered-grows o mode ps p g t)
 
 filled-grows : (x : Trace Task) (vs : List Value) → Grows (filled x vs)
 filled-grows x vs = then-goes-grow (play x) (λ u. vs) (play-grows x)

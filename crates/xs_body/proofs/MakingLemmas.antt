@@ -17,13 +17,13 @@ use Rattle.xs_trace.specs.declared.event.Event.TheVariants.{Start, Chars}
 use Rattle.xs_trace.specs.declared.fault.Fault.{Fault as RunFault}
 use Rattle.xs_trace.specs.declared.item.Site.{Site}
 use Rattle.xs_trace.proofs.GrowthLemmas.{Grows, grows-then, stops-grow, goes-grows, put_at-grows}
-use Rattle.xs_trace.proofs.PlayLemmas.{then-same, then-then, then-goes, play-then, play-put}
+use Rattle.xs_trace.proofs.PlayLemmas.{then-same, then-goes, play-then, play-put}
 use Rattle.xs_trace.proofs.RunLemmas.{limited-bind, limited-end, limited-grows, play-evaluated}
 use Rattle.xs_tree.specs.Record.{Record}
 use Rattle.xs_value.specs.declared.value.Value.{Value}
 use Rattle.xs_value.specs.declared.value.Value.TheVariants as value
 use Rattle.xs_value.specs.Conversion.{text_value}
-use Rattle.xs_eval.specs.Results.{given}
+use Rattle.xs_meaning.specs.Results.{given}
 use Rattle.xs_making.specs.Copies.{deep_copy}
 use Rattle.xs_making.specs.declared.ends.MakeEnd.{MakeEnd}
 use Rattle.xs_making.specs.declared.ends.MakeEnd.TheVariants as end

@@ -1,7 +1,7 @@
 -- The text of a number, part by part, as steps.
 use Rattle.std.proofs.Common.{◌≡◌, ℕ, List, Option, Some, None, Result, Err, sym, ap, ◌∙◌}
 use Rattle.xs_matching.specs.Counted.{number_list}
-use Rattle.xs_eval.proofs.StepLemmas.{exits, gives, goes_on}
+use Rattle.xs_meaning.proofs.StepLemmas.{exits, gives, goes_on}
 use Rattle.xs_num.specs.declared.number.Number.{Number}
 use Rattle.xs_sheet.specs.declared.body.NumberDecl.{NumberDecl}
 use Rattle.xs_sheet.specs.declared.scoped.ScopedExpr.{ScopedExpr}

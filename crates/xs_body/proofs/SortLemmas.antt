@@ -2,8 +2,8 @@
 use Rattle.std.proofs.Common.{◌≡◌, ℕ, ◌<◌, List, [], ◌∷◌, length, Result, Err, refl, sym, ap, subst, ◌∙◌, arith}
 use Rattle.std.specs.List.{All}
 use Rattle.std.proofs.lemmas.List.Elements.{All-same}
-use Rattle.xs_eval.specs.Context.{Context}
-use Rattle.xs_eval.proofs.StepLemmas.{gives}
+use Rattle.xs_meaning.specs.Context.{Context}
+use Rattle.xs_meaning.proofs.StepLemmas.{gives}
 use Rattle.xs_sheet.specs.declared.body.SortDecl.{SortDecl}
 use Rattle.xs_sort.specs.Sorting.{sorted}
 use Rattle.xs_sort.proofs.UnsortedLemmas.{unsorted}

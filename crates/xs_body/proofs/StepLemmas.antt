@@ -63,7 +63,8 @@ use Rattle.xs_body.specs.steps.Frames.{run_by, run_begun, applied_begun, templat
 use Rattle.xs_body.specs.steps.Frames.{content_in, declaration_begun, declared_begun, declared_works, sets_left_works, sets_works, inside_begun}
 use Rattle.xs_body.specs.steps.Frames.{copied_begun, element_put, literal_inside, lone_by, lone_steps, made_begun, made_of, selected_text}
 use Rattle.xs_body.specs.steps.Frames.{call_begun, imports_begun, content_begun, passes_on, pass_begun, params_first, param_begun, fallbacks_begun}
-use Rattle.xs_body.specs.steps.Frames.{begun, advanced, rest_works, value_steps}
+use Rattle.xs_body.specs.steps.Frames.{begun, advanced, rest_works, value_steps, rest_begun, params_entered, template_entered}
+use Rattle.xs_body.specs.steps.Frames.{in_template, rule_entered, entering_fitting}
 use Rattle.xs_body.specs.steps.Making.{attributes_steps, copy_steps, fixed_text, literal_steps, made_at, made_ended, made_steps, selected, text_ticked}
 use Rattle.xs_making.specs.Putting.{events_steps}
 use Rattle.xs_body.proofs.AloneLemmas.{content-alone, opened-run, opened-text, opened-tick}
@@ -806,33 +807,67 @@ begins-so (Extension fallbacks) p is c t s =
     ∙ ap (λ x. Then x u s) (fallbacks-bodies fallbacks p t.world (calls_at t.world c.focus) c.focus (last c.seen t.slots))
     ∙ fallbacks-begin (bodies_of fallbacks) p c u s
 
--- each kind of work
-pub advances : (b : Work) (t : Evaluation) → IsSetIndex t.world.sheet.sets t.world.index → (s : State Task) →
-    Go (pushed (b ∷ []) t) s ≡ and_then (advanced b t s) Go
-advances (rest [] c) t index s = refl
-advances (rest (i ∷ is) c) t index s =
+-- a body, of which the next instruction begins
+rest-begins : (is : List Instr) (c : Scope) (t : Evaluation) (s : State Task) → Go (pushed (rest is c ∷ []) t) s ≡ and_then (rest_begun is c t s) Go
+rest-begins [] c t s = refl
+rest-begins (i ∷ is) c t s =
     let x : Trace Task = instr_trace i.kind i.site t.world (calls_at t.world c.focus) c.focus (last c.seen t.slots)
     (instrs_trace is t.world (calls_at t.world c.focus) c.focus) in
     sym (behind (Tick i.site ∷ x) (without c.own t.slots) t s)
     ∙ ticks i.site x (slots_are (without c.own t.slots) t) (pushed (rest_works is (after i.kind c)) t)
     (λ m. begun i.kind i.site c (pushed (rest_works is (after i.kind c)) t) m) s (begins-so i.kind i.site is c t)
+
+-- a template that begins at once does what one does that is pushed
+params-enter : (bs : List Binding) (ps : Params) (body : Body) (c : Scope) (t : Evaluation) (s : State Task) →
+    Go (pushed (params_first bs ps body c ∷ []) t) s ≡ and_then (params_entered bs ps body c t s) Go
+params-enter [] ps body c t s = rest-begins (instrs_of body) c t s
+params-enter (b ∷ bs) ps body c t s = refl
+
+template-enters : (o : Option Template) (ps : Params) (f : Focus) (t : Evaluation) (s : State Task) →
+    Go (template_begun o ps f t) s ≡ and_then (template_entered o ps f t s) Go
+template-enters None ps f t s = refl
+template-enters (Some template) ps f t s = params-enter template.params ps template.body (outer f) t s
+
+rule-enters : (o : Option ℕ) (mode : ℕ) (ps : Params) (p : Site) (f : Focus) (t : Evaluation) (s : State Task) →
+    and_then (rule_begun o mode ps p f t s) Go ≡ and_then (rule_entered o mode ps p f t s) Go
+rule-enters None mode ps p f t s = refl
+rule-enters (Some rule) mode ps p f t s = template-enters (slice_get t.world.sheet.templates rule) ps (by_rule rule mode f) t s
+
+if-enters : (q : Bool) (g x y : Step Task Evaluation) → and_then x Go ≡ and_then y Go → and_then (cond q g x) Go ≡ and_then (cond q g y) Go
+if-enters true g x y e = refl
+if-enters false g x y e = e
+
+fitting-enters : (mode : ℕ) (ps : Params) (p : Site) (f : Focus) (t : Evaluation) (s : State Task) →
+    Then (calls_at t.world f (fitting mode ps) p f) t s ≡ and_then (entering_fitting mode ps p f t s) Go
+fitting-enters mode ps p f t s =
+    let g : Focus = in_template t.world f in
+    let o : Option ℕ = rule_for t.world mode f.node in
+    enters (fitting mode ps) tt p f t s
+    ∙ if-enters (f.depth == 0) (stops (Fault fault.TooDeep p) s) (rule_begun o mode ps p g t s) (rule_entered o mode ps p g t s) (rule-enters o mode ps p g t s)
+
+-- each kind of work
+pub advances : (b : Work) (t : Evaluation) → IsSetIndex t.world.sheet.sets t.world.index → (s : State Task) →
+    Go (pushed (b ∷ []) t) s ≡ and_then (advanced b t s) Go
+advances (rest is c) t index s = rest-begins is c t s
 advances fill t index s = refl
 advances (each_left body p c i []) t index s = refl
 advances (each_left body p c i (n ∷ ns)) t index s =
     let b : Work = each_left body p c (i + 1) ns in
+    let here : Scope = over (at_node n i c.focus) c in
     let f : Focus → Trace Task = λ g. body_trace body t.world (calls_at t.world c.focus) g (last c.seen t.slots) in
     sym (behind (each p f c.focus i (n ∷ ns)) t.slots t s)
     ∙ ticks p (f (at_node n i c.focus) ⨾ each p f c.focus (i + 1) ns) t t
-    (λ m. Goes (pushed (rest (instrs_of body) (over (at_node n i c.focus) c) ∷ b ∷ []) t) m) s (λ m.
-    twice (f (at_node n i c.focus)) (each p f c.focus (i + 1) ns) t.slots b t m (λ q. refl) ∙ inside body (over (at_node n i c.focus) c)
-    (pushed (b ∷ []) t) m)
+    (λ m. rest_begun (instrs_of body) here (pushed (b ∷ []) t) m) s (λ m.
+    twice (f (at_node n i c.focus)) (each p f c.focus (i + 1) ns) t.slots b t m (λ q. refl)
+    ∙ inside body here (pushed (b ∷ []) t) m
+    ∙ rest-begins (instrs_of body) here (pushed (b ∷ []) t) m)
 advances (apply_left mode ps p f i []) t index s = refl
 advances (apply_left mode ps p f i (n ∷ ns)) t index s =
     let b : Work = apply_left mode ps p f (i + 1) ns in
     let x : Focus → Trace Task = calls_at t.world f (fitting mode ps) p in
     sym (behind (each p x f i (n ∷ ns)) t.slots t s)
-    ∙ ticks p (x (at_node n i f) ⨾ each p x f (i + 1) ns) t t (λ m. entering (fitting mode ps) p (at_node n i f) (pushed (b ∷ []) t) m) s (λ m.
-    twice (x (at_node n i f)) (each p x f (i + 1) ns) t.slots b t m (λ q. refl) ∙ enters (fitting mode ps) tt p (at_node n i f) (pushed (b ∷ []) t) m)
+    ∙ ticks p (x (at_node n i f) ⨾ each p x f (i + 1) ns) t t (λ m. entering_fitting mode ps p (at_node n i f) (pushed (b ∷ []) t) m) s (λ m.
+    twice (x (at_node n i f)) (each p x f (i + 1) ns) t.slots b t m (λ q. refl) ∙ fitting-enters mode ps p (at_node n i f) (pushed (b ∷ []) t) m)
 advances (bodies_left [] c) t index s = refl
 advances (bodies_left (b ∷ bs) c) t index s =
     let f : Body → Trace Task = λ body. body_trace body t.world (calls_at t.world c.focus) c.focus (last c.seen t.slots) in

@@ -4,6 +4,7 @@ use Rattle.xs_sheet.specs.declared.body.Binding.{Binding}
 use Rattle.xs_sheet.specs.declared.body.Body.{Body}
 use Rattle.xs_sheet.specs.declared.body.Content.{Content}
 use Rattle.xs_sheet.specs.declared.body.Content.TheVariants.{Empty, Select, Body as Fragment}
+use Rattle.xs_sheet.specs.declared.body.Instr.{Instr}
 use Rattle.xs_sheet.specs.declared.body.InstrKind.{InstrKind, Variable'}
 use Rattle.xs_sheet.specs.declared.body.InstrKind.TheVariants.{ApplyTemplates, CallTemplate, ApplyImports, ForEach, ValueOf, CopyOf, Copy, Number, Choose, If}
 use Rattle.xs_sheet.specs.declared.body.InstrKind.TheVariants.{Text, Element, Attribute, Comment, Pi, Message, Literal, Extension}
@@ -43,6 +44,7 @@ use Rattle.xs_body.specs.steps.Frames.{imports_begun, content_begun, passes_on, 
 use Rattle.xs_body.specs.steps.Frames.{fallbacks_begun, next_body, looping, loop_begun, number_steps, value_steps, begun}
 use Rattle.xs_body.specs.steps.Frames.{advanced, content_in, copied_begun, copy_of_steps, declaration_begun, declared_begun, element_put, in_template}
 use Rattle.xs_body.specs.steps.Frames.{inside_begun, literal_inside, lone_steps, made_begun, made_of, rest_works, sets_begun, sets_left_works, sets_works}
+use Rattle.xs_body.specs.steps.Frames.{entering_fitting, outer, params_entered, rest_begun, rule_entered, template_entered}
 use Rattle.xs_body.specs.steps.Making.{attributes_steps, literal_steps, made_ended, made_steps, name_steps, target_steps}
 use Rattle.xs_making.specs.Putting.{events_steps}
 
@@ -226,18 +228,43 @@ begun-keeps (Literal start body) p c t s =
     (λ u m. literal-keeps start body p c t m)
 begun-keeps (Extension fallbacks) p c t s = fallbacks-keep (bodies_of fallbacks) p c t s
 
-advanced-keeps : (b : Work) (t : Evaluation) (s : State Task) → Keeps t.world (advanced b t s)
-advanced-keeps (rest [] c) t s = refl
-advanced-keeps (rest (i ∷ is) c) t s =
+rest-keeps : (is : List Instr) (c : Scope) (t : Evaluation) (s : State Task) → Keeps t.world (rest_begun is c t s)
+rest-keeps [] c t s = refl
+rest-keeps (i ∷ is) c t s =
     let u : Evaluation = pushed (rest_works is (after i.kind c)) t in
     then-keeps t.world (ticked i.site s) (λ q m. begun i.kind i.site c u m) (λ q m. begun-keeps i.kind i.site c u m)
+
+params-keep : (bs : List Binding) (ps : Params) (body : Body) (c : Scope) (t : Evaluation) (s : State Task) → Keeps t.world (params_entered bs ps body c t s)
+params-keep [] ps body c t s = rest-keeps (instrs_of body) c t s
+params-keep (b ∷ bs) ps body c t s = refl
+
+entered-keeps : (o : Option Template) (ps : Params) (f : Focus) (t : Evaluation) (s : State Task) → Keeps t.world (template_entered o ps f t s)
+entered-keeps None ps f t s = refl
+entered-keeps (Some template) ps f t s = params-keep template.params ps template.body (outer f) t s
+
+rule_entered-keeps : (o : Option ℕ) (mode : ℕ) (ps : Params) (p : Site) (f : Focus) (t : Evaluation) (s : State Task) →
+    Keeps t.world (rule_entered o mode ps p f t s)
+rule_entered-keeps None mode ps p f t s = built_in-keeps mode p f (at t.world.tree f.node) t s
+rule_entered-keeps (Some rule) mode ps p f t s = entered-keeps (slice_get t.world.sheet.templates rule) ps (by_rule rule mode f) t s
+
+fitting-keeps : (mode : ℕ) (ps : Params) (p : Site) (f : Focus) (t : Evaluation) (s : State Task) → Keeps t.world (entering_fitting mode ps p f t s)
+fitting-keeps mode ps p f t s =
+    let g : Focus = in_template t.world f in
+    let o : Option ℕ = rule_for t.world mode f.node in
+    if-keeps t.world (f.depth == 0) (stops (Fault fault.TooDeep p) s) (rule_entered o mode ps p g t s) tt (rule_entered-keeps o mode ps p g t s)
+
+advanced-keeps : (b : Work) (t : Evaluation) (s : State Task) → Keeps t.world (advanced b t s)
+advanced-keeps (rest is c) t s = rest-keeps is c t s
 advanced-keeps fill t s = refl
 advanced-keeps (each_left body p c i []) t s = refl
-advanced-keeps (each_left body p c i (n ∷ ns)) t s = then-keeps t.world (ticked p s) _ (λ q m. refl)
+advanced-keeps (each_left body p c i (n ∷ ns)) t s =
+    let u : Evaluation = pushed (each_left body p c (i + 1) ns ∷ []) t in
+    let here : Scope = over (at_node n i c.focus) c in
+    then-keeps t.world (ticked p s) (λ q m. rest_begun (instrs_of body) here u m) (λ q m. rest-keeps (instrs_of body) here u m)
 advanced-keeps (apply_left mode ps p f i []) t s = refl
 advanced-keeps (apply_left mode ps p f i (n ∷ ns)) t s =
     let u : Evaluation = pushed (apply_left mode ps p f (i + 1) ns ∷ []) t in
-    then-keeps t.world (ticked p s) (λ q m. entering (fitting mode ps) p (at_node n i f) u m) (λ q m. entering-keeps (fitting mode ps) p (at_node n i f) u m)
+    then-keeps t.world (ticked p s) (λ q m. entering_fitting mode ps p (at_node n i f) u m) (λ q m. fitting-keeps mode ps p (at_node n i f) u m)
 advanced-keeps (bodies_left bodies c) t s = bodies-keep bodies c t
 advanced-keeps end_element t s = stays-keeps (put End s) t
 advanced-keeps (sets_left names f) t s = sets-keep names f t

@@ -2,7 +2,6 @@
 
 ghost use Rattle.std.specs.Prelude.{◌≡◌, ◌<◌, ◌+◌, ◌∷◌, [], drop, length, true, IfOk, IsSome};
 ghost use Rattle.std.specs.Prelude.{OnOk};
-ghost use Rattle.std.specs.List.{All};
 ghost use Rattle.xs_body.specs.Inside.{AreNodes, AreValues, IsApply, IsEach};
 ghost use Rattle.xs_body.specs.steps.Frames.{advanced, applied_begun, apply_begun, apply_left};
 ghost use Rattle.xs_body.specs.steps.Frames.{apply_work, bindings_of, each_left};
@@ -248,6 +247,7 @@ impl<'a, K: Finder> Evaluator<'a, K> {
         left: Box<EachLeft<'a>>,
         recorder: &mut R,
     ) -> Result<(), Halt>
+        requires holes { IsSome self.old.world.grain → R.takes_holes ≡ true }
         requires left { IsEach self.old.world.tree left.value }
         ensures told { IsStepBy (λ u. self.new)
             (advanced (each_work left.entry.value) self.old
@@ -267,6 +267,7 @@ impl<'a, K: Finder> Evaluator<'a, K> {
         left: Box<EachLeft<'a>>,
         recorder: &mut R,
     ) -> Result<(), Halt>
+        requires holes { IsSome self.old.world.grain → R.takes_holes ≡ true }
         requires left { IsEach self.old.world.tree left.value }
         requires node { node < length self.old.world.tree }
         ensures told { IsStepBy (λ u. self.new)
@@ -284,7 +285,6 @@ impl<'a, K: Finder> Evaluator<'a, K> {
         left.next = left.next.checked_add(1).ok_or(AllocError)?;
         left.position = left.position.checked_add(1).ok_or(AllocError)?;
         self.push(Frame::Each(left))?;
-        self.push_body(body, scope)?;
-        Ok(())
+        self.begin_body(body, scope, recorder)
     }
 }

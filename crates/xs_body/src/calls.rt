@@ -63,6 +63,7 @@ impl<'a, K: Finder> Evaluator<'a, K> {
     }
 
     /// What is called, once no parameter is left.
+    #[inline(always)]
     fn pass_on<R: Recorder<Task = Task<'a>>>(
         &mut self,
         passing: Box<Passing<'a>>,

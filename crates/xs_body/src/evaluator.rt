@@ -7,7 +7,7 @@ ghost use Rattle.std.specs.List.{All};
 ghost use Rattle.xs_body.specs.Inside.{AreValues, IsInside, IsWorld};
 ghost use Rattle.xs_body.specs.steps.Frames.{filled_up, idle, instrs_of, last, pushed, rest};
 ghost use Rattle.xs_body.specs.steps.Frames.{slots_are, without, work_of};
-ghost use Rattle.xs_eval.specs.Conditions.{IsContext};
+ghost use Rattle.xs_meaning.specs.Conditions.{IsContext};
 ghost use Rattle.xs_semantics.specs.World.{context, nodes_run, template_run, test_run, text_run};
 ghost use Rattle.xs_semantics.specs.World.{value_run};
 ghost use Rattle.xs_trace.specs.Play.{IsStep, IsStepBy};
@@ -19,10 +19,8 @@ use crate::world::World;
 use std::alloc::{AllocError, Global};
 use std::borrow::CowStr;
 use std::marker::Model;
-use xs_eval::context::Context;
-use xs_eval::evaluate::evaluate;
-use xs_eval::templates::{evaluate_avt, lend_avt};
 use xs_making::{RecentLabels, SheetTexts};
+use xs_meaning::context::Context;
 use xs_semantics::finder::Finder;
 use xs_sets::index::SetIndex;
 use xs_sheet::body::Body;
@@ -227,14 +225,8 @@ impl<'a, K: Finder> Evaluator<'a, K> {
         ensures inside { IfOk result (IsIn self.now.world.tree) }
     {
         let context = self.context(&expr.scope, scope);
-        evaluate(
-            self.alloc,
-            expr.expr.expr(),
-            &context,
-            self.finder,
-            site,
-            tally,
-        )
+        self.finder
+            .evaluate(self.alloc, expr.expr.expr(), &context, site, tally)
     }
 
     /// Its nodes: the value has to be a node-set (5.4, 8).
@@ -310,14 +302,9 @@ impl<'a, K: Finder> Evaluator<'a, K> {
         ensures kept { T.kept tally.new ≡ T.kept tally.old }
     {
         let context = self.context(&template.scope, scope);
-        evaluate_avt(
-            self.alloc,
-            template.parts.as_slice(),
-            &context,
-            self.finder,
-            site,
-            tally,
-        )
+        let parts = template.parts.as_slice();
+        self.finder
+            .evaluate_avt(self.alloc, parts, &context, site, tally)
     }
 
     /// The text of a value template, lent by the stylesheet where it is fixed (7.6.2).
@@ -336,13 +323,8 @@ impl<'a, K: Finder> Evaluator<'a, K> {
         ensures kept { T.kept tally.new ≡ T.kept tally.old }
     {
         let context = self.context(&template.scope, scope);
-        lend_avt(
-            self.alloc,
-            template.parts.as_slice(),
-            &context,
-            self.finder,
-            site,
-            tally,
-        )
+        let parts = template.parts.as_slice();
+        self.finder
+            .lend_avt(self.alloc, parts, &context, site, tally)
     }
 }

@@ -78,6 +78,7 @@ pub struct Rules<'a> {
 
 impl<'a> Rules<'a> {
     /// The same, in constant time.
+    #[inline(always)]
     pub(crate) fn copy(&self, alloc: Global) -> Result<Rules<'a>, AllocError>
         ensures { IfOk result (λ copy. copy ≡ self.now) }
     {

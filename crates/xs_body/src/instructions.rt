@@ -20,7 +20,6 @@ use xs_trace::recorder::{Halt, Recorder, say_message};
 
 impl<'a, K: Finder> Evaluator<'a, K> {
     /// What an instruction does after its own tick, before what is left of its body.
-    #[inline(always)]
     pub(crate) fn begin<R: Recorder<Task = Task<'a>>>(
         &mut self,
         kind: &'a InstrKind,
@@ -187,6 +186,7 @@ impl<'a, K: Finder> Evaluator<'a, K> {
     }
 
     /// The next of some bodies, one after another.
+    #[inline(always)]
     pub(crate) fn begin_next_body(
         &mut self,
         bodies: &'a [Body],

@@ -1,6 +1,6 @@
 //! Elements, attributes, comments and processing instructions (XSLT 1.0, 7.1, 7.3 and 7.4).
 
-ghost use Rattle.std.specs.Prelude.{◌≡◌, ◌<◌, ◌∷◌, [], length, OnOk};
+ghost use Rattle.std.specs.Prelude.{◌≡◌, ◌<◌, length, OnOk};
 ghost use Rattle.xs_body.specs.steps.Frames.{attribute_begun, captured_begun, content_in};
 ghost use Rattle.xs_body.specs.steps.Frames.{element_put, inside_begun, literal_inside};
 ghost use Rattle.xs_body.specs.steps.Frames.{instruction_begun, last, literal_begun, made_begun};
@@ -128,6 +128,7 @@ impl<'a, K: Finder> Evaluator<'a, K> {
     }
 
     /// Puts the attributes of a literal element, in their order (7.1.1).
+    #[inline(always)]
     pub(crate) fn put_attributes<R: Recorder<Task = Task<'a>>>(
         &mut self,
         all: AttributesLeft<'a>,

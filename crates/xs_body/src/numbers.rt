@@ -4,7 +4,7 @@ ghost use Rattle.std.specs.Prelude.{◌≡◌, ◌<◌, length, IfOk, Ok, Some, 
 ghost use Rattle.xs_body.specs.steps.Frames.{last, number_steps};
 ghost use Rattle.xs_body.specs.steps.Numbers.{formatting_of, numbered_of};
 ghost use Rattle.xs_matching.specs.Counted.{number_list};
-ghost use Rattle.xs_eval.specs.Results.{given, numeric};
+ghost use Rattle.xs_meaning.specs.Results.{given, numeric};
 ghost use Rattle.xs_num.specs.Text.{number_in};
 ghost use Rattle.xs_semantics.specs.Numbers.{format_run, formatting_run, group_in, numbered_by};
 ghost use Rattle.xs_semantics.specs.Numbers.{optional_run, size_from, written};

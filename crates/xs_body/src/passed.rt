@@ -96,6 +96,7 @@ impl<'a> Passed<'a> {
     }
 
     /// The same, in constant time where it is shared.
+    #[inline(always)]
     pub(crate) fn copy(&self, alloc: Global) -> Result<Passed<'a>, AllocError>
         ensures { IfOk result (λ copy. copy ≡ self.now) }
     {
@@ -128,6 +129,7 @@ fn share(alloc: Global, values: Vec<Value>) -> Result<PassedValues, AllocError>
 }
 
 /// The same values, in constant time where they are shared.
+#[inline(always)]
 fn copy_of(alloc: Global, values: &PassedValues) -> Result<PassedValues, AllocError>
     ensures { IfOk result (λ copy. values_of copy ≡ values_of values.now) }
 {

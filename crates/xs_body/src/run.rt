@@ -2,8 +2,8 @@
 
 ghost use Rattle.std.specs.Prelude.{◌≡◌, ◌<◌, ◌∷◌, length, true, IsSome, OnOk};
 ghost use Rattle.xs_body.specs.Inside.{IsInside};
-ghost use Rattle.xs_body.specs.steps.Frames.{advanced, end_works, pushed, rest, rest_works};
-ghost use Rattle.xs_body.specs.steps.Frames.{stack_told, work_of};
+ghost use Rattle.xs_body.specs.steps.Frames.{advanced, end_works, instrs_of, pushed, rest_begun};
+ghost use Rattle.xs_body.specs.steps.Frames.{rest_works, stack_told, work_of};
 ghost use Rattle.xs_trace.specs.Play.{IsStep, IsStepBy};
 
 use crate::evaluator::Evaluator;
@@ -11,7 +11,7 @@ use crate::frames::{Frame, Scope};
 use crate::task::Task;
 use std::alloc::AllocError;
 use xs_semantics::finder::Finder;
-use xs_sheet::body::Instr;
+use xs_sheet::body::{Body, Instr};
 use xs_trace::event::Event;
 use xs_trace::recorder::{Halt, Recorder};
 
@@ -76,7 +76,26 @@ impl<'a, K: Finder> Evaluator<'a, K> {
         }
     }
 
+    /// A body begins at once, by its first instruction.
+    #[inline(always)]
+    pub(crate) fn begin_body<R: Recorder<Task = Task<'a>>>(
+        &mut self,
+        body: &'a Body,
+        scope: Scope,
+        recorder: &mut R,
+    ) -> Result<(), Halt>
+        requires holes { IsSome self.old.world.grain → R.takes_holes ≡ true }
+        requires node { scope.focus.node < length self.old.world.tree }
+        ensures told { IsStepBy (λ u. self.new)
+            (rest_begun (instrs_of body.now) scope self.old
+            (R.state recorder.old)) result (R.state recorder.new) }
+        ensures kept { R.kept recorder.new ≡ R.kept recorder.old }
+    {
+        self.go_on(body.instrs.as_slice(), scope, recorder)
+    }
+
     /// The next instruction of a body, or its end.
+    #[inline(always)]
     fn go_on<R: Recorder<Task = Task<'a>>>(
         &mut self,
         instrs: &'a [Instr],
@@ -86,7 +105,7 @@ impl<'a, K: Finder> Evaluator<'a, K> {
         requires holes { IsSome self.old.world.grain → R.takes_holes ≡ true }
         requires node { scope.focus.node < length self.old.world.tree }
         ensures told { IsStepBy (λ u. self.new)
-            (advanced (rest instrs.now scope) self.old
+            (rest_begun instrs.now scope self.old
             (R.state recorder.old)) result (R.state recorder.new) }
         ensures kept { R.kept recorder.new ≡ R.kept recorder.old }
     {
@@ -100,6 +119,7 @@ impl<'a, K: Finder> Evaluator<'a, K> {
     }
 
     /// An instruction of a body begins, before what is left of the body.
+    #[inline(always)]
     fn begin_next<R: Recorder<Task = Task<'a>>>(
         &mut self,
         instr: &'a Instr,
@@ -110,7 +130,7 @@ impl<'a, K: Finder> Evaluator<'a, K> {
         requires holes { IsSome self.old.world.grain → R.takes_holes ≡ true }
         requires node { scope.focus.node < length self.old.world.tree }
         ensures told { IsStepBy (λ u. self.new)
-            (advanced (rest (instr.now ∷ behind.now) scope) self.old
+            (rest_begun (instr.now ∷ behind.now) scope self.old
             (R.state recorder.old)) result (R.state recorder.new) }
         ensures kept { R.kept recorder.new ≡ R.kept recorder.old }
     {

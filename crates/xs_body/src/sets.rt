@@ -66,6 +66,7 @@ impl<'a, K: Finder> Evaluator<'a, K> {
     }
 
     /// The next declaration of a set, before those after it.
+    #[inline(always)]
     pub(crate) fn next_declaration(
         &mut self,
         name: &'a Label,

@@ -3,16 +3,19 @@
 ghost use Rattle.std.specs.Prelude.{◌≡◌, ◌<◌, [], ◌∷◌, length, slice_get, true, IsSome, OnOk};
 ghost use Rattle.xs_body.specs.Inside.{AreValues, IsParams};
 ghost use Rattle.xs_body.specs.steps.Frames.{advanced, applied_begun, built_in_begun};
-ghost use Rattle.xs_body.specs.steps.Frames.{chars_steps, entering, params_first, params_left};
-ghost use Rattle.xs_body.specs.steps.Frames.{params_work, pushed, rule_begun, template_begun};
+ghost use Rattle.xs_body.specs.steps.Frames.{chars_steps, entering, entering_fitting, outer};
+ghost use Rattle.xs_body.specs.steps.Frames.{params_entered, params_first, params_left};
+ghost use Rattle.xs_body.specs.steps.Frames.{params_work, pushed};
+ghost use Rattle.xs_body.specs.steps.Frames.{rule_begun, rule_entered, template_begun};
+ghost use Rattle.xs_body.specs.steps.Frames.{template_entered};
 ghost use Rattle.xs_semantics.specs.Tasks.{no_params};
-ghost use Rattle.xs_semantics.specs.Trace.{fitting, named, overridden};
+ghost use Rattle.xs_semantics.specs.Trace.{named, overridden};
 ghost use Rattle.xs_trace.specs.Play.{IsStep, IsStepBy};
 ghost use Rattle.xs_tree.specs.Record.{at, children};
 
 use crate::evaluator::Evaluator;
 use crate::frames::{Frame, ParamsLeft, Rules, Scope};
-use crate::lists::{NodeList, children_of};
+use crate::lists::NodeList;
 use crate::passed::Passed;
 use crate::putting::put_text;
 use crate::task::Task;
@@ -20,6 +23,7 @@ use std::alloc::AllocError;
 use xs_semantics::finder::Finder;
 use xs_semantics::focus::Focus;
 use xs_sheet::body::Binding;
+use xs_sheet::declarations::Template;
 use xs_trace::characters::Characters;
 use xs_trace::fault::Fault;
 use xs_trace::item::Site;
@@ -51,7 +55,7 @@ impl<'a, K: Finder> Evaluator<'a, K> {
         Ok(())
     }
 
-    /// The rule for the current node in a mode begins, one level deeper (5.5).
+    /// The rule for the current node in a mode begins at once, one level deeper (5.5).
     pub(crate) fn enter_fitting<R: Recorder<Task = Task<'a>>>(
         &mut self,
         rules: Rules<'a>,
@@ -63,7 +67,7 @@ impl<'a, K: Finder> Evaluator<'a, K> {
         requires node { focus.node < length self.old.world.tree }
         requires passed { AreValues self.old.world.tree rules.passed.values }
         ensures told { IsStepBy (λ u. self.new)
-            (entering (fitting rules.entry.mode rules.entry.passed) site focus self.old
+            (entering_fitting rules.entry.mode rules.entry.passed site focus self.old
             (R.state recorder.old)) result (R.state recorder.new) }
         ensures kept { R.kept recorder.new ≡ R.kept recorder.old }
     {
@@ -72,7 +76,87 @@ impl<'a, K: Finder> Evaluator<'a, K> {
         }
         let focus = self.in_template(focus);
         let rule = self.rule_for(rules.mode, focus.node)?;
-        self.begin_rule(rule, rules, site, focus, recorder)
+        self.enter_rule(rule, rules, site, focus, recorder)
+    }
+
+    /// A rule begins at once: a template, which is then the current rule, or a built-in one.
+    fn enter_rule<R: Recorder<Task = Task<'a>>>(
+        &mut self,
+        rule: Option<u32>,
+        rules: Rules<'a>,
+        site: Site,
+        focus: Focus,
+        recorder: &mut R,
+    ) -> Result<(), Halt>
+        requires holes { IsSome self.old.world.grain → R.takes_holes ≡ true }
+        requires node { focus.node < length self.old.world.tree }
+        requires passed { AreValues self.old.world.tree rules.passed.values }
+        ensures told { IsStepBy (λ u. self.new)
+            (rule_entered rule rules.entry.mode rules.entry.passed site focus self.old
+            (R.state recorder.old)) result (R.state recorder.new) }
+        ensures kept { R.kept recorder.new ≡ R.kept recorder.old }
+    {
+        match rule {
+            Some(rule) => {
+                let focus = focus.by_rule(rule, rules.mode);
+                self.enter_template(rule, rules.passed, focus, recorder)
+            }
+            None => self.begin_built_in(rules.mode, site, focus, recorder),
+        }
+    }
+
+    /// A template begins at once, by the first instruction of its body where it has no parameters.
+    fn enter_template<R: Recorder<Task = Task<'a>>>(
+        &mut self,
+        template: u32,
+        passed: Passed<'a>,
+        focus: Focus,
+        recorder: &mut R,
+    ) -> Result<(), Halt>
+        requires holes { IsSome self.old.world.grain → R.takes_holes ≡ true }
+        requires node { focus.node < length self.old.world.tree }
+        requires passed { AreValues self.old.world.tree passed.values }
+        ensures told { IsStepBy (λ u. self.new) (template_entered
+            (slice_get self.old.world.sheet.templates template) passed.entry focus self.old
+            (R.state recorder.old)) result (R.state recorder.new) }
+        ensures kept { R.kept recorder.new ≡ R.kept recorder.old }
+    {
+        let sheet = self.sheet;
+        let Some(template) = sheet.templates.as_slice().get(template as usize) else {
+            return Ok(());
+        };
+        self.enter_params(template, passed, focus, recorder)
+    }
+
+    /// The same of a template that was found: its first parameter, or its body.
+    fn enter_params<R: Recorder<Task = Task<'a>>>(
+        &mut self,
+        template: &'a Template,
+        passed: Passed<'a>,
+        focus: Focus,
+        recorder: &mut R,
+    ) -> Result<(), Halt>
+        requires holes { IsSome self.old.world.grain → R.takes_holes ≡ true }
+        requires node { focus.node < length self.old.world.tree }
+        requires passed { AreValues self.old.world.tree passed.values }
+        ensures told { IsStepBy (λ u. self.new) (params_entered template.now.params passed.entry
+            template.now.body (outer focus) self.old (R.state recorder.old))
+            result (R.state recorder.new) }
+        ensures kept { R.kept recorder.new ≡ R.kept recorder.old }
+    {
+        let params = template.params.as_slice();
+        let scope = Scope::outer(focus);
+        if params.is_empty() {
+            return self.begin_body(&template.body, scope, recorder);
+        }
+        let left = ParamsLeft {
+            left: params,
+            passed,
+            body: &template.body,
+            scope,
+        };
+        self.push(Frame::Params(Box::new(self.alloc, left)?))?;
+        Ok(())
     }
 
     /// The rule that the current one overrides begins, one level deeper (5.6).

@@ -5,7 +5,7 @@ ghost use Rattle.std.specs.Prelude.{◌≡◌, ◌≤◌, ◌⊎◌, [], ◌∷�
 ghost use Rattle.xs_semantics.specs.Globals.{SettlesAll};
 ghost use Rattle.xs_semantics.specs.World.{ground};
 ghost use Rattle.xs_globals.specs.Results.{settled_of};
-ghost use Rattle.xs_eval.specs.Conditions.{IsInIf};
+ghost use Rattle.xs_meaning.specs.Conditions.{IsInIf};
 ghost use Rattle.xs_answer.specs.declared.status.TheConstants.{OK, RUN_FAULT};
 ghost use Rattle.xs_answer.specs.Evaluation.{IsEvaluated, IsEvaluatedOn, IsEvaluatedOver};
 ghost use Rattle.xs_answer.specs.Inputs.{named_document};

@@ -1,11 +1,7 @@
 pub mod NameLemmas
 pub mod OutcomeLemmas
-pub mod StepLemmas
-pub mod CaseLemmas
-pub mod InsideLemmas
 pub mod SignLemmas
 pub mod KeyLemmas
-pub mod AxisListLemmas
 pub mod LanguageLemmas
 pub mod PositionLemmas
 pub mod UnionLemmas

@@ -2,14 +2,9 @@
 use Rattle.std.proofs.Common.{◌≡◌, ℕ, zero, suc, ◌+◌, ◌<◌, ◌==◌, ◌&&◌, ◌++◌, nat_lt, arith, Bool, true, false, cond}
 use Rattle.std.proofs.Common.{List, [], ◌∷◌, All, length, Option, Some, None, Result, Ok, Err, OnOk, refl, sym, ap, subst, ◌∙◌, inl, inr}
 use Rattle.std.proofs.lemmas.Bool.{eqb-true}
-use Rattle.std.proofs.lemmas.List.{length-append}
 use Rattle.std.proofs.lemmas.List.Elements.{All-append, All-contains, All-contains_itself, Contains-append_cases, Contains-append_left, Contains-append_right}
 use Rattle.std.specs.List.{Contains}
-use Rattle.xs_trace.specs.Play.{IsStep, IsStepBy, ticked_by}
-use Rattle.xs_trace.specs.Run.{Answer, Gives, Faults, Lacks, Run, costs, fold, give, go_on, limited, ◌>>=◌}
-use Rattle.xs_trace.specs.State.{State}
-use Rattle.xs_trace.specs.declared.item.Site.{Site}
-use Rattle.xs_trace.specs.declared.recorder.Halt.{Halt}
+use Rattle.xs_trace.specs.Run.{Answer, Gives, Faults, Lacks, Run, costs, fold, give, go_on, ◌>>=◌}
 use Rattle.xs_tree.specs.declared.axes.Axis.{Axis}
 use Rattle.xs_value.specs.declared.value.Value.{Value}
 use Rattle.xs_value.specs.declared.value.Value.TheVariants.{Nodes}
@@ -24,16 +19,15 @@ use Rattle.xs_xpath.specs.Exprs.{tree_from, trees_from}
 use Rattle.xs_xpath.specs.Patterns.{are_unions, is_union}
 use Rattle.xs_xpath.specs.Tree as syntax
 use Rattle.xs_xpath.specs.Tree.{Tree, Trees, no_trees, first_tree, trees}
-use Rattle.xs_eval.specs.Context.{Context}
-use Rattle.xs_eval.specs.Evaluation.{chain, joined, joined_from, run_of, run_of_tree, runs_of, runs_of_trees}
-use Rattle.xs_eval.specs.Operators.{operated}
-use Rattle.xs_eval.specs.Paths.{Meaning, all_filtered, and_from, kept_of, path, selected, step, steps_from, tested, through}
-use Rattle.xs_eval.specs.Results.{given, nodes_in}
-use Rattle.xs_eval.specs.steps.Unions.{IsOnlyStep, and_step, and_tested, are_plain, is_here, is_plain, is_step, is_union_of_steps}
+use Rattle.xs_meaning.specs.Context.{Context}
+use Rattle.xs_meaning.specs.Evaluation.{chain, joined, joined_from, run_of, run_of_tree, runs_of, runs_of_trees}
+use Rattle.xs_meaning.specs.Operators.{operated}
+use Rattle.xs_meaning.specs.Paths.{Meaning, all_filtered, and_from, is_here, kept_of, path, selected, step, steps_from, tested, through}
+use Rattle.xs_meaning.specs.Results.{given, nodes_in}
+use Rattle.xs_eval.specs.steps.Unions.{IsOnlyStep, and_step, and_tested, are_plain, is_plain, is_step, is_union_of_steps}
 use Rattle.xs_eval.specs.steps.Unions.{plain_among, plain_step, test_alone, test_of, united}
-use Rattle.xs_eval.proofs.AxisListLemmas.{tested-some}
-use Rattle.xs_eval.proofs.InsideLemmas.{in_order_all}
-use Rattle.xs_eval.proofs.StepLemmas.{continues, costs_on, exits_at_costs, gives}
+use Rattle.xs_meaning.proofs.AxisListLemmas.{tested-some}
+use Rattle.xs_meaning.proofs.InsideLemmas.{in_order_all}
 
 -- ---- runs, and what follows them
 

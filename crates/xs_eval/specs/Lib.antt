@@ -1,15 +1,2 @@
--- In the order in which they are read: the context; how results become runs; operators; names and keys; functions; paths; and the
--- cases on the expression. steps says what the code mirrors.
-pub mod Context
-pub mod Conditions
-pub mod Results
-pub mod Operators
-pub mod Names
-pub mod Languages
-pub mod Functions
-pub mod Keys
-pub mod Calls
-pub mod Paths
-pub mod Evaluation
-pub mod Templates
+-- steps says what the code mirrors; what it evaluates is said in xs_meaning.
 pub mod steps

@@ -1,7 +1,6 @@
 pub mod Keys
 pub mod Languages
 pub mod Names
-pub mod Nodes
 pub mod Variables
 pub mod Positions
 pub mod Unions

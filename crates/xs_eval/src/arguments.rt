@@ -1,21 +1,20 @@
 //! The arguments of a call, and values that are made of texts, nodes and numbers.
 
-ghost use Rattle.std.specs.Prelude.{◌≡◌, ◌<◌, ◌∷◌, [], IfOk, IfSome, Ok, length, slice_get, pos};
+ghost use Rattle.std.specs.Prelude.{◌≡◌, ◌<◌, ◌∷◌, [], IfOk, IfSome, Ok, length, pos};
 ghost use Rattle.std.specs.List.{All};
 ghost use Rattle.std.specs.Cow.{cow_str_bytes};
-ghost use Rattle.std.specs.Option.{option_copied};
 ghost use Rattle.std.specs.Str.{IsUtf8};
 ghost use Rattle.xs_num.specs.Number.{bounded};
 ghost use Rattle.xs_value.specs.Conversion.{IsIn, bool_value, number_value, text_value};
-ghost use Rattle.xs_eval.specs.Functions.{argument, first_node, first_or_node};
-ghost use Rattle.xs_eval.specs.Results.{Answers, AnswersBy, natural, nodes_in, numeric};
+ghost use Rattle.xs_meaning.specs.Functions.{argument, first_node, first_or_node};
+ghost use Rattle.xs_meaning.specs.Results.{Answers, AnswersBy, natural, nodes_in, numeric};
 ghost use Rattle.xs_value.specs.declared.value.Value.TheVariants.{Bool, Number, Chars, Nodes};
 
-use crate::context::Context;
 use crate::operand::Operand;
-use crate::trouble::{Trouble, computed};
 use std::alloc::{AllocError, Global};
 use std::borrow::CowStr;
+use xs_meaning::context::Context;
+use xs_meaning::trouble::{Trouble, computed};
 use xs_num::number::{Num, NumFault};
 use xs_num::reading::read_num;
 use xs_trace::fault::Fault;

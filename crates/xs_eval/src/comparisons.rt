@@ -4,7 +4,7 @@
 ghost use Rattle.std.specs.Prelude.{◌≡◌, ◌<◌, IfOk, Ok, false, length};
 ghost use Rattle.std.specs.List.{All};
 ghost use Rattle.xs_tree.specs.Record.{string_value};
-ghost use Rattle.xs_value.specs.Comparison.{compared, is_ordering, same_or_not};
+ghost use Rattle.xs_value.specs.Comparison.{compared, is_ordering};
 ghost use Rattle.xs_value.specs.Conversion.{IsIn};
 ghost use Rattle.xs_value.specs.Results.{Answers};
 ghost use Rattle.xs_value.specs.declared.value.Value.TheVariants.{Chars, Nodes};

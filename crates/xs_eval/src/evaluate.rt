@@ -1,28 +1,28 @@
 //! The evaluation of an expression (XPath 1.0, 2 and 3), which tells its ticks to a tally.
 
-ghost use Rattle.std.specs.Prelude.{◌≡◌, ◌<◌, ◌≤◌, ◌∷◌, [], IfOk, length};
+ghost use Rattle.std.specs.Prelude.{◌≡◌, ◌<◌, ◌∷◌, [], IfOk, length};
 ghost use Rattle.std.specs.List.{All};
 ghost use Rattle.xs_trace.specs.Play.{IsStep};
 ghost use Rattle.xs_trace.specs.Run.{limited};
 ghost use Rattle.xs_value.specs.Conversion.{IsIn};
-ghost use Rattle.xs_eval.specs.Conditions.{IsContext};
-ghost use Rattle.xs_eval.specs.Evaluation.{called_of, chain, joined, joined_from};
-ghost use Rattle.xs_eval.specs.Evaluation.{negative, right_operated, run_of, runs_of};
-ghost use Rattle.xs_eval.specs.Paths.{filter_expr, filtered, kept_of, path, selected, step};
-ghost use Rattle.xs_eval.specs.Paths.{steps_from, through};
-ghost use Rattle.xs_eval.specs.steps.Nodes.{AreSome};
+ghost use Rattle.xs_meaning.specs.Conditions.{IsContext};
+ghost use Rattle.xs_meaning.specs.Evaluation.{called_of, chain, joined, joined_from};
+ghost use Rattle.xs_meaning.specs.Evaluation.{negative, right_operated, run_of, runs_of};
+ghost use Rattle.xs_meaning.specs.Paths.{filter_expr, filtered, kept_of, path, selected, step};
+ghost use Rattle.xs_meaning.specs.Paths.{through};
+ghost use Rattle.xs_meaning.specs.steps.Nodes.{AreSome};
 
 use crate::arguments::single;
 use crate::calls::answer;
-use crate::context::Context;
 use crate::node_tests::tested;
 use crate::operand::{Operand, SetOperand, text_of};
 use crate::operators::{decided, negate, operate};
 use crate::predicates::{count_of, kept_if, number_of, picked, selects};
 use crate::steps::{is_union_of_steps, only_step, unite_steps};
-use crate::trouble::settled;
 use crate::variables::{lend, variable};
 use std::alloc::Global;
+use xs_meaning::context::Context;
+use xs_meaning::trouble::settled;
 use xs_trace::item::Site;
 use xs_trace::recorder::{Halt, Tally, tick_several};
 use xs_trace::text::TextBuf;

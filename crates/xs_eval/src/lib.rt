@@ -4,7 +4,6 @@
 mod arguments;
 mod calls;
 mod comparisons;
-pub mod context;
 pub mod evaluate;
 pub mod keys;
 mod languages;
@@ -17,5 +16,4 @@ pub mod predicates;
 mod steps;
 mod strings;
 pub mod templates;
-mod trouble;
 mod variables;

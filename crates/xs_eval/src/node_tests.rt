@@ -1,14 +1,16 @@
 //! Node tests (XPath 1.0, 2.3), and the nodes of an axis that pass one.
 
-ghost use Rattle.std.specs.Prelude.{◌≡◌, ◌<◌, ◌∷◌, [], ◌++◌, IfOk, OnOk, length, if◌then◌else◌};
+ghost use Rattle.std.specs.Prelude.{◌≡◌, ◌<◌, ◌∷◌, [], ◌++◌, IfOk, OnOk, false, length};
+ghost use Rattle.std.specs.Prelude.{if◌then◌else◌};
+ghost use Rattle.std.specs.Str.{bytes_eq};
 ghost use Rattle.xs_tree.specs.Record.{at};
 ghost use Rattle.xs_tree.specs.declared.axes.Axis.TheVariants.{Attribute};
-ghost use Rattle.xs_eval.specs.Paths.{is_named, is_principal, passes, tested};
-ghost use Rattle.xs_eval.specs.steps.Nodes.{AreSome};
+ghost use Rattle.xs_meaning.specs.Paths.{is_named, is_principal, passes, tested};
+ghost use Rattle.xs_meaning.specs.steps.Nodes.{AreSome};
 
-use crate::context::Context;
 use std::alloc::{AllocError, Global};
 use xs_axes::axis_nodes;
+use xs_meaning::context::Context;
 use xs_tree::{Axis, Kind, Node, Tree};
 use xs_value::node_list::NodeList;
 use xs_xpath::name::NodeTest;
@@ -47,7 +49,7 @@ pub(crate) fn find(
 }
 
 // Adds the attributes of the context node that pass a test, in document order.
-#[tactic(auto, using(crate::proofs::AxisListLemmas::attributes_listed))]
+#[tactic(auto, using(xs_meaning::proofs::AxisListLemmas::attributes_listed))]
 fn find_attributes(
     test: &NodeTest,
     context: &Context<'_>,
@@ -119,12 +121,22 @@ pub fn passes(tree: &Tree, axis: Axis, test: &NodeTest, node: Node) -> bool
     }
 }
 
-// Whether a node has a name.
+// Whether a node has a name. Most local parts differ in length, so that this is tried first.
 fn is_named(tree: &Tree, node: Node, uri: &str, local: &str) -> bool
     requires { node < length tree.now }
     ensures { result ≡ is_named uri.now local.now (at tree.now node) }
 {
+    if !are_as_long(tree.local(node), local) {
+        return false;
+    }
     tree.uri(node) == uri && tree.local(node) == local
+}
+
+// Whether two texts have one length.
+fn are_as_long(text: &str, other: &str) -> bool
+    ensures { result ≡ false → bytes_eq text.now other.now ≡ false }
+{
+    text.len() == other.len()
 }
 
 // Whether a kind of node is the principal one of an axis.

@@ -1,23 +1,23 @@
 //! The functions on nodes (XPath 1.0, 4.1; XSLT 1.0, 12.4), and `sum` (XPath 1.0, 4.4), on
 //! evaluated arguments.
 
-ghost use Rattle.std.specs.Prelude.{◌≡◌, ◌<◌, ◌++◌, IfOk, Ok, length, codes, pos, drop};
+ghost use Rattle.std.specs.Prelude.{◌<◌, Ok, length, pos, drop};
 ghost use Rattle.std.specs.List.{All};
 ghost use Rattle.xs_num.specs.declared.number.Number.TheVariants.{Whole};
-ghost use Rattle.xs_num.specs.Text.{text_of};
 ghost use Rattle.xs_tree.specs.Record.{at, name_local, name_uri};
 ghost use Rattle.xs_value.specs.Conversion.{IsIn};
 ghost use Rattle.xs_value.specs.declared.value.Value.TheVariants.{Chars};
-ghost use Rattle.xs_eval.specs.Functions.{and_number, argument, count, first, first_or_node};
-ghost use Rattle.xs_eval.specs.Functions.{generated_id, id_of, name_part, prefixed, sum, sum_from};
-ghost use Rattle.xs_eval.specs.Functions.{written_name};
-ghost use Rattle.xs_eval.specs.Results.{Answers};
+ghost use Rattle.xs_meaning.specs.Functions.{and_number, count, first, first_or_node};
+ghost use Rattle.xs_meaning.specs.Functions.{generated_id, id_of, name_part, sum};
+ghost use Rattle.xs_meaning.specs.Functions.{sum_from};
+ghost use Rattle.xs_meaning.specs.Functions.{written_name};
+ghost use Rattle.xs_meaning.specs.Results.{Answers};
 
 use crate::arguments::{chars, chars_of, natural, node_or_first, nodes_at};
-use crate::context::Context;
 use crate::operand::Operand;
-use crate::trouble::{Trouble, computed};
-use std::alloc::{AllocError, Global};
+use std::alloc::Global;
+use xs_meaning::context::Context;
+use xs_meaning::trouble::{Trouble, computed};
 use xs_num::arithmetic::add;
 use xs_num::number::Num;
 use xs_num::reading::read_num;

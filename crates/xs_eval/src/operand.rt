@@ -8,14 +8,14 @@ ghost use Rattle.std.specs.Str.{IsUtf8};
 ghost use Rattle.xs_value.specs.Conversion.{IsIn, bool_value, number_value, text_value};
 ghost use Rattle.xs_value.specs.NodeSet.{IsNodeList};
 ghost use Rattle.xs_value.specs.declared.value.Value.TheVariants.{Chars};
-ghost use Rattle.xs_eval.specs.Results.{Answers, AnswersBy, nodes_in, numeric};
+ghost use Rattle.xs_meaning.specs.Results.{Answers, AnswersBy, nodes_in, numeric};
 ghost use Rattle.xs_eval.specs.steps.Operands.{seen_value};
 
 use crate::arguments::{into_set, nodes_of, number_of, set_of};
-use crate::trouble::{Trouble, computed};
 use std::alloc::{AllocError, Global};
 use std::borrow::CowStr;
 use std::marker::Model;
+use xs_meaning::trouble::{Trouble, computed};
 use xs_num::number::Num;
 use xs_num::reading::read_num;
 use xs_trace::fault::Fault;

@@ -7,13 +7,13 @@ ghost use Rattle.xs_trace.specs.Play.{IsStepBy};
 ghost use Rattle.xs_trace.specs.Run.{limited};
 ghost use Rattle.xs_xpath.specs.AvtParts.{part_from, parts_from};
 ghost use Rattle.xs_xpath.specs.declared.avt.AvtPart.TheVariants.{Fixed};
-ghost use Rattle.xs_eval.specs.Conditions.{IsContext};
-ghost use Rattle.xs_eval.specs.Templates.{and_part, template};
+ghost use Rattle.xs_meaning.specs.Conditions.{IsContext};
+ghost use Rattle.xs_meaning.specs.Templates.{and_part, template};
 
-use crate::context::Context;
 use crate::evaluate::evaluate;
 use std::alloc::{AllocError, Global};
 use std::borrow::CowStr;
+use xs_meaning::context::Context;
 use xs_trace::item::Site;
 use xs_trace::recorder::{Halt, Tally};
 use xs_trace::text::TextBuf;

@@ -7,13 +7,13 @@ ghost use Rattle.xs_tree.specs.Record.{Record};
 ghost use Rattle.xs_value.specs.Conversion.{IsIn};
 ghost use Rattle.xs_value.specs.Tables.{Table};
 ghost use Rattle.xs_value.specs.declared.value.Value.TheVariants.{Chars};
-ghost use Rattle.xs_eval.specs.Conditions.{IsInIf};
-ghost use Rattle.xs_eval.specs.Evaluation.{global, local, run_of, variable};
+ghost use Rattle.xs_meaning.specs.Conditions.{IsInIf};
+ghost use Rattle.xs_meaning.specs.Evaluation.{global, local, run_of, variable};
 ghost use Rattle.xs_eval.specs.steps.Variables.{Finds};
 
-use crate::context::Context;
 use crate::operand::Operand;
 use std::alloc::Global;
+use xs_meaning::context::Context;
 use xs_trace::item::Site;
 use xs_trace::recorder::Halt;
 use xs_trace::text::TextBuf;

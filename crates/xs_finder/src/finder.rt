@@ -10,16 +10,26 @@ ghost use Rattle.xs_value.specs.Keys.{Finds};
 ghost use Rattle.xs_value.specs.Tables.{TablesIn, table_at};
 
 use std::alloc::{AllocError, Global};
+use std::borrow::CowStr;
 use xs_counting::counters::Counters;
+use xs_eval::evaluate::evaluate;
+use xs_eval::templates::{evaluate_avt, lend_avt};
 use xs_keys::keys::KeyCells;
+use xs_meaning::context::Context;
+use xs_meaning::expressions::ExprEvaluator;
 use xs_rules::choice::Rule;
 use xs_rules::index::{RuleIndex, choose_import_with, choose_with};
 use xs_semantics::finder::Finder;
 use xs_sheet::body::NumberDecl;
 use xs_sheet::sheet::Sheet;
 use xs_trace::item::Site;
+use xs_trace::recorder::{Halt, Tally};
+use xs_trace::text::TextBuf;
 use xs_tree::{Node, Tree};
 use xs_value::keys::{Found, KeyEnd, KeyFinder};
+use xs_value::value::Value;
+use xs_xpath::avt::AvtPart;
+use xs_xpath::expr::Expr;
 
 /// Finds for a stylesheet, over a tree. Nothing that is found depends on its tables.
 #[derive(Drop)]
@@ -82,6 +92,47 @@ impl<'a> KeyFinder for SheetFinder<'a> {
         ensures kept { IsKept result }
     {
         self.keys.find(alloc, key, text)
+    }
+}
+
+impl<'a> ExprEvaluator for SheetFinder<'a> {
+    /// By the evaluation of XPath.
+    #[inline(always)]
+    fn evaluate<T: Tally>(
+        &self,
+        alloc: Global,
+        expr: &Expr,
+        context: &Context<'_>,
+        site: Site,
+        tally: &mut T,
+    ) -> Result<Value, Halt> {
+        evaluate(alloc, expr, context, self, site, tally)
+    }
+
+    /// By the evaluation of value templates.
+    #[inline(always)]
+    fn evaluate_avt<T: Tally>(
+        &self,
+        alloc: Global,
+        parts: &[AvtPart],
+        context: &Context<'_>,
+        site: Site,
+        tally: &mut T,
+    ) -> Result<TextBuf, Halt> {
+        evaluate_avt(alloc, parts, context, self, site, tally)
+    }
+
+    /// The same.
+    #[inline(always)]
+    fn lend_avt<'t, T: Tally>(
+        &self,
+        alloc: Global,
+        parts: &'t [AvtPart],
+        context: &Context<'_>,
+        site: Site,
+        tally: &mut T,
+    ) -> Result<CowStr<'t, Global>, Halt> {
+        lend_avt(alloc, parts, context, self, site, tally)
     }
 }
 

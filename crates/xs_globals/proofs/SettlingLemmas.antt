@@ -15,7 +15,7 @@ use Rattle.xs_trace.specs.declared.item.Spot.{Spot}
 use Rattle.xs_trace.proofs.CutLemmas.{cut-longest}
 use Rattle.xs_trace.proofs.KeptLemmas.{some_same}
 use Rattle.xs_value.specs.declared.value.Value.{Value}
-use Rattle.xs_eval.specs.Conditions.{IsInIf}
+use Rattle.xs_meaning.specs.Conditions.{IsInIf}
 use Rattle.xs_semantics.specs.World.{World}
 use Rattle.xs_semantics.specs.Globals.{Table, Settled, settled, ended, tried, with_globals, with_passed, with_value, once_more, is_under, Settles, AllSettle}
 use Rattle.xs_semantics.specs.Globals.{attempt_trace, attempt_value}

@@ -6,7 +6,7 @@ ghost use Rattle.std.specs.Prelude.{IfOk, OnOk, IsSome};
 ghost use Rattle.std.specs.List.{All};
 ghost use Rattle.xs_body.specs.Inside.{IsAttemptIn};
 ghost use Rattle.xs_body.specs.Results.{IsAttempt};
-ghost use Rattle.xs_eval.specs.Conditions.{IsInIf};
+ghost use Rattle.xs_meaning.specs.Conditions.{IsInIf};
 ghost use Rattle.xs_globals.specs.Results.{settled_by, settled_of};
 ghost use Rattle.xs_globals.specs.steps.Settling.{Continues, GoesOn, IsGoing, IsMarked, IsTurn};
 ghost use Rattle.xs_globals.specs.steps.Settling.{IsUnderWay, left_over, table_of};

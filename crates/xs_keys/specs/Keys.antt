@@ -3,8 +3,8 @@
 use Rattle.std.specs.Prelude.{ℕ, Bool, List, [], ◌∷◌, filter, Option, Some, None, if◌then◌else◌}
 use Rattle.std.specs.List.{flat_map, list_any}
 use Rattle.std.specs.Str.{bytes_eq}
-use Rattle.xs_eval.specs.Evaluation.{run_of_tree}
-use Rattle.xs_eval.specs.Keys.{sought}
+use Rattle.xs_meaning.specs.Evaluation.{run_of_tree}
+use Rattle.xs_meaning.specs.Keys.{sought}
 use Rattle.xs_matching.specs.Matching.{is_match}
 use Rattle.xs_matching.specs.Matching.{pattern_context}
 use Rattle.xs_sheet.specs.declared.declarations.KeyDecl.{KeyDecl}

@@ -4,7 +4,7 @@ ghost use Rattle.std.specs.Prelude.{◌≡◌, ◌<◌, ◌++◌, ◌∷◌, [],
 ghost use Rattle.std.specs.Cow.{cow_str_bytes};
 ghost use Rattle.std.specs.List.{All};
 ghost use Rattle.std.specs.String.{string_bytes};
-ghost use Rattle.xs_eval.specs.Keys.{sought};
+ghost use Rattle.xs_meaning.specs.Keys.{sought};
 ghost use Rattle.xs_keys.specs.Keys.{faults_at, first_of, node_faults};
 ghost use Rattle.xs_keys.specs.steps.Pairs.{AreMarked, decls_in, either, node_pairs, paired};
 ghost use Rattle.xs_keys.specs.steps.Pairs.{pairs_at, pairs_in};

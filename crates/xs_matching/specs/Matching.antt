@@ -13,9 +13,9 @@ use Rattle.xs_value.specs.Tables.{Table}
 use Rattle.xs_xpath.specs.declared.name.NodeTest.{NodeTest}
 use Rattle.xs_xpath.specs.Patterns.{listed, is_pattern_axis}
 use Rattle.xs_xpath.specs.Tree.{Tree, number, literal, variable, call, negative, chain, group, here, root, step, descend, filter, path}
-use Rattle.xs_eval.specs.Context.{Context, at_node}
-use Rattle.xs_eval.specs.Evaluation.{run_of_tree, runs_of_trees}
-use Rattle.xs_eval.specs.Paths.{Meaning, tested}
+use Rattle.xs_meaning.specs.Context.{Context, at_node}
+use Rattle.xs_meaning.specs.Evaluation.{run_of_tree, runs_of_trees}
+use Rattle.xs_meaning.specs.Paths.{Meaning, tested}
 use Rattle.xs_matching.specs.Predicates.{all_kept, is_among, nodes_given}
 
 -- the context in which a pattern is gone over: the node that is tried, under the namespace declarations in scope for the pattern.

@@ -1,11 +1,12 @@
 -- Import precedence and priority, by which template rules and tests of elements are compared (XSLT 1.0, 2.6.2, 3.4 and 5.5).
-use Rattle.std.specs.Prelude.{◌==◌, ◌||◌, ◌&&◌, Bool, true, false, nat_lt, ℤ, pos, negsuc, int_lt, List, [], ◌∷◌, Option, Some, None, if◌then◌else◌}
+use Rattle.std.specs.Prelude.{◌==◌, ◌||◌, ◌&&◌, Bool, nat_lt, ℤ, pos, negsuc, int_lt, List, [], ◌∷◌, Option, Some, None, if◌then◌else◌}
 use Rattle.std.specs.Option.{option_map_or}
 use Rattle.xs_matching.specs.declared.ranks.Rank.{Rank}
 use Rattle.xs_xpath.specs.declared.name.NodeTest.{NodeTest}
 use Rattle.xs_xpath.specs.declared.name.NodeTest.TheVariants.{Any, Uri, Name, Node, Text, Comment, Pi, Target}
 use Rattle.xs_matching.specs.Matching.{start_of, steps_of}
-use Rattle.xs_xpath.specs.Tree.{Tree, Trees, here, step, no_trees, first_tree}
+pub use Rattle.xs_meaning.specs.Paths.{is_here}
+use Rattle.xs_xpath.specs.Tree.{Tree, Trees, step, no_trees, first_tree}
 
 -- whether the first is above the second: by a higher precedence, or at the same one by a higher priority
 abbrev pub outranks : Rank → Rank → Bool
@@ -47,10 +48,6 @@ abbrev pub lone_step : List Tree → Option NodeTest
 lone_step [] = None
 lone_step (s ∷ []) = bare_test s
 lone_step (s ∷ t ∷ more) = None
-
-abbrev pub is_here : Tree → Bool
-is_here here = true
-is_here _ = false
 
 abbrev pub lone_test : Tree → Option NodeTest
 lone_test e = if is_here (start_of e) then lone_step (steps_of e) else None

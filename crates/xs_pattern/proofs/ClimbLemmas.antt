@@ -11,9 +11,9 @@ use Rattle.xs_tree.proofs.WalkLemmas.{IsPlaced-at}
 use Rattle.xs_value.specs.Tables.{Table}
 use Rattle.xs_xpath.specs.declared.expr.Expr.{Expr}
 use Rattle.xs_xpath.specs.Tree.{Tree, here, root}
-use Rattle.xs_eval.specs.Context.{Context}
+use Rattle.xs_meaning.specs.Context.{Context}
 use Rattle.xs_matching.specs.Matching.{ends_path, is_descend, placed_at, selected}
-use Rattle.xs_eval.specs.Evaluation.{run_of_tree}
+use Rattle.xs_meaning.specs.Evaluation.{run_of_tree}
 use Rattle.xs_matching.specs.Predicates.{is_among, nodes_given}
 use Rattle.xs_pattern.specs.declared.matching.Reached.{Reached}
 use Rattle.xs_pattern.specs.declared.matching.Reached.TheVariants.{Below, Differs, Fits}

@@ -1,5 +1,5 @@
 -- A node that is looked for by halving, and what a call of `key` gives.
-use Rattle.std.proofs.Common.{◌≡◌, ℕ, zero, suc, ◌<◌, ◌≤◌, ◌==◌, ◌||◌, ◌⊎◌, inl, inr, Bool, true, false, cond, List, [], ◌∷◌, All, filter, get_or, length}
+use Rattle.std.proofs.Common.{◌≡◌, ℕ, zero, suc, ◌<◌, ◌≤◌, ◌==◌, ◌||◌, ◌⊎◌, inl, inr, Bool, true, false, cond, List, [], ◌∷◌, filter, get_or, length}
 use Rattle.std.proofs.Common.{refl, sym, ap, arith, ◌∙◌, Option, Some, None, Result, Ok, Err, nat_cmp}
 use Rattle.std.proofs.lemmas.Bool.{eq-eqb, ne_eqb, true≢false}
 use Rattle.std.proofs.lemmas.List.{append-nil}
@@ -16,10 +16,10 @@ use Rattle.xs_tree.proofs.WalkLemmas.{le_or_gt}
 use Rattle.xs_value.specs.NodeSet.{IsNodeList, in_order}
 use Rattle.xs_value.specs.Tables.{Table, nodes_of, table_at}
 use Rattle.xs_value.proofs.NodeSetLemmas.{in_order-same}
-use Rattle.xs_eval.specs.Context.{Context}
-use Rattle.xs_eval.specs.Evaluation.{run_of_tree}
-use Rattle.xs_eval.specs.Keys.{found, found_for, from_table, looked_up, number_of}
-use Rattle.xs_eval.specs.Names.{expanded_name}
+use Rattle.xs_meaning.specs.Context.{Context}
+use Rattle.xs_meaning.specs.Evaluation.{run_of_tree}
+use Rattle.xs_meaning.specs.Keys.{found, found_for, from_table, looked_up, number_of}
+use Rattle.xs_meaning.specs.Names.{expanded_name}
 use Rattle.xs_matching.specs.Predicates.{is_among, nodes_given, nodes_of as nodes_in, value_in}
 use Rattle.xs_pattern.specs.steps.Keys.{has_node, key_call}
 

@@ -5,7 +5,7 @@ ghost use Rattle.std.specs.Prelude.{◌≡◌, ◌<◌, ◌∷◌, [], true, IfO
 ghost use Rattle.std.specs.Prelude.{option_copied, option_map, slice_get};
 ghost use Rattle.std.specs.Option.{option_and_then, option_map_or};
 ghost use Rattle.xs_value.specs.Tables.{TablesIn};
-ghost use Rattle.xs_xpath.specs.Exprs.{tree_from, trees_from};
+ghost use Rattle.xs_xpath.specs.Exprs.{tree_from};
 ghost use Rattle.xs_rules.specs.Ranks.{outranks};
 ghost use Rattle.xs_rules.specs.Rules.{candidate, candidates_of, rank_of};
 ghost use Rattle.xs_rules.specs.steps.Candidates.{best_before, is_matching, looks_at, passes};

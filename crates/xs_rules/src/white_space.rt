@@ -1,7 +1,7 @@
 //! Which white space of a source is stripped (XSLT 1.0, 3.4).
 
 ghost use Rattle.std.specs.Prelude.{◌≡◌, ◌<◌, IfOk, IfSome, OnErr, OnOk, length, map};
-ghost use Rattle.std.specs.Prelude.{false, get_or, if◌then◌else◌};
+ghost use Rattle.std.specs.Prelude.{false, get_or};
 ghost use Rattle.std.specs.List.{find, range_with_len};
 ghost use Rattle.xs_tree.specs.Kinds.{is_element_kind, is_text_kind};
 ghost use Rattle.xs_tree.specs.Record.{at, attributes};

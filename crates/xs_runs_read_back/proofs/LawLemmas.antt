@@ -1,9 +1,9 @@
 -- What is written of a run reads back.
-use Rattle.std.proofs.Common.{◌<◌, ℕ, zero, suc, List, [], ◌∷◌, All, arith, length, subst, sym}
+use Rattle.std.proofs.Common.{ℕ, zero, suc, List, [], ◌∷◌, All, arith, subst, sym}
 use Rattle.std.specs.List.{AllByRecursion}
 use Rattle.std.proofs.lemmas.List.Elements.{All-head, All-tail}
 use Rattle.xs_trace.specs.Mark.{events_of}
-use Rattle.xs_tree.specs.Record.{Record, at}
+use Rattle.xs_tree.specs.Record.{Record}
 use Rattle.xs_tree.specs.Shape.{IsTree}
 use Rattle.xs_build.specs.DocumentTree.{IsDocument, IsOneDocument}
 use Rattle.xs_making.specs.Laws.{AreWell}

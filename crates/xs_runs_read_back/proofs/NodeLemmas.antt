@@ -1,13 +1,12 @@
 -- The names of nodes of a stylesheet, where its modules have names as those of documents.
-use Rattle.std.proofs.Common.{◌≡◌, ◌<◌, ◌≤◌, ℕ, List, [], ◌∷◌, ◌++◌, Option, Some, None, Bool, true, false, refl, sym, ◌∙◌, ap, subst, append_assoc}
+use Rattle.std.proofs.Common.{◌≡◌, ◌<◌, ℕ, List, [], ◌∷◌, ◌++◌, Option, Some, None, Bool, true, false, refl, sym, ◌∙◌, ap, subst, append_assoc}
 use Rattle.std.proofs.Common.{cond, filter, inl, inr, length, map}
-use Rattle.std.specs.Prelude.{not, ◌&&◌, ◌||◌, codes, if◌then◌else◌}
+use Rattle.std.specs.Prelude.{not, ◌||◌, codes, if◌then◌else◌}
 use Rattle.std.specs.List.{AllByRecursion, AllZip, list_any}
 use Rattle.std.specs.Option.{unwrap_or}
 use Rattle.std.specs.Str.{bytes_eq}
 use Rattle.std.proofs.lemmas.Bool.{and_parts}
 use Rattle.std.proofs.lemmas.List.{get_or_past}
-use Rattle.xs_trace.specs.Label.{Label}
 use Rattle.xs_tree.specs.declared.kinds.Kind.{Kind}
 use Rattle.xs_tree.specs.declared.kinds.Kind.TheVariants.{Root, Element, Attribute, Space, Text, Comment, Pi}
 use Rattle.xs_tree.specs.Kinds.{is_attribute_kind, is_element_kind, is_namespace_kind}
@@ -25,7 +24,7 @@ use Rattle.xs_making.specs.Laws.{AreWell, BindsNoXmlns, IsNamed, IsSpace, IsWell
 use Rattle.xs_structure.specs.Excluded.{copied_spaces, excludes, is_left_out}
 use Rattle.xs_compile.specs.Aliases.{prefix_uri}
 use Rattle.xs_compile.specs.Labels.{own_label}
-use Rattle.xs_xpath.specs.Names.{is_nil, uri_in, uri_of}
+use Rattle.xs_xpath.specs.Names.{is_nil, uri_in}
 use Rattle.xs_well_put.specs.Named.{IsNamedLabel, IsNamedSpace}
 
 -- ---- lists

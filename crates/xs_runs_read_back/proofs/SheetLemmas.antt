@@ -1,5 +1,5 @@
 -- The parts of a compiled stylesheet have the names of what they represent.
-use Rattle.std.proofs.Common.{◌≡◌, ℕ, List, [], ◌∷◌, Bool, true, false, filter, map, subst, sym}
+use Rattle.std.proofs.Common.{◌≡◌, ℕ, List, [], ◌∷◌, Bool, true, false, filter, subst, sym}
 use Rattle.std.specs.Prelude.{codes, not}
 use Rattle.std.specs.List.{AllByRecursion, AllZip}
 use Rattle.xs_trace.specs.Label.{Label}
@@ -22,7 +22,6 @@ use Rattle.xs_sheet.specs.declared.body.LiteralStart.{LiteralStart}
 use Rattle.xs_sheet.specs.declared.body.MadeName.{MadeName}
 use Rattle.xs_sheet.specs.declared.body.Passed.{Passed, Passed', Row_of-Binding, end_of-Binding, more_of-Binding}
 use Rattle.xs_sheet.specs.declared.body.When.{When'}
-use Rattle.xs_sheet.specs.declared.declarations.Alias.{Alias}
 use Rattle.xs_sheet.specs.declared.declarations.AttrSet.{AttrSet}
 use Rattle.xs_sheet.specs.declared.declarations.Global.{Global}
 use Rattle.xs_sheet.specs.declared.declarations.Template.{Template}
@@ -39,7 +38,7 @@ use Rattle.xs_compile.specs.Counted.{globals, templates}
 use Rattle.xs_compile.specs.Declarations.{IsBinding, IsGlobal, IsInstr, IsRuleOrModule, IsSet, IsTemplate, is_attribute}
 use Rattle.xs_compile.specs.Labels.{own_label}
 use Rattle.xs_compile.specs.StandsFor.{IsSheet}
-use Rattle.xs_well_put.specs.Named.{AreNamedBindings, AreNamedBodies, AreNamedInstrs, AreNamedWhens, IsNamedAlias, IsNamedBinding, IsNamedBody, IsNamedChoice}
+use Rattle.xs_well_put.specs.Named.{AreNamedBindings, AreNamedBodies, AreNamedWhens, IsNamedAlias, IsNamedBinding, IsNamedBody, IsNamedChoice}
 use Rattle.xs_well_put.specs.Named.{IsNamedContent, IsNamedFallbacks, IsNamedKind, IsNamedLabel, IsNamedMade, IsNamedPassed, IsNamedRow, IsNamedSet}
 use Rattle.xs_well_put.specs.Named.{IsNamedSheet, IsNamedSpace, IsNamedStart, IsNamedTemplate}
 use Rattle.xs_runs_read_back.proofs.NodeLemmas.{alias_other, all_any, all_mapped, all_zipped, attributes_named, literal_named, scope_binds, spaces_named}

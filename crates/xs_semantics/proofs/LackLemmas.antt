@@ -32,18 +32,18 @@ use Rattle.xs_tree.specs.declared.axes.Axis.TheVariants.{DescendantOrSelf}
 use Rattle.xs_xpath.specs.Templates.{Part, text, computed}
 use Rattle.xs_xpath.specs.Tree as syntax
 use Rattle.xs_xpath.specs.Tree.{Tree, Trees, no_trees, first_tree}
-use Rattle.xs_eval.specs.Calls.{called, is_key}
-use Rattle.xs_eval.specs.Context.{Context, at_node}
-use Rattle.xs_eval.specs.Evaluation.{and_argument, answered, arguments, called_of, chain, global, joined, joined_from, local, negative, right_operated}
-use Rattle.xs_eval.specs.Evaluation.{run_of_tree, runs_of_trees, unless, variable}
-use Rattle.xs_eval.specs.Functions.{first, second}
-use Rattle.xs_eval.specs.Keys.{from_table, keyed, looked_up}
-use Rattle.xs_eval.specs.Operators.{decided, negation, operated}
-use Rattle.xs_eval.specs.Paths.{Meaning, all_filtered, and_from, filter_expr, filtered, judged, kept_if, kept_of, path, selected, selects, step, steps_from}
-use Rattle.xs_eval.specs.Paths.{tested}
-use Rattle.xs_eval.specs.Paths.{through}
-use Rattle.xs_eval.specs.Results.{Outcome, given, nodes_in, numeric}
-use Rattle.xs_eval.specs.Templates.{and_part, template}
+use Rattle.xs_meaning.specs.Calls.{called, is_key}
+use Rattle.xs_meaning.specs.Context.{Context, at_node}
+use Rattle.xs_meaning.specs.Evaluation.{and_argument, answered, arguments, called_of, chain, global, joined, joined_from, local, negative, right_operated}
+use Rattle.xs_meaning.specs.Evaluation.{run_of_tree, runs_of_trees, unless, variable}
+use Rattle.xs_meaning.specs.Functions.{first, second}
+use Rattle.xs_meaning.specs.Keys.{from_table, keyed, looked_up}
+use Rattle.xs_meaning.specs.Operators.{decided, negation, operated}
+use Rattle.xs_meaning.specs.Paths.{Meaning, all_filtered, and_from, filter_expr, filtered, judged, kept_if, kept_of, path, selected, selects, step, steps_from}
+use Rattle.xs_meaning.specs.Paths.{tested}
+use Rattle.xs_meaning.specs.Paths.{through}
+use Rattle.xs_meaning.specs.Results.{Outcome, given, nodes_in, numeric}
+use Rattle.xs_meaning.specs.Templates.{and_part, template}
 
 -- what an answer lacks is without a value
 abbrev pub LacksOnly : {A : Type 0} → List (Option Value) → Answer A → Type 0

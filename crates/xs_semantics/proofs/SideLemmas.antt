@@ -34,7 +34,7 @@ use Rattle.xs_tree.specs.declared.kinds.Kind.{Kind}
 use Rattle.xs_value.specs.declared.value.Value.{Value}
 use Rattle.xs_value.specs.declared.value.Value.TheVariants.{Chars as String, Piece}
 use Rattle.xs_value.specs.Conversion.{bool_value, fragment_text, text_value}
-use Rattle.xs_eval.specs.Results.{given, nodes_in}
+use Rattle.xs_meaning.specs.Results.{given, nodes_in}
 use Rattle.xs_making.specs.Copies.{shallow_copy}
 use Rattle.xs_making.specs.Names.{pi_target, result_name}
 use Rattle.xs_sets.specs.declared.index.SetIndex.{SetIndex}
@@ -43,7 +43,7 @@ use Rattle.xs_semantics.specs.declared.focus.Focus.{Focus}
 use Rattle.xs_semantics.specs.declared.made.Made.{Made}
 use Rattle.xs_semantics.specs.declared.made.Made.TheVariants as made
 use Rattle.xs_semantics.specs.World.{World, all_set_levels, at_node, in_list, captured_in, with_levels, by_rule, without_rule, context}
-use Rattle.xs_eval.specs.Results.{numeric}
+use Rattle.xs_meaning.specs.Results.{numeric}
 use Rattle.xs_sheet.specs.declared.body.NumberDecl.{NumberDecl}
 use Rattle.xs_sheet.specs.declared.body.SortDecl.{SortDecl}
 use Rattle.xs_value.specs.Conversion.{number_value}

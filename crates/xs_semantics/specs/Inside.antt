@@ -1,6 +1,6 @@
 -- What has to be in the tree: the nodes of what a stylesheet is evaluated over, and of a task.
 use Rattle.std.specs.Prelude.{ℕ, ◌<◌, All, List, length}
-use Rattle.xs_eval.specs.Conditions.{IsInIf}
+use Rattle.xs_meaning.specs.Conditions.{IsInIf}
 use Rattle.xs_sets.specs.Indexed.{IsSetIndex}
 use Rattle.xs_sheet.specs.Sound.{IsSound}
 use Rattle.xs_tree.specs.Record.{Record}

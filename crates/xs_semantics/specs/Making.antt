@@ -13,7 +13,7 @@ use Rattle.xs_tree.specs.Record.{Record}
 use Rattle.xs_value.specs.declared.value.Value.{Value}
 use Rattle.xs_value.specs.declared.value.Value.TheVariants as value
 use Rattle.xs_value.specs.Conversion.{text_value}
-use Rattle.xs_eval.specs.Results.{given}
+use Rattle.xs_meaning.specs.Results.{given}
 use Rattle.xs_making.specs.Copies.{deep_copy}
 use Rattle.xs_making.specs.Labels.{put_label, xml_uri}
 use Rattle.xs_making.specs.Names.{pi_target, result_name}

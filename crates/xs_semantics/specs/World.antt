@@ -10,10 +10,10 @@ use Rattle.xs_tree.specs.Record.{Record, children}
 use Rattle.xs_value.specs.declared.value.Value.{Value}
 use Rattle.xs_value.specs.Conversion.{bool_value, number_value, text_value}
 use Rattle.xs_value.specs.Tables.{Table}
-use Rattle.xs_eval.specs.Context.{Context}
-use Rattle.xs_eval.specs.Evaluation.{run_of_tree}
-use Rattle.xs_eval.specs.Results.{given, nodes_in, numeric}
-use Rattle.xs_eval.specs.Templates.{template}
+use Rattle.xs_meaning.specs.Context.{Context}
+use Rattle.xs_meaning.specs.Evaluation.{run_of_tree}
+use Rattle.xs_meaning.specs.Results.{given, nodes_in, numeric}
+use Rattle.xs_meaning.specs.Templates.{template}
 use Rattle.xs_sets.specs.declared.index.SetIndex.{SetIndex}
 use Rattle.xs_sort.specs.Sorting.{sorted}
 use Rattle.xs_semantics.specs.declared.focus.Focus.{Focus}

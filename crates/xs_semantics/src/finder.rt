@@ -1,4 +1,4 @@
-//! What finds rules, nodes by key and numbers.
+//! What finds rules, nodes by key and numbers, and evaluates expressions.
 
 ghost use Rattle.std.specs.Prelude.{◌≡◌, ◌<◌, List, IfOk, length};
 ghost use Rattle.xs_matching.specs.Counted.{number_list};
@@ -8,14 +8,14 @@ ghost use Rattle.xs_sheet.specs.declared.sheet.Sheet.{Sheet};
 ghost use Rattle.xs_tree.specs.Record.{Record};
 
 use std::alloc::{AllocError, Global};
+use xs_meaning::expressions::ExprEvaluator;
 use xs_sheet::body::NumberDecl;
 use xs_trace::item::Site;
 use xs_tree::Node;
-use xs_value::keys::KeyFinder;
 
 /// Finds the rules of nodes, nodes by key and the numbers that are counted, for a stylesheet and
 /// over a tree.
-pub trait Finder: KeyFinder {
+pub trait Finder: ExprEvaluator {
     /// The stylesheet.
     ghost sheet: { Self → Sheet };
 

@@ -1,17 +1,17 @@
 //! What sort keys ask for (XSLT 1.0, 10): their data types and orders, evaluated once at the
 //! instruction.
 
-ghost use Rattle.std.specs.Prelude.{◌≡◌, length, IfOk, codes, option_map};
+ghost use Rattle.std.specs.Prelude.{◌≡◌, length, IfOk, codes};
 ghost use Rattle.std.specs.Str.{bytes_eq};
-ghost use Rattle.xs_eval.specs.Conditions.{IsContext};
+ghost use Rattle.xs_meaning.specs.Conditions.{IsContext};
 ghost use Rattle.xs_sort.specs.Sorting.{direction_in, order_of, orders_of, template_text};
 ghost use Rattle.xs_sort.specs.steps.Given.{IsGiven};
 ghost use Rattle.xs_trace.specs.Play.{IsStep, IsStepBy};
 ghost use Rattle.xs_trace.specs.Run.{limited};
 
 use std::alloc::Global;
-use xs_eval::context::Context;
-use xs_eval::templates::evaluate_avt;
+use xs_meaning::context::Context;
+use xs_meaning::expressions::ExprEvaluator;
 use xs_order::keys::Direction;
 use xs_sheet::body::SortDecl;
 use xs_sheet::scoped::ValueTemplate;
@@ -19,7 +19,6 @@ use xs_trace::fault::Fault;
 use xs_trace::item::Site;
 use xs_trace::recorder::{Halt, Tally};
 use xs_trace::text::TextBuf;
-use xs_value::keys::KeyFinder;
 
 /// How the values of a key are compared.
 #[derive(Clone, Copy, Debug)]
@@ -31,7 +30,7 @@ pub struct Order {
 }
 
 /// The orders of sort keys: of each its data type and its order, which is tested at once.
-pub(crate) fn orders_of<K: KeyFinder, T: Tally>(
+pub(crate) fn orders_of<K: ExprEvaluator, T: Tally>(
     alloc: Global,
     sorts: &[SortDecl],
     context: &Context<'_>,
@@ -55,7 +54,7 @@ pub(crate) fn orders_of<K: KeyFinder, T: Tally>(
 }
 
 // The order of a sort key.
-fn order_of<K: KeyFinder, T: Tally>(
+fn order_of<K: ExprEvaluator, T: Tally>(
     alloc: Global,
     decl: &SortDecl,
     context: &Context<'_>,
@@ -93,7 +92,7 @@ fn direction_of(order: &TextBuf, site: Site) -> Result<Direction, Halt>
 }
 
 // The text of a value template; where it is absent, that of the default.
-fn template_text<K: KeyFinder, T: Tally>(
+fn template_text<K: ExprEvaluator, T: Tally>(
     alloc: Global,
     template: &Option<ValueTemplate>,
     absent: &str,
@@ -115,7 +114,7 @@ fn template_text<K: KeyFinder, T: Tally>(
                 scope: template.scope.scope(),
                 ..*context
             };
-            evaluate_avt(alloc, template.parts.as_slice(), &around, keys, site, tally)
+            keys.evaluate_avt(alloc, template.parts.as_slice(), &around, site, tally)
         }
     }
 }

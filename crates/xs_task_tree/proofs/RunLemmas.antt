@@ -11,10 +11,10 @@ use Rattle.xs_tree.specs.declared.axes.Axis.TheVariants.{Child}
 use Rattle.xs_value.specs.Conversion.{IsIn}
 use Rattle.xs_value.specs.Tables.{Table, TablesIn}
 use Rattle.xs_value.specs.declared.value.Value.{Value}
-use Rattle.xs_eval.specs.Conditions.{IsContext, IsInIf}
-use Rattle.xs_eval.specs.Context.{Context}
-use Rattle.xs_eval.specs.Results.{given, nodes_in}
-use Rattle.xs_eval.proofs.AxisListLemmas.{axis-inside}
+use Rattle.xs_meaning.specs.Conditions.{IsContext, IsInIf}
+use Rattle.xs_meaning.specs.Context.{Context}
+use Rattle.xs_meaning.specs.Results.{given, nodes_in}
+use Rattle.xs_meaning.proofs.AxisListLemmas.{axis-inside}
 use Rattle.xs_order.specs.declared.keys.Key.{Key}
 use Rattle.xs_sort.specs.declared.orders.Order.{Order}
 use Rattle.xs_order.specs.InOrder.{in_order, insert}

@@ -36,21 +36,21 @@ use Rattle.xs_xpath.specs.declared.token.Operator.{Operator}
 use Rattle.xs_xpath.specs.declared.token.Operator.TheVariants.{Or, And, Equal, Unequal, Less, LessEqual, Greater, GreaterEqual, Plus, Minus, Times, Div, Mod, Union}
 use Rattle.xs_xpath.specs.Tree as syntax
 use Rattle.xs_xpath.specs.Tree.{Tree, Trees, first_tree, no_trees}
-use Rattle.xs_eval.specs.Calls.{called, is_key}
-use Rattle.xs_eval.specs.Conditions.{IsContext, IsInIf}
-use Rattle.xs_eval.specs.Context.{Context, at_node}
-use Rattle.xs_eval.specs.Evaluation.{answered, arguments, chain, global, joined, joined_from, local, negative, right_operated}
-use Rattle.xs_eval.specs.Evaluation.{run_of_tree, runs_of_trees, unless, variable}
-use Rattle.xs_eval.specs.Functions.{count_given, first, first_node, first_or_node, id_of, number, second, sum_from, written, written_name}
-use Rattle.xs_eval.specs.Keys.{found_for, from_table, keyed, looked_up}
-use Rattle.xs_eval.specs.Names.{ExpandedName, expanded_name, property, xslt_property, xslt_uri}
-use Rattle.xs_eval.specs.Operators.{as_value, computed, decided, negated_by, negation, numbers, operated}
-use Rattle.xs_eval.specs.Paths.{Meaning, all_filtered, and_from, filter_expr, filtered, judged, kept_if, kept_of, path, selected, selects, step}
-use Rattle.xs_eval.specs.Paths.{steps_from, tested}
-use Rattle.xs_eval.specs.Paths.{through}
-use Rattle.xs_eval.specs.Results.{Outcome, ◌>>=◌, given, natural, nodes_in, numeric}
-use Rattle.xs_eval.proofs.AxisListLemmas.{tested-some}
-use Rattle.xs_eval.proofs.InsideLemmas.{kept_if_all, moved}
+use Rattle.xs_meaning.specs.Calls.{called, is_key}
+use Rattle.xs_meaning.specs.Conditions.{IsContext, IsInIf}
+use Rattle.xs_meaning.specs.Context.{Context, at_node}
+use Rattle.xs_meaning.specs.Evaluation.{answered, arguments, chain, global, joined, joined_from, local, negative, right_operated}
+use Rattle.xs_meaning.specs.Evaluation.{run_of_tree, runs_of_trees, unless, variable}
+use Rattle.xs_meaning.specs.Functions.{count_given, first, first_node, first_or_node, id_of, number, second, sum_from, written, written_name}
+use Rattle.xs_meaning.specs.Keys.{found_for, from_table, keyed, looked_up}
+use Rattle.xs_meaning.specs.Names.{ExpandedName, expanded_name, property, xslt_property, xslt_uri}
+use Rattle.xs_meaning.specs.Operators.{as_value, computed, decided, negated_by, negation, numbers, operated}
+use Rattle.xs_meaning.specs.Paths.{Meaning, all_filtered, and_from, filter_expr, filtered, judged, kept_if, kept_of, path, selected, selects, step}
+use Rattle.xs_meaning.specs.Paths.{steps_from, tested}
+use Rattle.xs_meaning.specs.Paths.{through}
+use Rattle.xs_meaning.specs.Results.{Outcome, ◌>>=◌, given, natural, nodes_in, numeric}
+use Rattle.xs_meaning.proofs.AxisListLemmas.{tested-some}
+use Rattle.xs_meaning.proofs.InsideLemmas.{kept_if_all, moved}
 use Rattle.xs_eval.proofs.KeyLemmas.{held-inside}
 
 -- ---- runs

@@ -1,5 +1,5 @@
 -- A trace that passes a cut whole.
-use Rattle.std.proofs.Common.{◌≡◌, ℕ, zero, suc, List, [], ◌∷◌, Option, None, Some, refl, ap}
+use Rattle.std.proofs.Common.{◌≡◌, ℕ, zero, suc, [], ◌∷◌, Option, None, Some, refl, ap}
 use Rattle.xs_trace.specs.Cut.{Whole, cut_from}
 use Rattle.xs_trace.specs.Mark.{GoesOn, Tick, Put, Say, Stop, Need, Hole, Trace}
 use Rattle.xs_trace.specs.declared.item.Site.{Site}

@@ -27,7 +27,7 @@ use Rattle.xs_sheet.specs.declared.scoped.ValueTemplate.{ValueTemplate}
 use Rattle.xs_value.specs.declared.value.Value.{Value}
 use Rattle.xs_value.specs.declared.value.Value.TheVariants as value
 use Rattle.xs_value.specs.Conversion.{text_value}
-use Rattle.xs_eval.specs.Results.{Outcome, given}
+use Rattle.xs_meaning.specs.Results.{Outcome, given}
 use Rattle.xs_making.specs.Copies.{copy_within, deep_copy, shallow_as, shallow_copy, whole_as}
 use Rattle.xs_making.specs.Labels.{is_reserved, put_label, put_prefix, unreserved, xml_uri, xmlns_uri}
 use Rattle.xs_making.specs.Laws.{AreWell, BindsNoXmlns, CopiesAreWell, IsWellNamed, IsWellPut, NamesAreWell, is_prefix}
@@ -35,7 +35,8 @@ use Rattle.xs_making.specs.Names.{is_target, pi_target, result_name}
 use Rattle.xs_making.specs.Texts.{is_empty}
 use Rattle.xs_reading_back.specs.Events.{IsResult, is_balanced}
 use Rattle.xs_semantics.specs.declared.focus.Focus.{Focus}
-use Rattle.xs_semantics.specs.Making.{aliased, attribute_events, attribute_label, element_label, literal_spaces, name_run, namespace_run, space_events, target_run}
+use Rattle.xs_semantics.specs.Making.{aliased, attribute_events, attribute_label, element_label, literal_spaces, name_run, namespace_run, space_events}
+use Rattle.xs_semantics.specs.Making.{target_run}
 use Rattle.xs_semantics.specs.Making.{text_events, value_events}
 use Rattle.xs_semantics.specs.Tasks.{Task}
 use Rattle.xs_semantics.specs.Trace.{begins, chars, fragment_of, puts, puts_all}

@@ -1,5 +1,5 @@
 -- What a whole run puts is a result, and what is left of a tree is well named.
-use Rattle.std.proofs.Common.{◌≡◌, ◌<◌, ℕ, zero, suc, List, [], ◌∷◌, ◌++◌, Option, Bool, refl, sym, ap, subst, arith, length, map, get_or}
+use Rattle.std.proofs.Common.{◌≡◌, ◌<◌, ℕ, zero, suc, List, [], ◌∷◌, ◌++◌, Option, refl, sym, ap, subst, arith, length, map, get_or}
 use Rattle.std.proofs.lemmas.List.{get_or-map, length-map}
 use Rattle.xs_trace.specs.Cut.{nowhere}
 use Rattle.xs_trace.specs.Mark.{Trace, events_of}

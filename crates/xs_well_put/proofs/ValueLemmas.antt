@@ -30,16 +30,16 @@ use Rattle.xs_xpath.specs.declared.token.Operator.TheVariants.{Or, And, Equal, U
 use Rattle.xs_tree.specs.declared.axes.Axis.TheVariants.{DescendantOrSelf}
 use Rattle.xs_xpath.specs.Tree as syntax
 use Rattle.xs_xpath.specs.Tree.{Tree, Trees, no_trees, first_tree}
-use Rattle.xs_eval.specs.Calls.{called, is_key}
-use Rattle.xs_eval.specs.Context.{Context}
-use Rattle.xs_eval.specs.Evaluation.{answered, arguments, chain, global, joined, joined_from, local, negative, right_operated}
-use Rattle.xs_eval.specs.Evaluation.{run_of_tree, runs_of_trees, unless, variable}
-use Rattle.xs_eval.specs.Functions.{count_given, first, first_node, first_or_node, id_of, number, second, sum_from, written, written_name}
-use Rattle.xs_eval.specs.Keys.{from_table, keyed, looked_up}
-use Rattle.xs_eval.specs.Names.{ExpandedName, expanded_name, property, xslt_property, xslt_uri}
-use Rattle.xs_eval.specs.Operators.{as_value, computed, decided, negated_by, negation, numbers, operated}
-use Rattle.xs_eval.specs.Paths.{Meaning, all_filtered, filter_expr, kept_of, path, selected, steps_from, tested, through}
-use Rattle.xs_eval.specs.Results.{Outcome, ◌>>=◌, given, natural, nodes_in, numeric}
+use Rattle.xs_meaning.specs.Calls.{called, is_key}
+use Rattle.xs_meaning.specs.Context.{Context}
+use Rattle.xs_meaning.specs.Evaluation.{answered, arguments, chain, global, joined, joined_from, local, negative, right_operated}
+use Rattle.xs_meaning.specs.Evaluation.{run_of_tree, runs_of_trees, unless, variable}
+use Rattle.xs_meaning.specs.Functions.{count_given, first, first_node, first_or_node, id_of, number, second, sum_from, written, written_name}
+use Rattle.xs_meaning.specs.Keys.{from_table, keyed, looked_up}
+use Rattle.xs_meaning.specs.Names.{ExpandedName, expanded_name, property, xslt_property, xslt_uri}
+use Rattle.xs_meaning.specs.Operators.{as_value, computed, decided, negated_by, negation, numbers, operated}
+use Rattle.xs_meaning.specs.Paths.{Meaning, all_filtered, filter_expr, kept_of, path, selected, steps_from, tested, through}
+use Rattle.xs_meaning.specs.Results.{Outcome, ◌>>=◌, given, natural, nodes_in, numeric}
 use Rattle.xs_well_put.specs.Named.{AreNamedValues, IsNamedGlobal, IsNamedValue}
 use Rattle.xs_well_put.proofs.ItemLemmas.{OptionHas, item_has}
 use Rattle.xs_well_put.proofs.PutLemmas.{AnswerHas, has_then}

@@ -477,17 +477,40 @@ begun (Variable' site name content) p c t s = content_begun content p c t s
 begun (Literal start body) p c t s = literal_begun start body p c t s
 begun (Extension fallbacks) p c t s = fallbacks_begun (bodies_of fallbacks) p c t s
 
+-- the next instruction of a body, before what is left of it
+abbrev pub rest_begun : List Instr → Scope → Evaluation → State Task → Step Task Evaluation
+rest_begun [] c t s = Goes (slots_are (without c.own t.slots) t) s
+rest_begun (i ∷ is) c t s = and_then (ticked i.site s) (λ u m. begun i.kind i.site c (pushed (rest_works is (after i.kind c)) t) m)
+
+-- the rule that a node takes, by whose template's first instruction it begins at once, where that has no parameters
+abbrev pub params_entered : List Binding → Params → Body → Scope → Evaluation → State Task → Step Task Evaluation
+params_entered [] ps body c t s = rest_begun (instrs_of body) c t s
+params_entered (b ∷ bs) ps body c t s = Goes (pushed (params_left (b ∷ bs) ps body c ∷ []) t) s
+
+abbrev pub template_entered : Option Template → Params → Focus → Evaluation → State Task → Step Task Evaluation
+template_entered None ps f t s = Goes t s
+template_entered (Some template) ps f t s = params_entered template.params ps template.body (outer f) t s
+
+abbrev pub rule_entered : Option ℕ → (mode : ℕ) → Params → Site → Focus → Evaluation → State Task → Step Task Evaluation
+rule_entered None mode ps p f t s = built_in_begun mode p f (at t.world.tree f.node) t s
+rule_entered (Some rule) mode ps p f t s = template_entered (slice_get t.world.sheet.templates rule) ps (by_rule rule mode f) t s
+
+abbrev pub fitting_entered : (mode : ℕ) → Params → Site → Focus → Evaluation → State Task → Step Task Evaluation
+fitting_entered mode ps p f t s = rule_entered (rule_for t.world mode f.node) mode ps p f t s
+
+abbrev pub entering_fitting : (mode : ℕ) → Params → Site → Focus → Evaluation → State Task → Step Task Evaluation
+entering_fitting mode ps p f t s = if f.depth == 0 then stops (Fault fault.TooDeep p) s else fitting_entered mode ps p (in_template t.world f) t s
+
 -- the next step of the work that is first, before the others
 abbrev pub advanced : Work → Evaluation → State Task → Step Task Evaluation
-advanced (rest [] c) t s = Goes (slots_are (without c.own t.slots) t) s
-advanced (rest (i ∷ is) c) t s = and_then (ticked i.site s) (λ u m. begun i.kind i.site c (pushed (rest_works is (after i.kind c)) t) m)
+advanced (rest is c) t s = rest_begun is c t s
 advanced fill t s = Goes (filled_up (fragment_at s ∷ []) t) (popped s)
 advanced (each_left body p c i []) t s = Goes t s
 advanced (each_left body p c i (n ∷ ns)) t s =
-    and_then (ticked p s) (λ u m. Goes (pushed (rest (instrs_of body) (over (at_node n i c.focus) c) ∷ each_left body p c (i + 1) ns ∷ []) t) m)
+    and_then (ticked p s) (λ u m. rest_begun (instrs_of body) (over (at_node n i c.focus) c) (pushed (each_left body p c (i + 1) ns ∷ []) t) m)
 advanced (apply_left mode ps p f i []) t s = Goes t s
 advanced (apply_left mode ps p f i (n ∷ ns)) t s =
-    and_then (ticked p s) (λ u m. entering (fitting mode ps) p (at_node n i f) (pushed (apply_left mode ps p f (i + 1) ns ∷ []) t) m)
+    and_then (ticked p s) (λ u m. entering_fitting mode ps p (at_node n i f) (pushed (apply_left mode ps p f (i + 1) ns ∷ []) t) m)
 advanced (bodies_left bodies c) t s = Goes (next_body bodies c t) s
 advanced end_element t s = stays (put End s) t
 advanced (sets_left names f) t s = Goes (sets_begun names f t) s

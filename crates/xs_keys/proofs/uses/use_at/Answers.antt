@@ -1,5 +1,5 @@
 use Rattle.std.proofs.Common.{[], IfOk, List, ℕ, subst}
-use Rattle.xs_eval.specs.Evaluation.{run_of_tree}
+use Rattle.xs_meaning.specs.Evaluation.{run_of_tree}
 use Rattle.xs_matching.specs.Matching.{pattern_context}
 use Rattle.xs_xpath.specs.Exprs.{tree_from}
 use Rattle.xs_xpath.specs.Tree.{Tree}

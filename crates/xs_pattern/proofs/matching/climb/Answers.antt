@@ -4,8 +4,8 @@ use Rattle.xs_tree.proofs.WalkLemmas.{IsPlaced-at}
 use Rattle.xs_xpath.specs.Exprs.{tree_from}
 use Rattle.xs_xpath.specs.Tree.{Tree}
 use Rattle.xs_xpath.specs.declared.expr.Expr.{Expr}
-use Rattle.xs_eval.specs.Context.{Context}
-use Rattle.xs_eval.proofs.StepLemmas.{no_items}
+use Rattle.xs_meaning.specs.Context.{Context}
+use Rattle.xs_meaning.proofs.StepLemmas.{no_items}
 use Rattle.xs_matching.specs.Matching.{ends_path}
 use Rattle.xs_pattern.specs.steps.Climb.{backwards}
 use Rattle.xs_pattern.proofs.ClimbLemmas.{Gone, ends-no_parent, ends-parent, ends-start, gone-step, reached-behind}

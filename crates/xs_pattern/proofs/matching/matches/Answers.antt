@@ -1,4 +1,4 @@
-use Rattle.std.proofs.Common.{ℕ, List, arith, ap, get_or, length, ◌∙◌, ◌≡◌}
+use Rattle.std.proofs.Common.{List, arith, ap, get_or, length, ◌∙◌, ◌≡◌}
 use Rattle.xs_xpath.specs.declared.expr.Expr.{Expr}
 use Rattle.xs_pattern.proofs.AlternativeLemmas.{from-end, from-false, from-true}
 use Rattle.xs_pattern.proofs.matching.matches.Goals as goal

@@ -1,7 +1,7 @@
 use Rattle.std.proofs.Common.{ℕ, ◌+◌, List, arith, ap, drop, map, sym, ◌∙◌}
-use Rattle.xs_eval.specs.Evaluation.{run_of}
-use Rattle.xs_eval.specs.Paths.{Meaning}
-use Rattle.xs_eval.proofs.StepLemmas.{from_here, mapped_at, mapped_below}
+use Rattle.xs_meaning.specs.Evaluation.{run_of}
+use Rattle.xs_meaning.specs.Paths.{Meaning}
+use Rattle.xs_meaning.proofs.StepLemmas.{from_here, mapped_at, mapped_below}
 use Rattle.xs_matching.specs.Predicates.{all_kept, kept}
 use Rattle.xs_pattern.proofs.predicates.all_kept.Goals as goal
 

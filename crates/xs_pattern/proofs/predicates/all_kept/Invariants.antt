@@ -1,6 +1,6 @@
 use Rattle.std.proofs.Common.{◌≡◌, drop, map}
-use Rattle.xs_eval.specs.Evaluation.{run_of, runs_of}
-use Rattle.xs_eval.specs.steps.Nodes.{AreSome}
+use Rattle.xs_meaning.specs.Evaluation.{run_of, runs_of}
+use Rattle.xs_meaning.specs.steps.Nodes.{AreSome}
 use Rattle.xs_matching.specs.Predicates.{all_kept}
 use Rattle.xs_pattern.proofs.predicates.all_kept.Given as goal
 

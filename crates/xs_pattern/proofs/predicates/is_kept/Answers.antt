@@ -1,5 +1,5 @@
 use Rattle.std.proofs.Common.{ℕ, ◌+◌, ◌==◌, ◌&&◌, arith, ap, length, ◌∙◌}
-use Rattle.xs_eval.specs.Evaluation.{run_of}
+use Rattle.xs_meaning.specs.Evaluation.{run_of}
 use Rattle.xs_matching.specs.Predicates.{holds}
 use Rattle.xs_pattern.proofs.KeptLemmas.{among-end, among-found, among-on}
 use Rattle.xs_pattern.proofs.predicates.is_kept.Goals as goal

@@ -1,5 +1,5 @@
 use Rattle.std.proofs.Common.{◌≡◌, length}
-use Rattle.xs_eval.specs.Evaluation.{run_of}
+use Rattle.xs_meaning.specs.Evaluation.{run_of}
 use Rattle.xs_matching.specs.Predicates.{holds, is_among, kept}
 use Rattle.xs_pattern.proofs.KeptLemmas.{from_place}
 use Rattle.xs_pattern.proofs.predicates.is_kept.Given as goal

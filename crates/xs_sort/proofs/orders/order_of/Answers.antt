@@ -1,6 +1,6 @@
 use Rattle.std.proofs.Common.{◌∙◌, Bool, codes, ap, refl, sym}
 use Rattle.std.proofs.lemmas.Result.{err_from_is_err_and}
-use Rattle.xs_eval.proofs.StepLemmas.{exits, gives, goes_on}
+use Rattle.xs_meaning.proofs.StepLemmas.{exits, gives, goes_on}
 use Rattle.xs_trace.specs.Play.{Goes}
 use Rattle.xs_trace.specs.Run.{give, ◌>>=◌}
 use Rattle.xs_order.specs.declared.keys.Direction.{Direction}

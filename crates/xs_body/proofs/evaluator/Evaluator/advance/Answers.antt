@@ -1,4 +1,4 @@
-use Rattle.std.proofs.Common.{refl, subst, sym, rules}
+use Rattle.std.proofs.Common.{refl, subst, rules}
 use Rattle.xs_body.specs.Inside.{IsInside}
 use Rattle.xs_body.specs.declared.frames.Frame.{Frame}
 use Rattle.xs_body.proofs.evaluator.Evaluator.advance.Goals as goal
@@ -11,7 +11,7 @@ go_on-requires-sync-K g c κs within =
 pub do_next-requires-sync-K : goal.do_next-requires-sync-K
 do_next-requires-sync-K g c κs within =
     let first = subst (λ (f : Frame). IsInside c.args.self.now.world.tree f) c.in-Each.is c.requires.first in
-    (search rules, ((refl, tt), first))
+    (search rules, ((refl, tt), (c.requires.holes, first)))
 
 pub apply_next-requires-sync-K : goal.apply_next-requires-sync-K
 apply_next-requires-sync-K g c κs within =

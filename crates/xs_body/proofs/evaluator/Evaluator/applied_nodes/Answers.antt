@@ -1,7 +1,7 @@
 use Rattle.std.proofs.Common.{List, ap, sym, ◌∙◌}
 use Rattle.std.proofs.lemmas.Result.{err_from_is_err_and}
 use Rattle.xs_sheet.specs.declared.body.SortDecl.{SortDecl}
-use Rattle.xs_eval.proofs.StepLemmas.{continues, goes_on}
+use Rattle.xs_meaning.proofs.StepLemmas.{continues, goes_on}
 use Rattle.xs_trace.specs.Run.{limited}
 use Rattle.xs_trace.proofs.GrowthLemmas.{passes}
 use Rattle.xs_trace.proofs.RunLemmas.{limited-bind, limited-grows}

@@ -12,10 +12,9 @@ use Rattle.xs_trace.specs.Play.{and_then, ticked}
 use Rattle.xs_trace.proofs.GrowthLemmas.{passes}
 use Rattle.std.proofs.Common.{◌+◌, drop, ◌∷◌, []}
 use Rattle.xs_semantics.specs.World.{at_node}
-use Rattle.xs_semantics.specs.Trace.{fitting}
-use Rattle.xs_body.specs.steps.Frames.{apply_left, entering, pushed}
+use Rattle.xs_body.specs.steps.Frames.{apply_left, entering_fitting, pushed}
 use Rattle.xs_body.specs.steps.Lists.{nodes_in}
-use Rattle.xs_body.proofs.GrowthLemmas.{entering-grows}
+use Rattle.xs_body.proofs.GrowthLemmas.{fitting-grows}
 use Rattle.xs_body.specs.declared.frames.ApplyLeft.{ApplyLeft}
 use Rattle.xs_body.proofs.evaluator.Evaluator.apply_at.Goals as goal
 
@@ -25,11 +24,12 @@ returns-in_err-tick-clause-told g c =
     let a = c.args.left.value in
     let t = pushed (apply_left a.rules.mode a.rules.passed a.site a.focus (a.position + 1) (drop (a.next + 1) (nodes_in a.nodes)) ∷ []) c.args.self.now in
     let f = at_node c.args.node a.position a.focus in
-    let e = fitting a.rules.mode a.rules.passed in
+    let mode = a.rules.mode in
+    let ps = a.rules.passed in
     let s = g.R.Tally.state c.args.recorder.now in
-    passes (λ x. x) _ _ (ticked c.deref.result.now.site s) (λ u m. entering e a.site f t m) (g.R.Tally.state c.tick.new.self)
-    c.from_residual.result _ _ (ap (λ (b : ApplyLeft). and_then (ticked b.site s) (λ u m. entering e a.site f t m)) (sym c.deref.ensures))
-    (λ u. entering-grows e a.site f t) p.1 p.2 c.in_err-tick.ensures.told
+    passes (λ x. x) _ _ (ticked c.deref.result.now.site s) (λ u m. entering_fitting mode ps a.site f t m) (g.R.Tally.state c.tick.new.self)
+    c.from_residual.result _ _ (ap (λ (b : ApplyLeft). and_then (ticked b.site s) (λ u m. entering_fitting mode ps a.site f t m)) (sym c.deref.ensures))
+    (λ u. fitting-grows mode ps a.site f t) p.1 p.2 c.in_err-tick.ensures.told
 
 pub enter_fitting-requires-sync-K : goal.enter_fitting-requires-sync-K
 enter_fitting-requires-sync-K g c κs within =

@@ -12,4 +12,4 @@ do_at-requires-sync-K g c κs within =
     let i = c.deref-2.result.now.next in
     let all = subst (λ (e : EachLeft). AreNodes rs (nodes_in e.nodes)) (sym c.deref.ensures) c.requires.left.nodes in
     let here = next-inside (λ n. n < length rs) ns i c.in-Some.node (drop (i + 1) ns) c.in-Some.ensures.node all in
-    (search rules, ((refl, tt), (c.requires.left, here)))
+    (search rules, ((refl, tt), (c.requires.holes, (c.requires.left, here))))

@@ -1,6 +1,6 @@
 use Rattle.std.proofs.Common.{ℕ, List, Option, ap, refl, sym, ◌∙◌}
 use Rattle.std.proofs.lemmas.Result.{err_from_is_err_and}
-use Rattle.xs_eval.proofs.StepLemmas.{exits, gives, goes_on}
+use Rattle.xs_meaning.proofs.StepLemmas.{exits, gives, goes_on}
 use Rattle.xs_trace.specs.Play.{Goes}
 use Rattle.xs_trace.specs.Run.{Run, give, ◌>>=◌}
 use Rattle.xs_semantics.specs.Numbers.{Formatting, format_run, group_in, optional_run}

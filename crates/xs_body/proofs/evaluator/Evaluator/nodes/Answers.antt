@@ -1,5 +1,5 @@
 use Rattle.std.proofs.lemmas.Result.{err_from_is_err_and}
-use Rattle.xs_eval.specs.Results.{given, nodes_in}
+use Rattle.xs_meaning.specs.Results.{given, nodes_in}
 use Rattle.xs_trace.specs.Run.{limited}
 use Rattle.xs_trace.proofs.GrowthLemmas.{passes}
 use Rattle.xs_trace.proofs.RunLemmas.{limited-bind, limited-grows}

@@ -1,7 +1,7 @@
 use Rattle.std.proofs.Common.{refl}
 use Rattle.std.proofs.lemmas.Result.{err_from_is_err_and}
-use Rattle.xs_eval.specs.Results.{given, numeric}
-use Rattle.xs_eval.proofs.StepLemmas.{continues, exits, goes_on}
+use Rattle.xs_meaning.specs.Results.{given, numeric}
+use Rattle.xs_meaning.proofs.StepLemmas.{continues, exits, goes_on}
 use Rattle.xs_sort.proofs.GivenLemmas.{given-step}
 use Rattle.xs_num.specs.declared.number.Number.{Number}
 use Rattle.xs_value.specs.Conversion.{number_value}

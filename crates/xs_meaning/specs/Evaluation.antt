@@ -16,13 +16,13 @@ use Rattle.xs_xpath.specs.declared.token.Operator.{Operator}
 use Rattle.xs_xpath.specs.Exprs.{tree_from}
 use Rattle.xs_xpath.specs.Tree as syntax
 use Rattle.xs_xpath.specs.Tree.{Tree, Trees, no_trees, first_tree}
-use Rattle.xs_eval.specs.Context.{Context}
-use Rattle.xs_eval.specs.Calls.{called, is_key}
-use Rattle.xs_eval.specs.Functions.{first, second}
-use Rattle.xs_eval.specs.Keys.{keyed}
-use Rattle.xs_eval.specs.Results.{given}
-use Rattle.xs_eval.specs.Operators.{decided, negation, operated}
-use Rattle.xs_eval.specs.Paths.{Meaning, filter_expr, path, step}
+use Rattle.xs_meaning.specs.Context.{Context}
+use Rattle.xs_meaning.specs.Calls.{called, is_key}
+use Rattle.xs_meaning.specs.Functions.{first, second}
+use Rattle.xs_meaning.specs.Keys.{keyed}
+use Rattle.xs_meaning.specs.Results.{given}
+use Rattle.xs_meaning.specs.Operators.{decided, negation, operated}
+use Rattle.xs_meaning.specs.Paths.{Meaning, filter_expr, path, step}
 
 -- variables (3.1)
 

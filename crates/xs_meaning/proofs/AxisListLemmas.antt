@@ -10,9 +10,9 @@ use Rattle.xs_tree.specs.declared.axes.Axis.TheVariants.{Attribute as AttributeA
 use Rattle.xs_tree.specs.Axis.{axis_list, is_on, is_reverse}
 use Rattle.xs_tree.specs.Record.{Record, at, attributes, places}
 use Rattle.xs_xpath.specs.declared.name.NodeTest.{NodeTest}
-use Rattle.xs_eval.specs.Context.{Context}
-use Rattle.xs_eval.specs.Paths.{passes, tested}
-use Rattle.xs_eval.specs.steps.Nodes.{AreSome}
+use Rattle.xs_meaning.specs.Context.{Context}
+use Rattle.xs_meaning.specs.Paths.{passes, tested}
+use Rattle.xs_meaning.specs.steps.Nodes.{AreSome}
 
 range-inside : (b a n : ℕ) → a + n ≤ b → All (λ k. k < b) (range_with_len a n)
 range-inside b a zero h = All-nil (λ k. k < b)

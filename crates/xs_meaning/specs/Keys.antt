@@ -11,8 +11,8 @@ use Rattle.xs_value.specs.declared.value.Value.TheVariants.{Bool as Boolean, Num
 use Rattle.xs_value.specs.Conversion.{text_value}
 use Rattle.xs_value.specs.NodeSet.{in_order}
 use Rattle.xs_value.specs.Tables.{Table, is_named, nodes_of, table_at}
-use Rattle.xs_eval.specs.Context.{Context}
-use Rattle.xs_eval.specs.Names.{ExpandedName, expanded_name}
+use Rattle.xs_meaning.specs.Context.{Context}
+use Rattle.xs_meaning.specs.Names.{ExpandedName, expanded_name}
 
 -- the texts that are looked up: of a node-set the string-value of each node, of any other value its string
 abbrev pub sought : Context → Value → List (List ℕ)

@@ -18,9 +18,9 @@ use Rattle.xs_xpath.specs.declared.name.Slot.{Slot}
 use Rattle.xs_xpath.specs.declared.token.Operator.{Operator}
 use Rattle.xs_xpath.specs.Exprs.{tree_from, tree_step, trees_from}
 use Rattle.xs_xpath.specs.Tree.{Tree, trees}
-use Rattle.xs_eval.specs.Context.{Context}
-use Rattle.xs_eval.specs.Evaluation.{called_of, chain, negative, run_of, run_of_tree, runs_of, runs_of_trees, variable}
-use Rattle.xs_eval.specs.Paths.{Meaning, filter_expr, path, step}
+use Rattle.xs_meaning.specs.Context.{Context}
+use Rattle.xs_meaning.specs.Evaluation.{called_of, chain, negative, run_of, run_of_tree, runs_of, runs_of_trees, variable}
+use Rattle.xs_meaning.specs.Paths.{Meaning, filter_expr, path, step}
 
 -- the run of an expression whose tree is known
 of_tree : {t : Tree} (e : Expr) (keys : List Table) (c : Context) → tree_from e ≡ t → run_of keys e c ≡ run_of_tree keys t c

@@ -17,12 +17,12 @@ use Rattle.xs_value.specs.declared.value.Value.{Value}
 use Rattle.xs_value.specs.Tables.{Table}
 use Rattle.xs_xpath.specs.declared.expr.Expr.{Expr}
 use Rattle.xs_xpath.specs.declared.token.Operator.{Operator}
-use Rattle.xs_eval.specs.declared.trouble.Trouble.{Trouble}
-use Rattle.xs_eval.specs.declared.trouble.Trouble.TheVariants as trouble
-use Rattle.xs_eval.specs.Context.{Context}
-use Rattle.xs_eval.specs.Evaluation.{joined, joined_from, run_of}
-use Rattle.xs_eval.specs.Paths.{Meaning}
-use Rattle.xs_eval.specs.Results.{Outcome, AnswersBy, given, settled}
+use Rattle.xs_meaning.specs.declared.trouble.Trouble.{Trouble}
+use Rattle.xs_meaning.specs.declared.trouble.Trouble.TheVariants as trouble
+use Rattle.xs_meaning.specs.Context.{Context}
+use Rattle.xs_meaning.specs.Evaluation.{joined, joined_from, run_of}
+use Rattle.xs_meaning.specs.Paths.{Meaning}
+use Rattle.xs_meaning.specs.Results.{Outcome, AnswersBy, given, settled}
 
 -- what follows a value
 pub goes_on : {H : Type 0} → {A B : Type 0} (p : Site) (r : Run A) (f : A → Run B) (x : A) (s m : State H) → limited p r s ≡ Goes x m

@@ -15,8 +15,8 @@ use Rattle.xs_tree.specs.Record.{Record, at, name_local, name_prefix, string_val
 use Rattle.xs_value.specs.declared.value.Value.{Value}
 use Rattle.xs_value.specs.declared.value.Value.TheVariants.{Number as Numeral, Chars, Nodes}
 use Rattle.xs_value.specs.Conversion.{number_value, text_value}
-use Rattle.xs_eval.specs.Context.{Context}
-use Rattle.xs_eval.specs.Results.{Outcome, ◌>>=◌, numeric, natural, nodes_in}
+use Rattle.xs_meaning.specs.Context.{Context}
+use Rattle.xs_meaning.specs.Results.{Outcome, ◌>>=◌, numeric, natural, nodes_in}
 
 -- an argument by its place, from 0
 abbrev pub argument : List Value → ℕ → Value

@@ -12,8 +12,8 @@ use Rattle.xs_trace.specs.declared.recorder.Halt.{Halt}
 use Rattle.xs_trace.specs.declared.recorder.Halt.TheVariants as halt
 use Rattle.xs_value.specs.declared.value.Value.{Value}
 use Rattle.xs_value.specs.declared.value.Value.TheVariants.{Bool as Boolean, Number as Numeral, Chars, Nodes, Piece}
-use Rattle.xs_eval.specs.declared.trouble.Trouble.{Trouble}
-use Rattle.xs_eval.specs.declared.trouble.Trouble.TheVariants as trouble
+use Rattle.xs_meaning.specs.declared.trouble.Trouble.{Trouble}
+use Rattle.xs_meaning.specs.declared.trouble.Trouble.TheVariants as trouble
 
 abbrev pub fault_of : NumFault → Fault
 fault_of number.Fraction = Fraction

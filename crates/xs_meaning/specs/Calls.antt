@@ -12,12 +12,12 @@ use Rattle.xs_value.specs.declared.value.Value.TheVariants.{Bool as Boolean, Num
 use Rattle.xs_value.specs.Conversion.{bool_value, text_value}
 use Rattle.xs_xpath.specs.declared.name.Function.{Function}
 use Rattle.xs_xpath.specs.declared.name.Function.TheVariants.{Last, Position, Count, Id, LocalName, NamespaceUri, Name, String, Concat, StartsWith, Contains, SubstringBefore, SubstringAfter, Substring, StringLength, NormalizeSpace, Translate, Boolean as ToBoolean, Not, True, False, Lang, Number, Sum, Floor, Ceiling, Round, Key, Current, GenerateId, SystemProperty, ElementAvailable, FunctionAvailable, UnparsedEntityUri}
-use Rattle.xs_eval.specs.Context.{Context}
-use Rattle.xs_eval.specs.Functions.{first, second, third, first_or_node, written_name, name_part, count, does_start_with, does_contain, written, substring}
-use Rattle.xs_eval.specs.Functions.{string_length, number, sum, generated_id}
-use Rattle.xs_eval.specs.Results.{Outcome}
-use Rattle.xs_eval.specs.Languages.{is_in_language}
-use Rattle.xs_eval.specs.Names.{is_element_available, is_function_available, system_property}
+use Rattle.xs_meaning.specs.Context.{Context}
+use Rattle.xs_meaning.specs.Functions.{first, second, third, first_or_node, written_name, name_part, count, does_start_with, does_contain, written, substring}
+use Rattle.xs_meaning.specs.Functions.{string_length, number, sum, generated_id}
+use Rattle.xs_meaning.specs.Results.{Outcome}
+use Rattle.xs_meaning.specs.Languages.{is_in_language}
+use Rattle.xs_meaning.specs.Names.{is_element_available, is_function_available, system_property}
 
 -- the string of a value, and its characters (4.2)
 abbrev pub text : Context → Value → List ℕ

@@ -13,7 +13,7 @@ use Rattle.xs_value.specs.Conversion.{bool_value, number_value}
 use Rattle.xs_value.specs.NodeSet.{union_of}
 use Rattle.xs_xpath.specs.declared.token.Operator.{Operator}
 use Rattle.xs_xpath.specs.declared.token.Operator.TheVariants.{Or, And, Equal, Unequal, Less, LessEqual, Greater, GreaterEqual, Plus, Minus, Times, Div, Mod, Union}
-use Rattle.xs_eval.specs.Results.{Outcome, ◌>>=◌, numeric, nodes_in}
+use Rattle.xs_meaning.specs.Results.{Outcome, ◌>>=◌, numeric, nodes_in}
 
 -- both operands are converted to numbers, the left one first (3.5)
 abbrev pub numbers : List Record → Value → Value → Outcome (Number × Number)

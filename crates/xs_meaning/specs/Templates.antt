@@ -4,8 +4,8 @@ use Rattle.xs_trace.specs.Run.{Run, give, fold, ◌>>=◌}
 use Rattle.xs_value.specs.Conversion.{text_value}
 use Rattle.xs_value.specs.Tables.{Table}
 use Rattle.xs_xpath.specs.Templates.{Part, text, computed}
-use Rattle.xs_eval.specs.Context.{Context}
-use Rattle.xs_eval.specs.Evaluation.{run_of_tree}
+use Rattle.xs_meaning.specs.Context.{Context}
+use Rattle.xs_meaning.specs.Evaluation.{run_of_tree}
 
 -- one part more: fixed text, or an expression, whose value is converted to a string
 abbrev pub and_part : List Table → Context → List ℕ → Part → Run (List ℕ)

@@ -1,8 +1,8 @@
 //! Why an evaluation has no value.
 
 ghost use Rattle.std.specs.Prelude.{◌≡◌};
-ghost use Rattle.xs_eval.specs.Results.{Answers, halted, numeric, settled};
-ghost use Rattle.xs_eval.specs.declared.trouble.Trouble.TheVariants.{NoMemory};
+ghost use Rattle.xs_meaning.specs.Results.{Answers, halted, numeric, settled};
+ghost use Rattle.xs_meaning.specs.declared.trouble.Trouble.TheVariants.{NoMemory};
 
 use std::alloc::{AllocError, AllocFailed};
 use xs_num::number::{Num, NumFault};
@@ -12,7 +12,7 @@ use xs_trace::recorder::Halt;
 
 /// Why a function has no value.
 #[derive(Clone, Copy, PartialEq, Eq, Debug)]
-pub(crate) enum Trouble {
+pub enum Trouble {
     /// It has a fault.
     Fault(Fault),
     /// Memory ran out.
@@ -38,7 +38,7 @@ impl<T: Drop> From<AllocFailed<T>> for Trouble {
 }
 
 /// What an operation on numbers gives.
-pub(crate) fn computed(operation: Result<Num, NumFault>) -> Result<Num, Trouble>
+pub fn computed(operation: Result<Num, NumFault>) -> Result<Num, Trouble>
     ensures number { Answers (numeric operation) result }
 {
     match operation {
@@ -50,7 +50,7 @@ pub(crate) fn computed(operation: Result<Num, NumFault>) -> Result<Num, Trouble>
 
 impl Trouble {
     /// The end of a run in this trouble, at an instruction.
-    pub(crate) fn at(self, site: Site) -> Halt
+    pub fn at(self, site: Site) -> Halt
         ensures { result ≡ halted self site }
     {
         match self {
@@ -62,7 +62,7 @@ impl Trouble {
 
 /// What is answered at an instruction.
 #[inline(always)]
-pub(crate) fn settled<A>(answer: Result<A, Trouble>, site: Site) -> Result<A, Halt>
+pub fn settled<A>(answer: Result<A, Trouble>, site: Site) -> Result<A, Halt>
     ensures { result ≡ settled site answer }
 {
     match answer {

@@ -27,7 +27,7 @@ pub struct Context<'a> {
 }
 
 impl<'a> Model for Context<'a> {
-    ghost use Rattle.xs_eval.specs.Context.{Context};
+    ghost use Rattle.xs_meaning.specs.Context.{Context};
 
     ghost Value = { Context };
 
@@ -45,7 +45,7 @@ impl<'a> Model for Context<'a> {
 
 impl<'a> Context<'a> {
     ghost use Rattle.std.specs.Prelude.{◌≡◌};
-    ghost use Rattle.xs_eval.specs.Context.{at_node};
+    ghost use Rattle.xs_meaning.specs.Context.{at_node};
 
     /// The same with another context node, position and size.
     pub fn at_node(&self, node: Node, position: u32, size: u32) -> Context<'a>

@@ -4,7 +4,7 @@ use Rattle.xs_tree.specs.Record.{Record}
 use Rattle.xs_value.specs.declared.value.Value.{Value}
 use Rattle.xs_value.specs.Conversion.{IsIn}
 use Rattle.xs_value.specs.Tables.{Table, TablesIn}
-use Rattle.xs_eval.specs.Context.{Context}
+use Rattle.xs_meaning.specs.Context.{Context}
 
 -- a value, where there is one, has its nodes in the tree
 abbrev pub IsInIf : List Record → Option Value → Type 0

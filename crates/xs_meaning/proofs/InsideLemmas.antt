@@ -10,11 +10,11 @@ use Rattle.xs_value.specs.declared.value.Value.TheVariants.{Bool as Boolean, Num
 use Rattle.xs_value.specs.Conversion.{IsIn}
 use Rattle.xs_value.specs.NodeSet.{IsNodeList, with_node, in_order, union_of}
 use Rattle.xs_value.specs.Tables.{Table}
-use Rattle.xs_eval.specs.Context.{Context, at_node}
-use Rattle.xs_eval.specs.Conditions.{IsContext}
-use Rattle.xs_eval.specs.Paths.{kept_if}
-use Rattle.xs_eval.specs.Results.{Outcome, nodes_in}
-use Rattle.xs_eval.specs.steps.Nodes.{AreSome}
+use Rattle.xs_meaning.specs.Context.{Context, at_node}
+use Rattle.xs_meaning.specs.Conditions.{IsContext}
+use Rattle.xs_meaning.specs.Paths.{kept_if}
+use Rattle.xs_meaning.specs.Results.{Outcome, nodes_in}
+use Rattle.xs_meaning.specs.steps.Nodes.{AreSome}
 
 if_all : (P : ℕ → Type 0) (b : Bool) (xs ys : List ℕ) → All P xs → All P ys → All P (cond b xs ys)
 if_all P true xs ys p q = p

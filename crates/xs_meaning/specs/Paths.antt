@@ -20,8 +20,14 @@ use Rattle.xs_value.specs.Conversion.{bool_value}
 use Rattle.xs_value.specs.NodeSet.{in_order}
 use Rattle.xs_xpath.specs.declared.name.NodeTest.{NodeTest}
 use Rattle.xs_xpath.specs.declared.name.NodeTest.TheVariants.{Any, Uri, Name, Node, Text, Comment, Pi, Target}
-use Rattle.xs_eval.specs.Context.{Context, at_node}
-use Rattle.xs_eval.specs.Results.{given, nodes_in}
+use Rattle.xs_xpath.specs.Tree.{Tree, here}
+use Rattle.xs_meaning.specs.Context.{Context, at_node}
+use Rattle.xs_meaning.specs.Results.{given, nodes_in}
+
+-- whether an expression is `.` alone (2.5)
+abbrev pub is_here : Tree → Bool
+is_here here = true
+is_here _ = false
 
 -- what an expression gives in each context
 abbrev pub Meaning : Type 0

@@ -1,0 +1,4 @@
+pub mod StepLemmas
+pub mod CaseLemmas
+pub mod InsideLemmas
+pub mod AxisListLemmas
