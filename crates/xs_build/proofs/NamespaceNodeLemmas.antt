@@ -1,12 +1,13 @@
 -- The namespace nodes of an element, one after another, and those that are copies of the parent's.
-use Rattle.std.proofs.Common.{◌≡◌, ℕ, ◌+◌, ◌<◌, ◌≤◌, List, [], ◌∷◌, ◌++◌, length, refl, sym, ◌∙◌, arith, append_assoc, append-nil, Some, ap, subst}
+use Rattle.std.proofs.Common.{◌≡◌, ℕ, ◌+◌, ◌<◌, ◌≤◌, List, [], ◌∷◌, ◌++◌, length, refl, sym, ◌∙◌, arith, append_assoc, append-nil, Option, Some, ap, subst}
 use Rattle.xs_tree.specs.declared.kinds.Kind.TheVariants.{Element, Space}
+use Rattle.xs_tree.specs.declared.names.Name.{Name}
 use Rattle.xs_tree.specs.Record.{Record, at}
-use Rattle.xs_tree.specs.Shape.{IsOpen, KeepsOrder}
+use Rattle.xs_tree.specs.Shape.{IsLocalName, IsOpen, KeepsOrder}
 use Rattle.xs_tree.proofs.ShapeLemmas.{at-append, length-added, IsOpen-added, KeepsOrder-added}
 use Rattle.xs_tree.specs.Limits.{most_nodes}
 use Rattle.xs_build.specs.Namespaces.{Binding, Bindings}
-use Rattle.xs_build.specs.Nodes.{space, spaces}
+use Rattle.xs_build.specs.Nodes.{local_name, space, spaces}
 use Rattle.xs_build.specs.steps.Invariant.{StandFrom}
 use Rattle.xs_build.proofs.NodeRunLemmas.{stand_append, stand_at, stand_rest}
 
@@ -86,3 +87,22 @@ pub copied_step : (tree new : List Record) (element parent like last : ℕ) (who
     → new ≡ tree ++ copy_of element (at tree like) ∷ [] → IsCopied new element parent (like + 1) last whole
 copied_step tree new element parent like last whole c more is =
     subst (λ t. IsCopied t element parent (like + 1) last whole) (sym is) (copied_next tree element parent like last whole c.left c.count c.spaced c.alike more)
+
+-- ---- one that is like another
+abbrev name_of : (uri local prefix : List ℕ) → Name
+name_of uri local prefix = record { uri = uri; local = local; prefix = prefix }
+
+-- a name that is a local part alone
+pub local_alone : (name : Name) (local : List ℕ) → IsLocalName name → name.local ≡ local → name ≡ local_name local
+local_alone name local alone same =
+    ap (λ (u : List ℕ). name_of u name.local name.prefix) alone.uri
+    ∙ ap (λ (l : List ℕ). name_of [] l name.prefix) same
+    ∙ ap (λ (p : List ℕ). name_of [] local p) alone.prefix
+
+-- a copy of a namespace node of this binding is another one
+pub copied_binding : (tree new : List Record) (element like : ℕ) (prefix uri : List ℕ) → (at tree like).name ≡ Some (local_name prefix)
+    → (at tree like).text ≡ uri → new ≡ tree ++ copy_of element (at tree like) ∷ [] → new ≡ tree ++ space element (prefix, uri) ∷ []
+copied_binding tree new element like prefix uri name text is =
+    is
+    ∙ ap (λ (n : Option Name). tree ++ record { kind = Space; name = n; text = (at tree like).text; parent = Some element } ∷ []) name
+    ∙ ap (λ (t : List ℕ). tree ++ record { kind = Space; name = Some (local_name prefix); text = t; parent = Some element } ∷ []) text

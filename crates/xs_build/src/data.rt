@@ -90,7 +90,7 @@ impl<'a> Builder<'a> {
 }
 
 /// The data that is written so, in memory of its own.
-fn read_out(alloc: Global, written: Data<'_>) -> Result<String, AllocError>
+pub fn read_out(alloc: Global, written: Data<'_>) -> Result<String, AllocError>
     requires { IsReadableData written }
     ensures { IfOk result (λ text. string_bytes text ≡ data_shown written.entry) }
 {

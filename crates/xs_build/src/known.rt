@@ -10,7 +10,7 @@ use crate::qnames::declared_prefix;
 use crate::scope::Scope;
 use std::alloc::{AllocError, Global};
 use std::marker::Model;
-use xs_text::split_qname;
+use xs_text::{is_same, split_qname};
 use xs_tree::{Name, Node, Tree};
 
 /// What names a node that is read.
@@ -174,7 +174,7 @@ fn matching<'n, 'a>(name: &'n ReadName<'a>, written: &str) -> Option<&'n ReadNam
     ensures same { IfSome result (λ found. found.now ≡ name.now) }
     ensures written { IfSome result (λ found. name.now.written.now ≡ written.now) }
 {
-    if name.written == written {
+    if is_same(name.written, written) {
         Some(name)
     } else {
         None

@@ -174,7 +174,7 @@ pub fn put_element(
         copy_spaces(tree, node, scope, parent)?;
         return Ok(node);
     }
-    put_spaces(tree, alloc, node, scope)?;
+    put_spaces(tree, alloc, node, scope, parent)?;
     Ok(node)
 }
 

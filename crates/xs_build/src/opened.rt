@@ -7,6 +7,7 @@ ghost use Rattle.xs_build.specs.Namespaces.{is_empty};
 
 use crate::scope::Scope;
 use std::marker::Model;
+use xs_text::is_same;
 use xs_tree::Node;
 
 /// The name of an element as it is written, in the bytes of the document.
@@ -43,7 +44,7 @@ impl<'a> WrittenName<'a> {
     pub fn is(&self, text: &str) -> bool
         ensures { result ≡ bytes_eq self.now text.now }
     {
-        self.text == text
+        is_same(self.text, text)
     }
 }
 

@@ -12,6 +12,7 @@ use std::alloc::{AllocError, Global};
 use std::collections::BTreeMap;
 use std::marker::Model;
 use std::rc::Rc;
+use xs_text::is_same;
 use xs_tree::{Name, NameText};
 
 /// A declaration: a prefix, empty for the default namespace, and its URI.
@@ -79,7 +80,7 @@ fn are_same(text: &str, other: &str) -> bool
     if text.is_empty() {
         return other.is_empty();
     }
-    text == other
+    is_same(text, other)
 }
 
 /// A name without a prefix.
@@ -206,7 +207,9 @@ impl Scope {
         ensures { result ≡ true → element_name self.now
             (record { prefix = prefix.now; local = local.now }) ≡ Some name.now }
     {
-        name.prefix.as_str() == prefix && name.local.as_str() == local && self.has_uri_of(name)
+        are_same(name.prefix.as_str(), prefix)
+            && is_same(name.local.as_str(), local)
+            && self.has_uri_of(name)
     }
 
     /// Whether the URI of an element's name is the one that its prefix stands for.
@@ -246,7 +249,7 @@ impl Scope {
             (record { prefix = prefix.now; local = local.now }) ≡ Some name.now }
     {
         are_same(name.prefix.as_str(), prefix)
-            && name.local.as_str() == local
+            && is_same(name.local.as_str(), local)
             && self.has_own_uri(name)
     }
 

@@ -4,14 +4,16 @@ ghost use Rattle.std.specs.Prelude.{◌≡◌, ◌++◌, true, IfOk, OnOk, map, 
 ghost use Rattle.std.specs.Option.{option_to_list};
 ghost use Rattle.xs_pyx.specs.Row.{rows_of, first_row};
 ghost use Rattle.xs_pyx.specs.Reading.{reading};
+ghost use Rattle.xs_pyx.specs.Views.{data_shown, line_shown, IsReadable, IsReadableData};
 ghost use Rattle.xs_build.specs.Start.{begins_with, binding_of, line_binding, reading_binding};
 ghost use Rattle.xs_build.specs.Start.{declarations};
 ghost use Rattle.xs_build.specs.steps.Views.{binding, bindings_of};
 
+use crate::data::read_out;
 use crate::qnames::{declared_prefix, is_bad_binding};
 use crate::scope::Declared;
 use std::alloc::{AllocError, Global};
-use xs_pyx::{Line, LineFault, next_line, skip_line};
+use xs_pyx::{Data, LineView, skip_line, view_line};
 use xs_tree::NameText;
 
 /// What an attribute of this name and value declares, if it declares something.
@@ -38,13 +40,39 @@ fn attribute_declaration(
     }))
 }
 
+/// What an attribute of this name, and of a value as it is written, declares, if it declares
+/// something.
+fn data_declaration(
+    alloc: Global,
+    name: &str,
+    value: Data<'_>,
+) -> Result<Option<Declared>, AllocError>
+    requires { IsReadableData value }
+    ensures { IfOk result (λ found. option_map binding found
+        ≡ binding_of name.now (data_shown value.entry)) }
+{
+    match value {
+        Data::Plain(value) => attribute_declaration(alloc, name, value),
+        Data::Escaped(_) => {
+            let value = read_out(alloc, value)?;
+            attribute_declaration(alloc, name, value.as_str())
+        }
+    }
+}
+
 /// What a line declares, if it declares something.
-fn line_declaration(alloc: Global, line: &Line) -> Result<Option<Declared>, AllocError>
-    ensures { IfOk result (λ found. option_map binding found ≡ line_binding line.now) }
+fn line_declaration(alloc: Global, line: LineView<'_>) -> Result<Option<Declared>, AllocError>
+    requires { IsReadable line }
+    ensures { IfOk result
+        (λ found. option_map binding found ≡ line_binding (line_shown line.entry)) }
 {
     match line {
-        Line::Attr { name, value } => attribute_declaration(alloc, name.as_str(), value.as_str()),
-        _ => Ok(None),
+        LineView::Attr { name, value } => data_declaration(alloc, name, value),
+        LineView::Start(_) => Ok(None),
+        LineView::Chars(_) => Ok(None),
+        LineView::End(_) => Ok(None),
+        LineView::Pi { .. } => Ok(None),
+        LineView::Comment(_) => Ok(None),
     }
 }
 
@@ -75,11 +103,10 @@ fn read_declaration(alloc: Global, bytes: &[u8]) -> Result<Option<Declared>, All
     ensures { IfOk result (λ found. option_map binding found ≡ reading_binding
         (reading (first_row bytes.now))) }
 {
-    match next_line(alloc, bytes) {
-        Ok(Some((line, _))) => line_declaration(alloc, &line),
+    match view_line(bytes) {
+        Ok(Some(found)) => line_declaration(alloc, found.0),
         Ok(None) => Ok(None),
-        Err(LineFault::Bad { .. }) => Ok(None),
-        Err(LineFault::NoMemory) => Err(AllocError),
+        Err(_) => Ok(None),
     }
 }
 

@@ -2,7 +2,7 @@
 ghost use Rattle.std.specs.Prelude.{◌≡◌, true};
 
 /// The most bytes that are compared one by one, which takes less time than a call.
-const FEW_BYTES: usize = 16;
+const FEW_BYTES: usize = 4;
 
 /// Whether a text is another one.
 pub(crate) fn is_text(text: &str, other: &str) -> bool

@@ -3,6 +3,7 @@ ghost use Rattle.std.specs.Prelude.{◌≡◌, IfOk};
 ghost use Rattle.xs_making.specs.Labels.{put_label, put_prefix};
 
 use std::alloc::{AllocError, Global};
+use xs_text::is_same;
 use xs_trace::event::Label;
 use xs_trace::text::TextBuf;
 
@@ -27,10 +28,10 @@ pub fn put_prefix<'a>(uri: &str, prefix: &'a str) -> &'a str
     if uri.is_empty() {
         return "";
     }
-    if uri == XML_URI {
+    if is_same(uri, XML_URI) {
         return "xml";
     }
-    if prefix == "xml" || prefix == "xmlns" {
+    if is_same(prefix, "xml") || is_same(prefix, "xmlns") {
         return "";
     }
     prefix

@@ -27,8 +27,10 @@ struct RecentSpace {
 impl RecentSpace {
     /// Whether it has these texts.
     fn is(&self, prefix: &str, uri: &str) -> bool
-        ensures { result ≡ true → event_of.Space self.now.prefix self.now.uri
+        ensures event { result ≡ true → event_of.Space self.now.prefix self.now.uri
             ≡ event_of.Space prefix.now uri.now }
+        ensures prefix { result ≡ true → self.now.prefix ≡ prefix.now }
+        ensures uri { result ≡ true → self.now.uri ≡ uri.now }
     {
         is_text(self.prefix.as_str(), prefix) && is_text(self.uri.as_str(), uri)
     }
@@ -41,6 +43,17 @@ impl RecentSpace {
             prefix: self.prefix.copy()?,
             uri: self.uri.copy()?,
         })
+    }
+
+    /// A name with its prefix and its URI.
+    fn label(&self, alloc: Global, local: &str) -> Result<Label, AllocError>
+        ensures { IfOk result (λ label. label
+            ≡ record { uri = self.now.uri; local = local.now; prefix = self.now.prefix }) }
+    {
+        let uri = self.uri.copy()?;
+        let local = TextBuf::of(alloc, local)?;
+        let prefix = self.prefix.copy()?;
+        Label::of(alloc, uri, local, prefix)
     }
 }
 
@@ -86,9 +99,22 @@ impl RecentLabels {
                 return label.copy();
             }
         }
-        let label = put_label(self.alloc, uri, local, prefix)?;
+        let label = self.new_label(uri, local, prefix)?;
         self.keep(slot, label.copy()?)?;
         Ok(label)
+    }
+
+    /// A name as it is put, which shares the texts of a namespace node that was put.
+    fn new_label(&self, uri: &str, local: &str, prefix: &str) -> Result<Label, AllocError>
+        ensures { IfOk result (λ label. label ≡ put_label uri.now local.now prefix.now) }
+    {
+        let own = put_prefix(uri, prefix);
+        if let Some(Some(space)) = self.spaces.get(slot_of(own)) {
+            if space.is(own, uri) {
+                return space.label(self.alloc, local);
+            }
+        }
+        put_label(self.alloc, uri, local, prefix)
     }
 
     /// The event that puts a namespace node.

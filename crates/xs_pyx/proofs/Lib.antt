@@ -6,3 +6,4 @@ pub mod EscapeLemmas
 pub mod WriteLemmas
 pub mod LineLemmas
 pub mod ViewLemmas
+pub mod NameCutLemmas

@@ -3,10 +3,11 @@
 ghost use Rattle.std.specs.Prelude.{◌≡◌, ◌<◌, ◌-◌, ◌∷◌, ◌↔◌, IfOk, IfSome, IsErrOf, IsTrue, IsSome};
 ghost use Rattle.std.specs.Prelude.{drop, false, length, true};
 ghost use Rattle.std.specs.Str.{IsCharBoundary};
+ghost use Rattle.memchr.specs.Find.{IsFirstByte};
 ghost use Rattle.xs_text.specs.Escapes.{unescaped};
 ghost use Rattle.xs_pyx.specs.Row.{first_row, behind_row, rows_of, is_line_feed};
 ghost use Rattle.xs_pyx.specs.Reading.{reading, kind_reading, rest_reading, begins_line, line_of};
-ghost use Rattle.xs_pyx.specs.Reading.{name_in, says, value_in, data_of};
+ghost use Rattle.xs_pyx.specs.Reading.{ends_name, name_in, says, value_in, data_of};
 ghost use Rattle.xs_pyx.specs.Results.{Reads, Finds, SaysLine};
 ghost use Rattle.xs_pyx.specs.Views.{data_shown, line_shown, told, HasReadable, IsReadable};
 ghost use Rattle.xs_pyx.specs.Views.{IsReadableData, IsViewing, has_backslash};
@@ -71,14 +72,28 @@ fn view_data(written: &str, is_plain: bool) -> Data<'_>
     }
 }
 
+/// Where the first space stands. The names that it ends are mostly short, so it is sought byte by
+/// byte.
+#[inline(always)]
+fn find_space(bytes: &[u8]) -> Option<usize>
+    ensures { IsFirstByte ends_name bytes.now result }
+{
+    for (place, byte) in bytes.iter().enumerate() {
+        if *byte == b' ' {
+            return Some(place);
+        }
+    }
+    None
+}
+
 /// What stands before the first space, and what stands behind it; all and nothing where there is
 /// none.
 fn split_name(rest: &str) -> (&str, &str)
     ensures name { result.0.now ≡ name_in rest.now }
     ensures value { result.1.now ≡ value_in rest.now }
 {
-    match rest.split_once(' ') {
-        Some(parts) => parts,
+    match find_space(rest.as_bytes()) {
+        Some(end) => (&rest[..end], &rest[end + 1..]),
         None => (rest, ""),
     }
 }

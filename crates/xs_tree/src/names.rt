@@ -50,6 +50,11 @@ impl NameText {
     pub fn copy(&self) -> Result<NameText, AllocError>
         ensures value { IfOk result (λ part. part ≡ self.now) }
     {
+        if self.as_str().is_empty() {
+            return Ok(NameText {
+                text: String::new(*self.text.allocator()),
+            });
+        }
         Ok(NameText {
             text: self.text.clone()?,
         })
