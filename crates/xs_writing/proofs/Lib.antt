@@ -2,6 +2,7 @@ mod BoundLemmas
 mod LineLemmas
 mod OpenLemmas
 mod OrderLemmas
+mod OrderedLemmas
 mod PlainLemmas
 mod PendingLemmas
 mod PlainTextLemmas

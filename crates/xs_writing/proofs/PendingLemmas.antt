@@ -1,15 +1,16 @@
 -- What is kept of a result until it stays for good.
-use Rattle.std.proofs.Common.{◌≡◌, ℕ, zero, suc, ◌+◌, ◌-◌, ◌<◌, ◌≤◌, Bool, true, false, if◌then◌else◌, List, [], ◌∷◌, ◌++◌, Option, None, Some, drop, map, refl, reverse, sym, ◌∙◌, ap, subst, arith}
+use Rattle.std.proofs.Common.{◌≡◌, ℕ, zero, suc, ◌+◌, ◌-◌, ◌<◌, ◌≤◌, Bool, true, false, if◌then◌else◌, List, [], ◌∷◌, ◌++◌, Option, None, Some, drop, refl, reverse, sym, ◌∙◌, ap, subst, arith}
 use Rattle.std.proofs.Common.{IfOk, get_or, Result, Ok, Err, append_assoc, length}
 use Rattle.std.proofs.lemmas.Bool.Decides.{nat_tests}
-use Rattle.std.specs.Prelude.{◌&&◌, ◌==◌, not}
+use Rattle.std.specs.Prelude.{◌==◌, not}
 use Rattle.std.proofs.lemmas.Bool.{and_parts, true≢false}
 use Rattle.std.proofs.lemmas.List.{append-nil, drop_all, drop_more, map-append, reverse-append}
 use Rattle.std.proofs.lemmas.List.Concat.{flat_map-append}
 use denote.Ref.{Bor}
+use Rattle.xs_pyx.specs.Writing.{written}
 use Rattle.xs_pyx.specs.declared.line.Line.TheVariants as line
 use Rattle.xs_result.specs.Built.{is_empty}
-use Rattle.xs_result.specs.steps.Building.{State, behind, began, ended, flushed, forgotten, if_open, is_open, nothing, tagged, taken, taken_all, text_events}
+use Rattle.xs_result.specs.steps.Building.{State, ended, flushed, forgotten, is_open, nothing, tagged, taken, taken_all, text_events}
 use Rattle.xs_result.specs.steps.Places.{is_attribute_of, with_attribute}
 use Rattle.xs_result.proofs.BuiltLemmas.{taken_behind}
 use Rattle.xs_text.specs.Escapes.{escaped, escaped_byte}
@@ -347,6 +348,18 @@ pub plain_theirs : (items now : List Frame) (f : Frame) (known : Option (List Bi
     → AreStillTheirs (reverse items) known → AreStillTheirs (reverse now) known
 plain_theirs items now f known is none theirs =
     subst (λ fs. AreStillTheirs fs known) (sym (turned items now f is)) (plain-theirs (reverse items) f known none theirs)
+
+-- the end of such an element
+pub plain_end : (items now : List Frame) (f : Frame) (known : Option (List Binding)) (around : List OpenElement) (old new : List ℕ) (es : List Event)
+    → items ≡ now ++ f ∷ [] → f.declared ≡ 0 → opened (reverse items) (in_force known) ≡ around → new ≡ old ++ written (line.End f.name)
+    → new ++ bytes_of (lines (opened (reverse now) (in_force known)) es) ≡ old ++ bytes_of (lines around (End ∷ es))
+unfolding lines bytes_of
+plain_end items now f known around old new es popped none view is =
+    ap (λ x. x ++ bytes_of (lines (opened (reverse now) (in_force known)) es)) is
+    ∙ append_assoc old (written (line.End f.name)) (bytes_of (lines (opened (reverse now) (in_force known)) es))
+    ∙ ap (λ n. old ++ (written (line.End f.name) ++ bytes_of (lines (opened (reverse now) (drop n (in_force known))) es))) (sym none)
+    ∙ ap (λ fs. old ++ bytes_of (lines (opened fs (in_force known)) (End ∷ es))) (sym (turned now items f popped))
+    ∙ ap (λ os. old ++ bytes_of (lines os (End ∷ es))) view
 
 -- ---- a text in pieces
 pub empty_first : (t x : List ℕ) → (length t == 0) ≡ true → is_empty (t ++ x) ≡ is_empty x

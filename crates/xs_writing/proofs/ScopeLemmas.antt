@@ -5,6 +5,7 @@ use Rattle.std.specs.Prelude.{codes, not, unwrap_or}
 use Rattle.std.proofs.lemmas.Slice.Eq.{bytes_eq-Decides}
 use Rattle.std.specs.Str.{bytes_eq}
 use Rattle.std.specs.BTreeMap.{insert_entry, is_at}
+use Rattle.std.specs.Map.{lookup}
 use Rattle.xs_writing.specs.Bindings.{Binding, order_of_prefixes, outermost, uri_in, xml_uri}
 use Rattle.xs_writing.specs.declared.scope.Undo.{Undo}
 use Rattle.xs_writing.specs.steps.InForce.{is_in_force}
@@ -71,18 +72,34 @@ drop-one (suc n) [] h = sym (drop-nil (suc n - 1))
 drop-one (suc n) (x ∷ xs) h = let e : n ≡ suc n - 1 = omega arith in ap (λ i. drop i xs) e
 
 -- ---- the recent prefix, whose URI is kept beside the table
-same_text : (a b : List ℕ) (t : Bool) → t ≡ not (bytes_eq a b) → t ≡ false → a ≡ b
-same_text a b t is differs = (bytes_eq-Decides a b).0 (by_test (bytes_eq a b) (sym is ∙ differs))
-  where
-    by_test : (s : Bool) → not s ≡ false → s ≡ true
-    by_test true h = refl
-    by_test false h = sym h
+same_text : (a b : List ℕ) (t : Bool) → t ≡ bytes_eq a b → t ≡ true → a ≡ b
+same_text a b t is same = (bytes_eq-Decides a b).0 (sym is ∙ same)
 
 pub recent_in_force : (table around : List Binding) (us : List Undo) (recent prefix uri : List ℕ) (bound : Option (List ℕ)) → IsKept table us
-    → bound ≡ uri_in table recent → (text : List ℕ) (t : Bool) → text ≡ recent → t ≡ not (bytes_eq text prefix) → t ≡ false → logged us ≡ around
+    → bound ≡ uri_in table recent → (text : List ℕ) (t : Bool) → text ≡ recent → t ≡ bytes_eq text prefix → t ≡ true → logged us ≡ around
     → bytes_eq (unwrap_or bound []) uri ≡ true → is_in_force (around ++ outermost) prefix uri ≡ true
-recent_in_force table around us recent prefix uri bound kept is text t reads test differs view holds =
-    let same : recent ≡ prefix = sym reads ∙ same_text text prefix t test differs in
+recent_in_force table around us recent prefix uri bound kept is text t reads test alike view holds =
+    let same : recent ≡ prefix = sym reads ∙ same_text text prefix t test alike in
     ap (λ bs. is_in_force (bs ++ outermost) prefix uri) (sym view)
     ∙ ap (λ o. not (not (bytes_eq (unwrap_or o []) uri))) (sym (kept.0 prefix) ∙ ap (uri_in table) (sym same) ∙ sym is)
     ∙ ap (λ t. not (not t)) holds
+
+-- ---- its URI after another one, or the same, got another URI
+pub found_before : (table : List Binding) (key p : List ℕ) (before : Option (List ℕ)) → key ≡ p → before ≡ lookup (is_at (order_of_prefixes key)) table
+    → before ≡ uri_in table p
+unfolding uri_in
+found_before table key p before is found = found ∙ ap (λ k. lookup (is_at (order_of_prefixes k)) table) is
+
+pub bound_again : (old new : List Binding) (recent p : List ℕ) (o bound now : Option (List ℕ)) (a b : List ℕ) (t : Bool) → Rebinds old new p o → a ≡ recent
+    → b ≡ p → t ≡ bytes_eq a b → bound ≡ uri_in old recent → now ≡ cond t (uri_in new recent) bound → now ≡ uri_in new recent
+bound_again old new recent p o bound now a b t rebinds of_recent of_prefix test was is =
+    by_test t (test ∙ ap (λ x. bytes_eq x b) of_recent ∙ ap (bytes_eq recent) of_prefix) is
+  where
+    by_place : (s : Bool) → is_at (order_of_prefixes p) recent ≡ s → false ≡ bytes_eq recent p → now ≡ bound → now ≡ uri_in new recent
+    by_place true at differs g =
+        let no_bool : false ≡ true = differs ∙ (bytes_eq-Decides recent p).1 (sym (same_at p recent at)) in absurd (cc)
+    by_place false at differs g = g ∙ was ∙ sym (rebinds recent ∙ ap (λ s. cond s o (uri_in old recent)) at)
+
+    by_test : (s : Bool) → s ≡ bytes_eq recent p → now ≡ cond s (uri_in new recent) bound → now ≡ uri_in new recent
+    by_test true same g = g
+    by_test false differs g = by_place (is_at (order_of_prefixes p) recent) refl differs g

@@ -3,6 +3,7 @@ pub mod InForce
 pub mod Stream
 pub mod Tables
 pub mod Open
+pub mod Ordered
 pub mod Tags
 pub mod Unfolding
 pub mod Pending

@@ -10,6 +10,7 @@ mod name_lines;
 mod names;
 mod open_tag;
 mod open_text;
+mod ordered;
 mod pending;
 mod plain_text;
 mod scope;

@@ -325,8 +325,21 @@ fn append_name(out: &mut Vec<u8>, name: &Label) -> Result<(), AllocError>
     append_text(out, name.local())
 }
 
-/// Appends a text.
+/// Appends a text. Of one byte, as many prefixes and names are, this takes no call.
+#[inline(always)]
 fn append_text(out: &mut Vec<u8>, text: &str) -> Result<(), AllocError>
+    ensures written { OnOk result (out.new.items ≡ out.old.items ++ text.now) }
+    ensures kept { take (length out.old.items) out.new.items ≡ out.old.items }
+    ensures utf8 { IsUtf8 out.old.items → IsUtf8 out.new.items }
+{
+    match text.as_bytes() {
+        [one] if *one < 128 => append_byte(out, *one),
+        _ => append_several(out, text),
+    }
+}
+
+/// Appends a text of several bytes.
+fn append_several(out: &mut Vec<u8>, text: &str) -> Result<(), AllocError>
     ensures written { OnOk result (out.new.items ≡ out.old.items ++ text.now) }
     ensures kept { take (length out.old.items) out.new.items ≡ out.old.items }
     ensures utf8 { IsUtf8 out.old.items → IsUtf8 out.new.items }

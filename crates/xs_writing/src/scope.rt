@@ -13,6 +13,7 @@ use crate::text_key::TextKey;
 use std::alloc::{AllocError, Global};
 use std::collections::BTreeMap;
 use std::marker::Model;
+use xs_text::is_same;
 use xs_trace::text::TextBuf;
 
 /// A declaration: a prefix, empty for the default namespace, and its URI.
@@ -112,6 +113,28 @@ impl Scope {
         Ok(())
     }
 
+    /// Adds the binding of a namespace node, if it is new here.
+    pub(crate) fn push_space(
+        &self,
+        all: &mut Vec<Declared>,
+        prefix: &TextBuf,
+        uri: &TextBuf,
+    ) -> Result<(), AllocError>
+        ensures { OnOk result ((more : List Binding) → bindings_of all.new.items
+            ++ filter (is_new (self.now ++ outermost)) more
+            ≡ bindings_of all.old.items
+            ++ filter (is_new (self.now ++ outermost)) ((prefix.now, uri.now) ∷ more)) }
+    {
+        if self.has_space(prefix, uri)? {
+            return Ok(());
+        }
+        all.push(Declared {
+            prefix: prefix.copy()?,
+            uri: uri.copy()?,
+        })?;
+        Ok(())
+    }
+
     /// Whether a prefix is bound to another URI here, or to none.
     #[tactic(auto, unfolding(crate::specs::Bindings::uri_in))]
     fn is_new(&self, prefix: &TextKey, uri: &str) -> bool
@@ -156,7 +179,7 @@ impl Scope {
         ensures { result ≡ true
             → is_in_force (self.now ++ outermost) prefix.now uri.now ≡ true }
     {
-        if self.recent.as_str() != prefix {
+        if !is_same(self.recent.as_str(), prefix) {
             return false;
         }
         is_bound_to(&self.bound, uri)
@@ -175,14 +198,14 @@ impl Scope {
 
     /// Whether a prefix is the recent one.
     pub(crate) fn has_recent(&self, prefix: &str) -> bool {
-        self.recent.as_str() == prefix
+        is_same(self.recent.as_str(), prefix)
     }
 
     /// The same, with a prefix as the recent one.
     pub(crate) fn with_recent(self, prefix: &str) -> Result<Scope, AllocError>
         ensures { IfOk result (λ scope. scope ≡ self) }
     {
-        if self.recent.as_str() == prefix {
+        if is_same(self.recent.as_str(), prefix) {
             return Ok(self);
         }
         let Scope {
@@ -225,16 +248,15 @@ impl Scope {
             recent,
             bound,
         } = self;
-        let _last = bound;
-        let before = uri_of(&current, &declared.prefix)?;
         let Declared { prefix, uri } = declared;
-        let _ = current.insert(TextKey::of(&prefix)?, uri.copy()?)?;
+        let is_recent = is_same(recent.as_str(), prefix.as_str());
+        let before = current.insert(TextKey::of(&prefix)?, uri.copy()?)?;
+        let bound = bound_now(&current, &recent, bound, is_recent)?;
         log.push(Undo {
             prefix,
             uri,
             before,
         })?;
-        let bound = bound_to(&current, &recent)?;
         Ok(Scope {
             current,
             log,
@@ -268,8 +290,9 @@ impl Scope {
         } = self;
         match log.pop() {
             Some(last) => {
+                let is_recent = is_same(recent.as_str(), last.prefix.as_str());
                 let current = undone(current, last)?;
-                let bound = bound_to(&current, &recent)?;
+                let bound = bound_now(&current, &recent, bound, is_recent)?;
                 Ok(Scope {
                     current,
                     log,
@@ -287,17 +310,6 @@ impl Scope {
     }
 }
 
-/// The URI that a table has for a prefix.
-fn uri_of(
-    current: &BTreeMap<TextKey, TextBuf>,
-    prefix: &TextBuf,
-) -> Result<Option<TextBuf>, AllocError>
-    ensures { IfOk result (λ uri. uri ≡ uri_in current.now.entries prefix.now) }
-{
-    let key = TextKey::of(prefix)?;
-    bound_to(current, &key)
-}
-
 /// The URI that a table has for a key.
 #[tactic(auto, unfolding(crate::specs::Bindings::uri_in))]
 fn bound_to(
@@ -312,13 +324,30 @@ fn bound_to(
     }
 }
 
+/// The URI that a table has for the recent prefix, after another prefix was bound, or that one:
+/// then it has to be looked up again.
+fn bound_now(
+    current: &BTreeMap<TextKey, TextBuf>,
+    recent: &TextKey,
+    bound: Option<TextBuf>,
+    is_recent: bool,
+) -> Result<Option<TextBuf>, AllocError>
+    ensures { IfOk result (λ uri. uri
+        ≡ (if is_recent then uri_in current.now.entries recent.now else bound)) }
+{
+    if is_recent {
+        return bound_to(current, recent);
+    }
+    Ok(bound)
+}
+
 /// Whether a prefix to which a table gives this URI, or none, is bound to a URI; to none, where
 /// that is empty.
 fn is_bound_to(bound: &Option<TextBuf>, uri: &str) -> bool
     ensures { result ≡ bytes_eq (unwrap_or bound.now []) uri.now }
 {
     match bound {
-        Some(other) => other.as_str() == uri,
+        Some(other) => is_same(other.as_str(), uri),
         None => uri.is_empty(),
     }
 }

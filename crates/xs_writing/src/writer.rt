@@ -40,8 +40,8 @@ struct Frame {
 #[derive(Drop)]
 pub struct PyxWriter {
     pub(crate) alloc: Global,
-    /// What is in force; none after memory ran out, from when on nothing is written.
-    scope: Option<Scope>,
+    /// What is in force; none after memory ran out.
+    pub(crate) scope: Option<Scope>,
     /// The open elements, the innermost last.
     elements: Vec<Frame>,
 }
@@ -358,14 +358,19 @@ impl PyxWriter {
         ensures utf8 { IsUtf8 out.old.items → IsUtf8 out.new.items }
     {
         match self.elements.pop() {
-            Some(Frame { name, declared }) => match self.scope.take() {
-                Some(scope) => {
-                    name.append_end(out)?;
-                    self.scope = Some(scope.leave(declared)?);
-                    Ok(())
+            Some(Frame { name, declared }) => {
+                if declared == 0 {
+                    return name.append_end(out);
                 }
-                None => Err(AllocError),
-            },
+                match self.scope.take() {
+                    Some(scope) => {
+                        name.append_end(out)?;
+                        self.scope = Some(scope.leave(declared)?);
+                        Ok(())
+                    }
+                    None => Err(AllocError),
+                }
+            }
             None => Ok(()),
         }
     }

@@ -1,4 +1,4 @@
-use Rattle.std.proofs.Common.{◌≡◌, ◌∙◌, [], ap, arith, length, subst, sym, vec_len}
+use Rattle.std.proofs.Common.{◌≡◌, ◌∙◌, ap, arith, length, subst, sym, vec_len}
 use Rattle.xs_writing.specs.steps.Pending.{IsAlone, begun}
 use Rattle.xs_writing.proofs.PendingLemmas.{added_here, added_none, alone_more, begun_more, begun_none, no_items}
 use Rattle.xs_writing.proofs.open_tag.OpenTag.add.Goals as goal

@@ -1,4 +1,4 @@
-use Rattle.std.proofs.Common.{◌≡◌, ◌∙◌, [], ap, arith, length, sym, vec_len}
+use Rattle.std.proofs.Common.{◌≡◌, ◌∙◌, ap, arith, length, sym, vec_len}
 use Rattle.xs_writing.proofs.PendingLemmas.{alone_none, begun_none, no_events, nothing_opened, nothing_written}
 use Rattle.xs_writing.proofs.open_tag.OpenTag.write.Goals as goal
 

@@ -1,5 +1,4 @@
-use Rattle.std.proofs.Common.{◌∙◌, ap}
-use Rattle.xs_writing.specs.Lines.{bytes_of, lines, open_after}
+use Rattle.std.proofs.Common.{◌∙◌}
 use Rattle.xs_writing.specs.steps.Pending.{begun}
 use Rattle.xs_writing.proofs.PendingLemmas.{flushed_tag, tag_opened, tag_written}
 use Rattle.xs_writing.proofs.StreamLemmas.{on_ok}

@@ -4,13 +4,13 @@ use Rattle.xs_writing.proofs.PendingLemmas.{simple_begun, tag_opened, tag_writte
 use Rattle.xs_writing.proofs.StreamLemmas.{on_ok}
 use Rattle.xs_writing.proofs.writer.PyxWriter.declaring_tag.Goals as goal
 
-pub returns-then-branch-clause-written : goal.returns-then-branch-clause-written
-returns-then-branch-clause-written c =
+pub returns-in-Some-clause-written : goal.returns-in-Some-clause-written
+returns-in-Some-clause-written c =
     let is = sym (simple_begun c.args.tag.now c.args.name.now (lent c.args.added.now) c.requires.whole (c.is_simple.ensures c.if-not-is_simple.false)) in
     on_ok c.bound_tag.result (λ written. tag_written c.args.self.now _ (begun c.args.tag.now).tag c.args.out.now.items c.bound_tag.new.out.items is written)
     c.bound_tag.ensures.written
 
-pub returns-then-branch-clause-opened : goal.returns-then-branch-clause-opened
-returns-then-branch-clause-opened c =
+pub returns-in-Some-clause-opened : goal.returns-in-Some-clause-opened
+returns-in-Some-clause-opened c =
     let is = sym (simple_begun c.args.tag.now c.args.name.now (lent c.args.added.now) c.requires.whole (c.is_simple.ensures c.if-not-is_simple.false)) in
     on_ok c.bound_tag.result (λ opened. tag_opened c.args.self.now c.bound_tag.new.self _ (begun c.args.tag.now).tag is opened) c.bound_tag.ensures.opened

@@ -1,4 +1,4 @@
-use Rattle.std.proofs.Common.{◌≡◌, IfOk, reverse, subst, sym, true}
+use Rattle.std.proofs.Common.{◌≡◌, IfOk, reverse, subst, sym}
 use Rattle.xs_writing.specs.steps.InForce.{is_plain_tag}
 use Rattle.xs_writing.specs.steps.Pending.{lent}
 use Rattle.xs_writing.proofs.OpenLemmas.{scope_still}
