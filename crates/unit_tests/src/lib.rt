@@ -27,3 +27,5 @@ mod pieces;
 mod probe;
 #[cfg(test)]
 mod recorders;
+#[cfg(test)]
+mod ticks;

@@ -63,7 +63,11 @@ fn tried(alloc: Global, runner: &TableRunner, ticks: u64, order: &[u32]) -> Resu
     let found = finished(&collected.pieces);
     let mut pool = Pool::new(alloc);
     let assembled = assemble(alloc, runner, collected, limits, &mut pool)?;
-    Ok(if agrees(&assembled, &whole) { found } else { 0 })
+    Ok(if agrees(alloc, &assembled, &whole)? {
+        found
+    } else {
+        0
+    })
 }
 
 // How many sets of finished pieces come up in all orders within all limits; 0 where a run differs

@@ -9,14 +9,15 @@ use xs_block::chain::Chain;
 use xs_block::pool::Pool;
 use xs_pieces::runner::Runner;
 use xs_record::outcome::{Outcome, Part};
+use xs_record::segment::{Run, Segment};
 use xs_table::table::{Entry, Row, TableRunner, table_is_ready};
 use xs_trace::event::Event;
 use xs_trace::fault::Fault;
 use xs_trace::item::{Ended, Item, Limits, Site, Spot};
 use xs_trace::text::TextBuf;
 
-// The instruction at a line.
-fn at(line: u32) -> Site {
+/// The instruction at a line.
+pub(crate) fn at(line: u32) -> Site {
     Site { module: 0, line }
 }
 
@@ -32,8 +33,8 @@ fn entries(alloc: Global, line: u32, children: &[u32]) -> Result<Vec<Entry>, All
     Ok(entries)
 }
 
-// Adds a piece: a tick at a line, and entries with ticks at another one.
-fn push_row(
+/// Adds a piece: a tick at a line, and entries with ticks at another one.
+pub(crate) fn push_row(
     alloc: Global,
     rows: &mut Vec<Row>,
     line: u32,
@@ -74,8 +75,12 @@ pub(crate) fn limits_of(ticks: u64) -> Limits
     }
 }
 
-// What a run in pieces gives within so many ticks.
-fn in_pieces(alloc: Global, runner: &TableRunner, ticks: u64) -> Result<Executed, AllocError>
+/// What a run in pieces gives within so many ticks.
+pub(crate) fn in_pieces(
+    alloc: Global,
+    runner: &TableRunner,
+    ticks: u64,
+) -> Result<Executed, AllocError>
     requires few { ticks ≤ 2 ^ 40 }
 {
     let mut pool = Pool::new(alloc);
@@ -96,31 +101,68 @@ pub(crate) fn at_once(
     runner.run_whole(alloc, &root, limits_of(ticks), &mut pool)
 }
 
-// Whether two items are the same.
-fn is_same(item: &Item, other: &Item) -> bool {
-    match (item, other) {
-        (
-            Item::Run { line, ticks, .. },
-            Item::Run {
-                line: at,
-                ticks: count,
-                ..
-            },
-        ) => { line == at && ticks == count }
-        (Item::Say(text), Item::Say(said)) => text.as_str() == said.as_str(),
-        (Item::Put(Event::End), Item::Put(Event::End)) => true,
-        _ => false,
+// What an item is: ticks at a place, a message of so many bytes, or an event.
+#[derive(Clone, Copy, PartialEq, Eq)]
+enum Kind {
+    Ticks(Site, u64),
+    Message(usize),
+    Event,
+}
+
+// Adds ticks, if there are any.
+fn push_ticks(kinds: &mut Vec<Kind>, run: Run) -> Result<(), AllocError> {
+    if run.ticks > 0 {
+        kinds.push(Kind::Ticks(run.site, run.ticks))?;
+    }
+    Ok(())
+}
+
+// What an item is.
+fn kind_of(item: &Item) -> Kind {
+    match item {
+        Item::Run {
+            module,
+            line,
+            ticks,
+        } => {
+            let site = Site {
+                module: *module,
+                line: *line,
+            };
+            Kind::Ticks(site, *ticks)
+        }
+        Item::Put(_) => Kind::Event,
+        Item::Say(text) => Kind::Message(text.as_str().len()),
     }
 }
 
-// Whether two chains have the same items.
-fn are_same(items: &Chain<Item>, others: &Chain<Item>) -> bool {
-    let mut left = others.items();
-    let mut are_same = true;
-    for item in items.items() {
-        are_same = are_same && matches!(left.next(), Some(other) if is_same(item, other));
+// Adds the items of a segment.
+fn push_kinds(kinds: &mut Vec<Kind>, segment: &Segment) -> Result<(), AllocError> {
+    let content = segment.content();
+    push_ticks(kinds, content.first)?;
+    push_ticks(kinds, content.last)?;
+    kinds.push(kind_of(content.item))?;
+    Ok(())
+}
+
+// What the items of a chain are.
+fn kinds(alloc: Global, items: &Chain<Segment>) -> Result<Vec<Kind>, AllocError> {
+    let mut kinds = Vec::new(alloc);
+    for segment in items.items() {
+        push_kinds(&mut kinds, segment)?;
     }
-    are_same && left.next().is_none()
+    Ok(kinds)
+}
+
+// Whether two chains have the same items.
+fn are_same(
+    alloc: Global,
+    items: &Chain<Segment>,
+    others: &Chain<Segment>,
+) -> Result<bool, AllocError> {
+    let left = kinds(alloc, items)?;
+    let right = kinds(alloc, others)?;
+    Ok(left.as_slice() == right.as_slice())
 }
 
 // Whether a run in pieces ended as one at once did.
@@ -133,11 +175,19 @@ fn ends_so(end: Option<Spot>, ended: &Ended) -> bool {
 }
 
 /// Whether a run in pieces gives what one at once gives.
-pub(crate) fn agrees(assembled: &Assembled, whole: &Outcome) -> bool {
-    matches!(whole.parts.as_slice(), [Part { items, hole: None }]
-        if are_same(&assembled.items, items))
-        && ends_so(assembled.end, &whole.ended)
-        && assembled.ticks == whole.ticks
+pub(crate) fn agrees(
+    alloc: Global,
+    assembled: &Assembled,
+    whole: &Outcome,
+) -> Result<bool, AllocError> {
+    let [Part { items, hole: None }] = whole.parts.as_slice() else {
+        return Ok(false);
+    };
+    Ok(
+        are_same(alloc, &assembled.items, items)?
+            && ends_so(assembled.end, &whole.ended)
+            && assembled.ticks == whole.ticks,
+    )
 }
 
 // Whether within so many ticks a run in pieces gives what one at once gives, and so many pieces are
@@ -152,11 +202,15 @@ fn is_run_again(
 {
     let run = in_pieces(alloc, runner, ticks)?;
     let whole = at_once(alloc, runner, ticks)?;
-    Ok(agrees(&run.assembled, &whole) && run.assembled.inline == inline)
+    Ok(agrees(alloc, &run.assembled, &whole)? && run.assembled.inline == inline)
 }
 
-// Whether seven pieces do so within no tick, one tick, and so on.
-fn are_run_again(alloc: Global, runner: &TableRunner, inline: &[u64]) -> Result<bool, AllocError> {
+/// Whether within no tick, one tick, and so on, so many pieces are run again in their places.
+pub(crate) fn are_run_again(
+    alloc: Global,
+    runner: &TableRunner,
+    inline: &[u64],
+) -> Result<bool, AllocError> {
     let mut ticks = 0_u32;
     for count in inline {
         if !is_run_again(alloc, runner, ticks as u64, *count)? {

@@ -9,6 +9,7 @@ use xs_block::pool::Pool;
 use xs_record::brief::Brief;
 use xs_record::outcome::{Outcome, Part};
 use xs_record::piece::{Finished, PieceRecorder};
+use xs_record::segment::Segment;
 use xs_trace::event::{Event, Fragment};
 use xs_trace::fault::Fault;
 use xs_trace::item::{Ended, Item, Limits, Site};
@@ -121,19 +122,26 @@ fn recorder(
     PieceRecorder::new(alloc, limits, total, Pool::new(alloc))
 }
 
+// Whether a segment has three ticks at the line 7, and an event.
+fn is_ticks_and_end(segment: &Segment) -> bool {
+    let content = segment.content();
+    content.first.ticks == 0
+        && content.last.site == SITE
+        && content.last.ticks == 3
+        && matches!(content.item, Item::Put(Event::End))
+}
+
+// Whether a segment is a message alone.
+fn is_message(segment: &Segment) -> bool {
+    matches!(segment.content().item, Item::Say(_))
+}
+
 // Whether a part has three ticks, an event and a message.
 fn is_full_part(part: &Part) -> bool {
-    let mut items = part.items.items();
-    matches!(
-        items.next(),
-        Some(Item::Run {
-            line: 7,
-            ticks: 3,
-            ..
-        })
-    ) && matches!(items.next(), Some(Item::Put(Event::End)))
-        && matches!(items.next(), Some(Item::Say(_)))
-        && items.next().is_none()
+    let mut segments = part.items.items();
+    matches!(segments.next(), Some(segment) if is_ticks_and_end(segment))
+        && matches!(segments.next(), Some(segment) if is_message(segment))
+        && segments.next().is_none()
         && part.hole.is_none()
 }
 

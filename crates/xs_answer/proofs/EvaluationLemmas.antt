@@ -3,7 +3,7 @@ use Rattle.std.proofs.Common.{◌≡◌, ◌∙◌, ◌+◌, ◌-◌, ◌++◌, 
 use Rattle.std.proofs.Common.{ap, refl, sym, subst, append-nil}
 use Rattle.xs_assemble.specs.Assembled.{EndsIn}
 use Rattle.xs_assemble.specs.declared.assembled.Executed.{Executed}
-use Rattle.xs_block.specs.Chain.{items_of}
+use Rattle.xs_record.specs.Segment.{items_of}
 use Rattle.xs_semantics.specs.Globals.{SettlesAll, Table, ended, settled}
 use Rattle.xs_semantics.specs.Tasks.{Task}
 use Rattle.xs_semantics.specs.World.{World, ground}

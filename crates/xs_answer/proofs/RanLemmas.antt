@@ -4,7 +4,7 @@ use Rattle.xs_assemble.specs.Assembled.{EndsIn, IsAssembled}
 use Rattle.xs_assemble.specs.Claims.{AreAll, AreOfTree, IsReached, claimed_ticks}
 use Rattle.xs_core.specs.Good.{total}
 use Rattle.xs_assemble.specs.declared.assembled.Executed.{Executed}
-use Rattle.xs_block.specs.Chain.{items_of}
+use Rattle.xs_record.specs.Segment.{items_of}
 use Rattle.xs_semantics.specs.Globals.{Table, with_globals}
 use Rattle.xs_semantics.specs.Tasks.{Task}
 use Rattle.xs_semantics.specs.Trace.{root_task, task_trace}

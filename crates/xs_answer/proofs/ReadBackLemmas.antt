@@ -1,12 +1,12 @@
 -- What the lines of a result say, by the events that were kept and the trees that were read.
-use Rattle.std.proofs.Common.{◌≡◌, ◌<◌, ◌+◌, ◌^◌, ◌∙◌, ℕ, All, arith, List, [], ◌∷◌, length, Option, Some, None}
+use Rattle.std.proofs.Common.{◌≡◌, ◌<◌, ◌+◌, ◌^◌, ◌∙◌, ℕ, All, arith, List, [], ◌∷◌, length, length-append}
 use Rattle.std.proofs.Common.{ap, refl, sym, subst}
-use Rattle.std.specs.List.{cons_option}
-use Rattle.std.proofs.lemmas.List.Elements.{All-cons, All-head, All-nil}
+use Rattle.std.proofs.lemmas.List.Elements.{All-append, All-cons, All-nil}
 use Rattle.xs_build.specs.DocumentTree.{IsDocument as IsDocumentAt, IsOneDocument}
 use Rattle.xs_making.specs.Laws.{AreWell}
 use Rattle.xs_reading_back.specs.Events.{HasTexts, IsResult}
 use Rattle.xs_reading_back.specs.Laws.{DocumentsAreWell, IsReadBack, ResultsReadBack}
+use Rattle.xs_record.specs.Segment.{joined}
 use Rattle.xs_result.specs.Built.{built}
 use Rattle.xs_rules.specs.WhiteSpace.{stripped}
 use Rattle.xs_semantics.specs.World.{ground}
@@ -22,40 +22,34 @@ use Rattle.xs_value.specs.Tables.{Table}
 use Rattle.xs_well_put.specs.Laws.{StrippedAreWell}
 use Rattle.xs_well_put.specs.Named.{IsNamedSheet, IsNamedWorld}
 use Rattle.xs_writing.specs.Lines.{pyx}
-use Rattle.xs_answer.specs.Items.{events_in, item_event}
+use Rattle.xs_answer.specs.Items.{events_in}
 use Rattle.xs_answer.proofs.ItemLemmas.{events_after}
 
 -- ---- the texts of events, and how many they are
 pub one_text : (e : Event) → HasTexts e → All HasTexts (e ∷ [])
 one_text e h = All-cons HasTexts e [] h (All-nil HasTexts)
 
-with_texts : (o : Option Event) (es : List Event) → All HasTexts (cons_option o []) → All HasTexts es → All HasTexts (cons_option o es)
-with_texts None es h k = k
-with_texts (Some e) es h k = All-cons HasTexts e es (All-head HasTexts e [] h) k
+pub texts_more : (is : List Item) (left more : List (List Item)) (all : List Event) → (All HasTexts (events_in (joined left)) → All HasTexts all)
+    → left ≡ is ∷ more → All HasTexts (events_in is) → All HasTexts (events_in (joined more)) → All HasTexts all
+texts_more is left more all h e own rest =
+    h (subst (λ ss. All HasTexts (events_in (joined ss))) (sym e)
+    (subst (All HasTexts) (sym (events_after is more)) (All-append HasTexts (events_in is) (events_in (joined more)) own rest)))
 
-with_length : (o : Option Event) (es : List Event) → length (cons_option o es) ≡ length (cons_option o []) + length es
-with_length None es = omega arith
-with_length (Some e) es = omega arith
+pub texts_end : (left : List (List Item)) (all : List Event) → (All HasTexts (events_in (joined left)) → All HasTexts all) → left ≡ [] → All HasTexts all
+texts_end left all h is = h (subst (λ ss. All HasTexts (events_in (joined ss))) (sym is) (All-nil HasTexts))
 
-pub texts_more : (i : Item) (left more : List Item) (all : List Event) → (All HasTexts (events_in left) → All HasTexts all) → left ≡ i ∷ more
-    → All HasTexts (cons_option (item_event i) []) → All HasTexts (events_in more) → All HasTexts all
-texts_more i left more all h is own rest =
-    h (subst (λ xs. All HasTexts (events_in xs)) (sym is)
-    (subst (All HasTexts) (sym (events_after i more)) (with_texts (item_event i) (events_in more) own rest)))
-
-pub texts_end : (left : List Item) (all : List Event) → (All HasTexts (events_in left) → All HasTexts all) → left ≡ [] → All HasTexts all
-texts_end left all h is = h (subst (λ xs. All HasTexts (events_in xs)) (sym is) (All-nil HasTexts))
-
-pub count_more : (i : Item) (left more : List Item) (all : List Event) (count next : ℕ) → length all ≡ count + length (events_in left) → left ≡ i ∷ more
-    → next ≡ count + length (cons_option (item_event i) []) → length all ≡ next + length (events_in more)
-count_more i left more all count next h is n =
-    let same : length (events_in left) ≡ length (cons_option (item_event i) []) + length (events_in more) =
-    ap (λ xs. length (events_in xs)) is ∙ ap length (events_after i more) ∙ with_length (item_event i) (events_in more) in
+pub count_more : (is : List Item) (left more : List (List Item)) (all : List Event) (count next : ℕ) → length all ≡ count + length (events_in (joined left))
+    → left ≡ is ∷ more → next ≡ count + length (events_in is) → length all ≡ next + length (events_in (joined more))
+count_more is left more all count next h e n =
+    let same : length (events_in (joined left)) ≡ length (events_in is) + length (events_in (joined more)) =
+    ap (λ ss. length (events_in (joined ss))) e ∙ ap length (events_after is more) ∙ length-append (events_in is) (events_in (joined more)) in
     omega (arith, h, n, same)
 
-pub count_end : (left : List Item) (all : List Event) (count : ℕ) → length all ≡ count + length (events_in left) → left ≡ [] → count < 2 ^ 64
-    → length all < 2 ^ 64
-count_end left all count h is few = let none : length (events_in left) ≡ 0 = ap (λ xs. length (events_in xs)) is in omega (arith, h, none, few)
+pub count_end : (left : List (List Item)) (all : List Event) (count : ℕ) → length all ≡ count + length (events_in (joined left)) → left ≡ []
+    → count < 2 ^ 64 → length all < 2 ^ 64
+count_end left all count h is few =
+    let none : length (events_in (joined left)) ≡ 0 = ap (λ ss. length (events_in (joined ss))) is in
+    omega (arith, h, none, few)
 
 pub lines_read_back : (es : List Event) (bytes : List ℕ) → ResultsReadBack → All HasTexts es → length es < 2 ^ 64 → bytes ≡ pyx es
     → IsResult es → IsReadBack bytes (built es)

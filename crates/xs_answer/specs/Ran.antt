@@ -2,7 +2,7 @@
 use Rattle.std.specs.Prelude.{◌≡◌, None}
 use Rattle.xs_assemble.specs.Assembled.{EndsIn}
 use Rattle.xs_assemble.specs.declared.assembled.Executed.{Executed}
-use Rattle.xs_block.specs.Chain.{items_of}
+use Rattle.xs_record.specs.Segment.{items_of}
 use Rattle.xs_semantics.specs.Globals.{Table}
 use Rattle.xs_semantics.specs.World.{World}
 use Rattle.xs_trace.specs.Mark.{events_of, messages_of, tick_count}

@@ -4,11 +4,11 @@ ghost use Rattle.std.specs.Iterator.{YieldsFirstBy, item_count};
 ghost use Rattle.std.specs.List.{cons_option};
 ghost use Rattle.std.specs.Prelude.{◌≡◌, ◌<◌, ◌+◌, ◌^◌, ◌++◌, [], All, IfOk, OnOk, length};
 ghost use Rattle.std.specs.Prelude.{option_map};
-ghost use Rattle.xs_block.specs.Chain.{items_of};
+ghost use Rattle.xs_record.specs.Segment.{items_of};
 ghost use Rattle.xs_result.specs.Built.{built};
 ghost use Rattle.xs_result.specs.Text.{text_in};
 ghost use Rattle.xs_answer.specs.Answer.{document_of, message_line, message_lines, result_of};
-ghost use Rattle.xs_answer.specs.Items.{events_in, item_event};
+ghost use Rattle.xs_answer.specs.Items.{events_in};
 ghost use Rattle.xs_answer.specs.ReadBack.{ReadsAs};
 ghost use Rattle.xs_reading_back.specs.Events.{HasTexts, IsResult};
 ghost use Rattle.xs_reading_back.specs.Laws.{IsReadBack};
@@ -19,6 +19,7 @@ use std::marker::Model;
 use xs_block::chain::Chain;
 use xs_block::items::Items;
 use xs_reading_back::event_texts;
+use xs_record::segment::Segment;
 use xs_result::write_text;
 use xs_sheet::declarations::Method;
 use xs_text::escape_into;
@@ -30,17 +31,18 @@ use xs_writing::write_pyx;
 /// The events among some items that are still to come. Contracts see it as the list of them.
 #[derive(Drop)]
 struct Events<'a> {
-    left: Items<'a, Item>,
+    left: Items<'a, Segment>,
 }
 
 impl<'a> Model for Events<'a> {
     ghost use Rattle.std.specs.Prelude.{List};
     ghost use Rattle.xs_trace.specs.declared.event.Event.{Event};
     ghost use Rattle.xs_answer.specs.Items.{events_in};
+    ghost use Rattle.xs_record.specs.Segment.{joined};
 
     ghost Value = { List Event };
 
-    ghost view = { λ e. events_in e.left };
+    ghost view = { λ e. events_in (joined e.left) };
 }
 
 impl<'a> Iterator for Events<'a> {
@@ -52,8 +54,8 @@ impl<'a> Iterator for Events<'a> {
 
     #[tactic(auto, using(crate::proofs::ItemLemmas::events_after))]
     fn next(&mut self) -> Option<&'a Event> {
-        while let Some(item) = self.left.next() {
-            if let Some(event) = event_of(item) {
+        while let Some(segment) = self.left.next() {
+            if let Some(event) = event_of(segment) {
                 return Some(event);
             }
         }
@@ -61,13 +63,13 @@ impl<'a> Iterator for Events<'a> {
     }
 }
 
-/// The event that an item is; nothing else is one.
-fn event_of(item: &Item) -> Option<&Event>
-    ensures { option_map (λ e. e.now) result ≡ item_event item.now }
+/// The event of a segment, if there is one.
+fn event_of(segment: &Segment) -> Option<&Event>
+    ensures { cons_option (option_map (λ e. e.now) result) [] ≡ events_in segment.now }
 {
-    match item {
+    match segment.content().item {
         Item::Put(event) => Some(event),
-        _ => None,
+        Item::Run { .. } | Item::Say(_) => None,
     }
 }
 
@@ -76,7 +78,7 @@ fn event_of(item: &Item) -> Option<&Event>
 pub fn result_bytes(
     alloc: Global,
     method: Method,
-    items: &Chain<Item>,
+    items: &Chain<Segment>,
 ) -> Result<Vec<u8>, AllocError>
     ensures bytes { IfOk result (λ bytes. bytes.items
         ≡ result_of method (events_in (items_of items.now))) }
@@ -90,7 +92,7 @@ pub fn result_bytes(
 }
 
 /// The lines of a result: of what stays of the events among the items.
-fn result_lines(alloc: Global, items: &Chain<Item>) -> Result<Vec<u8>, AllocError>
+fn result_lines(alloc: Global, items: &Chain<Segment>) -> Result<Vec<u8>, AllocError>
     ensures lines { IfOk result (λ lines. lines.items ≡ pyx (events_in (items_of items.now))) }
     ensures reads_back { IfOk result (λ lines. IsResult (events_in (items_of items.now))
         → IsReadBack lines.items (built (events_in (items_of items.now)))) }
@@ -104,39 +106,38 @@ fn result_lines(alloc: Global, items: &Chain<Item>) -> Result<Vec<u8>, AllocErro
 }
 
 /// Counts the events among some items, whose texts are UTF-8. No memory holds 2^64 of them.
-fn check_events(items: &Chain<Item>) -> Result<(), AllocError>
+fn check_events(items: &Chain<Segment>) -> Result<(), AllocError>
     ensures texts { OnOk result (All HasTexts (events_in (items_of items.now))) }
     ensures few { OnOk result (length (events_in (items_of items.now)) < 2 ^ 64) }
 {
     let mut count = 0;
-    for item in items.items() {
-        count = count_event(count, item)?;
+    for segment in items.items() {
+        count = count_event(count, segment)?;
     }
     Ok(())
 }
 
-/// One more where an item is an event, whose texts are UTF-8.
+/// One more where a segment has an event, whose texts are UTF-8.
 #[tactic(auto, using(crate::proofs::ReadBackLemmas::one_text))]
-fn count_event(count: u64, item: &Item) -> Result<u64, AllocError>
-    ensures texts { IfOk result (λ n. All HasTexts (cons_option (item_event item.now) [])) }
-    ensures counted { IfOk result (λ n.
-        n ≡ count + length (cons_option (item_event item.now) [])) }
+fn count_event(count: u64, segment: &Segment) -> Result<u64, AllocError>
+    ensures texts { IfOk result (λ n. All HasTexts (events_in segment.now)) }
+    ensures counted { IfOk result (λ n. n ≡ count + length (events_in segment.now)) }
     ensures few { IfOk result (λ n. n < 2 ^ 64) }
 {
-    match item {
-        Item::Put(event) => {
+    match event_of(segment) {
+        Some(event) => {
             event_texts(event);
             if count == u64::MAX {
                 return Err(AllocError);
             }
             Ok(count + 1)
         }
-        Item::Run { .. } | Item::Say(_) => Ok(count),
+        None => Ok(count),
     }
 }
 
 /// The text of a result: of the text nodes that stay of the events among the items.
-fn result_text(alloc: Global, items: &Chain<Item>) -> Result<Vec<u8>, AllocError>
+fn result_text(alloc: Global, items: &Chain<Segment>) -> Result<Vec<u8>, AllocError>
     ensures { IfOk result (λ text. text.items
         ≡ text_in (built (events_in (items_of items.now)))) }
 {

@@ -2,7 +2,7 @@
 
 ghost use Rattle.std.specs.Prelude.{◌≡◌, ◌++◌, [], IfOk, None, OnOk, length};
 ghost use Rattle.std.specs.Fmt.{decimal};
-ghost use Rattle.xs_block.specs.Chain.{items_of};
+ghost use Rattle.xs_record.specs.Segment.{items_of};
 ghost use Rattle.xs_answer.specs.Answer.{document_of, fault_line, faultless, file_fault_line};
 ghost use Rattle.xs_answer.specs.Answer.{message_lines as lines_of, name_in, no_pieces};
 ghost use Rattle.xs_answer.specs.Answer.{read_fault, refused_file, reported, result_of};
@@ -19,10 +19,11 @@ use crate::status::{OK, READ_FAULT, REFUSED, RUN_FAULT, USAGE};
 use itoa::Buffer;
 use std::alloc::{AllocError, Global};
 use xs_block::chain::Chain;
+use xs_record::segment::Segment;
 use xs_sheet::declarations::Method;
 use xs_sheet::sheet::Sheet;
 use xs_text::escape_into;
-use xs_trace::item::{Item, Spot};
+use xs_trace::item::Spot;
 use xs_trace::place::Claim;
 use xs_trace::text::TextBuf;
 use xs_words::USAGE as USAGE_LINE;
@@ -154,7 +155,7 @@ pub fn whole_reply(
     method: Method,
     says: &[TextBuf],
     more: &[TextBuf],
-    items: &Chain<Item>,
+    items: &Chain<Segment>,
     ticks: u64,
 ) -> Result<Reply, AllocError>
     ensures answer { IfOk result (λ reply. reply_of reply ≡ record {

@@ -1,10 +1,11 @@
 -- Items that pass what is left of limits, as marks that are recorded.
-use Rattle.std.proofs.Common.{◌≡◌, ◌+◌, ◌-◌, ℕ, zero, suc, List, [], ◌∷◌, ◌++◌, take, Option, Some, None, Result, Ok, Err, Bool, true, false, cond, eqb}
-use Rattle.std.proofs.Common.{nat_lt, nat_le}
-use Rattle.std.proofs.Common.{refl, sym, ap, subst, ◌∙◌, arith, append_assoc, append-nil}
+use Rattle.std.proofs.Common.{◌≡◌, ◌+◌, ◌-◌, ℕ, zero, suc, List, [], ◌∷◌, ◌++◌, length, take, Option, Some, None, Result, Ok, Err, Bool, true, false, cond, eqb}
+use Rattle.std.proofs.Common.{nat_lt, nat_le, ◌<◌, ◌≤◌, min, is_some, IfSome}
+use Rattle.std.proofs.lemmas.Bool.{true≢false}
+use Rattle.std.proofs.Common.{refl, sym, ap, subst, ◌∙◌, arith, append_assoc, append-nil, length-append}
 use Rattle.std.proofs.lemmas.Bool.Decides.{nat_tests}
 use Rattle.xs_trace.specs.Mark.{Tick, Put, Say, Stop, Need, Hole, Trace, ◌⨾◌, ticks, messages_of}
-use Rattle.xs_trace.specs.Cut.{Whole, Fault, Spent, Full}
+use Rattle.xs_trace.specs.Cut.{Whole, Fault, Spent, Full, nowhere}
 use Rattle.xs_trace.specs.State.{All, alone}
 use Rattle.xs_trace.specs.Play.{Told, Ends, goes, and_then, ticked_by, play, IsStep}
 use Rattle.xs_trace.specs.Kept.{marks_of, item_marks}
@@ -19,20 +20,23 @@ use Rattle.xs_trace.specs.declared.recorder.Halt.{Halt}
 use Rattle.xs_trace.specs.declared.recorder.Halt.TheVariants as halt
 use Rattle.xs_trace.proofs.PlayLemmas.{play-ticks, play-then, then-goes}
 use Rattle.xs_trace.proofs.CutLemmas.{then-assoc}
+use Rattle.xs_trace.proofs.KeptLemmas.{some_same}
 use Rattle.xs_record.specs.Store.{pending}
+use Rattle.xs_record.specs.Segment.{joined, run_items, content_items}
+use Rattle.xs_record.specs.declared.segment.Run.{Run}
+use Rattle.xs_record.specs.declared.segment.Content.{Content}
+use Rattle.xs_record.proofs.SegmentLemmas.{joined-more, joined-append}
 use Rattle.xs_assemble.specs.Reading.{site_of, ended_marks}
 use Rattle.xs_assemble.specs.Inline.{Inline, no_inline, inline_in}
 use Rattle.xs_assemble.specs.declared.limit.Limit.{Limit}
 use Rattle.xs_assemble.specs.declared.limit.Walk.{Walk}
-use Rattle.xs_assemble.specs.steps.Passing.{passed, passed_ticks, passed_event, one_more, counted, walked_on, walked}
-use Rattle.xs_assemble.specs.steps.Joining.{state_at, last_items, limit_at, IfLimit, UnlessMemory, JoinsPassed, JoinsFront, Joins, JoinsEnd}
+use Rattle.xs_assemble.specs.steps.Passing.{Walked, PassesAll, IsFront, IsStopped, IsWalk, passed, passed_ticks, passed_event}
+use Rattle.xs_assemble.specs.steps.Passing.{one_more, counted, walked_on, walked, last_items, within, ticks_of, front_items}
+use Rattle.xs_assemble.specs.steps.Joining.{state_at, limit_at, IfLimit, UnlessMemory, JoinsPassed, JoinsFront, Joins, JoinsEnd}
 
 -- ---- the code's walk
 
-pub walk-more : (n : ℕ) (w : Walk) → counted n (one_more w) ≡ counted (n + 1) w
-walk-more n w = let e : n + suc w.count ≡ (n + 1) + w.count = omega arith in ap (λ c. record { count = c; limit = w.limit; end = w.end }) e
-
-pub walk-none : (w : Walk) → counted 0 w ≡ w
+pub walk-none : (w : Walked) → counted 0 w ≡ w
 walk-none w = let e : 0 + w.count ≡ w.count = omega arith in ap (λ c. record { count = c; limit = w.limit; end = w.end }) e
 
 -- ---- marks
@@ -120,7 +124,7 @@ item-recorded (item.Say t) m x = refl
 
 -- ---- what is recorded of items
 
-abbrev walk_recorded : {H : Type 0} → Option Halt → Trace H → List Item → Walk → Told H
+abbrev walk_recorded : {H : Type 0} → Option Halt → Trace H → List Item → Walked → Told H
 walk_recorded None x is w = goes (state_at (x ++ marks_of is) w.limit)
 walk_recorded (Some h) x is w = halted (x ++ marks_of (take w.count is)) w.limit h
 
@@ -131,7 +135,7 @@ walk-recorded {H} (i ∷ is) m x =
     ap (λ (z : Trace H). play z (state_at x m)) (sym (item-then i (marks_of is))) ∙ play-then (item_marks i) (marks_of is) (state_at x m)
     ∙ ap (λ j. and_then j (λ u s. play (marks_of is) s)) (item-recorded i m x) ∙ by (passed i m) (walk-recorded is)
   where
-    more : (o : Option Halt) (n : Walk) → walk_recorded o (x ++ item_marks i) is n ≡ walk_recorded o x (i ∷ is) (one_more n)
+    more : (o : Option Halt) (n : Walked) → walk_recorded o (x ++ item_marks i) is n ≡ walk_recorded o x (i ∷ is) (one_more n)
     more None n = ap (λ y. goes (state_at y n.limit)) (append_assoc x (item_marks i) (marks_of is))
     more (Some h) n = ap (λ y. halted y n.limit h) (append_assoc x (item_marks i) (marks_of (take n.count is)))
 
@@ -151,7 +155,7 @@ walk-recorded {H} (i ∷ is) m x =
 
 -- ---- by what the code answers
 
-joins-front : {H : Type 0} → (is : List Item) (w : Walk) (h : Halt) (xs ys : List Item) → ys ≡ xs ++ (take w.count is ++ last_items w.limit h) →
+joins-front : {H : Type 0} → (is : List Item) (w : Walked) (h : Halt) (xs ys : List Item) → ys ≡ xs ++ (take w.count is ++ last_items w.limit h) →
     (marks_of {H = H} xs ++ marks_of (take w.count is)) ++ marks_of (last_items w.limit h) ≡ marks_of ys
 joins-front is w h xs ys e =
     append_assoc (marks_of xs) (marks_of (take w.count is)) (marks_of (last_items w.limit h))
@@ -338,29 +342,37 @@ never-else is m h e k s = subst (λ (x : Halt). IfLimit x (Unit {0})) (sym s) (s
 
 -- ---- what the code answers
 
-front-same : (is : List Item) (m : Limit) (xs : List Item) (h e : Halt) (ys : List Item) (n : Limit) → (walked is m).end ≡ Some h →
-    (e ≡ h) × JoinsPassed is (walked is m) h xs ys n → ((walked is m).end ≡ Some e) × JoinsPassed is (walked is m) e xs ys n
-front-same is m xs h e ys n k t =
-    subst (λ (x : Halt). ((walked is m).end ≡ Some x) × JoinsPassed is (walked is m) x xs ys n) (sym t.0) (k, t.1)
+front-same : (is front : List Item) (m : Limit) (xs : List Item) (h e : Halt) (ys : List Item) (n : Limit) → (walked is m).end ≡ Some h →
+    front ≡ take (walked is m).count is ++ last_items (walked is m).limit h →
+    (e ≡ h) × ((ys ≡ xs ++ front) × (n ≡ limit_at (walked is m).limit h)) → ((walked is m).end ≡ Some e) × JoinsPassed is (walked is m) e xs ys n
+front-same is front m xs h e ys n k f t =
+    subst (λ (x : Halt). ((walked is m).end ≡ Some x) × JoinsPassed is (walked is m) x xs ys n) (sym t.0) (k, (t.1.0 ∙ ap (λ z. xs ++ z) f, t.1.1))
 
-front-joins : (is : List Item) (m : Limit) (xs : List Item) (h : Halt) (r : Result (Unit {0}) Halt) (ys : List Item) (n : Limit) →
-    (walked is m).end ≡ Some h → JoinsFront is (walked is m) h xs r ys n → Joins is m xs r ys n
-front-joins is m xs h (Ok u) ys n k t = absurd t
-front-joins is m xs h (Err (halt.Spent p)) ys n k t = front-same is m xs h (halt.Spent p) ys n k t
-front-joins is m xs h (Err (halt.Full p)) ys n k t = front-same is m xs h (halt.Full p) ys n k t
-front-joins is m xs h (Err (halt.Fault f p)) ys n k t = never-else is m h (halt.Fault f p) k t.0
-front-joins is m xs h (Err (halt.Needs g p)) ys n k t = never-else is m h (halt.Needs g p) k t.0
-front-joins is m xs h (Err (halt.Over u)) ys n k t = never-else is m h (halt.Over u) k t.0
-front-joins is m xs h (Err halt.NoMemory) ys n k t = tt
+front-joins : (is front : List Item) (m : Limit) (xs : List Item) (h : Halt) (r : Result (Unit {0}) Halt) (ys : List Item) (n : Limit) →
+    (walked is m).end ≡ Some h → front ≡ take (walked is m).count is ++ last_items (walked is m).limit h →
+    JoinsFront front (walked is m).limit h xs r ys n → Joins is m xs r ys n
+front-joins is front m xs h (Ok u) ys n k f t = absurd t
+front-joins is front m xs h (Err (halt.Spent p)) ys n k f t = front-same is front m xs h (halt.Spent p) ys n k f t
+front-joins is front m xs h (Err (halt.Full p)) ys n k f t = front-same is front m xs h (halt.Full p) ys n k f t
+front-joins is front m xs h (Err (halt.Fault g p)) ys n k f t = never-else is m h (halt.Fault g p) k t.0
+front-joins is front m xs h (Err (halt.Needs g p)) ys n k f t = never-else is m h (halt.Needs g p) k t.0
+front-joins is front m xs h (Err (halt.Over u)) ys n k f t = never-else is m h (halt.Over u) k t.0
+front-joins is front m xs h (Err halt.NoMemory) ys n k f t = tt
 
-pub joins-part : (is : List Item) (m : Limit) (xs : List Item) (w : Walk) (h : Halt) (r : Result (Unit {0}) Halt) (ys : List Item) (n : Limit) →
-    w ≡ walked is m → w.end ≡ Some h → JoinsFront is w h xs r ys n → Joins is m xs r ys n
-joins-part is m xs w h r ys n e k t =
-    front-joins is m xs h r ys n (ap (λ (x : Walk). x.end) (sym e) ∙ k) (subst (λ (x : Walk). JoinsFront is x h xs r ys n) e t)
+-- what a walk over segments says of its front, where it has an end
+front-of : (ss : List (List Item)) (m : Limit) (w : Walk) (h : Halt) → IsWalk ss m w → w.end ≡ Some h → IsFront ss m w h
+front-of ss m w h i k = subst (λ (o : Option Halt). IfSome o (IsFront ss m w)) k i.front
 
-pub joins-whole : (is : List Item) (m : Limit) (xs : List Item) (w : Walk) (u : Unit {0}) (ys : List Item) (n : Limit) →
-    w ≡ walked is m → w.end ≡ None → ys ≡ xs ++ is → n ≡ w.limit → Joins is m xs (Ok u) ys n
-joins-whole is m xs w u ys n e k a b = (ap (λ (x : Walk). x.end) (sym e) ∙ k, (a, b ∙ ap (λ (x : Walk). x.limit) e))
+pub joins-part : (ss : List (List Item)) (m : Limit) (xs : List Item) (w : Walk) (h : Halt) (r : Result (Unit {0}) Halt) (ys : List Item) (n : Limit) →
+    IsWalk ss m w → w.end ≡ Some h → JoinsFront (front_items ss w) w.limit h xs r ys n → Joins (joined ss) m xs r ys n
+joins-part ss m xs w h r ys n i k t =
+    front-joins (joined ss) (front_items ss w) m xs h r ys n (i.end ∙ k)
+    (front-of ss m w h i k ∙ ap (λ (l : Limit). take (walked (joined ss) m).count (joined ss) ++ last_items l h) (sym i.limit))
+    (subst (λ (l : Limit). JoinsFront (front_items ss w) l h xs r ys n) (sym i.limit) t)
+
+pub joins-whole : (ss : List (List Item)) (m : Limit) (xs : List Item) (w : Walk) (u : Unit {0}) (ys : List Item) (n : Limit) →
+    IsWalk ss m w → w.end ≡ None → ys ≡ xs ++ joined ss → n ≡ w.limit → Joins (joined ss) m xs (Ok u) ys n
+joins-whole ss m xs w u ys n i k a b = (i.end ∙ k, (a, b ∙ sym i.limit))
 
 unless-any : (h : Halt) (P : Type 0) → P → UnlessMemory h P
 unless-any (halt.Spent p) P x = x
@@ -370,9 +382,10 @@ unless-any (halt.Needs g p) P x = x
 unless-any (halt.Over t) P x = x
 unless-any halt.NoMemory P x = tt
 
-pub fronts : (is : List Item) (w : Walk) (h : Halt) (xs mid ys : List Item) (n : Limit) → mid ≡ take w.count is ++ last_items w.limit h → ys ≡ xs ++ mid →
-    n ≡ limit_at w.limit h → JoinsFront is w h xs (Err h) ys n
-fronts is w h xs mid ys n a b c = unless-any h ((h ≡ h) × JoinsPassed is w h xs ys n) (refl, (b ∙ ap (λ z. xs ++ z) a, c))
+pub fronts : (front : List Item) (m : Limit) (h : Halt) (xs mid ys : List Item) (n : Limit) → mid ≡ front → ys ≡ xs ++ mid →
+    n ≡ limit_at m h → JoinsFront front m h xs (Err h) ys n
+fronts front m h xs mid ys n a b c =
+    unless-any h ((h ≡ h) × ((ys ≡ xs ++ front) × (n ≡ limit_at m h))) (refl, (b ∙ ap (λ z. xs ++ z) a, c))
 
 pub no-room : (n : ℕ) (m : Limit) → n ≡ 0 → Err (halt.Full m.at) ≡ passed_event (Some n) m
 no-room zero m e = refl
@@ -382,36 +395,237 @@ pub some-room : (n : ℕ) (m : Limit) → (n ≡ 0 → ⊥) → Ok (record { at 
 some-room zero m h = absurd (h refl)
 some-room (suc n) m h = let e : suc n - 1 ≡ n = omega arith in ap (λ k. Ok (record { at = m.at; left = m.left; room = Some k })) e
 
-pub no-ticks : (xs : List Item) (p : Site) (n : ℕ) → n ≡ 0 → xs ≡ xs ++ pending p n
-no-ticks xs p zero e = sym (append-nil xs)
-no-ticks xs p (suc n) e = absurd (omega (arith, e))
+pub no-ticks : (xs : List Item) (r : Run) → r.ticks ≡ 0 → xs ≡ xs ++ run_items r
+no-ticks xs r e = sym (append-nil xs) ∙ ap (λ n. xs ++ pending r.site n) (sym e)
 
-pub some-ticks : (xs ys : List Item) (p : Site) (n : ℕ) → (n ≡ 0 → ⊥) → ys ≡ xs ++ item.Run p.«module» p.line n ∷ [] → ys ≡ xs ++ pending p n
-some-ticks xs ys p zero h e = absurd (h refl)
-some-ticks xs ys p (suc n) h e = e
+-- ---- items of segments that pass
 
-pub walk-begins : (all is : List Item) (s : Limit) → is ≡ all → walked all s ≡ counted 0 (walked is s)
-walk-begins all is s e = ap (λ (x : List Item). walked x s) (sym e) ∙ sym (walk-none (walked is s))
+counted-more : (a b : ℕ) (w : Walked) → counted a (counted b w) ≡ counted (a + b) w
+counted-more a b w = let e : a + (b + w.count) ≡ (a + b) + w.count = omega arith in ap (λ c. record { count = c; limit = w.limit; end = w.end }) e
 
--- an item more has passed, or it has not
-pub walk-on : (all is rest : List Item) (i : Item) (s m n : Limit) (c d : ℕ) → walked all s ≡ counted c (walked is m) → is ≡ i ∷ rest → passed i m ≡ Ok n →
-    d ≡ c + 1 → walked all s ≡ counted d (walked rest n)
-walk-on all is rest i s m n c d e f g h =
-    e ∙ ap (λ (x : List Item). counted c (walked x m)) f ∙ ap (λ r. counted c (walked_on r m (walked rest))) g ∙ walk-more c (walked rest n)
-    ∙ ap (λ k. counted k (walked rest n)) (sym h)
+counted-one : (n : ℕ) (w : Walked) → one_more (counted n w) ≡ counted (suc n) w
+counted-one n w = let e : suc (n + w.count) ≡ suc n + w.count = omega arith in ap (λ c. record { count = c; limit = w.limit; end = w.end }) e
 
-pub walk-stops : (all is rest : List Item) (i : Item) (s m : Limit) (h : Halt) (c : ℕ) → walked all s ≡ counted c (walked is m) → is ≡ i ∷ rest →
-    passed i m ≡ Err h → record { count = c; limit = m; end = Some h } ≡ walked all s
-walk-stops all is rest i s m h c e f g =
-    let z : c ≡ c + 0 = omega arith in
-    ap (λ k. record { count = k; limit = m; end = Some h }) z
-    ∙ sym (e ∙ ap (λ (x : List Item). counted c (walked x m)) f ∙ ap (λ r. counted c (walked_on r m (walked rest))) g)
+none-some : (h : Halt) → None ≡ Some h → ⊥
+none-some h e = true≢false (sym (ap (λ (o : Option Halt). is_some o) e))
 
-pub walk-done : (all is : List Item) (s m : Limit) (c : ℕ) → walked all s ≡ counted c (walked is m) → is ≡ [] →
-    record { count = c; limit = m; end = None } ≡ walked all s
-walk-done all is s m c e f =
-    let z : c ≡ c + 0 = omega arith in
-    ap (λ k. record { count = k; limit = m; end = None }) z ∙ sym (e ∙ ap (λ (x : List Item). counted c (walked x m)) f)
+-- items that all pass, and others after them
+walked-append : (xs ys : List Item) (m : Limit) → (walked xs m).end ≡ None →
+    walked (xs ++ ys) m ≡ counted (length xs) (walked ys (walked xs m).limit)
+walked-append [] ys m h = sym (walk-none (walked ys m))
+walked-append (i ∷ is) ys m h = by (passed i m) h (walked-append is ys)
+  where
+    by : (r : Result Limit Halt) → (walked_on r m (walked is)).end ≡ None →
+        ((n : Limit) → (walked is n).end ≡ None → walked (is ++ ys) n ≡ counted (length is) (walked ys (walked is n).limit)) →
+        walked_on r m (walked (is ++ ys)) ≡ counted (suc (length is)) (walked ys (walked_on r m (walked is)).limit)
+    by (Ok n) e f = ap one_more (f n e) ∙ counted-one (length is) (walked ys (walked is n).limit)
+    by (Err k) e f = absurd (none-some k (sym e))
+
+-- items that do not all pass: what follows them is not reached
+walked-front : (xs ys : List Item) (m : Limit) (h : Halt) → (walked xs m).end ≡ Some h → walked (xs ++ ys) m ≡ walked xs m
+walked-front [] ys m h e = absurd (none-some h e)
+walked-front (i ∷ is) ys m h e = by (passed i m) e (λ n. walked-front is ys n h)
+  where
+    by : (r : Result Limit Halt) → (walked_on r m (walked is)).end ≡ Some h → ((n : Limit) → (walked is n).end ≡ Some h → walked (is ++ ys) n ≡ walked is n) →
+        walked_on r m (walked (is ++ ys)) ≡ walked_on r m (walked is)
+    by (Ok n) k f = ap one_more (f n k)
+    by (Err j) k f = refl
+
+-- no more pass than there are
+walked-few : (xs : List Item) (m : Limit) → (walked xs m).count ≤ length xs
+walked-few [] m = omega arith
+walked-few (i ∷ is) m = by (passed i m) (walked-few is)
+  where
+    by : (r : Result Limit Halt) → ((n : Limit) → (walked is n).count ≤ length is) → (walked_on r m (walked is)).count ≤ suc (length is)
+    by (Ok n) f = let e : (walked is n).count ≤ length is = f n in omega (arith, e)
+    by (Err j) f = omega arith
+
+take-front : (n : ℕ) (xs ys : List Item) → n ≤ length xs → take n (xs ++ ys) ≡ take n xs
+take-front zero xs ys h = refl
+take-front (suc n) [] ys h = absurd (omega (arith, h))
+take-front (suc n) (x ∷ xs) ys h = ap (λ z. x ∷ z) (take-front n xs ys (omega (arith, h)))
+
+take-after : (xs ys : List Item) (n : ℕ) → take (length xs + n) (xs ++ ys) ≡ xs ++ take n ys
+take-after [] ys n = let e : 0 + n ≡ n = omega arith in ap (λ k. take k ys) e
+take-after (x ∷ xs) ys n =
+    let e : suc (length xs) + n ≡ suc (length xs + n) = omega arith in
+    ap (λ k. take k (x ∷ (xs ++ ys))) e ∙ ap (λ z. x ∷ z) (take-after xs ys n)
+
+take-whole : {A : Type 0} (xs ys : List A) → take (length xs) (xs ++ ys) ≡ xs
+take-whole [] ys = refl
+take-whole (x ∷ xs) ys = ap (λ z. x ∷ z) (take-whole xs ys)
+
+-- ticks at a place and items after them, of which not all pass: those ticks that do, and what passes of the items
+cut-run : (p : Site) (n : ℕ) (is : List Item) (rest : ℕ → List Item) (m : Limit) (h : Halt) → rest 0 ≡ [] →
+    ((k : Limit) → (walked is k).end ≡ Some h → rest k.left ≡ take (walked is k).count is ++ last_items (walked is k).limit h) →
+    (walked (pending p n ++ is) m).end ≡ Some h →
+    pending p (min n m.left) ++ rest (m.left - min n m.left) ≡
+    take (walked (pending p n ++ is) m).count (pending p n ++ is) ++ last_items (walked (pending p n ++ is) m).limit h
+cut-run p zero is rest m h z f e =
+    let a : min 0 m.left ≡ 0 = omega arith in
+    let b : m.left - min 0 m.left ≡ m.left = omega arith in
+    ap (λ k. pending p k ++ rest (m.left - min 0 m.left)) a ∙ ap rest b ∙ f m e
+cut-run p (suc n) is rest m h z f e =
+    let q : eqb (suc n) 0 ≡ false = grind (arith, nat_tests) in
+    let Of : Bool → Walked = λ b. walked_on (cond b (Ok m) (passed_ticks p (suc n) m)) m (walked is) in
+    by (nat_lt m.left (suc n)) refl (ap (λ b. (Of b).end) (sym q) ∙ e)
+    ∙ ap (λ b. take (Of b).count (item.Run p.«module» p.line (suc n) ∷ is) ++ last_items (Of b).limit h) (sym q)
+  where
+    After : Limit
+    After = record { at = p; left = m.left - suc n; room = m.room }
+
+    On : Bool → Walked
+    On b = walked_on (cond b (Err (halt.Spent p)) (Ok After)) m (walked is)
+
+    by : (b : Bool) → nat_lt m.left (suc n) ≡ b → (On (nat_lt m.left (suc n))).end ≡ Some h →
+        pending p (min (suc n) m.left) ++ rest (m.left - min (suc n) m.left) ≡
+        take (On (nat_lt m.left (suc n))).count (item.Run p.«module» p.line (suc n) ∷ is) ++ last_items (On (nat_lt m.left (suc n))).limit h
+    by true t e =
+        let l : m.left < suc n = grind (arith, nat_tests, t) in
+        let a : min (suc n) m.left ≡ m.left = omega (arith, l) in
+        let b : m.left - min (suc n) m.left ≡ 0 = omega (arith, l) in
+        let s : halt.Spent p ≡ h = some_same (ap (λ x. (On x).end) (sym t) ∙ e) in
+        ap (λ k. pending p k ++ rest (m.left - min (suc n) m.left)) a ∙ ap (λ k. pending p m.left ++ rest k) b ∙ ap (λ x. pending p m.left ++ x) z
+        ∙ append-nil (pending p m.left) ∙ ap (λ x. last_items m x) s
+        ∙ ap (λ x. take (On x).count (item.Run p.«module» p.line (suc n) ∷ is) ++ last_items (On x).limit h) (sym t)
+    by false t e =
+        let l : suc n ≤ m.left = grind (arith, nat_tests, t) in
+        let a : min (suc n) m.left ≡ suc n = omega (arith, l) in
+        let b : m.left - min (suc n) m.left ≡ m.left - suc n = omega (arith, l) in
+        ap (λ k. pending p k ++ rest (m.left - min (suc n) m.left)) a ∙ ap (λ k. pending p (suc n) ++ rest k) b
+        ∙ ap (λ x. item.Run p.«module» p.line (suc n) ∷ x) (f After (ap (λ x. (On x).end) (sym t) ∙ e))
+        ∙ ap (λ x. take (On x).count (item.Run p.«module» p.line (suc n) ∷ is) ++ last_items (On x).limit h) (sym t)
+
+-- of an item that does not pass, the ticks that do
+cut-last : (i : Item) (m : Limit) (h : Halt) → (walked (i ∷ []) m).end ≡ Some h →
+    run_items (within (ticks_of i) m.left) ≡ take (walked (i ∷ []) m).count (i ∷ []) ++ last_items (walked (i ∷ []) m).limit h
+cut-last (item.Run a l zero) m h e =
+    let q : eqb zero 0 ≡ true = grind (arith, nat_tests) in
+    absurd (none-some h (ap (λ b. (walked_on (cond b (Ok m) (passed_ticks (record { «module» = a; line = l }) zero m)) m (walked [])).end) (sym q) ∙ e))
+cut-last (item.Run a l (suc n)) m h e =
+    sym (append-nil (pending (record { «module» = a; line = l }) (min (suc n) m.left)))
+    ∙ cut-run (record { «module» = a; line = l }) (suc n) [] (λ left. []) m h refl (λ k d. absurd (none-some h d)) e
+cut-last (item.Say t) m h e = absurd (none-some h e)
+cut-last (item.Put v) m h e =
+    let z : min 0 m.left ≡ 0 = omega arith in
+    ap (pending nowhere) z ∙ by m.room e
+  where
+    On : Option ℕ → Walked
+    On o = walked_on (passed_event o m) m (walked [])
+
+    by : (o : Option ℕ) → (On o).end ≡ Some h → [] ≡ take (On o).count (item.Put v ∷ []) ++ last_items (On o).limit h
+    by None k = absurd (none-some h k)
+    by (Some zero) k = ap (last_items m) (some_same k)
+    by (Some (suc n)) k = absurd (none-some h k)
+
+own-none : (i : Item) → run_items (within (ticks_of i) 0) ≡ []
+own-none i = let z : min (ticks_of i).ticks 0 ≡ 0 = omega arith in ap (λ k. pending (ticks_of i).site k) z
+
+-- the ticks that pass of a segment that does not pass whole
+pub cut-items : (c : Content) (m : Limit) (h : Halt) → (walked (content_items c) m).end ≡ Some h →
+    run_items (within c.first m.left) ++ (run_items (within c.last (m.left - (within c.first m.left).ticks)) ++
+    run_items (within (ticks_of c.item.now) ((m.left - (within c.first m.left).ticks) -
+    (within c.last (m.left - (within c.first m.left).ticks)).ticks))) ≡
+    take (walked (content_items c) m).count (content_items c) ++ last_items (walked (content_items c) m).limit h
+cut-items c m h e =
+    cut-run c.first.site c.first.ticks (run_items c.last ++ c.item.now ∷ [])
+    (λ left. run_items (within c.last left) ++ run_items (within (ticks_of c.item.now) (left - (within c.last left).ticks))) m h none
+    (λ k d. cut-run c.last.site c.last.ticks (c.item.now ∷ []) (λ left. run_items (within (ticks_of c.item.now) left)) k h (own-none c.item.now)
+    (λ l t. cut-last c.item.now l h t) d) e
+  where
+    none : run_items (within c.last 0) ++ run_items (within (ticks_of c.item.now) (0 - (within c.last 0).ticks)) ≡ []
+    none =
+        let z : min c.last.ticks 0 ≡ 0 = omega arith in
+        let y : 0 - min c.last.ticks 0 ≡ 0 = omega arith in
+        ap (λ k. pending c.last.site k ++ run_items (within (ticks_of c.item.now) (0 - min c.last.ticks 0))) z
+        ∙ ap (λ k. run_items (within (ticks_of c.item.now) k)) y ∙ own-none c.item.now
+
+-- so many segments have passed whole, and how far those that are left do
+pub record Passing (all left : List (List Item)) (s m : Limit) (n : ℕ) : Type 0 where
+  pub whole : List (List Item)
+  pub count : length whole ≡ n
+  pub split : all ≡ whole ++ left
+  pub walk : walked (joined all) s ≡ counted (length (joined whole)) (walked (joined left) m)
+
+pub passing-begins : (all left : List (List Item)) (s : Limit) → left ≡ all → Passing all left s s 0
+passing-begins all left s e = record {
+  whole = [];
+  count = refl;
+  split = sym e;
+  walk = ap (λ ss. walked (joined ss) s) (sym e) ∙ sym (walk-none (walked (joined left) s));
+}
+
+pub passing-on : (all left rest : List (List Item)) (is : List Item) (s m n : Limit) (c d : ℕ) → Passing all left s m c → left ≡ is ∷ rest →
+    PassesAll is None m n → d ≡ c + 1 → Passing all rest s n d
+passing-on all left rest is s m n c d p e g h = record {
+  whole = p.whole ++ is ∷ [];
+  count = length-append p.whole (is ∷ []) ∙ ap (λ k. k + 1) p.count ∙ sym h;
+  split = p.split ∙ ap (λ ss. p.whole ++ ss) e ∙ sym (append_assoc p.whole (is ∷ []) rest);
+  walk = p.walk ∙ ap (λ ss. counted (length (joined p.whole)) (walked (joined ss) m)) e
+      ∙ ap (counted (length (joined p.whole))) (walked-append is (joined rest) m g.end
+      ∙ ap (λ (l : Limit). counted (length is) (walked (joined rest) l)) g.limit)
+      ∙ counted-more (length (joined p.whole)) (length is) (walked (joined rest) n)
+      ∙ ap (λ k. counted k (walked (joined rest) n)) (sym (ap length (joined-more p.whole is) ∙ length-append (joined p.whole) is));
+}
+
+pub passing-done : (all left : List (List Item)) (s m : Limit) (c : ℕ) (w : Walk) → Passing all left s m c → left ≡ [] →
+    w.limit ≡ m → w.end ≡ None → IsWalk all s w
+passing-done all left s m c w p e f g =
+    let k : walked (joined all) s ≡ counted (length (joined p.whole)) (walked [] m) =
+    p.walk ∙ ap (λ ss. counted (length (joined p.whole)) (walked (joined ss) m)) e in
+    record {
+      end = ap (λ (x : Walked). x.end) k ∙ sym g;
+      limit = ap (λ (x : Walked). x.limit) k ∙ sym f;
+      front = subst (λ (o : Option Halt). IfSome o (IsFront all s w)) (sym g) tt;
+    }
+
+pub passing-stops : (all left rest : List (List Item)) (is : List Item) (s m n : Limit) (h : Halt) (c : ℕ) (w : Walk) → Passing all left s m c →
+    left ≡ is ∷ rest → PassesAll is (Some h) m n → w.count ≡ c → w.limit ≡ n → w.end ≡ Some h →
+    run_items w.first ++ (run_items w.last ++ run_items w.own) ≡ take (walked is m).count is ++ last_items (walked is m).limit h → IsWalk all s w
+passing-stops all left rest is s m n h c w p e g a f b r =
+    let k : walked (joined all) s ≡ counted (length (joined p.whole)) (walked is m) =
+    p.walk ∙ ap (λ ss. counted (length (joined p.whole)) (walked (joined ss) m)) e
+    ∙ ap (counted (length (joined p.whole))) (walked-front is (joined rest) m h g.end) in
+    let j : joined all ≡ joined p.whole ++ (is ++ joined rest) = ap joined p.split ∙ joined-append p.whole left ∙ ap (λ ss. joined p.whole ++ joined ss) e in
+    let t : take (walked (joined all) s).count (joined all) ≡ joined p.whole ++ take (walked is m).count is =
+    ap (λ (x : Walked). take x.count (joined all)) k ∙ ap (take (length (joined p.whole) + (walked is m).count)) j
+    ∙ take-after (joined p.whole) (is ++ joined rest) (walked is m).count
+    ∙ ap (λ z. joined p.whole ++ z) (take-front (walked is m).count is (joined rest) (walked-few is m)) in
+    let q : take w.count all ≡ p.whole = ap (λ i. take i all) (a ∙ sym p.count) ∙ ap (take (length p.whole)) p.split ∙ take-whole p.whole left in
+    let z : IsFront all s w h =
+    append_assoc (joined (take w.count all) ++ run_items w.first) (run_items w.last) (run_items w.own)
+    ∙ append_assoc (joined (take w.count all)) (run_items w.first) (run_items w.last ++ run_items w.own)
+    ∙ ap (λ ss. joined ss ++ (run_items w.first ++ (run_items w.last ++ run_items w.own))) q ∙ ap (λ x. joined p.whole ++ x) r
+    ∙ sym (append_assoc (joined p.whole) (take (walked is m).count is) (last_items (walked is m).limit h))
+    ∙ ap (λ x. x ++ last_items (walked is m).limit h) (sym t)
+    ∙ ap (λ (l : Limit). take (walked (joined all) s).count (joined all) ++ last_items l h) (g.limit ∙ sym f) in
+    record {
+      end = ap (λ (x : Walked). x.end) k ∙ g.end ∙ sym b;
+      limit = ap (λ (x : Walked). x.limit) k ∙ g.limit ∙ sym f;
+      front = subst (λ (o : Option Halt). IfSome o (IsFront all s w)) (sym b) z;
+    }
+
+-- the same by what is in the segment
+pub content-on : (all left rest : List (List Item)) (c : Content) (is : List Item) (s m n : Limit) (k d : ℕ) → Passing all left s m k → left ≡ is ∷ rest →
+    content_items c ≡ is → PassesAll (content_items c) None m n → d ≡ k + 1 → Passing all rest s n d
+content-on all left rest c is s m n k d p e f g h = passing-on all left rest is s m n k d p e (subst (λ xs. PassesAll xs None m n) f g) h
+
+pub stops-in : (all left rest : List (List Item)) (c : Content) (is : List Item) (s m n : Limit) (h : Halt) (k : ℕ) (w : Walk) → Passing all left s m k →
+    left ≡ is ∷ rest → content_items c ≡ is → PassesAll (content_items c) (Some h) m n → IsStopped k n h c m.left w → IsWalk all s w
+stops-in all left rest c is s m n h k w p e f g i =
+    passing-stops all left rest is s m n h k w p e (subst (λ xs. PassesAll xs (Some h) m n) f g) i.count_is i.limit i.end
+    (ap (λ r. run_items r ++ (run_items w.last ++ run_items w.own)) i.first
+    ∙ ap (λ r. run_items (within c.first m.left) ++ (run_items r ++ run_items w.own)) last
+    ∙ ap (λ r. run_items (within c.first m.left) ++ (run_items (within c.last (m.left - (within c.first m.left).ticks)) ++ run_items r)) own
+    ∙ cut-items c m h g.end ∙ ap (λ xs. take (walked xs m).count xs ++ last_items (walked xs m).limit h) f)
+  where
+    last : w.last ≡ within c.last (m.left - (within c.first m.left).ticks)
+    last = i.last ∙ ap (λ (r : Run). within c.last (m.left - r.ticks)) i.first
+
+    own : w.own ≡ within (ticks_of c.item.now) ((m.left - (within c.first m.left).ticks) - (within c.last (m.left - (within c.first m.left).ticks)).ticks)
+    own =
+        i.own ∙ ap (λ (r : Run). within (ticks_of c.item.now) ((m.left - r.ticks) - w.last.ticks)) i.first
+        ∙ ap (λ (r : Run). within (ticks_of c.item.now) ((m.left - (within c.first m.left).ticks) - r.ticks)) last
 
 -- ---- messages
 
@@ -424,16 +638,8 @@ messages-join (Stop f p ∷ x) y = messages-join x y
 messages-join (Need g p ∷ x) y = messages-join x y
 messages-join (Hole k ∷ x) y = messages-join x y
 
-pub says-on : (before after all : List (List ℕ)) (i : Item) (left rest : List Item) → before ++ messages_of {H = ℕ} (marks_of left) ≡ all → left ≡ i ∷ rest →
-    after ≡ before ++ messages_of {H = ℕ} (item_marks i) → after ++ messages_of {H = ℕ} (marks_of rest) ≡ all
-says-on before after all i left rest e f g =
-    ap (λ z. z ++ messages_of {H = ℕ} (marks_of rest)) g
-    ∙ append_assoc before (messages_of {H = ℕ} (item_marks i)) (messages_of {H = ℕ} (marks_of rest))
-    ∙ ap (λ z. before ++ z) (sym (messages-join (item_marks i) (marks_of rest)))
-    ∙ ap (λ (is : List Item). before ++ messages_of {H = ℕ} (marks_of is)) (sym f) ∙ e
-
-pub says-end : (says all : List (List ℕ)) (left : List Item) → says ++ messages_of {H = ℕ} (marks_of left) ≡ all → left ≡ [] → says ≡ all
-says-end says all left e f = sym (append-nil says) ∙ ap (λ (is : List Item). says ++ messages_of {H = ℕ} (marks_of is)) (sym f) ∙ e
+pub says-end : (says all : List (List ℕ)) (left : List (List Item)) → says ++ messages_of {H = ℕ} (marks_of (joined left)) ≡ all → left ≡ [] → says ≡ all
+says-end says all left e f = sym (append-nil says) ∙ ap (λ (ss : List (List Item)). says ++ messages_of {H = ℕ} (marks_of (joined ss))) (sym f) ∙ e
 
 no-says : (p : Site) (n : ℕ) → messages_of {H = ℕ} (ticks p n []) ≡ []
 no-says p zero = refl
@@ -443,3 +649,29 @@ pub says-nothing : (xs : List (List ℕ)) (i : Item) (m l n : ℕ) → i ≡ ite
 says-nothing xs i m l n e =
     sym (append-nil xs) ∙ ap (λ z. xs ++ z) (sym (no-says (record { «module» = m; line = l }) n))
     ∙ ap (λ (k : Item). xs ++ messages_of {H = ℕ} (item_marks k)) (sym e)
+
+-- ticks say nothing
+run-says : (r : Run) → messages_of {H = ℕ} (marks_of (run_items r)) ≡ []
+run-says r = ap (λ (x : Trace ℕ). messages_of x) (marks-pending r.site r.ticks) ∙ no-says r.site r.ticks
+
+-- what a segment says is what its item does
+content-says : (c : Content) → messages_of {H = ℕ} (marks_of (content_items c)) ≡ messages_of {H = ℕ} (item_marks c.item.now)
+content-says c =
+    after c.first (run_items c.last ++ c.item.now ∷ []) ∙ after c.last (c.item.now ∷ [])
+    ∙ ap (λ (x : Trace ℕ). messages_of x) (append-nil (item_marks c.item.now))
+  where
+    after : (r : Run) (is : List Item) → messages_of {H = ℕ} (marks_of (run_items r ++ is)) ≡ messages_of {H = ℕ} (marks_of is)
+    after r is =
+        ap (λ (x : Trace ℕ). messages_of x) (marks-join (run_items r) is) ∙ messages-join (marks_of (run_items r)) (marks_of is)
+        ∙ ap (λ z. z ++ messages_of {H = ℕ} (marks_of is)) (run-says r)
+
+pub says-on : (before after all : List (List ℕ)) (c : Content) (is : List Item) (left rest : List (List Item)) →
+    before ++ messages_of {H = ℕ} (marks_of (joined left)) ≡ all → left ≡ is ∷ rest → content_items c ≡ is →
+    after ≡ before ++ messages_of {H = ℕ} (item_marks c.item.now) → after ++ messages_of {H = ℕ} (marks_of (joined rest)) ≡ all
+says-on before after all c is left rest e f k g =
+    ap (λ z. z ++ messages_of {H = ℕ} (marks_of (joined rest))) (g ∙ ap (λ z. before ++ z) (sym (content-says c)
+    ∙ ap (λ (xs : List Item). messages_of {H = ℕ} (marks_of xs)) k))
+    ∙ append_assoc before (messages_of {H = ℕ} (marks_of is)) (messages_of {H = ℕ} (marks_of (joined rest)))
+    ∙ ap (λ z. before ++ z) (sym (messages-join (marks_of is) (marks_of (joined rest))))
+    ∙ ap (λ (x : Trace ℕ). before ++ messages_of x) (sym (marks-join is (joined rest)))
+    ∙ ap (λ (ss : List (List Item)). before ++ messages_of {H = ℕ} (marks_of (joined ss))) (sym f) ∙ e

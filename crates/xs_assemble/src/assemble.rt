@@ -12,7 +12,8 @@ ghost use Rattle.xs_assemble.specs.Reading.{read, whole_at, Finds};
 ghost use Rattle.xs_assemble.specs.steps.Joining.{IsEnding, IsEndOf};
 ghost use Rattle.xs_assemble.specs.steps.Work.{seen, work_blocks, Ends};
 ghost use Rattle.xs_assemble.specs.steps.Work.{IsEntering, IsSorted, Known};
-ghost use Rattle.xs_block.specs.Chain.{blocks_of, items_of};
+ghost use Rattle.xs_block.specs.Chain.{blocks_of};
+ghost use Rattle.xs_record.specs.Segment.{items_of};
 ghost use Rattle.xs_pieces.specs.Collection.{IsCollection};
 ghost use Rattle.xs_pieces.specs.Ready.{IsReady};
 ghost use Rattle.xs_record.specs.declared.outcome.Outcome.{Outcome};
@@ -34,8 +35,9 @@ use xs_block::chain::Chain;
 use xs_block::pool::Pool;
 use xs_pieces::piece::{Collected, Piece};
 use xs_pieces::runner::Runner;
+use xs_record::segment::Segment;
 use xs_trace::fault::Fault;
-use xs_trace::item::{Item, Limits, Site, Spot};
+use xs_trace::item::{Limits, Site, Spot};
 use xs_trace::place::{Place, compare_places};
 use xs_trace::recorder::Halt;
 use xs_trace::text::TextBuf;
@@ -48,7 +50,7 @@ pub fn assemble<R: Runner>(
     runner: &R,
     collected: Collected<R::Task>,
     limits: Limits,
-    pool: &mut Pool<Item>,
+    pool: &mut Pool<Segment>,
 ) -> Result<Assembled, AllocError>
     requires ready { IsReady (R.is_own runner.now) (R.place_of runner.now) (R.own runner.now)
         (R.whole runner.now) }
@@ -142,7 +144,7 @@ fn compare_pieces<R: Runner>(runner: &R, a: &Piece<R::Task>, b: &Piece<R::Task>)
 fn assemble_root<R: Runner>(
     runner: &R,
     alloc: Global,
-    pool: &mut Pool<Item>,
+    pool: &mut Pool<Segment>,
     work: &mut Work<R::Task>,
 ) -> Result<(), Halt>
     requires ready { IsReady (R.is_own runner.now) (R.place_of runner.now) (R.own runner.now)
@@ -173,7 +175,7 @@ struct Conclusion {
 fn conclude(
     alloc: Global,
     ending: Result<(), Halt>,
-    items: &Chain<Item>,
+    items: &Chain<Segment>,
 ) -> Result<Conclusion, AllocError>
     requires ended { IsEnding ending }
     ensures end { IfOk result (λ c. IsEndOf ending c.end) }

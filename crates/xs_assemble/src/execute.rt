@@ -18,7 +18,8 @@ use xs_pieces::piece::Collected;
 use xs_pieces::runner::PieceRunner;
 use xs_pool::sequential::run_all;
 use xs_pool::sole::SoleTotal;
-use xs_trace::item::{Item, Limits};
+use xs_record::segment::Segment;
+use xs_trace::item::Limits;
 use xs_trace::place::compare_places;
 
 /// Runs a task in pieces, and joins what they did: all that the task does, cut at the limits.
@@ -27,7 +28,7 @@ pub fn execute<R: PieceRunner<SoleTotal>>(
     runner: &R,
     root: R::Task,
     limits: Limits,
-    pool: &mut Pool<Item>,
+    pool: &mut Pool<Segment>,
 ) -> Result<Executed, AllocError>
     requires ready { IsReady (R.is_own runner.now) (R.place_of runner.now) (R.own runner.now)
         (R.whole runner.now) }

@@ -3,17 +3,18 @@
 ghost use Rattle.std.specs.Prelude.{◌≡◌, ◌+◌, ◌≤◌, ◌++◌, ◌∷◌, [], OnOk, true};
 ghost use Rattle.xs_assemble.specs.Blocks.{Keeps};
 ghost use Rattle.xs_assemble.specs.Reading.{site_of};
-ghost use Rattle.xs_assemble.specs.steps.Joining.{last_items, limit_at, Joins};
-ghost use Rattle.xs_assemble.specs.steps.Joining.{JoinsEnd, JoinsFront};
-ghost use Rattle.xs_block.specs.Chain.{blocks_of, items_of};
+ghost use Rattle.xs_assemble.specs.steps.Joining.{limit_at, Joins};
+ghost use Rattle.xs_assemble.specs.steps.Joining.{JoinsEnd, JoinsFront, walked_items};
+ghost use Rattle.xs_block.specs.Chain.{blocks_of};
+ghost use Rattle.xs_record.specs.Segment.{items_of, run_items};
 ghost use Rattle.xs_pieces.specs.Collection.{is_done};
-ghost use Rattle.xs_record.specs.Store.{pending};
 ghost use Rattle.xs_trace.specs.Cut.{nowhere};
 
 use crate::limit::{Limit, Walk};
 use std::alloc::{AllocError, Global};
 use xs_block::chain::{Chain, append_chain};
 use xs_block::pool::Pool;
+use xs_record::segment::{Run, Segment};
 use xs_trace::event::Event;
 use xs_trace::item::{Ended, Item, Limits, Site, Spot};
 use xs_trace::recorder::Halt;
@@ -21,7 +22,7 @@ use xs_trace::recorder::Halt;
 /// Items that were joined, and what is left of the limits after them.
 #[derive(Drop)]
 pub(crate) struct Output {
-    pub(crate) items: Chain<Item>,
+    pub(crate) items: Chain<Segment>,
     pub(crate) limit: Limit,
 }
 
@@ -43,7 +44,11 @@ impl Output {
     }
 
     /// Joins items, as far as they are within what is left. No item is copied.
-    pub(crate) fn join(&mut self, pool: &mut Pool<Item>, items: Chain<Item>) -> Result<(), Halt>
+    pub(crate) fn join(
+        &mut self,
+        pool: &mut Pool<Segment>,
+        items: Chain<Segment>,
+    ) -> Result<(), Halt>
         ensures joined { Joins (items_of items) self.old.limit (items_of self.old.items) result
             (items_of self.new.items) self.new.limit }
         ensures blocks { Keeps (blocks_of items + blocks_of self.old.items + pool.old)
@@ -69,19 +74,19 @@ impl Output {
     /// past it that are.
     fn join_front(
         &mut self,
-        pool: &mut Pool<Item>,
-        items: Chain<Item>,
+        pool: &mut Pool<Segment>,
+        items: Chain<Segment>,
         walk: Walk,
         halt: Halt,
     ) -> Result<(), Halt>
-        ensures joined { JoinsFront (items_of items) walk halt (items_of self.old.items) result
-            (items_of self.new.items) self.new.limit }
+        ensures joined { JoinsFront (walked_items items walk) walk.limit halt
+            (items_of self.old.items) result (items_of self.new.items) self.new.limit }
         ensures blocks { Keeps (blocks_of items + blocks_of self.old.items + pool.old)
             (blocks_of self.new.items + pool.new) }
     {
         let mut items = items;
         pool.truncate(&mut items, walk.count);
-        match push_left(pool, &mut items, walk.limit, halt) {
+        match push_front(pool, &mut items, walk) {
             Err(_refused) => {
                 pool.give_back(items);
                 Err(Halt::NoMemory)
@@ -95,7 +100,7 @@ impl Output {
     }
 
     /// Joins a chain.
-    fn append(&mut self, pool: &mut Pool<Item>, items: Chain<Item>) -> Result<(), AllocError>
+    fn append(&mut self, pool: &mut Pool<Segment>, items: Chain<Segment>) -> Result<(), AllocError>
         ensures joined { OnOk result (items_of self.new.items
             ≡ items_of self.old.items ++ items_of items) }
         ensures limit { self.new.limit ≡ self.old.limit }
@@ -114,7 +119,7 @@ impl Output {
     pub(crate) fn join_end(
         &mut self,
         alloc: Global,
-        pool: &mut Pool<Item>,
+        pool: &mut Pool<Segment>,
         ended: Ended,
     ) -> Result<(), Halt>
         requires done { is_done ended ≡ true }
@@ -126,75 +131,66 @@ impl Output {
         match ended {
             Ended::Whole => Ok(()),
             Ended::Fault(spot) => Err(Halt::Fault(spot.fault, site_of(spot))),
-            Ended::Spent(spot) => self.join_one(
-                alloc,
-                pool,
-                Item::Run {
-                    module: spot.module,
-                    line: spot.line,
+            Ended::Spent(spot) => {
+                let run = Run {
+                    site: site_of(spot),
                     ticks: 1,
-                },
-            ),
-            Ended::Full(_) => self.join_one(alloc, pool, Item::Put(Event::End)),
+                };
+                self.join_one(alloc, pool, Segment::of_ticks(run))
+            }
+            Ended::Full(_) => self.join_one(alloc, pool, Segment::of(Item::Put(Event::End))),
             Ended::Over { .. } => unreachable!(),
         }
     }
 
-    /// Joins an item, if it is within what is left.
-    fn join_one(&mut self, alloc: Global, pool: &mut Pool<Item>, item: Item) -> Result<(), Halt>
-        ensures joined { Joins (item ∷ []) self.old.limit (items_of self.old.items) result
+    /// Joins a segment, as far as it is within what is left.
+    fn join_one(
+        &mut self,
+        alloc: Global,
+        pool: &mut Pool<Segment>,
+        segment: Segment,
+    ) -> Result<(), Halt>
+        ensures joined { Joins segment self.old.limit (items_of self.old.items) result
             (items_of self.new.items) self.new.limit }
         ensures blocks { Keeps (blocks_of self.old.items + pool.old)
             (blocks_of self.new.items + pool.new) }
     {
         let mut items = Chain::new(alloc);
         pool.reserve(&items, 1)?;
-        pool.push(&mut items, item);
+        pool.push(&mut items, segment);
         self.join(pool, items)
     }
 }
 
-/// Pushes the ticks that are left on a chain, where the next one is too many.
-fn push_left(
-    pool: &mut Pool<Item>,
-    items: &mut Chain<Item>,
-    limit: Limit,
-    halt: Halt,
+/// Pushes the ticks of a segment that does not pass whole, as far as they pass.
+fn push_front(
+    pool: &mut Pool<Segment>,
+    items: &mut Chain<Segment>,
+    walk: Walk,
 ) -> Result<(), AllocError>
-    ensures pushed { OnOk result
-        (items_of items.new ≡ items_of items.old ++ last_items limit halt) }
+    ensures pushed { OnOk result (items_of items.new ≡ items_of items.old ++ run_items walk.first
+        ++ run_items walk.last ++ run_items walk.own) }
     ensures blocks { blocks_of items.old + pool.old ≤ blocks_of items.new + pool.new }
 {
-    match halt {
-        Halt::Spent(site) => push_ticks(pool, items, site, limit.left),
-        Halt::Fault(_, _) | Halt::Needs(_, _) | Halt::Full(_) => Ok(()),
-        Halt::Over { .. } | Halt::NoMemory => Ok(()),
-    }
+    push_ticks(pool, items, walk.first)?;
+    push_ticks(pool, items, walk.last)?;
+    push_ticks(pool, items, walk.own)
 }
 
-/// Pushes some ticks at an instruction on a chain.
+/// Pushes some ticks on a chain, if there are any.
 fn push_ticks(
-    pool: &mut Pool<Item>,
-    items: &mut Chain<Item>,
-    site: Site,
-    ticks: u64,
+    pool: &mut Pool<Segment>,
+    items: &mut Chain<Segment>,
+    run: Run,
 ) -> Result<(), AllocError>
-    ensures pushed { OnOk result
-        (items_of items.new ≡ items_of items.old ++ pending site ticks) }
+    ensures pushed { OnOk result (items_of items.new ≡ items_of items.old ++ run_items run) }
     ensures blocks { blocks_of items.old + pool.old ≤ blocks_of items.new + pool.new }
 {
-    if ticks == 0 {
+    if run.ticks == 0 {
         return Ok(());
     }
     pool.reserve(items, 1)?;
-    pool.push(
-        items,
-        Item::Run {
-            module: site.module,
-            line: site.line,
-            ticks,
-        },
-    );
+    pool.push(items, Segment::of_ticks(run));
     Ok(())
 }
 

@@ -1,6 +1,6 @@
 -- What a whole run gives of a trace without holes.
 use Rattle.std.proofs.Common.{◌≡◌, ℕ, zero, suc, List, [], ◌∷◌, ◌++◌, Option, None, refl, sym, ap, subst, ◌∙◌, append-nil}
-use Rattle.xs_block.specs.Chain.{items_of}
+use Rattle.xs_record.specs.Segment.{items_of}
 use Rattle.xs_record.specs.Outcome.{hole_mark, part_marks, AreParts, IsOutcome}
 use Rattle.xs_record.specs.declared.outcome.Outcome.{Outcome}
 use Rattle.xs_record.specs.declared.outcome.Part.{Part}

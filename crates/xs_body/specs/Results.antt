@@ -1,6 +1,6 @@
 -- What a whole run and an attempt at a global answer.
 use Rattle.std.specs.Prelude.{◌≡◌, ℕ, List, [], ◌∷◌, Some}
-use Rattle.xs_block.specs.Chain.{items_of}
+use Rattle.xs_record.specs.Segment.{items_of}
 use Rattle.xs_record.specs.declared.outcome.Outcome.{Outcome}
 use Rattle.xs_record.specs.declared.outcome.Part.{Part}
 use Rattle.xs_trace.specs.Cut.{Cut, End, Whole, Fault, Needs, Spent, Full}

@@ -25,11 +25,12 @@ use std::mem::replace;
 use xs_block::pool::Pool;
 use xs_record::outcome::{Outcome, Part};
 use xs_record::piece::{Finished, PieceRecorder};
+use xs_record::segment::Segment;
 use xs_semantics::finder::Finder;
 use xs_semantics::focus::Focus;
 use xs_sets::index::SetIndex;
 use xs_sheet::sheet::Sheet;
-use xs_trace::item::{Ended, Item, Limits, Site};
+use xs_trace::item::{Ended, Limits, Site};
 use xs_trace::recorder::{Halt, Recorder};
 use xs_trace::total::{LocalTotal, Total};
 use xs_tree::{Node, Tree};
@@ -137,7 +138,7 @@ impl<'a, K: Finder> SheetRunner<'a, K> {
         task: &Task<'a>,
         limits: Limits,
         total: T,
-        pool: Pool<Item>,
+        pool: Pool<Segment>,
         children: &mut Vec<Task<'a>>,
     ) -> Finished<T>
         requires settled { All IsSome self.now.globals }
@@ -167,7 +168,7 @@ impl<'a, K: Finder> SheetRunner<'a, K> {
         alloc: Global,
         task: &Task<'a>,
         limits: Limits,
-        pool: &mut Pool<Item>,
+        pool: &mut Pool<Segment>,
     ) -> Result<Outcome, AllocError>
         requires settled { All IsSome self.now.globals }
         requires task { IsTaskIn self.now.tree task.now }
@@ -206,7 +207,7 @@ fn without_grain<'a, K: Finder>(world: &World<'a, K>) -> SheetRunner<'a, K>
 
 /// An outcome that did not end in the total of its run. One that did is out of memory, and its
 /// blocks are free.
-fn unless_over(outcome: Outcome, pool: &mut Pool<Item>) -> Result<Outcome, AllocError>
+fn unless_over(outcome: Outcome, pool: &mut Pool<Segment>) -> Result<Outcome, AllocError>
     ensures same { IfOk result (λ o. o ≡ outcome) }
     ensures within { OnOk result (is_over outcome.ended ≡ false) }
     ensures kept { OnOk result (pool.new ≡ pool.old) }
@@ -228,7 +229,7 @@ fn is_over(ended: Ended) -> bool
 }
 
 /// The blocks of some parts are free again.
-fn give_back(parts: Vec<Part>, pool: &mut Pool<Item>)
+fn give_back(parts: Vec<Part>, pool: &mut Pool<Segment>)
     ensures blocks { (n : ℕ) → n ≤ most_blocks → n ≤ part_blocks parts.items + pool.old →
         n ≤ pool.new }
 {

@@ -3,7 +3,7 @@
 use std::alloc::AllocError;
 use xs_block::pool::Pool;
 use xs_record::outcome::Outcome;
-use xs_trace::item::Item;
+use xs_record::segment::Segment;
 use xs_trace::place::Claim;
 
 /// What a worker runs pieces with: its share in the total of ticks, and the free blocks in which it
@@ -13,7 +13,7 @@ pub struct Desk<T> {
     /// Its share in the total.
     pub share: T,
     /// Its free blocks.
-    pub pool: Pool<Item>,
+    pub pool: Pool<Segment>,
 }
 
 /// What comes back from a run of a piece.

@@ -10,7 +10,8 @@ use crate::piece::{Desk, Ran};
 use std::alloc::{AllocError, Global};
 use xs_block::pool::Pool;
 use xs_record::outcome::Outcome;
-use xs_trace::item::{Item, Limits};
+use xs_record::segment::Segment;
+use xs_trace::item::Limits;
 use xs_trace::place::Place;
 use xs_trace::total::Total;
 
@@ -42,7 +43,7 @@ pub trait Runner {
         alloc: Global,
         task: &Self::Task,
         limits: Limits,
-        pool: &mut Pool<Item>,
+        pool: &mut Pool<Segment>,
     ) -> Result<Outcome, AllocError>
         requires ready { IsReady (is_own self.now) (place_of self.now) (own self.now)
             (whole self.now) }

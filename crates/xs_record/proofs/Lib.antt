@@ -4,3 +4,4 @@ pub mod BriefLemmas
 pub mod SectionLemmas
 pub mod OutcomeLemmas
 pub mod PieceLemmas
+pub mod SegmentLemmas

@@ -1,6 +1,6 @@
 -- Two outcomes of one cut are the same.
 use Rattle.std.proofs.Common.{◌≡◌, ℕ, zero, suc, List, [], ◌∷◌, ◌++◌, map, Option, Some, None, refl, sym, ap, ◌∙◌, append_assoc, append-nil, arith}
-use Rattle.xs_block.specs.Chain.{items_of}
+use Rattle.xs_record.specs.Segment.{items_of}
 use Rattle.xs_trace.specs.Mark.{Tick, Put, Say, Stop, Need, Hole, Trace, ticks}
 use Rattle.xs_trace.specs.Kept.{item_marks, marks_of, IsPacked}
 use Rattle.xs_trace.specs.declared.item.Item.{Item}

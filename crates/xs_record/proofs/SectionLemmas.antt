@@ -1,6 +1,6 @@
 -- A store after the marks of its sections.
 use Rattle.std.proofs.Common.{◌≡◌, ℕ, zero, suc, ◌+◌, List, [], ◌∷◌, ◌++◌, length, Some, None, refl, sym, ap, ◌∙◌, append_assoc, append-nil, length-append, subst, arith}
-use Rattle.xs_block.specs.Chain.{items_of}
+use Rattle.xs_record.specs.Segment.{items_of}
 use Rattle.xs_trace.specs.Mark.{Tick, Put, Hole, Trace, ticks}
 use Rattle.xs_trace.specs.Fill.{numbered, tasks_of}
 use Rattle.xs_trace.specs.Kept.{item_marks, marks_of, IsPacked}

@@ -1,12 +1,13 @@
 -- What a run of a piece gives: its parts, with holes by number.
 use Rattle.std.specs.Prelude.{◌≡◌, ◌+◌, ℕ, suc, List, [], ◌∷◌, ◌++◌, map, Option, Some, None}
-use Rattle.xs_block.specs.Chain.{blocks_of, items_of}
+use Rattle.xs_block.specs.Chain.{blocks_of}
 use Rattle.xs_trace.specs.Mark.{Hole, Trace, tick_count}
 use Rattle.xs_trace.specs.Cut.{cut}
 use Rattle.xs_trace.specs.Fill.{numbered}
 use Rattle.xs_trace.specs.Kept.{marks_of, ended_by, IsPacked}
 use Rattle.xs_trace.specs.declared.item.Item.{Item}
 use Rattle.xs_trace.specs.declared.item.Limits.{Limits}
+use Rattle.xs_record.specs.Segment.{items_of}
 use Rattle.xs_record.specs.declared.outcome.Outcome.{Outcome}
 use Rattle.xs_record.specs.declared.outcome.Part.{Part}
 

@@ -12,3 +12,4 @@ pub mod piece;
 mod plain;
 mod room;
 pub mod row;
+pub mod segment;

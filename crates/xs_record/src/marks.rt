@@ -1,13 +1,14 @@
 //! A store of marks: it keeps what it is given, and knows no limit.
-ghost use Rattle.std.specs.Prelude.{◌≡◌, ◌+◌, ◌<◌, ◌≤◌, ◌++◌, ◌∷◌, [], reverse};
+ghost use Rattle.std.specs.Prelude.{◌≡◌, ◌+◌, ◌≤◌, ◌++◌, ◌∷◌, [], reverse};
 ghost use Rattle.std.specs.Prelude.{OnOk, OnErr, IfOk};
 ghost use Rattle.xs_trace.specs.Mark.{ticks};
 ghost use Rattle.xs_trace.specs.State.{top, below};
 ghost use Rattle.xs_trace.specs.Kept.{marks_of, item_marks, IsPacked, IsSingle};
 ghost use Rattle.xs_record.specs.Store.{Held, empty, counted, marked, is_open, with_captures};
-ghost use Rattle.xs_record.specs.Store.{put_into, told_nothing, pending, TakesRun};
+ghost use Rattle.xs_record.specs.Store.{put_into, told_nothing, TakesRun};
 
 use crate::row::Row;
+use crate::segment::Run;
 use std::alloc::{AllocError, Global};
 use std::marker::{Model, PhantomData};
 use xs_trace::event::{Event, Fragment};
@@ -90,8 +91,11 @@ impl<R: Row, T> Marks<R, T> {
             }
             return Ok(());
         }
-        self.row.reserve(1)?;
-        push_run(&mut self.row, self.at, self.run);
+        let run = Run {
+            site: self.at,
+            ticks: self.run,
+        };
+        self.row.push_run(run)?;
         self.at = site;
         self.run = count;
         Ok(())
@@ -121,9 +125,11 @@ impl<R: Row, T> Marks<R, T> {
         ensures told { OnOk result (self.new.store ≡ marked (item_marks item) self.old.store) }
         ensures blocks { self.old.blocks ≤ self.new.blocks }
     {
-        self.row.reserve(2)?;
-        push_run(&mut self.row, self.at, self.run);
-        self.row.push(item);
+        let run = Run {
+            site: self.at,
+            ticks: self.run,
+        };
+        self.row.push(run, item)?;
         self.run = 0;
         Ok(())
     }
@@ -161,10 +167,13 @@ impl<R: Row, T> Marks<R, T> {
             self.old.blocks ≤ self.new.blocks + R.taken_blocks taken) }
         ensures refused { OnErr result (self.old.blocks ≤ self.new.blocks) }
     {
-        self.row.reserve(1)?;
-        push_run(&mut self.row, self.at, self.run);
+        let run = Run {
+            site: self.at,
+            ticks: self.run,
+        };
+        let taken = self.row.take(run)?;
         self.run = 0;
-        Ok(self.row.take())
+        Ok(taken)
     }
 
     /// The row, with what lies in it.
@@ -173,22 +182,5 @@ impl<R: Row, T> Marks<R, T> {
     {
         let Marks { row, .. } = self;
         row
-    }
-}
-
-/// Adds a run of ticks, if there are any.
-#[inline(always)]
-fn push_run<R: Row>(row: &mut R, site: Site, run: u64)
-    requires spare { 0 < R.spare row.old }
-    ensures items { R.items row.new ≡ R.items row.old ++ pending site run }
-    ensures spare { R.spare row.old ≤ R.spare row.new + 1 }
-    ensures blocks { R.blocks row.new ≡ R.blocks row.old }
-{
-    if run > 0 {
-        row.push(Item::Run {
-            module: site.module,
-            line: site.line,
-            ticks: run,
-        });
     }
 }

@@ -1,12 +1,13 @@
 //! What a run of a piece gives.
+use crate::segment::Segment;
 use xs_block::chain::Chain;
-use xs_trace::item::{Ended, Item};
+use xs_trace::item::Ended;
 
 /// What a piece did, up to a hole or its end.
 #[derive(Drop)]
 pub struct Part {
     /// Ticks, events and messages, in order.
-    pub items: Chain<Item>,
+    pub items: Chain<Segment>,
     /// The number of the hole that follows; none where the piece ends.
     pub hole: Option<u64>,
 }

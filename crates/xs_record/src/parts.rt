@@ -2,7 +2,7 @@
 ghost use Rattle.std.specs.Prelude.{◌≡◌, ◌+◌, ◌<◌, ◌≤◌, ◌++◌, ◌∷◌, [], ℕ, length};
 ghost use Rattle.std.specs.Prelude.{OnOk, OnErr, IfOk};
 ghost use Rattle.std.specs.Vec.{vec_len, vec_capacity};
-ghost use Rattle.xs_block.specs.Chain.{blocks_of, items_of, most_blocks};
+ghost use Rattle.xs_block.specs.Chain.{blocks_of, most_blocks};
 ghost use Rattle.xs_trace.specs.Mark.{Hole};
 ghost use Rattle.xs_trace.specs.State.{top, below};
 ghost use Rattle.xs_trace.specs.Kept.{marks_of, item_marks, IsPacked, IsSingle};
@@ -11,10 +11,12 @@ ghost use Rattle.xs_record.specs.Store.{behind, with_captures, put_into};
 ghost use Rattle.xs_trace.specs.Fill.{numbered, tasks_of};
 ghost use Rattle.xs_record.specs.Outcome.{AreParts, AreSections, part_blocks};
 ghost use Rattle.xs_record.specs.Outcome.{part_marks, section_marks};
+ghost use Rattle.xs_record.specs.Segment.{items_of};
 
 use crate::marks::Marks;
 use crate::outcome::Part;
 use crate::row::ChainRow;
+use crate::segment::Segment;
 use std::alloc::{AllocError, Global};
 use std::marker::Model;
 use xs_block::chain::Chain;
@@ -47,12 +49,12 @@ impl<H> Model for Parts<H> {
 #[derive(Drop)]
 pub(crate) struct Left {
     pub(crate) parts: Result<Vec<Part>, AllocError>,
-    pub(crate) pool: Pool<Item>,
+    pub(crate) pool: Pool<Segment>,
 }
 
 impl<H: Drop> Parts<H> {
     /// Nothing was recorded yet.
-    pub(crate) fn new(alloc: Global, pool: Pool<Item>) -> Parts<H>
+    pub(crate) fn new(alloc: Global, pool: Pool<Segment>) -> Parts<H>
         ensures empty { result.store ≡ empty }
         ensures blocks { result.blocks ≡ pool }
     {
@@ -182,7 +184,7 @@ impl<H: Drop> Parts<H> {
     }
 
     /// The pool, with all blocks.
-    pub(crate) fn into_pool(self) -> Pool<Item>
+    pub(crate) fn into_pool(self) -> Pool<Segment>
         ensures blocks { (n : ℕ) → n ≤ most_blocks → n ≤ self.blocks → n ≤ result }
     {
         let Parts { before, marks, .. } = self;
@@ -194,7 +196,7 @@ impl<H: Drop> Parts<H> {
 fn take_last<H: Drop>(
     before: &mut Vec<Part>,
     marks: &mut Marks<ChainRow, H>,
-) -> Result<Chain<Item>, AllocError>
+) -> Result<Chain<Segment>, AllocError>
     ensures before { before.new.items ≡ before.old.items }
     ensures room { OnOk result (vec_len before.new < vec_capacity before.new) }
     ensures items { IfOk result (λ items. marks_of (items_of items) ≡ marks.old.store.told) }
@@ -208,7 +210,7 @@ fn take_last<H: Drop>(
 }
 
 /// A pool with the blocks of parts that are of no use any more.
-fn reclaim(mut pool: Pool<Item>, mut parts: Vec<Part>) -> Pool<Item>
+fn reclaim(mut pool: Pool<Segment>, mut parts: Vec<Part>) -> Pool<Segment>
     ensures blocks { (n : ℕ) → n ≤ most_blocks → n ≤ part_blocks parts.items + pool → n ≤ result }
 {
     while let Some(part) = parts.pop() {

@@ -12,6 +12,7 @@ use crate::outcome::Outcome;
 use crate::parts::{Left, Parts};
 use crate::paying::{pay, settle};
 use crate::room::spend;
+use crate::segment::Segment;
 use std::alloc::{AllocError, Global};
 use xs_block::pool::Pool;
 use xs_trace::event::{Event, Fragment};
@@ -28,7 +29,7 @@ pub struct Finished<T> {
     /// Its share in the total.
     pub total: T,
     /// The pool that its blocks came from.
-    pub pool: Pool<Item>,
+    pub pool: Pool<Segment>,
 }
 
 /// Records what a piece does, and adds its ticks to a shared total at each 1,024 and at its end. It
@@ -141,7 +142,7 @@ impl<T: Total, H: Drop> Recorder for PieceRecorder<T, H> {
 
 impl<T: Total + Drop, H: Drop> PieceRecorder<T, H> {
     /// Nothing was recorded yet.
-    pub fn new(alloc: Global, limits: Limits, total: T, pool: Pool<Item>) -> PieceRecorder<T, H>
+    pub fn new(alloc: Global, limits: Limits, total: T, pool: Pool<Segment>) -> PieceRecorder<T, H>
         ensures begins { ⟦<PieceRecorder<T, H> as Tally>⟧.state result
             ≡ started limits (T.most total) (T.last total) }
         ensures kept { ⟦<PieceRecorder<T, H> as Tally>⟧.kept result ≡ record {

@@ -10,7 +10,7 @@ use std::alloc::{AllocError, Global};
 use xs_block::pool::Pool;
 use xs_body::task::Task;
 use xs_record::outcome::{Outcome, Part};
-use xs_trace::item::Item;
+use xs_record::segment::Segment;
 use xs_trace::place::Place;
 
 /// What a piece did, after its tasks were appended to the children, each at its place below that of
@@ -21,7 +21,7 @@ pub(crate) fn adopt<'a>(
     place: &Place,
     tasks: Vec<Task<'a>>,
     children: &mut Vec<PlacedTask<'a>>,
-    pool: &mut Pool<Item>,
+    pool: &mut Pool<Segment>,
 ) -> Result<Outcome, AllocError>
     ensures same { IfOk result (λ o. outcome ≡ Ok o) }
     ensures placed { OnOk result (children.new.items
@@ -77,7 +77,7 @@ fn put_at_places<'a>(
 }
 
 /// The blocks of some parts are free again.
-fn give_back(parts: Vec<Part>, pool: &mut Pool<Item>)
+fn give_back(parts: Vec<Part>, pool: &mut Pool<Segment>)
     ensures blocks { (n : ℕ) → n ≤ most_blocks → n ≤ part_blocks parts.items + pool.old →
         n ≤ pool.new }
 {

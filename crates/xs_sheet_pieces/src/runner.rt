@@ -20,9 +20,10 @@ use xs_pieces::piece::{Desk, Ran};
 use xs_pieces::runner::{PieceRunner, Runner};
 use xs_record::outcome::Outcome;
 use xs_record::piece::Finished;
+use xs_record::segment::Segment;
 use xs_sets::index::SetIndex;
 use xs_sheet::sheet::Sheet;
-use xs_trace::item::{Item, Limits};
+use xs_trace::item::Limits;
 use xs_trace::place::Place;
 use xs_trace::total::Total;
 use xs_tree::Tree;
@@ -132,7 +133,7 @@ impl<'a> Runner for SheetPieces<'a> {
         alloc: Global,
         task: &PlacedTask<'a>,
         limits: Limits,
-        pool: &mut Pool<Item>,
+        pool: &mut Pool<Segment>,
     ) -> Result<Outcome, AllocError>
         requires task { IsOwn self.now task.now }
         ensures outcome { IfOk result (IsOutcome (whole self.now task.now) limits) }

@@ -16,9 +16,10 @@ use xs_pieces::piece::{Desk, Ran};
 use xs_pieces::runner::{PieceRunner, Runner};
 use xs_record::outcome::Outcome;
 use xs_record::piece::{Finished, PieceRecorder};
+use xs_record::segment::Segment;
 use xs_trace::event::Event;
 use xs_trace::fault::Fault;
-use xs_trace::item::{Item, Limits, Site};
+use xs_trace::item::{Limits, Site};
 use xs_trace::place::Place;
 use xs_trace::recorder::{Halt, Recorder};
 use xs_trace::text::TextBuf;
@@ -103,7 +104,7 @@ impl Runner for TableRunner {
         alloc: Global,
         task: &RowTask,
         limits: Limits,
-        pool: &mut Pool<Item>,
+        pool: &mut Pool<Segment>,
     ) -> Result<Outcome, AllocError> {
         if limits.ticks > MOST_TICKS {
             return Err(AllocError);

@@ -1,4 +1,5 @@
 use Rattle.std.proofs.Common.{◌∙◌, ap}
+use Rattle.xs_record.specs.Segment.{joined}
 use Rattle.xs_result.specs.Built.{built}
 use Rattle.xs_result.specs.Text.{text_in}
 use Rattle.xs_answer.specs.Items.{events_in}
@@ -9,4 +10,4 @@ pub returns : goal.returns
 returns c =
     let told = c.in_ok-write_text.ensures.text in
     drained (λ es. text_in (built es)) c.items-left.result told.0 c.write_text.new.out.items c.new-text.result.items told.1 (cc) told.2
-    ∙ ap (λ is. text_in (built (events_in is))) c.items-left.ensures.items
+    ∙ ap (λ ss. text_in (built (events_in (joined ss)))) c.items-left.ensures.items

@@ -1,31 +1,30 @@
-use Rattle.std.proofs.Common.{◌≡◌, Some, ap, ◌∙◌, rules}
+use Rattle.std.proofs.Common.{refl, rules}
 use Rattle.xs_block.specs.Chain.{items_of}
-use Rattle.xs_assemble.specs.declared.limit.Limit.{Limit}
-use Rattle.xs_assemble.proofs.PassingLemmas.{walk-begins, walk-done, walk-on, walk-stops}
+use Rattle.xs_assemble.proofs.PassingLemmas.{content-on, passing-begins, passing-done, stops-in}
 use Rattle.xs_assemble.proofs.limit.Limit.walk.Goals as goal
 
-pub loop-item-init : goal.loop-item-init
-loop-item-init c =
-    let e : c.into_iter-item-iterator.result ≡ items_of c.args.items.now = search rules in
-    (tt, tt, walk-begins (items_of c.args.items.now) c.into_iter-item-iterator.result c.args.self e)
+pub loop-segment-init : goal.loop-segment-init
+loop-segment-init c =
+    (tt, tt, passing-begins (items_of c.args.items.now) c.into_iter-segment-iterator.result c.args.self (search rules))
 
 pub returns : goal.returns
 returns c = record {
-  walked = walk-done (items_of c.args.items.now) c.loop-item.item-iterator c.args.self c.loop-item.limit c.loop-item.count c.loop-item.invariant.2
-      c.in-None.ensures.steps.0;
+  walked = passing-done (items_of c.args.items.now) c.loop-segment.segment-iterator c.args.self c.loop-segment.limit c.loop-segment.count _
+      c.loop-segment.invariant.2 c.in-None.ensures.steps.0 refl refl;
 }
 
-pub loop-item-preserved : goal.loop-item-preserved
-loop-item-preserved c = (
+pub loop-segment-preserved : goal.loop-segment-preserved
+loop-segment-preserved c = (
   tt,
   tt,
-  walk-on (items_of c.args.items.now) c.loop-item.item-iterator c.next.new.self c.in-Some.item.now c.args.self c.loop-item.limit c.pass.new.self
-      c.loop-item.count _ c.loop-item.invariant.2 c.in-Some.ensures.steps c.in_default.ensures.passes (search rules),
+  content-on (items_of c.args.items.now) c.loop-segment.segment-iterator c.next.new.self c.content-content.result c.in-Some.segment.now c.args.self
+      c.loop-segment.limit c.pass.new.self c.loop-segment.count _ c.loop-segment.invariant.2 c.in-Some.ensures.steps c.content-content.ensures.items
+      c.in_default.ensures.passes (search rules),
 )
 
 pub returns-in-Some-pass : goal.returns-in-Some-pass
-returns-in-Some-pass c =
-    let p = c.in-Some-pass.ensures.passes in
-    let e = walk-stops (items_of c.args.items.now) c.loop-item.item-iterator c.next.new.self c.in-Some.item.now c.args.self c.loop-item.limit
-    c.in-Some-pass.halt c.loop-item.count c.loop-item.invariant.2 c.in-Some.ensures.steps p.0 in
-    record { walked = ap (λ (m : Limit). record { count = c.loop-item.count; limit = m; end = Some c.in-Some-pass.halt }) p.1 ∙ e }
+returns-in-Some-pass c = record {
+  walked = stops-in (items_of c.args.items.now) c.loop-segment.segment-iterator c.next.new.self c.content-content.result c.in-Some.segment.now c.args.self
+      c.loop-segment.limit c.pass.new.self c.in-Some-pass.halt c.loop-segment.count c.stopped.result c.loop-segment.invariant.2
+      c.in-Some.ensures.steps c.content-content.ensures.items c.in-Some-pass.ensures.passes c.stopped.ensures.stopped;
+}

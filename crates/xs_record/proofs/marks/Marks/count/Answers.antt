@@ -1,5 +1,5 @@
-use Rattle.std.proofs.Common.{◌++◌, ◌∙◌, ap, subst, sym}
-use Rattle.xs_record.specs.Store.{pending, TakesRun}
+use Rattle.std.proofs.Common.{ap, subst, sym}
+use Rattle.xs_record.specs.Store.{TakesRun}
 use Rattle.xs_record.proofs.StoreLemmas.{takes-sum, takes-next, count-same, count-other, same-site, other-site}
 use Rattle.xs_record.proofs.marks.Marks.count.Goals as goal
 
@@ -17,7 +17,7 @@ returns-then-eq-clause-told g c =
 pub invariant_of-self-2 : goal.invariant_of-self-2
 invariant_of-self-2 g c =
     subst (λ js. TakesRun js c.args.site c.args.count)
-    (sym (c.push_run.ensures.items ∙ ap (λ js. js ++ pending c.self.inside.at c.self.inside.run) c.in_ok-reserve.ensures.items))
+    (sym c.in_ok-push_run.ensures.items)
     (takes-next (g.R.Row.items c.self.inside.row) c.self.inside.at c.args.site c.self.inside.run c.args.count
     (other-site c.args.site c.self.inside.at c.if-eq.ensures) c.if-count-eq0.false c.self.invariant)
 
@@ -25,4 +25,4 @@ pub returns-clause-told : goal.returns-clause-told
 returns-clause-told g c =
     count-other (g.R.Row.items c.self.inside.row) _ _ c.args.site c.self.inside.at c.self.inside.run c.args.count c.args.self.now.store
     (ap (λ v. v.store) c.self.view_is) c.if-count-eq0.false
-    (c.push_run.ensures.items ∙ ap (λ js. js ++ pending c.self.inside.at c.self.inside.run) c.in_ok-reserve.ensures.items)
+    c.in_ok-push_run.ensures.items

@@ -1,4 +1,4 @@
-use Rattle.std.proofs.Common.{[], ◌∷◌, ◌++◌, ◌∙◌, ap, subst, sym}
+use Rattle.std.proofs.Common.{◌++◌, ap, subst, sym}
 use Rattle.xs_trace.specs.Kept.{IsPacked}
 use Rattle.xs_record.specs.Store.{pending}
 use Rattle.xs_record.proofs.StoreLemmas.{takes-any, push-marked}
@@ -7,12 +7,10 @@ use Rattle.xs_record.proofs.marks.Marks.push.Goals as goal
 pub invariant_of-self-2 : goal.invariant_of-self-2
 invariant_of-self-2 g c =
     λ q. subst (λ js. IsPacked (js ++ pending q 1))
-    (sym (c.push.ensures.items ∙ ap (λ js. js ++ c.args.item ∷ []) (c.push_run.ensures.items
-    ∙ ap (λ js. js ++ pending c.self.inside.at c.self.inside.run) c.in_ok-reserve.ensures.items)))
+    (sym c.in_ok-push.ensures.items)
     (takes-any (g.R.Row.items c.self.inside.row) c.self.inside.at c.self.inside.run c.args.item c.requires.single c.self.invariant q)
 
 pub returns-clause-told : goal.returns-clause-told
 returns-clause-told g c =
     push-marked (g.R.Row.items c.self.inside.row) _ _ c.self.inside.at c.self.inside.run c.args.item c.args.self.now.store (ap (λ v. v.store) c.self.view_is)
-    (c.push.ensures.items ∙ ap (λ js. js ++ c.args.item ∷ []) (c.push_run.ensures.items
-    ∙ ap (λ js. js ++ pending c.self.inside.at c.self.inside.run) c.in_ok-reserve.ensures.items))
+    c.in_ok-push.ensures.items

@@ -1,5 +1,5 @@
 use Rattle.std.proofs.Common.{None, refl, ap}
-use Rattle.xs_block.specs.Chain.{items_of}
+use Rattle.xs_record.specs.Segment.{items_of}
 use Rattle.xs_record.specs.Outcome.{part_blocks}
 use Rattle.xs_record.specs.declared.outcome.Part.{Part}
 use Rattle.xs_record.proofs.BlockLemmas.{finish-blocks, parts-back, refused-back}
