@@ -12,7 +12,7 @@ ghost use Rattle.xs_well_put.specs.Named.{IsNamedWorld};
 use crate::job::Job;
 use crate::reply::{Pieces, Reply, stopped_reply, whole_reply, with_pieces, with_stats};
 use std::alloc::{AllocError, Global};
-use xs_assemble::assembled::Executed;
+use xs_assemble::assembled::{Assembled, Executed};
 use xs_sheet::sheet::Sheet;
 use xs_trace::text::TextBuf;
 
@@ -41,20 +41,34 @@ pub fn executed_reply(
         claims,
         worked,
     } = executed;
-    let all = ticks + assembled.ticks;
-    let pieces = Pieces {
-        claims,
-        inline: assembled.inline,
-        worked,
-    };
-    match assembled.end {
+    let Assembled {
+        items,
+        says: more,
+        end,
+        ticks: taken,
+        inline,
+        ..
+    } = assembled;
+    let all = ticks + taken;
+    match end {
         None => {
-            let items = &assembled.items;
-            let reply = whole_reply(alloc, sheet.method, says, &assembled.says, items, all)?;
+            let reply = whole_reply(alloc, sheet.method, says, &more, &items, all)?;
+            let pieces = Pieces {
+                claims,
+                inline,
+                worked,
+                items,
+            };
             with_stats(reply, pieces, job.stats)
         }
         Some(spot) => {
-            let reply = stopped_reply(alloc, sheet, spot, says, &assembled.says, all)?;
+            let reply = stopped_reply(alloc, sheet, spot, says, &more, all)?;
+            let pieces = Pieces {
+                claims,
+                inline,
+                worked,
+                items,
+            };
             Ok(with_pieces(reply, pieces))
         }
     }

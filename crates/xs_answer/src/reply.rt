@@ -40,7 +40,7 @@ pub struct ReportedFault {
 }
 
 /// A status, and all that is to be written with it.
-#[derive(Debug, Drop)]
+#[derive(Drop)]
 pub struct Reply {
     /// The status, as in a report.
     pub status: u8,
@@ -57,7 +57,7 @@ pub struct Reply {
 }
 
 /// How the pieces of a run were run.
-#[derive(Debug, Drop)]
+#[derive(Drop)]
 pub struct Pieces {
     /// Who claimed which place, in the order of places.
     pub claims: Vec<Claim>,
@@ -65,6 +65,8 @@ pub struct Pieces {
     pub inline: u64,
     /// How many ticks they took, with those that were taken again.
     pub worked: u64,
+    /// What they recorded, joined.
+    pub items: Chain<Segment>,
 }
 
 impl Pieces {
@@ -78,6 +80,7 @@ impl Pieces {
             claims: Vec::new(alloc),
             inline: 0,
             worked: 0,
+            items: Chain::new(alloc),
         }
     }
 }

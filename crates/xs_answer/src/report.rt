@@ -6,10 +6,12 @@ ghost use Rattle.xs_answer.specs.declared.status.TheConstants.{NO_MEMORY};
 use crate::reply::{Pieces, Reply, ReportedFault};
 use crate::status::NO_MEMORY;
 use std::alloc::Global;
+use xs_block::chain::Chain;
+use xs_record::segment::Segment;
 use xs_trace::place::Claim;
 
 /// What a run reports besides what it wrote.
-#[derive(Debug, Drop)]
+#[derive(Drop)]
 pub struct Report {
     /// How the run ended, as `status` names it.
     pub status: u8,
@@ -26,6 +28,9 @@ pub struct Report {
     pub claims: Vec<Claim>,
     /// How many ticks all pieces took, with those that were evaluated again in their place.
     pub worked: u64,
+    /// What the pieces recorded: most of a run's memory, which a program that ends may leave to the
+    /// system.
+    pub items: Chain<Segment>,
 }
 
 /// The report of a reply, which ended with this status.
@@ -37,6 +42,7 @@ pub fn report_of(status: u8, reply: Reply) -> Report
     ensures inline { result.inline ≡ reply.pieces.inline }
     ensures claims { result.claims.items ≡ reply.pieces.claims.items }
     ensures worked { result.worked ≡ reply.pieces.worked }
+    ensures items { result.items ≡ reply.pieces.items }
 {
     let Reply {
         fault,
@@ -48,6 +54,7 @@ pub fn report_of(status: u8, reply: Reply) -> Report
         claims,
         inline,
         worked,
+        items,
     } = pieces;
     Report {
         status,
@@ -57,6 +64,7 @@ pub fn report_of(status: u8, reply: Reply) -> Report
         inline,
         claims,
         worked,
+        items,
     }
 }
 
@@ -76,5 +84,6 @@ pub fn refused_memory(alloc: Global) -> Report
         inline: 0,
         claims: Vec::new(alloc),
         worked: 0,
+        items: Chain::new(alloc),
     }
 }
