@@ -82,7 +82,10 @@ impl<'a> Builder<'a> {
             (state self.new) }
     {
         match declared_prefix(name.prefix, name.local) {
-            Some(declared) => self.declaration(alloc, declared, value),
+            Some(declared) => {
+                self.known.remember_declaration(name.written)?;
+                self.declaration(alloc, declared, value)
+            }
             None => self.plain(alloc, name, value),
         }
     }

@@ -1,12 +1,15 @@
 //! A tree that grows by one line after the other.
 
-ghost use Rattle.std.specs.Prelude.{◌≡◌, ◌+◌, ◌<◌, IfOk, OnOk, length};
+ghost use Rattle.std.specs.Prelude.{◌≡◌, ◌+◌, ◌<◌, IfOk, IsTrue, OnOk, false, length};
 ghost use Rattle.xs_pyx.specs.Row.{rows_of};
-ghost use Rattle.xs_pyx.specs.Views.{line_shown, IsReadable};
+ghost use Rattle.xs_pyx.specs.Reading.{begins_line, data_of, line_of, name_in, value_in};
+ghost use Rattle.xs_pyx.specs.Views.{has_backslash, line_shown, IsReadable};
 ghost use Rattle.xs_build.specs.steps.Rest.{concluded, Concludes};
 ghost use Rattle.xs_build.specs.steps.Invariant.{IsGood, IsWell};
 ghost use Rattle.xs_build.specs.Results.{Builds};
+ghost use Rattle.xs_build.specs.steps.Lines.{attribute_step, instruction_step};
 ghost use Rattle.xs_build.specs.steps.State.{state, initial, stepped, ended, next_line, Steps};
+ghost use Rattle.xs_build.specs.steps.State.{context, moved, spoken, taken};
 
 use crate::document::Built;
 use crate::fault::{BuildFault, NO_ROOT, TRUNCATED};
@@ -16,7 +19,7 @@ use crate::opened::{Opened, is_inside};
 use crate::pending_text::PendingText;
 use crate::tag_names::TagNames;
 use std::alloc::{AllocError, Global};
-use xs_pyx::LineView;
+use xs_pyx::{LineView, plain_attribute, plain_text};
 use xs_tree::Tree;
 
 /// What was read so far.
@@ -99,6 +102,68 @@ impl<'a> Builder<'a> {
             LineView::Pi { target, value } => self.instruction_line(alloc, target, value),
             LineView::Comment(text) => self.comment_line(alloc, text),
         }
+    }
+
+    /// Takes the next line, of which these are the first byte and what stands after it, in which no
+    /// backslash is. `rest` stands behind it.
+    #[inline(always)]
+    pub fn take_plain(
+        &mut self,
+        alloc: Global,
+        kind: u8,
+        text: &'a str,
+        rest: &[u8],
+    ) -> Result<(), BuildFault>
+        requires good { IsGood (state self.old) }
+        requires begins { IsTrue (begins_line kind) }
+        requires plain { has_backslash text.now ≡ false }
+        ensures step { Steps result
+            (stepped (state self.old) (line_of kind text.now) (rows_of rest.now)) (state self.new) }
+    {
+        match kind {
+            b'(' => self.start(alloc, text, rest),
+            b'A' => self.take_attribute(alloc, text),
+            b'-' => self.take_text(text),
+            b')' => self.end(text),
+            b'?' => self.take_instruction(alloc, text),
+            b'C' => self.comment(plain_text(text)),
+            _ => unreachable!(),
+        }
+    }
+
+    /// Takes an attribute line without a backslash, after its first byte.
+    #[inline(always)]
+    fn take_attribute(&mut self, alloc: Global, text: &'a str) -> Result<(), BuildFault>
+        requires good { IsGood (state self.old) }
+        requires plain { has_backslash text.now ≡ false }
+        ensures step { Steps result (taken (state self.old) (attribute_step
+            (context (state self.old)) (name_in text.now) (data_of (value_in text.now))))
+            (state self.new) }
+    {
+        let (name, value) = plain_attribute(text);
+        self.attribute(alloc, name, value)
+    }
+
+    /// Takes a line of text without a backslash, after its first byte.
+    #[inline(always)]
+    fn take_text(&mut self, text: &'a str) -> Result<(), BuildFault>
+        requires plain { has_backslash text.now ≡ false }
+        ensures step { Steps result (spoken (state self.old) (data_of text.now)) (state self.new) }
+    {
+        let text = plain_text(text);
+        self.chars(text, Some(text))
+    }
+
+    /// Takes a line of an instruction without a backslash, after its first byte.
+    fn take_instruction(&mut self, alloc: Global, text: &str) -> Result<(), BuildFault>
+        requires good { IsGood (state self.old) }
+        requires plain { has_backslash text.now ≡ false }
+        ensures step { Steps result (moved (state self.old)
+            (instruction_step (context (state self.old)) self.old.line (name_in text.now)
+            (data_of (value_in text.now)))) (state self.new) }
+    {
+        let (target, value) = plain_attribute(text);
+        self.instruction(alloc, target, value)
     }
 
     /// The tree at the end of the lines.

@@ -66,8 +66,33 @@ fn read_lines(alloc: Global, bytes: &[u8]) -> Result<Built, BuildFault>
 }
 
 /// Takes the first line of what is left, and answers what stands behind it.
-#[tactic(auto, using(crate::proofs::RestLemmas::is_readable))]
 fn read_line<'a>(
+    builder: &mut Builder<'a>,
+    alloc: Global,
+    rest: Rest<'a>,
+) -> Result<Option<Rest<'a>>, BuildFault>
+    requires good { IsGood (state builder.old) }
+    requires few { builder.old.line + length (bytes_left rest) < 4294967296 }
+    ensures goes { Goes result (state builder.old) (state builder.new) (bytes_left rest.entry) }
+    ensures good { OnOk result (IsGood (state builder.new)) }
+    ensures line { OnOk result (builder.new.line ≤ builder.old.line + 1) }
+    ensures shorter { IfOk result (λ found. IfSome found
+        (λ behind. length (bytes_left behind) < length (bytes_left rest.entry))) }
+{
+    let line = rest.plain_line();
+    if line.size == 0 {
+        return read_any_line(builder, alloc, rest);
+    }
+    let behind = rest.behind(line.size);
+    builder.take_plain(alloc, line.kind, line.rest, behind.bytes())?;
+    builder.line += 1;
+    Ok(Some(behind))
+}
+
+/// The same of any line.
+#[inline(never)]
+#[tactic(auto, using(crate::proofs::RestLemmas::is_readable))]
+fn read_any_line<'a>(
     builder: &mut Builder<'a>,
     alloc: Global,
     rest: Rest<'a>,

@@ -87,13 +87,31 @@ impl<'a> KnownNames<'a> {
         if is_known {
             return Ok(());
         }
-        let slot = slot_of(written);
+        match self.read_for(written, node) {
+            Some(name) => self.put(name),
+            None => Ok(()),
+        }
+    }
+
+    /// Remembers a name that declares a prefix, which no node has.
+    pub fn remember_declaration(&mut self, written: &'a str) -> Result<(), AllocError> {
+        if self.look_up(written).is_some() {
+            return Ok(());
+        }
+        match new_name(written, None) {
+            Some(name) => self.put(name),
+            None => Ok(()),
+        }
+    }
+
+    /// Remembers a name in its slot.
+    fn put(&mut self, name: ReadName<'a>) -> Result<(), AllocError>
+        requires { IsRead name }
+    {
+        let slot = slot_of(name.written);
         if slot >= self.slots.len() {
             return Ok(());
         }
-        let Some(name) = new_name(written, Some(node.place())) else {
-            return Ok(());
-        };
         let place = self.slots[slot];
         if place < self.names.len() {
             self.names[place] = name;
@@ -102,6 +120,22 @@ impl<'a> KnownNames<'a> {
         self.slots[slot] = self.names.len();
         self.names.push(name)?;
         Ok(())
+    }
+
+    /// The QName that is written so, which a node has; none where it is none.
+    fn read_for(&self, written: &'a str, node: Node) -> Option<ReadName<'a>>
+        ensures { IfSome result IsRead }
+    {
+        let like = Some(node.place());
+        match self.look_up(written) {
+            Some(name) => Some(ReadName {
+                written,
+                prefix: name.prefix,
+                local: name.local,
+                like,
+            }),
+            None => new_name(written, like),
+        }
     }
 
     /// The name that is written so, where it is remembered.
@@ -246,15 +280,17 @@ impl ReadName<'_> {
     }
 }
 
-/// The slot of these bytes, by how many they are and by four of them. Names that share a slot are
+/// The slot of these bytes, by how many they are and by five of them. Names that share a slot are
 /// only made anew, so it does not matter much which of them do.
+#[inline(always)]
 fn slot_of(written: &str) -> usize {
     let bytes = written.as_bytes();
     match bytes {
-        [first, .., before, last] => {
+        [first, second, .., last] => {
+            let before = bytes[bytes.len() - 2];
             let middle = bytes[bytes.len() / 2];
-            let ends = (*before as usize * 31 + *last as usize) * 7;
-            let starts = (*first as usize * 31 + middle as usize) * 19;
+            let ends = (before as usize * 31 + *last as usize) * 7;
+            let starts = (*first as usize * 31 + *second as usize * 5 + middle as usize) * 19;
             (bytes.len() % SLOTS + starts + ends) % SLOTS
         }
         [first, ..] => *first as usize,

@@ -127,6 +127,7 @@ fn push_declaration(
 }
 
 /// What the attribute lines at the head of the bytes declare, in their order.
+#[inline(always)]
 pub fn declarations(alloc: Global, bytes: &[u8]) -> Result<Vec<Declared>, AllocError>
     ensures { IfOk result (λ declared. bindings_of declared ≡ declarations (rows_of bytes.now)) }
 {

@@ -12,7 +12,10 @@ use Rattle.xs_text.specs.Escapes.{unescaped, first_and_rest}
 use Rattle.xs_text.proofs.UnescapeLemmas.{unescaped-nil, unescaped-plain}
 use Rattle.xs_pyx.specs.declared.view.LineView.{LineView}
 use Rattle.xs_pyx.specs.declared.fault.Fault.{Fault}
-use Rattle.xs_pyx.specs.Reading.{Reading, faulty, reading, kind_reading, begins_line, ends_name, value_in}
+use Rattle.xs_pyx.specs.declared.line.Line.{Line}
+use Rattle.xs_pyx.specs.Reading.{Reading, faulty, reading, kind_reading, begins_line, ends_name, says, value_in}
+use Rattle.xs_pyx.specs.Results.{TakesLine}
+use Rattle.xs_pyx.specs.Row.{behind_row, first_row}
 use Rattle.xs_pyx.specs.Views.{IsViewing}
 
 abbrev pub is_backslash : ℕ → Bool
@@ -73,3 +76,14 @@ unfolding reading
 row_of_no_text bytes ended none =
     let no_text : is_utf8 bytes ≡ false = false_from_ne_true (is_utf8 bytes) (λ h. none (IsUtf8-from_is_utf8 bytes h)) in
     rw no_text refl
+
+-- a first line that says something, as a text cuts it off
+pub plain_takes : (whole text : List ℕ) (ended : Bool) (size n : ℕ) (line : Line) → record { bytes = text; ended = ended } ≡ first_row whole
+    → ended ≡ true → size ≤ length whole → drop size whole ≡ behind_row whole → n ≡ size
+    → reading (record { bytes = text; ended = true }) ≡ says line → 0 < n → TakesLine whole line n
+plain_takes whole text ended size n line first is within behind same said some = record {
+  some = some;
+  within = subst (λ k. k ≤ length whole) (sym same) within;
+  says = ap reading (sym first) ∙ ap (λ e. reading (record { bytes = text; ended = e })) is ∙ said;
+  behind = ap (λ k. drop k whole) same ∙ behind;
+}

@@ -88,7 +88,7 @@ fn find_space(bytes: &[u8]) -> Option<usize>
 
 /// What stands before the first space, and what stands behind it; all and nothing where there is
 /// none.
-fn split_name(rest: &str) -> (&str, &str)
+pub(crate) fn split_name(rest: &str) -> (&str, &str)
     ensures name { result.0.now ≡ name_in rest.now }
     ensures value { result.1.now ≡ value_in rest.now }
 {
