@@ -20,3 +20,4 @@ pub mod RefusalLemmas
 pub mod ReplyLemmas
 pub mod SheetLemmas
 pub mod StripLemmas
+pub mod TakenLemmas

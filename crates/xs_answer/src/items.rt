@@ -2,8 +2,8 @@
 
 ghost use Rattle.std.specs.Iterator.{YieldsFirstBy, item_count};
 ghost use Rattle.std.specs.List.{cons_option};
-ghost use Rattle.std.specs.Prelude.{◌≡◌, ◌<◌, ◌+◌, ◌^◌, ◌++◌, [], All, IfOk, OnOk, length};
-ghost use Rattle.std.specs.Prelude.{option_map};
+ghost use Rattle.std.specs.Prelude.{◌≡◌, ◌<◌, ◌+◌, ◌^◌, ◌++◌, [], ℕ, All, IfOk, List};
+ghost use Rattle.std.specs.Prelude.{OnOk, length, option_map};
 ghost use Rattle.xs_record.specs.Segment.{items_of};
 ghost use Rattle.xs_result.specs.Built.{built};
 ghost use Rattle.xs_result.specs.Text.{text_in};
@@ -12,7 +12,10 @@ ghost use Rattle.xs_answer.specs.Items.{events_in};
 ghost use Rattle.xs_answer.specs.ReadBack.{ReadsAs};
 ghost use Rattle.xs_reading_back.specs.Events.{HasTexts, IsResult};
 ghost use Rattle.xs_reading_back.specs.Laws.{IsReadBack};
+ghost use Rattle.xs_trace.specs.declared.event.Event.{Event};
 ghost use Rattle.xs_writing.specs.Lines.{pyx};
+ghost use Rattle.xs_writing.specs.steps.Kept.{kept};
+ghost use Rattle.xs_writing.specs.steps.Stream.{HasTaken};
 
 use std::alloc::{AllocError, Global};
 use std::marker::Model;
@@ -26,7 +29,7 @@ use xs_text::escape_into;
 use xs_trace::event::Event;
 use xs_trace::item::Item;
 use xs_trace::text::TextBuf;
-use xs_writing::write_pyx;
+use xs_writing::PyxStream;
 
 /// The events among some items that are still to come. Contracts see it as the list of them.
 #[derive(Drop)]
@@ -98,29 +101,30 @@ fn result_lines(alloc: Global, items: &Chain<Segment>) -> Result<Vec<u8>, AllocE
         → IsReadBack lines.items (built (events_in (items_of items.now)))) }
 {
     xs_reading_back::laws::results_read_back();
-    check_events(items)?;
     let mut lines = Vec::new(alloc);
-    let left = items.items();
-    write_pyx(&mut lines, Events { left })?;
+    let mut stream = PyxStream::new(alloc)?;
+    let mut count = 0;
+    for segment in items.items() {
+        count = add_segment(&mut stream, &mut lines, count, segment)?;
+    }
+    stream.finish(&mut lines)?;
     Ok(lines)
 }
 
-/// Counts the events among some items, whose texts are UTF-8. No memory holds 2^64 of them.
-fn check_events(items: &Chain<Segment>) -> Result<(), AllocError>
-    ensures texts { OnOk result (All HasTexts (events_in (items_of items.now))) }
-    ensures few { OnOk result (length (events_in (items_of items.now)) < 2 ^ 64) }
-{
-    let mut count = 0;
-    for segment in items.items() {
-        count = count_event(count, segment)?;
-    }
-    Ok(())
-}
-
-/// One more where a segment has an event, whose texts are UTF-8.
+/// Adds the event of a segment, if there is one, to a stream that has so many, and counts it. The
+/// texts of an event are UTF-8, and no memory holds 2^64 events.
 #[tactic(auto, using(crate::proofs::ReadBackLemmas::one_text))]
-fn count_event(count: u64, segment: &Segment) -> Result<u64, AllocError>
-    ensures texts { IfOk result (λ n. All HasTexts (events_in segment.now)) }
+fn add_segment<'e>(
+    stream: &mut PyxStream<'e>,
+    lines: &mut Vec<u8>,
+    count: u64,
+    segment: &'e Segment,
+) -> Result<u64, AllocError>
+    ensures taken { OnOk result ((old : List ℕ) (es : List Event)
+        → HasTaken (kept stream.old.pending) stream.old.writer old lines.old.items es
+        → HasTaken (kept stream.new.pending) stream.new.writer old lines.new.items
+        (es ++ events_in segment.now)) }
+    ensures texts { OnOk result (All HasTexts (events_in segment.now)) }
     ensures counted { IfOk result (λ n. n ≡ count + length (events_in segment.now)) }
     ensures few { IfOk result (λ n. n < 2 ^ 64) }
 {
@@ -130,6 +134,7 @@ fn count_event(count: u64, segment: &Segment) -> Result<u64, AllocError>
             if count == u64::MAX {
                 return Err(AllocError);
             }
+            stream.add(lines, event)?;
             Ok(count + 1)
         }
         None => Ok(count),

@@ -49,6 +49,20 @@ impl<'e> PyxStream<'e> {
         Ok(PyxStream { pending, writer })
     }
 
+    /// Adds an event, and appends the lines of what stays for good by now. After a refusal some of
+    /// them may be there.
+    #[inline(always)]
+    pub fn add(&mut self, out: &mut Vec<u8>, event: &'e Event) -> Result<(), AllocError>
+        ensures taken { OnOk result ((old : List ℕ) (es : List Event)
+            → HasTaken (kept self.old.pending) self.old.writer old out.old.items es
+            → HasTaken (kept self.new.pending) self.new.writer old out.new.items
+            (es ++ event.now ∷ [])) }
+        ensures kept { take (length out.old.items) out.new.items ≡ out.old.items }
+        ensures utf8 { IsUtf8 out.old.items → IsUtf8 out.new.items }
+    {
+        take_event(&mut self.pending, &mut self.writer, out, event)
+    }
+
     /// Appends the lines of the rest. After a refusal some of them may be there.
     pub fn finish(self, out: &mut Vec<u8>) -> Result<(), AllocError>
         ensures written { OnOk result ((old : List ℕ) (es : List Event)
