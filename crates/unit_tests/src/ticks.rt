@@ -1,12 +1,14 @@
-//! Runs in pieces whose ticks are cut, at each place in a row of them.
+//! Ticks in a row: runs in pieces that are cut at each of them, and the segments that they lie in.
 
 ghost use Rattle.std.specs.Prelude.{◌≤◌, ◌^◌};
 
 use crate::pieces::{agrees, are_run_again, at, at_once, in_pieces, push_row};
 use std::alloc::{AllocError, Global};
+use xs_record::outcome::{Outcome, Part};
+use xs_record::segment::Segment;
 use xs_table::table::{Entry, Row, TableRunner};
 use xs_trace::event::Event;
-use xs_trace::item::Site;
+use xs_trace::item::{Item, Site};
 
 // Adds entries of so many ticks at a place.
 fn push_several(entries: &mut Vec<Entry>, site: Site, ticks: u64) -> Result<(), AllocError> {
@@ -133,5 +135,50 @@ fn are_places_cut(alloc: Global) -> Result<bool, AllocError> {
 #[test]
 fn ticks_at_places_are_cut_at_each(rt: HostRuntime) -> Result<(), AllocError> {
     assert!(rt; are_places_cut(rt.alloc())?);
+    Ok(())
+}
+
+// A row of two ticks at each of so many lines of the module 1, and an event after them.
+fn ticks_and_end(alloc: Global, lines: u32) -> Result<TableRunner, AllocError> {
+    let mut entries = Vec::new(alloc);
+    let site = Site { module: 1, line: 2 };
+    entries.push(Entry::Tick(site))?;
+    push_lines(&mut entries, 1, 3, lines.wrapping_add(2))?;
+    entries.push(Entry::Put(Event::End))?;
+    let mut rows = Vec::new(alloc);
+    rows.push(Row { site, entries })?;
+    Ok(TableRunner { rows })
+}
+
+// Whether a segment has so many ticks at a first place, two at a last one, and an event.
+fn is_whole_segment(segment: &Segment, first: u64) -> bool {
+    let content = segment.content();
+    content.first.ticks == first
+        && content.last.ticks == 2
+        && matches!(content.item, Item::Put(Event::End))
+}
+
+// Whether a run is one segment, with so many ticks at a first place.
+fn is_one_segment(outcome: &Outcome, first: u64) -> bool {
+    let [Part { items, .. }] = outcome.parts.as_slice() else {
+        return false;
+    };
+    let mut segments = items.items();
+    matches!(segments.next(), Some(segment) if is_whole_segment(segment, first))
+        && segments.next().is_none()
+}
+
+// Whether ticks at so many lines and an event after them are one segment.
+fn are_together(alloc: Global, lines: u32, first: u64) -> Result<bool, AllocError> {
+    let runner = ticks_and_end(alloc, lines)?;
+    let outcome = at_once(alloc, &runner, 9);
+    drop(runner);
+    Ok(is_one_segment(&outcome?, first))
+}
+
+#[test]
+fn ticks_lie_beside_their_event(rt: HostRuntime) -> Result<(), AllocError> {
+    assert!(rt; are_together(rt.alloc(), 1, 0)?);
+    assert!(rt; are_together(rt.alloc(), 2, 2)?);
     Ok(())
 }
