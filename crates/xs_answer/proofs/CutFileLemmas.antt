@@ -1,31 +1,11 @@
 -- What the bytes represent that a library gave of a file.
-use Rattle.std.proofs.Common.{◌≡◌, ℕ, ◌+◌, List, take, Option, Some, None, Bool, true, false, nat_le, length, refl, sym, ap, ◌∙◌, arith, IfSome, MatchOption}
-use Rattle.std.proofs.lemmas.Bool.Decides.{nat_tests}
-use Rattle.std.proofs.lemmas.Grind.{common_steps}
+use Rattle.std.proofs.Common.{◌≡◌, ℕ, ◌+◌, List, take, Option, Some, None, refl, ap, ◌∙◌, IfSome, MatchOption}
 use Rattle.xs_outside.specs.Edge.{Files}
-use Rattle.xs_build.specs.Document.{document, refused}
+use Rattle.xs_modules.proofs.DocumentLemmas.{document_takes}
 use Rattle.xs_tree.specs.Record.{Record}
 use Rattle.xs_answer.specs.Read.{Read}
 use Rattle.xs_answer.specs.Run.{source_of, source_read, source_limit}
 use Rattle.xs_answer.specs.Reply.{FileGives}
-
-too_large : (limit : ℕ) (bytes : List ℕ) → nat_le (length bytes) limit ≡ false → document limit bytes ≡ refused 11 0
-unfolding document
-too_large limit bytes e = rw e refl
-
-too_long : (limit : ℕ) (bytes : List ℕ) → nat_le (length bytes) limit ≡ false → nat_le (length (take (limit + 1) bytes)) limit ≡ false
-too_long limit bytes e = grind (arith, nat_tests, common_steps)
-
-take_within : (limit : ℕ) (bytes : List ℕ) → nat_le (length bytes) limit ≡ true → take (limit + 1) bytes ≡ bytes
-take_within limit bytes e = grind (arith, nat_tests, common_steps)
-
--- A file that was cut just past the limit is refused as too large, as the whole file is.
-document_takes : (limit : ℕ) (bytes : List ℕ) → document limit (take (limit + 1) bytes) ≡ document limit bytes
-document_takes limit bytes = go (nat_le (length bytes) limit) refl
-  where
-    go : (b : Bool) → nat_le (length bytes) limit ≡ b → document limit (take (limit + 1) bytes) ≡ document limit bytes
-    go true e = ap (document limit) (take_within limit bytes e)
-    go false e = too_large limit (take (limit + 1) bytes) (too_long limit bytes e) ∙ sym (too_large limit bytes e)
 
 -- what a library gave of a file whose bytes it records
 abbrev Told : Option (List ℕ) → List ℕ → ℕ → Type 0

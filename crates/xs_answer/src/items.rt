@@ -14,8 +14,7 @@ ghost use Rattle.xs_reading_back.specs.Events.{HasTexts, IsResult};
 ghost use Rattle.xs_reading_back.specs.Laws.{IsReadBack};
 ghost use Rattle.xs_trace.specs.declared.event.Event.{Event};
 ghost use Rattle.xs_writing.specs.Lines.{pyx};
-ghost use Rattle.xs_writing.specs.steps.Kept.{kept};
-ghost use Rattle.xs_writing.specs.steps.Stream.{HasTaken};
+ghost use Rattle.xs_writing.specs.Stream.{HasTaken};
 
 use std::alloc::{AllocError, Global};
 use std::marker::Model;
@@ -121,9 +120,8 @@ fn add_segment<'e>(
     segment: &'e Segment,
 ) -> Result<u64, AllocError>
     ensures taken { OnOk result ((old : List ℕ) (es : List Event)
-        → HasTaken (kept stream.old.pending) stream.old.writer old lines.old.items es
-        → HasTaken (kept stream.new.pending) stream.new.writer old lines.new.items
-        (es ++ events_in segment.now)) }
+        → HasTaken stream.old old lines.old.items es
+        → HasTaken stream.new old lines.new.items (es ++ events_in segment.now)) }
     ensures texts { OnOk result (All HasTexts (events_in segment.now)) }
     ensures counted { IfOk result (λ n. n ≡ count + length (events_in segment.now)) }
     ensures few { IfOk result (λ n. n < 2 ^ 64) }

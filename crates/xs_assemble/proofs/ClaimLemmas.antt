@@ -22,7 +22,8 @@ use Rattle.xs_core.specs.Machine.{Facts}
 use Rattle.xs_record.specs.declared.outcome.Outcome.{Outcome}
 use Rattle.xs_pieces.specs.Ready.{IsReady}
 use Rattle.xs_pieces.specs.Tree.{task_at}
-use Rattle.xs_pieces.specs.Collection.{is_done, is_finished, ticks_in, holes_in, facts_of, if_run, claimed_in, places_in, children_in}
+use Rattle.xs_pieces.specs.Collection.{is_finished, ticks_in, holes_in, facts_of, if_run, claimed_in, places_in, children_in}
+use Rattle.xs_record.specs.Outcome.{is_done}
 use Rattle.xs_pieces.specs.Collection.{ticks_spent, finished_in, dropped_in, AreClaims, IsCollection}
 use Rattle.xs_pieces.specs.declared.piece.Piece.{Piece}
 use Rattle.xs_pieces.proofs.CollectionLemmas.{all-passed, at-place, child-there, found, missing-above, place-same, root-there, whole-is-complete}

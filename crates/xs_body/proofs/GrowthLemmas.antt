@@ -26,7 +26,6 @@ use Rattle.xs_trace.proofs.RunLemmas.{limited-grows}
 use Rattle.xs_tree.specs.Kinds.{has_content, is_attribute_kind, is_text_kind}
 use Rattle.xs_tree.specs.Record.{Record, at, children}
 use Rattle.xs_value.specs.declared.value.Value.{Value}
-use Rattle.xs_value.specs.declared.value.Value.TheVariants.{Chars as String}
 use Rattle.xs_value.specs.Conversion.{fragment_text}
 use Rattle.xs_making.specs.Copies.{shallow_copy}
 use Rattle.xs_making.specs.Texts.{comment_text, instruction_text}
@@ -55,7 +54,7 @@ use Rattle.xs_making.proofs.PutLemmas.{events-grow}
 use Rattle.xs_semantics.specs.Trace.{calls_at}
 use Rattle.xs_body.specs.steps.Frames.{message_steps, message_ended, fragment_at, passing_left, work_steps, stack_steps, pushed, filled_up, stays}
 use Rattle.xs_body.specs.steps.Frames.{chars_steps, run_by, run_begun, applied_begun, built_in_begun, rule_begun, entry_begun}
-use Rattle.xs_body.specs.steps.Frames.{entering, call_begun, imports_begun, content_begun, passes_on, pass_begun, param_begun}
+use Rattle.xs_body.specs.steps.Frames.{entering, call_begun, imports_begun, content_begun, passes_on, param_begun}
 use Rattle.xs_body.specs.steps.Frames.{fallbacks_begun, looping, loop_begun}
 use Rattle.xs_body.specs.steps.Frames.{number_steps, value_steps, begun}
 use Rattle.xs_body.specs.steps.Frames.{after, entering_fitting, outer, params_entered, rest_begun, rest_works, rule_entered, template_entered}
@@ -149,14 +148,6 @@ pub passes-grow : (left all : List Binding) (us : List Value) (callee : Called) 
     Grows (passes_on left all us callee p c t)
 passes-grow [] all us callee p c t = call-grows callee (record { bindings = all; values = us }) p c.focus t
 passes-grow (b ∷ left) all us callee p c t = goes-grows _
-
-pub pass-grows : (content : Content) (left all : List Binding) (us : List Value) (callee : Called) (p : Site) (c : Scope) (t : Evaluation) →
-    Grows (pass_begun content left all us callee p c t)
-pass-grows Empty left all us callee p c t = passes-grow left all (us ++ String [] ∷ []) callee p c t
-pass-grows (Select e) left all us callee p c t = λ s.
-    grows-then s (limited p (value_run t.world e c.focus (last c.seen t.slots)) s)
-    (λ v m. passes_on left all (us ++ v ∷ []) callee p c t m) (limited-grows p _ s) (λ v. passes-grow left all (us ++ v ∷ []) callee p c t)
-pass-grows (Fragment body) left all us callee p c t = opened-grows _
 
 fallbacks-grow : (bs : List Body) (p : Site) (c : Scope) (t : Evaluation) → Grows (fallbacks_begun bs p c t)
 fallbacks-grow [] p c t = stops-grow (Fault fault.NoExtension p)

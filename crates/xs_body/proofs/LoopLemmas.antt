@@ -19,9 +19,6 @@ use Rattle.xs_body.proofs.SlotLemmas.{last-all}
 use Rattle.xs_body.proofs.GrowthLemmas.{stack-grows}
 use Rattle.xs_body.proofs.StepLemmas.{advances}
 
-pub stops-there : (k : Told Task) (t : Evaluation) (s : State Task) → k ≡ stack_told t s → t.works ≡ [] → k ≡ goes s
-stops-there k t s e n = e ∙ ap (λ xs. stack_steps t.world xs t.slots s) n
-
 abbrev pub HasSets : Evaluation → Type 0
 HasSets t = IsSetIndex t.world.sheet.sets t.world.index
 

@@ -1,5 +1,5 @@
 -- What is put and made step by step is what is told of it.
-use Rattle.std.proofs.Common.{◌≡◌, ℕ, ◌==◌, length, List, [], ◌∷◌, ◌++◌, Option, Some, None, Bool, true, false, cond, Result, Ok, Err}
+use Rattle.std.proofs.Common.{◌≡◌, ℕ, ◌==◌, length, List, [], ◌∷◌, Option, Some, None, Bool, true, false, cond, Result, Ok, Err}
 use Rattle.std.proofs.Common.{refl, sym, ap, ◌∙◌, arith}
 use Rattle.std.proofs.lemmas.Bool.Decides.{nat_tests}
 use Rattle.xs_sheet.specs.declared.body.LiteralStart.{LiteralStart}
@@ -10,7 +10,7 @@ use Rattle.xs_trace.specs.Label.{Label}
 use Rattle.xs_trace.specs.Mark.{Trace}
 use Rattle.xs_trace.specs.Run.{Run, Gives, Faults, give, limited, evaluated, ◌>>=◌}
 use Rattle.xs_trace.specs.State.{State, popped, top}
-use Rattle.xs_trace.specs.Play.{IsStepBy, Goes, and_then, goes, put_at, play}
+use Rattle.xs_trace.specs.Play.{Goes, and_then, goes, put_at, play}
 use Rattle.xs_trace.specs.declared.event.Event.{Event}
 use Rattle.xs_trace.specs.declared.event.Event.TheVariants as event
 use Rattle.xs_trace.specs.declared.event.Event.TheVariants.{Start, Chars}
@@ -25,10 +25,8 @@ use Rattle.xs_value.specs.declared.value.Value.TheVariants as value
 use Rattle.xs_value.specs.Conversion.{text_value}
 use Rattle.xs_meaning.specs.Results.{given}
 use Rattle.xs_making.specs.Copies.{deep_copy}
-use Rattle.xs_making.specs.declared.ends.MakeEnd.{MakeEnd}
 use Rattle.xs_making.specs.declared.ends.MakeEnd.TheVariants as end
 use Rattle.xs_making.specs.Names.{pi_target, result_name}
-use Rattle.xs_making.specs.Results.{IsMade}
 use Rattle.xs_making.specs.Texts.{comment_text, instruction_text}
 use Rattle.xs_making.proofs.PutLemmas.{events-both, events-grow}
 use Rattle.xs_semantics.specs.declared.focus.Focus.{Focus}
@@ -36,13 +34,13 @@ use Rattle.xs_semantics.specs.declared.made.Made.{Made}
 use Rattle.xs_semantics.specs.declared.made.Made.TheVariants as made
 use Rattle.xs_semantics.specs.World.{World, template_run}
 use Rattle.xs_semantics.specs.Making.{aliased, attribute_events, attribute_label, content_text, element_label, literal_spaces, name_run, namespace_run}
-use Rattle.xs_semantics.specs.Making.{made_events, space_events, target_run, text_events, texts_outside, value_events}
+use Rattle.xs_semantics.specs.Making.{made_events, space_events, target_run, text_events, value_events}
 use Rattle.xs_semantics.specs.Tasks.{Task}
 use Rattle.xs_semantics.specs.Trace.{begins, literal_attributes, puts, puts_all}
-use Rattle.xs_body.specs.steps.Making.{attribute_steps, attributes_steps, chars_steps, copy_steps, depth_after, literal_steps, made_at}
+use Rattle.xs_body.specs.steps.Making.{attribute_steps, attributes_steps, chars_steps, copy_steps, literal_steps, made_at}
 use Rattle.xs_making.specs.Putting.{events_steps}
-use Rattle.xs_body.specs.steps.Making.{halted, is_declaration, is_unbound, made_ended, made_steps, name_steps, named_steps, namespace_steps, nodes_steps}
-use Rattle.xs_body.specs.steps.Making.{outcome_steps, space_steps, spaces_steps, target_steps, text_added}
+use Rattle.xs_body.specs.steps.Making.{is_declaration, is_unbound, made_ended, made_steps, name_steps, named_steps, namespace_steps, nodes_steps}
+use Rattle.xs_body.specs.steps.Making.{outcome_steps, space_steps, spaces_steps, target_steps}
 
 -- ---- events
 pub events-told : (p : Site) (es : List Event) (s : State Task) → events_steps p es s ≡ play (puts_all p es) s
@@ -146,13 +144,6 @@ copy-told rs p (value.Number n) s =
 outcome-told : {A : Type 0} (p : Site) (r : Result A RunFault) (s : State Task) → outcome_steps p r s ≡ limited p (given r) s
 outcome-told p (Ok x) s = sym (limited-end p (Gives x) s)
 outcome-told p (Err f) s = sym (limited-end p (Faults f) s)
-
--- what the code answers of what was made
-pub made-answers : {A : Type 0} (p : Site) (r : Result A RunFault) (m : Result A MakeEnd) (s : State Task) → IsMade r m →
-    IsStepBy (λ (x : A). x) (outcome_steps p r s) (halted p m) s
-made-answers p r (Ok x) s e = ap (λ q. outcome_steps p q s) e
-made-answers p r (Err (end.Fault f)) s e = ap (λ q. outcome_steps p q s) e
-made-answers p r (Err end.NoMemory) s e = tt
 
 namespace-told : (w : World) (p : Site) (f : Focus) (vs : List Value) (o : Option ValueTemplate) (s : State Task) →
     namespace_steps w p f vs o s ≡ limited p (namespace_run w o f vs) s
@@ -262,13 +253,3 @@ pub target-grows : {H : Type 0} → (w : World) (p : Site) (f : Focus) (vs : Lis
 target-grows w p f vs name s =
     grows-then s (limited p (template_run w name f vs) s) (λ text m. outcome_steps p (pi_target text) m) (limited-grows p _ s)
     (λ text. outcome-grows p (pi_target text))
-
--- ---- the text of content, event by event
-pub text-next : (e : Event) (es : List Event) (depth : ℕ) → texts_outside (e ∷ es) depth ≡ text_added e depth ++ texts_outside es (depth_after e depth)
-text-next (Start name) es depth = refl
-text-next (event.Space prefix uri) es depth = refl
-text-next (event.Attr name value) es depth = refl
-text-next (Chars text) es depth = refl
-text-next event.End es depth = refl
-text-next (event.Comment text) es depth = refl
-text-next (event.Pi target value) es depth = refl

@@ -4,7 +4,7 @@ use Rattle.std.proofs.lemmas.Bool.{true≢false}
 use Rattle.std.specs.List.{All}
 use Rattle.std.specs.Option.{IsSome, is_some}
 use Rattle.xs_block.specs.Chain.{most_blocks}
-use Rattle.xs_record.specs.Outcome.{IsOutcome, part_blocks}
+use Rattle.xs_record.specs.Outcome.{IsOutcome, is_done, part_blocks}
 use Rattle.xs_record.specs.Piece.{EndsBy, IsPiece, IsPieceOf, Paid, started}
 use Rattle.xs_record.specs.declared.outcome.Outcome.{Outcome}
 use Rattle.xs_record.proofs.PieceLemmas.{of-ok}
@@ -21,7 +21,6 @@ use Rattle.xs_body.specs.Results.{IsWholeRun}
 use Rattle.xs_semantics.specs.Tasks.{Task}
 use Rattle.xs_semantics.specs.Trace.{task_trace}
 use Rattle.xs_semantics.specs.World.{World, with_grain}
-use Rattle.xs_body.specs.steps.Runs.{is_over}
 use Rattle.xs_semantics.proofs.HoleLemmas.{task-alone}
 use Rattle.xs_body.proofs.PartLemmas.{whole-run}
 use Rattle.xs_semantics.proofs.NeedLemmas.{settled-needs, task-needs}
@@ -52,18 +51,18 @@ piece-is (Err f) x l total most first before free paid start told s0 s1 after la
 
 -- a piece that did not end in its total
 pub outcome-is : {H : Type 0} (x : Trace H) (l : Limits) (most before after last : ℕ) (old new : List H) (o : Outcome) →
-    IsPiece x l most before after last old new o → is_over o.ended ≡ false → IsOutcome x l o
+    IsPiece x l most before after last old new o → is_done o.ended ≡ true → IsOutcome x l o
 outcome-is {H} x l most before after last old new o h e = by_last (over most last) h.ends
   where
     by_last : (n : Option ℕ) → EndsBy n x l old new o → IsOutcome x l o
     by_last None w = w.outcome
-    by_last (Some t) w = absurd (true≢false (sym (ap is_over w.0) ∙ e))
+    by_last (Some t) w = absurd (true≢false (sym e ∙ ap is_done w.0))
 
 -- ---- a whole run
 
 pub whole-outcome : {E F : Type 0} (r : Result Outcome E) (q : Result Outcome F) (o : Outcome) (v w : World) (t : Task) (l : Limits)
     (most before after last : ℕ) (old new : List Task) → v ≡ w → q ≡ Ok o → IfOk q (IsPiece (task_trace v t) l most before after last old new) →
-    IfOk r (λ z. z ≡ o) → OnOk r (is_over o.ended ≡ false) → IfOk r (IsOutcome (task_trace w t) l)
+    IfOk r (λ z. z ≡ o) → OnOk r (is_done o.ended ≡ true) → IfOk r (IsOutcome (task_trace w t) l)
 whole-outcome (Ok z) q o v w t l most before after last old new e a h b k =
     let piece : IsPiece (task_trace v t) l most before after last old new o = of-ok q o (IsPiece (task_trace v t) l most before after last old new) a h in
     let outcome : IsOutcome (task_trace v t) l o = outcome-is (task_trace v t) l most before after last old new o piece k in

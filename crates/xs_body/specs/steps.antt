@@ -6,4 +6,3 @@ pub mod Making
 pub mod Frames
 pub mod Numbers
 pub mod Attempts
-pub mod Runs

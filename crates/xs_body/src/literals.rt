@@ -8,9 +8,10 @@ ghost use Rattle.xs_semantics.specs.Making.{aliased, attribute_label, element_la
 ghost use Rattle.xs_trace.specs.Play.{IsStep};
 
 use std::alloc::AllocError;
-use xs_making::{SheetTexts, XML_URI};
+use xs_making::SheetTexts;
 use xs_sheet::body::LiteralStart;
 use xs_sheet::declarations::Alias;
+use xs_text::XML_URI;
 use xs_trace::event::{Event, Label};
 use xs_trace::item::Site;
 use xs_trace::recorder::{Halt, Recorder, put_event};

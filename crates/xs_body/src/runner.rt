@@ -1,15 +1,14 @@
 //! Runs of a stylesheet: a piece with holes, and a whole run.
 
 ghost use Rattle.std.specs.List.{All};
-ghost use Rattle.std.specs.Prelude.{◌≡◌, ◌+◌, ◌≤◌, ℕ, false, true, IfOk, IsSome, None, OnErr};
+ghost use Rattle.std.specs.Prelude.{◌≡◌, ◌+◌, ◌≤◌, ℕ, true, IfOk, IsSome, None, OnErr};
 ghost use Rattle.std.specs.Prelude.{OnOk};
 ghost use Rattle.xs_block.specs.Chain.{most_blocks};
 ghost use Rattle.xs_body.specs.Inside.{IsTaskIn, IsWorld};
 ghost use Rattle.xs_body.specs.Results.{IsWholeRun};
 ghost use Rattle.xs_semantics.specs.Trace.{root_task, task_trace};
 ghost use Rattle.xs_semantics.specs.World.{with_grain};
-ghost use Rattle.xs_body.specs.steps.Runs.{is_over};
-ghost use Rattle.xs_record.specs.Outcome.{IsOutcome, part_blocks};
+ghost use Rattle.xs_record.specs.Outcome.{IsOutcome, is_done, part_blocks};
 ghost use Rattle.xs_record.specs.Piece.{IsPiece};
 ghost use Rattle.xs_trace.specs.Cut.{cut};
 ghost use Rattle.xs_trace.specs.Play.{IsStep, play};
@@ -23,14 +22,14 @@ use std::alloc::{AllocError, Global};
 use std::marker::Model;
 use std::mem::replace;
 use xs_block::pool::Pool;
-use xs_record::outcome::{Outcome, Part};
+use xs_record::outcome::{Outcome, free_parts};
 use xs_record::piece::{Finished, PieceRecorder};
 use xs_record::segment::Segment;
 use xs_semantics::finder::Finder;
 use xs_semantics::focus::Focus;
 use xs_sets::index::SetIndex;
 use xs_sheet::sheet::Sheet;
-use xs_trace::item::{Ended, Limits, Site};
+use xs_trace::item::{Limits, Site};
 use xs_trace::recorder::{Halt, Recorder};
 use xs_trace::total::{LocalTotal, Total};
 use xs_tree::{Node, Tree};
@@ -209,34 +208,16 @@ fn without_grain<'a, K: Finder>(world: &World<'a, K>) -> SheetRunner<'a, K>
 /// blocks are free.
 fn unless_over(outcome: Outcome, pool: &mut Pool<Segment>) -> Result<Outcome, AllocError>
     ensures same { IfOk result (λ o. o ≡ outcome) }
-    ensures within { OnOk result (is_over outcome.ended ≡ false) }
+    ensures within { OnOk result (is_done outcome.ended ≡ true) }
     ensures kept { OnOk result (pool.new ≡ pool.old) }
     ensures free { OnErr result ((n : ℕ) → n ≤ most_blocks →
         n ≤ part_blocks outcome.parts.items + pool.old → n ≤ pool.new) }
 {
-    if is_over(outcome.ended) {
-        give_back(outcome.parts, pool);
+    if !outcome.is_done() {
+        free_parts(pool, outcome.parts);
         return Err(AllocError);
     }
     Ok(outcome)
-}
-
-/// Whether a run ended in its total.
-fn is_over(ended: Ended) -> bool
-    ensures { result ≡ is_over ended }
-{
-    matches!(ended, Ended::Over { .. })
-}
-
-/// The blocks of some parts are free again.
-fn give_back(parts: Vec<Part>, pool: &mut Pool<Segment>)
-    ensures blocks { (n : ℕ) → n ≤ most_blocks → n ≤ part_blocks parts.items + pool.old →
-        n ≤ pool.new }
-{
-    let mut parts = parts;
-    while let Some(part) = parts.pop() {
-        pool.give_back(part.items);
-    }
 }
 
 /// Tells a recorder what a task does.

@@ -149,13 +149,7 @@ impl<'a, K: Finder> Evaluator<'a, K> {
         if params.is_empty() {
             return self.begin_body(&template.body, scope, recorder);
         }
-        let left = ParamsLeft {
-            left: params,
-            passed,
-            body: &template.body,
-            scope,
-        };
-        self.push(Frame::Params(Box::new(self.alloc, left)?))?;
+        self.begin_params(template, passed, scope)?;
         Ok(())
     }
 
@@ -292,20 +286,35 @@ impl<'a, K: Finder> Evaluator<'a, K> {
     {
         let sheet = self.sheet;
         if let Some(template) = sheet.templates.as_slice().get(template as usize) {
-            let params = template.params.as_slice();
-            let scope = Scope::outer(focus);
-            if params.is_empty() {
-                return self.push_body(&template.body, scope);
-            }
-            let left = ParamsLeft {
-                left: params,
-                passed,
-                body: &template.body,
-                scope,
-            };
-            return self.push(Frame::Params(Box::new(self.alloc, left)?));
+            return self.begin_params(template, passed, Scope::outer(focus));
         }
         Ok(())
+    }
+
+    /// The parameters of a template begin, or its body where it has none.
+    #[inline(always)]
+    fn begin_params(
+        &mut self,
+        template: &'a Template,
+        passed: Passed<'a>,
+        scope: Scope,
+    ) -> Result<(), AllocError>
+        requires node { scope.focus.node < length self.old.world.tree }
+        requires passed { AreValues self.old.world.tree passed.values }
+        ensures begun { OnOk result (self.new ≡ pushed (params_first template.now.params
+            passed.entry template.now.body scope ∷ []) self.old) }
+    {
+        let params = template.params.as_slice();
+        if params.is_empty() {
+            return self.push_body(&template.body, scope);
+        }
+        let left = ParamsLeft {
+            left: params,
+            passed,
+            body: &template.body,
+            scope,
+        };
+        self.push(Frame::Params(Box::new(self.alloc, left)?))
     }
 
     /// Puts the parameters that are left before the others, or else the body.

@@ -16,7 +16,7 @@ use Rattle.xs_build.specs.declared.opened.Opened.{Opened}
 use Rattle.xs_tree.specs.Limits.{most_nodes}
 use Rattle.xs_build.specs.Namespaces.{Bindings, ExpandedName, is_empty, scope_with}
 use Rattle.xs_build.specs.Start.{begins_with, is_attribute_row, is_text_row, declarations, text_ahead}
-use Rattle.xs_build.specs.LineContext.{line_context, Nesting, starts, ends, neither, nesting, is_start, open_name, scope_in, has_start, follows_tag, names_at}
+use Rattle.xs_build.specs.LineContext.{line_context, starts, ends, neither, nesting, is_start, open_name, scope_in, has_start, follows_tag, names_at}
 use Rattle.xs_build.specs.LineContext.{name_as}
 use Rattle.xs_tree.specs.declared.names.Name.{Name}
 use Rattle.xs_build.specs.Nodes.{element, space, spaces}
@@ -126,10 +126,6 @@ opens_starts name o os row before lines h named here inner f = record {
   nodes = λ n. node_starts n name o os row before lines h here f.nodes;
   scopes = λ n. scope_starts n name o os row before lines h inner f.scopes;
 }
-
--- whether a start is among the lines, with one more
-starts_more : (row : Row) (before : List Row) (kind : Nesting) → nesting row ≡ kind → has_start (row ∷ before) ≡ (is_start kind || has_start before)
-starts_more row before kind h = rw h refl
 
 -- the names of a start tag, with one more line
 names_none : (scope : Bindings) (row : Row) (before : List Row) → is_attribute_row row ≡ false → names_at scope (row ∷ before) ≡ []

@@ -168,11 +168,6 @@ leads_attribute c name value s =
     leads_needs c (Attr name value) (qname_of name) bad_name (λ w. written_step c seen value w (declared_prefix w)) (λ w _.
     leads_written c seen name value w (declared_prefix w) is s))
 
--- a text
-none_open : (os : List Opened) → is_empty os ≡ true → os ≡ []
-none_open [] h = refl
-none_open (o ∷ os) h = cc
-
 text_outside : (begun : Bool) (tag : Option (List Expanded)) (os : List Opened) (said : List ℕ) (ls : List Line) → is_empty os ≡ true
     → is_blank said ≡ true → Outside begun ls → Follow begun tag os (Chars said ∷ ls)
 text_outside begun tag [] said ls none white h = outside_more begun (Chars said) ls (λ rest m. white_space said ls white m) h

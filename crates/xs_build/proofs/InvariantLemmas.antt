@@ -1,6 +1,6 @@
 -- Each line leaves the builder in good order.
 use Rattle.std.proofs.Common.{◌≡◌, ℕ, ◌+◌, ◌≤◌, List, [], ◌∷◌, ◌++◌, Option, None, Some, Bool, true, false, refl, sym, ◌∙◌, ap, subst, length, map, inl, inr}
-use Rattle.std.proofs.Common.{append_assoc, append-nil, length-append, arith}
+use Rattle.std.proofs.Common.{append_assoc, length-append, arith}
 use Rattle.std.specs.Prelude.{IsSome, not, ◌&&◌, ◌||◌, ◌==◌, nat_le, if◌then◌else◌}
 use Rattle.std.specs.List.{list_any}
 use Rattle.std.specs.Str.{bytes_eq}
@@ -27,7 +27,7 @@ use Rattle.xs_build.specs.steps.Lines.{instruction_step, comment_step}
 use Rattle.xs_build.specs.Start.{declarations}
 use Rattle.xs_build.specs.Nodes.{element, attribute, spaces, text_node, comment, instruction}
 use Rattle.xs_text.specs.WhiteSpace.{is_blank}
-use Rattle.xs_build.specs.steps.State.{State, Next, stops, goes, initial, context, with_text_node, ended, placed, taken, moved, spoken_outside, spoken_first}
+use Rattle.xs_build.specs.steps.State.{State, Next, stops, goes, context, with_text_node, ended, placed, taken, moved, spoken_outside, spoken_first}
 use Rattle.xs_build.specs.steps.State.{spoken_inside, spoken, stepped, next_line}
 use Rattle.xs_build.specs.steps.Invariant.{StandFrom, IsWell, IsGood}
 use Rattle.xs_build.proofs.RestStepLemmas.{ended_is}
@@ -325,9 +325,6 @@ good_more s b before text is g = record {
   counting = g.counting;
 }
 
-good_nothing : (s : State) → IsGood s → IsGood (record s { text = s.text ++ []; tag = None })
-good_nothing s g = subst (λ t. IsGood (record s { text = t; tag = None })) (sym (append-nil s.text)) (good_untagged s g)
-
 good_inside : (s : State) (before text : List ℕ) → s.text ≡ before → is_empty s.around ≡ false → IsGood s → GoodNext (spoken_inside s text)
 good_inside s [] [] is in_o g = rw is (subst (λ t. IsGood (record s { text = t; tag = None })) is (good_untagged s g))
 good_inside s [] (b ∷ text) is in_o g = rw is (good_first s b text is in_o g)
@@ -357,16 +354,6 @@ good_next s g = record {
   few = g.few;
   outside = g.outside;
   fresh = λ is. record { quiet = (g.fresh is).quiet; within = (g.fresh is).within; order = (g.fresh is).order };
-  counting = omega arith;
-}
-
-pub good_initial : IsGood initial
-good_initial = record {
-  well = record { some = omega arith; root = refl; inside = λ k a b. absurd (omega arith); stack = tt };
-  counted = refl;
-  few = omega arith;
-  outside = λ _. refl;
-  fresh = λ is. cc;
   counting = omega arith;
 }
 

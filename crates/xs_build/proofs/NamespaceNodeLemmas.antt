@@ -1,5 +1,5 @@
 -- The namespace nodes of an element, one after another, and those that are copies of the parent's.
-use Rattle.std.proofs.Common.{◌≡◌, ℕ, ◌+◌, ◌<◌, ◌≤◌, List, [], ◌∷◌, ◌++◌, length, refl, sym, ◌∙◌, arith, append_assoc, append-nil, Option, Some, ap, subst}
+use Rattle.std.proofs.Common.{◌≡◌, ℕ, ◌+◌, ◌<◌, ◌≤◌, List, [], ◌∷◌, ◌++◌, length, refl, sym, ◌∙◌, arith, append_assoc, Option, Some, ap, subst}
 use Rattle.xs_tree.specs.declared.kinds.Kind.TheVariants.{Element, Space}
 use Rattle.xs_tree.specs.declared.names.Name.{Name}
 use Rattle.xs_tree.specs.Record.{Record, at}
@@ -20,18 +20,6 @@ pub record IsSpaced (tree : List Record) (element : ℕ) (left : Bindings) (whol
   pub room : length tree + length left ≤ most_nodes
   pub same : tree ++ spaces element left ≡ whole
 
-pub spaced_start : (tree : List Record) (element : ℕ) (scope : Bindings) → element + 1 ≡ length tree → (at tree element).kind ≡ Element
-    → length tree + length scope ≤ most_nodes → IsSpaced tree element scope (tree ++ spaces element scope)
-spaced_start tree element scope last kind room =
-    record {
-      within = omega arith;
-      kind = kind;
-      inside = λ k a b. absurd (omega arith);
-      order = λ k a b. absurd (omega arith);
-      room = room;
-      same = refl;
-    }
-
 pub spaced_step : (tree : List Record) (element : ℕ) (b : Binding) (left : Bindings) (whole : List Record) → IsSpaced tree element (b ∷ left) whole
     → IsSpaced (tree ++ space element b ∷ []) element left whole
 spaced_step tree element b left whole s =
@@ -43,9 +31,6 @@ spaced_step tree element b left whole s =
       room = omega (arith, s.room, length-added tree (space element b));
       same = append_assoc tree (space element b ∷ []) (spaces element left) ∙ s.same;
     }
-
-pub spaced_end : (tree : List Record) (element : ℕ) (whole : List Record) → IsSpaced tree element [] whole → tree ≡ whole
-spaced_end tree element whole s = sym (append-nil tree) ∙ s.same
 
 -- ---- copies
 -- Some bindings are left to add, and the namespace nodes of the parent for them stand from this place up to the last.

@@ -4,18 +4,10 @@ use Rattle.std.specs.Char.{to_ascii_lowercase}
 use Rattle.std.specs.Str.{bytes_eq}
 use Rattle.std.specs.BTreeMap.{insert_entry, is_at}
 use Rattle.std.specs.Map.{lookup, remove_entry}
-pub use Rattle.xs_text.specs.Names.{QName, is_colon, is_ncname, prefixed, unprefixed}
+pub use Rattle.xs_text.specs.Names.{QName, is_colon, is_ncname, prefixed, unprefixed, xml_uri, xmlns_uri}
 unfoldable pub use Rattle.xs_text.specs.Names.{qname_of}
 use Rattle.xs_tree.specs.Names.{order_of_texts}
 use Rattle.xs_tree.specs.declared.names.Name.{Name}
-
--- the namespace of the prefix `xml` (Namespaces in XML 1.0, 3)
-abbrev pub xml_uri : List ℕ
-xml_uri = codes "http://www.w3.org/XML/1998/namespace"
-
--- the namespace of the prefix `xmlns`, which declares the others (Namespaces in XML 1.0, 3)
-abbrev pub xmlns_uri : List ℕ
-xmlns_uri = codes "http://www.w3.org/2000/xmlns/"
 
 abbrev pub is_empty : {X : Type 0} → List X → Bool
 is_empty [] = true

@@ -17,9 +17,10 @@ use crate::fault::{
 use crate::known::{NodeName, ReadName};
 use crate::local_part::LocalPart;
 use crate::nodes::{put_attribute, put_attribute_like};
-use crate::qnames::{XMLNS_URI, declared_prefix, is_bad_binding};
+use crate::qnames::{declared_prefix, is_bad_binding};
 use crate::tag_names::Expanded;
 use std::alloc::{AllocError, Global};
+use xs_text::XMLNS_URI;
 use xs_tree::{MOST_NODES, Name, NameText, Node, Tree};
 
 impl<'a> Builder<'a> {

@@ -7,11 +7,7 @@ ghost use Rattle.xs_build.specs.Namespaces.{QName, is_empty, is_ncname, declared
 ghost use Rattle.xs_build.specs.Namespaces.{is_bad_binding, is_xml};
 ghost use Rattle.xs_text.specs.WhiteSpace.{is_blank};
 
-/// The namespace of the prefix `xml` (Namespaces in XML 1.0, 3).
-pub const XML_URI: &str = "http://www.w3.org/XML/1998/namespace";
-
-/// The namespace of the prefix `xmlns` (Namespaces in XML 1.0, 3).
-pub const XMLNS_URI: &str = "http://www.w3.org/2000/xmlns/";
+use xs_text::{XML_URI, XMLNS_URI};
 
 /// Whether there are no characters.
 #[tactic(auto, using(crate::proofs::TextLemmas::empty_by_length))]

@@ -7,12 +7,11 @@ ghost use Rattle.xs_build.specs.Namespaces.{Bindings, outermost, bound, scope_wi
 ghost use Rattle.xs_build.specs.Namespaces.{element_name, attribute_name};
 ghost use Rattle.xs_build.specs.steps.Views.{bindings_of};
 
-use crate::qnames::XML_URI;
 use std::alloc::{AllocError, Global};
 use std::collections::BTreeMap;
 use std::marker::Model;
 use std::rc::Rc;
-use xs_text::is_same;
+use xs_text::{XML_URI, is_same};
 use xs_tree::{Name, NameText};
 
 /// A declaration: a prefix, empty for the default namespace, and its URI.

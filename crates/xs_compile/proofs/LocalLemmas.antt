@@ -109,8 +109,6 @@ module _ (rs : List Record) (n p : ℕ) (name : Name) (entry : LocalEntry) (old 
           ]
 
 -- ---- counts
-pub counts-none : (rs : List Record) → AreCounts rs 0 []
-counts-none rs = record { size = refl; each = λ n lt. absurd (omega (arith, lt)) }
 
 -- what is visible at a node, by the count of its parent
 pub visible-counted : (rs : List Record) → IsTree rs → (n p d : ℕ) (counts : List ℕ) → n < length rs → (at rs n).parent ≡ Some p → AreCounts rs n counts

@@ -9,18 +9,13 @@ use Rattle.std.proofs.Math.Nat.{mul_assoc, mul-le-mul_right, one-le-pow, pow-le-
 use Rattle.std.proofs.Math.Seq.{take-append-add}
 use Rattle.std.specs.Char.{digit_value}
 use Rattle.std.specs.List.{after_first, before_first, list_all}
-use Rattle.std.specs.Prelude.{◌&&◌, nat_le, codes, neg_ℤ, pos}
+use Rattle.std.specs.Prelude.{◌&&◌, nat_le, codes, pos}
 use Rattle.std.specs.Str.Parse.{digits_value, digits_value_after}
 use Rattle.xs_compile.specs.Priorities.{priority_in, tenthousandths}
 use Rattle.xs_elements.specs.Values.{are_digits, is_number, is_point, unsigned}
 use Rattle.xs_xpath.specs.Digits.{is_digit}
 
 -- ---- a sign
-pub minus_priority : (text digits : List ℕ) → text ≡ 45 ∷ digits → neg_ℤ (pos (tenthousandths digits)) ≡ priority_in text
-minus_priority text digits e = ap priority_in (sym e)
-
-pub minus_number : (text digits : List ℕ) → text ≡ 45 ∷ digits → is_number (unsigned text) ≡ true → is_number digits ≡ true
-minus_number text digits e h = ap (λ (t : List ℕ). is_number (unsigned t)) (sym e) ∙ h
 
 pub plain_priority : (text : List ℕ) → ((rest : List ℕ) → text ≢ 45 ∷ rest) → pos (tenthousandths text) ≡ priority_in text
 plain_priority [] none = refl
@@ -107,12 +102,6 @@ module _ (xs : List ℕ) (i v whole total : ℕ) (lt : i < length xs) (h : IsRea
     digits = (and_parts (is_digit (get_or xs i 0)) (list_all is_digit (drop (i + 1) xs)) all).1;
     few = room v (get_or xs i 0 - 48) (length (drop (i + 1) xs)) whole (omega (arith, digit.high)) few;
   }
-
-pub all_read : (xs : List ℕ) (i v whole total : ℕ) → length xs ≤ i → IsRead xs i v whole total → (v ≡ total) × (v + 1 ≤ whole)
-all_read xs i v whole total past h =
-    let none = drop_all i xs past in
-    let few : (v + 1) * 10 ^ 0 ≤ whole = subst (λ (ds : List ℕ). (v + 1) * 10 ^ length ds ≤ whole) none h.few in
-    (ap (digits_value_after 10 v) (sym none) ∙ h.value, omega (arith, few))
 
 -- ---- what stands before the point, and four digits behind it
 pub record IsParted (text whole part : List ℕ) : Type 0 where

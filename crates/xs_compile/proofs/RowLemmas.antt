@@ -1,12 +1,11 @@
 -- What follows of the kind of an element.
-use Rattle.std.proofs.Common.{◌≡◌, ◌∙◌, ap, refl, sym, subst, Bool, true, false, List, ℕ, Some, None, [], ◌∷◌}
+use Rattle.std.proofs.Common.{◌≡◌, ◌∙◌, ap, refl, sym, subst, Bool, true, false, List, ℕ, None, [], ◌∷◌}
 use Rattle.std.proofs.lemmas.Bool.{false≢true}
 use Rattle.std.proofs.lemmas.Option.{none-some}
 use Rattle.std.specs.Prelude.{codes, slice_get}
 use Rattle.xs_compile.specs.Bodies.{Source, first_body}
-use Rattle.xs_structure.specs.Parts.{body_at, reading_at, row_at}
+use Rattle.xs_structure.specs.Parts.{reading_at, row_at}
 use Rattle.xs_compile.specs.steps.Rows.{has_name, holds_body, is_binding, is_body_row, takes_expression}
-use Rattle.xs_elements.specs.declared.reading.Reading.{Reading}
 use Rattle.xs_elements.specs.declared.reading.Reading.TheVariants.{Known, Literal, Extension}
 use Rattle.xs_elements.specs.declared.rows.Row.{Row}
 use Rattle.xs_elements.specs.declared.rows.Row.TheVariants.{Variable, Param, ApplyTemplates, CallTemplate, ApplyImports, ForEach, ValueOf, CopyOf, Copy, Number, Choose, If, Text, Element, Attribute, Comment, ProcessingInstruction, Message, WithParam, Other, NoElement}
@@ -34,17 +33,6 @@ row-body rs n row e holds =
     ap (λ (r : Row). holds_body (content_by (reading_by r (is_top_level rs n) (is_in_extension rs n)) r (has rs n (codes "select")))) e
     ∙ holds (is_top_level rs n) (is_in_extension rs n) (has rs n (codes "select"))
 
-pub literal-body : (rs : List Record) (n : ℕ) → row_of rs n ≡ Other → reading_of rs n ≡ Literal → holds_body (content_at rs n) ≡ true
-literal-body rs n e f =
-    ap (λ (r : Reading). holds_body (content_by r (row_of rs n) (has rs n (codes "select")))) f
-    ∙ ap (λ (r : Row). holds_body (content_by Literal r (has rs n (codes "select")))) e
-
-binding-holds : (row : Row) → is_binding row ≡ true → (a b : Bool) → holds_body (content_by (reading_by row a b) row false) ≡ true
-binding-holds Variable h a b = refl
-binding-holds Param h a b = refl
-binding-holds WithParam h a b = refl
-binding-holds _ h a b = absurd (false≢true h)
-
 pub binding-takes : (row : Row) → is_binding row ≡ true → takes_expression row (codes "select") ≡ true
 binding-takes Variable h = refl
 binding-takes Param h = refl
@@ -56,11 +44,6 @@ binding-named Variable h = refl
 binding-named Param h = refl
 binding-named WithParam h = refl
 binding-named _ h = absurd (false≢true h)
-
-pub binding-body : (rs : List Record) (n : ℕ) → is_binding (row_of rs n) ≡ true → has rs n (codes "select") ≡ false → holds_body (content_at rs n) ≡ true
-binding-body rs n h none =
-    ap (λ (s : Bool). holds_body (content_by (reading_of rs n) (row_of rs n) s)) none
-    ∙ binding-holds (row_of rs n) h (is_top_level rs n) (is_in_extension rs n)
 
 -- an element that is no XSLT, and not of the top level
 pub other-reading : (rs : List Record) (n : ℕ) → row_of rs n ≡ Other → is_top_level rs n ≡ false → (reading_of rs n ≡ Literal → ⊥) → (reading_of rs n
@@ -74,9 +57,6 @@ other-reading rs n e inner literal extension = by_extension (is_in_extension rs 
         ∙ ap (λ (b : Bool). reading_by Other b (is_in_extension rs n)) inner ∙ ap (λ (b : Bool). reading_by Other false b) f)
 
 -- ---- the first of some places
-pub first-some : (s : Source) (ps : List Place) (p : Place) → slice_get ps 0 ≡ Some p → first_body s ps ≡ body_at s.modules p
-first-some s [] p e = absurd (none-some p e)
-first-some s (q ∷ qs) p e = let same : q ≡ p = cc (e) in ap (body_at s.modules) same
 
 pub first-none : (s : Source) (ps : List Place) → slice_get ps 0 ≡ None → first_body s ps ≡ []
 first-none s [] e = refl

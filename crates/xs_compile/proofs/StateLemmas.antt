@@ -1,6 +1,5 @@
 -- What the tables of a compilation have at a place.
 use Rattle.std.proofs.Common.{◌≡◌, ◌∙◌, ◌<◌, ℕ, zero, suc, ap, refl, sym, subst, arith, Bool, true, false, List, [], ◌∷◌, length, None, get_or, drop, map}
-use Rattle.std.proofs.lemmas.List.{length-map}
 use Rattle.std.proofs.lemmas.Bool.{and_from, and_parts, false_from_ne_true, false≢true}
 use Rattle.std.specs.List.{AllZip}
 use Rattle.std.specs.Option.{option_map_or}
@@ -50,11 +49,6 @@ pub standings-in : {T : Type 0} (items : T → List Standing) (ms : List ModuleD
     → map items all ≡ map (λ (d : ModuleData). map (standing_of d.records) (places d.records)) ms → (m : ℕ) → m < length ms → (t : T) → t ≡ get_or all m t
     → items t ≡ map (standing_of (records_at ms m)) (places (records_at ms m))
 standings-in items = table-in (λ rs. map (standing_of rs) (places rs)) items
-
-pub standings-many : {T : Type 0} (items : T → List Standing) (ms : List ModuleData) (all : List T)
-    → map items all ≡ map (λ (d : ModuleData). map (standing_of d.records) (places d.records)) ms → length all ≡ length ms
-standings-many items ms all h =
-    sym (length-map all items) ∙ ap length h ∙ length-map ms (λ (d : ModuleData). map (standing_of d.records) (places d.records))
 
 -- ---- no local binding shadows another one
 -- an element that binds a variable is one

@@ -20,10 +20,6 @@ use Rattle.xs_tree.specs.Record.{Record, places}
 use Rattle.xs_tree.specs.Shape.{IsTree}
 use Rattle.xs_xpath.specs.declared.name.Slot.TheVariants.{Local}
 
-or-false : (b : Bool) → (b || false) ≡ b
-or-false true = refl
-or-false false = refl
-
 -- one of the first so many places passes a test
 pub any-place : (test : ℕ → Bool) (n b : ℕ) → b < n → test b ≡ true → list_any test (range_with_len 0 n) ≡ true
 any-place test zero b lt h = absurd (omega (arith, lt))

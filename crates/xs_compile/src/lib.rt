@@ -21,5 +21,6 @@ mod reading;
 mod slots;
 mod spaces;
 mod templates;
+mod variables;
 
 pub use compiled::{CompileEnd, compile};

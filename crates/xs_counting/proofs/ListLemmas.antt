@@ -1,14 +1,14 @@
 -- Lists by tests that agree on the nodes of a tree are the same.
-use Rattle.std.proofs.Common.{◌≡◌, ℕ, zero, suc, ◌+◌, ◌-◌, ◌<◌, ◌≤◌, ◌==◌, ◌&&◌, Bool, true, false, cond, not, List, [], ◌∷◌, filter, length, map, reverse, take, take_while, refl, sym, subst, ap, ◌∙◌, arith}
-use Rattle.std.proofs.lemmas.List.{get_or-reverse, length-reverse}
-use Rattle.std.proofs.lemmas.List.Elements.{All-cons, All-filter, All-from_get_or, All-get_or, All-head, All-nil, All-tail, All-take, All-weaker}
+use Rattle.std.proofs.Common.{◌≡◌, ℕ, suc, ◌-◌, ◌<◌, ◌==◌, ◌&&◌, Bool, true, false, cond, not, List, [], ◌∷◌, filter, length, map, reverse, take, take_while, refl, sym, subst, ap, ◌∙◌, arith}
+use Rattle.std.proofs.lemmas.List.Elements.{All-cons, All-filter, All-head, All-nil, All-tail, All-take, All-weaker}
 use Rattle.std.proofs.lemmas.List.Sums.{take_while-cons}
 use Rattle.std.specs.List.{All, range_with_len}
 use Rattle.xs_tree.specs.declared.axes.Axis.TheVariants.{Ancestor}
-use Rattle.xs_tree.specs.Axis.{axis_list, is_on, is_sibling, root_of}
-use Rattle.xs_tree.specs.Record.{Record, at, places}
-use Rattle.xs_numbering.specs.declared.tables.Level.{Level}
-use Rattle.xs_numbering.specs.declared.tables.Level.TheVariants.{Single, Multiple, Any}
+use Rattle.xs_tree.specs.Axis.{axis_list, is_sibling, root_of}
+use Rattle.xs_tree.specs.Record.{Record, at}
+use Rattle.xs_sheet.specs.declared.body.Level.{Level}
+use Rattle.xs_sheet.specs.declared.body.Level.TheVariants.{Single, Multiple, Any}
+use Rattle.xs_numbering.proofs.LevelLemmas.{ancestors-inside, range-inside, reversed}
 use Rattle.xs_numbering.specs.Counting.{any_number, counted, has_level, list_at, looked_at, multiple, passed, searched, sibling_number, siblings_before, single}
 
 -- ---- tests that agree
@@ -32,23 +32,6 @@ map-same f g (x ∷ xs) h =
     ap (λ y. y ∷ map f xs) (All-head (λ k. f k ≡ g k) x xs h) ∙ ap (λ l. g x ∷ l) (map-same f g xs (All-tail (λ k. f k ≡ g k) x xs h))
 
 -- ---- nodes of the tree
-range-inside : (b a n : ℕ) → a + n ≤ b → All (λ k. k < b) (range_with_len a n)
-range-inside b a zero h = All-nil (λ k. k < b)
-range-inside b a (suc n) h =
-    All-cons (λ k. k < b) a (range_with_len (a + 1) n) (omega (arith, h)) (range-inside b (a + 1) n (omega (arith, h)))
-
-reversed : (P : ℕ → Type 0) (xs : List ℕ) → All P xs → All P (reverse xs)
-reversed P xs h =
-    All-from_get_or P (reverse xs) 0 (λ i lt.
-    let within : i < length xs = subst (λ (n : ℕ). i < n) (length-reverse xs) lt in
-    subst P (sym (get_or-reverse xs i 0 within)) (All-get_or P xs (length xs - 1 - i) 0 (omega (arith, within)) h))
-
-ancestors-inside : (rs : List Record) (n : ℕ) → All (λ k. k < length rs) (axis_list Ancestor rs n)
-unfolding axis_list
-ancestors-inside rs n =
-    reversed (λ k. k < length rs) (filter (is_on Ancestor rs n) (places rs))
-    (All-filter (is_on Ancestor rs n) (λ k. k < length rs) (places rs) (range-inside (length rs) 0 (length rs) (omega arith)))
-
 before-inside : (rs : List Record) (n : ℕ) → n < length rs → All (λ k. k < length rs) (range_with_len 0 n)
 before-inside rs n lt = range-inside (length rs) 0 n (omega (arith, lt))
 

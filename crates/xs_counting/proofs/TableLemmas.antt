@@ -1,6 +1,6 @@
 -- The counters of a stylesheet.
 use Rattle.std.proofs.Common.{◌≡◌, Bool, true, false, cond, List, Option, Some, IfSome, subst, sym}
-use Rattle.xs_sheet.specs.declared.body.Level.{Level as Declared}
+use Rattle.xs_sheet.specs.declared.body.Level.{Level}
 use Rattle.xs_sheet.specs.declared.body.NumberDecl.{NumberDecl}
 use Rattle.xs_sheet.specs.declared.scoped.ScopedPattern.{ScopedPattern}
 use Rattle.xs_tree.specs.Record.{Record}
@@ -22,5 +22,5 @@ pub same-counter : (keys : List Table) (rs : List Record) (a b : NumberDecl) (c 
 same-counter keys rs a b c same h = record {
   counts = subst (λ (p : Option ScopedPattern). AreCounts keys rs p c.counts) same.count h.counts;
   from = subst (λ (p : Option ScopedPattern). AreFrom keys rs p c.from.items) same.from h.from;
-  numbers = subst (λ (l : Declared). AreNumbers l c.counts c.from.items rs c.numbers.items) same.level h.numbers;
+  numbers = subst (λ (l : Level). AreNumbers l c.counts c.from.items rs c.numbers.items) same.level h.numbers;
 }

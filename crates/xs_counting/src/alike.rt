@@ -13,8 +13,8 @@ ghost use Rattle.xs_tree.specs.Record.{Record, at, is_place, places};
 
 use std::alloc::{AllocError, Global};
 use std::collections::HashMap;
-use xs_numbering::passes::{has_level, held_by, is_marked, kind_number};
-use xs_tree::{Kind, Node, Tree};
+use xs_numbering::passes::{has_level, held_by, kind_number};
+use xs_tree::{Kind, Node, Tree, is_marked};
 
 /// What alike nodes have in common: the number of their kind, and their expanded name.
 type Likeness<'t> = (u32, (&'t str, &'t str));

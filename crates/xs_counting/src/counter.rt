@@ -3,7 +3,7 @@
 
 ghost use Rattle.std.specs.Prelude.{◌≡◌, ◌<◌, ◌∷◌, ◌++◌, [], IfOk, OnOk, filter, get_or, length};
 ghost use Rattle.std.specs.Prelude.{map, not, take_while};
-ghost use Rattle.xs_matching.specs.Counted.{alike_number, level_of, number_list};
+ghost use Rattle.xs_matching.specs.Counted.{alike_number, number_list};
 ghost use Rattle.xs_counting.specs.steps.Counters.{AlikeNumbers, AreCounts, AreFrom, AreNumbers};
 ghost use Rattle.xs_counting.specs.steps.Counters.{IsCounter, NumbersBy, alike_to};
 ghost use Rattle.xs_numbering.specs.Counting.{is_alike, list_at, multiple, sibling_number};
@@ -16,12 +16,12 @@ ghost use Rattle.xs_value.specs.Tables.{TablesIn};
 use crate::alike::{alike_any_numbers, alike_numbers};
 use std::alloc::{AllocError, Global};
 use xs_axes::axis_nodes;
-use xs_marks::matching::matches_of;
-use xs_numbering::levels::{multiple, single};
-use xs_numbering::passes::{any_numbers, is_marked, kind_number, sibling_numbers};
+use xs_numbering::levels::{multiple, number_at, single};
+use xs_numbering::passes::{any_numbers, is_alike, sibling_numbers};
+use xs_pattern::match_tables::match_table;
 use xs_sheet::body::{Level, NumberDecl};
 use xs_sheet::scoped::ScopedPattern;
-use xs_tree::{Axis, Node, Tree};
+use xs_tree::{Axis, Node, Tree, is_marked};
 use xs_value::keys::KeyFinder;
 
 /// What is known of each node of a tree for a declaration.
@@ -94,7 +94,7 @@ fn counts_of<K: KeyFinder>(
     ensures { IfOk result (AreCounts (K.tables keys.now) tree.now count.now) }
 {
     match count {
-        Some(pattern) => Ok(Some(matches_of(alloc, pattern, tree, keys)?)),
+        Some(pattern) => Ok(Some(match_table(alloc, pattern, tree, keys)?)),
         None => Ok(None),
     }
 }
@@ -110,7 +110,7 @@ fn from_of<K: KeyFinder>(
     ensures { IfOk result (λ marks. AreFrom (K.tables keys.now) tree.now from.now marks.items) }
 {
     match from {
-        Some(pattern) => matches_of(alloc, pattern, tree, keys),
+        Some(pattern) => match_table(alloc, pattern, tree, keys),
         None => Ok(Vec::new(alloc)),
     }
 }
@@ -176,7 +176,7 @@ fn marked_list(
 ) -> Result<Vec<u64>, AllocError>
     requires node { node < length tree.now }
     requires numbers { NumbersBy level counts.now from.now tree.now numbers.now }
-    ensures { IfOk result (λ v. v.items ≡ list_at (level_of level) (is_marked counts.now)
+    ensures { IfOk result (λ v. v.items ≡ list_at level (is_marked counts.now)
         (is_marked from.now) tree.now node) }
 {
     match level {
@@ -197,7 +197,7 @@ fn alike_list(
 ) -> Result<Vec<u64>, AllocError>
     requires node { node < length tree.now }
     requires numbers { AlikeNumbers level from.now tree.now numbers.now }
-    ensures { IfOk result (λ v. v.items ≡ list_at (level_of level) (alike_to tree.now node)
+    ensures { IfOk result (λ v. v.items ≡ list_at level (alike_to tree.now node)
         (is_marked from.now) tree.now node) }
 {
     match level {
@@ -215,14 +215,6 @@ fn alone(alloc: Global, numbers: &[u32], node: Node) -> Result<Vec<u64>, AllocEr
     let mut list = Vec::new(alloc);
     list.push(number_at(numbers, node))?;
     Ok(list)
-}
-
-// The number of a node in a table.
-fn number_at(numbers: &[u32], node: Node) -> u64
-    requires { node < length numbers.now }
-    ensures { result ≡ get_or numbers.now node 0 }
-{
-    u64::from(numbers[node.place() as usize])
 }
 
 // The numbers of the node and of its ancestors that are alike to it, the outermost first.
@@ -288,15 +280,4 @@ fn add_alike(
         out.push(number_at(numbers, node))?;
     }
     Ok(())
-}
-
-// Whether two nodes have one kind and one expanded name.
-fn is_alike(tree: &Tree, node: Node, like: Node) -> bool
-    requires node { node < length tree.now }
-    requires like { like < length tree.now }
-    ensures { result ≡ is_alike (at tree.now node) (at tree.now like) }
-{
-    kind_number(tree.kind(node)) == kind_number(tree.kind(like))
-        && tree.uri(node) == tree.uri(like)
-        && tree.local(node) == tree.local(like)
 }

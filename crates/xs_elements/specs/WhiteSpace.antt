@@ -8,13 +8,10 @@ use Rattle.xs_elements.specs.declared.rows.Row.{Row}
 use Rattle.xs_elements.specs.declared.rows.Row.TheVariants.{Text}
 use Rattle.xs_elements.specs.Nodes.{ancestors_or_self, value_of}
 use Rattle.xs_elements.specs.Rows.{row_of}
+pub use Rattle.xs_text.specs.Names.{xml_uri}
 use Rattle.xs_text.specs.WhiteSpace.{is_blank, is_white_space}
 use Rattle.xs_tree.specs.Kinds.{is_text_kind}
 use Rattle.xs_tree.specs.Record.{Record, at}
-
--- the namespace of `xml:space` (Namespaces in XML 1.0, 3)
-abbrev pub xml_uri : List ℕ
-xml_uri = codes "http://www.w3.org/XML/1998/namespace"
 
 -- whether white space is preserved, by the value of an `xml:space`: `preserve` and `default` say so, any other says nothing
 abbrev pub space_value : List ℕ → Option Bool

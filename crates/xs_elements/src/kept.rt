@@ -7,11 +7,8 @@ ghost use Rattle.xs_tree.specs.Record.{at};
 
 use crate::rows::Row;
 use crate::scope::value_of;
-use xs_text::is_blank;
+use xs_text::{XML_URI, is_blank};
 use xs_tree::{Node, Tree};
-
-/// The namespace that is bound to `xml` (Namespaces in XML 1.0, 3).
-pub const XML_URI: &str = "http://www.w3.org/XML/1998/namespace";
 
 /// What an element says of white space by `xml:space`: whether it is preserved, or nothing.
 pub fn own_space(tree: &Tree, n: Node) -> Option<bool>

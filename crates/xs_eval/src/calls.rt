@@ -16,7 +16,7 @@ ghost use Rattle.xs_meaning.specs.Names.{system_property};
 ghost use Rattle.xs_meaning.specs.Results.{Answers};
 
 use crate::arguments::{chars, number_at, number_or_node, single, text_at, truth_at};
-use crate::keys::find_by_key;
+use crate::evaluator::Evaluator;
 use crate::languages::is_in_language;
 use crate::names::{is_element_available, is_function_available, system_property};
 use crate::operand::Operand;
@@ -25,7 +25,6 @@ use std::alloc::Global;
 use xs_meaning::context::Context;
 use xs_meaning::trouble::{Trouble, settled};
 use xs_num::number::Num;
-use xs_trace::item::Site;
 use xs_trace::recorder::{Halt, Tally};
 use xs_tree::Tree;
 use xs_value::keys::KeyFinder;
@@ -33,28 +32,28 @@ use xs_value::node_set::NodeSet;
 use xs_value::value::Value;
 use xs_xpath::name::Function;
 
-/// The answer of a function, at an instruction: that of `key` has its ticks.
-pub(crate) fn answer<K: KeyFinder, T: Tally>(
-    alloc: Global,
-    function: Function,
-    values: &[Operand<'_>],
-    context: &Context<'_>,
-    keys: &K,
-    site: Site,
-    tally: &mut T,
-) -> Result<Value, Halt>
-    requires context { IsContext (K.tables keys.now) context.now }
-    requires inside { All (IsIn context.now.tree) values.now }
-    ensures told { IsStep (limited site
-        (answered (K.tables keys.now) context.now function values.now)
-        (T.state tally.old)) result (T.state tally.new) }
-    ensures kept { T.kept tally.new ≡ T.kept tally.old }
-    ensures inside { IfOk result (IsIn context.now.tree) }
-{
-    if is_key(function) {
-        return find_by_key(alloc, context, keys, values, site, tally);
+impl<K: KeyFinder> Evaluator<'_, K> {
+    /// The answer of a function: that of `key` has its ticks.
+    pub(crate) fn answer<T: Tally>(
+        &self,
+        function: Function,
+        values: &[Operand<'_>],
+        context: &Context<'_>,
+        tally: &mut T,
+    ) -> Result<Value, Halt>
+        requires context { IsContext (K.tables self.now.keys.now) context.now }
+        requires inside { All (IsIn context.now.tree) values.now }
+        ensures told { IsStep (limited self.now.site
+            (answered (K.tables self.now.keys.now) context.now function values.now)
+            (T.state tally.old)) result (T.state tally.new) }
+        ensures kept { T.kept tally.new ≡ T.kept tally.old }
+        ensures inside { IfOk result (IsIn context.now.tree) }
+    {
+        if is_key(function) {
+            return self.find_by_key(context, values, tally);
+        }
+        settled(apply(self.alloc, function, context, values), self.site)
     }
-    settled(apply(alloc, function, context, values), site)
 }
 
 // What a function gives of the values of its arguments.

@@ -16,13 +16,13 @@ ghost use Rattle.xs_meaning.specs.Names.{expanded_name};
 ghost use Rattle.xs_meaning.specs.Conditions.{IsContext};
 
 use crate::arguments::text_at;
+use crate::evaluator::Evaluator;
 use crate::names::expanded_name;
 use crate::operand::{Operand, Seen};
 use crate::predicates::kept_if;
 use std::alloc::{AllocError, Global};
 use xs_meaning::context::Context;
 use xs_trace::fault::Fault;
-use xs_trace::item::Site;
 use xs_trace::recorder::{Halt, Tally, tick_several};
 use xs_tree::{Node, Tree};
 use xs_value::conversion::node_text;
@@ -33,27 +33,177 @@ use xs_value::text_indexes::{TextIndex, index_texts};
 use xs_value::value::Value;
 use xs_xpath::scope::Scope;
 
-/// `key`: a tick for each node of the answer.
-pub(crate) fn find_by_key<K: KeyFinder, T: Tally>(
-    alloc: Global,
-    context: &Context<'_>,
-    keys: &K,
-    values: &[Operand<'_>],
-    site: Site,
-    tally: &mut T,
-) -> Result<Value, Halt>
-    requires context { IsContext (K.tables keys.now) context.now }
-    requires inside { All (IsIn context.now.tree) values.now }
-    ensures told { IsStep (limited site
-        (keyed (K.tables keys.now) context.now (first values.now) (second values.now))
-        (T.state tally.old)) result (T.state tally.new) }
-    ensures kept { T.kept tally.new ≡ T.kept tally.old }
-    ensures inside { IfOk result (IsIn context.now.tree) }
-{
-    let name = text_at(alloc, context.tree, values, 0)?;
-    match number_of(keys, context.scope, name.as_str()) {
-        Some(key) => look_up(alloc, context, keys, key, values, site, tally),
-        None => Err(Halt::Fault(Fault::NoKey, site)),
+impl<K: KeyFinder> Evaluator<'_, K> {
+    /// `key`: a tick for each node of the answer.
+    pub(crate) fn find_by_key<T: Tally>(
+        &self,
+        context: &Context<'_>,
+        values: &[Operand<'_>],
+        tally: &mut T,
+    ) -> Result<Value, Halt>
+        requires context { IsContext (K.tables self.now.keys.now) context.now }
+        requires inside { All (IsIn context.now.tree) values.now }
+        ensures told { IsStep (limited self.now.site
+            (keyed (K.tables self.now.keys.now) context.now (first values.now) (second values.now))
+            (T.state tally.old)) result (T.state tally.new) }
+        ensures kept { T.kept tally.new ≡ T.kept tally.old }
+        ensures inside { IfOk result (IsIn context.now.tree) }
+    {
+        let name = text_at(self.alloc, context.tree, values, 0)?;
+        match number_of(self.keys, context.scope, name.as_str()) {
+            Some(key) => self.look_up(context, key, values, tally),
+            None => Err(Halt::Fault(Fault::NoKey, self.site)),
+        }
+    }
+
+    // The nodes that a key gives for what is looked up, a tick for each.
+    fn look_up<T: Tally>(
+        &self,
+        context: &Context<'_>,
+        key: u32,
+        values: &[Operand<'_>],
+        tally: &mut T,
+    ) -> Result<Value, Halt>
+        requires context { IsContext (K.tables self.now.keys.now) context.now }
+        requires inside { All (IsIn context.now.tree) values.now }
+        ensures told { IsStep (limited self.now.site
+            (from_table context.now (table_at (K.tables self.now.keys.now) key)
+            (table_at (K.tables self.now.keys.now) key).fault
+            (sought context.now (second values.now)))
+            (T.state tally.old)) result (T.state tally.new) }
+        ensures kept { T.kept tally.new ≡ T.kept tally.old }
+        ensures inside { IfOk result (IsIn context.now.tree) }
+    {
+        match self.found_of(context, key, values) {
+            Ok(found) => {
+                tick_several(tally, self.site, found.nodes().len() as u64)?;
+                Ok(Value::Nodes(found))
+            }
+            Err(KeyEnd::Fault(fault)) => Err(Halt::Fault(fault, self.site)),
+            Err(KeyEnd::NoMemory) => Err(Halt::NoMemory),
+        }
+    }
+
+    // The nodes that a key gives for what is looked up, in the document of the context node.
+    fn found_of(
+        &self,
+        context: &Context<'_>,
+        key: u32,
+        values: &[Operand<'_>],
+    ) -> Result<NodeSet, KeyEnd>
+        requires context { IsContext (K.tables self.now.keys.now) context.now }
+        requires inside { All (IsIn context.now.tree) values.now }
+        ensures found { FindsNodes context.now (table_at (K.tables self.now.keys.now) key)
+            (sought context.now (second values.now)) result }
+    {
+        match sought_nodes(values) {
+            Some(sought) => self.found_for_nodes(context, key, sought),
+            None => {
+                let text = text_at(self.alloc, context.tree, values, 1)?;
+                let found = self.found_for_text(context, key, text.as_str());
+                drop(text);
+                found
+            }
+        }
+    }
+
+    // The nodes that a key gives for a text.
+    fn found_for_text(&self, context: &Context<'_>, key: u32, text: &str) -> Result<NodeSet, KeyEnd>
+        requires context { IsContext (K.tables self.now.keys.now) context.now }
+        ensures found { FindsNodes context.now (table_at (K.tables self.now.keys.now) key)
+            (text.now ∷ []) result }
+    {
+        let document = Document::of(context.tree, context.node);
+        let none = NodeList::new(self.alloc);
+        let nodes = self.add_found(context, &document, key, text, none)?;
+        Ok(NodeSet::of_list(nodes)?)
+    }
+
+    // The nodes that a key gives for the string-values of some nodes: each distinct one is looked
+    // up once.
+    fn found_for_nodes(
+        &self,
+        context: &Context<'_>,
+        key: u32,
+        sought: &[Node],
+    ) -> Result<NodeSet, KeyEnd>
+        requires context { IsContext (K.tables self.now.keys.now) context.now }
+        requires sought { All (λ k. k < length context.now.tree) sought.now }
+        ensures found { FindsNodes context.now (table_at (K.tables self.now.keys.now) key)
+            (map (string_value context.now.tree) sought.now) result }
+    {
+        if let [node] = sought {
+            return self.found_for_node(context, key, *node);
+        }
+        let index = index_texts(self.alloc, context.tree, sought)?;
+        let found = self.found_for_index(context, key, &index);
+        drop(index);
+        found
+    }
+
+    // The nodes that a key gives for the string-value of a node.
+    fn found_for_node(
+        &self,
+        context: &Context<'_>,
+        key: u32,
+        sought: Node,
+    ) -> Result<NodeSet, KeyEnd>
+        requires context { IsContext (K.tables self.now.keys.now) context.now }
+        requires sought { sought < length context.now.tree }
+        ensures found { FindsNodes context.now (table_at (K.tables self.now.keys.now) key)
+            (string_value context.now.tree sought ∷ []) result }
+    {
+        let text = node_text(self.alloc, context.tree, sought)?;
+        let found = self.found_for_text(context, key, text.as_str());
+        drop(text);
+        found
+    }
+
+    // The nodes that a key gives for the texts of an index. Without a text the table may have a
+    // fault all the same.
+    fn found_for_index(
+        &self,
+        context: &Context<'_>,
+        key: u32,
+        index: &TextIndex<'_>,
+    ) -> Result<NodeSet, KeyEnd>
+        requires context { IsContext (K.tables self.now.keys.now) context.now }
+        ensures found { FindsNodes context.now (table_at (K.tables self.now.keys.now) key)
+            (map cow_str_bytes index.now.keys) result }
+    {
+        self.check_table(key)?;
+        let document = Document::of(context.tree, context.node);
+        let mut nodes = NodeList::new(self.alloc);
+        for text in index.iter() {
+            nodes = self.add_found(context, &document, key, text.as_str(), nodes)?;
+        }
+        Ok(NodeSet::of_list(nodes)?)
+    }
+
+    // Whether the table of a key has no fault.
+    fn check_table(&self, key: u32) -> Result<(), KeyEnd>
+        ensures table { IsSound (table_at (K.tables self.now.keys.now) key) result }
+    {
+        drop(self.keys.find(self.alloc, key, "")?);
+        Ok(())
+    }
+
+    // The nodes that a key gives for a text, of those that are in a document, after others.
+    fn add_found(
+        &self,
+        context: &Context<'_>,
+        document: &Document,
+        key: u32,
+        text: &str,
+        before: NodeList,
+    ) -> Result<NodeList, KeyEnd>
+        requires context { IsContext (K.tables self.now.keys.now) context.now }
+        requires document { IsDocumentOf context.now.tree context.now.node document.now }
+        ensures found { AddsNodes context.now (table_at (K.tables self.now.keys.now) key) text.now
+            before result }
+    {
+        let found = self.keys.find(self.alloc, key, text)?;
+        Ok(add_held(document, found.nodes(), before)?)
     }
 }
 
@@ -65,59 +215,6 @@ pub fn number_of<K: KeyFinder>(keys: &K, scope: &Scope, name: &str) -> Option<u3
     match expanded_name(scope, name) {
         Some((uri, local)) => keys.number_of(uri, local),
         None => None,
-    }
-}
-
-// The nodes that a key gives for what is looked up, a tick for each.
-fn look_up<K: KeyFinder, T: Tally>(
-    alloc: Global,
-    context: &Context<'_>,
-    keys: &K,
-    key: u32,
-    values: &[Operand<'_>],
-    site: Site,
-    tally: &mut T,
-) -> Result<Value, Halt>
-    requires context { IsContext (K.tables keys.now) context.now }
-    requires inside { All (IsIn context.now.tree) values.now }
-    ensures told { IsStep (limited site
-        (from_table context.now (table_at (K.tables keys.now) key)
-        (table_at (K.tables keys.now) key).fault (sought context.now (second values.now)))
-        (T.state tally.old)) result (T.state tally.new) }
-    ensures kept { T.kept tally.new ≡ T.kept tally.old }
-    ensures inside { IfOk result (IsIn context.now.tree) }
-{
-    match found_of(alloc, context, keys, key, values) {
-        Ok(found) => {
-            tick_several(tally, site, found.nodes().len() as u64)?;
-            Ok(Value::Nodes(found))
-        }
-        Err(KeyEnd::Fault(fault)) => Err(Halt::Fault(fault, site)),
-        Err(KeyEnd::NoMemory) => Err(Halt::NoMemory),
-    }
-}
-
-// The nodes that a key gives for what is looked up, in the document of the context node.
-fn found_of<K: KeyFinder>(
-    alloc: Global,
-    context: &Context<'_>,
-    keys: &K,
-    key: u32,
-    values: &[Operand<'_>],
-) -> Result<NodeSet, KeyEnd>
-    requires context { IsContext (K.tables keys.now) context.now }
-    requires inside { All (IsIn context.now.tree) values.now }
-    ensures found { FindsNodes context.now (table_at (K.tables keys.now) key)
-        (sought context.now (second values.now)) result }
-{
-    match sought_nodes(values) {
-        Some(sought) => found_for_nodes(alloc, context, keys, key, sought),
-        None => {
-            let text = text_at(alloc, context.tree, values, 1)?;
-            let found = found_for_text(alloc, context, keys, key, text.as_str());
-            drop(text);
-            found
-        }
     }
 }
 
@@ -143,115 +240,6 @@ fn sought_in<'b>(v: &'b Operand<'_>) -> Option<&'b [Node]>
         Seen::Value(Value::Piece(_)) => None,
         Seen::Text(_) => None,
     }
-}
-
-// The nodes that a key gives for a text.
-fn found_for_text<K: KeyFinder>(
-    alloc: Global,
-    context: &Context<'_>,
-    keys: &K,
-    key: u32,
-    text: &str,
-) -> Result<NodeSet, KeyEnd>
-    requires context { IsContext (K.tables keys.now) context.now }
-    ensures found { FindsNodes context.now (table_at (K.tables keys.now) key) (text.now ∷ [])
-        result }
-{
-    let document = Document::of(context.tree, context.node);
-    let none = NodeList::new(alloc);
-    let nodes = add_found(alloc, context, &document, keys, key, text, none)?;
-    Ok(NodeSet::of_list(nodes)?)
-}
-
-// The nodes that a key gives for the string-values of some nodes: each distinct one is looked up
-// once.
-fn found_for_nodes<K: KeyFinder>(
-    alloc: Global,
-    context: &Context<'_>,
-    keys: &K,
-    key: u32,
-    sought: &[Node],
-) -> Result<NodeSet, KeyEnd>
-    requires context { IsContext (K.tables keys.now) context.now }
-    requires sought { All (λ k. k < length context.now.tree) sought.now }
-    ensures found { FindsNodes context.now (table_at (K.tables keys.now) key)
-        (map (string_value context.now.tree) sought.now) result }
-{
-    if let [node] = sought {
-        return found_for_node(alloc, context, keys, key, *node);
-    }
-    let index = index_texts(alloc, context.tree, sought)?;
-    let found = found_for_index(alloc, context, keys, key, &index);
-    drop(index);
-    found
-}
-
-// The nodes that a key gives for the string-value of a node.
-fn found_for_node<K: KeyFinder>(
-    alloc: Global,
-    context: &Context<'_>,
-    keys: &K,
-    key: u32,
-    sought: Node,
-) -> Result<NodeSet, KeyEnd>
-    requires context { IsContext (K.tables keys.now) context.now }
-    requires sought { sought < length context.now.tree }
-    ensures found { FindsNodes context.now (table_at (K.tables keys.now) key)
-        (string_value context.now.tree sought ∷ []) result }
-{
-    let text = node_text(alloc, context.tree, sought)?;
-    let found = found_for_text(alloc, context, keys, key, text.as_str());
-    drop(text);
-    found
-}
-
-// The nodes that a key gives for the texts of an index. Without a text the table may have a fault
-// all the same.
-fn found_for_index<K: KeyFinder>(
-    alloc: Global,
-    context: &Context<'_>,
-    keys: &K,
-    key: u32,
-    index: &TextIndex<'_>,
-) -> Result<NodeSet, KeyEnd>
-    requires context { IsContext (K.tables keys.now) context.now }
-    ensures found { FindsNodes context.now (table_at (K.tables keys.now) key)
-        (map cow_str_bytes index.now.keys) result }
-{
-    check_table(alloc, keys, key)?;
-    let document = Document::of(context.tree, context.node);
-    let mut nodes = NodeList::new(alloc);
-    for text in index.iter() {
-        nodes = add_found(alloc, context, &document, keys, key, text.as_str(), nodes)?;
-    }
-    Ok(NodeSet::of_list(nodes)?)
-}
-
-// Whether the table of a key has no fault.
-fn check_table<K: KeyFinder>(alloc: Global, keys: &K, key: u32) -> Result<(), KeyEnd>
-    ensures table { IsSound (table_at (K.tables keys.now) key) result }
-{
-    drop(keys.find(alloc, key, "")?);
-    Ok(())
-}
-
-// The nodes that a key gives for a text, of those that are in a document, after others.
-fn add_found<K: KeyFinder>(
-    alloc: Global,
-    context: &Context<'_>,
-    document: &Document,
-    keys: &K,
-    key: u32,
-    text: &str,
-    before: NodeList,
-) -> Result<NodeList, KeyEnd>
-    requires context { IsContext (K.tables keys.now) context.now }
-    requires document { IsDocumentOf context.now.tree context.now.node document.now }
-    ensures found { AddsNodes context.now (table_at (K.tables keys.now) key) text.now before
-        result }
-{
-    let found = keys.find(alloc, key, text)?;
-    Ok(add_held(document, found.nodes(), before)?)
 }
 
 // Those nodes that are in a document, after others.

@@ -7,10 +7,8 @@ ghost use Rattle.xs_meaning.specs.Languages.{is_in_language, is_lang, is_languag
 ghost use Rattle.xs_eval.specs.steps.Languages.{is_part, is_same_word};
 
 use xs_axes::axis_nodes;
+use xs_text::XML_URI;
 use xs_tree::{Axis, Node, Tree};
-
-/// The namespace of the prefix `xml` (Namespaces in XML 1.0, 3).
-const XML: &str = "http://www.w3.org/XML/1998/namespace";
 
 /// Whether a node is in a language, or in a part of it, by its nearest attribute `xml:lang`.
 #[tactic(auto, unfolding(xs_meaning::specs::Languages::is_in_language))]
@@ -57,7 +55,7 @@ fn is_lang(tree: &Tree, node: Node) -> bool
     requires { node < length tree.now }
     ensures { result ≡ is_lang tree.now node }
 {
-    tree.uri(node) == XML && tree.local(node) == "lang"
+    tree.uri(node) == XML_URI && tree.local(node) == "lang"
 }
 
 // Whether a language is another one, or is so without a suffix that begins with `-`.

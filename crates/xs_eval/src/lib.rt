@@ -3,8 +3,11 @@
 
 mod arguments;
 mod calls;
+mod chains;
 mod comparisons;
 pub mod evaluate;
+mod evaluator;
+mod filters;
 pub mod keys;
 mod languages;
 mod names;
@@ -12,6 +15,7 @@ pub mod node_tests;
 mod nodes;
 mod operand;
 mod operators;
+mod paths;
 pub mod predicates;
 mod steps;
 mod strings;

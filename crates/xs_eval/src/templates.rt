@@ -10,7 +10,7 @@ ghost use Rattle.xs_xpath.specs.declared.avt.AvtPart.TheVariants.{Fixed};
 ghost use Rattle.xs_meaning.specs.Conditions.{IsContext};
 ghost use Rattle.xs_meaning.specs.Templates.{and_part, template};
 
-use crate::evaluate::evaluate;
+use crate::evaluator::Evaluator;
 use std::alloc::{AllocError, Global};
 use std::borrow::CowStr;
 use xs_meaning::context::Context;
@@ -60,8 +60,8 @@ pub fn lend_avt<'t, K: KeyFinder, T: Tally>(
     match fixed_alone(parts) {
         Some(text) => Ok(CowStr::Borrowed(text)),
         None => {
-            let text = evaluate_parts(alloc, parts, context, keys, site, tally)?;
-            Ok(CowStr::Owned(text))
+            let evaluator = Evaluator { alloc, keys, site };
+            Ok(CowStr::Owned(evaluator.evaluate_parts(parts, context, tally)?))
         }
     }
 }
@@ -77,51 +77,50 @@ fn fixed_alone(parts: &[AvtPart]) -> Option<&str>
     }
 }
 
-// The texts of parts, one after another.
-#[inline(never)]
-fn evaluate_parts<K: KeyFinder, T: Tally>(
-    alloc: Global,
-    parts: &[AvtPart],
-    context: &Context<'_>,
-    keys: &K,
-    site: Site,
-    tally: &mut T,
-) -> Result<String, Halt>
-    requires context { IsContext (K.tables keys.now) context.now }
-    ensures told { IsStepBy (λ text. string_bytes text) (limited site
-        (template (K.tables keys.now) (parts_from parts.now) context.now)
-        (T.state tally.old)) result (T.state tally.new) }
-    ensures kept { T.kept tally.new ≡ T.kept tally.old }
-{
-    let mut text = String::new(alloc);
-    for part in parts {
-        text = add_part(alloc, part, text, context, keys, site, tally)?;
+impl<K: KeyFinder> Evaluator<'_, K> {
+    // The texts of parts, one after another.
+    #[inline(never)]
+    fn evaluate_parts<T: Tally>(
+        &self,
+        parts: &[AvtPart],
+        context: &Context<'_>,
+        tally: &mut T,
+    ) -> Result<String, Halt>
+        requires context { IsContext (K.tables self.now.keys.now) context.now }
+        ensures told { IsStepBy (λ text. string_bytes text) (limited self.now.site
+            (template (K.tables self.now.keys.now) (parts_from parts.now) context.now)
+            (T.state tally.old)) result (T.state tally.new) }
+        ensures kept { T.kept tally.new ≡ T.kept tally.old }
+    {
+        let mut text = String::new(self.alloc);
+        for part in parts {
+            text = self.add_part(part, text, context, tally)?;
+        }
+        Ok(text)
     }
-    Ok(text)
-}
 
-// The text of a part, after what is before it.
-fn add_part<K: KeyFinder, T: Tally>(
-    alloc: Global,
-    part: &AvtPart,
-    text: String,
-    context: &Context<'_>,
-    keys: &K,
-    site: Site,
-    tally: &mut T,
-) -> Result<String, Halt>
-    requires context { IsContext (K.tables keys.now) context.now }
-    ensures told { IsStepBy (λ t. string_bytes t) (limited site
-        (and_part (K.tables keys.now) context.now (string_bytes text) (part_from part.now))
-        (T.state tally.old)) result (T.state tally.new) }
-    ensures kept { T.kept tally.new ≡ T.kept tally.old }
-{
-    match part {
-        AvtPart::Fixed(fixed) => Ok(with_text(text, fixed.as_str())?),
-        AvtPart::Computed(expr) => {
-            let v = evaluate(alloc, expr, context, keys, site, tally)?;
-            let more = lend_text(alloc, context.tree, &v)?;
-            Ok(with_text(text, more.as_str())?)
+    // The text of a part, after what is before it.
+    fn add_part<T: Tally>(
+        &self,
+        part: &AvtPart,
+        text: String,
+        context: &Context<'_>,
+        tally: &mut T,
+    ) -> Result<String, Halt>
+        requires context { IsContext (K.tables self.now.keys.now) context.now }
+        ensures told { IsStepBy (λ t. string_bytes t) (limited self.now.site
+            (and_part (K.tables self.now.keys.now) context.now (string_bytes text)
+            (part_from part.now))
+            (T.state tally.old)) result (T.state tally.new) }
+        ensures kept { T.kept tally.new ≡ T.kept tally.old }
+    {
+        match part {
+            AvtPart::Fixed(fixed) => Ok(with_text(text, fixed.as_str())?),
+            AvtPart::Computed(expr) => {
+                let v = self.evaluate(expr, context, tally)?;
+                let more = lend_text(self.alloc, context.tree, &v)?;
+                Ok(with_text(text, more.as_str())?)
+            }
         }
     }
 }

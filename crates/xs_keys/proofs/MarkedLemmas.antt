@@ -3,7 +3,7 @@ use Rattle.std.proofs.Common.{◌≡◌, ℕ, ◌<◌, List, [], Bool, Vec, get_
 use Rattle.std.proofs.lemmas.List.{get_or-map, length-map}
 use denote.Ref.{Bor}
 use Rattle.std.specs.declared.alloc.Global.{Global}
-use Rattle.xs_marks.specs.Matches.{AreMatches}
+use Rattle.xs_pattern.specs.MatchTables.{IsMatchTable}
 use Rattle.xs_sheet.specs.declared.declarations.KeyDecl.{KeyDecl}
 use Rattle.xs_tree.specs.Record.{Record}
 use Rattle.xs_keys.specs.steps.Pairs.{AreMarked, decls_in}
@@ -11,11 +11,11 @@ use Rattle.xs_keys.specs.steps.Pairs.{AreMarked, decls_in}
 -- the table of the declaration at a place
 pub marks-at : (rs : List Record) (members : List (Bor KeyDecl)) (marks : List (Vec Bool Global)) (k : ℕ) (d : Bor KeyDecl) (t : Vec Bool Global)
     (table : List Bool) → AreMarked rs (decls_in members) marks → k < length members → get_or members k d ≡ d → get_or marks k t ≡ t → table ≡ t.items
-    → AreMatches [] rs d.now.pattern table
+    → IsMatchTable [] rs d.now.pattern table
 marks-at rs members marks k d t table h lt e f same =
     let within : k < length (decls_in members) = subst (λ n. k < n) (sym (length-map members (λ (m : Bor KeyDecl). m.now))) lt in
     let here : get_or (decls_in members) k d.now ≡ d.now =
     get_or-map (λ (m : Bor KeyDecl). m.now) members k d d.now lt ∙ ap (λ (m : Bor KeyDecl). m.now) e in
-    subst (λ (l : List Bool). AreMatches [] rs d.now.pattern l) (sym same)
-    (subst (λ (u : Vec Bool Global). AreMatches [] rs d.now.pattern u.items) f
-    (subst (λ (x : KeyDecl). AreMatches [] rs x.pattern (get_or marks k t).items) here (h.1 k d.now t within)))
+    subst (λ (l : List Bool). IsMatchTable [] rs d.now.pattern l) (sym same)
+    (subst (λ (u : Vec Bool Global). IsMatchTable [] rs d.now.pattern u.items) f
+    (subst (λ (x : KeyDecl). IsMatchTable [] rs x.pattern (get_or marks k t).items) here (h.1 k d.now t within)))

@@ -15,7 +15,7 @@ use crate::runs::{gather, size_of};
 use std::alloc::{AllocError, Global};
 use std::collections::HashMap;
 use std::thread::Threads;
-use xs_marks::matching::matches_of;
+use xs_pattern::match_tables::match_table;
 use xs_sheet::declarations::KeyDecl;
 use xs_trace::event::Label;
 use xs_trace::fault::Fault;
@@ -101,7 +101,7 @@ fn marks_of(alloc: Global, members: &[&KeyDecl], tree: &Tree) -> Result<Vec<Vec<
 {
     let mut marks = Vec::new(alloc);
     for member in members {
-        marks.push(matches_of(alloc, &member.pattern, tree, &NoKeys)?)?;
+        marks.push(match_table(alloc, &member.pattern, tree, &NoKeys)?)?;
     }
     Ok(marks)
 }

@@ -8,7 +8,7 @@ ghost use Rattle.xs_meaning.specs.Keys.{sought};
 ghost use Rattle.xs_keys.specs.Keys.{faults_at, first_of, node_faults};
 ghost use Rattle.xs_keys.specs.steps.Pairs.{AreMarked, decls_in, either, node_pairs, paired};
 ghost use Rattle.xs_keys.specs.steps.Pairs.{pairs_at, pairs_in};
-ghost use Rattle.xs_marks.specs.Matches.{AreMatches};
+ghost use Rattle.xs_pattern.specs.MatchTables.{IsMatchTable};
 ghost use Rattle.xs_matching.specs.Matching.{pattern_context};
 ghost use Rattle.xs_tree.specs.Record.{string_value};
 ghost use Rattle.xs_value.specs.Conversion.{IsIn, text_value};
@@ -16,7 +16,7 @@ ghost use Rattle.xs_value.specs.Conversion.{IsIn, text_value};
 use crate::uses::{Used, use_at};
 use std::alloc::{AllocError, Global};
 use std::borrow::CowStr;
-use xs_marks::matching::is_marked;
+use xs_pattern::tables::is_in_table;
 use xs_sheet::declarations::KeyDecl;
 use xs_trace::fault::Fault;
 use xs_tree::{Node, Tree};
@@ -84,13 +84,13 @@ impl Gathered {
         node: Node,
     ) -> Result<(), AllocError>
         requires node { node < length tree.now }
-        requires marks { AreMatches [] tree.now decl.now.pattern marks.now }
+        requires marks { IsMatchTable [] tree.now decl.now.pattern marks.now }
         ensures pairs { OnOk result (pairs_in self.new.pairs.items
             ≡ pairs_in self.old.pairs.items ++ pairs_at tree.now node decl.now) }
         ensures fault { OnOk result (self.new.fault
             ≡ either self.old.fault (first_of (faults_at tree.now node decl.now))) }
     {
-        if !is_marked(marks, node) {
+        if !is_in_table(marks, node) {
             return Ok(());
         }
         match use_at(alloc, decl, tree, node)? {

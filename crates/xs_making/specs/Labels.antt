@@ -2,14 +2,8 @@
 use Rattle.std.specs.Prelude.{ℕ, Bool, ◌||◌, List, [], codes, if◌then◌else◌}
 use Rattle.std.specs.Str.{bytes_eq}
 use Rattle.xs_trace.specs.Label.{Label}
+pub use Rattle.xs_text.specs.Names.{xml_uri, xmlns_uri}
 use Rattle.xs_making.specs.Texts.{is_empty}
-
--- the namespaces of the prefixes `xml` and `xmlns` (Namespaces in XML 1.0, 3)
-abbrev pub xml_uri : List ℕ
-xml_uri = codes "http://www.w3.org/XML/1998/namespace"
-
-abbrev pub xmlns_uri : List ℕ
-xmlns_uri = codes "http://www.w3.org/2000/xmlns/"
 
 -- a prefix that is bound by the standard and can't be bound otherwise (Namespaces in XML 1.0, 3)
 abbrev pub is_reserved : List ℕ → Bool

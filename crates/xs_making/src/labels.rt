@@ -3,15 +3,17 @@ ghost use Rattle.std.specs.Prelude.{◌≡◌, IfOk};
 ghost use Rattle.xs_making.specs.Labels.{put_label, put_prefix};
 
 use std::alloc::{AllocError, Global};
-use xs_text::is_same;
+use xs_text::{XML_URI, is_same};
 use xs_trace::event::Label;
 use xs_trace::text::TextBuf;
 
-/// The namespace of the prefix `xml` (Namespaces in XML 1.0, 3).
-pub const XML_URI: &str = "http://www.w3.org/XML/1998/namespace";
-
 /// A name as it is put: with the prefix that fits its namespace.
-pub fn put_label(alloc: Global, uri: &str, local: &str, prefix: &str) -> Result<Label, AllocError>
+pub(crate) fn put_label(
+    alloc: Global,
+    uri: &str,
+    local: &str,
+    prefix: &str,
+) -> Result<Label, AllocError>
     ensures label { IfOk result (λ label. label ≡ put_label uri.now local.now prefix.now) }
 {
     let prefix = TextBuf::of(alloc, put_prefix(uri, prefix))?;
@@ -22,7 +24,7 @@ pub fn put_label(alloc: Global, uri: &str, local: &str, prefix: &str) -> Result<
 
 /// The prefix that a name is put with: none in no namespace, `xml` in that of `xml`, and no
 /// reserved one in any other.
-pub fn put_prefix<'a>(uri: &str, prefix: &'a str) -> &'a str
+pub(crate) fn put_prefix<'a>(uri: &str, prefix: &'a str) -> &'a str
     ensures { result.now ≡ put_prefix uri.now prefix.now }
 {
     if uri.is_empty() {

@@ -8,9 +8,9 @@ ghost use Rattle.xs_making.specs.Texts.{is_empty};
 ghost use Rattle.xs_making.specs.Labels.{xml_uri};
 ghost use Rattle.xs_making.specs.Putting.{Puts};
 
-use crate::labels::XML_URI;
 use crate::recent::RecentLabels;
 use std::alloc::{AllocError, Global};
+use xs_text::XML_URI;
 use xs_trace::characters::Characters;
 use xs_trace::event::{Event, Label};
 use xs_trace::item::Site;

@@ -17,7 +17,6 @@ mod texts;
 
 pub use copies::{copy_events, put_deep_copy, put_shallow_copy};
 pub use ends::MakeEnd;
-pub use labels::{XML_URI, put_label, put_prefix};
 pub use names::{pi_target, result_name};
 pub use recent::RecentLabels;
 pub use sheet_texts::SheetTexts;

@@ -5,18 +5,14 @@ ghost use Rattle.xs_making.specs.Names.{is_xml, pi_target, result_name, uri_for}
 ghost use Rattle.xs_making.specs.Results.{IsMade};
 
 use crate::ends::MakeEnd;
-use crate::labels::XML_URI;
 use crate::plain_names::is_plain;
 use crate::recent::RecentLabels;
 use std::alloc::Global;
-use xs_text::{is_ncname, split_qname};
+use xs_text::{XML_URI, XMLNS_URI, is_ncname, split_qname};
 use xs_trace::event::Label;
 use xs_trace::fault::Fault;
 use xs_trace::text::TextBuf;
 use xs_xpath::scope::Scope;
-
-/// The namespace of the prefix `xmlns` (Namespaces in XML 1.0, 3).
-const XMLNS_URI: &str = "http://www.w3.org/2000/xmlns/";
 
 /// The name of an element or an attribute of the result, from the text that a name's value template
 /// gave, the namespace that one gave, if there is one, and the prefixes in scope (XSLT 1.0, 7.1.2

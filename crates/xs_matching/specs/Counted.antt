@@ -2,19 +2,10 @@
 use Rattle.std.specs.Prelude.{ℕ, Bool, false, List, Option, Some, None}
 use Rattle.xs_matching.specs.Matching.{is_match}
 use Rattle.xs_numbering.specs.Counting.{any_number, is_alike, list_at, sibling_number}
-use Rattle.xs_numbering.specs.declared.tables.Level.{Level}
-use Rattle.xs_numbering.specs.declared.tables.Level.TheVariants as level
-use Rattle.xs_sheet.specs.declared.body.Level.{Level as Declared}
-use Rattle.xs_sheet.specs.declared.body.Level.TheVariants as declared
 use Rattle.xs_sheet.specs.declared.body.NumberDecl.{NumberDecl}
 use Rattle.xs_sheet.specs.declared.scoped.ScopedPattern.{ScopedPattern}
 use Rattle.xs_tree.specs.Record.{Record, at}
 use Rattle.xs_value.specs.Tables.{Table}
-
-abbrev pub level_of : Declared → Level
-level_of declared.Single = level.Single
-level_of declared.Multiple = level.Multiple
-level_of declared.Any = level.Any
 
 -- whether the node at k counts for the node at n: it matches `count`; where that is absent, it is alike to the node at n
 abbrev pub counts : List Table → List Record → Option ScopedPattern → (n k : ℕ) → Bool
@@ -28,7 +19,7 @@ is_from keys rs (Some p) k = is_match keys rs p k
 
 -- the list for the node at n
 abbrev pub number_list : List Table → List Record → NumberDecl → (n : ℕ) → List ℕ
-number_list keys rs d n = list_at (level_of d.level) (counts keys rs d.count n) (is_from keys rs d.from) rs n
+number_list keys rs d n = list_at d.level (counts keys rs d.count n) (is_from keys rs d.from) rs n
 
 -- the numbers among the nodes that are alike
 abbrev pub alike_number : List Record → ℕ → ℕ

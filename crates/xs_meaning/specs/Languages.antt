@@ -2,13 +2,10 @@
 use Rattle.std.specs.Prelude.{ℕ, ◌&&◌, ◌||◌, ◌++◌, Bool, false, List, [], ◌∷◌, filter, nat_eq, codes}
 use Rattle.std.specs.List.{flat_map, starts_with}
 use Rattle.std.specs.Str.{bytes_eq, str_to_ascii_lowercase}
+use Rattle.xs_text.specs.Names.{xml_uri}
 use Rattle.xs_tree.specs.declared.axes.Axis.TheVariants.{AncestorOrSelf}
 use Rattle.xs_tree.specs.Record.{Record, at, attributes, uri_at, local_at}
 use Rattle.xs_tree.specs.Axis.{axis_list}
-
--- the namespace of the prefix `xml` (Namespaces in XML 1.0, 3)
-abbrev pub xml_uri : List ℕ
-xml_uri = codes "http://www.w3.org/XML/1998/namespace"
 
 -- whether an attribute is `xml:lang`
 abbrev pub is_lang : List Record → ℕ → Bool

@@ -19,7 +19,7 @@ take_within : (limit : ℕ) (bytes : List ℕ) → nat_le (length bytes) limit �
 take_within limit bytes e = grind (arith, nat_tests, common_steps)
 
 -- A file that was cut just past the limit is refused as too large, as the whole file is.
-document_takes : (limit : ℕ) (bytes : List ℕ) → document limit (take (limit + 1) bytes) ≡ document limit bytes
+pub document_takes : (limit : ℕ) (bytes : List ℕ) → document limit (take (limit + 1) bytes) ≡ document limit bytes
 document_takes limit bytes = go (nat_le (length bytes) limit) refl
   where
     go : (b : Bool) → nat_le (length bytes) limit ≡ b → document limit (take (limit + 1) bytes) ≡ document limit bytes

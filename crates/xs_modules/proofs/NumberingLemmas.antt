@@ -6,11 +6,6 @@ use Rattle.xs_modules.specs.Precedence.{Imports, imports, joined, mentioned_impo
 use Rattle.xs_modules.specs.steps.Joining.{join}
 use Rattle.xs_modules.proofs.ReadingLemmas.{behind_none, behind_one}
 
-pub count_join : (a b : Mentioned) → count (join a b) ≡ count a + count b
-unfolding count join
-count_join no_module b = omega arith
-count_join (one m rs lines within next) b = let e = count_join next b in omega arith
-
 -- as many modules in the list as in the tree
 pub length_parts : (sheet n : ℕ) (a : Mentioned) → length (parts sheet n a) ≡ count a
 unfolding parts count

@@ -12,18 +12,18 @@ use Rattle.xs_numbering.specs.Counting.{counted, searched}
 
 -- ancestors are in the tree
 
-range-inside : (b a n : ℕ) → a + n ≤ b → All (λ k. k < b) (range_with_len a n)
+pub range-inside : (b a n : ℕ) → a + n ≤ b → All (λ k. k < b) (range_with_len a n)
 range-inside b a zero h = All-nil (λ k. k < b)
 range-inside b a (suc n) h =
     All-cons (λ k. k < b) a (range_with_len (a + 1) n) (omega (arith, h)) (range-inside b (a + 1) n (omega (arith, h)))
 
-reversed : (P : ℕ → Type 0) (xs : List ℕ) → All P xs → All P (reverse xs)
+pub reversed : (P : ℕ → Type 0) (xs : List ℕ) → All P xs → All P (reverse xs)
 reversed P xs h =
     All-from_get_or P (reverse xs) 0 (λ i lt.
     let within : i < length xs = subst (λ (n : ℕ). i < n) (length-reverse xs) lt in
     subst P (sym (get_or-reverse xs i 0 within)) (All-get_or P xs (length xs - 1 - i) 0 (omega (arith, within)) h))
 
-ancestors-inside : (rs : List Record) (n : ℕ) → All (λ k. k < length rs) (axis_list Ancestor rs n)
+pub ancestors-inside : (rs : List Record) (n : ℕ) → All (λ k. k < length rs) (axis_list Ancestor rs n)
 unfolding axis_list
 ancestors-inside rs n =
     reversed (λ k. k < length rs) (filter (is_on Ancestor rs n) (places rs))

@@ -5,4 +5,3 @@ pub mod LevelLemmas
 pub mod PassLemmas
 pub mod PieceLemmas
 pub mod SiblingLemmas
-pub mod TableLemmas

@@ -9,8 +9,8 @@ use Rattle.xs_tree.specs.declared.kinds.Kind.TheVariants as kind
 use Rattle.xs_tree.specs.Kinds.{is_attribute_kind, is_namespace_kind}
 use Rattle.xs_tree.specs.Axis.{axis_list, is_sibling, root_of}
 use Rattle.xs_tree.specs.Record.{Record, at, name_local, name_uri}
-use Rattle.xs_numbering.specs.declared.tables.Level.{Level}
-use Rattle.xs_numbering.specs.declared.tables.Level.TheVariants.{Single, Multiple, Any}
+use Rattle.xs_sheet.specs.declared.body.Level.{Level}
+use Rattle.xs_sheet.specs.declared.body.Level.TheVariants.{Single, Multiple, Any}
 
 -- a number for each kind of node
 abbrev pub kind_number : Kind → ℕ

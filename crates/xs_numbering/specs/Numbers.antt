@@ -12,8 +12,9 @@ abbrev pub group_of : Option (List ℕ × ℕ) → Option (List ℕ × ℕ)
 group_of None = None
 group_of (Some group) = if length (chars group.0) == 1 then Some group else None
 
+-- the text of a number, which is `0` for 0 whatever the token (this project's own)
 unfoldable pub number_text : Option (List ℕ × ℕ) → (token : List ℕ) → ℕ → List ℕ
-number_text group token n = styled group (style_of token) n
+number_text group token n = if n == 0 then codes "0" else styled group (style_of token) n
 
 -- The numbers after the first one, each with the separator before it: by pairs of a separator and a token, and, where no pair is left,
 -- by the last pair.

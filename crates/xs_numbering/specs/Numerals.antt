@@ -1,5 +1,5 @@
 -- How one number is written: by letters, as a Roman numeral, or in decimal (XSLT 1.0, 7.7.1).
-use Rattle.std.specs.Prelude.{ℕ, zero, suc, ◌+◌, ◌-◌, ◌/◌, ◌%◌, ◌==◌, ◌&&◌, Bool, false, List, [], ◌∷◌, ◌++◌, length, replicate, reverse, nat_lt, Option, None, Some, if◌then◌else◌}
+use Rattle.std.specs.Prelude.{ℕ, zero, suc, ◌+◌, ◌-◌, ◌/◌, ◌%◌, ◌==◌, Bool, false, List, [], ◌∷◌, ◌++◌, length, replicate, reverse, nat_lt, Option, None, Some, if◌then◌else◌}
 use Rattle.std.specs.Fmt.{decimal}
 use Rattle.xs_numbering.specs.declared.numerals.Case.{Case}
 use Rattle.xs_numbering.specs.declared.numerals.Case.TheVariants.{Lower, Upper}
@@ -52,9 +52,6 @@ roman l n =
     ++ (roman_digit l.hundred l.five_hundred l.thousand (n / 100 % 10)
     ++ (roman_digit l.ten l.fifty l.hundred (n / 10 % 10) ++ roman_digit l.one l.five l.ten (n % 10)))
 
-abbrev pub is_roman : ℕ → Bool
-is_roman n = nat_lt 0 n && nat_lt n 4000
-
 -- whether a group of so many digits ends before so many that are left; a size of 0 makes no groups
 abbrev pub ends_group : (size left : ℕ) → Bool
 ends_group size left = if size == 0 then false else if left == 0 then false else left % size == 0
@@ -79,9 +76,9 @@ padded width n = replicate (width - length (decimal n)) 48 ++ decimal n
 abbrev pub decimal_text : Option (List ℕ × ℕ) → (width : ℕ) → ℕ → List ℕ
 decimal_text group width n = grouped_by group (padded width n)
 
--- A number in a style, under a separator and a size of groups, if there are both. Letters begin with 1, and Roman numerals end with
--- 3999: other numbers are written in decimal (this project's own).
+-- A number above 0 in a style, under a separator and a size of groups, if there are both. Roman numerals end with 3999: larger numbers
+-- are written in decimal, without groups (this project's own).
 abbrev pub styled : Option (List ℕ × ℕ) → Style → ℕ → List ℕ
-styled group (Alphabetic case) n = if n == 0 then decimal_text group 1 n else alphabetic case n
-styled group (Roman case) n = if is_roman n then roman (letters case) n else decimal_text group 1 n
+styled group (Alphabetic case) n = alphabetic case n
+styled group (Roman case) n = if nat_lt n 4000 then roman (letters case) n else decimal n
 styled group (Decimal width) n = decimal_text group width n

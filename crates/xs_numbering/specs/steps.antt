@@ -1,4 +1,3 @@
 -- What the code mirrors.
 pub mod Pairs
 pub mod Passes
-pub mod Tables

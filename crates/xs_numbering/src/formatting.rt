@@ -17,7 +17,7 @@ use xs_strings::positions::char_count;
 
 /// Appends the text of a list of numbers under a format (XSLT 1.0, 7.7.1). Numbers in decimal have
 /// their digits in groups of a size, where that is given with a separator of one character. After
-/// a refusal `out` is as it was.
+/// a refusal `out` is as it was. It serves callers of the library; a run takes `list_text`.
 pub fn format_list(
     out: &mut Vec<u8>,
     list: &[u64],
@@ -124,7 +124,7 @@ fn append_numbers(
     Ok(())
 }
 
-/// Appends a number as a token asks for.
+/// Appends a number as a token asks for; 0 is `0` whatever the token.
 #[tactic(auto, unfolding(crate::specs::Numbers::number_text))]
 fn append_number(
     out: &mut String,
@@ -135,6 +135,10 @@ fn append_number(
     ensures { OnOk result (string_bytes out.new ≡ string_bytes out.old
         ++ number_text (option_map (λ g. (g.0.now, g.1)) group.entry) token.now number) }
 {
+    if number == 0 {
+        out.push_str("0")?;
+        return Ok(());
+    }
     append_styled(out, style_of(token), number, group)
 }
 

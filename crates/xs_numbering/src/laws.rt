@@ -18,6 +18,8 @@ pub fn formats()
     ensures other { list_text None (codes "11") (5 ∷ []) ≡ codes "5" }
     ensures letters { list_text None (codes "A") (1 ∷ 26 ∷ 27 ∷ 703 ∷ []) ≡ codes "A.Z.AA.AAA" }
     ensures none { list_text None (codes "a") (0 ∷ []) ≡ codes "0" }
+    ensures no_width { list_text None (codes "001") (0 ∷ 3 ∷ []) ≡ codes "0.003" }
+    ensures no_letters { list_text (Some (codes ",", 3)) (codes "I") (4000 ∷ []) ≡ codes "4000" }
     ensures roman { list_text None (codes "I") (1999 ∷ 3888 ∷ []) ≡ codes "MCMXCIX.MMMDCCCLXXXVIII" }
     ensures large { list_text None (codes "i") (3999 ∷ 4000 ∷ []) ≡ codes "mmmcmxcix.4000" }
     ensures groups { list_text (Some (codes ",", 3)) (codes "1") (1234567 ∷ 12 ∷ [])

@@ -9,10 +9,9 @@ ghost use Rattle.xs_tree.specs.Record.{places};
 ghost use Rattle.xs_numbering.specs.Counting.{counted, multiple, sibling_number, single};
 ghost use Rattle.xs_numbering.specs.steps.Passes.{is_marked};
 
-use crate::passes::is_marked;
 use std::alloc::{AllocError, Global};
 use xs_axes::axis_nodes;
-use xs_tree::{Axis, Node, Tree};
+use xs_tree::{Axis, Node, Tree, is_marked};
 
 /// The list that `level="single"` counts for a node: the number of the first node that matches
 /// `count`, from the node upwards.
@@ -132,7 +131,7 @@ fn add_number(
 }
 
 /// The number of a node in a table.
-pub(crate) fn number_at(numbers: &[u32], node: Node) -> u64
+pub fn number_at(numbers: &[u32], node: Node) -> u64
     requires { node < length numbers.now }
     ensures { result ≡ get_or numbers.now node 0 }
 {

@@ -7,4 +7,3 @@ pub mod laws;
 pub mod levels;
 mod numerals;
 pub mod passes;
-pub mod tables;

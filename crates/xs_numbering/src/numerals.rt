@@ -2,9 +2,10 @@
 
 ghost use Rattle.std.specs.Prelude.{◌≡◌, ◌<◌, ◌+◌, ◌∷◌, ◌++◌, [], OnOk, option_map, replicate};
 ghost use Rattle.std.specs.Prelude.{string_bytes};
+ghost use Rattle.std.specs.Fmt.{decimal};
 ghost use Rattle.std.specs.Str.{IsAscii};
 ghost use Rattle.xs_numbering.specs.Numerals.{alphabetic, decimal_text, digit_text, ends_group};
-ghost use Rattle.xs_numbering.specs.Numerals.{first_letter, grouped, is_roman, letters, padded};
+ghost use Rattle.xs_numbering.specs.Numerals.{first_letter, grouped, letters, padded};
 ghost use Rattle.xs_numbering.specs.Numerals.{roman, roman_digit, styled};
 
 use itoa::Buffer;
@@ -28,7 +29,7 @@ pub enum Style {
     Decimal(usize),
 }
 
-/// Appends a number in a style.
+/// Appends a number above 0 in a style.
 pub(crate) fn append_styled(
     out: &mut String,
     style: Style,
@@ -39,27 +40,15 @@ pub(crate) fn append_styled(
         ++ styled (option_map (λ g. (g.0.now, g.1)) group.entry) style number) }
 {
     match style {
-        Style::Alphabetic(case) => {
-            if number == 0 {
-                return append_decimal(out, 1, number, group);
-            }
-            append_letters(out, case, number)
-        }
+        Style::Alphabetic(case) => append_letters(out, case, number),
         Style::Roman(case) => {
-            if is_roman(number) {
+            if number < 4000 {
                 return append_roman(out, case, number);
             }
-            append_decimal(out, 1, number, group)
+            append_plain(out, number)
         }
         Style::Decimal(width) => append_decimal(out, width, number, group),
     }
-}
-
-/// Whether there is a Roman numeral of a number.
-fn is_roman(number: u64) -> bool
-    ensures { result ≡ is_roman number }
-{
-    0 < number && number < 4000
 }
 
 /// Appends the letters of a number; of 0 there are none.
@@ -185,7 +174,16 @@ fn append_times(out: &mut String, count: u64, mark: char) -> Result<(), AllocErr
     Ok(())
 }
 
-/// Appends a number in decimal.
+/// Appends a number in decimal, without groups.
+fn append_plain(out: &mut String, number: u64) -> Result<(), AllocError>
+    ensures { OnOk result (string_bytes out.new ≡ string_bytes out.old ++ decimal number) }
+{
+    let mut buffer = Buffer::new();
+    out.push_str(buffer.format(number))?;
+    Ok(())
+}
+
+/// Appends a number in decimal, with at least so many digits.
 fn append_decimal(
     out: &mut String,
     width: usize,

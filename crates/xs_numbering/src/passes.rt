@@ -10,7 +10,7 @@ ghost use Rattle.xs_numbering.specs.steps.Passes.{carried_on, counted_on, held_b
 ghost use Rattle.xs_numbering.specs.steps.Passes.{seen_at, seen_with};
 
 use std::alloc::{AllocError, Global};
-use xs_tree::{Kind, Node, Tree};
+use xs_tree::{Kind, Node, Tree, is_marked};
 
 /// For each node the number that `level="any"` counts for it, from tables that mark the nodes that
 /// match `count` and those that match `from`.
@@ -49,22 +49,8 @@ pub fn sibling_numbers(alloc: Global, counts: &[bool], tree: &Tree) -> Result<Ve
     Ok(numbers)
 }
 
-/// For each node whether it has the kind of a node and, if that has one, its expanded name: what
-/// matches where `count` is absent.
-pub fn marks_alike(alloc: Global, tree: &Tree, like: Node) -> Result<Vec<bool>, AllocError>
-    requires { like < length tree.now }
-    ensures { IfOk result (λ t. t.items
-        ≡ map (λ k. is_alike (at tree.now k) (at tree.now like)) (places tree.now)) }
-{
-    let mut marks = Vec::new(alloc);
-    for place in 0..tree.len() as u32 {
-        marks.push(is_alike(tree, Node::at(place), like))?;
-    }
-    Ok(marks)
-}
-
 /// Whether two nodes have one kind and one expanded name.
-fn is_alike(tree: &Tree, node: Node, like: Node) -> bool
+pub fn is_alike(tree: &Tree, node: Node, like: Node) -> bool
     requires node { node < length tree.now }
     requires like { like < length tree.now }
     ensures { result ≡ is_alike (at tree.now node) (at tree.now like) }
@@ -130,18 +116,6 @@ fn next_child(seen: &mut Vec<u32>, parent: Node, is_counted: bool) -> u32
         seen[place] = number;
     }
     number
-}
-
-/// Whether a node is marked, which none is after the last mark.
-pub fn is_marked(marks: &[bool], node: Node) -> bool
-    ensures { result ≡ is_marked marks.now node }
-{
-    let place = node.place() as usize;
-    if place < marks.len() {
-        marks[place]
-    } else {
-        false
-    }
 }
 
 /// How many are counted before a node: at the root of a document none.

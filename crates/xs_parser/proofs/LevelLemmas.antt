@@ -1,5 +1,5 @@
 -- What the loops over flat parts keep.
-use Rattle.std.proofs.Common.{◌≡◌, ℕ, zero, suc, ◌+◌, ◌-◌, ◌<◌, ◌≢◌, Bool, true, false, List, [], ◌∷◌, ◌++◌, Option, Some, None, option_map, map, drop, length, refl, sym, ◌∙◌, ap, arith, append_assoc}
+use Rattle.std.proofs.Common.{◌≡◌, ℕ, zero, suc, ◌+◌, ◌-◌, ◌<◌, Bool, true, false, List, [], ◌∷◌, ◌++◌, Option, Some, None, option_map, map, drop, length, refl, sym, ◌∙◌, ap, arith, append_assoc}
 use Rattle.std.proofs.lemmas.List.{append-nil, drop-map}
 use Rattle.xs_xpath.specs.declared.token.Operator.{Operator}
 use Rattle.xs_xpath.specs.declared.expr.Expr.{Expr}
@@ -98,11 +98,6 @@ operand-one parts = rw (signed-signs (level 1) parts) (go (level 1 (drop (signs_
         (λ e. negated (signs_in parts) e) o
     go None = refl
     go (Some e) = refl
-
-pub operand-other : (n : ℕ) (parts : List Part) → n ≢ 1 → operand n (level n) parts ≡ level n parts
-operand-other zero parts ne = refl
-operand-other (suc zero) parts ne = absurd (ne refl)
-operand-other (suc (suc n)) parts ne = refl
 
 -- ---- the same over the parts of the code
 pub level-zero : (n : ℕ) (parts : List Part) → n ≡ 0 → path_of parts ≡ level n parts

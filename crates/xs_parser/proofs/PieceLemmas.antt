@@ -23,10 +23,6 @@ not-true : (b : Bool) → not b ≡ true → b ≡ false
 not-true false h = refl
 not-true true h = absurd (cc)
 
-not-false : (b : Bool) → not b ≡ false → b ≡ true
-not-false true h = refl
-not-false false h = absurd (cc)
-
 -- ---- fixed text
 fixed-all : (bytes rest : List ℕ) → AllFixed bytes → EndsFixed rest → prefix_len is_fixed (bytes ++ rest) ≡ length bytes
 fixed-all [] [] h s = refl
@@ -79,9 +75,6 @@ fixes (b ∷ bs) = go (is_fixed b) refl (fixes bs)
 -- ---- what stands between brackets
 quote-open : (q : ℕ) → is_quote q ≡ true → (q == 125) ≡ false
 quote-open q h = grind (arith, nat_tests)
-
-other-byte : (q c : ℕ) → AllPass (Until q) (c ∷ []) → (c == q) ≡ false
-other-byte q c h = not-true (c == q) h.0
 
 literal-inside : (q k : ℕ) (inner more : List ℕ) → AllPass (Until q) inner → inside None more ≡ Some k
     → inside (Some q) (inner ++ q ∷ more) ≡ Some (length inner + suc k)

@@ -51,9 +51,6 @@ point-stops : (bytes : List ℕ) → Stops Digit (46 ∷ bytes)
 point-stops bytes = refl
 
 -- ---- literals
-or-true : (a b : Bool) → (if a then true else b) ≡ true → (a ≡ true) ⊎ (b ≡ true)
-or-true true b h = inl refl
-or-true false b h = inr h
 
 quote-is : (q : ℕ) → is_quote q ≡ true → (q ≡ 34) ⊎ (q ≡ 39)
 quote-is q h = go (q == 34) refl (q == 39) refl h

@@ -25,42 +25,42 @@ use Rattle.xs_pattern.proofs.ClimbLemmas.{ends-descend, ends-no_parent, ends-par
 use Rattle.xs_pattern.proofs.StartLemmas.{here-among, root-among}
 use Rattle.xs_pattern.proofs.StepLemmas.{passes-lone, passes-not, stands-not}
 
--- ---- marks, one after another
+-- ---- a table, node by node
 
 -- one more
-pub marks-more : (f : ℕ → Bool) (old new : List Bool) (n k : ℕ) (b : Bool) → new ≡ old ++ b ∷ [] → old ≡ map f (range_with_len 0 n) → b ≡ f k → k ≡ n
+pub table-more : (f : ℕ → Bool) (old new : List Bool) (n k : ℕ) (b : Bool) → new ≡ old ++ b ∷ [] → old ≡ map f (range_with_len 0 n) → b ≡ f k → k ≡ n
     → new ≡ map f (range_with_len 0 (n + 1))
-marks-more f old new n k b pushed e h same =
+table-more f old new n k b pushed e h same =
     pushed
     ∙ ap (λ (xs : List Bool). xs ++ b ∷ []) e
     ∙ ap (λ (x : Bool). map f (range_with_len 0 n) ++ x ∷ []) (h ∙ ap f same)
     ∙ sym (map-range_with_len_more f 0 n n (zero-add n))
 
 -- that of a node
-pub mark-at : (f : ℕ → Bool) (t : List Bool) (count n : ℕ) → t ≡ map f (range_with_len 0 count) → n < count → get_or t n false ≡ f n
-mark-at f t count n e h =
+pub table-at : (f : ℕ → Bool) (t : List Bool) (count n : ℕ) → t ≡ map f (range_with_len 0 count) → n < count → get_or t n false ≡ f n
+table-at f t count n e h =
     ap (λ (l : List Bool). get_or l n false) e ∙ get_or-map-range_with_len f 0 count n n false h (zero-add n)
 
--- ---- marks at a node or above
+-- ---- a node of a table, or one above
 
-pub below-here : (marks : List Bool) (rs : List Record) (n : ℕ) → n < length rs → get_or marks n false ≡ true → is_below marks rs n ≡ true
-below-here marks rs n h e = any-self (λ k. get_or marks k false) rs n h e
+pub below-here : (table : List Bool) (rs : List Record) (n : ℕ) → n < length rs → get_or table n false ≡ true → is_below table rs n ≡ true
+below-here table rs n h e = any-self (λ k. get_or table k false) rs n h e
 
-pub below-root : (marks : List Bool) (rs : List Record) (n : ℕ) → IsTree rs → n < length rs → (at rs n).parent ≡ None → get_or marks n false ≡ false
-    → is_below marks rs n ≡ false
-below-root marks rs n t h e differs = any-root (λ k. get_or marks k false) rs n t h e differs
+pub below-root : (table : List Bool) (rs : List Record) (n : ℕ) → IsTree rs → n < length rs → (at rs n).parent ≡ None → get_or table n false ≡ false
+    → is_below table rs n ≡ false
+below-root table rs n t h e differs = any-root (λ k. get_or table k false) rs n t h e differs
 
--- where the node is not marked, what was found of its parent
-pub below-parent : (marks found : List Bool) (rs : List Record) (n p : ℕ) → IsTree rs → n < length rs → (at rs n).parent ≡ Some p
-    → get_or marks n false ≡ false → found ≡ map (is_below marks rs) (range_with_len 0 n) → get_or found p false ≡ is_below marks rs n
-below-parent marks found rs n p t h e differs f =
-    mark-at (is_below marks rs) found n p f (IsPlaced-at rs n p t h e).before ∙ sym (any-up (λ k. get_or marks k false) rs n p t h e differs)
+-- where the node is not in the table, what was found of its parent
+pub below-parent : (table found : List Bool) (rs : List Record) (n p : ℕ) → IsTree rs → n < length rs → (at rs n).parent ≡ Some p
+    → get_or table n false ≡ false → found ≡ map (is_below table rs) (range_with_len 0 n) → get_or found p false ≡ is_below table rs n
+below-parent table found rs n p t h e differs f =
+    table-at (is_below table rs) found n p f (IsPlaced-at rs n p t h e).before ∙ sym (any-up (λ k. get_or table k false) rs n p t h e differs)
 
 -- where a table says that a path ends
-pub below-above : (keys : List Table) (c : Context) (start : Tree) (steps : List Tree) (marks : List Bool) (n : ℕ)
-    → ((k : ℕ) → k < length c.tree → get_or marks k false ≡ ends_path keys c start steps k) → is_below marks c.tree n ≡ ends_above keys c start steps n
+pub below-above : (keys : List Table) (c : Context) (start : Tree) (steps : List Tree) (table : List Bool) (n : ℕ)
+    → ((k : ℕ) → k < length c.tree → get_or table k false ≡ ends_path keys c start steps k) → is_below table c.tree n ≡ ends_above keys c start steps n
 unfolding ends_above
-below-above keys c start steps marks n h = any-same (λ k. get_or marks k false) (ends_path keys c start steps) c.tree n h
+below-above keys c start steps table n h = any-same (λ k. get_or table k false) (ends_path keys c start steps) c.tree n h
 
 -- ---- where paths end
 
@@ -72,15 +72,15 @@ ends-anywhere rs t e = λ keys scope m n h.
 
 pub ends-roots : (rs : List Record) (t : List Bool) → IsTree rs → t ≡ map (is_root_at rs) (places rs) → EndsBy rs root [] t
 ends-roots rs t tree e = λ keys scope m n h.
-    mark-at (is_root_at rs) t (length rs) n e h
+    table-at (is_root_at rs) t (length rs) n e h
     ∙ sym (ends-start keys (pattern_context rs scope m) root n ∙ root-among rs n tree)
 
 -- after a `//`
-pub ends-below : (rs : List Record) (marks t : List Bool) → t ≡ map (is_below marks rs) (places rs) → (start : Tree) (steps : List Tree)
-    → EndsBy rs start steps marks → EndsBy rs start (descend ∷ steps) t
-ends-below rs marks t e start steps ends = λ keys scope m n h.
-    mark-at (is_below marks rs) t (length rs) n e h
-    ∙ below-above keys (pattern_context rs scope m) start steps marks n (ends keys scope m)
+pub ends-below : (rs : List Record) (table t : List Bool) → t ≡ map (is_below table rs) (places rs) → (start : Tree) (steps : List Tree)
+    → EndsBy rs start steps table → EndsBy rs start (descend ∷ steps) t
+ends-below rs table t e start steps ends = λ keys scope m n h.
+    table-at (is_below table rs) t (length rs) n e h
+    ∙ below-above keys (pattern_context rs scope m) start steps table n (ends keys scope m)
     ∙ sym (ends-descend keys (pattern_context rs scope m) start descend steps n refl)
 
 -- whether a step without predicates leads to a node from the node's parent
@@ -101,16 +101,16 @@ swap false true = refl
 swap false false = refl
 
 -- what a table of a path comes to at a node's parent, by which parent there is
-led-path : (keys : List Table) (c : Context) (start : Tree) (steps : List Tree) (axis : Axis) (which : NodeTest) (marks : List Bool) (n : ℕ)
-    → IsTree c.tree → n < length c.tree → ((k : ℕ) → k < length c.tree → get_or marks k false ≡ ends_path keys c start steps k)
-    → is_led axis which marks c.tree n ≡ ends_path keys c start (step axis which no_trees ∷ steps) n
-led-path keys c start steps axis which marks n t h ends = by_parent (at c.tree n).parent refl
+led-path : (keys : List Table) (c : Context) (start : Tree) (steps : List Tree) (axis : Axis) (which : NodeTest) (table : List Bool) (n : ℕ)
+    → IsTree c.tree → n < length c.tree → ((k : ℕ) → k < length c.tree → get_or table k false ≡ ends_path keys c start steps k)
+    → is_led axis which table c.tree n ≡ ends_path keys c start (step axis which no_trees ∷ steps) n
+led-path keys c start steps axis which table n t h ends = by_parent (at c.tree n).parent refl
   where
     Led : Option ℕ → Bool
-    Led o = option_map_or (λ p. get_or marks p false && (stands_on axis (at c.tree n).kind && passes axis which (at c.tree n))) o false
+    Led o = option_map_or (λ p. get_or table p false && (stands_on axis (at c.tree n).kind && passes axis which (at c.tree n))) o false
 
     by_parent : (o : Option ℕ) → (at c.tree n).parent ≡ o
-        → is_led axis which marks c.tree n ≡ ends_path keys c start (step axis which no_trees ∷ steps) n
+        → is_led axis which table c.tree n ≡ ends_path keys c start (step axis which no_trees ∷ steps) n
     by_parent None e = ap Led e ∙ sym (ends-no_parent keys c start (step axis which no_trees) steps n refl e)
     by_parent (Some p) e =
         let le : p < n = (IsPlaced-at c.tree n p t h e).before in
@@ -121,19 +121,19 @@ led-path keys c start steps axis which marks n t h ends = by_parent (at c.tree n
         (plain-among axis which c p n h e))
 
 -- after a step
-pub ends-led : (rs : List Record) (axis : Axis) (which : NodeTest) (marks t : List Bool) → IsTree rs → t ≡ map (is_led axis which marks rs) (places rs)
-    → (start : Tree) (steps : List Tree) → EndsBy rs start steps marks → EndsBy rs start (step axis which no_trees ∷ steps) t
-ends-led rs axis which marks t tree e start steps ends = λ keys scope m n h.
-    mark-at (is_led axis which marks rs) t (length rs) n e h
-    ∙ led-path keys (pattern_context rs scope m) start steps axis which marks n tree h (ends keys scope m)
+pub ends-led : (rs : List Record) (axis : Axis) (which : NodeTest) (table t : List Bool) → IsTree rs → t ≡ map (is_led axis which table rs) (places rs)
+    → (start : Tree) (steps : List Tree) → EndsBy rs start steps table → EndsBy rs start (step axis which no_trees ∷ steps) t
+ends-led rs axis which table t tree e start steps ends = λ keys scope m n h.
+    table-at (is_led axis which table rs) t (length rs) n e h
+    ∙ led-path keys (pattern_context rs scope m) start steps axis which table n tree h (ends keys scope m)
 
 -- ---- the table of a path
 
-pub above-table : (rs : List Record) (e start : Tree) (before : List Tree) (marks t : List Bool) → t ≡ map (is_below marks rs) (places rs)
-    → EndsBy rs start before marks → start ≡ start_of e → before ≡ before_slashes (reverse (steps_of e)) → IsAbove rs e t
-above-table rs e start before marks t made ends s b = λ keys scope m n h.
-    mark-at (is_below marks rs) t (length rs) n made h
-    ∙ below-above keys (pattern_context rs scope m) start before marks n (ends keys scope m)
+pub above-table : (rs : List Record) (e start : Tree) (before : List Tree) (table t : List Bool) → t ≡ map (is_below table rs) (places rs)
+    → EndsBy rs start before table → start ≡ start_of e → before ≡ before_slashes (reverse (steps_of e)) → IsAbove rs e t
+above-table rs e start before table t made ends s b = λ keys scope m n h.
+    table-at (is_below table rs) t (length rs) n made h
+    ∙ below-above keys (pattern_context rs scope m) start before table n (ends keys scope m)
     ∙ ap (λ (x : Tree). ends_above keys (pattern_context rs scope m) x before n) s
     ∙ ap (λ (l : List Tree). ends_above keys (pattern_context rs scope m) (start_of e) l n) b
 

@@ -35,7 +35,7 @@ use Rattle.xs_meaning.specs.Paths.{through}
 use Rattle.xs_meaning.specs.Results.{given, nodes_in}
 use Rattle.xs_matching.specs.Matching as pattern
 use Rattle.xs_matching.specs.Predicates.{all_kept, holds, kept, value_in}
-use Rattle.xs_pattern.specs.steps.Marks.{is_free}
+use Rattle.xs_pattern.specs.steps.PathTables.{is_free}
 use Rattle.xs_pattern.proofs.PlaceLemmas.{bind-same, fold-same, or-none}
 
 -- a context with another current node

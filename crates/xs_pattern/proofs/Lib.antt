@@ -8,5 +8,6 @@ pub mod AlternativeLemmas
 pub mod StartLemmas
 pub mod AboveLemmas
 pub mod AlikeLemmas
-pub mod MarksLemmas
+pub mod PathTableLemmas
+pub mod MatchTableLemmas
 pub mod FoundLemmas

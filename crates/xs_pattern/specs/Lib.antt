@@ -1,2 +1,3 @@
--- What the code mirrors (what it means is in xs_matching).
+-- What a table says, and what the code mirrors (what a pattern matches is in xs_matching).
+pub mod MatchTables
 pub mod steps

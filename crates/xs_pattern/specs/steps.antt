@@ -2,5 +2,5 @@
 pub mod Climb
 pub mod Above
 pub mod Alone
-pub mod Marks
+pub mod PathTables
 pub mod Keys

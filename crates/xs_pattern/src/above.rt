@@ -14,6 +14,7 @@ ghost use Rattle.xs_pattern.specs.steps.Climb.{backwards, before_slashes};
 use crate::node_tests::is_root;
 use crate::paths::{start_of, steps_of};
 use crate::steps::{is_descend, stands_on};
+use crate::tables::is_in_table;
 use std::alloc::{AllocError, Global};
 use xs_eval::node_tests::passes;
 use xs_tree::{Axis, Node, Tree};
@@ -111,11 +112,11 @@ fn roots(alloc: Global, tree: &Tree) -> Result<Vec<bool>, AllocError>
         ≡ map (is_root_at tree.now) (places tree.now)) }
     ensures tree { IsTree tree.now }
 {
-    let mut marks = Vec::new(alloc);
+    let mut table = Vec::new(alloc);
     for place in 0..tree.len() as u32 {
-        marks.push(is_root(tree, Node::at(place)))?;
+        table.push(is_root(tree, Node::at(place)))?;
     }
-    Ok(marks)
+    Ok(table)
 }
 
 // For each node, whether a path ends there with one step more. Nothing, where the step has a
@@ -150,63 +151,63 @@ fn next_ends(
     }
 }
 
-/// For each node, whether it or one of its ancestors is marked.
-pub(crate) fn below(alloc: Global, marks: &[bool], tree: &Tree) -> Result<Vec<bool>, AllocError>
+/// For each node, whether it or one of its ancestors is in a table.
+pub(crate) fn below(alloc: Global, table: &[bool], tree: &Tree) -> Result<Vec<bool>, AllocError>
     ensures below { IfOk result (λ t. t.items
-        ≡ map (is_below marks.now tree.now) (places tree.now)) }
+        ≡ map (is_below table.now tree.now) (places tree.now)) }
     ensures tree { IsTree tree.now }
 {
     let mut found = Vec::new(alloc);
     for place in 0..tree.len() as u32 {
-        let is_found = is_below(marks, &found, tree, Node::at(place));
+        let is_found = is_below(table, &found, tree, Node::at(place));
         found.push(is_found)?;
     }
     Ok(found)
 }
 
-// Whether a node is marked, or its parent was found to be marked or below a node that is.
-fn is_below(marks: &[bool], found: &[bool], tree: &Tree, node: Node) -> bool
+// Whether a node is in a table, or its parent was found to be in it or below a node that is.
+fn is_below(table: &[bool], found: &[bool], tree: &Tree, node: Node) -> bool
     requires node { node < length tree.now }
-    requires found { found.now ≡ map (is_below marks.now tree.now) (range_with_len 0 node) }
-    ensures { result ≡ is_below marks.now tree.now node }
+    requires found { found.now ≡ map (is_below table.now tree.now) (range_with_len 0 node) }
+    ensures { result ≡ is_below table.now tree.now node }
 {
-    if is_marked(marks, node) {
+    if is_in_table(table, node) {
         return true;
     }
     match tree.parent(node) {
         None => false,
-        Some(parent) => is_marked(found, parent),
+        Some(parent) => is_in_table(found, parent),
     }
 }
 
-// For each node, whether a step without predicates leads to it from a parent that is marked.
+// For each node, whether a step without predicates leads to it from a parent in a table.
 fn led(
     alloc: Global,
     axis: Axis,
     test: &NodeTest,
-    marks: &[bool],
+    table: &[bool],
     tree: &Tree,
 ) -> Result<Vec<bool>, AllocError>
     ensures led { IfOk result (λ t. t.items
-        ≡ map (is_led axis test.now marks.now tree.now) (places tree.now)) }
+        ≡ map (is_led axis test.now table.now tree.now) (places tree.now)) }
     ensures tree { IsTree tree.now }
 {
     let mut found = Vec::new(alloc);
     for place in 0..tree.len() as u32 {
-        found.push(is_led(axis, test, marks, tree, Node::at(place)))?;
+        found.push(is_led(axis, test, table, tree, Node::at(place)))?;
     }
     Ok(found)
 }
 
-// Whether a step without predicates leads to a node from a parent that is marked.
-fn is_led(axis: Axis, test: &NodeTest, marks: &[bool], tree: &Tree, node: Node) -> bool
+// Whether a step without predicates leads to a node from a parent in a table.
+fn is_led(axis: Axis, test: &NodeTest, table: &[bool], tree: &Tree, node: Node) -> bool
     requires { node < length tree.now }
-    ensures { result ≡ is_led axis test.now marks.now tree.now node }
+    ensures { result ≡ is_led axis test.now table.now tree.now node }
 {
     match tree.parent(node) {
         None => false,
         Some(parent) => {
-            if !is_marked(marks, parent) {
+            if !is_in_table(table, parent) {
                 return false;
             }
             if !stands_on(axis, tree.kind(node)) {
@@ -214,17 +215,5 @@ fn is_led(axis: Axis, test: &NodeTest, marks: &[bool], tree: &Tree, node: Node) 
             }
             passes(tree, axis, test, node)
         }
-    }
-}
-
-/// Whether a node is marked, which none is after the last mark.
-pub fn is_marked(marks: &[bool], node: Node) -> bool
-    ensures { result ≡ get_or marks.now node false }
-{
-    let place = node.place() as usize;
-    if place < marks.len() {
-        marks[place]
-    } else {
-        false
     }
 }

@@ -10,7 +10,8 @@ ghost use Rattle.xs_meaning.specs.Evaluation.{run_of_tree};
 ghost use Rattle.xs_matching.specs.Predicates.{is_among, nodes_given};
 ghost use Rattle.xs_pattern.specs.steps.Keys.{has_node, key_call};
 
-use std::alloc::{AllocError, Global};
+use crate::matcher::Matcher;
+use std::alloc::AllocError;
 use xs_eval::keys::number_of;
 use xs_meaning::context::Context;
 use xs_tree::Node;
@@ -53,39 +54,36 @@ fn literal(expr: &Expr) -> Option<&str>
     }
 }
 
-/// Whether the context node is among those that a call of `key` gives.
-pub(crate) fn is_given_by_key<K: KeyFinder>(
-    alloc: Global,
-    name: &str,
-    text: &str,
-    context: &Context<'_>,
-    keys: &K,
-) -> Result<bool, AllocError>
-    ensures given { IfOk result (λ b. b ≡ is_among context.now.node
-        (nodes_given (run_of_tree (K.tables keys.now) (key_call name.now text.now)) context.now)) }
-{
-    match number_of(keys, context.scope, name) {
-        Some(key) => has_node(alloc, key, text, context.node, keys),
-        None => Ok(false),
+impl<'a, K: KeyFinder> Matcher<'a, K> {
+    /// Whether the context node is among those that a call of `key` gives.
+    pub(crate) fn is_given_by_key(
+        &self,
+        name: &str,
+        text: &str,
+        context: &Context<'_>,
+    ) -> Result<bool, AllocError>
+        ensures given { IfOk result (λ b. b ≡ is_among context.now.node
+            (nodes_given (run_of_tree (K.tables self.now.keys.now) (key_call name.now text.now))
+            context.now)) }
+    {
+        match number_of(self.keys, context.scope, name) {
+            Some(key) => self.has_node(key, text, context.node),
+            None => Ok(false),
+        }
     }
-}
 
-// Whether a key's table has a node for a text. One that has a fault has none.
-fn has_node<K: KeyFinder>(
-    alloc: Global,
-    key: u32,
-    text: &str,
-    node: Node,
-    keys: &K,
-) -> Result<bool, AllocError>
-    ensures has { IfOk result (λ b. b ≡ has_node (table_at (K.tables keys.now) key)
-        (table_at (K.tables keys.now) key).fault text.now node) }
-    ensures list { IsNodeList (nodes_of text.now (table_at (K.tables keys.now) key).entries) }
-{
-    match keys.find(alloc, key, text) {
-        Ok(found) => Ok(is_among(node, found.nodes())),
-        Err(KeyEnd::Fault(_)) => Ok(false),
-        Err(KeyEnd::NoMemory) => Err(AllocError),
+    // Whether a key's table has a node for a text. One that has a fault has none.
+    fn has_node(&self, key: u32, text: &str, node: Node) -> Result<bool, AllocError>
+        ensures has { IfOk result (λ b. b ≡ has_node (table_at (K.tables self.now.keys.now) key)
+            (table_at (K.tables self.now.keys.now) key).fault text.now node) }
+        ensures list { IsNodeList (nodes_of text.now
+            (table_at (K.tables self.now.keys.now) key).entries) }
+    {
+        match self.keys.find(self.alloc, key, text) {
+            Ok(found) => Ok(is_among(node, found.nodes())),
+            Err(KeyEnd::Fault(_)) => Ok(false),
+            Err(KeyEnd::NoMemory) => Err(AllocError),
+        }
     }
 }
 

@@ -3,10 +3,13 @@
 
 pub mod above;
 mod keys;
-pub mod marks;
+pub mod match_tables;
+pub mod matcher;
 pub mod matching;
 mod node_tests;
+pub mod path_tables;
 pub mod paths;
 mod predicates;
 mod steps;
+pub mod tables;
 mod values;

@@ -10,9 +10,9 @@ ghost use Rattle.xs_matching.specs.Matching.{is_descend, placed_at, selected, st
 ghost use Rattle.xs_matching.specs.Predicates.{is_among};
 ghost use Rattle.xs_pattern.specs.steps.Climb.{stands_on};
 
+use crate::matcher::Matcher;
 use crate::node_tests::tested;
-use crate::predicates::{all_kept, is_kept, say};
-use std::alloc::{AllocError, Global};
+use std::alloc::AllocError;
 use xs_eval::node_tests::passes;
 use xs_meaning::context::Context;
 use xs_tree::{Axis, Kind, Node};
@@ -41,77 +41,78 @@ pub(crate) fn is_descend(step: &Expr) -> bool
     }
 }
 
-/// Whether a step selects a node from the node's parent.
-pub(crate) fn leads_to<K: KeyFinder>(
-    alloc: Global,
-    step: &Expr,
-    parent: Node,
-    node: Node,
-    context: &Context<'_>,
-    keys: &K,
-) -> Result<bool, AllocError>
-    requires context { IsContext (K.tables keys.now) context.now }
-    requires tree { IsTree context.now.tree }
-    requires node { node < length context.now.tree }
-    requires parent { (at context.now.tree node).parent ≡ Some parent }
-    ensures leads { IfOk result (λ b. b ≡ is_among node
-        (selected (K.tables keys.now) (tree_from step.now) (placed_at context.now parent))) }
-{
-    match step {
-        Expr::Step(axis, test, predicates) => {
-            leads_by(alloc, *axis, test, predicates, parent, node, context, keys)
-        }
-        Expr::Number(_) => Ok(false),
-        Expr::Literal(_) => Ok(false),
-        Expr::Variable(_, _, _) => Ok(false),
-        Expr::Call(_, _) => Ok(false),
-        Expr::Negative(_, _) => Ok(false),
-        Expr::Chain(_, _) => Ok(false),
-        Expr::Group(_) => Ok(false),
-        Expr::Here => Ok(false),
-        Expr::Root => Ok(false),
-        Expr::Descend => Ok(false),
-        Expr::Filter(_, _) => Ok(false),
-        Expr::Path(_, _) => Ok(false),
-    }
-}
-
-// The same of a step by its parts. The node alone is looked at where no predicate depends on its
-// position; otherwise its position among its siblings counts, and the last predicate is evaluated
-// for the node alone.
-fn leads_by<K: KeyFinder>(
-    alloc: Global,
-    axis: Axis,
-    test: &NodeTest,
-    predicates: &[Expr],
-    parent: Node,
-    node: Node,
-    context: &Context<'_>,
-    keys: &K,
-) -> Result<bool, AllocError>
-    requires context { IsContext (K.tables keys.now) context.now }
-    requires tree { IsTree context.now.tree }
-    requires node { node < length context.now.tree }
-    requires parent { (at context.now.tree node).parent ≡ Some parent }
-    ensures leads { IfOk result (λ b. b ≡ is_among node (step_nodes axis test.now
-        (runs_of (K.tables keys.now) predicates.now) (placed_at context.now parent))) }
-{
-    if !stands_on(axis, context.tree.kind(node)) {
-        return Ok(false);
-    }
-    if !passes(context.tree, axis, test, node) {
-        return Ok(false);
-    }
-    match predicates.split_last() {
-        None => Ok(true),
-        Some((last, before)) => {
-            let around = context.at_node(parent, context.position, context.size);
-            if let Some(said) = say(alloc, predicates, node, &around, keys)? {
-                return Ok(said);
+impl<'a, K: KeyFinder> Matcher<'a, K> {
+    /// Whether a step selects a node from the node's parent.
+    pub(crate) fn leads_to(
+        &self,
+        step: &Expr,
+        parent: Node,
+        node: Node,
+        context: &Context<'_>,
+    ) -> Result<bool, AllocError>
+        requires context { IsContext (K.tables self.now.keys.now) context.now }
+        requires tree { IsTree context.now.tree }
+        requires node { node < length context.now.tree }
+        requires parent { (at context.now.tree node).parent ≡ Some parent }
+        ensures leads { IfOk result (λ b. b ≡ is_among node
+            (selected (K.tables self.now.keys.now) (tree_from step.now) (placed_at context.now
+            parent))) }
+    {
+        match step {
+            Expr::Step(axis, test, predicates) => {
+                self.leads_by(*axis, test, predicates, parent, node, context)
             }
-            let nodes = tested(alloc, axis, test, &around)?;
-            let nodes = all_kept(alloc, before, nodes, &around, keys)?;
-            is_kept(alloc, last, &nodes, node, &around, keys)
+            Expr::Number(_) => Ok(false),
+            Expr::Literal(_) => Ok(false),
+            Expr::Variable(_, _, _) => Ok(false),
+            Expr::Call(_, _) => Ok(false),
+            Expr::Negative(_, _) => Ok(false),
+            Expr::Chain(_, _) => Ok(false),
+            Expr::Group(_) => Ok(false),
+            Expr::Here => Ok(false),
+            Expr::Root => Ok(false),
+            Expr::Descend => Ok(false),
+            Expr::Filter(_, _) => Ok(false),
+            Expr::Path(_, _) => Ok(false),
+        }
+    }
+
+    // The same of a step by its parts. The node alone is looked at where no predicate depends on
+    // its position; otherwise its position among its siblings counts, and the last predicate is
+    // evaluated for the node alone.
+    fn leads_by(
+        &self,
+        axis: Axis,
+        test: &NodeTest,
+        predicates: &[Expr],
+        parent: Node,
+        node: Node,
+        context: &Context<'_>,
+    ) -> Result<bool, AllocError>
+        requires context { IsContext (K.tables self.now.keys.now) context.now }
+        requires tree { IsTree context.now.tree }
+        requires node { node < length context.now.tree }
+        requires parent { (at context.now.tree node).parent ≡ Some parent }
+        ensures leads { IfOk result (λ b. b ≡ is_among node (step_nodes axis test.now
+            (runs_of (K.tables self.now.keys.now) predicates.now) (placed_at context.now parent))) }
+    {
+        if !stands_on(axis, context.tree.kind(node)) {
+            return Ok(false);
+        }
+        if !passes(context.tree, axis, test, node) {
+            return Ok(false);
+        }
+        match predicates.split_last() {
+            None => Ok(true),
+            Some((last, before)) => {
+                let around = context.at_node(parent, context.position, context.size);
+                if let Some(said) = self.say(predicates, node, &around)? {
+                    return Ok(said);
+                }
+                let nodes = tested(self.alloc, axis, test, &around)?;
+                let nodes = self.all_kept(before, nodes, &around)?;
+                self.is_kept(last, &nodes, node, &around)
+            }
         }
     }
 }

@@ -10,7 +10,8 @@ ghost use Rattle.xs_matching.specs.Predicates.{holds, is_among, nodes_given, nod
 ghost use Rattle.xs_pattern.specs.steps.Alone.{IsSaid, said, said_by};
 
 use crate::keys::is_among;
-use std::alloc::{AllocError, Global};
+use crate::matcher::Matcher;
+use std::alloc::AllocError;
 use xs_eval::evaluate::evaluate;
 use xs_eval::predicates::selects;
 use xs_meaning::context::Context;
@@ -27,72 +28,72 @@ use xs_xpath::uses::uses_place;
 // Where a pattern is evaluated: its ticks and faults are reported to nobody.
 const NOWHERE: Site = Site { module: 0, line: 0 };
 
-/// The value of an expression in a context; none where it ends in a fault.
-pub(crate) fn value_in<K: KeyFinder>(
-    alloc: Global,
-    expr: &Expr,
-    context: &Context<'_>,
-    keys: &K,
-) -> Result<Option<Value>, AllocError>
-    requires { IsContext (K.tables keys.now) context.now }
-    ensures value { IfOk result (λ v. v
-        ≡ value_in (run_of (K.tables keys.now) expr.now context.now).end) }
-{
-    let mut meter = Meter {
-        limit: None,
-        spent: 0,
-    };
-    match evaluate(alloc, expr, context, keys, NOWHERE, &mut meter) {
-        Ok(v) => Ok(Some(v)),
-        Err(Halt::Fault(_, _)) => Ok(None),
-        Err(Halt::Needs(_, _)) => Ok(None),
-        Err(Halt::NoMemory) => Err(AllocError),
-        Err(Halt::Spent(_)) => unreachable!(),
-        Err(Halt::Full(_)) => unreachable!(),
-        Err(Halt::Over { total: _ }) => unreachable!(),
+impl<'a, K: KeyFinder> Matcher<'a, K> {
+    /// The value of an expression in a context; none where it ends in a fault.
+    pub(crate) fn value_in(
+        &self,
+        expr: &Expr,
+        context: &Context<'_>,
+    ) -> Result<Option<Value>, AllocError>
+        requires { IsContext (K.tables self.now.keys.now) context.now }
+        ensures value { IfOk result (λ v. v
+            ≡ value_in (run_of (K.tables self.now.keys.now) expr.now context.now).end) }
+    {
+        let mut meter = Meter {
+            limit: None,
+            spent: 0,
+        };
+        match evaluate(self.alloc, expr, context, self.keys, NOWHERE, &mut meter) {
+            Ok(v) => Ok(Some(v)),
+            Err(Halt::Fault(_, _)) => Ok(None),
+            Err(Halt::Needs(_, _)) => Ok(None),
+            Err(Halt::NoMemory) => Err(AllocError),
+            Err(Halt::Spent(_)) => unreachable!(),
+            Err(Halt::Full(_)) => unreachable!(),
+            Err(Halt::Over { total: _ }) => unreachable!(),
+        }
     }
-}
 
-/// Whether a predicate holds of a node at a position, among so many.
-pub(crate) fn holds<K: KeyFinder>(
-    alloc: Global,
-    predicate: &Expr,
-    node: Node,
-    position: u32,
-    size: u32,
-    context: &Context<'_>,
-    keys: &K,
-) -> Result<bool, AllocError>
-    requires context { IsContext (K.tables keys.now) context.now }
-    requires node { node < length context.now.tree }
-    ensures holds { IfOk result (λ b. b
-        ≡ holds context.now (run_of (K.tables keys.now) predicate.now) size (position, node)) }
-{
-    let around = context.at_node(node, position, size);
-    let v = value_in(alloc, predicate, &around, keys)?;
-    Ok(is_selecting(&v, position))
-}
-
-/// What a predicate says of a node wherever it stands among others; nothing, where that depends on
-/// its position, since the predicate asks for it or has a number for its value.
-pub(crate) fn says<K: KeyFinder>(
-    alloc: Global,
-    predicate: &Expr,
-    node: Node,
-    context: &Context<'_>,
-    keys: &K,
-) -> Result<Option<bool>, AllocError>
-    requires context { IsContext (K.tables keys.now) context.now }
-    requires node { node < length context.now.tree }
-    ensures says { IfOk result
-        (IsSaid node context.now (run_of (K.tables keys.now) predicate.now)) }
-{
-    if uses_place(predicate) {
-        return Ok(None);
+    /// Whether a predicate holds of a node at a position, among so many.
+    pub(crate) fn holds(
+        &self,
+        predicate: &Expr,
+        node: Node,
+        position: u32,
+        size: u32,
+        context: &Context<'_>,
+    ) -> Result<bool, AllocError>
+        requires context { IsContext (K.tables self.now.keys.now) context.now }
+        requires node { node < length context.now.tree }
+        ensures holds { IfOk result (λ b. b
+            ≡ holds context.now (run_of (K.tables self.now.keys.now) predicate.now)
+            size (position, node)) }
+    {
+        let around = context.at_node(node, position, size);
+        let v = self.value_in(predicate, &around)?;
+        Ok(is_selecting(&v, position))
     }
-    let around = context.at_node(node, 1, 1);
-    let v = value_in(alloc, predicate, &around, keys)?;
-    Ok(said(&v))
+
+    /// What a predicate says of a node wherever it stands among others; nothing, where that depends
+    /// on its position, since the predicate asks for it or has a number for its value.
+    pub(crate) fn says(
+        &self,
+        predicate: &Expr,
+        node: Node,
+        context: &Context<'_>,
+    ) -> Result<Option<bool>, AllocError>
+        requires context { IsContext (K.tables self.now.keys.now) context.now }
+        requires node { node < length context.now.tree }
+        ensures says { IfOk result
+            (IsSaid node context.now (run_of (K.tables self.now.keys.now) predicate.now)) }
+    {
+        if uses_place(predicate) {
+            return Ok(None);
+        }
+        let around = context.at_node(node, 1, 1);
+        let v = self.value_in(predicate, &around)?;
+        Ok(said(&v))
+    }
 }
 
 // What a value says of a node at whatever position: nothing, where it is a number.
@@ -128,20 +129,22 @@ fn is_selecting(v: &Option<Value>, position: u32) -> bool
     }
 }
 
-/// Whether a node is among those that an expression gives in a context.
-pub(crate) fn is_given<K: KeyFinder>(
-    alloc: Global,
-    expr: &Expr,
-    node: Node,
-    context: &Context<'_>,
-    keys: &K,
-) -> Result<bool, AllocError>
-    requires { IsContext (K.tables keys.now) context.now }
-    ensures given { IfOk result (λ b. b
-        ≡ is_among node (nodes_given (run_of (K.tables keys.now) expr.now) context.now)) }
-{
-    let v = value_in(alloc, expr, context, keys)?;
-    Ok(is_in_value(node, &v))
+impl<'a, K: KeyFinder> Matcher<'a, K> {
+    /// Whether a node is among those that an expression gives in a context.
+    pub(crate) fn is_given(
+        &self,
+        expr: &Expr,
+        node: Node,
+        context: &Context<'_>,
+    ) -> Result<bool, AllocError>
+        requires { IsContext (K.tables self.now.keys.now) context.now }
+        ensures given { IfOk result (λ b. b
+            ≡ is_among node (nodes_given (run_of (K.tables self.now.keys.now) expr.now)
+            context.now)) }
+    {
+        let v = self.value_in(expr, context)?;
+        Ok(is_in_value(node, &v))
+    }
 }
 
 // Whether there is a value, and a node is in it.

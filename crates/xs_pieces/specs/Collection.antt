@@ -4,25 +4,15 @@ use Rattle.std.specs.List.{All}
 use Rattle.xs_trace.specs.Mark.{Trace, tick_count}
 use Rattle.xs_trace.specs.Cut.{cut}
 use Rattle.xs_trace.specs.Fill.{tasks_of}
-use Rattle.xs_trace.specs.declared.item.Ended.{Ended}
-use Rattle.xs_trace.specs.declared.item.Ended.TheVariants as ended
 use Rattle.xs_trace.specs.declared.item.Limits.{Limits}
 use Rattle.xs_trace.specs.declared.place.Claim.{Claim}
 use Rattle.xs_core.specs.declared.piece.Progress.{Progress}
 use Rattle.xs_core.specs.Machine.{Facts, State}
 use Rattle.xs_core.specs.Good.{total, IsGood}
-use Rattle.xs_record.specs.Outcome.{IsOutcome}
+use Rattle.xs_record.specs.Outcome.{IsOutcome, is_done}
 use Rattle.xs_record.specs.declared.outcome.Outcome.{Outcome}
 use Rattle.xs_pieces.specs.Tree.{task_at}
 use Rattle.xs_pieces.specs.declared.piece.Piece.{Piece}
-
--- a run that ended by itself, and not in the total that it shares
-abbrev pub is_done : Ended → Bool
-is_done ended.Whole = true
-is_done (ended.Fault s) = true
-is_done (ended.Spent s) = true
-is_done (ended.Full s) = true
-is_done (ended.Over t) = false
 
 -- a piece is finished that was run and did not end in the total
 abbrev pub is_finished : Option Outcome → Bool

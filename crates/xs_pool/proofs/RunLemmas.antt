@@ -19,12 +19,12 @@ use Rattle.xs_trace.specs.declared.place.Claim.{Claim}
 use Rattle.xs_trace.proofs.KnownLemmas.{numbered-laws}
 use Rattle.xs_core.specs.declared.piece.Progress.{Progress}
 use Rattle.xs_core.specs.Good.{total, children}
-use Rattle.xs_record.specs.Outcome.{part_marks, IsOutcome}
+use Rattle.xs_record.specs.Outcome.{IsOutcome, is_done, part_marks}
 use Rattle.xs_record.specs.Piece.{IsWhole, EndsBy, IsPiece}
 use Rattle.xs_record.specs.declared.outcome.Outcome.{Outcome}
 use Rattle.xs_pieces.specs.Tree.{task_at, ArePlaced, BeginsWithTick}
 use Rattle.xs_pieces.specs.Ready.{IsReady}
-use Rattle.xs_pieces.specs.Collection.{is_done, is_finished, IfFinished, ticks_in, holes_in, ticks_spent, children_in, places_in, finished_in, dropped_in}
+use Rattle.xs_pieces.specs.Collection.{is_finished, IfFinished, ticks_in, holes_in, ticks_spent, children_in, places_in, finished_in, dropped_in}
 use Rattle.xs_pieces.specs.Collection.{if_run, claimed_in, AreClaims, IsCollection}
 use Rattle.xs_pieces.specs.declared.piece.Piece.{Piece}
 use Rattle.xs_pieces.proofs.TreeLemmas.{at-child}

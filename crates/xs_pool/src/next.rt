@@ -1,7 +1,7 @@
 //! The next piece that waits is run.
 
 ghost use Rattle.std.specs.Prelude.{◌≡◌, ◌++◌, ◌<◌, ◌≤◌, ◌+◌, length, map, IfOk, OnOk, not};
-ghost use Rattle.xs_pieces.specs.Collection.{is_done};
+ghost use Rattle.xs_record.specs.Outcome.{is_done};
 ghost use Rattle.xs_pieces.specs.Ready.{IsReady};
 ghost use Rattle.xs_pool.specs.steps.Running.{waiting, ran_at, IsRun, IsNext};
 
@@ -9,7 +9,7 @@ use std::alloc::{AllocError, Global};
 use xs_pieces::piece::{Desk, Piece, Ran};
 use xs_pieces::runner::PieceRunner;
 use xs_record::outcome::Outcome;
-use xs_trace::item::{Ended, Limits};
+use xs_trace::item::Limits;
 use xs_trace::total::Total;
 
 /// The desk after a piece was run, and whether that ended in the total.
@@ -47,7 +47,7 @@ pub(crate) fn run_next<R: PieceRunner<T>, T: Total + Drop>(
     let mut children = Vec::new(alloc);
     let Ran { outcome, desk } = runner.run(alloc, &pieces[index].task, limits, desk, &mut children);
     let outcome = outcome?;
-    let is_over = is_in_total(outcome.ended);
+    let is_over = !outcome.is_done();
     set_outcome(pieces, index, outcome);
     if is_over {
         return Ok(Next {
@@ -60,16 +60,6 @@ pub(crate) fn run_next<R: PieceRunner<T>, T: Total + Drop>(
         desk,
         is_over: false,
     })
-}
-
-/// Whether a run ended in the total that it shares.
-fn is_in_total(ended: Ended) -> bool
-    ensures over { result ≡ not (is_done ended) }
-{
-    match ended {
-        Ended::Over { .. } => true,
-        Ended::Whole | Ended::Fault(_) | Ended::Spent(_) | Ended::Full(_) => false,
-    }
 }
 
 /// Says what the piece at an index did.

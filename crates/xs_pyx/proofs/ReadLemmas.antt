@@ -1,9 +1,9 @@
 -- Texts without a backslash, what the first byte of a line has to be, and rows that are text.
-use Rattle.std.proofs.Common.{◌≡◌, ◌≢◌, ℕ, ◌<◌, ◌≤◌, Bool, true, false, List, [], ◌∷◌, ◌++◌, length, get_or, take, drop, ◌-◌, ◌+◌, Some, Result, refl, sym, ◌∙◌, ap, subst, arith, append-nil}
-use Rattle.std.specs.Prelude.{◌==◌}
+use Rattle.std.proofs.Common.{◌≡◌, ◌≢◌, ℕ, ◌<◌, ◌≤◌, Bool, true, false, List, [], ◌∷◌, ◌++◌, length, get_or, take, drop, ◌-◌, ◌+◌, Some, Result, is_some, inl, inr, refl, sym, ◌∙◌, ap, subst, arith, append-nil}
+use Rattle.std.specs.Prelude.{◌==◌, not, if◌then◌else◌}
 use Rattle.std.specs.List.{list_any, position_or_len}
 use Rattle.std.specs.Str.{IsUtf8, is_utf8, IsCharBoundary}
-use Rattle.std.proofs.lemmas.Bool.{or_parts, false_from_ne_true}
+use Rattle.std.proofs.lemmas.Bool.{and_left, cases_Bool, or_parts, false_from_ne_true}
 use Rattle.std.proofs.lemmas.Bool.Decides.{nat_tests}
 use Rattle.std.proofs.lemmas.List.{take_rest, take-append-drop}
 use Rattle.std.proofs.lemmas.List.Folds.{list_any-append}
@@ -15,8 +15,8 @@ use Rattle.xs_pyx.specs.declared.fault.Fault.{Fault}
 use Rattle.xs_pyx.specs.declared.line.Line.{Line}
 use Rattle.xs_pyx.specs.Reading.{Reading, faulty, reading, kind_reading, begins_line, ends_name, says, value_in}
 use Rattle.xs_pyx.specs.Results.{TakesLine}
-use Rattle.xs_pyx.specs.Row.{behind_row, first_row}
-use Rattle.xs_pyx.specs.Views.{IsViewing}
+use Rattle.xs_pyx.specs.Row.{Row, behind_row, first_row}
+use Rattle.xs_pyx.specs.Views.{IsViewing, begins_plain, says_line}
 
 abbrev pub is_backslash : ℕ → Bool
 is_backslash b = b == 92
@@ -87,3 +87,32 @@ plain_takes whole text ended size n line first is within behind same said some =
   says = ap reading (sym first) ∙ ap (λ e. reading (record { bytes = text; ended = e })) is ∙ said;
   behind = ap (λ k. drop k whole) same ∙ behind;
 }
+
+-- a line that no line feed ends has a fault
+unended_by : (begins escaped : Bool) → says_line (if begins then (if escaped then faulty 4 else faulty 2) else faulty 1) ≡ false
+unended_by true true = refl
+unended_by true false = refl
+unended_by false escaped = refl
+
+kind_unended : (bytes : List ℕ) → says_line (kind_reading bytes false) ≡ false
+kind_unended [] = refl
+kind_unended (kind ∷ rest) = unended_by (begins_line kind) (is_some (unescaped rest))
+
+reading_unended : (bytes : List ℕ) → says_line (reading (record { bytes = bytes; ended = false })) ≡ false
+unfolding reading
+reading_unended bytes =
+    elim (cases_Bool (is_utf8 bytes)) [
+      | inl t ↦ rw t (kind_unended bytes)
+      | inr f ↦ rw f refl
+    ]
+
+pub none_of_unended : (whole text : List ℕ) (ended : Bool) → record { bytes = text; ended = ended } ≡ first_row whole → ended ≡ false
+    → begins_plain whole ≡ false
+none_of_unended whole text ended first is =
+    and_left (says_line (reading (first_row whole))) (not (list_any is_backslash (first_row whole).bytes))
+    (ap (λ (r : Row). says_line (reading r)) (sym first) ∙ ap (λ e. says_line (reading (record { bytes = text; ended = e }))) is ∙ reading_unended text)
+
+-- and so has that of no bytes
+pub none_of_none : (text : List ℕ) → length text ≡ 0 → begins_plain text ≡ false
+none_of_none [] none = none_of_unended [] (first_row []).bytes false refl refl
+none_of_none (b ∷ bs) none = absurd (omega arith)

@@ -1,12 +1,13 @@
 -- The first row of a text, found by a search for the first line feed or backslash.
-use Rattle.std.proofs.Common.{◌≡◌, ℕ, ◌+◌, ◌-◌, ◌<◌, Bool, true, false, List, Option, Some, None, length, get_or, take, drop, sym, ◌∙◌, ap, subst, arith}
+use Rattle.std.proofs.Common.{◌≡◌, ◌≢◌, ℕ, ◌+◌, ◌-◌, ◌<◌, Bool, true, false, List, Option, Some, None, length, get_or, take, drop, sym, ◌∙◌, ap, subst, arith, ◌⊎◌, inl, inr}
 use Rattle.std.specs.List.{list_any}
 use Rattle.std.specs.Str.{IsUtf8, IsCharBoundary}
+use Rattle.std.proofs.lemmas.Bool.{cases_lt, false≢true}
 use Rattle.std.proofs.lemmas.Bool.Decides.{nat_tests}
 use Rattle.std.proofs.lemmas.List.{get_or-take, length-take, take_rest, drop_all}
 use Rattle.std.proofs.lemmas.Str.{IsCharBoundary-before_ascii, IsCharBoundary-after_ascii}
 use Rattle.memchr.specs.Find.{IsFirstByte, is_byte2}
-use Rattle.xs_text.proofs.FirstByteLemmas.{any-nowhere, before-none}
+use Rattle.xs_text.proofs.FirstByteLemmas.{any-found, any-nowhere, before-none}
 use Rattle.xs_pyx.specs.Row.{Row, first_row, behind_row, is_line_feed}
 use Rattle.xs_pyx.proofs.ReadLemmas.{is_backslash}
 use Rattle.xs_pyx.proofs.RowLemmas.{row-found, behind-found, behind-nowhere}
@@ -20,6 +21,9 @@ feed_is_either b h = grind (arith, nat_tests)
 
 pub is_feed : (b : ℕ) → b ≡ 10 → is_line_feed b ≡ true
 is_feed b is = ap is_line_feed is
+
+pub is_no_feed : (b : ℕ) → b ≢ 10 → is_line_feed b ≡ false
+is_no_feed b other = grind (arith, nat_tests)
 
 backslash_is_either : (b : ℕ) → is_backslash b ≡ true → is_either b ≡ true
 backslash_is_either b h = grind (arith, nat_tests)
@@ -48,6 +52,37 @@ pub plain_found : (bytes : List ℕ) (place : ℕ) → IsFirstByte is_either byt
 plain_found bytes place found feed =
     ap (λ k. list_any is_backslash (take k bytes)) (position-searched is_line_feed bytes place (feed_found bytes place found feed))
     ∙ plain_before bytes place found
+
+-- the first of both, where it is a backslash: no line feed stands before it
+either_is : (b : ℕ) → is_either b ≡ true → is_line_feed b ≡ false → is_backslash b ≡ true
+either_is b is other = grind (arith, nat_tests)
+
+feed_behind : (bytes : List ℕ) (place end : ℕ) → IsFirstByte is_either bytes (Some place) → is_line_feed (get_or bytes place 0) ≡ false
+    → IsFirstByte is_line_feed bytes (Some end) → place < end
+feed_behind bytes place end found other feed =
+    elim (cases_lt end place) [
+      | inl above ↦ absurd (found.0.before end (omega arith) above (feed_is_either (get_or bytes end 0) feed.1))
+      | inr least ↦
+          elim (cases_lt place end) [
+            | inl below ↦ below
+            | inr most ↦
+                let same : place ≡ end = omega (arith, least, most) in
+                absurd (false≢true (sym other ∙ ap (λ k. is_line_feed (get_or bytes k 0)) same ∙ feed.1))
+          ]
+    ]
+
+pub escaped_found : (bytes : List ℕ) (place : ℕ) (r : Option ℕ) → IsFirstByte is_either bytes (Some place)
+    → is_line_feed (get_or bytes place 0) ≡ false → IsFirstByte is_line_feed bytes r → list_any is_backslash (first_row bytes).bytes ≡ true
+escaped_found bytes place None found other feed =
+    ap (list_any is_backslash) (before-none is_line_feed bytes (sym (is_some-searched is_line_feed bytes None feed)))
+    ∙ any-found is_backslash bytes place found.0.high (either_is (get_or bytes place 0) found.1 other)
+escaped_found bytes place (Some end) found other feed =
+    let within : place < end = feed_behind bytes place end found other feed in
+    let high : place < length bytes = found.0.high in
+    let end_high : end < length bytes = feed.0.high in
+    ap (λ k. list_any is_backslash (take k bytes)) (position-searched is_line_feed bytes end feed)
+    ∙ any-found is_backslash (take end bytes) place (omega (arith, length-take end bytes, within, high, end_high))
+    (ap is_backslash (get_or-take end bytes place 0 within) ∙ either_is (get_or bytes place 0) found.1 other)
 
 -- where there is none of both
 pub feed_nowhere : (bytes : List ℕ) → IsFirstByte is_either bytes None → IsFirstByte is_line_feed bytes None
@@ -89,3 +124,8 @@ pub row_plain : (row view bytes : List ℕ) (ended is_plain : Bool) → record {
     → (is_plain ≡ true → list_any is_backslash (first_row view).bytes ≡ false) → is_plain ≡ true → list_any is_backslash row ≡ false
 row_plain row view bytes ended is_plain is same plain known =
     ap (λ (r : Row). list_any is_backslash r.bytes) is ∙ ap (λ bs. list_any is_backslash (first_row bs).bytes) (sym same) ∙ plain known
+
+pub row_escaped : (row view bytes : List ℕ) (ended is_plain : Bool) → record { bytes = row; ended = ended } ≡ first_row bytes → view ≡ bytes
+    → (is_plain ≡ false → list_any is_backslash (first_row view).bytes ≡ true) → is_plain ≡ false → list_any is_backslash row ≡ true
+row_escaped row view bytes ended is_plain is same escaped known =
+    ap (λ (r : Row). list_any is_backslash r.bytes) is ∙ ap (λ bs. list_any is_backslash (first_row bs).bytes) (sym same) ∙ escaped known

@@ -1,5 +1,5 @@
 -- Lines that borrow their texts, and the lines that they are.
-use Rattle.std.specs.Prelude.{◌≡◌, ℕ, ◌≤◌, ◌==◌, Bool, List, Option, None, Some, Result, Ok, Err, IsSome, length}
+use Rattle.std.specs.Prelude.{◌≡◌, ℕ, ◌≤◌, ◌==◌, ◌&&◌, Bool, true, false, not, List, Option, None, Some, Result, Ok, Err, IsSome, length}
 use Rattle.std.specs.List.{list_any}
 use Rattle.std.specs.Str.{IsCharBoundary}
 use Rattle.xs_text.specs.Escapes.{unescaped}
@@ -15,7 +15,8 @@ use Rattle.xs_pyx.specs.declared.view.Data.TheVariants.{Plain, Escaped}
 use Rattle.xs_pyx.specs.declared.view.LineView.{LineView}
 use Rattle.xs_pyx.specs.declared.view.LineView.TheVariants.{Start, Attr, Chars, End, Pi, Comment}
 use Rattle.xs_pyx.specs.Faults.{number_of}
-use Rattle.xs_pyx.specs.Reading.{Reading, says, faulty, data_of}
+use Rattle.xs_pyx.specs.Reading.{Reading, says, faulty, data_of, reading}
+use Rattle.xs_pyx.specs.Row.{first_row}
 
 -- whether a backslash stands in a text
 abbrev pub has_backslash : List ℕ → Bool
@@ -69,6 +70,20 @@ IsViewing (Err fault) said = said ≡ faulty (number_of fault)
 abbrev pub bytes_left : Rest → List ℕ
 bytes_left (Text text) = text.now
 bytes_left (Bytes bytes) = bytes.now
+
+-- whether a line has no fault
+abbrev pub says_line : Reading → Bool
+says_line (says line) = true
+says_line (faulty number) = false
+
+-- whether a text begins with a line that has no fault and no backslash
+abbrev pub begins_plain : List ℕ → Bool
+begins_plain text = says_line (reading (first_row text)) && not (has_backslash (first_row text).bytes)
+
+-- whether what is left, where it is known to be UTF-8, begins with such a line
+abbrev pub has_plain_line : Rest → Bool
+has_plain_line (Text text) = begins_plain text.now
+has_plain_line (Bytes bytes) = false
 
 -- so many bytes can be cut off: a text is cut between two characters
 abbrev pub CanCut : Rest → ℕ → Type 0

@@ -6,7 +6,8 @@ ghost use Rattle.xs_pyx.specs.Reading.{begins_line, data_of, kind_reading, line_
 ghost use Rattle.xs_pyx.specs.Reading.{reading, says, value_in};
 ghost use Rattle.xs_pyx.specs.Results.{TakesLine};
 ghost use Rattle.xs_pyx.specs.Row.{behind_row, first_row, rows_of};
-ghost use Rattle.xs_pyx.specs.Views.{CanCut, bytes_left, has_backslash};
+ghost use Rattle.xs_pyx.specs.Views.{CanCut, begins_plain, bytes_left, has_backslash};
+ghost use Rattle.xs_pyx.specs.Views.{has_plain_line, says_line};
 ghost use Rattle.std.specs.Str.{IsCharBoundary};
 
 use crate::first_bytes::begins_line;
@@ -27,8 +28,8 @@ pub struct PlainLine<'a> {
 }
 
 impl<'a> Rest<'a> {
-    /// The first line, where it is UTF-8, says something, has no backslash, and ends with a line
-    /// feed. No memory.
+    /// The first line, exactly where it is known to be UTF-8, says something, has no backslash, and
+    /// ends with a line feed. No memory.
     #[inline(always)]
     pub fn plain_line(self) -> PlainLine<'a>
         ensures takes { 0 < result.size
@@ -38,6 +39,7 @@ impl<'a> Rest<'a> {
         ensures rows { 0 < length (bytes_left self.entry) → rows_of (bytes_left self.entry)
             ≡ first_row (bytes_left self.entry) ∷ rows_of (behind_row (bytes_left self.entry)) }
         ensures cut { 0 < result.size → CanCut self.entry result.size }
+        ensures none { result.size ≡ 0 → has_plain_line self.entry ≡ false }
     {
         match self {
             Rest::Text(text) => plain_text_line(text),
@@ -66,6 +68,7 @@ fn plain_text_line(text: &str) -> PlainLine<'_>
     ensures begins { 0 < result.size → IsTrue (begins_line result.kind) }
     ensures plain { 0 < result.size → has_backslash result.rest.now ≡ false }
     ensures cut { 0 < result.size → IsCharBoundary text.now result.size }
+    ensures none { result.size ≡ 0 → begins_plain text.now ≡ false }
 {
     if text.is_empty() {
         return no_line();
@@ -84,12 +87,15 @@ fn plain_text_line(text: &str) -> PlainLine<'_>
 /// bytes.
 #[inline(always)]
 fn plain_row(text: &str, size: usize) -> PlainLine<'_>
-    requires { has_backslash text.now ≡ false }
+    requires plain { has_backslash text.now ≡ false }
+    requires some { 0 < size }
     ensures says { 0 < result.size → reading (record { bytes = text.now; ended = true })
         ≡ says (line_of result.kind result.rest.now) }
     ensures size { 0 < result.size → result.size ≡ size }
     ensures begins { 0 < result.size → IsTrue (begins_line result.kind) }
     ensures plain { 0 < result.size → has_backslash result.rest.now ≡ false }
+    ensures none { result.size ≡ 0
+        → says_line (reading (record { bytes = text.now; ended = true })) ≡ false }
 {
     plain_kind(text, size)
 }
@@ -98,12 +104,14 @@ fn plain_row(text: &str, size: usize) -> PlainLine<'_>
 #[inline(always)]
 #[tactic(auto, using(crate::proofs::ReadLemmas::unescaped_itself))]
 fn plain_kind(text: &str, size: usize) -> PlainLine<'_>
-    requires { has_backslash text.now ≡ false }
+    requires plain { has_backslash text.now ≡ false }
+    requires some { 0 < size }
     ensures says { 0 < result.size
         → kind_reading text.now true ≡ says (line_of result.kind result.rest.now) }
     ensures size { 0 < result.size → result.size ≡ size }
     ensures begins { 0 < result.size → IsTrue (begins_line result.kind) }
     ensures plain { 0 < result.size → has_backslash result.rest.now ≡ false }
+    ensures none { result.size ≡ 0 → says_line (kind_reading text.now true) ≡ false }
 {
     match text.as_bytes() {
         [kind, ..] if begins_line(*kind) => PlainLine {

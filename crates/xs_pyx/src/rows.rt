@@ -15,16 +15,17 @@ pub(crate) struct TextRow<'a> {
     pub text: &'a str,
     /// Whether a line feed ends it.
     pub ended: bool,
-    /// Whether it is known to hold no backslash.
+    /// Whether it holds no backslash.
     pub is_plain: bool,
     /// How many bytes it takes, the line feed at its end among them.
     pub taken: usize,
 }
 
-/// Where the first line feed stands, and whether the first line is known to hold no backslash.
+/// Where the first line feed stands, and whether the first line holds no backslash.
 fn find_end(bytes: &[u8]) -> (Option<usize>, bool)
     ensures end { IsFirstByte is_line_feed bytes.now result.0 }
     ensures plain { result.1 ≡ true → has_backslash (first_row bytes.now).bytes ≡ false }
+    ensures escaped { result.1 ≡ false → has_backslash (first_row bytes.now).bytes ≡ true }
 {
     match memchr2(b'\n', b'\\', bytes) {
         Some(place) => {
@@ -42,6 +43,7 @@ fn find_end(bytes: &[u8]) -> (Option<usize>, bool)
 pub(crate) fn split_text(text: &str) -> TextRow<'_>
     ensures first { record { bytes = result.text.now; ended = result.ended } ≡ first_row text.now }
     ensures plain { result.is_plain ≡ true → has_backslash result.text.now ≡ false }
+    ensures escaped { result.is_plain ≡ false → has_backslash result.text.now ≡ true }
     ensures some { 0 < length text.now → 0 < result.taken }
     ensures within { result.taken ≤ length text.now }
     ensures taken { drop result.taken text.now ≡ behind_row text.now }

@@ -32,17 +32,6 @@ none-some : (t : ℕ) → None ≡ Some t → ⊥
 unfolding kind
 none-some t p = let d : 0 ≡ 1 = ap kind p in absurd (omega (arith, d))
 
--- a total that is not above the most
-pub within_most : (m t : ℕ) → over m t ≡ None → t ≤ m
-within_most m t e = by (nat_lt m t) refl e
-  where
-    by : (b : Bool) → nat_lt m t ≡ b → cond b (Some t) None ≡ None → t ≤ m
-    by true q d = absurd (none-some t (sym d))
-    by false q d = grind (arith, nat_tests, q)
-
-pub not_above : (m t : ℕ) → t ≤ m → over m t ≡ None
-not_above m t h = let q : nat_lt m t ≡ false = grind (arith, nat_tests, h) in ap (λ b. cond b (Some t) None) q
-
 -- How far a run came: what it told is a beginning, and what is left is exact.
 record Came {H : Type 0} (c : Cut H) (b left : ℕ) (marks : Trace H) : Type 0 where
   pub rest : Trace H

@@ -1,10 +1,12 @@
 -- What a run of a piece gives: its parts, with holes by number.
-use Rattle.std.specs.Prelude.{◌≡◌, ◌+◌, ℕ, suc, List, [], ◌∷◌, ◌++◌, map, Option, Some, None}
+use Rattle.std.specs.Prelude.{◌≡◌, ◌+◌, ℕ, suc, List, [], ◌∷◌, ◌++◌, map, Option, Some, None, Bool, true, false}
 use Rattle.xs_block.specs.Chain.{blocks_of}
 use Rattle.xs_trace.specs.Mark.{Hole, Trace, tick_count}
 use Rattle.xs_trace.specs.Cut.{cut}
 use Rattle.xs_trace.specs.Fill.{numbered}
 use Rattle.xs_trace.specs.Kept.{marks_of, ended_by, IsPacked}
+use Rattle.xs_trace.specs.declared.item.Ended.{Ended}
+use Rattle.xs_trace.specs.declared.item.Ended.TheVariants as end
 use Rattle.xs_trace.specs.declared.item.Item.{Item}
 use Rattle.xs_trace.specs.declared.item.Limits.{Limits}
 use Rattle.xs_record.specs.Segment.{items_of}
@@ -48,6 +50,14 @@ pub record IsOutcome {H : Type 0} (x : Trace H) (l : Limits) (o : Outcome) : Typ
   pub parts : AreParts 0 o.parts.items
   pub ended : ended_by (cut (numbered 0 x) l.ticks l.events).end ≡ Some o.ended
   pub ticks : o.ticks ≡ tick_count (cut (numbered 0 x) l.ticks l.events).passed
+
+-- a run that ended by itself, and not in the total that it shares
+abbrev pub is_done : Ended → Bool
+is_done end.Whole = true
+is_done (end.Fault s) = true
+is_done (end.Spent s) = true
+is_done (end.Full s) = true
+is_done (end.Over t) = false
 
 -- a part, but for how its items lie in blocks
 abbrev pub shown : Part → List Item × Option ℕ

@@ -14,7 +14,7 @@ ghost use Rattle.xs_record.specs.Outcome.{part_marks, section_marks};
 ghost use Rattle.xs_record.specs.Segment.{items_of};
 
 use crate::marks::Marks;
-use crate::outcome::Part;
+use crate::outcome::{Part, free_parts};
 use crate::row::ChainRow;
 use crate::segment::Segment;
 use std::alloc::{AllocError, Global};
@@ -210,11 +210,9 @@ fn take_last<H: Drop>(
 }
 
 /// A pool with the blocks of parts that are of no use any more.
-fn reclaim(mut pool: Pool<Segment>, mut parts: Vec<Part>) -> Pool<Segment>
+fn reclaim(mut pool: Pool<Segment>, parts: Vec<Part>) -> Pool<Segment>
     ensures blocks { (n : ℕ) → n ≤ most_blocks → n ≤ part_blocks parts.items + pool → n ≤ result }
 {
-    while let Some(part) = parts.pop() {
-        pool.give_back(part.items);
-    }
+    free_parts(&mut pool, parts);
     pool
 }

@@ -34,7 +34,8 @@ impl Model for Segment {
 
     ghost Value = { List Item };
 
-    ghost view = { λ s. pending (record { «module» = s.«module»; line = s.first_line }) s.first_ticks
+    ghost view = { λ s.
+        pending (record { «module» = s.«module»; line = s.first_line }) s.first_ticks
         ++ (pending (record { «module» = s.«module»; line = s.line }) s.ticks ++ s.item ∷ []) };
 }
 

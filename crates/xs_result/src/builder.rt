@@ -16,7 +16,7 @@ use xs_trace::text::TextBuf;
 
 /// What stays of the events that came.
 #[derive(Drop)]
-pub struct Builder<'e> {
+pub(crate) struct Builder<'e> {
     alloc: Global,
     /// What stays as it is.
     events: Vec<Event>,
@@ -30,7 +30,7 @@ pub struct Builder<'e> {
 
 impl<'e> Builder<'e> {
     /// Before the first event.
-    pub fn new(alloc: Global) -> Builder<'e>
+    pub(crate) fn new(alloc: Global) -> Builder<'e>
         ensures { state result ≡ nothing }
     {
         Builder {
@@ -44,7 +44,7 @@ impl<'e> Builder<'e> {
 
     /// One event more.
     #[tactic(auto, unfolding(crate::specs::steps::Building::taken))]
-    pub fn take(&mut self, event: &'e Event) -> Result<(), AllocError>
+    pub(crate) fn take(&mut self, event: &'e Event) -> Result<(), AllocError>
         ensures { OnOk result (state self.new ≡ taken (state self.old) event.now) }
     {
         match event {
@@ -141,7 +141,7 @@ impl<'e> Builder<'e> {
     }
 
     /// All that stays.
-    pub fn finish(mut self) -> Result<Fragment, AllocError>
+    pub(crate) fn finish(mut self) -> Result<Fragment, AllocError>
         ensures { IfOk result (λ fragment. fragment ≡ flushed (state self.entry)) }
     {
         self.flush()?;

@@ -7,6 +7,5 @@ mod pending;
 mod start_tag;
 mod write;
 
-pub use builder::Builder;
 pub use events::build;
 pub use write::write_text;

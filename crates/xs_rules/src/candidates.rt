@@ -16,6 +16,7 @@ use crate::choice::Rule;
 use crate::ranks::{Rank, default_priority};
 use crate::tables::{RuleTable, matches_by};
 use std::alloc::{AllocError, Global};
+use xs_pattern::matcher::Matcher;
 use xs_sheet::declarations::Template;
 use xs_sheet::scoped::ScopedPattern;
 use xs_tree::{Node, Tree};
@@ -161,15 +162,8 @@ fn best_of_alternative<K: KeyFinder>(
     if !is_above(rank, best) {
         return Ok(best);
     }
-    if matches_by(
-        alloc,
-        alternative,
-        pattern.scope.scope(),
-        tree,
-        node,
-        keys,
-        table,
-    )? {
+    let matcher = Matcher { alloc, tree, keys };
+    if matches_by(&matcher, alternative, pattern.scope.scope(), node, table)? {
         return Ok(Some(Best {
             template: number,
             rank,

@@ -14,7 +14,8 @@ use xs_sheet::sheet::Sheet;
 use xs_tree::{Node, Tree};
 use xs_value::keys::KeyFinder;
 
-/// The rule that a node takes in a mode: of those that match the highest (XSLT 1.0, 5.5).
+/// The rule that a node takes in a mode: of those that match the highest (XSLT 1.0, 5.5). It serves
+/// callers of the library and rows; a run takes `choose_with`.
 pub fn choose<K: KeyFinder>(
     alloc: Global,
     sheet: &Sheet,
@@ -33,7 +34,8 @@ pub fn choose<K: KeyFinder>(
 }
 
 /// The rule that a node takes in a mode of those that were imported into the module of the template
-/// with a number (XSLT 1.0, 5.6).
+/// with a number (XSLT 1.0, 5.6). It serves callers of the library and rows; a run takes
+/// `choose_import_with`.
 pub fn choose_import<K: KeyFinder>(
     alloc: Global,
     sheet: &Sheet,

@@ -15,9 +15,10 @@ use crate::candidates::nth_alternative;
 use crate::lists::Entry;
 use crate::shapes::{Worth, has_positions, worth_of};
 use std::alloc::{AllocError, Global};
-use xs_pattern::above::{above_of, is_marked};
-use xs_pattern::marks::marks_of;
-use xs_pattern::matching::matches_path_by;
+use xs_pattern::above::above_of;
+use xs_pattern::matcher::Matcher;
+use xs_pattern::path_tables::path_table;
+use xs_pattern::tables::is_in_table;
 use xs_sheet::declarations::Template;
 use xs_tree::{Node, Tree};
 use xs_value::keys::KeyFinder;
@@ -66,28 +67,27 @@ pub(crate) fn table_at(tables: &[Option<RuleTable>], place: usize) -> Option<&Ru
 
 /// Whether a node matches an alternative, by the table beside it, if there is one.
 pub(crate) fn matches_by<K: KeyFinder>(
-    alloc: Global,
+    matcher: &Matcher<'_, K>,
     alternative: &Expr,
     scope: &Scope,
-    tree: &Tree,
     node: Node,
-    keys: &K,
     table: Option<&RuleTable>,
 ) -> Result<bool, AllocError>
-    requires node { node < length tree.now }
-    requires tables { TablesIn tree.now (K.tables keys.now) }
-    requires table { IfSome table (λ t.
-        IsTable tree.now scope.now.pairs.items (tree_from alternative.now) t.now) }
-    ensures matches { IfOk result (λ b. b ≡ matches_path (K.tables keys.now)
-        (pattern_context tree.now scope.now.pairs.items node) (tree_from alternative.now)) }
+    requires node { node < length matcher.now.tree.now }
+    requires tables { TablesIn matcher.now.tree.now (K.tables matcher.now.keys.now) }
+    requires table { IfSome table (λ t. IsTable matcher.now.tree.now scope.now.pairs.items
+        (tree_from alternative.now) t.now) }
+    ensures matches { IfOk result (λ b. b ≡ matches_path (K.tables matcher.now.keys.now)
+        (pattern_context matcher.now.tree.now scope.now.pairs.items node)
+        (tree_from alternative.now)) }
 {
     match table {
-        Some(RuleTable::Matches(marks)) => Ok(is_marked(marks, node)),
+        Some(RuleTable::Matches(nodes)) => Ok(is_in_table(nodes, node)),
         Some(RuleTable::Above(above)) => {
             let above = Some(above.as_slice());
-            matches_path_by(alloc, alternative, scope, tree, node, keys, above)
+            matcher.matches_path_by(alternative, scope, node, above)
         }
-        None => matches_path_by(alloc, alternative, scope, tree, node, keys, None),
+        None => matcher.matches_path_by(alternative, scope, node, None),
     }
 }
 
@@ -191,9 +191,9 @@ fn matching_nodes(
     ensures table { IfOk result (λ table. IfSome table
         (IsTable tree.now scope.now.pairs.items (tree_from alternative.now))) }
 {
-    match marks_of(alloc, alternative, scope, tree)? {
+    match path_table(alloc, alternative, scope, tree)? {
         None => Ok(None),
-        Some(marks) => Ok(Some(RuleTable::Matches(marks))),
+        Some(marks) => Ok(Some(RuleTable::Matches(nodes))),
     }
 }
 

@@ -13,9 +13,9 @@ ghost use Rattle.xs_rules.specs.steps.Strips.{IsStripIndex};
 
 use crate::strip_index::StripIndex;
 use std::alloc::{AllocError, Global};
-use xs_elements::kept::{XML_URI, space_value};
+use xs_elements::kept::space_value;
 use xs_sheet::declarations::StripRule;
-use xs_text::is_blank;
+use xs_text::{XML_URI, is_blank};
 use xs_tree::{Kind, Node, Tree};
 
 /// Strips white space of a source, in time linear in it and in the rules. After a refusal it is as

@@ -1,6 +1,4 @@
 //! The content of templates, of bindings and of instructions.
-ghost use Rattle.std.specs.Prelude.{◌≡◌, ◌<◌, ◌^◌};
-ghost use Rattle.xs_sheet.specs.Slots.{slot_count};
 
 use crate::items::Items;
 use crate::scoped::{Namespaces, ScopedExpr, ScopedPattern, ValueTemplate};
@@ -213,18 +211,4 @@ pub enum InstrKind {
     },
     /// An extension element, by its fallbacks (14.1, 15).
     Extension(Fallbacks),
-}
-
-/// How many slots the variables of a body take that stand directly in it.
-pub fn slot_count(body: &Body) -> u32
-    requires few { slot_count body.now < 2 ^ 32 }
-    ensures count { result ≡ slot_count body.now }
-{
-    let mut count = 0;
-    for instr in body.instrs.as_slice() {
-        if let InstrKind::Variable(_) = instr.kind {
-            count += 1;
-        }
-    }
-    count
 }

@@ -9,7 +9,7 @@ use crate::placed::PlacedTask;
 use std::alloc::{AllocError, Global};
 use xs_block::pool::Pool;
 use xs_body::task::Task;
-use xs_record::outcome::{Outcome, Part};
+use xs_record::outcome::{Outcome, free_parts};
 use xs_record::segment::Segment;
 use xs_trace::place::Place;
 
@@ -36,7 +36,7 @@ pub(crate) fn adopt<'a>(
     match append_placed(alloc, place, tasks, children) {
         Ok(()) => Ok(outcome),
         Err(refused) => {
-            give_back(outcome.parts, pool);
+            free_parts(pool, outcome.parts);
             Err(refused)
         }
     }
@@ -74,15 +74,4 @@ fn put_at_places<'a>(
         placed.push(PlacedTask { place, task })?;
     }
     Ok(placed)
-}
-
-/// The blocks of some parts are free again.
-fn give_back(parts: Vec<Part>, pool: &mut Pool<Segment>)
-    ensures blocks { (n : ℕ) → n ≤ most_blocks → n ≤ part_blocks parts.items + pool.old →
-        n ≤ pool.new }
-{
-    let mut parts = parts;
-    while let Some(part) = parts.pop() {
-        pool.give_back(part.items);
-    }
 }

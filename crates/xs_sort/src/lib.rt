@@ -3,4 +3,5 @@
 
 pub mod laws;
 pub mod orders;
+mod sorter;
 pub mod sorting;

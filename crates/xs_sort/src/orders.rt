@@ -9,7 +9,7 @@ ghost use Rattle.xs_sort.specs.steps.Given.{IsGiven};
 ghost use Rattle.xs_trace.specs.Play.{IsStep, IsStepBy};
 ghost use Rattle.xs_trace.specs.Run.{limited};
 
-use std::alloc::Global;
+use crate::sorter::Sorter;
 use xs_meaning::context::Context;
 use xs_meaning::expressions::ExprEvaluator;
 use xs_order::keys::Direction;
@@ -29,52 +29,79 @@ pub struct Order {
     pub direction: Direction,
 }
 
-/// The orders of sort keys: of each its data type and its order, which is tested at once.
-pub(crate) fn orders_of<K: ExprEvaluator, T: Tally>(
-    alloc: Global,
-    sorts: &[SortDecl],
-    context: &Context<'_>,
-    keys: &K,
-    site: Site,
-    tally: &mut T,
-) -> Result<Vec<Order>, Halt>
-    requires context { IsContext (K.tables keys.now) context.now }
-    ensures told { IsStepBy (λ v. v.items) (limited site
-        (orders_of (K.tables keys.now) context.now sorts.now)
-        (T.state tally.old)) result (T.state tally.new) }
-    ensures kept { T.kept tally.new ≡ T.kept tally.old }
-    ensures long { IfOk result (λ v. length v.items ≡ length sorts.now) }
-{
-    let mut orders = Vec::new(alloc);
-    for decl in sorts {
-        let order = order_of(alloc, decl, context, keys, site, tally)?;
-        orders.push(order)?;
+impl<K: ExprEvaluator> Sorter<'_, K> {
+    /// The orders of sort keys: of each its data type and its order, which is tested at once.
+    pub(crate) fn orders_of<T: Tally>(
+        &self,
+        sorts: &[SortDecl],
+        context: &Context<'_>,
+        tally: &mut T,
+    ) -> Result<Vec<Order>, Halt>
+        requires context { IsContext (K.tables self.now.keys.now) context.now }
+        ensures told { IsStepBy (λ v. v.items) (limited self.now.site
+            (orders_of (K.tables self.now.keys.now) context.now sorts.now)
+            (T.state tally.old)) result (T.state tally.new) }
+        ensures kept { T.kept tally.new ≡ T.kept tally.old }
+        ensures long { IfOk result (λ v. length v.items ≡ length sorts.now) }
+    {
+        let mut orders = Vec::new(self.alloc);
+        for decl in sorts {
+            let order = self.order_of(decl, context, tally)?;
+            orders.push(order)?;
+        }
+        Ok(orders)
     }
-    Ok(orders)
-}
 
-// The order of a sort key.
-fn order_of<K: ExprEvaluator, T: Tally>(
-    alloc: Global,
-    decl: &SortDecl,
-    context: &Context<'_>,
-    keys: &K,
-    site: Site,
-    tally: &mut T,
-) -> Result<Order, Halt>
-    requires context { IsContext (K.tables keys.now) context.now }
-    ensures told { IsStep (limited site (order_of (K.tables keys.now) context.now decl.now)
-        (T.state tally.old)) result (T.state tally.new) }
-    ensures kept { T.kept tally.new ≡ T.kept tally.old }
-{
-    let kind = template_text(alloc, &decl.data_type, "text", context, keys, site, tally)?;
-    let order = template_text(alloc, &decl.order, "ascending", context, keys, site, tally)?;
-    let direction = direction_of(&order, site)?;
-    let is_numeric = is_number(&kind);
-    Ok(Order {
-        is_numeric,
-        direction,
-    })
+    // The order of a sort key.
+    fn order_of<T: Tally>(
+        &self,
+        decl: &SortDecl,
+        context: &Context<'_>,
+        tally: &mut T,
+    ) -> Result<Order, Halt>
+        requires context { IsContext (K.tables self.now.keys.now) context.now }
+        ensures told { IsStep (limited self.now.site
+            (order_of (K.tables self.now.keys.now) context.now decl.now)
+            (T.state tally.old)) result (T.state tally.new) }
+        ensures kept { T.kept tally.new ≡ T.kept tally.old }
+    {
+        let kind = self.template_text(&decl.data_type, "text", context, tally)?;
+        let order = self.template_text(&decl.order, "ascending", context, tally)?;
+        let direction = direction_of(&order, self.site)?;
+        let is_numeric = is_number(&kind);
+        Ok(Order {
+            is_numeric,
+            direction,
+        })
+    }
+
+    // The text of a value template; where it is absent, that of the default.
+    fn template_text<T: Tally>(
+        &self,
+        template: &Option<ValueTemplate>,
+        absent: &str,
+        context: &Context<'_>,
+        tally: &mut T,
+    ) -> Result<TextBuf, Halt>
+        requires context { IsContext (K.tables self.now.keys.now) context.now }
+        ensures told { IsStep (limited self.now.site
+            (template_text (K.tables self.now.keys.now) context.now absent.now template.now)
+            (T.state tally.old)) result (T.state tally.new) }
+        ensures kept { T.kept tally.new ≡ T.kept tally.old }
+    {
+        match template {
+            None => Ok(TextBuf::of(self.alloc, absent)?),
+            Some(template) => {
+                let around = Context {
+                    scope: template.scope.scope(),
+                    ..*context
+                };
+                let parts = template.parts.as_slice();
+                self.keys
+                    .evaluate_avt(self.alloc, parts, &around, self.site, tally)
+            }
+        }
+    }
 }
 
 // Whether a data type is that of numbers.
@@ -89,34 +116,6 @@ fn direction_of(order: &TextBuf, site: Site) -> Result<Direction, Halt>
     ensures { IsGiven site (direction_in order.now) result }
 {
     direction_in(order.as_str(), site)
-}
-
-// The text of a value template; where it is absent, that of the default.
-fn template_text<K: ExprEvaluator, T: Tally>(
-    alloc: Global,
-    template: &Option<ValueTemplate>,
-    absent: &str,
-    context: &Context<'_>,
-    keys: &K,
-    site: Site,
-    tally: &mut T,
-) -> Result<TextBuf, Halt>
-    requires context { IsContext (K.tables keys.now) context.now }
-    ensures told { IsStep (limited site
-        (template_text (K.tables keys.now) context.now absent.now template.now)
-        (T.state tally.old)) result (T.state tally.new) }
-    ensures kept { T.kept tally.new ≡ T.kept tally.old }
-{
-    match template {
-        None => Ok(TextBuf::of(alloc, absent)?),
-        Some(template) => {
-            let around = Context {
-                scope: template.scope.scope(),
-                ..*context
-            };
-            keys.evaluate_avt(alloc, template.parts.as_slice(), &around, site, tally)
-        }
-    }
 }
 
 // The direction that an order's text names; any other text is a fault.

@@ -1,8 +1,6 @@
 -- What stands before a child in the content of an element.
 use Rattle.std.proofs.Common.{◌≡◌, ◌∙◌, ℕ, suc, zero, ◌+◌, ◌≤◌, ap, refl, sym, subst, arith, List, [], ◌∷◌, ◌++◌, filter, map, cond, length, Bool, true, false}
 use Rattle.std.proofs.lemmas.Bool.{le-ltb, lt-ltb}
-use Rattle.std.proofs.lemmas.List.{append-nil}
-use Rattle.std.proofs.lemmas.List.Elements.{filter-append}
 use Rattle.std.specs.List.{range_with_len}
 use Rattle.std.specs.Prelude.{◌&&◌, nat_lt}
 use Rattle.xs_elements.specs.Rows.{row_of}
@@ -63,23 +61,3 @@ pub before_is_done : (rs : List Record) (n : ℕ) (done rest : List ℕ) (k : �
 before_is_done rs n done rest k e =
     sym (ap (λ (xs : List ℕ). map (row_of rs) (filter (λ j. nat_lt j k && is_content rs n j) xs)) e
     ∙ ap (map (row_of rs)) (before-one (is_content rs n) k 0 done rest (subst (Rises 0) e (passing-rises (is_child rs n) 0 (length rs)))))
-
--- ---- one more is passed
-map-append-one : {X Y : Type 0} (f : X → Y) (xs ys : List X) → map f (xs ++ ys) ≡ map f xs ++ map f ys
-map-append-one f [] ys = refl
-map-append-one f (x ∷ xs) ys = ap (λ zs. f x ∷ zs) (map-append-one f xs ys)
-
-pub rows_with : (rs : List Record) (n : ℕ) (done : List ℕ) (k : ℕ) → is_content rs n k ≡ true
-    → rows_among rs n (done ++ k ∷ []) ≡ rows_among rs n done ++ row_of rs k ∷ []
-rows_with rs n done k e =
-    ap (map (row_of rs)) (filter-append (is_content rs n) done (k ∷ []))
-    ∙ map-append-one (row_of rs) (filter (is_content rs n) done) (filter (is_content rs n) (k ∷ []))
-    ∙ ap (λ (b : Bool). rows_among rs n done ++ map (row_of rs) (cond b (k ∷ []) [])) e
-
-pub rows_without : (rs : List Record) (n : ℕ) (done : List ℕ) (k : ℕ) → is_content rs n k ≡ false
-    → rows_among rs n (done ++ k ∷ []) ≡ rows_among rs n done
-rows_without rs n done k e =
-    ap (map (row_of rs)) (filter-append (is_content rs n) done (k ∷ []))
-    ∙ map-append-one (row_of rs) (filter (is_content rs n) done) (filter (is_content rs n) (k ∷ []))
-    ∙ ap (λ (b : Bool). rows_among rs n done ++ map (row_of rs) (cond b (k ∷ []) [])) e
-    ∙ append-nil (rows_among rs n done)

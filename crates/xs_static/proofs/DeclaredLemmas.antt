@@ -44,10 +44,6 @@ pub put-ranked : (name d : Name) (same old now : Bool) → now ≡ cond (same &&
 put-ranked name d same old now e =
     e ∙ cond-or (same && is_same_name d name) old ∙ ap (λ x. x || old) (and-turn same (is_same_name d name) ∙ ap (λ x. x && same) (name-sym d name))
 
-pub not-twice : (b : Bool) → not (not b) ≡ b
-not-twice true = refl
-not-twice false = refl
-
 -- ---- one more element
 or-behind : (a b : Bool) → (a || (b || false)) ≡ (b || a)
 or-behind true true = refl

@@ -65,14 +65,6 @@ met-five l x1 x2 x3 x4 x5 a b c d e p1 p2 p3 p4 p5 =
     ∙ ap (λ x. least_of x (c ++ (d ++ e))) p2 ∙ least_append x1 b (c ++ (d ++ e))
     ∙ ap (λ x. least_of x (b ++ (c ++ (d ++ e)))) p1 ∙ least_append l a (b ++ (c ++ (d ++ e)))
 
--- an element that is looked at, or not
-pub met-unseen : (m : ℕ) (rs : List Record) (lines : List ℕ) (names : Names) (n : ℕ) (l x : Option StaticFault) (deep : List StaticFault) (seen : Bool)
-    → seen ≡ false
-    → x ≡ least_of l deep → x ≡ least_of l (deep ++ (if seen then seen_faults m rs lines names n else []))
-unfolding least_of
-met-unseen m rs lines names n l x deep seen e h =
-    h ∙ least_append l deep [] ∙ ap (λ b. least_of l (deep ++ (if b then seen_faults m rs lines names n else []))) (sym e)
-
 pub met-seen : (m : ℕ) (rs : List Record) (lines : List ℕ) (names : Names) (n : ℕ) (l x y : Option StaticFault) (deep : List StaticFault) (seen : Bool)
     → seen ≡ true
     → x ≡ least_of l deep → y ≡ least_of x (seen_faults m rs lines names n) → y ≡ least_of l (deep ++ (if seen then seen_faults m rs lines names n else []))

@@ -137,26 +137,6 @@ new-binding rs n p k o os uri local force tree inside parent ends reach named af
     regroup true false c = refl
     regroup false b c = refl
 
--- a binding that has no parent reaches nothing
-pub rootless : (rs : List Record) (n k : ℕ) (uri local : List ℕ) (old : Bool) → (at rs n).parent ≡ None → old ≡ any_visible rs (uri, local) k n
-    → old ≡ any_visible rs (uri, local) k (n + 1)
-rootless rs n k uri local old e h =
-    h ∙ ap (λ x. x || any_visible rs (uri, local) k n) (sym (visible-by_name rs (uri, local) k n ∙ ap (λ x. is_named (uri, local) (local_name rs n) && x) none
-    ∙ and-none (is_named (uri, local) (local_name rs n))))
-    ∙ sym (visible-more rs (uri, local) k n)
-  where
-    and-none : (b : Bool) → (b && false) ≡ false
-    and-none true = refl
-    and-none false = refl
-
-    none-reached : (a b : Bool) → (a && not b && false) ≡ false
-    none-reached true true = refl
-    none-reached true false = refl
-    none-reached false b = refl
-
-    none : reaches rs n k ≡ false
-    none = ap (λ x. nat_lt n k && not (is_inside rs n k) && option_map_or (λ p. is_inside rs p k) x false) e ∙ none-reached (nat_lt n k) (is_inside rs n k)
-
 -- ---- all that are visible
 or-turn : (a b : Bool) → (a || (b || false)) ≡ (b || a)
 or-turn true true = refl
@@ -235,6 +215,3 @@ pub nested-more : (rs : List Record) (n : ℕ) (o : OpenBinding) (os : List Open
 unfolding AreNested
 nested-more rs n o os ends passed nested =
     (record { node = n; before = omega arith; ends = ends }, nested-from rs n o os ends passed nested, later-count rs os n nested)
-
-pub top-from : (o : OpenBinding) (os stack : List OpenBinding) (n : ℕ) → stack ≡ o ∷ os → n < o.end → EndFrom (n + 1) stack
-top-from o os stack n e lt = rw e (omega (arith, lt))

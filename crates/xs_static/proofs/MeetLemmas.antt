@@ -1,20 +1,9 @@
 -- Meeting the faults at some nodes, and the least of numbers.
-use Rattle.std.proofs.Common.{◌≡◌, ◌∙◌, ℕ, ap, refl, arith, List, [], ◌∷◌, ◌++◌, filter, map, cond, Bool, true, false, Option, Some, None}
+use Rattle.std.proofs.Common.{◌≡◌, ◌∙◌, ℕ, ap, refl, List, [], ◌∷◌, ◌++◌, filter, map, cond, Bool, true, false, Option}
 use Rattle.std.specs.Prelude.{if◌then◌else◌, get_or, Result, Ok, Err, OnOk}
 use Rattle.xs_static.specs.declared.fault.StaticFault.{StaticFault}
-use Rattle.xs_static.specs.steps.Least.{earlier, fault_where, least_of, lesser}
+use Rattle.xs_static.specs.steps.Least.{earlier, fault_where, least_of}
 use Rattle.xs_static.specs.steps.Misplaced.{misplaced_fault}
-
--- ---- the lesser of numbers
-pub lesser_assoc : (a b c : Option ℕ) → lesser (lesser a b) c ≡ lesser a (lesser b c)
-lesser_assoc None b c = refl
-lesser_assoc (Some x) None c = refl
-lesser_assoc (Some x) (Some y) None = refl
-lesser_assoc (Some x) (Some y) (Some z) = ap Some (omega arith)
-
-pub lesser_none : (a : Option ℕ) → lesser a None ≡ a
-lesser_none None = refl
-lesser_none (Some x) = refl
 
 -- ---- the least of faults
 pub least_append : (least : Option StaticFault) (fs gs : List StaticFault) → least_of (least_of least fs) gs ≡ least_of least (fs ++ gs)

@@ -1,12 +1,11 @@
 -- What is known of the modules that were walked.
-use Rattle.std.proofs.Common.{◌≡◌, ◌∙◌, ℕ, suc, zero, ◌+◌, ◌<◌, ◌≤◌, ap, refl, sym, subst, arith, inl, inr, ◌⊎◌, List, [], ◌∷◌, ◌++◌, length, map, take, true, false, Option, Some}
+use Rattle.std.proofs.Common.{◌≡◌, ◌∙◌, ℕ, suc, zero, ◌+◌, ◌<◌, ◌≤◌, ap, refl, sym, subst, arith, inl, inr, ◌⊎◌, List, [], ◌∷◌, ◌++◌, map, take, true, false, Option, Some}
 use Rattle.std.proofs.lemmas.Bool.{cases_lt, false≢true}
-use Rattle.std.proofs.lemmas.List.Elements.{All-head, All-tail, All-weaker}
+use Rattle.std.proofs.lemmas.List.Elements.{All-head, All-tail}
 use Rattle.std.specs.List.{All}
 use Rattle.std.specs.Option.{option_map_or}
 use Rattle.std.specs.Prelude.{slice_get}
 use Rattle.xs_modules.specs.Numbering.{ModuleData}
-use Rattle.xs_modules.specs.Sound.{HasLines, IsSound}
 use Rattle.xs_static.proofs.MeetLemmas.{least_append}
 use Rattle.xs_static.specs.declared.fault.StaticFault.{StaticFault}
 use Rattle.xs_static.specs.declared.names.Names.{Names}
@@ -16,15 +15,10 @@ use Rattle.xs_static.specs.steps.Found.{module_faults, modules_faults}
 use Rattle.xs_static.specs.steps.Least.{least_of}
 use Rattle.xs_static.specs.declared.walk.Walked.{Walked}
 use Rattle.xs_static.specs.steps.Whole.{AreWalked, IsWalked, WalkedData, walked_data, walked_of}
-use Rattle.xs_structure.specs.Places.{HaveLines}
 use Rattle.xs_structure.specs.Scopes.{scopes_in, scopes_of}
 use Rattle.xs_structure.specs.Standing.{standing_of}
 use Rattle.xs_tree.specs.Record.{Record, places}
 use Rattle.xs_tree.specs.Shape.{IsTree}
-
--- each node has a line
-pub have_lines : (ms : List ModuleData) → IsSound ms → HaveLines ms
-have_lines ms sound = All-weaker (λ d. HasLines d.records d.lines) (λ d. length d.lines ≡ length d.records) (λ d h. h.each) ms sound.documents
 
 pub all_at : (P : ModuleData → Type 0) (ms : List ModuleData) (n : ℕ) (d : ModuleData) → All P ms → slice_get ms n ≡ Some d → P d
 all_at P [] n d all e = absurd (false≢true (ap (λ (o : Option ModuleData). option_map_or (λ z. true) o false) e))

@@ -141,12 +141,6 @@ sets-more rs n place before old new le was is =
     ∙ ap (λ xs. before ++ xs)
     (sym (flat-more (seen_sets rs) (place - n) n place here) ∙ ap (λ m. flat_map (seen_sets rs) (range_with_len n m)) (sym count))
 
--- none yet
-pub sets-none : (rs : List Record) (n : ℕ) (before : List Name) → before ≡ before ++ flat_map (seen_sets rs) (range_with_len n (n - n))
-sets-none rs n before =
-    let count : n - n ≡ zero = omega arith in
-    sym (ap (λ m. before ++ flat_map (seen_sets rs) (range_with_len n m)) count ∙ append-nil before)
-
 -- what was added of one more child, with what is left, is the whole
 pub child-more : (f : ℕ → List Name) (child : ℕ) (behind : List ℕ) (old new whole : List Name) → new ≡ old ++ f child
     → old ++ flat_map f (child ∷ behind) ≡ whole → new ++ flat_map f behind ≡ whole

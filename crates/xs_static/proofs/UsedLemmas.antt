@@ -1,15 +1,13 @@
 -- What names use: tables of it, and what one declaration more adds.
-use Rattle.std.proofs.Common.{◌≡◌, ℕ, ◌+◌, ◌<◌, Bool, true, false, List, [], ◌∷◌, ◌++◌, Option, Some, None, length, get_or, take, map, filter, refl, sym, ap, ◌∙◌}
+use Rattle.std.proofs.Common.{◌≡◌, ◌+◌, Bool, true, false, List, [], ◌∷◌, ◌++◌, Option, Some, None, take, map, filter, refl, sym, ap, ◌∙◌}
 use Rattle.std.specs.Prelude.{if◌then◌else◌}
 use Rattle.std.specs.List.{flat_map}
 use Rattle.std.specs.Option.{unwrap_or}
-use Rattle.std.proofs.lemmas.List.{append-nil, take_more, map-append}
+use Rattle.std.proofs.lemmas.List.{append-nil, map-append}
 use Rattle.std.proofs.lemmas.List.Concat.{flat_map-append}
 use Rattle.std.proofs.lemmas.List.Elements.{filter-append}
-use Rattle.xs_static.specs.declared.circles.Declaration.{Declaration}
 use Rattle.xs_static.specs.Circles.{Declared, is_of, used_by}
-use Rattle.xs_elements.specs.Nodes.{Name, is_same_name, name_data}
-use Rattle.xs_static.specs.Declarations.{declared, declared_all}
+use Rattle.xs_elements.specs.Nodes.{Name, is_same_name}
 use Rattle.xs_static.proofs.SameNameLemmas.{same-true}
 
 -- what a name has, after what another name has was taken, and put back with more
@@ -34,13 +32,3 @@ pub used-append : (ds es : List Declared) (n : Name) → used_by (ds ++ es) n �
 used-append ds es n =
     ap (flat_map (λ (e : Declared). e.sets)) (filter-append (is_of n) ds es)
     ∙ flat_map-append (λ (e : Declared). e.sets) (filter (is_of n) ds) (filter (is_of n) es)
-
--- one declaration more
-pub used-more : (ds : List Declaration) (i : ℕ) (d : Declaration) (n : Name) → i < length ds → d ≡ get_or ds i d
-    → used_by (declared_all (take (i + 1) ds)) n
-    ≡ used_by (declared_all (take i ds)) n ++ (if is_same_name (name_data d.name) n then map name_data d.sets.items else [])
-used-more ds i d n lt is =
-    ap (λ xs. used_by (declared_all xs) n) (take_more ds i d lt) ∙ ap (λ x. used_by (declared_all (take i ds ++ x ∷ [])) n) (sym is)
-    ∙ ap (λ xs. used_by xs n) (map-append declared (take i ds) (d ∷ []))
-    ∙ used-append (declared_all (take i ds)) (declared d ∷ []) n
-    ∙ ap (λ xs. used_by (declared_all (take i ds)) n ++ xs) (used-one (declared d) n)

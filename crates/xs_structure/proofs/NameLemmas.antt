@@ -10,9 +10,6 @@ bool_same true b f g = sym (f refl)
 bool_same false true f g = g refl
 bool_same false false f g = refl
 
-pub bytes-same : (xs : List ℕ) → bytes_eq xs xs ≡ true
-bytes-same xs = (bytes_eq-Decides xs xs).1 refl
-
 pub bytes-turn : (xs ys : List ℕ) → bytes_eq xs ys ≡ true → bytes_eq ys xs ≡ true
 bytes-turn xs ys e = (bytes_eq-Decides ys xs).1 (sym ((bytes_eq-Decides xs ys).0 e))
 

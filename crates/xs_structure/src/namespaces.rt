@@ -17,11 +17,11 @@ ghost use Rattle.xs_structure.specs.steps.Namespaces.{AreNamespaces, is_left_out
 
 use crate::in_force::InForce;
 use std::alloc::{AllocError, Global};
-use xs_elements::kept::XML_URI;
 use xs_elements::reading::Reading;
 use xs_elements::rows::{Row, XSLT_URI, is_top_level};
 use xs_elements::scope::value_of;
 use xs_elements::words::first_word;
+use xs_text::XML_URI;
 use xs_tree::{Node, Tree};
 use xs_xpath::scope::Scope;
 

@@ -185,13 +185,6 @@ more-entries {H} child es i n e s h is =
         let j : suc (i + 1) ≡ suc i + 1 = omega arith in
         front es i e (omega (arith, h)) is ∙ ap (λ (k : ℕ). e ∷ drop k (x ∷ es)) j
 
-pub no-entries : {H : Type 0} → (child : ℕ → ℕ → Trace H) (es : List Entry) (i n : ℕ) (s : State H) → length es ≤ i →
-    play (entries_marks child n (drop i es)) s ≡ goes s
-no-entries child [] zero n s h = refl
-no-entries child [] (suc i) n s h = refl
-no-entries child (x ∷ es) zero n s h = absurd (omega (arith, h))
-no-entries child (x ∷ es) (suc i) n s h = no-entries child es i n s (omega (arith, h))
-
 -- ---- rows are told
 
 row-absent : (rows : List Row) (i : ℕ) → length rows ≤ i → slice_get rows i ≡ None

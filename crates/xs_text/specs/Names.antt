@@ -1,5 +1,5 @@
 -- Names: the NCName and the QName of Namespaces in XML 1.0 over the characters of XML 1.0, fifth edition.
-use Rattle.std.specs.Prelude.{ℕ, ◌≡◌, Bool, false, ◌&&◌, ◌||◌, ◌==◌, nat_le, IsTrue, List, [], ◌∷◌, ◌++◌, ◌⊎◌, Option, Some, None, if◌then◌else◌}
+use Rattle.std.specs.Prelude.{ℕ, ◌≡◌, Bool, false, ◌&&◌, ◌||◌, ◌==◌, nat_le, IsTrue, List, [], ◌∷◌, ◌++◌, ◌⊎◌, Option, Some, None, codes, if◌then◌else◌}
 use Rattle.std.specs.Borrow.{Bor}
 use Rattle.std.specs.List.{list_all, list_any, before_first, after_first}
 use Rattle.std.specs.Str.{chars}
@@ -91,3 +91,10 @@ qname_of text = if list_any is_colon text then prefixed (before_first is_colon t
 -- a prefix and a local part as the code has them
 abbrev pub qname_parts : Bor (List ℕ) × Bor (List ℕ) → QName
 qname_parts parts = record { prefix = parts.0.now; local = parts.1.now }
+
+-- the namespaces of the prefixes `xml` and `xmlns` (Namespaces in XML 1.0, 3)
+abbrev pub xml_uri : List ℕ
+xml_uri = codes "http://www.w3.org/XML/1998/namespace"
+
+abbrev pub xmlns_uri : List ℕ
+xmlns_uri = codes "http://www.w3.org/2000/xmlns/"

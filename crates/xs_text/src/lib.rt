@@ -7,6 +7,6 @@ mod same;
 mod white_space;
 
 pub use escapes::{TextFault, escape_into, is_well_escaped, unescape_into};
-pub use names::{is_name_char, is_name_start, is_ncname, split_qname};
+pub use names::{XML_URI, XMLNS_URI, is_name_char, is_name_start, is_ncname, split_qname};
 pub use same::is_same;
 pub use white_space::{is_blank, is_space, is_space_byte};

@@ -4,6 +4,12 @@ ghost use Rattle.std.specs.Prelude.{◌≡◌, ℕ, ◌↔◌, List, IsTrue, IfS
 ghost use Rattle.xs_text.specs.Names.{starts_name, continues_name, is_ncname, IsNcName, IsQName};
 ghost use Rattle.xs_text.specs.Names.{prefixed, unprefixed, qname_of, qname_parts};
 
+/// The namespace of the prefix `xml` (Namespaces in XML 1.0, 3).
+pub const XML_URI: &str = "http://www.w3.org/XML/1998/namespace";
+
+/// The namespace of the prefix `xmlns` (Namespaces in XML 1.0, 3).
+pub const XMLNS_URI: &str = "http://www.w3.org/2000/xmlns/";
+
 /// Whether a character may begin a name: XML 1.0, 2.3, production 4, without the colon.
 pub fn is_name_start(c: char) -> bool
     ensures { result ≡ starts_name c }

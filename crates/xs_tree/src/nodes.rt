@@ -1,6 +1,6 @@
 //! The place of a node.
 
-ghost use Rattle.std.specs.Prelude.{◌≡◌};
+ghost use Rattle.std.specs.Prelude.{◌≡◌, false, get_or};
 
 use std::marker::Model;
 
@@ -40,5 +40,17 @@ impl Node {
         ensures { result ≡ self }
     {
         self.place
+    }
+}
+
+/// Whether a node is marked, by marks of all nodes; none is after the last mark.
+pub fn is_marked(marks: &[bool], node: Node) -> bool
+    ensures { result ≡ get_or marks.now node false }
+{
+    let place = node.place() as usize;
+    if place < marks.len() {
+        marks[place]
+    } else {
+        false
     }
 }

@@ -6,7 +6,7 @@ ghost use Rattle.clap.specs.declared.error.kind.ErrorKind.TheVariants.{OutOfMemo
 ghost use Rattle.xs_words.specs.Options.{choice_of_rows, options_of, AreWithin};
 ghost use Rattle.xs_words.specs.Results.{Gives, texts, told};
 ghost use Rattle.xs_words.specs.Rows.{rows_in};
-ghost use Rattle.xs_words.specs.declared.choice.WordsEnd.TheVariants.{Usage};
+ghost use Rattle.xs_words.specs.declared.choice.WordsEnd.TheVariants.{NoMemory, Usage};
 
 use crate::choice::{Options, WordsEnd};
 use crate::command::command_line;
@@ -37,7 +37,8 @@ pub fn read_words(alloc: Global, words: &[String]) -> Result<Options, WordsEnd>
 
 /// Why there are no matches.
 fn refusal(error: &Error) -> WordsEnd
-    ensures { result ≡ Usage → kind_of error.now ≢ OutOfMemory }
+    ensures usage { result ≡ Usage → kind_of error.now ≢ OutOfMemory }
+    ensures memory { result ≡ NoMemory → kind_of error.now ≡ OutOfMemory }
 {
     match error.kind() {
         ErrorKind::OutOfMemory => WordsEnd::NoMemory,

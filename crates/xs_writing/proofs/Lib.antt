@@ -8,6 +8,7 @@ mod PendingLemmas
 mod PlainTextLemmas
 mod ResolveLemmas
 mod ScopeLemmas
+mod SettledLemmas
 mod StreamLemmas
 mod TableLemmas
 mod TagLemmas

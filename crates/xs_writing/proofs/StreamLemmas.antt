@@ -15,8 +15,10 @@ use Rattle.xs_trace.specs.declared.event.Event.TheVariants.{Start, Space, Attr, 
 use Rattle.xs_writing.specs.Bindings.{is_in_tag}
 use Rattle.xs_writing.specs.Laws.{begins_in_tag}
 use Rattle.xs_writing.specs.Lines.{OpenElement, bytes_of, lines, open_after, pyx}
-use Rattle.xs_writing.specs.steps.Stream.{HasTaken, after}
+use Rattle.xs_writing.specs.Settled.{settled}
+use Rattle.xs_writing.specs.steps.Stream.{IsTaken, after}
 use Rattle.xs_writing.proofs.LineLemmas.{elements_go_on, lines_go_on}
+use Rattle.xs_writing.proofs.SettledLemmas.{closed_is}
 
 -- ---- what stood before what was built stays there
 flushed-after : (settled : List Event) (s : State) → flushed (after settled s) ≡ settled ++ flushed s
@@ -175,43 +177,56 @@ written-more old out new settled d around begins so_far opened more =
     ∙ ap (λ ls. old ++ bytes_of ls) (sym (lines_go_on [] settled d begins))
 
 -- ---- a stream at its start, with an event more, and at its end
-pub stream_start : (s : State) (around : List OpenElement) → s ≡ nothing → around ≡ [] → (old : List ℕ) → HasTaken s around old old []
+none-settled : settled [] ≡ []
+unfolding taken_all
+none-settled = sym (closed_is [])
+
+pub stream_start : (s : State) (around : List OpenElement) → s ≡ nothing → around ≡ [] → (old : List ℕ) → IsTaken s around old old []
 unfolding taken_all lines open_after bytes_of
-stream_start s around is none old = record {
-  settled = [];
-  taken = ap (after []) (sym is);
-  forgotten = ap (λ x. x.closed) is;
-  begins = ap (λ x. begins_in_tag x.tag) is;
-  written = sym (append-nil old);
-  opened = none;
-}
+stream_start s around is none old = (
+  sym (append-nil old) ∙ ap (λ xs. old ++ bytes_of (lines [] xs)) (sym none-settled),
+  record {
+    taken = ap (after []) (sym is) ∙ ap (λ xs. after xs s) (sym none-settled);
+    forgotten = ap (λ x. x.closed) is;
+    begins = ap (λ x. begins_in_tag x.tag) is;
+    opened = none ∙ ap (open_after []) (sym none-settled);
+  },
+)
 
 pub stream_step : (before behind end : State) (around inner : List OpenElement) (out new : List ℕ) (d : List Event) (e : Event) → behind ≡ taken before e
     → d ≡ behind.closed → end ≡ forgotten behind → new ≡ out ++ bytes_of (lines around d) → inner ≡ open_after around d
-    → (old : List ℕ) (es : List Event) → HasTaken before around old out es → HasTaken end inner old new (es ++ e ∷ [])
+    → (old : List ℕ) (es : List Event) → IsTaken before around old out es → IsTaken end inner old new (es ++ e ∷ [])
 stream_step before behind end around inner out new d e took handed ended_as put entered old es h =
-    let fresh : IsFresh before = record { forgotten = h.forgotten; begins = h.begins } in
+    let k = h.1 in
+    let fresh : IsFresh before = record { forgotten = k.forgotten; begins = k.begins } in
     let whole : begins_in_tag d ≡ false = ap begins_in_tag (handed ∙ ap (λ s. s.closed) took) ∙ begins-settled before e fresh in
-    record {
-      settled = h.settled ++ d;
-      taken =
-          taken_behind nothing es e ∙ ap (λ s. taken s e) h.taken ∙ taken-after h.settled before e ∙ ap (after h.settled) (sym took)
-          ∙ after-forgotten h.settled behind ∙ ap (λ xs. after (h.settled ++ xs) (forgotten behind)) (sym handed)
-          ∙ ap (after (h.settled ++ d)) (sym ended_as);
-      forgotten = ap (λ s. s.closed) ended_as;
-      begins = ap (λ s. begins_in_tag s.tag) ended_as ∙ ap (λ s. begins_in_tag s.tag) took ∙ begins-tag before e fresh;
-      written = written-more old out new h.settled d around whole h.written h.opened put;
-      opened = entered ∙ ap (λ os. open_after os d) h.opened ∙ sym (elements_go_on [] h.settled d whole);
-    }
+    let none : end.closed ≡ [] = ap (λ s. s.closed) ended_as in
+    let now : taken_all nothing (es ++ e ∷ []) ≡ after (settled es ++ d) end =
+    taken_behind nothing es e ∙ ap (λ s. taken s e) k.taken ∙ taken-after (settled es) before e ∙ ap (after (settled es)) (sym took)
+    ∙ after-forgotten (settled es) behind ∙ ap (λ xs. after (settled es ++ xs) (forgotten behind)) (sym handed)
+    ∙ ap (after (settled es ++ d)) (sym ended_as) in
+    let more : settled es ++ d ≡ settled (es ++ e ∷ []) =
+    sym (append-nil (settled es ++ d)) ∙ ap (λ xs. (settled es ++ d) ++ xs) (sym none) ∙ ap (λ s. s.closed) (sym now) ∙ closed_is (es ++ e ∷ []) in (
+      written-more old out new (settled es) d around whole h.0 k.opened put ∙ ap (λ xs. old ++ bytes_of (lines [] xs)) more,
+      record {
+        taken = now ∙ ap (λ xs. after xs end) more;
+        forgotten = none;
+        begins = ap (λ s. begins_in_tag s.tag) ended_as ∙ ap (λ s. begins_in_tag s.tag) took ∙ begins-tag before e fresh;
+        opened =
+            entered ∙ ap (λ os. open_after os d) k.opened ∙ sym (elements_go_on [] (settled es) d whole)
+            ∙ ap (open_after []) more;
+      },
+    )
 
 pub stream_end : (s : State) (around : List OpenElement) (out new : List ℕ) (rest : List Event) → rest ≡ flushed s → new ≡ out ++ bytes_of (lines around rest)
-    → (old : List ℕ) (es : List Event) → HasTaken s around old out es → new ≡ old ++ pyx es
+    → (old : List ℕ) (es : List Event) → IsTaken s around old out es → new ≡ old ++ pyx es
 stream_end s around out new rest is put old es h =
-    let fresh : IsFresh s = record { forgotten = h.forgotten; begins = h.begins } in
+    let k = h.1 in
+    let fresh : IsFresh s = record { forgotten = k.forgotten; begins = k.begins } in
     let whole : begins_in_tag rest ≡ false = ap begins_in_tag is ∙ begins-flushed s fresh in
-    let stays : h.settled ++ rest ≡ built es =
-    ap (λ xs. h.settled ++ xs) is ∙ sym (flushed-after h.settled s) ∙ ap flushed (sym h.taken) ∙ built_is es in
-    written-more old out new h.settled rest around whole h.written h.opened put ∙ ap (λ xs. old ++ bytes_of (lines [] xs)) stays
+    let stays : settled es ++ rest ≡ built es =
+    ap (λ xs. settled es ++ xs) is ∙ sym (flushed-after (settled es) s) ∙ ap flushed (sym k.taken) ∙ built_is es in
+    written-more old out new (settled es) rest around whole h.0 k.opened put ∙ ap (λ xs. old ++ bytes_of (lines [] xs)) stays
 
 -- ---- for calls one after another
 pub kept-twice : (a b d : List ℕ) → take (length a) b ≡ a → take (length b) d ≡ b → take (length a) d ≡ a

@@ -10,6 +10,7 @@ use Rattle.std.specs.Map.{lookup}
 use Rattle.std.specs.Ordering.{nat_cmp}
 use Rattle.std.specs.Str.{bytes_eq}
 use Rattle.std.specs.declared.cmp.Ordering.{Ordering}
+pub use Rattle.xs_text.specs.Names.{xml_uri}
 use Rattle.xs_result.specs.Built.{is_empty}
 use Rattle.xs_trace.specs.Label.{Label}
 use Rattle.xs_trace.specs.declared.event.Event.{Event}
@@ -30,10 +31,6 @@ uri_in bs prefix = lookup (is_at (order_of_prefixes prefix)) bs
 
 abbrev pub binds : List Binding → List ℕ → Bool
 binds bs prefix = is_some (uri_in bs prefix)
-
--- the namespace of the prefix `xml` (3)
-abbrev pub xml_uri : List ℕ
-xml_uri = codes "http://www.w3.org/XML/1998/namespace"
 
 -- `xml` is bound everywhere (3)
 abbrev pub outermost : List Binding

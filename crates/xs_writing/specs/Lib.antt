@@ -1,4 +1,6 @@
 pub mod Bindings
 pub mod Lines
 pub mod Laws
+pub mod Settled
+pub mod Stream
 pub mod steps

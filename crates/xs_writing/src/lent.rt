@@ -3,7 +3,6 @@
 ghost use Rattle.std.specs.Prelude.{◌≡◌, ◌++◌, ◌&&◌, false, true, IfOk, OnOk, length, take};
 ghost use Rattle.std.specs.Str.{IsUtf8, bytes_eq};
 ghost use Rattle.xs_result.specs.steps.Building.{flushed};
-ghost use Rattle.xs_result.specs.steps.Views.{state};
 ghost use Rattle.xs_writing.specs.Bindings.{attributes_in, outermost};
 ghost use Rattle.xs_writing.specs.Lines.{bytes_of};
 ghost use Rattle.xs_writing.specs.steps.InForce.{are_plain, is_plain_tag, own_lines, plain_lines};
@@ -15,7 +14,7 @@ use crate::name_lines::{append_event, append_start};
 use crate::scope::Scope;
 use crate::tag_bindings::is_in_tag;
 use std::alloc::{AllocError, Global};
-use xs_result::Builder;
+use xs_result::build;
 use xs_trace::event::{Event, Fragment, Label};
 
 /// How many events a start tag has at most that are compared one with another.
@@ -195,19 +194,6 @@ pub(crate) fn append_lent_attributes(out: &mut Vec<u8>, added: &[&Event]) -> Res
 pub(crate) fn built(alloc: Global, tag: &[&Event]) -> Result<Fragment, AllocError>
     ensures { IfOk result (λ events. events ≡ flushed (begun tag.now)) }
 {
-    let builder = taken(alloc, tag)?;
-    let events = builder.finish()?;
+    let events = build(alloc, tag.iter().copied())?;
     Ok(events)
-}
-
-/// A builder that took them.
-#[tactic(auto, unfolding(xs_result::specs::steps::Building::taken_all))]
-fn taken<'e>(alloc: Global, tag: &[&'e Event]) -> Result<Builder<'e>, AllocError>
-    ensures { IfOk result (λ builder. state builder ≡ begun tag.now) }
-{
-    let mut builder = Builder::new(alloc);
-    for event in tag {
-        builder.take(*event)?;
-    }
-    Ok(builder)
 }

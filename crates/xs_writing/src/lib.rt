@@ -23,4 +23,3 @@ mod writer;
 
 pub use stream::PyxStream;
 pub use write::write_pyx;
-pub use writer::PyxWriter;

@@ -8,12 +8,12 @@ ghost use Rattle.xs_writing.specs.Bindings.{outermost, uri_in};
 ghost use Rattle.xs_writing.specs.steps.InForce.{is_in_force};
 ghost use Rattle.xs_writing.specs.steps.Open.{binding, bindings_of};
 
-use crate::tag_bindings::{TagBindings, XML_URI};
+use crate::tag_bindings::TagBindings;
 use crate::text_key::TextKey;
 use std::alloc::{AllocError, Global};
 use std::collections::BTreeMap;
 use std::marker::Model;
-use xs_text::is_same;
+use xs_text::{XML_URI, is_same};
 use xs_trace::text::TextBuf;
 
 /// A declaration: a prefix, empty for the default namespace, and its URI.

@@ -3,8 +3,9 @@ ghost use Rattle.std.specs.Prelude.{◌≡◌, ◌∷◌, ◌++◌, [], ℕ, IfO
 ghost use Rattle.std.specs.Str.{IsUtf8};
 ghost use Rattle.xs_trace.specs.declared.event.Event.{Event};
 ghost use Rattle.xs_writing.specs.Lines.{pyx};
+ghost use Rattle.xs_writing.specs.Stream.{HasTaken};
 ghost use Rattle.xs_writing.specs.steps.Kept.{kept};
-ghost use Rattle.xs_writing.specs.steps.Stream.{HasTaken};
+ghost use Rattle.xs_writing.specs.steps.Stream.{IsTaken};
 
 use crate::pending::Pending;
 use crate::writer::PyxWriter;
@@ -23,7 +24,7 @@ impl<'e> PyxStream<'e> {
     /// Before the first event.
     pub fn new(alloc: Global) -> Result<PyxStream<'e>, AllocError>
         ensures { IfOk result (λ stream. (old : List ℕ)
-            → HasTaken (kept stream.pending) stream.writer old old []) }
+            → HasTaken stream old old []) }
     {
         Ok(PyxStream {
             pending: Pending::new(alloc),
@@ -35,9 +36,8 @@ impl<'e> PyxStream<'e> {
     /// them may be there.
     pub fn take(self, out: &mut Vec<u8>, event: &'e Event) -> Result<PyxStream<'e>, AllocError>
         ensures taken { IfOk result (λ stream. (old : List ℕ) (es : List Event)
-            → HasTaken (kept self.entry.pending) self.entry.writer old out.old.items es
-            → HasTaken (kept stream.pending) stream.writer old out.new.items
-            (es ++ event.now ∷ [])) }
+            → HasTaken self.entry old out.old.items es
+            → HasTaken stream old out.new.items (es ++ event.now ∷ [])) }
         ensures kept { take (length out.old.items) out.new.items ≡ out.old.items }
         ensures utf8 { IsUtf8 out.old.items → IsUtf8 out.new.items }
     {
@@ -54,9 +54,8 @@ impl<'e> PyxStream<'e> {
     #[inline(always)]
     pub fn add(&mut self, out: &mut Vec<u8>, event: &'e Event) -> Result<(), AllocError>
         ensures taken { OnOk result ((old : List ℕ) (es : List Event)
-            → HasTaken (kept self.old.pending) self.old.writer old out.old.items es
-            → HasTaken (kept self.new.pending) self.new.writer old out.new.items
-            (es ++ event.now ∷ [])) }
+            → HasTaken self.old old out.old.items es
+            → HasTaken self.new old out.new.items (es ++ event.now ∷ [])) }
         ensures kept { take (length out.old.items) out.new.items ≡ out.old.items }
         ensures utf8 { IsUtf8 out.old.items → IsUtf8 out.new.items }
     {
@@ -66,7 +65,7 @@ impl<'e> PyxStream<'e> {
     /// Appends the lines of the rest. After a refusal some of them may be there.
     pub fn finish(self, out: &mut Vec<u8>) -> Result<(), AllocError>
         ensures written { OnOk result ((old : List ℕ) (es : List Event)
-            → HasTaken (kept self.entry.pending) self.entry.writer old out.old.items es
+            → HasTaken self.entry old out.old.items es
             → out.new.items ≡ old ++ pyx es) }
         ensures kept { take (length out.old.items) out.new.items ≡ out.old.items }
         ensures utf8 { IsUtf8 out.old.items → IsUtf8 out.new.items }
@@ -88,8 +87,8 @@ pub(crate) fn take_event<'e>(
     event: &'e Event,
 ) -> Result<(), AllocError>
     ensures taken { OnOk result ((old : List ℕ) (es : List Event)
-        → HasTaken (kept pending.old) writer.old old out.old.items es
-        → HasTaken (kept pending.new) writer.new old out.new.items (es ++ event.now ∷ [])) }
+        → IsTaken (kept pending.old) writer.old old out.old.items es
+        → IsTaken (kept pending.new) writer.new old out.new.items (es ++ event.now ∷ [])) }
     ensures kept { take (length out.old.items) out.new.items ≡ out.old.items }
     ensures utf8 { IsUtf8 out.old.items → IsUtf8 out.new.items }
 {

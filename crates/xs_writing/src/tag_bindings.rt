@@ -20,11 +20,9 @@ use crate::text_key::TextKey;
 use std::alloc::{AllocError, Global};
 use std::collections::BTreeMap;
 use std::marker::Model;
+use xs_text::XML_URI;
 use xs_trace::event::{Event, Label};
 use xs_trace::text::TextBuf;
-
-/// The namespace of the prefix `xml` (Namespaces in XML 1.0, 3).
-pub(crate) const XML_URI: &str = "http://www.w3.org/XML/1998/namespace";
 
 /// The bindings of a start tag. Contracts see them as a list, in the order of the prefixes.
 #[derive(Drop)]

@@ -4,8 +4,7 @@ ghost use Rattle.std.specs.Iterator.{Drains, IsFinite};
 ghost use Rattle.std.specs.Str.{IsUtf8};
 ghost use Rattle.xs_trace.specs.declared.event.Event.{Event};
 ghost use Rattle.xs_writing.specs.Lines.{pyx};
-ghost use Rattle.xs_writing.specs.steps.Kept.{kept};
-ghost use Rattle.xs_writing.specs.steps.Stream.{HasTaken};
+ghost use Rattle.xs_writing.specs.Stream.{HasTaken};
 ghost use denote.Ref.{Bor};
 
 use crate::stream::{PyxStream, take_event};
@@ -59,8 +58,8 @@ fn take_all<'e, I: Iterator<Item = &'e Event> + Drop>(
     requires can { I.can_next events }
     requires ends { IsFinite (I.remaining events) }
     ensures taken { (es : List (Bor Event))
-        × IfOk result (λ stream. HasTaken (kept stream.pending) stream.writer
-        out.old.items out.new.items (map (λ e. e.now) es))
+        × IfOk result (λ stream. HasTaken stream out.old.items out.new.items
+        (map (λ e. e.now) es))
         × OnOk result (Drains I.next_gives events es) }
     ensures kept { take (length out.old.items) out.new.items ≡ out.old.items }
     ensures utf8 { IsUtf8 out.old.items → IsUtf8 out.new.items }

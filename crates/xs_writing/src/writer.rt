@@ -38,7 +38,7 @@ struct Frame {
 /// It takes time linear in the events that it writes, however deep they nest and however many
 /// declarations are in force.
 #[derive(Drop)]
-pub struct PyxWriter {
+pub(crate) struct PyxWriter {
     pub(crate) alloc: Global,
     /// What is in force; none after memory ran out.
     pub(crate) scope: Option<Scope>,
@@ -60,7 +60,7 @@ impl Model for PyxWriter {
 
 impl PyxWriter {
     /// Before the first event.
-    pub fn new(alloc: Global) -> Result<PyxWriter, AllocError>
+    pub(crate) fn new(alloc: Global) -> Result<PyxWriter, AllocError>
         ensures { IfOk result (λ writer. writer ≡ []) }
     {
         Ok(PyxWriter {
@@ -74,7 +74,7 @@ impl PyxWriter {
     /// attributes come in one call with its start. After a refusal some lines may be there, and
     /// every further call may be refused.
     #[tactic(auto, unfolding(crate::specs::steps::Unfolding::event_by_event))]
-    pub fn append(&mut self, out: &mut Vec<u8>, events: &[Event]) -> Result<(), AllocError>
+    pub(crate) fn append(&mut self, out: &mut Vec<u8>, events: &[Event]) -> Result<(), AllocError>
         ensures written { OnOk result
             (out.new.items ≡ out.old.items ++ bytes_of (lines self.old events.now)) }
         ensures opened { OnOk result (self.new ≡ open_after self.old events.now) }

@@ -1,4 +1,4 @@
-mod BindLemmas
+pub mod BindLemmas
 mod RisingLemmas
 mod RowLemmas
 pub mod RunLemmas

@@ -14,7 +14,7 @@ use crate::lookups::value_named;
 use xs_axes::axis_nodes;
 use xs_eval::evaluate::evaluate;
 use xs_meaning::context::Context;
-use xs_pattern::matching::matches;
+use xs_pattern::matcher::Matcher;
 use xs_trace::item::Site;
 use xs_trace::meter::Meter;
 use xs_tree::{Axis, Node};
@@ -64,8 +64,13 @@ pub(crate) fn put_of_pattern(
 fn is_match(out: &Answer, settings: &Settings, pattern: &Pattern, node: Node) -> bool
     requires { node < length settings.now.tree }
 {
-    let (tree, scope) = (&settings.tree, &settings.scope);
-    out.holds(matches(settings.alloc, pattern, scope, tree, node, &NoKeys))
+    let keys = NoKeys;
+    let matcher = Matcher {
+        alloc: settings.alloc,
+        tree: &settings.tree,
+        keys: &keys,
+    };
+    out.holds(matcher.matches(pattern, &settings.scope, node))
 }
 
 // Adds the nodes of the document that match a pattern.

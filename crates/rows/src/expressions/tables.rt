@@ -6,9 +6,10 @@ ghost use Rattle.xs_xpath.specs.Exprs.{tree_from};
 use crate::answer::Answer;
 use crate::expressions::calls::Call;
 use crate::expressions::settings::Settings;
-use xs_pattern::above::{above_of, is_marked};
-use xs_pattern::marks::marks_of;
-use xs_pattern::matching::{matches_path, matches_path_by};
+use xs_pattern::above::above_of;
+use xs_pattern::matcher::Matcher;
+use xs_pattern::path_tables::path_table;
+use xs_pattern::tables::is_in_table;
 use xs_tree::Node;
 use xs_value::keys::NoKeys;
 use xs_xpath::expr::Expr;
@@ -24,7 +25,7 @@ pub(crate) fn put_answer(out: &Answer, settings: &Settings, call: Call, pattern:
     };
     for alternative in &pattern.alternatives {
         let found = match call {
-            Call::Marks => by_marks(out, settings, alternative),
+            Call::Marks => by_nodes(out, settings, alternative),
             _ => by_table(out, settings, alternative),
         };
         match found {
@@ -57,11 +58,17 @@ fn count_of(out: &Answer, settings: &Settings, alternative: &Expr, above: &[bool
     requires { IsAbove settings.now.tree (tree_from alternative.now) above.now }
 {
     let (alloc, tree, scope) = (settings.alloc, &settings.tree, &settings.scope);
+    let keys = NoKeys;
+    let matcher = Matcher {
+        alloc,
+        tree,
+        keys: &keys,
+    };
     let mut count = 0_u64;
     for place in 0..tree.len() as u32 {
         let node = Node::at(place);
         let above = Some(above);
-        let found = matches_path_by(alloc, alternative, scope, tree, node, &NoKeys, above);
+        let found = matcher.matches_path_by(alternative, scope, node, above);
         count = count.saturating_add(out.holds(found) as u64);
     }
     count
@@ -85,11 +92,17 @@ fn is_as_climbed(out: &Answer, settings: &Settings, alternative: &Expr, above: &
     requires { IsAbove settings.now.tree (tree_from alternative.now) above.now }
 {
     let (alloc, tree, scope) = (settings.alloc, &settings.tree, &settings.scope);
+    let keys = NoKeys;
+    let matcher = Matcher {
+        alloc,
+        tree,
+        keys: &keys,
+    };
     for place in 0..tree.len() as u32 {
         let node = Node::at(place);
         let above = Some(above);
-        let found = matches_path_by(alloc, alternative, scope, tree, node, &NoKeys, above);
-        let climbed = matches_path(alloc, alternative, scope, tree, node, &NoKeys);
+        let found = matcher.matches_path_by(alternative, scope, node, above);
+        let climbed = matcher.matches_path(alternative, scope, node);
         if out.holds(found) != out.holds(climbed) {
             return false;
         }
@@ -98,9 +111,9 @@ fn is_as_climbed(out: &Answer, settings: &Settings, alternative: &Expr, above: &
 }
 
 // Whether an alternative has a table of the nodes that match, which are those without it.
-fn by_marks(out: &Answer, settings: &Settings, alternative: &Expr) -> Option<bool> {
-    match marks_of(settings.alloc, alternative, &settings.scope, &settings.tree) {
-        Ok(Some(marks)) => Some(is_as_matched(out, settings, alternative, &marks)),
+fn by_nodes(out: &Answer, settings: &Settings, alternative: &Expr) -> Option<bool> {
+    match path_table(settings.alloc, alternative, &settings.scope, &settings.tree) {
+        Ok(Some(nodes)) => Some(is_as_matched(out, settings, alternative, &nodes)),
         Ok(None) => None,
         Err(_) => {
             out.refuse();
@@ -109,13 +122,19 @@ fn by_marks(out: &Answer, settings: &Settings, alternative: &Expr) -> Option<boo
     }
 }
 
-// Whether the nodes that match an alternative are those that are marked.
-fn is_as_matched(out: &Answer, settings: &Settings, alternative: &Expr, marks: &[bool]) -> bool {
+// Whether the nodes that match an alternative are those of the table.
+fn is_as_matched(out: &Answer, settings: &Settings, alternative: &Expr, nodes: &[bool]) -> bool {
     let (alloc, tree, scope) = (settings.alloc, &settings.tree, &settings.scope);
+    let keys = NoKeys;
+    let matcher = Matcher {
+        alloc,
+        tree,
+        keys: &keys,
+    };
     for place in 0..tree.len() as u32 {
         let node = Node::at(place);
-        let climbed = matches_path(alloc, alternative, scope, tree, node, &NoKeys);
-        if is_marked(marks, node) != out.holds(climbed) {
+        let climbed = matcher.matches_path(alternative, scope, node);
+        if is_in_table(nodes, node) != out.holds(climbed) {
             return false;
         }
     }

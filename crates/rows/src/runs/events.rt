@@ -168,7 +168,7 @@ fn streamed(out: &Answer, put: &[Event]) -> Result<Vec<u8>, AllocError> {
     let mut lines = Vec::new(out.alloc);
     let mut stream = PyxStream::new(out.alloc)?;
     for event in put {
-        stream = stream.take(&mut lines, event)?;
+        stream.add(&mut lines, event)?;
         out.put_whole(lines.len() as u64);
         out.put_byte(b' ');
     }

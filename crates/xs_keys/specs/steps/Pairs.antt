@@ -16,7 +16,7 @@ use Rattle.xs_keys.specs.declared.pairs.Gathered.{Gathered}
 use Rattle.xs_keys.specs.declared.pairs.Pair.{Pair}
 use Rattle.xs_keys.specs.declared.uses.Used.{Used}
 use Rattle.xs_keys.specs.declared.uses.Used.TheVariants.{Nothing, Ends, Value as Valued}
-use Rattle.xs_marks.specs.Matches.{AreMatches}
+use Rattle.xs_pattern.specs.MatchTables.{IsMatchTable}
 use Rattle.xs_value.specs.Conversion.{IsIn}
 use Rattle.xs_keys.specs.Keys.{faults_in, first_of, node_faults, texts_at, texts_in}
 
@@ -90,7 +90,7 @@ decls_in members = map (λ m. m.now) members
 abbrev pub AreMarked : List Record → List KeyDecl → List (Vec Bool Global) → Type 0
 AreMarked rs ds marks =
     (length marks ≡ length ds)
-    × ((k : ℕ) (d : KeyDecl) (t : Vec Bool Global) → k < length ds → AreMatches [] rs (get_or ds k d).pattern (get_or marks k t).items)
+    × ((k : ℕ) (d : KeyDecl) (t : Vec Bool Global) → k < length ds → IsMatchTable [] rs (get_or ds k d).pattern (get_or marks k t).items)
 
 -- what was gathered from one place to another
 pub record IsBetween (rs : List Record) (ds : List KeyDecl) (start end : ℕ) (g : Gathered) : Type 0 where

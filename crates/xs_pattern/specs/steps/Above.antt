@@ -62,14 +62,14 @@ AreNext rs s before None = is_plain s ≡ false
 AreNext rs s before (Some t) =
     (is_plain s ≡ true) × ((start : Tree) (steps : List Tree) → EndsBy rs start steps before → EndsBy rs start (s ∷ steps) t.items)
 
--- whether the node at n or one of its ancestors is marked
+-- whether the node at n or one of its ancestors is in the table
 abbrev pub is_below : List Bool → List Record → ℕ → Bool
-is_below marks rs n = list_any (λ k. get_or marks k false) (axis_list AncestorOrSelf rs n)
+is_below table rs n = list_any (λ k. get_or table k false) (axis_list AncestorOrSelf rs n)
 
--- whether a step without predicates leads to the node at n from its parent, and that is marked
+-- whether a step without predicates leads to the node at n from its parent, and that is in the table
 abbrev pub is_led : Axis → NodeTest → List Bool → List Record → ℕ → Bool
-is_led axis which marks rs n =
-    option_map_or (λ p. get_or marks p false && (stands_on axis (at rs n).kind && passes axis which (at rs n))) (at rs n).parent false
+is_led axis which table rs n =
+    option_map_or (λ p. get_or table p false && (stands_on axis (at rs n).kind && passes axis which (at rs n))) (at rs n).parent false
 
 -- whether the node at n is a root
 abbrev pub is_root_at : List Record → ℕ → Bool

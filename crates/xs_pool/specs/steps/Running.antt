@@ -4,10 +4,10 @@ use Rattle.std.specs.List.{All}
 use Rattle.xs_trace.specs.Mark.{Trace}
 use Rattle.xs_trace.specs.declared.item.Limits.{Limits}
 use Rattle.xs_core.specs.Good.{total, children}
-use Rattle.xs_record.specs.Outcome.{IsOutcome}
+use Rattle.xs_record.specs.Outcome.{IsOutcome, is_done}
 use Rattle.xs_record.specs.declared.outcome.Outcome.{Outcome}
 use Rattle.xs_pieces.specs.Tree.{task_at, BeginsWithTick}
-use Rattle.xs_pieces.specs.Collection.{is_done, is_finished, IfFinished, ticks_in, holes_in, places_in, finished_in, IsCollection}
+use Rattle.xs_pieces.specs.Collection.{is_finished, IfFinished, ticks_in, holes_in, places_in, finished_in, IsCollection}
 use Rattle.xs_pieces.specs.declared.piece.Piece.{Piece}
 
 -- a piece that was not run yet

@@ -17,7 +17,7 @@ use Rattle.xs_xpath.specs.declared.name.NodeTest.TheVariants.{Any, Uri, Name, No
 use Rattle.xs_xpath.specs.Tree.{Tree, step}
 use Rattle.xs_matching.specs.Matching.{steps_of}
 use Rattle.xs_pattern.specs.steps.Above.{IsAbove}
-use Rattle.xs_pattern.specs.steps.Marks.{AreMarks}
+use Rattle.xs_pattern.specs.steps.PathTables.{IsPathTable}
 use Rattle.xs_rules.specs.declared.lists.Entry.{Entry}
 use Rattle.xs_rules.specs.declared.tables.RuleTable.{RuleTable}
 use Rattle.xs_rules.specs.declared.tables.RuleTable.TheVariants.{Above, Matches}
@@ -148,7 +148,7 @@ table_at tables place = option_and_then (λ o. o) (slice_get tables place)
 -- whether a table is that of an alternative over the nodes of a tree, under the declarations in scope for it
 abbrev pub IsTable : List Record → (scope : List (List ℕ × List ℕ)) → Tree → RuleTable → Type 0
 IsTable rs scope e (Above t) = IsAbove rs e t.items
-IsTable rs scope e (Matches t) = AreMarks rs scope e t.items
+IsTable rs scope e (Matches t) = IsPathTable rs scope e t.items
 
 -- a table, if there is one, is that of a rule's alternative
 abbrev pub IsTableOf : List Record → Option Candidate → Option RuleTable → Type 0

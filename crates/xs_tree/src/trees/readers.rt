@@ -1,6 +1,6 @@
 //! What a tree says of one node.
 
-ghost use Rattle.std.specs.Prelude.{◌≡◌, ◌+◌, ◌<◌, ◌≤◌, length, nat_lt, if◌then◌else◌, Some, None};
+ghost use Rattle.std.specs.Prelude.{◌≡◌, ◌<◌, ◌≤◌, length};
 ghost use Rattle.std.specs.Prelude.{IsTrue, ◌↔◌};
 ghost use Rattle.std.specs.Option.{option_copied};
 ghost use Rattle.xs_tree.specs.Limits.{most_nodes};
@@ -104,20 +104,6 @@ impl Tree {
         match entry.kind {
             Kind::Root => None,
             _ => Some(Node::at(entry.parent)),
-        }
-    }
-
-    /// The node that follows in document order, none after the last.
-    pub fn next_in_order(&self, n: Node) -> Option<Node>
-        requires { n < length self.now }
-        ensures next { result ≡ (if nat_lt (n + 1) (length self.now) then Some (n + 1) else None) }
-    {
-        let count = self.len();
-        let next = n.place() + 1;
-        if (next as usize) < count {
-            Some(Node::at(next))
-        } else {
-            None
         }
     }
 

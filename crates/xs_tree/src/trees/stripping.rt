@@ -1,14 +1,14 @@
 //! Stripping text nodes.
 
 ghost use Rattle.std.specs.Prelude.{◌≡◌, ◌+◌, ◌<◌, ◌≤◌, IfOk, OnErr, OnOk};
-ghost use Rattle.std.specs.Prelude.{false, get_or, length, map};
+ghost use Rattle.std.specs.Prelude.{length, map};
 ghost use Rattle.std.specs.List.{range_with_len};
 ghost use Rattle.xs_tree.specs.Limits.{most_nodes};
 ghost use Rattle.xs_tree.specs.Stripping.{new_place, numbers_without, stays, without};
 
 use super::Tree;
 use crate::compaction::{compact_entries, compact_numbers};
-use crate::nodes::Node;
+use crate::nodes::{Node, is_marked};
 use std::alloc::AllocError;
 
 impl Tree {
@@ -74,17 +74,6 @@ impl Tree {
         requires { node < length self.now }
         ensures { result ≡ stays marked.now self.now node }
     {
-        !(is_marked(marked, node.place() as usize) && self.is_text(node))
-    }
-}
-
-// Whether a place is marked, as none after the last mark is.
-fn is_marked(marked: &[bool], place: usize) -> bool
-    ensures { result ≡ get_or marked.now place false }
-{
-    if place < marked.len() {
-        marked[place]
-    } else {
-        false
+        !(is_marked(marked, node) && self.is_text(node))
     }
 }

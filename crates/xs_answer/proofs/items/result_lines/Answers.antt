@@ -3,7 +3,6 @@ use Rattle.xs_block.specs.Chain as chain
 use Rattle.xs_reading_back.specs.Events.{HasTexts}
 use Rattle.xs_record.specs.Segment.{items_of, joined}
 use Rattle.xs_writing.specs.Lines.{pyx}
-use Rattle.xs_writing.specs.steps.Kept.{kept}
 use Rattle.xs_answer.specs.Items.{events_in}
 use Rattle.xs_answer.proofs.ReadBackLemmas.{count_end, count_more, lines_read_back, texts_end, texts_more}
 use Rattle.xs_answer.proofs.TakenLemmas.{taken_end, taken_first, taken_more}
@@ -18,7 +17,7 @@ loop-segment-init c =
       ends = tt;
       taken = (
         [],
-        taken_first (kept c.in_ok-stream.stream.pending) c.in_ok-stream.stream.writer c.new-lines.result.items (cc) c.in_ok-stream.ensures,
+        taken_first c.in_ok-stream.stream c.new-lines.result.items (cc) c.in_ok-stream.ensures,
         all,
       );
       texts = subst (All HasTexts) all;

@@ -2,8 +2,7 @@ use Rattle.std.proofs.Common.{◌≡◌, ◌<◌, ◌+◌, ◌^◌, ◌++◌, []
 use Rattle.xs_reading_back.specs.Events.{HasTexts}
 use Rattle.xs_record.specs.Segment.{items_of, joined}
 use Rattle.xs_trace.specs.declared.event.Event.{Event}
-use Rattle.xs_writing.specs.steps.Kept.{kept}
-use Rattle.xs_writing.specs.steps.Stream.{HasTaken}
+use Rattle.xs_writing.specs.Stream.{HasTaken}
 use Rattle.xs_answer.specs.Items.{events_in}
 use Rattle.xs_answer.proofs.items.result_lines.Given as goal
 
@@ -12,7 +11,7 @@ abbrev pub invariant-loop-segment : goal.invariant-loop-segment
 invariant-loop-segment l = record {
   can : goal.iterator-loop-segment.can_next l.segment-iterator;
   ends : goal.iterator-loop-segment.is_finite l.segment-iterator;
-  taken : (es : List Event) × HasTaken (kept l.stream.pending) l.stream.writer [] l.lines.items es
+  taken : (es : List Event) × HasTaken l.stream [] l.lines.items es
       × (es ++ events_in (joined l.segment-iterator) ≡ events_in (items_of l.items));
   texts : All HasTexts (events_in (joined l.segment-iterator)) → All HasTexts (events_in (items_of l.items));
   counted : length (events_in (items_of l.items)) ≡ l.count + length (events_in (joined l.segment-iterator));

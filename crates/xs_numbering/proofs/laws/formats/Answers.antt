@@ -50,6 +50,14 @@ pub returns-clause-none : goal.returns-clause-none
 unfolding list_text pieces number_text sequence roman grouped digits chars
 returns-clause-none c = refl
 
+pub returns-clause-no_width : goal.returns-clause-no_width
+unfolding list_text pieces number_text sequence roman grouped digits chars
+returns-clause-no_width c = refl
+
+pub returns-clause-no_letters : goal.returns-clause-no_letters
+unfolding list_text pieces number_text sequence roman grouped digits chars
+returns-clause-no_letters c = refl
+
 pub returns-clause-roman : goal.returns-clause-roman
 unfolding list_text pieces number_text sequence roman grouped digits chars
 returns-clause-roman c = refl

@@ -3,6 +3,6 @@ use Rattle.std.specs.List.{range_with_len}
 use Rattle.xs_pattern.specs.steps.Above.{is_below}
 use Rattle.xs_pattern.proofs.above.below.Given as goal
 
--- the marks of the nodes that were passed
+-- the table of the nodes that were passed
 abbrev pub invariant-loop-place : goal.invariant-loop-place
-invariant-loop-place l = l.found.items ≡ map (is_below l.marks l.tree) (range_with_len 0 l.place)
+invariant-loop-place l = l.found.items ≡ map (is_below l.table l.tree) (range_with_len 0 l.place)

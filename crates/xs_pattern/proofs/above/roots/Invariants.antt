@@ -3,6 +3,6 @@ use Rattle.std.specs.List.{range_with_len}
 use Rattle.xs_pattern.specs.steps.Above.{is_root_at}
 use Rattle.xs_pattern.proofs.above.roots.Given as goal
 
--- the marks of the nodes that were passed
+-- the table of the nodes that were passed
 abbrev pub invariant-loop-place : goal.invariant-loop-place
-invariant-loop-place l = l.marks.items ≡ map (is_root_at l.tree) (range_with_len 0 l.place)
+invariant-loop-place l = l.table.items ≡ map (is_root_at l.tree) (range_with_len 0 l.place)

@@ -1,6 +1,6 @@
 use Rattle.std.proofs.Common.{◌++◌, ◌∙◌, ap, sym, map, List}
 use Rattle.xs_pieces.specs.declared.piece.Piece.{Piece}
-use Rattle.xs_pieces.specs.Collection.{is_done}
+use Rattle.xs_record.specs.Outcome.{is_done}
 use Rattle.xs_pool.specs.steps.Running.{waiting}
 use Rattle.xs_pool.proofs.RunLemmas.{runs-next, runs-over, task-at-index, piece-of, not-true, not-false}
 use Rattle.xs_pool.proofs.next.run_next.Goals as goal

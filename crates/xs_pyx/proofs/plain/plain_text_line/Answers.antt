@@ -1,7 +1,7 @@
-use Rattle.std.proofs.Common.{◌≡◌, subst, sym}
+use Rattle.std.proofs.Common.{◌≡◌, subst, sym, rules}
 use Rattle.std.specs.Str.{IsCharBoundary}
 use Rattle.xs_pyx.specs.Reading.{line_of}
-use Rattle.xs_pyx.proofs.ReadLemmas.{plain_takes}
+use Rattle.xs_pyx.proofs.ReadLemmas.{none_of_none, none_of_unended, plain_takes}
 use Rattle.xs_pyx.proofs.plain.plain_text_line.Goals as goal
 
 pub returns-clause-takes : goal.returns-clause-takes
@@ -13,3 +13,10 @@ returns-clause-takes c = λ some.
 pub returns-clause-cut : goal.returns-clause-cut
 returns-clause-cut c = λ some.
     subst (λ n. IsCharBoundary c.args.text.now n) (sym (c.plain_row.ensures.size some)) c.split_text-row.ensures.cut
+
+pub returns-then-is_empty-clause-none : goal.returns-then-is_empty-clause-none
+returns-then-is_empty-clause-none c = λ _. none_of_none c.args.text.now (search rules)
+
+pub returns-then-not-row-clause-none : goal.returns-then-not-row-clause-none
+returns-then-not-row-clause-none c =
+    λ _. none_of_unended c.args.text.now c.split_text-row.result.text.now c.split_text-row.result.ended c.split_text-row.ensures.first c.if-not-row.true

@@ -13,7 +13,7 @@ returns-in-Ok-clause-gives c =
 pub returns-in-Err-clause-gives : goal.returns-in-Err-clause-gives
 returns-in-Err-clause-gives c =
     refused_gives (app_of c.in_ok-command.command) (texts c.args.words.now) c.in-Err.error c.refusal.result c.in_ok-command.ensures
-    c.refusal.ensures c.in-Err.ensures.kinds
+    c.refusal.ensures.usage c.in-Err.ensures.kinds
 
 pub returns-in-Ok-clause-within : goal.returns-in-Ok-clause-within
 returns-in-Ok-clause-within c = options_fit (rows_in c.in-Ok.matches) c.options_in.result c.options_in.ensures

@@ -1,7 +1,7 @@
 use Rattle.std.proofs.Common.{◌∷◌, [], map, subst, sym}
 use Rattle.std.proofs.lemmas.List.{map-append}
 use Rattle.xs_writing.specs.steps.Kept.{kept}
-use Rattle.xs_writing.specs.steps.Stream.{HasTaken}
+use Rattle.xs_writing.specs.steps.Stream.{IsTaken}
 use Rattle.xs_writing.proofs.StreamLemmas.{kept-twice, kept_whole}
 use Rattle.xs_writing.proofs.write.take_all.Goals as goal
 
@@ -15,7 +15,7 @@ loop-event-init g c = record {
 pub loop-event-preserved : goal.loop-event-preserved
 loop-event-preserved g c = record {
   taken =
-      subst (λ es. HasTaken (kept c.take_event.new.pending) c.take_event.new.writer c.args.out.now.items c.take_event.new.out.items es)
+      subst (λ es. IsTaken (kept c.take_event.new.pending) c.take_event.new.writer c.args.out.now.items c.take_event.new.out.items es)
       (sym (map-append (λ e. e.now) c.loop-event.yielded (c.in-Some.event ∷ [])))
       (c.in_ok-take_event.ensures.taken c.args.out.now.items (map (λ e. e.now) c.loop-event.yielded) c.loop-event.invariant.taken);
   kept = kept-twice c.args.out.now.items c.loop-event.out.items c.take_event.new.out.items c.loop-event.invariant.kept c.in_ok-take_event.ensures.kept;

@@ -18,8 +18,8 @@ returns-clause-told g c =
     let t : Evaluation = c.args.self.now in
     let template : Template = c.args.template.now in
     let some : (length template.params == 0) ≡ false = search rules in
-    let same : c.push.new.self ≡ pushed (params_first template.params c.args.passed template.body (outer c.args.focus) ∷ []) t = search rules in
-    params-entered template.params c.args.passed template.body c.args.focus t c.push.new.self (g.R.Tally.state c.args.recorder.now) some same
+    let same : c.begin_params.new.self ≡ pushed (params_first template.params c.args.passed template.body (outer c.args.focus) ∷ []) t = search rules in
+    params-entered template.params c.args.passed template.body c.args.focus t c.begin_params.new.self (g.R.Tally.state c.args.recorder.now) some same
 
 pub begin_body-requires-sync-K : goal.begin_body-requires-sync-K
 begin_body-requires-sync-K g c κs within =

@@ -5,7 +5,7 @@ use Rattle.xs_compile.specs.Slots.{slot_at}
 use Rattle.xs_compile.specs.steps.State.{modules_of}
 use Rattle.xs_xpath.specs.Binding.{bound}
 use Rattle.xs_xpath.specs.Exprs.{trees_from}
-use Rattle.xs_compile.proofs.BindingLemmas.{bound-all, bound-more, length-trees}
+use Rattle.xs_xpath.proofs.BindLemmas.{bound-all, bound-more, length-trees}
 use Rattle.xs_compile.proofs.compiler.Compiler.+binding.Goals as goal
 
 pub bind_all-loop-i-preserved : goal.bind_all-loop-i-preserved

@@ -1,9 +1,0 @@
-use Rattle.std.proofs.Common.{◌≡◌, drop}
-use Rattle.xs_xpath.specs.Exprs.{trees_from}
-use Rattle.xs_matching.specs.Matching.{matches}
-use Rattle.xs_pattern.proofs.matching.matches.Given as goal
-
-abbrev pub invariant-loop-alternative : goal.invariant-loop-alternative
-invariant-loop-alternative g l =
-    matches (g.K.KeyFinder.tables l.keys) l.tree l.scope.pairs.items (trees_from (drop l.alternative-index l.pattern.alternatives.items)) l.node
-    ≡ matches (g.K.KeyFinder.tables l.keys) l.tree l.scope.pairs.items (trees_from l.pattern.alternatives.items) l.node
