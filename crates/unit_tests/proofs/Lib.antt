@@ -1,1 +1,3 @@
 pub mod ProbeLemmas
+pub mod PieceLemmas
+pub mod TableLemmas

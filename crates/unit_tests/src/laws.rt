@@ -45,7 +45,7 @@ fn laws_hold() {
     xs_making::laws::instructions_fit();
     xs_making::laws::names_are_well();
     xs_making::laws::copies_are_well();
-    xs_writing::laws::lines_go_on();
-    xs_writing::laws::names_resolve();
-    xs_writing::laws::worked_examples();
+    xs_result_lines::laws::lines_go_on();
+    xs_result_lines::laws::names_resolve();
+    xs_result_lines::laws::worked_examples();
 }

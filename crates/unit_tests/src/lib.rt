@@ -27,5 +27,6 @@ mod pieces;
 mod probe;
 #[cfg(test)]
 mod recorders;
+pub mod table;
 #[cfg(test)]
 mod ticks;

@@ -10,7 +10,7 @@ use xs_pieces::piece::Piece;
 use xs_pieces::runner::Runner;
 use xs_pool::sequential::run_in_order;
 use xs_record::outcome::Outcome;
-use xs_table::table::{RowTask, TableRunner, table_is_ready};
+use crate::table::{RowTask, TableRunner, table_is_ready};
 use xs_trace::item::Ended;
 
 // So many ticks has the tree; so many orders are tried, some of them more than once.

@@ -10,11 +10,11 @@ use xs_block::pool::Pool;
 use xs_pieces::runner::Runner;
 use xs_record::outcome::{Outcome, Part};
 use xs_record::segment::{Run, Segment};
-use xs_table::table::{Entry, Row, TableRunner, table_is_ready};
+use crate::table::{Entry, Row, TableRunner, table_is_ready};
 use xs_trace::event::Event;
 use xs_trace::fault::Fault;
 use xs_trace::item::{Ended, Item, Limits, Site, Spot};
-use xs_trace::text::TextBuf;
+use xs_text::TextBuf;
 
 /// The instruction at a line.
 pub(crate) fn at(line: u32) -> Site {

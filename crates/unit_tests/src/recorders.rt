@@ -16,7 +16,7 @@ use xs_trace::item::{Ended, Item, Limits, Site};
 use xs_trace::meter::Meter;
 use xs_trace::place::{Claim, Place, compare_places};
 use xs_trace::recorder::{Halt, Recorder, Tally, put_event, say_message, tick_several};
-use xs_trace::text::TextBuf;
+use xs_text::TextBuf;
 use xs_trace::total::{LocalTotal, Total};
 
 // What only types whose values cross threads are given to.

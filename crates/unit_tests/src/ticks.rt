@@ -6,7 +6,7 @@ use crate::pieces::{agrees, are_run_again, at, at_once, in_pieces, push_row};
 use std::alloc::{AllocError, Global};
 use xs_record::outcome::{Outcome, Part};
 use xs_record::segment::Segment;
-use xs_table::table::{Entry, Row, TableRunner};
+use crate::table::{Entry, Row, TableRunner};
 use xs_trace::event::Event;
 use xs_trace::item::{Item, Site};
 

@@ -11,7 +11,7 @@ use Rattle.xs_trace.specs.declared.event.Event.TheVariants.{Chars}
 use Rattle.xs_trace.specs.declared.item.Site.{Site}
 use Rattle.xs_trace.proofs.PlayLemmas.{then-same, then-then}
 use Rattle.xs_trace.proofs.RunLemmas.{by-none}
-use Rattle.xs_semantics.specs.Making.{content_text, text_events}
+use Rattle.xs_body_spec.specs.Making.{content_text, text_events}
 use Rattle.xs_body.specs.steps.Making.{chars_steps}
 
 -- ticks are the same where a capture is open

@@ -21,10 +21,10 @@ use Rattle.xs_trace.proofs.CutLemmas.{cut-longest, parts-join}
 use Rattle.xs_trace.proofs.KeptLemmas.{some_same, told-is-cut, untimed_same, untimed-messages}
 use Rattle.xs_trace.proofs.PlayLemmas.{then-goes, then-then}
 use Rattle.xs_value.specs.declared.value.Value.{Value}
-use Rattle.xs_semantics.specs.Globals.{attempt_trace, attempt_value}
+use Rattle.xs_body_spec.specs.Globals.{attempt_trace, attempt_value}
 use Rattle.xs_body.specs.Results.{EndsAt, IsAttempt, Passed}
-use Rattle.xs_semantics.specs.Tasks.{Task}
-use Rattle.xs_semantics.specs.World.{World}
+use Rattle.xs_body_spec.specs.Tasks.{Task}
+use Rattle.xs_body_spec.specs.World.{World}
 use Rattle.xs_body.specs.declared.attempts.Attempt.{Attempt}
 use Rattle.xs_body.specs.declared.attempts.Attempt.TheVariants as attempt
 use Rattle.xs_body.specs.steps.Attempts.{attempt_steps, StopsAt, IsAttemptOf}

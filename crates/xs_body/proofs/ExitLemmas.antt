@@ -13,9 +13,9 @@ use Rattle.xs_trace.specs.declared.recorder.Halt.{Halt}
 use Rattle.xs_trace.proofs.GrowthLemmas.{Grows, passes, then-exit, goes-grows}
 use Rattle.xs_tree.specs.Kinds.{has_content, is_attribute_kind, is_text_kind}
 use Rattle.xs_tree.specs.Record.{Record, children}
-use Rattle.xs_semantics.specs.declared.focus.Focus.{Focus}
-use Rattle.xs_semantics.specs.declared.made.Made.{Made}
-use Rattle.xs_semantics.specs.Tasks.{Params, Task, no_params}
+use Rattle.xs_body_spec.specs.declared.focus.Focus.{Focus}
+use Rattle.xs_body_spec.specs.declared.made.Made.{Made}
+use Rattle.xs_body_spec.specs.Tasks.{Params, Task, no_params}
 use Rattle.xs_body.specs.declared.frames.Scope.{Scope}
 use Rattle.xs_body.specs.steps.Frames.{Evaluation, applied_begun, attributes_left, built_in_begun, chars_steps, content_in, last, literal_inside, made_of}
 use Rattle.xs_body.specs.steps.Frames.{instrs_of, outer, params_entered, params_first, pushed, rest_begun, sets_works, stays}

@@ -18,14 +18,14 @@ use Rattle.xs_trace.proofs.PlayLemmas.{then-same, then-then, captures-from}
 use Rattle.xs_trace.proofs.RunLemmas.{play-evaluated}
 use Rattle.xs_value.specs.declared.value.Value.{Value}
 use Rattle.xs_value.specs.declared.value.Value.TheVariants.{Piece}
-use Rattle.xs_semantics.specs.declared.focus.Focus.{Focus}
-use Rattle.xs_semantics.specs.World.{World, value_run}
-use Rattle.xs_semantics.specs.Tasks.{Task}
-use Rattle.xs_semantics.specs.Trace.{body_trace, content_trace, fragment_of, instrs_trace}
-use Rattle.xs_semantics.specs.Globals.{content_value, global_focus, value_in}
+use Rattle.xs_body_spec.specs.declared.focus.Focus.{Focus}
+use Rattle.xs_body_spec.specs.World.{World, value_run}
+use Rattle.xs_body_spec.specs.Tasks.{Task}
+use Rattle.xs_body_spec.specs.Trace.{body_trace, content_trace, fragment_of, instrs_trace}
+use Rattle.xs_body_spec.specs.Globals.{content_value, global_focus, value_in}
 use Rattle.xs_body.specs.steps.Attempts.{binding_steps, fragment_steps}
 use Rattle.xs_body.specs.steps.Frames.{Evaluation, idle, rest, last, without, outer, instrs_of, fragment_at, pushed, stack_told}
-use Rattle.xs_semantics.specs.Trace.{calls_at}
+use Rattle.xs_body_spec.specs.Trace.{calls_at}
 use Rattle.xs_body.proofs.GrowthLemmas.{popped-grows}
 use Rattle.xs_body.proofs.LoopLemmas.{alone}
 use Rattle.xs_body.proofs.RowLemmas.{body-instrs}

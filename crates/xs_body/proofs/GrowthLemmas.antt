@@ -29,18 +29,18 @@ use Rattle.xs_value.specs.declared.value.Value.{Value}
 use Rattle.xs_value.specs.Conversion.{fragment_text}
 use Rattle.xs_making.specs.Copies.{shallow_copy}
 use Rattle.xs_making.specs.Texts.{comment_text, instruction_text}
-use Rattle.xs_sets.specs.Indexed.{declarations_in}
-use Rattle.xs_semantics.specs.declared.focus.Focus.{Focus}
-use Rattle.xs_semantics.specs.declared.made.Made.{Made}
-use Rattle.xs_semantics.specs.declared.made.Made.TheVariants as made
+use Rattle.xs_attribute_sets.specs.Indexed.{declarations_in}
+use Rattle.xs_body_spec.specs.declared.focus.Focus.{Focus}
+use Rattle.xs_body_spec.specs.declared.made.Made.{Made}
+use Rattle.xs_body_spec.specs.declared.made.Made.TheVariants as made
 use Rattle.xs_body.specs.declared.frames.Scope.{Scope}
 use Rattle.xs_sheet.specs.declared.body.NumberDecl.{NumberDecl}
-use Rattle.xs_semantics.specs.Numbers.{number_run}
-use Rattle.xs_semantics.specs.World.{World, by_rule, in_list, value_run, looped_nodes, text_run, test_run, applied_nodes}
-use Rattle.xs_semantics.specs.Tasks.{Params, no_params, Job, body_job, rules_job, Task, tasks_for, grain_over}
-use Rattle.xs_semantics.specs.Rules.{rule_for, import_for}
-use Rattle.xs_semantics.specs.Trace.{Entry, named, fitting, overridden, using, Called, by_number, by_rules, each, body_trace, declared_trace}
-use Rattle.xs_semantics.specs.Trace.{instrs_trace, literal_attributes, params_trace, puts_all, sets_trace}
+use Rattle.xs_body_spec.specs.Numbers.{number_run}
+use Rattle.xs_body_spec.specs.World.{World, by_rule, in_list, value_run, looped_nodes, text_run, test_run, applied_nodes}
+use Rattle.xs_body_spec.specs.Tasks.{Params, no_params, Job, body_job, rules_job, Task, tasks_for, grain_over}
+use Rattle.xs_body_spec.specs.Rules.{rule_for, import_for}
+use Rattle.xs_body_spec.specs.Trace.{Entry, named, fitting, overridden, using, Called, by_number, by_rules, each, body_trace, declared_trace}
+use Rattle.xs_body_spec.specs.Trace.{instrs_trace, literal_attributes, params_trace, puts_all, sets_trace}
 use Rattle.xs_body.specs.steps.Frames.{Work, rest, fill, each_left, apply_left, bodies_left, end_element, sets_left, declared_left, attributes_left}
 use Rattle.xs_body.specs.steps.Frames.{make, say, pass, take_value, params_left, Evaluation, last}
 use Rattle.xs_body.specs.steps.Frames.{inner, over, bindings_of, instrs_of, bodies_of, chosen, all_bodies, without, filled, ended}
@@ -51,7 +51,7 @@ use Rattle.xs_body.specs.steps.Making.{text_ticked}
 use Rattle.xs_making.specs.Putting.{events_steps}
 use Rattle.xs_body.proofs.MakingLemmas.{attributes-grow, copies-grow, literal-grows, name-grows, named-grows, target-grows}
 use Rattle.xs_making.proofs.PutLemmas.{events-grow}
-use Rattle.xs_semantics.specs.Trace.{calls_at}
+use Rattle.xs_body_spec.specs.Trace.{calls_at}
 use Rattle.xs_body.specs.steps.Frames.{message_steps, message_ended, fragment_at, passing_left, work_steps, stack_steps, pushed, filled_up, stays}
 use Rattle.xs_body.specs.steps.Frames.{chars_steps, run_by, run_begun, applied_begun, built_in_begun, rule_begun, entry_begun}
 use Rattle.xs_body.specs.steps.Frames.{entering, call_begun, imports_begun, content_begun, passes_on, param_begun}

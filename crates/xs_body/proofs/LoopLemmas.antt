@@ -8,13 +8,13 @@ use Rattle.xs_trace.specs.declared.item.Site.{Site}
 use Rattle.xs_trace.proofs.GrowthLemmas.{passes}
 use Rattle.xs_trace.proofs.PlayLemmas.{then-then, then-goes}
 use Rattle.xs_value.specs.declared.value.Value.{Value}
-use Rattle.xs_sets.specs.Indexed.{IsSetIndex}
-use Rattle.xs_semantics.specs.declared.focus.Focus.{Focus}
-use Rattle.xs_semantics.specs.World.{World}
-use Rattle.xs_semantics.specs.Tasks.{Job, body_job, rules_job, Task}
-use Rattle.xs_semantics.specs.Trace.{fitting, each, body_trace, job_trace, task_trace}
+use Rattle.xs_attribute_sets.specs.Indexed.{IsSetIndex}
+use Rattle.xs_body_spec.specs.declared.focus.Focus.{Focus}
+use Rattle.xs_body_spec.specs.World.{World}
+use Rattle.xs_body_spec.specs.Tasks.{Job, body_job, rules_job, Task}
+use Rattle.xs_body_spec.specs.Trace.{fitting, each, body_trace, job_trace, task_trace}
 use Rattle.xs_body.specs.steps.Frames.{Work, Evaluation, last, pushed, stack_steps, stack_told, advanced, begun_job, begun_with, filled}
-use Rattle.xs_semantics.specs.Trace.{calls_at}
+use Rattle.xs_body_spec.specs.Trace.{calls_at}
 use Rattle.xs_body.proofs.SlotLemmas.{last-all}
 use Rattle.xs_body.proofs.GrowthLemmas.{stack-grows}
 use Rattle.xs_body.proofs.StepLemmas.{advances}

@@ -23,20 +23,20 @@ use Rattle.xs_tree.specs.Record.{Record}
 use Rattle.xs_value.specs.declared.value.Value.{Value}
 use Rattle.xs_value.specs.declared.value.Value.TheVariants as value
 use Rattle.xs_value.specs.Conversion.{text_value}
-use Rattle.xs_meaning.specs.Results.{given}
+use Rattle.xs_eval_spec.specs.Results.{given}
 use Rattle.xs_making.specs.Copies.{deep_copy}
 use Rattle.xs_making.specs.declared.ends.MakeEnd.TheVariants as end
 use Rattle.xs_making.specs.Names.{pi_target, result_name}
 use Rattle.xs_making.specs.Texts.{comment_text, instruction_text}
 use Rattle.xs_making.proofs.PutLemmas.{events-both, events-grow}
-use Rattle.xs_semantics.specs.declared.focus.Focus.{Focus}
-use Rattle.xs_semantics.specs.declared.made.Made.{Made}
-use Rattle.xs_semantics.specs.declared.made.Made.TheVariants as made
-use Rattle.xs_semantics.specs.World.{World, template_run}
-use Rattle.xs_semantics.specs.Making.{aliased, attribute_events, attribute_label, content_text, element_label, literal_spaces, name_run, namespace_run}
-use Rattle.xs_semantics.specs.Making.{made_events, space_events, target_run, text_events, value_events}
-use Rattle.xs_semantics.specs.Tasks.{Task}
-use Rattle.xs_semantics.specs.Trace.{begins, literal_attributes, puts, puts_all}
+use Rattle.xs_body_spec.specs.declared.focus.Focus.{Focus}
+use Rattle.xs_body_spec.specs.declared.made.Made.{Made}
+use Rattle.xs_body_spec.specs.declared.made.Made.TheVariants as made
+use Rattle.xs_body_spec.specs.World.{World, template_run}
+use Rattle.xs_body_spec.specs.Making.{aliased, attribute_events, attribute_label, content_text, element_label, literal_spaces, name_run, namespace_run}
+use Rattle.xs_body_spec.specs.Making.{made_events, space_events, target_run, text_events, value_events}
+use Rattle.xs_body_spec.specs.Tasks.{Task}
+use Rattle.xs_body_spec.specs.Trace.{begins, literal_attributes, puts, puts_all}
 use Rattle.xs_body.specs.steps.Making.{attribute_steps, attributes_steps, chars_steps, copy_steps, literal_steps, made_at}
 use Rattle.xs_making.specs.Putting.{events_steps}
 use Rattle.xs_body.specs.steps.Making.{is_declaration, is_unbound, made_ended, made_steps, name_steps, named_steps, namespace_steps, nodes_steps}

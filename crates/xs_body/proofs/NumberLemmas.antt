@@ -1,7 +1,7 @@
 -- The text of a number, part by part, as steps.
 use Rattle.std.proofs.Common.{◌≡◌, ℕ, List, Option, Some, None, Result, Err, sym, ap, ◌∙◌}
-use Rattle.xs_matching.specs.Counted.{number_list}
-use Rattle.xs_meaning.proofs.StepLemmas.{exits, gives, goes_on}
+use Rattle.xs_pattern_spec.specs.Counted.{number_list}
+use Rattle.xs_eval_spec.proofs.StepLemmas.{exits, gives, goes_on}
 use Rattle.xs_num.specs.declared.number.Number.{Number}
 use Rattle.xs_sheet.specs.declared.body.NumberDecl.{NumberDecl}
 use Rattle.xs_sheet.specs.declared.scoped.ScopedExpr.{ScopedExpr}
@@ -15,10 +15,10 @@ use Rattle.xs_trace.proofs.GrowthLemmas.{grows-then, passes}
 use Rattle.xs_trace.proofs.PlayLemmas.{then-then}
 use Rattle.xs_trace.proofs.RunLemmas.{limited-bind, limited-grows}
 use Rattle.xs_value.specs.declared.value.Value.{Value}
-use Rattle.xs_semantics.specs.declared.focus.Focus.{Focus}
-use Rattle.xs_semantics.specs.Numbers.{Numbered, given_number, counted, numbered_by, optional_run}
-use Rattle.xs_semantics.specs.Tasks.{Task}
-use Rattle.xs_semantics.specs.World.{World, numeric_run, template_run}
+use Rattle.xs_body_spec.specs.declared.focus.Focus.{Focus}
+use Rattle.xs_body_spec.specs.Numbers.{Numbered, given_number, counted, numbered_by, optional_run}
+use Rattle.xs_body_spec.specs.Tasks.{Task}
+use Rattle.xs_body_spec.specs.World.{World, numeric_run, template_run}
 use Rattle.xs_body.specs.steps.Frames.{chars_steps}
 use Rattle.xs_body.proofs.GrowthLemmas.{chars-grow}
 

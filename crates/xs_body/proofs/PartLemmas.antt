@@ -13,8 +13,8 @@ use Rattle.xs_trace.specs.declared.item.Item.TheVariants as item
 use Rattle.xs_trace.specs.declared.item.Limits.{Limits}
 use Rattle.xs_trace.specs.declared.item.Site.{Site}
 use Rattle.xs_trace.proofs.KnownLemmas.{numbered-laws}
-use Rattle.xs_semantics.specs.Tasks.{Task}
-use Rattle.xs_semantics.proofs.HoleLemmas.{HasNoHole, none-cut, none-first, none-last, none-numbered}
+use Rattle.xs_body_spec.specs.Tasks.{Task}
+use Rattle.xs_body_spec.proofs.HoleLemmas.{HasNoHole, none-cut, none-first, none-last, none-numbered}
 use Rattle.xs_body.specs.Results.{IsWholeRun}
 
 -- the marks, whatever fills holes

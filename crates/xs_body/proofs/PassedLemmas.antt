@@ -6,7 +6,7 @@ use Rattle.xs_sheet.specs.declared.body.Binding.{Binding}
 use Rattle.xs_sheet.specs.Sets.{is_same_label}
 use Rattle.xs_trace.specs.Label.{Label}
 use Rattle.xs_value.specs.declared.value.Value.{Value}
-use Rattle.xs_semantics.specs.Tasks.{Params, last_passed, value_passed}
+use Rattle.xs_body_spec.specs.Tasks.{Params, last_passed, value_passed}
 
 -- the one found before, or another one
 kept : (P : Value → Type 0) (b : Bool) (found : Option Value) (x : Value) → ((u : Value) → found ≡ Some u → P u) → P x →

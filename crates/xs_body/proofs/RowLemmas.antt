@@ -11,12 +11,12 @@ use Rattle.xs_trace.specs.Mark.{Trace, Tick, Stop, ◌⨾◌}
 use Rattle.xs_trace.specs.declared.fault.Fault.TheVariants as fault
 use Rattle.xs_trace.specs.declared.item.Site.{Site}
 use Rattle.xs_value.specs.declared.value.Value.{Value}
-use Rattle.xs_semantics.specs.declared.focus.Focus.{Focus}
-use Rattle.xs_semantics.specs.World.{World}
-use Rattle.xs_semantics.specs.Tasks.{Params, Task}
-use Rattle.xs_semantics.specs.Trace.{Calls, instr_trace, body_trace, row_trace, content_trace, passing, values_trace, fallbacks_trace}
-use Rattle.xs_semantics.specs.Trace.{unless_none, bodies_trace}
-use Rattle.xs_semantics.specs.Trace.{instrs_trace}
+use Rattle.xs_body_spec.specs.declared.focus.Focus.{Focus}
+use Rattle.xs_body_spec.specs.World.{World}
+use Rattle.xs_body_spec.specs.Tasks.{Params, Task}
+use Rattle.xs_body_spec.specs.Trace.{Calls, instr_trace, body_trace, row_trace, content_trace, passing, values_trace, fallbacks_trace}
+use Rattle.xs_body_spec.specs.Trace.{unless_none, bodies_trace}
+use Rattle.xs_body_spec.specs.Trace.{instrs_trace}
 use Rattle.xs_body.specs.steps.Frames.{instrs_of, bindings_of, bodies_of, bindings_trace, all_bodies}
 
 row-instrs : {m : _} (row : Row_of-Instr m) (w : World) (k : Calls) (f : Focus) (vs : List Value) →

@@ -6,11 +6,11 @@ use Rattle.xs_sheet.specs.declared.declarations.AttrSet.{AttrSet}
 use Rattle.xs_trace.specs.Label.{Label}
 use Rattle.xs_trace.specs.Mark.{◌⨾◌}
 use Rattle.xs_trace.specs.declared.item.Site.{Site}
-use Rattle.xs_sets.specs.Declarations.{declarations_of}
-use Rattle.xs_sets.specs.Indexed.{IsIdle, IsServed, IsSetIndex, declarations_in}
-use Rattle.xs_semantics.specs.declared.focus.Focus.{Focus}
-use Rattle.xs_semantics.specs.World.{World, with_levels}
-use Rattle.xs_semantics.specs.Trace.{Calls, called, calls_at, declared_trace, instrs_trace, sets_trace, using}
+use Rattle.xs_attribute_sets.specs.Declarations.{declarations_of}
+use Rattle.xs_attribute_sets.specs.Indexed.{IsIdle, IsServed, IsSetIndex, declarations_in}
+use Rattle.xs_body_spec.specs.declared.focus.Focus.{Focus}
+use Rattle.xs_body_spec.specs.World.{World, with_levels}
+use Rattle.xs_body_spec.specs.Trace.{Calls, called, calls_at, declared_trace, instrs_trace, sets_trace, using}
 
 module _ (w : World) (i : IsSetIndex w.sheet.sets w.index) where
   -- of none of these names the index has a declaration

@@ -5,7 +5,7 @@ use Rattle.std.proofs.lemmas.List.{append-nil, append_assoc}
 use Rattle.xs_trace.specs.Mark.{Hole}
 use Rattle.xs_trace.specs.Play.{Step, Goes, and_then, play}
 use Rattle.xs_trace.specs.State.{State, shown}
-use Rattle.xs_semantics.specs.Tasks.{Task, with_node, task_behind, shared}
+use Rattle.xs_body_spec.specs.Tasks.{Task, with_node, task_behind, shared}
 use Rattle.xs_body.specs.steps.Sharing.{Share, filled, share_step, shares, with_nodes}
 
 by-room : (grain room : ℕ) (t : Task) (n : ℕ) (ns : List ℕ) (s : State Task) →

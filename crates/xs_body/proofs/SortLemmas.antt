@@ -2,8 +2,8 @@
 use Rattle.std.proofs.Common.{◌≡◌, ℕ, ◌<◌, List, [], ◌∷◌, length, Result, Err, refl, sym, ap, subst, ◌∙◌, arith}
 use Rattle.std.specs.List.{All}
 use Rattle.std.proofs.lemmas.List.Elements.{All-same}
-use Rattle.xs_meaning.specs.Context.{Context}
-use Rattle.xs_meaning.proofs.StepLemmas.{gives}
+use Rattle.xs_eval_spec.specs.Context.{Context}
+use Rattle.xs_eval_spec.proofs.StepLemmas.{gives}
 use Rattle.xs_sheet.specs.declared.body.SortDecl.{SortDecl}
 use Rattle.xs_sort.specs.Sorting.{sorted}
 use Rattle.xs_sort.proofs.UnsortedLemmas.{unsorted}
@@ -16,8 +16,8 @@ use Rattle.xs_trace.specs.declared.recorder.Halt.TheVariants as halt
 use Rattle.xs_trace.proofs.GrowthLemmas.{because}
 use Rattle.xs_value.specs.Tables.{Table}
 use Rattle.xs_value.specs.declared.value.Value.{Value}
-use Rattle.xs_semantics.specs.declared.focus.Focus.{Focus}
-use Rattle.xs_semantics.specs.World.{World, context, sorted_run}
+use Rattle.xs_body_spec.specs.declared.focus.Focus.{Focus}
+use Rattle.xs_body_spec.specs.World.{World, context, sorted_run}
 
 -- without a sort key they stay as they are
 pub unsorted-told : {H : Type 0} → (w : World) (sorts : List SortDecl) (f : Focus) (vs : List Value) (ns : List ℕ) (p : Site) (s : State H) →

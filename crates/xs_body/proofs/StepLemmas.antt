@@ -37,23 +37,23 @@ use Rattle.xs_value.specs.declared.value.Value.{Value}
 use Rattle.xs_value.specs.declared.value.Value.TheVariants.{Chars as String, Piece}
 use Rattle.xs_value.specs.Conversion.{fragment_text}
 use Rattle.xs_making.specs.Copies.{shallow_copy}
-use Rattle.xs_sets.specs.Declarations.{declarations_of}
-use Rattle.xs_sets.specs.Indexed.{IsSetIndex, declarations_in}
-use Rattle.xs_semantics.specs.declared.focus.Focus.{Focus}
-use Rattle.xs_semantics.specs.declared.made.Made.{Made}
-use Rattle.xs_semantics.specs.declared.made.Made.TheVariants as made
+use Rattle.xs_attribute_sets.specs.Declarations.{declarations_of}
+use Rattle.xs_attribute_sets.specs.Indexed.{IsSetIndex, declarations_in}
+use Rattle.xs_body_spec.specs.declared.focus.Focus.{Focus}
+use Rattle.xs_body_spec.specs.declared.made.Made.{Made}
+use Rattle.xs_body_spec.specs.declared.made.Made.TheVariants as made
 use Rattle.xs_body.specs.declared.frames.Scope.{Scope}
-use Rattle.xs_semantics.specs.World.{World, all_set_levels, at_node, in_list, captured_in, with_levels, by_rule, without_rule}
-use Rattle.xs_semantics.specs.World.{applied_nodes, looped_nodes, test_run, text_run, value_run}
-use Rattle.xs_semantics.specs.Numbers.{number_run}
-use Rattle.xs_semantics.specs.Making.{content_text, made_events, name_run, target_run, text_events, value_events}
-use Rattle.xs_semantics.specs.Tasks.{Params, no_params, value_passed, Job, body_job, rules_job, Task, tasks_for, grain_over}
-use Rattle.xs_semantics.specs.Rules.{rule_for, import_for}
-use Rattle.xs_semantics.specs.Trace.{Entry, named, fitting, overridden, using, Calls, each, spread_by, spread, applied, Called, by_number, by_rules}
-use Rattle.xs_semantics.specs.Trace.{called_with, passing, imports, puts, puts_all, chars, says, ended_if, begins, literal_attributes, makes, fragment_of}
-use Rattle.xs_semantics.specs.Trace.{copied_content, instr_trace, body_trace, content_trace, choice_trace, whens_trace, fallbacks_trace}
-use Rattle.xs_semantics.specs.Trace.{param_trace, params_trace, template_trace, built_in, ruled, instrs_trace, declared_trace, sets_trace, entered, called}
-use Rattle.xs_semantics.specs.Trace.{calls_at}
+use Rattle.xs_body_spec.specs.World.{World, all_set_levels, at_node, in_list, captured_in, with_levels, by_rule, without_rule}
+use Rattle.xs_body_spec.specs.World.{applied_nodes, looped_nodes, test_run, text_run, value_run}
+use Rattle.xs_body_spec.specs.Numbers.{number_run}
+use Rattle.xs_body_spec.specs.Making.{content_text, made_events, name_run, target_run, text_events, value_events}
+use Rattle.xs_body_spec.specs.Tasks.{Params, no_params, value_passed, Job, body_job, rules_job, Task, tasks_for, grain_over}
+use Rattle.xs_body_spec.specs.Rules.{rule_for, import_for}
+use Rattle.xs_body_spec.specs.Trace.{Entry, named, fitting, overridden, using, Calls, each, spread_by, spread, applied, Called, by_number, by_rules}
+use Rattle.xs_body_spec.specs.Trace.{called_with, passing, imports, puts, puts_all, chars, says, ended_if, begins, literal_attributes, makes, fragment_of}
+use Rattle.xs_body_spec.specs.Trace.{copied_content, instr_trace, body_trace, content_trace, choice_trace, whens_trace, fallbacks_trace}
+use Rattle.xs_body_spec.specs.Trace.{param_trace, params_trace, template_trace, built_in, ruled, instrs_trace, declared_trace, sets_trace, entered, called}
+use Rattle.xs_body_spec.specs.Trace.{calls_at}
 use Rattle.xs_body.specs.steps.Frames.{Work, rest, fill, each_left, apply_left, bodies_left, end_element, sets_left, declared_left, attributes_left}
 use Rattle.xs_body.specs.steps.Frames.{make, say, pass, take_value, params_left, Evaluation, last}
 use Rattle.xs_body.specs.steps.Frames.{without, inner, outer, over, captured_scope, more, bound, after, bindings_of, instrs_of, bodies_of}

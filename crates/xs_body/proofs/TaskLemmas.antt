@@ -5,8 +5,8 @@ use Rattle.xs_sheet.specs.declared.body.Body.{Body}
 use Rattle.xs_tree.specs.Record.{Record}
 use Rattle.xs_value.specs.Conversion.{IsIn}
 use Rattle.xs_value.specs.declared.value.Value.{Value}
-use Rattle.xs_semantics.specs.Tasks.{Job, Params, Task, body_job, rules_job}
-use Rattle.xs_semantics.specs.World.{World}
+use Rattle.xs_body_spec.specs.Tasks.{Job, Params, Task, body_job, rules_job}
+use Rattle.xs_body_spec.specs.World.{World}
 use Rattle.xs_body.specs.Inside.{AreValues, IsJobIn}
 use Rattle.xs_body.specs.steps.Frames.{Evaluation, apply_left, begun_job, begun_with, each_left, idle, pushed}
 use Rattle.xs_body.specs.steps.Jobs.{locals_of}

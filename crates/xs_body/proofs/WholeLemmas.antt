@@ -18,12 +18,12 @@ use Rattle.xs_trace.specs.declared.item.Limits.{Limits}
 use Rattle.xs_trace.specs.declared.recorder.Halt.{Halt}
 use Rattle.xs_trace.proofs.KeptLemmas.{need-comes-from-need}
 use Rattle.xs_body.specs.Results.{IsWholeRun}
-use Rattle.xs_semantics.specs.Tasks.{Task}
-use Rattle.xs_semantics.specs.Trace.{task_trace}
-use Rattle.xs_semantics.specs.World.{World, with_grain}
-use Rattle.xs_semantics.proofs.HoleLemmas.{task-alone}
+use Rattle.xs_body_spec.specs.Tasks.{Task}
+use Rattle.xs_body_spec.specs.Trace.{task_trace}
+use Rattle.xs_body_spec.specs.World.{World, with_grain}
+use Rattle.xs_body_spec.proofs.HoleLemmas.{task-alone}
 use Rattle.xs_body.proofs.PartLemmas.{whole-run}
-use Rattle.xs_semantics.proofs.NeedLemmas.{settled-needs, task-needs}
+use Rattle.xs_body_spec.proofs.NeedLemmas.{settled-needs, task-needs}
 
 -- where there is no grain
 pub no-grain : {A : Type 0} (o : Option ℕ) → o ≡ None → IsSome o → A

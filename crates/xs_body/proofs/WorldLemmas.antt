@@ -26,14 +26,14 @@ use Rattle.xs_tree.specs.declared.kinds.Kind.{Kind}
 use Rattle.xs_making.specs.Copies.{shallow_copy}
 use Rattle.xs_value.specs.declared.value.Value.{Value}
 use Rattle.xs_value.specs.declared.value.Value.TheVariants.{Chars as String}
-use Rattle.xs_sets.specs.Indexed.{declarations_in}
-use Rattle.xs_semantics.specs.declared.focus.Focus.{Focus}
-use Rattle.xs_semantics.specs.declared.made.Made.{Made}
-use Rattle.xs_semantics.specs.declared.made.Made.TheVariants as made
-use Rattle.xs_semantics.specs.World.{World, at_node, in_list, by_rule, value_run, looped_nodes, test_run, applied_nodes}
-use Rattle.xs_semantics.specs.Tasks.{Params, no_params, value_passed, Job, body_job, rules_job, Task, tasks_for, grain_over}
-use Rattle.xs_semantics.specs.Rules.{rule_for, import_for}
-use Rattle.xs_semantics.specs.Trace.{Entry, named, fitting, overridden, using, Called, by_number, by_rules}
+use Rattle.xs_attribute_sets.specs.Indexed.{declarations_in}
+use Rattle.xs_body_spec.specs.declared.focus.Focus.{Focus}
+use Rattle.xs_body_spec.specs.declared.made.Made.{Made}
+use Rattle.xs_body_spec.specs.declared.made.Made.TheVariants as made
+use Rattle.xs_body_spec.specs.World.{World, at_node, in_list, by_rule, value_run, looped_nodes, test_run, applied_nodes}
+use Rattle.xs_body_spec.specs.Tasks.{Params, no_params, value_passed, Job, body_job, rules_job, Task, tasks_for, grain_over}
+use Rattle.xs_body_spec.specs.Rules.{rule_for, import_for}
+use Rattle.xs_body_spec.specs.Trace.{Entry, named, fitting, overridden, using, Called, by_number, by_rules}
 use Rattle.xs_body.specs.declared.frames.Scope.{Scope}
 use Rattle.xs_body.specs.steps.Frames.{Work, rest, fill, each_left, apply_left, bodies_left, end_element, sets_left, declared_left, attributes_left}
 use Rattle.xs_body.specs.steps.Frames.{make, say, pass, take_value, params_left, Evaluation, last}

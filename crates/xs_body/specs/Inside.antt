@@ -3,8 +3,8 @@ use Rattle.std.specs.Prelude.{◌<◌, All, List, length}
 use Rattle.xs_tree.specs.Record.{Record}
 use Rattle.xs_value.specs.Conversion.{IsIn}
 use Rattle.xs_value.specs.declared.value.Value.{Value}
-pub use Rattle.xs_semantics.specs.Inside.{AreNodes, AreValues, IsJobIn, IsTaskIn, IsWorld}
-use Rattle.xs_semantics.specs.World.{World}
+pub use Rattle.xs_body_spec.specs.Inside.{AreNodes, AreValues, IsJobIn, IsTaskIn, IsWorld}
+use Rattle.xs_body_spec.specs.World.{World}
 use Rattle.xs_body.specs.declared.frames.Callee.{Callee}
 use Rattle.xs_body.specs.declared.frames.Callee.TheVariants as callee
 use Rattle.xs_body.specs.declared.frames.ApplyLeft.{ApplyLeft}

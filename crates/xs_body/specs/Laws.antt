@@ -2,10 +2,10 @@
 use Rattle.std.specs.Prelude.{◌≡◌, [], ◌∷◌}
 use Rattle.xs_trace.specs.State.{State}
 use Rattle.xs_trace.specs.Play.{and_then, play}
-use Rattle.xs_sets.specs.Indexed.{IsSetIndex}
-use Rattle.xs_semantics.specs.World.{World}
-use Rattle.xs_semantics.specs.Tasks.{Task}
-use Rattle.xs_semantics.specs.Trace.{task_trace}
+use Rattle.xs_attribute_sets.specs.Indexed.{IsSetIndex}
+use Rattle.xs_body_spec.specs.World.{World}
+use Rattle.xs_body_spec.specs.Tasks.{Task}
+use Rattle.xs_body_spec.specs.Trace.{task_trace}
 use Rattle.xs_body.specs.steps.Frames.{Work, Evaluation, advanced, begun_with, pushed, stack_told}
 
 -- where the index of attribute sets is that of the stylesheet

@@ -9,7 +9,7 @@ use Rattle.xs_trace.specs.Mark.{messages_of, tick_count}
 use Rattle.xs_trace.specs.declared.fault.Fault.TheVariants as fault
 use Rattle.xs_trace.specs.declared.item.Spot.{Spot}
 use Rattle.xs_value.specs.declared.value.Value.{Value}
-use Rattle.xs_semantics.specs.Tasks.{Task}
+use Rattle.xs_body_spec.specs.Tasks.{Task}
 use Rattle.xs_body.specs.declared.attempts.Attempt.{Attempt}
 use Rattle.xs_body.specs.declared.attempts.Attempt.TheVariants as attempt
 

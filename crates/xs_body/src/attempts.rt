@@ -2,11 +2,11 @@
 
 ghost use Rattle.std.specs.Prelude.{◌≡◌, ◌<◌, ◌++◌, [], ◌∷◌, length, slice_get};
 ghost use Rattle.std.specs.Prelude.{true, IfOk, IsSome, None, OnOk};
-ghost use Rattle.xs_semantics.specs.Globals.{attempt_cut, attempt_value, global_focus};
+ghost use Rattle.xs_body_spec.specs.Globals.{attempt_cut, attempt_value, global_focus};
 ghost use Rattle.xs_body.specs.Inside.{IsAttemptIn};
 ghost use Rattle.xs_body.specs.Results.{IsAttempt};
-ghost use Rattle.xs_semantics.specs.Tasks.{Task};
-ghost use Rattle.xs_semantics.specs.World.{value_run};
+ghost use Rattle.xs_body_spec.specs.Tasks.{Task};
+ghost use Rattle.xs_body_spec.specs.World.{value_run};
 ghost use Rattle.xs_body.specs.steps.Attempts.{attempt_steps, binding_steps, fragment_steps};
 ghost use Rattle.xs_body.specs.steps.Attempts.{IsAttemptOf};
 ghost use Rattle.xs_body.specs.steps.Frames.{idle, instrs_of, outer, pushed, rest};
@@ -25,14 +25,14 @@ use crate::task::Task;
 use crate::world::World;
 use std::alloc::{AllocError, Global};
 use xs_record::brief::Brief;
-use xs_semantics::finder::Finder;
-use xs_semantics::focus::Focus;
+use xs_body_spec::finder::Finder;
+use xs_body_spec::focus::Focus;
 use xs_sheet::body::{Binding, Body, Content};
 use xs_sheet::scoped::ScopedExpr;
 use xs_trace::fault::Fault;
 use xs_trace::item::{Item, Limits, Site, Spot};
 use xs_trace::recorder::{Halt, Recorder};
-use xs_trace::text::TextBuf;
+use xs_text::TextBuf;
 use xs_tree::Node;
 use xs_value::value::Value;
 
@@ -185,7 +185,7 @@ fn tell_binding<'a, K: Finder, R: Recorder<Task = Task<'a>>>(
 }
 
 /// The focus of a global's content.
-#[tactic(auto, unfolding(xs_semantics::specs::Trace::most_depth))]
+#[tactic(auto, unfolding(xs_body_spec::specs::Trace::most_depth))]
 fn global_focus<'a, K: Finder>(world: &World<'a, K>) -> Focus
     ensures { result ≡ global_focus world.now }
 {

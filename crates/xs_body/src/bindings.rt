@@ -3,7 +3,7 @@
 ghost use Rattle.std.specs.Prelude.{◌≡◌, ◌<◌, ◌∷◌, [], length, IfOk};
 ghost use Rattle.xs_body.specs.steps.Frames.{advanced, captured_scope, content_begun, fill};
 ghost use Rattle.xs_body.specs.steps.Frames.{instrs_of, pushed, rest};
-ghost use Rattle.xs_semantics.specs.Trace.{fragment_of};
+ghost use Rattle.xs_body_spec.specs.Trace.{fragment_of};
 ghost use Rattle.xs_sheet.specs.declared.body.Content.TheVariants.{Select};
 ghost use Rattle.xs_trace.specs.Play.{Goes, IsStepBy};
 ghost use Rattle.xs_trace.specs.State.{opened};
@@ -13,13 +13,13 @@ use crate::frames::{Frame, Scope};
 use crate::task::Task;
 use std::alloc::{AllocError, Global};
 use xs_result::build;
-use xs_semantics::finder::Finder;
+use xs_body_spec::finder::Finder;
 use xs_sheet::body::{Body, Content};
 use xs_sheet::scoped::ScopedExpr;
 use xs_trace::event::Fragment;
 use xs_trace::item::Site;
 use xs_trace::recorder::{Halt, Recorder};
-use xs_trace::text::TextBuf;
+use xs_text::TextBuf;
 use xs_value::shared::SharedFragment;
 use xs_value::value::Value;
 

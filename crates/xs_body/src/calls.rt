@@ -6,7 +6,7 @@ ghost use Rattle.xs_body.specs.steps.Frames.{advanced, bindings_of, call_begun, 
 ghost use Rattle.xs_body.specs.steps.Frames.{captured_scope, instrs_of, passes_on, passing_on};
 ghost use Rattle.xs_body.specs.steps.Frames.{pass_work, passing_begun, pushed, rest};
 ghost use Rattle.xs_body.specs.steps.Frames.{take_work};
-ghost use Rattle.xs_semantics.specs.Trace.{by_number};
+ghost use Rattle.xs_body_spec.specs.Trace.{by_number};
 ghost use Rattle.xs_sheet.specs.declared.body.Content.TheVariants.{Select};
 ghost use Rattle.xs_trace.specs.Play.{Goes, IsStepBy};
 ghost use Rattle.xs_trace.specs.State.{opened};
@@ -17,13 +17,13 @@ use crate::evaluator::Evaluator;
 use crate::frames::{Callee, Frame, Passing, Rules, Scope};
 use crate::passed::Passed;
 use crate::task::Task;
-use xs_semantics::finder::Finder;
-use xs_semantics::focus::Focus;
+use xs_body_spec::finder::Finder;
+use xs_body_spec::focus::Focus;
 use xs_sheet::body::{Body, Content, Passed as PassedParams};
 use xs_sheet::scoped::ScopedExpr;
 use xs_trace::item::Site;
 use xs_trace::recorder::{Halt, Recorder};
-use xs_trace::text::TextBuf;
+use xs_text::TextBuf;
 use xs_value::value::Value;
 
 impl<'a, K: Finder> Evaluator<'a, K> {

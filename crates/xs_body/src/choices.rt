@@ -8,7 +8,7 @@ ghost use Rattle.xs_trace.specs.Run.{limited};
 use crate::evaluator::Evaluator;
 use crate::frames::Scope;
 use crate::task::Task;
-use xs_semantics::finder::Finder;
+use xs_body_spec::finder::Finder;
 use xs_sheet::body::{Body, Choice, When};
 use xs_sheet::scoped::ScopedExpr;
 use xs_trace::item::Site;

@@ -3,18 +3,17 @@
 ghost use Rattle.std.specs.Prelude.{◌≡◌, ◌+◌, ◌<◌, ◌^◌, ◌==◌, ◌++◌, [], IfOk, IfSome, OnOk};
 ghost use Rattle.std.specs.Prelude.{if◌then◌else◌, string_bytes};
 ghost use Rattle.xs_body.specs.steps.Making.{depth_after, made_steps, text_added};
-ghost use Rattle.xs_semantics.specs.Making.{content_text};
+ghost use Rattle.xs_body_spec.specs.Making.{content_text};
 ghost use Rattle.xs_trace.specs.Play.{IsStep};
 
 use crate::literals::put_attribute;
 use std::alloc::{AllocError, Global};
 use xs_making::{comment_text, pi_text};
-use xs_semantics::made::Made;
-use xs_trace::characters::Characters;
+use xs_body_spec::made::Made;
+use xs_text::{Characters, TextBuf};
 use xs_trace::event::Event;
 use xs_trace::item::Site;
 use xs_trace::recorder::{Halt, Recorder, put_event};
-use xs_trace::text::TextBuf;
 
 /// Puts what is made of a text.
 pub(crate) fn put_made<R: Recorder>(

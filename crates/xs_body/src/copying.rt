@@ -14,7 +14,7 @@ use crate::putting::{put_copied_text, put_events, put_text};
 use crate::task::Task;
 use std::alloc::AllocError;
 use xs_making::{RecentLabels, put_deep_copy, put_shallow_copy};
-use xs_semantics::finder::Finder;
+use xs_body_spec::finder::Finder;
 use xs_sheet::body::Body;
 use xs_sheet::scoped::ScopedExpr;
 use xs_trace::event::Label;

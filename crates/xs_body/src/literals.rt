@@ -4,18 +4,17 @@ ghost use Rattle.std.specs.Prelude.{◌≡◌, ◌==◌, length, IfOk};
 ghost use Rattle.std.specs.Option.{option_map_or};
 ghost use Rattle.xs_body.specs.steps.Making.{is_declaration, is_unbound, literal_steps};
 ghost use Rattle.xs_body.specs.steps.Making.{named_steps, space_steps, spaces_steps};
-ghost use Rattle.xs_semantics.specs.Making.{aliased, attribute_label, element_label};
+ghost use Rattle.xs_body_spec.specs.Making.{aliased, attribute_label, element_label};
 ghost use Rattle.xs_trace.specs.Play.{IsStep};
 
 use std::alloc::AllocError;
 use xs_making::SheetTexts;
 use xs_sheet::body::LiteralStart;
 use xs_sheet::declarations::Alias;
-use xs_text::XML_URI;
+use xs_text::{TextBuf, XML_URI};
 use xs_trace::event::{Event, Label};
 use xs_trace::item::Site;
 use xs_trace::recorder::{Halt, Recorder, put_event};
-use xs_trace::text::TextBuf;
 
 /// Puts the start of a literal element and its namespace nodes.
 pub(crate) fn put_literal_start<R: Recorder>(

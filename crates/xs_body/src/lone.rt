@@ -10,12 +10,12 @@ ghost use Rattle.xs_trace.specs.Play.{IsStepBy};
 use crate::evaluator::Evaluator;
 use crate::frames::Scope;
 use crate::task::Task;
-use xs_semantics::finder::Finder;
+use xs_body_spec::finder::Finder;
 use xs_sheet::body::{Body, Instr, InstrKind};
 use xs_sheet::scoped::ScopedExpr;
 use xs_trace::item::Site;
 use xs_trace::recorder::{Halt, Recorder};
-use xs_trace::text::TextBuf;
+use xs_text::TextBuf;
 
 impl<'a, K: Finder> Evaluator<'a, K> {
     /// The text of content that is one instruction and puts a text alone, after its ticks; none of

@@ -19,14 +19,14 @@ use crate::literals::{attribute_label, has_no_sets, put_attribute, put_literal_s
 use crate::task::Task;
 use std::alloc::AllocError;
 use xs_making::{MakeEnd, RecentLabels, pi_target, result_name};
-use xs_semantics::finder::Finder;
-use xs_semantics::made::Made;
+use xs_body_spec::finder::Finder;
+use xs_body_spec::made::Made;
 use xs_sheet::body::{Body, LiteralStart, MadeName};
 use xs_sheet::scoped::ValueTemplate;
 use xs_trace::event::{Event, Label};
 use xs_trace::item::Site;
 use xs_trace::recorder::{Halt, Recorder};
-use xs_trace::text::TextBuf;
+use xs_text::TextBuf;
 
 impl<'a, K: Finder> Evaluator<'a, K> {
     /// A literal element begins: its start, its namespace nodes, and before its content the

@@ -3,7 +3,7 @@
 ghost use Rattle.std.specs.Prelude.{◌≡◌, IfOk, option_map, None, Some, if◌then◌else◌};
 ghost use Rattle.std.specs.Str.{bytes_eq};
 ghost use Rattle.xs_body.specs.steps.Passed.{values_of};
-ghost use Rattle.xs_semantics.specs.Tasks.{last_passed, no_params, value_passed};
+ghost use Rattle.xs_body_spec.specs.Tasks.{last_passed, no_params, value_passed};
 ghost use Rattle.xs_sheet.specs.Sets.{is_same_label};
 
 use crate::tasks::copied_values;
@@ -48,7 +48,7 @@ pub struct Passed<'a> {
 impl<'a> Model for Passed<'a> {
     ghost use Rattle.std.specs.Coded.{codes};
     ghost use Rattle.xs_sheet.specs.contracts.body.Content as content;
-    ghost use Rattle.xs_semantics.specs.Tasks.{Params};
+    ghost use Rattle.xs_body_spec.specs.Tasks.{Params};
 
     ghost Value = { Params };
 

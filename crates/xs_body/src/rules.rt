@@ -1,12 +1,12 @@
 //! The rules for nodes (XSLT 1.0, 5.5 and 5.6).
 
 ghost use Rattle.std.specs.Prelude.{◌≡◌, ◌<◌, length, IfOk};
-ghost use Rattle.xs_semantics.specs.Rules.{import_for, rule_for};
+ghost use Rattle.xs_body_spec.specs.Rules.{import_for, rule_for};
 
 use crate::evaluator::Evaluator;
 use std::alloc::AllocError;
-use xs_semantics::finder::Finder;
-use xs_semantics::focus::Focus;
+use xs_body_spec::finder::Finder;
+use xs_body_spec::focus::Focus;
 use xs_tree::Node;
 
 impl<'a, K: Finder> Evaluator<'a, K> {

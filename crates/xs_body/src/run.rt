@@ -10,7 +10,7 @@ use crate::evaluator::Evaluator;
 use crate::frames::{Frame, Scope};
 use crate::task::Task;
 use std::alloc::AllocError;
-use xs_semantics::finder::Finder;
+use xs_body_spec::finder::Finder;
 use xs_sheet::body::{Body, Instr};
 use xs_trace::event::Event;
 use xs_trace::recorder::{Halt, Recorder};

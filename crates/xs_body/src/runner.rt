@@ -6,8 +6,8 @@ ghost use Rattle.std.specs.Prelude.{OnOk};
 ghost use Rattle.xs_block.specs.Chain.{most_blocks};
 ghost use Rattle.xs_body.specs.Inside.{IsTaskIn, IsWorld};
 ghost use Rattle.xs_body.specs.Results.{IsWholeRun};
-ghost use Rattle.xs_semantics.specs.Trace.{root_task, task_trace};
-ghost use Rattle.xs_semantics.specs.World.{with_grain};
+ghost use Rattle.xs_body_spec.specs.Trace.{root_task, task_trace};
+ghost use Rattle.xs_body_spec.specs.World.{with_grain};
 ghost use Rattle.xs_record.specs.Outcome.{IsOutcome, is_done, part_blocks};
 ghost use Rattle.xs_record.specs.Piece.{IsPiece};
 ghost use Rattle.xs_trace.specs.Cut.{cut};
@@ -25,9 +25,9 @@ use xs_block::pool::Pool;
 use xs_record::outcome::{Outcome, free_parts};
 use xs_record::piece::{Finished, PieceRecorder};
 use xs_record::segment::Segment;
-use xs_semantics::finder::Finder;
-use xs_semantics::focus::Focus;
-use xs_sets::index::SetIndex;
+use xs_body_spec::finder::Finder;
+use xs_body_spec::focus::Focus;
+use xs_attribute_sets::index::SetIndex;
 use xs_sheet::sheet::Sheet;
 use xs_trace::item::{Limits, Site};
 use xs_trace::recorder::{Halt, Recorder};
@@ -50,9 +50,9 @@ pub struct SheetRunner<'a, K: Finder> {
 impl<'a, K: Finder> Model for SheetRunner<'a, K> {
     ghost use Rattle.std.specs.Coded.{codes};
     ghost use denote.Signature.{static_lft};
-    ghost use Rattle.xs_sets.specs.contracts.index.SetIndex as of_index;
+    ghost use Rattle.xs_attribute_sets.specs.contracts.index.SetIndex as of_index;
     ghost use Rattle.xs_sheet.specs.contracts.sheet.Sheet as of_sheet;
-    ghost use Rattle.xs_semantics.specs.World.{World};
+    ghost use Rattle.xs_body_spec.specs.World.{World};
 
     ghost Value = { World };
 
@@ -109,7 +109,7 @@ impl<'a, K: Finder> SheetRunner<'a, K> {
     }
 
     /// What a transformation begins with (XSLT 1.0, 5.1).
-    #[tactic(auto, unfolding(xs_semantics::specs::Trace::most_depth))]
+    #[tactic(auto, unfolding(xs_body_spec::specs::Trace::most_depth))]
     pub fn root_task(&self, alloc: Global) -> Result<Task<'a>, AllocError>
         ensures task { IfOk result (λ task. task ≡ root_task self.now) }
         ensures inside { IfOk result (IsTaskIn self.now.tree) }

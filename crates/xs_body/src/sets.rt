@@ -3,14 +3,14 @@
 ghost use Rattle.std.specs.Prelude.{◌≡◌, ◌<◌, ◌-◌, length, map, option_map, slice_get, OnOk};
 ghost use Rattle.xs_body.specs.steps.Frames.{declared_begun, declared_works, pushed, set_begun};
 ghost use Rattle.xs_body.specs.steps.Frames.{sets_begun, sets_left_works, sets_works};
-ghost use Rattle.xs_semantics.specs.World.{all_set_levels, with_levels};
-ghost use Rattle.xs_sets.specs.Indexed.{declarations_in};
+ghost use Rattle.xs_body_spec.specs.World.{all_set_levels, with_levels};
+ghost use Rattle.xs_attribute_sets.specs.Indexed.{declarations_in};
 
 use crate::evaluator::Evaluator;
 use crate::frames::{Frame, Scope};
 use std::alloc::AllocError;
-use xs_semantics::finder::Finder;
-use xs_semantics::focus::Focus;
+use xs_body_spec::finder::Finder;
+use xs_body_spec::focus::Focus;
 use xs_sheet::declarations::AttrSet;
 use xs_trace::event::Label;
 

@@ -6,7 +6,7 @@ ghost use Rattle.xs_body.specs.steps.Frames.{over};
 
 use crate::frames::Scope;
 use std::alloc::AllocError;
-use xs_semantics::focus::Focus;
+use xs_body_spec::focus::Focus;
 use xs_sheet::body::InstrKind;
 
 impl Scope {

@@ -4,14 +4,14 @@ ghost use Rattle.std.specs.Prelude.{◌≡◌, ◌<◌, length, IfOk};
 ghost use Rattle.xs_body.specs.Inside.{AreNodes};
 ghost use Rattle.xs_body.specs.steps.Frames.{last};
 ghost use Rattle.xs_body.specs.steps.Lists.{AreOrdered, nodes_in};
-ghost use Rattle.xs_semantics.specs.World.{applied_nodes, looped_nodes, sorted_run};
+ghost use Rattle.xs_body_spec.specs.World.{applied_nodes, looped_nodes, sorted_run};
 ghost use Rattle.xs_trace.specs.Play.{IsStepBy};
 ghost use Rattle.xs_trace.specs.Run.{limited};
 
 use crate::evaluator::Evaluator;
 use crate::frames::Scope;
 use crate::lists::NodeList;
-use xs_semantics::finder::Finder;
+use xs_body_spec::finder::Finder;
 use xs_sheet::body::{Applied, SortDecl};
 use xs_sheet::scoped::ScopedExpr;
 use xs_sort::sorting::sorted;

@@ -3,7 +3,7 @@
 use crate::passed::Passed;
 use std::marker::Model;
 use std::sync::Arc;
-use xs_semantics::focus::Focus;
+use xs_body_spec::focus::Focus;
 use xs_sheet::body::Body;
 use xs_trace::item::Site;
 use xs_tree::Node;
@@ -37,7 +37,7 @@ impl<'a> Model for Task<'a> {
     ghost use Rattle.std.specs.Coded.{codes};
     ghost use Rattle.xs_sheet.specs.contracts.body.Body as body;
     ghost use Rattle.xs_sheet.specs.contracts.body.Content as content;
-    ghost use Rattle.xs_semantics.specs.Tasks.{Task};
+    ghost use Rattle.xs_body_spec.specs.Tasks.{Task};
     ghost use Rattle.xs_body.specs.steps.Jobs.{job_of};
 
     ghost Value = { Task };

@@ -2,7 +2,7 @@
 
 ghost use Rattle.std.specs.Prelude.{◌≡◌, ◌≤◌, ◌++◌, ◌∷◌, [], length, map, true, IfOk, IsSome, OnOk};
 ghost use Rattle.std.specs.Arc.{arc_value};
-ghost use Rattle.xs_semantics.specs.Tasks.{grain_over, shared, task_behind};
+ghost use Rattle.xs_body_spec.specs.Tasks.{grain_over, shared, task_behind};
 ghost use Rattle.xs_body.specs.Inside.{AreNodes, AreValues, IsTaskIn};
 ghost use Rattle.xs_body.specs.steps.Frames.{apply_left, begun_with, each_left, idle, pushed};
 ghost use Rattle.xs_body.specs.steps.Jobs.{job_of, locals_of};
@@ -17,8 +17,8 @@ use crate::passed::Passed;
 use crate::task::{Job, Task};
 use std::alloc::{AllocError, Global};
 use std::sync::Arc;
-use xs_semantics::finder::Finder;
-use xs_semantics::focus::Focus;
+use xs_body_spec::finder::Finder;
+use xs_body_spec::focus::Focus;
 use xs_sheet::body::Body;
 use xs_trace::item::Site;
 use xs_trace::recorder::{Halt, Recorder};

@@ -8,8 +8,8 @@ ghost use Rattle.xs_body.specs.steps.Frames.{params_entered, params_first, param
 ghost use Rattle.xs_body.specs.steps.Frames.{params_work, pushed};
 ghost use Rattle.xs_body.specs.steps.Frames.{rule_begun, rule_entered, template_begun};
 ghost use Rattle.xs_body.specs.steps.Frames.{template_entered};
-ghost use Rattle.xs_semantics.specs.Tasks.{no_params};
-ghost use Rattle.xs_semantics.specs.Trace.{named, overridden};
+ghost use Rattle.xs_body_spec.specs.Tasks.{no_params};
+ghost use Rattle.xs_body_spec.specs.Trace.{named, overridden};
 ghost use Rattle.xs_trace.specs.Play.{IsStep, IsStepBy};
 ghost use Rattle.xs_tree.specs.Record.{at, children};
 
@@ -20,11 +20,11 @@ use crate::passed::Passed;
 use crate::putting::put_text;
 use crate::task::Task;
 use std::alloc::AllocError;
-use xs_semantics::finder::Finder;
-use xs_semantics::focus::Focus;
+use xs_body_spec::finder::Finder;
+use xs_body_spec::focus::Focus;
 use xs_sheet::body::Binding;
 use xs_sheet::declarations::Template;
-use xs_trace::characters::Characters;
+use xs_text::Characters;
 use xs_trace::fault::Fault;
 use xs_trace::item::Site;
 use xs_trace::recorder::{Halt, Recorder};

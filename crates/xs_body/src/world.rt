@@ -1,8 +1,8 @@
 //! What a stylesheet is evaluated over.
 
 use std::marker::Model;
-use xs_semantics::finder::Finder;
-use xs_sets::index::SetIndex;
+use xs_body_spec::finder::Finder;
+use xs_attribute_sets::index::SetIndex;
 use xs_sheet::sheet::Sheet;
 use xs_tree::Tree;
 use xs_value::value::Value;
@@ -28,9 +28,9 @@ impl<'a, K: Finder> Model for World<'a, K> {
     ghost use Rattle.std.specs.Coded.{codes};
     ghost use Rattle.std.specs.Prelude.{◌≡◌};
     ghost use denote.Signature.{static_lft};
-    ghost use Rattle.xs_sets.specs.contracts.index.SetIndex as of_index;
+    ghost use Rattle.xs_attribute_sets.specs.contracts.index.SetIndex as of_index;
     ghost use Rattle.xs_sheet.specs.contracts.sheet.Sheet as of_sheet;
-    ghost use Rattle.xs_semantics.specs.World.{World};
+    ghost use Rattle.xs_body_spec.specs.World.{World};
     ghost use Rattle.xs_body.specs.Inside.{IsWorld};
 
     ghost Value = { World };

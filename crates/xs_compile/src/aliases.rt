@@ -21,7 +21,7 @@ use xs_elements::scope::uri_of;
 use xs_modules::Modules;
 use xs_sheet::declarations::Alias;
 use xs_structure::places::{Place, row_at, said_at, tree_of};
-use xs_trace::text::TextBuf;
+use xs_text::TextBuf;
 use xs_tree::Node;
 
 /// A URI, empty where there is none.

@@ -32,7 +32,7 @@ use xs_static::{StaticFault, first_fault};
 use xs_structure::declarations::declarations;
 use xs_structure::places::Place;
 use xs_structure::standing::is_element;
-use xs_trace::text::TextBuf;
+use xs_text::TextBuf;
 use xs_tree::{Node, Tree};
 
 /// Why a stylesheet is not compiled.

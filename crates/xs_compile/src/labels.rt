@@ -7,9 +7,8 @@ ghost use Rattle.xs_xpath.specs.Names.{uri_of};
 
 use std::alloc::{AllocError, Global};
 use xs_elements::words::first_word;
-use xs_text::split_qname;
+use xs_text::{TextBuf, split_qname};
 use xs_trace::event::Label;
-use xs_trace::text::TextBuf;
 use xs_xpath::scope::Scope;
 
 /// The URI that a prefix is bound to, none without a prefix.

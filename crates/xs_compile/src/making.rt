@@ -34,7 +34,7 @@ use xs_sheet::items::Items;
 use xs_sheet::scoped::{Namespaces, ValueTemplate};
 use xs_structure::places::tree_of;
 use xs_trace::event::Label;
-use xs_trace::text::TextBuf;
+use xs_text::TextBuf;
 use xs_tree::{Node, Tree};
 use xs_xpath::scope::Scope;
 

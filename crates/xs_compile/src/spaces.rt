@@ -17,7 +17,7 @@ use xs_elements::words::first_word;
 use xs_modules::Modules;
 use xs_sheet::declarations::{NameTest, StripRule};
 use xs_structure::places::{Place, pairs_at, precedence_at, row_at, said_at};
-use xs_trace::text::TextBuf;
+use xs_text::TextBuf;
 use xs_tree::Node;
 use xs_xpath::scope::Scope;
 

@@ -6,8 +6,7 @@ ghost use Rattle.xs_elements.specs.Nodes.{name_data, pair_at, scope_at, value_of
 ghost use Rattle.xs_xpath.specs.Names.{uri_in};
 
 use std::alloc::{AllocError, Global};
-use xs_text::split_qname;
-use xs_trace::text::TextBuf;
+use xs_text::{TextBuf, split_qname};
 use xs_tree::{Node, Tree};
 use xs_xpath::scope::Scope;
 

@@ -2,10 +2,10 @@
 use Rattle.std.proofs.Common.{◌≡◌, ℕ, List, Option, Some, None, subst}
 use Rattle.xs_globals.specs.Results.{settled_by, settled_of, told_in}
 use Rattle.xs_globals.specs.declared.settled.Settled.{Settled}
-use Rattle.xs_semantics.specs.Globals.{SettlesAll, ended, settled}
-use Rattle.xs_semantics.specs.World.{World}
+use Rattle.xs_body_spec.specs.Globals.{SettlesAll, ended, settled}
+use Rattle.xs_body_spec.specs.World.{World}
 use Rattle.xs_trace.specs.declared.item.Spot.{Spot}
-use Rattle.xs_answer.specs.Job.{Job}
+use Rattle.xs_reply.specs.Job.{Job}
 
 module _ (job : Job) (w : World) (z : Settled) (settles : SettlesAll w job.given job.budget (settled_of z)) where
   pub all_settled : z.end ≡ None → SettlesAll w job.given job.budget (settled (told_in z))

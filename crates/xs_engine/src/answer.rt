@@ -5,31 +5,31 @@ ghost use Rattle.xs_modules.specs.Results.{modules_data};
 ghost use Rattle.xs_modules.specs.Sound.{IsSound};
 ghost use Rattle.xs_sheet.specs.Sound.{IsSound as SheetIsSound};
 ghost use Rattle.xs_words.specs.Results.{texts};
-ghost use Rattle.xs_answer.specs.declared.status.TheConstants.{READ_FAULT, USAGE, WRITE_FAULT};
-ghost use Rattle.xs_answer.specs.Due.{IsAnswer, IsDue, IsModulesAnswer, IsSheetAnswer, Owed};
-ghost use Rattle.xs_answer.specs.Fetches.{Fetches, GoesOn, Grew, JobFetches};
-ghost use Rattle.xs_answer.specs.Headline.{HasTicks};
-ghost use Rattle.xs_answer.specs.Job.{inputs_on, request_of};
-ghost use Rattle.xs_answer.specs.Made.{made_files};
-ghost use Rattle.xs_answer.specs.Reply.{AsksSource, GoesTo, IsUnspent};
-ghost use Rattle.xs_answer.specs.Reply.{IsWholeOrEmpty, IsWithin, Replies, job_data};
-ghost use Rattle.xs_runs_read_back.specs.Laws.{AreTrees};
-ghost use Rattle.xs_well_put.specs.Named.{IsNamedSheet};
+ghost use Rattle.xs_reply.specs.declared.status.TheConstants.{READ_FAULT, USAGE, WRITE_FAULT};
+ghost use Rattle.xs_reply.specs.Due.{IsAnswer, IsDue, IsModulesAnswer, IsSheetAnswer, Owed};
+ghost use Rattle.xs_reply.specs.Fetches.{Fetches, GoesOn, Grew, JobFetches};
+ghost use Rattle.xs_reply.specs.Headline.{HasTicks};
+ghost use Rattle.xs_reply.specs.Job.{inputs_on, request_of};
+ghost use Rattle.xs_reply.specs.Made.{made_files};
+ghost use Rattle.xs_reply.specs.Reply.{AsksSource, GoesTo, IsUnspent};
+ghost use Rattle.xs_reply.specs.Reply.{IsWholeOrEmpty, IsWithin, Replies, job_data};
+ghost use Rattle.xs_result_laws.specs.RunLaws.{AreTrees};
+ghost use Rattle.xs_result_laws.specs.Named.{IsNamedSheet};
 
 use crate::evaluation::evaluate;
 use std::alloc::{AllocError, Global};
 use std::thread::Threads;
-use xs_answer::checking::{check_reply, static_reply};
-use xs_answer::job::{Job, read_request};
-use xs_answer::made::MadeFiles;
-use xs_answer::reading::read_source;
-use xs_answer::reply::{Reply, read_fault_reply, refused_reply, usage_reply};
+use xs_reply::checking::{check_reply, static_reply};
+use xs_reply::job::{Job, read_request};
+use xs_reply::made::MadeFiles;
+use xs_reply::reading::read_source;
+use xs_reply::reply::{Reply, read_fault_reply, refused_reply, usage_reply};
 use xs_compile::{CompileEnd, compile};
 use xs_load::load_case;
 use xs_modules::{Modules, ModulesEnd, read_modules};
 use xs_outside::{FetchEnd, Library};
 use xs_sheet::sheet::Sheet;
-use xs_trace::text::TextBuf;
+use xs_text::TextBuf;
 use xs_words::WordsEnd;
 
 /// The answer of a run: a function of the arguments and of the files that it comes to.
@@ -143,7 +143,7 @@ fn modules_reply<R: Threads + Sync, L: Library>(
     ensures ticks { IfOk result (λ reply. HasTicks reply.status ⊎ IsUnspent reply) }
     ensures whole_only { IfOk result IsWholeOrEmpty }
 {
-    xs_runs_read_back::laws::sheets_are_named();
+    xs_result_laws::runs::sheets_are_named();
     modules_are_trees(modules);
     match &job.source {
         Some(source) => match compile(alloc, modules) {

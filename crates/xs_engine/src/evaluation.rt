@@ -2,35 +2,35 @@
 
 ghost use Rattle.std.specs.List.{All};
 ghost use Rattle.std.specs.Prelude.{◌≡◌, ◌≤◌, ◌⊎◌, [], ◌∷◌, IfOk, IsSome, None};
-ghost use Rattle.xs_semantics.specs.Globals.{SettlesAll};
-ghost use Rattle.xs_semantics.specs.World.{ground};
+ghost use Rattle.xs_body_spec.specs.Globals.{SettlesAll};
+ghost use Rattle.xs_body_spec.specs.World.{ground};
 ghost use Rattle.xs_globals.specs.Results.{settled_of};
-ghost use Rattle.xs_meaning.specs.Conditions.{IsInIf};
-ghost use Rattle.xs_answer.specs.declared.status.TheConstants.{OK, RUN_FAULT};
-ghost use Rattle.xs_answer.specs.Evaluation.{IsEvaluated, IsEvaluatedOn, IsEvaluatedOver};
-ghost use Rattle.xs_answer.specs.Inputs.{named_document};
-ghost use Rattle.xs_answer.specs.Reply.{IsWholeOrEmpty, IsWithin, Replies, job_data};
+ghost use Rattle.xs_eval_spec.specs.Conditions.{IsInIf};
+ghost use Rattle.xs_reply.specs.declared.status.TheConstants.{OK, RUN_FAULT};
+ghost use Rattle.xs_reply.specs.Evaluation.{IsEvaluated, IsEvaluatedOn, IsEvaluatedOver};
+ghost use Rattle.xs_reply.specs.Inputs.{named_document};
+ghost use Rattle.xs_reply.specs.Reply.{IsWholeOrEmpty, IsWithin, Replies, job_data};
 ghost use Rattle.xs_making.specs.Laws.{AreWell};
-ghost use Rattle.xs_well_put.specs.Named.{IsNamedSheet, IsNamedWorld};
-ghost use Rattle.xs_finder.specs.Ready.{IsReady, tables_in};
-ghost use Rattle.xs_sets.specs.Indexed.{IsSetIndex};
+ghost use Rattle.xs_result_laws.specs.Named.{IsNamedSheet, IsNamedWorld};
+ghost use Rattle.xs_lookup.specs.Ready.{IsReady, tables_in};
+ghost use Rattle.xs_attribute_sets.specs.Indexed.{IsSetIndex};
 ghost use Rattle.xs_value.specs.Tables.{TablesIn};
 ghost use Rattle.xs_sheet.specs.Sound.{IsSound};
 
 use std::alloc::{AllocError, Global};
 use std::thread::Threads;
-use xs_answer::executed::executed_reply;
-use xs_answer::job::Job;
-use xs_answer::reading::strip;
-use xs_answer::reply::{Reply, stopped_reply};
+use xs_reply::executed::executed_reply;
+use xs_reply::job::Job;
+use xs_reply::reading::strip;
+use xs_reply::reply::{Reply, stopped_reply};
 use xs_assemble::execute::execute;
 use xs_block::pool::Pool;
 use xs_body::world::World;
-use xs_finder::finder::SheetFinder;
+use xs_lookup::finder::SheetFinder;
 use xs_globals::settled::Settled;
 use xs_globals::settling::settle;
 use xs_keys::keys::KeyCells;
-use xs_sets::index::SetIndex;
+use xs_attribute_sets::index::SetIndex;
 use xs_sheet::sheet::Sheet;
 use xs_sheet_pieces::runner::SheetPieces;
 use xs_trace::item::Limits;
@@ -53,7 +53,7 @@ pub fn evaluate<R: Threads + Sync>(
         (reply.status ≡ OK) ⊎ (reply.status ≡ RUN_FAULT)) }
     ensures whole_only { IfOk result IsWholeOrEmpty }
 {
-    xs_well_put::laws::stripped_are_well();
+    xs_result_laws::puts::stripped_are_well();
     let mut tree = source;
     strip(alloc, &mut tree, sheet.strips.as_slice())?;
     evaluate_over(rt, alloc, job, sheet, &tree)
@@ -142,8 +142,8 @@ fn root_reply<'a>(
         (reply.status ≡ OK) ⊎ (reply.status ≡ RUN_FAULT)) }
     ensures whole_only { IfOk result IsWholeOrEmpty }
 {
-    xs_task_tree::laws::sheet_is_ready();
-    xs_task_tree::laws::whole_is_run();
+    xs_task_laws::laws::sheet_is_ready();
+    xs_task_laws::laws::whole_is_run();
     let sheet = world.sheet;
     let runner = SheetPieces::new(
         world.sheet,

@@ -1,20 +1,20 @@
 //! The top call.
 
 ghost use Rattle.std.specs.Prelude.{◌≡◌, ◌≢◌, ◌<◌, ◌≤◌, ◌⊎◌, [], false, length, None};
-ghost use Rattle.xs_answer.specs.declared.status.TheConstants.{NO_MEMORY, READ_FAULT};
-ghost use Rattle.xs_answer.specs.declared.status.TheConstants.{REFUSED, USAGE};
+ghost use Rattle.xs_reply.specs.declared.status.TheConstants.{NO_MEMORY, READ_FAULT};
+ghost use Rattle.xs_reply.specs.declared.status.TheConstants.{REFUSED, USAGE};
 ghost use Rattle.xs_words.specs.Results.{texts};
-ghost use Rattle.xs_answer.specs.Fetches.{Fetches};
-ghost use Rattle.xs_answer.specs.Headline.{AtOnce, Gained, Gives, HasTicks, OfDue, OnlyDue};
-ghost use Rattle.xs_answer.specs.Job.{is_streamed, request_of};
-ghost use Rattle.xs_answer.specs.Refusals.{Decides, IsListed};
-ghost use Rattle.xs_answer.specs.Reply.{account_of};
+ghost use Rattle.xs_reply.specs.Fetches.{Fetches};
+ghost use Rattle.xs_reply.specs.Headline.{AtOnce, Gained, Gives, HasTicks, OfDue, OnlyDue};
+ghost use Rattle.xs_reply.specs.Job.{is_streamed, request_of};
+ghost use Rattle.xs_reply.specs.Refusals.{Decides, IsListed};
+ghost use Rattle.xs_reply.specs.Reply.{account_of};
 
 use crate::answer::reply_to;
 use std::alloc::Global;
 use std::thread::Threads;
-use xs_answer::deliver::deliver;
-use xs_answer::report::{Report, refused_memory, report_of};
+use xs_reply::deliver::deliver;
+use xs_reply::report::{Report, refused_memory, report_of};
 use xs_outside::{Gate, Library, Sink};
 
 /// Runs the processor on the arguments after its name.

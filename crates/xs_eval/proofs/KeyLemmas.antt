@@ -11,11 +11,11 @@ use Rattle.xs_tree.proofs.RootLemmas.{other-before, other-past, same-inside}
 use Rattle.xs_tree.proofs.WalkLemmas.{le_or_gt}
 use Rattle.xs_value.specs.declared.keys.KeyEnd.{KeyEnd}
 use Rattle.xs_value.specs.Tables.{Entry, Table, TablesIn, is_for, nodes_of, table_at}
-use Rattle.xs_meaning.specs.Context.{Context}
-use Rattle.xs_meaning.specs.Keys.{found, found_for}
+use Rattle.xs_eval_spec.specs.Context.{Context}
+use Rattle.xs_eval_spec.specs.Keys.{found, found_for}
 use Rattle.xs_eval.specs.steps.Keys.{FindsNodes, IsDocumentOf, holds}
 use Rattle.xs_eval.specs.declared.keys.Document.{Document}
-use Rattle.xs_meaning.proofs.InsideLemmas.{in_order_all}
+use Rattle.xs_eval_spec.proofs.InsideLemmas.{in_order_all}
 
 -- two tests that agree where all items are keep the same items
 pub filter-within : (P : ℕ → Type 0) (p q : ℕ → Bool) → ((k : ℕ) → P k → p k ≡ q k) → (xs : List ℕ) → All P xs → filter p xs ≡ filter q xs

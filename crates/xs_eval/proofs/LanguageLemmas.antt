@@ -7,7 +7,7 @@ use Rattle.std.specs.Char.{to_ascii_lowercase}
 use Rattle.std.specs.List.{IsSplitAt, flat_map, starts_with}
 use Rattle.std.specs.Str.{bytes_eq, str_to_ascii_lowercase}
 use Rattle.xs_tree.specs.Record.{Record, attributes}
-use Rattle.xs_meaning.specs.Languages.{is_lang, is_language}
+use Rattle.xs_eval_spec.specs.Languages.{is_lang, is_language}
 use Rattle.xs_eval.specs.steps.Languages.{is_part, is_same_word}
 
 -- only letters change their case

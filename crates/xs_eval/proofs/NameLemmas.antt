@@ -2,7 +2,7 @@
 use Rattle.std.proofs.Common.{◌≡◌, ℕ, Bool, true, false, List, [], ◌∷◌, ◌++◌, refl, ap, ◌∙◌}
 use Rattle.std.specs.Prelude.{◌||◌, codes}
 use Rattle.std.specs.Str.{bytes_eq}
-use Rattle.xs_meaning.specs.Names.{is_copying, is_flow, is_making}
+use Rattle.xs_eval_spec.specs.Names.{is_copying, is_flow, is_making}
 use Rattle.xs_eval.specs.steps.Names.{copying_names, flow_names, instructions, is_one_of, making_names}
 
 six : (a b c d e f : Bool) → (a || (b || (c || (d || (e || (f || false)))))) ≡ (a || b || c || d || e || f)

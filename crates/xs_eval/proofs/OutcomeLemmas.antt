@@ -1,8 +1,8 @@
 -- What a function answers that has outcomes one after another.
 use Rattle.std.proofs.Common.{◌≡◌, Result, Ok, Err, sym, subst, ap, ◌∙◌}
-use Rattle.xs_meaning.specs.declared.trouble.Trouble.{Trouble}
-use Rattle.xs_meaning.specs.declared.trouble.Trouble.TheVariants as trouble
-use Rattle.xs_meaning.specs.Results.{Outcome, AnswersBy, ◌>>=◌}
+use Rattle.xs_eval_spec.specs.declared.trouble.Trouble.{Trouble}
+use Rattle.xs_eval_spec.specs.declared.trouble.Trouble.TheVariants as trouble
+use Rattle.xs_eval_spec.specs.Results.{Outcome, AnswersBy, ◌>>=◌}
 
 -- where one has no value, the whole has none
 fails-at : {A B C D : Type 0} (v : C → A) (w : D → B) (due : Outcome A) (f : A → Outcome B) (t : Trouble) → AnswersBy v due (Err t)

@@ -12,9 +12,9 @@ use Rattle.xs_num.specs.declared.number.Number.TheVariants.{Whole, NaN}
 use Rattle.xs_trace.specs.Run.{costs, fold, give, ◌>>=◌}
 use Rattle.xs_tree.specs.Record.{Record}
 use Rattle.xs_value.specs.declared.value.Value.TheVariants.{Number as Numeral}
-use Rattle.xs_meaning.specs.Context.{Context, at_node}
-use Rattle.xs_meaning.specs.Paths.{Meaning, filtered, is_position, judged, kept_if, selects}
-use Rattle.xs_meaning.specs.steps.Nodes.{AreSome}
+use Rattle.xs_eval_spec.specs.Context.{Context, at_node}
+use Rattle.xs_eval_spec.specs.Paths.{Meaning, filtered, is_position, judged, kept_if, selects}
+use Rattle.xs_eval_spec.specs.steps.Nodes.{AreSome}
 use Rattle.xs_eval.specs.steps.Positions.{node_at, picked}
 
 -- ---- what a constant predicate keeps

@@ -5,7 +5,7 @@ use Rattle.std.proofs.Math.IntN.{neg_ℤ-neg_ℤ}
 use Rattle.xs_num.specs.Number.{negated}
 use Rattle.xs_num.specs.declared.number.Number.{Number}
 use Rattle.xs_num.specs.declared.number.Number.TheVariants.{Whole, NaN}
-use Rattle.xs_meaning.specs.Operators.{negated_by}
+use Rattle.xs_eval_spec.specs.Operators.{negated_by}
 
 twice : (n : Number) → negated (negated n) ≡ n
 twice (Whole z) = ap (λ k. Whole k) (neg_ℤ-neg_ℤ z)

@@ -4,8 +4,8 @@ use Rattle.xs_trace.specs.Run.{Answer, Gives, Faults, Lacks, Run, costs, fold, g
 use Rattle.xs_value.specs.Tables.{Table}
 use Rattle.xs_xpath.specs.AvtParts.{part_from, parts_from}
 use Rattle.xs_xpath.specs.declared.avt.AvtPart.{AvtPart}
-use Rattle.xs_meaning.specs.Context.{Context}
-use Rattle.xs_meaning.specs.Templates.{and_part, template}
+use Rattle.xs_eval_spec.specs.Context.{Context}
+use Rattle.xs_eval_spec.specs.Templates.{and_part, template}
 
 -- one parsed part more
 abbrev pub and_parsed : List Table → Context → List ℕ → AvtPart → Run (List ℕ)

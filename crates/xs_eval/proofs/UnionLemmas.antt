@@ -19,15 +19,15 @@ use Rattle.xs_xpath.specs.Exprs.{tree_from, trees_from}
 use Rattle.xs_xpath.specs.Patterns.{are_unions, is_union}
 use Rattle.xs_xpath.specs.Tree as syntax
 use Rattle.xs_xpath.specs.Tree.{Tree, Trees, no_trees, first_tree, trees}
-use Rattle.xs_meaning.specs.Context.{Context}
-use Rattle.xs_meaning.specs.Evaluation.{chain, joined, joined_from, run_of, run_of_tree, runs_of, runs_of_trees}
-use Rattle.xs_meaning.specs.Operators.{operated}
-use Rattle.xs_meaning.specs.Paths.{Meaning, all_filtered, and_from, is_here, kept_of, path, selected, step, steps_from, tested, through}
-use Rattle.xs_meaning.specs.Results.{given, nodes_in}
+use Rattle.xs_eval_spec.specs.Context.{Context}
+use Rattle.xs_eval_spec.specs.Evaluation.{chain, joined, joined_from, run_of, run_of_tree, runs_of, runs_of_trees}
+use Rattle.xs_eval_spec.specs.Operators.{operated}
+use Rattle.xs_eval_spec.specs.Paths.{Meaning, all_filtered, and_from, is_here, kept_of, path, selected, step, steps_from, tested, through}
+use Rattle.xs_eval_spec.specs.Results.{given, nodes_in}
 use Rattle.xs_eval.specs.steps.Unions.{IsOnlyStep, and_step, and_tested, are_plain, is_plain, is_step, is_union_of_steps}
 use Rattle.xs_eval.specs.steps.Unions.{plain_among, plain_step, test_alone, test_of, united}
-use Rattle.xs_meaning.proofs.AxisListLemmas.{tested-some}
-use Rattle.xs_meaning.proofs.InsideLemmas.{in_order_all}
+use Rattle.xs_eval_spec.proofs.AxisListLemmas.{tested-some}
+use Rattle.xs_eval_spec.proofs.InsideLemmas.{in_order_all}
 
 -- ---- runs, and what follows them
 

@@ -1,2 +1,2 @@
--- steps says what the code mirrors; what it evaluates is said in xs_meaning.
+-- steps says what the code mirrors; what it evaluates is said in xs_eval_spec.
 pub mod steps

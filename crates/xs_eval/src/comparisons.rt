@@ -12,7 +12,7 @@ ghost use Rattle.xs_eval.specs.steps.Operands.{compares_to, some_compares};
 
 use crate::operand::{Operand, Seen, text_of};
 use std::alloc::{AllocError, Global};
-use xs_trace::text::TextBuf;
+use xs_text::TextBuf;
 use xs_tree::{Node, Tree};
 use xs_value::comparison::{CompareOp, compare_values};
 use xs_value::conversion::node_text;

@@ -3,7 +3,7 @@
 ghost use Rattle.std.specs.Prelude.{◌≡◌, ◌<◌, [], filter, length, IfSome};
 ghost use Rattle.std.specs.Prelude.{Some, None, slice_get};
 ghost use Rattle.xs_tree.specs.Record.{attributes};
-ghost use Rattle.xs_meaning.specs.Languages.{is_in_language, is_lang, is_language, lang_attributes};
+ghost use Rattle.xs_eval_spec.specs.Languages.{is_in_language, is_lang, is_language, lang_attributes};
 ghost use Rattle.xs_eval.specs.steps.Languages.{is_part, is_same_word};
 
 use xs_axes::axis_nodes;
@@ -11,7 +11,7 @@ use xs_text::XML_URI;
 use xs_tree::{Axis, Node, Tree};
 
 /// Whether a node is in a language, or in a part of it, by its nearest attribute `xml:lang`.
-#[tactic(auto, unfolding(xs_meaning::specs::Languages::is_in_language))]
+#[tactic(auto, unfolding(xs_eval_spec::specs::Languages::is_in_language))]
 pub(crate) fn is_in_language(tree: &Tree, node: Node, wanted: &str) -> bool
     requires { node < length tree.now }
     ensures { result ≡ is_in_language tree.now node wanted.now }

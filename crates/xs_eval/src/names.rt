@@ -3,16 +3,16 @@
 
 ghost use Rattle.std.specs.Prelude.{◌≡◌, ◌||◌, Ok, map};
 ghost use Rattle.std.specs.Option.{option_map};
-ghost use Rattle.xs_meaning.specs.Names.{expanded_name, is_element_available};
-ghost use Rattle.xs_meaning.specs.Names.{is_function_available};
-ghost use Rattle.xs_meaning.specs.Names.{is_copying, is_flow, is_instruction, is_making, property};
-ghost use Rattle.xs_meaning.specs.Names.{system_property};
-ghost use Rattle.xs_meaning.specs.Results.{Answers};
+ghost use Rattle.xs_eval_spec.specs.Names.{expanded_name, is_element_available};
+ghost use Rattle.xs_eval_spec.specs.Names.{is_function_available};
+ghost use Rattle.xs_eval_spec.specs.Names.{is_copying, is_flow, is_instruction, is_making, property};
+ghost use Rattle.xs_eval_spec.specs.Names.{system_property};
+ghost use Rattle.xs_eval_spec.specs.Results.{Answers};
 ghost use Rattle.xs_eval.specs.steps.Names.{instructions, lent_text, texts};
 
 use crate::arguments::chars;
 use std::alloc::Global;
-use xs_meaning::trouble::Trouble;
+use xs_eval_spec::trouble::Trouble;
 use xs_num::number::Num;
 use xs_text::split_qname;
 use xs_value::value::Value;
@@ -51,7 +51,7 @@ static INSTRUCTIONS: [&str; 18] = [
 
 /// The expanded name of a text: its namespace URI, empty for none, and its local part; none where
 /// it is no QName, or its prefix is not in scope.
-#[tactic(auto, unfolding(xs_meaning::specs::Names::expanded_name))]
+#[tactic(auto, unfolding(xs_eval_spec::specs::Names::expanded_name))]
 pub(crate) fn expanded_name<'a>(scope: &'a Scope, text: &'a str) -> Option<(&'a str, &'a str)>
     ensures name { option_map texts result ≡ expanded_name scope.now.pairs.items text.now }
 {

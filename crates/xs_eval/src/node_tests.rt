@@ -5,12 +5,12 @@ ghost use Rattle.std.specs.Prelude.{if◌then◌else◌};
 ghost use Rattle.std.specs.Str.{bytes_eq};
 ghost use Rattle.xs_tree.specs.Record.{at};
 ghost use Rattle.xs_tree.specs.declared.axes.Axis.TheVariants.{Attribute};
-ghost use Rattle.xs_meaning.specs.Paths.{is_named, is_principal, passes, tested};
-ghost use Rattle.xs_meaning.specs.steps.Nodes.{AreSome};
+ghost use Rattle.xs_eval_spec.specs.Paths.{is_named, is_principal, passes, tested};
+ghost use Rattle.xs_eval_spec.specs.steps.Nodes.{AreSome};
 
 use std::alloc::{AllocError, Global};
 use xs_axes::axis_nodes;
-use xs_meaning::context::Context;
+use xs_eval_spec::context::Context;
 use xs_tree::{Axis, Kind, Node, Tree};
 use xs_value::node_list::NodeList;
 use xs_xpath::name::NodeTest;
@@ -49,7 +49,7 @@ pub(crate) fn find(
 }
 
 // Adds the attributes of the context node that pass a test, in document order.
-#[tactic(auto, using(xs_meaning::proofs::AxisListLemmas::attributes_listed))]
+#[tactic(auto, using(xs_eval_spec::proofs::AxisListLemmas::attributes_listed))]
 fn find_attributes(
     test: &NodeTest,
     context: &Context<'_>,

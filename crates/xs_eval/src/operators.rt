@@ -3,14 +3,14 @@
 ghost use Rattle.std.specs.Prelude.{◌≡◌, IfOk, List};
 ghost use Rattle.xs_tree.specs.Record.{Record};
 ghost use Rattle.xs_value.specs.Conversion.{IsIn};
-ghost use Rattle.xs_meaning.specs.Operators.{as_value, comparison, decided, negated_by, negation};
-ghost use Rattle.xs_meaning.specs.Operators.{numbers, operated, union};
-ghost use Rattle.xs_meaning.specs.Results.{Answers};
+ghost use Rattle.xs_eval_spec.specs.Operators.{as_value, comparison, decided, negated_by, negation};
+ghost use Rattle.xs_eval_spec.specs.Operators.{numbers, operated, union};
+ghost use Rattle.xs_eval_spec.specs.Results.{Answers};
 
 use crate::comparisons::compare_operands;
 use crate::operand::Operand;
 use std::alloc::Global;
-use xs_meaning::trouble::Trouble;
+use xs_eval_spec::trouble::Trouble;
 use xs_num::arithmetic::{add, div, mul, neg, rem, sub};
 use xs_num::number::{Num, NumFault};
 use xs_trace::fault::Fault;

@@ -3,7 +3,7 @@
 ghost use Rattle.std.specs.Prelude.{◌≡◌, ◌≤◌, IfOk, IfSome, length};
 ghost use Rattle.std.specs.Option.{option_to_list};
 ghost use Rattle.xs_xpath.specs.declared.expr.Expr.TheVariants.{Number as Numeral};
-ghost use Rattle.xs_meaning.specs.Paths.{is_position, kept_if, selects};
+ghost use Rattle.xs_eval_spec.specs.Paths.{is_position, kept_if, selects};
 ghost use Rattle.xs_eval.specs.steps.Positions.{node_at, picked, place_of};
 
 use std::alloc::{AllocError, Global};

@@ -9,13 +9,13 @@ ghost use Rattle.xs_xpath.specs.Exprs.{tree_from, trees_from};
 ghost use Rattle.xs_xpath.specs.Patterns.{are_unions, is_union};
 ghost use Rattle.xs_xpath.specs.Tree.{trees};
 ghost use Rattle.xs_eval.specs.steps.Unions.{IsOnlyStep, and_step, are_plain, is_plain};
-ghost use Rattle.xs_meaning.specs.Paths.{is_here};
+ghost use Rattle.xs_eval_spec.specs.Paths.{is_here};
 ghost use Rattle.xs_eval.specs.steps.Unions.{is_step, is_union_of_steps, plain_among, plain_step};
 ghost use Rattle.xs_eval.specs.steps.Unions.{test_of, united};
 
 use crate::node_tests::find;
 use std::alloc::Global;
-use xs_meaning::context::Context;
+use xs_eval_spec::context::Context;
 use xs_trace::item::Site;
 use xs_trace::recorder::{Halt, Tally, tick_several};
 use xs_tree::Axis;

@@ -12,15 +12,15 @@ use Rattle.std.specs.List.{All, Contains}
 use Rattle.std.specs.Option.{IsSome, is_some}
 use Rattle.xs_sheet.specs.declared.declarations.Global.{Global}
 use Rattle.xs_trace.specs.declared.item.Spot.{Spot}
-use Rattle.xs_meaning.specs.Conditions.{IsInIf}
+use Rattle.xs_eval_spec.specs.Conditions.{IsInIf}
 use Rattle.xs_tree.specs.Record.{Record}
 use Rattle.xs_value.specs.declared.value.Value.{Value}
 use Rattle.xs_value.specs.declared.value.Value.TheVariants.{Chars as String}
-use Rattle.xs_semantics.specs.World.{World}
-use Rattle.xs_semantics.specs.Globals.{Table, Settled, settled, ended, Settles, AllSettle, SettlesAll, IsInOrder, placed, attempt_value, tried, at_first}
-use Rattle.xs_semantics.specs.Globals.{text_given, value_given}
-use Rattle.xs_semantics.specs.Globals.{with_globals, with_passed, with_value}
-use Rattle.xs_semantics.specs.Globals as settles
+use Rattle.xs_body_spec.specs.World.{World}
+use Rattle.xs_body_spec.specs.Globals.{Table, Settled, settled, ended, Settles, AllSettle, SettlesAll, IsInOrder, placed, attempt_value, tried, at_first}
+use Rattle.xs_body_spec.specs.Globals.{text_given, value_given}
+use Rattle.xs_body_spec.specs.Globals.{with_globals, with_passed, with_value}
+use Rattle.xs_body_spec.specs.Globals as settles
 use Rattle.xs_globals.proofs.SettlingLemmas.{filled, is_lacking, set-other}
 use Rattle.xs_globals.specs.Results.{settled_by}
 use Rattle.xs_globals.specs.steps.Settling.{IsGoing, IsMarked, left_over, unmarked}

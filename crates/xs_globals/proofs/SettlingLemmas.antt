@@ -15,16 +15,16 @@ use Rattle.xs_trace.specs.declared.item.Spot.{Spot}
 use Rattle.xs_trace.proofs.CutLemmas.{cut-longest}
 use Rattle.xs_trace.proofs.KeptLemmas.{some_same}
 use Rattle.xs_value.specs.declared.value.Value.{Value}
-use Rattle.xs_meaning.specs.Conditions.{IsInIf}
-use Rattle.xs_semantics.specs.World.{World}
-use Rattle.xs_semantics.specs.Globals.{Table, Settled, settled, ended, tried, with_globals, with_passed, with_value, once_more, is_under, Settles, AllSettle}
-use Rattle.xs_semantics.specs.Globals.{attempt_trace, attempt_value}
-use Rattle.xs_semantics.specs.Globals as settles
+use Rattle.xs_eval_spec.specs.Conditions.{IsInIf}
+use Rattle.xs_body_spec.specs.World.{World}
+use Rattle.xs_body_spec.specs.Globals.{Table, Settled, settled, ended, tried, with_globals, with_passed, with_value, once_more, is_under, Settles, AllSettle}
+use Rattle.xs_body_spec.specs.Globals.{attempt_trace, attempt_value}
+use Rattle.xs_body_spec.specs.Globals as settles
 use Rattle.xs_globals.specs.steps.Settling.{Continues, EndsSo, GoesOn, IsGoing, IsMarked, IsTurn, IsUnderWay, Unwinds, left_over, unmarked}
 use Rattle.xs_globals.specs.Results.{settled_by}
 use Rattle.xs_globals.specs.declared.settled.Turn.{Turn}
 use Rattle.xs_globals.specs.declared.settled.Turn.TheVariants as turn
-use Rattle.xs_semantics.proofs.NeedLemmas.{attempt-needs, cut-needs}
+use Rattle.xs_body_spec.proofs.NeedLemmas.{attempt-needs, cut-needs}
 
 module _ (w : World) (budget : ℕ) where
   pub opens : (g : ℕ) (t : Table) (r : Settled) → Unwinds w budget (g ∷ []) t r → Settles w budget [] g t r

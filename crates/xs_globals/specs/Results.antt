@@ -1,8 +1,8 @@
 -- What settling all globals comes to.
 use Rattle.std.specs.Prelude.{Option, Some, None}
 use Rattle.xs_trace.specs.declared.item.Spot.{Spot}
-use Rattle.xs_semantics.specs.Globals.{Table, settled, ended}
-use Rattle.xs_semantics.specs.Globals as globals
+use Rattle.xs_body_spec.specs.Globals.{Table, settled, ended}
+use Rattle.xs_body_spec.specs.Globals as globals
 use Rattle.xs_globals.specs.declared.settled.Settled.{Settled}
 
 -- its table, and whether it goes on with that or has ended

@@ -2,12 +2,12 @@
 
 ghost use Rattle.std.specs.Prelude.{◌≡◌, ◌&&◌, [], map, false, IfOk, option_map};
 ghost use Rattle.std.specs.Str.{bytes_eq};
-ghost use Rattle.xs_semantics.specs.Globals.{IsInOrder, placed, text_given, value_given};
+ghost use Rattle.xs_body_spec.specs.Globals.{IsInOrder, placed, text_given, value_given};
 
 use std::alloc::{AllocError, Global};
 use xs_sheet::declarations::Global as Declared;
 use xs_trace::event::Label;
-use xs_trace::text::TextBuf;
+use xs_text::TextBuf;
 use xs_value::value::Value;
 
 /// The values of the globals at first.

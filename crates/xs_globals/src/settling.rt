@@ -6,13 +6,13 @@ ghost use Rattle.std.specs.Prelude.{IfOk, OnOk, IsSome};
 ghost use Rattle.std.specs.List.{All};
 ghost use Rattle.xs_body.specs.Inside.{IsAttemptIn};
 ghost use Rattle.xs_body.specs.Results.{IsAttempt};
-ghost use Rattle.xs_meaning.specs.Conditions.{IsInIf};
+ghost use Rattle.xs_eval_spec.specs.Conditions.{IsInIf};
 ghost use Rattle.xs_globals.specs.Results.{settled_by, settled_of};
 ghost use Rattle.xs_globals.specs.steps.Settling.{Continues, GoesOn, IsGoing, IsMarked, IsTurn};
 ghost use Rattle.xs_globals.specs.steps.Settling.{IsUnderWay, left_over, table_of};
-ghost use Rattle.xs_semantics.specs.Globals.{Table as InTable};
-ghost use Rattle.xs_semantics.specs.Globals.{AllSettle, Settles, SettlesAll, attempt_cut};
-ghost use Rattle.xs_semantics.specs.Globals.{attempt_value, with_globals};
+ghost use Rattle.xs_body_spec.specs.Globals.{Table as InTable};
+ghost use Rattle.xs_body_spec.specs.Globals.{AllSettle, Settles, SettlesAll, attempt_cut};
+ghost use Rattle.xs_body_spec.specs.Globals.{attempt_value, with_globals};
 
 use crate::given::{in_order, none_begun, values_given};
 use crate::settled::{Settled, Table, Turn};
@@ -20,9 +20,9 @@ use std::alloc::{AllocError, Global};
 use xs_body::attempts::Attempt;
 use xs_body::runner::SheetRunner;
 use xs_body::world::World;
-use xs_semantics::finder::Finder;
+use xs_body_spec::finder::Finder;
 use xs_trace::item::Spot;
-use xs_trace::text::TextBuf;
+use xs_text::TextBuf;
 use xs_value::value::Value;
 
 /// Settles the globals of a stylesheet over a world, by modules and lines, within a number of

@@ -3,10 +3,10 @@
 use Rattle.std.specs.Prelude.{ℕ, Bool, List, [], ◌∷◌, filter, Option, Some, None, if◌then◌else◌}
 use Rattle.std.specs.List.{flat_map, list_any}
 use Rattle.std.specs.Str.{bytes_eq}
-use Rattle.xs_meaning.specs.Evaluation.{run_of_tree}
-use Rattle.xs_meaning.specs.Keys.{sought}
-use Rattle.xs_matching.specs.Matching.{is_match}
-use Rattle.xs_matching.specs.Matching.{pattern_context}
+use Rattle.xs_eval_spec.specs.Evaluation.{run_of_tree}
+use Rattle.xs_eval_spec.specs.Keys.{sought}
+use Rattle.xs_pattern_spec.specs.Matching.{is_match}
+use Rattle.xs_pattern_spec.specs.Matching.{pattern_context}
 use Rattle.xs_sheet.specs.declared.declarations.KeyDecl.{KeyDecl}
 use Rattle.xs_trace.specs.Run.{Answer, Gives, Faults, Lacks}
 use Rattle.xs_trace.specs.declared.fault.Fault.{Fault}

@@ -4,12 +4,12 @@ ghost use Rattle.std.specs.Prelude.{◌≡◌, ◌<◌, ◌++◌, ◌∷◌, [],
 ghost use Rattle.std.specs.Cow.{cow_str_bytes};
 ghost use Rattle.std.specs.List.{All};
 ghost use Rattle.std.specs.String.{string_bytes};
-ghost use Rattle.xs_meaning.specs.Keys.{sought};
+ghost use Rattle.xs_eval_spec.specs.Keys.{sought};
 ghost use Rattle.xs_keys.specs.Keys.{faults_at, first_of, node_faults};
 ghost use Rattle.xs_keys.specs.steps.Pairs.{AreMarked, decls_in, either, node_pairs, paired};
 ghost use Rattle.xs_keys.specs.steps.Pairs.{pairs_at, pairs_in};
 ghost use Rattle.xs_pattern.specs.MatchTables.{IsMatchTable};
-ghost use Rattle.xs_matching.specs.Matching.{pattern_context};
+ghost use Rattle.xs_pattern_spec.specs.Matching.{pattern_context};
 ghost use Rattle.xs_tree.specs.Record.{string_value};
 ghost use Rattle.xs_value.specs.Conversion.{IsIn, text_value};
 

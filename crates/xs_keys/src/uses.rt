@@ -1,14 +1,14 @@
 //! What the `use` of a key gives at a node (XSLT 1.0, 12.2).
 
 ghost use Rattle.std.specs.Prelude.{◌<◌, [], IfOk, length};
-ghost use Rattle.xs_meaning.specs.Conditions.{IsContext};
-ghost use Rattle.xs_meaning.specs.Evaluation.{run_of};
+ghost use Rattle.xs_eval_spec.specs.Conditions.{IsContext};
+ghost use Rattle.xs_eval_spec.specs.Evaluation.{run_of};
 ghost use Rattle.xs_keys.specs.Keys.{expression_fault, use_end};
 ghost use Rattle.xs_keys.specs.steps.Pairs.{IsFault, IsUsed};
 
 use std::alloc::{AllocError, Global};
 use xs_eval::evaluate::evaluate;
-use xs_meaning::context::Context;
+use xs_eval_spec::context::Context;
 use xs_sheet::declarations::KeyDecl;
 use xs_trace::fault::Fault;
 use xs_trace::item::Site;

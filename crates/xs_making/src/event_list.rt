@@ -7,7 +7,7 @@ use std::alloc::Global;
 use xs_trace::event::{Event, Fragment};
 use xs_trace::item::Site;
 use xs_trace::recorder::{Halt, Recorder, Tally, tick_several};
-use xs_trace::text::TextBuf;
+use xs_text::TextBuf;
 
 /// Keeps the events that it gets, and no ticks. There is no room for messages, holes and captures,
 /// of which a copy has none.

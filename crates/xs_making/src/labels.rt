@@ -3,9 +3,8 @@ ghost use Rattle.std.specs.Prelude.{◌≡◌, IfOk};
 ghost use Rattle.xs_making.specs.Labels.{put_label, put_prefix};
 
 use std::alloc::{AllocError, Global};
-use xs_text::{XML_URI, is_same};
+use xs_text::{TextBuf, XML_URI, is_same};
 use xs_trace::event::Label;
-use xs_trace::text::TextBuf;
 
 /// A name as it is put: with the prefix that fits its namespace.
 pub(crate) fn put_label(

@@ -10,12 +10,10 @@ ghost use Rattle.xs_making.specs.Putting.{Puts};
 
 use crate::recent::RecentLabels;
 use std::alloc::{AllocError, Global};
-use xs_text::XML_URI;
-use xs_trace::characters::Characters;
+use xs_text::{Characters, TextBuf, XML_URI};
 use xs_trace::event::{Event, Label};
 use xs_trace::item::Site;
 use xs_trace::recorder::{Halt, Recorder, put_event};
-use xs_trace::text::TextBuf;
 use xs_tree::{Kind, Node, Tree};
 
 /// Puts the copy of a node that is no root and no element.

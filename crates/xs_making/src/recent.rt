@@ -9,7 +9,7 @@ use crate::labels::{put_label, put_prefix};
 use crate::plain_names::PlainName;
 use std::alloc::{AllocError, Global};
 use xs_trace::event::{Event, Label};
-use xs_trace::text::TextBuf;
+use xs_text::TextBuf;
 
 /// How many names are kept; so many namespace nodes and values too.
 const SLOTS: usize = 32;

@@ -10,7 +10,7 @@ use crate::slots::{Slots, TRIED};
 use std::alloc::{AllocError, Global};
 use std::borrow::CowStr;
 use xs_trace::event::Label;
-use xs_trace::text::TextBuf;
+use xs_text::TextBuf;
 
 /// Copies of the texts and names of a stylesheet that an evaluation puts. Each is copied once, and
 /// the events in which it is share that copy: so evaluations of one stylesheet share no text.

@@ -6,7 +6,7 @@ ghost use Rattle.xs_making.specs.Texts.{begins_with, comment_text, ends_or_hyphe
 ghost use Rattle.xs_making.specs.Texts.{instruction_text};
 
 use std::alloc::{AllocError, Global};
-use xs_trace::text::TextBuf;
+use xs_text::TextBuf;
 
 /// The text of a comment: with a space after each `-` that is followed by another or ends the
 /// comment (XSLT 1.0, 7.4).

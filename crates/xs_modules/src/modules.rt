@@ -5,7 +5,7 @@ ghost use Rattle.xs_modules.specs.declared.modules.ModulesEnd.TheVariants.{NoMem
 
 use std::alloc::{AllocError, AllocFailed};
 use thiserror::Error;
-use xs_trace::text::TextBuf;
+use xs_text::TextBuf;
 use xs_tree::{Node, Tree};
 
 /// A module of a stylesheet.

@@ -4,7 +4,7 @@ ghost use Rattle.std.specs.Prelude.{◌≡◌, ◌++◌, IfOk};
 ghost use Rattle.xs_modules.specs.Names.{begins_with_slash, directory, resolved};
 
 use std::alloc::{AllocError, Global};
-use xs_trace::text::TextBuf;
+use xs_text::TextBuf;
 
 /// The name of the module that a reference in a module names: the reference itself where it begins
 /// with a slash; else it follows the module's name up to its last slash.

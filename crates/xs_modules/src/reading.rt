@@ -21,7 +21,7 @@ use crate::names::resolve;
 use crate::precedence::{Imports, Rank, Sheet, rank_of};
 use std::alloc::{AllocError, Global};
 use xs_outside::Library;
-use xs_trace::text::TextBuf;
+use xs_text::TextBuf;
 use xs_tree::{Node, Tree};
 
 /// The most modules of a stylesheet.

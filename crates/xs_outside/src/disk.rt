@@ -13,7 +13,7 @@ use std::fs;
 use std::io::Read;
 use std::marker::Model;
 use std::rt::Files;
-use xs_trace::text::TextBuf;
+use xs_text::TextBuf;
 
 /// How many bytes one read asks for.
 const PIECE: usize = 65536;

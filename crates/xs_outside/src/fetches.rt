@@ -1,6 +1,6 @@
 //! What a library keeps of each fetch.
 
-use xs_trace::text::TextBuf;
+use xs_text::TextBuf;
 
 /// A fetch that was answered.
 #[derive(Debug, Drop)]

@@ -12,7 +12,7 @@ use super::edge::{FetchEnd, Library};
 use super::fetches::Fetch;
 use std::alloc::Global;
 use std::marker::Model;
-use xs_trace::text::TextBuf;
+use xs_text::TextBuf;
 
 /// A library of files in memory, which fails the fetches that it was told to fail.
 #[derive(Drop)]

@@ -17,7 +17,7 @@ use crate::bytes::{first, is_quote, second, skip_one};
 use crate::fault::{Fault, ParseFault};
 use crate::parse::{number_of_fault, parse, told};
 use std::alloc::{AllocError, Global};
-use xs_trace::text::TextBuf;
+use xs_text::TextBuf;
 use xs_xpath::avt::AvtPart;
 use xs_xpath::scope::Scope;
 

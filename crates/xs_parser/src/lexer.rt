@@ -14,7 +14,7 @@ use crate::names::{axis_named, is_pi, is_unprefixed, kind_named, operator_named,
 use crate::signs::{Before, is_operand, one, two};
 use crate::token::{Lexeme, Placed, QName, Token};
 use std::alloc::{AllocError, Global};
-use xs_trace::text::TextBuf;
+use xs_text::TextBuf;
 use xs_xpath::name::NodeTest;
 use xs_xpath::token::Atom;
 

@@ -9,7 +9,7 @@ ghost use Rattle.xs_parser.specs.steps.Rows.{axes};
 use crate::bytes::{Class, local_at, split_run};
 use crate::token::QName;
 use std::alloc::{AllocError, Global};
-use xs_trace::text::TextBuf;
+use xs_text::TextBuf;
 use xs_tree::Axis;
 use xs_xpath::name::NodeTest;
 use xs_xpath::token::Operator;

@@ -15,7 +15,7 @@ use crate::token::{Lexeme, Placed, QName, Token};
 use std::alloc::{AllocError, Global};
 use xs_num::number::Num;
 use xs_num::reading::read_num;
-use xs_trace::text::TextBuf;
+use xs_text::TextBuf;
 use xs_xpath::name::{Function, NodeTest};
 use xs_xpath::scope::{Scope, function_of};
 use xs_xpath::token::Atom;

@@ -1,6 +1,6 @@
 //! The tokens of an expression (XPath 1.0, 3.7).
 
-use xs_trace::text::TextBuf;
+use xs_text::TextBuf;
 use xs_tree::Axis;
 use xs_xpath::name::{Function, NodeTest};
 use xs_xpath::token::{Atom, Operator};

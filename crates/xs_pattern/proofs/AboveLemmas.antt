@@ -14,10 +14,10 @@ use Rattle.xs_tree.proofs.WalkLemmas.{IsPlaced-at}
 use Rattle.xs_value.specs.Tables.{Table}
 use Rattle.xs_xpath.specs.declared.name.NodeTest.{NodeTest}
 use Rattle.xs_xpath.specs.Tree.{Tree, no_trees, here, root, descend, step}
-use Rattle.xs_meaning.specs.Context.{Context}
-use Rattle.xs_meaning.specs.Paths.{passes}
-use Rattle.xs_matching.specs.Matching.{ends_path, pattern_context, placed_at, start_of, step_nodes, steps_of}
-use Rattle.xs_matching.specs.Predicates.{is_among}
+use Rattle.xs_eval_spec.specs.Context.{Context}
+use Rattle.xs_eval_spec.specs.Paths.{passes}
+use Rattle.xs_pattern_spec.specs.Matching.{ends_path, pattern_context, placed_at, start_of, step_nodes, steps_of}
+use Rattle.xs_pattern_spec.specs.Predicates.{is_among}
 use Rattle.xs_pattern.specs.steps.Above.{EndsBy, IsAbove, IsAboveIn, is_below, is_led, is_plain, is_plain_path, is_root_at, is_tabled}
 use Rattle.xs_pattern.specs.steps.Climb.{before_slashes, ends_above, is_anywhere, stands_on}
 use Rattle.xs_pattern.proofs.AncestorLemmas.{any-root, any-same, any-self, any-up}

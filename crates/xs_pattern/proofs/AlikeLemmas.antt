@@ -21,20 +21,20 @@ use Rattle.xs_xpath.specs.declared.name.NodeTest.TheVariants.{Node}
 use Rattle.xs_xpath.specs.declared.name.Slot.{Slot}
 use Rattle.xs_xpath.specs.declared.name.Slot.TheVariants.{Global, Local}
 use Rattle.xs_xpath.specs.declared.token.Operator.{Operator}
-use Rattle.xs_meaning.specs.Calls as calls
-use Rattle.xs_meaning.specs.Calls.{called}
-use Rattle.xs_meaning.specs.Context.{Context, at_node}
-use Rattle.xs_meaning.specs.Evaluation.{and_argument, answered, arguments, called_of, chain, joined, joined_from, negative, run_of_tree, runs_of_trees, unless}
-use Rattle.xs_meaning.specs.Evaluation.{variable}
-use Rattle.xs_meaning.specs.Functions.{first, second}
-use Rattle.xs_meaning.specs.Keys.{keyed}
-use Rattle.xs_meaning.specs.Operators.{decided, negation, operated}
-use Rattle.xs_meaning.specs.Paths.{Meaning, all_filtered, and_from, filter_expr, filtered, judged, kept_if, kept_of, path, selected, selects, step, steps_from}
-use Rattle.xs_meaning.specs.Paths.{tested}
-use Rattle.xs_meaning.specs.Paths.{through}
-use Rattle.xs_meaning.specs.Results.{given, nodes_in}
-use Rattle.xs_matching.specs.Matching as pattern
-use Rattle.xs_matching.specs.Predicates.{all_kept, holds, kept, value_in}
+use Rattle.xs_eval_spec.specs.Calls as calls
+use Rattle.xs_eval_spec.specs.Calls.{called}
+use Rattle.xs_eval_spec.specs.Context.{Context, at_node}
+use Rattle.xs_eval_spec.specs.Evaluation.{and_argument, answered, arguments, called_of, chain, joined, joined_from, negative, run_of_tree, runs_of_trees, unless}
+use Rattle.xs_eval_spec.specs.Evaluation.{variable}
+use Rattle.xs_eval_spec.specs.Functions.{first, second}
+use Rattle.xs_eval_spec.specs.Keys.{keyed}
+use Rattle.xs_eval_spec.specs.Operators.{decided, negation, operated}
+use Rattle.xs_eval_spec.specs.Paths.{Meaning, all_filtered, and_from, filter_expr, filtered, judged, kept_if, kept_of, path, selected, selects, step, steps_from}
+use Rattle.xs_eval_spec.specs.Paths.{tested}
+use Rattle.xs_eval_spec.specs.Paths.{through}
+use Rattle.xs_eval_spec.specs.Results.{given, nodes_in}
+use Rattle.xs_pattern_spec.specs.Matching as pattern
+use Rattle.xs_pattern_spec.specs.Predicates.{all_kept, holds, kept, value_in}
 use Rattle.xs_pattern.specs.steps.PathTables.{is_free}
 use Rattle.xs_pattern.proofs.PlaceLemmas.{bind-same, fold-same, or-none}
 

@@ -7,8 +7,8 @@ use Rattle.xs_tree.specs.Record.{Record}
 use Rattle.xs_value.specs.Tables.{Table}
 use Rattle.xs_xpath.specs.declared.expr.Expr.{Expr}
 use Rattle.xs_xpath.specs.Exprs.{tree_from, trees_from}
-use Rattle.xs_meaning.proofs.StepLemmas.{from_here}
-use Rattle.xs_matching.specs.Matching.{matches, matches_path, pattern_context}
+use Rattle.xs_eval_spec.proofs.StepLemmas.{from_here}
+use Rattle.xs_pattern_spec.specs.Matching.{matches, matches_path, pattern_context}
 
 -- those from a place on
 abbrev pub From : List Table → List Record → List (List ℕ × List ℕ) → List Expr → ℕ → ℕ → Bool

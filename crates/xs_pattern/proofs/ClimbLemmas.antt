@@ -11,10 +11,10 @@ use Rattle.xs_tree.proofs.WalkLemmas.{IsPlaced-at}
 use Rattle.xs_value.specs.Tables.{Table}
 use Rattle.xs_xpath.specs.declared.expr.Expr.{Expr}
 use Rattle.xs_xpath.specs.Tree.{Tree, here, root}
-use Rattle.xs_meaning.specs.Context.{Context}
-use Rattle.xs_matching.specs.Matching.{ends_path, is_descend, placed_at, selected}
-use Rattle.xs_meaning.specs.Evaluation.{run_of_tree}
-use Rattle.xs_matching.specs.Predicates.{is_among, nodes_given}
+use Rattle.xs_eval_spec.specs.Context.{Context}
+use Rattle.xs_pattern_spec.specs.Matching.{ends_path, is_descend, placed_at, selected}
+use Rattle.xs_eval_spec.specs.Evaluation.{run_of_tree}
+use Rattle.xs_pattern_spec.specs.Predicates.{is_among, nodes_given}
 use Rattle.xs_pattern.specs.declared.matching.Reached.{Reached}
 use Rattle.xs_pattern.specs.declared.matching.Reached.TheVariants.{Below, Differs, Fits}
 use Rattle.xs_pattern.specs.steps.Climb.{IsBehind, IsBelow, IsReached, backwards, before_slashes, ends_above, is_anywhere}

@@ -16,11 +16,11 @@ use Rattle.xs_tree.proofs.WalkLemmas.{le_or_gt}
 use Rattle.xs_value.specs.NodeSet.{IsNodeList, in_order}
 use Rattle.xs_value.specs.Tables.{Table, nodes_of, table_at}
 use Rattle.xs_value.proofs.NodeSetLemmas.{in_order-same}
-use Rattle.xs_meaning.specs.Context.{Context}
-use Rattle.xs_meaning.specs.Evaluation.{run_of_tree}
-use Rattle.xs_meaning.specs.Keys.{found, found_for, from_table, looked_up, number_of}
-use Rattle.xs_meaning.specs.Names.{expanded_name}
-use Rattle.xs_matching.specs.Predicates.{is_among, nodes_given, nodes_of as nodes_in, value_in}
+use Rattle.xs_eval_spec.specs.Context.{Context}
+use Rattle.xs_eval_spec.specs.Evaluation.{run_of_tree}
+use Rattle.xs_eval_spec.specs.Keys.{found, found_for, from_table, looked_up, number_of}
+use Rattle.xs_eval_spec.specs.Names.{expanded_name}
+use Rattle.xs_pattern_spec.specs.Predicates.{is_among, nodes_given, nodes_of as nodes_in, value_in}
 use Rattle.xs_pattern.specs.steps.Keys.{has_node, key_call}
 
 -- ---- halving

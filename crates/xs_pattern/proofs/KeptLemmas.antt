@@ -5,11 +5,11 @@ use Rattle.std.proofs.lemmas.Bool.{and_parts, eqb-true, or_cases, or_left, or_ri
 use Rattle.std.proofs.lemmas.List.{append-nil, at_drop_all}
 use Rattle.std.proofs.lemmas.List.Elements.{All-cons, All-head, All-nil, All-tail}
 use Rattle.std.specs.List.{enumerate_from}
-use Rattle.xs_meaning.specs.Context.{Context}
-use Rattle.xs_meaning.specs.Paths.{Meaning, kept_if}
-use Rattle.xs_meaning.specs.steps.Nodes.{AreSome}
-use Rattle.xs_meaning.proofs.StepLemmas.{from_here, placed_at, placed_below, placed_end}
-use Rattle.xs_matching.specs.Predicates.{all_kept, holds, is_among, kept}
+use Rattle.xs_eval_spec.specs.Context.{Context}
+use Rattle.xs_eval_spec.specs.Paths.{Meaning, kept_if}
+use Rattle.xs_eval_spec.specs.steps.Nodes.{AreSome}
+use Rattle.xs_eval_spec.proofs.StepLemmas.{from_here, placed_at, placed_below, placed_end}
+use Rattle.xs_pattern_spec.specs.Predicates.{all_kept, holds, is_among, kept}
 use Rattle.xs_pattern.specs.steps.Alone.{AreSaid, IsSaid}
 
 -- the nodes of those that pass, of nodes with their positions

@@ -5,7 +5,7 @@ use Rattle.std.proofs.lemmas.List.Folds.{list_any-append}
 use Rattle.std.proofs.lemmas.List.FromFn.{get_or-range_with_len, length-range_with_len, map-range_with_len_more}
 use Rattle.std.proofs.Math.Seq.{take-suc}
 use Rattle.std.specs.List.{list_any, range_with_len}
-use Rattle.xs_matching.specs.Matching.{matches, matches_path, pattern_context}
+use Rattle.xs_pattern_spec.specs.Matching.{matches, matches_path, pattern_context}
 use Rattle.xs_tree.specs.Record.{Record, places}
 use Rattle.xs_value.specs.Tables.{Table}
 use Rattle.xs_xpath.specs.declared.expr.Expr.{Expr}

@@ -20,11 +20,11 @@ use Rattle.xs_xpath.specs.Tree as syntax
 use Rattle.xs_xpath.specs.Tree.{Tree, Trees, no_trees, first_tree}
 use Rattle.xs_xpath.specs.Uses.{use_any, uses, uses_current, uses_key}
 use Rattle.xs_xpath.specs.declared.name.NodeTest.{NodeTest}
-use Rattle.xs_meaning.specs.Context.{Context}
-use Rattle.xs_meaning.specs.Evaluation.{runs_of_trees}
-use Rattle.xs_meaning.specs.Paths.{Meaning, passes, tested}
-use Rattle.xs_matching.specs.Matching.{ends_path, is_descend, matches_path, pattern_context, placed_at, selected, start_of, step_nodes, steps_of}
-use Rattle.xs_matching.specs.Predicates.{all_kept, is_among}
+use Rattle.xs_eval_spec.specs.Context.{Context}
+use Rattle.xs_eval_spec.specs.Evaluation.{runs_of_trees}
+use Rattle.xs_eval_spec.specs.Paths.{Meaning, passes, tested}
+use Rattle.xs_pattern_spec.specs.Matching.{ends_path, is_descend, matches_path, pattern_context, placed_at, selected, start_of, step_nodes, steps_of}
+use Rattle.xs_pattern_spec.specs.Predicates.{all_kept, is_among}
 use Rattle.xs_pattern.specs.steps.Above.{is_below}
 use Rattle.xs_pattern.specs.steps.Climb.{backwards}
 use Rattle.xs_pattern.specs.steps.PathTables.{AreEndsIn, IsPathTable, EndsIn, IsNextIn, is_free, is_selected}

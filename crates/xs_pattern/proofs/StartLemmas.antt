@@ -6,7 +6,7 @@ use Rattle.xs_tree.specs.Kinds.{is_root_kind}
 use Rattle.xs_tree.specs.Record.{Record, at}
 use Rattle.xs_tree.specs.Shape.{IsTree}
 use Rattle.xs_tree.proofs.RootLemmas.{root_of-le}
-use Rattle.xs_matching.specs.Predicates.{is_among}
+use Rattle.xs_pattern_spec.specs.Predicates.{is_among}
 
 or-none : (b : Bool) → (b || false) ≡ b
 or-none true = refl

@@ -10,10 +10,10 @@ use Rattle.xs_tree.specs.Axis.{axis_list, is_on}
 use Rattle.xs_tree.specs.Kinds.{is_attribute_kind, is_child_kind}
 use Rattle.xs_tree.specs.Record.{Record, at, is_place, places}
 use Rattle.xs_xpath.specs.declared.name.NodeTest.{NodeTest}
-use Rattle.xs_meaning.specs.Context.{Context}
-use Rattle.xs_meaning.specs.Paths.{Meaning, passes, tested}
-use Rattle.xs_matching.specs.Matching.{placed_at, step_nodes}
-use Rattle.xs_matching.specs.Predicates.{all_kept, is_among}
+use Rattle.xs_eval_spec.specs.Context.{Context}
+use Rattle.xs_eval_spec.specs.Paths.{Meaning, passes, tested}
+use Rattle.xs_pattern_spec.specs.Matching.{placed_at, step_nodes}
+use Rattle.xs_pattern_spec.specs.Predicates.{all_kept, is_among}
 use Rattle.xs_pattern.specs.steps.Alone.{AreSaid}
 use Rattle.xs_pattern.specs.steps.Climb.{stands_on}
 use Rattle.xs_pattern.proofs.AncestorLemmas.{any-filter, any-from, any-to, same}

@@ -12,11 +12,11 @@ use Rattle.xs_xpath.specs.declared.name.NodeTest.{NodeTest}
 use Rattle.xs_xpath.specs.Exprs.{tree_from, tree_step, trees_from}
 use Rattle.xs_xpath.specs.Patterns.{listed}
 use Rattle.xs_xpath.specs.Tree.{Tree, descend, here, no_trees, root, step, trees}
-use Rattle.xs_meaning.specs.Context.{Context}
-use Rattle.xs_meaning.specs.Evaluation.{runs_of}
-use Rattle.xs_meaning.specs.Paths.{Meaning}
-use Rattle.xs_meaning.proofs.CaseLemmas.{runs_listed}
-use Rattle.xs_matching.specs.Matching.{selected, step_nodes, steps_of}
+use Rattle.xs_eval_spec.specs.Context.{Context}
+use Rattle.xs_eval_spec.specs.Evaluation.{runs_of}
+use Rattle.xs_eval_spec.specs.Paths.{Meaning}
+use Rattle.xs_eval_spec.proofs.CaseLemmas.{runs_listed}
+use Rattle.xs_pattern_spec.specs.Matching.{selected, step_nodes, steps_of}
 use Rattle.xs_pattern.specs.steps.Above.{is_plain}
 use Rattle.xs_pattern.specs.steps.Climb.{backwards}
 

@@ -1,6 +1,6 @@
 -- Tables of the nodes that match a pattern (XSLT 1.0, 5.2).
 use Rattle.std.specs.Prelude.{◌≡◌, ℕ, ◌<◌, Bool, false, List, get_or, length}
-use Rattle.xs_matching.specs.Matching.{is_match}
+use Rattle.xs_pattern_spec.specs.Matching.{is_match}
 use Rattle.xs_sheet.specs.declared.scoped.ScopedPattern.{ScopedPattern}
 use Rattle.xs_tree.specs.Record.{Record}
 use Rattle.xs_value.specs.Tables.{Table}

@@ -6,14 +6,14 @@ ghost use Rattle.xs_value.specs.NodeSet.{IsNodeList};
 ghost use Rattle.xs_value.specs.Tables.{nodes_of, table_at};
 ghost use Rattle.xs_xpath.specs.Exprs.{tree_from, trees_from};
 ghost use Rattle.xs_xpath.specs.Tree.{literal};
-ghost use Rattle.xs_meaning.specs.Evaluation.{run_of_tree};
-ghost use Rattle.xs_matching.specs.Predicates.{is_among, nodes_given};
+ghost use Rattle.xs_eval_spec.specs.Evaluation.{run_of_tree};
+ghost use Rattle.xs_pattern_spec.specs.Predicates.{is_among, nodes_given};
 ghost use Rattle.xs_pattern.specs.steps.Keys.{has_node, key_call};
 
 use crate::matcher::Matcher;
 use std::alloc::AllocError;
 use xs_eval::keys::number_of;
-use xs_meaning::context::Context;
+use xs_eval_spec::context::Context;
 use xs_tree::Node;
 use xs_value::keys::{KeyEnd, KeyFinder};
 use xs_xpath::expr::Expr;

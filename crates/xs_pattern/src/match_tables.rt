@@ -2,7 +2,7 @@
 
 ghost use Rattle.std.specs.Prelude.{◌≡◌, ◌<◌, ◌||◌, IfOk, IfSome, false, get_or, length, map};
 ghost use Rattle.xs_pattern.specs.MatchTables.{IsMatchTable};
-ghost use Rattle.xs_matching.specs.Matching.{matches_path, pattern_context};
+ghost use Rattle.xs_pattern_spec.specs.Matching.{matches_path, pattern_context};
 ghost use Rattle.xs_pattern.specs.steps.PathTables.{IsPathTable};
 ghost use Rattle.xs_tree.specs.Record.{places};
 ghost use Rattle.xs_value.specs.Tables.{TablesIn};

@@ -3,13 +3,13 @@
 ghost use Rattle.std.specs.Prelude.{◌≡◌, ◌<◌, ◌∷◌, [], ◌++◌, IfOk, OnOk, length, if◌then◌else◌};
 ghost use Rattle.xs_tree.specs.Kinds.{is_root_kind};
 ghost use Rattle.xs_tree.specs.Record.{at};
-ghost use Rattle.xs_meaning.specs.Paths.{tested};
-ghost use Rattle.xs_meaning.specs.steps.Nodes.{AreSome};
+ghost use Rattle.xs_eval_spec.specs.Paths.{tested};
+ghost use Rattle.xs_eval_spec.specs.steps.Nodes.{AreSome};
 
 use std::alloc::{AllocError, Global};
 use xs_axes::axis_nodes;
 use xs_eval::node_tests::passes;
-use xs_meaning::context::Context;
+use xs_eval_spec::context::Context;
 use xs_tree::{Axis, Kind, Node, Tree};
 use xs_xpath::name::NodeTest;
 

@@ -1,7 +1,7 @@
 //! The parts of a path.
 
 ghost use Rattle.std.specs.Prelude.{◌≡◌};
-ghost use Rattle.xs_matching.specs.Matching.{start_of, steps_of};
+ghost use Rattle.xs_pattern_spec.specs.Matching.{start_of, steps_of};
 ghost use Rattle.xs_xpath.specs.Exprs.{tree_from, trees_from};
 
 use xs_xpath::expr::Expr;

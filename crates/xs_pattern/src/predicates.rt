@@ -1,17 +1,17 @@
 //! What the predicates of a pattern's step keep (XPath 1.0, 2.4).
 
 ghost use Rattle.std.specs.Prelude.{◌≡◌, ◌<◌, ◌==◌, ◌&&◌, IfOk, length};
-ghost use Rattle.xs_meaning.specs.Conditions.{IsContext};
-ghost use Rattle.xs_meaning.specs.Evaluation.{run_of, runs_of};
-ghost use Rattle.xs_meaning.specs.Paths.{kept_if};
-ghost use Rattle.xs_meaning.specs.steps.Nodes.{AreSome};
-ghost use Rattle.xs_matching.specs.Predicates.{all_kept, holds, is_among, kept};
+ghost use Rattle.xs_eval_spec.specs.Conditions.{IsContext};
+ghost use Rattle.xs_eval_spec.specs.Evaluation.{run_of, runs_of};
+ghost use Rattle.xs_eval_spec.specs.Paths.{kept_if};
+ghost use Rattle.xs_eval_spec.specs.steps.Nodes.{AreSome};
+ghost use Rattle.xs_pattern_spec.specs.Predicates.{all_kept, holds, is_among, kept};
 ghost use Rattle.xs_pattern.specs.steps.Alone.{AreSaid};
 
 use crate::matcher::Matcher;
 use std::alloc::AllocError;
 use xs_eval::predicates::count_of;
-use xs_meaning::context::Context;
+use xs_eval_spec::context::Context;
 use xs_tree::Node;
 use xs_value::keys::KeyFinder;
 use xs_xpath::expr::Expr;

@@ -2,11 +2,11 @@
 
 ghost use Rattle.std.specs.Prelude.{◌≡◌, ◌<◌, [], false, IfOk, length};
 ghost use Rattle.std.specs.Option.{option_map_or};
-ghost use Rattle.xs_meaning.specs.Conditions.{IsContext};
-ghost use Rattle.xs_meaning.specs.Context.{at_node};
-ghost use Rattle.xs_meaning.specs.Evaluation.{run_of};
-ghost use Rattle.xs_meaning.specs.Paths.{selects};
-ghost use Rattle.xs_matching.specs.Predicates.{holds, is_among, nodes_given, nodes_of, value_in};
+ghost use Rattle.xs_eval_spec.specs.Conditions.{IsContext};
+ghost use Rattle.xs_eval_spec.specs.Context.{at_node};
+ghost use Rattle.xs_eval_spec.specs.Evaluation.{run_of};
+ghost use Rattle.xs_eval_spec.specs.Paths.{selects};
+ghost use Rattle.xs_pattern_spec.specs.Predicates.{holds, is_among, nodes_given, nodes_of, value_in};
 ghost use Rattle.xs_pattern.specs.steps.Alone.{IsSaid, said, said_by};
 
 use crate::keys::is_among;
@@ -14,7 +14,7 @@ use crate::matcher::Matcher;
 use std::alloc::AllocError;
 use xs_eval::evaluate::evaluate;
 use xs_eval::predicates::selects;
-use xs_meaning::context::Context;
+use xs_eval_spec::context::Context;
 use xs_trace::item::Site;
 use xs_trace::meter::Meter;
 use xs_trace::recorder::Halt;

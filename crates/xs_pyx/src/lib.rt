@@ -19,4 +19,4 @@ pub use read::{next_line, skip_line, view_line};
 pub use rest::Rest;
 pub use view::{Data, LineView};
 pub use write::write_line;
-pub use xs_trace::text::TextBuf;
+pub use xs_text::TextBuf;

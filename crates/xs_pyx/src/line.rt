@@ -5,7 +5,7 @@ ghost use Rattle.xs_pyx.specs.declared.line.LineFault.TheVariants.{NoMemory};
 
 use std::alloc::AllocError;
 use thiserror::Error;
-use xs_trace::text::TextBuf;
+use xs_text::TextBuf;
 
 /// A line of a document. Names are as they are written, values and texts are the data that stands
 /// behind their escapes.

@@ -8,8 +8,7 @@ ghost use Rattle.xs_pyx.specs.Views.{data_shown, line_shown, IsReadableData, IsR
 
 use crate::line::Line;
 use std::alloc::{AllocError, Global};
-use xs_text::{TextFault, unescape_into};
-use xs_trace::text::TextBuf;
+use xs_text::{TextBuf, TextFault, unescape_into};
 
 /// A value or a text as it is written.
 #[derive(Clone, Copy, Debug)]

@@ -13,7 +13,7 @@ use std::alloc::Global;
 use xs_trace::event::{Event, Fragment};
 use xs_trace::item::{Item, Limits, Site};
 use xs_trace::recorder::{Halt, Recorder, Tally};
-use xs_trace::text::TextBuf;
+use xs_text::TextBuf;
 
 /// Keeps the events and messages that it gets, in order, up to its limits, and counts ticks: so
 /// its memory is that of what it answers with, however long a run is. An attempt of a global

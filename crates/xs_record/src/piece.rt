@@ -18,7 +18,7 @@ use xs_block::pool::Pool;
 use xs_trace::event::{Event, Fragment};
 use xs_trace::item::{Ended, Item, Limits, Site};
 use xs_trace::recorder::{Halt, Recorder, Tally, tick_several};
-use xs_trace::text::TextBuf;
+use xs_text::TextBuf;
 use xs_trace::total::Total;
 
 /// What comes back from a recorder of a piece.

@@ -10,9 +10,8 @@ ghost use Rattle.xs_trace.specs.declared.event.Event.TheVariants.{Space};
 use crate::pending::PendingText;
 use crate::start_tag::StartTag;
 use std::alloc::{AllocError, Global};
-use xs_trace::characters::Characters;
+use xs_text::{Characters, TextBuf};
 use xs_trace::event::{Event, Fragment, Label};
-use xs_trace::text::TextBuf;
 
 /// What stays of the events that came.
 #[derive(Drop)]

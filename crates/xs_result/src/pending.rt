@@ -5,7 +5,7 @@ ghost use Rattle.xs_result.specs.steps.Building.{option_events, text_events};
 
 use std::alloc::{AllocError, Global};
 use std::marker::Model;
-use xs_trace::characters::Characters;
+use xs_text::Characters;
 
 /// A text that may go on. Contracts see it as its bytes.
 #[derive(Drop)]

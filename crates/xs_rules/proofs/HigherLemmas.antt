@@ -4,7 +4,7 @@ use Rattle.std.proofs.Common.{Bool, true, false, cond, List, [], ◌∷◌, filt
 use Rattle.std.proofs.lemmas.Bool.{true≢false}
 use Rattle.std.proofs.lemmas.Int.{ints}
 use Rattle.std.specs.Prelude.{ℤ, int_lt}
-use Rattle.xs_matching.specs.declared.ranks.Rank.{Rank}
+use Rattle.xs_pattern_spec.specs.declared.ranks.Rank.{Rank}
 use Rattle.xs_rules.specs.Ranks.{highest, outranks}
 use Rattle.xs_rules.specs.steps.Strips.{higher}
 

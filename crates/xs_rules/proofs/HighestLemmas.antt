@@ -1,6 +1,6 @@
 -- The highest of those things that pass, as they are gone over from the last one.
 use Rattle.std.proofs.Common.{◌≡◌, Bool, true, false, cond, List, [], ◌∷◌, ◌++◌, filter, length, arith, Option, None, refl, sym, ap, ◌∙◌}
-use Rattle.xs_matching.specs.declared.ranks.Rank.{Rank}
+use Rattle.xs_pattern_spec.specs.declared.ranks.Rank.{Rank}
 use Rattle.xs_rules.specs.Ranks.{highest, or_above}
 
 -- nothing is left of a list that was gone over

@@ -12,7 +12,7 @@ use Rattle.xs_tree.specs.Record.{Record, at}
 use Rattle.xs_tree.specs.Shape.{IsTree}
 use Rattle.xs_value.specs.Tables.{Table}
 use Rattle.xs_xpath.specs.Tree.{Tree}
-use Rattle.xs_matching.specs.declared.ranks.Rank.{Rank}
+use Rattle.xs_pattern_spec.specs.declared.ranks.Rank.{Rank}
 use Rattle.xs_rules.specs.declared.candidates.Best.{Best}
 use Rattle.xs_rules.specs.declared.candidates.Looked.{Looked}
 use Rattle.xs_rules.specs.declared.lists.Entry.{Entry}

@@ -18,11 +18,11 @@ use Rattle.xs_value.specs.Tables.{Table}
 use Rattle.xs_xpath.specs.declared.name.NodeTest.{NodeTest}
 use Rattle.xs_xpath.specs.declared.name.NodeTest.TheVariants.{Any, Uri, Name, Node, Text, Comment, Pi, Target}
 use Rattle.xs_xpath.specs.Tree.{Tree, Trees, here, root, step, no_trees, first_tree}
-use Rattle.xs_meaning.specs.Context.{Context}
-use Rattle.xs_meaning.specs.Evaluation.{runs_of_trees}
-use Rattle.xs_meaning.specs.Paths.{is_named, is_pi_kind, is_principal, passes as passes_test}
-use Rattle.xs_matching.specs.Matching.{ends_path, matches_path, pattern_context, placed_at, selected, start_of, step_nodes, steps_of}
-use Rattle.xs_matching.specs.Predicates.{is_among}
+use Rattle.xs_eval_spec.specs.Context.{Context}
+use Rattle.xs_eval_spec.specs.Evaluation.{runs_of_trees}
+use Rattle.xs_eval_spec.specs.Paths.{is_named, is_pi_kind, is_principal, passes as passes_test}
+use Rattle.xs_pattern_spec.specs.Matching.{ends_path, matches_path, pattern_context, placed_at, selected, start_of, step_nodes, steps_of}
+use Rattle.xs_pattern_spec.specs.Predicates.{is_among}
 use Rattle.xs_pattern.specs.steps.Climb.{stands_on}
 use Rattle.xs_pattern.proofs.ClimbLemmas.{ends-no_parent, ends-parent, ends-start}
 use Rattle.xs_pattern.proofs.StartLemmas.{here-among, root-among}

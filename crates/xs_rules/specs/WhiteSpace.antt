@@ -12,7 +12,7 @@ use Rattle.xs_tree.specs.declared.axes.Axis.TheVariants.{AncestorOrSelf}
 use Rattle.xs_tree.specs.Axis.{axis_list}
 use Rattle.xs_tree.specs.Kinds.{is_element_kind, is_text_kind}
 use Rattle.xs_tree.specs.Record.{Record, at, attributes, name_local, name_uri, places}
-use Rattle.xs_matching.specs.declared.ranks.Rank.{Rank}
+use Rattle.xs_pattern_spec.specs.declared.ranks.Rank.{Rank}
 use Rattle.xs_rules.specs.Ranks.{highest}
 
 -- whether a node has a name

@@ -8,7 +8,7 @@ ghost use Rattle.xs_rules.specs.steps.Candidates.{rule_of_best};
 
 use crate::candidates::{Looked, best_of_template, rule_of_best};
 use std::alloc::{AllocError, Global};
-pub use xs_matching::rule::Rule;
+pub use xs_pattern_spec::rule::Rule;
 use xs_sheet::declarations::Template;
 use xs_sheet::sheet::Sheet;
 use xs_tree::{Node, Tree};

@@ -5,7 +5,7 @@
 
 ghost use Rattle.std.specs.Prelude.{◌≡◌, ◌<◌, ℕ, IfOk, IfSome, length, List, option_copied};
 ghost use Rattle.std.specs.Option.{option_and_then};
-ghost use Rattle.xs_matching.specs.Matching.{matches_path, pattern_context};
+ghost use Rattle.xs_pattern_spec.specs.Matching.{matches_path, pattern_context};
 ghost use Rattle.xs_value.specs.Tables.{TablesIn};
 ghost use Rattle.xs_xpath.specs.Exprs.{tree_from};
 ghost use Rattle.xs_rules.specs.steps.Index.{AreTables, IsTable, IsTableOf, at_entry, nth_of};

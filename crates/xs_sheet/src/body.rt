@@ -4,7 +4,7 @@ use crate::items::Items;
 use crate::scoped::{Namespaces, ScopedExpr, ScopedPattern, ValueTemplate};
 use xs_trace::event::Label;
 use xs_trace::item::Site;
-use xs_trace::text::TextBuf;
+use xs_text::TextBuf;
 
 /// Instructions, literal elements and texts, in the order of the stylesheet (XSLT 1.0, 2.1).
 #[cycle(body)]

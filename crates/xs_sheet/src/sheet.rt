@@ -2,7 +2,7 @@
 
 use crate::declarations::{Alias, AttrSet, Global, KeyDecl, Method, StripRule, Template};
 use crate::items::Items;
-use xs_trace::text::TextBuf;
+use xs_text::TextBuf;
 
 /// A compiled stylesheet.
 ///

@@ -12,11 +12,11 @@ use Rattle.xs_trace.specs.declared.item.Site.{Site}
 use Rattle.xs_record.specs.Outcome.{IsOutcome, part_blocks}
 use Rattle.xs_record.specs.Piece.{EndsBy, IsBeginning, IsPiece, IsWhole}
 use Rattle.xs_record.specs.declared.outcome.Outcome.{Outcome}
-use Rattle.xs_semantics.specs.Tasks.{Task}
-use Rattle.xs_semantics.specs.Trace.{task_trace}
-use Rattle.xs_semantics.specs.World.{World, with_grain}
-use Rattle.xs_semantics.proofs.HoleLemmas.{HasNoHole, task-alone}
-use Rattle.xs_task_tree.specs.Placed.{Placed, at_place, marks, own, placed_from, placed_tasks, whole}
+use Rattle.xs_body_spec.specs.Tasks.{Task}
+use Rattle.xs_body_spec.specs.Trace.{task_trace}
+use Rattle.xs_body_spec.specs.World.{World, with_grain}
+use Rattle.xs_body_spec.proofs.HoleLemmas.{HasNoHole, task-alone}
+use Rattle.xs_task_laws.specs.Placed.{Placed, at_place, marks, own, placed_from, placed_tasks, whole}
 
 -- ---- holes by their numbers do not show tasks
 numbered-placed : (p : List ℕ) (n m : ℕ) (x : Trace Task) → numbered m (placed_from p n x) ≡ numbered m x

@@ -3,7 +3,7 @@
 ghost use Rattle.std.specs.Prelude.{◌≡◌, ◌++◌, ◌+◌, ◌≤◌, ℕ, IfOk, Ok, OnErr, OnOk};
 ghost use Rattle.xs_block.specs.Chain.{most_blocks};
 ghost use Rattle.xs_record.specs.Outcome.{part_blocks};
-ghost use Rattle.xs_task_tree.specs.Placed.{placed_tasks};
+ghost use Rattle.xs_task_laws.specs.Placed.{placed_tasks};
 
 use crate::placed::PlacedTask;
 use std::alloc::{AllocError, Global};

@@ -17,7 +17,7 @@ impl<'a> Model for PlacedTask<'a> {
     ghost use Rattle.std.specs.Coded.{codes};
     ghost use Rattle.xs_sheet.specs.contracts.body.Body as body;
     ghost use Rattle.xs_sheet.specs.contracts.body.Content as content;
-    ghost use Rattle.xs_task_tree.specs.Placed.{Placed};
+    ghost use Rattle.xs_task_laws.specs.Placed.{Placed};
 
     ghost Value = { Placed };
 

@@ -2,12 +2,12 @@
 
 ghost use Rattle.std.specs.List.{All};
 ghost use Rattle.std.specs.Prelude.{◌≡◌, ◌+◌, ◌≤◌, [], IfOk, IsSome, OnErr};
-ghost use Rattle.xs_finder.specs.Ready.{IsReady, tables_in};
-ghost use Rattle.xs_semantics.specs.Inside.{IsWorld};
+ghost use Rattle.xs_lookup.specs.Ready.{IsReady, tables_in};
+ghost use Rattle.xs_body_spec.specs.Inside.{IsWorld};
 ghost use Rattle.xs_record.specs.Outcome.{IsOutcome, part_blocks};
 ghost use Rattle.xs_record.specs.Piece.{IsPiece};
-ghost use Rattle.xs_semantics.specs.Trace.{root_task};
-ghost use Rattle.xs_task_tree.specs.Placed.{IsOwn, at_place, own, whole};
+ghost use Rattle.xs_body_spec.specs.Trace.{root_task};
+ghost use Rattle.xs_task_laws.specs.Placed.{IsOwn, at_place, own, whole};
 
 use crate::children::adopt;
 use crate::placed::PlacedTask;
@@ -15,13 +15,13 @@ use std::alloc::{AllocError, Global};
 use std::marker::Model;
 use xs_block::pool::Pool;
 use xs_body::runner::SheetRunner;
-use xs_finder::finder::SheetFinder;
+use xs_lookup::finder::SheetFinder;
 use xs_pieces::piece::{Desk, Ran};
 use xs_pieces::runner::{PieceRunner, Runner};
 use xs_record::outcome::Outcome;
 use xs_record::piece::Finished;
 use xs_record::segment::Segment;
-use xs_sets::index::SetIndex;
+use xs_attribute_sets::index::SetIndex;
 use xs_sheet::sheet::Sheet;
 use xs_trace::item::Limits;
 use xs_trace::place::Place;
@@ -41,9 +41,9 @@ impl<'a> Model for SheetPieces<'a> {
     ghost use Rattle.std.specs.List.{All};
     ghost use Rattle.std.specs.Option.{IsSome};
     ghost use denote.Signature.{static_lft};
-    ghost use Rattle.xs_sets.specs.contracts.index.SetIndex as of_index;
+    ghost use Rattle.xs_attribute_sets.specs.contracts.index.SetIndex as of_index;
     ghost use Rattle.xs_sheet.specs.contracts.sheet.Sheet as of_sheet;
-    ghost use Rattle.xs_semantics.specs.World.{World};
+    ghost use Rattle.xs_body_spec.specs.World.{World};
 
     ghost Value = { World };
 
@@ -108,7 +108,7 @@ impl<'a> SheetPieces<'a> {
 }
 
 impl<'a> Runner for SheetPieces<'a> {
-    ghost use Rattle.xs_task_tree.specs.Placed.{IsOwn, own, whole};
+    ghost use Rattle.xs_task_laws.specs.Placed.{IsOwn, own, whole};
 
     type Task = PlacedTask<'a>;
 

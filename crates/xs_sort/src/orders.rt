@@ -3,22 +3,22 @@
 
 ghost use Rattle.std.specs.Prelude.{◌≡◌, length, IfOk, codes};
 ghost use Rattle.std.specs.Str.{bytes_eq};
-ghost use Rattle.xs_meaning.specs.Conditions.{IsContext};
+ghost use Rattle.xs_eval_spec.specs.Conditions.{IsContext};
 ghost use Rattle.xs_sort.specs.Sorting.{direction_in, order_of, orders_of, template_text};
 ghost use Rattle.xs_sort.specs.steps.Given.{IsGiven};
 ghost use Rattle.xs_trace.specs.Play.{IsStep, IsStepBy};
 ghost use Rattle.xs_trace.specs.Run.{limited};
 
 use crate::sorter::Sorter;
-use xs_meaning::context::Context;
-use xs_meaning::expressions::ExprEvaluator;
-use xs_order::keys::Direction;
+use xs_eval_spec::context::Context;
+use xs_eval_spec::expressions::ExprEvaluator;
+use xs_sort_order::keys::Direction;
 use xs_sheet::body::SortDecl;
 use xs_sheet::scoped::ValueTemplate;
 use xs_trace::fault::Fault;
 use xs_trace::item::Site;
 use xs_trace::recorder::{Halt, Tally};
-use xs_trace::text::TextBuf;
+use xs_text::TextBuf;
 
 /// How the values of a key are compared.
 #[derive(Clone, Copy, Debug)]

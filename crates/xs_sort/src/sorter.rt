@@ -1,7 +1,7 @@
 //! What stays the same through a sort.
 
 use std::alloc::Global;
-use xs_meaning::expressions::ExprEvaluator;
+use xs_eval_spec::expressions::ExprEvaluator;
 use xs_trace::item::Site;
 
 /// What sorts nodes: what stays the same from one key to the next.

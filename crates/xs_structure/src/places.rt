@@ -16,7 +16,7 @@ use xs_elements::rows::{Row, is_document_element, row_of};
 use xs_elements::scope::{Expanded, own_name, scope_at, value_of};
 use xs_modules::Modules;
 use xs_trace::item::Site;
-use xs_trace::text::TextBuf;
+use xs_text::TextBuf;
 use xs_tree::{Kind, Node, Tree};
 use xs_xpath::scope::Scope;
 

@@ -11,7 +11,7 @@ use crate::standing::is_element;
 use std::alloc::{AllocError, Global};
 use std::sync::Arc;
 use xs_elements::scope::scope_at;
-use xs_trace::text::TextBuf;
+use xs_text::TextBuf;
 use xs_tree::{Node, Tree};
 use xs_xpath::scope::Scope;
 

@@ -1,3 +1,5 @@
 pub mod Escapes
 pub mod Names
 pub mod WhiteSpace
+pub mod Text
+pub mod Characters

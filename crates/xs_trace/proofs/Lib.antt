@@ -7,4 +7,3 @@ pub mod RunLemmas
 pub mod MeterLemmas
 pub mod FillLemmas
 pub mod KnownLemmas
-pub mod SyncLemmas

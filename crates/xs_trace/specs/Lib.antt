@@ -1,8 +1,6 @@
 pub mod Event
 pub mod Fault
 pub mod Label
-pub mod Text
-pub mod Characters
 pub mod Mark
 pub mod Cut
 pub mod Laws

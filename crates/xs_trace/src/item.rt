@@ -2,7 +2,7 @@
 
 use crate::event::Event;
 use crate::fault::Fault;
-use crate::text::TextBuf;
+use xs_text::TextBuf;
 use std::mem::size_of;
 
 /// Where an instruction stands: the number of its module, and its line there.

@@ -1,7 +1,6 @@
 //! What a run of a stylesheet does, and the texts, names, faults and places that it speaks of.
 #![tactic(auto)]
 
-pub mod characters;
 pub mod event;
 pub mod fault;
 pub mod item;
@@ -9,6 +8,4 @@ pub mod laws;
 pub mod meter;
 pub mod place;
 pub mod recorder;
-mod short_text;
-pub mod text;
 pub mod total;

@@ -8,7 +8,7 @@ ghost use Rattle.xs_trace.specs.declared.recorder.Halt.TheVariants.{NoMemory};
 use crate::event::{Event, Fragment, text_ticks};
 use crate::fault::Fault;
 use crate::item::Site;
-use crate::text::TextBuf;
+use xs_text::TextBuf;
 use std::alloc::{AllocError, AllocFailed};
 
 /// How a run ends that does not finish.

@@ -20,9 +20,8 @@ use std::borrow::CowStr;
 use xs_num::number::{Num, Number};
 use xs_num::reading::read_num;
 use xs_num::writing::write_num;
-use xs_trace::characters::Characters;
+use xs_text::{Characters, TextBuf};
 use xs_trace::event::Event;
-use xs_trace::text::TextBuf;
 use xs_tree::{Node, Tree};
 
 /// Whether the nodes of a value are in the tree.

@@ -9,7 +9,7 @@ use crate::shared::SharedFragment;
 use std::alloc::{AllocError, AllocFailed};
 use thiserror::Error;
 use xs_num::number::{Num, NumFault};
-use xs_trace::text::TextBuf;
+use xs_text::TextBuf;
 
 /// A value: an object of XPath 1.0, or a fragment of a result tree (XSLT 1.0, 11.1).
 #[derive(Debug, Drop)]

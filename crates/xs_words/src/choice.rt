@@ -5,7 +5,7 @@ ghost use Rattle.xs_words.specs.declared.choice.WordsEnd.TheVariants as end_of;
 
 use std::alloc::{AllocError, AllocFailed};
 use thiserror::Error;
-use xs_trace::text::TextBuf;
+use xs_text::TextBuf;
 
 /// The options of a run.
 #[derive(Debug, Drop)]

@@ -11,8 +11,7 @@ ghost use Rattle.xs_words.specs.Results.{Gives, HasAdded, borrowed, pair_told, w
 use crate::choice::{Job, WordsEnd};
 use indexmap::IndexSet;
 use std::alloc::{AllocError, Global};
-use xs_text::is_ncname;
-use xs_trace::text::TextBuf;
+use xs_text::{TextBuf, is_ncname};
 
 /// The greatest number of further documents.
 pub const MOST_DOCUMENTS: usize = 255;

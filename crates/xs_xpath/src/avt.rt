@@ -1,7 +1,7 @@
 //! Value templates (XSLT 1.0, 7.6.2): fixed text with expressions between curly brackets.
 
 use crate::expr::Expr;
-use xs_trace::text::TextBuf;
+use xs_text::TextBuf;
 
 /// A part of a value template.
 #[derive(Drop)]

@@ -3,7 +3,7 @@
 use crate::name::{Function, NodeTest, Slot};
 use crate::token::Operator;
 use xs_num::number::Num;
-use xs_trace::text::TextBuf;
+use xs_text::TextBuf;
 use xs_tree::Axis;
 
 /// An expression. The operands of one precedence level are a list, so that its depth is bounded

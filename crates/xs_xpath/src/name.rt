@@ -1,6 +1,6 @@
 //! What names stand for: functions, node tests and variables.
 
-use xs_trace::text::TextBuf;
+use xs_text::TextBuf;
 
 /// A function of the core library (XPath 1.0, 4), or of XSLT 1.0 (12 and 15).
 #[derive(Clone, Copy)]

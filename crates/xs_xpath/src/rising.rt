@@ -4,7 +4,7 @@ ghost use Rattle.std.specs.Prelude.{◌≡◌, ◌<◌, ◌≤◌, true, length}
 ghost use Rattle.xs_xpath.specs.Names.{uri_in};
 ghost use Rattle.xs_xpath.specs.steps.Rising.{is_below, rises, rises_above};
 
-use xs_trace::text::TextBuf;
+use xs_text::TextBuf;
 
 /// Whether a text is below another one by its bytes.
 fn is_below(text: &[u8], other: &[u8]) -> bool

@@ -6,7 +6,7 @@ ghost use Rattle.xs_xpath.specs.steps.Rows.{functions, row_data};
 
 use crate::name::Function;
 use crate::rising::{few_with, rises};
-use xs_trace::text::TextBuf;
+use xs_text::TextBuf;
 
 /// The pairs of prefix and URI that are in force, each prefix once, `xml` among them; the default
 /// namespace has the empty prefix.

@@ -1,7 +1,7 @@
 //! Operators, and expressions of one token (XPath 1.0, 3.1 and 3.3 to 3.5).
 
 use xs_num::number::Num;
-use xs_trace::text::TextBuf;
+use xs_text::TextBuf;
 
 /// An operator between two operands.
 #[derive(Clone, Copy)]

@@ -2,7 +2,7 @@
 
 ghost use Rattle.std.specs.Prelude.{◌↔◌, [], IsTrue};
 ghost use Rattle.std.specs.List.{All};
-ghost use Rattle.xs_meaning.specs.Conditions.{IsContext, IsInIf};
+ghost use Rattle.xs_eval_spec.specs.Conditions.{IsContext, IsInIf};
 ghost use Rattle.xs_value.specs.Conversion.{IsIn};
 
 use crate::answer::{Answer, text_of};
@@ -14,7 +14,7 @@ use crate::fields::{cut, whole};
 use crate::lookups::value_named;
 use xs_eval::evaluate::evaluate;
 use xs_eval::templates::evaluate_avt;
-use xs_meaning::context::Context;
+use xs_eval_spec::context::Context;
 use xs_trace::item::Site;
 use xs_trace::meter::Meter;
 use xs_trace::recorder::Halt;

@@ -13,7 +13,7 @@ use crate::fields::{cut, whole};
 use crate::lookups::value_named;
 use xs_axes::axis_nodes;
 use xs_eval::evaluate::evaluate;
-use xs_meaning::context::Context;
+use xs_eval_spec::context::Context;
 use xs_pattern::matcher::Matcher;
 use xs_trace::item::Site;
 use xs_trace::meter::Meter;

@@ -9,7 +9,7 @@ use std::alloc::{AllocError, Global};
 use std::mem::replace;
 use xs_build::build_tree;
 use xs_trace::event::Label;
-use xs_trace::text::TextBuf;
+use xs_text::TextBuf;
 use xs_tree::Tree;
 use xs_value::value::Value;
 use xs_xpath::name::Slot;

@@ -5,7 +5,7 @@
 use crate::answer::Answer;
 use crate::expressions::names::{AXES, OPERATORS, function_name};
 use crate::lookups::name_of;
-use xs_trace::text::TextBuf;
+use xs_text::TextBuf;
 use xs_tree::Axis;
 use xs_xpath::avt::AvtPart;
 use xs_xpath::expr::Expr;

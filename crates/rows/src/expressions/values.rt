@@ -13,7 +13,7 @@ use crate::runs::events::events;
 use std::alloc::AllocError;
 use xs_num::number::NumFault;
 use xs_trace::event::Fragment;
-use xs_trace::text::TextBuf;
+use xs_text::TextBuf;
 use xs_tree::{Node, Tree};
 use xs_value::comparison::{CompareOp, compare_values};
 use xs_value::conversion::{is_in, text_into, to_bool, to_number, to_text};

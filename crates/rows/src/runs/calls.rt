@@ -2,7 +2,7 @@
 
 use crate::answer::Answer;
 use crate::texts::push_words;
-use xs_trace::text::TextBuf;
+use xs_text::TextBuf;
 use xs_words::{Job, Options, WordsEnd, read_words};
 
 /// Adds what a command line asks for, or that it is refused.

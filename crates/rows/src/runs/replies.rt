@@ -1,7 +1,7 @@
 //! A stylesheet that is compiled once and run on several sources (docs/LIBRARY.md).
 
 ghost use Rattle.std.specs.Prelude.{IfOk};
-ghost use Rattle.xs_answer.specs.Reply.{IsWithin, job_data};
+ghost use Rattle.xs_reply.specs.Reply.{IsWithin, job_data};
 ghost use Rattle.xs_modules.specs.Results.{modules_data};
 ghost use Rattle.xs_modules.specs.Sound.{IsSound as AreSound};
 ghost use Rattle.xs_sheet.specs.Sound.{IsSound};
@@ -16,7 +16,7 @@ use xs_engine::{Job, Reply, run_reply};
 use xs_modules::{Modules, read_modules};
 use xs_outside::MemLibrary;
 use xs_sheet::sheet::Sheet;
-use xs_trace::text::TextBuf;
+use xs_text::TextBuf;
 
 /// Adds what the stylesheet of the library gives for each of some sources, or its fault.
 pub(crate) fn put_replies<R: Threads + Sync>(

@@ -13,10 +13,10 @@ use Rattle.xs_trace.specs.declared.recorder.Halt.TheVariants as halt
 use Rattle.xs_value.specs.declared.value.Value.{Value}
 use Rattle.xs_body.specs.declared.attempts.Attempt.{Attempt}
 use Rattle.xs_body.specs.declared.attempts.Attempt.TheVariants as attempt
-use Rattle.xs_semantics.specs.World.{World}
-use Rattle.xs_semantics.specs.Tasks.{Task}
-use Rattle.xs_semantics.specs.Trace.{body_trace, calls_at}
-use Rattle.xs_semantics.specs.Globals.{attempt_trace, attempt_value, binding_trace, content_value, global_focus}
+use Rattle.xs_body_spec.specs.World.{World}
+use Rattle.xs_body_spec.specs.Tasks.{Task}
+use Rattle.xs_body_spec.specs.Trace.{body_trace, calls_at}
+use Rattle.xs_body_spec.specs.Globals.{attempt_trace, attempt_value, binding_trace, content_value, global_focus}
 use Rattle.xs_body.specs.steps.Frames.{fragment_at}
 
 abbrev pub binding_steps : World → Binding → State Task → Step Task Value

@@ -38,10 +38,10 @@ use Rattle.xs_value.specs.declared.value.Value.{Value}
 use Rattle.xs_value.specs.declared.value.Value.TheVariants.{Chars as String, Piece}
 use Rattle.xs_value.specs.Conversion.{fragment_text}
 use Rattle.xs_making.specs.Copies.{shallow_copy}
-use Rattle.xs_sets.specs.Indexed.{declarations_in}
-use Rattle.xs_semantics.specs.declared.focus.Focus.{Focus}
-use Rattle.xs_semantics.specs.declared.made.Made.{Made}
-use Rattle.xs_semantics.specs.declared.made.Made.TheVariants as made
+use Rattle.xs_attribute_sets.specs.Indexed.{declarations_in}
+use Rattle.xs_body_spec.specs.declared.focus.Focus.{Focus}
+use Rattle.xs_body_spec.specs.declared.made.Made.{Made}
+use Rattle.xs_body_spec.specs.declared.made.Made.TheVariants as made
 use Rattle.xs_body.specs.declared.frames.Callee as code_callee
 use Rattle.xs_body.specs.declared.frames.Callee.TheVariants as callee
 use Rattle.xs_body.specs.declared.frames.AttributesLeft.{AttributesLeft}
@@ -52,14 +52,14 @@ use Rattle.xs_body.specs.declared.frames.EachLeft.{EachLeft}
 use Rattle.xs_body.specs.declared.frames.ApplyLeft.{ApplyLeft}
 use Rattle.xs_body.specs.declared.frames.ParamsLeft.{ParamsLeft}
 use Rattle.xs_body.specs.declared.frames.Scope.{Scope}
-use Rattle.xs_semantics.specs.World.{World, all_set_levels, at_node, in_list, captured_in, with_levels, by_rule, without_rule}
-use Rattle.xs_semantics.specs.World.{applied_nodes, looped_nodes, test_run, text_run, value_run}
-use Rattle.xs_semantics.specs.Numbers.{number_run}
-use Rattle.xs_semantics.specs.Tasks.{Params, no_params, value_passed, Job, body_job, rules_job, Task, tasks_for, grain_over}
-use Rattle.xs_semantics.specs.Rules.{rule_for, import_for}
-use Rattle.xs_semantics.specs.Trace.{Entry, named, fitting, overridden, using, Calls, each, Called, by_number, by_rules, called_with, fragment_of}
-use Rattle.xs_semantics.specs.Trace.{body_trace, calls_at, content_trace, declared_trace, instrs_trace, literal_attributes, params_trace}
-use Rattle.xs_semantics.specs.Trace.{puts_all, sets_trace}
+use Rattle.xs_body_spec.specs.World.{World, all_set_levels, at_node, in_list, captured_in, with_levels, by_rule, without_rule}
+use Rattle.xs_body_spec.specs.World.{applied_nodes, looped_nodes, test_run, text_run, value_run}
+use Rattle.xs_body_spec.specs.Numbers.{number_run}
+use Rattle.xs_body_spec.specs.Tasks.{Params, no_params, value_passed, Job, body_job, rules_job, Task, tasks_for, grain_over}
+use Rattle.xs_body_spec.specs.Rules.{rule_for, import_for}
+use Rattle.xs_body_spec.specs.Trace.{Entry, named, fitting, overridden, using, Calls, each, Called, by_number, by_rules, called_with, fragment_of}
+use Rattle.xs_body_spec.specs.Trace.{body_trace, calls_at, content_trace, declared_trace, instrs_trace, literal_attributes, params_trace}
+use Rattle.xs_body_spec.specs.Trace.{puts_all, sets_trace}
 use Rattle.xs_body.specs.steps.Lists.{nodes_in}
 pub use Rattle.xs_body.specs.steps.Making.{chars_steps}
 use Rattle.xs_body.specs.steps.Making.{attributes_steps, copy_steps, fixed_text, literal_steps, made_at, made_ended, made_steps, name_steps}

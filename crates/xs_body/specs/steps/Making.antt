@@ -32,12 +32,12 @@ use Rattle.xs_making.specs.Texts.{comment_text, instruction_text, is_empty}
 use Rattle.xs_making.specs.Putting.{events_steps}
 use Rattle.xs_making.specs.declared.ends.MakeEnd.{MakeEnd}
 use Rattle.xs_making.specs.declared.ends.MakeEnd.TheVariants as end
-use Rattle.xs_semantics.specs.declared.focus.Focus.{Focus}
-use Rattle.xs_semantics.specs.declared.made.Made.{Made}
-use Rattle.xs_semantics.specs.declared.made.Made.TheVariants as made
-use Rattle.xs_semantics.specs.declared.made.Made.TheVariants.{Attribute, Instruction}
-use Rattle.xs_semantics.specs.World.{World, template_run}
-use Rattle.xs_semantics.specs.Making.{aliased, attribute_label, content_text, element_label, made_events}
+use Rattle.xs_body_spec.specs.declared.focus.Focus.{Focus}
+use Rattle.xs_body_spec.specs.declared.made.Made.{Made}
+use Rattle.xs_body_spec.specs.declared.made.Made.TheVariants as made
+use Rattle.xs_body_spec.specs.declared.made.Made.TheVariants.{Attribute, Instruction}
+use Rattle.xs_body_spec.specs.World.{World, template_run}
+use Rattle.xs_body_spec.specs.Making.{aliased, attribute_label, content_text, element_label, made_events}
 
 -- ---- events
 abbrev pub chars_steps : {H : Type 0} → Site → List ℕ → State H → Told H

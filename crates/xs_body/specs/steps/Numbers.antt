@@ -1,5 +1,5 @@
 -- What the code's parts of a number represent.
-use Rattle.xs_semantics.specs.Numbers.{Formatting, Numbered, counted, given_number}
+use Rattle.xs_body_spec.specs.Numbers.{Formatting, Numbered, counted, given_number}
 use Rattle.xs_body.specs.declared.numbers.Formatting as code_formatting
 use Rattle.xs_body.specs.declared.numbers.Numbered as code_numbered
 use Rattle.xs_body.specs.declared.numbers.Numbered.TheVariants as numbered

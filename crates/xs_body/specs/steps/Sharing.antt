@@ -4,7 +4,7 @@ use Rattle.xs_trace.specs.Mark.{Hole}
 use Rattle.xs_trace.specs.Play.{Step, Goes, Told, play}
 use Rattle.xs_trace.specs.State.{State, shown}
 use Rattle.xs_body.specs.declared.tasks.Sharing as code
-use Rattle.xs_semantics.specs.Tasks.{Task, with_node, task_behind, shared}
+use Rattle.xs_body_spec.specs.Tasks.{Task, with_node, task_behind, shared}
 
 -- a task that takes nodes, and how many more it may take
 pub record Share : Type 0 where

@@ -9,8 +9,8 @@ use Rattle.xs_value.specs.declared.value.Value.{Value}
 use Rattle.xs_value.specs.declared.value.Value.TheVariants.{Nodes}
 use Rattle.xs_value.specs.Conversion.{text_value}
 use Rattle.xs_value.specs.Tables.{Table}
-use Rattle.xs_meaning.specs.Context.{Context}
-use Rattle.xs_meaning.specs.Keys.{found, found_for, sought}
+use Rattle.xs_eval_spec.specs.Context.{Context}
+use Rattle.xs_eval_spec.specs.Keys.{found, found_for, sought}
 use Rattle.xs_eval.specs.declared.keys.Document.{Document}
 
 -- whether a node is between the ends of a document

@@ -2,7 +2,7 @@
 use Rattle.std.specs.Prelude.{ℕ, ◌||◌, Bool, false, List, [], ◌∷◌, ◌++◌, codes}
 use Rattle.std.specs.Borrow.{Bor}
 use Rattle.std.specs.Str.{bytes_eq}
-use Rattle.xs_meaning.specs.Names.{ExpandedName}
+use Rattle.xs_eval_spec.specs.Names.{ExpandedName}
 
 -- the URI and the local part
 abbrev pub texts : Bor (List ℕ) × Bor (List ℕ) → ExpandedName

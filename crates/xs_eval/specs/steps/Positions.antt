@@ -1,7 +1,7 @@
 -- The node at the position that a predicate gives as a number.
 use Rattle.std.specs.Prelude.{ℕ, ◌+◌, ◌-◌, ◌++◌, List, [], ◌∷◌, Option, None, slice_get, if◌then◌else◌, ℤ, pos, negsuc, int_lt}
 use Rattle.xs_num.specs.declared.number.Number.{Number}
-use Rattle.xs_meaning.specs.Paths.{is_position, kept_if}
+use Rattle.xs_eval_spec.specs.Paths.{is_position, kept_if}
 
 -- the nodes that a number keeps, where the first one has this position
 abbrev pub picked : Number → ℕ → List ℕ → List ℕ

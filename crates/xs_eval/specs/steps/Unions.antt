@@ -12,8 +12,8 @@ use Rattle.xs_xpath.specs.Exprs.{tree_from, trees_from}
 use Rattle.xs_xpath.specs.Patterns.{are_unions}
 use Rattle.xs_xpath.specs.Tree as syntax
 use Rattle.xs_xpath.specs.Tree.{Tree, Trees, no_trees, first_tree, trees}
-use Rattle.xs_meaning.specs.Context.{Context}
-use Rattle.xs_meaning.specs.Paths.{is_here, tested}
+use Rattle.xs_eval_spec.specs.Context.{Context}
+use Rattle.xs_eval_spec.specs.Paths.{is_here, tested}
 
 abbrev pub is_step : Tree → Bool
 is_step (syntax.step _ _ _) = true

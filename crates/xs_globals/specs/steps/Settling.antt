@@ -7,9 +7,9 @@ use Rattle.xs_trace.specs.declared.fault.Fault.TheVariants as fault
 use Rattle.xs_trace.specs.declared.item.Site.{Site}
 use Rattle.xs_trace.specs.declared.item.Spot.{Spot}
 use Rattle.xs_value.specs.declared.value.Value.{Value}
-use Rattle.xs_meaning.specs.Conditions.{IsInIf}
-use Rattle.xs_semantics.specs.World.{World}
-use Rattle.xs_semantics.specs.Globals.{Table, Settled, settled, ended, Settles, AllSettle, tried, added, with_passed, with_value, once_more, is_under}
+use Rattle.xs_eval_spec.specs.Conditions.{IsInIf}
+use Rattle.xs_body_spec.specs.World.{World}
+use Rattle.xs_body_spec.specs.Globals.{Table, Settled, settled, ended, Settles, AllSettle, tried, added, with_passed, with_value, once_more, is_under}
 use Rattle.xs_globals.specs.declared.settled.Table as code
 use Rattle.xs_globals.specs.declared.settled.Turn.{Turn}
 use Rattle.xs_globals.specs.declared.settled.Turn.TheVariants as turn

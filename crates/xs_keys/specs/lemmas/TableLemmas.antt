@@ -7,7 +7,7 @@ use Rattle.std.proofs.lemmas.List.FromFn.{get_or-range_with_len, length-range_wi
 use Rattle.std.proofs.lemmas.List.Kept.{AllPairs-cons}
 use Rattle.std.specs.List.{All, AllPairs, flat_map, list_any, range_with_len}
 use Rattle.xs_sheet.specs.declared.declarations.KeyDecl.{KeyDecl}
-use Rattle.xs_matching.specs.Matching.{is_match}
+use Rattle.xs_pattern_spec.specs.Matching.{is_match}
 use Rattle.xs_trace.specs.Label.{Label}
 use Rattle.xs_trace.specs.Run.{Answer, Gives, Faults, Lacks}
 use Rattle.xs_trace.specs.declared.fault.Fault.{Fault}

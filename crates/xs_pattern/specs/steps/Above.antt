@@ -11,9 +11,9 @@ use Rattle.xs_tree.specs.Record.{Record, at}
 use Rattle.xs_value.specs.Tables.{Table}
 use Rattle.xs_xpath.specs.declared.name.NodeTest.{NodeTest}
 use Rattle.xs_xpath.specs.Tree.{Tree, no_trees, descend, step}
-use Rattle.xs_meaning.specs.Context.{Context}
-use Rattle.xs_meaning.specs.Paths.{passes}
-use Rattle.xs_matching.specs.Matching.{ends_path, pattern_context, start_of, steps_of}
+use Rattle.xs_eval_spec.specs.Context.{Context}
+use Rattle.xs_eval_spec.specs.Paths.{passes}
+use Rattle.xs_pattern_spec.specs.Matching.{ends_path, pattern_context, start_of, steps_of}
 use Rattle.xs_pattern.specs.steps.Climb.{before_slashes, ends_above, is_anywhere, stands_on}
 
 -- A table says of each node whether what stands before the last `//` of a path ends at it or above it, whatever the keys and the

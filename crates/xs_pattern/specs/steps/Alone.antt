@@ -3,9 +3,9 @@ use Rattle.std.specs.Prelude.{◌≡◌, ℕ, Bool, true, false, List, Option, S
 use Rattle.xs_value.specs.Conversion.{bool_value}
 use Rattle.xs_value.specs.declared.value.Value.{Value}
 use Rattle.xs_value.specs.declared.value.Value.TheVariants.{Bool as Boolean, Number as Numeral, Chars, Nodes, Piece}
-use Rattle.xs_meaning.specs.Context.{Context}
-use Rattle.xs_meaning.specs.Paths.{Meaning}
-use Rattle.xs_matching.specs.Predicates.{all_kept, holds, is_among}
+use Rattle.xs_eval_spec.specs.Context.{Context}
+use Rattle.xs_eval_spec.specs.Paths.{Meaning}
+use Rattle.xs_pattern_spec.specs.Predicates.{all_kept, holds, is_among}
 
 -- what a value says of a node at whatever position: a number says nothing (XPath 1.0, 2.4), and where there is none, no node is kept
 abbrev pub said_by : Value → Option Bool

@@ -10,10 +10,10 @@ use Rattle.xs_value.specs.Tables.{Table}
 use Rattle.xs_xpath.specs.declared.expr.Expr.{Expr}
 use Rattle.xs_xpath.specs.Exprs.{trees_from}
 use Rattle.xs_xpath.specs.Tree.{Tree, here, root}
-use Rattle.xs_meaning.specs.Context.{Context}
+use Rattle.xs_eval_spec.specs.Context.{Context}
 use Rattle.xs_pattern.specs.declared.matching.Reached.{Reached}
 use Rattle.xs_pattern.specs.declared.matching.Reached.TheVariants.{Fits, Differs, Below}
-use Rattle.xs_matching.specs.Matching.{ends_path, is_descend}
+use Rattle.xs_pattern_spec.specs.Matching.{ends_path, is_descend}
 
 -- whether a node of a kind stands on an axis of its parent, of the two that patterns have
 abbrev pub stands_on : Axis → Kind → Bool

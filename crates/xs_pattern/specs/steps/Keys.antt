@@ -4,7 +4,7 @@ use Rattle.xs_trace.specs.declared.fault.Fault.{Fault}
 use Rattle.xs_value.specs.Tables.{Table, nodes_of}
 use Rattle.xs_xpath.specs.declared.name.Function.TheVariants.{Key}
 use Rattle.xs_xpath.specs.Tree.{Tree, call, literal, trees}
-use Rattle.xs_matching.specs.Predicates.{is_among}
+use Rattle.xs_pattern_spec.specs.Predicates.{is_among}
 
 -- a call of `key` with two literals
 abbrev pub key_call : List ℕ → List ℕ → Tree

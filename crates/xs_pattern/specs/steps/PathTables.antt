@@ -6,8 +6,8 @@ use Rattle.xs_tree.specs.Record.{Record}
 use Rattle.xs_value.specs.Tables.{Table}
 use Rattle.xs_xpath.specs.Tree.{Tree}
 use Rattle.xs_xpath.specs.Uses.{uses_current, uses_key}
-use Rattle.xs_matching.specs.Matching.{ends_path, matches_path, pattern_context, selected, start_of}
-use Rattle.xs_matching.specs.Predicates.{is_among}
+use Rattle.xs_pattern_spec.specs.Matching.{ends_path, matches_path, pattern_context, selected, start_of}
+use Rattle.xs_pattern_spec.specs.Predicates.{is_among}
 use Rattle.xs_pattern.specs.steps.Climb.{is_anywhere}
 
 -- A table says of each node whether it matches an alternative, whatever the keys.

@@ -2,13 +2,13 @@
 use Rattle.std.specs.Prelude.{ℕ, ◌&&◌, Bool, true, false, nat_le, nat_lt, List, [], ◌∷◌, Option, Some, None, if◌then◌else◌}
 use Rattle.xs_tree.specs.Record.{Record}
 use Rattle.xs_value.specs.Tables.{Table}
-use Rattle.xs_matching.specs.Matching.{matches_path, pattern_context}
+use Rattle.xs_pattern_spec.specs.Matching.{matches_path, pattern_context}
 use Rattle.xs_rules.specs.declared.candidates.Best.{Best}
 use Rattle.xs_rules.specs.declared.candidates.Looked.{Looked}
 use Rattle.xs_rules.specs.declared.candidates.Looked.TheVariants.{All, Nothing, Within}
-use Rattle.xs_matching.specs.declared.rule.Rule.{Rule}
-use Rattle.xs_matching.specs.declared.rule.Rule.TheVariants.{Template as OfTemplate, BuiltIn}
-use Rattle.xs_matching.specs.declared.ranks.Rank.{Rank}
+use Rattle.xs_pattern_spec.specs.declared.rule.Rule.{Rule}
+use Rattle.xs_pattern_spec.specs.declared.rule.Rule.TheVariants.{Template as OfTemplate, BuiltIn}
+use Rattle.xs_pattern_spec.specs.declared.ranks.Rank.{Rank}
 use Rattle.xs_rules.specs.Ranks.{or_above}
 use Rattle.xs_rules.specs.Rules.{Candidate, takes}
 

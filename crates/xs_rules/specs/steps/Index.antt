@@ -15,7 +15,7 @@ use Rattle.xs_tree.specs.Record.{Record, name_local, name_uri}
 use Rattle.xs_xpath.specs.declared.name.NodeTest.{NodeTest}
 use Rattle.xs_xpath.specs.declared.name.NodeTest.TheVariants.{Any, Uri, Name, Node, Text, Comment, Pi, Target}
 use Rattle.xs_xpath.specs.Tree.{Tree, step}
-use Rattle.xs_matching.specs.Matching.{steps_of}
+use Rattle.xs_pattern_spec.specs.Matching.{steps_of}
 use Rattle.xs_pattern.specs.steps.Above.{IsAbove}
 use Rattle.xs_pattern.specs.steps.PathTables.{IsPathTable}
 use Rattle.xs_rules.specs.declared.lists.Entry.{Entry}

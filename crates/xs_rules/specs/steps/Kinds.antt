@@ -8,8 +8,8 @@ use Rattle.xs_tree.specs.Kinds.{is_attribute_kind, is_child_kind, is_element_kin
 use Rattle.xs_xpath.specs.declared.name.NodeTest.{NodeTest}
 use Rattle.xs_xpath.specs.declared.name.NodeTest.TheVariants.{Any, Uri, Name, Node, Text, Comment, Pi, Target}
 use Rattle.xs_xpath.specs.Tree.{Tree, root, step}
-use Rattle.xs_meaning.specs.Paths.{is_comment_kind, is_pi_kind}
-use Rattle.xs_matching.specs.Matching.{start_of, steps_of}
+use Rattle.xs_eval_spec.specs.Paths.{is_comment_kind, is_pi_kind}
+use Rattle.xs_pattern_spec.specs.Matching.{start_of, steps_of}
 use Rattle.xs_rules.specs.Ranks.{lone_test}
 
 -- whether a node test may be true of nodes of a kind, which is the principal one of the axis or not (XPath 1.0, 2.3)

@@ -7,7 +7,7 @@ use Rattle.std.specs.Str.{bytes_eq}
 use Rattle.xs_sheet.specs.declared.declarations.NameTest.{NameTest}
 use Rattle.xs_sheet.specs.declared.declarations.NameTest.TheVariants.{Any, Uri, Name}
 use Rattle.xs_sheet.specs.declared.declarations.StripRule.{StripRule}
-use Rattle.xs_matching.specs.declared.ranks.Rank.{Rank}
+use Rattle.xs_pattern_spec.specs.declared.ranks.Rank.{Rank}
 use Rattle.xs_rules.specs.declared.strip_index.StripIndex.{StripIndex}
 use Rattle.xs_rules.specs.Ranks.{highest, or_above}
 use Rattle.xs_rules.specs.WhiteSpace.{rank_of}

@@ -1,7 +1,7 @@
 use Rattle.std.proofs.Common.{◌≡◌, ◌++◌, length}
 use Rattle.xs_trace.specs.Kept.{marks_of}
 use Rattle.xs_trace.specs.Mark.{messages_of}
-use Rattle.xs_semantics.specs.Tasks.{Task}
+use Rattle.xs_body_spec.specs.Tasks.{Task}
 use Rattle.xs_body.proofs.attempts.says_of.Given as goal
 
 abbrev pub invariant-loop-item : goal.invariant-loop-item

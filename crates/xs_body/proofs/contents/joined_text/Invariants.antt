@@ -1,6 +1,6 @@
 use Rattle.std.proofs.Common.{◌≡◌, ◌+◌, ◌≤◌, ◌++◌, length}
 use Rattle.std.specs.String.{string_bytes}
-use Rattle.xs_semantics.specs.Making.{content_text, texts_outside}
+use Rattle.xs_body_spec.specs.Making.{content_text, texts_outside}
 use Rattle.xs_body.proofs.contents.joined_text.Given as goal
 
 -- what is there, and the texts of what is left, are the whole

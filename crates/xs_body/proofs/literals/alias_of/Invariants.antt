@@ -1,5 +1,5 @@
 use Rattle.std.proofs.Common.{◌≡◌, length}
-use Rattle.xs_semantics.specs.Making.{aliased}
+use Rattle.xs_body_spec.specs.Making.{aliased}
 use Rattle.xs_body.proofs.literals.alias_of.Given as goal
 
 abbrev pub invariant-loop-alias : goal.invariant-loop-alias

@@ -1,7 +1,7 @@
 use Rattle.std.proofs.Common.{◌≡◌, ◌∷◌, ap, ◌∙◌, rules}
 use Rattle.std.proofs.lemmas.Result.{err_from_is_err_and}
 use Rattle.xs_trace.proofs.GrowthLemmas.{passes}
-use Rattle.xs_semantics.specs.Making.{aliased}
+use Rattle.xs_body_spec.specs.Making.{aliased}
 use Rattle.xs_body.specs.steps.Making.{space_steps, spaces_steps}
 use Rattle.xs_body.proofs.MakingLemmas.{spaces-grow}
 use Rattle.xs_body.proofs.literals.put_spaces.Goals as goal

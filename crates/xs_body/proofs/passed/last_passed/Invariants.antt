@@ -1,5 +1,5 @@
 use Rattle.std.proofs.Common.{◌≡◌, None, length, option_map}
-use Rattle.xs_semantics.specs.Tasks.{last_passed}
+use Rattle.xs_body_spec.specs.Tasks.{last_passed}
 use Rattle.xs_body.proofs.passed.last_passed.Given as goal
 
 -- the last of all is the last of those that are left, or the one found

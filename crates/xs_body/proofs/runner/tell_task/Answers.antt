@@ -3,9 +3,9 @@ use Rattle.std.specs.Option.{IsSome}
 use Rattle.std.proofs.lemmas.List.Elements.{All-same}
 use Rattle.xs_trace.specs.Play.{IsStep, Told, play}
 use Rattle.xs_value.specs.Conversion.{IsIn}
-use Rattle.xs_semantics.specs.Tasks.{Task}
-use Rattle.xs_semantics.specs.Trace.{task_trace}
-use Rattle.xs_semantics.specs.World.{World}
+use Rattle.xs_body_spec.specs.Tasks.{Task}
+use Rattle.xs_body_spec.specs.Trace.{task_trace}
+use Rattle.xs_body_spec.specs.World.{World}
 use Rattle.xs_body.specs.Inside.{IsTaskIn}
 use Rattle.xs_body.specs.steps.Frames.{Evaluation}
 use Rattle.xs_body.specs.steps.Jobs.{locals_of}

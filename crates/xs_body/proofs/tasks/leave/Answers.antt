@@ -3,7 +3,7 @@ use Rattle.std.proofs.lemmas.Result.{err_from_is_err_and}
 use Rattle.xs_trace.specs.Mark.{Hole}
 use Rattle.xs_trace.specs.Play.{and_then}
 use Rattle.xs_trace.proofs.GrowthLemmas.{passes, play-grows}
-use Rattle.xs_semantics.specs.Tasks.{shared}
+use Rattle.xs_body_spec.specs.Tasks.{shared}
 use Rattle.xs_body.specs.steps.Sharing.{share_of, share_step, shares}
 use Rattle.xs_body.proofs.SharingLemmas.{shares-filled, shares-next}
 use Rattle.xs_body.proofs.tasks.leave.Goals as goal

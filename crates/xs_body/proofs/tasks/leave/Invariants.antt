@@ -1,7 +1,7 @@
 use Rattle.std.proofs.Common.{◌≡◌, length, map}
 use Rattle.xs_trace.specs.Mark.{Hole}
 use Rattle.xs_trace.specs.Play.{play}
-use Rattle.xs_semantics.specs.Tasks.{shared}
+use Rattle.xs_body_spec.specs.Tasks.{shared}
 use Rattle.xs_body.specs.steps.Sharing.{share_of, shares}
 use Rattle.xs_body.proofs.tasks.leave.Given as goal
 

@@ -1,8 +1,8 @@
 use Rattle.xs_modules.specs.Results.{modules_data}
 use Rattle.xs_modules.specs.Reading.{refused, unread, out_of_memory}
-use Rattle.xs_answer.specs.Reply.{job_data}
-use Rattle.xs_answer.proofs.DueLemmas.{module_owed, modules_owed, fault_owed}
-use Rattle.xs_answer.proofs.FetchLemmas.{named, modules_asked, all_asked}
+use Rattle.xs_reply.specs.Reply.{job_data}
+use Rattle.xs_reply.proofs.DueLemmas.{module_owed, modules_owed, fault_owed}
+use Rattle.xs_reply.proofs.FetchLemmas.{named, modules_asked, all_asked}
 use Rattle.xs_engine.proofs.answer.job_reply.Goals as goal
 
 -- The modules were read.

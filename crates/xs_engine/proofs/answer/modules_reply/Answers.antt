@@ -1,9 +1,9 @@
 use Rattle.std.proofs.Common.{refl}
 use Rattle.xs_modules.specs.Results.{modules_data}
-use Rattle.xs_answer.specs.Reply.{job_data}
-use Rattle.xs_answer.proofs.DueLemmas.{checked_owed, run_owed, static_owed}
-use Rattle.xs_answer.proofs.FetchLemmas.{sheet_asked_for, source_left}
-use Rattle.xs_well_put.specs.Named.{IsNamedSheet}
+use Rattle.xs_reply.specs.Reply.{job_data}
+use Rattle.xs_reply.proofs.DueLemmas.{checked_owed, run_owed, static_owed}
+use Rattle.xs_reply.proofs.FetchLemmas.{sheet_asked_for, source_left}
+use Rattle.xs_result_laws.specs.Named.{IsNamedSheet}
 use Rattle.xs_engine.proofs.answer.modules_reply.Goals as goal
 
 -- A run of a compiled stylesheet.

@@ -1,8 +1,8 @@
 use Rattle.xs_words.specs.Results.{texts}
-use Rattle.xs_answer.specs.Job.{request_of}
-use Rattle.xs_answer.specs.Reply.{request_data}
-use Rattle.xs_answer.proofs.DueLemmas.{job_owed, usage_owed}
-use Rattle.xs_answer.proofs.FetchLemmas.{nothing_asked}
+use Rattle.xs_reply.specs.Job.{request_of}
+use Rattle.xs_reply.specs.Reply.{request_data}
+use Rattle.xs_reply.proofs.DueLemmas.{job_owed, usage_owed}
+use Rattle.xs_reply.proofs.FetchLemmas.{nothing_asked}
 use Rattle.xs_engine.proofs.answer.reply_to.Goals as goal
 
 pub returns-in-None-clause-due : goal.returns-in-None-clause-due

@@ -1,9 +1,9 @@
 use Rattle.std.proofs.Common.{refl}
 use Rattle.xs_making.specs.Laws.{AreWell}
-use Rattle.xs_well_put.specs.Named.{IsNamedSheet}
-use Rattle.xs_answer.specs.Reply.{job_data}
-use Rattle.xs_answer.proofs.DueLemmas.{evaluated_owed, fault_owed, refused_owed}
-use Rattle.xs_answer.proofs.FetchLemmas.{after_source}
+use Rattle.xs_result_laws.specs.Named.{IsNamedSheet}
+use Rattle.xs_reply.specs.Reply.{job_data}
+use Rattle.xs_reply.proofs.DueLemmas.{evaluated_owed, fault_owed, refused_owed}
+use Rattle.xs_reply.proofs.FetchLemmas.{after_source}
 use Rattle.xs_engine.proofs.answer.run_reply.Goals as goal
 
 -- The source is asked for.

@@ -1,8 +1,8 @@
 use Rattle.xs_making.specs.Laws.{AreWell}
-use Rattle.xs_well_put.specs.Named.{IsNamedSheet}
-use Rattle.xs_answer.specs.Reply.{job_data}
-use Rattle.xs_answer.proofs.EvaluationLemmas.{from_stripped}
-use Rattle.xs_answer.proofs.ReadBackLemmas.{stripped_well}
+use Rattle.xs_result_laws.specs.Named.{IsNamedSheet}
+use Rattle.xs_reply.specs.Reply.{job_data}
+use Rattle.xs_reply.proofs.EvaluationLemmas.{from_stripped}
+use Rattle.xs_reply.proofs.ReadBackLemmas.{stripped_well}
 use Rattle.xs_engine.proofs.evaluation.evaluate.Goals as goal
 
 pub returns-clause-answer : goal.returns-clause-answer

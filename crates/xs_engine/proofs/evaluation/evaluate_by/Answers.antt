@@ -1,15 +1,15 @@
 use mir.Syntax.{named}
 use Rattle.xs_making.specs.Laws.{AreWell}
 use Rattle.xs_globals.specs.Results.{told_in}
-use Rattle.xs_finder.proofs.SyncLemmas.{finder_sync}
-use Rattle.xs_finder.specs.Ready.{tables_in}
-use Rattle.xs_semantics.specs.World.{ground}
-use Rattle.xs_well_put.specs.Named.{IsNamedSheet, IsNamedWorld}
-use Rattle.xs_answer.specs.Evaluation.{IsEvaluated}
-use Rattle.xs_answer.specs.Reply.{job_data}
-use Rattle.xs_answer.proofs.EvaluationLemmas.{ended_in_globals}
-use Rattle.xs_answer.proofs.ReadBackLemmas.{ground_named}
-use Rattle.xs_answer.proofs.ReplyLemmas.{replies_so}
+use Rattle.xs_lookup.proofs.SyncLemmas.{finder_sync}
+use Rattle.xs_lookup.specs.Ready.{tables_in}
+use Rattle.xs_body_spec.specs.World.{ground}
+use Rattle.xs_result_laws.specs.Named.{IsNamedSheet, IsNamedWorld}
+use Rattle.xs_reply.specs.Evaluation.{IsEvaluated}
+use Rattle.xs_reply.specs.Reply.{job_data}
+use Rattle.xs_reply.proofs.EvaluationLemmas.{ended_in_globals}
+use Rattle.xs_reply.proofs.ReadBackLemmas.{ground_named}
+use Rattle.xs_reply.proofs.ReplyLemmas.{replies_so}
 use Rattle.xs_engine.proofs.SettledLemmas.{ended_globals}
 use Rattle.xs_engine.proofs.evaluation.evaluate_by.Goals as goal
 

@@ -1,7 +1,7 @@
 use Rattle.xs_making.specs.Laws.{AreWell}
-use Rattle.xs_well_put.specs.Named.{IsNamedSheet}
-use Rattle.xs_answer.specs.Reply.{job_data}
-use Rattle.xs_answer.proofs.EvaluationLemmas.{over_index}
+use Rattle.xs_result_laws.specs.Named.{IsNamedSheet}
+use Rattle.xs_reply.specs.Reply.{job_data}
+use Rattle.xs_reply.proofs.EvaluationLemmas.{over_index}
 use Rattle.xs_engine.proofs.evaluation.evaluate_over.Goals as goal
 
 pub returns-clause-answer : goal.returns-clause-answer

@@ -1,10 +1,10 @@
 use Rattle.std.proofs.Common.{◌∙◌, Some, ap, arith, refl, subst, sym}
-use Rattle.xs_semantics.specs.Inside.{IsWorld}
+use Rattle.xs_body_spec.specs.Inside.{IsWorld}
 use Rattle.xs_globals.specs.Results.{told_in}
-use Rattle.xs_semantics.specs.Globals.{with_globals}
-use Rattle.xs_semantics.specs.World.{World, with_grain}
-use Rattle.xs_answer.specs.Reply.{job_data}
-use Rattle.xs_answer.proofs.RanLemmas.{is_ran, ready, run_within}
+use Rattle.xs_body_spec.specs.Globals.{with_globals}
+use Rattle.xs_body_spec.specs.World.{World, with_grain}
+use Rattle.xs_reply.specs.Reply.{job_data}
+use Rattle.xs_reply.proofs.RanLemmas.{is_ran, ready, run_within}
 use Rattle.xs_engine.proofs.SettledLemmas.{all_settled}
 use Rattle.xs_engine.proofs.evaluation.root_reply.Goals as goal
 

@@ -1,9 +1,9 @@
 use Rattle.xs_words.specs.Results.{texts}
-use Rattle.xs_answer.specs.Job.{is_streamed, request_of}
-use Rattle.xs_answer.specs.Reply.{account_of, answer_of}
-use Rattle.xs_answer.proofs.GivesLemmas.{at_once, claimed, gives, gives_nothing, gives_only, nothing_at_once}
-use Rattle.xs_answer.proofs.JobLemmas.{never_streamed}
-use Rattle.xs_answer.proofs.RefusalLemmas.{decides, decides_nothing, listed_fault, never_listed, own_or_cut}
+use Rattle.xs_reply.specs.Job.{is_streamed, request_of}
+use Rattle.xs_reply.specs.Reply.{account_of, answer_of}
+use Rattle.xs_reply.proofs.GivesLemmas.{at_once, claimed, gives, gives_nothing, gives_only, nothing_at_once}
+use Rattle.xs_reply.proofs.JobLemmas.{never_streamed}
+use Rattle.xs_reply.proofs.RefusalLemmas.{decides, decides_nothing, listed_fault, never_listed, own_or_cut}
 use Rattle.xs_engine.proofs.top.transform.Goals as goal
 
 -- There is a reply, and it was written.

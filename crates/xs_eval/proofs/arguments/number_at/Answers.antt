@@ -4,7 +4,7 @@ use Rattle.xs_num.specs.Text.{number_after_sign, number_from, number_in, number_
 use Rattle.xs_num.specs.declared.number.Number.TheVariants.{NaN}
 use Rattle.xs_value.specs.Conversion.{number_value}
 use Rattle.xs_value.specs.declared.value.Value.TheVariants.{Chars}
-use Rattle.xs_meaning.specs.Results.{numeric}
+use Rattle.xs_eval_spec.specs.Results.{numeric}
 use Rattle.xs_eval.proofs.arguments.number_at.Goals as goal
 
 -- no characters spell NaN

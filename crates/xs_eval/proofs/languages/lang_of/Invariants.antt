@@ -1,6 +1,6 @@
 use Rattle.std.proofs.Common.{◌≡◌, ◌++◌, filter}
 use Rattle.xs_tree.specs.Record.{attributes}
-use Rattle.xs_meaning.specs.Languages.{is_lang}
+use Rattle.xs_eval_spec.specs.Languages.{is_lang}
 use Rattle.xs_eval.proofs.languages.lang_of.Given as goal
 
 -- the attributes that were passed are none

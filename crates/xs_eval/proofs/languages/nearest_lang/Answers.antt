@@ -1,8 +1,8 @@
 use Rattle.std.proofs.Common.{◌++◌, ◌∷◌, [], ◌<◌, ap, append_assoc, length, sym, ◌∙◌}
 use Rattle.xs_tree.specs.declared.axes.Axis.TheVariants.{AncestorOrSelf}
 use Rattle.xs_tree.specs.Axis.{axis_list}
-use Rattle.xs_meaning.specs.Languages.{lang_attributes}
-use Rattle.xs_meaning.proofs.AxisListLemmas.{axis-inside, next-inside}
+use Rattle.xs_eval_spec.specs.Languages.{lang_attributes}
+use Rattle.xs_eval_spec.proofs.AxisListLemmas.{axis-inside, next-inside}
 use Rattle.xs_eval.proofs.LanguageLemmas.{nearest-first, nearest-later}
 use Rattle.xs_eval.proofs.languages.nearest_lang.Goals as goal
 

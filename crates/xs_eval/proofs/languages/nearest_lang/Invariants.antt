@@ -3,7 +3,7 @@ use Rattle.std.specs.List.{flat_map}
 use Rattle.xs_tree.specs.declared.axes.Axis.TheVariants.{AncestorOrSelf}
 use Rattle.xs_tree.specs.Axis.{axis_list}
 use Rattle.xs_tree.specs.Record.{attributes}
-use Rattle.xs_meaning.specs.Languages.{is_lang, lang_attributes}
+use Rattle.xs_eval_spec.specs.Languages.{is_lang, lang_attributes}
 use Rattle.xs_eval.proofs.languages.nearest_lang.Given as goal
 
 -- the elements that were passed have no such attribute

@@ -1,6 +1,6 @@
 use Rattle.std.proofs.Common.{◌≡◌, map, drop}
 use Rattle.std.specs.Prelude.{◌||◌}
-use Rattle.xs_meaning.specs.Names.{is_copying, is_flow, is_making}
+use Rattle.xs_eval_spec.specs.Names.{is_copying, is_flow, is_making}
 use Rattle.xs_eval.specs.steps.Names.{is_one_of, lent_text}
 use Rattle.xs_eval.proofs.names.is_instruction_name.Given as goal
 

@@ -2,7 +2,7 @@ use Rattle.std.proofs.Common.{◌≡◌, ◌++◌, filter}
 use Rattle.xs_tree.specs.declared.axes.Axis.TheVariants.{Attribute as AttributeAxis}
 use Rattle.xs_tree.specs.Axis.{axis_list}
 use Rattle.xs_tree.specs.Record.{at}
-use Rattle.xs_meaning.specs.Paths.{passes, tested}
+use Rattle.xs_eval_spec.specs.Paths.{passes, tested}
 use Rattle.xs_eval.proofs.node_tests.find_attributes.Given as goal
 
 -- what was found, with those that pass of the nodes that are left, is what was found before with the whole

@@ -1,7 +1,7 @@
 use Rattle.std.proofs.Common.{◌++◌, ◌<◌, ap, length, subst, sym, ◌∙◌}
 use Rattle.xs_tree.specs.Axis.{axis_list}
-use Rattle.xs_meaning.specs.Context.{Context}
-use Rattle.xs_meaning.proofs.AxisListLemmas.{axis-inside, next-inside}
+use Rattle.xs_eval_spec.specs.Context.{Context}
+use Rattle.xs_eval_spec.proofs.AxisListLemmas.{axis-inside, next-inside}
 use Rattle.xs_eval.proofs.node_tests.find_on_axis.Goals as goal
 
 pub passes-requires : goal.passes-requires

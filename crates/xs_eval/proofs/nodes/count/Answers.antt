@@ -4,8 +4,8 @@ use Rattle.std.specs.Borrow.{Bor}
 use Rattle.xs_num.specs.declared.number.Number.{Number}
 use Rattle.xs_value.specs.declared.value.Value.{Value}
 use Rattle.xs_value.specs.declared.value.Value.TheVariants.{Number as Numeral}
-use Rattle.xs_meaning.specs.Functions.{first}
-use Rattle.xs_meaning.specs.Results.{Outcome, ◌>>=◌, natural, nodes_in}
+use Rattle.xs_eval_spec.specs.Functions.{first}
+use Rattle.xs_eval_spec.specs.Results.{Outcome, ◌>>=◌, natural, nodes_in}
 use Rattle.xs_eval.proofs.OutcomeLemmas.{fails, follows}
 use Rattle.xs_eval.proofs.nodes.count.Goals as goal
 

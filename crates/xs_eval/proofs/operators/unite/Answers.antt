@@ -1,7 +1,7 @@
 use Rattle.std.proofs.Common.{◌<◌, length}
 use Rattle.std.proofs.lemmas.List.Elements.{All-same}
 use Rattle.xs_value.specs.NodeSet.{union_of}
-use Rattle.xs_meaning.proofs.InsideLemmas.{union_inside}
+use Rattle.xs_eval_spec.proofs.InsideLemmas.{union_inside}
 use Rattle.xs_eval.proofs.operators.unite.Goals as goal
 
 pub returns-clause-inside : goal.returns-clause-inside

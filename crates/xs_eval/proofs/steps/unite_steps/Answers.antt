@@ -5,8 +5,8 @@ use Rattle.xs_trace.specs.Run.{give}
 use Rattle.xs_value.specs.declared.value.Value.TheVariants.{Nodes}
 use Rattle.xs_value.specs.NodeSet.{in_order}
 use Rattle.xs_eval.specs.steps.Unions.{and_step}
-use Rattle.xs_meaning.proofs.InsideLemmas.{in_order_all}
-use Rattle.xs_meaning.proofs.StepLemmas.{exits_in_items, gives, items_done, items_on}
+use Rattle.xs_eval_spec.proofs.InsideLemmas.{in_order_all}
+use Rattle.xs_eval_spec.proofs.StepLemmas.{exits_in_items, gives, items_done, items_on}
 use Rattle.xs_eval.proofs.steps.unite_steps.Goals as goal
 
 pub returns-in_err-add_step-clause-told : goal.returns-in_err-add_step-clause-told

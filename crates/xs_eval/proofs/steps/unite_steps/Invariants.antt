@@ -3,7 +3,7 @@ use Rattle.xs_trace.specs.Run.{give, limited}
 use Rattle.xs_value.specs.declared.value.Value.TheVariants.{Nodes}
 use Rattle.xs_value.specs.NodeSet.{in_order}
 use Rattle.xs_eval.specs.steps.Unions.{and_step, united}
-use Rattle.xs_meaning.proofs.StepLemmas.{Rest}
+use Rattle.xs_eval_spec.proofs.StepLemmas.{Rest}
 use Rattle.xs_eval.proofs.steps.unite_steps.Given as goal
 
 abbrev pub invariant-loop-operand : goal.invariant-loop-operand

@@ -1,7 +1,7 @@
 use Rattle.std.proofs.Common.{◌∙◌, ◌+◌, ◌++◌, ap, append_assoc, arith, drop, sym}
 use Rattle.std.specs.List.{flat_map}
 use Rattle.xs_value.specs.Conversion.{text_value}
-use Rattle.xs_meaning.proofs.StepLemmas.{from_here}
+use Rattle.xs_eval_spec.proofs.StepLemmas.{from_here}
 use Rattle.xs_eval.proofs.strings.concat.Goals as goal
 
 pub loop-v-preserved : goal.loop-v-preserved

@@ -1,5 +1,5 @@
 use Rattle.std.proofs.Common.{◌≡◌, ◌++◌, length}
-use Rattle.xs_semantics.specs.Globals.{placed}
+use Rattle.xs_body_spec.specs.Globals.{placed}
 use Rattle.xs_globals.proofs.given.placed.Given as goal
 
 abbrev pub invariant-loop-declared : goal.invariant-loop-declared

@@ -1,5 +1,5 @@
 use Rattle.std.proofs.Common.{◌≡◌, length}
-use Rattle.xs_semantics.specs.Globals.{text_given}
+use Rattle.xs_body_spec.specs.Globals.{text_given}
 use Rattle.xs_globals.proofs.given.text_given.Given as goal
 
 abbrev pub invariant-loop-first : goal.invariant-loop-first

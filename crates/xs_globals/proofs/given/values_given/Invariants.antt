@@ -1,5 +1,5 @@
 use Rattle.std.proofs.Common.{◌≡◌, ◌++◌, length, map}
-use Rattle.xs_semantics.specs.Globals.{value_given}
+use Rattle.xs_body_spec.specs.Globals.{value_given}
 use Rattle.xs_globals.proofs.given.values_given.Given as goal
 
 abbrev pub invariant-loop-declared : goal.invariant-loop-declared

@@ -2,8 +2,8 @@ use Rattle.std.proofs.Common.{List, Option, [], false, ap, map, subst, sym, â—Œâ
 use Rattle.std.specs.List.{All}
 use Rattle.std.specs.Option.{IsSome}
 use Rattle.xs_value.specs.declared.value.Value.{Value}
-use Rattle.xs_semantics.specs.Globals.{Table, value_given}
-use Rattle.xs_semantics.specs.World.{World}
+use Rattle.xs_body_spec.specs.Globals.{Table, value_given}
+use Rattle.xs_body_spec.specs.World.{World}
 use Rattle.xs_globals.specs.Results.{settled_by}
 use Rattle.xs_globals.specs.steps.Settling.{table_of}
 use Rattle.xs_globals.proofs.SettledLemmas.{first-going, first-marked, settles-so, whole-there}

@@ -1,4 +1,4 @@
-use Rattle.xs_semantics.specs.Globals.{settled}
+use Rattle.xs_body_spec.specs.Globals.{settled}
 use Rattle.xs_globals.specs.steps.Settling.{table_of}
 use Rattle.xs_globals.proofs.SettlingLemmas.{none-follow}
 use Rattle.xs_globals.proofs.settling.settle_in_turn.Goals as goal

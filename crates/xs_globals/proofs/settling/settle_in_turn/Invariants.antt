@@ -1,5 +1,5 @@
 use Rattle.std.proofs.Common.{[], length}
-use Rattle.xs_semantics.specs.Globals.{AllSettle, Settled}
+use Rattle.xs_body_spec.specs.Globals.{AllSettle, Settled}
 use Rattle.xs_globals.specs.steps.Settling.{IsGoing, IsMarked, table_of}
 use Rattle.xs_globals.proofs.settling.settle_in_turn.Given as goal
 

@@ -1,6 +1,6 @@
 use Rattle.std.proofs.Common.{[], IfOk, List, ℕ, subst}
-use Rattle.xs_meaning.specs.Evaluation.{run_of_tree}
-use Rattle.xs_matching.specs.Matching.{pattern_context}
+use Rattle.xs_eval_spec.specs.Evaluation.{run_of_tree}
+use Rattle.xs_pattern_spec.specs.Matching.{pattern_context}
 use Rattle.xs_xpath.specs.Exprs.{tree_from}
 use Rattle.xs_xpath.specs.Tree.{Tree}
 use Rattle.xs_keys.specs.steps.Pairs.{IsUsed}

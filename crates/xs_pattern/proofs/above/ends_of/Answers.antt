@@ -3,7 +3,7 @@ use Rattle.std.proofs.lemmas.List.{at_drop_all, take_all}
 use Rattle.std.specs.List.{list_all}
 use Rattle.xs_xpath.specs.declared.expr.Expr.{Expr}
 use Rattle.xs_xpath.specs.Exprs.{tree_from, trees_from}
-use Rattle.xs_meaning.proofs.StepLemmas.{from_here}
+use Rattle.xs_eval_spec.proofs.StepLemmas.{from_here}
 use Rattle.xs_pattern.specs.steps.Above.{AreNext, EndsBy, is_plain}
 use Rattle.xs_pattern.specs.steps.Climb.{backwards}
 use Rattle.xs_pattern.proofs.AboveLemmas.{plain-not, plain-whole}

@@ -1,5 +1,5 @@
 use Rattle.std.proofs.Common.{◌≡◌, ℕ, ◌<◌, false, get_or, length, take}
-use Rattle.xs_matching.specs.Matching.{matches}
+use Rattle.xs_pattern_spec.specs.Matching.{matches}
 use Rattle.xs_pattern.proofs.match_tables.match_table.Given as goal
 
 -- the found are those of the alternatives that were passed

@@ -1,9 +1,9 @@
 use Rattle.std.proofs.Common.{◌≡◌, ℕ, ◌++◌, ◌<◌, List, ap, length, rules, subst, sym, ◌∙◌}
 use Rattle.xs_tree.specs.Axis.{axis_list}
-use Rattle.xs_meaning.specs.Context.{Context}
-use Rattle.xs_meaning.specs.Paths.{tested}
-use Rattle.xs_meaning.specs.steps.Nodes.{AreSome}
-use Rattle.xs_meaning.proofs.AxisListLemmas.{axis-inside, next-inside, tested-some}
+use Rattle.xs_eval_spec.specs.Context.{Context}
+use Rattle.xs_eval_spec.specs.Paths.{tested}
+use Rattle.xs_eval_spec.specs.steps.Nodes.{AreSome}
+use Rattle.xs_eval_spec.proofs.AxisListLemmas.{axis-inside, next-inside, tested-some}
 use Rattle.xs_pattern.proofs.node_tests.tested.Goals as goal
 
 pub passes-requires : goal.passes-requires

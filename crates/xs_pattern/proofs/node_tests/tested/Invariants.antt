@@ -1,7 +1,7 @@
 use Rattle.std.proofs.Common.{◌≡◌, ◌++◌, filter}
 use Rattle.xs_tree.specs.Axis.{axis_list}
 use Rattle.xs_tree.specs.Record.{at}
-use Rattle.xs_meaning.specs.Paths.{passes, tested}
+use Rattle.xs_eval_spec.specs.Paths.{passes, tested}
 use Rattle.xs_pattern.proofs.node_tests.tested.Given as goal
 
 -- what was found, with those that pass of the nodes that are left, is the whole

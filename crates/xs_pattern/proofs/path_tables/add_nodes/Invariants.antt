@@ -1,5 +1,5 @@
 use Rattle.std.proofs.Common.{◌≡◌, ℕ, ◌<◌, ◌||◌, false, drop, get_or, length}
-use Rattle.xs_matching.specs.Predicates.{is_among}
+use Rattle.xs_pattern_spec.specs.Predicates.{is_among}
 use Rattle.xs_pattern.proofs.path_tables.add_nodes.Given as goal
 
 -- the table, with the nodes that are left, is whole

@@ -1,6 +1,6 @@
 use Rattle.std.proofs.Common.{ℕ, ◌<◌, ◌||◌, Bool, List, false, ap, get_or, length, subst, sym, ◌∙◌}
 use Rattle.xs_xpath.specs.Exprs.{tree_from}
-use Rattle.xs_matching.specs.Predicates.{is_among}
+use Rattle.xs_pattern_spec.specs.Predicates.{is_among}
 use Rattle.xs_pattern.specs.steps.PathTables.{is_selected}
 use Rattle.xs_pattern.proofs.PathTableLemmas.{any-more}
 use Rattle.xs_pattern.proofs.path_tables.led.Goals as goal

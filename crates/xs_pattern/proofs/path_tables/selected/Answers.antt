@@ -1,8 +1,8 @@
 use Rattle.std.proofs.Common.{◌≡◌, ℕ, IfOk, List, [], ap, subst, sym, ◌∙◌}
 use Rattle.xs_xpath.specs.declared.expr.Expr.{Expr}
 use Rattle.xs_xpath.specs.Exprs.{tree_from}
-use Rattle.xs_meaning.specs.Evaluation.{runs_of}
-use Rattle.xs_matching.specs.Matching.{selected, step_nodes}
+use Rattle.xs_eval_spec.specs.Evaluation.{runs_of}
+use Rattle.xs_pattern_spec.specs.Matching.{selected, step_nodes}
 use Rattle.xs_pattern.proofs.TreeLemmas.{selected-step}
 use Rattle.xs_pattern.proofs.path_tables.selected.Goals as goal
 

@@ -1,7 +1,7 @@
 use Rattle.std.proofs.Common.{ap, sym, ◌∙◌}
 use Rattle.xs_xpath.specs.Exprs.{tree_from, trees_from}
 use Rattle.xs_xpath.specs.declared.expr.Expr.{Expr}
-use Rattle.xs_matching.specs.Matching.{steps_of}
+use Rattle.xs_pattern_spec.specs.Matching.{steps_of}
 use Rattle.xs_pattern.proofs.TreeLemmas.{steps_of-path}
 use Rattle.xs_pattern.proofs.paths.steps_of.Goals as goal
 

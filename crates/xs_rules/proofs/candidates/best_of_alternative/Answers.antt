@@ -1,9 +1,9 @@
 use Rattle.std.proofs.Common.{true, IfSome, Some, List, ℕ, ap, subst, sym, ◌∙◌}
 use Rattle.std.specs.Option.{option_map_or}
 use Rattle.xs_xpath.specs.Exprs.{tree_from}
-use Rattle.xs_matching.specs.Matching.{matches_path, pattern_context}
+use Rattle.xs_pattern_spec.specs.Matching.{matches_path, pattern_context}
 use Rattle.xs_rules.specs.declared.candidates.Best.{Best}
-use Rattle.xs_matching.specs.declared.ranks.Rank.{Rank}
+use Rattle.xs_pattern_spec.specs.declared.ranks.Rank.{Rank}
 use Rattle.xs_rules.specs.Ranks.{outranks}
 use Rattle.xs_rules.specs.Rules.{candidate}
 use Rattle.xs_rules.specs.steps.Candidates.{is_matching}

@@ -1,6 +1,6 @@
 use Rattle.std.proofs.Common.{◌≡◌, IfOk, refl, subst, true}
 use Rattle.xs_rules.specs.declared.candidates.Looked.TheVariants.{All}
-use Rattle.xs_matching.specs.declared.rule.Rule.{Rule}
+use Rattle.xs_pattern_spec.specs.declared.rule.Rule.{Rule}
 use Rattle.xs_rules.proofs.RuleLemmas.{chosen-best}
 use Rattle.xs_rules.proofs.choice.choose.Goals as goal
 

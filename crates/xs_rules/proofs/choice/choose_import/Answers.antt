@@ -1,6 +1,6 @@
 use Rattle.std.proofs.Common.{◌≡◌, IfOk, List, ap, subst, ◌∙◌}
 use Rattle.xs_sheet.specs.declared.declarations.Template.{Template}
-use Rattle.xs_matching.specs.declared.rule.Rule.{Rule}
+use Rattle.xs_pattern_spec.specs.declared.rule.Rule.{Rule}
 use Rattle.xs_rules.specs.Rules.{is_imported}
 use Rattle.xs_rules.proofs.RuleLemmas.{chosen-best}
 use Rattle.xs_rules.proofs.choice.choose_import.Goals as goal

@@ -1,5 +1,5 @@
 use Rattle.std.proofs.Common.{◌≡◌, IfOk, subst}
-use Rattle.xs_matching.specs.declared.rule.Rule.{Rule}
+use Rattle.xs_pattern_spec.specs.declared.rule.Rule.{Rule}
 use Rattle.xs_rules.specs.Rules.{is_imported}
 use Rattle.xs_rules.proofs.RuleLemmas.{chosen-best}
 use Rattle.xs_rules.proofs.index.choose_import_with.Goals as goal

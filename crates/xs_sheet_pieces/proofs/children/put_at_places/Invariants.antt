@@ -1,5 +1,5 @@
 use Rattle.std.proofs.Common.{◌≡◌, ◌++◌, length, reverse}
-use Rattle.xs_task_tree.specs.Placed.{placed_tasks}
+use Rattle.xs_task_laws.specs.Placed.{placed_tasks}
 use Rattle.xs_sheet_pieces.proofs.children.put_at_places.Given as goal
 
 abbrev pub invariant-loop-task : goal.invariant-loop-task

@@ -2,7 +2,7 @@ use Rattle.std.proofs.Common.{Vec, Global, ◌∙◌, ◌+◌, ap, sym, arith, d
 use Rattle.std.proofs.lemmas.List.{drop_all}
 use Rattle.xs_words.specs.Inputs.{all_pairs}
 use Rattle.xs_words.specs.Results.{borrowed}
-use Rattle.xs_trace.specs.declared.text.TextBuf.{TextBuf}
+use Rattle.xs_text.specs.declared.text.TextBuf.{TextBuf}
 use Rattle.xs_words.proofs.InputLemmas.{pairs_at, pairs_done, pairs_refused, prepended}
 use Rattle.xs_words.proofs.inputs.all_pairs.Goals as goal
 

@@ -2,8 +2,8 @@ use Rattle.std.proofs.Common.{◌≡◌, ◌<◌, length, refl, sym, ap, ◌∙�
 use Rattle.std.specs.Option.{IsSome}
 use Rattle.std.proofs.lemmas.List.Elements.{All-same}
 use Rattle.xs_value.specs.Conversion.{IsIn}
-use Rattle.xs_semantics.specs.declared.focus.Focus.{Focus}
-use Rattle.xs_semantics.specs.World.{World}
+use Rattle.xs_body_spec.specs.declared.focus.Focus.{Focus}
+use Rattle.xs_body_spec.specs.World.{World}
 use Rattle.xs_body.specs.Inside.{AreValues}
 use Rattle.xs_body.specs.declared.frames.Rules.{Rules}
 use Rattle.xs_body.specs.steps.Frames.{Evaluation}
@@ -11,7 +11,7 @@ use Rattle.std.proofs.lemmas.Result.{err_from_is_err_and}
 use Rattle.xs_trace.specs.Play.{and_then, ticked}
 use Rattle.xs_trace.proofs.GrowthLemmas.{passes}
 use Rattle.std.proofs.Common.{◌+◌, drop, ◌∷◌, []}
-use Rattle.xs_semantics.specs.World.{at_node}
+use Rattle.xs_body_spec.specs.World.{at_node}
 use Rattle.xs_body.specs.steps.Frames.{apply_left, entering_fitting, pushed}
 use Rattle.xs_body.specs.steps.Lists.{nodes_in}
 use Rattle.xs_body.proofs.GrowthLemmas.{fitting-grows}

@@ -4,7 +4,7 @@ use Rattle.xs_sheet.specs.declared.body.InstrKind.{InstrKind}
 use Rattle.xs_sheet.specs.declared.body.SortDecl.{SortDecl}
 use Rattle.xs_trace.specs.Play.{IsStepBy, and_then}
 use Rattle.xs_trace.specs.Run.{limited}
-use Rattle.xs_semantics.specs.World.{looped_nodes}
+use Rattle.xs_body_spec.specs.World.{looped_nodes}
 use Rattle.xs_body.specs.steps.Lists.{nodes_in}
 use Rattle.xs_body.specs.steps.Frames.{Evaluation, begun, chars_steps, copy_of_steps, element_put, last, loop_begun, number_steps, value_steps}
 use Rattle.xs_body.specs.steps.Making.{name_steps}

@@ -1,8 +1,8 @@
 use Rattle.std.proofs.Common.{[]}
 use Rattle.std.proofs.lemmas.Result.{err_from_is_err_and}
 use Rattle.xs_trace.specs.Run.{limited}
-use Rattle.xs_semantics.specs.Trace.{by_rules}
-use Rattle.xs_semantics.specs.World.{applied_nodes}
+use Rattle.xs_body_spec.specs.Trace.{by_rules}
+use Rattle.xs_body_spec.specs.World.{applied_nodes}
 use Rattle.xs_body.specs.steps.Frames.{bindings_of, last, passes_on}
 use Rattle.xs_body.specs.steps.Lists.{nodes_in}
 use Rattle.xs_body.proofs.ExitLemmas.{stack-exit}

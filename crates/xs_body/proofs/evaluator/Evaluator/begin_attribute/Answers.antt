@@ -1,6 +1,6 @@
 use Rattle.std.proofs.lemmas.Result.{err_from_is_err_and}
 use Rattle.std.proofs.Common.{◌<◌, length, refl, rules, subst, sym, true}
-use Rattle.xs_semantics.specs.declared.made.Made.TheVariants as made
+use Rattle.xs_body_spec.specs.declared.made.Made.TheVariants as made
 use Rattle.xs_body.specs.steps.Frames.{Evaluation, last, made_begun}
 use Rattle.xs_body.specs.steps.Making.{name_steps}
 use Rattle.xs_body.proofs.ExitLemmas.{stack-exit}

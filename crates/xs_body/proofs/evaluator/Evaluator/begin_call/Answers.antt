@@ -1,6 +1,6 @@
 use Rattle.std.proofs.Common.{[], ap, refl, rules}
 use Rattle.std.proofs.lemmas.List.Elements.{All-nil, All-same}
-use Rattle.xs_semantics.specs.Tasks.{Params}
+use Rattle.xs_body_spec.specs.Tasks.{Params}
 use Rattle.xs_value.specs.Conversion.{IsIn}
 use Rattle.xs_body.proofs.evaluator.Evaluator.begin_call.Goals as goal
 

@@ -3,7 +3,7 @@ use Rattle.std.proofs.lemmas.Result.{err_from_is_err_and}
 use Rattle.xs_trace.specs.Play.{Goes}
 use Rattle.xs_trace.specs.Run.{limited}
 use Rattle.xs_trace.proofs.GrowthLemmas.{goes-grows}
-use Rattle.xs_semantics.specs.World.{test_run}
+use Rattle.xs_body_spec.specs.World.{test_run}
 use Rattle.xs_body.specs.steps.Frames.{inner, instrs_of, last, pushed, rest}
 use Rattle.xs_body.proofs.ExitLemmas.{stack-exit}
 use Rattle.xs_body.proofs.evaluator.Evaluator.begin_if.Goals as goal

@@ -1,5 +1,5 @@
 use Rattle.std.proofs.lemmas.Result.{err_from_is_err_and}
-use Rattle.xs_semantics.specs.declared.made.Made.TheVariants as made
+use Rattle.xs_body_spec.specs.declared.made.Made.TheVariants as made
 use Rattle.xs_body.specs.steps.Frames.{last, made_begun}
 use Rattle.xs_body.specs.steps.Making.{target_steps}
 use Rattle.xs_body.proofs.ExitLemmas.{stack-exit}

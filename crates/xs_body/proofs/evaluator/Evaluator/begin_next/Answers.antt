@@ -1,6 +1,6 @@
 use Rattle.std.proofs.Common.{◌≡◌, ◌<◌, length, refl, sym, ap, subst, rules, true}
 use Rattle.std.specs.Option.{IsSome}
-use Rattle.xs_semantics.specs.World.{World}
+use Rattle.xs_body_spec.specs.World.{World}
 use Rattle.xs_body.specs.steps.Frames.{Evaluation}
 use Rattle.std.proofs.lemmas.Result.{err_from_is_err_and}
 use Rattle.xs_trace.specs.Play.{ticked}

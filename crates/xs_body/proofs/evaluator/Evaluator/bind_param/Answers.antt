@@ -1,6 +1,6 @@
 use Rattle.std.proofs.Common.{◌<◌, length, refl, sym, ap, subst, ◌∙◌, rules}
 use Rattle.xs_value.specs.Conversion.{IsIn}
-use Rattle.xs_semantics.specs.World.{World}
+use Rattle.xs_body_spec.specs.World.{World}
 use Rattle.xs_body.specs.Inside.{AreValues}
 use Rattle.xs_body.specs.declared.frames.ParamsLeft.{ParamsLeft}
 use Rattle.xs_body.specs.steps.Frames.{Evaluation}
@@ -8,7 +8,7 @@ use Rattle.xs_body.proofs.PassedLemmas.{passed-inside}
 use Rattle.std.proofs.lemmas.Result.{err_from_is_err_and}
 use Rattle.xs_trace.specs.Play.{ticked}
 use Rattle.std.proofs.Common.{◌∷◌, []}
-use Rattle.xs_semantics.specs.Tasks.{value_passed}
+use Rattle.xs_body_spec.specs.Tasks.{value_passed}
 use Rattle.xs_body.specs.steps.Frames.{bound, param_begun, params_first, pushed}
 use Rattle.xs_body.proofs.GrowthLemmas.{param-grows}
 use Rattle.xs_body.proofs.ExitLemmas.{stack-exit}

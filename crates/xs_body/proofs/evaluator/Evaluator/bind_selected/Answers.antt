@@ -3,7 +3,7 @@ use Rattle.std.proofs.lemmas.Result.{err_from_is_err_and}
 use Rattle.xs_trace.specs.Play.{Goes}
 use Rattle.xs_trace.specs.Run.{limited}
 use Rattle.xs_trace.proofs.GrowthLemmas.{goes-grows}
-use Rattle.xs_semantics.specs.World.{value_run}
+use Rattle.xs_body_spec.specs.World.{value_run}
 use Rattle.xs_body.specs.steps.Frames.{filled_up, last}
 use Rattle.xs_body.proofs.ExitLemmas.{stack-exit}
 use Rattle.xs_body.proofs.evaluator.Evaluator.bind_selected.Goals as goal

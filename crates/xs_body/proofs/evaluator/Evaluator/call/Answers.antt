@@ -1,7 +1,7 @@
 use Rattle.std.proofs.Common.{◌≡◌, refl, ap, rules}
 use Rattle.std.proofs.lemmas.List.Elements.{All-same}
 use Rattle.xs_value.specs.Conversion.{IsIn}
-use Rattle.xs_semantics.specs.Tasks.{Params}
+use Rattle.xs_body_spec.specs.Tasks.{Params}
 use Rattle.xs_body.proofs.evaluator.Evaluator.call.Goals as goal
 
 pub call_with-requires-sync-K : goal.call_with-requires-sync-K

@@ -2,7 +2,7 @@ use Rattle.std.proofs.lemmas.Result.{err_from_is_err_and}
 use Rattle.xs_trace.specs.Play.{ticked}
 use Rattle.xs_body.proofs.GrowthLemmas.{entering-grows}
 use Rattle.xs_body.specs.steps.Frames.{entering}
-use Rattle.xs_semantics.specs.Trace.{named}
+use Rattle.xs_body_spec.specs.Trace.{named}
 use Rattle.xs_body.proofs.ExitLemmas.{stack-exit}
 use Rattle.xs_body.proofs.evaluator.Evaluator.call_template.Goals as goal
 

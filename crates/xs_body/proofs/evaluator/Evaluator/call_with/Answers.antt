@@ -2,7 +2,7 @@ use Rattle.std.proofs.Common.{◌≡◌, refl, ap, subst, rules}
 use Rattle.std.proofs.lemmas.List.Elements.{All-same}
 use Rattle.xs_value.specs.Conversion.{IsIn}
 use Rattle.xs_body.specs.Inside.{AreCallees}
-use Rattle.xs_semantics.specs.Tasks.{Params}
+use Rattle.xs_body_spec.specs.Tasks.{Params}
 use Rattle.xs_body.specs.declared.frames.Callee.{Callee}
 use Rattle.xs_body.proofs.evaluator.Evaluator.call_with.Goals as goal
 

@@ -7,7 +7,7 @@ use Rattle.xs_trace.specs.Play.{and_then}
 use Rattle.xs_trace.specs.Run.{Run, Gives, give, limited}
 use Rattle.xs_trace.proofs.GrowthLemmas.{passes}
 use Rattle.xs_trace.proofs.RunLemmas.{limited-bind, limited-end, limited-grows}
-use Rattle.xs_semantics.specs.World.{test_run}
+use Rattle.xs_body_spec.specs.World.{test_run}
 use Rattle.xs_body.specs.steps.Frames.{chosen_of, last}
 use Rattle.xs_body.proofs.evaluator.Evaluator.chosen.Goals as goal
 

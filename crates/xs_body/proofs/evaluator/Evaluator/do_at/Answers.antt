@@ -2,12 +2,12 @@ use Rattle.std.proofs.lemmas.Result.{err_from_is_err_and}
 use Rattle.xs_trace.specs.Play.{and_then, ticked}
 use Rattle.std.proofs.Common.{◌≡◌, ◌<◌, ◌+◌, drop, length, ◌∷◌, [], ap, refl, sym, subst, rules, true}
 use Rattle.std.specs.Option.{IsSome}
-use Rattle.xs_semantics.specs.declared.focus.Focus.{Focus}
-use Rattle.xs_semantics.specs.World.{World}
+use Rattle.xs_body_spec.specs.declared.focus.Focus.{Focus}
+use Rattle.xs_body_spec.specs.World.{World}
 use Rattle.xs_body.specs.declared.frames.Scope.{Scope}
 use Rattle.xs_body.specs.steps.Frames.{Evaluation}
 use Rattle.xs_trace.proofs.GrowthLemmas.{passes}
-use Rattle.xs_semantics.specs.World.{at_node}
+use Rattle.xs_body_spec.specs.World.{at_node}
 use Rattle.xs_body.specs.steps.Frames.{each_left, instrs_of, over, pushed, rest_begun}
 use Rattle.xs_body.proofs.GrowthLemmas.{rest-grows}
 use Rattle.xs_body.specs.steps.Lists.{nodes_in}

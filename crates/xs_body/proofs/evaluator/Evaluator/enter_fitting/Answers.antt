@@ -1,5 +1,5 @@
 use Rattle.std.proofs.Common.{◌<◌, length, refl, sym, subst, rules}
-use Rattle.xs_semantics.specs.declared.focus.Focus.{Focus}
+use Rattle.xs_body_spec.specs.declared.focus.Focus.{Focus}
 use Rattle.xs_body.proofs.evaluator.Evaluator.enter_fitting.Goals as goal
 
 pub enter_rule-requires-sync-K : goal.enter_rule-requires-sync-K

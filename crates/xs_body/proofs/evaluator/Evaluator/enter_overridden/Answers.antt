@@ -1,8 +1,8 @@
 use Rattle.std.proofs.Common.{◌<◌, [], length, refl, sym, ap, subst, rules}
 use Rattle.std.proofs.lemmas.List.Elements.{All-nil, All-same}
 use Rattle.xs_value.specs.Conversion.{IsIn}
-use Rattle.xs_semantics.specs.Tasks.{Params}
-use Rattle.xs_semantics.specs.declared.focus.Focus.{Focus}
+use Rattle.xs_body_spec.specs.Tasks.{Params}
+use Rattle.xs_body_spec.specs.declared.focus.Focus.{Focus}
 use Rattle.xs_body.proofs.evaluator.Evaluator.enter_overridden.Goals as goal
 
 pub begin_rule-requires-sync-K : goal.begin_rule-requires-sync-K

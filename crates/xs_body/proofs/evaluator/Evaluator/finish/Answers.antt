@@ -1,7 +1,7 @@
 use Rattle.std.proofs.Common.{◌≡◌, refl, sym, ap, ◌∙◌, subst, rules, true}
 use Rattle.std.proofs.lemmas.Result.{err_from_is_err_and}
 use Rattle.std.specs.Option.{IsSome}
-use Rattle.xs_semantics.specs.World.{World}
+use Rattle.xs_body_spec.specs.World.{World}
 use Rattle.xs_body.specs.steps.Frames.{Evaluation, stack_told, work_of}
 use Rattle.xs_body.proofs.LoopLemmas.{goes-on, breaks-off}
 use Rattle.xs_body.proofs.WorldLemmas.{same-world}

@@ -1,9 +1,9 @@
 use Rattle.std.proofs.Common.{ℕ, List, Option, ap, refl, sym, ◌∙◌}
 use Rattle.std.proofs.lemmas.Result.{err_from_is_err_and}
-use Rattle.xs_meaning.proofs.StepLemmas.{exits, gives, goes_on}
+use Rattle.xs_eval_spec.proofs.StepLemmas.{exits, gives, goes_on}
 use Rattle.xs_trace.specs.Play.{Goes}
 use Rattle.xs_trace.specs.Run.{Run, give, ◌>>=◌}
-use Rattle.xs_semantics.specs.Numbers.{Formatting, format_run, group_in, optional_run}
+use Rattle.xs_body_spec.specs.Numbers.{Formatting, format_run, group_in, optional_run}
 use Rattle.xs_body.specs.declared.numbers.Formatting as code_formatting
 use Rattle.xs_body.specs.steps.Frames.{last}
 use Rattle.xs_body.specs.steps.Numbers.{formatting_of}

@@ -1,9 +1,9 @@
 use Rattle.std.proofs.lemmas.Result.{err_from_is_err_and}
-use Rattle.xs_meaning.specs.Results.{given, nodes_in}
+use Rattle.xs_eval_spec.specs.Results.{given, nodes_in}
 use Rattle.xs_trace.specs.Run.{limited}
 use Rattle.xs_trace.proofs.GrowthLemmas.{passes}
 use Rattle.xs_trace.proofs.RunLemmas.{limited-bind, limited-grows}
-use Rattle.xs_semantics.specs.World.{value_run}
+use Rattle.xs_body_spec.specs.World.{value_run}
 use Rattle.xs_body.specs.steps.Frames.{last}
 use Rattle.xs_body.proofs.evaluator.Evaluator.nodes.Goals as goal
 

@@ -1,12 +1,12 @@
 use Rattle.std.proofs.Common.{refl}
 use Rattle.std.proofs.lemmas.Result.{err_from_is_err_and}
-use Rattle.xs_meaning.specs.Results.{given, numeric}
-use Rattle.xs_meaning.proofs.StepLemmas.{continues, exits, goes_on}
+use Rattle.xs_eval_spec.specs.Results.{given, numeric}
+use Rattle.xs_eval_spec.proofs.StepLemmas.{continues, exits, goes_on}
 use Rattle.xs_sort.proofs.GivenLemmas.{given-step}
 use Rattle.xs_num.specs.declared.number.Number.{Number}
 use Rattle.xs_value.specs.Conversion.{number_value}
 use Rattle.xs_value.specs.declared.value.Value.{Value}
-use Rattle.xs_semantics.specs.World.{value_run}
+use Rattle.xs_body_spec.specs.World.{value_run}
 use Rattle.xs_body.specs.steps.Frames.{last}
 use Rattle.xs_body.proofs.evaluator.Evaluator.number.Goals as goal
 

@@ -5,8 +5,8 @@ use Rattle.xs_trace.specs.State.{State}
 use Rattle.xs_trace.specs.Play.{Step, and_then}
 use Rattle.xs_trace.proofs.GrowthLemmas.{passes}
 use Rattle.xs_value.specs.declared.value.Value.{Value}
-use Rattle.xs_semantics.specs.Tasks.{Task}
-use Rattle.xs_semantics.specs.World.{value_run}
+use Rattle.xs_body_spec.specs.Tasks.{Task}
+use Rattle.xs_body_spec.specs.World.{value_run}
 use Rattle.xs_body.specs.declared.frames.Passing.{Passing}
 use Rattle.xs_body.specs.declared.frames.Scope.{Scope}
 use Rattle.xs_body.specs.steps.Frames.{Evaluation, called_of, last, passes_on}

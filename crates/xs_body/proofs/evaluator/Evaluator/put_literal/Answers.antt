@@ -3,7 +3,7 @@ use Rattle.std.specs.Cow.{cow_str_bytes}
 use Rattle.std.specs.declared.alloc.Global.{Global}
 use Rattle.std.proofs.lemmas.Result.{err_from_is_err_and}
 use Rattle.xs_trace.proofs.GrowthLemmas.{passes}
-use Rattle.xs_semantics.specs.Making.{attribute_label}
+use Rattle.xs_body_spec.specs.Making.{attribute_label}
 use Rattle.xs_body.specs.steps.Making.{named_steps}
 use Rattle.xs_body.proofs.MakingLemmas.{named-grows}
 use Rattle.xs_body.proofs.evaluator.Evaluator.put_literal.Goals as goal

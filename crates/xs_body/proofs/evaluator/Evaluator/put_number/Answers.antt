@@ -1,9 +1,9 @@
 use Rattle.std.proofs.Common.{ℕ, List, ap, refl, sym, ◌∙◌}
 use Rattle.std.proofs.lemmas.Result.{err_from_is_err_and}
-use Rattle.xs_meaning.proofs.StepLemmas.{continues, gives, goes_on}
+use Rattle.xs_eval_spec.proofs.StepLemmas.{continues, gives, goes_on}
 use Rattle.xs_trace.specs.Play.{and_then}
 use Rattle.xs_trace.specs.Run.{Run, give, ◌>>=◌}
-use Rattle.xs_semantics.specs.Numbers.{Formatting, Numbered, formatting_run, numbered_by, written}
+use Rattle.xs_body_spec.specs.Numbers.{Formatting, Numbered, formatting_run, numbered_by, written}
 use Rattle.xs_body.specs.declared.numbers.Formatting as code_formatting
 use Rattle.xs_body.specs.declared.numbers.Numbered as code_numbered
 use Rattle.xs_body.specs.steps.Frames.{chars_steps, last}

@@ -3,7 +3,7 @@ use Rattle.xs_trace.specs.Run.{give, limited}
 use Rattle.xs_trace.proofs.GrowthLemmas.{passes}
 use Rattle.xs_trace.proofs.RunLemmas.{limited-bind, limited-grows}
 use Rattle.xs_value.specs.Conversion.{text_value}
-use Rattle.xs_semantics.specs.World.{value_run}
+use Rattle.xs_body_spec.specs.World.{value_run}
 use Rattle.xs_body.specs.steps.Frames.{last}
 use Rattle.xs_body.proofs.evaluator.Evaluator.text.Goals as goal
 

@@ -1,10 +1,10 @@
 use Rattle.std.proofs.Common.{◌≡◌, IfOk, None, false, true, ap, refl, rules, slice_get, subst, ◌∙◌}
 use Rattle.xs_trace.specs.Kept.{marks_of}
 use Rattle.xs_trace.specs.Mark.{messages_of}
-use Rattle.xs_semantics.specs.Globals.{attempt_cut, attempt_value}
+use Rattle.xs_body_spec.specs.Globals.{attempt_cut, attempt_value}
 use Rattle.xs_body.specs.Results.{IsAttempt}
-use Rattle.xs_semantics.specs.Tasks.{Task}
-use Rattle.xs_semantics.specs.World.{World}
+use Rattle.xs_body_spec.specs.Tasks.{Task}
+use Rattle.xs_body_spec.specs.World.{World}
 use Rattle.xs_body.proofs.AttemptLemmas.{attempt-comes}
 use Rattle.xs_body.proofs.WholeLemmas.{no-grain}
 use Rattle.xs_body.proofs.runner.SheetRunner.attempt.Goals as goal

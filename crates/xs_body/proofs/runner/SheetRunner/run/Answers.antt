@@ -3,8 +3,8 @@ use Rattle.std.specs.List.{All}
 use Rattle.std.specs.Option.{IsSome}
 use Rattle.xs_record.specs.Piece.{IsPiece}
 use Rattle.xs_body.specs.Inside.{IsTaskIn}
-use Rattle.xs_semantics.specs.Trace.{task_trace}
-use Rattle.xs_semantics.specs.World.{World}
+use Rattle.xs_body_spec.specs.Trace.{task_trace}
+use Rattle.xs_body_spec.specs.World.{World}
 use Rattle.xs_body.proofs.WholeLemmas.{piece-is, task-settled}
 use Rattle.xs_body.proofs.runner.SheetRunner.run.Goals as goal
 

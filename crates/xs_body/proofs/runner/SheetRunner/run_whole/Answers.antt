@@ -1,5 +1,5 @@
 use Rattle.std.proofs.Common.{◌≡◌, None, ap, ◌∙◌}
-use Rattle.xs_semantics.specs.World.{with_grain}
+use Rattle.xs_body_spec.specs.World.{with_grain}
 use Rattle.xs_body.proofs.WholeLemmas.{blocks-back, whole-one, whole-outcome}
 use Rattle.xs_body.proofs.runner.SheetRunner.run_whole.Goals as goal
 

@@ -11,22 +11,22 @@ use Rattle.xs_value.specs.NodeSet.{in_order}
 use Rattle.xs_value.proofs.NodeSetLemmas.{in_order-same}
 use Rattle.xs_xpath.specs.declared.expr.Expr.TheVariants as expr
 use Rattle.xs_xpath.specs.declared.token.Operator.TheVariants.{Or}
-use Rattle.xs_meaning.specs.Conditions.{IsContext}
-use Rattle.xs_meaning.specs.Context.{Context, at_node}
-use Rattle.xs_meaning.specs.Evaluation.{and_argument, answered, arguments, called_of, chain, joined, joined_from, run_of, runs_of}
-use Rattle.xs_meaning.specs.Operators.{negation, operated}
-use Rattle.xs_meaning.specs.steps.Nodes.{AreSome}
+use Rattle.xs_eval_spec.specs.Conditions.{IsContext}
+use Rattle.xs_eval_spec.specs.Context.{Context, at_node}
+use Rattle.xs_eval_spec.specs.Evaluation.{and_argument, answered, arguments, called_of, chain, joined, joined_from, run_of, runs_of}
+use Rattle.xs_eval_spec.specs.Operators.{negation, operated}
+use Rattle.xs_eval_spec.specs.steps.Nodes.{AreSome}
 use Rattle.xs_eval.specs.steps.Positions.{picked}
-use Rattle.xs_meaning.specs.Paths.{and_from, filter_expr, filtered, judged, kept_if, kept_of, path, selected, selects, step, steps_from, through}
-use Rattle.xs_meaning.specs.Results.{given, nodes_in}
-use Rattle.xs_meaning.proofs.CaseLemmas.{run_call, run_chain, run_number}
-use Rattle.xs_meaning.proofs.CaseLemmas.{run_step, run_filter, run_path}
-use Rattle.xs_meaning.proofs.InsideLemmas.{in_order_all, kept_if_all, kept_if_few, moved, some_in_list}
+use Rattle.xs_eval_spec.specs.Paths.{and_from, filter_expr, filtered, judged, kept_if, kept_of, path, selected, selects, step, steps_from, through}
+use Rattle.xs_eval_spec.specs.Results.{given, nodes_in}
+use Rattle.xs_eval_spec.proofs.CaseLemmas.{run_call, run_chain, run_number}
+use Rattle.xs_eval_spec.proofs.CaseLemmas.{run_step, run_filter, run_path}
+use Rattle.xs_eval_spec.proofs.InsideLemmas.{in_order_all, kept_if_all, kept_if_few, moved, some_in_list}
 use Rattle.xs_eval.proofs.PositionLemmas.{filtered_by_number, picked_some}
-use Rattle.xs_meaning.proofs.StepLemmas.{by_case, closes, continues, costs_on, exits, exits_at_costs, exits_at_tick, exits_in_items, exits_in_parts}
-use Rattle.xs_meaning.proofs.StepLemmas.{gives, goes_on, items_done, items_on, joins_here, joins_no_more}
-use Rattle.xs_meaning.proofs.StepLemmas.{Rest, but_first, first_and_rest, first_and_rest_at}
-use Rattle.xs_meaning.proofs.StepLemmas.{mapped_at, mapped_below, mapped_end, parts_on, placed_at, placed_below, placed_end, no_items, only_item, ticks_on}
+use Rattle.xs_eval_spec.proofs.StepLemmas.{by_case, closes, continues, costs_on, exits, exits_at_costs, exits_at_tick, exits_in_items, exits_in_parts}
+use Rattle.xs_eval_spec.proofs.StepLemmas.{gives, goes_on, items_done, items_on, joins_here, joins_no_more}
+use Rattle.xs_eval_spec.proofs.StepLemmas.{Rest, but_first, first_and_rest, first_and_rest_at}
+use Rattle.xs_eval_spec.proofs.StepLemmas.{mapped_at, mapped_below, mapped_end, parts_on, placed_at, placed_below, placed_end, no_items, only_item, ticks_on}
 use Rattle.xs_eval.proofs.UnionLemmas.{only_runs, union_runs}
 use Rattle.xs_eval.proofs.evaluator.Evaluator.+evaluate.Goals as goal
 

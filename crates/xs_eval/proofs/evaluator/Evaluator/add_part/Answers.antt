@@ -5,10 +5,10 @@ use Rattle.xs_trace.specs.Play.{Goes}
 use Rattle.xs_trace.specs.Run.{give, limited}
 use Rattle.xs_value.specs.Conversion.{text_value}
 use Rattle.xs_xpath.specs.AvtParts.{part_from}
-use Rattle.xs_meaning.specs.Context.{Context}
-use Rattle.xs_meaning.specs.Evaluation.{run_of}
-use Rattle.xs_meaning.specs.Templates.{and_part}
-use Rattle.xs_meaning.proofs.StepLemmas.{exits, gives, goes_on}
+use Rattle.xs_eval_spec.specs.Context.{Context}
+use Rattle.xs_eval_spec.specs.Evaluation.{run_of}
+use Rattle.xs_eval_spec.specs.Templates.{and_part}
+use Rattle.xs_eval_spec.proofs.StepLemmas.{exits, gives, goes_on}
 use Rattle.xs_eval.proofs.evaluator.Evaluator.add_part.Goals as goal
 
 pub returns-in_err-v-in-Computed-clause-told : goal.returns-in_err-v-in-Computed-clause-told

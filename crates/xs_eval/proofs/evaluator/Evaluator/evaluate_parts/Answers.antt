@@ -3,8 +3,8 @@ use Rattle.std.proofs.lemmas.Result.{err_from_is_err_and}
 use Rattle.std.specs.String.{string_bytes}
 use Rattle.xs_trace.specs.Run.{fold, give, limited}
 use Rattle.xs_xpath.specs.AvtParts.{parts_from}
-use Rattle.xs_meaning.specs.Templates.{template}
-use Rattle.xs_meaning.proofs.StepLemmas.{exits_in_items, gives_alone, items_on}
+use Rattle.xs_eval_spec.specs.Templates.{template}
+use Rattle.xs_eval_spec.proofs.StepLemmas.{exits_in_items, gives_alone, items_on}
 use Rattle.xs_eval.proofs.TemplateLemmas.{and_parsed, parts-run}
 use Rattle.xs_eval.proofs.evaluator.Evaluator.evaluate_parts.Goals as goal
 

@@ -2,7 +2,7 @@ use Rattle.std.proofs.Common.{◌≡◌, drop}
 use Rattle.std.specs.String.{string_bytes}
 use Rattle.xs_trace.specs.Run.{fold, limited}
 use Rattle.xs_xpath.specs.AvtParts.{parts_from}
-use Rattle.xs_meaning.specs.Templates.{template}
+use Rattle.xs_eval_spec.specs.Templates.{template}
 use Rattle.xs_eval.proofs.TemplateLemmas.{and_parsed}
 use Rattle.xs_eval.proofs.evaluator.Evaluator.evaluate_parts.Given as goal
 

@@ -2,7 +2,7 @@ use Rattle.std.proofs.Common.{◌≡◌, ◌++◌, map}
 use Rattle.std.specs.Cow.{cow_str_bytes}
 use Rattle.std.specs.List.{flat_map}
 use Rattle.xs_value.specs.Tables.{table_at}
-use Rattle.xs_meaning.specs.Keys.{found_for}
+use Rattle.xs_eval_spec.specs.Keys.{found_for}
 use Rattle.xs_eval.proofs.evaluator.Evaluator.found_for_index.Given as goal
 
 abbrev pub invariant-loop-text : goal.invariant-loop-text

@@ -6,8 +6,8 @@ use Rattle.xs_tree.specs.Record.{string_value}
 use Rattle.xs_value.specs.Tables.{table_at}
 use Rattle.xs_value.specs.TextIndexes.{IsIndexOf}
 use Rattle.xs_eval.proofs.UnitedLemmas.{united-index}
-use Rattle.xs_meaning.specs.Context.{Context}
-use Rattle.xs_meaning.specs.Keys.{found_for}
+use Rattle.xs_eval_spec.specs.Context.{Context}
+use Rattle.xs_eval_spec.specs.Keys.{found_for}
 use Rattle.xs_eval.proofs.KeyLemmas.{finds-same}
 use Rattle.xs_eval.proofs.evaluator.Evaluator.found_for_nodes.Goals as goal
 

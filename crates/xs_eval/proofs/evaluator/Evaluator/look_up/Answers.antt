@@ -4,10 +4,10 @@ use Rattle.std.proofs.lemmas.Result.{err_from_is_err_and}
 use Rattle.xs_trace.specs.Run.{costs, give, limited}
 use Rattle.xs_value.specs.declared.value.Value.TheVariants.{Nodes}
 use Rattle.xs_value.specs.Tables.{table_at}
-use Rattle.xs_meaning.specs.Functions.{second}
-use Rattle.xs_meaning.specs.Keys.{found, from_table, sought}
+use Rattle.xs_eval_spec.specs.Functions.{second}
+use Rattle.xs_eval_spec.specs.Keys.{found, from_table, sought}
 use Rattle.xs_eval.proofs.KeyLemmas.{found-inside}
-use Rattle.xs_meaning.proofs.StepLemmas.{exits_at_costs}
+use Rattle.xs_eval_spec.proofs.StepLemmas.{exits_at_costs}
 use Rattle.xs_eval.proofs.evaluator.Evaluator.look_up.Goals as goal
 
 -- its ticks: the nodes are dropped there, which the search does not get past

@@ -1,8 +1,8 @@
 use Rattle.std.proofs.Common.{ℕ, ◌+◌, List, arith, ap, drop, map, sym, ◌∙◌}
-use Rattle.xs_meaning.specs.Evaluation.{run_of}
-use Rattle.xs_meaning.specs.Paths.{Meaning}
-use Rattle.xs_meaning.proofs.StepLemmas.{from_here, mapped_at, mapped_below}
-use Rattle.xs_matching.specs.Predicates.{all_kept, kept}
+use Rattle.xs_eval_spec.specs.Evaluation.{run_of}
+use Rattle.xs_eval_spec.specs.Paths.{Meaning}
+use Rattle.xs_eval_spec.proofs.StepLemmas.{from_here, mapped_at, mapped_below}
+use Rattle.xs_pattern_spec.specs.Predicates.{all_kept, kept}
 use Rattle.xs_pattern.proofs.matcher.Matcher.all_kept.Goals as goal
 
 pub loop-predicate-preserved : goal.loop-predicate-preserved

@@ -5,11 +5,11 @@ use Rattle.xs_tree.specs.Kinds.{is_root_kind}
 use Rattle.xs_tree.specs.Record.{at}
 use Rattle.xs_value.specs.declared.value.Value.{Value}
 use Rattle.xs_xpath.specs.declared.expr.Expr.{Expr}
-use Rattle.xs_meaning.specs.Context.{Context}
-use Rattle.xs_meaning.specs.Evaluation.{run_of}
-use Rattle.xs_meaning.proofs.CaseLemmas.{run_root}
-use Rattle.xs_matching.specs.Matching.{placed_at}
-use Rattle.xs_matching.specs.Predicates.{is_among, nodes_of, value_in}
+use Rattle.xs_eval_spec.specs.Context.{Context}
+use Rattle.xs_eval_spec.specs.Evaluation.{run_of}
+use Rattle.xs_eval_spec.proofs.CaseLemmas.{run_root}
+use Rattle.xs_pattern_spec.specs.Matching.{placed_at}
+use Rattle.xs_pattern_spec.specs.Predicates.{is_among, nodes_of, value_in}
 use Rattle.xs_pattern.proofs.StartLemmas.{root-among}
 use Rattle.xs_pattern.proofs.matcher.Matcher.begins.Goals as goal
 

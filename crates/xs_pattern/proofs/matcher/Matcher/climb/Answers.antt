@@ -4,9 +4,9 @@ use Rattle.xs_tree.proofs.WalkLemmas.{IsPlaced-at}
 use Rattle.xs_xpath.specs.Exprs.{tree_from}
 use Rattle.xs_xpath.specs.Tree.{Tree}
 use Rattle.xs_xpath.specs.declared.expr.Expr.{Expr}
-use Rattle.xs_meaning.specs.Context.{Context}
-use Rattle.xs_meaning.proofs.StepLemmas.{no_items}
-use Rattle.xs_matching.specs.Matching.{ends_path}
+use Rattle.xs_eval_spec.specs.Context.{Context}
+use Rattle.xs_eval_spec.proofs.StepLemmas.{no_items}
+use Rattle.xs_pattern_spec.specs.Matching.{ends_path}
 use Rattle.xs_pattern.specs.steps.Climb.{backwards}
 use Rattle.xs_pattern.proofs.ClimbLemmas.{Gone, ends-no_parent, ends-parent, ends-start, gone-step, reached-behind}
 use Rattle.xs_pattern.proofs.TreeLemmas.{backwards-push}

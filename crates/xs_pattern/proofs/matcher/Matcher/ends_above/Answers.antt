@@ -2,7 +2,7 @@ use Rattle.std.proofs.Common.{◌≡◌, None, Some, arith, ap, sym, ◌∙◌}
 use Rattle.xs_tree.specs.Record.{at}
 use Rattle.xs_tree.proofs.WalkLemmas.{IsPlaced-at}
 use Rattle.xs_xpath.specs.Exprs.{tree_from}
-use Rattle.xs_meaning.specs.Context.{Context}
+use Rattle.xs_eval_spec.specs.Context.{Context}
 use Rattle.xs_pattern.specs.steps.Climb.{backwards}
 use Rattle.xs_pattern.proofs.ClimbLemmas.{above-root, above-self, above-up}
 use Rattle.xs_pattern.proofs.matcher.Matcher.ends_above.Goals as goal

@@ -1,8 +1,8 @@
 use Rattle.std.proofs.Common.{◌≡◌, ap, sym, subst, ◌∙◌, IfOk}
 use Rattle.xs_value.specs.Tables.{table_at}
-use Rattle.xs_meaning.specs.Context.{Context}
-use Rattle.xs_meaning.specs.Keys.{number_of}
-use Rattle.xs_meaning.specs.Names.{expanded_name}
+use Rattle.xs_eval_spec.specs.Context.{Context}
+use Rattle.xs_eval_spec.specs.Keys.{number_of}
+use Rattle.xs_eval_spec.specs.Names.{expanded_name}
 use Rattle.xs_pattern.specs.steps.Keys.{has_node}
 use Rattle.xs_pattern.proofs.FoundLemmas.{key-known}
 use Rattle.xs_pattern.proofs.matcher.Matcher.is_given_by_key.Goals as goal

@@ -1,6 +1,6 @@
 use Rattle.std.proofs.Common.{ℕ, ◌+◌, ◌==◌, ◌&&◌, arith, ap, length, ◌∙◌}
-use Rattle.xs_meaning.specs.Evaluation.{run_of}
-use Rattle.xs_matching.specs.Predicates.{holds}
+use Rattle.xs_eval_spec.specs.Evaluation.{run_of}
+use Rattle.xs_pattern_spec.specs.Predicates.{holds}
 use Rattle.xs_pattern.proofs.KeptLemmas.{among-end, among-found, among-on}
 use Rattle.xs_pattern.proofs.matcher.Matcher.is_kept.Goals as goal
 

@@ -1,6 +1,6 @@
 use Rattle.std.proofs.Common.{◌≡◌, ◌++◌, length}
-use Rattle.xs_meaning.specs.Evaluation.{run_of}
-use Rattle.xs_matching.specs.Predicates.{holds, kept}
+use Rattle.xs_eval_spec.specs.Evaluation.{run_of}
+use Rattle.xs_pattern_spec.specs.Predicates.{holds, kept}
 use Rattle.xs_pattern.proofs.KeptLemmas.{from_place}
 use Rattle.xs_pattern.proofs.matcher.Matcher.kept.Given as goal
 

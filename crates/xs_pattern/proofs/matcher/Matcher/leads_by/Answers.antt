@@ -3,14 +3,14 @@ use Rattle.xs_tree.specs.declared.kinds.Kind.{Kind}
 use Rattle.xs_tree.specs.Record.{at}
 use Rattle.xs_tree.proofs.WalkLemmas.{IsPlaced-at}
 use Rattle.xs_xpath.specs.declared.expr.Expr.{Expr}
-use Rattle.xs_meaning.specs.Conditions.{IsContext}
-use Rattle.xs_meaning.specs.Context.{Context}
-use Rattle.xs_meaning.specs.Evaluation.{runs_of}
-use Rattle.xs_meaning.specs.Paths.{passes}
-use Rattle.xs_meaning.proofs.InsideLemmas.{moved}
-use Rattle.xs_meaning.proofs.StepLemmas.{no_items}
-use Rattle.xs_matching.specs.Matching.{placed_at, step_nodes}
-use Rattle.xs_matching.specs.Predicates.{is_among}
+use Rattle.xs_eval_spec.specs.Conditions.{IsContext}
+use Rattle.xs_eval_spec.specs.Context.{Context}
+use Rattle.xs_eval_spec.specs.Evaluation.{runs_of}
+use Rattle.xs_eval_spec.specs.Paths.{passes}
+use Rattle.xs_eval_spec.proofs.InsideLemmas.{moved}
+use Rattle.xs_eval_spec.proofs.StepLemmas.{no_items}
+use Rattle.xs_pattern_spec.specs.Matching.{placed_at, step_nodes}
+use Rattle.xs_pattern_spec.specs.Predicates.{is_among}
 use Rattle.xs_pattern.specs.steps.Alone.{AreSaid}
 use Rattle.xs_pattern.specs.steps.Climb.{stands_on}
 use Rattle.xs_pattern.proofs.StepLemmas.{passes-lone, passes-not, said-nodes, stands-not}

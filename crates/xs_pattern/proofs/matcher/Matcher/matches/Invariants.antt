@@ -1,6 +1,6 @@
 use Rattle.std.proofs.Common.{◌≡◌, drop}
 use Rattle.xs_xpath.specs.Exprs.{trees_from}
-use Rattle.xs_matching.specs.Matching.{matches}
+use Rattle.xs_pattern_spec.specs.Matching.{matches}
 use Rattle.xs_pattern.proofs.matcher.Matcher.matches.Given as goal
 
 abbrev pub invariant-loop-alternative : goal.invariant-loop-alternative

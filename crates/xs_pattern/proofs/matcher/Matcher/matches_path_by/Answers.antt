@@ -1,7 +1,7 @@
 use Rattle.std.proofs.Common.{◌≡◌, IfOk, List, reverse, subst}
 use Rattle.xs_xpath.specs.Tree.{Tree}
 use Rattle.xs_xpath.specs.Exprs.{tree_from, trees_from}
-use Rattle.xs_matching.specs.Matching.{ends_path, matches_path, pattern_context, start_of}
+use Rattle.xs_pattern_spec.specs.Matching.{ends_path, matches_path, pattern_context, start_of}
 use Rattle.xs_pattern.proofs.matcher.Matcher.matches_path_by.Goals as goal
 
 pub returns : goal.returns

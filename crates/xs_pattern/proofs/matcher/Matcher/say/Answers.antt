@@ -1,8 +1,8 @@
 use Rattle.std.proofs.Common.{◌+◌, Bool, true, false, List, Option, Some, ap, arith, drop, map, subst, sym, ◌∙◌}
 use Rattle.std.proofs.lemmas.List.{at_drop_all}
-use Rattle.xs_meaning.specs.Evaluation.{run_of}
-use Rattle.xs_meaning.specs.Paths.{Meaning}
-use Rattle.xs_meaning.proofs.StepLemmas.{from_here, mapped_at, mapped_below, mapped_end}
+use Rattle.xs_eval_spec.specs.Evaluation.{run_of}
+use Rattle.xs_eval_spec.specs.Paths.{Meaning}
+use Rattle.xs_eval_spec.proofs.StepLemmas.{from_here, mapped_at, mapped_below, mapped_end}
 use Rattle.xs_pattern.specs.steps.Alone.{AreSaid, IsSaid}
 use Rattle.xs_pattern.proofs.KeptLemmas.{said-dropped, said-none, said-on}
 use Rattle.xs_pattern.proofs.matcher.Matcher.say.Goals as goal

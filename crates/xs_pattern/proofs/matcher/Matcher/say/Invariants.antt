@@ -1,5 +1,5 @@
 use Rattle.std.proofs.Common.{Bool, Option, drop, map}
-use Rattle.xs_meaning.specs.Evaluation.{run_of, runs_of}
+use Rattle.xs_eval_spec.specs.Evaluation.{run_of, runs_of}
 use Rattle.xs_pattern.specs.steps.Alone.{AreSaid}
 use Rattle.xs_pattern.proofs.matcher.Matcher.say.Given as goal
 

@@ -1,8 +1,8 @@
 use Rattle.std.proofs.Common.{ap, sym, ◌∙◌}
 use Rattle.xs_xpath.specs.Exprs.{tree_from}
-use Rattle.xs_meaning.specs.Context.{Context}
-use Rattle.xs_meaning.specs.Evaluation.{run_of}
-use Rattle.xs_matching.specs.Predicates.{value_in}
+use Rattle.xs_eval_spec.specs.Context.{Context}
+use Rattle.xs_eval_spec.specs.Evaluation.{run_of}
+use Rattle.xs_pattern_spec.specs.Predicates.{value_in}
 use Rattle.xs_pattern.specs.steps.Alone.{said}
 use Rattle.xs_pattern.proofs.PlaceLemmas.{says-so, steady}
 use Rattle.xs_pattern.proofs.matcher.Matcher.says.Goals as goal

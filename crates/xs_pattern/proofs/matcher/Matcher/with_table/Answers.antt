@@ -1,5 +1,5 @@
 use Rattle.std.proofs.Common.{ℕ, ◌||◌, ◌∙◌, Bool, ap, false, get_or}
-use Rattle.xs_matching.specs.Matching.{matches_path, pattern_context}
+use Rattle.xs_pattern_spec.specs.Matching.{matches_path, pattern_context}
 use Rattle.xs_xpath.specs.Exprs.{tree_from}
 use Rattle.xs_pattern.proofs.MatchTableLemmas.{table-more}
 use Rattle.xs_pattern.proofs.matcher.Matcher.with_table.Goals as goal

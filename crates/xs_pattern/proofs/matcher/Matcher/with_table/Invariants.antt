@@ -1,6 +1,6 @@
 use Rattle.std.proofs.Common.{◌≡◌, ◌||◌, false, get_or, map}
 use Rattle.std.specs.List.{range_with_len}
-use Rattle.xs_matching.specs.Matching.{matches_path, pattern_context}
+use Rattle.xs_pattern_spec.specs.Matching.{matches_path, pattern_context}
 use Rattle.xs_xpath.specs.Exprs.{tree_from}
 use Rattle.xs_pattern.proofs.matcher.Matcher.with_table.Given as goal
 

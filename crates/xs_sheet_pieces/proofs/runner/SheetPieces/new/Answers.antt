@@ -1,5 +1,5 @@
 use mir.Syntax.{named}
-use Rattle.xs_finder.proofs.SyncLemmas.{finder_sync}
+use Rattle.xs_lookup.proofs.SyncLemmas.{finder_sync}
 use Rattle.xs_sheet_pieces.proofs.runner.SheetPieces.new.Goals as goal
 
 pub new-requires-sync-K : goal.new-requires-sync-K

@@ -1,5 +1,5 @@
 use mir.Syntax.{named}
-use Rattle.xs_finder.proofs.SyncLemmas.{finder_sync}
+use Rattle.xs_lookup.proofs.SyncLemmas.{finder_sync}
 use Rattle.xs_sheet_pieces.proofs.runner.SheetPieces.root_task.Goals as goal
 
 pub root_task-requires-sync-K : goal.root_task-requires-sync-K

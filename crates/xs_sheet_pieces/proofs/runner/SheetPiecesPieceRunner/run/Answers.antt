@@ -1,5 +1,5 @@
 use mir.Syntax.{named}
-use Rattle.xs_finder.proofs.SyncLemmas.{finder_sync}
+use Rattle.xs_lookup.proofs.SyncLemmas.{finder_sync}
 use Rattle.std.proofs.Common.{ℕ, ◌≤◌, subst}
 use Rattle.xs_block.specs.Chain.{most_blocks}
 use Rattle.xs_sheet_pieces.proofs.PieceLemmas.{blocks-adopted, free-adopted, piece-ran}

@@ -1,5 +1,5 @@
 use mir.Syntax.{named}
-use Rattle.xs_finder.proofs.SyncLemmas.{finder_sync}
+use Rattle.xs_lookup.proofs.SyncLemmas.{finder_sync}
 use Rattle.xs_sheet_pieces.proofs.PieceLemmas.{whole-ran}
 use Rattle.xs_sheet_pieces.proofs.runner.SheetPiecesRunner.run_whole.Goals as goal
 

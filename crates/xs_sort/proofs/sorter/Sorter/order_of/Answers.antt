@@ -1,9 +1,9 @@
 use Rattle.std.proofs.Common.{◌∙◌, Bool, codes, ap, refl, sym}
 use Rattle.std.proofs.lemmas.Result.{err_from_is_err_and}
-use Rattle.xs_meaning.proofs.StepLemmas.{exits, gives, goes_on}
+use Rattle.xs_eval_spec.proofs.StepLemmas.{exits, gives, goes_on}
 use Rattle.xs_trace.specs.Play.{Goes}
 use Rattle.xs_trace.specs.Run.{give, ◌>>=◌}
-use Rattle.xs_order.specs.declared.keys.Direction.{Direction}
+use Rattle.xs_sort_order.specs.declared.keys.Direction.{Direction}
 use Rattle.xs_sort.specs.declared.orders.Order.{Order}
 use Rattle.xs_sort.specs.Sorting.{direction_in, order_in, template_text}
 use Rattle.xs_sort.proofs.GivenLemmas.{given-ends, given-on}

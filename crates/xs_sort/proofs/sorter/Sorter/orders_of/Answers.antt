@@ -1,6 +1,6 @@
 use Rattle.std.proofs.Common.{◌∷◌, [], ◌++◌, ◌∙◌, arith, refl, sym}
 use Rattle.std.proofs.lemmas.Result.{err_from_is_err_and}
-use Rattle.xs_meaning.proofs.StepLemmas.{exits_in_parts, gives, items_done, parts_on}
+use Rattle.xs_eval_spec.proofs.StepLemmas.{exits_in_parts, gives, items_done, parts_on}
 use Rattle.xs_trace.specs.Run.{give}
 use Rattle.xs_sort.specs.Sorting.{and_order, order_of}
 use Rattle.xs_sort.proofs.sorter.Sorter.orders_of.Goals as goal

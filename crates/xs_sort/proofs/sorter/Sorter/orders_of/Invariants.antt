@@ -1,5 +1,5 @@
 use Rattle.std.proofs.Common.{◌≡◌, length}
-use Rattle.xs_meaning.proofs.StepLemmas.{Rest}
+use Rattle.xs_eval_spec.proofs.StepLemmas.{Rest}
 use Rattle.xs_trace.specs.Run.{give, limited}
 use Rattle.xs_sort.specs.Sorting.{and_order, orders_of}
 use Rattle.xs_sort.proofs.sorter.Sorter.orders_of.Given as goal

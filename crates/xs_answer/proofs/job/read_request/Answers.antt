@@ -1,9 +1,0 @@
-use Rattle.xs_words.specs.Results.{job_told, told}
-use Rattle.xs_answer.specs.Reply.{request_data}
-use Rattle.xs_answer.proofs.JobLemmas.{request_within}
-use Rattle.xs_answer.proofs.job.read_request.Goals as goal
-
-pub returns-in-Ok-work_request-clause-within : goal.returns-in-Ok-work_request-clause-within
-returns-in-Ok-work_request-clause-within c =
-    request_within (told c.in-Ok.options) (job_told c.in-Ok.options.job) (request_data c.in-Ok-work_request.request)
-    c.in-Ok.ensures.within c.in-Ok-work_request.ensures

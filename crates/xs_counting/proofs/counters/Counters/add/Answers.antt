@@ -1,9 +1,0 @@
-use Rattle.xs_counting.specs.steps.Counters.{IsCounter}
-use Rattle.xs_counting.specs.steps.Tables.{counted_at}
-use Rattle.xs_counting.proofs.TableLemmas.{entered}
-use Rattle.xs_counting.proofs.counters.Counters.add.Goals as goal
-
-pub returns : goal.returns
-returns g c = λ m line.
-    entered (λ k. IsCounter (g.K.KeyFinder.tables c.args.keys.now) c.args.tree.now k.decl.now k.counter) _ _ (counted_at c.args.self.now m line) _
-    (c.in_ok-insert.ensures.updates.0 (m, line)) c.in_ok-counter.ensures (c.requires.counters m line)

@@ -1,6 +1,0 @@
-use mir.Syntax.{named}
-use Rattle.xs_finder.proofs.SyncLemmas.{finder_sync}
-use Rattle.xs_finder.proofs.finder.SheetFinderExprEvaluator.evaluate_avt.Goals as goal
-
-pub evaluate_avt-requires-sync-K : goal.evaluate_avt-requires-sync-K
-evaluate_avt-requires-sync-K g c κs = λ _. search (finder_sync (record { mir = named 5; lft = κs.1.1.1.1.1.0 }))

@@ -1,7 +1,0 @@
-//! What is written of a result reads back.
-#![tactic(auto)]
-
-pub mod laws;
-mod texts;
-
-pub use texts::event_texts;

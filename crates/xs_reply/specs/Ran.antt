@@ -1,0 +1,21 @@
+-- What a run in pieces gives of the root of a source.
+use Rattle.std.specs.Prelude.{◌≡◌, None}
+use Rattle.xs_assemble.specs.Assembled.{EndsIn}
+use Rattle.xs_assemble.specs.declared.assembled.Executed.{Executed}
+use Rattle.xs_record.specs.Segment.{items_of}
+use Rattle.xs_body_spec.specs.Globals.{Table}
+use Rattle.xs_body_spec.specs.World.{World}
+use Rattle.xs_trace.specs.Mark.{events_of, messages_of, tick_count}
+use Rattle.xs_reply.specs.Evaluation.{root_cut, root_pieces}
+use Rattle.xs_reply.specs.Headline.{AreRun}
+use Rattle.xs_reply.specs.Items.{events_in}
+use Rattle.xs_reply.specs.Job.{Job}
+
+-- It is the cut of the root's trace over the values of the globals: its events, its messages, its end and its ticks. Its pieces were
+-- run; all of them, where it has no fault.
+pub record IsRan (job : Job) (w : World) (t : Table) (e : Executed) : Type 0 where
+  pub events : events_in (items_of e.assembled.items) ≡ events_of (root_cut job w t).passed
+  pub messages : e.assembled.says.items ≡ messages_of (root_cut job w t).passed
+  pub end : EndsIn (root_cut job w t).end e.assembled.end
+  pub ticks : e.assembled.ticks ≡ tick_count (root_cut job w t).passed
+  pub run : AreRun (root_pieces job w t) (e.assembled.end ≡ None) e.claims.items e.assembled.inline e.worked

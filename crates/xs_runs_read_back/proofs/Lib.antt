@@ -1,3 +1,0 @@
-mod LawLemmas
-mod NodeLemmas
-mod SheetLemmas

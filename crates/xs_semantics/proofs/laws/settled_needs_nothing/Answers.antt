@@ -1,6 +1,0 @@
-use Rattle.xs_semantics.specs.Trace.{task_trace}
-use Rattle.xs_semantics.proofs.NeedLemmas.{settled-needs, task-needs}
-use Rattle.xs_semantics.proofs.laws.settled_needs_nothing.Goals as goal
-
-pub returns : goal.returns
-returns c = λ w t a. settled-needs w.globals (task_trace w t) a (task-needs w t)

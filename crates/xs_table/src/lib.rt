@@ -1,4 +1,0 @@
-//! A runner over a table of pieces that is given as data.
-#![tactic(auto)]
-
-pub mod table;

@@ -1,4 +1,0 @@
-//! What a stylesheet puts can be written.
-#![tactic(auto)]
-
-pub mod laws;

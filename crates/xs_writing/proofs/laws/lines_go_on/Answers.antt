@@ -1,5 +1,0 @@
-use Rattle.xs_writing.proofs.LineLemmas.{elements_go_on, lines_go_on}
-use Rattle.xs_writing.proofs.laws.lines_go_on.Goals as goal
-
-pub returns : goal.returns
-returns c = record { lines = lines_go_on; elements = elements_go_on }

@@ -1,8 +1,0 @@
-use Rattle.std.proofs.Common.{◌≡◌, drop}
-use Rattle.xs_writing.specs.steps.Ordered.{has_space}
-use Rattle.xs_writing.specs.steps.Pending.{lent}
-use Rattle.xs_writing.proofs.ordered.has_space.Given as goal
-
--- the rest decides
-abbrev pub invariant-loop-event : goal.invariant-loop-event
-invariant-loop-event l = has_space l.prefix l.uri (lent (drop l.event-index l.added)) ≡ has_space l.prefix l.uri (lent l.added)

@@ -1,6 +1,0 @@
-use Rattle.xs_writing.specs.steps.Kept.{kept}
-use Rattle.xs_writing.proofs.StreamLemmas.{stream_start}
-use Rattle.xs_writing.proofs.stream.PyxStream.new.Goals as goal
-
-pub returns : goal.returns
-returns c = stream_start (kept c.new.result) c.in_ok-new.field-0 c.new.ensures c.in_ok-new.ensures
