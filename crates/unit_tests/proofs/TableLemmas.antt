@@ -169,7 +169,7 @@ whole-row rows t = whole-fills rows t ∙ by (slice_get rows t.row)
         ∙ entries-each (λ n k. whole_marks rows (child_of t n k) ⨾ []) (λ n k. whole_marks rows (child_of t n k))
         (λ n k. then-nil (whole_marks rows (child_of t n k))) 0 r.entries.items)
 
--- ---- entries are told one after another
+-- ---- entries are reported one after another
 
 pub more-entries : {H : Type 0} → (child : ℕ → ℕ → Trace H) (es : List Entry) (i n : ℕ) (e : Entry) (s : State H) → i < length es → e ≡ get_or es i e →
     play (entries_marks child n (drop i es)) s ≡
@@ -185,24 +185,24 @@ more-entries {H} child es i n e s h is =
         let j : suc (i + 1) ≡ suc i + 1 = omega arith in
         front es i e (omega (arith, h)) is ∙ ap (λ (k : ℕ). e ∷ drop k (x ∷ es)) j
 
--- ---- rows are told
+-- ---- rows are reported
 
 row-absent : (rows : List Row) (i : ℕ) → length rows ≤ i → slice_get rows i ≡ None
 row-absent [] i h = refl
 row-absent (x ∷ rows) zero h = absurd (omega (arith, h))
 row-absent (x ∷ rows) (suc i) h = row-absent rows i (omega (arith, h))
 
-pub row-told : {H : Type 0} → (child : ℕ → ℕ → Trace H) (rows : List Row) (i : ℕ) (r : Row) (s : State H) → slice_get rows i ≡ Some r →
+pub row-reported : {H : Type 0} → (child : ℕ → ℕ → Trace H) (rows : List Row) (i : ℕ) (r : Row) (s : State H) → slice_get rows i ≡ Some r →
     play (row_marks child (slice_get rows i)) s ≡ and_then (ticked r.site s) (λ u m. play (entries_marks child 0 r.entries.items) m)
-row-told child rows i r s e = ap (λ o. play (row_marks child o) s) e
+row-reported child rows i r s e = ap (λ o. play (row_marks child o) s) e
 
-pub no-row-told : {H : Type 0} → (child : ℕ → ℕ → Trace H) (rows : List Row) (i : ℕ) (s : State H) → length rows ≤ i →
+pub no-row-reported : {H : Type 0} → (child : ℕ → ℕ → Trace H) (rows : List Row) (i : ℕ) (s : State H) → length rows ≤ i →
     play (row_marks child (slice_get rows i)) s ≡ ticked nowhere s
-no-row-told child rows i s h = ap (λ o. play (row_marks child o) s) (row-absent rows i h) ∙ then-goes (ticked nowhere s)
+no-row-reported child rows i s h = ap (λ o. play (row_marks child o) s) (row-absent rows i h) ∙ then-goes (ticked nowhere s)
 
-pub whole-told : (rows : List Row) (t : RowTask) (s : State RowTask) →
+pub whole-reported : (rows : List Row) (t : RowTask) (s : State RowTask) →
     play (whole_marks rows t) s ≡ play (row_marks (λ n k. whole_marks rows (child_of t n k)) (slice_get rows t.row)) s
-whole-told rows t s = ap (λ x. play x s) (whole-row rows t)
+whole-reported rows t s = ap (λ x. play x s) (whole-row rows t)
 
 -- ---- no need
 

@@ -20,12 +20,12 @@ pub(crate) fn of_traces() {
     laws::play_is_cut::<u8>();
     laws::limited_laws::<u8, u8, bool>();
     laws::fold_laws::<u8, u8, bool>();
-    laws::told_is_cut::<u8>();
+    laws::reported_is_cut::<u8>();
     laws::need_comes_from_need::<u8>();
     laws::fill_laws::<u8, bool>();
     laws::packed_once::<u8>();
     laws::cut_serves::<u8, bool>();
-    laws::cuts_tell_same::<u8>();
+    laws::cuts_report_same::<u8>();
     laws::numbered_laws::<u8>();
     xs_record::laws::outcomes_agree::<u8>();
     xs_record::laws::never_over::<u8>();

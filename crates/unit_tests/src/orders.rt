@@ -3,6 +3,7 @@
 ghost use Rattle.std.specs.Prelude.{◌≤◌, ◌^◌};
 
 use crate::pieces::{agrees, at_once, limits_of, seven_pieces};
+use crate::table::{RowTask, TableRunner, table_is_ready};
 use std::alloc::{AllocError, Global};
 use xs_assemble::assemble::assemble;
 use xs_block::pool::Pool;
@@ -10,7 +11,6 @@ use xs_pieces::piece::Piece;
 use xs_pieces::runner::Runner;
 use xs_pool::sequential::run_in_order;
 use xs_record::outcome::Outcome;
-use crate::table::{RowTask, TableRunner, table_is_ready};
 use xs_trace::item::Ended;
 
 // So many ticks has the tree; so many orders are tried, some of them more than once.

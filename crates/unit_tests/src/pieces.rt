@@ -2,6 +2,7 @@
 
 ghost use Rattle.std.specs.Prelude.{◌≡◌, ◌≤◌, ◌^◌};
 
+use crate::table::{Entry, Row, TableRunner, table_is_ready};
 use std::alloc::{AllocError, Global};
 use xs_assemble::assembled::{Assembled, Executed};
 use xs_assemble::execute::execute;
@@ -10,11 +11,10 @@ use xs_block::pool::Pool;
 use xs_pieces::runner::Runner;
 use xs_record::outcome::{Outcome, Part};
 use xs_record::segment::{Run, Segment};
-use crate::table::{Entry, Row, TableRunner, table_is_ready};
+use xs_text::TextBuf;
 use xs_trace::event::Event;
 use xs_trace::fault::Fault;
 use xs_trace::item::{Ended, Item, Limits, Site, Spot};
-use xs_text::TextBuf;
 
 /// The instruction at a line.
 pub(crate) fn at(line: u32) -> Site {
@@ -34,7 +34,7 @@ fn entries(alloc: Global, line: u32, children: &[u32]) -> Result<Vec<Entry>, All
 }
 
 /// Adds a piece: a tick at a line, and entries with ticks at another one.
-pub(crate) fn push_row(
+pub(crate) fn push_log(
     alloc: Global,
     rows: &mut Vec<Row>,
     line: u32,
@@ -49,13 +49,13 @@ pub(crate) fn push_row(
 // A root with two children, which have two each: 13 ticks, in the order of the document at the
 // lines 1, 2, 3, 12, 4, 12, 11, 5, 6, 15, 7, 15 and 11.
 fn push_seven(alloc: Global, rows: &mut Vec<Row>) -> Result<(), AllocError> {
-    push_row(alloc, rows, 1, &[0, 3])?;
-    push_row(alloc, rows, 2, &[0, 1])?;
-    push_row(alloc, rows, 3, &[])?;
-    push_row(alloc, rows, 4, &[])?;
-    push_row(alloc, rows, 5, &[0, 1])?;
-    push_row(alloc, rows, 6, &[])?;
-    push_row(alloc, rows, 7, &[])
+    push_log(alloc, rows, 1, &[0, 3])?;
+    push_log(alloc, rows, 2, &[0, 1])?;
+    push_log(alloc, rows, 3, &[])?;
+    push_log(alloc, rows, 4, &[])?;
+    push_log(alloc, rows, 5, &[0, 1])?;
+    push_log(alloc, rows, 6, &[])?;
+    push_log(alloc, rows, 7, &[])
 }
 
 /// Seven pieces: a root, its two children, and two children of each of these.
@@ -247,7 +247,7 @@ fn push_child(alloc: Global, rows: &mut Vec<Row>) -> Result<(), AllocError> {
 // A root with a tick at the line 1, its child, and a tick at the line 11.
 fn two_pieces(alloc: Global) -> Result<TableRunner, AllocError> {
     let mut rows = Vec::new(alloc);
-    push_row(alloc, &mut rows, 1, &[0])?;
+    push_log(alloc, &mut rows, 1, &[0])?;
     push_child(alloc, &mut rows)?;
     Ok(TableRunner { rows })
 }

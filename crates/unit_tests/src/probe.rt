@@ -23,7 +23,7 @@ fn evaluate<R: Recorder<Task = u64>>(
     task: Option<u64>,
 ) -> Result<(), Halt>
     requires holes { IsSome task → R.takes_holes ≡ true }
-    ensures told { IsStep (play (tiny site event task) (R.state recorder.old))
+    ensures reported { IsStep (play (tiny site event task) (R.state recorder.old))
         result (R.state recorder.new) }
     ensures kept { R.kept recorder.new ≡ R.kept recorder.old }
 {
@@ -54,8 +54,8 @@ pub(crate) fn run_piece<T: Total + Drop>(
         (T.added result.total) (T.last result.total)
         children.old.items children.new.items o) }
 {
-    let told = evaluate(&mut recorder, site, event, Some(7));
-    recorder.finish(told, children)
+    let reported = evaluate(&mut recorder, site, event, Some(7));
+    recorder.finish(reported, children)
 }
 
 /// A whole run, which leaves no hole and has a total of its own.
@@ -70,7 +70,7 @@ pub(crate) fn run_whole(
 {
     let total = LocalTotal::new(limits.ticks, 0);
     let mut recorder = PieceRecorder::new(alloc, limits, total, Pool::new(alloc));
-    let told = evaluate(&mut recorder, site, event, None);
+    let reported = evaluate(&mut recorder, site, event, None);
     let mut children = Vec::new(alloc);
-    recorder.finish(told, &mut children).outcome
+    recorder.finish(reported, &mut children).outcome
 }

@@ -10,13 +10,13 @@ use xs_record::brief::Brief;
 use xs_record::outcome::{Outcome, Part};
 use xs_record::piece::{Finished, PieceRecorder};
 use xs_record::segment::Segment;
+use xs_text::TextBuf;
 use xs_trace::event::{Event, Fragment};
 use xs_trace::fault::Fault;
 use xs_trace::item::{Ended, Item, Limits, Site};
 use xs_trace::meter::Meter;
 use xs_trace::place::{Claim, Place, compare_places};
 use xs_trace::recorder::{Halt, Recorder, Tally, put_event, say_message, tick_several};
-use xs_text::TextBuf;
 use xs_trace::total::{LocalTotal, Total};
 
 // What only types whose values cross threads are given to.
@@ -165,14 +165,14 @@ fn takes_two_ticks<R: Recorder<Task = u64>>(recorder: &mut R) -> bool {
 }
 
 // What a piece gave, and how far its total is above its limit.
-fn told(finished: Finished<LocalTotal>) -> (Result<Outcome, AllocError>, Option<u64>) {
+fn reported(finished: Finished<LocalTotal>) -> (Result<Outcome, AllocError>, Option<u64>) {
     let above = finished.total.above();
     (finished.outcome, above)
 }
 
 // Whether a run ended at a second event, and below its total's limit.
 fn is_full(finished: Finished<LocalTotal>) -> Result<bool, AllocError> {
-    let (outcome, above) = told(finished);
+    let (outcome, above) = reported(finished);
     Ok(above == None && is_full_run(&outcome?))
 }
 
@@ -254,10 +254,10 @@ fn record_piece<R: Recorder<Task = u64>>(
 }
 
 // How a run ended that is whole, or above the limit of its total.
-fn whole_or_over(told: Result<(), Halt>) -> Result<(), Halt>
+fn whole_or_over(reported: Result<(), Halt>) -> Result<(), Halt>
     ensures { NeedsNone result }
 {
-    match told {
+    match reported {
         Ok(()) => Ok(()),
         Err(Halt::Over { total }) => Err(Halt::Over { total }),
         Err(_) => Err(Halt::NoMemory),
@@ -271,8 +271,8 @@ fn piece(alloc: Global, others: u16, ticks: u64, children: &mut Vec<u64>) -> Fin
         events: None,
     };
     let mut piece = recorder(alloc, limits, 2000, others);
-    let told = record_piece(alloc, &mut piece, ticks);
-    piece.finish(whole_or_over(told), children)
+    let reported = record_piece(alloc, &mut piece, ticks);
+    piece.finish(whole_or_over(reported), children)
 }
 
 // Whether an outcome has five ticks, a part before the hole 0, and one after it.
@@ -286,7 +286,7 @@ fn has_a_hole(outcome: &Outcome) -> bool {
 
 // Whether a piece has a hole, and ended below its total's limit.
 fn is_piece_with_a_hole(finished: Finished<LocalTotal>) -> Result<bool, AllocError> {
-    let (outcome, above) = told(finished);
+    let (outcome, above) = reported(finished);
     Ok(above == None && has_a_hole(&outcome?))
 }
 
@@ -302,7 +302,7 @@ fn records_a_piece(alloc: Global) -> Result<bool, AllocError> {
 
 // Whether a piece ended after 1,024 ticks, since its total was above its limit.
 fn is_over(finished: Finished<LocalTotal>) -> Result<bool, AllocError> {
-    let (outcome, above) = told(finished);
+    let (outcome, above) = reported(finished);
     let outcome = outcome?;
     Ok(
         above == Some(2524)
@@ -323,7 +323,7 @@ fn ends_over_a_total(alloc: Global) -> Result<bool, AllocError> {
 
 // Whether a piece adds 1,024 of 1,025 ticks to its total.
 fn adds_all_but_one(piece: &mut PieceRecorder<LocalTotal, u64>) -> bool {
-    piece.ticks(SITE, 1025) == Ok(()) && piece.due() == 1 && piece.total().above() == None
+    piece.ticks(SITE, 1025) == Ok(()) && piece.unpaid() == 1 && piece.total().above() == None
 }
 
 // Whether a piece adds its ticks to its total.

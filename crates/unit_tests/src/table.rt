@@ -17,12 +17,12 @@ use xs_pieces::runner::{PieceRunner, Runner};
 use xs_record::outcome::Outcome;
 use xs_record::piece::{Finished, PieceRecorder};
 use xs_record::segment::Segment;
+use xs_text::TextBuf;
 use xs_trace::event::Event;
 use xs_trace::fault::Fault;
 use xs_trace::item::{Limits, Site};
 use xs_trace::place::Place;
 use xs_trace::recorder::{Halt, Recorder};
-use xs_text::TextBuf;
 use xs_trace::total::{LocalTotal, Total};
 
 /// The most ticks of a whole run: 2^40.
@@ -115,9 +115,9 @@ impl Runner for TableRunner {
         let mut recorder: PieceRecorder<LocalTotal, RowTask> = PieceRecorder::new(
             alloc, limits, total, blocks,
         );
-        let told = record_whole(&self.rows, task, &mut recorder);
+        let reported = record_whole(&self.rows, task, &mut recorder);
         let mut children = Vec::new(alloc);
-        let finished = recorder.finish(told, &mut children);
+        let finished = recorder.finish(reported, &mut children);
         *pool = finished.pool;
         finished.outcome
     }
@@ -148,12 +148,12 @@ impl<T: Total + Drop> PieceRunner<T> for TableRunner {
         let mut recorder: PieceRecorder<T, RowTask> = PieceRecorder::new(
             alloc, limits, share, pool,
         );
-        let told = record_own(&self.rows, task, &mut recorder);
+        let reported = record_own(&self.rows, task, &mut recorder);
         let Finished {
             outcome,
             total,
             pool,
-        } = recorder.finish(told, children);
+        } = recorder.finish(reported, children);
         Ran {
             outcome,
             desk: Desk { share: total, pool },
@@ -196,7 +196,7 @@ fn record_own<R: Recorder<Task = RowTask>>(
     recorder: &mut R,
 ) -> Result<(), Halt>
     requires holes { R.takes_holes ≡ true }
-    ensures told { IsStep (play (own_marks rows.now task.now) (R.state recorder.old))
+    ensures reported { IsStep (play (own_marks rows.now task.now) (R.state recorder.old))
         result (R.state recorder.new) }
     ensures kept { R.kept recorder.new ≡ R.kept recorder.old }
 {
@@ -217,7 +217,7 @@ fn record_entries<R: Recorder<Task = RowTask>>(
 ) -> Result<(), Halt>
     requires row { task.now.row < 2 ^ 63 }
     requires holes { R.takes_holes ≡ true }
-    ensures told { IsStep (play (entries_marks (λ n k. Hole (child_of task.now n k) ∷ []) 0
+    ensures reported { IsStep (play (entries_marks (λ n k. Hole (child_of task.now n k) ∷ []) 0
         entries.now) (R.state recorder.old)) result (R.state recorder.new) }
     ensures kept { R.kept recorder.new ≡ R.kept recorder.old }
 {
@@ -238,7 +238,7 @@ fn record_entry<R: Recorder<Task = RowTask>>(
 ) -> Result<(), Halt>
     requires row { task.now.row < 2 ^ 63 }
     requires holes { R.takes_holes ≡ true }
-    ensures told { IsStep (play (entry_marks (λ n k. Hole (child_of task.now n k) ∷ []) number
+    ensures reported { IsStep (play (entry_marks (λ n k. Hole (child_of task.now n k) ∷ []) number
         entry.now) (R.state recorder.old)) result (R.state recorder.new) }
     ensures kept { R.kept recorder.new ≡ R.kept recorder.old }
 {
@@ -258,7 +258,7 @@ fn record_whole<R: Recorder<Task = RowTask>>(
     task: &RowTask,
     recorder: &mut R,
 ) -> Result<(), Halt>
-    ensures told { IsStep (play (whole_marks rows.now task.now) (R.state recorder.old))
+    ensures reported { IsStep (play (whole_marks rows.now task.now) (R.state recorder.old))
         result (R.state recorder.new) }
     ensures kept { R.kept recorder.new ≡ R.kept recorder.old }
 {
@@ -280,7 +280,7 @@ fn record_whole_entries<R: Recorder<Task = RowTask>>(
     recorder: &mut R,
 ) -> Result<(), Halt>
     requires row { task.now.row < length rows.now }
-    ensures told { IsStep (play (entries_marks (λ n k. whole_marks rows.now
+    ensures reported { IsStep (play (entries_marks (λ n k. whole_marks rows.now
         (child_of task.now n k)) 0 entries.now) (R.state recorder.old))
         result (R.state recorder.new) }
     ensures kept { R.kept recorder.new ≡ R.kept recorder.old }
@@ -303,7 +303,7 @@ fn record_whole_entry<R: Recorder<Task = RowTask>>(
     recorder: &mut R,
 ) -> Result<(), Halt>
     requires row { task.now.row < length rows.now }
-    ensures told { IsStep (play (entry_marks (λ n k. whole_marks rows.now (child_of task.now n k))
+    ensures reported { IsStep (play (entry_marks (λ n k. whole_marks rows.now (child_of task.now n k))
         number entry.now) (R.state recorder.old)) result (R.state recorder.new) }
     ensures kept { R.kept recorder.new ≡ R.kept recorder.old }
 {

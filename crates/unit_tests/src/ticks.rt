@@ -2,11 +2,11 @@
 
 ghost use Rattle.std.specs.Prelude.{◌≤◌, ◌^◌};
 
-use crate::pieces::{agrees, are_run_again, at, at_once, in_pieces, push_row};
+use crate::pieces::{agrees, are_run_again, at, at_once, in_pieces, push_log};
+use crate::table::{Entry, Row, TableRunner};
 use std::alloc::{AllocError, Global};
 use xs_record::outcome::{Outcome, Part};
 use xs_record::segment::Segment;
-use crate::table::{Entry, Row, TableRunner};
 use xs_trace::event::Event;
 use xs_trace::item::{Item, Site};
 
@@ -31,8 +31,8 @@ fn ticks_in_a_row(alloc: Global) -> Result<TableRunner, AllocError> {
     let mut rows = Vec::new(alloc);
     let site = at(1);
     rows.push(Row { site, entries })?;
-    push_row(alloc, &mut rows, 5, &[])?;
-    push_row(alloc, &mut rows, 6, &[])?;
+    push_log(alloc, &mut rows, 5, &[])?;
+    push_log(alloc, &mut rows, 6, &[])?;
     Ok(TableRunner { rows })
 }
 

@@ -9,7 +9,7 @@ use Rattle.indexmap.specs.IndexSet.{contains_by}
 use Rattle.xs_sheet.specs.declared.declarations.AttrSet.{AttrSet}
 use Rattle.xs_trace.specs.Label.{Label}
 use Rattle.xs_attribute_sets.specs.declared.index.SetIndex.{SetIndex}
-use Rattle.xs_attribute_sets.specs.declared.marks.Marks.{Marks}
+use Rattle.xs_attribute_sets.specs.declared.flags.FlaggedSets.{FlaggedSets}
 use Rattle.xs_attribute_sets.specs.Declarations.{declarations_of}
 
 -- a name that the code has as its two parts
@@ -24,13 +24,13 @@ listed (Some list) = map (λ s. s.now) list.items
 abbrev pub grouped : {S : Type 0} → IndexMap (Bor (List ℕ) × Bor (List ℕ)) (Vec (Bor AttrSet)) S → Label → List AttrSet
 grouped lists name = listed (get_by (is_of name) lists)
 
--- whether a set is marked as one that reaches an attribute
-abbrev pub is_marked : Marks → Label → Bool
-is_marked marks name = marks.all || contains_by (is_of name) marks.names
+-- whether a set is flagged as one that reaches an attribute
+abbrev pub is_flagged : FlaggedSets → Label → Bool
+is_flagged flags name = flags.all || contains_by (is_of name) flags.names
 
 -- the declarations that an index has of a name
 abbrev pub declarations_in : SetIndex → Label → List AttrSet
-declarations_in index name = if is_marked index.marks name then grouped index.lists name else []
+declarations_in index name = if is_flagged index.flags name then grouped index.lists name else []
 
 -- a declaration without attributes that uses only sets of which an index has nothing
 pub record IsIdle (index : SetIndex) (s : AttrSet) : Type 0 where

@@ -2,12 +2,12 @@
 
 ghost use Rattle.std.specs.Prelude.{◌≡◌, true, IfOk, map};
 ghost use Rattle.xs_attribute_sets.specs.Indexed.{IsSetIndex, declarations_in};
-ghost use Rattle.xs_attribute_sets.specs.steps.Marks.{is_closed};
+ghost use Rattle.xs_attribute_sets.specs.steps.FlaggedSets.{is_closed};
 
+use crate::flags::FlaggedSets;
 use crate::lists::{Lists, list_of, lists_of};
-use crate::marks::Marks;
 use crate::order::by_precedence;
-use crate::reach::marks_of;
+use crate::reach::flags_of;
 use indexmap::IndexSet;
 use std::alloc::{AllocError, Global};
 use xs_sheet::declarations::AttrSet;
@@ -21,7 +21,7 @@ pub struct SetIndex<'a> {
     /// The declarations of each name.
     lists: Lists<'a>,
     /// The sets that reach an attribute.
-    marks: Marks<'a>,
+    flags: FlaggedSets<'a>,
 }
 
 impl<'a> SetIndex<'a> {
@@ -31,8 +31,8 @@ impl<'a> SetIndex<'a> {
     {
         let all = by_precedence(alloc, sets)?;
         let lists = lists_of(alloc, all.as_slice())?;
-        let marks = checked_marks(alloc, sets)?;
-        Ok(SetIndex { lists, marks })
+        let flags = checked_flags(alloc, sets)?;
+        Ok(SetIndex { lists, flags })
     }
 
     /// The declarations of a name; none where it reaches no attribute.
@@ -40,7 +40,7 @@ impl<'a> SetIndex<'a> {
         ensures declarations { map (λ s. s.now) result.now
             ≡ declarations_in self.now name.entry.now }
     {
-        if !self.marks.has(name) {
+        if !self.flags.has(name) {
             return &[];
         }
         match list_of(&self.lists, name) {
@@ -50,16 +50,16 @@ impl<'a> SetIndex<'a> {
     }
 }
 
-/// Marks of the sets that reach an attribute; all are marked where another one is not idle, which
+/// FlaggedSets of the sets that reach an attribute; all are flagged where another one is not idle, which
 /// can't come.
-fn checked_marks<'a>(alloc: Global, sets: &'a [AttrSet]) -> Result<Marks<'a>, AllocError>
-    ensures { IfOk result (λ marks. is_closed marks sets.entry.now ≡ true) }
+fn checked_flags<'a>(alloc: Global, sets: &'a [AttrSet]) -> Result<FlaggedSets<'a>, AllocError>
+    ensures { IfOk result (λ flags. is_closed flags sets.entry.now ≡ true) }
 {
-    let marks = marks_of(alloc, sets)?;
-    if marks.is_closed(sets) {
-        return Ok(marks);
+    let flags = flags_of(alloc, sets)?;
+    if flags.is_closed(sets) {
+        return Ok(flags);
     }
-    Ok(Marks {
+    Ok(FlaggedSets {
         names: IndexSet::new(alloc),
         all: true,
     })

@@ -2,8 +2,8 @@
 //! in which they count, without the sets that reach no attribute.
 #![tactic(auto)]
 
+pub mod flags;
 pub mod index;
 mod lists;
-pub mod marks;
 mod order;
 mod reach;

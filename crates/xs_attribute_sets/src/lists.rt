@@ -7,7 +7,7 @@ ghost use Rattle.xs_trace.specs.Label.{Label};
 ghost use Rattle.xs_attribute_sets.specs.Declarations.{has_name};
 ghost use Rattle.xs_attribute_sets.specs.Indexed.{grouped, is_of};
 
-use crate::marks::{FEW_NAMES, is_of};
+use crate::flags::{FEW_NAMES, is_of};
 use indexmap::IndexMap;
 use std::alloc::{AllocError, Global};
 use xs_sheet::declarations::AttrSet;

@@ -1,7 +1,7 @@
 //! Which attribute sets reach an attribute.
 
+use crate::flags::{FlaggedSets, has_none};
 use crate::lists::{Expanded, Lists};
-use crate::marks::{Marks, has_none};
 use indexmap::{IndexMap, IndexSet};
 use std::alloc::{AllocError, Global};
 use xs_sheet::declarations::AttrSet;
@@ -9,15 +9,18 @@ use xs_sheet::declarations::AttrSet;
 /// Of each set, the names of those that use it.
 type Users<'a> = IndexMap<Expanded<'a>, Vec<Expanded<'a>>>;
 
-/// Marks the sets that have an attribute, then those that use them, and so on, each set once. The
+/// FlaggedSets the sets that have an attribute, then those that use them, and so on, each set once. The
 /// contract does not say which: `SetIndex` looks whether the others are idle.
-pub(crate) fn marks_of<'a>(alloc: Global, sets: &'a [AttrSet]) -> Result<Marks<'a>, AllocError> {
+pub(crate) fn flags_of<'a>(
+    alloc: Global,
+    sets: &'a [AttrSet],
+) -> Result<FlaggedSets<'a>, AllocError> {
     let users = users_of(alloc, sets)?;
     let mut names = IndexSet::new(alloc);
     let mut waiting = Vec::new(alloc);
     for set in sets {
         if !has_none(set) {
-            mark((set.name.uri(), set.name.local()), &mut names, &mut waiting)?;
+            flag((set.name.uri(), set.name.local()), &mut names, &mut waiting)?;
         }
     }
     for _turn in 0..u64::MAX {
@@ -26,15 +29,15 @@ pub(crate) fn marks_of<'a>(alloc: Global, sets: &'a [AttrSet]) -> Result<Marks<'
         };
         if let Some(list) = users.get(&name) {
             for user in list.as_slice() {
-                mark(*user, &mut names, &mut waiting)?;
+                flag(*user, &mut names, &mut waiting)?;
             }
         }
     }
-    Ok(Marks { names, all: false })
+    Ok(FlaggedSets { names, all: false })
 }
 
-/// Marks a set; where it was not marked, those that use it are to be marked.
-fn mark<'a>(
+/// FlaggedSets a set; where it was not flagged, those that use it are to be flagged.
+fn flag<'a>(
     name: Expanded<'a>,
     names: &mut IndexSet<Expanded<'a>>,
     waiting: &mut Vec<Expanded<'a>>,

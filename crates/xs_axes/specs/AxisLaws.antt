@@ -11,7 +11,7 @@ use Rattle.xs_tree.specs.Axis.{is_on, is_reverse, is_same_document}
 abbrev pub five_axes : List Axis
 five_axes = Ancestor ∷ Descendant ∷ Following ∷ Preceding ∷ SelfNode ∷ []
 
--- each node of a document, but for attribute and namespace nodes, is on exactly one of the axes ancestor, descendant,
+-- each node of a document, except attribute and namespace nodes, is on exactly one of the axes ancestor, descendant,
 -- following, preceding and self (XPath 1.0, 2.2)
 abbrev pub AxesShareOut : Type 0
 AxesShareOut = (rs : List Record) (n k : ℕ) → IsTree rs → n < length rs → k < length rs → is_same_document rs n k ≡ true

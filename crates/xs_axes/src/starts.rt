@@ -76,7 +76,7 @@ fn namespaces(tree: &Tree, node: Node) -> Walk
     Walk::Namespaces { parent: node, from }
 }
 
-// All up to the end of the subtree, but for attributes and namespace nodes.
+// All up to the end of the subtree, except attributes and namespace nodes.
 fn descendants(tree: &Tree, node: Node) -> Walk
     requires { node < length tree.now }
     ensures left { nodes_left tree.now result ≡ axis_list Axis.Descendant tree.now node }
@@ -87,7 +87,7 @@ fn descendants(tree: &Tree, node: Node) -> Walk
     Walk::Content { from, end }
 }
 
-// The node, and all up to the end of its subtree, but for attributes and namespace nodes.
+// The node, and all up to the end of its subtree, except attributes and namespace nodes.
 fn self_and_descendants(tree: &Tree, node: Node) -> Walk
     requires { node < length tree.now }
     ensures left { nodes_left tree.now result ≡ axis_list Axis.DescendantOrSelf tree.now node }

@@ -21,9 +21,9 @@ pub(crate) enum Walk {
     Attributes { parent: Node, from: u32 },
     /// The namespace nodes of a node from a place on.
     Namespaces { parent: Node, from: u32 },
-    /// The nodes from a place on and before another, but for attributes and namespace nodes.
+    /// The nodes from a place on and before another, except attributes and namespace nodes.
     Content { from: u32, end: u32 },
-    /// A node, and the nodes after it and before a place, but for attributes and namespace nodes.
+    /// A node, and the nodes after it and before a place, except attributes and namespace nodes.
     SelfAndContent { node: Node, end: u32 },
     /// The ancestors of a node.
     Ancestors(Node),
@@ -31,7 +31,7 @@ pub(crate) enum Walk {
     SelfAndAncestors(Node),
     /// The children of a node before one of them.
     SiblingsBefore { parent: Node, before: Node },
-    /// The nodes before a node, from below a place down to the root of its document, but for its
+    /// The nodes before a node, from below a place down to the root of its document, except its
     /// ancestors, attributes and namespace nodes.
     Preceding { node: Node, root: Node, before: u32 },
 }

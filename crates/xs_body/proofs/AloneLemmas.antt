@@ -19,8 +19,8 @@ pub opened-tick : {H : Type 0} → {A : Type 0} (p : Site) (f : Unit {0} → Sta
     and_then (ticked p (opened s)) f ≡ and_then (ticked p s) (λ u m. f u (opened m))
 opened-tick {H = H} p f s = by_test (allows s.left 1)
   where
-    by_test : (b : Bool) → and_then (cond b (goes (after_tick p (opened s))) (Ends (Spent p) s.told (Some 0) s.shared)) f
-        ≡ and_then (cond b (goes (after_tick p s)) (Ends (Spent p) s.told (Some 0) s.shared)) (λ u m. f u (opened m))
+    by_test : (b : Bool) → and_then (cond b (goes (after_tick p (opened s))) (Ends (Spent p) s.reported (Some 0) s.shared)) f
+        ≡ and_then (cond b (goes (after_tick p s)) (Ends (Spent p) s.reported (Some 0) s.shared)) (λ u m. f u (opened m))
     by_test true = refl
     by_test false = refl
 
@@ -28,8 +28,9 @@ pub opened-ticks : {H : Type 0} → {A : Type 0} (n : ℕ) (p : Site) (f : Unit 
     and_then (ticked_by n p (opened s)) f ≡ and_then (ticked_by n p s) (λ u m. f u (opened m))
 opened-ticks {H = H} n p f s = by_test (allows s.left n)
   where
-    by_test : (b : Bool) → and_then (cond b (goes (after_ticks n p (opened s))) (Ends (Spent p) (adds s.told (ticks p (number s.left) [])) (Some 0) s.shared)) f
-        ≡ and_then (cond b (goes (after_ticks n p s)) (Ends (Spent p) (adds s.told (ticks p (number s.left) [])) (Some 0) s.shared)) (λ u m. f u (opened m))
+    by_test : (b : Bool) → and_then (cond b (goes (after_ticks n p (opened s))) (Ends (Spent p) (adds s.reported (ticks p (number s.left) []))
+        (Some 0) s.shared)) f
+        ≡ and_then (cond b (goes (after_ticks n p s)) (Ends (Spent p) (adds s.reported (ticks p (number s.left) [])) (Some 0) s.shared)) (λ u m. f u (opened m))
     by_test true = refl
     by_test false = refl
 

@@ -1,4 +1,4 @@
--- What was told stays at the beginning of what is told, in each step.
+-- What was reported stays at the beginning of what is reported, in each step.
 use Rattle.std.proofs.Common.{ℕ, ◌/◌, ◌==◌, ◌||◌, drop, length, List, [], ◌∷◌, ◌++◌, map, slice_get, Option, Some, None, Bool, true, false, cond, refl}
 use Rattle.xs_sheet.specs.declared.body.Body.{Body}
 use Rattle.xs_sheet.specs.declared.body.Binding.{Binding}
@@ -16,7 +16,7 @@ use Rattle.xs_trace.specs.Label.{Label}
 use Rattle.xs_trace.specs.Mark.{Hole, Trace}
 use Rattle.xs_trace.specs.Run.{limited}
 use Rattle.xs_trace.specs.State.{State, opened, popped, top}
-use Rattle.xs_trace.specs.Play.{Step, Goes, Told, and_then, goes, ticked, ticked_by, put, put_at, said_at, stops, play}
+use Rattle.xs_trace.specs.Play.{Step, Goes, Reported, and_then, goes, ticked, ticked_by, put, put_at, said_at, stops, play}
 use Rattle.xs_trace.specs.declared.event.Event.TheVariants as event
 use Rattle.xs_trace.specs.declared.event.Event.TheVariants.{Start, Chars, End}
 use Rattle.xs_trace.specs.declared.fault.Fault.TheVariants as fault
@@ -59,7 +59,7 @@ use Rattle.xs_body.specs.steps.Frames.{fallbacks_begun, looping, loop_begun}
 use Rattle.xs_body.specs.steps.Frames.{number_steps, value_steps, begun}
 use Rattle.xs_body.specs.steps.Frames.{after, entering_fitting, outer, params_entered, rest_begun, rest_works, rule_entered, template_entered}
 
--- what is told, and then a value that tells nothing
+-- what is reported, and then a value that reports nothing
 pub then-goes-grow : {H : Type 0} → {A B : Type 0} (g : State H → Step H A) (f : A → B) → Grows g → Grows (λ s. and_then (g s) (λ x m. Goes (f x) m))
 then-goes-grow g f b s = grows-then s (g s) (λ x m. Goes (f x) m) (b s) (λ x. goes-grows (f x))
 
@@ -74,7 +74,7 @@ opened-grows x s = record { before = same s (Goes x (opened s)) refl refl; share
 
 pub popped-grows : {H : Type 0} → {A : Type 0} (g : State H → State H → Step H A) → ((s : State H) → Grows (g s)) → Grows (λ s. g s (popped s))
 popped-grows g b s = let e = b s (popped s) in record
-    { before = record { rest = e.before.rest; told = e.before.told; left = e.before.left }; shared = e.shared }
+    { before = record { rest = e.before.rest; reported = e.before.reported; left = e.before.left }; shared = e.shared }
 
 pub chars-grow : {H : Type 0} → (p : Site) (t : List ℕ) → Grows {H = H} (chars_steps p t)
 chars-grow p t = if-grows (length t == 0) goes (put_at p (Chars t)) (goes-grows tt) (put_at-grows p (Chars t))
@@ -89,7 +89,7 @@ pub message_ended-grows : (p : Site) (terminate : Bool) → Grows (message_ended
 message_ended-grows p terminate = popped-grows (λ s. message_steps p terminate (fragment_text (top s.captures)))
     (λ s. message-grows p terminate (fragment_text (top s.captures)))
 
-pub stays-grow : (g : State Task → Told Task) (t : Evaluation) → Grows g → Grows (λ s. stays (g s) t)
+pub stays-grow : (g : State Task → Reported Task) (t : Evaluation) → Grows g → Grows (λ s. stays (g s) t)
 stays-grow g t b = then-goes-grow g (λ u. t) b
 
 run_by-grows : (g : Option ℕ) (job : Job) (p : Site) (f : Focus) (ns : List ℕ) (x : Work) (t : Evaluation) → Grows (run_by g job p f ns x t)

@@ -1,4 +1,4 @@
--- What is put and made step by step is what is told of it.
+-- What is put and made step by step is what is said of it.
 use Rattle.std.proofs.Common.{◌≡◌, ℕ, ◌==◌, length, List, [], ◌∷◌, Option, Some, None, Bool, true, false, cond, Result, Ok, Err}
 use Rattle.std.proofs.Common.{refl, sym, ap, ◌∙◌, arith}
 use Rattle.std.proofs.lemmas.Bool.Decides.{nat_tests}
@@ -43,139 +43,139 @@ use Rattle.xs_body.specs.steps.Making.{is_declaration, is_unbound, made_ended, m
 use Rattle.xs_body.specs.steps.Making.{outcome_steps, space_steps, spaces_steps, target_steps}
 
 -- ---- events
-pub events-told : (p : Site) (es : List Event) (s : State Task) → events_steps p es s ≡ play (puts_all p es) s
-events-told p [] s = refl
-events-told p (e ∷ es) s =
+pub events-reported : (p : Site) (es : List Event) (s : State Task) → events_steps p es s ≡ play (puts_all p es) s
+events-reported p [] s = refl
+events-reported p (e ∷ es) s =
     ap (λ g. and_then g (λ u m. events_steps p es m)) (play-put p e s)
-    ∙ then-same (play (puts p e) s) (λ u m. events_steps p es m) (λ u m. play (puts_all p es) m) (λ u m. events-told p es m)
+    ∙ then-same (play (puts p e) s) (λ u m. events_steps p es m) (λ u m. play (puts_all p es) m) (λ u m. events-reported p es m)
     ∙ sym (play-then (puts p e) (puts_all p es) s)
 
-event-told : (p : Site) (e : Event) (s : State Task) → put_at p e s ≡ events_steps p (e ∷ []) s
-event-told p e s = sym (then-goes (put_at p e s))
+event-reported : (p : Site) (e : Event) (s : State Task) → put_at p e s ≡ events_steps p (e ∷ []) s
+event-reported p e s = sym (then-goes (put_at p e s))
 
-space-told : (p : Site) (prefix uri : List ℕ) (s : State Task) → space_steps p prefix uri s ≡ events_steps p (space_events prefix uri) s
-space-told p prefix uri s = by_test (is_unbound uri)
+space-reported : (p : Site) (prefix uri : List ℕ) (s : State Task) → space_steps p prefix uri s ≡ events_steps p (space_events prefix uri) s
+space-reported p prefix uri s = by_test (is_unbound uri)
   where
     by_test : (b : Bool) → cond b (goes s) (put_at p (event.Space prefix uri) s) ≡ events_steps p (cond b [] (event.Space prefix uri ∷ [])) s
     by_test true = refl
-    by_test false = event-told p (event.Space prefix uri) s
+    by_test false = event-reported p (event.Space prefix uri) s
 
-named-told : (p : Site) (name : Label) (value : List ℕ) (s : State Task) → named_steps p name value s ≡ events_steps p (attribute_events name value) s
-named-told p name value s = by_test (is_declaration name)
+named-reported : (p : Site) (name : Label) (value : List ℕ) (s : State Task) → named_steps p name value s ≡ events_steps p (attribute_events name value) s
+named-reported p name value s = by_test (is_declaration name)
   where
     by_test : (b : Bool) → cond b (goes s) (put_at p (event.Attr name value) s) ≡ events_steps p (cond b [] (event.Attr name value ∷ [])) s
     by_test true = refl
-    by_test false = event-told p (event.Attr name value) s
+    by_test false = event-reported p (event.Attr name value) s
 
 made-put : (m : Made) (text : List ℕ) (p : Site) (s : State Task) → made_steps m text p s ≡ events_steps p (made_events m text) s
-made-put (made.Attribute name) text p s = named-told p name text s
-made-put made.Comment text p s = event-told p (event.Comment (comment_text text)) s
-made-put (made.Instruction target) text p s = event-told p (event.Pi target (instruction_text text)) s
+made-put (made.Attribute name) text p s = named-reported p name text s
+made-put made.Comment text p s = event-reported p (event.Comment (comment_text text)) s
+made-put (made.Instruction target) text p s = event-reported p (event.Pi target (instruction_text text)) s
 
-pub made-told : (m : Made) (text : List ℕ) (p : Site) (s : State Task) → made_steps m text p s ≡ play (puts_all p (made_events m text)) s
-made-told m text p s = made-put m text p s ∙ events-told p (made_events m text) s
+pub made-reported : (m : Made) (text : List ℕ) (p : Site) (s : State Task) → made_steps m text p s ≡ play (puts_all p (made_events m text)) s
+made-reported m text p s = made-put m text p s ∙ events-reported p (made_events m text) s
 
-pub ended-told : (m : Made) (p : Site) (s : State Task) → made_ended m p s ≡ play (puts_all p (made_at m s)) (popped s)
-ended-told m p s = made-told m (content_text (top s.captures)) p (popped s)
+pub ended-reported : (m : Made) (p : Site) (s : State Task) → made_ended m p s ≡ play (puts_all p (made_at m s)) (popped s)
+ended-reported m p s = made-reported m (content_text (top s.captures)) p (popped s)
 
-text-told : (p : Site) (t : List ℕ) (s : State Task) → chars_steps p t s ≡ events_steps p (text_events t) s
-text-told p [] s = refl
-text-told p (b ∷ bs) s =
+text-reported : (p : Site) (t : List ℕ) (s : State Task) → chars_steps p t s ≡ events_steps p (text_events t) s
+text-reported p [] s = refl
+text-reported p (b ∷ bs) s =
     let q : (length (b ∷ bs) == 0) ≡ false = grind (arith, nat_tests) in
-    ap (λ x. cond x (goes s) (put_at p (Chars (b ∷ bs)) s)) q ∙ event-told p (Chars (b ∷ bs)) s
+    ap (λ x. cond x (goes s) (put_at p (Chars (b ∷ bs)) s)) q ∙ event-reported p (Chars (b ∷ bs)) s
 
 -- ---- literal elements
-spaces-told : (ls : List Alias) (p : Site) (xs : List (List ℕ × List ℕ)) (s : State Task) →
+spaces-reported : (ls : List Alias) (p : Site) (xs : List (List ℕ × List ℕ)) (s : State Task) →
     spaces_steps ls p xs s ≡ events_steps p (literal_spaces ls xs) s
-spaces-told ls p [] s = refl
-spaces-told ls p (x ∷ xs) s =
-    ap (λ g. and_then g (λ u m. spaces_steps ls p xs m)) (space-told p x.0 (aliased ls x.1) s)
+spaces-reported ls p [] s = refl
+spaces-reported ls p (x ∷ xs) s =
+    ap (λ g. and_then g (λ u m. spaces_steps ls p xs m)) (space-reported p x.0 (aliased ls x.1) s)
     ∙ then-same (events_steps p (space_events x.0 (aliased ls x.1)) s) (λ u m. spaces_steps ls p xs m) (λ u m. events_steps p (literal_spaces ls xs) m)
-    (λ u m. spaces-told ls p xs m)
+    (λ u m. spaces-reported ls p xs m)
     ∙ sym (events-both p (space_events x.0 (aliased ls x.1)) (literal_spaces ls xs) s)
 
-pub literal-told : (w : World) (p : Site) (start : LiteralStart) (s : State Task) → literal_steps w.sheet.aliases p start s ≡ play (begins w start p) s
-literal-told w p start s =
+pub literal-reported : (w : World) (p : Site) (start : LiteralStart) (s : State Task) → literal_steps w.sheet.aliases p start s ≡ play (begins w start p) s
+literal-reported w p start s =
     let ls : List Alias = w.sheet.aliases in
     let e : Event = Start (element_label ls start.name) in
     then-same (put_at p e s) (λ u m. spaces_steps ls p start.spaces m) (λ u m. events_steps p (literal_spaces ls start.spaces) m)
-    (λ u m. spaces-told ls p start.spaces m)
-    ∙ events-told p (e ∷ literal_spaces ls start.spaces) s
+    (λ u m. spaces-reported ls p start.spaces m)
+    ∙ events-reported p (e ∷ literal_spaces ls start.spaces) s
 
-attribute-told : (w : World) (p : Site) (f : Focus) (vs : List Value) (a : Label × ValueTemplate) (s : State Task) →
+attribute-reported : (w : World) (p : Site) (f : Focus) (vs : List Value) (a : Label × ValueTemplate) (s : State Task) →
     attribute_steps w p f vs a s
     ≡ play (evaluated p (template_run w a.1 f vs) (λ text. puts_all p (attribute_events (attribute_label w.sheet.aliases a.0) text))) s
-attribute-told w p f vs a s =
+attribute-reported w p f vs a s =
     let es : List ℕ → List Event = λ text. attribute_events (attribute_label w.sheet.aliases a.0) text in
     let r : Run (List ℕ) = template_run w a.1 f vs in
     let name : Label = attribute_label w.sheet.aliases a.0 in
     then-same (limited p r s) (λ text m. named_steps p name text m) (λ text m. play (puts_all p (es text)) m)
-    (λ text m. named-told p name text m ∙ events-told p (es text) m)
+    (λ text m. named-reported p name text m ∙ events-reported p (es text) m)
     ∙ sym (play-evaluated p r (λ text. puts_all p (es text)) s)
 
-pub attributes-told : (w : World) (p : Site) (f : Focus) (vs : List Value) (xs : List (Label × ValueTemplate)) (s : State Task) →
+pub attributes-reported : (w : World) (p : Site) (f : Focus) (vs : List Value) (xs : List (Label × ValueTemplate)) (s : State Task) →
     attributes_steps w p f vs xs s ≡ play (literal_attributes xs p w f vs) s
-attributes-told w p f vs [] s = refl
-attributes-told w p f vs (a ∷ xs) s =
+attributes-reported w p f vs [] s = refl
+attributes-reported w p f vs (a ∷ xs) s =
     let x : Trace Task = evaluated p (template_run w a.1 f vs) (λ text. puts_all p (attribute_events (attribute_label w.sheet.aliases a.0) text)) in
-    ap (λ g. and_then g (λ u m. attributes_steps w p f vs xs m)) (attribute-told w p f vs a s)
+    ap (λ g. and_then g (λ u m. attributes_steps w p f vs xs m)) (attribute-reported w p f vs a s)
     ∙ then-same (play x s) (λ u m. attributes_steps w p f vs xs m) (λ u m. play (literal_attributes xs p w f vs) m)
-    (λ u m. attributes-told w p f vs xs m)
+    (λ u m. attributes-reported w p f vs xs m)
     ∙ sym (play-then x (literal_attributes xs p w f vs) s)
 
 -- ---- copies
-nodes-told : (rs : List Record) (p : Site) (ns : List ℕ) (s : State Task) → nodes_steps rs p ns s ≡ events_steps p (value_events rs (value.Nodes ns)) s
-nodes-told rs p [] s = refl
-nodes-told rs p (n ∷ ns) s =
+nodes-reported : (rs : List Record) (p : Site) (ns : List ℕ) (s : State Task) → nodes_steps rs p ns s ≡ events_steps p (value_events rs (value.Nodes ns)) s
+nodes-reported rs p [] s = refl
+nodes-reported rs p (n ∷ ns) s =
     then-same (events_steps p (deep_copy rs n) s) (λ u m. nodes_steps rs p ns m) (λ u m. events_steps p (value_events rs (value.Nodes ns)) m)
-    (λ u m. nodes-told rs p ns m)
+    (λ u m. nodes-reported rs p ns m)
     ∙ sym (events-both p (deep_copy rs n) (value_events rs (value.Nodes ns)) s)
 
-pub copy-told : (rs : List Record) (p : Site) (v : Value) (s : State Task) → copy_steps rs p v s ≡ play (puts_all p (value_events rs v)) s
-copy-told rs p (value.Nodes ns) s = nodes-told rs p ns s ∙ events-told p (value_events rs (value.Nodes ns)) s
-copy-told rs p (value.Piece es) s = events-told p es s
-copy-told rs p (value.Chars t) s = text-told p t s ∙ events-told p (text_events t) s
-copy-told rs p (value.Bool b) s =
-    let t : List ℕ = text_value rs (value.Bool b) in text-told p t s ∙ events-told p (text_events t) s
-copy-told rs p (value.Number n) s =
-    let t : List ℕ = text_value rs (value.Number n) in text-told p t s ∙ events-told p (text_events t) s
+pub copy-reported : (rs : List Record) (p : Site) (v : Value) (s : State Task) → copy_steps rs p v s ≡ play (puts_all p (value_events rs v)) s
+copy-reported rs p (value.Nodes ns) s = nodes-reported rs p ns s ∙ events-reported p (value_events rs (value.Nodes ns)) s
+copy-reported rs p (value.Piece es) s = events-reported p es s
+copy-reported rs p (value.Chars t) s = text-reported p t s ∙ events-reported p (text_events t) s
+copy-reported rs p (value.Bool b) s =
+    let t : List ℕ = text_value rs (value.Bool b) in text-reported p t s ∙ events-reported p (text_events t) s
+copy-reported rs p (value.Number n) s =
+    let t : List ℕ = text_value rs (value.Number n) in text-reported p t s ∙ events-reported p (text_events t) s
 
 -- ---- names
-outcome-told : {A : Type 0} (p : Site) (r : Result A RunFault) (s : State Task) → outcome_steps p r s ≡ limited p (given r) s
-outcome-told p (Ok x) s = sym (limited-end p (Gives x) s)
-outcome-told p (Err f) s = sym (limited-end p (Faults f) s)
+outcome-reported : {A : Type 0} (p : Site) (r : Result A RunFault) (s : State Task) → outcome_steps p r s ≡ limited p (given r) s
+outcome-reported p (Ok x) s = sym (limited-end p (Gives x) s)
+outcome-reported p (Err f) s = sym (limited-end p (Faults f) s)
 
-namespace-told : (w : World) (p : Site) (f : Focus) (vs : List Value) (o : Option ValueTemplate) (s : State Task) →
+namespace-reported : (w : World) (p : Site) (f : Focus) (vs : List Value) (o : Option ValueTemplate) (s : State Task) →
     namespace_steps w p f vs o s ≡ limited p (namespace_run w o f vs) s
-namespace-told w p f vs None s = sym (limited-end p (Gives None) s)
-namespace-told w p f vs (Some v) s =
+namespace-reported w p f vs None s = sym (limited-end p (Gives None) s)
+namespace-reported w p f vs (Some v) s =
     then-same (limited p (template_run w v f vs) s) (λ uri m. Goes (Some uri) m) (λ uri m. limited p (give (Some uri)) m)
     (λ uri m. sym (limited-end p (Gives (Some uri)) m))
     ∙ sym (limited-bind p (template_run w v f vs) (λ uri. give (Some uri)) s)
 
-pub name-told : (w : World) (p : Site) (f : Focus) (vs : List Value) (b : Bool) (name : MadeName) (s : State Task) →
+pub name-reported : (w : World) (p : Site) (f : Focus) (vs : List Value) (b : Bool) (name : MadeName) (s : State Task) →
     name_steps w p f vs b name s ≡ limited p (name_run w b name f vs) s
-name-told w p f vs b name s =
+name-reported w p f vs b name s =
     let r : Run (List ℕ) = template_run w name.name f vs in
     let named : List ℕ → Option (List ℕ) → Result Label RunFault = λ text uri. result_name name.scope b uri text in
     let rest : List ℕ → Run Label = λ text. namespace_run w name.namespace f vs >>= (λ uri. given (named text uri)) in
     then-same (limited p r s) (λ text m. and_then (namespace_steps w p f vs name.namespace m) (λ uri n. outcome_steps p (named text uri) n))
     (λ text m. limited p (rest text) m) (λ text m.
-    ap (λ g. and_then g (λ uri n. outcome_steps p (named text uri) n)) (namespace-told w p f vs name.namespace m)
+    ap (λ g. and_then g (λ uri n. outcome_steps p (named text uri) n)) (namespace-reported w p f vs name.namespace m)
     ∙ then-same (limited p (namespace_run w name.namespace f vs) m) (λ uri n. outcome_steps p (named text uri) n)
-    (λ uri n. limited p (given (named text uri)) n) (λ uri n. outcome-told p (named text uri) n)
+    (λ uri n. limited p (given (named text uri)) n) (λ uri n. outcome-reported p (named text uri) n)
     ∙ sym (limited-bind p (namespace_run w name.namespace f vs) (λ uri. given (named text uri)) m))
     ∙ sym (limited-bind p r rest s)
 
-pub target-told : (w : World) (p : Site) (f : Focus) (vs : List Value) (name : ValueTemplate) (s : State Task) →
+pub target-reported : (w : World) (p : Site) (f : Focus) (vs : List Value) (name : ValueTemplate) (s : State Task) →
     target_steps w p f vs name s ≡ limited p (target_run w name f vs) s
-target-told w p f vs name s =
+target-reported w p f vs name s =
     let r : Run (List ℕ) = template_run w name f vs in
     then-same (limited p r s) (λ text m. outcome_steps p (pi_target text) m) (λ text m. limited p (given (pi_target text)) m)
-    (λ text m. outcome-told p (pi_target text) m)
+    (λ text m. outcome-reported p (pi_target text) m)
     ∙ sym (limited-bind p r (λ text. given (pi_target text)) s)
 
--- ---- what was told stays
+-- ---- what was reported stays
 pub space-grows : {H : Type 0} → (p : Site) (prefix uri : List ℕ) → Grows {H = H} (space_steps p prefix uri)
 space-grows {H = H} p prefix uri = by_test (is_unbound uri)
   where

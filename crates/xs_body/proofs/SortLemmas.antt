@@ -20,10 +20,10 @@ use Rattle.xs_body_spec.specs.declared.focus.Focus.{Focus}
 use Rattle.xs_body_spec.specs.World.{World, context, sorted_run}
 
 -- without a sort key they stay as they are
-pub unsorted-told : {H : Type 0} → (w : World) (sorts : List SortDecl) (f : Focus) (vs : List Value) (ns : List ℕ) (p : Site) (s : State H) →
+pub unsorted-reported : {H : Type 0} → (w : World) (sorts : List SortDecl) (f : Focus) (vs : List Value) (ns : List ℕ) (p : Site) (s : State H) →
     length sorts ≡ 0 → limited p (sorted_run w sorts f vs ns) s ≡ Goes ns s
-unsorted-told w [] f vs ns p s e = ap (λ r. limited p r s) (unsorted w.keys (context w f vs []) ns) ∙ gives p ns s
-unsorted-told w (x ∷ xs) f vs ns p s e = absurd (omega arith)
+unsorted-reported w [] f vs ns p s e = ap (λ r. limited p r s) (unsorted w.keys (context w f vs []) ns) ∙ gives p ns s
+unsorted-reported w (x ∷ xs) f vs ns p s e = absurd (omega arith)
 
 -- the namespaces in scope for the context are never read
 any-scope : (w : World) (sorts : List SortDecl) (f : Focus) (vs : List Value) (names : List (List ℕ × List ℕ)) (ns : List ℕ) →
@@ -31,10 +31,10 @@ any-scope : (w : World) (sorts : List SortDecl) (f : Focus) (vs : List Value) (n
 any-scope w sorts f vs names ns = refl
 
 -- what sorting gives, at the context of an instruction
-pub sort-told : {H B : Type 0} → (view : B → List ℕ) (w : World) (sorts : List SortDecl) (f : Focus) (vs : List Value) (names : List (List ℕ × List ℕ))
+pub sort-reported : {H B : Type 0} → (view : B → List ℕ) (w : World) (sorts : List SortDecl) (f : Focus) (vs : List Value) (names : List (List ℕ × List ℕ))
     (keys : List Table) (c : Context) (set ns : List ℕ) (p : Site) (s m : State H) (r : Result B Halt) → keys ≡ w.keys → c ≡ context w f vs names →
     set ≡ ns → IsStepBy view (limited p (sorted keys sorts c set) s) r m → IsStepBy view (limited p (sorted_run w sorts f vs ns) s) r m
-sort-told {H} view w sorts f vs names keys c set ns p s m r k a b h =
+sort-reported {H} view w sorts f vs names keys c set ns p s m r k a b h =
     let g : Step H (List ℕ) = limited p (sorted keys sorts c set) s in
     let e : g ≡ limited p (sorted_run w sorts f vs ns) s =
     ap (λ ks. limited p (sorted ks sorts c set) s) k
@@ -59,7 +59,7 @@ pub sort-ends : {H B C : Type 0} → (view : B → List ℕ) (u : C → List ℕ
     IsStepBy view (limited p (sorted keys sorts c set) s) (Err h) m → IsStepBy u (limited p (sorted_run w sorts f vs ns) s) result m
 sort-ends {H} {B} {C} view u w sorts f vs names keys c set ns p s m result y h k a b o i q =
     let g : Step H (List ℕ) = limited p (sorted_run w sorts f vs ns) s in
-    because u g m result y h o i (ends-same view u g h m (sort-told view w sorts f vs names keys c set ns p s m (Err h) k a b q))
+    because u g m result y h o i (ends-same view u g h m (sort-reported view w sorts f vs names keys c set ns p s m (Err h) k a b q))
 
 -- its nodes are in the tree
 pub set-inside : (w : World) (f : Focus) (vs : List Value) (names : List (List ℕ × List ℕ)) (c : Context) (set ns : List ℕ) →

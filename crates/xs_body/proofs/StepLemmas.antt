@@ -1,4 +1,4 @@
--- A step tells the beginning of what the stack stands for, and leaves the rest to be done: by cases, without an induction.
+-- A step reports the beginning of what the stack represents, and leaves the rest to be done: by cases, without an induction.
 use Rattle.std.proofs.Common.{◌≡◌, ℕ, zero, suc, ◌+◌, ◌-◌, ◌/◌, ◌==◌, ◌||◌, drop, length, List, [], ◌∷◌, ◌++◌, map, slice_get, Option, Some, None, Bool, true}
 use Rattle.std.proofs.Common.{false, cond, refl, sym, ap, ◌∙◌, arith}
 use Rattle.std.proofs.lemmas.Bool.Decides.{nat_tests}
@@ -23,7 +23,7 @@ use Rattle.xs_trace.specs.Label.{Label}
 use Rattle.xs_trace.specs.Mark.{Tick, Put, Stop, Hole, Trace, ◌⨾◌, captured}
 use Rattle.xs_trace.specs.Run.{Run, Gives, give, limited, evaluated}
 use Rattle.xs_trace.specs.State.{State, opened, popped, top}
-use Rattle.xs_trace.specs.Play.{Step, Goes, Told, and_then, goes, ticked, ticked_by, put, put_at, stops, play}
+use Rattle.xs_trace.specs.Play.{Step, Goes, Reported, and_then, goes, ticked, ticked_by, put, put_at, stops, play}
 use Rattle.xs_trace.specs.declared.event.Event.{Event}
 use Rattle.xs_trace.specs.declared.event.Event.TheVariants.{Start, Chars, End}
 use Rattle.xs_trace.specs.declared.fault.Fault.TheVariants as fault
@@ -58,7 +58,7 @@ use Rattle.xs_body.specs.steps.Frames.{Work, rest, fill, each_left, apply_left, 
 use Rattle.xs_body.specs.steps.Frames.{make, say, pass, take_value, params_left, Evaluation, last}
 use Rattle.xs_body.specs.steps.Frames.{without, inner, outer, over, captured_scope, more, bound, after, bindings_of, instrs_of, bodies_of}
 use Rattle.xs_body.specs.steps.Frames.{all_bodies, chosen_of, chosen, filled, ended, message_steps, message_ended, fragment_at}
-use Rattle.xs_body.specs.steps.Frames.{passing_left, work_steps, stack_steps, stack_told, pushed, slots_are, filled_up, stays, chars_steps}
+use Rattle.xs_body.specs.steps.Frames.{passing_left, work_steps, stack_steps, stack_reported, pushed, slots_are, filled_up, stays, chars_steps}
 use Rattle.xs_body.specs.steps.Frames.{run_by, run_begun, applied_begun, template_begun, built_in_begun, rule_begun, entry_begun, entering}
 use Rattle.xs_body.specs.steps.Frames.{content_in, declaration_begun, declared_begun, declared_works, sets_left_works, sets_works, inside_begun}
 use Rattle.xs_body.specs.steps.Frames.{copied_begun, element_put, literal_inside, lone_by, lone_steps, made_begun, made_of, selected_text}
@@ -68,39 +68,39 @@ use Rattle.xs_body.specs.steps.Frames.{in_template, rule_entered, entering_fitti
 use Rattle.xs_body.specs.steps.Making.{attributes_steps, copy_steps, fixed_text, literal_steps, made_at, made_ended, made_steps, selected, text_ticked}
 use Rattle.xs_making.specs.Putting.{events_steps}
 use Rattle.xs_body.proofs.AloneLemmas.{content-alone, opened-run, opened-text, opened-tick}
-use Rattle.xs_body.proofs.MakingLemmas.{attributes-told, copy-told, ended-told as made-ended, events-told, literal-told, made-told, name-told, target-told}
+use Rattle.xs_body.proofs.MakingLemmas.{attributes-reported, copy-reported, ended-reported as made-ended, events-reported, literal-reported, made-reported, name-reported, target-reported}
 use Rattle.xs_body.proofs.SetLemmas.{served}
 use Rattle.xs_body.proofs.SlotLemmas.{last-more, without-more, last-none, without-none, more-none}
 use Rattle.xs_body.proofs.RowLemmas.{body-instrs, passing-bindings, fallbacks-bodies, fallback_trace}
 
 -- what is put
 
-chars-told : (p : Site) (t : List ℕ) (s : State Task) → chars_steps p t s ≡ play (chars p t) s
-chars-told p t s = by_test (length t == 0)
+chars-reported : (p : Site) (t : List ℕ) (s : State Task) → chars_steps p t s ≡ play (chars p t) s
+chars-reported p t s = by_test (length t == 0)
   where
     by_test : (b : Bool) → cond b (goes s) (put_at p (Chars t) s) ≡ play (cond b [] (puts p (Chars t))) s
     by_test true = refl
     by_test false = play-put p (Chars t) s
 
-ended-told : (terminate : Bool) (p : Site) (s : State Task) → ended terminate p s ≡ play (ended_if terminate p) s
-ended-told true p s = refl
-ended-told false p s = refl
+ended-reported : (terminate : Bool) (p : Site) (s : State Task) → ended terminate p s ≡ play (ended_if terminate p) s
+ended-reported true p s = refl
+ended-reported false p s = refl
 
-message-told : (p : Site) (terminate : Bool) (t : List ℕ) (s : State Task) → message_steps p terminate t s ≡ play (says p t ⨾ ended_if terminate p) s
-message-told p terminate t s =
+message-reported : (p : Site) (terminate : Bool) (t : List ℕ) (s : State Task) → message_steps p terminate t s ≡ play (says p t ⨾ ended_if terminate p) s
+message-reported p terminate t s =
     ap (λ g. and_then g (λ u m. ended terminate p m)) (play-say p t s)
-    ∙ then-same (play (says p t) s) (λ u m. ended terminate p m) (λ u m. play (ended_if terminate p) m) (λ u m. ended-told terminate p m)
+    ∙ then-same (play (says p t) s) (λ u m. ended terminate p m) (λ u m. play (ended_if terminate p) m) (λ u m. ended-reported terminate p m)
     ∙ sym (play-then (says p t) (ended_if terminate p) s)
 
 -- two ways on, behind the same
-before : {A C D : Type 0} (g : Told Task) (f : State Task → Step Task C) (k : C → State Task → Step Task D) (h : State Task → Step Task A)
+before : {A C D : Type 0} (g : Reported Task) (f : State Task → Step Task C) (k : C → State Task → Step Task D) (h : State Task → Step Task A)
     (j : A → State Task → Step Task D) →
     ((m : State Task) → and_then (f m) k ≡ and_then (h m) j) → and_then (and_then g (λ u m. f m)) k ≡ and_then (and_then g (λ u m. h m)) j
 before g f k h j e = then-then g (λ u m. f m) k ∙ then-same g (λ u m. and_then (f m) k) (λ u m. and_then (h m) j) (λ u m. e m) ∙ sym
     (then-then g (λ u m. h m) j)
 
 -- one of two bodies
-either : (b : Bool) (x y : Trace Task) (body : Body) (r : Run Body) (p : Site) (next : Body → State Task → Told Task) (s : State Task) →
+either : (b : Bool) (x y : Trace Task) (body : Body) (r : Run Body) (p : Site) (next : Body → State Task → Reported Task) (s : State Task) →
     play x s ≡ next body s → play y s ≡ and_then (limited p r s) next → play (cond b x y) s ≡ and_then (limited p (cond b (give body) r) s) next
 either true x y body r p next s e o = e ∙ ap (λ g. and_then g next) (sym (limited-end p (Gives body) s))
 either false x y body r p next s e o = o
@@ -113,7 +113,7 @@ unfolding out-When denote.Hole.Carrier.out
 chooses end_of-When otherwise p w k f vs s = ap (λ g. and_then g (λ body n. play (body_trace body w k f vs) n)) (sym (limited-end p (Gives otherwise) s))
 chooses (more_of-When (When' test body) others) otherwise p w k f vs s =
     let r : Run Bool = test_run w test f vs in
-    let next : Body → State Task → Told Task = λ b n. play (body_trace b w k f vs) n in
+    let next : Body → State Task → Reported Task = λ b n. play (body_trace b w k f vs) n in
     let x : Trace Task = body_trace body w k f vs in
     let y : Trace Task = whens_trace others p w k f vs (body_trace otherwise w k f vs) in
     let more_run : Run Body = chosen_of (items-the_row-When _ others) otherwise w f vs in
@@ -126,27 +126,27 @@ chooses (more_of-When (When' test body) others) otherwise p w k f vs s =
 chooses-body : (choice : Choice) (p : Site) (w : World) (k : Calls) (f : Focus) (vs : List Value) (s : State Task) →
     play (choice_trace choice p w k f vs) s ≡ and_then (limited p (chosen choice w f vs) s) (λ body n. play (body_trace body w k f vs) n)
 chooses-body (Choice' n row otherwise) p w k f vs s =
-    let next : Body → State Task → Told Task = λ b n. play (body_trace b w k f vs) n in
+    let next : Body → State Task → Reported Task = λ b n. play (body_trace b w k f vs) n in
     chooses row otherwise p w k f vs s
     ∙ ap (λ ts. and_then (limited p (chosen_of ts otherwise w f vs) s) next) (sym (items_shown-the_row-When-1 n row))
     ∙ ap (λ c. and_then (limited p (chosen_of c.whens c.otherwise w f vs) s) next) (sym (outs-Choice' n row otherwise))
 
-abbrev Go : Evaluation → State Task → Told Task
-Go t m = stack_told t m
+abbrev Go : Evaluation → State Task → Reported Task
+Go t m = stack_reported t m
 
--- a trace that is told, and then what a stack tells; the same where the stack's values have changed
-abbrev Then : Trace Task → Evaluation → State Task → Told Task
+-- a trace that is reported, and then what a stack reports; the same where the stack's values have changed
+abbrev Then : Trace Task → Evaluation → State Task → Reported Task
 Then x t s = and_then (play x s) (λ u m. Go t m)
 
--- how it goes on behind a work that tells a trace
+-- how it goes on behind a work that reports a trace
 behind : (x : Trace Task) (vs : List Value) (t : Evaluation) (s : State Task) →
     Then x (slots_are vs t) s ≡ and_then (filled x vs s) (λ us m. stack_steps t.world t.works us m)
 behind x vs t s = sym (then-then (play x s) (λ u m. Goes vs m) (λ us m. stack_steps t.world t.works us m))
 
-alone : (x : Trace Task) (g : Told Task) (t : Evaluation) (s : State Task) → g ≡ play x s → Then x t s ≡ and_then (stays g t) Go
+alone : (x : Trace Task) (g : Reported Task) (t : Evaluation) (s : State Task) → g ≡ play x s → Then x t s ≡ and_then (stays g t) Go
 alone x g t s e = ap (λ j. and_then j (λ u m. Go t m)) (sym e) ∙ sym (then-then g (λ u m. Goes t m) Go)
 
--- two traces, the second of which a work tells
+-- two traces, the second of which a work reports
 twice : (x y : Trace Task) (vs : List Value) (b : Work) (t : Evaluation) (s : State Task) →
     ((m : State Task) → work_steps t.world b t.slots m ≡ filled y vs m) →
     Then (x ⨾ y) (slots_are vs t) s ≡ Then x (pushed (b ∷ []) t) s
@@ -156,7 +156,7 @@ twice x y vs b t s e =
     ∙ then-same (play x s) (λ u m. Then y (slots_are vs t) m) (λ u m. Go (pushed (b ∷ []) t) m) (λ u m.
     behind y vs t m ∙ ap (λ g. and_then g (λ us n. stack_steps t.world t.works us n)) (sym (e m)))
 
--- the same of what any works tell
+-- the same of what any works report
 followed : (x y : Trace Task) (t v : Evaluation) (s : State Task) → ((m : State Task) → Then y t m ≡ Go v m) → Then (x ⨾ y) t s ≡ Then x v s
 followed x y t v s e =
     ap (λ g. and_then g (λ u m. Go t m)) (play-then x y s)
@@ -261,7 +261,7 @@ built-in-begins : (mode : ℕ) (p : Site) (f : Focus) (r : Record) (t : Evaluati
 built-in-begins mode p f r t s = by_content (has_content r.kind)
   where
     by_text : (q : Bool) → Then (cond q (chars p r.text) []) t s ≡ and_then (cond q (stays (chars_steps p r.text s) t) (Goes t s)) Go
-    by_text true = alone (chars p r.text) (chars_steps p r.text s) t s (chars-told p r.text s)
+    by_text true = alone (chars p r.text) (chars_steps p r.text s) t s (chars-reported p r.text s)
     by_text false = refl
 
     by_content : (q : Bool) → Then (cond q (applied t.world (calls_at t.world f) mode no_params p f (children t.world.tree f.node))
@@ -437,14 +437,15 @@ literal-begins start p body c t s =
     v : Evaluation
     v = pushed (attributes_left start.attributes p c ∷ []) u
 
-    own : Told Task
+    own : Reported Task
     own = attributes_steps t.world p c.focus (last c.seen t.slots) start.attributes s
 
     used : List Work
     used = cond (c.focus.set_levels == 0) [] (sets_left start.sets (with_levels c.focus.depth (c.focus.set_levels - 1) c.focus) ∷ [])
 
     by_test : (b : Bool) → Go (pushed (cond b [] used) v) s ≡ and_then (cond b (stays own u) (Goes (pushed (cond b [] used) v) s)) Go
-    by_test true = sym (behind attributes u.slots u s) ∙ alone attributes own u s (attributes-told t.world p c.focus (last c.seen t.slots) start.attributes s)
+    by_test true = sym (behind attributes u.slots u s) ∙ alone attributes own u s (attributes-reported t.world p c.focus (last c.seen t.slots)
+        start.attributes s)
     by_test false = refl
 
 copied-begins : (kind : Kind) (sets : List Label) (p : Site) (body : Body) (c : Scope) (t : Evaluation) (s : State Task) →
@@ -540,7 +541,7 @@ fallbacks-begin : (bs : List Body) (p : Site) (c : Scope) (t : Evaluation) (s : 
 fallbacks-begin [] p c t s = refl
 fallbacks-begin (b ∷ bs) p c t s = behind (all_bodies (b ∷ bs) t.world (calls_at t.world c.focus) c.focus (last c.seen t.slots)) t.slots t s
 
--- an instruction, and what is left of its body, which works tell
+-- an instruction, and what is left of its body, which works report
 joined : (x : Trace Task) (is : List Instr) (c : Scope) (t : Evaluation) (s : State Task) →
     Then (x ⨾ instrs_trace is t.world (calls_at t.world c.focus) c.focus (last c.seen t.slots)) (slots_are (without c.own t.slots) t) s
     ≡ Then x (pushed (rest_works is (more 0 c)) t) s
@@ -561,7 +562,7 @@ text-begins : (text : List ℕ) (p : Site) (is : List Instr) (c : Scope) (t : Ev
     (instrs_trace is t.world (calls_at t.world c.focus) c.focus)) (slots_are (without c.own t.slots) t) s
     ≡ and_then (stays (chars_steps p text s) (pushed (rest_works is (more 0 c)) t)) Go
 text-begins text p is c t s = joined (chars p text) is c t s ∙ alone (chars p text) (chars_steps p text s) (pushed (rest_works is (more 0 c)) t) s
-    (chars-told p text s)
+    (chars-reported p text s)
 
 value-begins : (select : ScopedExpr) (p : Site) (is : List Instr) (c : Scope) (t : Evaluation) (s : State Task) →
     Then (instr_trace (ValueOf select) p t.world (calls_at t.world c.focus) c.focus (last c.seen t.slots)
@@ -572,7 +573,7 @@ value-begins select p is c t s =
     let r : Run (List ℕ) = text_run t.world select c.focus (last c.seen t.slots) in
     joined (evaluated p r (chars p)) is c t s
     ∙ alone (evaluated p r (chars p)) (and_then (limited p r s) (λ text m. chars_steps p text m)) u s
-    (then-same (limited p r s) (λ text m. chars_steps p text m) (λ text m. play (chars p text) m) (λ text m. chars-told p text m) ∙ sym
+    (then-same (limited p r s) (λ text m. chars_steps p text m) (λ text m. play (chars p text) m) (λ text m. chars-reported p text m) ∙ sym
     (play-evaluated p r (chars p) s))
 
 -- what is made of captured content
@@ -583,22 +584,22 @@ captured-begins m body p c t s =
     captures body c (λ es. puts_all p (made_events m (content_text es))) t (pushed (make m p ∷ []) t) s
     (λ q. behind (puts_all p (made_at m q)) t.slots t (popped q))
 
--- what is made of a text, once its ticks are told
+-- what is made of a text, once its ticks are reported
 made-text : (m : Made) (p q : Site) (text : List ℕ) (body : Body) (c : Scope) (t : Evaluation) (s : State Task) →
     and_then (chars_steps q text (opened s)) (λ u n. Go (pushed (make m p ∷ []) t) n)
     ≡ and_then (text_ticked q text s) (λ found n. and_then (made_of found m body p c t n) Go)
 made-text m p q text body c t s =
     let made : List ℕ → Trace Task = λ xs. puts_all p (made_events m xs) in
-    let at_end : List Event → State Task → Told Task = λ es n. Then (made (content_text es)) t n in
+    let at_end : List Event → State Task → Reported Task = λ es n. Then (made (content_text es)) t n in
     then-same (chars_steps q text (opened s)) (λ u n. Go (pushed (make m p ∷ []) t) n) (λ u n. at_end (top n.captures) (popped n))
     (λ u n. sym (behind (puts_all p (made_at m n)) t.slots t (popped n)))
     ∙ opened-text q text at_end s
     ∙ then-same (ticked_by (length text / 256) q s) (λ u n. at_end (text_events text) n) (λ u n. and_then (stays (made_steps m text p n) t) Go) (λ u n.
-    ap (λ xs. Then (made xs) t n) (content-alone text) ∙ alone (made text) (made_steps m text p n) t n (made-told m text p n))
+    ap (λ xs. Then (made xs) t n) (content-alone text) ∙ alone (made text) (made_steps m text p n) t n (made-reported m text p n))
     ∙ sym (then-then (ticked_by (length text / 256) q s) (λ u n. Goes (Some text) n) (λ found n. and_then (made_of found m body p c t n) Go))
 
 -- content of one instruction that puts a text, and what is made of it
-made-alone : (m : Made) (p q : Site) (body : Body) (c : Scope) (t : Evaluation) (g : State Task → Told Task)
+made-alone : (m : Made) (p q : Site) (body : Body) (c : Scope) (t : Evaluation) (g : State Task → Reported Task)
     (h : State Task → Step Task (Option (List ℕ))) (s : State Task) →
     ((n : State Task) → and_then (g (opened n)) (λ u o. Go (pushed (make m p ∷ []) t) o)
     ≡ and_then (h n) (λ found o. and_then (made_of found m body p c t o) Go)) →
@@ -635,16 +636,16 @@ lone-begins (ValueOf select) q m body p c t s is =
     let x : Trace Task = instr_trace (ValueOf select) q t.world (calls_at t.world d.focus) d.focus (last d.seen v.slots)
     (instrs_trace [] t.world (calls_at t.world d.focus) d.focus) in
     let r : Run (List ℕ) = text_run t.world select c.focus (last c.seen t.slots) in
-    let told : Option (List ℕ) → State Task → Told Task = λ found o. and_then (made_of found m body p c t o) Go in
+    let reported : Option (List ℕ) → State Task → Reported Task = λ found o. and_then (made_of found m body p c t o) Go in
     ap (λ xs. Go (pushed (rest xs d ∷ []) v) (opened s)) is
     ∙ sym (behind (Tick q ∷ x) (without 0 v.slots) v (opened s))
     ∙ ticks q x (slots_are (without 0 v.slots) v) v (λ n. stays (value_steps select q d v n) v) (opened s) (λ n. value-begins select q [] d v n)
     ∙ made-alone m p q body c t (λ n. value_steps select q d v n) (λ n. selected_text select q c t n) s (λ n.
     then-then (limited q r (opened n)) (λ text o. chars_steps q text o) (λ u o. Go v o)
     ∙ opened-run q r (λ text o. and_then (chars_steps q text o) (λ u i. Go v i)) n
-    ∙ then-same (limited q r n) (λ text o. and_then (chars_steps q text (opened o)) (λ u i. Go v i)) (λ text o. and_then (text_ticked q text o) told)
+    ∙ then-same (limited q r n) (λ text o. and_then (chars_steps q text (opened o)) (λ u i. Go v i)) (λ text o. and_then (text_ticked q text o) reported)
     (λ text o. made-text m p q text body c t o)
-    ∙ sym (then-then (limited q r n) (λ text o. text_ticked q text o) told))
+    ∙ sym (then-then (limited q r n) (λ text o. text_ticked q text o) reported))
 lone-begins (ApplyTemplates nodes passed) q m body p c t s is = refl
 lone-begins (CallTemplate i passed) q m body p c t s is = refl
 lone-begins ApplyImports q m body p c t s is = refl
@@ -712,7 +713,7 @@ begins-so (CopyOf select) p is c t s =
     let h : Value → Trace Task = λ v. puts_all p (value_events t.world.tree v) in
     joined (evaluated p r h) is c t s
     ∙ alone (evaluated p r h) (and_then (limited p r s) (λ v m. copy_steps t.world.tree p v m)) u s
-    (then-same (limited p r s) (λ v m. copy_steps t.world.tree p v m) (λ v m. play (h v) m) (λ v m. copy-told t.world.tree p v m)
+    (then-same (limited p r s) (λ v m. copy_steps t.world.tree p v m) (λ v m. play (h v) m) (λ v m. copy-reported t.world.tree p v m)
     ∙ sym (play-evaluated p r h s))
 begins-so (Copy sets body) p is c t s =
     let u : Evaluation = pushed (rest_works is (more 0 c)) t in
@@ -722,7 +723,7 @@ begins-so (Copy sets body) p is c t s =
     (body_trace body t.world (calls_at t.world c.focus) c.focus (last c.seen t.slots)) in
     joined (x ⨾ y) is c t s
     ∙ ap (λ g. and_then g (λ q m. Go u m)) (play-then x y s)
-    ∙ ap (λ g. and_then (and_then g (λ q m. play y m)) (λ q m. Go u m)) (sym (events-told p (shallow_copy t.world.tree c.focus.node) s))
+    ∙ ap (λ g. and_then (and_then g (λ q m. play y m)) (λ q m. Go u m)) (sym (events-reported p (shallow_copy t.world.tree c.focus.node) s))
     ∙ before (events_steps p (shallow_copy t.world.tree c.focus.node) s) (λ m. play y m) (λ q m. Go u m)
     (λ m. Goes (copied_begun kind sets body c u) m) Go (λ m. copied-begins kind sets p body c u m)
 begins-so (Number decl) p is c t s =
@@ -730,7 +731,7 @@ begins-so (Number decl) p is c t s =
     let r : Run (List ℕ) = number_run t.world decl c.focus (last c.seen t.slots) in
     joined (evaluated p r (chars p)) is c t s
     ∙ alone (evaluated p r (chars p)) (and_then (limited p r s) (λ text m. chars_steps p text m)) u s
-    (then-same (limited p r s) (λ text m. chars_steps p text m) (λ text m. play (chars p text) m) (λ text m. chars-told p text m) ∙ sym
+    (then-same (limited p r s) (λ text m. chars_steps p text m) (λ text m. play (chars p text) m) (λ text m. chars-reported p text m) ∙ sym
     (play-evaluated p r (chars p) s))
 begins-so (Choose choice) p is c t s =
     let u : Evaluation = pushed (rest_works is (more 0 c)) t in
@@ -758,7 +759,7 @@ begins-so (Element name sets body) p is c t s =
     let f : Label → State Task → Step Task Evaluation = λ label m. element_put label sets body c u m in
     joined (evaluated p r h) is c t s ∙ brings p r h u f s (λ label m.
     before (put (Start label) m) (λ n. play y n) (λ q n. Go u n) (λ n. Goes (inside_begun sets body c u) n) Go (λ n. inside-begins sets p body c u n))
-    ∙ ap (λ g. and_then (and_then g f) Go) (sym (name-told t.world p c.focus (last c.seen t.slots) false name s))
+    ∙ ap (λ g. and_then (and_then g f) Go) (sym (name-reported t.world p c.focus (last c.seen t.slots) false name s))
 begins-so (Attribute name body) p is c t s =
     let u : Evaluation = pushed (rest_works is (more 0 c)) t in
     let r : Run Label = name_run t.world true name c.focus (last c.seen t.slots) in
@@ -766,7 +767,7 @@ begins-so (Attribute name body) p is c t s =
     let h : Label → Trace Task = λ label. makes (made.Attribute label) p content in
     let f : Label → State Task → Step Task Evaluation = λ label m. made_begun (made.Attribute label) body p c u m in
     joined (evaluated p r h) is c t s ∙ brings p r h u f s (λ label m. made-begins (made.Attribute label) body p c u m)
-    ∙ ap (λ g. and_then (and_then g f) Go) (sym (name-told t.world p c.focus (last c.seen t.slots) true name s))
+    ∙ ap (λ g. and_then (and_then g f) Go) (sym (name-reported t.world p c.focus (last c.seen t.slots) true name s))
 begins-so (Comment body) p is c t s =
     joined (makes made.Comment p (body_trace body t.world (calls_at t.world c.focus) (captured_in c.focus) (last c.seen t.slots))) is c t s
     ∙ made-begins made.Comment body p c (pushed (rest_works is (more 0 c)) t) s
@@ -777,13 +778,13 @@ begins-so (Pi name body) p is c t s =
     let h : List ℕ → Trace Task = λ target. makes (made.Instruction target) p content in
     let f : List ℕ → State Task → Step Task Evaluation = λ target m. made_begun (made.Instruction target) body p c u m in
     joined (evaluated p r h) is c t s ∙ brings p r h u f s (λ target m. made-begins (made.Instruction target) body p c u m)
-    ∙ ap (λ g. and_then (and_then g f) Go) (sym (target-told t.world p c.focus (last c.seen t.slots) name s))
+    ∙ ap (λ g. and_then (and_then g f) Go) (sym (target-reported t.world p c.focus (last c.seen t.slots) name s))
 begins-so (Message terminate body) p is c t s =
     let u : Evaluation = pushed (rest_works is (more 0 c)) t in
     let h : List Event → Trace Task = λ es. says p (fragment_text es) ⨾ ended_if terminate p in
     joined (captured (body_trace body t.world (calls_at t.world c.focus) (captured_in c.focus) (last c.seen t.slots)) h) is c t s
     ∙ captures body c h u (pushed (say p terminate ∷ []) u) s (λ m.
-    ap (λ g. and_then g (λ v n. Go u n)) (sym (message-told p terminate (fragment_text (top m.captures)) (popped m)))
+    ap (λ g. and_then g (λ v n. Go u n)) (sym (message-reported p terminate (fragment_text (top m.captures)) (popped m)))
     ∙ sym (then-then (message_ended p terminate m) (λ v n. Goes u.slots n) (λ us n. stack_steps t.world u.works us n)))
 begins-so (Variable' site name content) p is c t s =
     content-begins content p c (λ x. instrs_trace is t.world (calls_at t.world c.focus) c.focus (last c.seen t.slots ++ x ∷ []))
@@ -798,7 +799,7 @@ begins-so (Literal start body) p is c t s =
     let z : Trace Task = begins t.world start p in
     joined (z ⨾ y) is c t s
     ∙ ap (λ g. and_then g (λ q m. Go u m)) (play-then z y s)
-    ∙ ap (λ g. and_then (and_then g (λ q m. play y m)) (λ q m. Go u m)) (sym (literal-told t.world p start s))
+    ∙ ap (λ g. and_then (and_then g (λ q m. play y m)) (λ q m. Go u m)) (sym (literal-reported t.world p start s))
     ∙ before (literal_steps t.world.sheet.aliases p start s) (λ m. play y m) (λ q m. Go u m) (λ m. literal_inside start body p c u m) Go
     (λ m. literal-begins start p body c u m)
 begins-so (Extension fallbacks) p is c t s =
@@ -890,7 +891,7 @@ advances (declared_left name i f) t index s =
 advances (attributes_left xs p c) t index s =
     let x : Trace Task = literal_attributes xs p t.world c.focus (last c.seen t.slots) in
     sym (behind x t.slots t s)
-    ∙ alone x (attributes_steps t.world p c.focus (last c.seen t.slots) xs s) t s (attributes-told t.world p c.focus (last c.seen t.slots) xs s)
+    ∙ alone x (attributes_steps t.world p c.focus (last c.seen t.slots) xs s) t s (attributes-reported t.world p c.focus (last c.seen t.slots) xs s)
 advances (make m p) t index s =
     let x : Trace Task = puts_all p (made_at m s) in
     sym (behind x t.slots t (popped s)) ∙ alone x (made_ended m p s) t (popped s) (made-ended m p s)

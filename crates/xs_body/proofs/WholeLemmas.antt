@@ -30,10 +30,10 @@ pub no-grain : {A : Type 0} (o : Option ℕ) → o ≡ None → IsSome o → A
 no-grain o e s = absurd (true≢false (sym s ∙ ap is_some e))
 
 -- a run over settled globals ends in no need
-pub task-settled : (w : World) (t : Task) (s m : State Task) (told : Result (Unit {0}) Halt) → All IsSome w.globals →
-    IsStep (play (task_trace w t) s) told m → NeedsNone told
-task-settled w t s m told all q =
-    need-comes-from-need Task (task_trace w t) s m told (settled-needs w.globals (task_trace w t) all (task-needs w t)) q
+pub task-settled : (w : World) (t : Task) (s m : State Task) (reported : Result (Unit {0}) Halt) → All IsSome w.globals →
+    IsStep (play (task_trace w t) s) reported m → NeedsNone reported
+task-settled w t s m reported all q =
+    need-comes-from-need Task (task_trace w t) s m reported (settled-needs w.globals (task_trace w t) all (task-needs w t)) q
 
 -- what a recorder keeps at its start
 abbrev pub paid_at : {K : Type 0} → Limits → K → (most before free : ℕ) → Paid K
@@ -41,13 +41,13 @@ paid_at l total most before free = record { limits = l; total = total; most = mo
 
 -- a piece, from its start
 pub piece-is : {H K E : Type 0} (r : Result Outcome E) (x : Trace H) (l : Limits) (total : K) (most first before free : ℕ) (paid start : Paid K)
-    (told : Result (Unit {0}) Halt) (s0 s1 : State H) (after last : ℕ) (old new : List H) → paid ≡ start →
+    (reported : Result (Unit {0}) Halt) (s0 s1 : State H) (after last : ℕ) (old new : List H) → paid ≡ start →
     start ≡ paid_at l total most before free →
-    s0 ≡ started l most first → IsStep (play x s0) told s1 → IfOk r (IsPieceOf paid told s1 after last old new) →
+    s0 ≡ started l most first → IsStep (play x s0) reported s1 → IfOk r (IsPieceOf paid reported s1 after last old new) →
     IfOk r (IsPiece x l most before after last old new)
-piece-is {K = K} (Ok o) x l total most first before free paid start told s0 s1 after last old new d e b q h =
-    (subst (λ (z : Paid K). IsPieceOf z told s1 after last old new o) (d ∙ e) h) x first before (subst (λ m. IsStep (play x m) told s1) b q) refl
-piece-is (Err f) x l total most first before free paid start told s0 s1 after last old new d e b q h = tt
+piece-is {K = K} (Ok o) x l total most first before free paid start reported s0 s1 after last old new d e b q h =
+    (subst (λ (z : Paid K). IsPieceOf z reported s1 after last old new o) (d ∙ e) h) x first before (subst (λ m. IsStep (play x m) reported s1) b q) refl
+piece-is (Err f) x l total most first before free paid start reported s0 s1 after last old new d e b q h = tt
 
 -- a piece that did not end in its total
 pub outcome-is : {H : Type 0} (x : Trace H) (l : Limits) (most before after last : ℕ) (old new : List H) (o : Outcome) →

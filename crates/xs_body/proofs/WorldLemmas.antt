@@ -15,7 +15,7 @@ use Rattle.xs_trace.specs.Cut.{Fault}
 use Rattle.xs_trace.specs.Mark.{Hole}
 use Rattle.xs_trace.specs.Run.{limited}
 use Rattle.xs_trace.specs.State.{State, popped}
-use Rattle.xs_trace.specs.Play.{Step, Goes, Ends, Told, and_then, ticked, put, stops, play}
+use Rattle.xs_trace.specs.Play.{Step, Goes, Ends, Reported, and_then, ticked, put, stops, play}
 use Rattle.xs_trace.specs.Label.{Label}
 use Rattle.xs_trace.specs.declared.event.Event.TheVariants.{Start, End}
 use Rattle.xs_trace.specs.declared.fault.Fault.TheVariants as fault
@@ -50,12 +50,12 @@ use Rattle.xs_making.specs.Putting.{events_steps}
 
 abbrev Keeps : World → Step Task Evaluation → Type 0
 Keeps w (Goes u m) = u.world ≡ w
-Keeps w (Ends e told left h) = Unit {0}
+Keeps w (Ends e reported left h) = Unit {0}
 
 then-keeps : {A : Type 0} (w : World) (g : Step Task A) (f : A → State Task → Step Task Evaluation) → ((x : A) (m : State Task) → Keeps w (f x m)) →
     Keeps w (and_then g f)
 then-keeps w (Goes x m) f h = h x m
-then-keeps w (Ends e told left k) f h = tt
+then-keeps w (Ends e reported left k) f h = tt
 
 if-keeps : (w : World) (b : Bool) (x y : Step Task Evaluation) → Keeps w x → Keeps w y → Keeps w (cond b x y)
 if-keeps w true x y p q = p
@@ -66,7 +66,7 @@ brings-keeps : {A : Type 0} (t : Evaluation) (g : Step Task A) (f : A → Evalua
     Keeps t.world (and_then g (λ x m. Goes (f x) m))
 brings-keeps t g f h = then-keeps t.world g (λ x m. Goes (f x) m) (λ x m. h x)
 
-stays-keeps : (g : Told Task) (t : Evaluation) → Keeps t.world (stays g t)
+stays-keeps : (g : Reported Task) (t : Evaluation) → Keeps t.world (stays g t)
 stays-keeps g t = brings-keeps t g (λ u. t) (λ u. refl)
 
 run_by-keeps : (g : Option ℕ) (job : Job) (p : Site) (f : Focus) (ns : List ℕ) (x : Work) (t : Evaluation) (s : State Task) →
@@ -186,7 +186,7 @@ made-keeps m body p c t s =
 literal-keeps : (start : LiteralStart) (body : Body) (p : Site) (c : Scope) (t : Evaluation) (s : State Task) →
     Keeps t.world (literal_inside start body p c t s)
 literal-keeps start body p c t s =
-    let g : Told Task = attributes_steps t.world p c.focus (last c.seen t.slots) start.attributes s in
+    let g : Reported Task = attributes_steps t.world p c.focus (last c.seen t.slots) start.attributes s in
     let v : Evaluation = content_in body c t in
     if-keeps t.world (length start.sets == 0) (stays g v)
     (Goes (pushed (sets_works start.sets c.focus) (pushed (attributes_left start.attributes p c ∷ []) v)) s) (stays-keeps g v) refl

@@ -39,7 +39,7 @@ impl<'a, K: Finder> Evaluator<'a, K> {
     ) -> Result<(), Halt>
         requires holes { IsSome self.old.world.grain → R.takes_holes ≡ true }
         requires node { scope.focus.node < length self.old.world.tree }
-        ensures told { IsStepBy (λ u. self.new)
+        ensures reported { IsStepBy (λ u. self.new)
             (apply_begun applied.now (bindings_of passed.now) site scope self.old
             (R.state recorder.old)) result (R.state recorder.new) }
         ensures kept { R.kept recorder.new ≡ R.kept recorder.old }
@@ -58,7 +58,7 @@ impl<'a, K: Finder> Evaluator<'a, K> {
         recorder: &mut R,
     ) -> Result<NodeList, Halt>
         requires node { scope.focus.node < length self.now.world.tree }
-        ensures told { IsStepBy (λ l. nodes_in l) (limited site
+        ensures reported { IsStepBy (λ l. nodes_in l) (limited site
             (nodes_or_children self.now.world select.now scope.focus
             (last scope.seen self.now.slots))
             (R.state recorder.old)) result (R.state recorder.new) }
@@ -91,7 +91,7 @@ impl<'a, K: Finder> Evaluator<'a, K> {
         recorder: &mut R,
     ) -> Result<NodeList, Halt>
         requires node { focus.node < length self.now.world.tree }
-        ensures told { IsStepBy (λ l. nodes_in l) (and_then
+        ensures reported { IsStepBy (λ l. nodes_in l) (and_then
             (ticked_by (length (children self.now.world.tree focus.node)) site
             (R.state recorder.old))
             (λ u m. Goes (children self.now.world.tree focus.node) m))
@@ -117,7 +117,7 @@ impl<'a, K: Finder> Evaluator<'a, K> {
         requires holes { IsSome self.old.world.grain → R.takes_holes ≡ true }
         requires nodes { AreNodes self.old.world.tree (nodes_in nodes) }
         requires passed { AreValues self.old.world.tree rules.passed.values }
-        ensures told { IsStepBy (λ u. self.new)
+        ensures reported { IsStepBy (λ u. self.new)
             (applied_begun rules.entry.mode rules.entry.passed site focus (nodes_in nodes) self.old
             (R.state recorder.old)) result (R.state recorder.new) }
         ensures kept { R.kept recorder.new ≡ R.kept recorder.old }
@@ -158,7 +158,7 @@ impl<'a, K: Finder> Evaluator<'a, K> {
     ) -> Result<(), Halt>
         requires holes { IsSome self.old.world.grain → R.takes_holes ≡ true }
         requires left { IsApply self.old.world.tree left.value }
-        ensures told { IsStepBy (λ u. self.new)
+        ensures reported { IsStepBy (λ u. self.new)
             (advanced (apply_work left.entry.value) self.old
             (R.state recorder.old)) result (R.state recorder.new) }
         ensures kept { R.kept recorder.new ≡ R.kept recorder.old }
@@ -179,7 +179,7 @@ impl<'a, K: Finder> Evaluator<'a, K> {
         requires holes { IsSome self.old.world.grain → R.takes_holes ≡ true }
         requires left { IsApply self.old.world.tree left.value }
         requires node { node < length self.old.world.tree }
-        ensures told { IsStepBy (λ u. self.new)
+        ensures reported { IsStepBy (λ u. self.new)
             (advanced (apply_left left.entry.value.rules.mode left.entry.value.rules.passed
             left.entry.value.site left.entry.value.focus left.entry.value.position
             (node ∷ drop (left.entry.value.next + 1) (nodes_in left.entry.value.nodes))) self.old
@@ -208,7 +208,7 @@ impl<'a, K: Finder> Evaluator<'a, K> {
     ) -> Result<(), Halt>
         requires holes { IsSome self.old.world.grain → R.takes_holes ≡ true }
         requires nodes { AreNodes self.old.world.tree (nodes_in nodes) }
-        ensures told { IsStepBy (λ u. self.new)
+        ensures reported { IsStepBy (λ u. self.new)
             (loop_begun body.now site scope (nodes_in nodes) self.old
             (R.state recorder.old)) result (R.state recorder.new) }
         ensures kept { R.kept recorder.new ≡ R.kept recorder.old }
@@ -249,7 +249,7 @@ impl<'a, K: Finder> Evaluator<'a, K> {
     ) -> Result<(), Halt>
         requires holes { IsSome self.old.world.grain → R.takes_holes ≡ true }
         requires left { IsEach self.old.world.tree left.value }
-        ensures told { IsStepBy (λ u. self.new)
+        ensures reported { IsStepBy (λ u. self.new)
             (advanced (each_work left.entry.value) self.old
             (R.state recorder.old)) result (R.state recorder.new) }
         ensures kept { R.kept recorder.new ≡ R.kept recorder.old }
@@ -270,7 +270,7 @@ impl<'a, K: Finder> Evaluator<'a, K> {
         requires holes { IsSome self.old.world.grain → R.takes_holes ≡ true }
         requires left { IsEach self.old.world.tree left.value }
         requires node { node < length self.old.world.tree }
-        ensures told { IsStepBy (λ u. self.new)
+        ensures reported { IsStepBy (λ u. self.new)
             (advanced (each_left left.entry.value.body.now left.entry.value.site
             left.entry.value.scope left.entry.value.position
             (node ∷ drop (left.entry.value.next + 1) (nodes_in left.entry.value.nodes))) self.old

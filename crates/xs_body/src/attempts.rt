@@ -24,15 +24,15 @@ use crate::runner::{MOST_DEPTH, SheetRunner};
 use crate::task::Task;
 use crate::world::World;
 use std::alloc::{AllocError, Global};
-use xs_record::brief::Brief;
 use xs_body_spec::finder::Finder;
 use xs_body_spec::focus::Focus;
+use xs_record::brief::Brief;
 use xs_sheet::body::{Binding, Body, Content};
 use xs_sheet::scoped::ScopedExpr;
+use xs_text::TextBuf;
 use xs_trace::fault::Fault;
 use xs_trace::item::{Item, Limits, Site, Spot};
 use xs_trace::recorder::{Halt, Recorder};
-use xs_text::TextBuf;
 use xs_tree::Node;
 use xs_value::value::Value;
 
@@ -73,23 +73,23 @@ impl<'a, K: Finder> SheetRunner<'a, K> {
             events: None,
         };
         let mut brief: Brief<Task<'a>> = Brief::new(alloc, limits);
-        let told = tell_global(alloc, &self.world, global, &mut brief);
+        let reported = report_global(alloc, &self.world, global, &mut brief);
         let ticks = limit.saturating_sub(brief.left());
         let items = brief.finish();
         let says = says_of(alloc, &items)?;
-        attempt_of(told, says, ticks)
+        attempt_of(reported, says, ticks)
     }
 }
 
 /// How an attempt ended.
 fn attempt_of(
-    told: Result<Value, Halt>,
+    reported: Result<Value, Halt>,
     says: Vec<TextBuf>,
     ticks: u64,
 ) -> Result<Attempt, AllocError>
-    ensures { IfOk result (IsAttemptOf told says.items ticks) }
+    ensures { IfOk result (IsAttemptOf reported says.items ticks) }
 {
-    match told {
+    match reported {
         Ok(value) => Ok(Attempt::Done { value, says, ticks }),
         Err(Halt::Fault(fault, site)) => Ok(stopped(fault, site, says, ticks)),
         Err(Halt::Spent(site)) => Ok(stopped(Fault::Budget, site, says, ticks)),
@@ -143,15 +143,15 @@ fn push_said(says: &mut Vec<TextBuf>, item: &Item) -> Result<(), AllocError>
     }
 }
 
-/// Tells a recorder what the content of a global does, and gives its value.
-fn tell_global<'a, K: Finder, R: Recorder<Task = Task<'a>>>(
+/// Reports a recorder what the content of a global does, and gives its value.
+fn report_global<'a, K: Finder, R: Recorder<Task = Task<'a>>>(
     alloc: Global,
     world: &World<'a, K>,
     global: u32,
     recorder: &mut R,
 ) -> Result<Value, Halt>
     requires holes { IsSome world.now.grain → R.takes_holes ≡ true }
-    ensures told { IsStep (attempt_steps world.now
+    ensures reported { IsStep (attempt_steps world.now
         (slice_get world.now.sheet.globals global) (R.state recorder.old))
         result (R.state recorder.new) }
     ensures kept { R.kept recorder.new ≡ R.kept recorder.old }
@@ -161,26 +161,26 @@ fn tell_global<'a, K: Finder, R: Recorder<Task = Task<'a>>>(
     let Some(declared) = sheet.globals.as_slice().get(global as usize) else {
         return Ok(Value::Chars(TextBuf::of(alloc, "")?));
     };
-    tell_binding(alloc, world, &declared.binding, recorder)
+    report_binding(alloc, world, &declared.binding, recorder)
 }
 
 /// The same of its binding.
-fn tell_binding<'a, K: Finder, R: Recorder<Task = Task<'a>>>(
+fn report_binding<'a, K: Finder, R: Recorder<Task = Task<'a>>>(
     alloc: Global,
     world: &World<'a, K>,
     binding: &'a Binding,
     recorder: &mut R,
 ) -> Result<Value, Halt>
     requires holes { IsSome world.now.grain → R.takes_holes ≡ true }
-    ensures told { IsStep (binding_steps world.now binding.now (R.state recorder.old))
+    ensures reported { IsStep (binding_steps world.now binding.now (R.state recorder.old))
         result (R.state recorder.new) }
     ensures kept { R.kept recorder.new ≡ R.kept recorder.old }
     ensures inside { IfOk result (IsIn world.now.tree) }
 {
     match &binding.content {
         Content::Empty => Ok(Value::Chars(TextBuf::of(alloc, "")?)),
-        Content::Select(expr) => tell_selected(alloc, world, expr, binding.site, recorder),
-        Content::Body(body) => tell_content(alloc, world, body, recorder),
+        Content::Select(expr) => report_selected(alloc, world, expr, binding.site, recorder),
+        Content::Body(body) => report_content(alloc, world, body, recorder),
     }
 }
 
@@ -194,14 +194,14 @@ fn global_focus<'a, K: Finder>(world: &World<'a, K>) -> Focus
 }
 
 /// The value of an expression of a global.
-fn tell_selected<'a, K: Finder, R: Recorder<Task = Task<'a>>>(
+fn report_selected<'a, K: Finder, R: Recorder<Task = Task<'a>>>(
     alloc: Global,
     world: &World<'a, K>,
     expr: &ScopedExpr,
     site: Site,
     recorder: &mut R,
 ) -> Result<Value, Halt>
-    ensures told { IsStep (limited site (value_run world.now expr.now (global_focus world.now) [])
+    ensures reported { IsStep (limited site (value_run world.now expr.now (global_focus world.now) [])
         (R.state recorder.old)) result (R.state recorder.new) }
     ensures kept { R.kept recorder.new ≡ R.kept recorder.old }
     ensures inside { IfOk result (IsIn world.now.tree) }
@@ -213,14 +213,14 @@ fn tell_selected<'a, K: Finder, R: Recorder<Task = Task<'a>>>(
 }
 
 /// The fragment that the content of a global makes.
-fn tell_content<'a, K: Finder, R: Recorder<Task = Task<'a>>>(
+fn report_content<'a, K: Finder, R: Recorder<Task = Task<'a>>>(
     alloc: Global,
     world: &World<'a, K>,
     body: &'a Body,
     recorder: &mut R,
 ) -> Result<Value, Halt>
     requires holes { IsSome world.now.grain → R.takes_holes ≡ true }
-    ensures told { IsStep (fragment_steps world.now body.now (R.state recorder.old))
+    ensures reported { IsStep (fragment_steps world.now body.now (R.state recorder.old))
         result (R.state recorder.new) }
     ensures kept { R.kept recorder.new ≡ R.kept recorder.old }
     ensures inside { IfOk result (IsIn world.now.tree) }

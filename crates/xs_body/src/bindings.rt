@@ -12,14 +12,14 @@ use crate::evaluator::Evaluator;
 use crate::frames::{Frame, Scope};
 use crate::task::Task;
 use std::alloc::{AllocError, Global};
-use xs_result::build;
 use xs_body_spec::finder::Finder;
+use xs_result::build;
 use xs_sheet::body::{Body, Content};
 use xs_sheet::scoped::ScopedExpr;
+use xs_text::TextBuf;
 use xs_trace::event::Fragment;
 use xs_trace::item::Site;
 use xs_trace::recorder::{Halt, Recorder};
-use xs_text::TextBuf;
 use xs_value::shared::SharedFragment;
 use xs_value::value::Value;
 
@@ -33,7 +33,7 @@ impl<'a, K: Finder> Evaluator<'a, K> {
         recorder: &mut R,
     ) -> Result<(), Halt>
         requires node { scope.focus.node < length self.old.world.tree }
-        ensures told { IsStepBy (λ u. self.new)
+        ensures reported { IsStepBy (λ u. self.new)
             (content_begun content.now site scope self.old
             (R.state recorder.old)) result (R.state recorder.new) }
         ensures kept { R.kept recorder.new ≡ R.kept recorder.old }
@@ -57,7 +57,7 @@ impl<'a, K: Finder> Evaluator<'a, K> {
         recorder: &mut R,
     ) -> Result<(), Halt>
         requires node { scope.focus.node < length self.old.world.tree }
-        ensures told { IsStepBy (λ u. self.new)
+        ensures reported { IsStepBy (λ u. self.new)
             (content_begun (Select expr.now) site scope self.old
             (R.state recorder.old)) result (R.state recorder.new) }
         ensures kept { R.kept recorder.new ≡ R.kept recorder.old }
@@ -75,7 +75,7 @@ impl<'a, K: Finder> Evaluator<'a, K> {
         recorder: &mut R,
     ) -> Result<(), Halt>
         requires node { scope.focus.node < length self.old.world.tree }
-        ensures told { IsStepBy (λ u. self.new)
+        ensures reported { IsStepBy (λ u. self.new)
             (Goes (pushed (rest (instrs_of body.now) (captured_scope scope) ∷ fill ∷ []) self.old)
             (opened (R.state recorder.old))) result (R.state recorder.new) }
         ensures kept { R.kept recorder.new ≡ R.kept recorder.old }
@@ -91,7 +91,7 @@ impl<'a, K: Finder> Evaluator<'a, K> {
         &mut self,
         recorder: &mut R,
     ) -> Result<(), Halt>
-        ensures told { IsStepBy (λ u. self.new)
+        ensures reported { IsStepBy (λ u. self.new)
             (advanced fill self.old
             (R.state recorder.old)) result (R.state recorder.new) }
         ensures kept { R.kept recorder.new ≡ R.kept recorder.old }

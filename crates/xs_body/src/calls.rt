@@ -21,9 +21,9 @@ use xs_body_spec::finder::Finder;
 use xs_body_spec::focus::Focus;
 use xs_sheet::body::{Body, Content, Passed as PassedParams};
 use xs_sheet::scoped::ScopedExpr;
+use xs_text::TextBuf;
 use xs_trace::item::Site;
 use xs_trace::recorder::{Halt, Recorder};
-use xs_text::TextBuf;
 use xs_value::value::Value;
 
 impl<'a, K: Finder> Evaluator<'a, K> {
@@ -40,7 +40,7 @@ impl<'a, K: Finder> Evaluator<'a, K> {
         requires holes { IsSome self.old.world.grain → R.takes_holes ≡ true }
         requires node { scope.focus.node < length self.old.world.tree }
         requires callee { AreCallees self.old.world.tree callee }
-        ensures told { IsStepBy (λ u. self.new)
+        ensures reported { IsStepBy (λ u. self.new)
             (passes_on (bindings_of passed.now) (bindings_of passed.now) []
             (called_of callee) site scope self.old
             (R.state recorder.old)) result (R.state recorder.new) }
@@ -71,7 +71,7 @@ impl<'a, K: Finder> Evaluator<'a, K> {
     ) -> Result<(), Halt>
         requires holes { IsSome self.old.world.grain → R.takes_holes ≡ true }
         requires passing { IsPassing self.old.world.tree passing.value }
-        ensures told { IsStepBy (λ u. self.new)
+        ensures reported { IsStepBy (λ u. self.new)
             (passing_on passing.entry.value.values.items passing.entry.value self.old
             (R.state recorder.old)) result (R.state recorder.new) }
         ensures kept { R.kept recorder.new ≡ R.kept recorder.old }
@@ -91,7 +91,7 @@ impl<'a, K: Finder> Evaluator<'a, K> {
     ) -> Result<(), Halt>
         requires holes { IsSome self.old.world.grain → R.takes_holes ≡ true }
         requires passing { IsPassing self.old.world.tree passing.value }
-        ensures told { IsStepBy (λ u. self.new)
+        ensures reported { IsStepBy (λ u. self.new)
             (advanced (pass_work passing.entry.value) self.old
             (R.state recorder.old)) result (R.state recorder.new) }
         ensures kept { R.kept recorder.new ≡ R.kept recorder.old }
@@ -115,7 +115,7 @@ impl<'a, K: Finder> Evaluator<'a, K> {
     ) -> Result<(), Halt>
         requires holes { IsSome self.old.world.grain → R.takes_holes ≡ true }
         requires passing { IsPassing self.old.world.tree passing.value }
-        ensures told { IsStepBy (λ u. self.new)
+        ensures reported { IsStepBy (λ u. self.new)
             (passing_begun content.now passing.entry.value self.old
             (R.state recorder.old)) result (R.state recorder.new) }
         ensures kept { R.kept recorder.new ≡ R.kept recorder.old }
@@ -139,7 +139,7 @@ impl<'a, K: Finder> Evaluator<'a, K> {
     ) -> Result<(), Halt>
         requires holes { IsSome self.old.world.grain → R.takes_holes ≡ true }
         requires passing { IsPassing self.old.world.tree passing.value }
-        ensures told { IsStepBy (λ u. self.new)
+        ensures reported { IsStepBy (λ u. self.new)
             (passing_begun (Select expr.now) passing.entry.value self.old
             (R.state recorder.old)) result (R.state recorder.new) }
         ensures kept { R.kept recorder.new ≡ R.kept recorder.old }
@@ -156,7 +156,7 @@ impl<'a, K: Finder> Evaluator<'a, K> {
         recorder: &mut R,
     ) -> Result<(), Halt>
         requires passing { IsPassing self.old.world.tree passing.value }
-        ensures told { IsStepBy (λ u. self.new)
+        ensures reported { IsStepBy (λ u. self.new)
             (Goes (pushed (rest (instrs_of body.now) (captured_scope passing.entry.value.scope)
             ∷ take_work passing.entry.value ∷ []) self.old)
             (opened (R.state recorder.old))) result (R.state recorder.new) }
@@ -180,7 +180,7 @@ impl<'a, K: Finder> Evaluator<'a, K> {
         requires holes { IsSome self.old.world.grain → R.takes_holes ≡ true }
         requires value { IsIn self.old.world.tree value }
         requires passing { IsPassing self.old.world.tree passing.value }
-        ensures told { IsStepBy (λ u. self.new)
+        ensures reported { IsStepBy (λ u. self.new)
             (passing_on (passing.entry.value.values.items ++ value ∷ [])
             passing.entry.value self.old
             (R.state recorder.old)) result (R.state recorder.new) }
@@ -199,7 +199,7 @@ impl<'a, K: Finder> Evaluator<'a, K> {
     ) -> Result<(), Halt>
         requires holes { IsSome self.old.world.grain → R.takes_holes ≡ true }
         requires passing { IsPassing self.old.world.tree passing.value }
-        ensures told { IsStepBy (λ u. self.new)
+        ensures reported { IsStepBy (λ u. self.new)
             (advanced (take_work passing.entry.value) self.old
             (R.state recorder.old)) result (R.state recorder.new) }
         ensures kept { R.kept recorder.new ≡ R.kept recorder.old }
@@ -217,7 +217,7 @@ impl<'a, K: Finder> Evaluator<'a, K> {
     ) -> Result<(), Halt>
         requires holes { IsSome self.old.world.grain → R.takes_holes ≡ true }
         requires passing { IsPassing self.old.world.tree passing }
-        ensures told { IsStepBy (λ u. self.new)
+        ensures reported { IsStepBy (λ u. self.new)
             (call_begun (called_of passing.entry.callee)
             (record { bindings = passing.entry.all.now; values = passing.entry.values.items })
             passing.entry.site passing.entry.scope.focus self.old
@@ -250,7 +250,7 @@ impl<'a, K: Finder> Evaluator<'a, K> {
         requires node { focus.node < length self.old.world.tree }
         requires passed { AreValues self.old.world.tree passed.values }
         requires callee { AreCallees self.old.world.tree callee }
-        ensures told { IsStepBy (λ u. self.new)
+        ensures reported { IsStepBy (λ u. self.new)
             (call_begun (called_of callee) passed.entry site focus self.old
             (R.state recorder.old)) result (R.state recorder.new) }
         ensures kept { R.kept recorder.new ≡ R.kept recorder.old }
@@ -278,7 +278,7 @@ impl<'a, K: Finder> Evaluator<'a, K> {
     ) -> Result<(), Halt>
         requires node { focus.node < length self.old.world.tree }
         requires passed { AreValues self.old.world.tree passed.values }
-        ensures told { IsStepBy (λ u. self.new)
+        ensures reported { IsStepBy (λ u. self.new)
             (call_begun (by_number template) passed.entry site focus self.old
             (R.state recorder.old)) result (R.state recorder.new) }
         ensures kept { R.kept recorder.new ≡ R.kept recorder.old }

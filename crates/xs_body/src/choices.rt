@@ -25,7 +25,7 @@ impl<'a, K: Finder> Evaluator<'a, K> {
         recorder: &mut R,
     ) -> Result<(), Halt>
         requires node { scope.focus.node < length self.old.world.tree }
-        ensures told { IsStepBy (λ u. self.new)
+        ensures reported { IsStepBy (λ u. self.new)
             (if_begun test.now body.now site scope self.old
             (R.state recorder.old)) result (R.state recorder.new) }
         ensures kept { R.kept recorder.new ≡ R.kept recorder.old }
@@ -45,7 +45,7 @@ impl<'a, K: Finder> Evaluator<'a, K> {
         recorder: &mut R,
     ) -> Result<(), Halt>
         requires node { scope.focus.node < length self.old.world.tree }
-        ensures told { IsStepBy (λ u. self.new)
+        ensures reported { IsStepBy (λ u. self.new)
             (choice_begun choice.now site scope self.old
             (R.state recorder.old)) result (R.state recorder.new) }
         ensures kept { R.kept recorder.new ≡ R.kept recorder.old }
@@ -64,7 +64,7 @@ impl<'a, K: Finder> Evaluator<'a, K> {
         tally: &mut T,
     ) -> Result<&'a Body, Halt>
         requires node { scope.focus.node < length self.now.world.tree }
-        ensures told { IsStepBy (λ body. body.now) (limited site
+        ensures reported { IsStepBy (λ body. body.now) (limited site
             (chosen choice.now self.now.world scope.focus (last scope.seen self.now.slots))
             (T.state tally.old)) result (T.state tally.new) }
         ensures kept { T.kept tally.new ≡ T.kept tally.old }

@@ -8,8 +8,8 @@ ghost use Rattle.xs_trace.specs.Play.{IsStep};
 
 use crate::literals::put_attribute;
 use std::alloc::{AllocError, Global};
-use xs_making::{comment_text, pi_text};
 use xs_body_spec::made::Made;
+use xs_making::{comment_text, pi_text};
 use xs_text::{Characters, TextBuf};
 use xs_trace::event::Event;
 use xs_trace::item::Site;
@@ -23,7 +23,7 @@ pub(crate) fn put_made<R: Recorder>(
     site: Site,
     recorder: &mut R,
 ) -> Result<(), Halt>
-    ensures told { IsStep (made_steps made text site (R.state recorder.old))
+    ensures reported { IsStep (made_steps made text site (R.state recorder.old))
         result (R.state recorder.new) }
     ensures kept { R.kept recorder.new ≡ R.kept recorder.old }
 {

@@ -13,8 +13,8 @@ use crate::frames::Scope;
 use crate::putting::{put_copied_text, put_events, put_text};
 use crate::task::Task;
 use std::alloc::AllocError;
-use xs_making::{RecentLabels, put_deep_copy, put_shallow_copy};
 use xs_body_spec::finder::Finder;
+use xs_making::{RecentLabels, put_deep_copy, put_shallow_copy};
 use xs_sheet::body::Body;
 use xs_sheet::scoped::ScopedExpr;
 use xs_trace::event::Label;
@@ -34,7 +34,7 @@ impl<'a, K: Finder> Evaluator<'a, K> {
         recorder: &mut R,
     ) -> Result<(), Halt>
         requires node { scope.focus.node < length self.old.world.tree }
-        ensures told { IsStep (copy_of_steps select.now site scope self.old
+        ensures reported { IsStep (copy_of_steps select.now site scope self.old
             (R.state recorder.old)) result (R.state recorder.new) }
         ensures kept { R.kept recorder.new ≡ R.kept recorder.old }
         ensures same { self.new ≡ self.old }
@@ -51,7 +51,7 @@ impl<'a, K: Finder> Evaluator<'a, K> {
         recorder: &mut R,
     ) -> Result<(), Halt>
         requires value { IsIn self.old.world.tree value.now }
-        ensures told { IsStep (copy_steps self.old.world.tree site value.now
+        ensures reported { IsStep (copy_steps self.old.world.tree site value.now
             (R.state recorder.old)) result (R.state recorder.new) }
         ensures kept { R.kept recorder.new ≡ R.kept recorder.old }
         ensures same { self.new ≡ self.old }
@@ -75,7 +75,7 @@ impl<'a, K: Finder> Evaluator<'a, K> {
         recorder: &mut R,
     ) -> Result<(), Halt>
         requires value { IsIn self.now.world.tree value.now }
-        ensures told { IsStep (chars_steps site (text_value self.now.world.tree value.now)
+        ensures reported { IsStep (chars_steps site (text_value self.now.world.tree value.now)
             (R.state recorder.old)) result (R.state recorder.new) }
         ensures kept { R.kept recorder.new ≡ R.kept recorder.old }
     {
@@ -93,7 +93,7 @@ impl<'a, K: Finder> Evaluator<'a, K> {
         recorder: &mut R,
     ) -> Result<(), Halt>
         requires node { scope.focus.node < length self.old.world.tree }
-        ensures told { IsStepBy (λ u. self.new)
+        ensures reported { IsStepBy (λ u. self.new)
             (copy_begun sets.now body.now site scope self.old
             (R.state recorder.old)) result (R.state recorder.new) }
         ensures kept { R.kept recorder.new ≡ R.kept recorder.old }
@@ -137,7 +137,7 @@ fn put_nodes<R: Recorder>(
     recorder: &mut R,
 ) -> Result<(), Halt>
     requires nodes { All (λ n. n < length tree.now) nodes.now }
-    ensures told { IsStep (nodes_steps tree.now site nodes.now (R.state recorder.old))
+    ensures reported { IsStep (nodes_steps tree.now site nodes.now (R.state recorder.old))
         result (R.state recorder.new) }
     ensures kept { R.kept recorder.new ≡ R.kept recorder.old }
 {

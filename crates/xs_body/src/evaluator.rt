@@ -19,10 +19,10 @@ use crate::world::World;
 use std::alloc::{AllocError, Global};
 use std::borrow::CowStr;
 use std::marker::Model;
-use xs_making::{RecentLabels, SheetTexts};
-use xs_eval_spec::context::Context;
-use xs_body_spec::finder::Finder;
 use xs_attribute_sets::index::SetIndex;
+use xs_body_spec::finder::Finder;
+use xs_eval_spec::context::Context;
+use xs_making::{RecentLabels, SheetTexts};
 use xs_sheet::body::Body;
 use xs_sheet::scoped::{Namespaces, ScopedExpr, ValueTemplate};
 use xs_sheet::sheet::Sheet;
@@ -217,7 +217,7 @@ impl<'a, K: Finder> Evaluator<'a, K> {
         tally: &mut T,
     ) -> Result<Value, Halt>
         requires node { scope.focus.node < length self.now.world.tree }
-        ensures told { IsStep (limited site
+        ensures reported { IsStep (limited site
             (value_run self.now.world expr.now scope.focus (last scope.seen self.now.slots))
             (T.state tally.old)) result (T.state tally.new) }
         ensures kept { T.kept tally.new ≡ T.kept tally.old }
@@ -237,7 +237,7 @@ impl<'a, K: Finder> Evaluator<'a, K> {
         tally: &mut T,
     ) -> Result<NodeSet, Halt>
         requires node { scope.focus.node < length self.now.world.tree }
-        ensures told { IsStep (limited site
+        ensures reported { IsStep (limited site
             (nodes_run self.now.world expr.now scope.focus (last scope.seen self.now.slots))
             (T.state tally.old)) result (T.state tally.new) }
         ensures kept { T.kept tally.new ≡ T.kept tally.old }
@@ -258,7 +258,7 @@ impl<'a, K: Finder> Evaluator<'a, K> {
         tally: &mut T,
     ) -> Result<Characters, Halt>
         requires node { scope.focus.node < length self.now.world.tree }
-        ensures told { IsStep (limited site
+        ensures reported { IsStep (limited site
             (text_run self.now.world expr.now scope.focus (last scope.seen self.now.slots))
             (T.state tally.old)) result (T.state tally.new) }
         ensures kept { T.kept tally.new ≡ T.kept tally.old }
@@ -277,7 +277,7 @@ impl<'a, K: Finder> Evaluator<'a, K> {
         tally: &mut T,
     ) -> Result<bool, Halt>
         requires node { scope.focus.node < length self.now.world.tree }
-        ensures told { IsStep (limited site
+        ensures reported { IsStep (limited site
             (test_run self.now.world expr.now scope.focus (last scope.seen self.now.slots))
             (T.state tally.old)) result (T.state tally.new) }
         ensures kept { T.kept tally.new ≡ T.kept tally.old }
@@ -295,7 +295,7 @@ impl<'a, K: Finder> Evaluator<'a, K> {
         tally: &mut T,
     ) -> Result<TextBuf, Halt>
         requires node { scope.focus.node < length self.now.world.tree }
-        ensures told { IsStepBy (λ text. text) (limited site (template_run self.now.world
+        ensures reported { IsStepBy (λ text. text) (limited site (template_run self.now.world
             template.now scope.focus (last scope.seen self.now.slots))
             (T.state tally.old)) result (T.state tally.new) }
         ensures kept { T.kept tally.new ≡ T.kept tally.old }
@@ -316,7 +316,7 @@ impl<'a, K: Finder> Evaluator<'a, K> {
         tally: &mut T,
     ) -> Result<CowStr<'t, Global>, Halt>
         requires node { scope.focus.node < length self.now.world.tree }
-        ensures told { IsStepBy (λ text. cow_str_bytes text) (limited site
+        ensures reported { IsStepBy (λ text. cow_str_bytes text) (limited site
             (template_run self.now.world template.now scope.focus
             (last scope.seen self.now.slots)) (T.state tally.old)) result (T.state tally.new) }
         ensures kept { T.kept tally.new ≡ T.kept tally.old }

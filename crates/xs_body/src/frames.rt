@@ -63,7 +63,7 @@ pub struct EachLeft<'a> {
     pub body: &'a Body,
     /// The instruction.
     pub site: Site,
-    /// Where it is evaluated, but for the node and its position.
+    /// Where it is evaluated, except the node and its position.
     pub scope: Scope,
 }
 
@@ -102,7 +102,7 @@ pub struct ApplyLeft<'a> {
     pub rules: Rules<'a>,
     /// The instruction.
     pub site: Site,
-    /// Where it is evaluated, but for the node and its position.
+    /// Where it is evaluated, except the node and its position.
     pub focus: Focus,
 }
 

@@ -29,7 +29,7 @@ impl<'a, K: Finder> Evaluator<'a, K> {
     ) -> Result<(), Halt>
         requires holes { IsSome self.old.world.grain → R.takes_holes ≡ true }
         requires node { scope.focus.node < length self.old.world.tree }
-        ensures told { IsStepBy (λ u. self.new)
+        ensures reported { IsStepBy (λ u. self.new)
             (begun kind.now site scope self.old
             (R.state recorder.old)) result (R.state recorder.new) }
         ensures kept { R.kept recorder.new ≡ R.kept recorder.old }
@@ -92,7 +92,7 @@ impl<'a, K: Finder> Evaluator<'a, K> {
     ) -> Result<(), Halt>
         requires holes { IsSome self.old.world.grain → R.takes_holes ≡ true }
         requires node { focus.node < length self.old.world.tree }
-        ensures told { IsStepBy (λ u. self.new)
+        ensures reported { IsStepBy (λ u. self.new)
             (imports_begun site focus focus.rule self.old
             (R.state recorder.old)) result (R.state recorder.new) }
         ensures kept { R.kept recorder.new ≡ R.kept recorder.old }
@@ -113,7 +113,7 @@ impl<'a, K: Finder> Evaluator<'a, K> {
     ) -> Result<(), Halt>
         requires holes { IsSome self.old.world.grain → R.takes_holes ≡ true }
         requires node { focus.node < length self.old.world.tree }
-        ensures told { IsStepBy (λ u. self.new)
+        ensures reported { IsStepBy (λ u. self.new)
             (imports_begun site focus (Some rule) self.old
             (R.state recorder.old)) result (R.state recorder.new) }
         ensures kept { R.kept recorder.new ≡ R.kept recorder.old }
@@ -132,7 +132,7 @@ impl<'a, K: Finder> Evaluator<'a, K> {
         recorder: &mut R,
     ) -> Result<(), Halt>
         requires node { scope.focus.node < length self.old.world.tree }
-        ensures told { IsStepBy (λ u. self.new)
+        ensures reported { IsStepBy (λ u. self.new)
             (message_begun terminate body.now site scope self.old
             (R.state recorder.old)) result (R.state recorder.new) }
         ensures kept { R.kept recorder.new ≡ R.kept recorder.old }
@@ -150,7 +150,7 @@ impl<'a, K: Finder> Evaluator<'a, K> {
         terminate: bool,
         recorder: &mut R,
     ) -> Result<(), Halt>
-        ensures told { IsStep (message_ended site terminate (R.state recorder.old))
+        ensures reported { IsStep (message_ended site terminate (R.state recorder.old))
             result (R.state recorder.new) }
         ensures kept { R.kept recorder.new ≡ R.kept recorder.old }
     {
@@ -172,7 +172,7 @@ impl<'a, K: Finder> Evaluator<'a, K> {
         recorder: &R,
     ) -> Result<(), Halt>
         requires node { scope.focus.node < length self.old.world.tree }
-        ensures told { IsStepBy (λ u. self.new)
+        ensures reported { IsStepBy (λ u. self.new)
             (fallbacks_begun (bodies_of fallbacks.now) site scope self.old
             (R.state recorder.now)) result (R.state recorder.now) }
     {

@@ -2,12 +2,12 @@
 
 ghost use Rattle.xs_body.specs.Laws.{StepsAgree, TasksBegin};
 
-/// A step tells the beginning of what the stack stands for, and leaves the rest to be done.
+/// A step reports the beginning of what the stack represents, and leaves the rest to be done.
 pub fn steps_agree()
     ensures { StepsAgree }
 {}
 
-/// What is told of a task is what the stack stands for that it begins with.
+/// What is said of a task is what the stack represents that it begins with.
 pub fn tasks_begin()
     ensures { TasksBegin }
 {}

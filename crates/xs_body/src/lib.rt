@@ -1,4 +1,4 @@
-//! The evaluation of a compiled stylesheet, which tells a recorder what it does.
+//! The evaluation of a compiled stylesheet, which reports a recorder what it does.
 #![tactic(auto)]
 
 mod applying;

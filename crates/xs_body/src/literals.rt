@@ -24,7 +24,7 @@ pub(crate) fn put_literal_start<R: Recorder>(
     texts: &mut SheetTexts,
     recorder: &mut R,
 ) -> Result<(), Halt>
-    ensures told { IsStep (literal_steps aliases.now site start.now (R.state recorder.old))
+    ensures reported { IsStep (literal_steps aliases.now site start.now (R.state recorder.old))
         result (R.state recorder.new) }
     ensures kept { R.kept recorder.new ≡ R.kept recorder.old }
 {
@@ -48,7 +48,7 @@ fn put_spaces<R: Recorder>(
     texts: &mut SheetTexts,
     recorder: &mut R,
 ) -> Result<(), Halt>
-    ensures told { IsStep (spaces_steps aliases.now site spaces.now (R.state recorder.old))
+    ensures reported { IsStep (spaces_steps aliases.now site spaces.now (R.state recorder.old))
         result (R.state recorder.new) }
     ensures kept { R.kept recorder.new ≡ R.kept recorder.old }
 {
@@ -68,7 +68,7 @@ fn put_space<R: Recorder>(
     texts: &mut SheetTexts,
     recorder: &mut R,
 ) -> Result<(), Halt>
-    ensures told { IsStep (space_steps site space.now.0 (aliased aliases.now space.now.1)
+    ensures reported { IsStep (space_steps site space.now.0 (aliased aliases.now space.now.1)
         (R.state recorder.old)) result (R.state recorder.new) }
     ensures kept { R.kept recorder.new ≡ R.kept recorder.old }
 {
@@ -88,7 +88,7 @@ fn put_bound<R: Recorder>(
     texts: &mut SheetTexts,
     recorder: &mut R,
 ) -> Result<(), Halt>
-    ensures told { IsStep (space_steps site prefix.now uri.now (R.state recorder.old))
+    ensures reported { IsStep (space_steps site prefix.now uri.now (R.state recorder.old))
         result (R.state recorder.new) }
     ensures kept { R.kept recorder.new ≡ R.kept recorder.old }
 {
@@ -109,7 +109,7 @@ pub(crate) fn put_attribute<R: Recorder>(
     site: Site,
     recorder: &mut R,
 ) -> Result<(), Halt>
-    ensures told { IsStep (named_steps site name value (R.state recorder.old))
+    ensures reported { IsStep (named_steps site name value (R.state recorder.old))
         result (R.state recorder.new) }
     ensures kept { R.kept recorder.new ≡ R.kept recorder.old }
 {

@@ -13,9 +13,9 @@ use crate::task::Task;
 use xs_body_spec::finder::Finder;
 use xs_sheet::body::{Body, Instr, InstrKind};
 use xs_sheet::scoped::ScopedExpr;
+use xs_text::TextBuf;
 use xs_trace::item::Site;
 use xs_trace::recorder::{Halt, Recorder};
-use xs_text::TextBuf;
 
 impl<'a, K: Finder> Evaluator<'a, K> {
     /// The text of content that is one instruction and puts a text alone, after its ticks; none of
@@ -28,7 +28,7 @@ impl<'a, K: Finder> Evaluator<'a, K> {
         recorder: &mut R,
     ) -> Result<Option<TextBuf>, Halt>
         requires node { scope.focus.node < length self.old.world.tree }
-        ensures told { IsStepBy (λ text. text) (lone_steps (instrs_of body.now) scope self.old
+        ensures reported { IsStepBy (λ text. text) (lone_steps (instrs_of body.now) scope self.old
             (R.state recorder.old)) result (R.state recorder.new) }
         ensures kept { R.kept recorder.new ≡ R.kept recorder.old }
         ensures same { self.new ≡ self.old }
@@ -49,7 +49,7 @@ impl<'a, K: Finder> Evaluator<'a, K> {
         recorder: &mut R,
     ) -> Result<Option<TextBuf>, Halt>
         requires node { scope.focus.node < length self.old.world.tree }
-        ensures told { IsStepBy (λ text. text) (lone_instr instr.now scope self.old
+        ensures reported { IsStepBy (λ text. text) (lone_instr instr.now scope self.old
             (R.state recorder.old)) result (R.state recorder.new) }
         ensures kept { R.kept recorder.new ≡ R.kept recorder.old }
         ensures same { self.new ≡ self.old }
@@ -68,7 +68,7 @@ impl<'a, K: Finder> Evaluator<'a, K> {
         site: Site,
         recorder: &mut R,
     ) -> Result<Option<TextBuf>, Halt>
-        ensures told { IsStepBy (λ text. text) (fixed_lone text.now site (R.state recorder.old))
+        ensures reported { IsStepBy (λ text. text) (fixed_lone text.now site (R.state recorder.old))
             result (R.state recorder.new) }
         ensures kept { R.kept recorder.new ≡ R.kept recorder.old }
         ensures same { self.new ≡ self.old }
@@ -87,7 +87,7 @@ impl<'a, K: Finder> Evaluator<'a, K> {
         recorder: &mut R,
     ) -> Result<Option<TextBuf>, Halt>
         requires node { scope.focus.node < length self.now.world.tree }
-        ensures told { IsStepBy (λ text. text)
+        ensures reported { IsStepBy (λ text. text)
             (lone_selected (option_map (λ e. e.now) select.entry) site scope self.now
             (R.state recorder.old)) result (R.state recorder.new) }
         ensures kept { R.kept recorder.new ≡ R.kept recorder.old }
@@ -108,7 +108,7 @@ impl<'a, K: Finder> Evaluator<'a, K> {
         recorder: &mut R,
     ) -> Result<Option<TextBuf>, Halt>
         requires node { scope.focus.node < length self.now.world.tree }
-        ensures told { IsStepBy (λ text. text) (selected_lone select.now site scope self.now
+        ensures reported { IsStepBy (λ text. text) (selected_lone select.now site scope self.now
             (R.state recorder.old)) result (R.state recorder.new) }
         ensures kept { R.kept recorder.new ≡ R.kept recorder.old }
     {
@@ -125,7 +125,7 @@ impl<'a, K: Finder> Evaluator<'a, K> {
         recorder: &mut R,
     ) -> Result<Option<TextBuf>, Halt>
         requires node { scope.focus.node < length self.now.world.tree }
-        ensures told { IsStepBy (λ text. text) (selected_text select.now site scope self.now
+        ensures reported { IsStepBy (λ text. text) (selected_text select.now site scope self.now
             (R.state recorder.old)) result (R.state recorder.new) }
         ensures kept { R.kept recorder.new ≡ R.kept recorder.old }
     {
@@ -142,7 +142,7 @@ fn with_ticks<R: Recorder>(
     site: Site,
     recorder: &mut R,
 ) -> Result<Option<TextBuf>, Halt>
-    ensures told { IsStepBy (λ text. text) (text_ticked site text (R.state recorder.old))
+    ensures reported { IsStepBy (λ text. text) (text_ticked site text (R.state recorder.old))
         result (R.state recorder.new) }
     ensures kept { R.kept recorder.new ≡ R.kept recorder.old }
 {

@@ -18,15 +18,15 @@ use crate::frames::{AttributesLeft, Frame, Scope};
 use crate::literals::{attribute_label, has_no_sets, put_attribute, put_literal_start};
 use crate::task::Task;
 use std::alloc::AllocError;
-use xs_making::{MakeEnd, RecentLabels, pi_target, result_name};
 use xs_body_spec::finder::Finder;
 use xs_body_spec::made::Made;
+use xs_making::{MakeEnd, RecentLabels, pi_target, result_name};
 use xs_sheet::body::{Body, LiteralStart, MadeName};
 use xs_sheet::scoped::ValueTemplate;
+use xs_text::TextBuf;
 use xs_trace::event::{Event, Label};
 use xs_trace::item::Site;
 use xs_trace::recorder::{Halt, Recorder};
-use xs_text::TextBuf;
 
 impl<'a, K: Finder> Evaluator<'a, K> {
     /// A literal element begins: its start, its namespace nodes, and before its content the
@@ -40,7 +40,7 @@ impl<'a, K: Finder> Evaluator<'a, K> {
         recorder: &mut R,
     ) -> Result<(), Halt>
         requires node { scope.focus.node < length self.old.world.tree }
-        ensures told { IsStepBy (λ u. self.new)
+        ensures reported { IsStepBy (λ u. self.new)
             (literal_begun start.now body.now site scope self.old
             (R.state recorder.old)) result (R.state recorder.new) }
         ensures kept { R.kept recorder.new ≡ R.kept recorder.old }
@@ -56,7 +56,7 @@ impl<'a, K: Finder> Evaluator<'a, K> {
         site: Site,
         recorder: &mut R,
     ) -> Result<(), Halt>
-        ensures told { IsStep (literal_steps self.old.world.sheet.aliases site start.now
+        ensures reported { IsStep (literal_steps self.old.world.sheet.aliases site start.now
             (R.state recorder.old)) result (R.state recorder.new) }
         ensures kept { R.kept recorder.new ≡ R.kept recorder.old }
         ensures same { self.new ≡ self.old }
@@ -77,7 +77,7 @@ impl<'a, K: Finder> Evaluator<'a, K> {
         recorder: &mut R,
     ) -> Result<(), Halt>
         requires node { scope.focus.node < length self.old.world.tree }
-        ensures told { IsStepBy (λ u. self.new)
+        ensures reported { IsStepBy (λ u. self.new)
             (literal_inside start.now body.now site scope self.old
             (R.state recorder.old)) result (R.state recorder.new) }
         ensures kept { R.kept recorder.new ≡ R.kept recorder.old }
@@ -104,7 +104,7 @@ impl<'a, K: Finder> Evaluator<'a, K> {
         recorder: &mut R,
     ) -> Result<(), Halt>
         requires node { scope.focus.node < length self.old.world.tree }
-        ensures told { IsStep (attributes_steps self.old.world site scope.focus
+        ensures reported { IsStep (attributes_steps self.old.world site scope.focus
             (last scope.seen self.old.slots) start.now.attributes (R.state recorder.old))
             result (R.state recorder.new) }
         ensures kept { R.kept recorder.new ≡ R.kept recorder.old }
@@ -135,7 +135,7 @@ impl<'a, K: Finder> Evaluator<'a, K> {
         recorder: &mut R,
     ) -> Result<(), Halt>
         requires node { all.scope.focus.node < length self.old.world.tree }
-        ensures told { IsStep (attributes_steps self.old.world all.entry.site
+        ensures reported { IsStep (attributes_steps self.old.world all.entry.site
             all.entry.scope.focus (last all.entry.scope.seen self.old.slots)
             all.entry.attributes.now (R.state recorder.old)) result (R.state recorder.new) }
         ensures kept { R.kept recorder.new ≡ R.kept recorder.old }
@@ -158,7 +158,7 @@ impl<'a, K: Finder> Evaluator<'a, K> {
         recorder: &mut R,
     ) -> Result<(), Halt>
         requires node { scope.focus.node < length self.old.world.tree }
-        ensures told { IsStep (attribute_steps self.old.world site scope.focus
+        ensures reported { IsStep (attribute_steps self.old.world site scope.focus
             (last scope.seen self.old.slots) attribute.now (R.state recorder.old))
             result (R.state recorder.new) }
         ensures kept { R.kept recorder.new ≡ R.kept recorder.old }
@@ -181,7 +181,7 @@ impl<'a, K: Finder> Evaluator<'a, K> {
         recorder: &mut R,
     ) -> Result<(), Halt>
         requires node { scope.focus.node < length self.old.world.tree }
-        ensures told { IsStepBy (λ u. self.new)
+        ensures reported { IsStepBy (λ u. self.new)
             (element_put name sets.now body.now scope self.old
             (R.state recorder.old)) result (R.state recorder.new) }
         ensures kept { R.kept recorder.new ≡ R.kept recorder.old }
@@ -216,7 +216,7 @@ impl<'a, K: Finder> Evaluator<'a, K> {
         recorder: &mut R,
     ) -> Result<(), Halt>
         requires node { scope.focus.node < length self.old.world.tree }
-        ensures told { IsStepBy (λ u. self.new)
+        ensures reported { IsStepBy (λ u. self.new)
             (attribute_begun name.now body.now site scope self.old
             (R.state recorder.old)) result (R.state recorder.new) }
         ensures kept { R.kept recorder.new ≡ R.kept recorder.old }
@@ -235,7 +235,7 @@ impl<'a, K: Finder> Evaluator<'a, K> {
         recorder: &mut R,
     ) -> Result<(), Halt>
         requires node { scope.focus.node < length self.old.world.tree }
-        ensures told { IsStepBy (λ u. self.new)
+        ensures reported { IsStepBy (λ u. self.new)
             (instruction_begun name.now body.now site scope self.old
             (R.state recorder.old)) result (R.state recorder.new) }
         ensures kept { R.kept recorder.new ≡ R.kept recorder.old }
@@ -254,7 +254,7 @@ impl<'a, K: Finder> Evaluator<'a, K> {
         recorder: &mut R,
     ) -> Result<(), Halt>
         requires node { scope.focus.node < length self.old.world.tree }
-        ensures told { IsStepBy (λ u. self.new)
+        ensures reported { IsStepBy (λ u. self.new)
             (made_begun made body.now site scope self.old
             (R.state recorder.old)) result (R.state recorder.new) }
         ensures kept { R.kept recorder.new ≡ R.kept recorder.old }
@@ -277,7 +277,7 @@ impl<'a, K: Finder> Evaluator<'a, K> {
         recorder: &mut R,
     ) -> Result<(), Halt>
         requires node { scope.focus.node < length self.old.world.tree }
-        ensures told { IsStepBy (λ u. self.new)
+        ensures reported { IsStepBy (λ u. self.new)
             (captured_begun made body.now site scope self.old
             (R.state recorder.old)) result (R.state recorder.new) }
         ensures kept { R.kept recorder.new ≡ R.kept recorder.old }
@@ -295,7 +295,7 @@ impl<'a, K: Finder> Evaluator<'a, K> {
         site: Site,
         recorder: &mut R,
     ) -> Result<(), Halt>
-        ensures told { IsStep (made_ended made site (R.state recorder.old))
+        ensures reported { IsStep (made_ended made site (R.state recorder.old))
             result (R.state recorder.new) }
         ensures kept { R.kept recorder.new ≡ R.kept recorder.old }
     {
@@ -315,7 +315,7 @@ impl<'a, K: Finder> Evaluator<'a, K> {
         recorder: &mut R,
     ) -> Result<Label, Halt>
         requires node { scope.focus.node < length self.old.world.tree }
-        ensures told { IsStepBy (λ label. label) (name_steps self.old.world site scope.focus
+        ensures reported { IsStepBy (λ label. label) (name_steps self.old.world site scope.focus
             (last scope.seen self.old.slots) is_attribute name.now (R.state recorder.old))
             result (R.state recorder.new) }
         ensures kept { R.kept recorder.new ≡ R.kept recorder.old }
@@ -336,7 +336,7 @@ impl<'a, K: Finder> Evaluator<'a, K> {
         recorder: &mut R,
     ) -> Result<TextBuf, Halt>
         requires node { scope.focus.node < length self.now.world.tree }
-        ensures told { IsStepBy (λ target. target) (target_steps self.now.world site scope.focus
+        ensures reported { IsStepBy (λ target. target) (target_steps self.now.world site scope.focus
             (last scope.seen self.now.slots) name.now (R.state recorder.old))
             result (R.state recorder.new) }
         ensures kept { R.kept recorder.new ≡ R.kept recorder.old }
@@ -355,7 +355,7 @@ impl<'a, K: Finder> Evaluator<'a, K> {
         recorder: &mut R,
     ) -> Result<Option<TextBuf>, Halt>
         requires node { scope.focus.node < length self.now.world.tree }
-        ensures told { IsStepBy (λ uri. uri) (namespace_steps self.now.world site scope.focus
+        ensures reported { IsStepBy (λ uri. uri) (namespace_steps self.now.world site scope.focus
             (last scope.seen self.now.slots) namespace.now (R.state recorder.old))
             result (R.state recorder.new) }
         ensures kept { R.kept recorder.new ≡ R.kept recorder.old }

@@ -19,11 +19,11 @@ use crate::frames::Scope;
 use crate::putting::put_text;
 use crate::task::Task;
 use std::alloc::{AllocError, Global};
+use xs_body_spec::finder::Finder;
+use xs_body_spec::focus::Focus;
 use xs_num::number::{Num, Number};
 use xs_num::reading::read_num;
 use xs_numbering::formatting::{list_text, value_text};
-use xs_body_spec::finder::Finder;
-use xs_body_spec::focus::Focus;
 use xs_sheet::body::NumberDecl;
 use xs_sheet::scoped::{ScopedExpr, ValueTemplate};
 use xs_text::{Characters, TextBuf};
@@ -59,7 +59,7 @@ impl<'a, K: Finder> Evaluator<'a, K> {
         recorder: &mut R,
     ) -> Result<(), Halt>
         requires node { scope.focus.node < length self.now.world.tree }
-        ensures told { IsStep (number_steps decl.now site scope self.now
+        ensures reported { IsStep (number_steps decl.now site scope self.now
             (R.state recorder.old)) result (R.state recorder.new) }
         ensures kept { R.kept recorder.new ≡ R.kept recorder.old }
     {
@@ -78,7 +78,7 @@ impl<'a, K: Finder> Evaluator<'a, K> {
         tally: &mut T,
     ) -> Result<Numbered, Halt>
         requires node { scope.focus.node < length self.now.world.tree }
-        ensures told { IsStepBy (λ n. numbered_of n) (limited site
+        ensures reported { IsStepBy (λ n. numbered_of n) (limited site
             (numbered_by self.now.world decl.now.value decl.now scope.focus
             (last scope.seen self.now.slots)) (T.state tally.old)) result (T.state tally.new) }
         ensures kept { T.kept tally.new ≡ T.kept tally.old }
@@ -114,7 +114,7 @@ impl<'a, K: Finder> Evaluator<'a, K> {
         tally: &mut T,
     ) -> Result<Num, Halt>
         requires node { scope.focus.node < length self.now.world.tree }
-        ensures told { IsStep (limited site
+        ensures reported { IsStep (limited site
             (numeric_run self.now.world expr.now scope.focus (last scope.seen self.now.slots))
             (T.state tally.old)) result (T.state tally.new) }
         ensures kept { T.kept tally.new ≡ T.kept tally.old }
@@ -146,7 +146,7 @@ impl<'a, K: Finder> Evaluator<'a, K> {
         tally: &mut T,
     ) -> Result<Formatting, Halt>
         requires node { scope.focus.node < length self.now.world.tree }
-        ensures told { IsStepBy (λ z. formatting_of z) (limited site
+        ensures reported { IsStepBy (λ z. formatting_of z) (limited site
             (formatting_run self.now.world decl.now scope.focus
             (last scope.seen self.now.slots)) (T.state tally.old)) result (T.state tally.new) }
         ensures kept { T.kept tally.new ≡ T.kept tally.old }
@@ -167,7 +167,7 @@ impl<'a, K: Finder> Evaluator<'a, K> {
         tally: &mut T,
     ) -> Result<TextBuf, Halt>
         requires node { scope.focus.node < length self.now.world.tree }
-        ensures told { IsStepBy (λ text. text) (limited site (format_run self.now.world
+        ensures reported { IsStepBy (λ text. text) (limited site (format_run self.now.world
             format.now scope.focus (last scope.seen self.now.slots))
             (T.state tally.old)) result (T.state tally.new) }
         ensures kept { T.kept tally.new ≡ T.kept tally.old }
@@ -187,7 +187,7 @@ impl<'a, K: Finder> Evaluator<'a, K> {
         tally: &mut T,
     ) -> Result<Option<TextBuf>, Halt>
         requires node { scope.focus.node < length self.now.world.tree }
-        ensures told { IsStepBy (λ text. text) (limited site (optional_run self.now.world
+        ensures reported { IsStepBy (λ text. text) (limited site (optional_run self.now.world
             template.now scope.focus (last scope.seen self.now.slots))
             (T.state tally.old)) result (T.state tally.new) }
         ensures kept { T.kept tally.new ≡ T.kept tally.old }

@@ -28,7 +28,7 @@ pub(crate) fn put_text<R: Recorder>(
     text: Characters,
     recorder: &mut R,
 ) -> Result<(), Halt>
-    ensures told { IsStep (chars_steps site text (R.state recorder.old))
+    ensures reported { IsStep (chars_steps site text (R.state recorder.old))
         result (R.state recorder.new) }
     ensures kept { R.kept recorder.new ≡ R.kept recorder.old }
 {
@@ -45,7 +45,7 @@ pub(crate) fn put_copied_text<R: Recorder>(
     text: &TextBuf,
     recorder: &mut R,
 ) -> Result<(), Halt>
-    ensures told { IsStep (chars_steps site text.now (R.state recorder.old))
+    ensures reported { IsStep (chars_steps site text.now (R.state recorder.old))
         result (R.state recorder.new) }
     ensures kept { R.kept recorder.new ≡ R.kept recorder.old }
 {
@@ -62,7 +62,7 @@ impl<'a, K: Finder> Evaluator<'a, K> {
         recorder: &mut R,
     ) -> Result<(), Halt>
         requires node { scope.focus.node < length self.now.world.tree }
-        ensures told { IsStep (value_steps select.now site scope self.now
+        ensures reported { IsStep (value_steps select.now site scope self.now
             (R.state recorder.old)) result (R.state recorder.new) }
         ensures kept { R.kept recorder.new ≡ R.kept recorder.old }
     {
@@ -77,7 +77,7 @@ impl<'a, K: Finder> Evaluator<'a, K> {
         site: Site,
         recorder: &mut R,
     ) -> Result<(), Halt>
-        ensures told { IsStep (chars_steps site text.now (R.state recorder.old))
+        ensures reported { IsStep (chars_steps site text.now (R.state recorder.old))
             result (R.state recorder.new) }
         ensures kept { R.kept recorder.new ≡ R.kept recorder.old }
         ensures same { self.new ≡ self.old }
@@ -93,7 +93,7 @@ pub(crate) fn put_events<R: Recorder>(
     events: &[Event],
     recorder: &mut R,
 ) -> Result<(), Halt>
-    ensures told { IsStep (events_steps site events.now (R.state recorder.old))
+    ensures reported { IsStep (events_steps site events.now (R.state recorder.old))
         result (R.state recorder.new) }
     ensures kept { R.kept recorder.new ≡ R.kept recorder.old }
 {
@@ -107,7 +107,7 @@ pub(crate) fn put_events<R: Recorder>(
 
 /// Puts an event that another owns.
 fn put_copied<R: Recorder>(site: Site, event: &Event, recorder: &mut R) -> Result<(), Halt>
-    ensures told { IsStep (put_at site event.now (R.state recorder.old))
+    ensures reported { IsStep (put_at site event.now (R.state recorder.old))
         result (R.state recorder.new) }
     ensures kept { R.kept recorder.new ≡ R.kept recorder.old }
 {

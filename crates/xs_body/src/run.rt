@@ -3,7 +3,7 @@
 ghost use Rattle.std.specs.Prelude.{◌≡◌, ◌<◌, ◌∷◌, length, true, IsSome, OnOk};
 ghost use Rattle.xs_body.specs.Inside.{IsInside};
 ghost use Rattle.xs_body.specs.steps.Frames.{advanced, end_works, instrs_of, pushed, rest_begun};
-ghost use Rattle.xs_body.specs.steps.Frames.{rest_works, stack_told, work_of};
+ghost use Rattle.xs_body.specs.steps.Frames.{rest_works, stack_reported, work_of};
 ghost use Rattle.xs_trace.specs.Play.{IsStep, IsStepBy};
 
 use crate::evaluator::Evaluator;
@@ -22,7 +22,7 @@ impl<'a, K: Finder> Evaluator<'a, K> {
         recorder: &mut R,
     ) -> Result<(), Halt>
         requires holes { IsSome self.old.world.grain → R.takes_holes ≡ true }
-        ensures told { IsStep (stack_told self.old (R.state recorder.old))
+        ensures reported { IsStep (stack_reported self.old (R.state recorder.old))
             result (R.state recorder.new) }
         ensures kept { R.kept recorder.new ≡ R.kept recorder.old }
     {
@@ -44,7 +44,7 @@ impl<'a, K: Finder> Evaluator<'a, K> {
     ) -> Result<(), Halt>
         requires holes { IsSome self.old.world.grain → R.takes_holes ≡ true }
         requires first { IsInside self.old.world.tree frame }
-        ensures told { IsStepBy (λ u. self.new)
+        ensures reported { IsStepBy (λ u. self.new)
             (advanced (work_of frame.entry) self.old
             (R.state recorder.old)) result (R.state recorder.new) }
         ensures kept { R.kept recorder.new ≡ R.kept recorder.old }
@@ -86,7 +86,7 @@ impl<'a, K: Finder> Evaluator<'a, K> {
     ) -> Result<(), Halt>
         requires holes { IsSome self.old.world.grain → R.takes_holes ≡ true }
         requires node { scope.focus.node < length self.old.world.tree }
-        ensures told { IsStepBy (λ u. self.new)
+        ensures reported { IsStepBy (λ u. self.new)
             (rest_begun (instrs_of body.now) scope self.old
             (R.state recorder.old)) result (R.state recorder.new) }
         ensures kept { R.kept recorder.new ≡ R.kept recorder.old }
@@ -104,7 +104,7 @@ impl<'a, K: Finder> Evaluator<'a, K> {
     ) -> Result<(), Halt>
         requires holes { IsSome self.old.world.grain → R.takes_holes ≡ true }
         requires node { scope.focus.node < length self.old.world.tree }
-        ensures told { IsStepBy (λ u. self.new)
+        ensures reported { IsStepBy (λ u. self.new)
             (rest_begun instrs.now scope self.old
             (R.state recorder.old)) result (R.state recorder.new) }
         ensures kept { R.kept recorder.new ≡ R.kept recorder.old }
@@ -129,7 +129,7 @@ impl<'a, K: Finder> Evaluator<'a, K> {
     ) -> Result<(), Halt>
         requires holes { IsSome self.old.world.grain → R.takes_holes ≡ true }
         requires node { scope.focus.node < length self.old.world.tree }
-        ensures told { IsStepBy (λ u. self.new)
+        ensures reported { IsStepBy (λ u. self.new)
             (rest_begun (instr.now ∷ behind.now) scope self.old
             (R.state recorder.old)) result (R.state recorder.new) }
         ensures kept { R.kept recorder.new ≡ R.kept recorder.old }

@@ -21,13 +21,13 @@ use crate::world::World;
 use std::alloc::{AllocError, Global};
 use std::marker::Model;
 use std::mem::replace;
+use xs_attribute_sets::index::SetIndex;
 use xs_block::pool::Pool;
+use xs_body_spec::finder::Finder;
+use xs_body_spec::focus::Focus;
 use xs_record::outcome::{Outcome, free_parts};
 use xs_record::piece::{Finished, PieceRecorder};
 use xs_record::segment::Segment;
-use xs_body_spec::finder::Finder;
-use xs_body_spec::focus::Focus;
-use xs_attribute_sets::index::SetIndex;
 use xs_sheet::sheet::Sheet;
 use xs_trace::item::{Limits, Site};
 use xs_trace::recorder::{Halt, Recorder};
@@ -155,8 +155,8 @@ impl<'a, K: Finder> SheetRunner<'a, K> {
         let mut recorder: PieceRecorder<T, Task<'a>> = PieceRecorder::new(
             alloc, limits, total, pool,
         );
-        let told = tell_task(alloc, &self.world, task, &mut recorder);
-        recorder.finish(told, children)
+        let reported = report_task(alloc, &self.world, task, &mut recorder);
+        recorder.finish(reported, children)
     }
 
     /// All that a task does, cut at the limits, with what it would leave to others: its ticks,
@@ -220,8 +220,8 @@ fn unless_over(outcome: Outcome, pool: &mut Pool<Segment>) -> Result<Outcome, Al
     Ok(outcome)
 }
 
-/// Tells a recorder what a task does.
-pub fn tell_task<'a, K: Finder, R: Recorder<Task = Task<'a>>>(
+/// Reports a recorder what a task does.
+pub fn report_task<'a, K: Finder, R: Recorder<Task = Task<'a>>>(
     alloc: Global,
     world: &World<'a, K>,
     task: &Task<'a>,
@@ -229,7 +229,7 @@ pub fn tell_task<'a, K: Finder, R: Recorder<Task = Task<'a>>>(
 ) -> Result<(), Halt>
     requires holes { IsSome world.now.grain → R.takes_holes ≡ true }
     requires task { IsTaskIn world.now.tree task.now }
-    ensures told { IsStep (play (task_trace world.now task.now) (R.state recorder.old))
+    ensures reported { IsStep (play (task_trace world.now task.now) (R.state recorder.old))
         result (R.state recorder.new) }
     ensures kept { R.kept recorder.new ≡ R.kept recorder.old }
 {

@@ -28,7 +28,7 @@ impl<'a, K: Finder> Evaluator<'a, K> {
         recorder: &mut R,
     ) -> Result<NodeList, Halt>
         requires node { scope.focus.node < length self.now.world.tree }
-        ensures told { IsStepBy (λ l. nodes_in l) (limited site
+        ensures reported { IsStepBy (λ l. nodes_in l) (limited site
             (applied_nodes self.now.world applied.now.select applied.now.sorts scope.focus
             (last scope.seen self.now.slots)) (R.state recorder.old))
             result (R.state recorder.new) }
@@ -49,7 +49,7 @@ impl<'a, K: Finder> Evaluator<'a, K> {
         recorder: &mut R,
     ) -> Result<NodeList, Halt>
         requires node { scope.focus.node < length self.now.world.tree }
-        ensures told { IsStepBy (λ l. nodes_in l) (limited site
+        ensures reported { IsStepBy (λ l. nodes_in l) (limited site
             (looped_nodes self.now.world select.now sorts.now scope.focus
             (last scope.seen self.now.slots)) (R.state recorder.old))
             result (R.state recorder.new) }
@@ -75,7 +75,7 @@ impl<'a, K: Finder> Evaluator<'a, K> {
         requires node { scope.focus.node < length self.now.world.tree }
         requires nodes { AreNodes self.now.world.tree (nodes_in nodes) }
         requires order { AreOrdered nodes }
-        ensures told { IsStepBy (λ l. nodes_in l) (limited site
+        ensures reported { IsStepBy (λ l. nodes_in l) (limited site
             (sorted_run self.now.world sorts.now scope.focus (last scope.seen self.now.slots)
             (nodes_in nodes)) (T.state tally.old)) result (T.state tally.new) }
         ensures kept { T.kept tally.new ≡ T.kept tally.old }

@@ -139,7 +139,7 @@ pub(crate) fn leave<'a, R: Recorder<Task = Task<'a>>>(
     recorder: &mut R,
 ) -> Result<(), Halt>
     requires takes { R.takes_holes ≡ true }
-    ensures told { IsStep
+    ensures reported { IsStep
         (play (map Hole (shared grain grain task.entry nodes.now)) (R.state recorder.old))
         result (R.state recorder.new) }
     ensures kept { R.kept recorder.new ≡ R.kept recorder.old }
@@ -164,7 +164,7 @@ fn share<'a, R: Recorder<Task = Task<'a>>>(
     recorder: &mut R,
 ) -> Result<Sharing<'a>, Halt>
     requires takes { R.takes_holes ≡ true }
-    ensures told { IsStepBy (λ z. share_of z) (share_step grain (share_of sharing.entry) node
+    ensures reported { IsStepBy (λ z. share_of z) (share_step grain (share_of sharing.entry) node
         (R.state recorder.old)) result (R.state recorder.new) }
     ensures kept { R.kept recorder.new ≡ R.kept recorder.old }
 {

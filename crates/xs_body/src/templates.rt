@@ -42,7 +42,7 @@ impl<'a, K: Finder> Evaluator<'a, K> {
     ) -> Result<(), Halt>
         requires node { focus.node < length self.old.world.tree }
         requires passed { AreValues self.old.world.tree passed.values }
-        ensures told { IsStepBy (λ u. self.new)
+        ensures reported { IsStepBy (λ u. self.new)
             (entering (named template passed.entry) site focus self.old
             (R.state recorder.now)) result (R.state recorder.now) }
     {
@@ -66,7 +66,7 @@ impl<'a, K: Finder> Evaluator<'a, K> {
         requires holes { IsSome self.old.world.grain → R.takes_holes ≡ true }
         requires node { focus.node < length self.old.world.tree }
         requires passed { AreValues self.old.world.tree rules.passed.values }
-        ensures told { IsStepBy (λ u. self.new)
+        ensures reported { IsStepBy (λ u. self.new)
             (entering_fitting rules.entry.mode rules.entry.passed site focus self.old
             (R.state recorder.old)) result (R.state recorder.new) }
         ensures kept { R.kept recorder.new ≡ R.kept recorder.old }
@@ -91,7 +91,7 @@ impl<'a, K: Finder> Evaluator<'a, K> {
         requires holes { IsSome self.old.world.grain → R.takes_holes ≡ true }
         requires node { focus.node < length self.old.world.tree }
         requires passed { AreValues self.old.world.tree rules.passed.values }
-        ensures told { IsStepBy (λ u. self.new)
+        ensures reported { IsStepBy (λ u. self.new)
             (rule_entered rule rules.entry.mode rules.entry.passed site focus self.old
             (R.state recorder.old)) result (R.state recorder.new) }
         ensures kept { R.kept recorder.new ≡ R.kept recorder.old }
@@ -116,7 +116,7 @@ impl<'a, K: Finder> Evaluator<'a, K> {
         requires holes { IsSome self.old.world.grain → R.takes_holes ≡ true }
         requires node { focus.node < length self.old.world.tree }
         requires passed { AreValues self.old.world.tree passed.values }
-        ensures told { IsStepBy (λ u. self.new) (template_entered
+        ensures reported { IsStepBy (λ u. self.new) (template_entered
             (slice_get self.old.world.sheet.templates template) passed.entry focus self.old
             (R.state recorder.old)) result (R.state recorder.new) }
         ensures kept { R.kept recorder.new ≡ R.kept recorder.old }
@@ -139,7 +139,7 @@ impl<'a, K: Finder> Evaluator<'a, K> {
         requires holes { IsSome self.old.world.grain → R.takes_holes ≡ true }
         requires node { focus.node < length self.old.world.tree }
         requires passed { AreValues self.old.world.tree passed.values }
-        ensures told { IsStepBy (λ u. self.new) (params_entered template.now.params passed.entry
+        ensures reported { IsStepBy (λ u. self.new) (params_entered template.now.params passed.entry
             template.now.body (outer focus) self.old (R.state recorder.old))
             result (R.state recorder.new) }
         ensures kept { R.kept recorder.new ≡ R.kept recorder.old }
@@ -163,7 +163,7 @@ impl<'a, K: Finder> Evaluator<'a, K> {
     ) -> Result<(), Halt>
         requires holes { IsSome self.old.world.grain → R.takes_holes ≡ true }
         requires node { focus.node < length self.old.world.tree }
-        ensures told { IsStepBy (λ u. self.new)
+        ensures reported { IsStepBy (λ u. self.new)
             (entering (overridden current) site focus self.old
             (R.state recorder.old)) result (R.state recorder.new) }
         ensures kept { R.kept recorder.new ≡ R.kept recorder.old }
@@ -192,7 +192,7 @@ impl<'a, K: Finder> Evaluator<'a, K> {
         requires holes { IsSome self.old.world.grain → R.takes_holes ≡ true }
         requires node { focus.node < length self.old.world.tree }
         requires passed { AreValues self.old.world.tree rules.passed.values }
-        ensures told { IsStepBy (λ u. self.new)
+        ensures reported { IsStepBy (λ u. self.new)
             (rule_begun rule rules.entry.mode rules.entry.passed site focus self.old
             (R.state recorder.old)) result (R.state recorder.new) }
         ensures kept { R.kept recorder.new ≡ R.kept recorder.old }
@@ -217,7 +217,7 @@ impl<'a, K: Finder> Evaluator<'a, K> {
     ) -> Result<(), Halt>
         requires holes { IsSome self.old.world.grain → R.takes_holes ≡ true }
         requires node { focus.node < length self.old.world.tree }
-        ensures told { IsStepBy (λ u. self.new)
+        ensures reported { IsStepBy (λ u. self.new)
             (built_in_begun mode site focus
             (at self.old.world.tree focus.node) self.old
             (R.state recorder.old)) result (R.state recorder.new) }
@@ -240,7 +240,7 @@ impl<'a, K: Finder> Evaluator<'a, K> {
     ) -> Result<(), Halt>
         requires holes { IsSome self.old.world.grain → R.takes_holes ≡ true }
         requires node { focus.node < length self.old.world.tree }
-        ensures told { IsStepBy (λ u. self.new)
+        ensures reported { IsStepBy (λ u. self.new)
             (applied_begun mode no_params site focus
             (children self.old.world.tree focus.node) self.old
             (R.state recorder.old)) result (R.state recorder.new) }
@@ -262,7 +262,7 @@ impl<'a, K: Finder> Evaluator<'a, K> {
         recorder: &mut R,
     ) -> Result<(), Halt>
         requires node { focus.node < length self.now.world.tree }
-        ensures told { IsStep
+        ensures reported { IsStep
             (chars_steps site (at self.now.world.tree focus.node).text (R.state recorder.old))
             result (R.state recorder.new) }
         ensures kept { R.kept recorder.new ≡ R.kept recorder.old }
@@ -339,7 +339,7 @@ impl<'a, K: Finder> Evaluator<'a, K> {
         recorder: &mut R,
     ) -> Result<(), Halt>
         requires left { IsParams self.old.world.tree left.value }
-        ensures told { IsStepBy (λ u. self.new)
+        ensures reported { IsStepBy (λ u. self.new)
             (advanced (params_work left.entry.value) self.old
             (R.state recorder.old)) result (R.state recorder.new) }
         ensures kept { R.kept recorder.new ≡ R.kept recorder.old }
@@ -365,7 +365,7 @@ impl<'a, K: Finder> Evaluator<'a, K> {
         recorder: &mut R,
     ) -> Result<(), Halt>
         requires left { IsParams self.old.world.tree left.value }
-        ensures told { IsStepBy (λ u. self.new)
+        ensures reported { IsStepBy (λ u. self.new)
             (advanced (params_left (binding.now ∷ left.entry.value.left.now) left.entry.value.passed
             left.entry.value.body.now left.entry.value.scope) self.old
             (R.state recorder.old)) result (R.state recorder.new) }

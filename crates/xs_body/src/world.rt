@@ -1,8 +1,8 @@
 //! What a stylesheet is evaluated over.
 
 use std::marker::Model;
-use xs_body_spec::finder::Finder;
 use xs_attribute_sets::index::SetIndex;
+use xs_body_spec::finder::Finder;
 use xs_sheet::sheet::Sheet;
 use xs_tree::Tree;
 use xs_value::value::Value;

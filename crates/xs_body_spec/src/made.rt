@@ -1,7 +1,7 @@
 //! What is made of content that is captured.
 
-use xs_trace::event::Label;
 use xs_text::TextBuf;
+use xs_trace::event::Label;
 
 /// What an instruction makes of the text of its content (XSLT 1.0, 7.1.3, 7.3 and 7.4).
 #[derive(Drop)]

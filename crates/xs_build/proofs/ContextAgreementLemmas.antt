@@ -23,7 +23,7 @@ use Rattle.xs_build.specs.Nodes.{element, space, spaces}
 use Rattle.xs_build.specs.Rules.{start_name, reading_nodes, line_nodes}
 use Rattle.xs_build.specs.Document.{nodes_before, open_node}
 use Rattle.xs_build.specs.steps.Lines.{Context, innermost, scope_of, past, same_name}
-use Rattle.xs_build.proofs.LineAgreementLemmas.{name_of, told, SameNames, seen_in, inside_of, quiet_of, text_of}
+use Rattle.xs_build.proofs.LineAgreementLemmas.{name_of, reported, SameNames, seen_in, inside_of, quiet_of, text_of}
 use Rattle.xs_build.proofs.RestStepLemmas.{text_ahead_none, text_ahead_more}
 use Rattle.xs_build.proofs.ReadingLemmas.{kind_of, begins, begins_other, no_text, no_attribute, is_text}
 
@@ -274,17 +274,17 @@ swapped false false = refl
 any_more : (p : Expanded → Bool) (seen : List Expanded) (x : Expanded) → list_any p (seen ++ x ∷ []) ≡ (p x || list_any p seen)
 any_more p seen x = list_any-append p seen (x ∷ []) ∙ swapped (list_any p seen) (p x)
 
-same_more : (seen : List Expanded) (names : List ExpandedName) (x : Expanded) → SameNames seen names → SameNames (seen ++ x ∷ []) (told x ∷ names)
+same_more : (seen : List Expanded) (names : List ExpandedName) (x : Expanded) → SameNames seen names → SameNames (seen ++ x ∷ []) (reported x ∷ names)
 same_more seen names x h y = any_more (same_name y) seen x ∙ ap (λ b. same_name y x || b) (h y)
 
 tag_more : (os : List Opened) (seen : List Expanded) (x : Expanded) (row : Row) (before : List Row) (name value : List ℕ)
-    → reading row ≡ says (Attr name value) → name_as (scope_of os) name ≡ Some (told x) → SameNames seen (names_at (scope_of os) before) →
+    → reading row ≡ says (Attr name value) → name_as (scope_of os) name ≡ Some (reported x) → SameNames seen (names_at (scope_of os) before) →
     SameTag (Some (seen ++ x ∷ [])) (follows_tag (row ∷ before)) (names_at (scope_of os) (row ∷ before))
 tag_more os seen x row before name value h named same =
     let attribute : is_attribute_row row ≡ true = begins row (Attr name value) h in (
       ap (λ b. begins_with 40 row.bytes || b) attribute
           ∙ or_true (begins_with 40 row.bytes),
-      rw (names_more (scope_of os) row before name value (told x) h named)
+      rw (names_more (scope_of os) row before name value (reported x) h named)
           (same_more seen (names_at (scope_of os) before) x same),
     )
 
@@ -300,7 +300,7 @@ tag_quiet (row ∷ before) h = text_ahead_none row before (tag_no_text row.bytes
 pub fits_named : (c d : Context) (seen : List Expanded) (x : Expanded) (added : ℕ) (before : List Row) (row : Row) (lines : List Row) (name value : List ℕ)
     → Fits c before (row ∷ lines) → reading row ≡ says (Attr name value) → c.tag ≡ Some seen →
     d ≡ record { around = c.around; begun = c.begun; tag = Some (seen ++ x ∷ []); in_text = c.in_text; nodes = c.nodes + added } →
-    name_as (scope_of c.around) name ≡ Some (told x) → count_in c before lines (Attr name value) ≡ added → nat_le (c.nodes + added) most_nodes ≡ true
+    name_as (scope_of c.around) name ≡ Some (reported x) → count_in c before lines (Attr name value) ≡ added → nat_le (c.nodes + added) most_nodes ≡ true
     → Fits d (row ∷ before) lines
 fits_named c d seen x added before row lines name value f h tagged like named counted few =
     let is : nesting row ≡ neither = rw h refl in

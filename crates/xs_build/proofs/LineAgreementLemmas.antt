@@ -35,12 +35,12 @@ abbrev pub name_of : List Opened → Option (List ℕ)
 name_of [] = None
 name_of (o ∷ os) = Some o.name
 
-abbrev pub told : Expanded → ExpandedName
-told e = record { uri = e.uri; local = e.local }
+abbrev pub reported : Expanded → ExpandedName
+reported e = record { uri = e.uri; local = e.local }
 
 -- the names of a start tag are these
 abbrev pub SameNames : List Expanded → List ExpandedName → Type 0
-SameNames seen names = (x : Expanded) → list_any (same_name x) seen ≡ list_any (are_same (told x)) names
+SameNames seen names = (x : Expanded) → list_any (same_name x) seen ≡ list_any (are_same (reported x)) names
 
 pub no_more : (n : ℕ) → nat_le n most_nodes ≡ true → nat_le (n + 0) most_nodes ≡ true
 no_more n h = let e : n + 0 ≡ n = omega arith in rw e h

@@ -1,4 +1,4 @@
--- A prefix stands for what the innermost open element that declares it says.
+-- A prefix represents what the innermost open element that declares it says.
 use Rattle.std.proofs.Common.{◌≡◌, ℕ, zero, suc, List, [], ◌∷◌, ◌++◌, Option, None, Some, Bool, true, false, if◌then◌else◌, refl, sym, ◌∙◌, ap, subst, cond}
 use Rattle.std.specs.BTreeMap.{insert_entry, is_at}
 use Rattle.std.specs.List.{AllByRecursion}
@@ -114,11 +114,11 @@ found_removed q p (e ∷ es) r = by (is_at (order_of_texts p) e.0) refl (bytes_e
     by false is false at h = ap (cond (bytes_eq e.0 q) (Some e.1)) (h ∙ ap (λ b. cond b None (found q es)) at)
 
 -- what a declaration makes of a prefix
-abbrev told : List ℕ → Option (List ℕ)
-told uri = if is_empty uri then None else Some uri
+abbrev reported : List ℕ → Option (List ℕ)
+reported uri = if is_empty uri then None else Some uri
 
 bound_found : (prefix uri : List ℕ) (scope : Bindings) → may_be_bound prefix uri ≡ true → IsScope scope → (q : List ℕ)
-    → found q (bound (prefix, uri) scope) ≡ cond (bytes_eq prefix q) (told uri) (found q scope)
+    → found q (bound (prefix, uri) scope) ≡ cond (bytes_eq prefix q) (reported uri) (found q scope)
 bound_found prefix [] scope h s q = found_removed q prefix scope s.order
 bound_found prefix (u ∷ uri) scope h s q = found_inserted q scope prefix (u ∷ uri)
 
@@ -127,7 +127,7 @@ with_found : (ds : List Binding) (outer : Bindings) (more : List Binding) → Al
 unfolding scope_with
 with_found [] outer more a s h q = h q
 with_found (d ∷ ds) outer more a s h q =
-    bound_found d.0 d.1 (scope_with ds outer) a.0 (scope_kept ds outer a.1 s) q ∙ ap (cond (bytes_eq d.0 q) (told d.1)) (with_found ds outer more a.1 s h q)
+    bound_found d.0 d.1 (scope_with ds outer) a.0 (scope_kept ds outer a.1 s) q ∙ ap (cond (bytes_eq d.0 q) (reported d.1)) (with_found ds outer more a.1 s h q)
 
 -- the bindings in force, and the declarations around
 record Resolves (scope : Bindings) (ds : List Binding) : Type 0 where

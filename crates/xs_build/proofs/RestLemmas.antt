@@ -9,7 +9,7 @@ use Rattle.xs_pyx.specs.Results.{TakesLine, IsFaulty, Reads}
 use Rattle.xs_pyx.specs.declared.line.Line.{Line}
 use Rattle.xs_pyx.specs.declared.rest.Rest.{Rest}
 use Rattle.xs_pyx.specs.declared.view.LineView.{LineView}
-use Rattle.xs_pyx.specs.Views.{told, line_shown, HasReadable, IsReadable}
+use Rattle.xs_pyx.specs.Views.{reported, line_shown, HasReadable, IsReadable}
 use Rattle.xs_build.specs.declared.document.Built.{Built}
 use Rattle.xs_build.specs.declared.tag_names.Expanded.{Expanded}
 use Rattle.xs_build.specs.declared.fault.BuildFault.{BuildFault}
@@ -31,7 +31,7 @@ use Rattle.xs_build.proofs.ReadingLemmas.{row_faulty}
 abbrev pub Divides : List ℕ → Type 0
 Divides bytes = 0 < length bytes → rows_of bytes ≡ first_row bytes ∷ rows_of (behind_row bytes)
 
-pub takes : (found : Option (LineView × ℕ)) (view : LineView) (size : ℕ) (bytes : List ℕ) → found ≡ Some (view, size) → Reads (told (Ok found)) bytes
+pub takes : (found : Option (LineView × ℕ)) (view : LineView) (size : ℕ) (bytes : List ℕ) → found ≡ Some (view, size) → Reads (reported (Ok found)) bytes
     → TakesLine bytes (line_shown view) size
 takes found view size bytes e h = rw e at h
 

@@ -1,4 +1,4 @@
--- What the lines of a document stand for step by step is what they stand for by their places.
+-- What the lines of a document represent step by step is what they represent by their places.
 use Rattle.std.proofs.Common.{◌≡◌, ℕ, ◌+◌, ◌-◌, List, [], ◌∷◌, ◌++◌, Option, None, Some, Bool, true, false, refl, sym, ◌∙◌, ap, subst, length, map, reverse}
 use Rattle.std.proofs.Common.{inl, inr, append_assoc, append-nil, arith}
 use Rattle.std.specs.Prelude.{not, ◌&&◌, ◌==◌, if◌then◌else◌, is_none, is_some}

@@ -1,4 +1,4 @@
--- The tree that the bytes of a document stand for, or the fault of the first bad line.
+-- The tree that the bytes of a document represent, or the fault of the first bad line.
 use Rattle.std.specs.Prelude.{ℕ, ◌+◌, List, [], ◌∷◌, not, nat_le, Option, if◌then◌else◌, is_some, length, map, option_map, reverse}
 use Rattle.std.specs.List.{filter_map, flat_map}
 use Rattle.xs_pyx.specs.Row.{Row, rows_of}
@@ -26,7 +26,7 @@ unfoldable pub nodes_before : List Row → List Row → ℕ
 nodes_before [] lines = 1
 nodes_before (row ∷ before) lines = nodes_before before (row ∷ lines) + count_at (record { before = before; row = row; behind = lines })
 
--- the node of an open element, the innermost but for so many that are passed over; the root where no more are open
+-- the node of an open element, the innermost except so many that are passed over; the root where no more are open
 unfoldable pub open_node : ℕ → List Row → List Row → ℕ
 open_node passed [] lines = 0
 open_node passed (row ∷ before) lines = going_back (nesting row) passed (λ name. nodes_before before (row ∷ lines)) (λ n. open_node n before (row ∷ lines))
@@ -50,7 +50,7 @@ abbrev pub places : List Row → List Row → List Place
 places before [] = []
 places before (row ∷ behind) = record { before = before; row = row; behind = behind } ∷ places (row ∷ before) behind
 
--- What lines stand for: nodes, and the line of each; or a fault, with the number of a line.
+-- What lines represent: nodes, and the line of each; or a fault, with the number of a line.
 pub data Outcome : Type 0 where
   tree : List Record → List ℕ → Outcome
   refused : ℕ → ℕ → Outcome
@@ -75,13 +75,13 @@ refused_first (b ∷ bs) whole = refused b.0 b.1
 abbrev pub lines_at : Place → List ℕ
 lines_at p = map (λ _. number_at p) (nodes_at p)
 
--- what lines stand for
+-- what lines represent
 abbrev pub outcome : List Row → Outcome
 outcome rows =
     let ps = places [] rows in
     refused_first (filter_map bad_at ps) (without_bad_line (reverse rows) (root_record ∷ flat_map nodes_at ps) (0 ∷ flat_map lines_at ps))
 
--- What the bytes of a document stand for. More bytes than the limit are a fault of line 0 (11 TooLarge), which comes before all
+-- What the bytes of a document represent. More bytes than the limit are a fault of line 0 (11 TooLarge), which comes before all
 -- others.
 unfoldable pub document : ℕ → List ℕ → Outcome
 document limit bytes = if nat_le (length bytes) limit then outcome (rows_of bytes) else refused too_large 0

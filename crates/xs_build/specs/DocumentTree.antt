@@ -61,7 +61,7 @@ pub record IsWholeText (rs : List Record) (k : ℕ) : Type 0 where
   pub some : is_empty (at rs k).text ≡ false
   pub apart : (at rs (k + 1)).parent ≡ (at rs k).parent → is_text_kind (at rs (k + 1)).kind ≡ false
 
--- whether the namespace node at k stands for this prefix and this URI
+-- whether the namespace node at k represents this prefix and this URI
 abbrev pub binds : List Record → List ℕ → List ℕ → ℕ → Bool
 binds rs prefix uri k = bytes_eq (local_at rs k) prefix && bytes_eq (at rs k).text uri
 
@@ -76,25 +76,25 @@ pub record HasSpaces (rs : List Record) (n : ℕ) : Type 0 where
 abbrev pub is_same_name : List Record → ℕ → ℕ → Bool
 is_same_name rs j k = bytes_eq (uri_at rs j) (uri_at rs k) && bytes_eq (local_at rs j) (local_at rs k)
 
--- whether some namespace node of the node at n stands for the default namespace
+-- whether some namespace node of the node at n represents the default namespace
 abbrev pub has_default : List Record → ℕ → Bool
 has_default rs n = list_any (λ k. is_empty (local_at rs k)) (namespaces rs n)
 
--- An element is in the namespace that its prefix stands for, and one without a prefix in the default namespace, or in none where
+-- An element is in the namespace that its prefix represents, and one without a prefix in the default namespace, or in none where
 -- there is no default (Namespaces in XML 1.0, 6).
 abbrev pub is_element_in_scope : List Record → ℕ → Bool
 is_element_in_scope rs n =
     list_any (binds rs (prefix_at rs n) (uri_at rs n)) (namespaces rs n)
     || is_empty (prefix_at rs n) && is_empty (uri_at rs n) && not (has_default rs n)
 
--- An attribute is in the namespace that its prefix stands for, and one without a prefix in none, and is no declaration
+-- An attribute is in the namespace that its prefix represents, and one without a prefix in none, and is no declaration
 -- (XPath 1.0, 5.3; Namespaces in XML 1.0, 6.2).
 abbrev pub is_attribute_in_scope : List Record → ℕ → ℕ → Bool
 is_attribute_in_scope rs n k =
     if is_empty (prefix_at rs k) then is_empty (uri_at rs k) && not (bytes_eq (local_at rs k) (codes "xmlns"))
     else list_any (binds rs (prefix_at rs k) (uri_at rs k)) (namespaces rs n)
 
--- whether some namespace node of the node at n stands for this prefix
+-- whether some namespace node of the node at n represents this prefix
 abbrev pub has_prefix : List Record → ℕ → List ℕ → Bool
 has_prefix rs n prefix = list_any (λ k. bytes_eq (local_at rs k) prefix) (namespaces rs n)
 

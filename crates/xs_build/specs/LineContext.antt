@@ -33,7 +33,7 @@ going_back (starts name) (suc passed) found further = further passed
 going_back ends passed found further = further (suc passed)
 going_back neither passed found further = further passed
 
--- The name of an open element, the innermost but for so many that are passed over, as it is written; None: no more are open.
+-- The name of an open element, the innermost except so many that are passed over, as it is written; None: no more are open.
 unfoldable pub open_name : ℕ → List Row → Option (List ℕ)
 open_name passed [] = None
 open_name passed (row ∷ before) = going_back (nesting row) passed Some (λ n. open_name n before)

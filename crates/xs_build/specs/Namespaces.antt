@@ -13,7 +13,7 @@ abbrev pub is_empty : {X : Type 0} → List X → Bool
 is_empty [] = true
 is_empty (x ∷ xs) = false
 
--- a prefix, empty for the default namespace, and the URI that it stands for
+-- a prefix, empty for the default namespace, and the URI that it represents
 abbrev pub Binding : Type 0
 Binding = List ℕ × List ℕ
 
@@ -25,7 +25,7 @@ Bindings = List Binding
 abbrev pub outermost : Bindings
 outermost = (codes "xml", xml_uri) ∷ []
 
--- the URI that a prefix stands for
+-- the URI that a prefix represents
 unfoldable pub uri_in : Bindings → List ℕ → Option (List ℕ)
 uri_in scope prefix = lookup (is_at (order_of_texts prefix)) scope
 

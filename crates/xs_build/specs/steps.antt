@@ -1,5 +1,5 @@
 -- What the code mirrors: the lines step by step, and the state in which the builder is. No public contract cites these files
--- but that of the law that the lines step by step stand for what Document says.
+-- but that of the law that the lines step by step represent what Document says.
 pub mod Invariant
 pub mod Known
 pub mod Lines

@@ -25,7 +25,7 @@ use xs_tree::Tree;
 /// What was read so far.
 #[derive(Drop)]
 pub struct Builder<'a> {
-    /// The nodes, but for the text before the next line.
+    /// The nodes, except the text before the next line.
     pub tree: Tree,
     /// The line of each node, also of the text before the next line.
     pub lines: Vec<u32>,

@@ -28,7 +28,7 @@ pub struct Built {
     pub lines: Vec<u32>,
 }
 
-/// The tree that the bytes of a document stand for, and the line of each node; or the fault of the
+/// The tree that the bytes of a document represent, and the line of each node; or the fault of the
 /// first bad line. The tree is that of one well-formed document (XPath 1.0, 5).
 ///
 /// `limit` is the most bytes that the document may have, and 8,000,000 the most nodes, namespace

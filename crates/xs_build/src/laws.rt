@@ -3,12 +3,12 @@
 ghost use Rattle.xs_build.specs.DocumentLaws.{DocumentsAreTrees, DocumentsFollowGrammar};
 ghost use Rattle.xs_build.specs.DocumentLaws.{GrammarIsEnough, LinesGoByStep, NamesResolve};
 
-/// Bytes that are not refused stand for the tree of one well-formed document (XPath 1.0, 5).
+/// Bytes that are not refused represent the tree of one well-formed document (XPath 1.0, 5).
 pub fn documents_are_trees()
     ensures { DocumentsAreTrees }
 {}
 
-/// A prefix stands for what the innermost open element that declares it says (Namespaces in XML
+/// A prefix represents what the innermost open element that declares it says (Namespaces in XML
 /// 1.0, 6.1).
 pub fn names_resolve()
     ensures { NamesResolve }
@@ -26,7 +26,7 @@ pub fn grammar_is_enough()
     ensures { GrammarIsEnough }
 {}
 
-/// What lines stand for by the lines around each is what they stand for one by one. An induction
+/// What lines represent by the lines around each is what they represent one by one. An induction
 /// over the lines of a document goes by this.
 pub fn lines_go_by_step()
     ensures { LinesGoByStep }

@@ -143,7 +143,7 @@ impl Scope {
         self.bindings.len()
     }
 
-    /// The URI that a prefix stands for.
+    /// The URI that a prefix represents.
     #[tactic(auto, unfolding(crate::specs::Namespaces::uri_in))]
     fn uri_of(&self, prefix: &NameText) -> Option<&NameText>
         ensures { option_copied result ≡ uri_in self.now prefix.now }
@@ -211,7 +211,7 @@ impl Scope {
             && self.has_uri_of(name)
     }
 
-    /// Whether the URI of an element's name is the one that its prefix stands for.
+    /// Whether the URI of an element's name is the one that its prefix represents.
     fn has_uri_of(&self, name: &Name) -> bool
         ensures { result ≡ true → element_name self.now
             (record { prefix = name.now.prefix; local = name.now.local }) ≡ Some name.now }
@@ -252,7 +252,7 @@ impl Scope {
             && self.has_own_uri(name)
     }
 
-    /// Whether the URI of an attribute's name is the one that its prefix stands for, which is none
+    /// Whether the URI of an attribute's name is the one that its prefix represents, which is none
     /// where it has no prefix.
     fn has_own_uri(&self, name: &Name) -> bool
         ensures { result ≡ true → attribute_name self.now

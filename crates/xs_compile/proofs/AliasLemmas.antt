@@ -5,7 +5,7 @@ use Rattle.std.specs.Prelude.{◌&&◌, if◌then◌else◌}
 use Rattle.xs_compile.specs.Counted.{is_counted}
 use Rattle.xs_compile.specs.Aliases.{alias_at, aliases, is_alias, is_alias_of, is_counted_alias}
 use Rattle.xs_structure.specs.Order.{declarations}
-use Rattle.xs_structure.specs.Parts.{row_at}
+use Rattle.xs_structure.specs.Parts.{tag_at}
 use Rattle.xs_compile.specs.steps.Aliases.{has_alias, is_alias_for}
 use Rattle.xs_modules.specs.Numbering.{ModuleData}
 use Rattle.xs_structure.specs.Modules.{Place}
@@ -47,7 +47,7 @@ module _ {X : Type 0} (first second : X → Bool) where
 -- ---- the aliases of a stylesheet
 module _ (ms : List ModuleData) where
   abbrev is_declared : Place → Bool
-  is_declared p = is_alias (row_at ms p)
+  is_declared p = is_alias (tag_at ms p)
 
   counted-same : (p : Place) → is_counted_alias ms p ≡ is_counted ms (filter (is_alias_for ms (alias_at ms p).from_uri) (declarations ms)) p
   counted-same p = ap (λ (ps : List Place). is_counted ms ps p) (filter-both is_declared (is_alias_of ms (alias_at ms p).from_uri) (declarations ms))

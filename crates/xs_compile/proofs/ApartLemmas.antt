@@ -15,22 +15,22 @@ use Rattle.xs_compile.proofs.AmongLemmas.{all-among, among-all, among-filter, am
 use Rattle.xs_structure.proofs.TopLemmas.{declaration-seen, seen-child}
 use Rattle.xs_compile.proofs.ShownLemmas.{IsChildOf, all-children}
 use Rattle.xs_compile.proofs.CleanLemmas.{attribute-clean, no-fault, read-known, shows-none, value-clean}
-use Rattle.xs_compile.proofs.UsedSetLemmas.{Covers, Held, covers-append, covers-wider, element_covers, kind-covers, name_of_label, row-element}
+use Rattle.xs_compile.proofs.UsedSetLemmas.{Covers, Held, covers-append, covers-wider, element_covers, kind-covers, name_of_label, tag-element}
 use Rattle.xs_compile.specs.Bodies.{Source}
 use Rattle.xs_compile.specs.Declarations.{IsInstr, IsSet, is_attribute}
 use Rattle.xs_structure.specs.Order.{all_with, declarations, declares}
 use Rattle.xs_compile.specs.Labels.{label_at, label_in, label_of}
-use Rattle.xs_structure.specs.Parts.{children_at, children_with, pairs_at, reading_at, row_at, value_at}
-use Rattle.xs_elements.specs.Contents.{is_attribute as is_attribute_row}
+use Rattle.xs_structure.specs.Parts.{children_at, children_with, pairs_at, reading_at, tag_at, value_at}
+use Rattle.xs_elements.specs.Contents.{is_attribute as is_attribute_tag}
 use Rattle.xs_elements.specs.declared.forms.Form.{Form}
 use Rattle.xs_elements.specs.declared.forms.Form.TheVariants.{Name as NameForm}
 use Rattle.xs_elements.specs.declared.reading.Reading.{Reading}
 use Rattle.xs_elements.specs.declared.reading.Reading.TheVariants.{Known}
-use Rattle.xs_elements.specs.declared.rows.Row.{Row}
-use Rattle.xs_elements.specs.declared.rows.Row.TheVariants.{Attribute, AttributeSet}
+use Rattle.xs_elements.specs.declared.tags.Tag.{Tag}
+use Rattle.xs_elements.specs.declared.tags.Tag.TheVariants.{Attribute, AttributeSet}
 use Rattle.xs_elements.specs.Nodes.{Name, expanded, if_bound, is_named, own_name, scope_at}
 use Rattle.xs_elements.specs.Reading.{form_by, is_in_extension, is_seen, reading_by, shows}
-use Rattle.xs_elements.specs.Rows.{is_attribute_set, is_top_level, row_of}
+use Rattle.xs_elements.specs.Tags.{is_attribute_set, is_top_level, tag_of}
 use Rattle.xs_modules.specs.Sound.{IsSound}
 use Rattle.xs_sheet.specs.declared.body.Instr.{Instr}
 use Rattle.xs_sheet.specs.declared.declarations.AttrSet.{AttrSet}
@@ -48,13 +48,13 @@ use Rattle.xs_tree.specs.Record.{at, children, is_inside}
 use Rattle.xs_tree.specs.Shape.{IsTree}
 
 -- ---- what a declaration of a set uses
-attribute-row : (row : Row) → is_attribute row ≡ true → row ≡ Attribute
-attribute-row Attribute e = refl
-attribute-row row e = absurd (false≢true e)
+attribute-tag : (tag : Tag) → is_attribute tag ≡ true → tag ≡ Attribute
+attribute-tag Attribute e = refl
+attribute-tag tag e = absurd (false≢true e)
 
-set-row : (row : Row) → is_attribute_set row ≡ true → row ≡ AttributeSet
-set-row AttributeSet e = refl
-set-row row e = absurd (false≢true e)
+set-tag : (tag : Tag) → is_attribute_set tag ≡ true → tag ≡ AttributeSet
+set-tag AttributeSet e = refl
+set-tag tag e = absurd (false≢true e)
 
 module _ (s : Source) (trees : (m : ℕ) → m < length s.modules → IsTree (records_at s.modules m)) (accepted : IsFirstFault s.modules None) where
   -- a declaration of a set
@@ -62,26 +62,26 @@ module _ (s : Source) (trees : (m : ℕ) → m < length s.modules → IsTree (re
     pub known : p.0 < length s.modules
     pub inside : p.1 < length (records_at s.modules p.0)
     pub seen : is_seen (records_at s.modules p.0) p.1 ≡ true
-    pub row : row_at s.modules p ≡ AttributeSet
+    pub tag : tag_at s.modules p ≡ AttributeSet
     pub declared : IsAmong p (declarations s.modules)
 
   set-read : (p : Place) → IsSetAt p → reading_at s.modules p ≡ Known
   set-read p h =
-      ap (λ (r : Row). reading_by r (is_top_level (records_at s.modules p.0) p.1) (is_in_extension (records_at s.modules p.0) p.1)) h.row
+      ap (λ (r : Tag). reading_by r (is_top_level (records_at s.modules p.0) p.1) (is_in_extension (records_at s.modules p.0) p.1)) h.tag
 
   -- one of its attributes
   record IsAttributeAt (p q : Place) : Type 0 where
     node : ℕ
     place : q ≡ (p.0, node)
     among : IsAmong node (children (records_at s.modules p.0) p.1)
-    row : row_at s.modules q ≡ Attribute
+    tag : tag_at s.modules q ≡ Attribute
 
   attributes-at : (p : Place) → All (IsAttributeAt p) (children_with is_attribute s.modules p)
   attributes-at p =
       all-among (IsAttributeAt p) (children_with is_attribute s.modules p) (λ q h.
-      let kept = among-kept (λ x. is_attribute (row_at s.modules x)) q (children_at s.modules p) h in
+      let kept = among-kept (λ x. is_attribute (tag_at s.modules x)) q (children_at s.modules p) h in
       let of = among-mapped (λ k. (p.0, k)) q (children (records_at s.modules p.0) p.1) kept.0 in
-      record { node = of.item; place = sym of.is; among = of.among; row = attribute-row (row_at s.modules q) kept.1 })
+      record { node = of.item; place = sym of.is; among = of.among; tag = attribute-tag (tag_at s.modules q) kept.1 })
 
   attribute-covers : (p q : Place) (i : Instr) → IsSetAt p → IsAttributeAt p q → IsInstr s q i
       → Covers (flat_map (attribute_sets (records_at s.modules p.0)) (children (records_at s.modules p.0) p.1)) (kind_sets i.kind)
@@ -90,13 +90,13 @@ module _ (s : Source) (trees : (m : ℕ) → m < length s.modules → IsTree (re
       let k = a.node in
       let child = among-all (IsChildOf rs p.1) (children rs p.1) k (all-children rs p.1) a.among in
       let seen : is_seen rs k ≡ true =
-      seen-child rs (trees p.0 h.known) p.1 k child.inside child.parent (ap (λ (r : Reading). shows r (row_of rs k)) (set-read p h)) h.seen in
-      let row : row_of rs k ≡ Attribute = ap (λ (x : Place). row_at s.modules x) (sym a.place) ∙ a.row in
+      seen-child rs (trees p.0 h.known) p.1 k child.inside child.parent (ap (λ (r : Reading). shows r (tag_of rs k)) (set-read p h)) h.seen in
+      let tag : tag_of rs k ≡ Attribute = ap (λ (x : Place). tag_at s.modules x) (sym a.place) ∙ a.tag in
       let own : is_part rs k k ≡ true = and_from (k == k || is_inside rs k k) (is_seen rs k) (or_left (k == k) (is_inside rs k k) (eq-eqb k k refl)) seen in
       let held : Held s trees accepted p.0 k h.known q = record { node = k; place = a.place; inside = child.inside; part = own } in
       covers-wider (sets_within rs k) (flat_map (attribute_sets rs) (children rs p.1))
       (λ n g. among-flat (attribute_sets rs) k n (children rs p.1) a.among
-      (subst (λ (r : Row). IsAmong n (if is_attribute_row r then sets_within rs k else [])) (sym row) g))
+      (subst (λ (r : Tag). IsAmong n (if is_attribute_tag r then sets_within rs k else [])) (sym tag) g))
       (kind_sets i.kind) (kind-covers s trees accepted p.0 k h.known q i.kind held is.kind)
 
   attributes-cover : (p : Place) → IsSetAt p → (qs : List Place) (is : List Instr) → All (IsAttributeAt p) qs → AllZip (IsInstr s) qs is
@@ -117,14 +117,14 @@ module _ (s : Source) (trees : (m : ℕ) → m < length s.modules → IsTree (re
       covers-append (first ++ second) d.sets (flat_map (λ i. kind_sets i.kind) d.attributes)
       (covers-wider first (first ++ second) (λ n g. among-left n first second g) d.sets
       (subst (Covers first) (sym is.sets)
-      (element_covers s trees accepted p.0 p.1 h.known p.1 h.inside h.seen AttributeSet Known [] h.row (set-read p h) refl refl refl (inl refl))))
+      (element_covers s trees accepted p.0 p.1 h.known p.1 h.inside h.seen AttributeSet Known [] h.tag (set-read p h) refl refl refl (inl refl))))
       (covers-wider second (first ++ second) (λ n g. among-right n first second g) (flat_map (λ i. kind_sets i.kind) d.attributes)
       (attributes-cover p h (children_with is_attribute s.modules p) d.attributes (attributes-at p) is.attributes))
 
   -- ---- a chain of uses
   -- the name that a declaration says
   set-element : (p : Place) → IsSetAt p → is_element_kind (at (records_at s.modules p.0) p.1).kind ≡ true
-  set-element p h = row-element s trees accepted p.0 p.1 h.known p.1 AttributeSet h.row refl
+  set-element p h = tag-element s trees accepted p.0 p.1 h.known p.1 AttributeSet h.tag refl
 
   set-bound : (p : Place) → IsSetAt p → (value : List ℕ) → value_at s.modules p (codes "name") ≡ Some value → is_unbound_name (pairs_at s.modules p) value ≡
       false
@@ -134,7 +134,7 @@ module _ (s : Source) (trees : (m : ℕ) → m < length s.modules → IsTree (re
       let none = shows-none s.modules accepted unbound_prefix p (record { «module» = h.known; node = h.inside }) (set-element p h) (λ g. g) h.seen in
       value-clean rs p.1 property [] (codes "name") value NameForm
       (attribute-clean rs p.1 property (read-known rs p.1 (set-read p h)) (or_parts (some_value rs p.1 property) (is_misspelled 38 rs p.1) none).0) e
-      (ap (λ (r : Reading). form_by r (row_of rs p.1) [] (codes "name")) (set-read p h) ∙ ap (λ (r : Row). form_by Known r [] (codes "name")) h.row)
+      (ap (λ (r : Reading). form_by r (tag_of rs p.1) [] (codes "name")) (set-read p h) ∙ ap (λ (r : Tag). form_by Known r [] (codes "name")) h.tag)
 
   set-named : (p : Place) → IsSetAt p → (l : Label) → label_at s.modules p ≡ Some l → own_name (records_at s.modules p.0) p.1 ≡ Some (name_of_label l)
   set-named p h l e = by_value (value_at s.modules p (codes "name")) refl (set-bound p h) e
@@ -163,7 +163,7 @@ module _ (s : Source) (trees : (m : ℕ) → m < length s.modules → IsTree (re
       → declares is_attribute_set s.modules (name_of_label l) p ≡ true
   set-declares p h l own e same =
       let rs = records_at s.modules p.0 in
-      and_from (is_attribute_set (row_of rs p.1)) (is_named (name_of_label l) (own_name rs p.1)) (ap is_attribute_set h.row)
+      and_from (is_attribute_set (tag_of rs p.1)) (is_named (name_of_label l) (own_name rs p.1)) (ap is_attribute_set h.tag)
       (ap (is_named (name_of_label l)) (set-named p h own e) ∙ same)
 
   -- what the sets of a name use
@@ -256,16 +256,16 @@ module _ (s : Source) (trees : (m : ℕ) → m < length s.modules → IsTree (re
       (each-apart all ps z a qs ds y.1 (All-tail IsSetAt q qs b))
 
   -- the declarations of sets are sets of the stylesheet
-  set-at : IsSound s.modules → (p : Place) → IsAmong p (declarations s.modules) → is_attribute_set (row_at s.modules p) ≡ true → IsSetAt p
+  set-at : IsSound s.modules → (p : Place) → IsAmong p (declarations s.modules) → is_attribute_set (tag_at s.modules p) ≡ true → IsSetAt p
   set-at sound p among h =
       let ms = s.modules in
-      let row = set-row (row_at ms p) h in
+      let tag = set-tag (tag_at ms p) h in
       let is = among-all (IsDeclared ms) (declarations ms) p (all-declared ms sound.some) among in
       record {
         known = is.within.«module»;
         inside = is.within.node;
         seen = declaration-seen (records_at ms p.0) (trees p.0 is.within.«module») p.1 is.within.node is.declares;
-        row = row;
+        tag = tag;
         declared = among;
       }
 
@@ -273,5 +273,5 @@ module _ (s : Source) (trees : (m : ℕ) → m < length s.modules → IsTree (re
   sets-apart sound ds z =
       let sets = all_with is_attribute_set s.modules in
       let at : All IsSetAt sets = all-among IsSetAt sets (λ p h.
-      let kept = among-kept (λ q. is_attribute_set (row_at s.modules q)) p (declarations s.modules) h in set-at sound p kept.0 kept.1) in
+      let kept = among-kept (λ q. is_attribute_set (tag_at s.modules q)) p (declarations s.modules) h in set-at sound p kept.0 kept.1) in
       each-apart ds sets z at sets ds z at

@@ -5,22 +5,22 @@ use Rattle.std.proofs.lemmas.Option.{none-some}
 use Rattle.std.specs.Option.{option_and_then, option_map_or}
 use Rattle.std.specs.Prelude.{◌&&◌, not, codes, is_some, if◌then◌else◌}
 use Rattle.xs_compile.proofs.KnownLemmas.{known_template}
-use Rattle.xs_compile.proofs.RowLemmas.{row-known}
+use Rattle.xs_compile.proofs.TagLemmas.{tag-known}
 use Rattle.xs_compile.proofs.ValidLemmas.{clean-all, clean-known, needed, value-of}
 use Rattle.xs_compile.specs.declared.compiler.Compiler.{Compiler}
 use Rattle.xs_compile.specs.Counted.{template_number}
-use Rattle.xs_structure.specs.Parts.{name_at, pairs_at, reading_at, row_at}
+use Rattle.xs_structure.specs.Parts.{name_at, pairs_at, reading_at, tag_at}
 use Rattle.xs_compile.specs.Tables.{number_in}
-use Rattle.xs_compile.specs.steps.Rows.{needs}
+use Rattle.xs_compile.specs.steps.Tags.{needs}
 use Rattle.xs_compile.specs.steps.State.{IsReady, modules_of}
 use Rattle.xs_elements.specs.declared.forms.Form.{Form}
 use Rattle.xs_elements.specs.declared.forms.Form.TheVariants.{Name as NameForm}
 use Rattle.xs_elements.specs.declared.reading.Reading.TheVariants.{Known}
-use Rattle.xs_elements.specs.declared.rows.Row.{Row}
-use Rattle.xs_elements.specs.declared.rows.Row.TheVariants.{CallTemplate}
+use Rattle.xs_elements.specs.declared.tags.Tag.{Tag}
+use Rattle.xs_elements.specs.declared.tags.Tag.TheVariants.{CallTemplate}
 use Rattle.xs_elements.specs.Nodes.{Name, expanded, if_bound, own_name, scope_at}
 use Rattle.xs_elements.specs.Reading.{allowed_form}
-use Rattle.xs_elements.specs.Rows.{is_call_template}
+use Rattle.xs_elements.specs.Tags.{is_call_template}
 use Rattle.xs_elements.specs.Values.{is_bad, is_qname, is_unbound, is_unbound_name}
 use Rattle.xs_static.specs.Faults.{bad_attribute, is_misspelled, some_value, unbound_prefix, unknown_template}
 use Rattle.xs_structure.specs.Modules.{Place, records_at}
@@ -32,7 +32,7 @@ unnegated : (b : Bool) → not b ≡ false → b ≡ true
 unnegated true e = refl
 unnegated false e = absurd (true≢false e)
 
--- a name whose prefix is bound stands for an expanded name
+-- a name whose prefix is bound represents an expanded name
 pub expanded-some : (pairs : List (List ℕ × List ℕ)) (value : List ℕ) → not (is_qname value) ≡ false → is_unbound_name pairs value ≡ false
     → (name : Name) × (expanded pairs value ≡ Some name)
 expanded-some pairs value qname bound = by_q (qname_of value) refl qname bound
@@ -48,16 +48,16 @@ expanded-some pairs value qname bound = by_q (qname_of value) refl qname bound
         let found = by_bound q (is_bound pairs q.prefix) refl h in
         (found.0, ap (option_and_then (if_bound pairs)) e ∙ found.1)
 
-module _ (c : Compiler) (p : Place) (ready : IsReady c p) (row : row_at (modules_of c) p ≡ CallTemplate) where
+module _ (c : Compiler) (p : Place) (ready : IsReady c p) (tag : tag_at (modules_of c) p ≡ CallTemplate) where
   called-name : (name : Name) × (name_at (modules_of c) p ≡ Some name) × (is_template_name (modules_of c) name ≡ true)
   called-name =
       let ms = modules_of c in
       let rs = records_at ms p.0 in
       let accepted = ready.state.accepted in
-      let known : reading_at ms p ≡ Known = row-known ms p CallTemplate row (λ a b. refl) in
+      let known : reading_at ms p ≡ Known = tag-known ms p CallTemplate tag (λ a b. refl) in
       let clean = clean-known ms accepted p ready.within ready.seen known in
-      let v = needed ms accepted p ready.within ready.seen (codes "name") known (ap (λ (r : Row). needs r (codes "name")) row) in
-      let formed : allowed_form (row_at ms p) (codes "name") ≡ Some NameForm = ap (λ (r : Row). allowed_form r (codes "name")) row in
+      let v = needed ms accepted p ready.within ready.seen (codes "name") known (ap (λ (r : Tag). needs r (codes "name")) tag) in
+      let formed : allowed_form (tag_at ms p) (codes "name") ≡ Some NameForm = ap (λ (r : Tag). allowed_form r (codes "name")) tag in
       let qname = value-of ms accepted p ready.within ready.seen (codes "name") v.0 is_bad NameForm known
       (clean-all ms accepted p ready.within clean is_bad (clean.shown bad_attribute (λ g. g))) v.1 formed in
       let unbound : Form → List ℕ → Bool = λ form value. is_unbound form (scope_at rs p.1) value in
@@ -69,7 +69,7 @@ module _ (c : Compiler) (p : Place) (ready : IsReady c p) (row : row_at (modules
         name.0,
         own,
         unnegated (is_template_name ms name.0)
-            (sym (ap (λ (r : Row). is_call_template r && option_map_or (λ name. not (is_template_name ms name)) (own_name rs p.1) false) row
+            (sym (ap (λ (r : Tag). is_call_template r && option_map_or (λ name. not (is_template_name ms name)) (own_name rs p.1) false) tag
             ∙ ap (λ (o : Option Name). option_map_or (λ name. not (is_template_name ms name)) o false) own)
             ∙ clean.shown unknown_template (λ g. g)),
       )

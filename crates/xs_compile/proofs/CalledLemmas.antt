@@ -5,11 +5,11 @@ use Rattle.std.specs.Prelude.{◌&&◌, if◌then◌else◌}
 use Rattle.xs_compile.specs.Counted.{counted, named}
 use Rattle.xs_compile.specs.declared.counted.Kind.{Kind}
 use Rattle.xs_compile.specs.declared.counted.Kind.TheVariants.{Template}
-use Rattle.xs_structure.specs.Parts.{name_at, row_at}
+use Rattle.xs_structure.specs.Parts.{name_at, tag_at}
 use Rattle.xs_compile.specs.steps.Counting.{is_called, name_of}
 use Rattle.xs_compile.specs.Tables.{kind_test}
 use Rattle.xs_elements.specs.Nodes.{Name, is_named, is_same_name}
-use Rattle.xs_elements.specs.Rows.{is_template}
+use Rattle.xs_elements.specs.Tags.{is_template}
 use Rattle.xs_modules.specs.Numbering.{ModuleData}
 use Rattle.xs_structure.specs.Modules.{Place, is_same_place}
 use Rattle.xs_structure.specs.Order.{declares}
@@ -30,7 +30,7 @@ if-kind name own false = refl
 
 module _ (ms : List ModuleData) (p : Place) where
   pub declared_name : (kind : Kind) (name : Name) → declares (kind_test kind) ms name p ≡ is_named name (name_of ms kind p)
-  declared_name kind name = if-kind name (name_at ms p) (kind_test kind (row_at ms p))
+  declared_name kind name = if-kind name (name_at ms p) (kind_test kind (tag_at ms p))
 
   module _ (found : List ℕ → List ℕ → Option Place)
       (all : (uri local : List ℕ) → found uri local ≡ counted ms (named is_template ms (uri, local))) where

@@ -15,7 +15,7 @@ use Rattle.xs_elements.specs.declared.reading.Reading.{Reading}
 use Rattle.xs_elements.specs.declared.reading.Reading.TheVariants.{Known, Literal}
 use Rattle.xs_elements.specs.Nodes.{attribute_of, bears, value_of}
 use Rattle.xs_elements.specs.Reading.{form_by, form_of, has_read_attributes, has_version, is_seen, reading_of, reads_attributes}
-use Rattle.xs_elements.specs.Rows.{is_document_element, row_of}
+use Rattle.xs_elements.specs.Tags.{is_document_element, tag_of}
 use Rattle.xs_modules.specs.Numbering.{ModuleData}
 use Rattle.xs_static.specs.Faults.{Fault, Holds, IsFirstFault, is_bad_root, number_of, of_form, shows, some_value}
 use Rattle.xs_structure.specs.Modules.{Place, line_at, records_at}
@@ -74,7 +74,7 @@ bytes-same xs ys h = (bytes_eq-Decides xs ys).0 h
 -- nor has the value of one that is looked up
 pub value-clean : (rs : List Record) (n : ℕ) (property : Form → List ℕ → Bool) (uri local value : List ℕ) (form : Form)
     → list_any (of_form rs n property) (attributes rs n) ≡ false → value_of rs n uri local ≡ Some value
-    → form_by (reading_of rs n) (row_of rs n) uri local ≡ Some form → property form value ≡ false
+    → form_by (reading_of rs n) (tag_of rs n) uri local ≡ Some form → property form value ≡ false
 value-clean rs n property uri local value form clean h formed = by_place (attribute_of rs n uri local) refl h
   where
     some-is : (x y : List ℕ) → Some x ≡ Some y → x ≡ y
@@ -85,8 +85,8 @@ value-clean rs n property uri local value form clean h formed = by_place (attrib
     by_place (Some a) e g =
         let found = find-any (of_form rs n property) (bears rs uri local) (attributes rs n) a e clean in
         let names = and_parts (bytes_eq (uri_at rs a) uri) (bytes_eq (local_at rs a) local) found.0 in
-        let form_is : form_of rs n a ≡ Some form = ap (λ x. form_by (reading_of rs n) (row_of rs n) x (local_at rs a)) (bytes-same (uri_at rs a) uri names.0)
-        ∙ ap (λ x. form_by (reading_of rs n) (row_of rs n) uri x) (bytes-same (local_at rs a) local names.1) ∙ formed in
+        let form_is : form_of rs n a ≡ Some form = ap (λ x. form_by (reading_of rs n) (tag_of rs n) x (local_at rs a)) (bytes-same (uri_at rs a) uri names.0)
+        ∙ ap (λ x. form_by (reading_of rs n) (tag_of rs n) uri x) (bytes-same (local_at rs a) local names.1) ∙ formed in
         ap (property form) (sym (some-is (at rs a).text value g))
         ∙ sym (ap (λ (o : Option Form). option_map_or (λ form. property form (at rs a).text) o false) form_is) ∙ found.1
 

@@ -14,12 +14,12 @@ use Rattle.xs_structure.specs.Order.{declarations, is_simplified}
 use Rattle.xs_compile.specs.Bodies.{Source}
 use Rattle.xs_compile.specs.Declarations.{IsRuleOrModule, IsTemplate, IsWholeModule}
 use Rattle.xs_sheet.specs.declared.declarations.Template.{Template}
-use Rattle.xs_structure.specs.Parts.{imports_from_at, row_at, site_at}
+use Rattle.xs_structure.specs.Parts.{imports_from_at, tag_at, site_at}
 use Rattle.xs_compile.specs.steps.State.{IsInstruction, IsReady, IsState, modules_of}
-use Rattle.xs_compile.specs.steps.Rows.{is_body_row}
-use Rattle.xs_elements.specs.declared.rows.Row.{Row}
-use Rattle.xs_elements.specs.declared.rows.Row.TheVariants.{Other}
-use Rattle.xs_elements.specs.Rows.{is_document_element, is_other, is_sheet, is_stylesheet, is_template, is_top_level, row_of}
+use Rattle.xs_compile.specs.steps.Tags.{is_body_tag}
+use Rattle.xs_elements.specs.declared.tags.Tag.{Tag}
+use Rattle.xs_elements.specs.declared.tags.Tag.TheVariants.{Other}
+use Rattle.xs_elements.specs.Tags.{is_document_element, is_other, is_sheet, is_stylesheet, is_template, is_top_level, tag_of}
 use Rattle.xs_structure.specs.Modules.{Place, precedence_at, records_at}
 use Rattle.xs_tree.specs.Record.{Record, at, is_place}
 use Rattle.xs_tree.specs.Shape.{IsTree}
@@ -30,8 +30,8 @@ simple-inner rs tree n document =
     let up = is_place-true 0 (at rs n).parent document in
     let none : (at rs 0).parent ≡ None = ap (λ (r : Record). r.parent) tree.first in
     ap (λ (o : Option ℕ). option_map_or (is_sheet rs) o false) up
-    ∙ ap (λ (o : Option ℕ). is_stylesheet (row_of rs 0) && is_place 0 o) none
-    ∙ neither (is_stylesheet (row_of rs 0))
+    ∙ ap (λ (o : Option ℕ). is_stylesheet (tag_of rs 0) && is_place 0 o) none
+    ∙ neither (is_stylesheet (tag_of rs 0))
   where
     neither : (b : Bool) → (b && false) ≡ false
     neither true = refl
@@ -57,18 +57,18 @@ module _ (c : Compiler) (state : IsState c) where
       (subst (λ (ps : List Place). i < length ps) all lt) (subst (λ (ps : List Place). p ≡ get_or ps i p) all e))
 
 -- ---- a literal element that is a whole module is an instruction
-pub literal-row : (row : Row) → is_other row ≡ true → row ≡ Other
-literal-row Other e = refl
-literal-row row e = absurd (false≢true e)
+pub literal-tag : (tag : Tag) → is_other tag ≡ true → tag ≡ Other
+literal-tag Other e = refl
+literal-tag tag e = absurd (false≢true e)
 
 pub simple-instruction : (c : Compiler) (p : Place) → IsReady c p → is_simplified (records_at (modules_of c) p.0) p.1 ≡ true → IsInstruction c p
 simple-instruction c p ready h =
     let ms = modules_of c in
     let rs = records_at ms p.0 in
-    let parts = and_parts (is_other (row_of rs p.1)) (is_document_element rs p.1) h in
+    let parts = and_parts (is_other (tag_of rs p.1)) (is_document_element rs p.1) h in
     record {
       ready = ready;
-      row = ap is_body_row (literal-row (row_of rs p.1) parts.0);
+      tag = ap is_body_tag (literal-tag (tag_of rs p.1) parts.0);
       inner = simple-inner rs (tree-at ms c.locals.items ready.state.locals p.0 ready.within.«module») p.1 parts.1;
     }
 
@@ -78,8 +78,8 @@ whole-is s p t h site precedence imports_from rest = record {
   site = site;
   precedence = precedence;
   imports_from = imports_from;
-  rest = subst (λ (b : Bool). IsRuleOrModule b s p t) (sym (ap is_template (literal-row (row_at s.modules p)
-      (and_parts (is_other (row_at s.modules p)) (is_document_element (records_at s.modules p.0) p.1) h).0))) rest;
+  rest = subst (λ (b : Bool). IsRuleOrModule b s p t) (sym (ap is_template (literal-tag (tag_at s.modules p)
+      (and_parts (is_other (tag_at s.modules p)) (is_document_element (records_at s.modules p.0) p.1) h).0))) rest;
 }
 
 -- ---- of the declarations of a kind one more

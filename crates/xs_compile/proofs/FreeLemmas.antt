@@ -8,7 +8,7 @@ use Rattle.std.specs.Prelude.{◌&&◌, ◌||◌, codes, not, option_map}
 use Rattle.std.specs.Result.{result_ok}
 use Rattle.xs_compile.proofs.CleanLemmas.{shows-none, value-clean}
 use Rattle.xs_compile.specs.Parsed.{Both, IsExpr, IsPattern}
-use Rattle.xs_structure.specs.Parts.{pairs_at, reading_at, row_at, value_at}
+use Rattle.xs_structure.specs.Parts.{pairs_at, reading_at, tag_at, value_at}
 use Rattle.xs_compile.specs.Slots.{slot_at}
 use Rattle.xs_structure.specs.Places.{IsIn}
 use Rattle.xs_elements.specs.declared.forms.Form.{Form}
@@ -16,7 +16,7 @@ use Rattle.xs_elements.specs.declared.forms.Form.TheVariants.{KeyPattern, KeyUse
 use Rattle.xs_elements.specs.declared.reading.Reading.{Reading}
 use Rattle.xs_elements.specs.declared.reading.Reading.TheVariants.{Known}
 use Rattle.xs_elements.specs.Reading.{allowed_form, form_by, has_read_attributes, is_seen}
-use Rattle.xs_elements.specs.Rows.{row_of}
+use Rattle.xs_elements.specs.Tags.{tag_of}
 use Rattle.xs_modules.specs.Numbering.{ModuleData}
 use Rattle.xs_sheet.specs.declared.scoped.ScopedExpr.{ScopedExpr}
 use Rattle.xs_sheet.specs.declared.scoped.ScopedPattern.{ScopedPattern}
@@ -79,7 +79,7 @@ free-alternatives e v c = alternatives-neither _ _ e v c
 no-key-alternatives : (e : Tree) → uses_key e ≡ false → list_all holds_no_key (alternatives e) ≡ true
 no-key-alternatives e k = alternatives-lack _ e k
 
--- ---- what stands for an outcome
+-- ---- what represents an outcome
 -- the tree of an outcome that a test refuses
 record IsTree (test : Tree → Bool) (X : Type 0) (f : Tree → X) (o : Result Tree ParseFault) (x : X) : Type 0 where
   tree : Tree
@@ -199,13 +199,13 @@ module _ (ms : List ModuleData) (accepted : IsFirstFault ms None) (p : Place) (w
   module _ (seen : is_seen rs p.1 ≡ true) (element : is_element_kind (at rs p.1).kind ≡ true) (read : has_read_attributes rs p.1 ≡ true)
       (known : reading_at ms p ≡ Known) where
     -- the value of an attribute holds nothing that is forbidden in it
-    pub not_forbidden : (local value : List ℕ) (form : Form) → value_at ms p local ≡ Some value → allowed_form (row_at ms p) local ≡ Some form
+    pub not_forbidden : (local value : List ℕ) (form : Form) → value_at ms p local ≡ Some value → allowed_form (tag_at ms p) local ≡ Some form
         → holds form value ≡ false
     not_forbidden local value form said formed =
         value-clean rs p.1 holds [] local value form
         (behind (has_read_attributes rs p.1) (list_any (of_form rs p.1 holds) (attributes rs p.1)) read
         (shows-none ms accepted forbidden p within element (λ h. h) seen))
-        said (ap (λ (r : Reading). form_by r (row_of rs p.1) [] local) known ∙ formed)
+        said (ap (λ (r : Reading). form_by r (tag_of rs p.1) [] local) known ∙ formed)
 
     -- a pattern that is there
     if-free : (o : Option (List ℕ)) (e : Option ScopedPattern)
@@ -216,21 +216,21 @@ module _ (ms : List ModuleData) (accepted : IsFirstFault ms None) (p : Place) (w
     if-free (Some value) None says h = absurd h
     if-free (Some value) (Some e) says h = says value e refl h
 
-    pub template_pattern_free : allowed_form (row_at ms p) (codes "match") ≡ Some TemplatePattern → (e : Option ScopedPattern)
+    pub template_pattern_free : allowed_form (tag_at ms p) (codes "match") ≡ Some TemplatePattern → (e : Option ScopedPattern)
         → Both (IsPattern ms p) (value_at ms p (codes "match")) e → pattern_is_free_if e ≡ true
     template_pattern_free formed e =
         if-free (value_at ms p (codes "match")) e
         (λ value pattern said is. outcome-free (pattern_in (pairs_at ms p) value) pattern.pattern
         (is_forbidden_in TemplatePattern) template-forbids (not_forbidden (codes "match") value TemplatePattern said formed) is.pattern)
 
-    pub number_pattern_free : (local : List ℕ) → allowed_form (row_at ms p) local ≡ Some NumberPattern → (e : Option ScopedPattern)
+    pub number_pattern_free : (local : List ℕ) → allowed_form (tag_at ms p) local ≡ Some NumberPattern → (e : Option ScopedPattern)
         → Both (IsPattern ms p) (value_at ms p local) e → pattern_is_free_if e ≡ true
     number_pattern_free local formed e =
         if-free (value_at ms p local) e
         (λ value pattern said is. outcome-free (pattern_in (pairs_at ms p) value) pattern.pattern
         (is_forbidden_in NumberPattern) number-forbids (not_forbidden local value NumberPattern said formed) is.pattern)
 
-    module _ (value : List ℕ) (said : value_at ms p (codes "match") ≡ Some value) (formed : allowed_form (row_at ms p) (codes "match") ≡ Some KeyPattern)
+    module _ (value : List ℕ) (said : value_at ms p (codes "match") ≡ Some value) (formed : allowed_form (tag_at ms p) (codes "match") ≡ Some KeyPattern)
         (e : ScopedPattern) (is : IsPattern ms p value e) where
       pub key_pattern_free : pattern_is_free e ≡ true
       key_pattern_free =
@@ -242,7 +242,7 @@ module _ (ms : List ModuleData) (accepted : IsFirstFault ms None) (p : Place) (w
           outcome-no-key (pattern_in (pairs_at ms p) value) e.pattern (is_forbidden_in KeyPattern) key-forbids-key
           (not_forbidden (codes "match") value KeyPattern said formed) is.pattern
 
-    pub key_use_free : (value : List ℕ) → value_at ms p (codes "use") ≡ Some value → allowed_form (row_at ms p) (codes "use") ≡ Some KeyUse
+    pub key_use_free : (value : List ℕ) → value_at ms p (codes "use") ≡ Some value → allowed_form (tag_at ms p) (codes "use") ≡ Some KeyUse
         → (e : ScopedExpr) → IsExpr ms p value e → UsesNothing e.expr
     key_use_free value said formed e is =
         use-free (slot_at ms p) (expr_in (pairs_at ms p) value) e.expr (not_forbidden (codes "use") value KeyUse said formed) is.expr

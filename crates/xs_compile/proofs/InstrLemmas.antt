@@ -9,20 +9,20 @@ use Rattle.std.specs.Prelude.{◌&&◌, codes, nat_lt}
 use Rattle.xs_compile.proofs.FitLemmas.{Along, At, Opens, body-along}
 use Rattle.xs_compile.proofs.KeyLemmas.{site-stands}
 use Rattle.xs_compile.proofs.OpenLemmas.{one_if}
-use Rattle.xs_compile.proofs.OpeningLemmas.{Part, binding-known, extension-other, extension-parts, known-row, literal-other, loop-sorts, opens-binding, opens-literal, opens-row, parts-without}
+use Rattle.xs_compile.proofs.OpeningLemmas.{Part, binding-known, extension-other, extension-parts, known-tag, literal-other, loop-sorts, opens-binding, opens-literal, opens-tag, parts-without}
 use Rattle.xs_compile.proofs.ValueLemmas.{expr-if, expr-of, name-stands, number-stands, puts-stand, selected, sort-stands, template-of, zip-all}
 use Rattle.xs_compile.specs.Bodies.{AreBindings, AreBodies, AreFallbacks, AreInstrs, AreSorts, AreWhens, IsApplied, IsBody, IsChoice, IsContent, IsExprOf, IsKind, IsMadeName, IsPassed, IsSort, Source, first_body, is_otherwise, is_text_or_element}
 use Rattle.xs_compile.specs.Counted.{counted, globals, named, template_number, templates}
-use Rattle.xs_structure.specs.Parts.{body_at, children_with, name_at, row_at}
-use Rattle.xs_compile.specs.steps.Rows.{is_binding, needs}
+use Rattle.xs_structure.specs.Parts.{body_at, children_with, name_at, tag_at}
+use Rattle.xs_compile.specs.steps.Tags.{is_binding, needs}
 use Rattle.xs_elements.specs.declared.forms.Form.TheVariants.{Expression, ValueTemplate}
 use Rattle.xs_elements.specs.declared.reading.Reading.TheVariants.{Known}
-use Rattle.xs_elements.specs.declared.rows.Row.{Row}
-use Rattle.xs_elements.specs.declared.rows.Row.TheVariants.{Variable as VariableRow, Param, ApplyTemplates as ApplyTemplatesRow, CallTemplate as CallTemplateRow, ForEach as ForEachRow, ValueOf as ValueOfRow, CopyOf as CopyOfRow, Copy as CopyRow, Number as NumberRow, Choose as ChooseRow, When as WhenRow, Otherwise as OtherwiseRow, If as IfRow, Text as TextRow, Element as ElementRow, Attribute as AttributeRow, Comment as CommentRow, ProcessingInstruction as PiRow, Message as MessageRow, Fallback as FallbackRow, Sort as SortRow, WithParam, NoElement}
+use Rattle.xs_elements.specs.declared.tags.Tag.{Tag}
+use Rattle.xs_elements.specs.declared.tags.Tag.TheVariants.{Variable as VariableTag, Param, ApplyTemplates as ApplyTemplatesTag, CallTemplate as CallTemplateTag, ForEach as ForEachTag, ValueOf as ValueOfTag, CopyOf as CopyOfTag, Copy as CopyTag, Number as NumberTag, Choose as ChooseTag, When as WhenTag, Otherwise as OtherwiseTag, If as IfTag, Text as TextTag, Element as ElementTag, Attribute as AttributeTag, Comment as CommentTag, ProcessingInstruction as PiTag, Message as MessageTag, Fallback as FallbackTag, Sort as SortTag, WithParam, NoElement}
 use Rattle.xs_elements.specs.Contents.{is_with_param}
 use Rattle.xs_elements.specs.Nodes.{Name}
 use Rattle.xs_elements.specs.Reading.{allowed_form, is_in_extension, reading_by}
-use Rattle.xs_elements.specs.Rows.{is_fallback, is_sort, is_template, is_top_level, is_variable, is_when}
+use Rattle.xs_elements.specs.Tags.{is_fallback, is_sort, is_template, is_top_level, is_variable, is_when}
 use Rattle.xs_sheet.specs.declared.body.Applied.{Applied}
 use Rattle.xs_sheet.specs.declared.body.Body.{Body, Body', Row_of-Instr, end_of-Instr, more_of-Instr}
 use Rattle.xs_sheet.specs.declared.body.Choice.{Choice, Choice', Row_of-When, end_of-When, more_of-When}
@@ -56,37 +56,37 @@ position-below test xs k e = by (nat_lt (position_or_len test xs) (length xs)) r
         omega (arith, inside, same)
     by false f g = absurd (none-some k g)
 
--- ---- rows
-text-slots : (row : Row) → is_text_or_element row ≡ true → one_if (is_variable row) ≡ 0
+-- ---- tags
+text-slots : (tag : Tag) → is_text_or_element tag ≡ true → one_if (is_variable tag) ≡ 0
 text-slots NoElement e = refl
-text-slots TextRow e = refl
-text-slots row e = absurd (false≢true e)
+text-slots TextTag e = refl
+text-slots tag e = absurd (false≢true e)
 
-binding-form : (row : Row) → is_binding row ≡ true → allowed_form row (codes "select") ≡ Some Expression
-binding-form VariableRow e = refl
+binding-form : (tag : Tag) → is_binding tag ≡ true → allowed_form tag (codes "select") ≡ Some Expression
+binding-form VariableTag e = refl
 binding-form Param e = refl
 binding-form WithParam e = refl
-binding-form row e = absurd (false≢true e)
+binding-form tag e = absurd (false≢true e)
 
-with-param-binding : (row : Row) → is_with_param row ≡ true → is_binding row ≡ true
+with-param-binding : (tag : Tag) → is_with_param tag ≡ true → is_binding tag ≡ true
 with-param-binding WithParam e = refl
-with-param-binding row e = absurd (false≢true e)
+with-param-binding tag e = absurd (false≢true e)
 
-when-row : (row : Row) → is_when row ≡ true → row ≡ WhenRow
-when-row WhenRow e = refl
-when-row row e = absurd (false≢true e)
+when-tag : (tag : Tag) → is_when tag ≡ true → tag ≡ WhenTag
+when-tag WhenTag e = refl
+when-tag tag e = absurd (false≢true e)
 
-otherwise-row : (row : Row) → is_otherwise row ≡ true → row ≡ OtherwiseRow
-otherwise-row OtherwiseRow e = refl
-otherwise-row row e = absurd (false≢true e)
+otherwise-tag : (tag : Tag) → is_otherwise tag ≡ true → tag ≡ OtherwiseTag
+otherwise-tag OtherwiseTag e = refl
+otherwise-tag tag e = absurd (false≢true e)
 
-fallback-row : (row : Row) → is_fallback row ≡ true → row ≡ FallbackRow
-fallback-row FallbackRow e = refl
-fallback-row row e = absurd (false≢true e)
+fallback-tag : (tag : Tag) → is_fallback tag ≡ true → tag ≡ FallbackTag
+fallback-tag FallbackTag e = refl
+fallback-tag tag e = absurd (false≢true e)
 
-sort-row : (row : Row) → is_sort row ≡ true → row ≡ SortRow
-sort-row SortRow e = refl
-sort-row row e = absurd (false≢true e)
+sort-tag : (tag : Tag) → is_sort tag ≡ true → tag ≡ SortTag
+sort-tag SortTag e = refl
+sort-tag tag e = absurd (false≢true e)
 
 module _ (s : Source) (trees : (m : ℕ) → m < length s.modules → IsTree (records_at s.modules m)) (accepted : IsFirstFault s.modules None)
     (counts : Counts) (some_globals : counts.globals ≡ length (globals s.modules)) (some_templates : counts.templates ≡ length (templates s.modules))
@@ -96,30 +96,30 @@ module _ (s : Source) (trees : (m : ℕ) → m < length s.modules → IsTree (re
   Here locals p = At s.modules locals p
 
   -- ---- slots
-  slots-kind : (p : Place) (kind : InstrKind) → IsKind s p kind → one_if (is_variable (row_at s.modules p)) ≡ slots_taken kind
-  slots-kind p (ApplyTemplates nodes passed) is = ap (λ (r : Row). one_if (is_variable r)) is.0
-  slots-kind p (CallTemplate template passed) is = ap (λ (r : Row). one_if (is_variable r)) is.0
-  slots-kind p ApplyImports is = ap (λ (r : Row). one_if (is_variable r)) is
-  slots-kind p (ForEach select sorts body) is = ap (λ (r : Row). one_if (is_variable r)) is.0
-  slots-kind p (ValueOf select) is = ap (λ (r : Row). one_if (is_variable r)) is.0
-  slots-kind p (CopyOf select) is = ap (λ (r : Row). one_if (is_variable r)) is.0
-  slots-kind p (Copy sets body) is = ap (λ (r : Row). one_if (is_variable r)) is.0
-  slots-kind p (Number decl) is = ap (λ (r : Row). one_if (is_variable r)) is.0
-  slots-kind p (Choose choice) is = ap (λ (r : Row). one_if (is_variable r)) is.0
-  slots-kind p (If condition body) is = ap (λ (r : Row). one_if (is_variable r)) is.0
-  slots-kind p (Text bytes) is = text-slots (row_at s.modules p) is.0
-  slots-kind p (Element name sets body) is = ap (λ (r : Row). one_if (is_variable r)) is.0
-  slots-kind p (Attribute name body) is = ap (λ (r : Row). one_if (is_variable r)) is.0
-  slots-kind p (Comment body) is = ap (λ (r : Row). one_if (is_variable r)) is.0
-  slots-kind p (Pi name body) is = ap (λ (r : Row). one_if (is_variable r)) is.0
-  slots-kind p (Message terminate body) is = ap (λ (r : Row). one_if (is_variable r)) is.0
-  slots-kind p (Variable' site name content) is = ap (λ (r : Row). one_if (is_variable r)) is.0
+  slots-kind : (p : Place) (kind : InstrKind) → IsKind s p kind → one_if (is_variable (tag_at s.modules p)) ≡ slots_taken kind
+  slots-kind p (ApplyTemplates nodes passed) is = ap (λ (r : Tag). one_if (is_variable r)) is.0
+  slots-kind p (CallTemplate template passed) is = ap (λ (r : Tag). one_if (is_variable r)) is.0
+  slots-kind p ApplyImports is = ap (λ (r : Tag). one_if (is_variable r)) is
+  slots-kind p (ForEach select sorts body) is = ap (λ (r : Tag). one_if (is_variable r)) is.0
+  slots-kind p (ValueOf select) is = ap (λ (r : Tag). one_if (is_variable r)) is.0
+  slots-kind p (CopyOf select) is = ap (λ (r : Tag). one_if (is_variable r)) is.0
+  slots-kind p (Copy sets body) is = ap (λ (r : Tag). one_if (is_variable r)) is.0
+  slots-kind p (Number decl) is = ap (λ (r : Tag). one_if (is_variable r)) is.0
+  slots-kind p (Choose choice) is = ap (λ (r : Tag). one_if (is_variable r)) is.0
+  slots-kind p (If condition body) is = ap (λ (r : Tag). one_if (is_variable r)) is.0
+  slots-kind p (Text bytes) is = text-slots (tag_at s.modules p) is.0
+  slots-kind p (Element name sets body) is = ap (λ (r : Tag). one_if (is_variable r)) is.0
+  slots-kind p (Attribute name body) is = ap (λ (r : Tag). one_if (is_variable r)) is.0
+  slots-kind p (Comment body) is = ap (λ (r : Tag). one_if (is_variable r)) is.0
+  slots-kind p (Pi name body) is = ap (λ (r : Tag). one_if (is_variable r)) is.0
+  slots-kind p (Message terminate body) is = ap (λ (r : Tag). one_if (is_variable r)) is.0
+  slots-kind p (Variable' site name content) is = ap (λ (r : Tag). one_if (is_variable r)) is.0
   slots-kind p (Literal' start body) is =
       let rs = records_at s.modules p.0 in
-      ap (λ (r : Row). one_if (is_variable r)) (literal-other (row_at s.modules p) (is_top_level rs p.1) (is_in_extension rs p.1) is.0)
+      ap (λ (r : Tag). one_if (is_variable r)) (literal-other (tag_at s.modules p) (is_top_level rs p.1) (is_in_extension rs p.1) is.0)
   slots-kind p (Extension' fallbacks) is =
       let rs = records_at s.modules p.0 in
-      ap (λ (r : Row). one_if (is_variable r)) (extension-other (row_at s.modules p) (is_top_level rs p.1) (is_in_extension rs p.1) is.0)
+      ap (λ (r : Tag). one_if (is_variable r)) (extension-other (tag_at s.modules p) (is_top_level rs p.1) (is_in_extension rs p.1) is.0)
 
   -- ---- without a body
   template-below : (p : Place) (template : ℕ) → option_and_then (template_number s.modules) (name_at s.modules p) ≡ Some template
@@ -142,37 +142,37 @@ module _ (s : Source) (trees : (m : ℕ) → m < length s.modules → IsTree (re
       → list_all (sort_stands counts locals) sorts ≡ true
   sorts-stand locals p sorts all z =
       zip-all (IsSort s) (Part s trees accepted locals is_sort) (sort_stands counts locals) (λ q d part is.
-      let row = sort-row (row_at s.modules q) part.row in
-      sort-stands s trees accepted counts some_globals q locals part.here row (known-row s q SortRow row (λ x y. refl)) d is)
+      let tag = sort-tag (tag_at s.modules q) part.tag in
+      sort-stands s trees accepted counts some_globals q locals part.here tag (known-tag s q SortTag tag (λ x y. refl)) d is)
       (children_with is_sort s.modules p) sorts all z
 
-  nodes-stand : (locals : ℕ) (p : Place) (a : Applied) → Here locals p → row_at s.modules p ≡ ApplyTemplatesRow → IsApplied s p a
+  nodes-stand : (locals : ℕ) (p : Place) (a : Applied) → Here locals p → tag_at s.modules p ≡ ApplyTemplatesTag → IsApplied s p a
       → nodes_stand counts locals a ≡ true
-  nodes-stand locals p a h row is =
+  nodes-stand locals p a h tag is =
       and_from (expr_stands_if counts locals a.select) (list_all (sort_stands counts locals) a.sorts)
-      (expr-if s trees accepted counts some_globals p locals h (known-row s p ApplyTemplatesRow row (λ x y. refl)) (codes "select")
-      (ap (λ (r : Row). allowed_form r (codes "select")) row) a.select is.select)
-      (sorts-stand locals p a.sorts (parts-without s trees accepted locals p ApplyTemplatesRow is_sort h row (λ x y. refl) (λ x. refl)) is.sorts)
+      (expr-if s trees accepted counts some_globals p locals h (known-tag s p ApplyTemplatesTag tag (λ x y. refl)) (codes "select")
+      (ap (λ (r : Tag). allowed_form r (codes "select")) tag) a.select is.select)
+      (sorts-stand locals p a.sorts (parts-without s trees accepted locals p ApplyTemplatesTag is_sort h tag (λ x y. refl) (λ x. refl)) is.sorts)
 
   -- the expression that an instruction has to have
-  expr-here : (locals : ℕ) (p : Place) (row : Row) (local : List ℕ) → Here locals p → row_at s.modules p ≡ row
-      → ((x y : Bool) → reading_by row x y ≡ Known) → needs row local ≡ true → allowed_form row local ≡ Some Expression → (expr : ScopedExpr)
+  expr-here : (locals : ℕ) (p : Place) (tag : Tag) (local : List ℕ) → Here locals p → tag_at s.modules p ≡ tag
+      → ((x y : Bool) → reading_by tag x y ≡ Known) → needs tag local ≡ true → allowed_form tag local ≡ Some Expression → (expr : ScopedExpr)
       → IsExprOf s p local expr → expr_stands counts locals expr ≡ true
-  expr-here locals p row local h e reads required formed expr is =
-      expr-of s trees accepted counts some_globals p locals h (known-row s p row e reads) local (ap (λ (r : Row). needs r local) e ∙ required)
-      (ap (λ (r : Row). allowed_form r local) e ∙ formed) expr is
+  expr-here locals p tag local h e reads required formed expr is =
+      expr-of s trees accepted counts some_globals p locals h (known-tag s p tag e reads) local (ap (λ (r : Tag). needs r local) e ∙ required)
+      (ap (λ (r : Tag). allowed_form r local) e ∙ formed) expr is
 
-  name-here : (locals : ℕ) (p : Place) (row : Row) → Here locals p → row_at s.modules p ≡ row → ((x y : Bool) → reading_by row x y ≡ Known)
-      → needs row (codes "name") ≡ true → allowed_form row (codes "name") ≡ Some ValueTemplate → allowed_form row (codes "namespace") ≡ Some ValueTemplate
+  name-here : (locals : ℕ) (p : Place) (tag : Tag) → Here locals p → tag_at s.modules p ≡ tag → ((x y : Bool) → reading_by tag x y ≡ Known)
+      → needs tag (codes "name") ≡ true → allowed_form tag (codes "name") ≡ Some ValueTemplate → allowed_form tag (codes "namespace") ≡ Some ValueTemplate
       → (n : MadeName) → IsMadeName s p n → name_stands counts locals n ≡ true
-  name-here locals p row h e reads required formed other n is =
-      name-stands s trees accepted counts some_globals p locals h (known-row s p row e reads)
-      (ap (λ (r : Row). needs r (codes "name")) e ∙ required) (ap (λ (r : Row). allowed_form r (codes "name")) e ∙ formed)
-      (ap (λ (r : Row). allowed_form r (codes "namespace")) e ∙ other) n is
+  name-here locals p tag h e reads required formed other n is =
+      name-stands s trees accepted counts some_globals p locals h (known-tag s p tag e reads)
+      (ap (λ (r : Tag). needs r (codes "name")) e ∙ required) (ap (λ (r : Tag). allowed_form r (codes "name")) e ∙ formed)
+      (ap (λ (r : Tag). allowed_form r (codes "namespace")) e ∙ other) n is
 
   -- ---- bodies
   abbrev Fits : ℕ → List Place → Type 0
-  Fits locals ps = Along (At s.modules) (λ n. n < counts.bound) (λ q. one_if (is_variable (row_at s.modules q))) locals ps
+  Fits locals ps = Along (At s.modules) (λ n. n < counts.bound) (λ q. one_if (is_variable (tag_at s.modules q))) locals ps
 
   fits : (locals : ℕ) (p : Place) → Opens s.modules locals p → Fits locals (body_at s.modules p)
   fits locals p o = body-along s.modules counts.bound trees accepted locals p o (small p.0 o.within.«module»)
@@ -188,14 +188,14 @@ module _ (s : Source) (trees : (m : ℕ) → m < length s.modules → IsTree (re
       omega (arith, few, node, room)
   first-fits locals p h (q ∷ qs) all =
       let own = All-head (Part s trees accepted locals is_otherwise) q qs all in
-      fits locals q (opens-row s trees accepted locals q OtherwiseRow own.here (otherwise-row (row_at s.modules q) own.row) (λ x y. refl) (λ x. refl))
+      fits locals q (opens-tag s trees accepted locals q OtherwiseTag own.here (otherwise-tag (tag_at s.modules q) own.tag) (λ x y. refl) (λ x. refl))
 
   mutual
     pub body-stands : (locals : ℕ) (ps : List Place) (b : Body) → Fits locals ps → IsBody s ps b → body_stands counts locals b ≡ true
-    body-stands locals ps (Body' shape row) f is = instrs-stand locals ps row f is
+    body-stands locals ps (Body' shape tag) f is = instrs-stand locals ps tag f is
 
-    instrs-stand : {n : _} (locals : ℕ) (ps : List Place) (row : Row_of-Instr n) → Fits locals ps → AreInstrs s ps row
-        → instrs_stand counts locals row ≡ true
+    instrs-stand : {n : _} (locals : ℕ) (ps : List Place) (tag : Row_of-Instr n) → Fits locals ps → AreInstrs s ps tag
+        → instrs_stand counts locals tag ≡ true
     instrs-stand locals [] end_of-Instr f is = lt-ltb locals counts.bound f
     instrs-stand locals (p ∷ ps) end_of-Instr f is = absurd is
     instrs-stand locals [] (more_of-Instr site kind rest) f is = absurd is
@@ -209,47 +209,47 @@ module _ (s : Source) (trees : (m : ℕ) → m < length s.modules → IsTree (re
     kind-stands locals p (ApplyTemplates nodes passed) h is =
         and_from (nodes_stand counts locals nodes) (passed_stands counts locals passed) (nodes-stand locals p nodes h is.0 is.1)
         (passed-stand locals (children_with is_with_param s.modules p) passed
-        (parts-without s trees accepted locals p ApplyTemplatesRow is_with_param h is.0 (λ x y. refl) (λ x. refl)) is.2)
+        (parts-without s trees accepted locals p ApplyTemplatesTag is_with_param h is.0 (λ x y. refl) (λ x. refl)) is.2)
     kind-stands locals p (CallTemplate template passed) h is =
         and_from (nat_lt template counts.templates) (passed_stands counts locals passed) (template-below p template is.1)
         (passed-stand locals (children_with is_with_param s.modules p) passed
-        (parts-without s trees accepted locals p CallTemplateRow is_with_param h is.0 (λ x y. refl) (λ x. refl)) is.2)
+        (parts-without s trees accepted locals p CallTemplateTag is_with_param h is.0 (λ x y. refl) (λ x. refl)) is.2)
     kind-stands locals p ApplyImports h is = refl
     kind-stands locals p (ForEach select sorts body) h is =
         and_from (expr_stands counts locals select && list_all (sort_stands counts locals) sorts) (body_stands counts locals body)
         (and_from (expr_stands counts locals select) (list_all (sort_stands counts locals) sorts)
-        (expr-here locals p ForEachRow (codes "select") h is.0 (λ x y. refl) refl refl select is.1)
+        (expr-here locals p ForEachTag (codes "select") h is.0 (λ x y. refl) refl refl select is.1)
         (sorts-stand locals p sorts (loop-sorts s trees accepted locals p h is.0) is.2))
-        (body-stands locals (body_at s.modules p) body (fits locals p (opens-row s trees accepted locals p ForEachRow h is.0 (λ x y. refl) (λ x. refl))) is.3)
-    kind-stands locals p (ValueOf select) h is = expr-here locals p ValueOfRow (codes "select") h is.0 (λ x y. refl) refl refl select is.1
-    kind-stands locals p (CopyOf select) h is = expr-here locals p CopyOfRow (codes "select") h is.0 (λ x y. refl) refl refl select is.1
+        (body-stands locals (body_at s.modules p) body (fits locals p (opens-tag s trees accepted locals p ForEachTag h is.0 (λ x y. refl) (λ x. refl))) is.3)
+    kind-stands locals p (ValueOf select) h is = expr-here locals p ValueOfTag (codes "select") h is.0 (λ x y. refl) refl refl select is.1
+    kind-stands locals p (CopyOf select) h is = expr-here locals p CopyOfTag (codes "select") h is.0 (λ x y. refl) refl refl select is.1
     kind-stands locals p (Copy sets body) h is =
-        body-stands locals (body_at s.modules p) body (fits locals p (opens-row s trees accepted locals p CopyRow h is.0 (λ x y. refl) (λ x. refl))) is.2
+        body-stands locals (body_at s.modules p) body (fits locals p (opens-tag s trees accepted locals p CopyTag h is.0 (λ x y. refl) (λ x. refl))) is.2
     kind-stands locals p (Number decl) h is =
-        number-stands s trees accepted counts some_globals p locals h is.0 (known-row s p NumberRow is.0 (λ x y. refl)) decl is.1
+        number-stands s trees accepted counts some_globals p locals h is.0 (known-tag s p NumberTag is.0 (λ x y. refl)) decl is.1
     kind-stands locals p (Choose choice) h is = choice-stands locals p choice h is.0 is.1
     kind-stands locals p (If condition body) h is =
         and_from (expr_stands counts locals condition) (body_stands counts locals body)
-        (expr-here locals p IfRow (codes "test") h is.0 (λ x y. refl) refl refl condition is.1)
-        (body-stands locals (body_at s.modules p) body (fits locals p (opens-row s trees accepted locals p IfRow h is.0 (λ x y. refl) (λ x. refl))) is.2)
+        (expr-here locals p IfTag (codes "test") h is.0 (λ x y. refl) refl refl condition is.1)
+        (body-stands locals (body_at s.modules p) body (fits locals p (opens-tag s trees accepted locals p IfTag h is.0 (λ x y. refl) (λ x. refl))) is.2)
     kind-stands locals p (Text bytes) h is = refl
     kind-stands locals p (Element name sets body) h is =
         and_from (name_stands counts locals name) (body_stands counts locals body)
-        (name-here locals p ElementRow h is.0 (λ x y. refl) refl refl refl name is.1)
-        (body-stands locals (body_at s.modules p) body (fits locals p (opens-row s trees accepted locals p ElementRow h is.0 (λ x y. refl) (λ x. refl))) is.3)
+        (name-here locals p ElementTag h is.0 (λ x y. refl) refl refl refl name is.1)
+        (body-stands locals (body_at s.modules p) body (fits locals p (opens-tag s trees accepted locals p ElementTag h is.0 (λ x y. refl) (λ x. refl))) is.3)
     kind-stands locals p (Attribute name body) h is =
         and_from (name_stands counts locals name) (body_stands counts locals body)
-        (name-here locals p AttributeRow h is.0 (λ x y. refl) refl refl refl name is.1)
-        (body-stands locals (body_at s.modules p) body (fits locals p (opens-row s trees accepted locals p AttributeRow h is.0 (λ x y. refl) (λ x. refl))) is.2)
+        (name-here locals p AttributeTag h is.0 (λ x y. refl) refl refl refl name is.1)
+        (body-stands locals (body_at s.modules p) body (fits locals p (opens-tag s trees accepted locals p AttributeTag h is.0 (λ x y. refl) (λ x. refl))) is.2)
     kind-stands locals p (Comment body) h is =
-        body-stands locals (body_at s.modules p) body (fits locals p (opens-row s trees accepted locals p CommentRow h is.0 (λ x y. refl) (λ x. refl))) is.1
+        body-stands locals (body_at s.modules p) body (fits locals p (opens-tag s trees accepted locals p CommentTag h is.0 (λ x y. refl) (λ x. refl))) is.1
     kind-stands locals p (Pi name body) h is =
         and_from (template_stands counts locals name) (body_stands counts locals body)
-        (template-of s trees accepted counts some_globals p locals h (known-row s p PiRow is.0 (λ x y. refl)) (codes "name")
-        (ap (λ (r : Row). needs r (codes "name")) is.0) (ap (λ (r : Row). allowed_form r (codes "name")) is.0) name is.1)
-        (body-stands locals (body_at s.modules p) body (fits locals p (opens-row s trees accepted locals p PiRow h is.0 (λ x y. refl) (λ x. refl))) is.2)
+        (template-of s trees accepted counts some_globals p locals h (known-tag s p PiTag is.0 (λ x y. refl)) (codes "name")
+        (ap (λ (r : Tag). needs r (codes "name")) is.0) (ap (λ (r : Tag). allowed_form r (codes "name")) is.0) name is.1)
+        (body-stands locals (body_at s.modules p) body (fits locals p (opens-tag s trees accepted locals p PiTag h is.0 (λ x y. refl) (λ x. refl))) is.2)
     kind-stands locals p (Message terminate body) h is =
-        body-stands locals (body_at s.modules p) body (fits locals p (opens-row s trees accepted locals p MessageRow h is.0 (λ x y. refl) (λ x. refl))) is.2
+        body-stands locals (body_at s.modules p) body (fits locals p (opens-tag s trees accepted locals p MessageTag h is.0 (λ x y. refl) (λ x. refl))) is.2
     kind-stands locals p (Variable' site name content) h is =
         and_from (site_stands counts site) (content_stands counts locals content)
         (site-stands s.modules counts some_modules p h.within.«module» site is.1)
@@ -261,23 +261,23 @@ module _ (s : Source) (trees : (m : ℕ) → m < length s.modules → IsTree (re
     kind-stands locals p (Extension' fallbacks) h is =
         fallbacks-stand locals (children_with is_fallback s.modules p) fallbacks (extension-parts s trees accepted locals p h is.0) is.1
 
-    pub content-stands : (locals : ℕ) (p : Place) (content : Content) → Here locals p → is_binding (row_at s.modules p) ≡ true → IsContent s p content
+    pub content-stands : (locals : ℕ) (p : Place) (content : Content) → Here locals p → is_binding (tag_at s.modules p) ≡ true → IsContent s p content
         → content_stands counts locals content ≡ true
     content-stands locals p Empty h binding is = refl
     content-stands locals p (Select e) h binding is =
         let rs = records_at s.modules p.0 in
         selected s trees accepted counts some_globals p locals h
-        (binding-known (row_at s.modules p) binding (is_top_level rs p.1) (is_in_extension rs p.1)) is.0 (binding-form (row_at s.modules p) binding) e is.1
+        (binding-known (tag_at s.modules p) binding (is_top_level rs p.1) (is_in_extension rs p.1)) is.0 (binding-form (tag_at s.modules p) binding) e is.1
     content-stands locals p (Fragment body) h binding is = body-stands locals (body_at s.modules p) body
         (fits locals p (opens-binding s trees accepted locals p h binding is.0)) is.2
 
     passed-stand : (locals : ℕ) (ps : List Place) (passed : Passed) → All (Part s trees accepted locals is_with_param) ps → IsPassed s ps passed
         → passed_stands counts locals passed ≡ true
-    passed-stand locals ps (Passed' shape row) h is = bindings-stand locals ps row h is
+    passed-stand locals ps (Passed' shape tag) h is = bindings-stand locals ps tag h is
 
-    bindings-stand : {n : _} (locals : ℕ) (ps : List Place) (row : Row_of-Binding n) → All (Part s trees accepted locals is_with_param) ps → AreBindings s ps
-        row
-        → bindings_stand counts locals row ≡ true
+    bindings-stand : {n : _} (locals : ℕ) (ps : List Place) (tag : Row_of-Binding n) → All (Part s trees accepted locals is_with_param) ps → AreBindings s ps
+        tag
+        → bindings_stand counts locals tag ≡ true
     bindings-stand locals ps end_of-Binding h is = refl
     bindings-stand locals [] (more_of-Binding site name content rest) h is = absurd is
     bindings-stand locals (p ∷ ps) (more_of-Binding site name content rest) h is =
@@ -285,45 +285,45 @@ module _ (s : Source) (trees : (m : ℕ) → m < length s.modules → IsTree (re
         and_from (site_stands counts site && content_stands counts locals content) (bindings_stand counts locals rest)
         (and_from (site_stands counts site) (content_stands counts locals content)
         (site-stands s.modules counts some_modules p own.here.within.«module» site is.0)
-        (content-stands locals p content own.here (with-param-binding (row_at s.modules p) own.row) is.2))
+        (content-stands locals p content own.here (with-param-binding (tag_at s.modules p) own.tag) is.2))
         (bindings-stand locals ps rest (All-tail (Part s trees accepted locals is_with_param) p ps h) is.3)
 
-    choice-stands : (locals : ℕ) (p : Place) (choice : Choice) → Here locals p → row_at s.modules p ≡ ChooseRow → IsChoice s p choice
+    choice-stands : (locals : ℕ) (p : Place) (choice : Choice) → Here locals p → tag_at s.modules p ≡ ChooseTag → IsChoice s p choice
         → choice_stands counts locals choice ≡ true
-    choice-stands locals p (Choice' shape row otherwise) h e is =
-        and_from (whens_stand counts locals row) (body_stands counts locals otherwise)
-        (whens-stand locals (children_with is_when s.modules p) row (parts-without s trees accepted locals p ChooseRow is_when h e (λ x y. refl) (λ x. refl))
+    choice-stands locals p (Choice' shape tag otherwise) h e is =
+        and_from (whens_stand counts locals tag) (body_stands counts locals otherwise)
+        (whens-stand locals (children_with is_when s.modules p) tag (parts-without s trees accepted locals p ChooseTag is_when h e (λ x y. refl) (λ x. refl))
         is.0)
         (body-stands locals (first_body s (children_with is_otherwise s.modules p)) otherwise
         (first-fits locals p h (children_with is_otherwise s.modules p)
-        (parts-without s trees accepted locals p ChooseRow is_otherwise h e (λ x y. refl) (λ x. refl))) is.1)
+        (parts-without s trees accepted locals p ChooseTag is_otherwise h e (λ x y. refl) (λ x. refl))) is.1)
 
-    whens-stand : {n : _} (locals : ℕ) (ps : List Place) (row : Row_of-When n) → All (Part s trees accepted locals is_when) ps → AreWhens s ps row
-        → whens_stand counts locals row ≡ true
+    whens-stand : {n : _} (locals : ℕ) (ps : List Place) (tag : Row_of-When n) → All (Part s trees accepted locals is_when) ps → AreWhens s ps tag
+        → whens_stand counts locals tag ≡ true
     whens-stand locals ps end_of-When h is = refl
     whens-stand locals [] (more_of-When (When' condition body) rest) h is = absurd is
     whens-stand locals (p ∷ ps) (more_of-When (When' condition body) rest) h is =
         let own = All-head (Part s trees accepted locals is_when) p ps h in
-        let e = when-row (row_at s.modules p) own.row in
+        let e = when-tag (tag_at s.modules p) own.tag in
         and_from (expr_stands counts locals condition && body_stands counts locals body) (whens_stand counts locals rest)
         (and_from (expr_stands counts locals condition) (body_stands counts locals body)
-        (expr-here locals p WhenRow (codes "test") own.here e (λ x y. refl) refl refl condition is.0.0)
-        (body-stands locals (body_at s.modules p) body (fits locals p (opens-row s trees accepted locals p WhenRow own.here e (λ x y. refl) (λ x. refl)))
+        (expr-here locals p WhenTag (codes "test") own.here e (λ x y. refl) refl refl condition is.0.0)
+        (body-stands locals (body_at s.modules p) body (fits locals p (opens-tag s trees accepted locals p WhenTag own.here e (λ x y. refl) (λ x. refl)))
         is.0.1))
         (whens-stand locals ps rest (All-tail (Part s trees accepted locals is_when) p ps h) is.1)
 
     fallbacks-stand : (locals : ℕ) (ps : List Place) (fallbacks : Fallbacks) → All (Part s trees accepted locals is_fallback) ps → AreFallbacks s ps fallbacks
         → fallbacks_stand counts locals fallbacks ≡ true
-    fallbacks-stand locals ps (Fallbacks' shape row) h is = bodies-stand locals ps row h is
+    fallbacks-stand locals ps (Fallbacks' shape tag) h is = bodies-stand locals ps tag h is
 
-    bodies-stand : {n : _} (locals : ℕ) (ps : List Place) (row : Row_of-Body n) → All (Part s trees accepted locals is_fallback) ps → AreBodies s ps row
-        → bodies_stand counts locals row ≡ true
+    bodies-stand : {n : _} (locals : ℕ) (ps : List Place) (tag : Row_of-Body n) → All (Part s trees accepted locals is_fallback) ps → AreBodies s ps tag
+        → bodies_stand counts locals tag ≡ true
     bodies-stand locals ps end_of-Body h is = refl
     bodies-stand locals [] (more_of-Body body rest) h is = absurd is
     bodies-stand locals (p ∷ ps) (more_of-Body body rest) h is =
         let own = All-head (Part s trees accepted locals is_fallback) p ps h in
         and_from (body_stands counts locals body) (bodies_stand counts locals rest)
         (body-stands locals (body_at s.modules p) body
-        (fits locals p (opens-row s trees accepted locals p FallbackRow own.here (fallback-row (row_at s.modules p) own.row) (λ x y. refl) (λ x. refl)))
+        (fits locals p (opens-tag s trees accepted locals p FallbackTag own.here (fallback-tag (tag_at s.modules p) own.tag) (λ x y. refl) (λ x. refl)))
         is.0)
         (bodies-stand locals ps rest (All-tail (Part s trees accepted locals is_fallback) p ps h) is.1)

@@ -6,17 +6,17 @@ use Rattle.std.specs.Option.{unwrap_or}
 use Rattle.std.specs.Prelude.{◌&&◌, codes, not, nat_lt}
 use Rattle.xs_compile.proofs.CleanLemmas.{read-known}
 use Rattle.xs_compile.proofs.FreeLemmas.{key_pattern_free, key_pattern_no_key, key_use_free}
-use Rattle.xs_compile.proofs.UsedSetLemmas.{row-element}
+use Rattle.xs_compile.proofs.UsedSetLemmas.{tag-element}
 use Rattle.xs_compile.specs.Bodies.{Source}
 use Rattle.xs_compile.specs.Declarations.{IsKey}
 use Rattle.xs_compile.specs.Parsed.{IsExpr, IsPattern}
-use Rattle.xs_structure.specs.Parts.{reading_at, row_at, site_at, value_at}
+use Rattle.xs_structure.specs.Parts.{reading_at, tag_at, site_at, value_at}
 use Rattle.xs_structure.specs.Places.{IsIn}
 use Rattle.xs_elements.specs.declared.reading.Reading.TheVariants.{Known}
-use Rattle.xs_elements.specs.declared.rows.Row.{Row}
-use Rattle.xs_elements.specs.declared.rows.Row.TheVariants.{Key}
+use Rattle.xs_elements.specs.declared.tags.Tag.{Tag}
+use Rattle.xs_elements.specs.declared.tags.Tag.TheVariants.{Key}
 use Rattle.xs_elements.specs.Reading.{allowed_form, is_in_extension, is_seen, reading_by}
-use Rattle.xs_elements.specs.Rows.{is_top_level}
+use Rattle.xs_elements.specs.Tags.{is_top_level}
 use Rattle.xs_modules.specs.Numbering.{ModuleData}
 use Rattle.xs_sheet.specs.declared.declarations.KeyDecl.{KeyDecl}
 use Rattle.xs_sheet.specs.Sound.{holds_no_key, key_is_sound}
@@ -35,19 +35,19 @@ site-stands ms counts many p inside site e =
 
 module _ (s : Source) (trees : (m : ℕ) → m < length s.modules → IsTree (records_at s.modules m)) (accepted : IsFirstFault s.modules None)
     (counts : Counts) (many : counts.modules ≡ length s.modules) where
-  pub key-sound : (p : Place) → IsIn s.modules p → is_seen (records_at s.modules p.0) p.1 ≡ true → row_at s.modules p ≡ Key → (pattern value : List ℕ)
+  pub key-sound : (p : Place) → IsIn s.modules p → is_seen (records_at s.modules p.0) p.1 ≡ true → tag_at s.modules p ≡ Key → (pattern value : List ℕ)
       → value_at s.modules p (codes "match") ≡ Some pattern → value_at s.modules p (codes "use") ≡ Some value → (k : KeyDecl) → IsKey s p k
       → key_is_sound counts k ≡ true
-  key-sound p within seen row pattern value said-pattern said-use k is =
+  key-sound p within seen tag pattern value said-pattern said-use k is =
       let ms = s.modules in
       let rs = records_at ms p.0 in
-      let known : reading_at ms p ≡ Known = ap (λ (r : Row). reading_by r (is_top_level rs p.1) (is_in_extension rs p.1)) row in
-      let element = row-element s trees accepted p.0 p.1 within.«module» p.1 Key row refl in
+      let known : reading_at ms p ≡ Known = ap (λ (r : Tag). reading_by r (is_top_level rs p.1) (is_in_extension rs p.1)) tag in
+      let element = tag-element s trees accepted p.0 p.1 within.«module» p.1 Key tag refl in
       let read = read-known rs p.1 known in
       let matches = subst (λ v. IsPattern ms p v k.pattern) (ap (λ (o : Option (List ℕ)). unwrap_or o []) said-pattern) is.pattern in
       let uses = subst (λ v. IsExpr ms p v k.value) (ap (λ (o : Option (List ℕ)). unwrap_or o []) said-use) is.value in
-      let formed = ap (λ (r : Row). allowed_form r (codes "match")) row in
-      let nothing = key_use_free ms accepted p within seen element read known value said-use (ap (λ (r : Row). allowed_form r (codes "use")) row) k.value
+      let formed = ap (λ (r : Tag). allowed_form r (codes "match")) tag in
+      let nothing = key_use_free ms accepted p within seen element read known value said-use (ap (λ (r : Tag). allowed_form r (codes "use")) tag) k.value
       uses in
       let free = pattern_is_free k.pattern in
       let no-key = list_all holds_no_key k.pattern.pattern in

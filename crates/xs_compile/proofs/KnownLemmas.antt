@@ -11,10 +11,10 @@ use Rattle.xs_compile.proofs.TemplateNumberLemmas.{counted-passes}
 use Rattle.xs_compile.specs.Counted.{counted, global_number, globals, greater, is_global, named, template_number, templates}
 use Rattle.xs_structure.proofs.DeclarationLemmas.{place-same, same-place}
 use Rattle.xs_structure.specs.Order.{is_template_place, declarations, is_simplified, declares}
-use Rattle.xs_structure.specs.Parts.{name_at, row_at}
-use Rattle.xs_elements.specs.declared.rows.Row.{Row}
+use Rattle.xs_structure.specs.Parts.{name_at, tag_at}
+use Rattle.xs_elements.specs.declared.tags.Tag.{Tag}
 use Rattle.xs_elements.specs.Nodes.{Name, is_named}
-use Rattle.xs_elements.specs.Rows.{is_template, is_variable}
+use Rattle.xs_elements.specs.Tags.{is_template, is_variable}
 use Rattle.xs_modules.specs.Numbering.{ModuleData}
 use Rattle.xs_structure.specs.Modules.{Place, is_same_place, records_at}
 use Rattle.xs_static.specs.Names.{is_declared, is_global as has_global, is_template_name}
@@ -83,13 +83,13 @@ module _ (ms : List ModuleData) where
       behind false g = g
 
   -- ---- of a declared name the one that counts, which is declared
-  record HasCounted (kind : Row → Bool) (name : Name) : Type 0 where
+  record HasCounted (kind : Tag → Bool) (name : Name) : Type 0 where
     place : Place
     counts : counted ms (named kind ms name) ≡ Some place
     declared : declares kind ms name place ≡ true
     inside : list_any (is_same_place place) (declarations ms) ≡ true
 
-  has_counted : (kind : Row → Bool) (name : Name) → is_declared kind ms name ≡ true → HasCounted kind name
+  has_counted : (kind : Tag → Bool) (name : Name) → is_declared kind ms name ≡ true → HasCounted kind name
   has_counted kind name h =
       let test = declares kind ms name in
       let found = some_counts test (declarations ms) h in
@@ -114,7 +114,7 @@ module _ (ms : List ModuleData) where
   known_global name h =
       let found = has_counted is_variable name h in
       let c = found.place in
-      let counts = counts-global (is_variable (row_at ms c)) (name_at ms c) name c found.declared found.counts in
+      let counts = counts-global (is_variable (tag_at ms c)) (name_at ms c) name c found.declared found.counts in
       position_found (declares is_variable ms name) (globals ms)
       (passes_both c (is_global ms) (declares is_variable ms name) counts found.declared (declarations ms) found.inside)
 
@@ -123,8 +123,8 @@ module _ (ms : List ModuleData) where
   known_template name h =
       let found = has_counted is_template name h in
       let c = found.place in
-      let row = (and_parts (is_template (row_at ms c)) (is_named name (name_at ms c)) found.declared).0 in
+      let tag = (and_parts (is_template (tag_at ms c)) (is_named name (name_at ms c)) found.declared).0 in
       let at = position_found (is_same_place c) (templates ms)
       (passes_both c (is_template_place ms) (is_same_place c)
-      (ap (λ (b : Bool). if b then true else is_simplified (records_at ms c.0) c.1) row) (same-place c) (declarations ms) found.inside) in
+      (ap (λ (b : Bool). if b then true else is_simplified (records_at ms c.0) c.1) tag) (same-place c) (declarations ms) found.inside) in
       (at.0, ap (λ (o : Option Place). option_and_then (λ p. position (is_same_place p) (templates ms)) o) found.counts ∙ at.1, at.2)

@@ -34,7 +34,7 @@ mod PartLemmas
 mod PriorityLemmas
 mod ReachLemmas
 mod RootLemmas
-mod RowLemmas
+mod TagLemmas
 mod ShownLemmas
 mod SoundLemmas
 mod SpaceLemmas

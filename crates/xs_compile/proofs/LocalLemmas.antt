@@ -137,7 +137,7 @@ module _ (rs : List Record) (tree : IsTree rs) (n : ℕ) (counts : List ℕ) whe
           by_test true e = absurd (omega (arith, lt, eqb-true a n e))
           by_test false e = e
 
-  -- the next node adds nothing to what is open in a node, but for its own and its parent's
+  -- the next node adds nothing to what is open in a node, except its own and its parent's
   pub counts-kept : (visible : ℕ) → n < length rs → AreCounts rs n counts → visible ≡ length (visible_at rs n)
       → ((a : ℕ) → a < n → opened rs a (n + 1) ≡ opened rs a n) → AreCounts rs (n + 1) (counts ++ visible ∷ [])
   counts-kept visible w are v same =

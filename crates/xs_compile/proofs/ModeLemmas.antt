@@ -1,4 +1,4 @@
--- Modes, told by their places.
+-- Modes, known by their places.
 use Rattle.std.proofs.Common.{◌≡◌, ◌∙◌, ℕ, suc, ◌+◌, ◌<◌, ap, refl, sym, arith, drop, get_or, length, List, [], ◌∷◌, ◌++◌, map, cond, Bool, true, false, Option, None, Some}
 use Rattle.std.proofs.lemmas.Bool.{and_from, false≢true, ltb-true, or_right}
 use Rattle.std.proofs.lemmas.List.{drop-map, map-append}

@@ -1,11 +1,11 @@
--- Modules have one compiled stylesheet: what stands for a place is pinned by it, by recursion on what was compiled.
+-- Modules have one compiled stylesheet: what represents a place is pinned by it, by recursion on what was compiled.
 use Rattle.std.proofs.Common.{◌≡◌, ◌∙◌, ℕ, List, [], ◌∷◌, codes, Option, Some, None, Bool, true, false, refl, sym, ap}
 use Rattle.std.proofs.lemmas.Bool.{true≢false}
 use Rattle.std.specs.List.{AllZip}
 use Rattle.std.specs.Option.{unwrap_or}
 use Rattle.xs_elements.specs.Contents.{is_with_param}
 use Rattle.xs_elements.specs.Nodes.{Name}
-use Rattle.xs_elements.specs.Rows.{is_attribute_set, is_fallback, is_param, is_sort, is_template, is_when}
+use Rattle.xs_elements.specs.Tags.{is_attribute_set, is_fallback, is_param, is_sort, is_template, is_when}
 use Rattle.xs_sheet.specs.declared.body.Applied.{Applied}
 use Rattle.xs_sheet.specs.declared.body.Binding.{Binding}
 use Rattle.xs_sheet.specs.declared.body.Body.{Body, Body', Row_of-Instr, end_of-Instr, more_of-Instr, items-the_row-Instr, items_shown-the_row-Instr-0, out-Body, outs-Body', roll-Body, roll-out-Body}
@@ -38,13 +38,13 @@ use Rattle.xs_compile.specs.Counted.{globals, templates}
 use Rattle.xs_compile.specs.Labels.{IsMode, mode_at}
 use Rattle.xs_compile.specs.Modes.{modes_of}
 use Rattle.xs_structure.specs.Order.{all_with}
-use Rattle.xs_structure.specs.Parts.{body_at, children_with, row_at, said_at, value_at}
+use Rattle.xs_structure.specs.Parts.{body_at, children_with, tag_at, said_at, value_at}
 use Rattle.xs_compile.specs.Bodies.{Source, AreBindings, AreBodies, AreFallbacks, AreInstrs, AreWhens, IsApplied, IsBody, IsChoice, IsContent, IsKind, IsLiteralStart, IsMadeName, IsNumber, IsPassed, IsPutAttribute, IsSort, first_body, is_otherwise, put_attributes}
 use Rattle.xs_compile.specs.Declarations.{IsBinding, IsGlobal, IsInstr, IsKey, IsRuleOrModule, IsSet, IsTemplate, is_attribute, is_key}
 use Rattle.xs_compile.specs.Laws.{OneSheet}
 use Rattle.xs_compile.specs.Parsed.{Both, IsExpr, IsPattern, IsValueTemplate}
-use Rattle.xs_compile.specs.StandsFor.{IsSheet}
-use Rattle.xs_compile.proofs.KindLemmas.{kind-tag, by-applies, by-calls, by-imports, by-each, by-value, by-copy-of, by-copy, by-number, by-choose, by-if, by-text, by-element, by-attribute, by-comment, by-pi, by-message, by-variable, by-literal, by-extension}
+use Rattle.xs_compile.specs.Represents.{IsSheet}
+use Rattle.xs_compile.proofs.KindLemmas.{kind-kind_number, by-applies, by-calls, by-imports, by-each, by-value, by-copy-of, by-copy, by-number, by-choose, by-if, by-text, by-element, by-attribute, by-comment, by-pi, by-message, by-variable, by-literal, by-extension}
 
 -- ---- a relation that pins, over options and lists
 module _ {A B : Type 0} (R : A → B → Type 0) (one : (a : A) (b c : B) → R a b → R a c → b ≡ c) where
@@ -141,17 +141,17 @@ module _ (s : Source) where
   }
 
   -- ---- what a list of another type of the cycle is made of
-  instrs : (n : _) (row : Row_of-Instr _) → (out-Body (Body' n row)).instrs ≡ items-the_row-Instr _ row
-  instrs n row = ap (λ b. b.instrs) (outs-Body' n row) ∙ items_shown-the_row-Instr-0 n row
+  instrs : (n : _) (tag : Row_of-Instr _) → (out-Body (Body' n tag)).instrs ≡ items-the_row-Instr _ tag
+  instrs n tag = ap (λ b. b.instrs) (outs-Body' n tag) ∙ items_shown-the_row-Instr-0 n tag
 
-  params : (n : _) (row : Row_of-Binding _) → (out-Passed (Passed' n row)).params ≡ items-the_row-Binding _ row
-  params n row = ap (λ b. b.params) (outs-Passed' n row) ∙ items_shown-the_row-Binding-3 n row
+  params : (n : _) (tag : Row_of-Binding _) → (out-Passed (Passed' n tag)).params ≡ items-the_row-Binding _ tag
+  params n tag = ap (λ b. b.params) (outs-Passed' n tag) ∙ items_shown-the_row-Binding-3 n tag
 
-  bodies : (n : _) (row : Row_of-Body _) → (out-Fallbacks (Fallbacks' n row)).bodies ≡ items-the_row-Body _ row
-  bodies n row = ap (λ b. b.bodies) (outs-Fallbacks' n row) ∙ items_shown-the_row-Body-2 n row
+  bodies : (n : _) (tag : Row_of-Body _) → (out-Fallbacks (Fallbacks' n tag)).bodies ≡ items-the_row-Body _ tag
+  bodies n tag = ap (λ b. b.bodies) (outs-Fallbacks' n tag) ∙ items_shown-the_row-Body-2 n tag
 
-  whens : (n : _) (row : Row_of-When _) (o : Body) → (out-Choice (Choice' n row o)).whens ≡ items-the_row-When _ row
-  whens n row o = ap (λ b. b.whens) (outs-Choice' n row o) ∙ items_shown-the_row-When-1 n row
+  whens : (n : _) (tag : Row_of-When _) (o : Body) → (out-Choice (Choice' n tag o)).whens ≡ items-the_row-When _ tag
+  whens n tag o = ap (λ b. b.whens) (outs-Choice' n tag o) ∙ items_shown-the_row-When-1 n tag
 
   body-by : (c d : Body) → (out-Body c).instrs ≡ (out-Body d).instrs → c ≡ d
   body-by c d e = sym (roll-out-Body c) ∙ ap (λ xs. roll-Body (record { instrs = xs })) e ∙ roll-out-Body d
@@ -173,91 +173,91 @@ module _ (s : Source) where
         (λ nodes' passed' z i. ApplyTemplates
         (one-applied p nodes nodes' x.1 z.1 i)
         (one-passed passed passed' (children_with is_with_param s.modules p) x.2 z.2 i))
-        l (kind-tag s p l y ∙ sym (kind-tag s p (ApplyTemplates nodes passed) x)) y
+        l (kind-kind_number s p l y ∙ sym (kind-kind_number s p (ApplyTemplates nodes passed) x)) y
     one-kind (CallTemplate n passed) l p x y =
         by-calls (λ k. IsKind s p k → CallTemplate n passed ≡ k)
         (λ n' passed' z i. CallTemplate
         (some_same (sym x.1 ∙ z.1) i)
         (one-passed passed passed' (children_with is_with_param s.modules p) x.2 z.2 i))
-        l (kind-tag s p l y ∙ sym (kind-tag s p (CallTemplate n passed) x)) y
-    one-kind ApplyImports l p x y = by-imports (λ z. ApplyImports ≡ z) refl l (kind-tag s p l y ∙ sym (kind-tag s p ApplyImports x))
+        l (kind-kind_number s p l y ∙ sym (kind-kind_number s p (CallTemplate n passed) x)) y
+    one-kind ApplyImports l p x y = by-imports (λ z. ApplyImports ≡ z) refl l (kind-kind_number s p l y ∙ sym (kind-kind_number s p ApplyImports x))
     one-kind (ForEach select sorts body) l p x y =
         by-each (λ k. IsKind s p k → ForEach select sorts body ≡ k)
         (λ select' sorts' body' z i. ForEach
         (one-expr p (said_at s.modules p (codes "select")) select select' x.1 z.1 i)
         (one-sorts p sorts sorts' x.2 z.2 i)
         (one-body body body' (body_at s.modules p) x.3 z.3 i))
-        l (kind-tag s p l y ∙ sym (kind-tag s p (ForEach select sorts body) x)) y
+        l (kind-kind_number s p l y ∙ sym (kind-kind_number s p (ForEach select sorts body) x)) y
     one-kind (ValueOf select) l p x y =
         by-value (λ k. IsKind s p k → ValueOf select ≡ k)
         (λ select' z i. ValueOf (one-expr p (said_at s.modules p (codes "select")) select select' x.1 z.1 i))
-        l (kind-tag s p l y ∙ sym (kind-tag s p (ValueOf select) x)) y
+        l (kind-kind_number s p l y ∙ sym (kind-kind_number s p (ValueOf select) x)) y
     one-kind (CopyOf select) l p x y =
         by-copy-of (λ k. IsKind s p k → CopyOf select ≡ k)
         (λ select' z i. CopyOf (one-expr p (said_at s.modules p (codes "select")) select select' x.1 z.1 i))
-        l (kind-tag s p l y ∙ sym (kind-tag s p (CopyOf select) x)) y
+        l (kind-kind_number s p l y ∙ sym (kind-kind_number s p (CopyOf select) x)) y
     one-kind (Copy sets body) l p x y =
         by-copy (λ k. IsKind s p k → Copy sets body ≡ k)
         (λ sets' body' z i. Copy ((x.1 ∙ sym z.1) i) (one-body body body' (body_at s.modules p) x.2 z.2 i))
-        l (kind-tag s p l y ∙ sym (kind-tag s p (Copy sets body) x)) y
+        l (kind-kind_number s p l y ∙ sym (kind-kind_number s p (Copy sets body) x)) y
     one-kind (Number decl) l p x y =
         by-number (λ k. IsKind s p k → Number decl ≡ k)
         (λ decl' z i. Number (one-number p decl decl' x.1 z.1 i))
-        l (kind-tag s p l y ∙ sym (kind-tag s p (Number decl) x)) y
+        l (kind-kind_number s p l y ∙ sym (kind-kind_number s p (Number decl) x)) y
     one-kind (Choose choice) l p x y =
         by-choose (λ k. IsKind s p k → Choose choice ≡ k)
         (λ choice' z i. Choose (one-choice choice choice' p x.1 z.1 i))
-        l (kind-tag s p l y ∙ sym (kind-tag s p (Choose choice) x)) y
+        l (kind-kind_number s p l y ∙ sym (kind-kind_number s p (Choose choice) x)) y
     one-kind (If test body) l p x y =
         by-if (λ k. IsKind s p k → If test body ≡ k)
         (λ test' body' z i. If
         (one-expr p (said_at s.modules p (codes "test")) test test' x.1 z.1 i)
         (one-body body body' (body_at s.modules p) x.2 z.2 i))
-        l (kind-tag s p l y ∙ sym (kind-tag s p (If test body) x)) y
+        l (kind-kind_number s p l y ∙ sym (kind-kind_number s p (If test body) x)) y
     one-kind (Text bytes) l p x y =
         by-text (λ k. IsKind s p k → Text bytes ≡ k)
         (λ bytes' z i. Text ((x.1 ∙ sym z.1) i))
-        l (kind-tag s p l y ∙ sym (kind-tag s p (Text bytes) x)) y
+        l (kind-kind_number s p l y ∙ sym (kind-kind_number s p (Text bytes) x)) y
     one-kind (Element name sets body) l p x y =
         by-element (λ k. IsKind s p k → Element name sets body ≡ k)
         (λ name' sets' body' z i. Element
         (one-made p name name' x.1 z.1 i)
         ((x.2 ∙ sym z.2) i)
         (one-body body body' (body_at s.modules p) x.3 z.3 i))
-        l (kind-tag s p l y ∙ sym (kind-tag s p (Element name sets body) x)) y
+        l (kind-kind_number s p l y ∙ sym (kind-kind_number s p (Element name sets body) x)) y
     one-kind (Attribute name body) l p x y =
         by-attribute (λ k. IsKind s p k → Attribute name body ≡ k)
         (λ name' body' z i. Attribute (one-made p name name' x.1 z.1 i) (one-body body body' (body_at s.modules p) x.2 z.2 i))
-        l (kind-tag s p l y ∙ sym (kind-tag s p (Attribute name body) x)) y
+        l (kind-kind_number s p l y ∙ sym (kind-kind_number s p (Attribute name body) x)) y
     one-kind (Comment body) l p x y =
         by-comment (λ k. IsKind s p k → Comment body ≡ k)
         (λ body' z i. Comment (one-body body body' (body_at s.modules p) x.1 z.1 i))
-        l (kind-tag s p l y ∙ sym (kind-tag s p (Comment body) x)) y
+        l (kind-kind_number s p l y ∙ sym (kind-kind_number s p (Comment body) x)) y
     one-kind (Pi name body) l p x y =
         by-pi (λ k. IsKind s p k → Pi name body ≡ k)
         (λ name' body' z i. Pi
         (one-value p (said_at s.modules p (codes "name")) name name' x.1 z.1 i)
         (one-body body body' (body_at s.modules p) x.2 z.2 i))
-        l (kind-tag s p l y ∙ sym (kind-tag s p (Pi name body) x)) y
+        l (kind-kind_number s p l y ∙ sym (kind-kind_number s p (Pi name body) x)) y
     one-kind (Message terminate body) l p x y =
         by-message (λ k. IsKind s p k → Message terminate body ≡ k)
         (λ terminate' body' z i. Message ((x.1 ∙ sym z.1) i) (one-body body body' (body_at s.modules p) x.2 z.2 i))
-        l (kind-tag s p l y ∙ sym (kind-tag s p (Message terminate body) x)) y
+        l (kind-kind_number s p l y ∙ sym (kind-kind_number s p (Message terminate body) x)) y
     one-kind (Variable' site name content) l p x y =
         by-variable (λ k. IsKind s p k → Variable' site name content ≡ k)
         (λ site' name' content' z i. Variable' ((x.1 ∙ sym z.1) i) (some_same (sym x.2 ∙ z.2) i) (one-content content content' p x.3 z.3 i))
-        l (kind-tag s p l y ∙ sym (kind-tag s p (Variable' site name content) x)) y
+        l (kind-kind_number s p l y ∙ sym (kind-kind_number s p (Variable' site name content) x)) y
     one-kind (Literal start body) l p x y =
         by-literal (λ k. IsKind s p k → Literal start body ≡ k)
         (λ start' body' z i. Literal (one-start p start start' x.1 z.1 i) (one-body body body' (body_at s.modules p) x.2 z.2 i))
-        l (kind-tag s p l y ∙ sym (kind-tag s p (Literal start body) x)) y
+        l (kind-kind_number s p l y ∙ sym (kind-kind_number s p (Literal start body) x)) y
     one-kind (Extension fallbacks) l p x y =
         by-extension (λ k. IsKind s p k → Extension fallbacks ≡ k)
         (λ fallbacks' z i. Extension (one-fallbacks fallbacks fallbacks' (children_with is_fallback s.modules p) x.1 z.1 i))
-        l (kind-tag s p l y ∙ sym (kind-tag s p (Extension fallbacks) x)) y
+        l (kind-kind_number s p l y ∙ sym (kind-kind_number s p (Extension fallbacks) x)) y
 
     one-body : (c d : Body) (ps : List Place) → IsBody s ps c → IsBody s ps d → c ≡ d
-    one-body (Body' n row) (Body' m rows) ps x y = body-by (Body' n row) (Body' m rows) (instrs n row ∙ one-instrs row rows ps x y ∙ sym (instrs m rows))
+    one-body (Body' n tag) (Body' m tags) ps x y = body-by (Body' n tag) (Body' m tags) (instrs n tag ∙ one-instrs tag tags ps x y ∙ sym (instrs m tags))
 
     one-instrs : {m n : _} (r : Row_of-Instr m) (t : Row_of-Instr n) (ps : List Place) → AreInstrs s ps r → AreInstrs s ps t
         → items-the_row-Instr m r ≡ items-the_row-Instr n t
@@ -281,8 +281,8 @@ module _ (s : Source) where
     one-content (Fragment c) (Fragment d) p x y = ap Fragment (one-body c d (body_at s.modules p) x.2 y.2)
 
     one-passed : (c d : Passed) (ps : List Place) → IsPassed s ps c → IsPassed s ps d → c ≡ d
-    one-passed (Passed' n row) (Passed' m rows) ps x y =
-        passed-by (Passed' n row) (Passed' m rows) (params n row ∙ one-bindings row rows ps x y ∙ sym (params m rows))
+    one-passed (Passed' n tag) (Passed' m tags) ps x y =
+        passed-by (Passed' n tag) (Passed' m tags) (params n tag ∙ one-bindings tag tags ps x y ∙ sym (params m tags))
 
     one-bindings : {m n : _} (r : Row_of-Binding m) (t : Row_of-Binding n) (ps : List Place) → AreBindings s ps r → AreBindings s ps t
         → items-the_row-Binding m r ≡ items-the_row-Binding n t
@@ -296,11 +296,11 @@ module _ (s : Source) where
         ∷ one-bindings others others' ps x.3 y.3 i
 
     one-choice : (c d : Choice) (p : Place) → IsChoice s p c → IsChoice s p d → c ≡ d
-    one-choice (Choice' n row o) (Choice' m rows u) p x y =
-        choice-by (Choice' n row o) (Choice' m rows u)
-        (whens n row o ∙ one-whens row rows (children_with is_when s.modules p) x.0 y.0 ∙ sym (whens m rows u))
-        (ap (λ c. c.otherwise) (outs-Choice' n row o) ∙ one-body o u (first_body s (children_with is_otherwise s.modules p)) x.1 y.1
-        ∙ sym (ap (λ c. c.otherwise) (outs-Choice' m rows u)))
+    one-choice (Choice' n tag o) (Choice' m tags u) p x y =
+        choice-by (Choice' n tag o) (Choice' m tags u)
+        (whens n tag o ∙ one-whens tag tags (children_with is_when s.modules p) x.0 y.0 ∙ sym (whens m tags u))
+        (ap (λ c. c.otherwise) (outs-Choice' n tag o) ∙ one-body o u (first_body s (children_with is_otherwise s.modules p)) x.1 y.1
+        ∙ sym (ap (λ c. c.otherwise) (outs-Choice' m tags u)))
 
     one-whens : {m n : _} (r : Row_of-When m) (t : Row_of-When n) (ps : List Place) → AreWhens s ps r → AreWhens s ps t
         → items-the_row-When m r ≡ items-the_row-When n t
@@ -314,8 +314,8 @@ module _ (s : Source) where
         ∷ one-whens others others' ps x.1 y.1 i
 
     one-fallbacks : (c d : Fallbacks) (ps : List Place) → AreFallbacks s ps c → AreFallbacks s ps d → c ≡ d
-    one-fallbacks (Fallbacks' n row) (Fallbacks' m rows) ps x y =
-        fallbacks-by (Fallbacks' n row) (Fallbacks' m rows) (bodies n row ∙ one-bodies row rows ps x y ∙ sym (bodies m rows))
+    one-fallbacks (Fallbacks' n tag) (Fallbacks' m tags) ps x y =
+        fallbacks-by (Fallbacks' n tag) (Fallbacks' m tags) (bodies n tag ∙ one-bodies tag tags ps x y ∙ sym (bodies m tags))
 
     one-bodies : {m n : _} (r : Row_of-Body m) (t : Row_of-Body n) (ps : List Place) → AreBodies s ps r → AreBodies s ps t
         → items-the_row-Body m r ≡ items-the_row-Body n t
@@ -363,7 +363,7 @@ module _ (s : Source) where
 
   one-template : (p : Place) (t u : Template) → IsTemplate s p t → IsTemplate s p u → t ≡ u
   one-template p t u x y =
-      let rest : Level t u = one-rest (is_template (row_at s.modules p)) p t u x.rest y.rest in
+      let rest : Level t u = one-rest (is_template (tag_at s.modules p)) p t u x.rest y.rest in
       λ i. record {
         site = (x.site ∙ sym y.site) i;
         precedence = (x.precedence ∙ sym y.precedence) i;

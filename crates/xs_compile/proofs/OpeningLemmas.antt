@@ -9,124 +9,124 @@ use Rattle.xs_structure.proofs.TopLemmas.{is_place-true, seen-child}
 use Rattle.xs_compile.proofs.ReachLemmas.{parent-before}
 use Rattle.xs_compile.proofs.ShownLemmas.{IsChildOf, all-children}
 use Rattle.xs_compile.specs.Bodies.{Source, has_select}
-use Rattle.xs_structure.specs.Parts.{children_at, children_with, reading_at, row_at}
-use Rattle.xs_compile.specs.steps.Rows.{is_binding}
+use Rattle.xs_structure.specs.Parts.{children_at, children_with, reading_at, tag_at}
+use Rattle.xs_compile.specs.steps.Tags.{is_binding}
 use Rattle.xs_elements.specs.declared.contents.Content.TheVariants.{SortsAndBody}
 use Rattle.xs_elements.specs.declared.reading.Reading.{Reading}
 use Rattle.xs_elements.specs.declared.reading.Reading.TheVariants.{Known, Literal, Extension}
-use Rattle.xs_elements.specs.declared.rows.Row.{Row}
-use Rattle.xs_elements.specs.declared.rows.Row.TheVariants.{Variable as VariableRow, Param, ForEach as ForEachRow, WithParam, Other}
+use Rattle.xs_elements.specs.declared.tags.Tag.{Tag}
+use Rattle.xs_elements.specs.declared.tags.Tag.TheVariants.{Variable as VariableTag, Param, ForEach as ForEachTag, WithParam, Other}
 use Rattle.xs_elements.specs.Contents.{content_of}
 use Rattle.xs_elements.specs.Reading.{content_at, content_by, is_in_extension, is_seen, reading_by, shows}
-use Rattle.xs_elements.specs.Rows.{is_fallback, is_param, is_sort, is_top_level, row_of}
+use Rattle.xs_elements.specs.Tags.{is_fallback, is_param, is_sort, is_top_level, tag_of}
 use Rattle.xs_static.specs.Faults.{IsFirstFault}
 use Rattle.xs_structure.specs.Modules.{Place, records_at}
 use Rattle.xs_tree.specs.Kinds.{is_child_kind}
 use Rattle.xs_tree.specs.Record.{at, children, is_child, is_place}
 use Rattle.xs_tree.specs.Shape.{IsTree}
 
--- ---- rows
-pub literal-other : (row : Row) (x y : Bool) → reading_by row x y ≡ Literal → row ≡ Other
+-- ---- tags
+pub literal-other : (tag : Tag) (x y : Bool) → reading_by tag x y ≡ Literal → tag ≡ Other
 literal-other Other x y e = refl
-literal-other row x y e = cc (e)
+literal-other tag x y e = cc (e)
 
-pub extension-other : (row : Row) (x y : Bool) → reading_by row x y ≡ Extension → row ≡ Other
+pub extension-other : (tag : Tag) (x y : Bool) → reading_by tag x y ≡ Extension → tag ≡ Other
 extension-other Other x y e = refl
-extension-other row x y e = cc (e)
+extension-other tag x y e = cc (e)
 
-pub binding-known : (row : Row) → is_binding row ≡ true → (x y : Bool) → reading_by row x y ≡ Known
-binding-known VariableRow e x y = refl
+pub binding-known : (tag : Tag) → is_binding tag ≡ true → (x y : Bool) → reading_by tag x y ≡ Known
+binding-known VariableTag e x y = refl
 binding-known Param e x y = refl
 binding-known WithParam e x y = refl
-binding-known row e x y = absurd (false≢true e)
+binding-known tag e x y = absurd (false≢true e)
 
-pub binding-plain : (row : Row) → is_binding row ≡ true → (x y : Bool) → is_plain (content_by (reading_by row x y) row false) ≡ true
-binding-plain VariableRow e x y = refl
+pub binding-plain : (tag : Tag) → is_binding tag ≡ true → (x y : Bool) → is_plain (content_by (reading_by tag x y) tag false) ≡ true
+binding-plain VariableTag e x y = refl
 binding-plain Param e x y = refl
 binding-plain WithParam e x y = refl
-binding-plain row e x y = absurd (false≢true e)
+binding-plain tag e x y = absurd (false≢true e)
 
 -- ---- what a place holds
-pub known-row : (s : Source) (p : Place) (row : Row) → row_at s.modules p ≡ row → ((x y : Bool) → reading_by row x y ≡ Known) → reading_at s.modules p ≡ Known
-known-row s p row e reads =
+pub known-tag : (s : Source) (p : Place) (tag : Tag) → tag_at s.modules p ≡ tag → ((x y : Bool) → reading_by tag x y ≡ Known) → reading_at s.modules p ≡ Known
+known-tag s p tag e reads =
     let rs = records_at s.modules p.0 in
-    ap (λ (r : Row). reading_by r (is_top_level rs p.1) (is_in_extension rs p.1)) e ∙ reads (is_top_level rs p.1) (is_in_extension rs p.1)
+    ap (λ (r : Tag). reading_by r (is_top_level rs p.1) (is_in_extension rs p.1)) e ∙ reads (is_top_level rs p.1) (is_in_extension rs p.1)
 
-content-row : (s : Source) (p : Place) (row : Row) → row_at s.modules p ≡ row
+content-tag : (s : Source) (p : Place) (tag : Tag) → tag_at s.modules p ≡ tag
     → content_at (records_at s.modules p.0) p.1
-    ≡ content_by (reading_by row (is_top_level (records_at s.modules p.0) p.1) (is_in_extension (records_at s.modules p.0) p.1)) row (has_select s p)
-content-row s p row e =
+    ≡ content_by (reading_by tag (is_top_level (records_at s.modules p.0) p.1) (is_in_extension (records_at s.modules p.0) p.1)) tag (has_select s p)
+content-tag s p tag e =
     let rs = records_at s.modules p.0 in
-    ap (λ (r : Row). content_by (reading_by r (is_top_level rs p.1) (is_in_extension rs p.1)) r (has_select s p)) e
+    ap (λ (r : Tag). content_by (reading_by r (is_top_level rs p.1) (is_in_extension rs p.1)) r (has_select s p)) e
 
 module _ (s : Source) (trees : (m : ℕ) → m < length s.modules → IsTree (records_at s.modules m)) (accepted : IsFirstFault s.modules None) where
   abbrev Here : ℕ → Place → Type 0
   Here locals p = At s.modules locals p
 
   -- ---- an element whose children are shown, with a body
-  opens : (locals : ℕ) (p : Place) → Here locals p → ((row : Row) → shows (reading_at s.modules p) row ≡ true)
+  opens : (locals : ℕ) (p : Place) → Here locals p → ((tag : Tag) → shows (reading_at s.modules p) tag ≡ true)
       → is_plain (content_at (records_at s.modules p.0) p.1) ≡ true → Opens s.modules locals p
   opens locals p h shown plain =
       let rs = records_at s.modules p.0 in
       let tree = trees p.0 h.within.«module» in
       let none = passing-none (is_param_in rs p.1) (length rs) (λ k lt. false_from_ne_true (is_param_in rs p.1 k) (λ g.
-      let parts = and_parts (is_child rs p.1 k) (is_param (row_of rs k)) g in
+      let parts = and_parts (is_child rs p.1 k) (is_param (tag_of rs k)) g in
       let parent = is_place-true p.1 (at rs k).parent (and_parts (is_place p.1 (at rs k).parent) (is_child_kind (at rs k).kind) parts.0).0 in
       no-param s.modules accepted p.0 h.within.«module» tree p.1 plain k lt
-      (seen-child rs tree p.1 k lt parent (shown (row_of rs k)) h.seen) parent parts.1)) in
+      (seen-child rs tree p.1 k lt parent (shown (tag_of rs k)) h.seen) parent parts.1)) in
       let enough = h.enough in
       record { within = h.within; seen = h.seen; shown = shown; enough = omega (arith, enough, none); few = h.few }
 
-  shows-known : (p : Place) → reading_at s.modules p ≡ Known → (row : Row) → shows (reading_at s.modules p) row ≡ true
-  shows-known p known row = ap (λ (r : Reading). shows r row) known
+  shows-known : (p : Place) → reading_at s.modules p ≡ Known → (tag : Tag) → shows (reading_at s.modules p) tag ≡ true
+  shows-known p known tag = ap (λ (r : Reading). shows r tag) known
 
-  pub opens-row : (locals : ℕ) (p : Place) (row : Row) → Here locals p → row_at s.modules p ≡ row → ((x y : Bool) → reading_by row x y ≡ Known)
-      → ((x : Bool) → is_plain (content_of row x) ≡ true) → Opens s.modules locals p
-  opens-row locals p row h e reads plain =
+  pub opens-tag : (locals : ℕ) (p : Place) (tag : Tag) → Here locals p → tag_at s.modules p ≡ tag → ((x y : Bool) → reading_by tag x y ≡ Known)
+      → ((x : Bool) → is_plain (content_of tag x) ≡ true) → Opens s.modules locals p
+  opens-tag locals p tag h e reads plain =
       let rs = records_at s.modules p.0 in
-      opens locals p h (shows-known p (known-row s p row e reads))
-      (ap is_plain (content-row s p row e)
-      ∙ ap (λ (r : Reading). is_plain (content_by r row (has_select s p))) (reads (is_top_level rs p.1) (is_in_extension rs p.1)) ∙ plain (has_select s p))
+      opens locals p h (shows-known p (known-tag s p tag e reads))
+      (ap is_plain (content-tag s p tag e)
+      ∙ ap (λ (r : Reading). is_plain (content_by r tag (has_select s p))) (reads (is_top_level rs p.1) (is_in_extension rs p.1)) ∙ plain (has_select s p))
 
-  pub opens-binding : (locals : ℕ) (p : Place) → Here locals p → is_binding (row_at s.modules p) ≡ true → has_select s p ≡ false → Opens s.modules locals p
+  pub opens-binding : (locals : ℕ) (p : Place) → Here locals p → is_binding (tag_at s.modules p) ≡ true → has_select s p ≡ false → Opens s.modules locals p
   opens-binding locals p h e none =
       let rs = records_at s.modules p.0 in
-      let row = row_at s.modules p in
-      opens locals p h (shows-known p (binding-known row e (is_top_level rs p.1) (is_in_extension rs p.1)))
-      (ap (λ (x : Bool). is_plain (content_by (reading_at s.modules p) row x)) none ∙ binding-plain row e (is_top_level rs p.1) (is_in_extension rs p.1))
+      let tag = tag_at s.modules p in
+      opens locals p h (shows-known p (binding-known tag e (is_top_level rs p.1) (is_in_extension rs p.1)))
+      (ap (λ (x : Bool). is_plain (content_by (reading_at s.modules p) tag x)) none ∙ binding-plain tag e (is_top_level rs p.1) (is_in_extension rs p.1))
 
   pub opens-literal : (locals : ℕ) (p : Place) → Here locals p → reading_at s.modules p ≡ Literal → Opens s.modules locals p
   opens-literal locals p h e =
       let rs = records_at s.modules p.0 in
-      let other = literal-other (row_at s.modules p) (is_top_level rs p.1) (is_in_extension rs p.1) e in
-      opens locals p h (λ row. ap (λ (r : Reading). shows r row) e)
-      (ap (λ (r : Reading). is_plain (content_by r (row_at s.modules p) (has_select s p))) e
-      ∙ ap (λ (r : Row). is_plain (content_by Literal r (has_select s p))) other)
+      let other = literal-other (tag_at s.modules p) (is_top_level rs p.1) (is_in_extension rs p.1) e in
+      opens locals p h (λ tag. ap (λ (r : Reading). shows r tag) e)
+      (ap (λ (r : Reading). is_plain (content_by r (tag_at s.modules p) (has_select s p))) e
+      ∙ ap (λ (r : Tag). is_plain (content_by Literal r (has_select s p))) other)
 
   -- ---- children of a kind, at which no more is visible than at their element
-  pub record Part (locals : ℕ) (kind : Row → Bool) (q : Place) : Type 0 where
+  pub record Part (locals : ℕ) (kind : Tag → Bool) (q : Place) : Type 0 where
     pub here : Here locals q
-    pub row : kind (row_at s.modules q) ≡ true
+    pub tag : kind (tag_at s.modules q) ≡ true
 
-  parts : (locals : ℕ) (p : Place) (kind : Row → Bool) → Here locals p → ((row : Row) → kind row ≡ true → shows (reading_at s.modules p) row ≡ true)
+  parts : (locals : ℕ) (p : Place) (kind : Tag → Bool) → Here locals p → ((tag : Tag) → kind tag ≡ true → shows (reading_at s.modules p) tag ≡ true)
       → ((k : ℕ) → IsChildOf (records_at s.modules p.0) p.1 k → is_seen (records_at s.modules p.0) k ≡ true
-      → kind (row_at s.modules (p.0, k)) ≡ true → (b : ℕ) → b < k → is_own (records_at s.modules p.0) p.1 b ≡ true → ⊥)
+      → kind (tag_at s.modules (p.0, k)) ≡ true → (b : ℕ) → b < k → is_own (records_at s.modules p.0) p.1 b ≡ true → ⊥)
       → All (Part locals kind) (children_with kind s.modules p)
   parts locals p kind h shown none =
       all-among (Part locals kind) (children_with kind s.modules p) (λ q g.
-      let kept = among-kept (λ x. kind (row_at s.modules x)) q (children_at s.modules p) g in
+      let kept = among-kept (λ x. kind (tag_at s.modules x)) q (children_at s.modules p) g in
       let of = among-mapped (λ k. (p.0, k)) q (children (records_at s.modules p.0) p.1) kept.0 in
       let child = among-all (IsChildOf (records_at s.modules p.0) p.1) (children (records_at s.modules p.0) p.1) of.item
       (all-children (records_at s.modules p.0) p.1) of.among in
       subst (Part locals kind) of.is
-      (part-at of.item child (subst (λ (x : Place). kind (row_at s.modules x) ≡ true) (sym of.is) kept.1)))
+      (part-at of.item child (subst (λ (x : Place). kind (tag_at s.modules x) ≡ true) (sym of.is) kept.1)))
     where
-      part-at : (k : ℕ) → IsChildOf (records_at s.modules p.0) p.1 k → kind (row_at s.modules (p.0, k)) ≡ true → Part locals kind (p.0, k)
-      part-at k child row =
+      part-at : (k : ℕ) → IsChildOf (records_at s.modules p.0) p.1 k → kind (tag_at s.modules (p.0, k)) ≡ true → Part locals kind (p.0, k)
+      part-at k child tag =
           let rs = records_at s.modules p.0 in
           let tree = trees p.0 h.within.«module» in
-          let seen = seen-child rs tree p.1 k child.inside child.parent (shown (row_of rs k) row) h.seen in
-          let visible = visible-same rs tree p.1 k child.inside child.parent (none k child seen row) in
+          let seen = seen-child rs tree p.1 k child.inside child.parent (shown (tag_of rs k) tag) h.seen in
+          let visible = visible-same rs tree p.1 k child.inside child.parent (none k child seen tag) in
           let behind = parent-before rs tree k p.1 child.inside child.parent in
           let enough = h.enough in
           let few = h.few in
@@ -137,29 +137,29 @@ module _ (s : Source) (trees : (m : ℕ) → m < length s.modules → IsTree (re
               enough = omega (arith, visible, enough);
               few = omega (arith, few, behind);
             };
-            row = row;
+            tag = tag;
           }
 
   -- where no binding may stand in the element
-  pub parts-without : (locals : ℕ) (p : Place) (row : Row) (kind : Row → Bool) → Here locals p → row_at s.modules p ≡ row
-      → ((x y : Bool) → reading_by row x y ≡ Known) → ((x : Bool) → is_without (content_of row x) ≡ true)
+  pub parts-without : (locals : ℕ) (p : Place) (tag : Tag) (kind : Tag → Bool) → Here locals p → tag_at s.modules p ≡ tag
+      → ((x y : Bool) → reading_by tag x y ≡ Known) → ((x : Bool) → is_without (content_of tag x) ≡ true)
       → All (Part locals kind) (children_with kind s.modules p)
-  parts-without locals p row kind h e reads without =
+  parts-without locals p tag kind h e reads without =
       let rs = records_at s.modules p.0 in
-      let known = known-row s p row e reads in
+      let known = known-tag s p tag e reads in
       let held : is_without (content_at rs p.1) ≡ true =
-      ap is_without (content-row s p row e)
-      ∙ ap (λ (r : Reading). is_without (content_by r row (has_select s p))) (reads (is_top_level rs p.1) (is_in_extension rs p.1)) ∙ without
+      ap is_without (content-tag s p tag e)
+      ∙ ap (λ (r : Reading). is_without (content_by r tag (has_select s p))) (reads (is_top_level rs p.1) (is_in_extension rs p.1)) ∙ without
       (has_select s p) in
       parts locals p kind h (λ child f. shows-known p known child)
       (λ k child seen f b lt. none-held s.modules accepted p.0 h.within.«module» (trees p.0 h.within.«module») p.1 held b
       (let inside = child.inside in omega (arith, lt, inside)))
 
-  pub loop-sorts : (locals : ℕ) (p : Place) → Here locals p → row_at s.modules p ≡ ForEachRow → All (Part locals is_sort) (children_with is_sort s.modules p)
+  pub loop-sorts : (locals : ℕ) (p : Place) → Here locals p → tag_at s.modules p ≡ ForEachTag → All (Part locals is_sort) (children_with is_sort s.modules p)
   loop-sorts locals p h e =
       let rs = records_at s.modules p.0 in
-      let known = known-row s p ForEachRow e (λ x y. refl) in
-      let content : content_at rs p.1 ≡ SortsAndBody = content-row s p ForEachRow e in
+      let known = known-tag s p ForEachTag e (λ x y. refl) in
+      let content : content_at rs p.1 ≡ SortsAndBody = content-tag s p ForEachTag e in
       parts locals p is_sort h (λ child f. shows-known p known child)
       (λ k child seen f. none-before-sort s.modules accepted p.0 h.within.«module» (trees p.0 h.within.«module») p.1 content k child.inside seen child.parent f)
 

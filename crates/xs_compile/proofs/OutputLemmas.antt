@@ -7,7 +7,7 @@ use Rattle.xs_compile.proofs.CountedLemmas.{of-three}
 use Rattle.xs_compile.specs.Counted.{counted, greater}
 use Rattle.xs_compile.specs.Output.{has_method, is_output, method, method_named}
 use Rattle.xs_structure.specs.Order.{declarations}
-use Rattle.xs_structure.specs.Parts.{row_at, said_at, value_at}
+use Rattle.xs_structure.specs.Parts.{tag_at, said_at, value_at}
 use Rattle.xs_compile.specs.steps.Output.{of_two, output_in}
 use Rattle.xs_modules.specs.Numbering.{ModuleData}
 use Rattle.xs_sheet.specs.declared.declarations.Method.{Method}
@@ -29,7 +29,7 @@ with_rest ms (Some a) (Some p) = Some (of_other a (said_by ms p))
 
 -- those that say a method
 abbrev pub sayers : List ModuleData → List Place → List Place
-sayers ms ps = filter (has_method ms) (filter (λ p. is_output (row_at ms p)) ps)
+sayers ms ps = filter (has_method ms) (filter (λ p. is_output (tag_at ms p)) ps)
 
 module _ (ms : List ModuleData) where
   left-if : (a b c : ℕ × Method) (t : Bool) → of_other (if t then a else b) c ≡ (if t then of_other a c else of_other b c)
@@ -77,10 +77,10 @@ module _ (ms : List ModuleData) where
   in_if so_far p is_out value = option_map_or (of_two (precedence_at ms p.0) so_far) (said_if is_out value) so_far
 
   abbrev outputs : List Place → List Place
-  outputs ps = filter (λ p. is_output (row_at ms p)) ps
+  outputs ps = filter (λ p. is_output (tag_at ms p)) ps
 
   passed : (so_far new whole : Option (ℕ × Method)) (p : Place) (ps : List Place) (b : Bool) (v : Option (List ℕ))
-      → is_output (row_at ms p) ≡ b → value_at ms p (codes "method") ≡ v → new ≡ output_in ms so_far p
+      → is_output (tag_at ms p) ≡ b → value_at ms p (codes "method") ≡ v → new ≡ output_in ms so_far p
       → with_rest ms so_far (counted ms (sayers ms (p ∷ ps))) ≡ whole → with_rest ms new (counted ms (sayers ms ps)) ≡ whole
   passed so_far new whole p ps false v e f h w =
       ap (λ (o : Option (ℕ × Method)). with_rest ms o (counted ms (sayers ms ps)))
@@ -104,17 +104,17 @@ module _ (ms : List ModuleData) where
 
   pub output_more : (so_far new whole : Option (ℕ × Method)) (p : Place) (ps : List Place) → new ≡ output_in ms so_far p
       → with_rest ms so_far (counted ms (sayers ms (p ∷ ps))) ≡ whole → with_rest ms new (counted ms (sayers ms ps)) ≡ whole
-  output_more so_far new whole p ps = passed so_far new whole p ps (is_output (row_at ms p)) (value_at ms p (codes "method")) refl refl
+  output_more so_far new whole p ps = passed so_far new whole p ps (is_output (tag_at ms p)) (value_at ms p (codes "method")) refl refl
 
   -- all were passed
-  told : (c : Option Place) → option_map_or (λ a. a.1) (with_rest ms None c) Pyx
+  reported : (c : Option Place) → option_map_or (λ a. a.1) (with_rest ms None c) Pyx
       ≡ option_map_or (λ p. method_named (said_at ms p (codes "method"))) c Pyx
-  told None = refl
-  told (Some p) = refl
+  reported None = refl
+  reported (Some p) = refl
 
   output_end : (so_far : Option (ℕ × Method)) (c : Option Place) → with_rest ms so_far None ≡ with_rest ms None c
       → option_map_or (λ a. a.1) so_far Pyx ≡ option_map_or (λ p. method_named (said_at ms p (codes "method"))) c Pyx
-  output_end so_far c e = ap (λ (o : Option (ℕ × Method)). option_map_or (λ a. a.1) o Pyx) e ∙ told c
+  output_end so_far c e = ap (λ (o : Option (ℕ × Method)). option_map_or (λ a. a.1) o Pyx) e ∙ reported c
 
   -- the method, where all were passed
   pub output_is : (so_far : Option (ℕ × Method)) (places : List Place) (i : ℕ) → length places ≤ i → places ≡ declarations ms

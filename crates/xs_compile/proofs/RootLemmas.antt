@@ -6,7 +6,7 @@ use Rattle.std.proofs.Math.Path.{fun_ext}
 use Rattle.std.specs.List.{All, slice_get}
 use Rattle.std.specs.Option.{option_map_or}
 use Rattle.std.specs.Prelude.{◌&&◌}
-use Rattle.xs_compile.specs.StandsFor.{is_root_element, root_line}
+use Rattle.xs_compile.specs.Represents.{is_root_element, root_line}
 use Rattle.xs_modules.specs.Numbering.{ModuleData}
 use Rattle.xs_tree.specs.declared.kinds.Kind.{Kind}
 use Rattle.xs_tree.specs.declared.kinds.Kind.TheVariants.{Root, Element, Attribute, Space, Text, Comment, Pi}

@@ -9,10 +9,10 @@ use Rattle.std.specs.Str.{bytes_eq}
 use Rattle.xs_compile.proofs.CleanLemmas.{shows-none}
 use Rattle.xs_structure.proofs.TopLemmas.{is_place-true}
 use Rattle.xs_structure.specs.Places.{IsIn}
-use Rattle.xs_elements.specs.declared.rows.Row.{Row}
-use Rattle.xs_elements.specs.declared.rows.Row.TheVariants.{Other, NoElement}
+use Rattle.xs_elements.specs.declared.tags.Tag.{Tag}
+use Rattle.xs_elements.specs.declared.tags.Tag.TheVariants.{Other, NoElement}
 use Rattle.xs_elements.specs.Reading.{is_seen}
-use Rattle.xs_elements.specs.Rows.{is_document_element, is_sheet, is_stylesheet, is_top_level, row_named, row_of, xslt_uri}
+use Rattle.xs_elements.specs.Tags.{is_document_element, is_sheet, is_stylesheet, is_top_level, tag_named, tag_of, xslt_uri}
 use Rattle.xs_modules.specs.Numbering.{ModuleData}
 use Rattle.xs_static.specs.Faults.{IsFirstFault, misplaced}
 use Rattle.xs_structure.specs.Modules.{records_at}
@@ -44,7 +44,7 @@ pub child-behind : (rs : List Record) → IsTree rs → (n k : ℕ) → IsChildO
 child-behind rs tree n k c = (IsPlaced-at rs k n tree c.inside c.parent).before
 
 -- a child is of the top level where its parent is a stylesheet's element
-pub inner-child : (rs : List Record) (n k : ℕ) → (at rs k).parent ≡ Some n → is_stylesheet (row_of rs n) ≡ false → is_top_level rs k ≡ false
+pub inner-child : (rs : List Record) (n k : ℕ) → (at rs k).parent ≡ Some n → is_stylesheet (tag_of rs n) ≡ false → is_top_level rs k ≡ false
 inner-child rs n k parent other =
     ap (λ (o : Option ℕ). option_map_or (is_sheet rs) o false) parent ∙ ap (λ (b : Bool). b && is_document_element rs n) other
 
@@ -54,16 +54,16 @@ not-false true e = refl
 not-false false e = absurd (true≢false e)
 
 -- the root is no element
-pub root-other : (rs : List Record) → IsTree rs → row_of rs 0 ≡ NoElement
-root-other rs tree = ap (λ (r : Record). row_by (is_element_kind r.kind)) tree.first
+pub root-other : (rs : List Record) → IsTree rs → tag_of rs 0 ≡ NoElement
+root-other rs tree = ap (λ (r : Record). tag_by (is_element_kind r.kind)) tree.first
   where
-    row_by : Bool → Row
-    row_by b = if b then (if bytes_eq (uri_at rs 0) xslt_uri then row_named (local_at rs 0) else Other) else NoElement
+    tag_by : Bool → Tag
+    tag_by b = if b then (if bytes_eq (uri_at rs 0) xslt_uri then tag_named (local_at rs 0) else Other) else NoElement
 
 -- an element that its parent has as its content stands where it may
 pub child-stands : (ms : List ModuleData) → IsFirstFault ms None → (m n k : ℕ) → IsTree (records_at ms m) → IsIn ms (m, k)
     → is_seen (records_at ms m) k ≡ true → is_element_kind (at (records_at ms m) k).kind ≡ true → (at (records_at ms m) k).parent ≡ Some n
-    → (row_of (records_at ms m) n ≡ NoElement → ⊥) → stands_in (records_at ms m) n k ≡ true
+    → (tag_of (records_at ms m) n ≡ NoElement → ⊥) → stands_in (records_at ms m) n k ≡ true
 child-stands ms accepted m n k tree within seen element parent outer =
     let rs = records_at ms m in
     let clean = shows-none ms accepted misplaced (m, k) within element (λ h. h) seen in
@@ -74,6 +74,6 @@ child-stands ms accepted m n k tree within seen element parent outer =
   where
     by_place : (b : Bool) → (n == 0) ≡ b → (not (n == 0) && not (stands_in (records_at ms m) n k)) ≡ false → stands_in (records_at ms m) n k ≡ true
     by_place true e h =
-        absurd (outer (subst (λ x. row_of (records_at ms m) x ≡ NoElement) (sym (eqb-true n 0 e)) (root-other (records_at ms m) tree)))
+        absurd (outer (subst (λ x. tag_of (records_at ms m) x ≡ NoElement) (sym (eqb-true n 0 e)) (root-other (records_at ms m) tree)))
     by_place false e h =
         not-false (stands_in (records_at ms m) n k) (sym (ap (λ (b : Bool). not b && not (stands_in (records_at ms m) n k)) e) ∙ h)

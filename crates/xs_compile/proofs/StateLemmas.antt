@@ -12,7 +12,7 @@ use Rattle.xs_compile.specs.Locals.{AreLocals, IsApart}
 use Rattle.xs_compile.specs.steps.Tables.{HasLocals}
 use Rattle.xs_elements.specs.Nodes.{own_name}
 use Rattle.xs_elements.specs.Reading.{is_seen}
-use Rattle.xs_elements.specs.Rows.{is_top_level, is_variable, row_of}
+use Rattle.xs_elements.specs.Tags.{is_top_level, is_variable, tag_of}
 use Rattle.xs_modules.specs.Numbering.{ModuleData}
 use Rattle.xs_structure.specs.Bindings.{is_local, has_binding, shadows}
 use Rattle.xs_static.specs.Faults.{IsFirstFault, shadowing}
@@ -52,7 +52,7 @@ standings-in items = table-in (λ rs. map (standing_of rs) (places rs)) items
 
 -- ---- no local binding shadows another one
 -- an element that binds a variable is one
-pub variable-element : (rs : List Record) (n : ℕ) → is_variable (row_of rs n) ≡ true → is_element_kind (at rs n).kind ≡ true
+pub variable-element : (rs : List Record) (n : ℕ) → is_variable (tag_of rs n) ≡ true → is_element_kind (at rs n).kind ≡ true
 variable-element rs n h = by_kind (is_element_kind (at rs n).kind) refl
   where
     by_kind : (b : Bool) → is_element_kind (at rs n).kind ≡ b → is_element_kind (at rs n).kind ≡ true
@@ -64,9 +64,9 @@ apart-at ms accepted m lt b inside =
     let rs = records_at ms m in
     false_from_ne_true (shadows rs b) (λ h.
     let local = (and_parts (is_local rs b) (option_map_or (has_binding rs b) (own_name rs b) false) h).0 in
-    let seen = (and_parts (is_variable (row_of rs b) && not (is_top_level rs b)) (is_seen rs b) local).1 in
-    let variable = (and_parts (is_variable (row_of rs b)) (not (is_top_level rs b))
-    (and_parts (is_variable (row_of rs b) && not (is_top_level rs b)) (is_seen rs b)
+    let seen = (and_parts (is_variable (tag_of rs b) && not (is_top_level rs b)) (is_seen rs b) local).1 in
+    let variable = (and_parts (is_variable (tag_of rs b)) (not (is_top_level rs b))
+    (and_parts (is_variable (tag_of rs b) && not (is_top_level rs b)) (is_seen rs b)
     local).0).0 in
     no-fault ms accepted shadowing (m, b) (record { «module» = lt; node = inside }) (variable-element rs b variable)
     (and_from (is_seen rs b) (shadows rs b) seen h))

@@ -12,7 +12,7 @@ use Rattle.xs_structure.proofs.DeclarationLemmas.{place-same, same-place}
 use Rattle.xs_structure.specs.Order.{declarations, declares}
 use Rattle.xs_compile.specs.steps.Counting.{is_called}
 use Rattle.xs_elements.specs.Nodes.{Name}
-use Rattle.xs_elements.specs.Rows.{is_template}
+use Rattle.xs_elements.specs.Tags.{is_template}
 use Rattle.xs_modules.specs.Numbering.{ModuleData}
 use Rattle.xs_structure.specs.Modules.{Place, is_same_place, precedence_at}
 

@@ -1,4 +1,4 @@
--- The attribute sets that a compiled body uses are named by the elements that it stands for.
+-- The attribute sets that a compiled body uses are named by the elements that it represents.
 use Rattle.std.proofs.Common.{◌≡◌, ◌∙◌, ◌<◌, ◌==◌, ℕ, ap, refl, sym, subst, arith, All, List, [], ◌∷◌, ◌++◌, filter, length, Bool, true, false, Option, Some, None, ◌⊎◌, inl, inr, eqb-true}
 use Rattle.std.proofs.lemmas.Bool.{and_from, and_parts, false≢true, or_cases, or_parts, or_right, true≢false}
 use Rattle.std.proofs.lemmas.List.Elements.{All-filter, All-head, All-map, All-nil, All-tail, filter_passes}
@@ -14,17 +14,17 @@ use Rattle.xs_compile.proofs.CleanLemmas.{read-known, read-literal, shows-none, 
 use Rattle.xs_compile.proofs.ReachLemmas.{inside-of, inside-to, within-more, within-parent}
 use Rattle.xs_compile.specs.Bodies.{AreBindings, AreBodies, AreFallbacks, AreInstrs, AreWhens, IsBody, IsChoice, IsContent, IsKind, IsPassed, Source, first_body, is_otherwise}
 use Rattle.xs_compile.specs.Labels.{label_in, label_of, labels_in}
-use Rattle.xs_structure.specs.Parts.{body_at, children_at, children_with, is_in_body, pairs_at, reading_at, row_at}
+use Rattle.xs_structure.specs.Parts.{body_at, children_at, children_with, is_in_body, pairs_at, reading_at, tag_at}
 use Rattle.xs_elements.specs.declared.forms.Form.{Form}
 use Rattle.xs_elements.specs.declared.forms.Form.TheVariants.{Sets}
 use Rattle.xs_elements.specs.declared.reading.Reading.{Reading}
 use Rattle.xs_elements.specs.declared.reading.Reading.TheVariants.{Known, Literal}
-use Rattle.xs_elements.specs.declared.rows.Row.{Row}
-use Rattle.xs_elements.specs.declared.rows.Row.TheVariants.{Variable as VariableRow, ApplyTemplates as ApplyTemplatesRow, CallTemplate as CallTemplateRow, ForEach as ForEachRow, Copy as CopyRow, Choose as ChooseRow, When, Otherwise, If as IfRow, Element as ElementRow, Attribute as AttributeRow, Comment as CommentRow, ProcessingInstruction as PiRow, Message as MessageRow, Fallback, WithParam, Other, NoElement}
+use Rattle.xs_elements.specs.declared.tags.Tag.{Tag}
+use Rattle.xs_elements.specs.declared.tags.Tag.TheVariants.{Variable as VariableTag, ApplyTemplates as ApplyTemplatesTag, CallTemplate as CallTemplateTag, ForEach as ForEachTag, Copy as CopyTag, Choose as ChooseTag, When, Otherwise, If as IfTag, Element as ElementTag, Attribute as AttributeTag, Comment as CommentTag, ProcessingInstruction as PiTag, Message as MessageTag, Fallback, WithParam, Other, NoElement}
 use Rattle.xs_elements.specs.Contents.{is_with_param}
 use Rattle.xs_elements.specs.Nodes.{Name, expanded, if_bound, scope_at, value_of}
 use Rattle.xs_elements.specs.Reading.{form_by, has_read_attributes, is_in_extension, is_seen, reading_by, reading_of, shows}
-use Rattle.xs_elements.specs.Rows.{is_fallback, is_top_level, is_when, row_named, row_of, xslt_uri}
+use Rattle.xs_elements.specs.Tags.{is_fallback, is_top_level, is_when, tag_named, tag_of, xslt_uri}
 use Rattle.xs_elements.specs.Values.{is_unbound, is_unbound_name}
 use Rattle.xs_elements.specs.WhiteSpace.{words}
 use Rattle.xs_sheet.specs.declared.body.Body.{Body, Body', Row_of-Instr, end_of-Instr, more_of-Instr}
@@ -48,7 +48,7 @@ use Rattle.xs_tree.specs.Record.{Record, at, attributes, children, is_inside, lo
 use Rattle.xs_tree.specs.Shape.{IsTree}
 use Rattle.xs_xpath.specs.Names.{is_bound, uri_of}
 
-abbrev pub is_no_element : Row → Bool
+abbrev pub is_no_element : Tag → Bool
 is_no_element NoElement = true
 is_no_element _ = false
 
@@ -125,12 +125,12 @@ module _ (s : Source) (trees : (m : ℕ) → m < length s.modules → IsTree (re
   -- and all its children are looked at
   pub record Shown (p : Place) : Type 0 where
     pub held : Held p
-    pub shows_all : (row : Row) → shows (reading_at s.modules p) row ≡ true
+    pub shows_all : (tag : Tag) → shows (reading_at s.modules p) tag ≡ true
 
   abbrev is_own_or_inside : ℕ → Bool
   is_own_or_inside k = k == a || is_inside rs a k
 
-  child-part : (n k : ℕ) → n < length rs → is_part rs a n ≡ true → IsChildOf rs n k → shows (reading_of rs n) (row_of rs k) ≡ true → is_part rs a k ≡ true
+  child-part : (n k : ℕ) → n < length rs → is_part rs a n ≡ true → IsChildOf rs n k → shows (reading_of rs n) (tag_of rs k) ≡ true → is_part rs a k ≡ true
   child-part n k inside part child shown =
       let tree = trees m known in
       let both = and_parts (is_own_or_inside n) (is_seen rs n) part in
@@ -153,7 +153,7 @@ module _ (s : Source) (trees : (m : ℕ) → m < length s.modules → IsTree (re
       All-map (IsChildPlace p) (λ k. (p.0, k)) (children (records_at s.modules p.0) p.1)
       (λ i d h. record { node = _; place = refl; child = all-children (records_at s.modules p.0) p.1 i d h })
 
-  held-child : (p q : Place) → Held p → IsChildPlace p q → shows (reading_at s.modules p) (row_at s.modules q) ≡ true → Held q
+  held-child : (p q : Place) → Held p → IsChildPlace p q → shows (reading_at s.modules p) (tag_at s.modules q) ≡ true → Held q
   held-child p q h c shown =
       let at : q ≡ (m, c.node) = c.place ∙ ap (λ (x : Place). (x.0, c.node)) h.place in
       let child : IsChildOf rs h.node c.node = subst (λ (x : Place). IsChildOf (records_at s.modules x.0) x.1 c.node) h.place c.child in
@@ -162,57 +162,57 @@ module _ (s : Source) (trees : (m : ℕ) → m < length s.modules → IsTree (re
         place = at;
         inside = child.inside;
         part = child-part h.node c.node h.inside h.part child
-            (subst (λ (x : Place). shows (reading_at s.modules x) (row_of rs c.node) ≡ true) h.place
-            (subst (λ (x : Place). shows (reading_at s.modules p) (row_at s.modules x) ≡ true) at shown));
+            (subst (λ (x : Place). shows (reading_at s.modules x) (tag_of rs c.node) ≡ true) h.place
+            (subst (λ (x : Place). shows (reading_at s.modules p) (tag_at s.modules x) ≡ true) at shown));
       }
 
   -- those of its children that pass a test, where it shows them
   held-passing : (p : Place) (test : Place → Bool) → Held p
-      → ((q : Place) → test q ≡ true → shows (reading_at s.modules p) (row_at s.modules q) ≡ true) → All Held (filter test (children_at s.modules p))
+      → ((q : Place) → test q ≡ true → shows (reading_at s.modules p) (tag_at s.modules q) ≡ true) → All Held (filter test (children_at s.modules p))
   held-passing p test h shown = λ i d lt.
       held-child p _ h (All-filter test (IsChildPlace p) (children_at s.modules p) (child-places p) i d lt)
       (shown _ (filter_passes test (children_at s.modules p) i d lt))
 
   body-held : (p : Place) → Shown p → All Held (body_at s.modules p)
-  body-held p h = held-passing p (is_in_body s.modules p) h.held (λ q e. h.shows_all (row_at s.modules q))
+  body-held p h = held-passing p (is_in_body s.modules p) h.held (λ q e. h.shows_all (tag_at s.modules q))
 
   -- a place whose element is of XSLT shows all its children
-  known-shown : (p : Place) (row : Row) → Held p → row_at s.modules p ≡ row → ((x y : Bool) → reading_by row x y ≡ Known) → Shown p
-  known-shown p row h e reads =
-      let rows = records_at s.modules p.0 in
+  known-shown : (p : Place) (tag : Tag) → Held p → tag_at s.modules p ≡ tag → ((x y : Bool) → reading_by tag x y ≡ Known) → Shown p
+  known-shown p tag h e reads =
+      let tags = records_at s.modules p.0 in
       let read : reading_at s.modules p ≡ Known =
-      ap (λ (r : Row). reading_by r (is_top_level rows p.1) (is_in_extension rows p.1)) e ∙ reads (is_top_level rows p.1) (is_in_extension rows p.1) in
+      ap (λ (r : Tag). reading_by r (is_top_level tags p.1) (is_in_extension tags p.1)) e ∙ reads (is_top_level tags p.1) (is_in_extension tags p.1) in
       record { held = h; shows_all = λ child. ap (λ (r : Reading). shows r child) read }
 
   literal-shown : (p : Place) → Held p → reading_at s.modules p ≡ Literal → Shown p
   literal-shown p h read = record { held = h; shows_all = λ child. ap (λ (r : Reading). shows r child) read }
 
   -- children of a kind of XSLT
-  shown-with : (p : Place) (kind : Row → Bool) → Held p → ((row : Row) → kind row ≡ true → shows (reading_at s.modules p) row ≡ true)
-      → ((row : Row) → kind row ≡ true → (x y : Bool) → reading_by row x y ≡ Known) → All Shown (children_with kind s.modules p)
+  shown-with : (p : Place) (kind : Tag → Bool) → Held p → ((tag : Tag) → kind tag ≡ true → shows (reading_at s.modules p) tag ≡ true)
+      → ((tag : Tag) → kind tag ≡ true → (x y : Bool) → reading_by tag x y ≡ Known) → All Shown (children_with kind s.modules p)
   shown-with p kind h shown reads = λ i d lt.
-      known-shown _ (row_at s.modules _)
-      (held-passing p (λ q. kind (row_at s.modules q)) h (λ q e. shown (row_at s.modules q) e) i d lt) refl
-      (reads (row_at s.modules _) (filter_passes (λ q. kind (row_at s.modules q)) (children_at s.modules p) i d lt))
+      known-shown _ (tag_at s.modules _)
+      (held-passing p (λ q. kind (tag_at s.modules q)) h (λ q e. shown (tag_at s.modules q) e) i d lt) refl
+      (reads (tag_at s.modules _) (filter_passes (λ q. kind (tag_at s.modules q)) (children_at s.modules p) i d lt))
 
-  param-known : (row : Row) → is_with_param row ≡ true → (x y : Bool) → reading_by row x y ≡ Known
+  param-known : (tag : Tag) → is_with_param tag ≡ true → (x y : Bool) → reading_by tag x y ≡ Known
   param-known WithParam e x y = refl
-  param-known row e x y = absurd (false≢true e)
+  param-known tag e x y = absurd (false≢true e)
 
   params-shown : (p : Place) → Shown p → All Shown (children_with is_with_param s.modules p)
-  params-shown p h = shown-with p is_with_param h.held (λ row e. h.shows_all row) param-known
+  params-shown p h = shown-with p is_with_param h.held (λ tag e. h.shows_all tag) param-known
 
-  when-known : (row : Row) → is_when row ≡ true → (x y : Bool) → reading_by row x y ≡ Known
+  when-known : (tag : Tag) → is_when tag ≡ true → (x y : Bool) → reading_by tag x y ≡ Known
   when-known When e x y = refl
-  when-known row e x y = absurd (false≢true e)
+  when-known tag e x y = absurd (false≢true e)
 
-  otherwise-known : (row : Row) → is_otherwise row ≡ true → (x y : Bool) → reading_by row x y ≡ Known
+  otherwise-known : (tag : Tag) → is_otherwise tag ≡ true → (x y : Bool) → reading_by tag x y ≡ Known
   otherwise-known Otherwise e x y = refl
-  otherwise-known row e x y = absurd (false≢true e)
+  otherwise-known tag e x y = absurd (false≢true e)
 
-  fallback-known : (row : Row) → is_fallback row ≡ true → (x y : Bool) → reading_by row x y ≡ Known
+  fallback-known : (tag : Tag) → is_fallback tag ≡ true → (x y : Bool) → reading_by tag x y ≡ Known
   fallback-known Fallback e x y = refl
-  fallback-known row e x y = absurd (false≢true e)
+  fallback-known tag e x y = absurd (false≢true e)
 
   first-held : (ps : List Place) → All Shown ps → All Held (first_body s ps)
   first-held [] h = All-nil Held
@@ -226,7 +226,7 @@ module _ (s : Source) (trees : (m : ℕ) → m < length s.modules → IsTree (re
   abbrev local : List ℕ
   local = codes "use-attribute-sets"
 
-  own-covers : (k : ℕ) (o : Option (List ℕ)) → sets_value (row_of rs k) rs k ≡ o
+  own-covers : (k : ℕ) (o : Option (List ℕ)) → sets_value (tag_of rs k) rs k ≡ o
       → ((value : List ℕ) → o ≡ Some value → list_any (is_unbound_name (scope_at rs k)) (words value) ≡ false)
       → Covers (named_sets rs k) (labels_in (scope_at rs k) o)
   own-covers k o e bound =
@@ -246,7 +246,7 @@ module _ (s : Source) (trees : (m : ℕ) → m < length s.modules → IsTree (re
     read : has_read_attributes rs k ≡ true
 
   bound-value : (k : ℕ) → k < length rs → is_seen rs k ≡ true → IsRead k → (uri value : List ℕ) → value_of rs k uri local ≡ Some value
-      → form_by (reading_of rs k) (row_of rs k) uri local ≡ Some Sets → is_unbound Sets (scope_at rs k) value ≡ false
+      → form_by (reading_of rs k) (tag_of rs k) uri local ≡ Some Sets → is_unbound Sets (scope_at rs k) value ≡ false
   bound-value k inside seen h uri value said formed =
       let none = shows-none s.modules accepted unbound_prefix (m, k) (record { «module» = known; node = inside }) h.element (λ e. e) seen in
       let some = (or_parts (some_value rs k (λ form value. is_unbound form (scope_at rs k) value)) (is_misspelled 38 rs k) none).0 in
@@ -254,65 +254,65 @@ module _ (s : Source) (trees : (m : ℕ) → m < length s.modules → IsTree (re
       (behind (has_read_attributes rs k) (list_any (of_form rs k (λ form value. is_unbound form (scope_at rs k) value)) (attributes rs k)) h.read some)
       said formed
 
-  pub row-element : (k : ℕ) (row : Row) → row_of rs k ≡ row → is_no_element row ≡ false → is_element_kind (at rs k).kind ≡ true
-  row-element k row e f = by_kind (is_element_kind (at rs k).kind) refl
+  pub tag-element : (k : ℕ) (tag : Tag) → tag_of rs k ≡ tag → is_no_element tag ≡ false → is_element_kind (at rs k).kind ≡ true
+  tag-element k tag e f = by_kind (is_element_kind (at rs k).kind) refl
     where
-      row_by : Bool → Row
-      row_by b = if b then (if bytes_eq (uri_at rs k) xslt_uri then row_named (local_at rs k) else Other) else NoElement
+      tag_by : Bool → Tag
+      tag_by b = if b then (if bytes_eq (uri_at rs k) xslt_uri then tag_named (local_at rs k) else Other) else NoElement
 
       by_kind : (b : Bool) → is_element_kind (at rs k).kind ≡ b → is_element_kind (at rs k).kind ≡ true
       by_kind true g = g
-      by_kind false g = absurd (true≢false (ap (λ (b : Bool). is_no_element (row_by b)) (sym g) ∙ ap is_no_element e ∙ f))
+      by_kind false g = absurd (true≢false (ap (λ (b : Bool). is_no_element (tag_by b)) (sym g) ∙ ap is_no_element e ∙ f))
 
   -- the sets that an element names
-  pub element_covers : (k : ℕ) → k < length rs → is_seen rs k ≡ true → (row : Row) (reading : Reading) (uri : List ℕ) → row_of rs k ≡ row
-      → reading_of rs k ≡ reading → is_no_element row ≡ false → sets_value row rs k ≡ value_of rs k uri (codes "use-attribute-sets")
-      → form_by reading row uri (codes "use-attribute-sets") ≡ Some Sets → (reading ≡ Known) ⊎ (reading ≡ Literal)
+  pub element_covers : (k : ℕ) → k < length rs → is_seen rs k ≡ true → (tag : Tag) (reading : Reading) (uri : List ℕ) → tag_of rs k ≡ tag
+      → reading_of rs k ≡ reading → is_no_element tag ≡ false → sets_value tag rs k ≡ value_of rs k uri (codes "use-attribute-sets")
+      → form_by reading tag uri (codes "use-attribute-sets") ≡ Some Sets → (reading ≡ Known) ⊎ (reading ≡ Literal)
       → Covers (named_sets rs k) (labels_in (scope_at rs k) (value_of rs k uri (codes "use-attribute-sets")))
-  element_covers k inside seen row reading uri e f other value formed known-or-literal =
-      let element = row-element k row e other in
+  element_covers k inside seen tag reading uri e f other value formed known-or-literal =
+      let element = tag-element k tag e other in
       let read : has_read_attributes rs k ≡ true = elim known-or-literal [
         | inl g ↦ read-known rs k (f ∙ g)
         | inr g ↦ read-literal rs k (f ∙ g)
             (shows-none s.modules accepted bad_root (m, k) (record { «module» = known; node = inside }) element (λ e. e) seen)
       ] in
-      own-covers k (value_of rs k uri local) (ap (λ (r : Row). sets_value r rs k) e ∙ value)
+      own-covers k (value_of rs k uri local) (ap (λ (r : Tag). sets_value r rs k) e ∙ value)
       (λ v said. bound-value k inside seen (record { element = element; read = read }) uri v said
-      (ap (λ (r : Reading). form_by r (row_of rs k) uri local) f ∙ ap (λ (r : Row). form_by reading r uri local) e ∙ formed))
+      (ap (λ (r : Reading). form_by r (tag_of rs k) uri local) f ∙ ap (λ (r : Tag). form_by reading r uri local) e ∙ formed))
 
-  set-covers : (p : Place) → Held p → (row : Row) (reading : Reading) (uri : List ℕ) (sets : List Label) → row_at s.modules p ≡ row
-      → reading_at s.modules p ≡ reading → is_no_element row ≡ false → ((rs : List Record) (n : ℕ) → sets_value row rs n ≡ value_of rs n uri local)
-      → form_by reading row uri local ≡ Some Sets → (reading ≡ Known) ⊎ (reading ≡ Literal)
+  set-covers : (p : Place) → Held p → (tag : Tag) (reading : Reading) (uri : List ℕ) (sets : List Label) → tag_at s.modules p ≡ tag
+      → reading_at s.modules p ≡ reading → is_no_element tag ≡ false → ((rs : List Record) (n : ℕ) → sets_value tag rs n ≡ value_of rs n uri local)
+      → form_by reading tag uri local ≡ Some Sets → (reading ≡ Known) ⊎ (reading ≡ Literal)
       → sets ≡ labels_in (pairs_at s.modules p) (value_of (records_at s.modules p.0) p.1 uri local) → Covers used sets
-  set-covers p h row reading uri sets e f other value formed known-or-literal are =
+  set-covers p h tag reading uri sets e f other value formed known-or-literal are =
       let k = h.node in
       let at = ap (λ (q : Place). labels_in (pairs_at s.modules q) (value_of (records_at s.modules q.0) q.1 uri local)) h.place in
       subst (Covers used) (sym (are ∙ at))
       (covers-wider (named_sets rs k) used (named-part k h.inside h.part) (labels_in (scope_at rs k) (value_of rs k uri local))
-      (element_covers k h.inside (and_parts (is_own_or_inside k) (is_seen rs k) h.part).1 row reading uri
-      (subst (λ (q : Place). row_at s.modules q ≡ row) h.place e) (subst (λ (q : Place). reading_at s.modules q ≡ reading) h.place f)
+      (element_covers k h.inside (and_parts (is_own_or_inside k) (is_seen rs k) h.part).1 tag reading uri
+      (subst (λ (q : Place). tag_at s.modules q ≡ tag) h.place e) (subst (λ (q : Place). reading_at s.modules q ≡ reading) h.place f)
       other (value rs k) formed known-or-literal))
 
-  known-read : (p : Place) (row : Row) → row_at s.modules p ≡ row → ((x y : Bool) → reading_by row x y ≡ Known) → reading_at s.modules p ≡ Known
-  known-read p row e reads =
-      let rows = records_at s.modules p.0 in
-      ap (λ (r : Row). reading_by r (is_top_level rows p.1) (is_in_extension rows p.1)) e ∙ reads (is_top_level rows p.1) (is_in_extension rows p.1)
+  known-read : (p : Place) (tag : Tag) → tag_at s.modules p ≡ tag → ((x y : Bool) → reading_by tag x y ≡ Known) → reading_at s.modules p ≡ Known
+  known-read p tag e reads =
+      let tags = records_at s.modules p.0 in
+      ap (λ (r : Tag). reading_by r (is_top_level tags p.1) (is_in_extension tags p.1)) e ∙ reads (is_top_level tags p.1) (is_in_extension tags p.1)
 
   is_literal : Reading → Bool
   is_literal Literal = true
   is_literal _ = false
 
-  literal-row : (row : Row) (x y : Bool) → reading_by row x y ≡ Literal → row ≡ Other
+  literal-tag : (tag : Tag) (x y : Bool) → reading_by tag x y ≡ Literal → tag ≡ Other
   unfolding is_literal
-  literal-row Other x y e = refl
-  literal-row row x y e = absurd (false≢true (ap is_literal e))
+  literal-tag Other x y e = refl
+  literal-tag tag x y e = absurd (false≢true (ap is_literal e))
 
-  -- ---- what stands for a place in the element uses what is named in it
+  -- ---- what represents a place in the element uses what is named in it
   mutual
     body-covers : (ps : List Place) (b : Body) → All Held ps → IsBody s ps b → Covers used (body_sets b)
-    body-covers ps (Body' shape row) h is = instrs-covers ps row h is
+    body-covers ps (Body' shape tag) h is = instrs-covers ps tag h is
 
-    instrs-covers : {n : _} (ps : List Place) (row : Row_of-Instr n) → All Held ps → AreInstrs s ps row → Covers used (instrs_sets row)
+    instrs-covers : {n : _} (ps : List Place) (tag : Row_of-Instr n) → All Held ps → AreInstrs s ps tag → Covers used (instrs_sets tag)
     instrs-covers ps end_of-Instr h is = tt
     instrs-covers [] (more_of-Instr site kind rest) h is = absurd is
     instrs-covers (p ∷ ps) (more_of-Instr site kind rest) h is =
@@ -322,43 +322,43 @@ module _ (s : Source) (trees : (m : ℕ) → m < length s.modules → IsTree (re
     pub kind-covers : (p : Place) (kind : InstrKind) → Held p → IsKind s p kind → Covers used (kind_sets kind)
     kind-covers p (ApplyTemplates nodes passed) h is =
         passed-covers (children_with is_with_param s.modules p) passed
-        (params-shown p (known-shown p ApplyTemplatesRow h is.0 (λ x y. refl))) is.2
+        (params-shown p (known-shown p ApplyTemplatesTag h is.0 (λ x y. refl))) is.2
     kind-covers p (CallTemplate template passed) h is =
-        passed-covers (children_with is_with_param s.modules p) passed (params-shown p (known-shown p CallTemplateRow h is.0 (λ x y. refl))) is.2
+        passed-covers (children_with is_with_param s.modules p) passed (params-shown p (known-shown p CallTemplateTag h is.0 (λ x y. refl))) is.2
     kind-covers p ApplyImports h is = tt
     kind-covers p (ForEach select sorts body) h is =
-        body-covers (body_at s.modules p) body (body-held p (known-shown p ForEachRow h is.0 (λ x y. refl))) is.3
+        body-covers (body_at s.modules p) body (body-held p (known-shown p ForEachTag h is.0 (λ x y. refl))) is.3
     kind-covers p (ValueOf select) h is = tt
     kind-covers p (CopyOf select) h is = tt
     kind-covers p (Copy sets body) h is =
         covers-append used sets (body_sets body)
-        (set-covers p h CopyRow Known [] sets is.0 (known-read p CopyRow is.0 (λ x y. refl)) refl (λ rs n. refl) refl (inl refl) is.1)
-        (body-covers (body_at s.modules p) body (body-held p (known-shown p CopyRow h is.0 (λ x y. refl))) is.2)
+        (set-covers p h CopyTag Known [] sets is.0 (known-read p CopyTag is.0 (λ x y. refl)) refl (λ rs n. refl) refl (inl refl) is.1)
+        (body-covers (body_at s.modules p) body (body-held p (known-shown p CopyTag h is.0 (λ x y. refl))) is.2)
     kind-covers p (Number decl) h is = tt
-    kind-covers p (Choose choice) h is = choice-covers p choice (known-shown p ChooseRow h is.0 (λ x y. refl)) is.1
+    kind-covers p (Choose choice) h is = choice-covers p choice (known-shown p ChooseTag h is.0 (λ x y. refl)) is.1
     kind-covers p (If condition body) h is =
-        body-covers (body_at s.modules p) body (body-held p (known-shown p IfRow h is.0 (λ x y. refl))) is.2
+        body-covers (body_at s.modules p) body (body-held p (known-shown p IfTag h is.0 (λ x y. refl))) is.2
     kind-covers p (Text bytes) h is = tt
     kind-covers p (Element name sets body) h is =
         covers-append used sets (body_sets body)
-        (set-covers p h ElementRow Known [] sets is.0 (known-read p ElementRow is.0 (λ x y. refl)) refl (λ rs n. refl) refl (inl refl) is.2)
-        (body-covers (body_at s.modules p) body (body-held p (known-shown p ElementRow h is.0 (λ x y. refl))) is.3)
+        (set-covers p h ElementTag Known [] sets is.0 (known-read p ElementTag is.0 (λ x y. refl)) refl (λ rs n. refl) refl (inl refl) is.2)
+        (body-covers (body_at s.modules p) body (body-held p (known-shown p ElementTag h is.0 (λ x y. refl))) is.3)
     kind-covers p (Attribute name body) h is =
-        body-covers (body_at s.modules p) body (body-held p (known-shown p AttributeRow h is.0 (λ x y. refl))) is.2
-    kind-covers p (Comment body) h is = body-covers (body_at s.modules p) body (body-held p (known-shown p CommentRow h is.0 (λ x y. refl))) is.1
-    kind-covers p (Pi name body) h is = body-covers (body_at s.modules p) body (body-held p (known-shown p PiRow h is.0 (λ x y. refl))) is.2
+        body-covers (body_at s.modules p) body (body-held p (known-shown p AttributeTag h is.0 (λ x y. refl))) is.2
+    kind-covers p (Comment body) h is = body-covers (body_at s.modules p) body (body-held p (known-shown p CommentTag h is.0 (λ x y. refl))) is.1
+    kind-covers p (Pi name body) h is = body-covers (body_at s.modules p) body (body-held p (known-shown p PiTag h is.0 (λ x y. refl))) is.2
     kind-covers p (Message terminate body) h is =
-        body-covers (body_at s.modules p) body (body-held p (known-shown p MessageRow h is.0 (λ x y. refl))) is.2
-    kind-covers p (Variable' site name content) h is = content-covers p content (known-shown p VariableRow h is.0 (λ x y. refl)) is.3
+        body-covers (body_at s.modules p) body (body-held p (known-shown p MessageTag h is.0 (λ x y. refl))) is.2
+    kind-covers p (Variable' site name content) h is = content-covers p content (known-shown p VariableTag h is.0 (λ x y. refl)) is.3
     kind-covers p (Literal' start body) h is =
         covers-append used start.sets (body_sets body)
         (set-covers p h Other Literal xslt_uri start.sets
-        (literal-row (row_at s.modules p) (is_top_level (records_at s.modules p.0) p.1) (is_in_extension (records_at s.modules p.0) p.1) is.0)
+        (literal-tag (tag_at s.modules p) (is_top_level (records_at s.modules p.0) p.1) (is_in_extension (records_at s.modules p.0) p.1) is.0)
         is.0 refl (λ rs n. refl) refl (inr refl) is.1.sets)
         (body-covers (body_at s.modules p) body (body-held p (literal-shown p h is.0)) is.2)
     kind-covers p (Extension' fallbacks) h is =
         fallbacks-covers (children_with is_fallback s.modules p) fallbacks
-        (shown-with p is_fallback h (λ row e. ap (λ (r : Reading). shows r row) is.0 ∙ e) fallback-known) is.1
+        (shown-with p is_fallback h (λ tag e. ap (λ (r : Reading). shows r tag) is.0 ∙ e) fallback-known) is.1
 
     content-covers : (p : Place) (content : Content) → Shown p → IsContent s p content → Covers used (content_sets content)
     content-covers p Empty h is = tt
@@ -366,9 +366,9 @@ module _ (s : Source) (trees : (m : ℕ) → m < length s.modules → IsTree (re
     content-covers p (Fragment body) h is = body-covers (body_at s.modules p) body (body-held p h) is.2
 
     passed-covers : (ps : List Place) (passed : Passed) → All Shown ps → IsPassed s ps passed → Covers used (passed_sets passed)
-    passed-covers ps (Passed' shape row) h is = bindings-covers ps row h is
+    passed-covers ps (Passed' shape tag) h is = bindings-covers ps tag h is
 
-    bindings-covers : {n : _} (ps : List Place) (row : Row_of-Binding n) → All Shown ps → AreBindings s ps row → Covers used (bindings_sets row)
+    bindings-covers : {n : _} (ps : List Place) (tag : Row_of-Binding n) → All Shown ps → AreBindings s ps tag → Covers used (bindings_sets tag)
     bindings-covers ps end_of-Binding h is = tt
     bindings-covers [] (more_of-Binding site name content rest) h is = absurd is
     bindings-covers (p ∷ ps) (more_of-Binding site name content rest) h is =
@@ -376,13 +376,13 @@ module _ (s : Source) (trees : (m : ℕ) → m < length s.modules → IsTree (re
         (bindings-covers ps rest (All-tail Shown p ps h) is.3)
 
     choice-covers : (p : Place) (choice : Choice) → Shown p → IsChoice s p choice → Covers used (choice_sets choice)
-    choice-covers p (Choice' shape row otherwise) h is =
-        covers-append used (whens_sets row) (body_sets otherwise)
-        (whens-covers (children_with is_when s.modules p) row (shown-with p is_when h.held (λ row e. h.shows_all row) when-known) is.0)
+    choice-covers p (Choice' shape tag otherwise) h is =
+        covers-append used (whens_sets tag) (body_sets otherwise)
+        (whens-covers (children_with is_when s.modules p) tag (shown-with p is_when h.held (λ tag e. h.shows_all tag) when-known) is.0)
         (body-covers (first_body s (children_with is_otherwise s.modules p)) otherwise
-        (first-held (children_with is_otherwise s.modules p) (shown-with p is_otherwise h.held (λ row e. h.shows_all row) otherwise-known)) is.1)
+        (first-held (children_with is_otherwise s.modules p) (shown-with p is_otherwise h.held (λ tag e. h.shows_all tag) otherwise-known)) is.1)
 
-    whens-covers : {n : _} (ps : List Place) (row : Row_of-When n) → All Shown ps → AreWhens s ps row → Covers used (whens_sets row)
+    whens-covers : {n : _} (ps : List Place) (tag : Row_of-When n) → All Shown ps → AreWhens s ps tag → Covers used (whens_sets tag)
     whens-covers ps end_of-When h is = tt
     whens-covers [] (more_of-When (When' condition body) rest) h is = absurd is
     whens-covers (p ∷ ps) (more_of-When (When' condition body) rest) h is =
@@ -390,9 +390,9 @@ module _ (s : Source) (trees : (m : ℕ) → m < length s.modules → IsTree (re
         (body-covers (body_at s.modules p) body (body-held p (All-head Shown p ps h)) is.0.1) (whens-covers ps rest (All-tail Shown p ps h) is.1)
 
     fallbacks-covers : (ps : List Place) (fallbacks : Fallbacks) → All Shown ps → AreFallbacks s ps fallbacks → Covers used (fallbacks_sets fallbacks)
-    fallbacks-covers ps (Fallbacks' shape row) h is = bodies-covers ps row h is
+    fallbacks-covers ps (Fallbacks' shape tag) h is = bodies-covers ps tag h is
 
-    bodies-covers : {n : _} (ps : List Place) (row : Row_of-Body n) → All Shown ps → AreBodies s ps row → Covers used (bodies_sets row)
+    bodies-covers : {n : _} (ps : List Place) (tag : Row_of-Body n) → All Shown ps → AreBodies s ps tag → Covers used (bodies_sets tag)
     bodies-covers ps end_of-Body h is = tt
     bodies-covers [] (more_of-Body body rest) h is = absurd is
     bodies-covers (p ∷ ps) (more_of-Body body rest) h is =

@@ -8,21 +8,21 @@ use Rattle.std.specs.Option.{option_and_then, option_map_or, unwrap_or}
 use Rattle.std.specs.Prelude.{◌&&◌, not, option_map, codes, is_some, IsOk, if◌then◌else◌}
 use Rattle.std.specs.Str.{bytes_eq}
 use Rattle.xs_compile.proofs.CleanLemmas.{attribute-clean, find-any, none-passing, read-known, read-literal, shows-none, value-clean}
-use Rattle.xs_compile.specs.steps.Rows.{has_name, is_name, needs, takes_expression, takes_pattern, takes_template}
+use Rattle.xs_compile.specs.steps.Tags.{has_name, is_name, needs, takes_expression, takes_pattern, takes_template}
 use Rattle.xs_structure.specs.Places.{IsIn}
 use Rattle.xs_compile.specs.Labels.{label_at, label_in, label_of}
-use Rattle.xs_structure.specs.Parts.{pairs_at, reading_at, row_at, said_at, value_at}
+use Rattle.xs_structure.specs.Parts.{pairs_at, reading_at, tag_at, said_at, value_at}
 use Rattle.xs_elements.specs.Attributes.{Allowed, allowed, attributes_of, is_allowed_name}
 use Rattle.xs_elements.specs.declared.forms.Form.{Form}
 use Rattle.xs_elements.specs.declared.forms.Form.TheVariants.{Version, Expression, KeyUse, TemplatePattern, KeyPattern, NumberPattern, ValueTemplate, Name, Sets, Prefixes, Priority}
 use Rattle.xs_elements.specs.declared.reading.Reading.{Reading}
 use Rattle.xs_elements.specs.declared.reading.Reading.TheVariants.{Known, Literal, Unread}
-use Rattle.xs_elements.specs.declared.rows.Row.{Row}
-use Rattle.xs_elements.specs.declared.rows.Row.TheVariants.{DecimalFormat, Template, Unknown, Other, NoElement}
+use Rattle.xs_elements.specs.declared.tags.Tag.{Tag}
+use Rattle.xs_elements.specs.declared.tags.Tag.TheVariants.{DecimalFormat, Template, Unknown, Other, NoElement}
 use Rattle.xs_elements.specs.Forms.{is_expression, is_pattern, is_value_template}
 use Rattle.xs_elements.specs.Nodes.{attribute_of, has, scope_at}
 use Rattle.xs_elements.specs.Reading.{allowed_form, form_by, form_of, has_read_attributes, is_in_extension, is_seen, is_xslt, reading_by, reading_of}
-use Rattle.xs_elements.specs.Rows.{is_top_level, row_named, xslt_uri}
+use Rattle.xs_elements.specs.Tags.{is_top_level, tag_named, xslt_uri}
 use Rattle.xs_elements.specs.Values.{is_bad, is_number, is_qname, is_unbound, unsigned}
 use Rattle.xs_modules.specs.Numbering.{ModuleData}
 use Rattle.xs_static.specs.Expressions.{has_parse_fault, is_fault}
@@ -79,25 +79,25 @@ other-form local test a b c h =
     by_names false false false true g = false≢true (sym c ∙ g)
     by_names false false false false g = false≢true g
 
-pub form-known : (row : Row) (local : List ℕ) (test : Form → Bool) → test Sets ≡ false → test Prefixes ≡ false → test Version ≡ false
-    → option_map_or test (allowed_form row local) false ≡ true → (is_top is_extension : Bool) → reading_by row is_top is_extension ≡ Known
+pub form-known : (tag : Tag) (local : List ℕ) (test : Form → Bool) → test Sets ≡ false → test Prefixes ≡ false → test Version ≡ false
+    → option_map_or test (allowed_form tag local) false ≡ true → (is_top is_extension : Bool) → reading_by tag is_top is_extension ≡ Known
 form-known Other local test a b c h is_top is_extension = absurd (other-form local test a b c h)
 form-known DecimalFormat local test a b c h is_top is_extension = absurd (false≢true h)
 form-known Unknown local test a b c h is_top is_extension = absurd (false≢true h)
 form-known NoElement local test a b c h is_top is_extension = absurd (false≢true h)
-form-known row local test a b c h is_top is_extension = refl
+form-known tag local test a b c h is_top is_extension = refl
 
 -- what is read is an element
 pub read-element : (rs : List Record) (n : ℕ) (r : Reading) → reading_of rs n ≡ r → (r ≡ Unread → ⊥) → is_element_kind (at rs n).kind ≡ true
 read-element rs n r e read = by_kind (is_element_kind (at rs n).kind) refl
   where
-    row_by : Bool → Row
-    row_by b = if b then (if bytes_eq (uri_at rs n) xslt_uri then row_named (local_at rs n) else Other) else NoElement
+    tag_by : Bool → Tag
+    tag_by b = if b then (if bytes_eq (uri_at rs n) xslt_uri then tag_named (local_at rs n) else Other) else NoElement
 
     by_kind : (b : Bool) → is_element_kind (at rs n).kind ≡ b → is_element_kind (at rs n).kind ≡ true
     by_kind true f = f
     by_kind false f =
-        absurd (read (sym e ∙ ap (λ (b : Bool). reading_by (row_by b) (is_top_level rs n) (is_in_extension rs n)) f))
+        absurd (read (sym e ∙ ap (λ (b : Bool). reading_by (tag_by b) (is_top_level rs n) (is_in_extension rs n)) f))
 
 known-read : Known ≡ Unread → ⊥
 known-read e = cc (e)
@@ -182,15 +182,15 @@ template-faults ValueTemplate which pairs value e = refl
 template-faults _ which pairs value e = absurd (false≢true e)
 
 -- the form that an attribute has
-record HasForm (row : Row) (local : List ℕ) (test : Form → Bool) : Type 0 where
+record HasForm (tag : Tag) (local : List ℕ) (test : Form → Bool) : Type 0 where
   form : Form
-  formed : allowed_form row local ≡ Some form
+  formed : allowed_form tag local ≡ Some form
   passes : test form ≡ true
 
-form-of : (row : Row) (local : List ℕ) (test : Form → Bool) → option_map_or test (allowed_form row local) false ≡ true → HasForm row local test
-form-of row local test h = by_form (allowed_form row local) refl h
+form-of : (tag : Tag) (local : List ℕ) (test : Form → Bool) → option_map_or test (allowed_form tag local) false ≡ true → HasForm tag local test
+form-of tag local test h = by_form (allowed_form tag local) refl h
   where
-    by_form : (o : Option Form) → allowed_form row local ≡ o → option_map_or test o false ≡ true → HasForm row local test
+    by_form : (o : Option Form) → allowed_form tag local ≡ o → option_map_or test o false ≡ true → HasForm tag local test
     by_form None e g = absurd (false≢true g)
     by_form (Some form) e g = record { form = form; formed = e; passes = g }
 
@@ -199,23 +199,23 @@ module _ (ms : List ModuleData) (accepted : IsFirstFault ms None) (p : Place) (w
   here = records_at ms p.0
 
   pub known-by : (local : List ℕ) (test : Form → Bool) → test Sets ≡ false → test Prefixes ≡ false → test Version ≡ false
-      → option_map_or test (allowed_form (row_at ms p) local) false ≡ true → reading_at ms p ≡ Known
-  known-by local test a b c h = form-known (row_at ms p) local test a b c h (is_top_level here p.1) (is_in_extension here p.1)
+      → option_map_or test (allowed_form (tag_at ms p) local) false ≡ true → reading_at ms p ≡ Known
+  known-by local test a b c h = form-known (tag_at ms p) local test a b c h (is_top_level here p.1) (is_in_extension here p.1)
 
   -- the value of an attribute of an element of XSLT has none of the properties that are faults
   pub value-of : (local value : List ℕ) (property : Form → List ℕ → Bool) (form : Form) → reading_at ms p ≡ Known
-      → list_any (of_form here p.1 property) (attributes here p.1) ≡ false → value_at ms p local ≡ Some value → allowed_form (row_at ms p) local ≡ Some form
+      → list_any (of_form here p.1 property) (attributes here p.1) ≡ false → value_at ms p local ≡ Some value → allowed_form (tag_at ms p) local ≡ Some form
       → property form value ≡ false
   value-of local value property form known clean h formed =
-      value-clean here p.1 property [] local value form clean h (ap (λ (r : Reading). form_by r (row_at ms p) [] local) known ∙ formed)
+      value-clean here p.1 property [] local value form clean h (ap (λ (r : Reading). form_by r (tag_at ms p) [] local) known ∙ formed)
 
   parsed-by : {A : Type 0} (local value : List ℕ) (test : Form → Bool) (o : Result A ParseFault) → test Sets ≡ false → test Prefixes ≡ false → test Version
       ≡ false
       → ((form : Form) (which : ℕ) → test form ≡ true → has_parse_fault which form (pairs_at ms p) value ≡ is_fault number_of_fault which o)
-      → option_map_or test (allowed_form (row_at ms p) local) false ≡ true → value_at ms p local ≡ Some value → IsOk o
+      → option_map_or test (allowed_form (tag_at ms p) local) false ≡ true → value_at ms p local ≡ Some value → IsOk o
   parsed-by {A} local value test o a b c faults h e =
       let known = known-by local test a b c h in
-      let f = form-of (row_at ms p) local test h in
+      let f = form-of (tag_at ms p) local test h in
       let all = spelled ms accepted p within (clean-known ms accepted p within seen known) in
       let at : (which : ℕ) → list_any (of_form here p.1 (λ form value. has_parse_fault which form (scope_at here p.1) value)) (attributes here p.1) ≡ false
       → is_fault number_of_fault which o ≡ false
@@ -231,32 +231,32 @@ module _ (ms : List ModuleData) (accepted : IsFirstFault ms None) (p : Place) (w
         prefix = at 38 all.prefix;
       })
 
-  pub valid_expr : (local value : List ℕ) → takes_expression (row_at ms p) local ≡ true → value_at ms p local ≡ Some value
+  pub valid_expr : (local value : List ℕ) → takes_expression (tag_at ms p) local ≡ true → value_at ms p local ≡ Some value
       → IsOk (expr_in (pairs_at ms p) value)
   valid_expr local value h e =
       parsed-by local value is_expression (outcome_in false (pairs_at ms p) value) refl refl refl
       (λ form which. expression-faults form which (pairs_at ms p) value) h e
 
-  pub valid_pattern : (local value : List ℕ) → takes_pattern (row_at ms p) local ≡ true → value_at ms p local ≡ Some value
+  pub valid_pattern : (local value : List ℕ) → takes_pattern (tag_at ms p) local ≡ true → value_at ms p local ≡ Some value
       → IsOk (pattern_in (pairs_at ms p) value)
   valid_pattern local value h e =
       parsed-by local value is_pattern (outcome_in true (pairs_at ms p) value) refl refl refl
       (λ form which. pattern-faults form which (pairs_at ms p) value) h e
 
-  pub valid_template : (local value : List ℕ) → takes_template (row_at ms p) local ≡ true → value_at ms p local ≡ Some value
+  pub valid_template : (local value : List ℕ) → takes_template (tag_at ms p) local ≡ true → value_at ms p local ≡ Some value
       → IsOk (template_in (pairs_at ms p) value)
   valid_template local value h e =
       parsed-by local value is_value_template (template_in (pairs_at ms p) value) refl refl refl
       (λ form which. template-faults form which (pairs_at ms p) value) h e
 
   -- ---- attributes that have to be there
-  pub needed : (local : List ℕ) → reading_at ms p ≡ Known → needs (row_at ms p) local ≡ true → (value : List ℕ) × (value_at ms p local ≡ Some value)
-  needed local known h = by_entry (allowed (row_at ms p) local) refl h
+  pub needed : (local : List ℕ) → reading_at ms p ≡ Known → needs (tag_at ms p) local ≡ true → (value : List ℕ) × (value_at ms p local ≡ Some value)
+  needed local known h = by_entry (allowed (tag_at ms p) local) refl h
     where
-      lacks : list_any (is_missing here p.1) (attributes_of (row_at ms p)) ≡ false
+      lacks : list_any (is_missing here p.1) (attributes_of (tag_at ms p)) ≡ false
       lacks =
           let clean = clean-known ms accepted p within seen known in
-          (or_parts (list_any (is_missing here p.1) (attributes_of (row_at ms p))) (lacks_both here p.1)
+          (or_parts (list_any (is_missing here p.1) (attributes_of (tag_at ms p))) (lacks_both here p.1)
           (second (has_read_attributes here p.1) (lacks_some here p.1) clean.read (clean.shown missing_attribute (λ g. g)))).0
         where
           second : (b c : Bool) → b ≡ true → (b && c) ≡ false → c ≡ false
@@ -272,11 +272,11 @@ module _ (ms : List ModuleData) (accepted : IsFirstFault ms None) (p : Place) (w
       by_value None e g = absurd (false≢true g)
       by_value (Some a) e g = ((at here a).text, ap (option_map (λ a. (at here a).text)) e)
 
-      by_entry : (o : Option Allowed) → allowed (row_at ms p) local ≡ o → option_map_or (λ (a : Allowed). a.is_required) o false ≡ true
+      by_entry : (o : Option Allowed) → allowed (tag_at ms p) local ≡ o → option_map_or (λ (a : Allowed). a.is_required) o false ≡ true
           → (value : List ℕ) × (value_at ms p local ≡ Some value)
       by_entry None e g = absurd (false≢true g)
       by_entry (Some a) e g =
-          let found = find-any (is_missing here p.1) (is_allowed_name local) (attributes_of (row_at ms p)) a e lacks in
+          let found = find-any (is_missing here p.1) (is_allowed_name local) (attributes_of (tag_at ms p)) a e lacks in
           let name_is : a.name ≡ local = (bytes_eq-Decides a.name local).0 found.0 in
           by_value (attribute_of here p.1 [] local) refl
           (subst (λ x. has here p.1 x ≡ true) name_is (there a.is_required (has here p.1 a.name) g found.1))
@@ -284,38 +284,38 @@ module _ (ms : List ModuleData) (accepted : IsFirstFault ms None) (p : Place) (w
   said-is : (local value : List ℕ) → value_at ms p local ≡ Some value → said_at ms p local ≡ value
   said-is local value e = ap (λ (o : Option (List ℕ)). unwrap_or o []) e
 
-  pub said_expr : (local : List ℕ) → takes_expression (row_at ms p) local ≡ true → needs (row_at ms p) local ≡ true
+  pub said_expr : (local : List ℕ) → takes_expression (tag_at ms p) local ≡ true → needs (tag_at ms p) local ≡ true
       → IsOk (expr_in (pairs_at ms p) (said_at ms p local))
   said_expr local h n =
       let v = needed local (known-by local is_expression refl refl refl h) n in
       subst (λ x. IsOk (expr_in (pairs_at ms p) x)) (sym (said-is local v.0 v.1)) (valid_expr local v.0 h v.1)
 
-  pub said_pattern : (local : List ℕ) → takes_pattern (row_at ms p) local ≡ true → needs (row_at ms p) local ≡ true
+  pub said_pattern : (local : List ℕ) → takes_pattern (tag_at ms p) local ≡ true → needs (tag_at ms p) local ≡ true
       → IsOk (pattern_in (pairs_at ms p) (said_at ms p local))
   said_pattern local h n =
       let v = needed local (known-by local is_pattern refl refl refl h) n in
       subst (λ x. IsOk (pattern_in (pairs_at ms p) x)) (sym (said-is local v.0 v.1)) (valid_pattern local v.0 h v.1)
 
-  pub said_template : (local : List ℕ) → takes_template (row_at ms p) local ≡ true → needs (row_at ms p) local ≡ true
+  pub said_template : (local : List ℕ) → takes_template (tag_at ms p) local ≡ true → needs (tag_at ms p) local ≡ true
       → IsOk (template_in (pairs_at ms p) (said_at ms p local))
   said_template local h n =
       let v = needed local (known-by local is_value_template refl refl refl h) n in
       subst (λ x. IsOk (template_in (pairs_at ms p) x)) (sym (said-is local v.0 v.1)) (valid_template local v.0 h v.1)
 
   -- ---- values that are no expressions
-  good : (local value : List ℕ) (form : Form) → reading_at ms p ≡ Known → allowed_form (row_at ms p) local ≡ Some form → value_at ms p local ≡ Some value
+  good : (local value : List ℕ) (form : Form) → reading_at ms p ≡ Known → allowed_form (tag_at ms p) local ≡ Some form → value_at ms p local ≡ Some value
       → is_bad form value ≡ false
   good local value form known formed e =
       let clean = clean-known ms accepted p within seen known in
       value-of local value is_bad form known (clean-all ms accepted p within clean is_bad (clean.shown bad_attribute (λ g. g))) e formed
 
   -- an element that has to have a name has one
-  pub named : has_name (row_at ms p) ≡ true → label_at ms p ≡ None → ⊥
+  pub named : has_name (tag_at ms p) ≡ true → label_at ms p ≡ None → ⊥
   named h none =
-      let parts = and_parts (option_map_or is_name (allowed_form (row_at ms p) (codes "name")) false) (needs (row_at ms p) (codes "name")) h in
+      let parts = and_parts (option_map_or is_name (allowed_form (tag_at ms p) (codes "name")) false) (needs (tag_at ms p) (codes "name")) h in
       let known = known-by (codes "name") is_name refl refl refl parts.0 in
       let v = needed (codes "name") known parts.1 in
-      let f = form-of (row_at ms p) (codes "name") is_name parts.0 in
+      let f = form-of (tag_at ms p) (codes "name") is_name parts.0 in
       by_name v.0 (name-good f.form f.passes v.0 (good (codes "name") v.0 f.form known f.formed v.1))
       (sym (ap (option_and_then (label_in (pairs_at ms p))) v.1) ∙ none)
     where
@@ -331,10 +331,10 @@ module _ (ms : List ModuleData) (accepted : IsFirstFault ms None) (p : Place) (w
       by_name value g e = by_q (qname_of value) g e
 
   -- a priority is a number
-  pub valid_priority : (value : List ℕ) → row_at ms p ≡ Template → value_at ms p (codes "priority") ≡ Some value → is_number (unsigned value) ≡ true
-  valid_priority value row e =
-      let known : reading_at ms p ≡ Known = ap (λ (r : Row). reading_by r (is_top_level here p.1) (is_in_extension here p.1)) row in
-      let formed : allowed_form (row_at ms p) (codes "priority") ≡ Some Priority = ap (λ (r : Row). allowed_form r (codes "priority")) row in
+  pub valid_priority : (value : List ℕ) → tag_at ms p ≡ Template → value_at ms p (codes "priority") ≡ Some value → is_number (unsigned value) ≡ true
+  valid_priority value tag e =
+      let known : reading_at ms p ≡ Known = ap (λ (r : Tag). reading_by r (is_top_level here p.1) (is_in_extension here p.1)) tag in
+      let formed : allowed_form (tag_at ms p) (codes "priority") ≡ Some Priority = ap (λ (r : Tag). allowed_form r (codes "priority")) tag in
       not-not (is_number (unsigned value)) (good (codes "priority") value Priority known formed e)
     where
       not-not : (b : Bool) → not b ≡ false → b ≡ true
@@ -347,8 +347,8 @@ module _ (ms : List ModuleData) (accepted : IsFirstFault ms None) (p : Place) (w
   valid_put a literal inside owned other =
       let all = spelled ms accepted p within (clean-literal ms accepted p within seen literal) in
       let formed : form_of here p.1 a ≡ Some ValueTemplate
-      = ap (λ (r : Reading). form_by r (row_at ms p) (uri_at here a) (local_at here a)) literal
-      ∙ ap (λ (b : Bool). if b then allowed_form (row_at ms p) (local_at here a) else Some ValueTemplate) other in
+      = ap (λ (r : Reading). form_by r (tag_at ms p) (uri_at here a) (local_at here a)) literal
+      ∙ ap (λ (b : Bool). if b then allowed_form (tag_at ms p) (local_at here a) else Some ValueTemplate) other in
       let own : (which : ℕ) → list_any (of_form here p.1 (λ form value. has_parse_fault which form (scope_at here p.1) value)) (attributes here p.1) ≡ false
       → is_fault number_of_fault which (template_in (pairs_at ms p) (at here a).text) ≡ false
       = λ which clean.

@@ -15,14 +15,14 @@ use Rattle.xs_compile.proofs.ValidLemmas.{clean-all, clean-known, clean-literal,
 use Rattle.xs_compile.specs.Bodies.{IsExprIf, IsExprOf, IsMadeName, IsNumber, IsPutAttribute, IsSort, IsTemplateIf, IsTemplateOf, Source, put_attributes}
 use Rattle.xs_compile.specs.Counted.{globals}
 use Rattle.xs_compile.specs.Parsed.{Both, IsExpr, IsValueTemplate}
-use Rattle.xs_structure.specs.Parts.{pairs_at, reading_at, row_at, said_at, value_at}
-use Rattle.xs_compile.specs.steps.Rows.{needs}
+use Rattle.xs_structure.specs.Parts.{pairs_at, reading_at, tag_at, said_at, value_at}
+use Rattle.xs_compile.specs.steps.Tags.{needs}
 use Rattle.xs_elements.specs.declared.forms.Form.{Form}
 use Rattle.xs_elements.specs.declared.forms.Form.TheVariants.{Expression, ValueTemplate}
 use Rattle.xs_elements.specs.declared.reading.Reading.{Reading}
 use Rattle.xs_elements.specs.declared.reading.Reading.TheVariants.{Known, Literal}
-use Rattle.xs_elements.specs.declared.rows.Row.{Row}
-use Rattle.xs_elements.specs.declared.rows.Row.TheVariants.{Number, Sort}
+use Rattle.xs_elements.specs.declared.tags.Tag.{Tag}
+use Rattle.xs_elements.specs.declared.tags.Tag.TheVariants.{Number, Sort}
 use Rattle.xs_elements.specs.Nodes.{attribute_of, has}
 use Rattle.xs_elements.specs.Reading.{allowed_form, form_by, form_of, is_xslt}
 use Rattle.xs_sheet.specs.declared.body.MadeName.{MadeName}
@@ -39,7 +39,7 @@ use Rattle.xs_trace.specs.Label.{Label}
 use Rattle.xs_tree.specs.Record.{Record, at, attributes, is_attribute, local_at, places, uri_at}
 use Rattle.xs_tree.specs.Shape.{IsTree}
 
--- R gives a test of each item that stands for a place
+-- R gives a test of each item that represents a place
 pub zip-all : {X Y : Type 0} (R : X → Y → Type 0) (P : X → Type 0) (test : Y → Bool) → ((x : X) (y : Y) → P x → R x y → test y ≡ true)
     → (xs : List X) (ys : List Y) → All P xs → AllZip R xs ys → list_all test ys ≡ true
 zip-all R P test f [] [] a z = refl
@@ -58,20 +58,20 @@ module _ (s : Source) (trees : (m : ℕ) → m < length s.modules → IsTree (re
   has_unknown_in form value = list_any (has_unknown (is_known s.modules form p)) (expressions_of form (pairs_at s.modules p) value)
 
   value-known : reading_at s.modules p ≡ Known → (local value : List ℕ) (form : Form) → value_at s.modules p local ≡ Some value
-      → allowed_form (row_at s.modules p) local ≡ Some form → has_unknown_in form value ≡ false
+      → allowed_form (tag_at s.modules p) local ≡ Some form → has_unknown_in form value ≡ false
   value-known known local value form said formed =
       let clean = clean-known s.modules accepted p h.within h.seen known in
       value-of s.modules accepted p h.within h.seen local value has_unknown_in form known
       (clean-all s.modules accepted p h.within clean has_unknown_in (clean.shown unknown_variable (λ g. g))) said formed
 
   expr-at : reading_at s.modules p ≡ Known → (local value : List ℕ) → value_at s.modules p local ≡ Some value
-      → allowed_form (row_at s.modules p) local ≡ Some Expression → (e : ScopedExpr) → IsExpr s.modules p value e → expr_stands counts locals e ≡ true
+      → allowed_form (tag_at s.modules p) local ≡ Some Expression → (e : ScopedExpr) → IsExpr s.modules p value e → expr_stands counts locals e ≡ true
   expr-at known local value said formed e is =
       expr-stands s.modules counts some_globals p (trees p.0 h.within.«module») h.within.node locals h.enough value e is
       (value-known known local value Expression said formed)
 
   template-at : reading_at s.modules p ≡ Known → (local value : List ℕ) → value_at s.modules p local ≡ Some value
-      → allowed_form (row_at s.modules p) local ≡ Some ValueTemplate → (v : Template) → IsValueTemplate s.modules p value v
+      → allowed_form (tag_at s.modules p) local ≡ Some ValueTemplate → (v : Template) → IsValueTemplate s.modules p value v
       → template_stands counts locals v ≡ true
   template-at known local value said formed v is =
       template-stands s.modules counts some_globals p (trees p.0 h.within.«module») h.within.node locals h.enough value v is
@@ -81,20 +81,20 @@ module _ (s : Source) (trees : (m : ℕ) → m < length s.modules → IsTree (re
   said-is local value e = ap (λ (o : Option (List ℕ)). unwrap_or o []) e
 
   -- ---- of one that has to be there
-  pub expr-of : reading_at s.modules p ≡ Known → (local : List ℕ) → needs (row_at s.modules p) local ≡ true
-      → allowed_form (row_at s.modules p) local ≡ Some Expression → (e : ScopedExpr) → IsExprOf s p local e → expr_stands counts locals e ≡ true
+  pub expr-of : reading_at s.modules p ≡ Known → (local : List ℕ) → needs (tag_at s.modules p) local ≡ true
+      → allowed_form (tag_at s.modules p) local ≡ Some Expression → (e : ScopedExpr) → IsExprOf s p local e → expr_stands counts locals e ≡ true
   expr-of known local required formed e is =
       let v = needed s.modules accepted p h.within h.seen local known required in
       expr-at known local v.0 v.1 formed e (subst (λ x. IsExpr s.modules p x e) (said-is local v.0 v.1) is)
 
-  pub template-of : reading_at s.modules p ≡ Known → (local : List ℕ) → needs (row_at s.modules p) local ≡ true
-      → allowed_form (row_at s.modules p) local ≡ Some ValueTemplate → (v : Template) → IsTemplateOf s p local v → template_stands counts locals v ≡ true
+  pub template-of : reading_at s.modules p ≡ Known → (local : List ℕ) → needs (tag_at s.modules p) local ≡ true
+      → allowed_form (tag_at s.modules p) local ≡ Some ValueTemplate → (v : Template) → IsTemplateOf s p local v → template_stands counts locals v ≡ true
   template-of known local required formed v is =
       let w = needed s.modules accepted p h.within h.seen local known required in
       template-at known local w.0 w.1 formed v (subst (λ x. IsValueTemplate s.modules p x v) (said-is local w.0 w.1) is)
 
   -- ---- of one that may be there
-  pub expr-if : reading_at s.modules p ≡ Known → (local : List ℕ) → allowed_form (row_at s.modules p) local ≡ Some Expression
+  pub expr-if : reading_at s.modules p ≡ Known → (local : List ℕ) → allowed_form (tag_at s.modules p) local ≡ Some Expression
       → (e : Option ScopedExpr) → IsExprIf s p local e → expr_stands_if counts locals e ≡ true
   expr-if known local formed e is = by (value_at s.modules p local) e refl is
     where
@@ -105,7 +105,7 @@ module _ (s : Source) (trees : (m : ℕ) → m < length s.modules → IsTree (re
       by (Some value) None said is = absurd is
       by (Some value) (Some e) said is = expr-at known local value said formed e is
 
-  pub template-if : reading_at s.modules p ≡ Known → (local : List ℕ) → allowed_form (row_at s.modules p) local ≡ Some ValueTemplate
+  pub template-if : reading_at s.modules p ≡ Known → (local : List ℕ) → allowed_form (tag_at s.modules p) local ≡ Some ValueTemplate
       → (v : Option Template) → IsTemplateIf s p local v → template_stands_if counts locals v ≡ true
   template-if known local formed v is = by (value_at s.modules p local) v refl is
     where
@@ -118,7 +118,7 @@ module _ (s : Source) (trees : (m : ℕ) → m < length s.modules → IsTree (re
 
   -- the expression of a binding that has one
   pub selected : reading_at s.modules p ≡ Known → has rs p.1 (codes "select") ≡ true
-      → allowed_form (row_at s.modules p) (codes "select") ≡ Some Expression → (e : ScopedExpr) → IsExprOf s p (codes "select") e
+      → allowed_form (tag_at s.modules p) (codes "select") ≡ Some Expression → (e : ScopedExpr) → IsExprOf s p (codes "select") e
       → expr_stands counts locals e ≡ true
   selected known there formed e is = by (attribute_of rs p.1 [] (codes "select")) refl there
     where
@@ -130,17 +130,17 @@ module _ (s : Source) (trees : (m : ℕ) → m < length s.modules → IsTree (re
           (subst (λ x. IsExpr s.modules p x e) (said-is (codes "select") (at rs a).text value) is)
 
   -- ---- parts of instructions
-  pub name-stands : reading_at s.modules p ≡ Known → needs (row_at s.modules p) (codes "name") ≡ true
-      → allowed_form (row_at s.modules p) (codes "name") ≡ Some ValueTemplate → allowed_form (row_at s.modules p) (codes "namespace") ≡ Some ValueTemplate
+  pub name-stands : reading_at s.modules p ≡ Known → needs (tag_at s.modules p) (codes "name") ≡ true
+      → allowed_form (tag_at s.modules p) (codes "name") ≡ Some ValueTemplate → allowed_form (tag_at s.modules p) (codes "namespace") ≡ Some ValueTemplate
       → (n : MadeName) → IsMadeName s p n → name_stands counts locals n ≡ true
   name-stands known required formed other n is =
       and_from (template_stands counts locals n.name) (template_stands_if counts locals n.namespace)
       (template-of known (codes "name") required formed n.name is.name) (template-if known (codes "namespace") other n.namespace is.namespace)
 
-  pub sort-stands : row_at s.modules p ≡ Sort → reading_at s.modules p ≡ Known → (d : SortDecl) → IsSort s p d → sort_stands counts locals d ≡ true
-  sort-stands row known d is =
-      let data_type = template-if known (codes "data-type") (ap (λ (r : Row). allowed_form r (codes "data-type")) row) d.data_type is.data_type in
-      let order = template-if known (codes "order") (ap (λ (r : Row). allowed_form r (codes "order")) row) d.order is.order in
+  pub sort-stands : tag_at s.modules p ≡ Sort → reading_at s.modules p ≡ Known → (d : SortDecl) → IsSort s p d → sort_stands counts locals d ≡ true
+  sort-stands tag known d is =
+      let data_type = template-if known (codes "data-type") (ap (λ (r : Tag). allowed_form r (codes "data-type")) tag) d.data_type is.data_type in
+      let order = template-if known (codes "order") (ap (λ (r : Tag). allowed_form r (codes "order")) tag) d.order is.order in
       and_from (expr_stands counts locals d.select && template_stands_if counts locals d.data_type) (template_stands_if counts locals d.order)
       (and_from (expr_stands counts locals d.select) (template_stands_if counts locals d.data_type)
       (by (value_at s.modules p (codes "select")) refl is.select) data_type)
@@ -149,19 +149,19 @@ module _ (s : Source) (trees : (m : ℕ) → m < length s.modules → IsTree (re
       by : (o : Option (List ℕ)) → value_at s.modules p (codes "select") ≡ o → IsExpr s.modules p (unwrap_or o (codes ".")) d.select
           → expr_stands counts locals d.select ≡ true
       by (Some value) said e =
-          expr-at known (codes "select") value said (ap (λ (r : Row). allowed_form r (codes "select")) row) d.select e
+          expr-at known (codes "select") value said (ap (λ (r : Tag). allowed_form r (codes "select")) tag) d.select e
       by None said e =
           expr-stands s.modules counts some_globals p (trees p.0 h.within.«module») h.within.node locals h.enough (codes ".") d.select e
           (dot-known (is_known s.modules Expression p) (pairs_at s.modules p))
 
-  pub number-stands : row_at s.modules p ≡ Number → reading_at s.modules p ≡ Known → (d : NumberDecl) → IsNumber s p d
+  pub number-stands : tag_at s.modules p ≡ Number → reading_at s.modules p ≡ Known → (d : NumberDecl) → IsNumber s p d
       → number_stands counts locals d ≡ true
-  number-stands row known d is =
+  number-stands tag known d is =
       let clean = clean-known s.modules accepted p h.within h.seen known in
       let element = read-element rs p.1 Known known (λ f. cc (f)) in
       let pattern = number_pattern_free s.modules accepted p h.within h.seen element clean.read known in
-      let formed : (local : List ℕ) → allowed_form (row_at s.modules p) local ≡ allowed_form Number local = λ local. ap (λ (r : Row). allowed_form r local)
-      row in
+      let formed : (local : List ℕ) → allowed_form (tag_at s.modules p) local ≡ allowed_form Number local = λ local. ap (λ (r : Tag). allowed_form r local)
+      tag in
       let count = pattern_is_free_if d.count in
       let start = pattern_is_free_if d.«from» in
       let value = expr_stands_if counts locals d.value in
@@ -201,8 +201,8 @@ module _ (s : Source) (trees : (m : ℕ) → m < length s.modules → IsTree (re
   put-stands literal a put i is =
       let clean = clean-literal s.modules accepted p h.within h.seen literal in
       let formed : form_of rs p.1 a ≡ Some ValueTemplate
-      = ap (λ (r : Reading). form_by r (row_at s.modules p) (uri_at rs a) (local_at rs a)) literal
-      ∙ ap (λ (b : Bool). if b then allowed_form (row_at s.modules p) (local_at rs a) else Some ValueTemplate) i.other in
+      = ap (λ (r : Reading). form_by r (tag_at s.modules p) (uri_at rs a) (local_at rs a)) literal
+      ∙ ap (λ (b : Bool). if b then allowed_form (tag_at s.modules p) (local_at rs a) else Some ValueTemplate) i.other in
       let none = none-passing (of_form rs p.1 has_unknown_in) (is_attribute rs p.1) (length rs) a i.inside i.owned
       (clean-all s.modules accepted p h.within clean has_unknown_in (clean.shown unknown_variable (λ g. g))) in
       template-stands s.modules counts some_globals p (trees p.0 h.within.«module») h.within.node locals h.enough (at rs a).text put.1 is.1

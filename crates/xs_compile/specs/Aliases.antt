@@ -2,8 +2,8 @@
 use Rattle.std.specs.Prelude.{ℕ, Bool, true, false, List, [], map, filter, codes, if◌then◌else◌}
 use Rattle.std.specs.Option.{unwrap_or}
 use Rattle.std.specs.Str.{bytes_eq}
-use Rattle.xs_elements.specs.declared.rows.Row.{Row}
-use Rattle.xs_elements.specs.declared.rows.Row.TheVariants.{NamespaceAlias}
+use Rattle.xs_elements.specs.declared.tags.Tag.{Tag}
+use Rattle.xs_elements.specs.declared.tags.Tag.TheVariants.{NamespaceAlias}
 use Rattle.xs_modules.specs.Numbering.{ModuleData}
 use Rattle.xs_sheet.specs.declared.declarations.Alias.{Alias}
 use Rattle.xs_structure.specs.Modules.{Place}
@@ -12,7 +12,7 @@ use Rattle.xs_compile.specs.Counted.{is_counted}
 use Rattle.xs_structure.specs.Order.{all_with}
 use Rattle.xs_structure.specs.Parts.{pairs_at, said_at}
 
-abbrev pub is_alias : Row → Bool
+abbrev pub is_alias : Tag → Bool
 is_alias NamespaceAlias = true
 is_alias _ = false
 

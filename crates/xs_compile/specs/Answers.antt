@@ -6,12 +6,12 @@ use Rattle.xs_sheet.specs.Sound.{IsSound}
 use Rattle.xs_static.specs.Faults.{IsFirstFault}
 use Rattle.xs_compile.specs.declared.compiled.CompileEnd.{CompileEnd}
 use Rattle.xs_compile.specs.declared.compiled.CompileEnd.TheVariants.{Refused, NoMemory}
-use Rattle.xs_compile.specs.StandsFor.{StandsFor}
+use Rattle.xs_compile.specs.Represents.{Represents}
 
--- A stylesheet without static faults is compiled to what stands for it, whose parts refer to what is there.
+-- A stylesheet without static faults is compiled to what represents it, whose parts refer to what is there.
 pub record IsCompiled (ms : List ModuleData) (sheet : Sheet) : Type 0 where
   pub accepted : IsFirstFault ms None
-  pub stands : StandsFor ms sheet
+  pub stands : Represents ms sheet
   pub sound : IsSound sheet
 
 -- any other is refused for the least of its faults; want of memory may be the answer in any case

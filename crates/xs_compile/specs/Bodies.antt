@@ -1,16 +1,16 @@
--- Which bodies of a compiled stylesheet stand for which elements: for each instruction one case.
+-- Which bodies of a compiled stylesheet represent which elements: for each instruction one case.
 use Rattle.std.specs.Prelude.{◌≡◌, ℕ, not, Bool, true, false, List, [], ◌∷◌, filter, Option, Some, codes, if◌then◌else◌}
 use Rattle.std.specs.List.{AllZip}
 use Rattle.std.specs.Option.{option_and_then, unwrap_or}
 use Rattle.std.specs.Str.{bytes_eq}
 use Rattle.xs_modules.specs.Numbering.{ModuleData}
 use Rattle.xs_elements.specs.declared.reading.Reading.TheVariants.{Literal as LiteralReading, Extension as ExtensionReading}
-use Rattle.xs_elements.specs.declared.rows.Row.{Row}
-use Rattle.xs_elements.specs.declared.rows.Row.TheVariants.{Variable as VariableRow, ApplyTemplates as ApplyTemplatesRow, CallTemplate as CallTemplateRow, ApplyImports as ApplyImportsRow, ForEach as ForEachRow, ValueOf as ValueOfRow, CopyOf as CopyOfRow, Copy as CopyRow, Number as NumberRow, Choose as ChooseRow, Otherwise as OtherwiseRow, If as IfRow, Text as TextRow, Element as ElementRow, Attribute as AttributeRow, Comment as CommentRow, ProcessingInstruction as PiRow, Message as MessageRow, NoElement}
+use Rattle.xs_elements.specs.declared.tags.Tag.{Tag}
+use Rattle.xs_elements.specs.declared.tags.Tag.TheVariants.{Variable as VariableTag, ApplyTemplates as ApplyTemplatesTag, CallTemplate as CallTemplateTag, ApplyImports as ApplyImportsTag, ForEach as ForEachTag, ValueOf as ValueOfTag, CopyOf as CopyOfTag, Copy as CopyTag, Number as NumberTag, Choose as ChooseTag, Otherwise as OtherwiseTag, If as IfTag, Text as TextTag, Element as ElementTag, Attribute as AttributeTag, Comment as CommentTag, ProcessingInstruction as PiTag, Message as MessageTag, NoElement}
 use Rattle.xs_elements.specs.Contents.{is_with_param}
 use Rattle.xs_elements.specs.Nodes.{Name, has, value_of}
 use Rattle.xs_elements.specs.Reading.{is_xslt}
-use Rattle.xs_elements.specs.Rows.{is_fallback, is_sort, is_when, xslt_uri}
+use Rattle.xs_elements.specs.Tags.{is_fallback, is_sort, is_when, xslt_uri}
 use Rattle.xs_sheet.specs.declared.body.Applied.{Applied}
 use Rattle.xs_sheet.specs.declared.body.Body.{Body, Body', Row_of-Instr, end_of-Instr, more_of-Instr}
 use Rattle.xs_sheet.specs.declared.body.Choice.{Choice, Choice', Row_of-When, end_of-When, more_of-When}
@@ -36,15 +36,15 @@ use Rattle.xs_compile.specs.Counted.{template_number}
 use Rattle.xs_structure.specs.Excluded.{copied_spaces}
 use Rattle.xs_compile.specs.Labels.{IsMode, label_at, labels_in, mode_at, own_label}
 use Rattle.xs_compile.specs.Parsed.{Both, IsExpr, IsPattern, IsValueTemplate}
-use Rattle.xs_structure.specs.Parts.{body_at, children_with, name_at, pairs_at, reading_at, row_at, said_at, site_at, text_at, value_at}
+use Rattle.xs_structure.specs.Parts.{body_at, children_with, name_at, pairs_at, reading_at, tag_at, said_at, site_at, text_at, value_at}
 
 -- The modules of a stylesheet, and its modes in the order that gives their numbers.
 pub record Source : Type 0 where
   pub modules : List ModuleData
   pub modes : List Name
 
-abbrev pub IsRow : Source → Place → Row → Type 0
-IsRow s p row = row_at s.modules p ≡ row
+abbrev pub IsTag : Source → Place → Tag → Type 0
+IsTag s p tag = tag_at s.modules p ≡ tag
 
 -- ---- attributes: the value of one that has to be there, of one that may be there
 abbrev pub IsExprOf : Source → Place → List ℕ → ScopedExpr → Type 0
@@ -98,7 +98,7 @@ pub record IsMadeName (s : Source) (p : Place) (n : MadeName) : Type 0 where
   pub namespace : IsTemplateIf s p (codes "namespace") n.namespace
   pub scope : n.scope ≡ pairs_at s.modules p
 
--- a literal element but for its content: its attributes but for those of XSLT are value templates (7.1.1)
+-- a literal element except its content: its attributes except those of XSLT are value templates (7.1.1)
 abbrev pub IsPutAttribute : Source → Place → ℕ → Label × ValueTemplate → Type 0
 IsPutAttribute s p a put =
     (put.0 ≡ own_label (records_at s.modules p.0) a) × IsValueTemplate s.modules p (at (records_at s.modules p.0) a).text put.1
@@ -116,8 +116,8 @@ pub record IsLiteralStart (s : Source) (p : Place) (l : LiteralStart) : Type 0 w
 abbrev pub has_select : Source → Place → Bool
 has_select s p = has (records_at s.modules p.0) p.1 (codes "select")
 
-abbrev pub is_otherwise : Row → Bool
-is_otherwise OtherwiseRow = true
+abbrev pub is_otherwise : Tag → Bool
+is_otherwise OtherwiseTag = true
 is_otherwise _ = false
 
 -- the body of `xsl:otherwise`, empty where there is none (9.2)
@@ -129,15 +129,15 @@ abbrev pub is_yes : List ℕ → Bool
 is_yes value = bytes_eq value (codes "yes")
 
 -- a text, or an `xsl:text` with all text in it (7.2)
-abbrev pub is_text_or_element : Row → Bool
+abbrev pub is_text_or_element : Tag → Bool
 is_text_or_element NoElement = true
-is_text_or_element TextRow = true
+is_text_or_element TextTag = true
 is_text_or_element _ = false
 
 abbrev mutual
-  -- a body's instructions stand for these places, one for each
+  -- a body's instructions represent these places, one for each
   pub IsBody : Source → List Place → Body → Type 0
-  IsBody s ps (Body' shape row) = AreInstrs s ps row
+  IsBody s ps (Body' shape tag) = AreInstrs s ps tag
 
   pub AreInstrs : {m : _} → Source → List Place → Row_of-Instr m → Type 0
   AreInstrs s [] end_of-Instr = Unit {0}
@@ -147,44 +147,44 @@ abbrev mutual
 
   pub IsKind : Source → Place → InstrKind → Type 0
   -- 5.4
-  IsKind s p (ApplyTemplates nodes passed) = IsRow s p ApplyTemplatesRow × IsApplied s p nodes × IsPassed s (children_with is_with_param s.modules p) passed
+  IsKind s p (ApplyTemplates nodes passed) = IsTag s p ApplyTemplatesTag × IsApplied s p nodes × IsPassed s (children_with is_with_param s.modules p) passed
   -- 6
   IsKind s p (CallTemplate template passed) =
-      IsRow s p CallTemplateRow × (option_and_then (template_number s.modules) (name_at s.modules p) ≡ Some template)
+      IsTag s p CallTemplateTag × (option_and_then (template_number s.modules) (name_at s.modules p) ≡ Some template)
       × IsPassed s (children_with is_with_param s.modules p) passed
   -- 5.6
-  IsKind s p ApplyImports = IsRow s p ApplyImportsRow
+  IsKind s p ApplyImports = IsTag s p ApplyImportsTag
   -- 8
   IsKind s p (ForEach select sorts body) =
-      IsRow s p ForEachRow × IsExprOf s p (codes "select") select × AreSorts s p sorts × IsBody s (body_at s.modules p) body
+      IsTag s p ForEachTag × IsExprOf s p (codes "select") select × AreSorts s p sorts × IsBody s (body_at s.modules p) body
   -- 7.6.1
-  IsKind s p (ValueOf select) = IsRow s p ValueOfRow × IsExprOf s p (codes "select") select
+  IsKind s p (ValueOf select) = IsTag s p ValueOfTag × IsExprOf s p (codes "select") select
   -- 11.3
-  IsKind s p (CopyOf select) = IsRow s p CopyOfRow × IsExprOf s p (codes "select") select
+  IsKind s p (CopyOf select) = IsTag s p CopyOfTag × IsExprOf s p (codes "select") select
   -- 7.5
-  IsKind s p (Copy sets body) = IsRow s p CopyRow × AreSets s p sets × IsBody s (body_at s.modules p) body
+  IsKind s p (Copy sets body) = IsTag s p CopyTag × AreSets s p sets × IsBody s (body_at s.modules p) body
   -- 7.7
-  IsKind s p (Number decl) = IsRow s p NumberRow × IsNumber s p decl
+  IsKind s p (Number decl) = IsTag s p NumberTag × IsNumber s p decl
   -- 9.2
-  IsKind s p (Choose choice) = IsRow s p ChooseRow × IsChoice s p choice
+  IsKind s p (Choose choice) = IsTag s p ChooseTag × IsChoice s p choice
   -- 9.1
-  IsKind s p (If condition body) = IsRow s p IfRow × IsExprOf s p (codes "test") condition × IsBody s (body_at s.modules p) body
+  IsKind s p (If condition body) = IsTag s p IfTag × IsExprOf s p (codes "test") condition × IsBody s (body_at s.modules p) body
   -- 7.2
-  IsKind s p (Text bytes) = (is_text_or_element (row_at s.modules p) ≡ true) × (bytes ≡ text_at s.modules p)
+  IsKind s p (Text bytes) = (is_text_or_element (tag_at s.modules p) ≡ true) × (bytes ≡ text_at s.modules p)
   -- 7.1.2
-  IsKind s p (Element name sets body) = IsRow s p ElementRow × IsMadeName s p name × AreSets s p sets × IsBody s (body_at s.modules p) body
+  IsKind s p (Element name sets body) = IsTag s p ElementTag × IsMadeName s p name × AreSets s p sets × IsBody s (body_at s.modules p) body
   -- 7.1.3
-  IsKind s p (Attribute name body) = IsRow s p AttributeRow × IsMadeName s p name × IsBody s (body_at s.modules p) body
+  IsKind s p (Attribute name body) = IsTag s p AttributeTag × IsMadeName s p name × IsBody s (body_at s.modules p) body
   -- 7.4
-  IsKind s p (Comment body) = IsRow s p CommentRow × IsBody s (body_at s.modules p) body
+  IsKind s p (Comment body) = IsTag s p CommentTag × IsBody s (body_at s.modules p) body
   -- 7.3
-  IsKind s p (Pi name body) = IsRow s p PiRow × IsTemplateOf s p (codes "name") name × IsBody s (body_at s.modules p) body
+  IsKind s p (Pi name body) = IsTag s p PiTag × IsTemplateOf s p (codes "name") name × IsBody s (body_at s.modules p) body
   -- 13
   IsKind s p (Message terminate body) =
-      IsRow s p MessageRow × (terminate ≡ is_yes (said_at s.modules p (codes "terminate"))) × IsBody s (body_at s.modules p) body
+      IsTag s p MessageTag × (terminate ≡ is_yes (said_at s.modules p (codes "terminate"))) × IsBody s (body_at s.modules p) body
   -- 11.2
   IsKind s p (Variable' site name content) =
-      IsRow s p VariableRow × (site ≡ site_at s.modules p) × (label_at s.modules p ≡ Some name) × IsContent s p content
+      IsTag s p VariableTag × (site ≡ site_at s.modules p) × (label_at s.modules p ≡ Some name) × IsContent s p content
   -- 7.1.1
   IsKind s p (Literal start body) = (reading_at s.modules p ≡ LiteralReading) × IsLiteralStart s p start × IsBody s (body_at s.modules p) body
   -- 14.1, 15
@@ -198,7 +198,7 @@ abbrev mutual
 
   -- the parameters that are passed (11.6)
   pub IsPassed : Source → List Place → Passed → Type 0
-  IsPassed s ps (Passed' shape row) = AreBindings s ps row
+  IsPassed s ps (Passed' shape tag) = AreBindings s ps tag
 
   pub AreBindings : {m : _} → Source → List Place → Row_of-Binding m → Type 0
   AreBindings s [] end_of-Binding = Unit {0}
@@ -209,8 +209,8 @@ abbrev mutual
 
   -- 9.2
   pub IsChoice : Source → Place → Choice → Type 0
-  IsChoice s p (Choice' shape row otherwise) =
-      AreWhens s (children_with is_when s.modules p) row × IsBody s (first_body s (children_with is_otherwise s.modules p)) otherwise
+  IsChoice s p (Choice' shape tag otherwise) =
+      AreWhens s (children_with is_when s.modules p) tag × IsBody s (first_body s (children_with is_otherwise s.modules p)) otherwise
 
   pub AreWhens : {m : _} → Source → List Place → Row_of-When m → Type 0
   AreWhens s [] end_of-When = Unit {0}
@@ -223,7 +223,7 @@ abbrev mutual
 
   -- 15
   pub AreFallbacks : Source → List Place → Fallbacks → Type 0
-  AreFallbacks s ps (Fallbacks' shape row) = AreBodies s ps row
+  AreFallbacks s ps (Fallbacks' shape tag) = AreBodies s ps tag
 
   pub AreBodies : {m : _} → Source → List Place → Row_of-Body m → Type 0
   AreBodies s [] end_of-Body = Unit {0}

@@ -1,9 +1,9 @@
--- Which parts of a compiled stylesheet stand for which declarations of its modules.
+-- Which parts of a compiled stylesheet represent which declarations of its modules.
 use Rattle.std.specs.Prelude.{◌≡◌, Bool, true, false, [], ◌∷◌, Some, None, option_map, codes}
 use Rattle.std.specs.List.{AllZip}
-use Rattle.xs_elements.specs.declared.rows.Row.{Row}
-use Rattle.xs_elements.specs.declared.rows.Row.TheVariants.{Key, Attribute}
-use Rattle.xs_elements.specs.Rows.{is_param, is_template}
+use Rattle.xs_elements.specs.declared.tags.Tag.{Tag}
+use Rattle.xs_elements.specs.declared.tags.Tag.TheVariants.{Key, Attribute}
+use Rattle.xs_elements.specs.Tags.{is_param, is_template}
 use Rattle.xs_sheet.specs.declared.body.Binding.{Binding}
 use Rattle.xs_sheet.specs.declared.body.Instr.{Instr}
 use Rattle.xs_sheet.specs.declared.declarations.AttrSet.{AttrSet}
@@ -12,7 +12,7 @@ use Rattle.xs_sheet.specs.declared.declarations.KeyDecl.{KeyDecl}
 use Rattle.xs_sheet.specs.declared.declarations.Template.{Template}
 use Rattle.xs_structure.specs.Modules.{Place, precedence_at}
 use Rattle.xs_compile.specs.Labels.{IsMode, label_at, mode_at}
-use Rattle.xs_structure.specs.Parts.{body_at, children_with, imports_from_at, row_at, said_at, site_at, value_at}
+use Rattle.xs_structure.specs.Parts.{body_at, children_with, imports_from_at, tag_at, said_at, site_at, value_at}
 use Rattle.xs_compile.specs.Priorities.{priority_in}
 use Rattle.xs_compile.specs.Bodies.{Source, AreSets, IsBody, IsContent, IsExprOf, IsKind}
 use Rattle.xs_compile.specs.Parsed.{Both, IsPattern}
@@ -51,14 +51,14 @@ pub record IsTemplate (s : Source) (p : Place) (t : Template) : Type 0 where
   pub site : t.site ≡ site_at s.modules p
   pub precedence : t.precedence ≡ precedence_at s.modules p.0
   pub imports_from : t.imports_from ≡ imports_from_at s.modules p.0
-  pub rest : IsRuleOrModule (is_template (row_at s.modules p)) s p t
+  pub rest : IsRuleOrModule (is_template (tag_at s.modules p)) s p t
 
 -- ---- globals (11.4), keys (12.2), attribute sets (7.1.4)
 pub record IsGlobal (s : Source) (p : Place) (g : Global) : Type 0 where
   pub binding : IsBinding s p g.binding
-  pub param : g.param ≡ is_param (row_at s.modules p)
+  pub param : g.param ≡ is_param (tag_at s.modules p)
 
-abbrev pub is_key : Row → Bool
+abbrev pub is_key : Tag → Bool
 is_key Key = true
 is_key _ = false
 
@@ -68,7 +68,7 @@ pub record IsKey (s : Source) (p : Place) (k : KeyDecl) : Type 0 where
   pub pattern : IsPattern s.modules p (said_at s.modules p (codes "match")) k.pattern
   pub value : IsExprOf s p (codes "use") k.value
 
-abbrev pub is_attribute : Row → Bool
+abbrev pub is_attribute : Tag → Bool
 is_attribute Attribute = true
 is_attribute _ = false
 

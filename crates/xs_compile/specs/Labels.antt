@@ -31,7 +31,7 @@ label_at ms p = option_and_then (label_in (pairs_at ms p)) (value_at ms p (codes
 abbrev pub own_label : List Record → ℕ → Label
 own_label rs n = record { uri = uri_at rs n; local = local_at rs n; prefix = prefix_at rs n }
 
--- ---- modes (5.7): a mode is told by its place in a list of modes, from 1 on, and no mode by 0
+-- ---- modes (5.7): a mode is known by its place in a list of modes, from 1 on, and no mode by 0
 abbrev pub mode_at : List ModuleData → Place → Option Name
 mode_at ms p = option_and_then (expanded (pairs_at ms p)) (value_at ms p (codes "mode"))
 

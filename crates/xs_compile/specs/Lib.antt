@@ -12,6 +12,6 @@ pub mod Parsed
 pub mod Priorities
 pub mod Slots
 pub mod Spaces
-pub mod StandsFor
+pub mod Represents
 pub mod Tables
 pub mod steps

@@ -2,8 +2,8 @@
 use Rattle.std.specs.Prelude.{ℕ, Bool, true, false, List, filter, is_some, codes, if◌then◌else◌}
 use Rattle.std.specs.Option.{option_map_or}
 use Rattle.std.specs.Str.{bytes_eq}
-use Rattle.xs_elements.specs.declared.rows.Row.{Row}
-use Rattle.xs_elements.specs.declared.rows.Row.TheVariants.{Output}
+use Rattle.xs_elements.specs.declared.tags.Tag.{Tag}
+use Rattle.xs_elements.specs.declared.tags.Tag.TheVariants.{Output}
 use Rattle.xs_modules.specs.Numbering.{ModuleData}
 use Rattle.xs_sheet.specs.declared.declarations.Method.{Method}
 use Rattle.xs_sheet.specs.declared.declarations.Method.TheVariants.{Pyx, Text}
@@ -12,7 +12,7 @@ use Rattle.xs_compile.specs.Counted.{counted}
 use Rattle.xs_structure.specs.Order.{all_with}
 use Rattle.xs_structure.specs.Parts.{said_at, value_at}
 
-abbrev pub is_output : Row → Bool
+abbrev pub is_output : Tag → Bool
 is_output Output = true
 is_output _ = false
 

@@ -1,4 +1,4 @@
--- What the values of attributes stand for, in the scope of their element and with their variables bound.
+-- What the values of attributes represent, in the scope of their element and with their variables bound.
 use Rattle.std.specs.Prelude.{◌≡◌, ℕ, List, map, Option, Some, None, option_map}
 use Rattle.std.specs.Result.{result_ok}
 use Rattle.xs_modules.specs.Numbering.{ModuleData}

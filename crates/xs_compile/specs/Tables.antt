@@ -2,8 +2,8 @@
 use Rattle.std.specs.Prelude.{ℕ, ◌&&◌, Bool, List, Option}
 use Rattle.std.specs.HashMap.{get_by}
 use Rattle.std.specs.Str.{bytes_eq}
-use Rattle.xs_elements.specs.declared.rows.Row.{Row}
-use Rattle.xs_elements.specs.Rows.{is_template, is_variable}
+use Rattle.xs_elements.specs.declared.tags.Tag.{Tag}
+use Rattle.xs_elements.specs.Tags.{is_template, is_variable}
 use Rattle.xs_structure.specs.Modules.{Place}
 use Rattle.xs_compile.specs.declared.counted.Counted.{Counted}
 use Rattle.xs_compile.specs.declared.counted.Kind.{Kind}
@@ -18,6 +18,6 @@ abbrev pub number_in : Numbers → (uri local : List ℕ) → Option ℕ
 number_in n uri local = get_by (λ k. bytes_eq uri k.0.now && bytes_eq local k.1.now) n.numbers
 
 -- which elements are of a kind
-abbrev pub kind_test : Kind → Row → Bool
+abbrev pub kind_test : Kind → Tag → Bool
 kind_test Global = is_variable
 kind_test Template = is_template

@@ -4,7 +4,7 @@ pub mod Counting
 pub mod Gains
 pub mod Locals
 pub mod Output
-pub mod Rows
+pub mod Tags
 pub mod Spaces
 pub mod State
 pub mod Tables

@@ -7,7 +7,7 @@ ghost use Rattle.std.specs.Option.{unwrap_or};
 ghost use Rattle.xs_compile.specs.Counted.{counted};
 ghost use Rattle.xs_compile.specs.Aliases.{alias_at, aliases, is_alias, prefix_uri};
 ghost use Rattle.xs_structure.specs.Order.{declarations};
-ghost use Rattle.xs_structure.specs.Parts.{pairs_at, row_at, said_at};
+ghost use Rattle.xs_structure.specs.Parts.{pairs_at, tag_at, said_at};
 ghost use Rattle.xs_compile.specs.steps.Counting.{counts_for};
 ghost use Rattle.xs_compile.specs.steps.Aliases.{has_alias, is_alias_for};
 ghost use Rattle.xs_compile.specs.Tables.{place_in};
@@ -16,11 +16,11 @@ ghost use Rattle.xs_modules.specs.Results.{modules_data};
 
 use crate::counted::Counted;
 use std::alloc::{AllocError, Global};
-use xs_elements::rows::Row;
 use xs_elements::scope::uri_of;
+use xs_elements::tags::Tag;
 use xs_modules::Modules;
 use xs_sheet::declarations::Alias;
-use xs_structure::places::{Place, row_at, said_at, tree_of};
+use xs_structure::places::{Place, said_at, tag_at, tree_of};
 use xs_text::TextBuf;
 use xs_tree::Node;
 
@@ -75,12 +75,12 @@ fn alias_at(alloc: Global, modules: &Modules, number: u32, n: Node) -> Result<Al
 /// Whether an element declares an alias.
 fn is_alias(modules: &Modules, number: u32, n: Node) -> bool
     requires at { IsIn (modules_data modules.now) («number», n) }
-    ensures { result ≡ is_alias (row_at (modules_data modules.now) («number», n)) }
+    ensures { result ≡ is_alias (tag_at (modules_data modules.now) («number», n)) }
 {
-    matches!(row_at(modules, number, n), Row::NamespaceAlias)
+    matches!(tag_at(modules, number, n), Tag::NamespaceAlias)
 }
 
-/// Notes a declaration, if it is that of an alias: its namespace stands for its name.
+/// Notes a declaration, if it is that of an alias: its namespace represents its name.
 fn note_alias<'m>(
     modules: &'m Modules,
     number: u32,
@@ -99,7 +99,7 @@ fn note_alias<'m>(
     found.declare(modules, (from_uri(modules, number, n), ""), number, n)
 }
 
-/// The declarations of aliases that count, each for another namespace, which stands for its name.
+/// The declarations of aliases that count, each for another namespace, which represents its name.
 fn counted_aliases<'m>(
     alloc: Global,
     modules: &'m Modules,

@@ -3,10 +3,10 @@
 ghost use Rattle.std.specs.Prelude.{◌≡◌, true, codes, IfOk};
 ghost use Rattle.std.specs.Arc.{arc_value};
 ghost use Rattle.std.specs.Option.{unwrap_or};
-ghost use Rattle.xs_compile.specs.Bodies.{AreSorts, IsApplied, IsKind, IsNumber, IsRow, IsSort};
+ghost use Rattle.xs_compile.specs.Bodies.{AreSorts, IsApplied, IsKind, IsNumber, IsTag, IsSort};
 ghost use Rattle.xs_compile.specs.Bodies.{is_text_or_element, level_named};
 ghost use Rattle.xs_compile.specs.Parsed.{IsExpr, IsScope};
-ghost use Rattle.xs_structure.specs.Parts.{reading_at, row_at, value_at};
+ghost use Rattle.xs_structure.specs.Parts.{reading_at, tag_at, value_at};
 ghost use Rattle.xs_compile.specs.steps.State.{IsReady, modules_of, source_of};
 ghost use Rattle.xs_elements.specs.declared.reading.Reading.TheVariants.{Known};
 
@@ -14,7 +14,7 @@ use crate::compiler::Compiler;
 use crate::parts::Part;
 use std::alloc::AllocError;
 use std::sync::Arc;
-use xs_elements::rows::Row;
+use xs_elements::tags::Tag;
 use xs_sheet::body::{Applied, InstrKind, Level, NumberDecl, SortDecl};
 use xs_sheet::items::Items;
 use xs_sheet::scoped::ScopedExpr;
@@ -39,7 +39,7 @@ impl<'m> Compiler<'m> {
     /// The nodes to which templates are applied, and the mode (5.4).
     pub(crate) fn nodes(&self, number: u32, n: Node) -> Result<Applied, AllocError>
         requires ready { IsReady self.now («number», n) }
-        requires row { IsRow (source_of self.now) («number», n) Row.ApplyTemplates }
+        requires tag { IsTag (source_of self.now) («number», n) Tag.ApplyTemplates }
         ensures { IfOk result (IsApplied (source_of self.now) («number», n)) }
     {
         Ok(Applied {
@@ -67,7 +67,7 @@ impl<'m> Compiler<'m> {
     /// One of them.
     fn sort(&self, number: u32, n: Node) -> Result<SortDecl, AllocError>
         requires ready { IsReady self.now («number», n) }
-        requires row { IsRow (source_of self.now) («number», n) Row.Sort }
+        requires tag { IsTag (source_of self.now) («number», n) Tag.Sort }
         ensures { IfOk result (IsSort (source_of self.now) («number», n)) }
     {
         let scope = self.scope(number, n)?;
@@ -87,7 +87,7 @@ impl<'m> Compiler<'m> {
     ) -> Result<ScopedExpr, AllocError>
         requires ready { IsReady self.now («number», n) }
         requires scope { IsScope (modules_of self.now) («number», n) (arc_value scope.now) }
-        requires row { IsRow (source_of self.now) («number», n) Row.Sort }
+        requires tag { IsTag (source_of self.now) («number», n) Tag.Sort }
         ensures { IfOk result (IsExpr (modules_of self.now) («number», n)
             (unwrap_or (value_at (modules_of self.now) («number», n) (codes "select"))
             (codes "."))) }
@@ -101,7 +101,7 @@ impl<'m> Compiler<'m> {
     /// A number that is put (7.7).
     pub(crate) fn number(&self, number: u32, n: Node) -> Result<NumberDecl, AllocError>
         requires ready { IsReady self.now («number», n) }
-        requires row { IsRow (source_of self.now) («number», n) Row.Number }
+        requires tag { IsTag (source_of self.now) («number», n) Tag.Number }
         ensures { IfOk result (IsNumber (source_of self.now) («number», n)) }
     {
         let scope = self.scope(number, n)?;
@@ -119,7 +119,7 @@ impl<'m> Compiler<'m> {
     /// A text, or an `xsl:text` (7.2).
     pub(crate) fn text(&self, number: u32, n: Node) -> Result<InstrKind, AllocError>
         requires ready { IsReady self.now («number», n) }
-        requires row { is_text_or_element (row_at (modules_of self.now) («number», n)) ≡ true }
+        requires tag { is_text_or_element (tag_at (modules_of self.now) («number», n)) ≡ true }
         ensures { IfOk result (IsKind (source_of self.now) («number», n)) }
     {
         let text = text_at(self.alloc, self.modules, number, n)?;
@@ -129,7 +129,7 @@ impl<'m> Compiler<'m> {
     /// The string value of an expression (7.6.1).
     pub(crate) fn value_of(&self, number: u32, n: Node) -> Result<InstrKind, AllocError>
         requires ready { IsReady self.now («number», n) }
-        requires row { IsRow (source_of self.now) («number», n) Row.ValueOf }
+        requires tag { IsTag (source_of self.now) («number», n) Tag.ValueOf }
         ensures { IfOk result (IsKind (source_of self.now) («number», n)) }
     {
         Ok(InstrKind::ValueOf(self.own_expr(number, n, "select")?))
@@ -138,7 +138,7 @@ impl<'m> Compiler<'m> {
     /// A copy of the value of an expression (11.3).
     pub(crate) fn copy_of(&self, number: u32, n: Node) -> Result<InstrKind, AllocError>
         requires ready { IsReady self.now («number», n) }
-        requires row { IsRow (source_of self.now) («number», n) Row.CopyOf }
+        requires tag { IsTag (source_of self.now) («number», n) Tag.CopyOf }
         ensures { IfOk result (IsKind (source_of self.now) («number», n)) }
     {
         Ok(InstrKind::CopyOf(self.own_expr(number, n, "select")?))
@@ -148,7 +148,7 @@ impl<'m> Compiler<'m> {
     #[inline(never)]
     pub(crate) fn numbered(&self, number: u32, n: Node) -> Result<InstrKind, AllocError>
         requires ready { IsReady self.now («number», n) }
-        requires row { IsRow (source_of self.now) («number», n) Row.Number }
+        requires tag { IsTag (source_of self.now) («number», n) Tag.Number }
         ensures { IfOk result (IsKind (source_of self.now) («number», n)) }
     {
         Ok(InstrKind::Number(self.number(number, n)?))

@@ -2,25 +2,25 @@
 
 ghost use Rattle.std.specs.Prelude.{◌≡◌, true, IfOk};
 ghost use Rattle.std.specs.List.{AllZip};
-ghost use Rattle.xs_compile.specs.Bodies.{AreFallbacks, IsBody, IsKind, IsRow, IsWhen, first_body};
+ghost use Rattle.xs_compile.specs.Bodies.{AreFallbacks, IsBody, IsKind, IsTag, IsWhen, first_body};
 ghost use Rattle.xs_compile.specs.Bodies.{is_otherwise};
-ghost use Rattle.xs_structure.specs.Parts.{body_at, children_with, reading_at, row_at};
+ghost use Rattle.xs_structure.specs.Parts.{body_at, children_with, reading_at, tag_at};
 ghost use Rattle.xs_compile.specs.steps.Gains.{Gains, GainsInstr};
-ghost use Rattle.xs_compile.specs.steps.Rows.{holds_body};
+ghost use Rattle.xs_compile.specs.steps.Tags.{holds_body};
 ghost use Rattle.xs_compile.specs.steps.State.{IsInstruction, IsReady, modules_of, source_of};
 ghost use Rattle.xs_elements.specs.declared.reading.Reading.TheVariants.{Extension, Literal};
 ghost use Rattle.xs_elements.specs.Reading.{content_at};
-ghost use Rattle.xs_elements.specs.Rows.{is_fallback, is_when};
+ghost use Rattle.xs_elements.specs.Tags.{is_fallback, is_when};
 ghost use Rattle.xs_structure.specs.Modules.{records_at};
 
 use crate::compiler::Compiler;
 use crate::parts::Part;
 use std::alloc::AllocError;
 use xs_elements::reading::Reading;
-use xs_elements::rows::Row;
+use xs_elements::tags::Tag;
 use xs_sheet::body::{Body, Choice, Fallbacks, Instr, InstrKind, When};
 use xs_sheet::items::Items;
-use xs_structure::places::{row_at, said_at, site_at};
+use xs_structure::places::{said_at, site_at, tag_at};
 use xs_trace::item::Site;
 use xs_tree::Node;
 
@@ -58,7 +58,7 @@ impl<'m> Compiler<'m> {
         })
     }
 
-    /// Adds the instruction that a node of a body stands for.
+    /// Adds the instruction that a node of a body represents.
     #[cycle(bodies)]
     pub(crate) fn add_instr(
         &self,
@@ -81,25 +81,25 @@ impl<'m> Compiler<'m> {
         requires { IsInstruction self.now («number», n) }
         ensures { IfOk result (IsKind (source_of self.now) («number», n)) }
     {
-        match row_at(self.modules, number, n) {
-            Row::NoElement | Row::Text => self.text(number, n),
-            Row::ApplyTemplates => self.apply_templates(number, n),
-            Row::CallTemplate => self.call_template(number, n),
-            Row::ApplyImports => Ok(InstrKind::ApplyImports),
-            Row::ForEach => self.for_each(number, n),
-            Row::ValueOf => self.value_of(number, n),
-            Row::CopyOf => self.copy_of(number, n),
-            Row::Copy => self.copy(number, n),
-            Row::Number => self.numbered(number, n),
-            Row::Choose => self.choose(number, n),
-            Row::If => self.test(number, n),
-            Row::Variable => self.variable(number, n),
-            Row::Element => self.element(number, n),
-            Row::Attribute => self.attribute(number, n),
-            Row::Comment => self.comment(number, n),
-            Row::ProcessingInstruction => self.pi(number, n),
-            Row::Message => self.message(number, n),
-            Row::Other => self.other(number, n),
+        match tag_at(self.modules, number, n) {
+            Tag::NoElement | Tag::Text => self.text(number, n),
+            Tag::ApplyTemplates => self.apply_templates(number, n),
+            Tag::CallTemplate => self.call_template(number, n),
+            Tag::ApplyImports => Ok(InstrKind::ApplyImports),
+            Tag::ForEach => self.for_each(number, n),
+            Tag::ValueOf => self.value_of(number, n),
+            Tag::CopyOf => self.copy_of(number, n),
+            Tag::Copy => self.copy(number, n),
+            Tag::Number => self.numbered(number, n),
+            Tag::Choose => self.choose(number, n),
+            Tag::If => self.test(number, n),
+            Tag::Variable => self.variable(number, n),
+            Tag::Element => self.element(number, n),
+            Tag::Attribute => self.attribute(number, n),
+            Tag::Comment => self.comment(number, n),
+            Tag::ProcessingInstruction => self.pi(number, n),
+            Tag::Message => self.message(number, n),
+            Tag::Other => self.other(number, n),
             _ => unreachable!(),
         }
     }
@@ -109,7 +109,7 @@ impl<'m> Compiler<'m> {
     #[inline(never)]
     fn apply_templates(&self, number: u32, n: Node) -> Result<InstrKind, AllocError>
         requires ready { IsReady self.now («number», n) }
-        requires row { IsRow (source_of self.now) («number», n) Row.ApplyTemplates }
+        requires tag { IsTag (source_of self.now) («number», n) Tag.ApplyTemplates }
         ensures { IfOk result (IsKind (source_of self.now) («number», n)) }
     {
         let passed = self.passed(number, n)?;
@@ -121,7 +121,7 @@ impl<'m> Compiler<'m> {
     #[cycle(bodies)]
     fn call_template(&self, number: u32, n: Node) -> Result<InstrKind, AllocError>
         requires ready { IsReady self.now («number», n) }
-        requires row { IsRow (source_of self.now) («number», n) Row.CallTemplate }
+        requires tag { IsTag (source_of self.now) («number», n) Tag.CallTemplate }
         ensures { IfOk result (IsKind (source_of self.now) («number», n)) }
     {
         let template = self.called(number, n);
@@ -134,7 +134,7 @@ impl<'m> Compiler<'m> {
     #[inline(never)]
     fn for_each(&self, number: u32, n: Node) -> Result<InstrKind, AllocError>
         requires ready { IsReady self.now («number», n) }
-        requires row { IsRow (source_of self.now) («number», n) Row.ForEach }
+        requires tag { IsTag (source_of self.now) («number», n) Tag.ForEach }
         ensures { IfOk result (IsKind (source_of self.now) («number», n)) }
     {
         let sorts = self.sorts(number, n)?;
@@ -151,7 +151,7 @@ impl<'m> Compiler<'m> {
     #[cycle(bodies)]
     fn test(&self, number: u32, n: Node) -> Result<InstrKind, AllocError>
         requires ready { IsReady self.now («number», n) }
-        requires row { IsRow (source_of self.now) («number», n) Row.If }
+        requires tag { IsTag (source_of self.now) («number», n) Tag.If }
         ensures { IfOk result (IsKind (source_of self.now) («number», n)) }
     {
         let body = self.body(number, n)?;
@@ -163,7 +163,7 @@ impl<'m> Compiler<'m> {
     #[cycle(bodies)]
     fn variable(&self, number: u32, n: Node) -> Result<InstrKind, AllocError>
         requires ready { IsReady self.now («number», n) }
-        requires row { IsRow (source_of self.now) («number», n) Row.Variable }
+        requires tag { IsTag (source_of self.now) («number», n) Tag.Variable }
         ensures { IfOk result (IsKind (source_of self.now) («number», n)) }
     {
         Ok(InstrKind::Variable(self.binding(number, n)?))
@@ -174,7 +174,7 @@ impl<'m> Compiler<'m> {
     #[inline(never)]
     fn choose(&self, number: u32, n: Node) -> Result<InstrKind, AllocError>
         requires ready { IsReady self.now («number», n) }
-        requires row { IsRow (source_of self.now) («number», n) Row.Choose }
+        requires tag { IsTag (source_of self.now) («number», n) Tag.Choose }
         ensures { IfOk result (IsKind (source_of self.now) («number», n)) }
     {
         let whens = self.whens(number, n)?;
@@ -189,7 +189,7 @@ impl<'m> Compiler<'m> {
     #[cycle(bodies)]
     fn whens(&self, number: u32, n: Node) -> Result<Vec<When>, AllocError>
         requires ready { IsReady self.now («number», n) }
-        requires row { IsRow (source_of self.now) («number», n) Row.Choose }
+        requires tag { IsTag (source_of self.now) («number», n) Tag.Choose }
         ensures { IfOk result (λ whens. AllZip (IsWhen (source_of self.now))
             (children_with is_when (modules_of self.now) («number», n)) whens.items) }
     {
@@ -206,7 +206,7 @@ impl<'m> Compiler<'m> {
     #[cycle(bodies)]
     fn when(&self, number: u32, n: Node) -> Result<When, AllocError>
         requires ready { IsReady self.now («number», n) }
-        requires row { IsRow (source_of self.now) («number», n) Row.When }
+        requires tag { IsTag (source_of self.now) («number», n) Tag.When }
         ensures { IfOk result (IsWhen (source_of self.now) («number», n)) }
     {
         let body = self.body(number, n)?;
@@ -218,7 +218,7 @@ impl<'m> Compiler<'m> {
     #[cycle(bodies)]
     fn otherwise(&self, number: u32, n: Node) -> Result<Body, AllocError>
         requires ready { IsReady self.now («number», n) }
-        requires row { IsRow (source_of self.now) («number», n) Row.Choose }
+        requires tag { IsTag (source_of self.now) («number», n) Tag.Choose }
         ensures { IfOk result (IsBody (source_of self.now) (first_body (source_of self.now)
             (children_with is_otherwise (modules_of self.now) («number», n)))) }
     {
@@ -235,7 +235,7 @@ impl<'m> Compiler<'m> {
     #[cycle(bodies)]
     fn copy(&self, number: u32, n: Node) -> Result<InstrKind, AllocError>
         requires ready { IsReady self.now («number», n) }
-        requires row { IsRow (source_of self.now) («number», n) Row.Copy }
+        requires tag { IsTag (source_of self.now) («number», n) Tag.Copy }
         ensures { IfOk result (IsKind (source_of self.now) («number», n)) }
     {
         let sets = self.own_sets(number, n)?;
@@ -250,7 +250,7 @@ impl<'m> Compiler<'m> {
     #[cycle(bodies)]
     fn element(&self, number: u32, n: Node) -> Result<InstrKind, AllocError>
         requires ready { IsReady self.now («number», n) }
-        requires row { IsRow (source_of self.now) («number», n) Row.Element }
+        requires tag { IsTag (source_of self.now) («number», n) Tag.Element }
         ensures { IfOk result (IsKind (source_of self.now) («number», n)) }
     {
         let body = self.body(number, n)?;
@@ -267,7 +267,7 @@ impl<'m> Compiler<'m> {
     #[cycle(bodies)]
     fn attribute(&self, number: u32, n: Node) -> Result<InstrKind, AllocError>
         requires ready { IsReady self.now («number», n) }
-        requires row { IsRow (source_of self.now) («number», n) Row.Attribute }
+        requires tag { IsTag (source_of self.now) («number», n) Tag.Attribute }
         ensures { IfOk result (IsKind (source_of self.now) («number», n)) }
     {
         let body = self.body(number, n)?;
@@ -279,7 +279,7 @@ impl<'m> Compiler<'m> {
     #[cycle(bodies)]
     fn comment(&self, number: u32, n: Node) -> Result<InstrKind, AllocError>
         requires ready { IsReady self.now («number», n) }
-        requires row { IsRow (source_of self.now) («number», n) Row.Comment }
+        requires tag { IsTag (source_of self.now) («number», n) Tag.Comment }
         ensures { IfOk result (IsKind (source_of self.now) («number», n)) }
     {
         Ok(InstrKind::Comment(self.body(number, n)?))
@@ -289,7 +289,7 @@ impl<'m> Compiler<'m> {
     #[cycle(bodies)]
     fn pi(&self, number: u32, n: Node) -> Result<InstrKind, AllocError>
         requires ready { IsReady self.now («number», n) }
-        requires row { IsRow (source_of self.now) («number», n) Row.ProcessingInstruction }
+        requires tag { IsTag (source_of self.now) («number», n) Tag.ProcessingInstruction }
         ensures { IfOk result (IsKind (source_of self.now) («number», n)) }
     {
         let name = self.own_template(number, n, "name")?;
@@ -301,7 +301,7 @@ impl<'m> Compiler<'m> {
     #[cycle(bodies)]
     fn message(&self, number: u32, n: Node) -> Result<InstrKind, AllocError>
         requires ready { IsReady self.now («number», n) }
-        requires row { IsRow (source_of self.now) («number», n) Row.Message }
+        requires tag { IsTag (source_of self.now) («number», n) Tag.Message }
         ensures { IfOk result (IsKind (source_of self.now) («number», n)) }
     {
         let terminate = said_at(self.modules, number, n, "terminate") == "yes";
@@ -314,7 +314,7 @@ impl<'m> Compiler<'m> {
     #[inline(never)]
     fn other(&self, number: u32, n: Node) -> Result<InstrKind, AllocError>
         requires instruction { IsInstruction self.now («number», n) }
-        requires row { IsRow (source_of self.now) («number», n) Row.Other }
+        requires tag { IsTag (source_of self.now) («number», n) Tag.Other }
         ensures { IfOk result (IsKind (source_of self.now) («number», n)) }
     {
         match self.standing(number, n).reading {

@@ -3,7 +3,7 @@
 ghost use Rattle.std.specs.List.{All};
 ghost use Rattle.std.specs.Prelude.{◌≡◌, ◌<◌, ◌^◌, ℕ, List, None, find, length, map, IfOk, IfSome};
 ghost use Rattle.std.specs.Prelude.{OnOk};
-ghost use Rattle.xs_compile.specs.StandsFor.{StandsFor, is_root_element, root_line};
+ghost use Rattle.xs_compile.specs.Represents.{Represents, is_root_element, root_line};
 ghost use Rattle.xs_static.specs.Faults.{IsFirstFault};
 ghost use Rattle.xs_compile.specs.Answers.{Answers};
 ghost use Rattle.xs_compile.specs.declared.compiled.CompileEnd.TheVariants.{NoMemory};
@@ -13,7 +13,7 @@ ghost use Rattle.xs_compile.specs.Counted.{counted, named};
 ghost use Rattle.xs_structure.specs.Order.{declarations};
 ghost use Rattle.xs_structure.specs.Places.{IsIn};
 ghost use Rattle.xs_compile.specs.Tables.{place_in};
-ghost use Rattle.xs_elements.specs.Rows.{is_variable};
+ghost use Rattle.xs_elements.specs.Tags.{is_variable};
 ghost use Rattle.xs_modules.specs.Results.{modules_data};
 ghost use Rattle.xs_modules.specs.Sound.{IsSound};
 ghost use Rattle.xs_tree.specs.Record.{places};
@@ -128,7 +128,7 @@ fn sheet_of(alloc: Global, modules: &Modules, declared: &[Place]) -> Result<Shee
     requires all { declared.now ≡ declarations (modules_data modules.now) }
     requires sound { IsSound (modules_data modules.now) }
     requires accepted { IsFirstFault (modules_data modules.now) None }
-    ensures { IfOk result (StandsFor (modules_data modules.now)) }
+    ensures { IfOk result (Represents (modules_data modules.now)) }
 {
     let counted = counted_of(alloc, modules, declared, Declared::Global)?;
     let compiler = Compiler::new(alloc, modules, declared, &counted)?;
@@ -147,7 +147,7 @@ fn sheet_by<'m>(
     requires counted { (uri local : List ℕ) → place_in found.now uri local
         ≡ counted (modules_of compiler.now) (named is_variable (modules_of compiler.now)
         (uri, local)) }
-    ensures { IfOk result (StandsFor (modules_of compiler.now)) }
+    ensures { IfOk result (Represents (modules_of compiler.now)) }
 {
     let alloc = compiler.alloc;
     let modules = compiler.modules;
@@ -165,7 +165,7 @@ fn sheet_by<'m>(
 }
 
 /// A stylesheet, compiled. It is refused exactly where it has a static fault, for the least of
-/// them; what is compiled stands for the modules, and refers to nothing that is not there.
+/// them; what is compiled represents the modules, and refers to nothing that is not there.
 ///
 /// The time is linear in the size of the modules.
 pub fn compile(alloc: Global, modules: &Modules) -> Result<Sheet, CompileEnd>

@@ -4,7 +4,7 @@ ghost use Rattle.std.specs.Prelude.{◌≡◌, ℕ, List, None, Some, map, IfOk}
 ghost use Rattle.std.specs.Arc.{arc_value};
 ghost use Rattle.std.specs.List.{All, AllZip};
 ghost use Rattle.std.specs.Option.{option_and_then};
-ghost use Rattle.xs_compile.specs.Bodies.{IsRow};
+ghost use Rattle.xs_compile.specs.Bodies.{IsTag};
 ghost use Rattle.xs_compile.specs.Counted.{counted, named, template_number};
 ghost use Rattle.xs_compile.specs.Labels.{IsMode, mode_at};
 ghost use Rattle.xs_structure.specs.Order.{declarations};
@@ -18,7 +18,7 @@ ghost use Rattle.xs_compile.specs.steps.State.{IsReady, IsState, modules_of, sou
 ghost use Rattle.xs_compile.specs.steps.Tables.{HasLocals};
 ghost use Rattle.xs_structure.specs.Scopes.{scopes_in, scopes_of};
 ghost use Rattle.xs_structure.specs.Places.{IsIn};
-ghost use Rattle.xs_elements.specs.Rows.{is_variable};
+ghost use Rattle.xs_elements.specs.Tags.{is_variable};
 ghost use Rattle.xs_modules.specs.Results.{modules_data};
 ghost use Rattle.xs_modules.specs.Sound.{IsSound};
 ghost use Rattle.xs_static.specs.Faults.{IsFirstFault};
@@ -30,7 +30,7 @@ use crate::modes::{Modes, mode_at};
 use crate::slots::Locals;
 use std::alloc::{AllocError, Global};
 use std::sync::Arc;
-use xs_elements::rows::Row;
+use xs_elements::tags::Tag;
 use xs_modules::Modules;
 use xs_structure::places::{Place, name_at, tree_of};
 use xs_structure::scopes::Scopes;
@@ -196,7 +196,7 @@ impl<'m> Compiler<'m> {
     /// The number of the template that an element calls (6).
     pub(crate) fn called(&self, number: u32, n: Node) -> u32
         requires ready { IsReady self.now («number», n) }
-        requires row { IsRow (source_of self.now) («number», n) Row.CallTemplate }
+        requires tag { IsTag (source_of self.now) («number», n) Tag.CallTemplate }
         ensures { option_and_then (template_number (modules_of self.now))
             (name_at (modules_of self.now) («number», n)) ≡ Some result }
     {

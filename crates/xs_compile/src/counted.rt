@@ -13,16 +13,16 @@ ghost use Rattle.xs_compile.specs.steps.Counting.{numbered_as};
 ghost use Rattle.xs_compile.specs.Tables.{kind_test, number_in, place_in};
 ghost use Rattle.xs_structure.specs.Places.{IsIn};
 ghost use Rattle.xs_elements.specs.Nodes.{is_named, is_same_name, name_data};
-ghost use Rattle.xs_elements.specs.Rows.{is_template, is_variable};
+ghost use Rattle.xs_elements.specs.Tags.{is_template, is_variable};
 ghost use Rattle.xs_modules.specs.Results.{modules_data};
 ghost use Rattle.xs_structure.specs.Modules.{is_same_place};
 
 use std::alloc::{AllocError, Global};
 use std::collections::HashMap;
-use xs_elements::rows::Row;
 use xs_elements::scope::Expanded;
+use xs_elements::tags::Tag;
 use xs_modules::Modules;
-use xs_structure::places::{Place, is_template, name_at, precedence_at, row_at};
+use xs_structure::places::{Place, is_template, name_at, precedence_at, tag_at};
 use xs_tree::Node;
 
 /// The declarations that count, by their names: the number of the module and the place there.
@@ -85,7 +85,7 @@ impl<'m> Counted<'m> {
     }
 }
 
-/// The kinds of declarations whose names are told apart.
+/// The kinds of declarations whose names are distinguished.
 #[derive(Clone, Copy)]
 pub(crate) enum Kind {
     /// Global variables and parameters (11.4).
@@ -95,12 +95,12 @@ pub(crate) enum Kind {
 }
 
 /// Whether a declaration is of this kind.
-fn is_of(kind: Kind, row: Row) -> bool
-    ensures { result ≡ kind_test kind row }
+fn is_of(kind: Kind, tag: Tag) -> bool
+    ensures { result ≡ kind_test kind tag }
 {
     match kind {
-        Kind::Global => matches!(row, Row::Variable | Row::Param),
-        Kind::Template => matches!(row, Row::Template),
+        Kind::Global => matches!(tag, Tag::Variable | Tag::Param),
+        Kind::Template => matches!(tag, Tag::Template),
     }
 }
 
@@ -109,7 +109,7 @@ fn name_of(modules: &Modules, kind: Kind, number: u32, n: Node) -> Option<Expand
     requires at { IsIn (modules_data modules.now) («number», n) }
     ensures { option_map name_data result ≡ name_of (modules_data modules.now) kind («number», n) }
 {
-    if is_of(kind, row_at(modules, number, n)) {
+    if is_of(kind, tag_at(modules, number, n)) {
         name_at(modules, number, n)
     } else {
         None

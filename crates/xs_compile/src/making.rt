@@ -1,4 +1,4 @@
-//! Parts of instructions that make elements and attributes, but for their content.
+//! Parts of instructions that make elements and attributes, except their content.
 
 ghost use Rattle.std.specs.Prelude.{◌≡◌, ◌<◌, ◌&&◌, ◌++◌, ◌∷◌, [], true, false, codes, length};
 ghost use Rattle.std.specs.Prelude.{IfOk, IfSome, OnOk, filter, not, option_map, if◌then◌else◌};
@@ -10,14 +10,14 @@ ghost use Rattle.xs_compile.specs.Bodies.{put_attributes};
 ghost use Rattle.xs_structure.specs.Excluded.{copied_spaces, is_left_out};
 ghost use Rattle.xs_compile.specs.Labels.{labels_in, own_label};
 ghost use Rattle.xs_compile.specs.Parsed.{IsScope};
-ghost use Rattle.xs_structure.specs.Parts.{pairs_at, reading_at, row_at};
-ghost use Rattle.xs_compile.specs.steps.Rows.{is_making_named};
+ghost use Rattle.xs_structure.specs.Parts.{pairs_at, reading_at, tag_at};
+ghost use Rattle.xs_compile.specs.steps.Tags.{is_making_named};
 ghost use Rattle.xs_compile.specs.steps.State.{IsReady, modules_of, source_of};
 ghost use Rattle.xs_structure.specs.Places.{IsIn};
 ghost use Rattle.xs_elements.specs.declared.reading.Reading.TheVariants.{Literal};
 ghost use Rattle.xs_elements.specs.Nodes.{pair_at, value_of};
 ghost use Rattle.xs_elements.specs.Reading.{is_xslt};
-ghost use Rattle.xs_elements.specs.Rows.{xslt_uri};
+ghost use Rattle.xs_elements.specs.Tags.{xslt_uri};
 ghost use Rattle.xs_modules.specs.Results.{modules_data};
 ghost use Rattle.xs_structure.specs.Modules.{records_at};
 ghost use Rattle.xs_tree.specs.Record.{at, attributes, is_attribute, is_namespace, uri_at};
@@ -26,15 +26,15 @@ use crate::compiler::Compiler;
 use crate::labels::labels_in;
 use std::alloc::{AllocError, Global};
 use std::sync::Arc;
-use xs_elements::rows::XSLT_URI;
 use xs_elements::scope::value_of;
+use xs_elements::tags::XSLT_URI;
 use xs_modules::Modules;
 use xs_sheet::body::{LiteralStart, MadeName};
 use xs_sheet::items::Items;
 use xs_sheet::scoped::{Namespaces, ValueTemplate};
 use xs_structure::places::tree_of;
-use xs_trace::event::Label;
 use xs_text::TextBuf;
+use xs_trace::event::Label;
 use xs_tree::{Node, Tree};
 use xs_xpath::scope::Scope;
 
@@ -68,7 +68,7 @@ fn push_put(tree: &Tree, attribute: Node, out: &mut Vec<Node>) -> Result<(), All
     Ok(())
 }
 
-/// The attributes of a literal element but for those of XSLT.
+/// The attributes of a literal element except those of XSLT.
 fn put_nodes(alloc: Global, tree: &Tree, n: Node) -> Result<Vec<Node>, AllocError>
     requires { n < length tree.now }
     ensures { IfOk result (λ nodes. nodes.items
@@ -126,7 +126,7 @@ impl<'m> Compiler<'m> {
     /// A name that is made when the instruction runs (XSLT 1.0, 7.1.2 and 7.1.3).
     pub(crate) fn made_name(&self, number: u32, n: Node) -> Result<MadeName, AllocError>
         requires ready { IsReady self.now («number», n) }
-        requires row { is_making_named (row_at (modules_of self.now) («number», n)) ≡ true }
+        requires tag { is_making_named (tag_at (modules_of self.now) («number», n)) ≡ true }
         ensures { IfOk result (IsMadeName (source_of self.now) («number», n)) }
     {
         let scope = self.scope(number, n)?;
@@ -137,7 +137,7 @@ impl<'m> Compiler<'m> {
         })
     }
 
-    /// A literal element but for its content (7.1.1).
+    /// A literal element except its content (7.1.1).
     #[inline(never)]
     pub(crate) fn literal_start(&self, number: u32, n: Node) -> Result<LiteralStart, AllocError>
         requires ready { IsReady self.now («number», n) }
@@ -254,7 +254,7 @@ impl<'m> Compiler<'m> {
         Ok(())
     }
 
-    /// The attributes of a literal element but for those of XSLT, each a value template (7.6.2).
+    /// The attributes of a literal element except those of XSLT, each a value template (7.6.2).
     fn put_attributes(
         &self,
         number: u32,

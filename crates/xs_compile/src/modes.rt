@@ -1,4 +1,4 @@
-//! Modes, told by numbers (XSLT 1.0, 5.7).
+//! Modes, known by numbers (XSLT 1.0, 5.7).
 
 ghost use Rattle.std.specs.Prelude.{◌≡◌, ◌+◌, ◌<◌, ℕ, true, length, option_map, List, Option, Some};
 ghost use Rattle.std.specs.Prelude.{IfOk, OnOk};

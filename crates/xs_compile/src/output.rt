@@ -8,10 +8,10 @@ ghost use Rattle.xs_compile.specs.steps.Output.{of_two, output_in, said_method};
 ghost use Rattle.xs_structure.specs.Places.{IsIn};
 ghost use Rattle.xs_modules.specs.Results.{modules_data};
 
-use xs_elements::rows::Row;
+use xs_elements::tags::Tag;
 use xs_modules::Modules;
 use xs_sheet::declarations::Method;
-use xs_structure::places::{Place, precedence_at, row_at, value_at};
+use xs_structure::places::{Place, precedence_at, tag_at, value_at};
 use xs_tree::Node;
 
 /// The method of this name: `text` writes text, and any other method PYX lines.
@@ -30,7 +30,7 @@ fn said_method(modules: &Modules, number: u32, n: Node) -> Option<Method>
     requires at { IsIn (modules_data modules.now) («number», n) }
     ensures { result ≡ said_method (modules_data modules.now) («number», n) }
 {
-    if !matches!(row_at(modules, number, n), Row::Output) {
+    if !matches!(tag_at(modules, number, n), Tag::Output) {
         return None;
     }
     match value_at(modules, number, n, "method") {

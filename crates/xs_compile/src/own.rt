@@ -3,8 +3,8 @@
 ghost use Rattle.std.specs.Prelude.{◌≡◌, true, Some, IfOk};
 ghost use Rattle.xs_compile.specs.Bodies.{AreSets, IsExprIf, IsExprOf, IsTemplateOf};
 ghost use Rattle.xs_compile.specs.Labels.{label_at};
-ghost use Rattle.xs_structure.specs.Parts.{row_at};
-ghost use Rattle.xs_compile.specs.steps.Rows.{has_name, needs, takes_expression, takes_template};
+ghost use Rattle.xs_structure.specs.Parts.{tag_at};
+ghost use Rattle.xs_compile.specs.steps.Tags.{has_name, needs, takes_expression, takes_template};
 ghost use Rattle.xs_compile.specs.steps.State.{IsReady, modules_of, source_of};
 
 use crate::compiler::Compiler;
@@ -22,9 +22,9 @@ impl<'m> Compiler<'m> {
         local: &str,
     ) -> Result<ScopedExpr, AllocError>
         requires ready { IsReady self.now («number», n) }
-        requires form { takes_expression (row_at (modules_of self.now) («number», n)) local.now
+        requires form { takes_expression (tag_at (modules_of self.now) («number», n)) local.now
             ≡ true }
-        requires needed { needs (row_at (modules_of self.now) («number», n)) local.now ≡ true }
+        requires needed { needs (tag_at (modules_of self.now) («number», n)) local.now ≡ true }
         ensures { IfOk result (IsExprOf (source_of self.now) («number», n) local.now) }
     {
         let scope = self.scope(number, n)?;
@@ -39,7 +39,7 @@ impl<'m> Compiler<'m> {
         local: &str,
     ) -> Result<Option<ScopedExpr>, AllocError>
         requires ready { IsReady self.now («number», n) }
-        requires form { takes_expression (row_at (modules_of self.now) («number», n)) local.now
+        requires form { takes_expression (tag_at (modules_of self.now) («number», n)) local.now
             ≡ true }
         ensures { IfOk result (IsExprIf (source_of self.now) («number», n) local.now) }
     {
@@ -55,9 +55,9 @@ impl<'m> Compiler<'m> {
         local: &str,
     ) -> Result<ValueTemplate, AllocError>
         requires ready { IsReady self.now («number», n) }
-        requires form { takes_template (row_at (modules_of self.now) («number», n)) local.now
+        requires form { takes_template (tag_at (modules_of self.now) («number», n)) local.now
             ≡ true }
-        requires needed { needs (row_at (modules_of self.now) («number», n)) local.now ≡ true }
+        requires needed { needs (tag_at (modules_of self.now) («number», n)) local.now ≡ true }
         ensures { IfOk result (IsTemplateOf (source_of self.now) («number», n) local.now) }
     {
         let scope = self.scope(number, n)?;
@@ -67,7 +67,7 @@ impl<'m> Compiler<'m> {
     /// The name in the attribute `name`, which has to be there.
     pub(crate) fn own_name(&self, number: u32, n: Node) -> Result<Label, AllocError>
         requires ready { IsReady self.now («number», n) }
-        requires named { has_name (row_at (modules_of self.now) («number», n)) ≡ true }
+        requires named { has_name (tag_at (modules_of self.now) («number», n)) ≡ true }
         ensures { IfOk result (λ name. label_at (modules_of self.now) («number», n) ≡ Some name) }
     {
         let scope = self.scope(number, n)?;

@@ -3,11 +3,11 @@
 ghost use Rattle.std.specs.Prelude.{◌≡◌, ◌++◌, ◌∷◌, [], ℕ, List, true, map, IfOk, OnOk};
 ghost use Rattle.std.specs.Prelude.{if◌then◌else◌};
 ghost use Rattle.std.specs.List.{All};
-ghost use Rattle.xs_structure.specs.Parts.{body_at, children_with, is_in_body, reading_at, row_at};
-ghost use Rattle.xs_compile.specs.steps.Rows.{holds_body, part_test};
+ghost use Rattle.xs_structure.specs.Parts.{body_at, children_with, is_in_body, reading_at, tag_at};
+ghost use Rattle.xs_compile.specs.steps.Tags.{holds_body, part_test};
 ghost use Rattle.xs_compile.specs.steps.State.{IsInBody, IsPartOf, IsReady, modules_of};
 ghost use Rattle.xs_structure.specs.Places.{IsIn};
-ghost use Rattle.xs_elements.specs.declared.rows.Row.{Row};
+ghost use Rattle.xs_elements.specs.declared.tags.Tag.{Tag};
 ghost use Rattle.xs_elements.specs.Reading.{content_at, shows};
 ghost use Rattle.xs_elements.specs.WhiteSpace.{preserves};
 ghost use Rattle.xs_modules.specs.Results.{modules_data};
@@ -15,12 +15,12 @@ ghost use Rattle.xs_structure.specs.Modules.{records_at};
 
 use crate::compiler::Compiler;
 use std::alloc::{AllocError, Global};
-use xs_elements::rows::Row;
+use xs_elements::tags::Tag;
 use xs_modules::Modules;
-use xs_structure::places::{Place, is_in_body, row_at, tree_of};
+use xs_structure::places::{Place, is_in_body, tag_at, tree_of};
 use xs_tree::Node;
 
-/// The parts of elements that are told by their kind (XSLT 1.0, 5.3, 7.1.4, 9.2, 10, 11.6 and 15).
+/// The parts of elements that are known by their kind (XSLT 1.0, 5.3, 7.1.4, 9.2, 10, 11.6 and 15).
 #[derive(Clone, Copy)]
 pub(crate) enum Part {
     Attribute,
@@ -33,17 +33,17 @@ pub(crate) enum Part {
 }
 
 /// Whether an element is such a part.
-fn is_part(part: Part, row: Row) -> bool
-    ensures { result ≡ part_test part row }
+fn is_part(part: Part, tag: Tag) -> bool
+    ensures { result ≡ part_test part tag }
 {
     match part {
-        Part::Attribute => matches!(row, Row::Attribute),
-        Part::Fallback => matches!(row, Row::Fallback),
-        Part::Otherwise => matches!(row, Row::Otherwise),
-        Part::Param => matches!(row, Row::Param),
-        Part::Sort => matches!(row, Row::Sort),
-        Part::When => matches!(row, Row::When),
-        Part::WithParam => matches!(row, Row::WithParam),
+        Part::Attribute => matches!(tag, Tag::Attribute),
+        Part::Fallback => matches!(tag, Tag::Fallback),
+        Part::Otherwise => matches!(tag, Tag::Otherwise),
+        Part::Param => matches!(tag, Tag::Param),
+        Part::Sort => matches!(tag, Tag::Sort),
+        Part::When => matches!(tag, Tag::When),
+        Part::WithParam => matches!(tag, Tag::WithParam),
     }
 }
 
@@ -57,10 +57,10 @@ fn push_part(
 ) -> Result<(), AllocError>
     requires at { IsIn (modules_data modules.now) («number», child) }
     ensures { OnOk result (out.new.items
-        ≡ (if part_test part (row_at (modules_data modules.now) («number», child))
+        ≡ (if part_test part (tag_at (modules_data modules.now) («number», child))
         then out.old.items ++ («number», child) ∷ [] else out.old.items)) }
 {
-    if is_part(part, row_at(modules, number, child)) {
+    if is_part(part, tag_at(modules, number, child)) {
         out.push((number, child))?;
     }
     Ok(())
@@ -132,8 +132,8 @@ impl<'m> Compiler<'m> {
     /// The parts of an element, each of which is looked at.
     pub(crate) fn parts(&self, number: u32, n: Node, part: Part) -> Result<Vec<Place>, AllocError>
         requires ready { IsReady self.now («number», n) }
-        requires shown { (row : Row) → part_test part row ≡ true
-            → shows (reading_at (modules_of self.now) («number», n)) row ≡ true }
+        requires shown { (tag : Tag) → part_test part tag ≡ true
+            → shows (reading_at (modules_of self.now) («number», n)) tag ≡ true }
         ensures places { IfOk result (λ places. places.items
             ≡ children_with (part_test part) (modules_of self.now) («number», n)) }
         ensures parts { IfOk result (λ places.

@@ -5,9 +5,9 @@ ghost use Rattle.std.specs.Arc.{arc_value};
 ghost use Rattle.xs_compile.specs.Bodies.{AreSets};
 ghost use Rattle.xs_compile.specs.Labels.{label_at, label_in, labels_in};
 ghost use Rattle.xs_compile.specs.Parsed.{Both, IsExpr, IsPattern, IsScope, IsValueTemplate};
-ghost use Rattle.xs_structure.specs.Parts.{pairs_at, row_at, said_at, value_at};
-ghost use Rattle.xs_compile.specs.steps.Rows.{has_name, needs, takes_expression, takes_pattern};
-ghost use Rattle.xs_compile.specs.steps.Rows.{takes_template};
+ghost use Rattle.xs_structure.specs.Parts.{pairs_at, tag_at, said_at, value_at};
+ghost use Rattle.xs_compile.specs.steps.Tags.{has_name, needs, takes_expression, takes_pattern};
+ghost use Rattle.xs_compile.specs.steps.Tags.{takes_template};
 ghost use Rattle.xs_compile.specs.steps.State.{IsReady, modules_of, source_of};
 ghost use Rattle.xs_structure.specs.Places.{IsIn};
 ghost use Rattle.xs_parser.specs.Faults.{expr_in, pattern_in};
@@ -60,9 +60,9 @@ impl<'m> Compiler<'m> {
     ) -> Result<ScopedExpr, AllocError>
         requires ready { IsReady self.now («number», n) }
         requires scope { IsScope (modules_of self.now) («number», n) (arc_value scope.now) }
-        requires form { takes_expression (row_at (modules_of self.now) («number», n)) local.now
+        requires form { takes_expression (tag_at (modules_of self.now) («number», n)) local.now
             ≡ true }
-        requires needed { needs (row_at (modules_of self.now) («number», n)) local.now ≡ true }
+        requires needed { needs (tag_at (modules_of self.now) («number», n)) local.now ≡ true }
         ensures { IfOk result (IsExpr (modules_of self.now) («number», n)
             (said_at (modules_of self.now) («number», n) local.now)) }
     {
@@ -80,7 +80,7 @@ impl<'m> Compiler<'m> {
     ) -> Result<Option<ScopedExpr>, AllocError>
         requires ready { IsReady self.now («number», n) }
         requires scope { IsScope (modules_of self.now) («number», n) (arc_value scope.now) }
-        requires form { takes_expression (row_at (modules_of self.now) («number», n)) local.now
+        requires form { takes_expression (tag_at (modules_of self.now) («number», n)) local.now
             ≡ true }
         ensures { IfOk result (Both (IsExpr (modules_of self.now) («number», n))
             (value_at (modules_of self.now) («number», n) local.now)) }
@@ -122,9 +122,9 @@ impl<'m> Compiler<'m> {
     ) -> Result<ScopedPattern, AllocError>
         requires ready { IsReady self.now («number», n) }
         requires scope { IsScope (modules_of self.now) («number», n) (arc_value scope.now) }
-        requires form { takes_pattern (row_at (modules_of self.now) («number», n)) local.now
+        requires form { takes_pattern (tag_at (modules_of self.now) («number», n)) local.now
             ≡ true }
-        requires needed { needs (row_at (modules_of self.now) («number», n)) local.now ≡ true }
+        requires needed { needs (tag_at (modules_of self.now) («number», n)) local.now ≡ true }
         ensures { IfOk result (IsPattern (modules_of self.now) («number», n)
             (said_at (modules_of self.now) («number», n) local.now)) }
     {
@@ -142,7 +142,7 @@ impl<'m> Compiler<'m> {
     ) -> Result<Option<ScopedPattern>, AllocError>
         requires ready { IsReady self.now («number», n) }
         requires scope { IsScope (modules_of self.now) («number», n) (arc_value scope.now) }
-        requires form { takes_pattern (row_at (modules_of self.now) («number», n)) local.now
+        requires form { takes_pattern (tag_at (modules_of self.now) («number», n)) local.now
             ≡ true }
         ensures { IfOk result (Both (IsPattern (modules_of self.now) («number», n))
             (value_at (modules_of self.now) («number», n) local.now)) }
@@ -186,9 +186,9 @@ impl<'m> Compiler<'m> {
     ) -> Result<ValueTemplate, AllocError>
         requires ready { IsReady self.now («number», n) }
         requires scope { IsScope (modules_of self.now) («number», n) (arc_value scope.now) }
-        requires form { takes_template (row_at (modules_of self.now) («number», n)) local.now
+        requires form { takes_template (tag_at (modules_of self.now) («number», n)) local.now
             ≡ true }
-        requires needed { needs (row_at (modules_of self.now) («number», n)) local.now ≡ true }
+        requires needed { needs (tag_at (modules_of self.now) («number», n)) local.now ≡ true }
         ensures { IfOk result (IsValueTemplate (modules_of self.now) («number», n)
             (said_at (modules_of self.now) («number», n) local.now)) }
     {
@@ -206,7 +206,7 @@ impl<'m> Compiler<'m> {
     ) -> Result<Option<ValueTemplate>, AllocError>
         requires ready { IsReady self.now («number», n) }
         requires scope { IsScope (modules_of self.now) («number», n) (arc_value scope.now) }
-        requires form { takes_template (row_at (modules_of self.now) («number», n)) local.now
+        requires form { takes_template (tag_at (modules_of self.now) («number», n)) local.now
             ≡ true }
         ensures { IfOk result (Both (IsValueTemplate (modules_of self.now) («number», n))
             (value_at (modules_of self.now) («number», n) local.now)) }
@@ -238,7 +238,7 @@ impl<'m> Compiler<'m> {
     pub(crate) fn name(&self, number: u32, n: Node, scope: &Arc<Scope>) -> Result<Label, AllocError>
         requires ready { IsReady self.now («number», n) }
         requires scope { IsScope (modules_of self.now) («number», n) (arc_value scope.now) }
-        requires named { has_name (row_at (modules_of self.now) («number», n)) ≡ true }
+        requires named { has_name (tag_at (modules_of self.now) («number», n)) ≡ true }
         ensures { IfOk result (λ name. label_at (modules_of self.now) («number», n) ≡ Some name) }
     {
         match self.name_if(number, n, scope)? {

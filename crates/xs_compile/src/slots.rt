@@ -8,15 +8,15 @@ ghost use Rattle.xs_compile.specs.steps.Locals.{AreCounts, entry_slot, slot_amon
 ghost use Rattle.xs_compile.specs.Locals.{AreLocals, IsApart, entry_in};
 ghost use Rattle.xs_elements.specs.Nodes.{is_same_name, name_data};
 ghost use Rattle.xs_elements.specs.Reading.{is_seen};
-ghost use Rattle.xs_elements.specs.Rows.{row_of};
+ghost use Rattle.xs_elements.specs.Tags.{tag_of};
 ghost use Rattle.xs_structure.specs.Bindings.{is_local};
 ghost use Rattle.xs_tree.specs.Record.{places};
 
 use crate::counted::following;
 use std::alloc::{AllocError, Global};
 use std::collections::HashMap;
-use xs_elements::rows::Row;
 use xs_elements::scope::{Expanded, own_name};
+use xs_elements::tags::Tag;
 use xs_structure::bindings::is_local;
 use xs_structure::standing::{Standing, standing_in};
 use xs_tree::{Node, Tree};
@@ -110,7 +110,7 @@ impl<'m> Locals<'m> {
         for place in 0..tree.len() as u32 {
             let n = Node::at(place);
             let standing = standing_in(standings, tree, n);
-            locals.pass(tree, n, standing.row, standing.is_seen, &mut counts)?;
+            locals.pass(tree, n, standing.tag, standing.is_seen, &mut counts)?;
         }
         Ok(locals)
     }
@@ -120,19 +120,19 @@ impl<'m> Locals<'m> {
         &mut self,
         tree: &'m Tree,
         n: Node,
-        row: Row,
+        tag: Tag,
         seen: bool,
         counts: &mut Vec<u32>,
     ) -> Result<(), AllocError>
         requires inside { n < length tree.now }
-        requires row { row ≡ row_of tree.now n }
+        requires tag { tag ≡ tag_of tree.now n }
         requires seen { seen ≡ is_seen tree.now n }
         requires locals { AreLocals tree.now n self.old }
         requires counts { AreCounts tree.now n counts.old.items }
         ensures locals { OnOk result (AreLocals tree.now (n + 1) self.new) }
         ensures counts { OnOk result (AreCounts tree.now (n + 1) counts.new.items) }
     {
-        let binds = is_local(tree, n, row, seen);
+        let binds = is_local(tree, n, tag, seen);
         let visible = visible_at(counts, tree, n);
         count(counts, tree, n, visible, binds)?;
         if binds {

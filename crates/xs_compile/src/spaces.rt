@@ -4,19 +4,19 @@ ghost use Rattle.std.specs.Prelude.{◌≡◌, ◌++◌, IfOk, OnOk};
 ghost use Rattle.std.specs.List.{All};
 ghost use Rattle.xs_compile.specs.Spaces.{rules_by, rules_of, strip_rules, test_in};
 ghost use Rattle.xs_structure.specs.Order.{declarations};
-ghost use Rattle.xs_structure.specs.Parts.{row_at};
+ghost use Rattle.xs_structure.specs.Parts.{tag_at};
 ghost use Rattle.xs_compile.specs.steps.Spaces.{named_test, rule_as};
 ghost use Rattle.xs_structure.specs.Places.{IsIn};
 ghost use Rattle.xs_modules.specs.Results.{modules_data};
 
 use crate::labels::{label_in, uri_of};
 use std::alloc::{AllocError, Global};
-use xs_elements::rows::Row;
+use xs_elements::tags::Tag;
 use xs_elements::value::prefix_of_test;
 use xs_elements::words::first_word;
 use xs_modules::Modules;
 use xs_sheet::declarations::{NameTest, StripRule};
-use xs_structure::places::{Place, pairs_at, precedence_at, row_at, said_at};
+use xs_structure::places::{Place, pairs_at, precedence_at, said_at, tag_at};
 use xs_text::TextBuf;
 use xs_tree::Node;
 use xs_xpath::scope::Scope;
@@ -99,12 +99,12 @@ fn push_declared(
 ) -> Result<(), AllocError>
     requires at { IsIn (modules_data modules.now) («number», n) }
     ensures { OnOk result (strips.new.items ≡ strips.old.items
-        ++ rules_by (row_at (modules_data modules.now) («number», n))
+        ++ rules_by (tag_at (modules_data modules.now) («number», n))
         (modules_data modules.now) («number», n)) }
 {
-    match row_at(modules, number, n) {
-        Row::StripSpace => push_rules(alloc, modules, number, n, true, strips),
-        Row::PreserveSpace => push_rules(alloc, modules, number, n, false, strips),
+    match tag_at(modules, number, n) {
+        Tag::StripSpace => push_rules(alloc, modules, number, n, true, strips),
+        Tag::PreserveSpace => push_rules(alloc, modules, number, n, false, strips),
         _ => Ok(()),
     }
 }

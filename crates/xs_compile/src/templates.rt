@@ -2,17 +2,17 @@
 
 ghost use Rattle.std.specs.Prelude.{◌≡◌, ℕ, List, true, codes, IfOk, option_map};
 ghost use Rattle.std.specs.List.{AllZip};
-ghost use Rattle.xs_compile.specs.Bodies.{IsRow};
+ghost use Rattle.xs_compile.specs.Bodies.{IsTag};
 ghost use Rattle.xs_compile.specs.Counted.{counted, globals, named, templates};
 ghost use Rattle.xs_structure.specs.Order.{is_template_place, all_with, declarations};
 ghost use Rattle.xs_structure.specs.Order.{is_simplified};
 ghost use Rattle.xs_compile.specs.Declarations.{IsBinding, IsGlobal, IsInstr, IsKey, IsSet};
 ghost use Rattle.xs_compile.specs.Declarations.{IsTemplate, is_attribute, is_key};
 ghost use Rattle.xs_compile.specs.Priorities.{priority_in};
-ghost use Rattle.xs_structure.specs.Parts.{children_with, row_at, value_at};
+ghost use Rattle.xs_structure.specs.Parts.{children_with, tag_at, value_at};
 ghost use Rattle.xs_compile.specs.Tables.{place_in};
 ghost use Rattle.xs_compile.specs.steps.State.{IsReady, IsState, modules_of, source_of};
-ghost use Rattle.xs_elements.specs.Rows.{is_attribute_set, is_param, is_variable};
+ghost use Rattle.xs_elements.specs.Tags.{is_attribute_set, is_param, is_variable};
 ghost use Rattle.xs_structure.specs.Places.{IsIn};
 ghost use Rattle.xs_modules.specs.Results.{modules_data};
 ghost use Rattle.xs_structure.specs.Modules.{records_at};
@@ -22,30 +22,30 @@ use crate::counted::{Counted, is_global};
 use crate::parts::Part;
 use crate::priorities::priority_in;
 use std::alloc::AllocError;
-use xs_elements::rows::Row;
+use xs_elements::tags::Tag;
 use xs_modules::Modules;
 use xs_sheet::body::{Binding, Body, Instr};
 use xs_sheet::declarations::{AttrSet, Global, KeyDecl, Template};
 use xs_sheet::items::Items;
 use xs_structure::places::{
-    Place, imports_from_at, is_template, precedence_at, row_at, site_at, value_at,
+    Place, imports_from_at, is_template, precedence_at, site_at, tag_at, value_at,
 };
 use xs_tree::Node;
 
 /// Whether a declaration is one of a key.
 fn is_key(modules: &Modules, number: u32, n: Node) -> bool
     requires { IsIn (modules_data modules.now) («number», n) }
-    ensures { result ≡ is_key (row_at (modules_data modules.now) («number», n)) }
+    ensures { result ≡ is_key (tag_at (modules_data modules.now) («number», n)) }
 {
-    matches!(row_at(modules, number, n), Row::Key)
+    matches!(tag_at(modules, number, n), Tag::Key)
 }
 
 /// Whether a declaration is one of an attribute set.
 fn is_set(modules: &Modules, number: u32, n: Node) -> bool
     requires { IsIn (modules_data modules.now) («number», n) }
-    ensures { result ≡ is_attribute_set (row_at (modules_data modules.now) («number», n)) }
+    ensures { result ≡ is_attribute_set (tag_at (modules_data modules.now) («number», n)) }
 {
-    matches!(row_at(modules, number, n), Row::AttributeSet)
+    matches!(tag_at(modules, number, n), Tag::AttributeSet)
 }
 
 impl<'m> Compiler<'m> {
@@ -73,7 +73,7 @@ impl<'m> Compiler<'m> {
         requires template { is_template_place (modules_of self.now) («number», n) ≡ true }
         ensures { IfOk result (IsTemplate (source_of self.now) («number», n)) }
     {
-        if matches!(row_at(self.modules, number, n), Row::Template) {
+        if matches!(tag_at(self.modules, number, n), Tag::Template) {
             self.rule(number, n)
         } else {
             self.whole_module(number, n)
@@ -83,7 +83,7 @@ impl<'m> Compiler<'m> {
     /// An `xsl:template` (5.3, 6).
     fn rule(&self, number: u32, n: Node) -> Result<Template, AllocError>
         requires ready { IsReady self.now («number», n) }
-        requires row { IsRow (source_of self.now) («number», n) Row.Template }
+        requires tag { IsTag (source_of self.now) («number», n) Tag.Template }
         ensures { IfOk result (IsTemplate (source_of self.now) («number», n)) }
     {
         let scope = self.scope(number, n)?;
@@ -103,7 +103,7 @@ impl<'m> Compiler<'m> {
     /// The priority that was written (5.5).
     fn priority(&self, number: u32, n: Node) -> Option<i64>
         requires ready { IsReady self.now («number», n) }
-        requires row { IsRow (source_of self.now) («number», n) Row.Template }
+        requires tag { IsTag (source_of self.now) («number», n) Tag.Template }
         ensures { result ≡ option_map priority_in
             (value_at (modules_of self.now) («number», n) (codes "priority")) }
     {
@@ -140,7 +140,7 @@ impl<'m> Compiler<'m> {
     /// The parameters of a template (11.6).
     fn params(&self, number: u32, n: Node) -> Result<Vec<Binding>, AllocError>
         requires ready { IsReady self.now («number», n) }
-        requires row { IsRow (source_of self.now) («number», n) Row.Template }
+        requires tag { IsTag (source_of self.now) («number», n) Tag.Template }
         ensures { IfOk result (λ params. AllZip (IsBinding (source_of self.now))
             (children_with is_param (modules_of self.now) («number», n)) params.items) }
     {
@@ -180,11 +180,11 @@ impl<'m> Compiler<'m> {
     /// One of them.
     fn global(&self, number: u32, n: Node) -> Result<Global, AllocError>
         requires ready { IsReady self.now («number», n) }
-        requires row { is_variable (row_at (modules_of self.now) («number», n)) ≡ true }
+        requires tag { is_variable (tag_at (modules_of self.now) («number», n)) ≡ true }
         ensures { IfOk result (IsGlobal (source_of self.now) («number», n)) }
     {
         let binding = self.binding(number, n)?;
-        let param = matches!(row_at(self.modules, number, n), Row::Param);
+        let param = matches!(tag_at(self.modules, number, n), Tag::Param);
         Ok(Global { binding, param })
     }
 
@@ -209,7 +209,7 @@ impl<'m> Compiler<'m> {
     /// One of them.
     fn key(&self, number: u32, n: Node) -> Result<KeyDecl, AllocError>
         requires ready { IsReady self.now («number», n) }
-        requires row { IsRow (source_of self.now) («number», n) Row.Key }
+        requires tag { IsTag (source_of self.now) («number», n) Tag.Key }
         ensures { IfOk result (IsKey (source_of self.now) («number», n)) }
     {
         let scope = self.scope(number, n)?;
@@ -242,7 +242,7 @@ impl<'m> Compiler<'m> {
     /// One of them.
     fn set(&self, number: u32, n: Node) -> Result<AttrSet, AllocError>
         requires ready { IsReady self.now («number», n) }
-        requires row { IsRow (source_of self.now) («number», n) Row.AttributeSet }
+        requires tag { IsTag (source_of self.now) («number», n) Tag.AttributeSet }
         ensures { IfOk result (IsSet (source_of self.now) («number», n)) }
     {
         let scope = self.scope(number, n)?;
@@ -258,7 +258,7 @@ impl<'m> Compiler<'m> {
     /// The attributes that a declaration of a set has.
     fn set_attributes(&self, number: u32, n: Node) -> Result<Vec<Instr>, AllocError>
         requires ready { IsReady self.now («number», n) }
-        requires row { IsRow (source_of self.now) («number», n) Row.AttributeSet }
+        requires tag { IsTag (source_of self.now) («number», n) Tag.AttributeSet }
         ensures { IfOk result (λ found. AllZip (IsInstr (source_of self.now))
             (children_with is_attribute (modules_of self.now) («number», n)) found.items) }
     {

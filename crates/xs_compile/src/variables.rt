@@ -3,8 +3,8 @@
 ghost use Rattle.std.specs.Prelude.{◌≡◌, false, true, IfOk};
 ghost use Rattle.xs_compile.specs.Bodies.{IsContent, IsPassed, has_select};
 ghost use Rattle.xs_compile.specs.Declarations.{IsBinding};
-ghost use Rattle.xs_structure.specs.Parts.{children_with, reading_at, row_at};
-ghost use Rattle.xs_compile.specs.steps.Rows.{is_binding};
+ghost use Rattle.xs_structure.specs.Parts.{children_with, reading_at, tag_at};
+ghost use Rattle.xs_compile.specs.steps.Tags.{is_binding};
 ghost use Rattle.xs_compile.specs.steps.State.{IsReady, modules_of, source_of};
 ghost use Rattle.xs_elements.specs.declared.reading.Reading.TheVariants.{Known};
 ghost use Rattle.xs_elements.specs.Contents.{is_with_param};
@@ -41,7 +41,7 @@ impl<'m> Compiler<'m> {
     #[cycle(bodies)]
     pub(crate) fn binding(&self, number: u32, n: Node) -> Result<Binding, AllocError>
         requires ready { IsReady self.now («number», n) }
-        requires row { is_binding (row_at (modules_of self.now) («number», n)) ≡ true }
+        requires tag { is_binding (tag_at (modules_of self.now) («number», n)) ≡ true }
         ensures { IfOk result (IsBinding (source_of self.now) («number», n)) }
     {
         let site = site_at(self.modules, number, n);
@@ -58,7 +58,7 @@ impl<'m> Compiler<'m> {
     #[cycle(bodies)]
     fn content(&self, number: u32, n: Node) -> Result<Content, AllocError>
         requires ready { IsReady self.now («number», n) }
-        requires row { is_binding (row_at (modules_of self.now) («number», n)) ≡ true }
+        requires tag { is_binding (tag_at (modules_of self.now) («number», n)) ≡ true }
         ensures { IfOk result (IsContent (source_of self.now) («number», n)) }
     {
         match self.own_expr_if(number, n, "select")? {
@@ -71,7 +71,7 @@ impl<'m> Compiler<'m> {
     #[cycle(bodies)]
     fn own_content(&self, number: u32, n: Node) -> Result<Content, AllocError>
         requires ready { IsReady self.now («number», n) }
-        requires row { is_binding (row_at (modules_of self.now) («number», n)) ≡ true }
+        requires tag { is_binding (tag_at (modules_of self.now) («number», n)) ≡ true }
         requires none { has_select (source_of self.now) («number», n) ≡ false }
         ensures { IfOk result (IsContent (source_of self.now) («number», n)) }
     {

@@ -6,8 +6,8 @@ use Rattle.xs_elements.specs.declared.attributes.Need.{Need}
 use Rattle.xs_elements.specs.declared.attributes.Need.TheVariants.{Required, Optional}
 use Rattle.xs_elements.specs.declared.forms.Form.{Form}
 use Rattle.xs_elements.specs.declared.forms.Form.TheVariants.{Anything, Version, Expression, KeyUse, TemplatePattern, KeyPattern, NumberPattern, ValueTemplate, YesOrNo, Level, Name, Names, Sets, Tests, Prefix, Prefixes, Priority}
-use Rattle.xs_elements.specs.declared.rows.Row.{Row}
-use Rattle.xs_elements.specs.declared.rows.Row.TheVariants.{Stylesheet, Import, Include, StripSpace, PreserveSpace, Output, Key, DecimalFormat, NamespaceAlias, AttributeSet, Variable, Param, Template, ApplyTemplates, CallTemplate, ApplyImports, ForEach, ValueOf, CopyOf, Copy, Number, Choose, When, Otherwise, If, Text, Element, Attribute, Comment, ProcessingInstruction, Message, Fallback, Sort, WithParam, Unknown, Other, NoElement}
+use Rattle.xs_elements.specs.declared.tags.Tag.{Tag}
+use Rattle.xs_elements.specs.declared.tags.Tag.TheVariants.{Stylesheet, Import, Include, StripSpace, PreserveSpace, Output, Key, DecimalFormat, NamespaceAlias, AttributeSet, Variable, Param, Template, ApplyTemplates, CallTemplate, ApplyImports, ForEach, ValueOf, CopyOf, Copy, Number, Choose, When, Otherwise, If, Text, Element, Attribute, Comment, ProcessingInstruction, Message, Fallback, Sort, WithParam, Unknown, Other, NoElement}
 
 -- An attribute that an element may have: its local part, whether it has to be there, and what its value has to be.
 pub record Allowed : Type 0 where
@@ -56,7 +56,7 @@ number_attributes =
 
 -- The attributes of an element: of one of XSLT those in no namespace, of another one those in XSLT's. That the document's element
 -- has a version, and a template one of `match` and `name`, is asked beside.
-abbrev pub attributes_of : Row → List Allowed
+abbrev pub attributes_of : Tag → List Allowed
 -- 2.2, 14.1, 7.1.1
 attributes_of Stylesheet =
     optional (codes "version") Version
@@ -147,8 +147,8 @@ abbrev pub is_allowed_name : List ℕ → Allowed → Bool
 is_allowed_name local a = bytes_eq a.name local
 
 -- the attribute of an element with this local part, if it may have one
-abbrev pub allowed : Row → List ℕ → Option Allowed
-allowed row local = find (is_allowed_name local) (attributes_of row)
+abbrev pub allowed : Tag → List ℕ → Option Allowed
+allowed tag local = find (is_allowed_name local) (attributes_of tag)
 
 -- ---- the entries of the code's tables
 abbrev pub is_required : Need → Bool

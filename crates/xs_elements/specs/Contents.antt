@@ -4,12 +4,12 @@ use Rattle.std.specs.List.{list_all}
 use Rattle.xs_elements.specs.declared.contents.Before.{Before}
 use Rattle.xs_elements.specs.declared.contents.Content.{Content}
 use Rattle.xs_elements.specs.declared.contents.Content.TheVariants.{Nothing, TopLevel, Attributes, SortsAndParameters, Parameters, Branches, TextAlone, Body, ParametersAndBody, SortsAndBody, Unread}
-use Rattle.xs_elements.specs.declared.rows.Row.{Row}
-use Rattle.xs_elements.specs.declared.rows.Row.TheVariants.{Stylesheet, Import, Include, StripSpace, PreserveSpace, Output, Key, DecimalFormat, NamespaceAlias, AttributeSet, Variable, Param, Template, ApplyTemplates, CallTemplate, ApplyImports, ForEach, ValueOf, CopyOf, Copy, Number, Choose, When, Otherwise, If, Text, Element, Attribute, Comment, ProcessingInstruction, Message, Fallback, Sort, WithParam, Unknown, Other, NoElement}
-use Rattle.xs_elements.specs.Rows.{is_import, is_param, is_sort, is_when}
+use Rattle.xs_elements.specs.declared.tags.Tag.{Tag}
+use Rattle.xs_elements.specs.declared.tags.Tag.TheVariants.{Stylesheet, Import, Include, StripSpace, PreserveSpace, Output, Key, DecimalFormat, NamespaceAlias, AttributeSet, Variable, Param, Template, ApplyTemplates, CallTemplate, ApplyImports, ForEach, ValueOf, CopyOf, Copy, Number, Choose, When, Otherwise, If, Text, Element, Attribute, Comment, ProcessingInstruction, Message, Fallback, Sort, WithParam, Unknown, Other, NoElement}
+use Rattle.xs_elements.specs.Tags.{is_import, is_param, is_sort, is_when}
 
 -- The content of an element of XSLT. A binding with a `select` has none (XSLT 1.0, 11.2).
-abbrev pub content_of : Row → (has_select : Bool) → Content
+abbrev pub content_of : Tag → (has_select : Bool) → Content
 -- 2.2
 content_of Stylesheet has_select = TopLevel
 -- 7.1.4
@@ -76,8 +76,8 @@ holds_text ParametersAndBody = true
 holds_text SortsAndBody = true
 holds_text Unread = true
 
--- the elements of the top level but for imports (XSLT 1.0, 2.2), and those of a body (2.1)
-abbrev pub is_declaration : Row → Bool
+-- the elements of the top level except imports (XSLT 1.0, 2.2), and those of a body (2.1)
+abbrev pub is_declaration : Tag → Bool
 is_declaration Include = true
 is_declaration StripSpace = true
 is_declaration PreserveSpace = true
@@ -91,7 +91,7 @@ is_declaration Param = true
 is_declaration Template = true
 is_declaration _ = false
 
-abbrev pub is_in_body : Row → Bool
+abbrev pub is_in_body : Tag → Bool
 is_in_body ApplyTemplates = true
 is_in_body CallTemplate = true
 is_in_body ApplyImports = true
@@ -114,51 +114,51 @@ is_in_body _ = false
 
 -- ---- whether an element may stand in some content, behind what stands before it there: elements by their kinds, and text
 -- imports before all else; an element that is not XSLT's has a namespace
-abbrev pub stands_at_top : Row → (has_namespace : Bool) → List Row → Bool
+abbrev pub stands_at_top : Tag → (has_namespace : Bool) → List Tag → Bool
 stands_at_top Import has_namespace before = list_all is_import before
 stands_at_top Other has_namespace before = has_namespace
-stands_at_top row has_namespace before = is_declaration row
+stands_at_top tag has_namespace before = is_declaration tag
 
-abbrev pub is_attribute : Row → Bool
+abbrev pub is_attribute : Tag → Bool
 is_attribute Attribute = true
 is_attribute _ = false
 
-abbrev pub is_with_param : Row → Bool
+abbrev pub is_with_param : Tag → Bool
 is_with_param WithParam = true
 is_with_param _ = false
 
-abbrev pub is_some_row : List Row → Bool
-is_some_row [] = false
-is_some_row (row ∷ rows) = true
+abbrev pub is_some_tag : List Tag → Bool
+is_some_tag [] = false
+is_some_tag (tag ∷ tags) = true
 
 -- `xsl:when`, at least one, and then `xsl:otherwise`, at most one
-abbrev pub stands_in_choose : Row → List Row → Bool
+abbrev pub stands_in_choose : Tag → List Tag → Bool
 stands_in_choose When before = list_all is_when before
-stands_in_choose Otherwise before = is_some_row before && list_all is_when before
-stands_in_choose row before = false
+stands_in_choose Otherwise before = is_some_tag before && list_all is_when before
+stands_in_choose tag before = false
 
 -- parameters before all else
-abbrev pub stands_in_template : Row → List Row → Bool
+abbrev pub stands_in_template : Tag → List Tag → Bool
 stands_in_template Param before = list_all is_param before
-stands_in_template row before = is_in_body row
+stands_in_template tag before = is_in_body tag
 
 -- sorts before all else
-abbrev pub stands_in_loop : Row → List Row → Bool
+abbrev pub stands_in_loop : Tag → List Tag → Bool
 stands_in_loop Sort before = list_all is_sort before
-stands_in_loop row before = is_in_body row
+stands_in_loop tag before = is_in_body tag
 
-abbrev pub may_stand : Content → Row → (has_namespace : Bool) → List Row → Bool
-may_stand Nothing row has_namespace before = false
-may_stand TopLevel row has_namespace before = stands_at_top row has_namespace before
-may_stand Attributes row has_namespace before = is_attribute row
-may_stand SortsAndParameters row has_namespace before = is_sort row || is_with_param row
-may_stand Parameters row has_namespace before = is_with_param row
-may_stand Branches row has_namespace before = stands_in_choose row before
-may_stand TextAlone row has_namespace before = false
-may_stand Body row has_namespace before = is_in_body row
-may_stand ParametersAndBody row has_namespace before = stands_in_template row before
-may_stand SortsAndBody row has_namespace before = stands_in_loop row before
-may_stand Unread row has_namespace before = true
+abbrev pub may_stand : Content → Tag → (has_namespace : Bool) → List Tag → Bool
+may_stand Nothing tag has_namespace before = false
+may_stand TopLevel tag has_namespace before = stands_at_top tag has_namespace before
+may_stand Attributes tag has_namespace before = is_attribute tag
+may_stand SortsAndParameters tag has_namespace before = is_sort tag || is_with_param tag
+may_stand Parameters tag has_namespace before = is_with_param tag
+may_stand Branches tag has_namespace before = stands_in_choose tag before
+may_stand TextAlone tag has_namespace before = false
+may_stand Body tag has_namespace before = is_in_body tag
+may_stand ParametersAndBody tag has_namespace before = stands_in_template tag before
+may_stand SortsAndBody tag has_namespace before = stands_in_loop tag before
+may_stand Unread tag has_namespace before = true
 
 -- whether the content is branches, of which one has to be `xsl:when`
 abbrev pub are_branches : Content → Bool
@@ -166,11 +166,11 @@ are_branches Branches = true
 are_branches _ = false
 
 -- what is kept of all that stands before a node: whether there is any, and whether all of it is of one kind
-abbrev pub before_of : List Row → Before
-before_of rows = record {
-  is_some = is_some_row rows;
-  only_imports = list_all is_import rows;
-  only_params = list_all is_param rows;
-  only_sorts = list_all is_sort rows;
-  only_whens = list_all is_when rows;
+abbrev pub before_of : List Tag → Before
+before_of tags = record {
+  is_some = is_some_tag tags;
+  only_imports = list_all is_import tags;
+  only_params = list_all is_param tags;
+  only_sorts = list_all is_sort tags;
+  only_whens = list_all is_when tags;
 }

@@ -3,6 +3,6 @@ pub mod Contents
 pub mod Forms
 pub mod Nodes
 pub mod Reading
-pub mod Rows
+pub mod Tags
 pub mod Values
 pub mod WhiteSpace

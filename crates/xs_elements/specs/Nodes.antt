@@ -49,7 +49,7 @@ name_data name = (name.0.now, name.1.now)
 abbrev pub is_same_name : Name → Name → Bool
 is_same_name a b = bytes_eq a.0 b.0 && bytes_eq a.1 b.1
 
--- The expanded name that a QName stands for in a scope: without a prefix it is in no namespace, the default one not being used
+-- The expanded name that a QName represents in a scope: without a prefix it is in no namespace, the default one not being used
 -- (XSLT 1.0, 2.4). None where the text is no QName or its prefix is not bound.
 abbrev pub if_bound : List (List ℕ × List ℕ) → QName → Option Name
 if_bound pairs q = if is_bound pairs q.prefix then Some (uri_of pairs q.prefix, q.local) else None

@@ -4,10 +4,10 @@ use Rattle.std.specs.Borrow.{Bor}
 use Rattle.std.specs.List.{slice_split}
 use Rattle.std.specs.Option.{option_and_then, unwrap_or}
 use Rattle.std.specs.Str.{bytes_eq}
-use Rattle.xs_elements.specs.declared.rows.Row.{Row}
-use Rattle.xs_elements.specs.declared.rows.Row.TheVariants.{Text}
+use Rattle.xs_elements.specs.declared.tags.Tag.{Tag}
+use Rattle.xs_elements.specs.declared.tags.Tag.TheVariants.{Text}
 use Rattle.xs_elements.specs.Nodes.{ancestors_or_self, value_of}
-use Rattle.xs_elements.specs.Rows.{row_of}
+use Rattle.xs_elements.specs.Tags.{tag_of}
 pub use Rattle.xs_text.specs.Names.{xml_uri}
 use Rattle.xs_text.specs.WhiteSpace.{is_blank, is_white_space}
 use Rattle.xs_tree.specs.Kinds.{is_text_kind}
@@ -30,14 +30,14 @@ first_said rs (n ∷ ns) = unwrap_or (own_space rs n) (first_said rs ns)
 abbrev pub preserves : List Record → ℕ → Bool
 preserves rs n = first_said rs (ancestors_or_self rs n)
 
-abbrev pub is_text_row : Row → Bool
-is_text_row Text = true
-is_text_row _ = false
+abbrev pub is_text_tag : Tag → Bool
+is_text_tag Text = true
+is_text_tag _ = false
 
 -- A text inside an element is kept where it is not white space alone, where the element is `xsl:text`, and where white space is
 -- preserved.
 abbrev pub is_kept : List Record → (inside : ℕ) → ℕ → Bool
-is_kept rs inside text = preserves rs inside || is_text_row (row_of rs inside) || not (is_blank (at rs text).text)
+is_kept rs inside text = preserves rs inside || is_text_tag (tag_of rs inside) || not (is_blank (at rs text).text)
 
 abbrev pub is_kept_text : List Record → (inside : ℕ) → ℕ → Bool
 is_kept_text rs inside k = is_text_kind (at rs k).kind && is_kept rs inside k

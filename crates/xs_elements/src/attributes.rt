@@ -5,7 +5,7 @@ ghost use Rattle.xs_elements.specs.Attributes.{allowed_data, attributes_of};
 ghost use Rattle.xs_elements.specs.Reading.{allowed_form};
 
 use crate::forms::Form;
-use crate::rows::Row;
+use crate::tags::Tag;
 
 /// Whether an element has to have an attribute.
 #[derive(Clone, Copy, PartialEq, Eq)]
@@ -162,43 +162,43 @@ static LITERAL: [Attribute; 4] = [
 
 /// The attributes of an element: of one of XSLT those in no namespace, of another one those in
 /// XSLT's.
-pub fn attributes(row: Row) -> &'static [Attribute]
-    ensures { map allowed_data result.now ≡ attributes_of row }
+pub fn attributes(tag: Tag) -> &'static [Attribute]
+    ensures { map allowed_data result.now ≡ attributes_of tag }
 {
-    match row {
-        Row::Stylesheet => &STYLESHEET,
-        Row::Import | Row::Include => &HREF,
-        Row::StripSpace | Row::PreserveSpace => &ELEMENTS,
-        Row::Output => &OUTPUT,
-        Row::Key => &KEY,
-        Row::NamespaceAlias => &NAMESPACE_ALIAS,
-        Row::AttributeSet => &ATTRIBUTE_SET,
-        Row::Variable | Row::Param | Row::WithParam => &BINDING,
-        Row::Template => &TEMPLATE,
-        Row::ApplyTemplates => &APPLY_TEMPLATES,
-        Row::CallTemplate => &CALL_TEMPLATE,
-        Row::ForEach | Row::CopyOf => &SELECT,
-        Row::ValueOf => &VALUE_OF,
-        Row::Copy => &COPY,
-        Row::Number => &NUMBER,
-        Row::If | Row::When => &TEST,
-        Row::Text => &TEXT,
-        Row::Element => &ELEMENT,
-        Row::Attribute => &ATTRIBUTE,
-        Row::ProcessingInstruction => &PROCESSING_INSTRUCTION,
-        Row::Message => &MESSAGE,
-        Row::Sort => &SORT,
-        Row::Other => &LITERAL,
-        Row::ApplyImports | Row::Choose | Row::Otherwise | Row::Comment | Row::Fallback => &NONE,
-        Row::DecimalFormat | Row::Unknown | Row::NoElement => &NONE,
+    match tag {
+        Tag::Stylesheet => &STYLESHEET,
+        Tag::Import | Tag::Include => &HREF,
+        Tag::StripSpace | Tag::PreserveSpace => &ELEMENTS,
+        Tag::Output => &OUTPUT,
+        Tag::Key => &KEY,
+        Tag::NamespaceAlias => &NAMESPACE_ALIAS,
+        Tag::AttributeSet => &ATTRIBUTE_SET,
+        Tag::Variable | Tag::Param | Tag::WithParam => &BINDING,
+        Tag::Template => &TEMPLATE,
+        Tag::ApplyTemplates => &APPLY_TEMPLATES,
+        Tag::CallTemplate => &CALL_TEMPLATE,
+        Tag::ForEach | Tag::CopyOf => &SELECT,
+        Tag::ValueOf => &VALUE_OF,
+        Tag::Copy => &COPY,
+        Tag::Number => &NUMBER,
+        Tag::If | Tag::When => &TEST,
+        Tag::Text => &TEXT,
+        Tag::Element => &ELEMENT,
+        Tag::Attribute => &ATTRIBUTE,
+        Tag::ProcessingInstruction => &PROCESSING_INSTRUCTION,
+        Tag::Message => &MESSAGE,
+        Tag::Sort => &SORT,
+        Tag::Other => &LITERAL,
+        Tag::ApplyImports | Tag::Choose | Tag::Otherwise | Tag::Comment | Tag::Fallback => &NONE,
+        Tag::DecimalFormat | Tag::Unknown | Tag::NoElement => &NONE,
     }
 }
 
 /// What the value of an attribute with this local part has to be, if there is such an attribute.
-pub fn form_named(row: Row, local: &str) -> Option<Form>
-    ensures { result ≡ allowed_form row local.now }
+pub fn form_named(tag: Tag, local: &str) -> Option<Form>
+    ensures { result ≡ allowed_form tag local.now }
 {
-    for attribute in attributes(row) {
+    for attribute in attributes(tag) {
         if attribute.0 == local {
             return Some(attribute.2);
         }

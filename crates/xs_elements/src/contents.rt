@@ -4,9 +4,9 @@ ghost use Rattle.std.specs.Prelude.{◌≡◌, List, [], ◌∷◌, ◌++◌};
 ghost use Rattle.xs_elements.specs.Contents.{content_of, holds_text, is_declaration, is_in_body};
 ghost use Rattle.xs_elements.specs.Contents.{before_of, may_stand, stands_at_top, stands_in_choose};
 ghost use Rattle.xs_elements.specs.Contents.{stands_in_loop, stands_in_template};
-ghost use Rattle.xs_elements.specs.declared.rows.Row.{Row as RowData};
+ghost use Rattle.xs_elements.specs.declared.tags.Tag.{Tag as TagData};
 
-use crate::rows::Row;
+use crate::tags::Tag;
 
 /// The kinds of content.
 #[derive(Clone, Copy, PartialEq, Eq)]
@@ -36,27 +36,27 @@ pub enum Content {
 }
 
 /// Which content an element of XSLT has. A binding with a `select` has none (11.2).
-pub fn content_of(row: Row, has_select: bool) -> Content
-    ensures { result ≡ content_of row has_select }
+pub fn content_of(tag: Tag, has_select: bool) -> Content
+    ensures { result ≡ content_of tag has_select }
 {
-    match row {
-        Row::Stylesheet => Content::TopLevel,
-        Row::AttributeSet => Content::Attributes,
-        Row::Template => Content::ParametersAndBody,
-        Row::Variable | Row::Param | Row::WithParam if has_select => Content::Nothing,
-        Row::Variable | Row::Param | Row::WithParam => Content::Body,
-        Row::ApplyTemplates => Content::SortsAndParameters,
-        Row::CallTemplate => Content::Parameters,
-        Row::ForEach => Content::SortsAndBody,
-        Row::Choose => Content::Branches,
-        Row::Text => Content::TextAlone,
-        Row::Copy | Row::If | Row::When | Row::Otherwise | Row::Element => Content::Body,
-        Row::Attribute | Row::Comment | Row::ProcessingInstruction => Content::Body,
-        Row::Message | Row::Fallback | Row::Other => Content::Body,
-        Row::Import | Row::Include | Row::StripSpace | Row::PreserveSpace => Content::Nothing,
-        Row::Output | Row::Key | Row::NamespaceAlias | Row::ApplyImports => Content::Nothing,
-        Row::ValueOf | Row::CopyOf | Row::Number | Row::Sort => Content::Nothing,
-        Row::DecimalFormat | Row::Unknown | Row::NoElement => Content::Unread,
+    match tag {
+        Tag::Stylesheet => Content::TopLevel,
+        Tag::AttributeSet => Content::Attributes,
+        Tag::Template => Content::ParametersAndBody,
+        Tag::Variable | Tag::Param | Tag::WithParam if has_select => Content::Nothing,
+        Tag::Variable | Tag::Param | Tag::WithParam => Content::Body,
+        Tag::ApplyTemplates => Content::SortsAndParameters,
+        Tag::CallTemplate => Content::Parameters,
+        Tag::ForEach => Content::SortsAndBody,
+        Tag::Choose => Content::Branches,
+        Tag::Text => Content::TextAlone,
+        Tag::Copy | Tag::If | Tag::When | Tag::Otherwise | Tag::Element => Content::Body,
+        Tag::Attribute | Tag::Comment | Tag::ProcessingInstruction => Content::Body,
+        Tag::Message | Tag::Fallback | Tag::Other => Content::Body,
+        Tag::Import | Tag::Include | Tag::StripSpace | Tag::PreserveSpace => Content::Nothing,
+        Tag::Output | Tag::Key | Tag::NamespaceAlias | Tag::ApplyImports => Content::Nothing,
+        Tag::ValueOf | Tag::CopyOf | Tag::Number | Tag::Sort => Content::Nothing,
+        Tag::DecimalFormat | Tag::Unknown | Tag::NoElement => Content::Unread,
     }
 }
 
@@ -73,26 +73,26 @@ pub fn holds_text(content: Content) -> bool
 }
 
 /// Whether an element of XSLT that is no import stands at the top level (2.2).
-fn is_declaration(row: Row) -> bool
-    ensures { result ≡ is_declaration row }
+fn is_declaration(tag: Tag) -> bool
+    ensures { result ≡ is_declaration tag }
 {
-    match row {
-        Row::Include | Row::StripSpace | Row::PreserveSpace | Row::Output => true,
-        Row::Key | Row::DecimalFormat | Row::NamespaceAlias | Row::AttributeSet => true,
-        Row::Variable | Row::Param | Row::Template => true,
+    match tag {
+        Tag::Include | Tag::StripSpace | Tag::PreserveSpace | Tag::Output => true,
+        Tag::Key | Tag::DecimalFormat | Tag::NamespaceAlias | Tag::AttributeSet => true,
+        Tag::Variable | Tag::Param | Tag::Template => true,
         _ => false,
     }
 }
 
 /// Whether an element stands in a body (2.1).
-fn is_in_body(row: Row) -> bool
-    ensures { result ≡ is_in_body row }
+fn is_in_body(tag: Tag) -> bool
+    ensures { result ≡ is_in_body tag }
 {
-    match row {
-        Row::ApplyTemplates | Row::CallTemplate | Row::ApplyImports | Row::ForEach => true,
-        Row::ValueOf | Row::CopyOf | Row::Copy | Row::Number | Row::Choose | Row::If => true,
-        Row::Text | Row::Element | Row::Attribute | Row::Comment => true,
-        Row::ProcessingInstruction | Row::Message | Row::Variable | Row::Other => true,
+    match tag {
+        Tag::ApplyTemplates | Tag::CallTemplate | Tag::ApplyImports | Tag::ForEach => true,
+        Tag::ValueOf | Tag::CopyOf | Tag::Copy | Tag::Number | Tag::Choose | Tag::If => true,
+        Tag::Text | Tag::Element | Tag::Attribute | Tag::Comment => true,
+        Tag::ProcessingInstruction | Tag::Message | Tag::Variable | Tag::Other => true,
         _ => false,
     }
 }
@@ -123,81 +123,81 @@ impl Before {
     }
 
     /// With one more behind it: an element, or text.
-    pub fn and(self, row: Row) -> Before
-        ensures { (rows : List RowData) → self ≡ before_of rows
-            → result ≡ before_of (rows ++ row ∷ []) }
+    pub fn and(self, tag: Tag) -> Before
+        ensures { (tags : List TagData) → self ≡ before_of tags
+            → result ≡ before_of (tags ++ tag ∷ []) }
     {
         Before {
             is_some: true,
-            only_imports: self.only_imports && matches!(row, Row::Import),
-            only_params: self.only_params && matches!(row, Row::Param),
-            only_sorts: self.only_sorts && matches!(row, Row::Sort),
-            only_whens: self.only_whens && matches!(row, Row::When),
+            only_imports: self.only_imports && matches!(tag, Tag::Import),
+            only_params: self.only_params && matches!(tag, Tag::Param),
+            only_sorts: self.only_sorts && matches!(tag, Tag::Sort),
+            only_whens: self.only_whens && matches!(tag, Tag::When),
         }
     }
 }
 
 /// Whether an element may stand at the top level (2.2, 2.6.2).
-fn stands_at_top(row: Row, has_namespace: bool, before: Before) -> bool
-    ensures { (rows : List RowData) → before ≡ before_of rows
-        → result ≡ stands_at_top row has_namespace rows }
+fn stands_at_top(tag: Tag, has_namespace: bool, before: Before) -> bool
+    ensures { (tags : List TagData) → before ≡ before_of tags
+        → result ≡ stands_at_top tag has_namespace tags }
 {
-    match row {
-        Row::Import => before.only_imports,
-        Row::Other => has_namespace,
-        _ => is_declaration(row),
+    match tag {
+        Tag::Import => before.only_imports,
+        Tag::Other => has_namespace,
+        _ => is_declaration(tag),
     }
 }
 
 /// Whether an element may stand in `xsl:choose` (9.2).
-fn stands_in_choose(row: Row, before: Before) -> bool
-    ensures { (rows : List RowData) → before ≡ before_of rows
-        → result ≡ stands_in_choose row rows }
+fn stands_in_choose(tag: Tag, before: Before) -> bool
+    ensures { (tags : List TagData) → before ≡ before_of tags
+        → result ≡ stands_in_choose tag tags }
 {
-    match row {
-        Row::When => before.only_whens,
-        Row::Otherwise => before.is_some && before.only_whens,
+    match tag {
+        Tag::When => before.only_whens,
+        Tag::Otherwise => before.is_some && before.only_whens,
         _ => false,
     }
 }
 
 /// Whether an element may stand in `xsl:template` (5.3).
-fn stands_in_template(row: Row, before: Before) -> bool
-    ensures { (rows : List RowData) → before ≡ before_of rows
-        → result ≡ stands_in_template row rows }
+fn stands_in_template(tag: Tag, before: Before) -> bool
+    ensures { (tags : List TagData) → before ≡ before_of tags
+        → result ≡ stands_in_template tag tags }
 {
-    match row {
-        Row::Param => before.only_params,
-        _ => is_in_body(row),
+    match tag {
+        Tag::Param => before.only_params,
+        _ => is_in_body(tag),
     }
 }
 
 /// Whether an element may stand in `xsl:for-each` (8).
-fn stands_in_loop(row: Row, before: Before) -> bool
-    ensures { (rows : List RowData) → before ≡ before_of rows
-        → result ≡ stands_in_loop row rows }
+fn stands_in_loop(tag: Tag, before: Before) -> bool
+    ensures { (tags : List TagData) → before ≡ before_of tags
+        → result ≡ stands_in_loop tag tags }
 {
-    match row {
-        Row::Sort => before.only_sorts,
-        _ => is_in_body(row),
+    match tag {
+        Tag::Sort => before.only_sorts,
+        _ => is_in_body(tag),
     }
 }
 
 /// Whether an element may stand in some content, behind what stands before it.
-pub fn may_stand(content: Content, row: Row, has_namespace: bool, before: Before) -> bool
-    ensures { (rows : List RowData) → before ≡ before_of rows
-        → result ≡ may_stand content row has_namespace rows }
+pub fn may_stand(content: Content, tag: Tag, has_namespace: bool, before: Before) -> bool
+    ensures { (tags : List TagData) → before ≡ before_of tags
+        → result ≡ may_stand content tag has_namespace tags }
 {
     match content {
         Content::Nothing | Content::TextAlone => false,
-        Content::TopLevel => stands_at_top(row, has_namespace, before),
-        Content::Attributes => matches!(row, Row::Attribute),
-        Content::SortsAndParameters => matches!(row, Row::Sort | Row::WithParam),
-        Content::Parameters => matches!(row, Row::WithParam),
-        Content::Branches => stands_in_choose(row, before),
-        Content::Body => is_in_body(row),
-        Content::ParametersAndBody => stands_in_template(row, before),
-        Content::SortsAndBody => stands_in_loop(row, before),
+        Content::TopLevel => stands_at_top(tag, has_namespace, before),
+        Content::Attributes => matches!(tag, Tag::Attribute),
+        Content::SortsAndParameters => matches!(tag, Tag::Sort | Tag::WithParam),
+        Content::Parameters => matches!(tag, Tag::WithParam),
+        Content::Branches => stands_in_choose(tag, before),
+        Content::Body => is_in_body(tag),
+        Content::ParametersAndBody => stands_in_template(tag, before),
+        Content::SortsAndBody => stands_in_loop(tag, before),
         Content::Unread => true,
     }
 }

@@ -1,12 +1,12 @@
 //! Which texts of a stylesheet are kept (XSLT 1.0, 3.4).
 
 ghost use Rattle.std.specs.Prelude.{◌≡◌, ◌<◌, ◌||◌, not, length};
-ghost use Rattle.xs_elements.specs.WhiteSpace.{is_text_row, own_space, space_value};
+ghost use Rattle.xs_elements.specs.WhiteSpace.{is_text_tag, own_space, space_value};
 ghost use Rattle.xs_text.specs.WhiteSpace.{is_blank};
 ghost use Rattle.xs_tree.specs.Record.{at};
 
-use crate::rows::Row;
 use crate::scope::value_of;
+use crate::tags::Tag;
 use xs_text::{XML_URI, is_blank};
 use xs_tree::{Node, Tree};
 
@@ -33,9 +33,9 @@ pub fn space_value(value: &str) -> Option<bool>
 }
 
 /// Whether a text node is kept, inside a parent where white space is preserved or not.
-pub fn is_kept(tree: &Tree, text: Node, parent: Row, preserves: bool) -> bool
+pub fn is_kept(tree: &Tree, text: Node, parent: Tag, preserves: bool) -> bool
     requires { text < length tree.now }
-    ensures { result ≡ (preserves || is_text_row parent || not (is_blank (at tree.now text).text)) }
+    ensures { result ≡ (preserves || is_text_tag parent || not (is_blank (at tree.now text).text)) }
 {
-    preserves || matches!(parent, Row::Text) || !is_blank(tree.text(text).as_bytes())
+    preserves || matches!(parent, Tag::Text) || !is_blank(tree.text(text).as_bytes())
 }

@@ -6,7 +6,7 @@ pub mod contents;
 pub mod forms;
 pub mod kept;
 pub mod reading;
-pub mod rows;
 pub mod scope;
+pub mod tags;
 pub mod value;
 pub mod words;

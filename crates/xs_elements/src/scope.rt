@@ -48,7 +48,7 @@ pub fn uri_of<'a>(tree: &'a Tree, n: Node, prefix: &str) -> Option<&'a str>
     None
 }
 
-/// The expanded name that a name stands for at an element: without a prefix it is in no namespace
+/// The expanded name that a name represents at an element: without a prefix it is in no namespace
 /// (XSLT 1.0, 2.4). None where the text is no name, or its prefix is not bound.
 pub fn expanded<'a>(tree: &'a Tree, n: Node, name: &'a str) -> Option<Expanded<'a>>
     requires { n < length tree.now }
@@ -103,7 +103,7 @@ pub fn has(tree: &Tree, n: Node, local: &str) -> bool
     attribute_of(tree, n, "", local).is_some()
 }
 
-/// The expanded name that the attribute `name` of an element stands for.
+/// The expanded name that the attribute `name` of an element represents.
 pub fn own_name(tree: &Tree, n: Node) -> Option<Expanded<'_>>
     requires { n < length tree.now }
     ensures { option_map name_data result ≡ own_name tree.now n }

@@ -6,7 +6,7 @@ ghost use Rattle.xs_modules.specs.Sound.{IsSound};
 ghost use Rattle.xs_sheet.specs.Sound.{IsSound as SheetIsSound};
 ghost use Rattle.xs_words.specs.Results.{texts};
 ghost use Rattle.xs_reply.specs.declared.status.TheConstants.{READ_FAULT, USAGE, WRITE_FAULT};
-ghost use Rattle.xs_reply.specs.Due.{IsAnswer, IsDue, IsModulesAnswer, IsSheetAnswer, Owed};
+ghost use Rattle.xs_reply.specs.Expected.{IsAnswer, IsExpected, IsModulesAnswer, IsSheetAnswer, Owed};
 ghost use Rattle.xs_reply.specs.Fetches.{Fetches, GoesOn, Grew, JobFetches};
 ghost use Rattle.xs_reply.specs.Headline.{HasTicks};
 ghost use Rattle.xs_reply.specs.Job.{inputs_on, request_of};
@@ -19,15 +19,15 @@ ghost use Rattle.xs_result_laws.specs.Named.{IsNamedSheet};
 use crate::evaluation::evaluate;
 use std::alloc::{AllocError, Global};
 use std::thread::Threads;
+use xs_compile::{CompileEnd, compile};
+use xs_load::load_case;
+use xs_modules::{Modules, ModulesEnd, read_modules};
+use xs_outside::{FetchEnd, Library};
 use xs_reply::checking::{check_reply, static_reply};
 use xs_reply::job::{Job, read_request};
 use xs_reply::made::MadeFiles;
 use xs_reply::reading::read_source;
 use xs_reply::reply::{Reply, read_fault_reply, refused_reply, usage_reply};
-use xs_compile::{CompileEnd, compile};
-use xs_load::load_case;
-use xs_modules::{Modules, ModulesEnd, read_modules};
-use xs_outside::{FetchEnd, Library};
 use xs_sheet::sheet::Sheet;
 use xs_text::TextBuf;
 use xs_words::WordsEnd;
@@ -42,7 +42,7 @@ pub fn reply_to<R: Threads + Sync, L: Library>(
     ensures files { L.files library.new ≡ L.files library.old }
     ensures fetches { Fetches (request_of (texts words.now)) (L.files library.old)
         (L.asked library.old) (L.asked library.new) (L.failed library.old) (L.failed library.new) }
-    ensures due { IfOk result (Replies (Unit {0}) (IsDue (L.files library.old)
+    ensures expected { IfOk result (Replies (Unit {0}) (IsExpected (L.files library.old)
         (request_of (texts words.now)) (L.failed library.old) (L.failed library.new))) }
     ensures usage_only { IfOk result (λ reply.
         reply.status ≡ USAGE → request_of (texts words.now) ≡ None) }
@@ -94,7 +94,7 @@ fn job_reply<R: Threads + Sync, L: Library>(
     ensures files { L.files library.new ≡ L.files library.old }
     ensures fetches { JobFetches (job_data job.now) (L.files library.old)
         (L.asked library.old) (L.asked library.new) (L.failed library.old) (L.failed library.new) }
-    ensures due { IfOk result (Replies (Unit {0})
+    ensures expected { IfOk result (Replies (Unit {0})
         (Owed (IsAnswer (L.files library.old) (job_data job.now))
         (L.failed library.old) (L.failed library.new))) }
     ensures read_fault_only { IfOk result (λ reply. reply.status ≡ READ_FAULT
@@ -133,7 +133,7 @@ fn modules_reply<R: Threads + Sync, L: Library>(
     ensures asks { Grew (AsksSource (GoesOn (job_data job.now) (modules_data modules.now))
         (L.files library.old) (job_data job.now))
         (L.asked library.old) (L.asked library.new) (L.failed library.old) (L.failed library.new) }
-    ensures due { IfOk result (Replies (Unit {0}) (Owed
+    ensures expected { IfOk result (Replies (Unit {0}) (Owed
         (IsModulesAnswer (L.files library.old) (job_data job.now) (modules_data modules.now))
         (L.failed library.old) (L.failed library.new))) }
     ensures read_fault_only { IfOk result (λ reply. reply.status ≡ READ_FAULT
@@ -179,7 +179,7 @@ pub fn run_reply<R: Threads + Sync, L: Library>(
     ensures asks { Grew (AsksSource (GoesTo source.now)
         (L.files library.old) (job_data job.now))
         (L.asked library.old) (L.asked library.new) (L.failed library.old) (L.failed library.new) }
-    ensures due { IfOk result (Replies (IsNamedSheet sheet.now) (Owed (IsSheetAnswer
+    ensures expected { IfOk result (Replies (IsNamedSheet sheet.now) (Owed (IsSheetAnswer
         (L.files library.old) (job_data job.now) sheet.now
         (inputs_on (job_data job.now) source.now))
         (L.failed library.old) (L.failed library.new))) }

@@ -7,9 +7,9 @@ mod top;
 
 pub use answer::run_reply;
 pub use top::transform;
+pub use xs_outside as outside;
 pub use xs_reply::job::Job;
 pub use xs_reply::reply::{Reply, ReportedFault};
 pub use xs_reply::report::Report;
 pub use xs_reply::status;
-pub use xs_outside as outside;
 pub use xs_trace::place::{Claim, Place};

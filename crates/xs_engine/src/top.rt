@@ -5,7 +5,7 @@ ghost use Rattle.xs_reply.specs.declared.status.TheConstants.{NO_MEMORY, READ_FA
 ghost use Rattle.xs_reply.specs.declared.status.TheConstants.{REFUSED, USAGE};
 ghost use Rattle.xs_words.specs.Results.{texts};
 ghost use Rattle.xs_reply.specs.Fetches.{Fetches};
-ghost use Rattle.xs_reply.specs.Headline.{AtOnce, Gained, Gives, HasTicks, OfDue, OnlyDue};
+ghost use Rattle.xs_reply.specs.Headline.{AtOnce, Gained, Gives, HasTicks, OfExpected, OnlyExpected};
 ghost use Rattle.xs_reply.specs.Job.{is_streamed, request_of};
 ghost use Rattle.xs_reply.specs.Refusals.{Decides, IsListed};
 ghost use Rattle.xs_reply.specs.Reply.{account_of};
@@ -13,9 +13,9 @@ ghost use Rattle.xs_reply.specs.Reply.{account_of};
 use crate::answer::reply_to;
 use std::alloc::Global;
 use std::thread::Threads;
+use xs_outside::{Gate, Library, Sink};
 use xs_reply::deliver::deliver;
 use xs_reply::report::{Report, refused_memory, report_of};
-use xs_outside::{Gate, Library, Sink};
 
 /// Runs the processor on the arguments after its name.
 ///
@@ -39,15 +39,15 @@ pub fn transform<R: Threads + Sync, L: Library, O: Sink, E: Sink, G: Gate>(
     // of a result are those of a document with the same elements, attributes, texts, comments and
     // instructions as what that run put.
     ensures gives { result.status ≢ NO_MEMORY
-        → OfDue (L.files library.old) (request_of (texts words.now))
+        → OfExpected (L.files library.old) (request_of (texts words.now))
         (L.failed library.old) (L.failed library.new)
-        (λ due. Gives (is_streamed (request_of (texts words.now))) due (account_of result)
+        (λ expected. Gives (is_streamed (request_of (texts words.now))) expected (account_of result)
         (O.held out.old) (O.held out.new) (E.held err.old) (E.held err.new)) }
 
     // Where the files are known, the arguments and these files define one answer alone.
-    ensures only { OnlyDue (L.files library.old) (request_of (texts words.now))
+    ensures only { OnlyExpected (L.files library.old) (request_of (texts words.now))
         (L.failed library.old) (L.failed library.new)
-        (λ due. Gives (is_streamed (request_of (texts words.now))) due (account_of result)
+        (λ expected. Gives (is_streamed (request_of (texts words.now))) expected (account_of result)
         (O.held out.old) (O.held out.new) (E.held err.old) (E.held err.new)) }
 
     // A stylesheet is refused for a static fault alone, the least, and a source for its first bad

@@ -43,7 +43,7 @@ impl<K: KeyFinder> Evaluator<'_, K> {
     ) -> Result<Value, Halt>
         requires context { IsContext (K.tables self.now.keys.now) context.now }
         requires inside { All (IsIn context.now.tree) values.now }
-        ensures told { IsStep (limited self.now.site
+        ensures reported { IsStep (limited self.now.site
             (answered (K.tables self.now.keys.now) context.now function values.now)
             (T.state tally.old)) result (T.state tally.new) }
         ensures kept { T.kept tally.new ≡ T.kept tally.old }

@@ -14,8 +14,8 @@ use crate::operators::{decided, operate};
 use crate::steps::{is_union_of_steps, unite_steps};
 use xs_eval_spec::context::Context;
 use xs_eval_spec::trouble::settled;
-use xs_trace::recorder::{Halt, Tally};
 use xs_text::TextBuf;
+use xs_trace::recorder::{Halt, Tally};
 use xs_value::keys::KeyFinder;
 use xs_value::value::Value;
 use xs_xpath::expr::Expr;
@@ -32,7 +32,7 @@ impl<K: KeyFinder> Evaluator<'_, K> {
         tally: &mut T,
     ) -> Result<Value, Halt>
         requires context { IsContext (K.tables self.now.keys.now) context.now }
-        ensures told { IsStep (limited self.now.site
+        ensures reported { IsStep (limited self.now.site
             (chain operators.now (runs_of (K.tables self.now.keys.now) operands.now) context.now)
             (T.state tally.old)) result (T.state tally.new) }
         ensures kept { T.kept tally.new ≡ T.kept tally.old }
@@ -62,7 +62,7 @@ impl<K: KeyFinder> Evaluator<'_, K> {
     ) -> Result<Value, Halt>
         requires context { IsContext (K.tables self.now.keys.now) context.now }
         requires inside { IsIn context.now.tree left }
-        ensures told { IsStep (limited self.now.site
+        ensures reported { IsStep (limited self.now.site
             (joined_from context.now left.entry operators.now
             (runs_of (K.tables self.now.keys.now) operands.now))
             (T.state tally.old)) result (T.state tally.new) }
@@ -97,7 +97,7 @@ impl<K: KeyFinder> Evaluator<'_, K> {
     ) -> Result<Value, Halt>
         requires context { IsContext (K.tables self.now.keys.now) context.now }
         requires inside { IsIn context.now.tree left }
-        ensures told { IsStep (limited self.now.site
+        ensures reported { IsStep (limited self.now.site
             (joined operator left.entry (run_of (K.tables self.now.keys.now) right.now) context.now)
             (T.state tally.old)) result (T.state tally.new) }
         ensures kept { T.kept tally.new ≡ T.kept tally.old }
@@ -124,7 +124,7 @@ impl<K: KeyFinder> Evaluator<'_, K> {
     ) -> Result<Value, Halt>
         requires context { IsContext (K.tables self.now.keys.now) context.now }
         requires inside { IsIn context.now.tree left }
-        ensures told { IsStep (limited self.now.site
+        ensures reported { IsStep (limited self.now.site
             (right_operated operator left.entry
             (run_of (K.tables self.now.keys.now) right.now) context.now)
             (T.state tally.old)) result (T.state tally.new) }

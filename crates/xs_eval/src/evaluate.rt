@@ -36,7 +36,7 @@ pub fn evaluate<K: KeyFinder, T: Tally>(
     tally: &mut T,
 ) -> Result<Value, Halt>
     requires context { IsContext (K.tables keys.now) context.now }
-    ensures told { IsStep (limited site (run_of (K.tables keys.now) expr.now context.now)
+    ensures reported { IsStep (limited site (run_of (K.tables keys.now) expr.now context.now)
         (T.state tally.old)) result (T.state tally.new) }
     ensures kept { T.kept tally.new ≡ T.kept tally.old }
     ensures inside { IfOk result (IsIn context.now.tree) }
@@ -55,7 +55,7 @@ impl<K: KeyFinder> Evaluator<'_, K> {
         tally: &mut T,
     ) -> Result<Value, Halt>
         requires context { IsContext (K.tables self.now.keys.now) context.now }
-        ensures told { IsStep (limited self.now.site
+        ensures reported { IsStep (limited self.now.site
             (run_of (K.tables self.now.keys.now) expr.now context.now)
             (T.state tally.old)) result (T.state tally.new) }
         ensures kept { T.kept tally.new ≡ T.kept tally.old }
@@ -103,7 +103,7 @@ impl<K: KeyFinder> Evaluator<'_, K> {
         tally: &mut T,
     ) -> Result<Operand<'e>, Halt>
         requires context { IsContext (K.tables self.now.keys.now) context.now }
-        ensures told { IsStep (limited self.now.site
+        ensures reported { IsStep (limited self.now.site
             (run_of (K.tables self.now.keys.now) expr.now context.now)
             (T.state tally.old)) result (T.state tally.new) }
         ensures kept { T.kept tally.new ≡ T.kept tally.old }
@@ -128,7 +128,7 @@ impl<K: KeyFinder> Evaluator<'_, K> {
         tally: &mut T,
     ) -> Result<Value, Halt>
         requires context { IsContext (K.tables self.now.keys.now) context.now }
-        ensures told { IsStep (limited self.now.site
+        ensures reported { IsStep (limited self.now.site
             (called_of (K.tables self.now.keys.now) function
             (runs_of (K.tables self.now.keys.now) arguments.now) context.now)
             (T.state tally.old)) result (T.state tally.new) }
@@ -154,7 +154,7 @@ impl<K: KeyFinder> Evaluator<'_, K> {
         tally: &mut T,
     ) -> Result<Value, Halt>
         requires context { IsContext (K.tables self.now.keys.now) context.now }
-        ensures told { IsStep (limited self.now.site
+        ensures reported { IsStep (limited self.now.site
             (negative signs (run_of (K.tables self.now.keys.now) inner.now) context.now)
             (T.state tally.old)) result (T.state tally.new) }
         ensures kept { T.kept tally.new ≡ T.kept tally.old }

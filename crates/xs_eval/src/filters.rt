@@ -33,7 +33,7 @@ impl<K: KeyFinder> Evaluator<'_, K> {
         tally: &mut T,
     ) -> Result<Value, Halt>
         requires context { IsContext (K.tables self.now.keys.now) context.now }
-        ensures told { IsStep (limited self.now.site
+        ensures reported { IsStep (limited self.now.site
             (filter_expr (run_of (K.tables self.now.keys.now) inner.now)
             (runs_of (K.tables self.now.keys.now) predicates.now) context.now)
             (T.state tally.old)) result (T.state tally.new) }
@@ -55,7 +55,7 @@ impl<K: KeyFinder> Evaluator<'_, K> {
     ) -> Result<Value, Halt>
         requires context { IsContext (K.tables self.now.keys.now) context.now }
         requires inside { All (λ k. k < length context.now.tree) set }
-        ensures told { IsStep (limited self.now.site
+        ensures reported { IsStep (limited self.now.site
             (kept_of context.now (runs_of (K.tables self.now.keys.now) predicates.now) set.entry)
             (T.state tally.old)) result (T.state tally.new) }
         ensures kept { T.kept tally.new ≡ T.kept tally.old }
@@ -88,7 +88,7 @@ impl<K: KeyFinder> Evaluator<'_, K> {
     ) -> Result<Value, Halt>
         requires context { IsContext (K.tables self.now.keys.now) context.now }
         requires some { AreSome context.now.tree nodes }
-        ensures told { IsStep (limited self.now.site
+        ensures reported { IsStep (limited self.now.site
             (kept_of context.now (runs_of (K.tables self.now.keys.now) predicates.now) nodes)
             (T.state tally.old)) result (T.state tally.new) }
         ensures kept { T.kept tally.new ≡ T.kept tally.old }
@@ -113,7 +113,7 @@ impl<K: KeyFinder> Evaluator<'_, K> {
     ) -> Result<NodeList, Halt>
         requires context { IsContext (K.tables self.now.keys.now) context.now }
         requires some { AreSome context.now.tree nodes.now }
-        ensures told { IsStep (limited self.now.site
+        ensures reported { IsStep (limited self.now.site
             (filtered context.now nodes.now (run_of (K.tables self.now.keys.now) predicate.now))
             (T.state tally.old)) result (T.state tally.new) }
         ensures kept { T.kept tally.new ≡ T.kept tally.old }
@@ -136,7 +136,7 @@ impl<K: KeyFinder> Evaluator<'_, K> {
     ) -> Result<NodeList, Halt>
         requires context { IsContext (K.tables self.now.keys.now) context.now }
         requires some { AreSome context.now.tree nodes.now }
-        ensures told { IsStep (limited self.now.site
+        ensures reported { IsStep (limited self.now.site
             (filtered context.now nodes.now (run_of (K.tables self.now.keys.now) predicate.now))
             (T.state tally.old)) result (T.state tally.new) }
         ensures kept { T.kept tally.new ≡ T.kept tally.old }

@@ -43,7 +43,7 @@ impl<K: KeyFinder> Evaluator<'_, K> {
     ) -> Result<Value, Halt>
         requires context { IsContext (K.tables self.now.keys.now) context.now }
         requires inside { All (IsIn context.now.tree) values.now }
-        ensures told { IsStep (limited self.now.site
+        ensures reported { IsStep (limited self.now.site
             (keyed (K.tables self.now.keys.now) context.now (first values.now) (second values.now))
             (T.state tally.old)) result (T.state tally.new) }
         ensures kept { T.kept tally.new ≡ T.kept tally.old }
@@ -66,7 +66,7 @@ impl<K: KeyFinder> Evaluator<'_, K> {
     ) -> Result<Value, Halt>
         requires context { IsContext (K.tables self.now.keys.now) context.now }
         requires inside { All (IsIn context.now.tree) values.now }
-        ensures told { IsStep (limited self.now.site
+        ensures reported { IsStep (limited self.now.site
             (from_table context.now (table_at (K.tables self.now.keys.now) key)
             (table_at (K.tables self.now.keys.now) key).fault
             (sought context.now (second values.now)))

@@ -38,7 +38,7 @@ impl<K: KeyFinder> Evaluator<'_, K> {
         tally: &mut T,
     ) -> Result<Value, Halt>
         requires context { IsContext (K.tables self.now.keys.now) context.now }
-        ensures told { IsStep (limited self.now.site
+        ensures reported { IsStep (limited self.now.site
             (step axis test.now (runs_of (K.tables self.now.keys.now) predicates.now) context.now)
             (T.state tally.old)) result (T.state tally.new) }
         ensures kept { T.kept tally.new ≡ T.kept tally.old }
@@ -59,7 +59,7 @@ impl<K: KeyFinder> Evaluator<'_, K> {
         tally: &mut T,
     ) -> Result<Value, Halt>
         requires context { IsContext (K.tables self.now.keys.now) context.now }
-        ensures told { IsStep (limited self.now.site
+        ensures reported { IsStep (limited self.now.site
             (path (run_of (K.tables self.now.keys.now) start.now)
             (runs_of (K.tables self.now.keys.now) steps.now) context.now)
             (T.state tally.old)) result (T.state tally.new) }
@@ -88,7 +88,7 @@ impl<K: KeyFinder> Evaluator<'_, K> {
     ) -> Result<NodeSet, Halt>
         requires context { IsContext (K.tables self.now.keys.now) context.now }
         requires inside { All (λ k. k < length context.now.tree) nodes.now }
-        ensures told { IsStep (limited self.now.site
+        ensures reported { IsStep (limited self.now.site
             (through context.now nodes.now (run_of (K.tables self.now.keys.now) step.now))
             (T.state tally.old)) result (T.state tally.new) }
         ensures kept { T.kept tally.new ≡ T.kept tally.old }
@@ -111,7 +111,7 @@ impl<K: KeyFinder> Evaluator<'_, K> {
     ) -> Result<NodeSet, Halt>
         requires context { IsContext (K.tables self.now.keys.now) context.now }
         requires inside { node < length context.now.tree }
-        ensures told { IsStep (limited self.now.site
+        ensures reported { IsStep (limited self.now.site
             (through context.now (node ∷ []) (run_of (K.tables self.now.keys.now) step.now))
             (T.state tally.old)) result (T.state tally.new) }
         ensures kept { T.kept tally.new ≡ T.kept tally.old }
@@ -135,7 +135,7 @@ impl<K: KeyFinder> Evaluator<'_, K> {
     ) -> Result<NodeSet, Halt>
         requires context { IsContext (K.tables self.now.keys.now) context.now }
         requires inside { All (λ k. k < length context.now.tree) nodes.now }
-        ensures told { IsStep (limited self.now.site
+        ensures reported { IsStep (limited self.now.site
             (through context.now nodes.now (run_of (K.tables self.now.keys.now) step.now))
             (T.state tally.old)) result (T.state tally.new) }
         ensures kept { T.kept tally.new ≡ T.kept tally.old }
@@ -161,7 +161,7 @@ impl<K: KeyFinder> Evaluator<'_, K> {
         tally: &mut T,
     ) -> Result<SetOperand<'e>, Halt>
         requires context { IsContext (K.tables self.now.keys.now) context.now }
-        ensures told { IsStep (limited self.now.site
+        ensures reported { IsStep (limited self.now.site
             (selected (run_of (K.tables self.now.keys.now) expr.now) context.now)
             (T.state tally.old)) result (T.state tally.new) }
         ensures kept { T.kept tally.new ≡ T.kept tally.old }

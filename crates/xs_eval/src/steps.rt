@@ -58,7 +58,7 @@ pub(crate) fn unite_steps<T: Tally>(
     tally: &mut T,
 ) -> Result<Value, Halt>
     requires node { context.now.node < length context.now.tree }
-    ensures told { IsStep (limited site (united context.now operands.now) (T.state tally.old))
+    ensures reported { IsStep (limited site (united context.now operands.now) (T.state tally.old))
         result (T.state tally.new) }
     ensures kept { T.kept tally.new ≡ T.kept tally.old }
     ensures inside { IfOk result (IsIn context.now.tree) }
@@ -80,7 +80,7 @@ fn add_step<T: Tally>(
 ) -> Result<(), Halt>
     requires node { context.now.node < length context.now.tree }
     requires inside { All (λ k. k < length context.now.tree) found.old }
-    ensures told { IsStepBy (λ _. found.new) (limited site
+    ensures reported { IsStepBy (λ _. found.new) (limited site
         (and_step context.now found.old operand.now) (T.state tally.old))
         result (T.state tally.new) }
     ensures kept { T.kept tally.new ≡ T.kept tally.old }

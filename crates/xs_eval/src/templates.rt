@@ -14,9 +14,9 @@ use crate::evaluator::Evaluator;
 use std::alloc::{AllocError, Global};
 use std::borrow::CowStr;
 use xs_eval_spec::context::Context;
+use xs_text::TextBuf;
 use xs_trace::item::Site;
 use xs_trace::recorder::{Halt, Tally};
-use xs_text::TextBuf;
 use xs_value::conversion::{lend_text, own_text};
 use xs_value::keys::KeyFinder;
 use xs_xpath::avt::AvtPart;
@@ -32,7 +32,7 @@ pub fn evaluate_avt<K: KeyFinder, T: Tally>(
     tally: &mut T,
 ) -> Result<TextBuf, Halt>
     requires context { IsContext (K.tables keys.now) context.now }
-    ensures told { IsStepBy (λ text. text) (limited site
+    ensures reported { IsStepBy (λ text. text) (limited site
         (template (K.tables keys.now) (parts_from parts.now) context.now)
         (T.state tally.old)) result (T.state tally.new) }
     ensures kept { T.kept tally.new ≡ T.kept tally.old }
@@ -52,7 +52,7 @@ pub fn lend_avt<'t, K: KeyFinder, T: Tally>(
     tally: &mut T,
 ) -> Result<CowStr<'t, Global>, Halt>
     requires context { IsContext (K.tables keys.now) context.now }
-    ensures told { IsStepBy (λ text. cow_str_bytes text) (limited site
+    ensures reported { IsStepBy (λ text. cow_str_bytes text) (limited site
         (template (K.tables keys.now) (parts_from parts.now) context.now)
         (T.state tally.old)) result (T.state tally.new) }
     ensures kept { T.kept tally.new ≡ T.kept tally.old }
@@ -87,7 +87,7 @@ impl<K: KeyFinder> Evaluator<'_, K> {
         tally: &mut T,
     ) -> Result<String, Halt>
         requires context { IsContext (K.tables self.now.keys.now) context.now }
-        ensures told { IsStepBy (λ text. string_bytes text) (limited self.now.site
+        ensures reported { IsStepBy (λ text. string_bytes text) (limited self.now.site
             (template (K.tables self.now.keys.now) (parts_from parts.now) context.now)
             (T.state tally.old)) result (T.state tally.new) }
         ensures kept { T.kept tally.new ≡ T.kept tally.old }
@@ -108,7 +108,7 @@ impl<K: KeyFinder> Evaluator<'_, K> {
         tally: &mut T,
     ) -> Result<String, Halt>
         requires context { IsContext (K.tables self.now.keys.now) context.now }
-        ensures told { IsStepBy (λ t. string_bytes t) (limited self.now.site
+        ensures reported { IsStepBy (λ t. string_bytes t) (limited self.now.site
             (and_part (K.tables self.now.keys.now) context.now (string_bytes text)
             (part_from part.now))
             (T.state tally.old)) result (T.state tally.new) }

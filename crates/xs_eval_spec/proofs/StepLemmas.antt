@@ -70,17 +70,18 @@ pub continues : {H : Type 0} → {A B : Type 0} (w : B → A) (k j : Step H A) (
     → IsStepBy w k result s
 continues {H} {A} w k j result s e h = subst (λ (i : Step H A). IsStepBy w i result s) (sym e) h
 
--- an outcome that is due, as it is answered at an instruction
-pub given_settled : {H : Type 0} → {A B : Type 0} (v : B → A) (p : Site) (due : Outcome A) (r : Result B Trouble) (s : State H) → AnswersBy v due r
-    → IsStepBy v (limited p (given due) s) (settled p r) s
-given_settled v p due (Ok x) s h = ap (λ d. limited p (given d) s) h ∙ gives p (v x) s
-given_settled v p due (Err (trouble.Fault f)) s h = ap (λ d. limited p (given d) s) h ∙ limited-end p (Faults f) s
-given_settled v p due (Err trouble.NoMemory) s h = tt
+-- an outcome that is expected, as it is answered at an instruction
+pub given_settled : {H : Type 0} → {A B : Type 0} (v : B → A) (p : Site) (expected : Outcome A) (r : Result B Trouble) (s : State H) → AnswersBy v expected r
+    → IsStepBy v (limited p (given expected) s) (settled p r) s
+given_settled v p expected (Ok x) s h = ap (λ d. limited p (given d) s) h ∙ gives p (v x) s
+given_settled v p expected (Err (trouble.Fault f)) s h = ap (λ d. limited p (given d) s) h ∙ limited-end p (Faults f) s
+given_settled v p expected (Err trouble.NoMemory) s h = tt
 
-pub closes : {H : Type 0} → {A B : Type 0} (v : B → A) (p : Site) (due : Outcome A) (r : Result B Trouble) (k : Step H A) (result : Result B Halt) (s : State H)
-    → k ≡ limited p (given due) s → result ≡ settled p r → AnswersBy v due r → IsStepBy v k result s
-closes {H} {A} {B} v p due r k result s e a h =
-    subst (λ (q : Result B Halt). IsStepBy v k q s) (sym a) (continues v k (limited p (given due) s) (settled p r) s e (given_settled v p due r s h))
+pub closes : {H : Type 0} → {A B : Type 0} (v : B → A) (p : Site) (expected : Outcome A) (r : Result B Trouble) (k : Step H A) (result : Result B Halt)
+    (s : State H)
+    → k ≡ limited p (given expected) s → result ≡ settled p r → AnswersBy v expected r → IsStepBy v k result s
+closes {H} {A} {B} v p expected r k result s e a h =
+    subst (λ (q : Result B Halt). IsStepBy v k q s) (sym a) (continues v k (limited p (given expected) s) (settled p r) s e (given_settled v p expected r s h))
 
 -- lists from a place on
 pub from_here : {A : Type 0} (xs : List A) (k : ℕ) (a : A) → k < length xs → get_or xs k a ≡ a → drop k xs ≡ a ∷ drop (k + 1) xs

@@ -57,7 +57,7 @@ answered keys c function values = if is_key function then keyed keys c (first va
 abbrev pub called_of : List Table → Function → List Meaning → Meaning
 called_of keys function ms c = tick (arguments c ms >>= answered keys c function)
 
--- operators (3.3 to 3.5): the right operand is evaluated after the left one, but for `or` and `and` where the left one decides
+-- operators (3.3 to 3.5): the right operand is evaluated after the left one, except `or` and `and` where the left one decides
 
 -- a run, unless there is a boolean in its place
 abbrev pub unless : Option Bool → Run Value → Run Value

@@ -1,4 +1,4 @@
--- The functions on values (XPath 1.0, 4; XSLT 1.0, 12), but for `key`. A call has as many arguments as its function takes
+-- The functions on values (XPath 1.0, 4; XSLT 1.0, 12), except `key`. A call has as many arguments as its function takes
 -- (XPath 1.0, 3.2), which the grammar sees to: what a call beyond it gives is of no account.
 use Rattle.std.specs.Prelude.{ℕ, ◌++◌, ◌==◌, if◌then◌else◌, Bool, List, [], ◌∷◌, Option, Some, None, Ok, pos, codes, length, nat_eq, slice_get, unwrap_or}
 use Rattle.std.specs.Prelude.{is_some}
@@ -31,7 +31,7 @@ second vs = argument vs 1
 abbrev pub third : List Value → Value
 third vs = argument vs 2
 
--- an argument that may be left out stands for the context node then (XPath 1.0, 4.1, 4.2 and 4.4)
+-- an argument that may be left out represents the context node then (XPath 1.0, 4.1, 4.2 and 4.4)
 abbrev pub first_or_node : Context → List Value → Value
 first_or_node c vs = unwrap_or (slice_get vs 0) (Nodes (c.node ∷ []))
 

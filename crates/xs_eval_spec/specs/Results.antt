@@ -52,9 +52,9 @@ given (Err f) = fail f
 
 -- what a function of the code answers: what is expected, or that memory ran out
 abbrev pub AnswersBy : {A B : Type 0} → (B → A) → Outcome A → Result B Trouble → Type 0
-AnswersBy view due (Ok x) = due ≡ Ok (view x)
-AnswersBy view due (Err (trouble.Fault f)) = due ≡ Err f
-AnswersBy view due (Err trouble.NoMemory) = Unit {0}
+AnswersBy view expected (Ok x) = expected ≡ Ok (view x)
+AnswersBy view expected (Err (trouble.Fault f)) = expected ≡ Err f
+AnswersBy view expected (Err trouble.NoMemory) = Unit {0}
 
 abbrev pub Answers : {A : Type 0} → Outcome A → Result A Trouble → Type 0
 Answers = AnswersBy (λ x. x)

@@ -13,9 +13,9 @@ ghost use Rattle.xs_xpath.specs.AvtParts.{parts_from};
 use crate::context::Context;
 use std::alloc::Global;
 use std::borrow::CowStr;
+use xs_text::TextBuf;
 use xs_trace::item::Site;
 use xs_trace::recorder::{Halt, Tally};
-use xs_text::TextBuf;
 use xs_value::keys::KeyFinder;
 use xs_value::value::Value;
 use xs_xpath::avt::AvtPart;
@@ -37,7 +37,7 @@ pub trait ExprEvaluator: KeyFinder {
         tally: &mut T,
     ) -> Result<Value, Halt>
         requires context { IsContext (Self.tables self.now) context.now }
-        ensures told { IsStep (limited site
+        ensures reported { IsStep (limited site
             (run_of (Self.tables self.now) expr.now context.now)
             (T.state tally.old)) result (T.state tally.new) }
         ensures kept { T.kept tally.new ≡ T.kept tally.old }
@@ -53,7 +53,7 @@ pub trait ExprEvaluator: KeyFinder {
         tally: &mut T,
     ) -> Result<TextBuf, Halt>
         requires context { IsContext (Self.tables self.now) context.now }
-        ensures told { IsStepBy (λ text. text) (limited site
+        ensures reported { IsStepBy (λ text. text) (limited site
             (template (Self.tables self.now) (parts_from parts.now) context.now)
             (T.state tally.old)) result (T.state tally.new) }
         ensures kept { T.kept tally.new ≡ T.kept tally.old };
@@ -68,7 +68,7 @@ pub trait ExprEvaluator: KeyFinder {
         tally: &mut T,
     ) -> Result<CowStr<'t, Global>, Halt>
         requires context { IsContext (Self.tables self.now) context.now }
-        ensures told { IsStepBy (λ text. cow_str_bytes text) (limited site
+        ensures reported { IsStepBy (λ text. cow_str_bytes text) (limited site
             (template (Self.tables self.now) (parts_from parts.now) context.now)
             (T.state tally.old)) result (T.state tally.new) }
         ensures kept { T.kept tally.new ≡ T.kept tally.old };

@@ -23,7 +23,7 @@ use Rattle.xs_body_spec.specs.Globals.{with_globals, with_passed, with_value}
 use Rattle.xs_body_spec.specs.Globals as settles
 use Rattle.xs_globals.proofs.SettlingLemmas.{filled, is_lacking, set-other}
 use Rattle.xs_globals.specs.Results.{settled_by}
-use Rattle.xs_globals.specs.steps.Settling.{IsGoing, IsMarked, left_over, unmarked}
+use Rattle.xs_globals.specs.steps.Settling.{IsGoing, IsFlagged, left_over, unmarked}
 
 -- no global has lost its value
 abbrev IsLater : Table → Table → Type 0
@@ -141,9 +141,9 @@ given-inside rs given gs = All-map (IsInIf rs) (value_given given) gs (λ k d l.
     one : (g : Global) → IsInIf rs (value_given given g)
     one g = by_param g.param (text_given given g.binding.name)
 
-pub first-marked : (given : List (List ℕ × List ℕ)) (gs : List Global) (begun : List Bool) (values : List (Option Value)) → begun ≡ map (λ g. false) gs →
-    values ≡ map (value_given given) gs → IsMarked begun [] values
-first-marked given gs begun values b v h e =
+pub first-flagged : (given : List (List ℕ × List ℕ)) (gs : List Global) (begun : List Bool) (values : List (Option Value)) → begun ≡ map (λ g. false) gs →
+    values ≡ map (value_given given) gs → IsFlagged begun [] values
+first-flagged given gs begun values b v h e =
     ap (λ bs. slice_get bs h) b ∙ slice_get-map (λ g. false) gs h
     ∙ by_global (slice_get gs h) (sym (slice_get-map (value_given given) gs h) ∙ sym (ap (λ vs. slice_get vs h) v) ∙ e)
   where

@@ -20,7 +20,7 @@ use Rattle.xs_body_spec.specs.World.{World}
 use Rattle.xs_body_spec.specs.Globals.{Table, Settled, settled, ended, tried, with_globals, with_passed, with_value, once_more, is_under, Settles, AllSettle}
 use Rattle.xs_body_spec.specs.Globals.{attempt_trace, attempt_value}
 use Rattle.xs_body_spec.specs.Globals as settles
-use Rattle.xs_globals.specs.steps.Settling.{Continues, EndsSo, GoesOn, IsGoing, IsMarked, IsTurn, IsUnderWay, Unwinds, left_over, unmarked}
+use Rattle.xs_globals.specs.steps.Settling.{Continues, EndsSo, GoesOn, IsGoing, IsFlagged, IsTurn, IsUnderWay, Unwinds, left_over, unmarked}
 use Rattle.xs_globals.specs.Results.{settled_by}
 use Rattle.xs_globals.specs.declared.settled.Turn.{Turn}
 use Rattle.xs_globals.specs.declared.settled.Turn.TheVariants as turn
@@ -56,7 +56,7 @@ module _ (w : World) (budget : ℕ) where
       cut-needs t.values (attempt_trace (with_globals w t.values) o) (attempt-needs (with_globals w t.values) o) nowhere (budget - t.ticks) None h p e
 
   -- an attempt with which the run has ended
-  ends-by : (begun : List Bool) (g : ℕ) (gs : List ℕ) (t : Table) (s : Spot) → IsMarked begun (g ∷ gs) t.values → (e : End) → (tried w budget t g).end ≡ e →
+  ends-by : (begun : List Bool) (g : ℕ) (gs : List ℕ) (t : Table) (s : Spot) → IsFlagged begun (g ∷ gs) t.values → (e : End) → (tried w budget t g).end ≡ e →
       EndsSo begun e s → Settles w budget gs g t (ended (with_passed (tried w budget t g) t) s)
   ends-by begun g gs t s m Whole q k = absurd k
   ends-by begun g gs t s m (Fault f p) q k =
@@ -68,7 +68,7 @@ module _ (w : World) (budget : ℕ) where
       subst (λ (i : Spot). Settles w budget gs g t (ended (with_passed (tried w budget t g) t) i)) (sym k) (settles.spends q)
   ends-by begun g gs t s m (Full p) q k = absurd k
 
-  pub ends : (begun : List Bool) (g : ℕ) (gs : List ℕ) (t u : Table) (s : Spot) → IsMarked begun (g ∷ gs) t.values → EndsSo begun (tried w budget t g).end s →
+  pub ends : (begun : List Bool) (g : ℕ) (gs : List ℕ) (t u : Table) (s : Spot) → IsFlagged begun (g ∷ gs) t.values → EndsSo begun (tried w budget t g).end s →
       u ≡ with_passed (tried w budget t g) t → Unwinds w budget (g ∷ gs) t (ended u s)
   ends begun g gs t u s m k q =
       inr (u, (s, (subst (λ (v : Table). Settles w budget gs g t (ended v s)) (sym q) (ends-by begun g gs t s m (tried w budget t g).end refl k), refl)))
@@ -103,8 +103,8 @@ filled [] g v e = true≢false (sym (ap is_lacking e))
 filled (x ∷ vs) zero v e = true≢false (sym (ap is_lacking e))
 filled (x ∷ vs) (suc g) v e = filled vs g v e
 
-pub marks-pop : (begun : List Bool) (g : ℕ) (gs : List ℕ) (vs : List (Option Value)) (v : Value) → IsMarked begun (g ∷ gs) vs →
-    IsMarked begun gs (slice_set vs g (Some v))
+pub marks-pop : (begun : List Bool) (g : ℕ) (gs : List ℕ) (vs : List (Option Value)) (v : Value) → IsFlagged begun (g ∷ gs) vs →
+    IsFlagged begun gs (slice_set vs g (Some v))
 marks-pop begun g gs vs v m h e = by_test (g == h) refl
   where
     by_test : (b : Bool) → (g == h) ≡ b → slice_get begun h ≡ Some (is_under gs h)
@@ -115,8 +115,8 @@ marks-pop begun g gs vs v m h e = by_test (g == h) refl
         let apart : h ≡ g → ⊥ = grind (arith, nat_tests, q) in
         m h (sym (set-other vs g h (Some v) apart) ∙ e) ∙ ap (λ b. Some (b || is_under gs h)) q
 
-pub marks-push : (begun : List Bool) (h : ℕ) (gs : List ℕ) (vs : List (Option Value)) → IsMarked begun gs vs → slice_get vs h ≡ Some None →
-    IsMarked (slice_set begun h true) (h ∷ gs) vs
+pub marks-push : (begun : List Bool) (h : ℕ) (gs : List ℕ) (vs : List (Option Value)) → IsFlagged begun gs vs → slice_get vs h ≡ Some None →
+    IsFlagged (slice_set begun h true) (h ∷ gs) vs
 marks-push begun h gs vs m l k e = by_test (h == k) refl
   where
     by_test : (b : Bool) → (h == k) ≡ b → slice_get (slice_set begun h true) k ≡ Some (is_under (h ∷ gs) k)
@@ -189,12 +189,12 @@ module _ (w : World) (budget : ℕ) where
   top-first : (waiting front : List ℕ) (g : ℕ) → waiting ≡ front ++ g ∷ [] → reverse waiting ≡ g ∷ reverse front
   top-first waiting front g e = ap reverse e ∙ reverse-append front (g ∷ [])
 
-  pub starts : (begun : List Bool) (g : ℕ) (t : Table) → IsGoing w budget begun t → IsMarked begun [] t.values → slice_get t.values g ≡ Some None →
+  pub starts : (begun : List Bool) (g : ℕ) (t : Table) → IsGoing w budget begun t → IsFlagged begun [] t.values → slice_get t.values g ≡ Some None →
       IsUnderWay w budget g t (slice_set begun g true) (reverse (g ∷ [])) t
   starts begun g t k m l = record {
     settles = λ r x. opens w budget g t r x;
     going = going-mark begun t g (m g l) k;
-    marked = marks-push begun g [] t.values m l;
+    flagged = marks-push begun g [] t.values m l;
   }
 
   module _ (g : ℕ) (first : Table) (begun : List Bool) (waiting front : List ℕ) (t u : Table) (top : ℕ) (e : waiting ≡ front ++ top ∷ [])
@@ -212,12 +212,12 @@ module _ (w : World) (budget : ℕ) where
               going-by begun t u under.going a
               (subst (λ n. n ≤ budget) (sym (ap (λ (x : Table). x.ticks) q.1)) (within-budget t top under.going.within))
               (ap length values ∙ length-set t.values top (Some v)) (ap (λ (x : Table). x.thrown) q.1);
-          marked =
-              subst (λ vs. IsMarked begun (reverse front) vs) (sym values) (marks-pop begun top (reverse front) t.values v under.marked);
+          flagged =
+              subst (λ vs. IsFlagged begun (reverse front) vs) (sym values) (marks-pop begun top (reverse front) t.values v under.flagged);
         }
 
     pub after-ends : (s : Spot) → IsTurn w budget begun top t u (turn.Ends s) → Settles w budget [] g first (ended u s)
-    after-ends s q = under.settles (ended u s) (ends w budget begun top (reverse front) t u s under.marked q.0 q.1)
+    after-ends s q = under.settles (ended u s) (ends w budget begun top (reverse front) t u s under.flagged q.0 q.1)
 
     pub going-ends : (s : Spot) → IsTurn w budget begun top t u (turn.Ends s) → IsGoing w budget begun u
     going-ends s q =
@@ -231,10 +231,10 @@ module _ (w : World) (budget : ℕ) where
       lacks = needed w budget t top other q.0.0 q.0.1
 
       apart : is_under (top ∷ reverse front) other ≡ false
-      apart = not-under begun other (is_under (top ∷ reverse front) other) (under.marked other lacks) q.1.0
+      apart = not-under begun other (is_under (top ∷ reverse front) other) (under.flagged other lacks) q.1.0
 
       pub not-begun : slice_get begun other ≡ Some false
-      not-begun = under.marked other lacks ∙ ap (λ b. Some b) apart
+      not-begun = under.flagged other lacks ∙ ap (λ b. Some b) apart
 
       pub after-needs : (marks : List Bool) (waits : List ℕ) → marks ≡ slice_set begun other true → waits ≡ (front ++ top ∷ []) ++ other ∷ [] →
           IsUnderWay w budget g first marks (reverse waits) u
@@ -245,9 +245,9 @@ module _ (w : World) (budget : ℕ) where
           let done : IsUnderWay w budget g first (slice_set begun other true) (other ∷ top ∷ reverse front) u = record {
             settles = λ r x. under.settles r (pushes w budget top other (reverse front) q.0.0 t u r q.0.1 apart q.1.1 x);
             going = going-need begun t u other not-begun under.going q.1.1;
-            marked =
-                subst (λ vs. IsMarked (slice_set begun other true) (other ∷ top ∷ reverse front) vs) (sym values)
-                (marks-push begun other (top ∷ reverse front) t.values under.marked lacks);
+            flagged =
+                subst (λ vs. IsFlagged (slice_set begun other true) (other ∷ top ∷ reverse front) vs) (sym values)
+                (marks-push begun other (top ∷ reverse front) t.values under.flagged lacks);
           } in
           subst (λ gs. IsUnderWay w budget g first marks gs u) (sym stack)
           (subst (λ bs. IsUnderWay w budget g first bs (other ∷ top ∷ reverse front) u) (sym a) done)
@@ -265,7 +265,7 @@ module _ (w : World) (budget : ℕ) where
     pub done-falls : 2 * left_over begun + length front < 2 * left_over begun + length waiting
     done-falls = let old : length waiting ≡ length front + 1 = ap length e ∙ length-append front (top ∷ []) in omega (arith, old)
 
-    -- the same, as a turn is told
+    -- the same, as a turn is reported
     pub on-done : (marks : List Bool) → marks ≡ begun → IsTurn w budget begun top t u turn.Done → All (IsInIf w.tree) u.values →
         GoesOn w budget g first marks front u (2 * left_over begun + length waiting) None
     on-done marks m q a =
@@ -301,7 +301,7 @@ module _ (w : World) (budget : ℕ) where
   none-follow [] t e = settles.none
   none-follow (g ∷ gs) t e = let more : suc (length gs) ≡ 0 = e in absurd (omega (arith, more))
 
-  -- what a turn told, by what it answered
+  -- what a turn reported, by what it answered
   pub turn-as : (begun marks : List Bool) (g : ℕ) (t u : Table) (x y : Turn) → begun ≡ marks → x ≡ y → IsTurn w budget begun g t u x →
       IsTurn w budget marks g t u y
   turn-as begun marks g t u x y b e q =

@@ -6,12 +6,12 @@ use Rattle.xs_body_spec.specs.Globals as globals
 use Rattle.xs_globals.specs.declared.settled.Settled.{Settled}
 
 -- its table, and whether it goes on with that or has ended
-abbrev pub told_in : Settled → Table
-told_in z = record { values = z.values.items; says = z.says.items; ticks = z.ticks; thrown = z.thrown }
+abbrev pub reported_in : Settled → Table
+reported_in z = record { values = z.values.items; says = z.says.items; ticks = z.ticks; thrown = z.thrown }
 
 abbrev pub settled_by : Option Spot → Table → globals.Settled
 settled_by None t = settled t
 settled_by (Some s) t = ended t s
 
 abbrev pub settled_of : Settled → globals.Settled
-settled_of z = settled_by z.end (told_in z)
+settled_of z = settled_by z.end (reported_in z)

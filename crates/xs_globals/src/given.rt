@@ -6,8 +6,8 @@ ghost use Rattle.xs_body_spec.specs.Globals.{IsInOrder, placed, text_given, valu
 
 use std::alloc::{AllocError, Global};
 use xs_sheet::declarations::Global as Declared;
-use xs_trace::event::Label;
 use xs_text::TextBuf;
+use xs_trace::event::Label;
 use xs_value::value::Value;
 
 /// The values of the globals at first.

@@ -7,9 +7,9 @@ ghost use Rattle.xs_globals.specs.steps.Settling.{IsNeed, table_of};
 ghost use Rattle.xs_body_spec.specs.Globals.{added, once_more, valued};
 
 use std::alloc::{AllocError, Global};
+use xs_text::TextBuf;
 use xs_trace::fault::Fault;
 use xs_trace::item::{Site, Spot};
-use xs_text::TextBuf;
 use xs_value::value::Value;
 
 /// The values of the globals so far, what was said and taken for them, and attempts at them.

@@ -8,7 +8,7 @@ ghost use Rattle.xs_body.specs.Inside.{IsAttemptIn};
 ghost use Rattle.xs_body.specs.Results.{IsAttempt};
 ghost use Rattle.xs_eval_spec.specs.Conditions.{IsInIf};
 ghost use Rattle.xs_globals.specs.Results.{settled_by, settled_of};
-ghost use Rattle.xs_globals.specs.steps.Settling.{Continues, GoesOn, IsGoing, IsMarked, IsTurn};
+ghost use Rattle.xs_globals.specs.steps.Settling.{Continues, GoesOn, IsGoing, IsFlagged, IsTurn};
 ghost use Rattle.xs_globals.specs.steps.Settling.{IsUnderWay, left_over, table_of};
 ghost use Rattle.xs_body_spec.specs.Globals.{Table as InTable};
 ghost use Rattle.xs_body_spec.specs.Globals.{AllSettle, Settles, SettlesAll, attempt_cut};
@@ -21,8 +21,8 @@ use xs_body::attempts::Attempt;
 use xs_body::runner::SheetRunner;
 use xs_body::world::World;
 use xs_body_spec::finder::Finder;
-use xs_trace::item::Spot;
 use xs_text::TextBuf;
+use xs_trace::item::Spot;
 use xs_value::value::Value;
 
 /// Settles the globals of a stylesheet over a world, by modules and lines, within a number of
@@ -53,7 +53,7 @@ pub fn settle<K: Finder>(
     Ok(table.ended(end))
 }
 
-/// Settles some globals in turn, but for those that have values.
+/// Settles some globals in turn, except those that have values.
 fn settle_in_turn<K: Finder>(
     alloc: Global,
     world: &World<'_, K>,
@@ -63,7 +63,7 @@ fn settle_in_turn<K: Finder>(
 ) -> Result<Option<Spot>, AllocError>
     requires whole { world.now.grain ≡ None }
     requires going { IsGoing world.now budget table.old.begun.items (table_of table.old) }
-    requires marked { IsMarked table.old.begun.items [] table.old.values.items }
+    requires flagged { IsFlagged table.old.begun.items [] table.old.values.items }
     ensures settles { IfOk result (λ end. AllSettle world.now budget order.now
         (table_of table.old) (settled_by end (table_of table.new))) }
     ensures going { OnOk result
@@ -89,13 +89,13 @@ fn settle_next<K: Finder>(
 ) -> Result<Option<Spot>, AllocError>
     requires whole { world.now.grain ≡ None }
     requires going { IsGoing world.now budget table.old.begun.items (table_of table.old) }
-    requires marked { IsMarked table.old.begun.items [] table.old.values.items }
+    requires flagged { IsFlagged table.old.begun.items [] table.old.values.items }
     ensures next { IfOk result (Continues world.now budget global
         (table_of table.old) (table_of table.new)) }
     ensures going { OnOk result
         (IsGoing world.now budget table.new.begun.items (table_of table.new)) }
-    ensures marked { IfOk result (λ end. end ≡ None →
-        IsMarked table.new.begun.items [] table.new.values.items) }
+    ensures flagged { IfOk result (λ end. end ≡ None →
+        IsFlagged table.new.begun.items [] table.new.values.items) }
 {
     if !table.lacks(global) {
         return Ok(None);
@@ -114,13 +114,13 @@ fn settle_one<K: Finder>(
     requires whole { world.now.grain ≡ None }
     requires lacks { slice_get table.old.values.items global ≡ Some None }
     requires going { IsGoing world.now budget table.old.begun.items (table_of table.old) }
-    requires marked { IsMarked table.old.begun.items [] table.old.values.items }
+    requires flagged { IsFlagged table.old.begun.items [] table.old.values.items }
     ensures settles { IfOk result (λ end. Settles world.now budget [] global
         (table_of table.old) (settled_by end (table_of table.new))) }
     ensures going { OnOk result
         (IsGoing world.now budget table.new.begun.items (table_of table.new)) }
-    ensures marked { IfOk result (λ end. end ≡ None →
-        IsMarked table.new.begun.items [] table.new.values.items) }
+    ensures flagged { IfOk result (λ end. end ≡ None →
+        IsFlagged table.new.begun.items [] table.new.values.items) }
 {
     table.begun[global as usize] = true;
     let mut waiting = Vec::from_slice(alloc, &[global])?;

@@ -43,14 +43,14 @@ pub(crate) fn cell_of<R: Threads + Sync>(
 {
     let list = members_of(alloc, &name, decls)?;
     let members = list.as_slice();
-    let tables = marks_of(alloc, members, tree)?;
-    let marks = tables.as_slice();
+    let tables = flags_of(alloc, members, tree)?;
+    let flags = tables.as_slice();
     let mut cell = KeyCell {
         name,
         fault: None,
         nodes: HashMap::new(alloc),
     };
-    cell.fill(rt, alloc, members, marks, tree)?;
+    cell.fill(rt, alloc, members, flags, tree)?;
     Ok(cell)
 }
 
@@ -96,14 +96,14 @@ pub(crate) fn is_same(a: &Label, b: &Label) -> bool
 }
 
 // Tables of the nodes that match each declaration.
-fn marks_of(alloc: Global, members: &[&KeyDecl], tree: &Tree) -> Result<Vec<Vec<bool>>, AllocError>
-    ensures { IfOk result (λ marks. AreMarked tree.now (decls_in members.now) marks.items) }
+fn flags_of(alloc: Global, members: &[&KeyDecl], tree: &Tree) -> Result<Vec<Vec<bool>>, AllocError>
+    ensures { IfOk result (λ flags. AreMarked tree.now (decls_in members.now) flags.items) }
 {
-    let mut marks = Vec::new(alloc);
+    let mut flags = Vec::new(alloc);
     for member in members {
-        marks.push(match_table(alloc, &member.pattern, tree, &NoKeys)?)?;
+        flags.push(match_table(alloc, &member.pattern, tree, &NoKeys)?)?;
     }
-    Ok(marks)
+    Ok(flags)
 }
 
 impl KeyCell {
@@ -113,10 +113,10 @@ impl KeyCell {
         rt: &R,
         alloc: Global,
         members: &[&KeyDecl],
-        marks: &[Vec<bool>],
+        flags: &[Vec<bool>],
         tree: &Tree,
     ) -> Result<(), AllocError>
-        requires marks { AreMarked tree.now (decls_in members.now) marks.now }
+        requires flags { AreMarked tree.now (decls_in members.now) flags.now }
         requires fault { self.old.fault ≡ None }
         requires nodes { (text : List ℕ) → nodes_kept self.old text ≡ [] }
         ensures name { OnOk result (self.new.name ≡ self.old.name) }
@@ -124,7 +124,7 @@ impl KeyCell {
     {
         let size = size_of(tree.len());
         let count = tree.len() / size + 1;
-        let runs = gather(rt, alloc, members, marks, tree, size, count)?;
+        let runs = gather(rt, alloc, members, flags, tree, size, count)?;
         for outcome in runs {
             let run = outcome?;
             self.add_run(run)?;

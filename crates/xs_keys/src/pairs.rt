@@ -50,17 +50,17 @@ impl Gathered {
         }
     }
 
-    /// Adds what all declarations of a key give at a node, by the marks of those that it matches.
+    /// Adds what all declarations of a key give at a node, by the flags of those that it matches.
     pub(crate) fn add_node(
         &mut self,
         alloc: Global,
         members: &[&KeyDecl],
-        marks: &[Vec<bool>],
+        flags: &[Vec<bool>],
         tree: &Tree,
         node: Node,
     ) -> Result<(), AllocError>
         requires node { node < length tree.now }
-        requires marks { AreMarked tree.now (decls_in members.now) marks.now }
+        requires flags { AreMarked tree.now (decls_in members.now) flags.now }
         ensures pairs { OnOk result (pairs_in self.new.pairs.items
             ≡ pairs_in self.old.pairs.items
             ++ node_pairs tree.now (decls_in members.now) node) }
@@ -69,7 +69,7 @@ impl Gathered {
             (first_of (node_faults tree.now (decls_in members.now) node))) }
     {
         for place in 0..members.len() {
-            self.add_use(alloc, members[place], &marks[place], tree, node)?;
+            self.add_use(alloc, members[place], &flags[place], tree, node)?;
         }
         Ok(())
     }
@@ -79,18 +79,18 @@ impl Gathered {
         &mut self,
         alloc: Global,
         decl: &KeyDecl,
-        marks: &[bool],
+        flags: &[bool],
         tree: &Tree,
         node: Node,
     ) -> Result<(), AllocError>
         requires node { node < length tree.now }
-        requires marks { IsMatchTable [] tree.now decl.now.pattern marks.now }
+        requires flags { IsMatchTable [] tree.now decl.now.pattern flags.now }
         ensures pairs { OnOk result (pairs_in self.new.pairs.items
             ≡ pairs_in self.old.pairs.items ++ pairs_at tree.now node decl.now) }
         ensures fault { OnOk result (self.new.fault
             ≡ either self.old.fault (first_of (faults_at tree.now node decl.now))) }
     {
-        if !is_in_table(marks, node) {
+        if !is_in_table(flags, node) {
             return Ok(());
         }
         match use_at(alloc, decl, tree, node)? {

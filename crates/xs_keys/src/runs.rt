@@ -32,20 +32,20 @@ pub(crate) fn gather<R: Threads + Sync>(
     rt: &R,
     alloc: Global,
     members: &[&KeyDecl],
-    marks: &[Vec<bool>],
+    flags: &[Vec<bool>],
     tree: &Tree,
     size: usize,
     count: usize,
 ) -> Result<Vec<Result<Gathered, AllocError>>, AllocError>
-    requires marks { AreMarked tree.now (decls_in members.now) marks.now }
+    requires flags { AreMarked tree.now (decls_in members.now) flags.now }
     ensures long { IfOk result (λ runs. length runs.items ≡ count) }
     ensures runs { IfOk result (λ runs. (i : ℕ) (d : _) → i < count
         → IsRun tree.now (decls_in members.now) size i (get_or runs.items i d)) }
 {
     let run = |i: usize| -> Result<Gathered, AllocError>
-        requires { (i + 1 < 2 ^ 64) × AreMarked tree.now (decls_in members.now) marks.now }
+        requires { (i + 1 < 2 ^ 64) × AreMarked tree.now (decls_in members.now) flags.now }
         ensures { IsRun tree.entry.now (decls_in members.entry.now) size i result }
-    { run_at(alloc, members, marks, tree, size, i) };
+    { run_at(alloc, members, flags, tree, size, i) };
     thread::map_indices(rt, alloc, count, &run)
 }
 
@@ -53,12 +53,12 @@ pub(crate) fn gather<R: Threads + Sync>(
 fn run_at(
     alloc: Global,
     members: &[&KeyDecl],
-    marks: &[Vec<bool>],
+    flags: &[Vec<bool>],
     tree: &Tree,
     size: usize,
     i: usize,
 ) -> Result<Gathered, AllocError>
-    requires marks { AreMarked tree.now (decls_in members.now) marks.now }
+    requires flags { AreMarked tree.now (decls_in members.now) flags.now }
     requires number { i + 1 < 2 ^ 64 }
     ensures { IsRun tree.now (decls_in members.now) size i result }
 {
@@ -66,7 +66,7 @@ fn run_at(
     let end = bound(size, count, i + 1);
     let mut gathered = Gathered::new(alloc);
     for place in bound(size, count, i)..end {
-        gathered.add_node(alloc, members, marks, tree, Node::at(place as u32))?;
+        gathered.add_node(alloc, members, flags, tree, Node::at(place as u32))?;
     }
     Ok(gathered)
 }

@@ -4,7 +4,7 @@ use Rattle.std.proofs.Common.{append_assoc, append-nil, length, map, refl, sym, 
 use Rattle.xs_trace.specs.Event.{text_of}
 use Rattle.xs_trace.specs.Mark.{Put, Trace, events_of, ticks, untimed}
 use Rattle.xs_trace.specs.State.{All, Log, Nothing, State, Untimed, alone, stands}
-use Rattle.xs_trace.specs.Play.{Ends, Goes, IsStep, Told, and_then, goes, put, put_at, ticked_by}
+use Rattle.xs_trace.specs.Play.{Ends, Goes, IsStep, Reported, and_then, goes, put, put_at, ticked_by}
 use Rattle.xs_trace.specs.declared.event.Event.{Event}
 use Rattle.xs_trace.specs.declared.item.Site.{Site}
 use Rattle.xs_trace.specs.declared.recorder.Halt.{Halt}
@@ -44,9 +44,9 @@ events-end p all ls bs s m result y h is a b put =
 -- some were put, and those that are left ended: so do all
 pub events-then-end : {H : Type 0} → (p : Site) (all left ls bs : List Event) (old s m : State H) (result : Result (Unit {0}) Halt) (y h : Halt) →
     events_steps p all old ≡ events_steps p left s → left ≡ ls ++ bs → result ≡ Err y → y ≡ h → Puts p ls s (Err h) m → Puts p all old result m
-events-then-end p all left ls bs old s m result y h told is a b put =
+events-then-end p all left ls bs old s m result y h reported is a b put =
     passes (λ x. x) (λ x. x) (events_steps p all old) (events_steps p ls s) (λ u n. events_steps p bs n) m result y h
-    (told ∙ ap (λ es. events_steps p es s) is ∙ events-both p ls bs s) (λ u. events-grow p bs) a b put
+    (reported ∙ ap (λ es. events_steps p es s) is ∙ events-both p ls bs s) (λ u. events-grow p bs) a b put
 
 -- the first ones were put: what the others come to is what all come to
 pub events-go : {H : Type 0} → (p : Site) (all ls bs : List Event) (s m n : State H) (result : Result (Unit {0}) Halt) → all ≡ ls ++ bs →
@@ -59,7 +59,7 @@ marks H es = map Put es
 
 -- what was recorded, where one stands at no place or some
 abbrev untimed-at : {H : Type 0} → Trace H → Option Site → State H
-untimed-at t at = record { told = Untimed t; captures = []; at = at; room = None; left = None; shared = alone }
+untimed-at t at = record { reported = Untimed t; captures = []; at = at; room = None; left = None; shared = alone }
 
 marks-more : (H : Type 0) (xs es : List Event) → marks H xs ++ marks H es ≡ marks H (xs ++ es)
 marks-more H [] es = refl
@@ -92,13 +92,13 @@ listed-all H p (e ∷ es) xs =
     ∙ ap (λ ys. goes (listed {H = H} ys)) (append_assoc xs (e ∷ []) es)
 
 -- the events of what was recorded
-abbrev events-told : {H : Type 0} → Log H → List Event
-events-told Nothing = []
-events-told (All t) = events_of t
-events-told (Untimed t) = events_of t
+abbrev events-reported : {H : Type 0} → Log H → List Event
+events-reported Nothing = []
+events-reported (All t) = events_of t
+events-reported (Untimed t) = events_of t
 
-abbrev events-in : {H : Type 0} → Told H → List Event
-events-in (Goes u s) = events-told s.told
+abbrev events-in : {H : Type 0} → Reported H → List Event
+events-in (Goes u s) = events-reported s.reported
 events-in (Ends e t l h) = []
 
 events-marked : (H : Type 0) (xs : List Event) → events_of (marks H xs) ≡ xs
@@ -108,6 +108,6 @@ events-marked H (x ∷ xs) = ap (λ ys. x ∷ ys) (events-marked H xs)
 -- what is in the list after some were put
 pub listed-puts : (H : Type 0) (p : Site) (es xs ys : List Event) (result : Result (Unit {0}) Halt) → Puts {H = H} p es (listed xs) result (listed ys)
     → OnOk result (ys ≡ xs ++ es)
-listed-puts H p es xs ys (Ok u) told =
-    sym (events-marked H ys) ∙ ap (events-in {H = H}) (sym told ∙ listed-all H p es xs) ∙ events-marked H (xs ++ es)
-listed-puts H p es xs ys (Err h) told = tt
+listed-puts H p es xs ys (Ok u) reported =
+    sym (events-marked H ys) ∙ ap (events-in {H = H}) (sym reported ∙ listed-all H p es xs) ∙ events-marked H (xs ++ es)
+listed-puts H p es xs ys (Err h) reported = tt

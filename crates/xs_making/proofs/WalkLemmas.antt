@@ -56,7 +56,7 @@ pub record HasEnd (left : List Event) : Type 0 where
 pub record IsCopying {H : Type 0} (p : Site) (rs : List Record) (top : ℕ) (old new : State H) (holder from : ℕ) : Type 0 where
   pub left : List Event
   pub is : IsLeft rs top holder from left
-  pub told : events_steps p (inside rs top) old ≡ events_steps p left new
+  pub reported : events_steps p (inside rs top) old ≡ events_steps p left new
 
 left-start : (rs : List Record) (top : ℕ) → top < length rs → IsLeft rs top top (top + 1) (inside rs top)
 left-start rs top w = record {
@@ -70,7 +70,7 @@ left-start rs top w = record {
 }
 
 pub copying-start : {H : Type 0} → (p : Site) (rs : List Record) (top : ℕ) (s : State H) → top < length rs → IsCopying p rs top s s top (top + 1)
-copying-start p rs top s w = record { left = inside rs top; is = left-start rs top w; told = refl }
+copying-start p rs top s w = record { left = inside rs top; is = left-start rs top w; reported = refl }
 
 -- ---- a child comes next
 range-from : (k n : ℕ) → All (λ j. k ≤ j) (range_with_len k n)
@@ -197,7 +197,7 @@ copying-next p rs top old s m holder from child place after t w gt c next put is
       is =
           subst (λ k. IsLeft rs top after k n.others) (sym at_place)
           (subst (λ k. IsLeft rs top k (child + 1) n.others) (sym is) n.after);
-      told = c.told ∙ events-after p c.left (opening rs child) n.others s m n.is put;
+      reported = c.reported ∙ events-after p c.left (opening rs child) n.others s m n.is put;
     }
 
 -- an end while a child is put
@@ -207,7 +207,7 @@ pub copying-stops : {H : Type 0} → (p : Site) (rs : List Record) (top : ℕ) (
     → Puts p (inside rs top) old result m
 copying-stops p rs top old s m holder from child result y h t w gt c next a b put =
     let n = child_next rs top holder from child c.left t w gt c.is next in
-    events-then-end p (inside rs top) c.left (opening rs child) n.others old s m result y h c.told n.is a b put
+    events-then-end p (inside rs top) c.left (opening rs child) n.others old s m result y h c.reported n.is a b put
 
 -- ---- no child is left
 -- below the top an element ends
@@ -276,7 +276,7 @@ copying-end p rs top old s m holder from q e t c other none parent ends put =
     record {
       left = n.others;
       is = n.after;
-      told = c.told ∙ events-after p c.left (End ∷ []) n.others s m n.is put;
+      reported = c.reported ∙ events-after p c.left (End ∷ []) n.others s m n.is put;
     }
 
 -- an end while it is put
@@ -285,13 +285,13 @@ pub copying-stops-end : {H : Type 0} → (p : Site) (rs : List Record) (top : �
     → Puts p (End ∷ []) s (Err h) m → Puts p (inside rs top) old result m
 copying-stops-end p rs top old s m holder from result y h c other none a b put =
     let n = ends rs top holder from c.left c.is other none in
-    events-then-end p (inside rs top) c.left (End ∷ []) n.others old s m result y h c.told n.is a b put
+    events-then-end p (inside rs top) c.left (End ∷ []) n.others old s m result y h c.reported n.is a b put
 
 -- at the top all is put
 pub copying-all : {H : Type 0} → (p : Site) (rs : List Record) (top : ℕ) (old s : State H) (holder from : ℕ) → IsCopying p rs top old s holder from
     → holder ≡ top → children_from rs holder from ≡ [] → events_steps p (inside rs top) old ≡ goes s
 copying-all p rs top old s holder from c is none =
-    c.told ∙ ap (λ es. events_steps p es s) (by_rests holder c.is.rest c.is.rests is c.is.is)
+    c.reported ∙ ap (λ es. events_steps p es s) (by_rests holder c.is.rest c.is.rests is c.is.is)
   where
     by_rests : (n : ℕ) (rest : List Event) → Rests rs top n rest → n ≡ top → c.left ≡ copies_from rs holder from ++ rest → c.left ≡ []
     by_rests n rest at_top same whole = whole ∙ ap (λ ks. flat_map (deep_copy rs) ks ++ []) none

@@ -15,11 +15,11 @@ use Rattle.xs_making.specs.Texts.{is_empty}
 abbrev pub label_of : Record → Label
 label_of r = put_label (name_uri r) (name_local r) (name_prefix r)
 
--- a namespace node, but for no namespace and for that of `xml`, which is in scope everywhere
+-- a namespace node, except no namespace and for that of `xml`, which is in scope everywhere
 abbrev pub space_events : Record → List Event
 space_events r = if is_empty r.text || bytes_eq r.text xml_uri then [] else SpaceEvent (name_local r) r.text ∷ []
 
--- an attribute, but for one that would be read as the declaration of a default namespace
+-- an attribute, except one that would be read as the declaration of a default namespace
 abbrev pub attribute_events : Record → List Event
 attribute_events r =
     if is_empty (name_uri r) && bytes_eq (name_local r) (codes "xmlns") then [] else Attr (label_of r) r.text ∷ []

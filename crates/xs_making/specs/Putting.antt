@@ -1,12 +1,12 @@
 -- Events that are put at one instruction, in order.
 use Rattle.std.specs.Prelude.{List, [], ◌∷◌, Result}
-use Rattle.xs_trace.specs.Play.{IsStep, Told, and_then, goes, put_at}
+use Rattle.xs_trace.specs.Play.{IsStep, Reported, and_then, goes, put_at}
 use Rattle.xs_trace.specs.State.{State}
 use Rattle.xs_trace.specs.declared.event.Event.{Event}
 use Rattle.xs_trace.specs.declared.item.Site.{Site}
 use Rattle.xs_trace.specs.declared.recorder.Halt.{Halt}
 
-abbrev pub events_steps : {H : Type 0} → Site → List Event → State H → Told H
+abbrev pub events_steps : {H : Type 0} → Site → List Event → State H → Reported H
 events_steps p [] s = goes s
 events_steps p (e ∷ es) s = and_then (put_at p e s) (λ u m. events_steps p es m)
 

@@ -76,7 +76,7 @@ pub fn put_shallow_copy<R: Recorder>(
     recorder: &mut R,
 ) -> Result<(), Halt>
     requires { node < length tree.now }
-    ensures told { Puts site (shallow_copy tree.now node)
+    ensures reported { Puts site (shallow_copy tree.now node)
         (R.state recorder.old) result (R.state recorder.new) }
     ensures kept { R.kept recorder.new ≡ R.kept recorder.old }
 {
@@ -99,7 +99,7 @@ pub fn put_deep_copy<R: Recorder>(
     recorder: &mut R,
 ) -> Result<(), Halt>
     requires { node < length tree.now }
-    ensures told { Puts site (deep_copy tree.now node)
+    ensures reported { Puts site (deep_copy tree.now node)
         (R.state recorder.old) result (R.state recorder.new) }
     ensures kept { R.kept recorder.new ≡ R.kept recorder.old }
 {
@@ -120,7 +120,7 @@ fn put_element<R: Recorder>(
     recorder: &mut R,
 ) -> Result<(), Halt>
     requires { n < length tree.now }
-    ensures told { Puts site (tag_events tree.now n ++ (inside tree.now n ++ End ∷ []))
+    ensures reported { Puts site (tag_events tree.now n ++ (inside tree.now n ++ End ∷ []))
         (R.state recorder.old) result (R.state recorder.new) }
     ensures kept { R.kept recorder.new ≡ R.kept recorder.old }
 {
@@ -139,7 +139,7 @@ fn put_start<R: Recorder>(
     recorder: &mut R,
 ) -> Result<(), Halt>
     requires { n < length tree.now }
-    ensures told { Puts site (start_events tree.now n)
+    ensures reported { Puts site (start_events tree.now n)
         (R.state recorder.old) result (R.state recorder.new) }
     ensures kept { R.kept recorder.new ≡ R.kept recorder.old }
 {
@@ -157,7 +157,7 @@ fn put_spaces<R: Recorder>(
     recorder: &mut R,
 ) -> Result<(), Halt>
     requires { n < length tree.now }
-    ensures told { Puts site (flat_map (λ k. space_events (at tree.now k)) (namespaces tree.now n))
+    ensures reported { Puts site (flat_map (λ k. space_events (at tree.now k)) (namespaces tree.now n))
         (R.state recorder.old) result (R.state recorder.new) }
     ensures kept { R.kept recorder.new ≡ R.kept recorder.old }
 {
@@ -176,7 +176,7 @@ fn put_attributes<R: Recorder>(
     recorder: &mut R,
 ) -> Result<(), Halt>
     requires { n < length tree.now }
-    ensures told { Puts site
+    ensures reported { Puts site
         (flat_map (λ k. attribute_events (at tree.now k)) (attributes tree.now n))
         (R.state recorder.old) result (R.state recorder.new) }
     ensures kept { R.kept recorder.new ≡ R.kept recorder.old }
@@ -197,7 +197,7 @@ fn put_tag<R: Recorder>(
     recorder: &mut R,
 ) -> Result<(), Halt>
     requires { n < length tree.now }
-    ensures told { Puts site (tag_events tree.now n)
+    ensures reported { Puts site (tag_events tree.now n)
         (R.state recorder.old) result (R.state recorder.new) }
     ensures kept { R.kept recorder.new ≡ R.kept recorder.old }
 {
@@ -216,7 +216,7 @@ fn put_opening<R: Recorder>(
     recorder: &mut R,
 ) -> Result<(), Halt>
     requires { n < length tree.now }
-    ensures told { Puts site (opening tree.now n)
+    ensures reported { Puts site (opening tree.now n)
         (R.state recorder.old) result (R.state recorder.new) }
     ensures kept { R.kept recorder.new ≡ R.kept recorder.old }
 {
@@ -239,7 +239,7 @@ fn put_inside<R: Recorder>(
     recorder: &mut R,
 ) -> Result<(), Halt>
     requires { node < length tree.now }
-    ensures told { Puts site (inside tree.now node)
+    ensures reported { Puts site (inside tree.now node)
         (R.state recorder.old) result (R.state recorder.new) }
     ensures kept { R.kept recorder.new ≡ R.kept recorder.old }
 {

@@ -4,10 +4,10 @@ ghost use Rattle.xs_trace.specs.declared.recorder.Halt.TheVariants.{NoMemory};
 ghost use Rattle.xs_making.specs.steps.Listed.{listed};
 
 use std::alloc::Global;
+use xs_text::TextBuf;
 use xs_trace::event::{Event, Fragment};
 use xs_trace::item::Site;
 use xs_trace::recorder::{Halt, Recorder, Tally, tick_several};
-use xs_text::TextBuf;
 
 /// Keeps the events that it gets, and no ticks. There is no room for messages, holes and captures,
 /// of which a copy has none.

@@ -26,7 +26,7 @@ pub(crate) fn put_leaf<R: Recorder>(
     recorder: &mut R,
 ) -> Result<(), Halt>
     requires { n < length tree.now }
-    ensures told { Puts site (leaf_events (at tree.now n).kind (at tree.now n))
+    ensures reported { Puts site (leaf_events (at tree.now n).kind (at tree.now n))
         (R.state recorder.old) result (R.state recorder.new) }
     ensures kept { R.kept recorder.new ≡ R.kept recorder.old }
 {
@@ -52,14 +52,14 @@ pub(crate) fn label_of(tree: &Tree, n: Node, labels: &mut RecentLabels) -> Resul
 /// Puts one event.
 #[inline(always)]
 pub(crate) fn put_one<R: Recorder>(event: Event, site: Site, recorder: &mut R) -> Result<(), Halt>
-    ensures told { Puts site (event ∷ [])
+    ensures reported { Puts site (event ∷ [])
         (R.state recorder.old) result (R.state recorder.new) }
     ensures kept { R.kept recorder.new ≡ R.kept recorder.old }
 {
     put_event(recorder, site, event)
 }
 
-/// Puts a namespace node, but for no namespace and for that of `xml`.
+/// Puts a namespace node, except no namespace and for that of `xml`.
 #[inline(always)]
 pub(crate) fn put_space<R: Recorder>(
     tree: &Tree,
@@ -69,7 +69,7 @@ pub(crate) fn put_space<R: Recorder>(
     recorder: &mut R,
 ) -> Result<(), Halt>
     requires { n < length tree.now }
-    ensures told { Puts site (space_events (at tree.now n))
+    ensures reported { Puts site (space_events (at tree.now n))
         (R.state recorder.old) result (R.state recorder.new) }
     ensures kept { R.kept recorder.new ≡ R.kept recorder.old }
 {
@@ -81,7 +81,7 @@ pub(crate) fn put_space<R: Recorder>(
     put_one(space, site, recorder)
 }
 
-/// Puts an attribute, but for one that would be read as the declaration of a default namespace.
+/// Puts an attribute, except one that would be read as the declaration of a default namespace.
 #[inline(always)]
 pub(crate) fn put_attribute<R: Recorder>(
     tree: &Tree,
@@ -91,7 +91,7 @@ pub(crate) fn put_attribute<R: Recorder>(
     recorder: &mut R,
 ) -> Result<(), Halt>
     requires { n < length tree.now }
-    ensures told { Puts site (attribute_events (at tree.now n))
+    ensures reported { Puts site (attribute_events (at tree.now n))
         (R.state recorder.old) result (R.state recorder.new) }
     ensures kept { R.kept recorder.new ≡ R.kept recorder.old }
 {
@@ -122,7 +122,7 @@ fn put_text<R: Recorder>(
     recorder: &mut R,
 ) -> Result<(), Halt>
     requires { n < length tree.now }
-    ensures told { Puts site (text_events (at tree.now n))
+    ensures reported { Puts site (text_events (at tree.now n))
         (R.state recorder.old) result (R.state recorder.new) }
     ensures kept { R.kept recorder.new ≡ R.kept recorder.old }
 {
@@ -142,7 +142,7 @@ fn put_comment<R: Recorder>(
     recorder: &mut R,
 ) -> Result<(), Halt>
     requires { n < length tree.now }
-    ensures told { Puts site (leaf_events Kind.Comment (at tree.now n))
+    ensures reported { Puts site (leaf_events Kind.Comment (at tree.now n))
         (R.state recorder.old) result (R.state recorder.new) }
     ensures kept { R.kept recorder.new ≡ R.kept recorder.old }
 {
@@ -159,7 +159,7 @@ fn put_pi<R: Recorder>(
     recorder: &mut R,
 ) -> Result<(), Halt>
     requires { n < length tree.now }
-    ensures told { Puts site (leaf_events Kind.Pi (at tree.now n))
+    ensures reported { Puts site (leaf_events Kind.Pi (at tree.now n))
         (R.state recorder.old) result (R.state recorder.new) }
     ensures kept { R.kept recorder.new ≡ R.kept recorder.old }
 {

@@ -8,7 +8,7 @@ use crate::ends::MakeEnd;
 use crate::plain_names::is_plain;
 use crate::recent::RecentLabels;
 use std::alloc::Global;
-use xs_text::{TextBuf, XMLNS_URI, XML_URI, is_ncname, split_qname};
+use xs_text::{TextBuf, XML_URI, XMLNS_URI, is_ncname, split_qname};
 use xs_trace::event::Label;
 use xs_trace::fault::Fault;
 use xs_xpath::scope::Scope;

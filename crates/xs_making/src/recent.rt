@@ -8,8 +8,8 @@ use crate::compared::is_text;
 use crate::labels::{put_label, put_prefix};
 use crate::plain_names::PlainName;
 use std::alloc::{AllocError, Global};
-use xs_trace::event::{Event, Label};
 use xs_text::TextBuf;
+use xs_trace::event::{Event, Label};
 
 /// How many names are kept; so many namespace nodes and values too.
 const SLOTS: usize = 32;

@@ -9,8 +9,8 @@ use crate::recent::is_name;
 use crate::slots::{Slots, TRIED};
 use std::alloc::{AllocError, Global};
 use std::borrow::CowStr;
-use xs_trace::event::Label;
 use xs_text::TextBuf;
+use xs_trace::event::Label;
 
 /// Copies of the texts and names of a stylesheet that an evaluation puts. Each is copied once, and
 /// the events in which it is share that copy: so evaluations of one stylesheet share no text.

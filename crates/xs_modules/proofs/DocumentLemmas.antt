@@ -1,4 +1,4 @@
--- What the bytes stand for that a library gave of a file, which are cut just past the limit.
+-- What the bytes represent that a library gave of a file, which are cut just past the limit.
 use Rattle.std.proofs.Common.{◌≡◌, ◌∙◌, ℕ, ◌+◌, List, take, Option, Some, None, Bool, true, false, nat_le, length, refl, sym, ap, arith, IfSome, MatchOption}
 use Rattle.std.proofs.lemmas.Bool.Decides.{nat_tests}
 use Rattle.std.proofs.lemmas.Grind.{common_steps}
@@ -26,7 +26,7 @@ document_takes limit bytes = go (nat_le (length bytes) limit) refl
     go true e = ap (document limit) (take_within limit bytes e)
     go false e = too_large limit (take (limit + 1) bytes) (too_long limit bytes e) ∙ sym (too_large limit bytes e)
 
--- the bytes of a file that is told, or those that were given
+-- the bytes of a file that is reported, or those that were given
 abbrev Gives : Option Files → List ℕ → Outcome → Type 0
 Gives files name outcome = (bytes : List ℕ) × Holds files name bytes × (document module_limit bytes ≡ outcome)
 

@@ -11,7 +11,7 @@ use Rattle.xs_modules.specs.Mentions.{Mention, mentions, named_by_words}
 use Rattle.xs_modules.specs.Mentioned.{Mentioned, no_module, one, count}
 use Rattle.xs_modules.specs.Reading.{End, whole, unread, refused, out_of_memory, IsTrouble, IsAsked, Reads, is_above, most_modules, module_limit, circular_module, too_many_modules}
 use Rattle.xs_modules.specs.Reading.{none, circular, too_many, failed, bad, inside, behind, all, out_before, out_after}
-use Rattle.xs_modules.specs.ReadingLaws.{IsOwn, OneReading, TellsOnly}
+use Rattle.xs_modules.specs.ReadingLaws.{IsOwn, OneReading, ReportsOnly}
 use Rattle.xs_modules.specs.Results.{AreModules, Comes}
 
 -- the names that are asked for, and the end
@@ -124,13 +124,13 @@ one_reading files above n ms names names' end end' r r' own own' =
     deep : (n : ℕ) → most_modules < suc most_modules + n
     deep n = omega arith
 
--- an answer that came of the files tells their one end
-pub tells_only : (result : Result Modules ModulesEnd) (files : Option Files) (name : List ℕ) (a b f g : List (List ℕ))
-    → Comes AreModules result files [] 0 (named_by_words name ∷ []) a b f g → TellsOnly result files name
-tells_only result None name a b f g comes = tt
-tells_only (Ok modules) (Some files) name a b f g comes = λ names end r own.
+-- an answer that came of the files reports their one end
+pub reports_only : (result : Result Modules ModulesEnd) (files : Option Files) (name : List ℕ) (a b f g : List (List ℕ))
+    → Comes AreModules result files [] 0 (named_by_words name ∷ []) a b f g → ReportsOnly result files name
+reports_only result None name a b f g comes = tt
+reports_only (Ok modules) (Some files) name a b f g comes = λ names end r own.
     (comes.0, sym (one_reading files [] 0 (named_by_words name ∷ []) comes.1.names names (whole comes.0) end comes.1.reads r tt own).1, comes.2)
-tells_only (Err (Failed n)) (Some files) name a b f g comes = λ names end r own. tt
-tells_only (Err (Refused number n line)) (Some files) name a b f g comes = λ names end r own.
+reports_only (Err (Failed n)) (Some files) name a b f g comes = λ names end r own. tt
+reports_only (Err (Refused number n line)) (Some files) name a b f g comes = λ names end r own.
     sym (one_reading files [] 0 (named_by_words name ∷ []) comes.names names (refused number n line) end comes.reads r tt own).1
-tells_only (Err NoMemory) (Some files) name a b f g comes = λ names end r own. tt
+reports_only (Err NoMemory) (Some files) name a b f g comes = λ names end r own. tt

@@ -49,18 +49,18 @@ pub record IsAsked (above : List (List ℕ)) (number : ℕ) (m : Mention) : Type
   pub apart : is_above above m.name ≡ false
   pub room : number < most_modules
 
--- The library has this file, where it tells its files. Where it tells none, these are some bytes: nothing ties them to what it gave.
+-- The library has this file, where it shows its files. Where it shows none, these are some bytes: nothing ties them to what it gave.
 abbrev pub Holds : Option Files → List ℕ → List ℕ → Type 0
 Holds files name bytes = IfSome files (λ map. map name ≡ Some bytes)
 
--- and it has the file, whose bytes stand for these nodes with these lines
+-- and it has the file, whose bytes represent these nodes with these lines
 pub record IsRead (files : Option Files) (above : List (List ℕ)) (number : ℕ) (m : Mention) (rs : List Record) (lines : List ℕ) : Type 0 where
   pub asked : IsAsked above number m
   pub bytes : List ℕ
   pub holds : Holds files m.name bytes
   pub document : document module_limit bytes ≡ tree rs lines
 
--- or stand for no document
+-- or represent no document
 pub record IsRefused (files : Option Files) (above : List (List ℕ)) (number : ℕ) (m : Mention) (fault line : ℕ) : Type 0 where
   pub asked : IsAsked above number m
   pub bytes : List ℕ

@@ -22,15 +22,15 @@ OneReading = (files : Files) (above : List (List ℕ)) (number : ℕ) (ms : List
     → Reads (Some files) above number ms names end → Reads (Some files) above number ms names' end' → IsOwn end → IsOwn end'
     → (names ≡ names') × (end ≡ end')
 
--- an answer that tells this end; where a fetch failed, or memory ran out, it tells none
-abbrev pub Tells : Result Modules ModulesEnd → End → Type 0
-Tells (Ok modules) end = (read : Mentioned) × (end ≡ whole read) × AreModules modules read
-Tells (Err (Failed name)) end = Unit {0}
-Tells (Err (Refused number name line)) end = end ≡ refused number name line
-Tells (Err NoMemory) end = Unit {0}
+-- an answer that reports this end; where a fetch failed, or memory ran out, it shows none
+abbrev pub Reports : Result Modules ModulesEnd → End → Type 0
+Reports (Ok modules) end = (read : Mentioned) × (end ≡ whole read) × AreModules modules read
+Reports (Err (Failed name)) end = Unit {0}
+Reports (Err (Refused number name line)) end = end ≡ refused number name line
+Reports (Err NoMemory) end = Unit {0}
 
--- Where the library tells its files, the answer tells the end that they come to, whatever that is.
-abbrev pub TellsOnly : Result Modules ModulesEnd → Option Files → List ℕ → Type 0
-TellsOnly result None name = Unit {0}
-TellsOnly result (Some files) name =
-    (names : List (List ℕ)) (end : End) → Reads (Some files) [] 0 (named_by_words name ∷ []) names end → IsOwn end → Tells result end
+-- Where the library shows its files, the answer reports the end that they come to, whatever that is.
+abbrev pub ReportsOnly : Result Modules ModulesEnd → Option Files → List ℕ → Type 0
+ReportsOnly result None name = Unit {0}
+ReportsOnly result (Some files) name =
+    (names : List (List ℕ)) (end : End) → Reads (Some files) [] 0 (named_by_words name ∷ []) names end → IsOwn end → Reports result end

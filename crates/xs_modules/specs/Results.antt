@@ -26,7 +26,7 @@ modules_data modules = map module_data modules.list.items
 abbrev pub AreModules : Modules → Mentioned → Type 0
 AreModules modules read = modules_data modules ≡ numbered read
 
--- the end that an answer tells, where not all was read
+-- the end that an answer reports, where not all was read
 abbrev pub end_of : ModulesEnd → End
 end_of (Failed name) = unread name
 end_of (Refused number name line) = refused number name line

@@ -5,7 +5,7 @@ ghost use Rattle.xs_modules.specs.Mentions.{named_by_words};
 ghost use Rattle.xs_modules.specs.Numbering.{ranked, sheet_for};
 ghost use Rattle.xs_modules.specs.Precedence.{no_imports, rank_of};
 ghost use Rattle.xs_modules.specs.Reading.{IsAsked, is_above, most_modules};
-ghost use Rattle.xs_modules.specs.ReadingLaws.{TellsOnly};
+ghost use Rattle.xs_modules.specs.ReadingLaws.{ReportsOnly};
 ghost use Rattle.xs_modules.specs.Results.{AreModules, Comes, module_data, modules_data};
 ghost use Rattle.xs_modules.specs.Sound.{IsSound};
 ghost use Rattle.xs_modules.specs.steps.Reader.{Checks, ComesOr, Gains, GainsPart, HasNodes};
@@ -48,8 +48,8 @@ pub fn read_modules<L: Library>(
         (L.asked library.old) (L.asked library.new) (L.failed library.old) (L.failed library.new) }
     ensures sound { IfOk result (λ modules. IsSound (modules_data modules)) }
 
-    // Where the library tells its files, these come to one end alone, and that is told.
-    ensures only { TellsOnly result (L.files library.old) name.now }
+    // Where the library shows its files, these come to one end alone, and that is reported.
+    ensures only { ReportsOnly result (L.files library.old) name.now }
 {
     read_all(alloc, library, name)
 }

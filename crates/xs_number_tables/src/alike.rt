@@ -8,13 +8,13 @@ ghost use Rattle.xs_numbering.specs.Counting.{has_level, is_alike};
 ghost use Rattle.xs_number_tables.specs.steps.Alike.{KindAndName, group_after, group_at, held_count};
 ghost use Rattle.xs_number_tables.specs.steps.Alike.{is_likeness, likeness, likeness_in, seen_by};
 ghost use Rattle.xs_number_tables.specs.steps.Alike.{seen_in};
-ghost use Rattle.xs_numbering.specs.steps.Passes.{counted_on, held_by, is_marked};
+ghost use Rattle.xs_numbering.specs.steps.Passes.{counted_on, held_by, is_flagged};
 ghost use Rattle.xs_tree.specs.Record.{Record, at, is_place, places};
 
 use std::alloc::{AllocError, Global};
 use std::collections::HashMap;
 use xs_numbering::passes::{has_level, held_by, kind_number};
-use xs_tree::{Kind, Node, Tree, is_marked};
+use xs_tree::{Kind, Node, Tree, is_flagged};
 
 /// What alike nodes have in common: the number of their kind, and their expanded name.
 type Likeness<'t> = (u32, (&'t str, &'t str));
@@ -116,14 +116,14 @@ fn likeness(tree: &Tree, node: Node) -> Likeness<'_>
 }
 
 /// For each node the number that `level="any"` counts for it among those that are alike to it, from
-/// a table that marks the nodes that match `from`.
+/// a table that flags the nodes that match `from`.
 pub(crate) fn alike_any_numbers(
     alloc: Global,
     from: &[bool],
     tree: &Tree,
 ) -> Result<Vec<u32>, AllocError>
     ensures { IfOk result (λ t. t.items
-        ≡ map (alike_any_number (is_marked from.now) tree.now) (places tree.now)) }
+        ≡ map (alike_any_number (is_flagged from.now) tree.now) (places tree.now)) }
 {
     let mut numbers = Vec::new(alloc);
     let mut seen = Seen::new(alloc);
@@ -177,12 +177,12 @@ fn group_at(tree: &Tree, node: Node, group: u32) -> u32
 fn group_after(tree: &Tree, from: &[bool], node: Node, group: u32) -> u32
     requires node { node < length tree.now }
     requires few { group + 1 < 2 ^ 32 }
-    ensures { result ≡ group_after (at tree.now node) (is_marked from.now node) group }
+    ensures { result ≡ group_after (at tree.now node) (is_flagged from.now node) group }
 {
     if !has_level(tree, node) {
         return group;
     }
-    if is_marked(from, node) {
+    if is_flagged(from, node) {
         group + 1
     } else {
         group

@@ -9,7 +9,7 @@ ghost use Rattle.xs_number_tables.specs.steps.Counters.{IsCounter, NumbersBy, al
 ghost use Rattle.xs_numbering.specs.Counting.{is_alike, list_at, multiple, sibling_number};
 ghost use Rattle.xs_tree.specs.declared.axes.Axis.TheVariants.{Ancestor};
 ghost use Rattle.xs_tree.specs.Axis.{axis_list};
-ghost use Rattle.xs_numbering.specs.steps.Passes.{is_marked};
+ghost use Rattle.xs_numbering.specs.steps.Passes.{is_flagged};
 ghost use Rattle.xs_tree.specs.Record.{at, places};
 ghost use Rattle.xs_value.specs.Tables.{TablesIn};
 
@@ -21,7 +21,7 @@ use xs_numbering::passes::{any_numbers, is_alike, sibling_numbers};
 use xs_pattern::match_tables::match_table;
 use xs_sheet::body::{Level, NumberDecl};
 use xs_sheet::scoped::ScopedPattern;
-use xs_tree::{Axis, Node, Tree, is_marked};
+use xs_tree::{Axis, Node, Tree, is_flagged};
 use xs_value::keys::KeyFinder;
 
 /// What is known of each node of a tree for a declaration.
@@ -83,7 +83,7 @@ impl Counter {
     }
 }
 
-// The marks of the nodes that match `count`, where there is one.
+// The flags of the nodes that match `count`, where there is one.
 fn counts_of<K: KeyFinder>(
     alloc: Global,
     count: &Option<ScopedPattern>,
@@ -107,7 +107,7 @@ fn from_of<K: KeyFinder>(
     keys: &K,
 ) -> Result<Vec<bool>, AllocError>
     requires tables { TablesIn tree.now (K.tables keys.now) }
-    ensures { IfOk result (λ marks. AreFrom (K.tables keys.now) tree.now from.now marks.items) }
+    ensures { IfOk result (λ flags. AreFrom (K.tables keys.now) tree.now from.now flags.items) }
 {
     match from {
         Some(pattern) => match_table(alloc, pattern, tree, keys),
@@ -131,7 +131,7 @@ fn numbers_of(
     }
 }
 
-// The same by marks of the nodes that count.
+// The same by flags of the nodes that count.
 fn marked_numbers(
     alloc: Global,
     level: Level,
@@ -164,7 +164,7 @@ fn alike_level_numbers(
     }
 }
 
-// The list for a node, by marks of the nodes that count.
+// The list for a node, by flags of the nodes that count.
 fn marked_list(
     alloc: Global,
     level: Level,
@@ -176,8 +176,8 @@ fn marked_list(
 ) -> Result<Vec<u64>, AllocError>
     requires node { node < length tree.now }
     requires numbers { NumbersBy level counts.now from.now tree.now numbers.now }
-    ensures { IfOk result (λ v. v.items ≡ list_at level (is_marked counts.now)
-        (is_marked from.now) tree.now node) }
+    ensures { IfOk result (λ v. v.items ≡ list_at level (is_flagged counts.now)
+        (is_flagged from.now) tree.now node) }
 {
     match level {
         Level::Single => single(alloc, numbers, counts, from, tree, node),
@@ -198,7 +198,7 @@ fn alike_list(
     requires node { node < length tree.now }
     requires numbers { AlikeNumbers level from.now tree.now numbers.now }
     ensures { IfOk result (λ v. v.items ≡ list_at level (alike_to tree.now node)
-        (is_marked from.now) tree.now node) }
+        (is_flagged from.now) tree.now node) }
 {
     match level {
         Level::Single => alone(alloc, numbers, node),
@@ -228,7 +228,7 @@ fn alike_multiple(
     requires node { node < length tree.now }
     requires numbers { numbers.now ≡ map (alike_number tree.now) (places tree.now) }
     ensures { IfOk result (λ v. v.items
-        ≡ multiple (alike_to tree.now node) (is_marked from.now) tree.now node) }
+        ≡ multiple (alike_to tree.now node) (is_flagged from.now) tree.now node) }
 {
     let mut found = Vec::new(alloc);
     add_alike(&mut found, numbers, tree, node, node)?;
@@ -250,10 +250,10 @@ fn add_above(
     requires numbers { numbers.now ≡ map (alike_number tree.now) (places tree.now) }
     ensures { OnOk result (out.new.items ≡ out.old.items
         ++ map (sibling_number (alike_to tree.now node) tree.now) (filter (alike_to tree.now node)
-        (take_while (λ k. not (is_marked from.now k)) (axis_list Ancestor tree.now node)))) }
+        (take_while (λ k. not (is_flagged from.now k)) (axis_list Ancestor tree.now node)))) }
 {
     for ancestor in axis_nodes(tree, node, Axis::Ancestor) {
-        if is_marked(from, ancestor) {
+        if is_flagged(from, ancestor) {
             return Ok(());
         }
         add_alike(out, numbers, tree, node, ancestor)?;

@@ -133,7 +133,7 @@ pub next_sibling : (counts : ℕ → Bool) (rs : List Record) (was now seen afte
     → ((p : ℕ) → p < length rs → get_or seen p 0 ≡ children_seen counts rs p place) → length seen ≡ length rs → parent ≡ held_by (at rs node)
     → m ≡ counts node → x ≡ seen_at seen parent + 1 → now ≡ was ++ x ∷ [] → after ≡ seen_with m parent seen
     → IsNextSibling counts rs now after place
-next_sibling counts rs was now seen after place node x parent m tree lt same so_far facts len held marked is pushed saw =
+next_sibling counts rs was now seen after place node x parent m tree lt same so_far facts len held flagged is pushed saw =
     let held-at : parent ≡ held_by (at rs place) = held ∙ ap (λ k. held_by (at rs k)) same in
     let inside : place < length rs = subst (λ k. k < length rs) same lt in
     let within : IfSome (held_by (at rs place)) (λ p. p < length rs) = held-within rs place tree inside in
@@ -141,7 +141,7 @@ next_sibling counts rs was now seen after place node x parent m tree lt same so_
     ap (seen_at seen) held-at ∙ seen-is counts rs seen place (held_by (at rs place)) facts within in
     let next : seen_at seen parent + 1 ≡ suc (seen_at seen parent) = omega arith in
     let after-is : after ≡ seen_with (counts place) (held_by (at rs place)) seen =
-    saw ∙ ap (λ b. seen_with b parent seen) (marked ∙ ap counts same) ∙ ap (λ o. seen_with (counts place) o seen) held-at in
+    saw ∙ ap (λ b. seen_with b parent seen) (flagged ∙ ap counts same) ∙ ap (λ o. seen_with (counts place) o seen) held-at in
     record {
       numbers =
           numbers-more (sibling_number counts rs) was now place x pushed so_far

@@ -1,5 +1,5 @@
 //! The numbers of a node and its ancestors (XSLT 1.0, 7.7), from tables for the whole tree: the
-//! numbers among siblings, and the marks of the nodes that match `count` and `from`.
+//! numbers among siblings, and the flags of the nodes that match `count` and `from`.
 
 ghost use Rattle.std.specs.Prelude.{◌≡◌, ◌<◌, ◌∷◌, ◌++◌, [], filter, get_or, length, map, take};
 ghost use Rattle.std.specs.Prelude.{IfOk, MatchOption, OnOk, not, take_while, true};
@@ -7,11 +7,11 @@ ghost use Rattle.xs_tree.specs.declared.axes.Axis.TheVariants.{Ancestor};
 ghost use Rattle.xs_tree.specs.Axis.{axis_list};
 ghost use Rattle.xs_tree.specs.Record.{places};
 ghost use Rattle.xs_numbering.specs.Counting.{counted, multiple, sibling_number, single};
-ghost use Rattle.xs_numbering.specs.steps.Passes.{is_marked};
+ghost use Rattle.xs_numbering.specs.steps.Passes.{is_flagged};
 
 use std::alloc::{AllocError, Global};
 use xs_axes::axis_nodes;
-use xs_tree::{Axis, Node, Tree, is_marked};
+use xs_tree::{Axis, Node, Tree, is_flagged};
 
 /// The list that `level="single"` counts for a node: the number of the first node that matches
 /// `count`, from the node upwards.
@@ -25,9 +25,9 @@ pub fn single(
 ) -> Result<Vec<u64>, AllocError>
     requires node { node < length tree.now }
     requires numbers { numbers.now
-        ≡ map (sibling_number (is_marked counts.now) tree.now) (places tree.now) }
+        ≡ map (sibling_number (is_flagged counts.now) tree.now) (places tree.now) }
     ensures { IfOk result (λ v. v.items
-        ≡ single (is_marked counts.now) (is_marked from.now) tree.now node) }
+        ≡ single (is_flagged counts.now) (is_flagged from.now) tree.now node) }
 {
     let mut found = Vec::new(alloc);
     if let Some(first) = first_counted(counts, from, tree, node) {
@@ -48,9 +48,9 @@ pub fn multiple(
 ) -> Result<Vec<u64>, AllocError>
     requires node { node < length tree.now }
     requires numbers { numbers.now
-        ≡ map (sibling_number (is_marked counts.now) tree.now) (places tree.now) }
+        ≡ map (sibling_number (is_flagged counts.now) tree.now) (places tree.now) }
     ensures { IfOk result (λ v. v.items
-        ≡ multiple (is_marked counts.now) (is_marked from.now) tree.now node) }
+        ≡ multiple (is_flagged counts.now) (is_flagged from.now) tree.now node) }
 {
     let mut found = Vec::new(alloc);
     add_number(&mut found, numbers, counts, tree, node)?;
@@ -64,18 +64,18 @@ pub fn multiple(
 fn first_counted(counts: &[bool], from: &[bool], tree: &Tree, node: Node) -> Option<Node>
     requires { node < length tree.now }
     ensures { MatchOption result
-        (counted (is_marked counts.now) (is_marked from.now) tree.now node ≡ [])
-        (λ k. (take 1 (counted (is_marked counts.now) (is_marked from.now) tree.now node) ≡ k ∷ [])
-        × (is_marked counts.now k ≡ true) × (k < length tree.now)) }
+        (counted (is_flagged counts.now) (is_flagged from.now) tree.now node ≡ [])
+        (λ k. (take 1 (counted (is_flagged counts.now) (is_flagged from.now) tree.now node) ≡ k ∷ [])
+        × (is_flagged counts.now k ≡ true) × (k < length tree.now)) }
 {
-    if is_marked(counts, node) {
+    if is_flagged(counts, node) {
         return Some(node);
     }
     for ancestor in axis_nodes(tree, node, Axis::Ancestor) {
-        if is_marked(from, ancestor) {
+        if is_flagged(from, ancestor) {
             return None;
         }
-        if is_marked(counts, ancestor) {
+        if is_flagged(counts, ancestor) {
             return Some(ancestor);
         }
     }
@@ -94,13 +94,13 @@ fn add_above(
 ) -> Result<(), AllocError>
     requires node { node < length tree.now }
     requires numbers { numbers.now
-        ≡ map (sibling_number (is_marked counts.now) tree.now) (places tree.now) }
+        ≡ map (sibling_number (is_flagged counts.now) tree.now) (places tree.now) }
     ensures { OnOk result (out.new.items ≡ out.old.items
-        ++ map (sibling_number (is_marked counts.now) tree.now) (filter (is_marked counts.now)
-        (take_while (λ k. not (is_marked from.now k)) (axis_list Ancestor tree.now node)))) }
+        ++ map (sibling_number (is_flagged counts.now) tree.now) (filter (is_flagged counts.now)
+        (take_while (λ k. not (is_flagged from.now k)) (axis_list Ancestor tree.now node)))) }
 {
     for ancestor in axis_nodes(tree, node, Axis::Ancestor) {
-        if is_marked(from, ancestor) {
+        if is_flagged(from, ancestor) {
             return Ok(());
         }
         add_number(out, numbers, counts, tree, ancestor)?;
@@ -118,13 +118,13 @@ fn add_number(
 ) -> Result<(), AllocError>
     requires node { node < length tree.now }
     requires numbers { numbers.now
-        ≡ map (sibling_number (is_marked counts.now) tree.now) (places tree.now) }
+        ≡ map (sibling_number (is_flagged counts.now) tree.now) (places tree.now) }
     ensures { OnOk result (out.new.items ≡ out.old.items
-        ++ map (sibling_number (is_marked counts.now) tree.now)
-        (filter (is_marked counts.now) (node ∷ []))) }
+        ++ map (sibling_number (is_flagged counts.now) tree.now)
+        (filter (is_flagged counts.now) (node ∷ []))) }
 {
     let _tree = tree;
-    if is_marked(counts, node) {
+    if is_flagged(counts, node) {
         out.push(number_at(numbers, node))?;
     }
     Ok(())

@@ -161,14 +161,14 @@ fn append_both(out: &mut String, first: char, second: char) -> Result<(), AllocE
 }
 
 /// Appends a letter or digit so many times.
-fn append_times(out: &mut String, count: u64, mark: char) -> Result<(), AllocError>
-    requires { mark < 128 }
+fn append_times(out: &mut String, count: u64, flag: char) -> Result<(), AllocError>
+    requires { flag < 128 }
     ensures { OnOk result
-        (string_bytes out.new ≡ string_bytes out.old ++ replicate count mark) }
+        (string_bytes out.new ≡ string_bytes out.old ++ replicate count flag) }
 {
     let mut done = 0;
     while done < count {
-        out.push(mark)?;
+        out.push(flag)?;
         done += 1;
     }
     Ok(())

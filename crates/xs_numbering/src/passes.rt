@@ -6,13 +6,13 @@ ghost use Rattle.xs_tree.specs.Kinds.{is_root_kind};
 ghost use Rattle.xs_tree.specs.Record.{at, places};
 ghost use Rattle.xs_numbering.specs.Counting.{any_number, has_level, is_alike, kind_number};
 ghost use Rattle.xs_numbering.specs.Counting.{sibling_number};
-ghost use Rattle.xs_numbering.specs.steps.Passes.{carried_on, counted_on, held_by, is_marked};
+ghost use Rattle.xs_numbering.specs.steps.Passes.{carried_on, counted_on, held_by, is_flagged};
 ghost use Rattle.xs_numbering.specs.steps.Passes.{seen_at, seen_with};
 
 use std::alloc::{AllocError, Global};
-use xs_tree::{Kind, Node, Tree, is_marked};
+use xs_tree::{Kind, Node, Tree, is_flagged};
 
-/// For each node the number that `level="any"` counts for it, from tables that mark the nodes that
+/// For each node the number that `level="any"` counts for it, from tables that flag the nodes that
 /// match `count` and those that match `from`.
 pub fn any_numbers(
     alloc: Global,
@@ -21,29 +21,29 @@ pub fn any_numbers(
     tree: &Tree,
 ) -> Result<Vec<u32>, AllocError>
     ensures { IfOk result (λ t. t.items
-        ≡ map (any_number (is_marked counts.now) (is_marked from.now) tree.now) (places tree.now)) }
+        ≡ map (any_number (is_flagged counts.now) (is_flagged from.now) tree.now) (places tree.now)) }
 {
     let mut numbers = Vec::new(alloc);
     let mut carried = 0;
     for place in 0..tree.len() as u32 {
         let node = Node::at(place);
         let before = before_node(tree, node, carried);
-        numbers.push(counted_on(is_marked(counts, node), before))?;
+        numbers.push(counted_on(is_flagged(counts, node), before))?;
         carried = carried_on(tree, counts, from, node, before);
     }
     Ok(numbers)
 }
 
-/// For each node one more than how many siblings before it a table marks.
+/// For each node one more than how many siblings before it a table flags.
 pub fn sibling_numbers(alloc: Global, counts: &[bool], tree: &Tree) -> Result<Vec<u32>, AllocError>
     ensures { IfOk result (λ t. t.items
-        ≡ map (sibling_number (is_marked counts.now) tree.now) (places tree.now)) }
+        ≡ map (sibling_number (is_flagged counts.now) tree.now) (places tree.now)) }
 {
     let mut numbers = Vec::new(alloc);
     let mut seen = vec![in alloc; 0u32; tree.len()]?;
     for place in 0..tree.len() as u32 {
         let node = Node::at(place);
-        let number = next_number(&mut seen, tree, node, is_marked(counts, node));
+        let number = next_number(&mut seen, tree, node, is_flagged(counts, node));
         numbers.push(number)?;
     }
     Ok(numbers)
@@ -142,16 +142,16 @@ fn counted_on(is_counted: bool, before: u32) -> u32
 fn carried_on(tree: &Tree, counts: &[bool], from: &[bool], node: Node, before: u32) -> u32
     requires node { node < length tree.now }
     requires few { before + 1 < 2 ^ 32 }
-    ensures { result ≡ carried_on (has_level (at tree.now node)) (is_marked from.now node)
-        (is_marked counts.now node) before }
+    ensures { result ≡ carried_on (has_level (at tree.now node)) (is_flagged from.now node)
+        (is_flagged counts.now node) before }
 {
     if !has_level(tree, node) {
         return before;
     }
-    if is_marked(from, node) {
+    if is_flagged(from, node) {
         return 0;
     }
-    counted_on(is_marked(counts, node), before)
+    counted_on(is_flagged(counts, node), before)
 }
 
 /// Whether a node is no attribute and no namespace node.

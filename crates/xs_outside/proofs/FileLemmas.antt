@@ -1,4 +1,4 @@
--- What a search among the entries of a library finds, told by their names and bytes.
+-- What a search among the entries of a library finds, reported by their names and bytes.
 use Rattle.std.proofs.Common.{◌≡◌, ℕ, List, [], ◌∷◌, Bool, true, false, cond, Option, Some, map, refl}
 use Rattle.std.specs.Prelude.{find, String, Vec, string_bytes}
 use Rattle.std.specs.declared.alloc.Global.{Global}

@@ -1,7 +1,7 @@
 -- What a row of writes leaves of a piece, and of what the sink holds.
 use Rattle.std.proofs.Common.{◌≡◌, ℕ, ◌-◌, List, ◌++◌, Option, Some, None, IfSome, length, take, drop, subst, append_assoc, arith, take-append-drop, take_all, length-drop}
 
--- what is held grew by `part`, where it is told
+-- what is held grew by `part`, where it is reported
 abbrev pub HoldsMore : Option (List ℕ) → Option (List ℕ) → List ℕ → Type 0
 HoldsMore old new part = IfSome old (λ b. new ≡ Some (b ++ part))
 

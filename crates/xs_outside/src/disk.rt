@@ -20,7 +20,7 @@ const PIECE: usize = 65536;
 
 /// A library of the files that the system has, by their paths.
 ///
-/// It tells nothing of what they hold.
+/// It reports nothing of what they hold.
 #[derive(Drop)]
 pub struct FileLibrary<R> {
     system: R,

@@ -36,7 +36,7 @@ pub trait Library {
     /// The names whose fetch failed, oldest first. It grows only at its end.
     ghost failed: { Self → List (List ℕ) };
 
-    /// The files, where the library tells them. No call changes them.
+    /// The files, where the library reports them. No call changes them.
     ghost files: { Self → Option Files };
 
     /// The bytes of `name`, cut after `limit + 1` of them, so that a caller sees that a file is
@@ -64,7 +64,7 @@ pub trait Sink {
     /// falls.
     ghost faults: { Self → ℕ };
 
-    /// The bytes that the sink holds, where it tells them.
+    /// The bytes that the sink holds, where it reports them.
     ghost held: { Self → Option (List ℕ) };
 
     /// Takes a beginning of `bytes`, at least one byte where there is one, and answers how many.
@@ -80,7 +80,7 @@ pub trait Sink {
         ensures held_err { OnErr result (held self.new ≡ held self.old) };
 }
 
-/// What a worker passes after each claim. It tells nothing, and changes nothing that a contract
+/// What a worker passes after each claim. It reports nothing, and changes nothing that a contract
 /// names.
 pub trait Gate: Sync {
     /// Called by the worker numbered `worker` once it has made `taken` claims.

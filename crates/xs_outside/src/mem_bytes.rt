@@ -9,7 +9,7 @@ use super::edge::{Failed, Sink};
 use std::alloc::{AllocError, Global};
 use std::marker::Model;
 
-/// A sink that keeps its bytes in memory, and fails the writes that it was told to fail.
+/// A sink that keeps its bytes in memory, and fails the writes that it was reported to fail.
 ///
 /// A write takes no memory: `reserve` makes the room beforehand.
 #[derive(Drop)]

@@ -14,7 +14,7 @@ use std::alloc::Global;
 use std::marker::Model;
 use xs_text::TextBuf;
 
-/// A library of files in memory, which fails the fetches that it was told to fail.
+/// A library of files in memory, which fails the fetches that it was reported to fail.
 #[derive(Drop)]
 pub struct MemLibrary {
     files: Vec<(String, Vec<u8>)>,

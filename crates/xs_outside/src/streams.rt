@@ -10,7 +10,7 @@ use std::marker::Model;
 
 /// A sink that passes each piece to a stream at once, and counts the writes that failed.
 ///
-/// It tells nothing of what the stream got.
+/// It reports nothing of what the stream got.
 #[derive(Drop)]
 pub struct StreamSink<P> {
     stream: P,

@@ -12,7 +12,7 @@ use Rattle.xs_parser.specs.declared.fault.Fault.TheVariants.{Syntax, UnknownFunc
 use Rattle.xs_parser.specs.steps.SoFar.{followed_by, unless, with_part}
 use Rattle.xs_parser.specs.Outcome.{number_of_fault}
 use Rattle.xs_parser.specs.Templates.{Piece, piece_of, piece_at, cut, lesser, joined, part_by, part_in, parts_if, template_in}
-use Rattle.xs_parser.proofs.PieceLemmas.{piece-told, cut-begun, cut-front, shorter-parts}
+use Rattle.xs_parser.proofs.PieceLemmas.{piece-reported, cut-begun, cut-front, shorter-parts}
 use Rattle.xs_parser.proofs.PlaceLemmas.{past-is}
 
 -- ---- faults
@@ -114,7 +114,7 @@ pub step-in : (pairs : List (List ℕ × List ℕ)) (n at : ℕ) (all : Result (
     → part ≡ part_by pairs at written inner → next ≡ with_part fault parts part → all ≡ followed_by next (parts_if pairs (cut (n - length rest) 0 rest))
 step-in pairs n at all fault parts [] written inner rest part next so le some is place hp hn = absurd (omega arith)
 step-in pairs n at all fault parts (b ∷ bs) written inner rest part next so le some is place hp hn =
-    let t = piece-told b bs (written, inner, rest) is in
+    let t = piece-reported b bs (written, inner, rest) is in
     let l : length (b ∷ bs) ≡ length t.0 + length rest = ap length t.1 ∙ length-append t.0 rest in
     let e : at + length t.0 ≡ n - length rest = omega arith in
     let h : piece_at (t.0 ++ rest) ≡ Some (written, inner, rest) = ap piece_at (sym t.1) ∙ is in
@@ -129,7 +129,7 @@ step-in pairs n at all fault parts (b ∷ bs) written inner rest part next so le
 pub shorter : (old : List ℕ) (written : Written) (inner rest : List ℕ) → 0 < length old → piece_at old ≡ Some (written, inner, rest) → length rest < length old
 shorter [] written inner rest some is = absurd (omega arith)
 shorter (b ∷ bs) written inner rest some is =
-    let t = piece-told b bs (written, inner, rest) is in
+    let t = piece-reported b bs (written, inner, rest) is in
     shorter-parts (b ∷ bs) t.0 rest t.2 t.1
 
 pub end-in : (pairs : List (List ℕ × List ℕ)) (n : ℕ) (all s : Result (List Part) Fault) (old : List ℕ)

@@ -32,8 +32,8 @@ and-then-some f None b h = absurd (none-some b h)
 and-then-some f (Some a) b h = (a, refl, h)
 
 -- a text before what is left is a token by the rules
-abbrev pub Told : Before → List ℕ → Found → Type 0
-Told before bytes f = (text : List ℕ) × (bytes ≡ text ++ f.rest) × IsToken before text f.rest f.lexeme f.after
+abbrev pub Reported : Before → List ℕ → Found → Type 0
+Reported before bytes f = (text : List ℕ) × (bytes ≡ text ++ f.rest) × IsToken before text f.rest f.lexeme f.after
 
 -- ---- signs
 chosen : {A : Type 0} (t : Bool) (a : A) (o : Option A) (b : A) → (if t then Some a else o) ≡ Some b → (t ≡ true) ⊎ (o ≡ Some b)
@@ -69,27 +69,27 @@ two-some b c sign h =
       ]
     ]
 
-two-told : (before : Before) (b : ℕ) (bs : List ℕ) (sign : Token × Before) (f : Found) → kind (b ∷ bs) ≡ ASign → two b (first bs) ≡ Some sign
-    → of_two before (b ∷ bs) (Some sign) ≡ Some f → Told before (b ∷ bs) f
-two-told before b [] sign f k e h = let some : 0 < 0 = two-some b 0 sign e in absurd (omega arith)
-two-told before b (c ∷ cs) sign f k e h =
-    subst (Told before (b ∷ c ∷ cs)) (some-same (found (Ready sign.0) cs sign.1) f h) (b ∷ c ∷ [], refl, two_signs before sign.1 b c cs sign.0 k e)
+two-reported : (before : Before) (b : ℕ) (bs : List ℕ) (sign : Token × Before) (f : Found) → kind (b ∷ bs) ≡ ASign → two b (first bs) ≡ Some sign
+    → of_two before (b ∷ bs) (Some sign) ≡ Some f → Reported before (b ∷ bs) f
+two-reported before b [] sign f k e h = let some : 0 < 0 = two-some b 0 sign e in absurd (omega arith)
+two-reported before b (c ∷ cs) sign f k e h =
+    subst (Reported before (b ∷ c ∷ cs)) (some-same (found (Ready sign.0) cs sign.1) f h) (b ∷ c ∷ [], refl, two_signs before sign.1 b c cs sign.0 k e)
 
-sign-told : (before : Before) (bytes : List ℕ) (f : Found) → kind bytes ≡ ASign → sign_found before bytes ≡ Some f → Told before bytes f
-sign-told before [] f k h = absurd (none-some f h)
-sign-told before (b ∷ bs) f k h = go (two b (first bs)) refl h
+sign-reported : (before : Before) (bytes : List ℕ) (f : Found) → kind bytes ≡ ASign → sign_found before bytes ≡ Some f → Reported before bytes f
+sign-reported before [] f k h = absurd (none-some f h)
+sign-reported before (b ∷ bs) f k h = go (two b (first bs)) refl h
   where
-    go : (o : Option (Token × Before)) → two b (first bs) ≡ o → of_two before (b ∷ bs) o ≡ Some f → Told before (b ∷ bs) f
+    go : (o : Option (Token × Before)) → two b (first bs) ≡ o → of_two before (b ∷ bs) o ≡ Some f → Reported before (b ∷ bs) f
     go None e g =
         let m = map-some (λ (sign : Token × Before). found (Ready sign.0) bs sign.1) (one before b) f g in
-        subst (Told before (b ∷ bs)) m.2 (b ∷ [], refl, one_sign before m.0.1 b bs m.0.0 k e m.1)
-    go (Some sign) e g = two-told before b bs sign f k e g
+        subst (Reported before (b ∷ bs)) m.2 (b ∷ [], refl, one_sign before m.0.1 b bs m.0.0 k e m.1)
+    go (Some sign) e g = two-reported before b bs sign f k e g
 
 -- ---- numbers
-number-told : (before : Before) (bytes : List ℕ) → kind bytes ≡ ANumber → Told before bytes (number_found bytes)
-number-told before bytes k = go (strip 46 (behind Digit bytes)) refl
+number-reported : (before : Before) (bytes : List ℕ) → kind bytes ≡ ANumber → Reported before bytes (number_found bytes)
+number-reported before bytes k = go (strip 46 (behind Digit bytes)) refl
   where
-    go : (o : Option (List ℕ)) → strip 46 (behind Digit bytes) ≡ o → Told before bytes (pointed (run Digit bytes) (behind Digit bytes) o)
+    go : (o : Option (List ℕ)) → strip 46 (behind Digit bytes) ≡ o → Reported before bytes (pointed (run Digit bytes) (behind Digit bytes) o)
     go None e =
         let r = runs Digit bytes in
         (run Digit bytes, r.whole, whole_number before (run Digit bytes) (behind Digit bytes) (subst (λ all. kind all ≡ ANumber) r.whole k) r.all r.stops e)
@@ -114,23 +114,23 @@ if-true true o a h = (refl, h)
 if-true false o a h = absurd (none-some a h)
 
 -- a literal and what is after it
-abbrev QuoteTold : List ℕ → List ℕ × List ℕ → Type 0
-QuoteTold bytes q = (quote : ℕ) × (is_quote quote ≡ true) × (bytes ≡ quote ∷ (q.0 ++ quote ∷ q.1)) × AllPass (Until quote) q.0
+abbrev QuoteReported : List ℕ → List ℕ × List ℕ → Type 0
+QuoteReported bytes q = (quote : ℕ) × (is_quote quote ≡ true) × (bytes ≡ quote ∷ (q.0 ++ quote ∷ q.1)) × AllPass (Until quote) q.0
 
-quoted-sound : (bytes : List ℕ) (q : List ℕ × List ℕ) → quoted bytes ≡ Some q → QuoteTold bytes q
+quoted-sound : (bytes : List ℕ) (q : List ℕ × List ℕ) → quoted bytes ≡ Some q → QuoteReported bytes q
 quoted-sound [] q h = absurd (none-some q h)
 quoted-sound (b ∷ bs) q h =
     let t = if-true (is_quote b) (quoted_in b bs) q h in
     let m = map-some {B = List ℕ × List ℕ} (λ (rest : List ℕ). (run (Until b) bs, rest)) (strip b (behind (Until b) bs)) q t.1 in
     let r = runs (Until b) bs in
     let is : bs ≡ run (Until b) bs ++ b ∷ m.0 = r.whole ∙ ap (λ xs. run (Until b) bs ++ xs) (strip-some b (behind (Until b) bs) m.0 (quote-some b t.0) m.1) in
-    subst (QuoteTold (b ∷ bs)) m.2 (b, t.0, ap (λ xs. b ∷ xs) is, r.all)
+    subst (QuoteReported (b ∷ bs)) m.2 (b, t.0, ap (λ xs. b ∷ xs) is, r.all)
 
-literal-told : (before : Before) (bytes : List ℕ) (f : Found) → literal_found bytes ≡ Some f → Told before bytes f
-literal-told before bytes f h =
+literal-reported : (before : Before) (bytes : List ℕ) (f : Found) → literal_found bytes ≡ Some f → Reported before bytes f
+literal-reported before bytes f h =
     let m = map-some (λ (q : List ℕ × List ℕ). found (Ready (Atom (Literal q.0))) q.1 Operand) (quoted bytes) f h in
     let q = quoted-sound bytes m.0 m.1 in
-    subst (Told before bytes) m.2 (
+    subst (Reported before bytes) m.2 (
       q.0 ∷ (m.0.0 ++ q.0 ∷ []),
       q.2 ∙ sym
           (ap (λ xs. q.0 ∷ xs) (append_assoc m.0.0 (q.0 ∷ []) m.0.1)),
@@ -150,22 +150,22 @@ kind-dollar bytes k =
     byte-is (first bytes) 36 (dollar (starts_name (first bytes)) (is_digit (first bytes) || (first bytes == 46 && is_digit (second bytes)))
     (is_quote (first bytes)) (first bytes == 36) k)
 
-variable-told : (before : Before) (bytes : List ℕ) (f : Found) → kind bytes ≡ AVariable → variable_found bytes ≡ Some f → Told before bytes f
-variable-told before [] f k h = absurd (cc)
-variable-told before (b ∷ bs) f k h =
+variable-reported : (before : Before) (bytes : List ℕ) (f : Found) → kind bytes ≡ AVariable → variable_found bytes ≡ Some f → Reported before bytes f
+variable-reported before [] f k h = absurd (cc)
+variable-reported before (b ∷ bs) f k h =
     let m = map-some (λ (q : QName × List ℕ). found (Variable q.0) q.1 Operand) (qualified bs) f h in
     let n = qualified-sound bs m.0 m.1 in
     let is : b ≡ 36 = kind-dollar (b ∷ bs) k in
-    subst (Told before (b ∷ bs)) m.2 (36 ∷ n.0, ap (λ x. x ∷ bs) is ∙ ap (λ xs. 36 ∷ xs) n.1, a_variable before n.0 m.0.1 m.0.0 n.2)
+    subst (Reported before (b ∷ bs)) m.2 (36 ∷ n.0, ap (λ x. x ∷ bs) is ∙ ap (λ xs. 36 ∷ xs) n.1, a_variable before n.0 m.0.1 m.0.0 n.2)
 
 -- ---- names
 -- what was found after a name, where the name and what is after it are all the bytes
 abbrev Behind : Before → List ℕ → List ℕ → Found → Type 0
 Behind before text rest f = (more : List ℕ) × (rest ≡ more ++ f.rest) × IsToken before (text ++ more) f.rest f.lexeme f.after
 
-operator-told : (before : Before) (text rest : List ℕ) (q : QName) (f : Found) → kind (text ++ rest) ≡ AName → IsName text rest q → is_operand before ≡ true
+operator-reported : (before : Before) (text rest : List ℕ) (q : QName) (f : Found) → kind (text ++ rest) ≡ AName → IsName text rest q → is_operand before ≡ true
     → operator_found q rest ≡ Some f → Behind before text rest f
-operator-told before text rest q f k name is h =
+operator-reported before text rest q f k name is h =
     let m = map-some (λ (op : Operator). found (Ready (Infix op)) rest NoOperand) (unprefixed operator_named q) f h in
     subst (Behind before text rest) m.2 (
       [],
@@ -177,10 +177,10 @@ operator-told before text rest q f k name is h =
 name-parts : (text rest more : List ℕ) (xs : List ℕ) → rest ≡ more ++ xs → text ++ rest ≡ (text ++ more) ++ xs
 name-parts text rest more xs h = ap (λ ys. text ++ ys) h ∙ sym (append_assoc text more xs)
 
-star-told : (before : Before) (text rest : List ℕ) (q : QName) (more : List ℕ) (f : Found) → kind (text ++ rest) ≡ AName → IsName text rest q
+star-reported : (before : Before) (text rest : List ℕ) (q : QName) (more : List ℕ) (f : Found) → kind (text ++ rest) ≡ AName → IsName text rest q
     → is_operand before ≡ false → star_at rest ≡ Some more
     → (if is_nil q.prefix then Some (found (AnyOf q.local) more Operand) else None) ≡ Some f → Behind before text rest f
-star-told before text rest q more f k name is star h =
+star-reported before text rest q more f k name is star h =
     let t = if-true (is_nil q.prefix) (Some (found (AnyOf q.local) more Operand)) f h in
     let own : q ≡ qname [] text = unprefixed-name text rest q name t.0 in
     let parts : rest ≡ 58 ∷ 42 ∷ more = pair-at 58 42 rest more (lit< tt) (lit< tt) star in
@@ -199,10 +199,10 @@ blank rest more h =
     let r = runs Space rest in
     (run Space rest, r.whole ∙ ap (λ xs. run Space rest ++ xs) h, r.all)
 
-colons-told : (before : Before) (text rest : List ℕ) (q : QName) (f : Found) → kind (text ++ rest) ≡ AName → IsName text rest q → is_operand before ≡ false
+colons-reported : (before : Before) (text rest : List ℕ) (q : QName) (f : Found) → kind (text ++ rest) ≡ AName → IsName text rest q → is_operand before ≡ false
     → star_at rest ≡ None → strip 40 (behind Space rest) ≡ None
     → before_colons q rest (colons_at (behind Space rest)) ≡ Some f → Behind before text rest f
-colons-told before text rest q f k name is star bracket h = go (colons_at (behind Space rest)) refl h
+colons-reported before text rest q f k name is star bracket h = go (colons_at (behind Space rest)) refl h
   where
     go : (o : Option (List ℕ)) → colons_at (behind Space rest) ≡ o → before_colons q rest o ≡ Some f → Behind before text rest f
     go None e g =
@@ -232,13 +232,13 @@ pi-is Pi h = refl
 pi-is (Target target) h = absurd (cc)
 
 -- a bracket after a name, and what is after it
-bracket-told : (before : Before) (text rest spaces inside : List ℕ) (q : QName) (f : Found) → kind (text ++ rest) ≡ AName → IsName text rest q
+bracket-reported : (before : Before) (text rest spaces inside : List ℕ) (q : QName) (f : Found) → kind (text ++ rest) ≡ AName → IsName text rest q
     → is_operand before ≡ false → rest ≡ spaces ++ 40 ∷ inside → AllPass Space spaces
     → bracketed q inside (unprefixed kind_named q) ≡ Some f → Behind before text rest f
-bracket-told before text rest spaces inside q f k name is whole white h = go (unprefixed kind_named q) refl h
+bracket-reported before text rest spaces inside q f k name is whole white h = go (unprefixed kind_named q) refl h
   where
-    call-told : unprefixed kind_named q ≡ None → found (Called q) inside NoOperand ≡ f → Behind before text rest f
-    call-told e same =
+    call-reported : unprefixed kind_named q ≡ None → found (Called q) inside NoOperand ≡ f → Behind before text rest f
+    call-reported e same =
         let parts : rest ≡ (spaces ++ 40 ∷ []) ++ inside = whole ∙ sym (append_assoc spaces (40 ∷ []) inside) in
         let kinds : kind ((text ++ (spaces ++ 40 ∷ [])) ++ inside) ≡ AName = subst (λ all. kind all ≡ AName)
         (name-parts text rest (spaces ++ 40 ∷ []) inside parts) k in
@@ -249,9 +249,9 @@ bracket-told before text rest spaces inside q f k name is whole white h = go (un
               (subst (λ r. IsName text r q) whole name) white e,
         )
 
-    kind-told : (which : NodeTest) (end : List ℕ) → unprefixed kind_named q ≡ Some which → strip 41 (behind Space inside) ≡ Some end
+    kind-reported : (which : NodeTest) (end : List ℕ) → unprefixed kind_named q ≡ Some which → strip 41 (behind Space inside) ≡ Some end
         → found (Ready (Test which)) end Operand ≡ f → Behind before text rest f
-    kind-told which end e s same =
+    kind-reported which end e s same =
         let b = blank inside (41 ∷ end) (strip-some 41 (behind Space inside) end (lit< tt) s) in
         let all : rest ≡ spaces ++ 40 ∷ (b.0 ++ 41 ∷ end) = whole ∙ ap (λ xs. spaces ++ 40 ∷ xs) b.1 in
         let parts : rest ≡ (spaces ++ 40 ∷ (b.0 ++ 41 ∷ [])) ++ end = all
@@ -265,9 +265,9 @@ bracket-told before text rest spaces inside q f k name is whole white h = go (un
               (subst (λ r. IsName text r q) all name) white b.2 e,
         )
 
-    target-told : (p : List ℕ × List ℕ) (end : List ℕ) → unprefixed kind_named q ≡ Some Pi → quoted (behind Space inside) ≡ Some p
+    target-reported : (p : List ℕ × List ℕ) (end : List ℕ) → unprefixed kind_named q ≡ Some Pi → quoted (behind Space inside) ≡ Some p
         → strip 41 (behind Space p.1) ≡ Some end → found (Ready (Test (Target p.0))) end Operand ≡ f → Behind before text rest f
-    target-told p end e l s same =
+    target-reported p end e l s same =
         let t = quoted-sound (behind Space inside) p l in
         let b = blank inside (t.0 ∷ (p.0 ++ t.0 ∷ p.1)) t.2 in
         let c = blank p.1 (41 ∷ end) (strip-some 41 (behind Space p.1) end (lit< tt) s) in
@@ -289,7 +289,7 @@ bracket-told before text rest spaces inside q f k name is whole white h = go (un
 
     inner : (which : NodeTest) → unprefixed kind_named q ≡ Some which → (o : Option (List ℕ)) → strip 41 (behind Space inside) ≡ o
         → closed which (behind Space inside) o ≡ Some f → Behind before text rest f
-    inner which e (Some end) s g = kind-told which end e s (some-same (found (Ready (Test which)) end Operand) f g)
+    inner which e (Some end) s g = kind-reported which end e s (some-same (found (Ready (Test which)) end Operand) f g)
     inner which e None s g =
         let t = if-true (is_pi which) (target_found (quoted (behind Space inside))) f g in
         last (quoted (behind Space inside)) refl (e ∙ ap Some (pi-is which t.0)) t.1
@@ -299,49 +299,50 @@ bracket-told before text rest spaces inside q f k name is whole white h = go (un
         last None l e g = absurd (none-some f g)
         last (Some p) l e g =
             let m = map-some (λ (end : List ℕ). found (Ready (Test (Target p.0))) end Operand) (strip 41 (behind Space p.1)) f g in
-            target-told p m.0 e l m.1 m.2
+            target-reported p m.0 e l m.1 m.2
 
     go : (o : Option NodeTest) → unprefixed kind_named q ≡ o → bracketed q inside o ≡ Some f → Behind before text rest f
-    go None e g = call-told e (some-same (found (Called q) inside NoOperand) f g)
+    go None e g = call-reported e (some-same (found (Called q) inside NoOperand) f g)
     go (Some which) e g = inner which e (strip 41 (behind Space inside)) refl g
 
-spaced-told : (before : Before) (text rest : List ℕ) (q : QName) (f : Found) → kind (text ++ rest) ≡ AName → IsName text rest q → is_operand before ≡ false
+spaced-reported : (before : Before) (text rest : List ℕ) (q : QName) (f : Found) → kind (text ++ rest) ≡ AName → IsName text rest q → is_operand before ≡ false
     → star_at rest ≡ None → before_bracket q rest (strip 40 (behind Space rest)) ≡ Some f → Behind before text rest f
-spaced-told before text rest q f k name is star h = go (strip 40 (behind Space rest)) refl h
+spaced-reported before text rest q f k name is star h = go (strip 40 (behind Space rest)) refl h
   where
     go : (o : Option (List ℕ)) → strip 40 (behind Space rest) ≡ o → before_bracket q rest o ≡ Some f → Behind before text rest f
-    go None e g = colons-told before text rest q f k name is star e g
+    go None e g = colons-reported before text rest q f k name is star e g
     go (Some inside) e g =
         let b = blank rest (40 ∷ inside) (strip-some 40 (behind Space rest) inside (lit< tt) e) in
-        bracket-told before text rest b.0 inside q f k name is b.1 b.2 g
+        bracket-reported before text rest b.0 inside q f k name is b.1 b.2 g
 
-named-told : (before : Before) (text rest : List ℕ) (q : QName) (f : Found) → kind (text ++ rest) ≡ AName → IsName text rest q → named before q rest ≡ Some f
+named-reported : (before : Before) (text rest : List ℕ) (q : QName) (f : Found) → kind (text ++ rest) ≡ AName → IsName text rest q → named before q rest
+    ≡ Some f
     → Behind before text rest f
-named-told before text rest q f k name h = go (is_operand before) refl h
+named-reported before text rest q f k name h = go (is_operand before) refl h
   where
     star : is_operand before ≡ false → (o : Option (List ℕ)) → star_at rest ≡ o → before_star q rest o ≡ Some f → Behind before text rest f
-    star is None e g = spaced-told before text rest q f k name is e g
-    star is (Some more) e g = star-told before text rest q more f k name is e g
+    star is None e g = spaced-reported before text rest q f k name is e g
+    star is (Some more) e g = star-reported before text rest q more f k name is e g
 
     go : (t : Bool) → is_operand before ≡ t → (if t then operator_found q rest else before_star q rest (star_at rest)) ≡ Some f → Behind before text rest f
-    go true e g = operator-told before text rest q f k name e g
+    go true e g = operator-reported before text rest q f k name e g
     go false e g = star e (star_at rest) refl g
 
-name-told : (before : Before) (bytes : List ℕ) (f : Found) → kind bytes ≡ AName → name_found before bytes ≡ Some f → Told before bytes f
-name-told before bytes f k h =
+name-reported : (before : Before) (bytes : List ℕ) (f : Found) → kind bytes ≡ AName → name_found before bytes ≡ Some f → Reported before bytes f
+name-reported before bytes f k h =
     let m = and-then-some (λ (q : QName × List ℕ). named before q.0 q.1) (qualified bytes) f h in
     let n = qualified-sound bytes m.0 m.1 in
-    let b = named-told before n.0 m.0.1 m.0.0 f (subst (λ all. kind all ≡ AName) n.1 k) n.2 m.2 in
+    let b = named-reported before n.0 m.0.1 m.0.0 f (subst (λ all. kind all ≡ AName) n.1 k) n.2 m.2 in
     (n.0 ++ b.0, n.1 ∙ name-parts n.0 m.0.1 b.0 f.rest b.1, b.2)
 
 -- what is found is a token by the rules
-pub IsToken-begun : (before : Before) (bytes : List ℕ) (f : Found) → begun before bytes ≡ Some f → Told before bytes f
+pub IsToken-begun : (before : Before) (bytes : List ℕ) (f : Found) → begun before bytes ≡ Some f → Reported before bytes f
 unfolding begun
 IsToken-begun before bytes f h = go (kind bytes) refl h
   where
-    go : (k : Kind) → kind bytes ≡ k → found_by k before bytes ≡ Some f → Told before bytes f
-    go AName e g = name-told before bytes f e g
-    go ANumber e g = subst (Told before bytes) (some-same (number_found bytes) f g) (number-told before bytes e)
-    go ALiteral e g = literal-told before bytes f g
-    go AVariable e g = variable-told before bytes f e g
-    go ASign e g = sign-told before bytes f e g
+    go : (k : Kind) → kind bytes ≡ k → found_by k before bytes ≡ Some f → Reported before bytes f
+    go AName e g = name-reported before bytes f e g
+    go ANumber e g = subst (Reported before bytes) (some-same (number_found bytes) f g) (number-reported before bytes e)
+    go ALiteral e g = literal-reported before bytes f g
+    go AVariable e g = variable-reported before bytes f e g
+    go ASign e g = sign-reported before bytes f e g

@@ -105,13 +105,13 @@ none-left at before b bs ts h is m = none-some ts (sym (lexed-begun at before b 
 reads-step : (n : ℕ) → ((rest : List ℕ) → length rest ≤ n → Reads rest) → (b : ℕ) (bs : List ℕ) → length (b ∷ bs) ≤ suc n → Reads (b ∷ bs)
 reads-step n reads b bs le at before ts m = white (is_space b) refl
   where
-    told : is_space b ≡ false → (o : Option Found) → begun before (b ∷ bs) ≡ o → Lexes at before (b ∷ bs) ts
-    told h None is = absurd (none-left at before b bs ts h is m)
-    told h (Some f) is = found-read n at before b bs f ts reads le h is m
+    reported : is_space b ≡ false → (o : Option Found) → begun before (b ∷ bs) ≡ o → Lexes at before (b ∷ bs) ts
+    reported h None is = absurd (none-left at before b bs ts h is m)
+    reported h (Some f) is = found-read n at before b bs f ts reads le h is m
 
     white : (t : Bool) → is_space b ≡ t → Lexes at before (b ∷ bs) ts
     white true h = space at before b bs ts h (reads bs (omega arith) (suc at) before ts (sym (lexed-space at before b bs h) ∙ m))
-    white false h = told h (begun before (b ∷ bs)) refl
+    white false h = reported h (begun before (b ∷ bs)) refl
 
 reads-nil : Reads []
 unfolding lexed

@@ -240,14 +240,14 @@ found-piece _ _ _ _ some (doubled b rest h) = found-doubled b rest h
 found-piece _ _ _ _ some (expression inner rest start h) = ap (λ xs. piece_at (123 ∷ xs)) (append_assoc inner (125 ∷ []) rest) ∙ found-braced inner rest start h
 
 -- a piece that was found, and the bytes that it is
-abbrev pub PieceTold : List ℕ → Written × List ℕ × List ℕ → Type 0
-PieceTold bytes p = (text : List ℕ) × (bytes ≡ text ++ p.2) × (text ≢ []) × IsPiece text p.2 p.0 p.1
+abbrev pub PieceReported : List ℕ → Written × List ℕ × List ℕ → Type 0
+PieceReported bytes p = (text : List ℕ) × (bytes ≡ text ++ p.2) × (text ≢ []) × IsPiece text p.2 p.0 p.1
 
 cons-some : (b : ℕ) (bs : List ℕ) → b ∷ bs ≢ []
 cons-some b bs h = cc
 
-told-fixed : (b : ℕ) (bs : List ℕ) → is_fixed b ≡ true → PieceTold (b ∷ bs) (fixed_at (b ∷ bs))
-told-fixed b bs h =
+reported-fixed : (b : ℕ) (bs : List ℕ) → is_fixed b ≡ true → PieceReported (b ∷ bs) (fixed_at (b ∷ bs))
+reported-fixed b bs h =
     let f = fixes (b ∷ bs) in (
       front (b ∷ bs),
       f.whole,
@@ -259,56 +259,57 @@ told-fixed b bs h =
 bracket-some : (b : ℕ) → is_bracket b ≡ true → (0 == b) ≡ true → ⊥
 bracket-some b h e = true-false (is_bracket 0) (ap is_bracket (byte-is 0 b e) ∙ h) refl
 
-told-doubled : (b : ℕ) (bs : List ℕ) → is_bracket b ≡ true → (first bs == b) ≡ true → PieceTold (b ∷ bs) (doubled_at bs)
-told-doubled b [] h e = absurd (bracket-some b h e)
-told-doubled b (c ∷ cs) h e =
+reported-doubled : (b : ℕ) (bs : List ℕ) → is_bracket b ≡ true → (first bs == b) ≡ true → PieceReported (b ∷ bs) (doubled_at bs)
+reported-doubled b [] h e = absurd (bracket-some b h e)
+reported-doubled b (c ∷ cs) h e =
     let s : c ≡ b = byte-is c b e in
     (b ∷ b ∷ [], ap (λ x. b ∷ x ∷ cs) s, cons-some b (b ∷ []), subst (λ x. IsPiece (b ∷ b ∷ []) cs Plain (x ∷ [])) (sym s) (doubled b cs h))
 
-told-braced : (bs : List ℕ) (n : ℕ) → (first bs == 123) ≡ false → inside None bs ≡ Some n → PieceTold (123 ∷ bs) (Braced, take n bs, drop 1 (drop n bs))
-told-braced bs n start h =
+reported-braced : (bs : List ℕ) (n : ℕ) → (first bs == 123) ≡ false → inside None bs ≡ Some n → PieceReported (123 ∷ bs) (Braced, take n bs, drop 1 (drop n bs))
+reported-braced bs n start h =
     let c = closed bs None n tt h in
     let t : take n bs ≡ c.inner = ap (λ k. take k bs) c.count ∙ ap (take (length c.inner)) c.whole ∙ take-append_seam c.inner (125 ∷ c.rest) in
     let d : drop 1 (drop n bs) ≡ c.rest = ap (λ k. drop 1 (drop k bs)) c.count ∙ ap (λ xs. drop 1 (drop (length c.inner) xs)) c.whole
     ∙ ap (drop 1) (drop-append_seam c.inner (125 ∷ c.rest)) in
     let f : (first c.inner == 123) ≡ false = inner-first c.inner c.rest (ap (λ xs. first xs == 123) (sym c.whole) ∙ start) in
-    let told : PieceTold (123 ∷ bs) (Braced, c.inner, c.rest) = (
+    let reported : PieceReported (123 ∷ bs) (Braced, c.inner, c.rest) = (
       123 ∷ (c.inner ++ 125 ∷ []),
       ap (λ xs. 123 ∷ xs) (c.whole ∙ sym (append_assoc c.inner (125 ∷ []) c.rest)),
       cons-some 123
           (c.inner ++ 125 ∷ []),
       expression c.inner c.rest f c.ended,
     ) in
-    subst (λ xs. PieceTold (123 ∷ bs) (Braced, xs, drop 1 (drop n bs))) (sym t) (subst (λ xs. PieceTold (123 ∷ bs) (Braced, c.inner, xs)) (sym d) told)
+    subst (λ xs. PieceReported (123 ∷ bs) (Braced, xs, drop 1 (drop n bs))) (sym t) (subst (λ xs. PieceReported (123 ∷ bs) (Braced, c.inner, xs))
+    (sym d) reported)
 
-told-bracket : (b : ℕ) (bs : List ℕ) (p : Written × List ℕ × List ℕ) → is_bracket b ≡ true → bracket_at (b ∷ bs) ≡ Some p → PieceTold (b ∷ bs) p
-told-bracket b bs p is h = go (first bs == b) refl (b == 123) refl
+reported-bracket : (b : ℕ) (bs : List ℕ) (p : Written × List ℕ × List ℕ) → is_bracket b ≡ true → bracket_at (b ∷ bs) ≡ Some p → PieceReported (b ∷ bs) p
+reported-bracket b bs p is h = go (first bs == b) refl (b == 123) refl
   where
-    closes : (o : Option ℕ) → (first bs == 123) ≡ false → inside None bs ≡ o → braced_at bs o ≡ Some p → PieceTold (123 ∷ bs) p
+    closes : (o : Option ℕ) → (first bs == 123) ≡ false → inside None bs ≡ o → braced_at bs o ≡ Some p → PieceReported (123 ∷ bs) p
     closes None start i e = absurd (none-some p e)
     closes (Some n) start i e =
-        subst (PieceTold (123 ∷ bs)) (some-same {A = Written × List ℕ × List ℕ} (Braced, take n bs, drop 1 (drop n bs)) p e) (told-braced bs n start i)
+        subst (PieceReported (123 ∷ bs)) (some-same {A = Written × List ℕ × List ℕ} (Braced, take n bs, drop 1 (drop n bs)) p e) (reported-braced bs n start i)
 
-    go : (t : Bool) → (first bs == b) ≡ t → (u : Bool) → (b == 123) ≡ u → PieceTold (b ∷ bs) p
+    go : (t : Bool) → (first bs == b) ≡ t → (u : Bool) → (b == 123) ≡ u → PieceReported (b ∷ bs) p
     go true e u f =
         let s = some-same (doubled_at bs) p (sym (ap (λ (t : Bool). if t then Some (doubled_at bs) else if b == 123 then braced_at bs
         (inside None bs) else None) e) ∙ h) in
-        subst (PieceTold (b ∷ bs)) s (told-doubled b bs is e)
+        subst (PieceReported (b ∷ bs)) s (reported-doubled b bs is e)
     go false e true f =
         let s = sym (ap (λ (t : Bool). if t then Some (doubled_at bs) else if b == 123 then braced_at bs (inside None bs) else None) e) ∙ h in
         let r = sym (ap (λ (u : Bool). if u then braced_at bs (inside None bs) else None) f) ∙ s in
         let same : b ≡ 123 = byte-is b 123 f in
-        subst (λ x. PieceTold (x ∷ bs) p) (sym same) (closes (inside None bs) (ap (λ x. first bs == x) (sym same) ∙ e) refl r)
+        subst (λ x. PieceReported (x ∷ bs) p) (sym same) (closes (inside None bs) (ap (λ x. first bs == x) (sym same) ∙ e) refl r)
     go false e false f =
         let s = sym (ap (λ (t : Bool). if t then Some (doubled_at bs) else if b == 123 then braced_at bs (inside None bs) else None) e) ∙ h in
         absurd (none-some p (sym (ap (λ (u : Bool). if u then braced_at bs (inside None bs) else None) f) ∙ s))
 
-pub piece-told : (b : ℕ) (bs : List ℕ) (p : Written × List ℕ × List ℕ) → piece_at (b ∷ bs) ≡ Some p → PieceTold (b ∷ bs) p
-piece-told b bs p h = go (is_bracket b) refl
+pub piece-reported : (b : ℕ) (bs : List ℕ) (p : Written × List ℕ × List ℕ) → piece_at (b ∷ bs) ≡ Some p → PieceReported (b ∷ bs) p
+piece-reported b bs p h = go (is_bracket b) refl
   where
-    go : (t : Bool) → is_bracket b ≡ t → PieceTold (b ∷ bs) p
-    go true e = told-bracket b bs p e (sym (at-bracket (b ∷ bs) e) ∙ h)
-    go false e = subst (PieceTold (b ∷ bs)) (some-same (fixed_at (b ∷ bs)) p (sym (at-fixed (b ∷ bs) e) ∙ h)) (told-fixed b bs (ap not e))
+    go : (t : Bool) → is_bracket b ≡ t → PieceReported (b ∷ bs) p
+    go true e = reported-bracket b bs p e (sym (at-bracket (b ∷ bs) e) ∙ h)
+    go false e = subst (PieceReported (b ∷ bs)) (some-same (fixed_at (b ∷ bs)) p (sym (at-fixed (b ∷ bs) e) ∙ h)) (reported-fixed b bs (ap not e))
 
 -- ---- steps of the cut
 cut-skip : (bytes rest : List ℕ) (at : ℕ) → cut at (length bytes) (bytes ++ rest) ≡ cut (past bytes at) 0 rest
@@ -369,7 +370,7 @@ cuts-step n cuts b bs le at ps m = go (piece_at (b ∷ bs)) refl
     go : (o : Option (Written × List ℕ × List ℕ)) → piece_at (b ∷ bs) ≡ o → Pieces at (b ∷ bs) ps
     go None is = absurd (none-some ps (sym (cut-begun at b bs None is) ∙ m))
     go (Some p) is =
-        let t = piece-told b bs p is in
+        let t = piece-reported b bs p is in
         let less : length p.2 < length (b ∷ bs) = shorter-parts (b ∷ bs) t.0 p.2 t.2 t.1 in
         let within : length p.2 ≤ n = omega arith in
         subst (λ all. Pieces at all ps) (sym t.1) (front-cut at t.0 p.2 p.0 p.1 ps t.2 t.3 (cuts p.2 within) (subst (λ all. cut at 0 all ≡ Some ps) t.1 m))

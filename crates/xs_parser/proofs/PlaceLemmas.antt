@@ -11,7 +11,7 @@ use Rattle.xs_parser.specs.declared.fault.Fault.TheVariants.{Syntax, UnknownFunc
 use Rattle.xs_parser.specs.declared.signs.Before.{Before}
 use Rattle.xs_parser.specs.declared.signs.Before.TheVariants.{NoOperand}
 use Rattle.xs_parser.specs.declared.token.Placed.{Placed}
-use Rattle.xs_parser.specs.Faults.{has_fault, first_fault, nested, inner_brackets, is_deep, first_deep, is_wrong, arguments_in, first_wrong, first_place, no_pattern, least_fault, unless_fault, tokens_in, told, verdict, parsed_if, outcome_in}
+use Rattle.xs_parser.specs.Faults.{has_fault, first_fault, nested, inner_brackets, is_deep, first_deep, is_wrong, arguments_in, first_wrong, first_place, no_pattern, least_fault, unless_fault, tokens_in, reported, verdict, parsed_if, outcome_in}
 use Rattle.xs_parser.specs.Lexing.{lexemes_in}
 use Rattle.xs_parser.specs.Outcome.{place_of_fault}
 use Rattle.xs_parser.specs.Reading.{tree_of}
@@ -95,9 +95,9 @@ least-within n None None None None None None e f hu hw hb hd hm hx h = absurd (c
 syntax-within : (n : ℕ) (f : Fault) → err Syntax ≡ err f → place_of_fault f ≤ n
 syntax-within n f h = err-place n Syntax f (zero-le n) h
 
-told-within : (wanted : Bool) (pairs : List (List ℕ × List ℕ)) (n : ℕ) (ps : List Placed) (e : Tree) (f : Fault) → Within n ps
-    → told wanted pairs ps e ≡ Err f → place_of_fault f ≤ n
-told-within wanted pairs n ps e f h is =
+reported-within : (wanted : Bool) (pairs : List (List ℕ × List ℕ)) (n : ℕ) (ps : List Placed) (e : Tree) (f : Fault) → Within n ps
+    → reported wanted pairs ps e ≡ Err f → place_of_fault f ≤ n
+reported-within wanted pairs n ps e f h is =
     least-within n (first_fault Unknown pairs ps) (first_wrong ps) (first_fault Literal pairs ps) (first_deep ps 0 0) (no_pattern wanted (first_place ps) e)
     (first_fault Unbound pairs ps) e f
     (fault-within Unknown pairs n ps h) (wrong-within n ps h) (fault-within Literal pairs n ps h) (deep-within n ps 0 0 h)
@@ -112,7 +112,7 @@ place-within wanted pairs text f h = lexed (lexemes_in text) refl
     read ps None l is = syntax-within (length text) f is
     read ps (Some e) l is =
         let z : 0 + length text ≡ length text = omega arith in
-        told-within wanted pairs (length text) ps e f (subst (λ n. Within n ps) z (lexes-within 0 NoOperand text ps (Lexes-lexed 0 NoOperand text ps l))) is
+        reported-within wanted pairs (length text) ps e f (subst (λ n. Within n ps) z (lexes-within 0 NoOperand text ps (Lexes-lexed 0 NoOperand text ps l))) is
 
     lexed : (o : Option (List Placed)) → lexemes_in text ≡ o → place_of_fault f ≤ length text
     lexed None l = syntax-within (length text) f (sym (ap (parsed_if wanted pairs) l) ∙ h)

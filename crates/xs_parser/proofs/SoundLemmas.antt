@@ -37,7 +37,7 @@ pub and-then-some : {A B : Type 0} (f : A → Option B) (o : Option A) (b : B) �
 and-then-some f None b h = absurd (none-some b h)
 and-then-some f (Some a) b h = (a, refl, h)
 
--- ---- parts stand for tokens
+-- ---- parts represent tokens
 abbrev pub IsPart : (Tree → Tree) → List Token → Part → Type 0
 IsPart k ts (plain t) = ts ≡ t ∷ []
 IsPart k ts (whole e) = Primary k ts e

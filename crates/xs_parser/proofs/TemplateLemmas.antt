@@ -10,22 +10,22 @@ use Rattle.xs_parser.specs.declared.fault.Fault.TheVariants.{Syntax, UnknownFunc
 use Rattle.xs_parser.specs.declared.signs.Before.TheVariants.{NoOperand}
 use Rattle.xs_parser.specs.declared.token.Placed.{Placed}
 use Rattle.xs_parser.specs.Faults.{expr_in, outcome_in, parsed_if, tokens_in, verdict}
-use Rattle.xs_parser.specs.Laws.{StandsFor}
+use Rattle.xs_parser.specs.Laws.{Represents}
 use Rattle.xs_parser.specs.Lexing.{lexemes_in}
 use Rattle.xs_parser.specs.Outcome.{number_of_fault}
 use Rattle.xs_parser.specs.Reading.{tree_of}
 use Rattle.xs_parser.specs.Templates.{AllStand, no_pieces, fixed_stands, braced_stands, Piece, piece_of, Pieces, cut, computed_from, moved, lesser, joined, part_by, parts_in, parts_if, template_in}
-use Rattle.xs_parser.specs.TemplateLaws.{StandsForParts}
+use Rattle.xs_parser.specs.TemplateLaws.{RepresentsParts}
 use Rattle.xs_parser.proofs.LexLemmas.{Lexes-lexed}
 use Rattle.xs_parser.proofs.PieceLemmas.{cut-Pieces, Pieces-cut}
 use Rattle.xs_parser.proofs.ReadSoundLemmas.{SpellsExpr-tree_of}
-use Rattle.xs_parser.proofs.TextLemmas.{none-told}
+use Rattle.xs_parser.proofs.TextLemmas.{none-reported}
 
-pub told : (pairs : List (List ℕ × List ℕ)) (bytes : List ℕ) (ps : List Piece) → Pieces 0 bytes ps → template_in pairs bytes ≡ parts_in pairs ps
+pub reported : (pairs : List (List ℕ × List ℕ)) (bytes : List ℕ) (ps : List Piece) → Pieces 0 bytes ps → template_in pairs bytes ≡ parts_in pairs ps
 unfolding template_in
-told pairs bytes ps h = ap (parts_if pairs) (cut-Pieces 0 bytes ps h)
+reported pairs bytes ps h = ap (parts_if pairs) (cut-Pieces 0 bytes ps h)
 
--- ---- a part with a tree is not told to be none
+-- ---- a part with a tree is not said to be none
 moved-syntax : (at : ℕ) (f : Fault) → moved at f ≡ Syntax → f ≡ Syntax
 moved-syntax at Syntax h = refl
 moved-syntax at (UnknownFunction place) h = absurd (cc)
@@ -65,34 +65,34 @@ joined-syntax (Err f) (Err g) h =
       | inr e ↦ inr (ap Err e)
     ]
 
-stands-told : (pairs : List (List ℕ × List ℕ)) (ps : List Piece) (qs : List Part) → AllStand pairs ps qs → parts_in pairs ps ≡ Err Syntax → ⊥
-stands-told pairs _ _ no_pieces h = cc
-stands-told pairs _ _ (fixed_stands at bytes ps qs more) h =
+stands-reported : (pairs : List (List ℕ × List ℕ)) (ps : List Piece) (qs : List Part) → AllStand pairs ps qs → parts_in pairs ps ≡ Err Syntax → ⊥
+stands-reported pairs _ _ no_pieces h = cc
+stands-reported pairs _ _ (fixed_stands at bytes ps qs more) h =
     elim (joined-syntax (Ok (text bytes)) (parts_in pairs ps) h) [
       | inl e ↦ cc
-      | inr e ↦ stands-told pairs ps qs more e
+      | inr e ↦ stands-reported pairs ps qs more e
     ]
-stands-told pairs _ _ (braced_stands at bytes e ps qs s more) h =
+stands-reported pairs _ _ (braced_stands at bytes e ps qs s more) h =
     elim (joined-syntax (part_by pairs at Braced bytes) (parts_in pairs ps) h) [
-      | inl k ↦ none-told false pairs bytes (computed-syntax (suc at) (expr_in pairs bytes) k) e s
-      | inr k ↦ stands-told pairs ps qs more k
+      | inl k ↦ none-reported false pairs bytes (computed-syntax (suc at) (expr_in pairs bytes) k) e s
+      | inr k ↦ stands-reported pairs ps qs more k
     ]
 
-pub none-told-parts : (pairs : List (List ℕ × List ℕ)) (bytes : List ℕ) → template_in pairs bytes ≡ Err Syntax → (qs : List Part)
-    → StandsForParts pairs bytes qs → ⊥
-none-told-parts pairs bytes h qs s = stands-told pairs s.0 qs s.2 (sym (told pairs bytes s.0 s.1) ∙ h)
+pub none-reported-parts : (pairs : List (List ℕ × List ℕ)) (bytes : List ℕ) → template_in pairs bytes ≡ Err Syntax → (qs : List Part)
+    → RepresentsParts pairs bytes qs → ⊥
+none-reported-parts pairs bytes h qs s = stands-reported pairs s.0 qs s.2 (sym (reported pairs bytes s.0 s.1) ∙ h)
 
--- ---- where none is told, there is one
-tree-or-syntax : (pairs : List (List ℕ × List ℕ)) (bytes : List ℕ) → (expr_in pairs bytes ≡ Err Syntax) ⊎ ((e : Tree) × StandsFor pairs bytes e)
+-- ---- where none is reported, there is one
+tree-or-syntax : (pairs : List (List ℕ × List ℕ)) (bytes : List ℕ) → (expr_in pairs bytes ≡ Err Syntax) ⊎ ((e : Tree) × Represents pairs bytes e)
 unfolding outcome_in
 tree-or-syntax pairs bytes = lexed (lexemes_in bytes) refl
   where
     spelled : (ps : List Placed) → lexemes_in bytes ≡ Some ps → (o : Option Tree) → tree_of (tokens_in pairs ps) ≡ o
-        → (expr_in pairs bytes ≡ Err Syntax) ⊎ ((e : Tree) × StandsFor pairs bytes e)
+        → (expr_in pairs bytes ≡ Err Syntax) ⊎ ((e : Tree) × Represents pairs bytes e)
     spelled ps l None t = inl (ap (parsed_if false pairs) l ∙ ap (verdict false pairs ps) t)
     spelled ps l (Some e) t = inr (e, (ps, Lexes-lexed 0 NoOperand bytes ps l, SpellsExpr-tree_of (tokens_in pairs ps) e t))
 
-    lexed : (o : Option (List Placed)) → lexemes_in bytes ≡ o → (expr_in pairs bytes ≡ Err Syntax) ⊎ ((e : Tree) × StandsFor pairs bytes e)
+    lexed : (o : Option (List Placed)) → lexemes_in bytes ≡ o → (expr_in pairs bytes ≡ Err Syntax) ⊎ ((e : Tree) × Represents pairs bytes e)
     lexed None l = inl (ap (parsed_if false pairs) l)
     lexed (Some ps) l = spelled ps l (tree_of (tokens_in pairs ps)) refl
 
@@ -140,7 +140,7 @@ fares : (pairs : List (List ℕ × List ℕ)) (ps : List Piece) → Fares pairs 
 fares pairs [] = inr ([], no_pieces)
 fares pairs (p ∷ ps) = fares-more pairs p.at p.written p.bytes ps (fares pairs ps)
 
-pub none-stands-parts : (pairs : List (List ℕ × List ℕ)) (bytes : List ℕ) → ((qs : List Part) → StandsForParts pairs bytes qs → ⊥)
+pub none-stands-parts : (pairs : List (List ℕ × List ℕ)) (bytes : List ℕ) → ((qs : List Part) → RepresentsParts pairs bytes qs → ⊥)
     → template_in pairs bytes ≡ Err Syntax
 unfolding template_in
 none-stands-parts pairs bytes h = go (cut 0 0 bytes) refl

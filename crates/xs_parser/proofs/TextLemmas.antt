@@ -5,9 +5,9 @@ use Rattle.xs_parser.specs.declared.fault.Check.TheVariants.{Unknown, Literal, U
 use Rattle.xs_parser.specs.declared.fault.Fault.TheVariants.{Syntax}
 use Rattle.xs_parser.specs.declared.signs.Before.TheVariants.{NoOperand}
 use Rattle.xs_parser.specs.declared.token.Placed.{Placed}
-use Rattle.xs_parser.specs.Faults.{outcome_in, faults_first, first_deep, first_fault, first_place, first_wrong, no_pattern, parsed_if, told, tokens_in, verdict}
+use Rattle.xs_parser.specs.Faults.{outcome_in, faults_first, first_deep, first_fault, first_place, first_wrong, no_pattern, parsed_if, reported, tokens_in, verdict}
 use Rattle.xs_parser.specs.Grammar.{same, SpellsExpr}
-use Rattle.xs_parser.specs.Laws.{StandsFor}
+use Rattle.xs_parser.specs.Laws.{Represents}
 use Rattle.xs_parser.specs.Lexing.{lexemes_in}
 use Rattle.xs_parser.specs.Reading.{tree_of}
 use Rattle.xs_parser.specs.Spelling.{Lexes}
@@ -18,19 +18,19 @@ use Rattle.xs_parser.proofs.LexLemmas.{lexed-Lexes, Lexes-lexed}
 one : {A : Type 0} (a b : A) → Some a ≡ Some b → a ≡ b
 one a b h = cc
 
-pub one-tree : (pairs : List (List ℕ × List ℕ)) (text : List ℕ) (e f : Tree) → StandsFor pairs text e → StandsFor pairs text f → e ≡ f
+pub one-tree : (pairs : List (List ℕ × List ℕ)) (text : List ℕ) (e f : Tree) → Represents pairs text e → Represents pairs text f → e ≡ f
 one-tree pairs text e f a b =
     let same_tokens : a.0 ≡ b.0 = one a.0 b.0 (sym (lexed-Lexes 0 NoOperand text a.0 a.1) ∙ lexed-Lexes 0 NoOperand text b.0 b.1) in
     one e f (sym (tree_by-Spells same (tokens_in pairs a.0) e a.2) ∙ ap (λ ps. tree_of (tokens_in pairs ps)) same_tokens
     ∙ tree_by-Spells same (tokens_in pairs b.0) f b.2)
 
 pub outcome : (wanted : Bool) (pairs : List (List ℕ × List ℕ)) (text : List ℕ) (ps : List Placed) (e : Tree) → Lexes 0 NoOperand text ps
-    → SpellsExpr (tokens_in pairs ps) e → outcome_in wanted pairs text ≡ told wanted pairs ps e
+    → SpellsExpr (tokens_in pairs ps) e → outcome_in wanted pairs text ≡ reported wanted pairs ps e
 unfolding outcome_in
 outcome wanted pairs text ps e l s =
     ap (parsed_if wanted pairs) (lexed-Lexes 0 NoOperand text ps l) ∙ ap (verdict wanted pairs ps) (tree_by-Spells same (tokens_in pairs ps) e s)
 
--- a tree with other faults is not told to be none
+-- a tree with other faults is not said to be none
 never-syntax : (u w b d n x : Option ℕ) (e : Tree) → faults_first u w b d n x e ≡ Err Syntax → ⊥
 never-syntax (Some at) w b d n x e h = cc
 never-syntax None (Some at) b d n x e h = cc
@@ -40,16 +40,16 @@ never-syntax None None None None (Some at) x e h = cc
 never-syntax None None None None None (Some at) e h = cc
 never-syntax None None None None None None e h = cc
 
-never-told : (wanted : Bool) (pairs : List (List ℕ × List ℕ)) (ps : List Placed) (e : Tree) → told wanted pairs ps e ≡ Err Syntax → ⊥
-never-told wanted pairs ps e h =
+never-reported : (wanted : Bool) (pairs : List (List ℕ × List ℕ)) (ps : List Placed) (e : Tree) → reported wanted pairs ps e ≡ Err Syntax → ⊥
+never-reported wanted pairs ps e h =
     never-syntax (first_fault Unknown pairs ps) (first_wrong ps) (first_fault Literal pairs ps) (first_deep ps 0 0) (no_pattern wanted (first_place ps) e)
     (first_fault Unbound pairs ps) e h
 
-pub none-told : (wanted : Bool) (pairs : List (List ℕ × List ℕ)) (text : List ℕ) → outcome_in wanted pairs text ≡ Err Syntax → (e : Tree)
-    → StandsFor pairs text e → ⊥
-none-told wanted pairs text h e s = never-told wanted pairs s.0 e (sym (outcome wanted pairs text s.0 e s.1 s.2) ∙ h)
+pub none-reported : (wanted : Bool) (pairs : List (List ℕ × List ℕ)) (text : List ℕ) → outcome_in wanted pairs text ≡ Err Syntax → (e : Tree)
+    → Represents pairs text e → ⊥
+none-reported wanted pairs text h e s = never-reported wanted pairs s.0 e (sym (outcome wanted pairs text s.0 e s.1 s.2) ∙ h)
 
-pub none-stands : (wanted : Bool) (pairs : List (List ℕ × List ℕ)) (text : List ℕ) → ((e : Tree) → StandsFor pairs text e → ⊥)
+pub none-stands : (wanted : Bool) (pairs : List (List ℕ × List ℕ)) (text : List ℕ) → ((e : Tree) → Represents pairs text e → ⊥)
     → outcome_in wanted pairs text ≡ Err Syntax
 unfolding outcome_in
 none-stands wanted pairs text h = lexed (lexemes_in text) refl

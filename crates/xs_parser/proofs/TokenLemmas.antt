@@ -153,18 +153,18 @@ qualified-IsName _ _ _ (prefixed_name prefix local rest name other all more star
     (run-all NameByte local rest more stops) (behind-all NameByte local rest more stops)
 
 -- a name that was found, and the text that it is
-abbrev pub NameTold : List ℕ → QName × List ℕ → Type 0
-NameTold bytes q = (text : List ℕ) × (bytes ≡ text ++ q.1) × IsName text q.1 q.0
+abbrev pub NameReported : List ℕ → QName × List ℕ → Type 0
+NameReported bytes q = (text : List ℕ) × (bytes ≡ text ++ q.1) × IsName text q.1 q.0
 
 first-run : (more : List ℕ) → is_ncname (run NameByte more) ≡ true → first (run NameByte more) ≡ first more
 first-run more h =
     sym (ap first (runs NameByte more).whole ∙ first-front (run NameByte more) (behind NameByte more) (ncname-some (run NameByte more) h))
 
 with-local-sound : (bytes : List ℕ) (o : Option (List ℕ)) (q : QName × List ℕ) → is_ncname (run NameByte bytes) ≡ true → local_at (behind NameByte bytes) ≡ o
-    → with_local (run NameByte bytes) (behind NameByte bytes) o ≡ Some q → NameTold bytes q
+    → with_local (run NameByte bytes) (behind NameByte bytes) o ≡ Some q → NameReported bytes q
 with-local-sound bytes None q name at h =
     let r = runs NameByte bytes in
-    subst (NameTold bytes) (some-same (qname [] (run NameByte bytes), behind NameByte bytes) q h)
+    subst (NameReported bytes) (some-same (qname [] (run NameByte bytes), behind NameByte bytes) q h)
     (run NameByte bytes, r.whole, local_name (run NameByte bytes) (behind NameByte bytes) name r.all r.stops at)
 with-local-sound bytes (Some more) q name at h =
     let r = runs NameByte bytes in
@@ -174,18 +174,18 @@ with-local-sound bytes (Some more) q name at h =
     let whole : bytes ≡ (run NameByte bytes ++ 58 ∷ run NameByte more) ++ behind NameByte more =
     r.whole ∙ ap (λ xs. run NameByte bytes ++ xs) (l.0 ∙ ap (λ xs. 58 ∷ xs) s.whole)
     ∙ sym (append_assoc (run NameByte bytes) (58 ∷ run NameByte more) (behind NameByte more)) in
-    subst (NameTold bytes) k.1 (
+    subst (NameReported bytes) k.1 (
       run NameByte bytes ++ 58 ∷ run NameByte more,
       whole,
       prefixed_name (run NameByte bytes) (run NameByte more) (behind NameByte more) name k.0 r.all s.all
           (ap starts_name (first-run more k.0) ∙ l.1) s.stops,
     )
 
-pub qualified-sound : (bytes : List ℕ) (q : QName × List ℕ) → qualified bytes ≡ Some q → NameTold bytes q
+pub qualified-sound : (bytes : List ℕ) (q : QName × List ℕ) → qualified bytes ≡ Some q → NameReported bytes q
 qualified-sound bytes q h = go (is_ncname (run NameByte bytes)) refl h
   where
     go : (t : Bool) → is_ncname (run NameByte bytes) ≡ t → (if t then with_local (run NameByte bytes) (behind NameByte bytes)
-        (local_at (behind NameByte bytes)) else None) ≡ Some q → NameTold bytes q
+        (local_at (behind NameByte bytes)) else None) ≡ Some q → NameReported bytes q
     go true e k = with-local-sound bytes (local_at (behind NameByte bytes)) q e refl k
     go false e k = absurd (none-some q k)
 

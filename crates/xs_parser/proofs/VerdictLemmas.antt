@@ -37,7 +37,7 @@ none-in wanted pairs ps ts deep o h is none =
     let n : tree_of ts ≡ None = none-of (tree_of ts) (both-there ts deep o h ∙ ap is_some none) in
     sym (ap (λ us. verdict wanted pairs ps (tree_of us)) (sym is) ∙ ap (verdict wanted pairs ps) n)
 
--- where the nesting is too deep, neither the tree nor whether it is a pattern is told
+-- where the nesting is too deep, neither the tree nor whether it is a pattern is reported
 deep-any : (u w b n m x : Option ℕ) (at : ℕ) (e f : Tree) → faults_first u w b (Some at) n x e ≡ faults_first u w b (Some at) m x f
 deep-any (Some k) w b n m x at e f = refl
 deep-any None (Some k) b n m x at e f = refl

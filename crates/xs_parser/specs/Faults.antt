@@ -211,20 +211,20 @@ first_place (p ∷ ps) = p.at
 abbrev pub no_pattern : Bool → ℕ → Tree → Option ℕ
 no_pattern wanted at e = if wanted && not (is_pattern e) then Some at else None
 
-abbrev pub told : Bool → List (List ℕ × List ℕ) → List Placed → Tree → Result Tree Fault
-told wanted pairs ps e =
+abbrev pub reported : Bool → List (List ℕ × List ℕ) → List Placed → Tree → Result Tree Fault
+reported wanted pairs ps e =
     faults_first (first_fault Unknown pairs ps) (first_wrong ps) (first_fault Literal pairs ps) (first_deep ps 0 0) (no_pattern wanted (first_place ps) e)
     (first_fault Unbound pairs ps) e
 
 abbrev pub verdict : Bool → List (List ℕ × List ℕ) → List Placed → Option Tree → Result Tree Fault
 verdict wanted pairs ps None = Err Syntax
-verdict wanted pairs ps (Some e) = told wanted pairs ps e
+verdict wanted pairs ps (Some e) = reported wanted pairs ps e
 
 abbrev pub parsed_if : Bool → List (List ℕ × List ℕ) → Option (List Placed) → Result Tree Fault
 parsed_if wanted pairs None = Err Syntax
 parsed_if wanted pairs (Some ps) = verdict wanted pairs ps (tree_of (tokens_in pairs ps))
 
--- what a text stands for in a scope, as an expression or as a pattern, or its least fault
+-- what a text represents in a scope, as an expression or as a pattern, or its least fault
 unfoldable pub outcome_in : Bool → List (List ℕ × List ℕ) → List ℕ → Result Tree Fault
 outcome_in wanted pairs text = parsed_if wanted pairs (lexemes_in text)
 

@@ -1,11 +1,11 @@
--- Laws of the grammar: the rules and the functions say the same, so that a text stands for at most one tree.
+-- Laws of the grammar: the rules and the functions say the same, so that a text represents at most one tree.
 use Rattle.std.specs.Prelude.{◌≡◌, ◌↔◌, ℕ, Bool, List, Some, Err}
 use Rattle.xs_xpath.specs.Tree.{Tree}
 use Rattle.xs_parser.specs.declared.fault.Fault.TheVariants.{Syntax}
 use Rattle.xs_parser.specs.declared.signs.Before.TheVariants.{NoOperand}
 use Rattle.xs_parser.specs.declared.token.Placed.{Placed}
 use Rattle.xs_parser.specs.declared.token.Token.{Token}
-use Rattle.xs_parser.specs.Faults.{outcome_in, told, tokens_in}
+use Rattle.xs_parser.specs.Faults.{outcome_in, reported, tokens_in}
 use Rattle.xs_parser.specs.Grammar.{SpellsExpr}
 use Rattle.xs_parser.specs.Lexing.{lexemes_in}
 use Rattle.xs_parser.specs.Reading.{tree_of}
@@ -22,21 +22,21 @@ OneTree = (ts : List Token) (e f : Tree) → SpellsExpr ts e → SpellsExpr ts f
 abbrev pub TextsHaveTokens : Type 0
 TextsHaveTokens = (text : List ℕ) (ps : List Placed) → Lexes 0 NoOperand text ps ↔ (lexemes_in text ≡ Some ps)
 
--- a text stands for a tree in a scope: it has tokens, and these spell the tree
-abbrev pub StandsFor : List (List ℕ × List ℕ) → List ℕ → Tree → Type 0
-StandsFor pairs text e = (ps : List Placed) × Lexes 0 NoOperand text ps × SpellsExpr (tokens_in pairs ps) e
+-- a text represents a tree in a scope: it has tokens, and these spell the tree
+abbrev pub Represents : List (List ℕ × List ℕ) → List ℕ → Tree → Type 0
+Represents pairs text e = (ps : List Placed) × Lexes 0 NoOperand text ps × SpellsExpr (tokens_in pairs ps) e
 
 abbrev pub OneTreeOfText : Type 0
-OneTreeOfText = (pairs : List (List ℕ × List ℕ)) (text : List ℕ) (e f : Tree) → StandsFor pairs text e → StandsFor pairs text f → e ≡ f
+OneTreeOfText = (pairs : List (List ℕ × List ℕ)) (text : List ℕ) (e f : Tree) → Represents pairs text e → Represents pairs text f → e ≡ f
 
 -- a text, wanted as a pattern or not, is reported to be in no spelling of the grammar exactly where it represents no tree
-abbrev pub SyntaxIsTold : Type 0
-SyntaxIsTold =
-    (wanted : Bool) (pairs : List (List ℕ × List ℕ)) (text : List ℕ) → (outcome_in wanted pairs text ≡ Err Syntax) ↔ ((e : Tree) → StandsFor pairs text e → ⊥)
+abbrev pub SyntaxIsReported : Type 0
+SyntaxIsReported =
+    (wanted : Bool) (pairs : List (List ℕ × List ℕ)) (text : List ℕ) → (outcome_in wanted pairs text ≡ Err Syntax) ↔ ((e : Tree) → Represents pairs text e → ⊥)
 
 -- of a text whose tokens spell a tree, the least of the other faults is reported, or else the tree
-abbrev pub OutcomeIsTold : Type 0
-OutcomeIsTold =
+abbrev pub OutcomeIsReported : Type 0
+OutcomeIsReported =
     (wanted : Bool) (pairs : List (List ℕ × List ℕ)) (text : List ℕ) (ps : List Placed) (e : Tree) → Lexes 0 NoOperand text ps
     → SpellsExpr (tokens_in pairs ps) e
-    → (outcome_in wanted pairs text ≡ told wanted pairs ps e)
+    → (outcome_in wanted pairs text ≡ reported wanted pairs ps e)

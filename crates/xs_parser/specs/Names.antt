@@ -1,4 +1,4 @@
--- What the names of tokens stand for in a scope (XPath 1.0, 1 and 2.3).
+-- What the names of tokens represent in a scope (XPath 1.0, 1 and 2.3).
 use Rattle.std.specs.Prelude.{ℕ, List, Result, Ok, Err}
 use Rattle.std.specs.Option.{unwrap_or}
 use Rattle.xs_num.specs.declared.number.Number.{Number as Value}
@@ -20,7 +20,7 @@ number_of (Ok n) = n
 number_of (Err fault) = NaN
 
 -- The token whose names are resolved. A function that is unknown and a number that is none of this profile are faults, and
--- stand for any function and number here.
+-- represent any function and number here.
 abbrev pub token_in : List (List ℕ × List ℕ) → Lexeme → Token
 token_in pairs (Ready token) = token
 token_in pairs (AnyOf prefix) = Test (Uri (uri_of pairs prefix))

@@ -1,4 +1,4 @@
--- What the answers of the parser stand for.
+-- What the answers of the parser represent.
 use Rattle.std.specs.Prelude.{◌≡◌, ℕ, List, Vec, Result, Ok, Err}
 use Rattle.std.specs.declared.alloc.Global.{Global}
 use Rattle.xs_xpath.specs.declared.avt.AvtPart.{AvtPart}
@@ -42,7 +42,7 @@ abbrev pub IsFault : ℕ → ℕ → Result Tree Fault → Type 0
 IsFault number at (Ok e) = ⊥
 IsFault number at (Err fault) = (number ≡ number_of_fault fault) × (at ≡ place_of_fault fault)
 
--- an answer says what the outcome is, but for out of memory
+-- an answer says what the outcome is, except out of memory
 abbrev pub IsParsed : Result Expr ParseFault → Result Tree Fault → Type 0
 IsParsed (Ok e) outcome = outcome ≡ Ok (tree_from e)
 IsParsed (Err (Bad number at)) outcome = IsFault number at outcome

@@ -8,15 +8,15 @@ use Rattle.xs_parser.specs.Templates.{AllStand, Piece, Pieces, cut, parts_in, te
 abbrev pub TemplatesAreCut : Type 0
 TemplatesAreCut = (text : List ℕ) (ps : List Piece) → Pieces 0 text ps ↔ (cut 0 0 text ≡ Some ps)
 
--- a text stands for parts in a scope: it has pieces, and these stand for the parts
-abbrev pub StandsForParts : List (List ℕ × List ℕ) → List ℕ → List Part → Type 0
-StandsForParts pairs text qs = (ps : List Piece) × Pieces 0 text ps × AllStand pairs ps qs
+-- a text represents parts in a scope: it has pieces, and these represent the parts
+abbrev pub RepresentsParts : List (List ℕ × List ℕ) → List ℕ → List Part → Type 0
+RepresentsParts pairs text qs = (ps : List Piece) × Pieces 0 text ps × AllStand pairs ps qs
 
 -- a text is reported to be no value template exactly where it represents no parts
-abbrev pub TemplateSyntaxIsTold : Type 0
-TemplateSyntaxIsTold =
-    (pairs : List (List ℕ × List ℕ)) (text : List ℕ) → (template_in pairs text ≡ Err Syntax) ↔ ((qs : List Part) → StandsForParts pairs text qs → ⊥)
+abbrev pub TemplateSyntaxIsReported : Type 0
+TemplateSyntaxIsReported =
+    (pairs : List (List ℕ × List ℕ)) (text : List ℕ) → (template_in pairs text ≡ Err Syntax) ↔ ((qs : List Part) → RepresentsParts pairs text qs → ⊥)
 
 -- of a text with pieces, the least of their faults is reported, or else their parts
-abbrev pub TemplateIsTold : Type 0
-TemplateIsTold = (pairs : List (List ℕ × List ℕ)) (text : List ℕ) (ps : List Piece) → Pieces 0 text ps → (template_in pairs text ≡ parts_in pairs ps)
+abbrev pub TemplateIsReported : Type 0
+TemplateIsReported = (pairs : List (List ℕ × List ℕ)) (text : List ℕ) (ps : List Piece) → Pieces 0 text ps → (template_in pairs text ≡ parts_in pairs ps)

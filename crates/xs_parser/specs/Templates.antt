@@ -9,7 +9,7 @@ use Rattle.xs_parser.specs.declared.bytes.Class.TheVariants.{Until}
 use Rattle.xs_parser.specs.declared.fault.Fault.{Fault}
 use Rattle.xs_parser.specs.declared.fault.Fault.TheVariants.{Syntax, UnknownFunction, ArgCount, BadLiteral, TooNested, NotPattern, UnboundPrefix}
 use Rattle.xs_parser.specs.Faults.{expr_in}
-use Rattle.xs_parser.specs.Laws.{StandsFor}
+use Rattle.xs_parser.specs.Laws.{Represents}
 use Rattle.xs_parser.specs.Lexing.{is_quote, first, second}
 use Rattle.xs_parser.specs.Outcome.{number_of_fault}
 use Rattle.xs_parser.specs.Spelling.{AllPass, past}
@@ -48,7 +48,7 @@ pub data Inside : List ℕ → Type 0 where
 -- Bytes before a rest are a piece: how it is written, and its text.
 pub data IsPiece : List ℕ → List ℕ → Written → List ℕ → Type 0 where
   fixed_text : (bytes rest : List ℕ) → AllFixed bytes → EndsFixed rest → IsPiece bytes rest Plain bytes
-  -- a bracket that is written twice stands for one
+  -- a bracket that is written twice represents one
   doubled : (b : ℕ) (rest : List ℕ) → is_bracket b ≡ true → IsPiece (b ∷ b ∷ []) rest Plain (b ∷ [])
   expression : (inner rest : List ℕ) → (first inner == 123) ≡ false → Inside inner → IsPiece (123 ∷ (inner ++ 125 ∷ [])) rest Braced inner
 
@@ -59,12 +59,12 @@ pub data Pieces : ℕ → List ℕ → List Piece → Type 0 where
       → Pieces (past (b ∷ bytes) at) rest ps
       → Pieces at ((b ∷ bytes) ++ rest) (piece_of at written inner ∷ ps)
 
--- pieces stand for parts in a scope
+-- pieces represent parts in a scope
 pub data AllStand (pairs : List (List ℕ × List ℕ)) : List Piece → List Part → Type 0 where
   no_pieces : AllStand pairs [] []
   fixed_stands : (at : ℕ) (bytes : List ℕ) (ps : List Piece) (qs : List Part) → AllStand pairs ps qs
       → AllStand pairs (piece_of at Plain bytes ∷ ps) (text bytes ∷ qs)
-  braced_stands : (at : ℕ) (bytes : List ℕ) (e : Tree) (ps : List Piece) (qs : List Part) → StandsFor pairs bytes e → AllStand pairs ps qs
+  braced_stands : (at : ℕ) (bytes : List ℕ) (e : Tree) (ps : List Piece) (qs : List Part) → Represents pairs bytes e → AllStand pairs ps qs
       → AllStand pairs (piece_of at Braced bytes ∷ ps) (computed e ∷ qs)
 
 -- ---- the same as functions
@@ -149,6 +149,6 @@ abbrev pub parts_if : List (List ℕ × List ℕ) → Option (List Piece) → Re
 parts_if pairs None = Err Syntax
 parts_if pairs (Some ps) = parts_in pairs ps
 
--- what a value template stands for in a scope, or the least of its faults
+-- what a value template represents in a scope, or the least of its faults
 unfoldable pub template_in : List (List ℕ × List ℕ) → List ℕ → Result (List Part) Fault
 template_in pairs bytes = parts_if pairs (cut 0 0 bytes)

@@ -15,7 +15,7 @@ ghost use Rattle.xs_parser.specs.Templates.{open_behind, part_by, piece_at, temp
 
 use crate::bytes::{first, is_quote, second, skip_one};
 use crate::fault::{Fault, ParseFault};
-use crate::parse::{number_of_fault, parse, told};
+use crate::parse::{number_of_fault, parse, reported};
 use std::alloc::{AllocError, Global};
 use xs_text::TextBuf;
 use xs_xpath::avt::AvtPart;
@@ -281,7 +281,7 @@ impl SoFar {
     }
 }
 
-/// What a value template stands for, or the least of its faults.
+/// What a value template represents, or the least of its faults.
 fn template(
     alloc: Global,
     text: &str,
@@ -311,7 +311,7 @@ fn template(
     Ok(so_far.outcome())
 }
 
-/// The parts that a value template stands for in a scope, or the least of its faults at its first
+/// The parts that a value template represents in a scope, or the least of its faults at its first
 /// byte. The fault is 20 exactly where the text is no value template.
 pub fn parse_avt(alloc: Global, text: &str, scope: &Scope) -> Result<Vec<AvtPart>, ParseFault>
     requires short { length text.now < 2 ^ 32 }
@@ -320,6 +320,6 @@ pub fn parse_avt(alloc: Global, text: &str, scope: &Scope) -> Result<Vec<AvtPart
     match template(alloc, text, scope) {
         Err(_) => Err(ParseFault::NoMemory),
         Ok(Ok(parts)) => Ok(parts),
-        Ok(Err(fault)) => Err(told(fault)),
+        Ok(Err(fault)) => Err(reported(fault)),
     }
 }

@@ -25,7 +25,7 @@ pub(crate) fn step(axis: Axis, test: NodeTest, predicates: Vec<Expr>) -> Expr
     Expr::Step(axis, test, predicates)
 }
 
-/// The step that `//` stands for.
+/// The step that `//` represents.
 pub(crate) fn descend() -> Expr
     ensures tree { tree_from result ≡ descend }
 {

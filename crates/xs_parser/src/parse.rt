@@ -119,7 +119,7 @@ fn verdict(
     }
 }
 
-/// What a text stands for, as an expression or as a pattern, or the least of its faults.
+/// What a text represents, as an expression or as a pattern, or the least of its faults.
 #[tactic(auto, unfolding(crate::specs::Faults::outcome_in))]
 pub(crate) fn parse(
     alloc: Global,
@@ -168,7 +168,7 @@ fn place_of_fault(fault: Fault) -> u32
 }
 
 /// A fault as it is answered.
-pub(crate) fn told(fault: Fault) -> ParseFault
+pub(crate) fn reported(fault: Fault) -> ParseFault
     ensures fault { result ≡ Bad (number_of_fault fault) (place_of_fault fault) }
 {
     ParseFault::Bad {
@@ -177,7 +177,7 @@ pub(crate) fn told(fault: Fault) -> ParseFault
     }
 }
 
-/// The expression that a text stands for in a scope, or the least of its faults at its first byte.
+/// The expression that a text represents in a scope, or the least of its faults at its first byte.
 pub fn parse_expr(alloc: Global, text: &str, scope: &Scope) -> Result<Expr, ParseFault>
     requires short { length text.now < 2 ^ 32 }
     ensures parsed { IsParsed result (expr_in scope.now.pairs.items text.now) }
@@ -185,11 +185,11 @@ pub fn parse_expr(alloc: Global, text: &str, scope: &Scope) -> Result<Expr, Pars
     match parse(alloc, false, text, scope) {
         Err(_) => Err(ParseFault::NoMemory),
         Ok(Ok(e)) => Ok(e),
-        Ok(Err(fault)) => Err(told(fault)),
+        Ok(Err(fault)) => Err(reported(fault)),
     }
 }
 
-/// The pattern that a text stands for in a scope, or the least of its faults at its first byte.
+/// The pattern that a text represents in a scope, or the least of its faults at its first byte.
 pub fn parse_pattern(alloc: Global, text: &str, scope: &Scope) -> Result<Pattern, ParseFault>
     requires short { length text.now < 2 ^ 32 }
     ensures parsed { IsPatternParsed result (pattern_in scope.now.pairs.items text.now) }
@@ -200,6 +200,6 @@ pub fn parse_pattern(alloc: Global, text: &str, scope: &Scope) -> Result<Pattern
             Err(_) => Err(ParseFault::NoMemory),
             Ok(pattern) => Ok(pattern),
         },
-        Ok(Err(fault)) => Err(told(fault)),
+        Ok(Err(fault)) => Err(reported(fault)),
     }
 }

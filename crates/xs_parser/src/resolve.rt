@@ -1,4 +1,4 @@
-//! What the names of tokens stand for.
+//! What the names of tokens represent.
 ghost use Rattle.std.specs.Prelude.{◌≡◌, IfOk};
 ghost use Rattle.std.specs.Option.{unwrap_or};
 ghost use Rattle.xs_num.specs.Text.{number_in};

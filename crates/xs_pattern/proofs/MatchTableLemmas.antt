@@ -57,7 +57,7 @@ joined-match keys rs scope es e i found joined within here before whole n lt =
     ∙ ap (λ b. b || matches_path keys (pattern_context rs scope n) e) (before n lt)
     ∙ more-match keys rs scope (take i es) e n ∙ ap (λ l. matches keys rs scope l n) (sym one)
 
--- the alternatives of a pattern are what their expressions stand for
+-- the alternatives of a pattern are what their expressions represent
 pub joined-match-at : (keys : List Table) (rs : List Record) (scope other : List (List ℕ × List ℕ)) (trees : List Tree) (es : List Expr) (e : Expr) (i : ℕ)
     (found joined : List Bool) → trees_from es ≡ trees → other ≡ scope → i < length es → get_or es i e ≡ e
     → ((n : ℕ) → n < length rs → get_or found n false ≡ matches keys rs scope (take i trees) n)

@@ -30,7 +30,7 @@ steps_of-path start steps =
     ap steps_of (ap tree_from (sym (expr.rolls-Path start steps)) ∙ fold-roll-Expr Tree tree_step (layer.Path start steps))
     ∙ listed-trees (trees_from steps.items)
 
--- what a step and `//` stand for
+-- what a step and `//` represent
 pub step-tree : (axis : Axis) (which : NodeTest) (predicates : Vec Expr Global)
     → tree_from (expr.Step axis which predicates) ≡ step axis which (trees (trees_from predicates.items))
 step-tree axis which predicates =

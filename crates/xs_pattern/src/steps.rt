@@ -20,7 +20,7 @@ use xs_value::keys::KeyFinder;
 use xs_xpath::expr::Expr;
 use xs_xpath::name::NodeTest;
 
-/// Whether a step is the one that `//` stands for.
+/// Whether a step is the one that `//` represents.
 pub(crate) fn is_descend(step: &Expr) -> bool
     ensures { result ≡ is_descend (tree_from step.now) }
 {

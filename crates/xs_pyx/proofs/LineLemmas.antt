@@ -6,8 +6,8 @@ use Rattle.std.proofs.lemmas.Bool.{cases_Bool}
 use Rattle.std.proofs.lemmas.Bool.Decides.{nat_tests, eqb_tells}
 use Rattle.std.proofs.lemmas.List.{length-append, length-drop}
 use Rattle.std.proofs.lemmas.Str.{IsUtf8-nil, is_utf8-from_IsUtf8, IsUtf8-from_is_utf8}
-use Rattle.xs_text.specs.Escapes.{unescaped, StandsFor, itself}
-use Rattle.xs_text.proofs.UnescapeLemmas.{unescaped-nil, unescaped-StandsFor, StandsFor-unescaped}
+use Rattle.xs_text.specs.Escapes.{unescaped, Represents, itself}
+use Rattle.xs_text.proofs.UnescapeLemmas.{unescaped-nil, unescaped-Represents, Represents-unescaped}
 use Rattle.xs_pyx.specs.declared.line.Line.{Line}
 use Rattle.xs_pyx.specs.declared.line.Line.TheVariants.{Attr, Chars, Pi, Comment}
 use Rattle.xs_pyx.specs.Row.{Row, rows_behind, rows_of, first_row, behind_row, is_line_feed}
@@ -18,7 +18,7 @@ use Rattle.xs_pyx.specs.declared.line.LineFault.TheVariants.{Bad, NoMemory}
 use Rattle.xs_pyx.specs.Writing.{written, IsReadBack, IsLineBefore}
 use Rattle.xs_pyx.specs.Results.{TakesLine, IsFaulty, Reads, FindsLine, FindsFault, Finds, SaysLine}
 use Rattle.xs_text.proofs.FirstByteLemmas.{before-none, after-none, before-at, after-at, first_of_any, is_the}
-use Rattle.xs_pyx.proofs.EscapeLemmas.{StandsFor-append, StandsFor-cut}
+use Rattle.xs_pyx.proofs.EscapeLemmas.{Represents-append, Represents-cut}
 use Rattle.xs_pyx.proofs.ReadLemmas.{reading_text, row_of_no_text}
 use Rattle.xs_pyx.proofs.RowLemmas.{rows_first}
 use Rattle.xs_pyx.proofs.WriteLemmas.{row-ended, row-unended}
@@ -33,32 +33,32 @@ record PairRead (name written value : List ℕ) : Type 0 where
   value_read : value_in (name ++ 32 ∷ written) ≡ written
   meant : unescaped written ≡ Some value
 
-pair-read : (name written value : List ℕ) → HasNo 32 name → IsWellEscaped name → StandsFor written value → PairRead name written value
+pair-read : (name written value : List ℕ) → HasNo 32 name → IsWellEscaped name → Represents written value → PairRead name written value
 pair-read name written value none escaped stands =
     record {
       whole = (
         escaped.0 ++ 32 ∷ value,
-        unescaped-StandsFor (name ++ 32 ∷ written) (escaped.0 ++ 32 ∷ value)
-            (StandsFor-append name (32 ∷ written) escaped.0 (32 ∷ value) escaped.1 (itself 32 written value (no_escape 32 refl) stands)),
+        unescaped-Represents (name ++ 32 ∷ written) (escaped.0 ++ 32 ∷ value)
+            (Represents-append name (32 ∷ written) escaped.0 (32 ∷ value) escaped.1 (itself 32 written value (no_escape 32 refl) stands)),
       );
       name_read = before-at ends_name name 32 written none refl;
       value_read = after-at ends_name name 32 written none refl;
-      meant = unescaped-StandsFor written value stands;
+      meant = unescaped-Represents written value stands;
     }
 
 pub kind_reading-IsLine : (bytes : List ℕ) (line : Line) (ended : Bool) → IsLine bytes line → kind_reading bytes ended ≡ ended_reading line ended
-kind_reading-IsLine _ _ ended (start name escaped) = rw (unescaped-StandsFor name escaped.0 escaped.1) refl
+kind_reading-IsLine _ _ ended (start name escaped) = rw (unescaped-Represents name escaped.0 escaped.1) refl
 kind_reading-IsLine _ _ ended (attribute name written value none escaped stands) =
     let pair = pair-read name written value none escaped stands in rw (pair.whole.1, pair.name_read, pair.value_read, pair.meant) refl
 kind_reading-IsLine _ _ ended (attribute_alone name none escaped) =
-    rw (unescaped-StandsFor name escaped.0 escaped.1, before-none ends_name name none, after-none ends_name name none, unescaped-nil) refl
-kind_reading-IsLine _ _ ended (chars written text stands) = rw (unescaped-StandsFor written text stands) refl
-kind_reading-IsLine _ _ ended (end name escaped) = rw (unescaped-StandsFor name escaped.0 escaped.1) refl
+    rw (unescaped-Represents name escaped.0 escaped.1, before-none ends_name name none, after-none ends_name name none, unescaped-nil) refl
+kind_reading-IsLine _ _ ended (chars written text stands) = rw (unescaped-Represents written text stands) refl
+kind_reading-IsLine _ _ ended (end name escaped) = rw (unescaped-Represents name escaped.0 escaped.1) refl
 kind_reading-IsLine _ _ ended (instruction target written value none escaped stands) =
     let pair = pair-read target written value none escaped stands in rw (pair.whole.1, pair.name_read, pair.value_read, pair.meant) refl
 kind_reading-IsLine _ _ ended (instruction_alone target none escaped) =
-    rw (unescaped-StandsFor target escaped.0 escaped.1, before-none ends_name target none, after-none ends_name target none, unescaped-nil) refl
-kind_reading-IsLine _ _ ended (comment written text stands) = rw (unescaped-StandsFor written text stands) refl
+    rw (unescaped-Represents target escaped.0 escaped.1, before-none ends_name target none, after-none ends_name target none, unescaped-nil) refl
+kind_reading-IsLine _ _ ended (comment written text stands) = rw (unescaped-Represents written text stands) refl
 
 true_is_not_false : (b : Bool) → b ≡ true → b ≡ false → ⊥
 true_is_not_false b t f = absurd (cc)
@@ -73,7 +73,7 @@ kind-begins kind false h = grind (arith, nat_tests)
 
 not_escaped : (o : Option (List ℕ)) (written : List ℕ) → unescaped written ≡ o → ¬ IsWellEscaped written → is_some o ≡ false
 not_escaped None written e none = refl
-not_escaped (Some text) written e none = absurd (none (text, StandsFor-unescaped written text e))
+not_escaped (Some text) written e none = absurd (none (text, Represents-unescaped written text e))
 
 fault-read : (bytes : List ℕ) (ended : Bool) (number : ℕ) → HasFault (record { bytes = bytes; ended = ended }) number
     → reading (record { bytes = bytes; ended = ended }) ≡ faulty number
@@ -98,37 +98,37 @@ reading-Says row (faulty number) h = fault-read row.bytes row.ended number h
 -- ---- what is read the relation says
 -- a name, and perhaps a space and a value
 data IsPair : List ℕ → Type 0 where
-  both : (name written value : List ℕ) → HasNo 32 name → IsWellEscaped name → StandsFor written value → IsPair (name ++ 32 ∷ written)
+  both : (name written value : List ℕ) → HasNo 32 name → IsWellEscaped name → Represents written value → IsPair (name ++ 32 ∷ written)
   alone : (name : List ℕ) → HasNo 32 name → IsWellEscaped name → IsPair name
 
-pair_of : (rest text : List ℕ) → StandsFor rest text → IsPair rest
+pair_of : (rest text : List ℕ) → Represents rest text → IsPair rest
 pair_of rest text h =
     elim (cases_Bool (list_any ends_name rest)) [
       | inl t ↦
           let q = first_of_any ends_name rest t in
           let space : q.at ≡ 32 = is_the q.at 32 q.passes in
           let whole : rest ≡ q.front ++ 32 ∷ q.back = q.whole ∙ ap (λ b. q.front ++ b ∷ q.back) space in
-          let c = StandsFor-cut q.front 32 q.back text (no_escape 32 refl) refl (subst (λ (r : List ℕ). StandsFor r text) whole h) in
+          let c = Represents-cut q.front 32 q.back text (no_escape 32 refl) refl (subst (λ (r : List ℕ). Represents r text) whole h) in
           subst IsPair (sym whole) (both q.front q.back c.1 q.none (c.0, c.2) c.3)
       | inr f ↦ alone rest f (text, h)
     ]
 
 attribute_of : (rest : List ℕ) → IsPair rest → IsLine (65 ∷ rest) (Attr (name_in rest) (data_of (value_in rest)))
 attribute_of _ (both name written value none escaped stands) =
-    rw (before-at ends_name name 32 written none refl, after-at ends_name name 32 written none refl, unescaped-StandsFor written value stands)
+    rw (before-at ends_name name 32 written none refl, after-at ends_name name 32 written none refl, unescaped-Represents written value stands)
     (attribute name written value none escaped stands)
 attribute_of _ (alone name none escaped) =
     rw (before-none ends_name name none, after-none ends_name name none, unescaped-nil) (attribute_alone name none escaped)
 
 instruction_of : (rest : List ℕ) → IsPair rest → IsLine (63 ∷ rest) (Pi (name_in rest) (data_of (value_in rest)))
 instruction_of _ (both name written value none escaped stands) =
-    rw (before-at ends_name name 32 written none refl, after-at ends_name name 32 written none refl, unescaped-StandsFor written value stands)
+    rw (before-at ends_name name 32 written none refl, after-at ends_name name 32 written none refl, unescaped-Represents written value stands)
     (instruction name written value none escaped stands)
 instruction_of _ (alone name none escaped) =
     rw (before-none ends_name name none, after-none ends_name name none, unescaped-nil) (instruction_alone name none escaped)
 
-data_is : (rest text : List ℕ) → StandsFor rest text → text ≡ data_of rest
-data_is rest text h = rw (unescaped-StandsFor rest text h) refl
+data_is : (rest text : List ℕ) → Represents rest text → text ≡ data_of rest
+data_is rest text h = rw (unescaped-Represents rest text h) refl
 
 by : (b n : ℕ) → (b ≡ n) ⊎ (b ≢ n)
 by b n = elim (eqb_tells b n) [ inl h ↦ inl h.1 | inr h ↦ inr h.1 ]
@@ -139,7 +139,7 @@ no_kind kind a b c d e f h = grind (arith, nat_tests)
 abbrev IsLineOf : List ℕ → ℕ → Type 0
 IsLineOf rest kind = IsLine (kind ∷ rest) (line_of kind rest)
 
-line_found : (kind : ℕ) (rest text : List ℕ) → begins_line kind ≡ true → StandsFor rest text → IsLine (kind ∷ rest) (line_of kind rest)
+line_found : (kind : ℕ) (rest text : List ℕ) → begins_line kind ≡ true → Represents rest text → IsLine (kind ∷ rest) (line_of kind rest)
 line_found kind rest text begins h =
     elim (by kind 40) [
       | inl is ↦ subst (IsLineOf rest) (sym is) (start rest (text, h))
@@ -173,10 +173,10 @@ module _ (bytes : List ℕ) (ended : Bool) where
       → IsSaid (cond (is_some o) (ended_reading (line_of kind rest) ended) (faulty 2))
   rest-says None kind rest e is utf8 begins =
       bad_escape kind rest is utf8 (kind-begins kind true begins) (λ escaped. let no : None ≡ Some escaped.0 = sym e
-      ∙ unescaped-StandsFor rest escaped.0 escaped.1 in absurd (cc))
+      ∙ unescaped-Represents rest escaped.0 escaped.1 in absurd (cc))
   rest-says (Some text) kind rest e is utf8 begins =
       ended-says ended (line_of kind rest) refl utf8
-      (subst (λ (bs : List ℕ). IsLine bs (line_of kind rest)) (sym is) (line_found kind rest text begins (StandsFor-unescaped rest text e)))
+      (subst (λ (bs : List ℕ). IsLine bs (line_of kind rest)) (sym is) (line_found kind rest text begins (Represents-unescaped rest text e)))
 
   kind-says : (b : Bool) (kind : ℕ) (rest : List ℕ) → begins_line kind ≡ b → bytes ≡ kind ∷ rest → IsUtf8 bytes
       → IsSaid (cond b (rest_reading kind rest ended) (faulty 1))
@@ -368,20 +368,20 @@ read-AreLines (line ∷ lines) (b ∷ bytes) e =
 pub documents_are_read : (bytes : List ℕ) (lines : List Line) → AreLines bytes lines ↔ (readings bytes ≡ sayings lines)
 documents_are_read bytes lines = (AreLines-read bytes lines, read-AreLines lines bytes)
 
--- ---- what stands behind the first space of a text that stands for data
+-- ---- what stands behind the first space of a text that represents data
 some_of : (o : Option (List ℕ)) → IsSome o → (text : List ℕ) × (o ≡ Some text)
 some_of None h = absurd (cc)
 some_of (Some text) h = (text, refl)
 
 value_of_pair : (rest : List ℕ) → IsPair rest → IsSome (unescaped (value_in rest))
 value_of_pair _ (both name written value none escaped stands) =
-    rw (after-at ends_name name 32 written none refl, unescaped-StandsFor written value stands) refl
+    rw (after-at ends_name name 32 written none refl, unescaped-Represents written value stands) refl
 value_of_pair _ (alone name none escaped) = rw (after-none ends_name name none, unescaped-nil) refl
 
 pub value_escaped : (rest : List ℕ) → IsSome (unescaped rest) → IsSome (unescaped (value_in rest))
 value_escaped rest h =
     let some = some_of (unescaped rest) h in
-    value_of_pair rest (pair_of rest some.0 (StandsFor-unescaped rest some.0 some.1))
+    value_of_pair rest (pair_of rest some.0 (Represents-unescaped rest some.0 some.1))
 
 -- ---- single rows
 pub line_by_reading : (bytes : List ℕ) (line : Line) → reading (record { bytes = bytes; ended = true }) ≡ says line → (true ≡ true) × IsUtf8 bytes

@@ -24,7 +24,7 @@ is_backslash b = b == 92
 other : (b : ℕ) → is_backslash b ≡ false → b ≢ 92
 other b h = grind (arith, nat_tests)
 
--- a front without a backslash stands for itself
+-- a front without a backslash represents itself
 pub unescaped-front : (xs ys read : List ℕ) → list_any is_backslash xs ≡ false → unescaped ys ≡ Some read → unescaped (xs ++ ys) ≡ Some (xs ++ read)
 unescaped-front [] ys read none is = is
 unescaped-front (x ∷ xs) ys read none is =

@@ -43,7 +43,7 @@ rows_ended (b ∷ bytes) false is some =
 pub rows_first : (bytes : List ℕ) → 0 < length bytes → rows_of bytes ≡ first_row bytes ∷ rows_of (behind_row bytes)
 rows_first bytes some = rows_cut [] bytes ∙ rows_ended bytes (list_any is_line_feed bytes) refl some
 
--- what is left of the bytes tells how many were taken
+-- what is left of the bytes reports how many were taken
 behind-taken : (k : ℕ) (bytes : List ℕ) → drop (length bytes - length (drop k bytes)) bytes ≡ drop k bytes
 behind-taken k bytes =
     let taken : length bytes - length (drop k bytes) ≡ min k (length bytes) = omega (arith, length-drop k bytes) in

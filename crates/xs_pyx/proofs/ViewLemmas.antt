@@ -4,14 +4,14 @@ use Rattle.xs_pyx.specs.declared.fault.Fault.{Fault}
 use Rattle.xs_pyx.specs.declared.line.LineFault.TheVariants.{NoMemory}
 use Rattle.xs_pyx.specs.declared.view.LineView.{LineView}
 use Rattle.xs_pyx.specs.Results.{Reads, Finds}
-use Rattle.xs_pyx.specs.Views.{told}
+use Rattle.xs_pyx.specs.Views.{reported}
 use Rattle.xs_pyx.proofs.LineLemmas.{finds-reads}
 
 -- an answer that borrows never runs out of memory
-told_memory : (r : Result (Option (LineView × ℕ)) Fault) → IsErrOf (told r) NoMemory → ⊥
-told_memory (Ok None) h = absurd (cc)
-told_memory (Ok (Some found)) h = absurd (cc)
-told_memory (Err fault) h = absurd (cc)
+reported_memory : (r : Result (Option (LineView × ℕ)) Fault) → IsErrOf (reported r) NoMemory → ⊥
+reported_memory (Ok None) h = absurd (cc)
+reported_memory (Ok (Some found)) h = absurd (cc)
+reported_memory (Err fault) h = absurd (cc)
 
-pub view_finds : (r : Result (Option (LineView × ℕ)) Fault) (bytes : List ℕ) → Reads (told r) bytes → Finds (told r) bytes
-view_finds r bytes h = finds-reads (told r) bytes h (λ memory. absurd (told_memory r memory))
+pub view_finds : (r : Result (Option (LineView × ℕ)) Fault) (bytes : List ℕ) → Reads (reported r) bytes → Finds (reported r) bytes
+view_finds r bytes h = finds-reads (reported r) bytes h (λ memory. absurd (reported_memory r memory))

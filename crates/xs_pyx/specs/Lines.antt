@@ -5,7 +5,7 @@
 use Rattle.std.specs.Prelude.{◌≡◌, ℕ, ◌==◌, Bool, true, false, List, [], ◌∷◌, ◌++◌, codes}
 use Rattle.std.specs.List.{list_any}
 use Rattle.std.specs.Str.{IsUtf8}
-use Rattle.xs_text.specs.Escapes.{StandsFor}
+use Rattle.xs_text.specs.Escapes.{Represents}
 use Rattle.xs_pyx.specs.declared.line.Line.{Line}
 use Rattle.xs_pyx.specs.declared.line.Line.TheVariants.{Start, Attr, Chars, End, Pi, Comment}
 use Rattle.xs_pyx.specs.declared.fault.Fault.TheVariants.{BadLine, BadEscape, BadUtf8, NoFinalLineFeed}
@@ -18,24 +18,24 @@ use Rattle.xs_pyx.specs.Reading.{Reading, says, faulty}
 abbrev pub HasNo : ℕ → List ℕ → Type 0
 HasNo byte bytes = list_any (λ b. b == byte) bytes ≡ false
 
--- each backslash of a written text begins one of the four pairs, so that the text stands for data
+-- each backslash of a written text begins one of the four pairs, so that the text represents data
 abbrev pub IsWellEscaped : List ℕ → Type 0
-IsWellEscaped written = (text : List ℕ) × StandsFor written text
+IsWellEscaped written = (text : List ℕ) × Represents written text
 
--- Bytes without their line feed are a line. A value and a text are the data that the bytes stand for. A name is as it is written,
+-- Bytes without their line feed are a line. A value and a text are the data that the bytes represent. A name is as it is written,
 -- though its backslashes have to begin pairs too. The first space ends the name of an attribute and a target, and without a
 -- space the value is empty.
 pub data IsLine : List ℕ → Line → Type 0 where
   start : (name : List ℕ) → IsWellEscaped name → IsLine (start_byte ∷ name) (Start name)
-  attribute : (name written value : List ℕ) → HasNo space name → IsWellEscaped name → StandsFor written value
+  attribute : (name written value : List ℕ) → HasNo space name → IsWellEscaped name → Represents written value
       → IsLine (attribute_byte ∷ name ++ space ∷ written) (Attr name value)
   attribute_alone : (name : List ℕ) → HasNo space name → IsWellEscaped name → IsLine (attribute_byte ∷ name) (Attr name [])
-  chars : (written text : List ℕ) → StandsFor written text → IsLine (text_byte ∷ written) (Chars text)
+  chars : (written text : List ℕ) → Represents written text → IsLine (text_byte ∷ written) (Chars text)
   end : (name : List ℕ) → IsWellEscaped name → IsLine (end_byte ∷ name) (End name)
-  instruction : (target written value : List ℕ) → HasNo space target → IsWellEscaped target → StandsFor written value
+  instruction : (target written value : List ℕ) → HasNo space target → IsWellEscaped target → Represents written value
       → IsLine (instruction_byte ∷ target ++ space ∷ written) (Pi target value)
   instruction_alone : (target : List ℕ) → HasNo space target → IsWellEscaped target → IsLine (instruction_byte ∷ target) (Pi target [])
-  comment : (written text : List ℕ) → StandsFor written text → IsLine (comment_byte ∷ written) (Comment text)
+  comment : (written text : List ℕ) → Represents written text → IsLine (comment_byte ∷ written) (Comment text)
 
 -- bytes that are lines to their end
 pub data AreLines : List ℕ → List Line → Type 0 where

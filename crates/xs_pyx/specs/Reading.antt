@@ -27,7 +27,7 @@ name_in rest = before_first ends_name rest
 abbrev pub value_in : List ℕ → List ℕ
 value_in rest = after_first ends_name rest
 
--- the data that a written text stands for, where each backslash of it begins a pair
+-- the data that a written text represents, where each backslash of it begins a pair
 abbrev pub data_of : List ℕ → List ℕ
 data_of written = unwrap_or (unescaped written) []
 

@@ -50,10 +50,10 @@ IsReadable (Pi target value) = IsReadableData value
 IsReadable (Comment text) = IsReadableData text
 
 -- an answer that borrows as the answer that it is
-abbrev pub told : Result (Option (LineView × ℕ)) Fault → Result (Option (Line × ℕ)) LineFault
-told (Ok None) = Ok None
-told (Ok (Some found)) = Ok (Some (line_shown found.0, found.1))
-told (Err fault) = Err (Bad (number_of fault))
+abbrev pub reported : Result (Option (LineView × ℕ)) Fault → Result (Option (Line × ℕ)) LineFault
+reported (Ok None) = Ok None
+reported (Ok (Some found)) = Ok (Some (line_shown found.0, found.1))
+reported (Err fault) = Err (Bad (number_of fault))
 
 -- the line, if there is one, can be read in full
 abbrev pub HasReadable : Result (Option (LineView × ℕ)) Fault → Type 0

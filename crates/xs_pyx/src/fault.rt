@@ -20,7 +20,7 @@ pub enum Fault {
 }
 
 impl Fault {
-    /// The number that the fault is told by.
+    /// The number that the fault is reported by.
     pub fn number(self) -> u8
         ensures { result ≡ number_of self }
     {

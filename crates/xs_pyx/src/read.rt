@@ -9,7 +9,7 @@ ghost use Rattle.xs_pyx.specs.Row.{first_row, behind_row, rows_of, is_line_feed}
 ghost use Rattle.xs_pyx.specs.Reading.{reading, kind_reading, rest_reading, begins_line, line_of};
 ghost use Rattle.xs_pyx.specs.Reading.{ends_name, name_in, says, value_in, data_of};
 ghost use Rattle.xs_pyx.specs.Results.{Reads, Finds, SaysLine};
-ghost use Rattle.xs_pyx.specs.Views.{data_shown, line_shown, told, HasReadable, IsReadable};
+ghost use Rattle.xs_pyx.specs.Views.{data_shown, line_shown, reported, HasReadable, IsReadable};
 ghost use Rattle.xs_pyx.specs.Views.{IsReadableData, IsViewing, has_backslash};
 
 use crate::fault::Fault;
@@ -268,8 +268,8 @@ fn view_row(bytes: &[u8], ended: bool) -> Result<LineView<'_>, Fault>
 /// There is no line exactly where `bytes` is empty, and an error is the fault of the first line by
 /// itself: the answer is that of `next_line`, which never runs out of memory here.
 pub fn view_line(bytes: &[u8]) -> Result<Option<(LineView<'_>, usize)>, Fault>
-    ensures first { Reads (told result) bytes.now }
-    ensures lines { Finds (told result) bytes.now }
+    ensures first { Reads (reported result) bytes.now }
+    ensures lines { Finds (reported result) bytes.now }
     ensures readable { HasReadable result }
     ensures rows { 0 < length bytes.now
         → rows_of bytes.now ≡ first_row bytes.now ∷ rows_of (behind_row bytes.now) }
@@ -293,8 +293,8 @@ fn view_text_row(text: &str, ended: bool, is_plain: bool) -> Result<LineView<'_>
 
 /// `view_line` for a text, which is not tried for UTF-8 again.
 pub(crate) fn view_text_line(text: &str) -> Result<Option<(LineView<'_>, usize)>, Fault>
-    ensures first { Reads (told result) text.now }
-    ensures lines { Finds (told result) text.now }
+    ensures first { Reads (reported result) text.now }
+    ensures lines { Finds (reported result) text.now }
     ensures readable { HasReadable result }
     ensures rows { 0 < length text.now
         → rows_of text.now ≡ first_row text.now ∷ rows_of (behind_row text.now) }
@@ -319,7 +319,7 @@ pub fn next_line(alloc: Global, bytes: &[u8]) -> Result<Option<(Line, usize)>, L
     ensures rows { 0 < length bytes.now
         → rows_of bytes.now ≡ first_row bytes.now ∷ rows_of (behind_row bytes.now) }
 
-    // A fault is told even where there is no memory.
+    // A fault is reported even where there is no memory.
     ensures memory { IsErrOf result LineFault.NoMemory → SaysLine (reading (first_row bytes.now)) }
 {
     match view_line(bytes)? {

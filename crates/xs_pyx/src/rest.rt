@@ -3,14 +3,14 @@
 ghost use Rattle.std.specs.Prelude.{◌≡◌, ◌<◌, ◌∷◌, IfOk, IfSome, drop, length};
 ghost use Rattle.xs_pyx.specs.Row.{behind_row, first_row, rows_of};
 ghost use Rattle.xs_pyx.specs.Results.{Finds, Reads};
-ghost use Rattle.xs_pyx.specs.Views.{CanCut, HasReadable, bytes_left, told};
+ghost use Rattle.xs_pyx.specs.Views.{CanCut, HasReadable, bytes_left, reported};
 
 use crate::fault::Fault;
 use crate::read::{view_line, view_text_line};
 use crate::view::LineView;
 use std::str::from_utf8;
 
-/// What is left of a document. Bytes that are UTF-8 as a whole are told to be so once, and not line
+/// What is left of a document. Bytes that are UTF-8 as a whole are reported to be so once, and not line
 /// by line.
 #[derive(Clone, Copy, Debug)]
 pub enum Rest<'a> {
@@ -44,8 +44,8 @@ impl<'a> Rest<'a> {
     /// The first line as it stands in the bytes, and how many of them it takes, as `view_line`
     /// answers it for these. No memory.
     pub fn view_line(self) -> Result<Option<(LineView<'a>, usize)>, Fault>
-        ensures first { Reads (told result) (bytes_left self.entry) }
-        ensures lines { Finds (told result) (bytes_left self.entry) }
+        ensures first { Reads (reported result) (bytes_left self.entry) }
+        ensures lines { Finds (reported result) (bytes_left self.entry) }
         ensures readable { HasReadable result }
         ensures rows { 0 < length (bytes_left self.entry) → rows_of (bytes_left self.entry)
             ≡ first_row (bytes_left self.entry) ∷ rows_of (behind_row (bytes_left self.entry)) }

@@ -62,7 +62,7 @@ impl<'a> Data<'a> {
     }
 }
 
-/// Appends the data that a well escaped text stands for. After a refusal `out` is as it was.
+/// Appends the data that a well escaped text represents. After a refusal `out` is as it was.
 fn append_escaped(out: &mut Vec<u8>, written: &str) -> Result<(), AllocError>
     requires { IsSome (unescaped written.now) }
     ensures ok { OnOk result (out.new.items ≡ out.old.items ++ data_of written.now) }
@@ -76,7 +76,7 @@ fn append_escaped(out: &mut Vec<u8>, written: &str) -> Result<(), AllocError>
     }
 }
 
-/// The data that a well escaped text stands for.
+/// The data that a well escaped text represents.
 fn escaped_text(alloc: Global, written: &str) -> Result<TextBuf, AllocError>
     requires { IsSome (unescaped written.now) }
     ensures { IfOk result (λ text. text ≡ data_of written.now) }

@@ -13,15 +13,15 @@ abbrev pub Gives : ℕ → ℕ → Type 0
 Gives held back = (n : ℕ) → n ≤ most_blocks → n ≤ held → n ≤ back
 
 -- a part more, whose items were taken out of the marks
-pub taken-back : (before marks new taken row pool : ℕ) → marks ≤ new + taken → row ≡ new → Gives row pool →
+pub taken-back : (before marks new taken log pool : ℕ) → marks ≤ new + taken → log ≡ new → Gives log pool →
     Gives (before + marks) ((before + taken) + pool)
-taken-back before marks new taken row pool h e f n le k =
+taken-back before marks new taken log pool h e f n le k =
     let a : n - (before + taken) ≤ pool = f (n - (before + taken)) (omega (arith, le)) (omega (arith, k, h, e)) in
     omega (arith, a)
 
 -- all parts come back
-pub all-back : (before marks new row pool back : ℕ) → marks ≤ new → row ≡ new → Gives row pool → Gives (before + pool) back → Gives (before + marks) back
-all-back before marks new row pool back h e f g n le k =
+pub all-back : (before marks new log pool back : ℕ) → marks ≤ new → log ≡ new → Gives log pool → Gives (before + pool) back → Gives (before + marks) back
+all-back before marks new log pool back h e f g n le k =
     let a : n - before ≤ pool = f (n - before) (omega (arith, le)) (omega (arith, k, h, e)) in
     g n le (omega (arith, a))
 
@@ -56,16 +56,16 @@ end-back held (p ∷ ps) pool e f n le k = absurd (omega (arith, e))
 
 -- ---- the end of a store
 
-pub finish-blocks : (ps rs qs : List Part) (p : Part) (marks new row pool now : ℕ) → rs ≡ ps → qs ≡ rs ++ p ∷ [] → part_blocks ps + marks ≡ now →
-    marks ≤ new + blocks_of p.items → row ≡ new → Gives row pool → Gives now (part_blocks qs + pool)
-finish-blocks ps rs qs p marks new row pool now a b v h e f n le k =
+pub finish-blocks : (ps rs qs : List Part) (p : Part) (marks new log pool now : ℕ) → rs ≡ ps → qs ≡ rs ++ p ∷ [] → part_blocks ps + marks ≡ now →
+    marks ≤ new + blocks_of p.items → log ≡ new → Gives log pool → Gives now (part_blocks qs + pool)
+finish-blocks ps rs qs p marks new log pool now a b v h e f n le k =
     let q : part_blocks qs ≡ part_blocks ps + blocks_of p.items = ap part_blocks b ∙ blocks-pushed rs p ∙ ap (λ xs. part_blocks xs + blocks_of p.items) a in
     let g : n ≤ (part_blocks ps + blocks_of p.items) + pool =
-    taken-back (part_blocks ps) marks new (blocks_of p.items) row pool h e f n le (omega (arith, k, v)) in
+    taken-back (part_blocks ps) marks new (blocks_of p.items) log pool h e f n le (omega (arith, k, v)) in
     omega (arith, g, q)
 
-pub refused-back : (ps rs : List Part) (marks new row pool now back : ℕ) → rs ≡ ps → part_blocks ps + marks ≡ now → marks ≤ new → row ≡ new →
-    Gives row pool → Gives (part_blocks rs + pool) back → Gives now back
-refused-back ps rs marks new row pool now back a v h e f g n le k =
+pub refused-back : (ps rs : List Part) (marks new log pool now back : ℕ) → rs ≡ ps → part_blocks ps + marks ≡ now → marks ≤ new → log ≡ new →
+    Gives log pool → Gives (part_blocks rs + pool) back → Gives now back
+refused-back ps rs marks new log pool now back a v h e f g n le k =
     let q : part_blocks rs ≡ part_blocks ps = ap part_blocks a in
-    all-back (part_blocks rs) marks new row pool back h e f g n le (omega (arith, k, v, q))
+    all-back (part_blocks rs) marks new log pool back h e f g n le (omega (arith, k, v, q))

@@ -7,7 +7,7 @@ use Rattle.xs_trace.specs.Mark.{Trace, ticks, untimed}
 use Rattle.xs_trace.specs.Kept.{item_marks, marks_of}
 use Rattle.xs_trace.specs.State.{State, Shared, Untimed, allows, stands, after_tick, after_ticks}
 use Rattle.xs_trace.specs.Cut.{Spent, Full, less}
-use Rattle.xs_trace.specs.Play.{Told, Ends, goes, stops, put, put_in, ticked, ticked_by}
+use Rattle.xs_trace.specs.Play.{Reported, Ends, goes, stops, put, put_in, ticked, ticked_by}
 use Rattle.xs_record.specs.Store.{Store, at_ticks, marked, is_open, put_into, briefly_to, stood}
 use Rattle.xs_trace.specs.declared.event.Event.{Event}
 use Rattle.xs_trace.specs.declared.item.Item.{Item}
@@ -17,7 +17,7 @@ use Rattle.xs_record.proofs.StoreLemmas.{marks-pushed}
 -- ---- the store
 
 abbrev Holds : {H : Type 0} → Trace H → List (List Event) → Site → Store H
-Holds t cs p = record { told = t; captures = cs; at = p }
+Holds t cs p = record { reported = t; captures = cs; at = p }
 
 pub plain_pushed : {H : Type 0} (is js : List Item) (cs : List (List Event)) (at : Site) (i : Item) (s : Store H) → Holds (marks_of is) cs at ≡ s →
     js ≡ is ++ i ∷ [] → Holds (marks_of js) cs at ≡ marked (item_marks i) s
@@ -51,17 +51,17 @@ is-past : (n left : ℕ) → left < n → nat_le n left ≡ false
 is-past n left h = grind (arith, nat_tests, h)
 
 abbrev In : {H : Type 0} → Trace H → List (List Event) → Option Site → Option ℕ → Option ℕ → Shared → State H
-In t cs at room left h = record { told = Untimed t; captures = cs; at = at; room = room; left = left; shared = h }
+In t cs at room left h = record { reported = Untimed t; captures = cs; at = at; room = room; left = left; shared = h }
 
 pub brief_ticks : {H : Type 0} (p : Site) (n : ℕ) (s k : Store H) (room : Option ℕ) (left after : ℕ) (h : Shared) → n ≤ left → after ≡ left - n →
     k ≡ stood p n s → ticked_by n p (briefly_to room left h s) ≡ goes (briefly_to room after h k)
 brief_ticks p n s k room left after h q e d =
     ap
     (λ b. cond b (goes (after_ticks n p (briefly_to room left h s)))
-    (Ends (Spent p) (Untimed (s.told ++ untimed (ticks p left []))) (Some 0) h))
+    (Ends (Spent p) (Untimed (s.reported ++ untimed (ticks p left []))) (Some 0) h))
     (fits n left q)
-    ∙ ap (λ t. goes (In t s.captures (stands n p (Some s.at)) room (Some (left - n)) h)) (as-before p n s.told)
-    ∙ ap (λ a. goes (In s.told s.captures a room (Some (left - n)) h)) (stands-so n p s.at)
+    ∙ ap (λ t. goes (In t s.captures (stands n p (Some s.at)) room (Some (left - n)) h)) (as-before p n s.reported)
+    ∙ ap (λ a. goes (In s.reported s.captures a room (Some (left - n)) h)) (stands-so n p s.at)
     ∙ ap (λ l. goes (briefly_to room l h (stood p n s))) (sym e) ∙ ap (λ m. goes (briefly_to room after h m)) (sym d)
 
 pub brief_short : {H : Type 0} (p : Site) (n : ℕ) (s k : Store H) (room : Option ℕ) (left : ℕ) (h : Shared) → left < n → k ≡ stood p left s →
@@ -69,15 +69,16 @@ pub brief_short : {H : Type 0} (p : Site) (n : ℕ) (s k : Store H) (room : Opti
 brief_short p n s k room left h q d =
     ap
     (λ b. cond b (goes (after_ticks n p (briefly_to room left h s)))
-    (Ends (Spent p) (Untimed (s.told ++ untimed (ticks p left []))) (Some 0) h))
+    (Ends (Spent p) (Untimed (s.reported ++ untimed (ticks p left []))) (Some 0) h))
     (is-past n left q)
-    ∙ ap (λ t. Ends (Spent p) (Untimed t) (Some 0) h) (as-before p left s.told) ∙ ap (λ (m : Store _). Ends (Spent p) (Untimed m.told) (Some 0) h) (sym d)
+    ∙ ap (λ t. Ends (Spent p) (Untimed t) (Some 0) h) (as-before p left s.reported) ∙ ap (λ (m : Store _). Ends (Spent p) (Untimed m.reported) (Some 0) h)
+    (sym d)
 
 pub brief_tick : {H : Type 0} (p : Site) (s k : Store H) (room : Option ℕ) (left after : ℕ) (h : Shared) → 1 ≤ left → after ≡ left - 1 → k ≡ stood p 1 s →
     ticked p (briefly_to room left h s) ≡ goes (briefly_to room after h k)
 brief_tick p s k room left after h q e d =
-    ap (λ b. cond b (goes (after_tick p (briefly_to room left h s))) (Ends (Spent p) (Untimed s.told) (Some 0) h)) (fits 1 left q)
-    ∙ ap (λ t. goes (In t s.captures (Some p) room (Some (left - 1)) h)) (append-nil s.told)
+    ap (λ b. cond b (goes (after_tick p (briefly_to room left h s))) (Ends (Spent p) (Untimed s.reported) (Some 0) h)) (fits 1 left q)
+    ∙ ap (λ t. goes (In t s.captures (Some p) room (Some (left - 1)) h)) (append-nil s.reported)
     ∙ ap (λ l. goes (briefly_to room l h (stood p 1 s))) (sym e) ∙ ap (λ m. goes (briefly_to room after h m)) (sym d)
 
 pub brief_spent : {H : Type 0} (p : Site) (s : Store H) (room : Option ℕ) (left : ℕ) (h : Shared) → left ≡ 0 →
@@ -90,7 +91,7 @@ brief_spent p s room left h e = at left e
 
 -- ---- an event that is put, under a limit
 
-abbrev Puts : {H : Type 0} → List (List Event) → Bool → Event → Option ℕ → ℕ → Shared → Store H → Told H
+abbrev Puts : {H : Type 0} → List (List Event) → Bool → Event → Option ℕ → ℕ → Shared → Store H → Reported H
 Puts [] b e room left h s = cond b (goes (briefly_to (less room 1) left h (put_into [] e s))) (stops (Full s.at) (briefly_to room left h s))
 Puts (c ∷ cs) b e room left h s = goes (briefly_to room left h (put_into (c ∷ cs) e s))
 

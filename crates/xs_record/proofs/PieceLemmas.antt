@@ -6,8 +6,8 @@ use Rattle.xs_trace.specs.Mark.{Trace, tick_count}
 use Rattle.xs_trace.specs.Cut.{End, Whole, Fault, Needs, Spent, Full, Cut, cut, nowhere}
 use Rattle.xs_trace.specs.Fill.{numbered, tasks_of}
 use Rattle.xs_trace.specs.State.{State, All, Above, adds}
-use Rattle.xs_trace.specs.Play.{Told, play, told_of, left_of, end_of, raised, Before, IsStep}
-use Rattle.xs_trace.specs.PlayLaws.{TellsCut}
+use Rattle.xs_trace.specs.Play.{Reported, play, reported_of, left_of, end_of, raised, Before, IsStep}
+use Rattle.xs_trace.specs.PlayLaws.{ReportsCut}
 use Rattle.xs_trace.specs.Kept.{ended_by, IsEnded}
 use Rattle.xs_trace.specs.Total.{over}
 use Rattle.xs_trace.specs.declared.item.Limits.{Limits}
@@ -32,7 +32,7 @@ none-some : (t : ℕ) → None ≡ Some t → ⊥
 unfolding kind
 none-some t p = let d : 0 ≡ 1 = ap kind p in absurd (omega (arith, d))
 
--- How far a run came: what it told is a beginning, and what is left is exact.
+-- How far a run came: what it reported is a beginning, and what is left is exact.
 record Came {H : Type 0} (c : Cut H) (b left : ℕ) (marks : Trace H) : Type 0 where
   pub rest : Trace H
   pub whole : c.passed ≡ marks ++ rest
@@ -49,18 +49,18 @@ came-all c b left marks m le e =
     let f : tick_count marks ≡ tick_count c.passed = ap tick_count m in
     record { rest = []; whole = sym m ∙ sym (append-nil marks); exact = omega (arith, le, e, f) }
 
-came-end : {H : Type 0} (c : Cut H) (b left : ℕ) (marks : Trace H) (g : Told H) (e : End) → TellsCut (All []) b c g → tick_count c.passed ≤ b →
-    told_of g ≡ All marks → left_of g ≡ Some left → end_of g ≡ e → Came c b left marks × CameWhole c marks e
+came-end : {H : Type 0} (c : Cut H) (b left : ℕ) (marks : Trace H) (g : Reported H) (e : End) → ReportsCut (All []) b c g → tick_count c.passed ≤ b →
+    reported_of g ≡ All marks → left_of g ≡ Some left → end_of g ≡ e → Came c b left marks × CameWhole c marks e
 came-end c b left marks g e h le t l n =
-    let m : marks ≡ c.passed = all_same (sym t ∙ h.told) in
+    let m : marks ≡ c.passed = all_same (sym t ∙ h.reported) in
     let d : left ≡ b - tick_count c.passed = some_same (sym l ∙ h.left) in
     (came-all c b left marks m le d, record { marks = m; end = sym n ∙ h.end })
 
 -- an end in Over
-came-over : {H : Type 0} (c : Cut H) (b left : ℕ) (marks : Trace H) (g : Told H) (s : State H) → TellsCut (All []) b c g → tick_count c.passed ≤ b →
-    s.told ≡ All marks → s.left ≡ Some left → Before s g → Came c b left marks
+came-over : {H : Type 0} (c : Cut H) (b left : ℕ) (marks : Trace H) (g : Reported H) (s : State H) → ReportsCut (All []) b c g → tick_count c.passed ≤ b →
+    s.reported ≡ All marks → s.left ≡ Some left → Before s g → Came c b left marks
 came-over {H} c b left marks g s h le t l q =
-    let w : c.passed ≡ marks ++ q.rest = all_same (sym h.told ∙ q.told ∙ ap (λ o. adds o q.rest) t) in
+    let w : c.passed ≡ marks ++ q.rest = all_same (sym h.reported ∙ q.reported ∙ ap (λ o. adds o q.rest) t) in
     let f : left ≡ (b - tick_count c.passed) + tick_count q.rest = some_same (sym l ∙ q.left ∙ ap (λ o. raised o (tick_count q.rest)) h.left) in
     let j : tick_count c.passed ≡ tick_count marks + tick_count q.rest = ap tick_count w ∙ (parts-join marks q.rest).ticks in
     record { rest = q.rest; whole = w; exact = omega (arith, le, f, j) }
@@ -75,11 +75,11 @@ CameBy (Err (halt.Full p)) c m h = CameWhole c m (Full p)
 CameBy (Err (halt.Over t)) c m h = h ≡ Some t
 CameBy (Err halt.NoMemory) c m h = Unit {0}
 
-abbrev PlayOf : {H : Type 0} → Trace H → Limits → ℕ → ℕ → Told H
+abbrev PlayOf : {H : Type 0} → Trace H → Limits → ℕ → ℕ → Reported H
 PlayOf x l m o = play x (started l m o)
 
-tells : {H : Type 0} (x : Trace H) (l : Limits) (m o : ℕ) → TellsCut (All []) l.ticks (cut x l.ticks l.events) (PlayOf x l m o)
-tells x l m o = play-cut x (All []) nowhere l.ticks l.events (held m o l.ticks)
+reports : {H : Type 0} (x : Trace H) (l : Limits) (m o : ℕ) → ReportsCut (All []) l.ticks (cut x l.ticks l.events) (PlayOf x l m o)
+reports x l m o = play-cut x (All []) nowhere l.ticks l.events (held m o l.ticks)
 
 within : {H : Type 0} (x : Trace H) (l : Limits) → tick_count (cut x l.ticks l.events).passed ≤ l.ticks
 within x l = (cut-longest x nowhere l.ticks l.events).within
@@ -96,25 +96,26 @@ some_kind : Option Above → ℕ
 some_kind None = 0
 some_kind (Some a) = 1
 
-above-told : (o : Option ℕ) (left : ℕ) (a : Above) → above_at o left ≡ Some a → o ≡ Some a.total
+above-reported : (o : Option ℕ) (left : ℕ) (a : Above) → above_at o left ≡ Some a → o ≡ Some a.total
 unfolding some_kind
-above-told None left a e = let d : 0 ≡ 1 = ap some_kind e in absurd (omega (arith, d))
-above-told (Some t) left a e = ap Some (total-same _ a e)
+above-reported None left a e = let d : 0 ≡ 1 = ap some_kind e in absurd (omega (arith, d))
+above-reported (Some t) left a e = ap Some (total-same _ a e)
 
-came : {H : Type 0} (x : Trace H) (l : Limits) (m o left : ℕ) (last : Option ℕ) (marks : Trace H) (told : Result (Unit {0}) Halt) (s : State H) (e : Ended) →
-    IsEnded told e → s.told ≡ All marks → s.left ≡ Some left → s.shared.above ≡ above_at last left → IsStep (PlayOf x l m o) told s →
-    Came (cut x l.ticks l.events) l.ticks left marks × CameBy told (cut x l.ticks l.events) marks last
+came : {H : Type 0} (x : Trace H) (l : Limits) (m o left : ℕ) (last : Option ℕ) (marks : Trace H) (reported : Result (Unit {0}) Halt) (s : State H)
+    (e : Ended) →
+    IsEnded reported e → s.reported ≡ All marks → s.left ≡ Some left → s.shared.above ≡ above_at last left → IsStep (PlayOf x l m o) reported s →
+    Came (cut x l.ticks l.events) l.ticks left marks × CameBy reported (cut x l.ticks l.events) marks last
 came x l m o left last marks (Ok u) s e en t f v q =
-    came-end _ _ left marks (PlayOf x l m o) Whole (tells x l m o) (within x l) (ap told_of q ∙ t) (ap left_of q ∙ f) (ap end_of q)
+    came-end _ _ left marks (PlayOf x l m o) Whole (reports x l m o) (within x l) (ap reported_of q ∙ t) (ap left_of q ∙ f) (ap end_of q)
 came x l m o left last marks (Err (halt.Fault n p)) s e en t f v q =
-    came-end _ _ left marks (PlayOf x l m o) (Fault n p) (tells x l m o) (within x l) (ap told_of q ∙ t) (ap left_of q ∙ f) (ap end_of q)
+    came-end _ _ left marks (PlayOf x l m o) (Fault n p) (reports x l m o) (within x l) (ap reported_of q ∙ t) (ap left_of q ∙ f) (ap end_of q)
 came x l m o left last marks (Err (halt.Needs n p)) s e en t f v q = absurd en
 came x l m o left last marks (Err (halt.Spent p)) s e en t f v q =
-    came-end _ _ left marks (PlayOf x l m o) (Spent p) (tells x l m o) (within x l) (ap told_of q ∙ t) (ap left_of q ∙ f) (ap end_of q)
+    came-end _ _ left marks (PlayOf x l m o) (Spent p) (reports x l m o) (within x l) (ap reported_of q ∙ t) (ap left_of q ∙ f) (ap end_of q)
 came x l m o left last marks (Err (halt.Full p)) s e en t f v q =
-    came-end _ _ left marks (PlayOf x l m o) (Full p) (tells x l m o) (within x l) (ap told_of q ∙ t) (ap left_of q ∙ f) (ap end_of q)
+    came-end _ _ left marks (PlayOf x l m o) (Full p) (reports x l m o) (within x l) (ap reported_of q ∙ t) (ap left_of q ∙ f) (ap end_of q)
 came x l m o left last marks (Err (halt.Over n)) s e en t f v q =
-    (came-over _ _ left marks (PlayOf x l m o) s (tells x l m o) (within x l) t f q.before, above-told last left _ (sym v ∙ ap (λ h. h.above) q.shared))
+    (came-over _ _ left marks (PlayOf x l m o) s (reports x l m o) (within x l) t f q.before, above-reported last left _ (sym v ∙ ap (λ h. h.above) q.shared))
 came x l m o left last marks (Err halt.NoMemory) s e en t f v q = absurd en
 
 -- ---- the outcome
@@ -138,7 +139,7 @@ module _ {H : Type 0} (x : Trace H) (l : Limits) (old new : List H) (o : Outcome
         tasks = tasks ∙ ap (λ z. old ++ tasks_of z) w.marks;
       }
 
-  ends-whole : (told : Result (Unit {0}) Halt) (h : Option ℕ) (e : Ended) → IsEnded told e → CameBy told C marks h → ((t : ℕ) → h ≡ Some t → ⊥) →
+  ends-whole : (reported : Result (Unit {0}) Halt) (h : Option ℕ) (e : Ended) → IsEnded reported e → CameBy reported C marks h → ((t : ℕ) → h ≡ Some t → ⊥) →
       o.ended ≡ e → EndsBy None x l old new o
   ends-whole (Ok u) h e en v none d = whole-is e Whole v en d
   ends-whole (Err (halt.Fault f p)) h e en v none d = whole-is e (Fault f p) v en d
@@ -148,38 +149,39 @@ module _ {H : Type 0} (x : Trace H) (l : Limits) (old new : List H) (o : Outcome
   ends-whole (Err (halt.Over t)) h e en v none d = absurd (none t v)
   ends-whole (Err halt.NoMemory) h e en v none d = absurd en
 
-  ends : (b left : ℕ) (told : Result (Unit {0}) Halt) (last n : Option ℕ) (e : Ended) → IsEnded told e → Came C b left marks → CameBy told C marks last →
+  ends : (b left : ℕ) (reported : Result (Unit {0}) Halt) (last n : Option ℕ) (e : Ended) → IsEnded reported e → Came C b left marks
+      → CameBy reported C marks last →
       ((t : ℕ) → last ≡ Some t → n ≡ Some t) → o.ended ≡ ended_in n e → EndsBy n x l old new o
-  ends b left told last None e en w v st d = ends-whole told last e en v (λ t q. none-some t (st t q)) d
-  ends b left told last (Some t) e en w v st d =
+  ends b left reported last None e en w v st d = ends-whole reported last e en v (λ t q. none-some t (st t q)) d
+  ends b left reported last (Some t) e en w v st d =
       (d, record { marks = marks; rest = w.rest; passed = w.whole; parts = parts; tasks = tasks })
 
-pub piece-is : {H K : Type 0} (l : Limits) (total : K) (most added after due left last n free : ℕ) (old new : List H) (store : Store H) (room : Option ℕ)
-    (told : Result (Unit {0}) Halt) (e : Ended) (o : Outcome) →
-    IsEnded told e → part_marks o.parts.items ≡ numbered 0 store.told → new ≡ old ++ tasks_of store.told → AreParts 0 o.parts.items →
-    o.ticks ≡ l.ticks - left → after ≡ added + due → ((t : ℕ) → over most last ≡ Some t → over most n ≡ Some t) → o.ended ≡ ended_in (over most n) e →
-    IsPieceOf (record { limits = l; total = total; most = most; all = added + (due + left); free = free }) told
+pub piece-is : {H K : Type 0} (l : Limits) (total : K) (most added after unpaid left last n free : ℕ) (old new : List H) (store : Store H) (room : Option ℕ)
+    (reported : Result (Unit {0}) Halt) (e : Ended) (o : Outcome) →
+    IsEnded reported e → part_marks o.parts.items ≡ numbered 0 store.reported → new ≡ old ++ tasks_of store.reported → AreParts 0 o.parts.items →
+    o.ticks ≡ l.ticks - left → after ≡ added + unpaid → ((t : ℕ) → over most last ≡ Some t → over most n ≡ Some t) → o.ended ≡ ended_in (over most n) e →
+    IsPieceOf (record { limits = l; total = total; most = most; all = added + (unpaid + left); free = free }) reported
     (limited_to room left (held most last left) store) after n old new o
-piece-is {H} l total most added after due left last n free old new store room told e o en mk ts are ti af st d = λ x first before q all.
-    let w = came x l most first left (over most last) store.told told (limited_to room left (held most last left) store) e en refl refl refl q in
-    let ex : left + tick_count store.told ≡ l.ticks = w.0.exact in
-    let count : o.ticks ≡ tick_count store.told = omega (arith, ti, ex) in
+piece-is {H} l total most added after unpaid left last n free old new store room reported e o en mk ts are ti af st d = λ x first before q all.
+    let w = came x l most first left (over most last) store.reported reported (limited_to room left (held most last left) store) e en refl refl refl q in
+    let ex : left + tick_count store.reported ≡ l.ticks = w.0.exact in
+    let count : o.ticks ≡ tick_count store.reported = omega (arith, ti, ex) in
     record {
       added = omega (arith, all, af, ti, ex);
-      ticks = count ∙ sym ((numbered-laws H).ticks 0 store.told) ∙ ap tick_count (sym mk);
+      ticks = count ∙ sym ((numbered-laws H).ticks 0 store.reported) ∙ ap tick_count (sym mk);
       parts = are;
-      ends = ends x l old new o store.told mk ts are count l.ticks left told (over most last) (over most n) e en w.0 w.1 st d;
+      ends = ends x l old new o store.reported mk ts are count l.ticks left reported (over most last) (over most n) e en w.0 w.1 st d;
     }
 
--- what was added to a total is all but what is due
-pub has_added : (limit added due left additions n : ℕ) → due < 1024 → left + (1024 * additions + due) ≡ limit → Some left ≡ Some n →
-    HasAdded (added + (due + left)) limit n added
-has_added limit added due left additions n few all e =
+-- what was added to a total is all but what is unpaid
+pub has_added : (limit added unpaid left additions n : ℕ) → unpaid < 1024 → left + (1024 * additions + unpaid) ≡ limit → Some left ≡ Some n →
+    HasAdded (added + (unpaid + left)) limit n added
+has_added limit added unpaid left additions n few all e =
     let f : left ≡ n = some_same e in
     record {
-      due = due;
-      is_due = record { additions = additions; few = few; all = subst (λ k. k + (1024 * additions + due) ≡ limit) f all };
-      sum = ap (λ k. added + (due + k)) f;
+      unpaid = unpaid;
+      are_unpaid = record { additions = additions; few = few; all = subst (λ k. k + (1024 * additions + unpaid) ≡ limit) f all };
+      sum = ap (λ k. added + (unpaid + k)) f;
     }
 
 -- ---- a total to which nobody else adds

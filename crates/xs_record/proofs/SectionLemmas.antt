@@ -9,15 +9,15 @@ use Rattle.xs_trace.specs.declared.item.Item.{Item}
 use Rattle.xs_trace.specs.declared.item.Item.TheVariants as item
 use Rattle.xs_trace.specs.declared.item.Site.{Site}
 use Rattle.xs_record.specs.Outcome.{hole_mark, part_marks, section_marks, AreParts, AreSections}
-use Rattle.xs_record.specs.Store.{Store, behind, counted, marked, put_into, told_nothing}
+use Rattle.xs_record.specs.Store.{Store, behind, counted, marked, put_into, reported_nothing}
 use Rattle.xs_record.specs.declared.outcome.Part.{Part}
 
 pub behind_counted : {H : Type 0} (t : Trace H) (p : Site) (n : ℕ) (s k : Store H) → k ≡ counted p n s → behind t k ≡ counted p n (behind t s)
 behind_counted t p n s k e =
-    ap (behind t) e ∙ ap (λ x. record { told = x; captures = s.captures; at = (counted p n s).at }) (sym (append_assoc t s.told (ticks p n [])))
+    ap (behind t) e ∙ ap (λ x. record { reported = x; captures = s.captures; at = (counted p n s).at }) (sym (append_assoc t s.reported (ticks p n [])))
 
 pub behind_marked : {H : Type 0} (t x : Trace H) (s k : Store H) → k ≡ marked x s → behind t k ≡ marked x (behind t s)
-behind_marked t x s k e = ap (behind t) e ∙ ap (λ y. record { told = y; captures = s.captures; at = s.at }) (sym (append_assoc t s.told x))
+behind_marked t x s k e = ap (behind t) e ∙ ap (λ y. record { reported = y; captures = s.captures; at = s.at }) (sym (append_assoc t s.reported x))
 
 put-behind : {H : Type 0} (cs : List (List Event)) (t : Trace H) (e : Event) (s : Store H) → behind t (put_into cs e s) ≡ put_into cs e (behind t s)
 put-behind [] t e s = behind_marked t (Put e ∷ []) s (marked (Put e ∷ []) s) refl
@@ -46,17 +46,17 @@ are-pushed n (q ∷ ps) p h e k =
 
 -- a hole after a store
 pub hole-marked : {H : Type 0} (ps qs : List Part) (ts us : List H) (p : Part) (t : H) (m k n : Store H) → behind (section_marks ps ts) m ≡ n →
-    marks_of (items_of p.items) ≡ m.told → k ≡ told_nothing m → qs ≡ ps ++ p ∷ [] → us ≡ ts ++ t ∷ [] → length ts ≡ length ps →
+    marks_of (items_of p.items) ≡ m.reported → k ≡ reported_nothing m → qs ≡ ps ++ p ∷ [] → us ≡ ts ++ t ∷ [] → length ts ≡ length ps →
     behind (section_marks qs us) k ≡ marked (Hole t ∷ []) n
 hole-marked {H = H} ps qs ts us p t m k n v e r a b l =
     ap (behind (section_marks qs us)) r
     ∙ ap (λ x. At x)
     (append-nil (section_marks qs us) ∙ ap (λ x. section_marks x us) a ∙ ap (section_marks (ps ++ p ∷ [])) b ∙ sections-pushed ps ts p t l
-    ∙ ap (λ u. section_marks ps ts ++ (u ++ Hole t ∷ [])) e ∙ sym (append_assoc (section_marks ps ts) m.told (Hole t ∷ [])))
+    ∙ ap (λ u. section_marks ps ts ++ (u ++ Hole t ∷ [])) e ∙ sym (append_assoc (section_marks ps ts) m.reported (Hole t ∷ [])))
     ∙ ap (marked (Hole t ∷ [])) v
   where
     At : Trace H → Store H
-    At x = record { told = x; captures = m.captures; at = m.at }
+    At x = record { reported = x; captures = m.captures; at = m.at }
 
 -- ---- sections, and the part that no hole follows
 
@@ -137,28 +137,28 @@ holes-pushed ps rs qs p ts us vs t n a b d e h i j k l =
       ap length v ∙ length-append ts (t ∷ []) ∙ ap (λ k. k + 1) l ∙ sym (length-append ps (p ∷ [])) ∙ sym (ap length q),
     )
 
-pub hole-told : {H : Type 0} (ps rs qs : List Part) (p : Part) (ts us vs : List H) (t : H) (m k n : Store H) → rs ≡ ps → qs ≡ rs ++ p ∷ [] → us ≡ ts →
-    vs ≡ us ++ t ∷ [] → length ts ≡ length ps → behind (section_marks ps ts) m ≡ n → marks_of (items_of p.items) ≡ m.told → k ≡ told_nothing m →
+pub hole-reported : {H : Type 0} (ps rs qs : List Part) (p : Part) (ts us vs : List H) (t : H) (m k n : Store H) → rs ≡ ps → qs ≡ rs ++ p ∷ [] → us ≡ ts →
+    vs ≡ us ++ t ∷ [] → length ts ≡ length ps → behind (section_marks ps ts) m ≡ n → marks_of (items_of p.items) ≡ m.reported → k ≡ reported_nothing m →
     behind (section_marks qs vs) k ≡ marked (Hole t ∷ []) n
-hole-told ps rs qs p ts us vs t m k n a b d e l v i r =
+hole-reported ps rs qs p ts us vs t m k n a b d e l v i r =
     hole-marked ps qs ts vs p t m k n v i r (b ∙ ap (λ xs. xs ++ p ∷ []) a) (e ∙ ap (λ xs. xs ++ t ∷ []) d) l
 
 -- ---- the end of a store
 
 pub finish-marks : {H : Type 0} (ps rs qs : List Part) (p : Part) (ts : List H) (m n : Store H) → rs ≡ ps → qs ≡ rs ++ p ∷ [] → AreSections 0 ps →
-    length ts ≡ length ps → p.hole ≡ None → behind (section_marks ps ts) m ≡ n → marks_of (items_of p.items) ≡ m.told →
-    part_marks qs ≡ numbered 0 n.told
+    length ts ≡ length ps → p.hole ≡ None → behind (section_marks ps ts) m ≡ n → marks_of (items_of p.items) ≡ m.reported →
+    part_marks qs ≡ numbered 0 n.reported
 finish-marks ps rs qs p ts m n a b h l e v i =
     ap part_marks (b ∙ ap (λ xs. xs ++ p ∷ []) a) ∙ parts-numbered 0 ps ts p h l e ∙ ap (λ x. numbered 0 (section_marks ps ts ++ x)) i
-    ∙ ap (λ (z : Store _). numbered 0 z.told) v
+    ∙ ap (λ (z : Store _). numbered 0 z.reported) v
 
 pub finish-parts : (ps rs qs : List Part) (p : Part) → rs ≡ ps → qs ≡ rs ++ p ∷ [] → AreSections 0 ps → p.hole ≡ None → IsPacked (items_of p.items) →
     AreParts 0 qs
 finish-parts ps rs qs p a b h e k = subst (AreParts 0) (sym (b ∙ ap (λ xs. xs ++ p ∷ []) a)) (are-parts 0 ps p h e k)
 
 pub finish-tasks : {H : Type 0} (old new : List H) (ps : List Part) (is : List Item) (ts : List H) (m n : Store H) → new ≡ old ++ ts →
-    length ts ≡ length ps → behind (section_marks ps ts) m ≡ n → marks_of is ≡ m.told → new ≡ old ++ tasks_of n.told
+    length ts ≡ length ps → behind (section_marks ps ts) m ≡ n → marks_of is ≡ m.reported → new ≡ old ++ tasks_of n.reported
 finish-tasks old new ps is ts m n a l v i =
     a
     ∙ ap (λ x. old ++ x)
-    (sym (section-tasks ps ts is l) ∙ ap (λ x. tasks_of (section_marks ps ts ++ x)) i ∙ ap (λ (z : Store _). tasks_of z.told) v)
+    (sym (section-tasks ps ts is l) ∙ ap (λ x. tasks_of (section_marks ps ts ++ x)) i ∙ ap (λ (z : Store _). tasks_of z.reported) v)

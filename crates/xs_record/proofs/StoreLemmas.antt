@@ -1,4 +1,4 @@
--- Items that are added to a store, and the marks that they stand for.
+-- Items that are added to a store, and the marks that they represent.
 use Rattle.std.proofs.Common.{◌≡◌, ℕ, zero, suc, ◌+◌, List, [], ◌∷◌, ◌++◌, Option, Some, None, Bool, true, false, ◌&&◌, nat_eq, cond, refl, sym}
 use Rattle.std.proofs.Common.{ap, subst, ◌∙◌, append_assoc, append-nil, arith}
 use Rattle.std.proofs.lemmas.Bool.{true≢false}
@@ -7,7 +7,7 @@ use Rattle.xs_trace.specs.Mark.{Tick, Trace, ticks}
 use Rattle.xs_trace.specs.Kept.{item_marks, marks_of, first_run, IsPacked, IsSingle}
 use Rattle.xs_trace.specs.State.{Shared, allows}
 use Rattle.xs_trace.specs.Cut.{Full, less}
-use Rattle.xs_trace.specs.Play.{Told, goes, stops, put, put_in}
+use Rattle.xs_trace.specs.Play.{Reported, goes, stops, put, put_in}
 use Rattle.xs_record.specs.Store.{Store, at_ticks, counted, marked, is_open, put_into, limited_to, pending, TakesRun}
 use Rattle.xs_trace.specs.declared.event.Event.{Event}
 use Rattle.xs_trace.specs.declared.item.Item.{Item}
@@ -141,7 +141,7 @@ takes-any is p n i s h q = packed-single (is ++ pending p n) i q s (packed-pendi
 
 -- what a store holds
 abbrev Holds : {H : Type 0} → Trace H → List (List Event) → Site → Store H
-Holds t cs p = record { told = t; captures = cs; at = p }
+Holds t cs p = record { reported = t; captures = cs; at = p }
 
 store-is : {H : Type 0} (t u : Trace H) (cs : List (List Event)) (p q : Site) → t ≡ u → p ≡ q → Holds (t) cs p ≡ Holds (u) cs q
 store-is t u cs p q e d = ap (λ v. Holds (v) cs p) e ∙ ap (λ v. Holds (u) cs v) d
@@ -181,7 +181,7 @@ put_captured e s k room left h o d = captured s.captures o ∙ ap (λ m. goes (l
     captured [] q = absurd (true≢false (sym q))
     captured (c ∷ cs) q = refl
 
-abbrev Puts : {H : Type 0} → List (List Event) → Bool → Event → Option ℕ → ℕ → Shared → Store H → Told H
+abbrev Puts : {H : Type 0} → List (List Event) → Bool → Event → Option ℕ → ℕ → Shared → Store H → Reported H
 Puts [] b e room left h s = cond b (goes (limited_to (less room 1) left h (put_into [] e s))) (stops (Full s.at) (limited_to room left h s))
 Puts (c ∷ cs) b e room left h s = goes (limited_to room left h (put_into (c ∷ cs) e s))
 

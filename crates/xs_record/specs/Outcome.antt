@@ -59,11 +59,11 @@ is_done (end.Spent s) = true
 is_done (end.Full s) = true
 is_done (end.Over t) = false
 
--- a part, but for how its items lie in blocks
+-- a part, except how its items lie in blocks
 abbrev pub shown : Part → List Item × Option ℕ
 shown p = (items_of p.items, p.hole)
 
--- two outcomes are the same, but for how items lie in blocks
+-- two outcomes are the same, except how items lie in blocks
 pub record Agree (o p : Outcome) : Type 0 where
   pub parts : map shown o.parts.items ≡ map shown p.parts.items
   pub ended : o.ended ≡ p.ended

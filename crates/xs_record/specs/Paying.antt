@@ -5,9 +5,9 @@ use Rattle.xs_trace.specs.declared.item.Ended.TheVariants as ended
 use Rattle.xs_trace.specs.declared.recorder.Halt.{Halt}
 use Rattle.xs_trace.specs.declared.recorder.Halt.TheVariants as halt
 
--- while something is due, the last answer is at most the most
+-- while something is unpaid, the last answer is at most the most
 abbrev pub IsOpen : ℕ → ℕ → ℕ → Type 0
-IsOpen m t due = (due ≡ 0 → ⊥) → t ≤ m
+IsOpen m t unpaid = (unpaid ≡ 0 → ⊥) → t ≤ m
 
 -- What an addition gives, by the most and its answer.
 abbrev pub IsPaid : ℕ → Result (Unit {0}) Halt → ℕ → Type 0

@@ -24,7 +24,7 @@ held m last left = record { most = Some m; above = above_at (over m last) left }
 -- where a piece begins, by its limits, and by the most of its total and the last answer
 abbrev pub started : {H : Type 0} → Limits → ℕ → ℕ → State H
 started l m last =
-    record { told = All []; captures = []; at = Some nowhere; room = l.events; left = Some l.ticks; shared = held m last l.ticks }
+    record { reported = All []; captures = []; at = Some nowhere; room = l.events; left = Some l.ticks; shared = held m last l.ticks }
 
 -- What no call to a recorder of a piece changes: its limits; what no addition changes of the total, and the most of it; the
 -- ticks added, those not added yet and those left together; the free blocks of its pool at the start.
@@ -35,17 +35,17 @@ pub record Paid (K : Type 0) : Type 0 where
   pub all : ℕ
   pub free : ℕ
 
--- So many ticks are due where so many are left of a limit: what was recorded is some full 1,024s, which were added, and these.
-pub record IsDue (due left limit : ℕ) : Type 0 where
+-- So many ticks are unpaid where so many are left of a limit: what was recorded is some full 1,024s, which were added, and these.
+pub record AreUnpaid (unpaid left limit : ℕ) : Type 0 where
   pub additions : ℕ
-  pub few : due < 1024
-  pub all : left + (1024 * additions + due) ≡ limit
+  pub few : unpaid < 1024
+  pub all : left + (1024 * additions + unpaid) ≡ limit
 
--- So much was added where so many are left: all that was recorded but what is due.
+-- So much was added where so many are left: all that was recorded but what is unpaid.
 pub record HasAdded (all limit left added : ℕ) : Type 0 where
-  pub due : ℕ
-  pub is_due : IsDue due left limit
-  pub sum : all ≡ added + (due + left)
+  pub unpaid : ℕ
+  pub are_unpaid : AreUnpaid unpaid left limit
+  pub sum : all ≡ added + (unpaid + left)
 
 -- All that passed the cut is in the outcome, and the tasks of its holes follow the children.
 pub record IsWhole {H : Type 0} (x : Trace H) (l : Limits) (old new : List H) (o : Outcome) : Type 0 where
@@ -76,8 +76,8 @@ pub record IsPiece {H : Type 0} (x : Trace H) (l : Limits) (most before after la
 
 -- the same of whatever trace was recorded, by a piece that ended so
 abbrev pub IsPieceOf : {H K : Type 0} → Paid K → Result (Unit {0}) Halt → State H → ℕ → ℕ → List H → List H → Outcome → Type 0
-IsPieceOf {H = H} paid told s after last old new o = (x : Trace H) (first before : ℕ) →
-    IsStep (play x (started paid.limits paid.most first)) told s → paid.all ≡ before + paid.limits.ticks →
+IsPieceOf {H = H} paid reported s after last old new o = (x : Trace H) (first before : ℕ) →
+    IsStep (play x (started paid.limits paid.most first)) reported s → paid.all ≡ before + paid.limits.ticks →
     IsPiece x paid.limits paid.most before after last old new o
 
 -- A total to which nobody else adds is never above a limit that is the run's own.

@@ -11,14 +11,14 @@ use Rattle.xs_trace.specs.declared.item.Site.{Site}
 
 pub record Store (H : Type 0) : Type 0 where
   -- the marks that were recorded
-  pub told : Trace H
+  pub reported : Trace H
   -- the events of the captures that are open, the innermost first
   pub captures : List (List Event)
   -- the place of the last tick
   pub at : Site
 
 abbrev pub empty : {H : Type 0} → Store H
-empty = record { told = []; captures = []; at = nowhere }
+empty = record { reported = []; captures = []; at = nowhere }
 
 -- one stands at the place of some ticks, if there are any
 abbrev pub at_ticks : ℕ → Site → Site → Site
@@ -26,16 +26,16 @@ at_ticks zero p at = at
 at_ticks (suc n) p at = p
 
 abbrev pub counted : {H : Type 0} → Site → ℕ → Store H → Store H
-counted p n s = record { told = s.told ++ ticks p n []; captures = s.captures; at = at_ticks n p s.at }
+counted p n s = record { reported = s.reported ++ ticks p n []; captures = s.captures; at = at_ticks n p s.at }
 
 abbrev pub marked : {H : Type 0} → Trace H → Store H → Store H
-marked x s = record { told = s.told ++ x; captures = s.captures; at = s.at }
+marked x s = record { reported = s.reported ++ x; captures = s.captures; at = s.at }
 
 abbrev pub with_captures : {H : Type 0} → List (List Event) → Store H → Store H
-with_captures cs s = record { told = s.told; captures = cs; at = s.at }
+with_captures cs s = record { reported = s.reported; captures = cs; at = s.at }
 
-abbrev pub told_nothing : {H : Type 0} → Store H → Store H
-told_nothing s = record { told = []; captures = s.captures; at = s.at }
+abbrev pub reported_nothing : {H : Type 0} → Store H → Store H
+reported_nothing s = record { reported = []; captures = s.captures; at = s.at }
 
 -- whether a capture is open
 abbrev pub is_open : List (List Event) → Bool
@@ -49,15 +49,15 @@ put_into (c ∷ cs) e s = with_captures ((c ++ e ∷ []) ∷ cs) s
 
 -- a store under limits
 abbrev pub limited_to : {H : Type 0} → Option ℕ → ℕ → Shared → Store H → State H
-limited_to room left h s = record { told = All s.told; captures = s.captures; at = Some s.at; room = room; left = Some left; shared = h }
+limited_to room left h s = record { reported = All s.reported; captures = s.captures; at = Some s.at; room = room; left = Some left; shared = h }
 
 -- the same of a store that takes no ticks
 abbrev pub briefly_to : {H : Type 0} → Option ℕ → ℕ → Shared → Store H → State H
-briefly_to room left h s = record { told = Untimed s.told; captures = s.captures; at = Some s.at; room = room; left = Some left; shared = h }
+briefly_to room left h s = record { reported = Untimed s.reported; captures = s.captures; at = Some s.at; room = room; left = Some left; shared = h }
 
 -- ticks of which the place is kept alone
 abbrev pub stood : {H : Type 0} → Site → ℕ → Store H → Store H
-stood p n s = record { told = s.told; captures = s.captures; at = at_ticks n p s.at }
+stood p n s = record { reported = s.reported; captures = s.captures; at = at_ticks n p s.at }
 
 -- so many ticks at a place, as an item, if there are any
 abbrev pub pending : Site → ℕ → List Item
@@ -71,7 +71,7 @@ TakesRun is p (suc n) = IsPacked (is ++ pending p (suc n))
 
 -- a store after some marks
 abbrev pub behind : {H : Type 0} → Trace H → Store H → Store H
-behind t s = record { told = t ++ s.told; captures = s.captures; at = s.at }
+behind t s = record { reported = t ++ s.reported; captures = s.captures; at = s.at }
 
 -- what a store holds, and how many blocks it has for it
 pub record Held (H : Type 0) : Type 0 where

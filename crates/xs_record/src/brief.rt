@@ -10,10 +10,10 @@ ghost use Rattle.xs_trace.specs.Kept.{marks_of, IsSingle};
 use crate::plain::Plain;
 use crate::room::spend;
 use std::alloc::Global;
+use xs_text::TextBuf;
 use xs_trace::event::{Event, Fragment};
 use xs_trace::item::{Item, Limits, Site};
 use xs_trace::recorder::{Halt, Recorder, Tally};
-use xs_text::TextBuf;
 
 /// Keeps the events and messages that it gets, in order, up to its limits, and counts ticks: so
 /// its memory is that of what it answers with, however long a run is. An attempt of a global
@@ -122,9 +122,9 @@ impl<T: Drop> Brief<T> {
         self.left
     }
 
-    /// What was recorded, but for ticks: no item is a run of them.
+    /// What was recorded, except ticks: no item is a run of them.
     pub fn finish(self) -> Vec<Item>
-        ensures items { (⟦<Brief<T> as Tally>⟧.state self).told ≡ Untimed (marks_of result.items) }
+        ensures items { (⟦<Brief<T> as Tally>⟧.state self).reported ≡ Untimed (marks_of result.items) }
         ensures single { All IsSingle result.items }
     {
         self.marks.finish()

@@ -8,11 +8,11 @@ use xs_trace::item::{Ended, Site, Spot};
 use xs_trace::recorder::Halt;
 
 /// How a run ended that needed no global.
-pub(crate) fn ended(told: Result<(), Halt>) -> Result<Ended, AllocError>
-    requires settled { NeedsNone told }
-    ensures ended { IfOk result (λ ended. IsEnded told ended) }
+pub(crate) fn ended(reported: Result<(), Halt>) -> Result<Ended, AllocError>
+    requires settled { NeedsNone reported }
+    ensures ended { IfOk result (λ ended. IsEnded reported ended) }
 {
-    match told {
+    match reported {
         Ok(()) => Ok(Ended::Whole),
         Err(Halt::Fault(fault, site)) => Ok(Ended::Fault(spot(fault, site))),
         Err(Halt::Needs(_, _)) => unreachable!(),

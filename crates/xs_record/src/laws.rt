@@ -2,7 +2,7 @@
 ghost use Rattle.xs_record.specs.Outcome.{OutcomesAgree};
 ghost use Rattle.xs_record.specs.Piece.{NeverOver};
 
-/// Two outcomes of one cut are the same, but for where in their blocks the items lie.
+/// Two outcomes of one cut are the same, except where in their blocks the items lie.
 pub fn outcomes_agree<H>()
     ensures { OutcomesAgree H }
 {}

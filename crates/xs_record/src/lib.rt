@@ -4,6 +4,7 @@
 pub mod brief;
 mod ending;
 pub mod laws;
+pub mod log;
 mod marks;
 pub mod outcome;
 mod parts;
@@ -11,5 +12,4 @@ mod paying;
 pub mod piece;
 mod plain;
 mod room;
-pub mod row;
 pub mod segment;

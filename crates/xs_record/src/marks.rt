@@ -5,9 +5,9 @@ ghost use Rattle.xs_trace.specs.Mark.{ticks};
 ghost use Rattle.xs_trace.specs.State.{top, below};
 ghost use Rattle.xs_trace.specs.Kept.{marks_of, item_marks, IsPacked, IsSingle};
 ghost use Rattle.xs_record.specs.Store.{Held, empty, counted, marked, is_open, with_captures};
-ghost use Rattle.xs_record.specs.Store.{put_into, told_nothing, TakesRun};
+ghost use Rattle.xs_record.specs.Store.{put_into, reported_nothing, TakesRun};
 
-use crate::row::Row;
+use crate::log::ItemLog;
 use crate::segment::Run;
 use std::alloc::{AllocError, Global};
 use std::marker::{Model, PhantomData};
@@ -17,10 +17,10 @@ use xs_trace::item::{Item, Site};
 /// What was recorded, in order, and the captures that are open. `T` is what fills the holes of the
 /// traces.
 #[derive(Drop)]
-pub(crate) struct Marks<R: Row, T> {
+pub(crate) struct Marks<R: ItemLog, T> {
     alloc: Global,
-    // What was recorded, but for the last ticks.
-    row: R,
+    // What was recorded, except the last ticks.
+    log: R,
     // The open captures, the one that was opened last at the end.
     captures: Vec<Fragment>,
     // The place of the last tick, and how many ticks there no item holds yet.
@@ -29,31 +29,31 @@ pub(crate) struct Marks<R: Row, T> {
     of: PhantomData<T>,
 }
 
-impl<R: Row, T> Model for Marks<R, T> {
+impl<R: ItemLog, T> Model for Marks<R, T> {
     ghost Value = { Held T };
 
     ghost view = { λ m. record {
       store = record {
-        told = marks_of (R.items m.row) ++ ticks m.at m.run [];
+        reported = marks_of (R.items m.log) ++ ticks m.at m.run [];
         captures = reverse m.captures.items;
         at = m.at;
       };
-      blocks = R.blocks m.row;
+      blocks = R.blocks m.log;
     } };
 
-    ghost invariant = { λ m. TakesRun (R.items m.row) m.at m.run };
+    ghost invariant = { λ m. TakesRun (R.items m.log) m.at m.run };
 }
 
-impl<R: Row, T> Marks<R, T> {
-    /// Nothing was recorded yet, in an empty row.
-    pub(crate) fn new(alloc: Global, row: R) -> Marks<R, T>
-        requires empty { R.items row ≡ [] }
+impl<R: ItemLog, T> Marks<R, T> {
+    /// Nothing was recorded yet, in an empty log.
+    pub(crate) fn new(alloc: Global, log: R) -> Marks<R, T>
+        requires empty { R.items log ≡ [] }
         ensures empty { result.store ≡ empty }
-        ensures blocks { result.blocks ≡ R.blocks row }
+        ensures blocks { result.blocks ≡ R.blocks log }
     {
         Marks {
             alloc,
-            row,
+            log,
             captures: Vec::new(alloc),
             at: Site { module: 0, line: 0 },
             run: 0,
@@ -78,7 +78,7 @@ impl<R: Row, T> Marks<R, T> {
 
     /// Some ticks more. There is no room for 2^64 of them in one run.
     pub(crate) fn count(&mut self, site: Site, count: u64) -> Result<(), AllocError>
-        ensures told { OnOk result (self.new.store ≡ counted site count self.old.store) }
+        ensures reported { OnOk result (self.new.store ≡ counted site count self.old.store) }
         ensures blocks { self.old.blocks ≤ self.new.blocks }
     {
         if count == 0 {
@@ -95,7 +95,7 @@ impl<R: Row, T> Marks<R, T> {
             site: self.at,
             ticks: self.run,
         };
-        self.row.push_run(run)?;
+        self.log.push_run(run)?;
         self.at = site;
         self.run = count;
         Ok(())
@@ -104,7 +104,7 @@ impl<R: Row, T> Marks<R, T> {
     /// An event, to the innermost capture or else among the marks.
     #[inline(always)]
     pub(crate) fn put(&mut self, event: Event) -> Result<(), AllocError>
-        ensures told { OnOk result
+        ensures reported { OnOk result
             (self.new.store ≡ put_into self.old.store.captures event self.old.store) }
         ensures blocks { self.old.blocks ≤ self.new.blocks }
     {
@@ -122,21 +122,21 @@ impl<R: Row, T> Marks<R, T> {
     #[inline(always)]
     pub(crate) fn push(&mut self, item: Item) -> Result<(), AllocError>
         requires single { IsSingle item }
-        ensures told { OnOk result (self.new.store ≡ marked (item_marks item) self.old.store) }
+        ensures reported { OnOk result (self.new.store ≡ marked (item_marks item) self.old.store) }
         ensures blocks { self.old.blocks ≤ self.new.blocks }
     {
         let run = Run {
             site: self.at,
             ticks: self.run,
         };
-        self.row.push(run, item)?;
+        self.log.push(run, item)?;
         self.run = 0;
         Ok(())
     }
 
     /// A capture is opened.
     pub(crate) fn open(&mut self) -> Result<(), AllocError>
-        ensures told { OnOk result
+        ensures reported { OnOk result
             (self.new.store ≡ with_captures ([] ∷ self.old.store.captures) self.old.store) }
         ensures blocks { self.new.blocks ≡ self.old.blocks }
     {
@@ -160,9 +160,9 @@ impl<R: Row, T> Marks<R, T> {
     /// What was recorded, in the fewest items; from here on nothing was.
     pub(crate) fn take(&mut self) -> Result<R::Taken, AllocError>
         ensures items { IfOk result (λ taken.
-            marks_of (R.taken_items taken) ≡ self.old.store.told) }
+            marks_of (R.taken_items taken) ≡ self.old.store.reported) }
         ensures packed { IfOk result (λ taken. IsPacked (R.taken_items taken)) }
-        ensures rest { OnOk result (self.new.store ≡ told_nothing self.old.store) }
+        ensures rest { OnOk result (self.new.store ≡ reported_nothing self.old.store) }
         ensures blocks { IfOk result (λ taken.
             self.old.blocks ≤ self.new.blocks + R.taken_blocks taken) }
         ensures refused { OnErr result (self.old.blocks ≤ self.new.blocks) }
@@ -171,16 +171,16 @@ impl<R: Row, T> Marks<R, T> {
             site: self.at,
             ticks: self.run,
         };
-        let taken = self.row.take(run)?;
+        let taken = self.log.take(run)?;
         self.run = 0;
         Ok(taken)
     }
 
-    /// The row, with what lies in it.
-    pub(crate) fn into_row(self) -> R
+    /// The log, with what lies in it.
+    pub(crate) fn into_log(self) -> R
         ensures blocks { R.blocks result ≡ self.blocks }
     {
-        let Marks { row, .. } = self;
-        row
+        let Marks { log, .. } = self;
+        log
     }
 }

@@ -13,9 +13,9 @@ ghost use Rattle.xs_record.specs.Outcome.{AreParts, AreSections, part_blocks};
 ghost use Rattle.xs_record.specs.Outcome.{part_marks, section_marks};
 ghost use Rattle.xs_record.specs.Segment.{items_of};
 
+use crate::log::ChainLog;
 use crate::marks::Marks;
 use crate::outcome::{Part, free_parts};
-use crate::row::ChainRow;
 use crate::segment::Segment;
 use std::alloc::{AllocError, Global};
 use std::marker::Model;
@@ -30,7 +30,7 @@ pub(crate) struct Parts<H> {
     // What was recorded before each hole, and the task that fills it.
     before: Vec<Part>,
     tasks: Vec<H>,
-    marks: Marks<ChainRow, H>,
+    marks: Marks<ChainLog, H>,
 }
 
 impl<H> Model for Parts<H> {
@@ -61,7 +61,7 @@ impl<H: Drop> Parts<H> {
         Parts {
             before: Vec::new(alloc),
             tasks: Vec::new(alloc),
-            marks: Marks::new(alloc, ChainRow::new(alloc, pool)),
+            marks: Marks::new(alloc, ChainLog::new(alloc, pool)),
         }
     }
 
@@ -83,7 +83,7 @@ impl<H: Drop> Parts<H> {
     /// Some ticks more. There is no room for 2^64 of them in one run.
     #[tactic(auto, using(crate::proofs::SectionLemmas::behind_counted))]
     pub(crate) fn count(&mut self, site: Site, count: u64) -> Result<(), AllocError>
-        ensures told { OnOk result (self.new.store ≡ counted site count self.old.store) }
+        ensures reported { OnOk result (self.new.store ≡ counted site count self.old.store) }
         ensures blocks { self.old.blocks ≤ self.new.blocks }
     {
         self.marks.count(site, count)
@@ -93,7 +93,7 @@ impl<H: Drop> Parts<H> {
     #[tactic(auto, using(crate::proofs::SectionLemmas::behind_put))]
     #[inline(always)]
     pub(crate) fn put(&mut self, event: Event) -> Result<(), AllocError>
-        ensures told { OnOk result
+        ensures reported { OnOk result
             (self.new.store ≡ put_into self.old.store.captures event self.old.store) }
         ensures blocks { self.old.blocks ≤ self.new.blocks }
     {
@@ -104,7 +104,7 @@ impl<H: Drop> Parts<H> {
     #[tactic(auto, using(crate::proofs::SectionLemmas::behind_marked))]
     pub(crate) fn push(&mut self, item: Item) -> Result<(), AllocError>
         requires single { IsSingle item }
-        ensures told { OnOk result (self.new.store ≡ marked (item_marks item) self.old.store) }
+        ensures reported { OnOk result (self.new.store ≡ marked (item_marks item) self.old.store) }
         ensures blocks { self.old.blocks ≤ self.new.blocks }
     {
         self.marks.push(item)
@@ -112,7 +112,7 @@ impl<H: Drop> Parts<H> {
 
     /// A hole. Room for it is made first, so that a refusal loses no block.
     pub(crate) fn hole(&mut self, task: H) -> Result<(), AllocError>
-        ensures told { OnOk result (self.new.store ≡ marked (Hole task ∷ []) self.old.store) }
+        ensures reported { OnOk result (self.new.store ≡ marked (Hole task ∷ []) self.old.store) }
         ensures blocks { self.old.blocks ≤ self.new.blocks }
     {
         self.before.reserve(1)?;
@@ -126,7 +126,7 @@ impl<H: Drop> Parts<H> {
 
     /// A capture is opened.
     pub(crate) fn open(&mut self) -> Result<(), AllocError>
-        ensures told { OnOk result
+        ensures reported { OnOk result
             (self.new.store ≡ with_captures ([] ∷ self.old.store.captures) self.old.store) }
         ensures blocks { self.new.blocks ≡ self.old.blocks }
     {
@@ -146,10 +146,10 @@ impl<H: Drop> Parts<H> {
     /// What was recorded, as parts; the tasks of their holes are appended to the children. The pool
     /// comes back whatever the answer: out of memory, with all blocks.
     pub(crate) fn finish(self, children: &mut Vec<H>) -> Left
-        ensures marks { IfOk result.parts (λ ps. part_marks ps.items ≡ numbered 0 self.store.told) }
+        ensures marks { IfOk result.parts (λ ps. part_marks ps.items ≡ numbered 0 self.store.reported) }
         ensures parts { IfOk result.parts (λ ps. AreParts 0 ps.items) }
         ensures tasks { IfOk result.parts (λ ps.
-            children.new.items ≡ children.old.items ++ tasks_of self.store.told) }
+            children.new.items ≡ children.old.items ++ tasks_of self.store.reported) }
         ensures blocks { IfOk result.parts (λ ps. (n : ℕ) → n ≤ most_blocks → n ≤ self.blocks
             → n ≤ part_blocks ps.items + result.pool) }
         ensures refused { OnErr result.parts (children.new.items ≡ children.old.items) }
@@ -166,11 +166,11 @@ impl<H: Drop> Parts<H> {
             Err(refused) => {
                 return Left {
                     parts: Err(refused),
-                    pool: reclaim(marks.into_row().into_pool(), before),
+                    pool: reclaim(marks.into_log().into_pool(), before),
                 };
             }
         }
-        let pool = marks.into_row().into_pool();
+        let pool = marks.into_log().into_pool();
         match children.append(&mut tasks) {
             Ok(()) => Left {
                 parts: Ok(before),
@@ -188,18 +188,18 @@ impl<H: Drop> Parts<H> {
         ensures blocks { (n : ℕ) → n ≤ most_blocks → n ≤ self.blocks → n ≤ result }
     {
         let Parts { before, marks, .. } = self;
-        reclaim(marks.into_row().into_pool(), before)
+        reclaim(marks.into_log().into_pool(), before)
     }
 }
 
 /// The items that no hole follows, and room for one part more.
 fn take_last<H: Drop>(
     before: &mut Vec<Part>,
-    marks: &mut Marks<ChainRow, H>,
+    marks: &mut Marks<ChainLog, H>,
 ) -> Result<Chain<Segment>, AllocError>
     ensures before { before.new.items ≡ before.old.items }
     ensures room { OnOk result (vec_len before.new < vec_capacity before.new) }
-    ensures items { IfOk result (λ items. marks_of (items_of items) ≡ marks.old.store.told) }
+    ensures items { IfOk result (λ items. marks_of (items_of items) ≡ marks.old.store.reported) }
     ensures packed { IfOk result (λ items. IsPacked (items_of items)) }
     ensures blocks { IfOk result (λ items.
         marks.old.blocks ≤ marks.new.blocks + blocks_of items) }

@@ -24,19 +24,19 @@ pub(crate) fn pay<T: Total>(total: &mut T, count: u64) -> Result<(), Halt>
     Ok(())
 }
 
-/// Adds what is due at the end of a run, and answers how it ended.
-pub(crate) fn settle<T: Total>(total: &mut T, due: u64, ended: Ended) -> Ended
-    requires few { due ≤ 1024 }
-    requires open { IsOpen (T.most total.old) (T.last total.old) due }
+/// Adds what is unpaid at the end of a run, and answers how it ended.
+pub(crate) fn settle<T: Total>(total: &mut T, unpaid: u64, ended: Ended) -> Ended
+    requires few { unpaid ≤ 1024 }
+    requires open { IsOpen (T.most total.old) (T.last total.old) unpaid }
     ensures kept { T.kept total.new ≡ T.kept total.old }
     ensures most { T.most total.new ≡ T.most total.old }
-    ensures added { T.added total.new ≡ T.added total.old + due }
+    ensures added { T.added total.new ≡ T.added total.old + unpaid }
     ensures stays { (t : ℕ) → over (T.most total.old) (T.last total.old) ≡ Some t →
         over (T.most total.old) (T.last total.new) ≡ Some t }
     ensures ended { result ≡ ended_in (over (T.most total.old) (T.last total.new)) ended }
 {
-    if due > 0 {
-        let _sum = total.add(due);
+    if unpaid > 0 {
+        let _sum = total.add(unpaid);
     }
     match total.above() {
         Some(total) => Ended::Over { total },

@@ -4,7 +4,7 @@ ghost use Rattle.xs_block.specs.Chain.{most_blocks};
 ghost use Rattle.xs_trace.specs.Kept.{IsEnded, NeedsNone};
 ghost use Rattle.xs_record.specs.Outcome.{part_blocks};
 ghost use Rattle.xs_record.specs.Paying.{IsOpen};
-ghost use Rattle.xs_record.specs.Piece.{HasAdded, Paid, held, started, IsDue, IsPieceOf};
+ghost use Rattle.xs_record.specs.Piece.{HasAdded, Paid, held, started, AreUnpaid, IsPieceOf};
 ghost use Rattle.xs_record.specs.Store.{limited_to};
 
 use crate::ending::ended;
@@ -15,10 +15,10 @@ use crate::room::spend;
 use crate::segment::Segment;
 use std::alloc::{AllocError, Global};
 use xs_block::pool::Pool;
+use xs_text::TextBuf;
 use xs_trace::event::{Event, Fragment};
 use xs_trace::item::{Ended, Item, Limits, Site};
 use xs_trace::recorder::{Halt, Recorder, Tally, tick_several};
-use xs_text::TextBuf;
 use xs_trace::total::Total;
 
 /// What comes back from a recorder of a piece.
@@ -44,13 +44,13 @@ pub struct PieceRecorder<T: Total, H> {
     limits: Limits,
     total: T,
     // How many ticks were not added yet, and how often 1,024 were.
-    due: u64,
+    unpaid: u64,
     additions: u64,
     // How many free blocks the pool had at the start.
     free: usize,
-    ghost few: { due < 1024 },
-    ghost open: { IsOpen (T.most total) (T.last total) due },
-    ghost all: { left + (1024 * additions + due) ≡ limits.ticks },
+    ghost few: { unpaid < 1024 },
+    ghost open: { IsOpen (T.most total) (T.last total) unpaid },
+    ghost all: { left + (1024 * additions + unpaid) ≡ limits.ticks },
     ghost enough: { free ≤ parts.blocks },
     ghost counted: { free ≤ most_blocks },
 }
@@ -64,7 +64,7 @@ impl<T: Total, H: Drop> Tally for PieceRecorder<T, H> {
       limits = p.limits;
       total = T.kept p.total;
       most = T.most p.total;
-      all = T.added p.total + (p.due + p.left);
+      all = T.added p.total + (p.unpaid + p.left);
       free = p.free;
     } };
 
@@ -82,12 +82,12 @@ impl<T: Total, H: Drop> Tally for PieceRecorder<T, H> {
         }
         self.parts.count(site, 1)?;
         self.left -= 1;
-        if self.due == 1023 {
-            self.due = 0;
+        if self.unpaid == 1023 {
+            self.unpaid = 0;
             self.additions += 1;
             return pay(&mut self.total, 1024);
         }
-        self.due += 1;
+        self.unpaid += 1;
         Ok(())
     }
 }
@@ -160,22 +160,22 @@ impl<T: Total + Drop, H: Drop> PieceRecorder<T, H> {
             left: limits.ticks,
             limits,
             total,
-            due: 0,
+            unpaid: 0,
             additions: 0,
             free,
         }
     }
 
     /// How many ticks were not added to the total yet: those past the last full 1,024.
-    pub fn due(&self) -> u64
-        ensures due { (left : ℕ) →
+    pub fn unpaid(&self) -> u64
+        ensures unpaid { (left : ℕ) →
             (⟦<PieceRecorder<T, H> as Tally>⟧.state self.now).left ≡ Some left →
-            IsDue result left (⟦<PieceRecorder<T, H> as Tally>⟧.kept self.now).limits.ticks }
+            AreUnpaid result left (⟦<PieceRecorder<T, H> as Tally>⟧.kept self.now).limits.ticks }
     {
-        self.due
+        self.unpaid
     }
 
-    /// The share in the total. All ticks were added through it but those that are due.
+    /// The share in the total. All ticks were added through it but those that are unpaid.
     #[tactic(auto, using(crate::proofs::PieceLemmas::has_added))]
     pub fn total(&self) -> &T
         ensures added { (left : ℕ) →
@@ -189,10 +189,10 @@ impl<T: Total + Drop, H: Drop> PieceRecorder<T, H> {
 
     /// What a piece gave that ended so, and needed no global, after its last addition. The tasks of
     /// its holes are appended to the children. The share and the pool come back in each case.
-    pub fn finish(self, told: Result<(), Halt>, children: &mut Vec<H>) -> Finished<T>
-        requires settled { NeedsNone told }
+    pub fn finish(self, reported: Result<(), Halt>, children: &mut Vec<H>) -> Finished<T>
+        requires settled { NeedsNone reported }
         ensures piece { IfOk result.outcome
-            (IsPieceOf (⟦<PieceRecorder<T, H> as Tally>⟧.kept self) told
+            (IsPieceOf (⟦<PieceRecorder<T, H> as Tally>⟧.kept self) reported
             (⟦<PieceRecorder<T, H> as Tally>⟧.state self) (T.added result.total)
             (T.last result.total) children.old.items children.new.items) }
         ensures refused { OnErr result.outcome (children.new.items ≡ children.old.items) }
@@ -206,7 +206,7 @@ impl<T: Total + Drop, H: Drop> PieceRecorder<T, H> {
         ensures free { OnErr result.outcome
             ((⟦<PieceRecorder<T, H> as Tally>⟧.kept self).free ≤ result.pool) }
     {
-        match ended(told) {
+        match ended(reported) {
             Ok(ended) => self.close(ended, children),
             Err(refused) => {
                 let PieceRecorder { parts, total, .. } = self;
@@ -221,8 +221,8 @@ impl<T: Total + Drop, H: Drop> PieceRecorder<T, H> {
 
     /// What a piece gave that ended so, after its last addition.
     fn close(self, ended: Ended, children: &mut Vec<H>) -> Finished<T>
-        ensures piece { IfOk result.outcome (λ o. (told : _) → IsEnded told ended →
-            IsPieceOf (⟦<PieceRecorder<T, H> as Tally>⟧.kept self) told
+        ensures piece { IfOk result.outcome (λ o. (reported : _) → IsEnded reported ended →
+            IsPieceOf (⟦<PieceRecorder<T, H> as Tally>⟧.kept self) reported
             (⟦<PieceRecorder<T, H> as Tally>⟧.state self) (T.added result.total)
             (T.last result.total) children.old.items children.new.items o) }
         ensures refused { OnErr result.outcome (children.new.items ≡ children.old.items) }
@@ -241,13 +241,13 @@ impl<T: Total + Drop, H: Drop> PieceRecorder<T, H> {
             left,
             limits,
             mut total,
-            due,
+            unpaid,
             ..
         } = self;
         let Left { parts, pool } = parts.finish(children);
         match parts {
             Ok(parts) => {
-                let ended = settle(&mut total, due, ended);
+                let ended = settle(&mut total, unpaid, ended);
                 let ticks = limits.ticks - left;
                 let outcome = Ok(Outcome {
                     parts,

@@ -11,7 +11,7 @@ use std::marker::{Model, PhantomData};
 use xs_trace::event::{Event, Fragment};
 use xs_trace::item::{Item, Site};
 
-/// What was recorded but for ticks, in order, and the captures that are open. `T` is what fills the
+/// What was recorded except ticks, in order, and the captures that are open. `T` is what fills the
 /// holes of the traces.
 #[derive(Drop)]
 pub struct Plain<T> {
@@ -28,7 +28,7 @@ impl<T> Model for Plain<T> {
     ghost Value = { Store T };
 
     ghost view = { λ m. record {
-      told = marks_of m.items.items;
+      reported = marks_of m.items.items;
       captures = reverse m.captures.items;
       at = m.at;
     } };
@@ -73,9 +73,9 @@ impl<T> Plain<T> {
 
     /// An event, to the innermost capture or else after what was recorded.
     pub fn put(&mut self, event: Event) -> Result<(), AllocError>
-        ensures told { OnOk result (self.new ≡ put_into self.old.captures event self.old) }
+        ensures reported { OnOk result (self.new ≡ put_into self.old.captures event self.old) }
         ensures refused { OnErr result
-            ((self.new.told ≡ self.old.told) × (self.new.at ≡ self.old.at)) }
+            ((self.new.reported ≡ self.old.reported) × (self.new.at ≡ self.old.at)) }
     {
         match self.captures.pop() {
             Some(mut inner) => {
@@ -90,9 +90,9 @@ impl<T> Plain<T> {
     /// An item that is no run of ticks.
     pub fn push(&mut self, item: Item) -> Result<(), AllocError>
         requires single { IsSingle item }
-        ensures told { OnOk result (self.new ≡ marked (item_marks item) self.old) }
+        ensures reported { OnOk result (self.new ≡ marked (item_marks item) self.old) }
         ensures refused { OnErr result
-            ((self.new.told ≡ self.old.told) × (self.new.at ≡ self.old.at)) }
+            ((self.new.reported ≡ self.old.reported) × (self.new.at ≡ self.old.at)) }
     {
         self.items.push(item)?;
         Ok(())
@@ -100,9 +100,9 @@ impl<T> Plain<T> {
 
     /// A capture is opened.
     pub fn open(&mut self) -> Result<(), AllocError>
-        ensures told { OnOk result (self.new ≡ with_captures ([] ∷ self.old.captures) self.old) }
+        ensures reported { OnOk result (self.new ≡ with_captures ([] ∷ self.old.captures) self.old) }
         ensures refused { OnErr result
-            ((self.new.told ≡ self.old.told) × (self.new.at ≡ self.old.at)) }
+            ((self.new.reported ≡ self.old.reported) × (self.new.at ≡ self.old.at)) }
     {
         self.captures.push(Fragment::of(Vec::new(self.alloc)))?;
         Ok(())
@@ -121,7 +121,7 @@ impl<T> Plain<T> {
 
     /// What was recorded, in items that are no runs of ticks.
     pub fn finish(self) -> Vec<Item>
-        ensures items { marks_of result.items ≡ self.told }
+        ensures items { marks_of result.items ≡ self.reported }
         ensures single { All IsSingle result.items }
     {
         let Plain { items, .. } = self;

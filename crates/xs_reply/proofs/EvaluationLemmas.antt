@@ -96,25 +96,25 @@ module _ (job : Job) (w : World) (t : Table) where
       (in_globals {t = t} {s = s} settles (ap (λ says. stopped_answer w.sheet.modules s says t.ticks no_pieces) (append-nil t.says))) same
 
   -- or the globals are settled, with these messages and ticks
-  module _ (sheet : Sheet) (of : sheet ≡ w.sheet) (told : List (List ℕ)) (said : t.says ≡ told) (before_root : ℕ) (took : t.ticks ≡ before_root)
+  module _ (sheet : Sheet) (of : sheet ≡ w.sheet) (reported : List (List ℕ)) (said : t.says ≡ reported) (before_root : ℕ) (took : t.ticks ≡ before_root)
       (all_settled : SettlesAll w job.given job.budget (settled t)) (e : Executed) (ran : IsRan job w t e) where
     abbrev events : List Event
     events = events_in (items_of e.assembled.items)
 
     abbrev says : List (List ℕ)
-    says = told ++ e.assembled.says.items
+    says = reported ++ e.assembled.says.items
 
     abbrev ticks : ℕ
     ticks = before_root + e.assembled.ticks
 
-    abbrev due : Pieces
-    due = root_pieces job w t
+    abbrev expected : Pieces
+    expected = root_pieces job w t
 
     abbrev d : Cut Task
     d = root_cut job w t
 
     says_are : t.says ++ messages_of d.passed ≡ says
-    says_are = ap (λ ms. ms ++ messages_of d.passed) said ∙ ap (λ ms. told ++ ms) (sym ran.messages)
+    says_are = ap (λ ms. ms ++ messages_of d.passed) said ∙ ap (λ ms. reported ++ ms) (sym ran.messages)
 
     ticks_are : t.ticks + tick_count d.passed ≡ ticks
     ticks_are = ap (λ n. n + tick_count d.passed) took ∙ ap (λ n. before_root + n) (sym ran.ticks)
@@ -126,40 +126,40 @@ module _ (job : Job) (w : World) (t : Table) where
         (law w job.given job.budget t (job.budget - t.ticks) job.most_events named all_settled
         (whole_end d.end (subst (EndsIn d.end) is ran.end)))
 
-    whole_due : e.assembled.end ≡ None → IsEvaluated job w (whole_answer sheet.method job.stats says events ticks due)
-    whole_due is =
-        let a : IsCutAnswer job.stats w.sheet t due d
-        (whole_answer w.sheet.method job.stats (t.says ++ messages_of d.passed) (events_of d.passed) (t.ticks + tick_count d.passed) due) =
-        whole_answers job.stats w.sheet d.passed (t.says ++ messages_of d.passed) (t.ticks + tick_count d.passed) due d.end
+    whole_expected : e.assembled.end ≡ None → IsEvaluated job w (whole_answer sheet.method job.stats says events ticks expected)
+    whole_expected is =
+        let a : IsCutAnswer job.stats w.sheet t expected d
+        (whole_answer w.sheet.method job.stats (t.says ++ messages_of d.passed) (events_of d.passed) (t.ticks + tick_count d.passed) expected) =
+        whole_answers job.stats w.sheet d.passed (t.says ++ messages_of d.passed) (t.ticks + tick_count d.passed) expected d.end
         (subst (EndsIn d.end) is ran.end) in
-        let same : whole_answer w.sheet.method job.stats (t.says ++ messages_of d.passed) (events_of d.passed) (t.ticks + tick_count d.passed) due
-        ≡ whole_answer sheet.method job.stats says events ticks due =
-        ap (λ (q : Sheet). whole_answer q.method job.stats (t.says ++ messages_of d.passed) (events_of d.passed) (t.ticks + tick_count d.passed) due)
+        let same : whole_answer w.sheet.method job.stats (t.says ++ messages_of d.passed) (events_of d.passed) (t.ticks + tick_count d.passed) expected
+        ≡ whole_answer sheet.method job.stats says events ticks expected =
+        ap (λ (q : Sheet). whole_answer q.method job.stats (t.says ++ messages_of d.passed) (events_of d.passed) (t.ticks + tick_count d.passed) expected)
         (sym of)
-        ∙ ap (λ ms. whole_answer sheet.method job.stats ms (events_of d.passed) (t.ticks + tick_count d.passed) due) says_are
-        ∙ ap (λ es. whole_answer sheet.method job.stats says es (t.ticks + tick_count d.passed) due) (sym ran.events)
-        ∙ ap (λ n. whole_answer sheet.method job.stats says events n due) ticks_are in
-        in_root {t = t} all_settled (subst (IsCutAnswer job.stats w.sheet t due d) same a)
+        ∙ ap (λ ms. whole_answer sheet.method job.stats ms (events_of d.passed) (t.ticks + tick_count d.passed) expected) says_are
+        ∙ ap (λ es. whole_answer sheet.method job.stats says es (t.ticks + tick_count d.passed) expected) (sym ran.events)
+        ∙ ap (λ n. whole_answer sheet.method job.stats says events n expected) ticks_are in
+        in_root {t = t} all_settled (subst (IsCutAnswer job.stats w.sheet t expected d) same a)
 
-    stopped_due : (s : Spot) → e.assembled.end ≡ Some s → IsEvaluated job w (stopped_answer sheet.modules s says ticks due)
-    stopped_due s is =
-        let a : IsCutAnswer job.stats w.sheet t due d
-        (stopped_answer w.sheet.modules s (t.says ++ messages_of d.passed) (t.ticks + tick_count d.passed) due) =
-        stopped_answers job.stats w.sheet d.passed (t.says ++ messages_of d.passed) (t.ticks + tick_count d.passed) due d.end s
+    stopped_expected : (s : Spot) → e.assembled.end ≡ Some s → IsEvaluated job w (stopped_answer sheet.modules s says ticks expected)
+    stopped_expected s is =
+        let a : IsCutAnswer job.stats w.sheet t expected d
+        (stopped_answer w.sheet.modules s (t.says ++ messages_of d.passed) (t.ticks + tick_count d.passed) expected) =
+        stopped_answers job.stats w.sheet d.passed (t.says ++ messages_of d.passed) (t.ticks + tick_count d.passed) expected d.end s
         (subst (EndsIn d.end) is ran.end) in
-        let same : stopped_answer w.sheet.modules s (t.says ++ messages_of d.passed) (t.ticks + tick_count d.passed) due
-        ≡ stopped_answer sheet.modules s says ticks due =
-        ap (λ (q : Sheet). stopped_answer q.modules s (t.says ++ messages_of d.passed) (t.ticks + tick_count d.passed) due) (sym of)
-        ∙ ap (λ ms. stopped_answer sheet.modules s ms (t.ticks + tick_count d.passed) due) says_are
-        ∙ ap (λ n. stopped_answer sheet.modules s says n due) ticks_are in
-        in_root {t = t} all_settled (subst (IsCutAnswer job.stats w.sheet t due d) same a)
+        let same : stopped_answer w.sheet.modules s (t.says ++ messages_of d.passed) (t.ticks + tick_count d.passed) expected
+        ≡ stopped_answer sheet.modules s says ticks expected =
+        ap (λ (q : Sheet). stopped_answer q.modules s (t.says ++ messages_of d.passed) (t.ticks + tick_count d.passed) expected) (sym of)
+        ∙ ap (λ ms. stopped_answer sheet.modules s ms (t.ticks + tick_count d.passed) expected) says_are
+        ∙ ap (λ n. stopped_answer sheet.modules s says n expected) ticks_are in
+        in_root {t = t} all_settled (subst (IsCutAnswer job.stats w.sheet t expected d) same a)
 
     -- the reply has its pieces
     runs : (reply : Reply) (pieces : CodePieces) → reply.pieces ≡ pieces → pieces.claims.items ≡ e.claims.items → pieces.inline ≡ e.assembled.inline
-        → pieces.worked ≡ e.worked → (reply.status ≡ OK → e.assembled.end ≡ None) → RunsPieces due reply
+        → pieces.worked ≡ e.worked → (reply.status ≡ OK → e.assembled.end ≡ None) → RunsPieces expected reply
     runs reply pieces has c i k ok =
         let all = ran.run in
-        let q : AreRun due (reply.status ≡ OK) e.claims.items e.assembled.inline e.worked = record {
+        let q : AreRun expected (reply.status ≡ OK) e.claims.items e.assembled.inline e.worked = record {
           claimed = all.claimed;
           workers = all.workers;
           whole = λ s. all.whole (ok s);
@@ -169,10 +169,10 @@ module _ (job : Job) (w : World) (t : Table) where
           bound = all.bound;
           idle = all.idle;
         } in
-        subst (λ (p : CodePieces). AreRun due (reply.status ≡ OK) p.claims.items p.inline p.worked) (sym has)
-        (subst (λ cs. AreRun due (reply.status ≡ OK) cs pieces.inline pieces.worked) (sym c)
-        (subst (λ n. AreRun due (reply.status ≡ OK) e.claims.items n pieces.worked) (sym i)
-        (subst (λ n. AreRun due (reply.status ≡ OK) e.claims.items e.assembled.inline n) (sym k) q)))
+        subst (λ (p : CodePieces). AreRun expected (reply.status ≡ OK) p.claims.items p.inline p.worked) (sym has)
+        (subst (λ cs. AreRun expected (reply.status ≡ OK) cs pieces.inline pieces.worked) (sym c)
+        (subst (λ n. AreRun expected (reply.status ≡ OK) e.claims.items n pieces.worked) (sym i)
+        (subst (λ n. AreRun expected (reply.status ≡ OK) e.claims.items e.assembled.inline n) (sym k) q)))
 
     -- the root came to its end
     whole_so : RunsPutResults → (before all : Reply) (pieces : CodePieces) → e.assembled.end ≡ None → pieces.claims.items ≡ e.claims.items
@@ -183,25 +183,25 @@ module _ (job : Job) (w : World) (t : Table) where
         → all.pieces ≡ pieces → Replies (IsNamedWorld w) (IsEvaluated job w) all
     whole_so law before all pieces is c i k plain reads with has =
         let claimed = ran.run.whole is in
-        let count : length pieces.claims.items ≡ length due.places =
+        let count : length pieces.claims.items ≡ length expected.places =
         ap length c ∙ sym (claims-counted e.claims.items) ∙ ap length claimed.0 in
         let lines : before.lines.items ≡ message_lines says = ap (λ (a : Answer). a.lines) plain in
         let took_all : before.ticks ≡ ticks = ap (λ (a : Answer). a.ticks) plain in
         let result : before.result.items ≡ all.result.items = sym (ap (λ (a : Answer). a.result) with) in
-        let same : answer_of all (document_of sheet.method events) due ≡ whole_answer sheet.method job.stats says events ticks due =
-        ap (in_full (document_of sheet.method events) due) with
-        ∙ ap (λ a. in_full (document_of sheet.method events) due
+        let same : answer_of all (document_of sheet.method events) expected ≡ whole_answer sheet.method job.stats says events ticks expected =
+        ap (in_full (document_of sheet.method events) expected) with
+        ∙ ap (λ a. in_full (document_of sheet.method events) expected
         (with_lines (before.lines.items ++ stats_lines job.stats before.ticks (length pieces.claims.items)) a)) plain
-        ∙ ap (λ ls. in_full (document_of sheet.method events) due
+        ∙ ap (λ ls. in_full (document_of sheet.method events) expected
         (with_lines (ls ++ stats_lines job.stats before.ticks (length pieces.claims.items)) (plain_whole sheet.method says events ticks))) lines
-        ∙ ap (λ n. in_full (document_of sheet.method events) due
+        ∙ ap (λ n. in_full (document_of sheet.method events) expected
         (with_lines (message_lines says ++ stats_lines job.stats n (length pieces.claims.items)) (plain_whole sheet.method says events ticks))) took_all
-        ∙ ap (λ n. in_full (document_of sheet.method events) due
+        ∙ ap (λ n. in_full (document_of sheet.method events) expected
         (with_lines (message_lines says ++ stats_lines job.stats ticks n) (plain_whole sheet.method says events ticks))) count in
         record {
           document = document_of sheet.method events;
-          pieces = due;
-          answers = subst (IsEvaluated job w) (sym same) (whole_due is);
+          pieces = expected;
+          answers = subst (IsEvaluated job w) (sym same) (whole_expected is);
           run = runs all pieces has c i k (λ s. is);
           reads = λ named. subst (ReadsAs (document_of sheet.method events)) result (reads (put_result law named is));
         }
@@ -225,8 +225,8 @@ module _ (job : Job) (w : World) (t : Table) where
         let a : reply_of all ≡ stopped_answer sheet.modules s says ticks no_pieces = with ∙ ap (λ (p : Plain). p.answer) plain in
         record {
           document = None;
-          pieces = due;
-          answers = subst (IsEvaluated job w) (sym (ap (in_full None due) a)) (stopped_due s is);
+          pieces = expected;
+          answers = subst (IsEvaluated job w) (sym (ap (in_full None expected) a)) (stopped_expected s is);
           run = runs all pieces has c i k (λ ok. let f : all.status ≡ RUN_FAULT = ap (λ (x : Answer). x.status) a in absurd (omega (arith, ok, f)));
           reads = λ named. tt;
         }

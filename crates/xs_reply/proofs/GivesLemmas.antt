@@ -5,11 +5,11 @@ use Rattle.xs_reply.specs.declared.reply.Reply.{Reply}
 use Rattle.xs_reply.specs.declared.status.TheConstants.{NO_MEMORY, OK, WRITE_FAULT}
 use Rattle.xs_reply.specs.Answer.{Answer, Pieces}
 use Rattle.xs_reply.specs.Job.{Request}
-use Rattle.xs_reply.specs.Headline.{Account, AreClaimed, AreRun, AtOnce, Gained, Gives, IsCutShort, IsWritten, OneFault, OnlyDue, Writes}
-use Rattle.xs_reply.specs.Due.{IsDue}
+use Rattle.xs_reply.specs.Headline.{Account, AreClaimed, AreRun, AtOnce, Gained, Gives, IsCutShort, IsWritten, OneFault, OnlyExpected, Writes}
+use Rattle.xs_reply.specs.Expected.{IsExpected}
 use Rattle.xs_reply.specs.ReadBack.{ReadsAs}
 use Rattle.xs_reply.specs.Reply.{RunsPieces, answer_of, reply_of}
-use Rattle.xs_reply.proofs.DueLemmas.{each_due, only_due}
+use Rattle.xs_reply.proofs.ExpectedLemmas.{each_expected, only_expected}
 use Rattle.xs_trace.specs.declared.event.Event.{Event}
 
 -- a sink that was not written to holds what it held, and nothing more
@@ -68,17 +68,17 @@ nothing_given streamed answer account out err e = record {
 -- and so it is whatever is expected
 pub gives_nothing : (files : Option Files) (request : Option Request) (failed failed' : List (List ℕ)) (streamed : Bool) (account : Account)
     (out err : Option (List ℕ)) → account.status ≡ NO_MEMORY
-    → OnlyDue files request failed failed' (λ due. Gives streamed due account out out err err)
+    → OnlyExpected files request failed failed' (λ expected. Gives streamed expected account out out err err)
 gives_nothing files request failed failed' streamed account out err e =
-    each_due files request failed failed' (λ due. Gives streamed due account out out err err)
-    (λ due. nothing_given streamed due account out err e)
+    each_expected files request failed failed' (λ expected. Gives streamed expected account out out err err)
+    (λ expected. nothing_given streamed expected account out err e)
 
 -- what was given is all that is expected
 pub gives_only : (files : Option Files) (request : Option Request) (failed failed' : List (List ℕ)) (a : Answer) (streamed : Bool) (account : Account)
-    (out out' err err' : Option (List ℕ)) → IsDue files request failed failed' a → Gives streamed a account out out' err err'
-    → OnlyDue files request failed failed' (λ due. Gives streamed due account out out' err err')
-gives_only files request failed failed' a streamed account out out' err err' due given =
-    only_due files request failed failed' a (λ due. Gives streamed due account out out' err err') due given
+    (out out' err err' : Option (List ℕ)) → IsExpected files request failed failed' a → Gives streamed a account out out' err err'
+    → OnlyExpected files request failed failed' (λ expected. Gives streamed expected account out out' err err')
+gives_only files request failed failed' a streamed account out out' err err' expected given =
+    only_expected files request failed failed' a (λ expected. Gives streamed expected account out out' err err') expected given
 
 -- what holds of a result that is written at once
 pub at_once : (ended ended' : ℕ) (out out' : Option (List ℕ)) (f f' g g' : ℕ) → ended' ≡ ended → (ended ≢ OK → ended ≢ WRITE_FAULT → out' ≡ out)

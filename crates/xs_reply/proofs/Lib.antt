@@ -1,6 +1,6 @@
 pub mod ClaimLemmas
 pub mod CutFileLemmas
-pub mod DueLemmas
+pub mod ExpectedLemmas
 pub mod EndLemmas
 pub mod EvaluationLemmas
 pub mod FetchLemmas

@@ -26,9 +26,9 @@ use Rattle.xs_reply.proofs.OneSettlingLemmas.{one-settling}
 use Rattle.xs_reply.proofs.PlaceLemmas.{tree-same}
 
 -- ---- by what settling comes to
-abbrev told : Answer → List (List ℕ) → Settled → Answer
-told x names (settled t) = x
-told x names (ended t s) = stopped_answer names s t.says t.ticks no_pieces
+abbrev reported : Answer → List (List ℕ) → Settled → Answer
+reported x names (settled t) = x
+reported x names (ended t s) = stopped_answer names s t.says t.ticks no_pieces
 
 abbrev has_ended : Settled → Bool
 has_ended (settled t) = false
@@ -101,7 +101,7 @@ module _ (job : Job) (a : Sheet) (i j : SetIndex) (rs : List Record) where
 
   one-run : (x y : Answer) → IsEvaluated job (over i) x → IsEvaluated job (over j) y → x ≡ y
   one-run x y (in_globals {t = t} {s = s} k e) (in_globals {t = u} {s = v} l o) =
-      e ∙ ap (told x a.modules) (settling-one (ended t s) (ended u v) k l) ∙ sym o
+      e ∙ ap (reported x a.modules) (settling-one (ended t s) (ended u v) k l) ∙ sym o
   one-run x y (in_globals {t = t} {s = s} k e) (in_root {t = u} l o) = absurd (true≢false (ap has_ended (settling-one (ended t s) (settled u) k l)))
   one-run x y (in_root {t = t} k e) (in_globals {t = u} {s = v} l o) = absurd (true≢false (sym (ap has_ended (settling-one (settled t) (ended u v) k l))))
   one-run x y (in_root {t = t} k e) (in_root {t = u} l o) =

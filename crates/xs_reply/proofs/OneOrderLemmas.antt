@@ -1,4 +1,4 @@
--- A list has one order in which it rises, where its order tells all elements apart: the order of globals is one.
+-- A list has one order in which it rises, where its order distinguishes all elements: the order of globals is one.
 use Rattle.std.proofs.Common.{◌≡◌, ℕ, suc, ◌+◌, ◌<◌, length, List, [], ◌∷◌, map, get_or, Bool, true, false, cond, sum_by, refl, sym, ap, subst, ◌∙◌, arith}
 use Rattle.std.proofs.lemmas.Bool.{true≢false}
 use Rattle.std.proofs.lemmas.Cmp.{upto, tied_itself, on_total, then_total, nat_cmp_total, ranked}

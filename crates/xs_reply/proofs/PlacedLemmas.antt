@@ -56,21 +56,21 @@ falls : (w : World) → Falls (rank_of w) (task_trace w)
 falls w = λ t. tasks-fall w t
 
 module _ (w : World) (root : Placed) (cs : List Claim) (a : AreOfTree (own w) root cs) where
-  due-there : (q : List ℕ) → Has q (claimed_places cs) → Has q (task_places w root.task)
-  due-there q h =
+  expected-there : (q : List ℕ) → Has q (claimed_places cs) → Has q (task_places w root.task)
+  expected-there q h =
       let t = claim-there (own w) root cs a.there q h in
       place-there (rank_of w) (task_trace w) (falls w) (suc (rank_of w root.task)) root.task t.0.task q (omega arith)
       (sym (unplaced-at w (Some root) q) ∙ ap unplaced t.1)
 
-  due-ordered : InOrder (task_places w root.task)
-  due-ordered = tree-ordered (task_trace w) (suc (rank_of w root.task)) root.task
+  expected-ordered : InOrder (task_places w root.task)
+  expected-ordered = tree-ordered (task_trace w) (suc (rank_of w root.task)) root.task
 
   pub are-some : AreSome (claimed_places cs) (task_places w root.task)
-  are-some = some-of (task_places w root.task) (claimed_places cs) (claims-ordered (own w) root cs a) due-ordered due-there
+  are-some = some-of (task_places w root.task) (claimed_places cs) (claims-ordered (own w) root cs a) expected-ordered expected-there
 
   pub are-same : AreAll (own w) root cs → claimed_places cs ≡ task_places w root.task
   are-same all =
-      all-of (claimed_places cs) (task_places w root.task) are-some due-ordered
+      all-of (claimed_places cs) (task_places w root.task) are-some expected-ordered
       (λ q h.
       let s = there-is (task_trace w) (suc (rank_of w root.task)) root.task q h in
       let t = placed-there w root q s.0 (task_at (own w) (Some root) q) refl s.1 in

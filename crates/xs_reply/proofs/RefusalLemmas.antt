@@ -22,8 +22,8 @@ use Rattle.xs_words.specs.Choice.{Pair}
 use Rattle.xs_reply.specs.declared.reply.ReportedFault.{ReportedFault}
 use Rattle.xs_reply.specs.declared.status.TheConstants.{NO_MEMORY, OK, READ_FAULT, REFUSED, RUN_FAULT, USAGE, WRITE_FAULT}
 use Rattle.xs_reply.specs.Answer.{Answer, Pieces, reported}
-use Rattle.xs_reply.specs.Due.{IsAnswer, IsBytesAnswer, IsDue, IsEndAnswer, IsFaultlessAnswer, IsFile, IsInputsAnswer, IsModulesAnswer, IsReadAnswer}
-use Rattle.xs_reply.specs.Due.{IsRunAnswer, IsStaticAnswer, Owed, fault, own}
+use Rattle.xs_reply.specs.Expected.{IsAnswer, IsBytesAnswer, IsExpected, IsEndAnswer, IsFaultlessAnswer, IsFile, IsInputsAnswer, IsModulesAnswer, IsReadAnswer}
+use Rattle.xs_reply.specs.Expected.{IsRunAnswer, IsStaticAnswer, Owed, fault, own}
 use Rattle.xs_reply.specs.Evaluation as run
 use Rattle.xs_reply.specs.Evaluation.{IsEvaluated, IsEvaluatedOver, in_globals, in_root}
 use Rattle.xs_reply.specs.Fetches.{ReadsSheet}
@@ -35,7 +35,7 @@ use Rattle.xs_reply.specs.Read.{Read, read, bad}
 use Rattle.xs_reply.specs.Refusals.{AreDocuments, Decides, IsDecided, IsDecidedBy, IsEnd, IsFaultless, IsFirstBad, IsListed, IsRefused}
 use Rattle.xs_reply.specs.Refusals.{module_refused, stylesheet_refused, input_refused}
 use Rattle.xs_reply.specs.Run.{module_name, source_of}
-use Rattle.xs_reply.proofs.DueLemmas.{not_both, own_end}
+use Rattle.xs_reply.proofs.ExpectedLemmas.{not_both, own_end}
 use Rattle.xs_reply.proofs.FirstFaultLemmas.{one_fault}
 
 -- ---- statuses
@@ -142,18 +142,18 @@ module _ (files : Option Files) (job : Job) (a : Answer) (refuses : a.status ≡
   job-fault failed failed' (fault name grew is) = absurd (not-unread a.status (ap status_in is) refuses)
   job-fault failed failed' (own stays is) = end-fault is.end is.reads is.answers
 
-due-fault : (files : Option Files) (request : Option Request) (failed failed' : List (List ℕ)) (a : Answer) → IsDue files request failed failed' a
+expected-fault : (files : Option Files) (request : Option Request) (failed failed' : List (List ℕ)) (a : Answer) → IsExpected files request failed failed' a
     → a.status ≡ REFUSED → IsListed request files a.fault
-due-fault files None failed failed' a due refuses = absurd (not-usage a.status (ap status_in due.1) refuses)
-due-fault files (Some request) failed failed' a due refuses = job-fault (files_of request.made files) request.job a refuses failed failed' due
+expected-fault files None failed failed' a expected refuses = absurd (not-usage a.status (ap status_in expected.1) refuses)
+expected-fault files (Some request) failed failed' a expected refuses = job-fault (files_of request.made files) request.job a refuses failed failed' expected
 
 -- a report with this status and this fault of an answer that is expected
 pub listed_fault : (files : Option Files) (request : Option Request) (failed failed' : List (List ℕ)) (a : Answer) (status : ℕ)
-    (reported_fault : Option ReportedFault) → IsDue files request failed failed' a → (status ≡ a.status) ⊎ IsCutShort status → reported_fault ≡ a.fault
+    (reported_fault : Option ReportedFault) → IsExpected files request failed failed' a → (status ≡ a.status) ⊎ IsCutShort status → reported_fault ≡ a.fault
     → status ≡ REFUSED → IsListed request files reported_fault
-listed_fault files request failed failed' a status reported_fault due (inl same) e refuses =
-    subst (IsListed request files) (sym e) (due-fault files request failed failed' a due (sym same ∙ refuses))
-listed_fault files request failed failed' a status reported_fault due (inr short) e refuses = absurd (not-cut status short refuses)
+listed_fault files request failed failed' a status reported_fault expected (inl same) e refuses =
+    subst (IsListed request files) (sym e) (expected-fault files request failed failed' a expected (sym same ∙ refuses))
+listed_fault files request failed failed' a status reported_fault expected (inr short) e refuses = absurd (not-cut status short refuses)
 
 -- ---- known files decide
 -- what follows of an input whose bytes are known
@@ -245,10 +245,10 @@ decided-by (Some files) job a failed failed' status (fault name grew is) stays s
 decided-by (Some files) job a failed failed' status (own e is) stays same = decided files job a is status same
 
 pub decides : (files : Option Files) (request : Option Request) (failed failed' : List (List ℕ)) (a : Answer) (status : ℕ)
-    → IsDue files request failed failed' a → failed' ≡ failed → (status ≡ a.status) ⊎ IsCutShort status → Decides request files status
-decides files None failed failed' a status due stays same = tt
-decides files (Some request) failed failed' a status due stays same =
-    decided-by (files_of request.made files) request.job a failed failed' status due stays same
+    → IsExpected files request failed failed' a → failed' ≡ failed → (status ≡ a.status) ⊎ IsCutShort status → Decides request files status
+decides files None failed failed' a status expected stays same = tt
+decides files (Some request) failed failed' a status expected stays same =
+    decided-by (files_of request.made files) request.job a failed failed' status expected stays same
 
 -- out of memory nothing is decided
 short : (files : Option Files) (job : Job) (status : ℕ) → IsCutShort status → IsDecidedBy files job status

@@ -1,5 +1,5 @@
 pub mod Answer
-pub mod Due
+pub mod Expected
 pub mod Evaluation
 pub mod Faults
 pub mod Fetches

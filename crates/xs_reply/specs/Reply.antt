@@ -86,7 +86,7 @@ IsUnspent reply = (reply.ticks ≡ 0) × (reply.pieces.claims.items ≡ []) × (
 
 -- the pieces of a reply were run, of which these are expected
 abbrev pub RunsPieces : Pieces → Reply → Type 0
-RunsPieces due reply = AreRun due (reply.status ≡ OK) reply.pieces.claims.items reply.pieces.inline reply.pieces.worked
+RunsPieces expected reply = AreRun expected (reply.status ≡ OK) reply.pieces.claims.items reply.pieces.inline reply.pieces.worked
 
 -- A reply is an answer of which P says this, and its pieces were run; and where N holds, its result reads back as the events of this
 -- very answer.

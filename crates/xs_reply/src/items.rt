@@ -20,14 +20,14 @@ use std::alloc::{AllocError, Global};
 use std::marker::Model;
 use xs_block::chain::Chain;
 use xs_block::items::Items;
-use xs_result_laws::event_texts;
 use xs_record::segment::Segment;
 use xs_result::write_text;
+use xs_result_laws::event_texts;
+use xs_result_lines::PyxStream;
 use xs_sheet::declarations::Method;
 use xs_text::{TextBuf, escape_into};
 use xs_trace::event::Event;
 use xs_trace::item::Item;
-use xs_result_lines::PyxStream;
 
 /// The events among some items that are still to come. Contracts see it as the list of them.
 #[derive(Drop)]

@@ -1,7 +1,7 @@
 //! What a run is to do, of what its arguments ask for.
 
 ghost use Rattle.std.specs.Prelude.{◌≡◌, IfOk};
-ghost use Rattle.xs_words.specs.Results.{Gives, job_told, texts, told};
+ghost use Rattle.xs_words.specs.Results.{Gives, job_reported, texts, reported};
 ghost use Rattle.xs_reply.specs.Job.{is_supported, made_job, request_of, work_request};
 ghost use Rattle.xs_reply.specs.Reply.{IsWithin, job_data, request_data};
 
@@ -62,7 +62,7 @@ pub fn read_request(alloc: Global, words: &[String]) -> Result<Request, WordsEnd
 
 /// Whether options ask for nothing that is not supported.
 fn is_supported(options: &Options) -> bool
-    ensures { result ≡ is_supported (told options.now) }
+    ensures { result ≡ is_supported (reported options.now) }
 {
     !(options.profile || options.stream) && options.at.is_none() && options.documents.is_empty()
 }
@@ -71,7 +71,7 @@ fn is_supported(options: &Options) -> bool
 /// made.
 fn work_request(alloc: Global, options: Options) -> Result<Request, AllocError>
     ensures { IfOk result (λ request. request_data request
-        ≡ work_request (told options) (job_told options.job)) }
+        ≡ work_request (reported options) (job_reported options.job)) }
 {
     let Options {
         budget,

@@ -10,8 +10,8 @@ ghost use Rattle.xs_trace.specs.Label.{Label};
 use indexmap::IndexMap;
 use std::alloc::{AllocError, Global};
 use std::marker::Model;
-use xs_trace::event::{Event, Label};
 use xs_text::TextBuf;
+use xs_trace::event::{Event, Label};
 
 /// The local part and the namespace URI of a name (Namespaces in XML 1.0, 2.1): the local part
 /// first, since by it names mostly differ.

@@ -13,11 +13,11 @@ use Rattle.xs_tree.specs.Kinds.{is_attribute_kind, is_element_kind, is_namespace
 use Rattle.xs_tree.specs.Record.{Record, at, attributes, is_attribute, is_namespace, is_place, local_at, name_local, namespaces, places, root_record, uri_at}
 use Rattle.xs_tree.proofs.WalkLemmas.{le_or_gt, passing-passes, passing-within}
 use Rattle.xs_elements.specs.declared.reading.Reading.TheVariants.{Literal}
-use Rattle.xs_elements.specs.declared.rows.Row.{Row}
-use Rattle.xs_elements.specs.declared.rows.Row.TheVariants.{NoElement, Other}
+use Rattle.xs_elements.specs.declared.tags.Tag.{Tag}
+use Rattle.xs_elements.specs.declared.tags.Tag.TheVariants.{NoElement, Other}
 use Rattle.xs_elements.specs.Nodes.{ancestors_or_self, pair_at, scope_at}
 use Rattle.xs_elements.specs.Reading.{declares_extension, is_in_extension, reading_by, reading_of}
-use Rattle.xs_elements.specs.Rows.{is_top_level, row_named, xslt_uri}
+use Rattle.xs_elements.specs.Tags.{is_top_level, tag_named, xslt_uri}
 use Rattle.xs_elements.specs.WhiteSpace.{xml_uri}
 use Rattle.xs_making.specs.Labels.{is_reserved, xmlns_uri}
 use Rattle.xs_making.specs.Laws.{AreWell, BindsNoXmlns, IsNamed, IsSpace, IsWellAs}
@@ -88,7 +88,7 @@ attribute_kind Text h = absurd (cc)
 attribute_kind Comment h = absurd (cc)
 attribute_kind Pi h = absurd (cc)
 
-literal_kind : (kind : Kind) (row : Row) (top extension : Bool) → reading_by (if is_element_kind kind then row else NoElement) top extension ≡ Literal
+literal_kind : (kind : Kind) (row : Tag) (top extension : Bool) → reading_by (if is_element_kind kind then row else NoElement) top extension ≡ Literal
     → kind ≡ Element
 literal_kind Root row top extension h = absurd (cc)
 literal_kind Element row top extension h = refl
@@ -101,7 +101,7 @@ literal_kind Pi row top extension h = absurd (cc)
 -- a literal element is an element
 literal_element : (rs : List Record) (n : ℕ) → reading_of rs n ≡ Literal → (at rs n).kind ≡ Element
 literal_element rs n h =
-    literal_kind (at rs n).kind (if bytes_eq (uri_at rs n) xslt_uri then row_named (local_at rs n) else Other) (is_top_level rs n) (is_in_extension rs n) h
+    literal_kind (at rs n).kind (if bytes_eq (uri_at rs n) xslt_uri then tag_named (local_at rs n) else Other) (is_top_level rs n) (is_in_extension rs n) h
 
 element_within : (rs : List Record) (n : ℕ) → (at rs n).kind ≡ Element → n < length rs
 element_within rs n kind = elim (le_or_gt (length rs) n) [

@@ -15,7 +15,7 @@ abbrev pub levels : Bool → ℕ → ℕ
 levels true n = suc n
 levels false n = n
 
--- What is put can be written; where the trace goes on, its ends close what it begins, but for an element that is open at its start, or
+-- What is put can be written; where the trace goes on, its ends close what it begins, except an element that is open at its start, or
 -- at its end.
 pub record PutsBetween {H : Type 0} (before after : Bool) (x : Trace H) : Type 0 where
   pub named : AllByRecursion IsWellPut (events_of x)

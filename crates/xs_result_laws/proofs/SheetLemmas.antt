@@ -7,7 +7,7 @@ use Rattle.xs_tree.specs.Record.{attributes, uri_at}
 use Rattle.xs_elements.specs.declared.reading.Reading.TheVariants.{Literal as LiteralReading}
 use Rattle.xs_elements.specs.Contents.{is_with_param}
 use Rattle.xs_elements.specs.Reading.{is_xslt}
-use Rattle.xs_elements.specs.Rows.{is_attribute_set, is_fallback, is_param, is_template, is_when}
+use Rattle.xs_elements.specs.Tags.{is_attribute_set, is_fallback, is_param, is_template, is_when}
 use Rattle.xs_sheet.specs.declared.body.Binding.{Binding}
 use Rattle.xs_sheet.specs.declared.body.Body.{Body, Body', Row_of-Instr, end_of-Instr, more_of-Instr}
 use Rattle.xs_sheet.specs.declared.body.Choice.{Choice, Choice', Row_of-When, end_of-When, more_of-When}
@@ -30,14 +30,14 @@ use Rattle.xs_sheet.specs.declared.sheet.Sheet.{Sheet}
 use Rattle.xs_making.specs.Laws.{AreWell, BindsNoXmlns}
 use Rattle.xs_structure.specs.Modules.{Place, records_at}
 use Rattle.xs_structure.specs.Order.{all_with}
-use Rattle.xs_structure.specs.Parts.{body_at, children_with, reading_at, row_at, said_at}
+use Rattle.xs_structure.specs.Parts.{body_at, children_with, reading_at, tag_at, said_at}
 use Rattle.xs_compile.specs.Aliases.{alias_at, aliases, is_alias, is_counted_alias}
 use Rattle.xs_compile.specs.Bodies.{AreBindings, AreBodies, AreFallbacks, AreInstrs, AreWhens, IsBody, IsChoice, IsContent, IsKind, IsLiteralStart, IsMadeName}
 use Rattle.xs_compile.specs.Bodies.{IsPassed, IsPutAttribute, Source, first_body, is_otherwise, put_attributes}
 use Rattle.xs_compile.specs.Counted.{globals, templates}
 use Rattle.xs_compile.specs.Declarations.{IsBinding, IsGlobal, IsInstr, IsRuleOrModule, IsSet, IsTemplate, is_attribute}
 use Rattle.xs_compile.specs.Labels.{own_label}
-use Rattle.xs_compile.specs.StandsFor.{IsSheet}
+use Rattle.xs_compile.specs.Represents.{IsSheet}
 use Rattle.xs_result_laws.specs.Named.{AreNamedBindings, AreNamedBodies, AreNamedWhens, IsNamedAlias, IsNamedBinding, IsNamedBody, IsNamedChoice}
 use Rattle.xs_result_laws.specs.Named.{IsNamedContent, IsNamedFallbacks, IsNamedKind, IsNamedLabel, IsNamedMade, IsNamedPassed, IsNamedRow, IsNamedSet}
 use Rattle.xs_result_laws.specs.Named.{IsNamedSheet, IsNamedSpace, IsNamedStart, IsNamedTemplate}
@@ -143,7 +143,7 @@ module _ (s : Source) (well : (m : ℕ) → AreWell (records_at s.modules m)) wh
   }
 
   template_named : (p : Place) (t : Template) → IsTemplate s p t → IsNamedTemplate t
-  template_named p t is = rule_named (is_template (row_at s.modules p)) p t is.rest
+  template_named p t is = rule_named (is_template (tag_at s.modules p)) p t is.rest
 
   global_named : (p : Place) (g : Global) → IsGlobal s p g → IsNamedBinding g.binding
   global_named p g is = content_named p g.binding.content is.binding.content

@@ -11,7 +11,7 @@ use Rattle.xs_modules.specs.Sound.{IsSound}
 use Rattle.xs_result.specs.Built.{built}
 use Rattle.xs_sheet.specs.declared.sheet.Sheet.{Sheet}
 use Rattle.xs_result_lines.specs.Lines.{pyx}
-use Rattle.xs_compile.specs.StandsFor.{StandsFor}
+use Rattle.xs_compile.specs.Represents.{Represents}
 use Rattle.xs_result_laws.specs.Events.{HasTexts}
 use Rattle.xs_result_laws.specs.ResultLaws.{AreDocuments, IsReadBack}
 use Rattle.xs_body_spec.specs.Globals.{SettlesAll, Table, settled}
@@ -26,14 +26,14 @@ AreTrees ms = All (λ (d : ModuleData). IsTree d.records) ms
 
 -- The modules of a stylesheet are documents, and so the names of what they are compiled to can be written (XSLT 1.0, 7.1).
 abbrev pub SheetsAreNamed : Type 0
-SheetsAreNamed = (ms : List ModuleData) (sheet : Sheet) → IsSound ms → AreTrees ms → StandsFor ms sheet → IsNamedSheet sheet
+SheetsAreNamed = (ms : List ModuleData) (sheet : Sheet) → IsSound ms → AreTrees ms → Represents ms sheet → IsNamedSheet sheet
 
 -- ---- runs
 -- The world of a run of the stylesheet of these modules on these documents, from which white space may be stripped (XSLT 1.0, 3.4).
 pub record IsRunOn (ms : List ModuleData) (rs : List Record) (w : World) : Type 0 where
   pub sound : IsSound ms
   pub modules : AreTrees ms
-  pub stands : StandsFor ms w.sheet
+  pub stands : Represents ms w.sheet
   pub source : IsTree rs
   pub documents : AreDocuments rs
   pub marks : List Bool

@@ -55,7 +55,7 @@ started s e name h none is =
 pub started_alone : (s : State) (e : Event) (name : Label) → IsAlone s → s.tag ≡ [] → e ≡ Start name → IsAlone (taken s e)
 started_alone s e name h none is = subst IsAlone (sym (started s e name h none is)) (record { closed = refl; text = refl })
 
--- an event of a start tag changes nothing else, and what it makes of the tag is told by the tag alone
+-- an event of a start tag changes nothing else, and what it makes of the tag is known by the tag alone
 abbrev tagged_as : List Event → List ℕ → ℕ → List Event → State
 tagged_as closed text depth tag = record { closed = closed; tag = tag; text = text; depth = depth }
 

@@ -97,7 +97,7 @@ needs_prefix name = not (is_empty name.uri) && not (bytes_eq name.uri xml_uri)
 abbrev pub keeps_prefix : List Binding → Label → Bool
 keeps_prefix m name = not (is_empty name.prefix) && bytes_eq (unwrap_or (uri_in m name.prefix) name.uri) name.uri
 
--- the first prefix that is bound to a URI, but for the default namespace, which is for elements alone
+-- the first prefix that is bound to a URI, except the default namespace, which is for elements alone
 unfoldable pub prefix_for : List Binding → List ℕ → Option (List ℕ)
 prefix_for [] uri = None
 prefix_for (b ∷ bs) uri = if not (is_empty b.0) && bytes_eq b.1 uri then Some b.0 else prefix_for bs uri

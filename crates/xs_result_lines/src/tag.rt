@@ -13,8 +13,8 @@ use crate::scope::Declared;
 use crate::tag_bindings::{TagBindings, is_in_tag};
 use std::alloc::{AllocError, Global};
 use xs_pyx::Line;
-use xs_trace::event::{Event, Label};
 use xs_text::TextBuf;
+use xs_trace::event::{Event, Label};
 
 /// A start tag: what it declares, and all its lines.
 #[derive(Drop)]

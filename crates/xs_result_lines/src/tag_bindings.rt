@@ -28,7 +28,7 @@ use xs_trace::event::{Event, Label};
 pub(crate) struct TagBindings {
     alloc: Global,
     entries: BTreeMap<TextKey, TextBuf>,
-    /// The least prefix, but for the empty one, that is bound to each URI.
+    /// The least prefix, except the empty one, that is bound to each URI.
     by_uri: BTreeMap<TextKey, TextBuf>,
     /// Each new prefix of a lower number is bound.
     next: u64,
@@ -297,7 +297,7 @@ impl TagBindings {
         }
     }
 
-    /// The least prefix, but for the empty one, that is bound to a URI.
+    /// The least prefix, except the empty one, that is bound to a URI.
     #[tactic(auto, unfolding(crate::specs::Bindings::uri_in))]
     fn prefix_for(&self, uri: &str) -> Result<Option<TextBuf>, AllocError>
         ensures { IfOk result (λ prefix. prefix ≡ prefix_for self.now uri.now) }

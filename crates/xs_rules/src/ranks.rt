@@ -7,8 +7,8 @@ ghost use Rattle.xs_rules.specs.Ranks.{lone_test, test_priority};
 ghost use Rattle.xs_xpath.specs.Exprs.{tree_from, trees_from};
 ghost use Rattle.xs_xpath.specs.Tree.{trees};
 
-pub use xs_pattern_spec::ranks::Rank;
 use xs_pattern::paths::{start_of, steps_of};
+pub use xs_pattern_spec::ranks::Rank;
 use xs_xpath::expr::Expr;
 use xs_xpath::name::NodeTest;
 

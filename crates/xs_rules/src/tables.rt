@@ -193,7 +193,7 @@ fn matching_nodes(
 {
     match path_table(alloc, alternative, scope, tree)? {
         None => Ok(None),
-        Some(marks) => Ok(Some(RuleTable::Matches(nodes))),
+        Some(flags) => Ok(Some(RuleTable::Matches(nodes))),
     }
 }
 

@@ -24,24 +24,24 @@ pub fn strip_space(alloc: Global, tree: &mut Tree, rules: &[StripRule]) -> Resul
     ensures stripped { OnOk result (tree.new ≡ without (stripped rules.now tree.old) tree.old) }
     ensures refused { OnErr result (tree.new ≡ tree.old) }
 {
-    let marks = stripped(alloc, tree, rules)?;
-    tree.strip(&marks)
+    let flags = stripped(alloc, tree, rules)?;
+    tree.strip(&flags)
 }
 
 /// Which nodes of a source are stripped, one after another, with which `Tree::strip` strips them
 /// and `Tree::strip_numbers` what is kept beside them.
 pub fn stripped(alloc: Global, tree: &Tree, rules: &[StripRule]) -> Result<Vec<bool>, AllocError>
-    ensures marks { IfOk result (λ marks. marks.items ≡ stripped rules.now tree.now) }
+    ensures flags { IfOk result (λ flags. flags.items ≡ stripped rules.now tree.now) }
 {
     let index = StripIndex::of(alloc, rules)?;
-    let mut marks = Vec::new(alloc);
+    let mut flags = Vec::new(alloc);
     let mut kept = Vec::new(alloc);
     for place in 0..tree.len() as u32 {
         let node = Node::at(place);
-        marks.push(is_stripped(tree, node, &index, &kept))?;
+        flags.push(is_stripped(tree, node, &index, &kept))?;
         kept.push(preserves(tree, node, &kept))?;
     }
-    Ok(marks)
+    Ok(flags)
 }
 
 // Whether a node is stripped, where it is known of the nodes before it in which of them white

@@ -2,9 +2,9 @@
 
 use crate::items::Items;
 use crate::scoped::{Namespaces, ScopedExpr, ScopedPattern, ValueTemplate};
+use xs_text::TextBuf;
 use xs_trace::event::Label;
 use xs_trace::item::Site;
-use xs_text::TextBuf;
 
 /// Instructions, literal elements and texts, in the order of the stylesheet (XSLT 1.0, 2.1).
 #[cycle(body)]
@@ -114,11 +114,11 @@ pub struct MadeName {
     pub scope: Namespaces,
 }
 
-/// A literal element but for its content (XSLT 1.0, 7.1.1).
+/// A literal element except its content (XSLT 1.0, 7.1.1).
 #[derive(Drop)]
 pub struct LiteralStart {
     pub name: Label,
-    /// The prefixes and URIs of its namespace nodes, but for those that are excluded. Aliases are
+    /// The prefixes and URIs of its namespace nodes, except those that are excluded. Aliases are
     /// not applied yet, to none of its names.
     pub spaces: Items<(TextBuf, TextBuf)>,
     /// The names of the attribute sets that it uses.

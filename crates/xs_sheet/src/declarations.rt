@@ -3,9 +3,9 @@
 use crate::body::{Binding, Body, Instr};
 use crate::items::Items;
 use crate::scoped::{ScopedExpr, ScopedPattern};
+use xs_text::TextBuf;
 use xs_trace::event::Label;
 use xs_trace::item::Site;
-use xs_text::TextBuf;
 
 /// A template (XSLT 1.0, 5.3 and 6).
 #[derive(Drop)]

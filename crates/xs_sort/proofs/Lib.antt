@@ -1,3 +1,3 @@
 pub mod GivenLemmas
-mod RowLemmas
+mod KeyedNodeLemmas
 pub mod UnsortedLemmas

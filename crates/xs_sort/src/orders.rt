@@ -12,13 +12,13 @@ ghost use Rattle.xs_trace.specs.Run.{limited};
 use crate::sorter::Sorter;
 use xs_eval_spec::context::Context;
 use xs_eval_spec::expressions::ExprEvaluator;
-use xs_sort_order::keys::Direction;
 use xs_sheet::body::SortDecl;
 use xs_sheet::scoped::ValueTemplate;
+use xs_sort_order::keys::Direction;
+use xs_text::TextBuf;
 use xs_trace::fault::Fault;
 use xs_trace::item::Site;
 use xs_trace::recorder::{Halt, Tally};
-use xs_text::TextBuf;
 
 /// How the values of a key are compared.
 #[derive(Clone, Copy, Debug)]
@@ -38,7 +38,7 @@ impl<K: ExprEvaluator> Sorter<'_, K> {
         tally: &mut T,
     ) -> Result<Vec<Order>, Halt>
         requires context { IsContext (K.tables self.now.keys.now) context.now }
-        ensures told { IsStepBy (λ v. v.items) (limited self.now.site
+        ensures reported { IsStepBy (λ v. v.items) (limited self.now.site
             (orders_of (K.tables self.now.keys.now) context.now sorts.now)
             (T.state tally.old)) result (T.state tally.new) }
         ensures kept { T.kept tally.new ≡ T.kept tally.old }
@@ -60,7 +60,7 @@ impl<K: ExprEvaluator> Sorter<'_, K> {
         tally: &mut T,
     ) -> Result<Order, Halt>
         requires context { IsContext (K.tables self.now.keys.now) context.now }
-        ensures told { IsStep (limited self.now.site
+        ensures reported { IsStep (limited self.now.site
             (order_of (K.tables self.now.keys.now) context.now decl.now)
             (T.state tally.old)) result (T.state tally.new) }
         ensures kept { T.kept tally.new ≡ T.kept tally.old }
@@ -84,7 +84,7 @@ impl<K: ExprEvaluator> Sorter<'_, K> {
         tally: &mut T,
     ) -> Result<TextBuf, Halt>
         requires context { IsContext (K.tables self.now.keys.now) context.now }
-        ensures told { IsStep (limited self.now.site
+        ensures reported { IsStep (limited self.now.site
             (template_text (K.tables self.now.keys.now) context.now absent.now template.now)
             (T.state tally.old)) result (T.state tally.new) }
         ensures kept { T.kept tally.new ≡ T.kept tally.old }

@@ -2,6 +2,6 @@
 pub mod Keys
 pub mod InOrder
 pub mod Laws
-pub mod Rows
+pub mod KeyedNodes
 pub mod Filled
 pub mod steps

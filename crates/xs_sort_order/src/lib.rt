@@ -2,6 +2,6 @@
 #![tactic(auto)]
 
 pub mod key_text;
+pub mod keyed;
 pub mod keys;
 pub mod laws;
-pub mod rows;

@@ -10,10 +10,10 @@ use Rattle.xs_static.specs.Circles as circles
 use Rattle.xs_static.proofs.SameNameLemmas.{same-true, same-from}
 use Rattle.xs_static.proofs.SearchLemmas.{in-back, in-either, in-front}
 use Rattle.xs_static.proofs.UsedLemmas.{used-append, used-one}
-use Rattle.xs_elements.specs.declared.rows.Row.{Row}
-use Rattle.xs_elements.specs.declared.rows.Row.TheVariants.{NoElement}
+use Rattle.xs_elements.specs.declared.tags.Tag.{Tag}
+use Rattle.xs_elements.specs.declared.tags.Tag.TheVariants.{NoElement}
 use Rattle.xs_elements.specs.Nodes.{Name, is_named, is_same_name, own_name}
-use Rattle.xs_elements.specs.Rows.{is_attribute_set, row_of}
+use Rattle.xs_elements.specs.Tags.{is_attribute_set, tag_of}
 use Rattle.xs_modules.specs.Numbering.{ModuleData}
 use Rattle.xs_static.specs.declared.fault.StaticFault.{StaticFault}
 use Rattle.xs_static.specs.Faults.{Fault, Holds, IsLeastOf, IsStaticFault, circular_set, is_at_most, number_of}
@@ -83,7 +83,7 @@ used-same ms [] n = refl
 used-same ms (p ∷ ps) n =
     used-append (declaration_at ms p) (declarations_of ms ps) n
     ∙ ap (λ xs. xs ++ used_among (declarations_of ms ps) n)
-    (used-at (is_attribute_set (row_of (records_at ms p.0) p.1)) (own_name (records_at ms p.0) p.1) (records_at ms p.0) (line_at ms p.0 p.1) p n)
+    (used-at (is_attribute_set (tag_of (records_at ms p.0) p.1)) (own_name (records_at ms p.0) p.1) (records_at ms p.0) (line_at ms p.0 p.1) p n)
     ∙ ap (λ xs. (if declares is_attribute_set ms n p then sets_of ms p else []) ++ xs) (used-same ms ps n)
     ∙ sym (flat-more (sets_of ms) (declares is_attribute_set ms n) p ps)
 
@@ -106,9 +106,9 @@ made-from true (Some own) rs line p name h =
     (record { place = record { «module» = p.0; line = line }; name = own; sets = own_sets rs p.1 }, inl refl, sym (same-true name own h), refl, refl)
 
 -- ---- faults
-element-row : (b : Bool) (row : Row) → is_attribute_set (if b then row else NoElement) ≡ true → b ≡ true
-element-row true row h = refl
-element-row false row h = cc
+element-tag : (b : Bool) (tag : Tag) → is_attribute_set (if b then tag else NoElement) ≡ true → b ≡ true
+element-tag true tag h = refl
+element-tag false tag h = cc
 
 -- of all faults this one has the number 44
 circular-of : (fault : Fault) (ms : List ModuleData) (p : Place) → 44 ≡ number_of fault → Holds fault ms p → IsCircular ms p
@@ -143,14 +143,14 @@ module _ (ms : List ModuleData) where
   circular-at d h circle =
       let from = flat-in (declaration_at ms) d (declarations ms) h in
       let rs = records_at ms from.0.0 in
-      let made = declared-from (is_attribute_set (row_of rs from.0.1)) (own_name rs from.0.1) rs (line_at ms from.0.0 from.0.1) from.0 d from.2 in
+      let made = declared-from (is_attribute_set (tag_of rs from.0.1)) (own_name rs from.0.1) rs (line_at ms from.0.0 from.0.1) from.0 d from.2 in
       let P : List Name → Type 0 = λ sets. SomeLeads (used_by ms) sets d.name in
       (from.0, from.1, (from.1, (d.name, made.0, subst P made.2 (some-same (used_among all) (used_by ms) used-all d.sets d.name circle))), made.1)
 
   circle-of : (p : Place) → IsCircular ms p → (d : Declared) × IsAmong d all × circles.IsCircular all d × (d.place ≡ place-of p)
   circle-of p circle =
       let rs = records_at ms p.0 in
-      let made = made-from (is_attribute_set (row_of rs p.1)) (own_name rs p.1) rs (line_at ms p.0 p.1) p circle.1.0 circle.1.1 in
+      let made = made-from (is_attribute_set (tag_of rs p.1)) (own_name rs p.1) rs (line_at ms p.0 p.1) p circle.1.0 circle.1.1 in
       let P : List Name → Type 0 = λ sets. SomeLeads (used_among all) sets made.0.name in
       let Q : Name → Type 0 = λ name. SomeLeads (used_among all) (own_sets rs p.1) name in
       let leads = some-same (used_by ms) (used_among all) (λ n. sym (used-all n)) (own_sets rs p.1) circle.1.0 circle.1.2 in
@@ -165,8 +165,8 @@ module _ (ms : List ModuleData) where
     known_node = known.node;
     element =
         let rs = records_at ms p.0 in
-        element-row (is_element_kind (at rs p.1).kind) _
-        (both (is_attribute_set (row_of rs p.1)) (is_named circle.1.0 (own_name rs p.1)) circle.1.1).0;
+        element-tag (is_element_kind (at rs p.1).kind) _
+        (both (is_attribute_set (tag_of rs p.1)) (is_named circle.1.0 (own_name rs p.1)) circle.1.1).0;
     line = refl;
     holds = circle;
   }

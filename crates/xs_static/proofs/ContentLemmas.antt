@@ -3,10 +3,10 @@ use Rattle.std.proofs.Common.{◌≡◌, ◌∙◌, ℕ, suc, zero, ◌+◌, ◌
 use Rattle.std.proofs.lemmas.Bool.{le-ltb, lt-ltb}
 use Rattle.std.specs.List.{range_with_len}
 use Rattle.std.specs.Prelude.{◌&&◌, nat_lt}
-use Rattle.xs_elements.specs.Rows.{row_of}
+use Rattle.xs_elements.specs.Tags.{tag_of}
 use Rattle.xs_static.specs.Placing.{content_before}
 use Rattle.xs_structure.specs.Parts.{is_content}
-use Rattle.xs_static.specs.steps.Misplaced.{rows_among}
+use Rattle.xs_static.specs.steps.Misplaced.{tags_among}
 use Rattle.xs_tree.specs.Record.{Record, children, is_child}
 
 -- ---- places that rise
@@ -57,7 +57,7 @@ before-one p k b (d ∷ ds) rest r =
 
 -- what stands before a child is what was passed
 pub before_is_done : (rs : List Record) (n : ℕ) (done rest : List ℕ) (k : ℕ) → children rs n ≡ done ++ k ∷ rest
-    → rows_among rs n done ≡ content_before rs n k
+    → tags_among rs n done ≡ content_before rs n k
 before_is_done rs n done rest k e =
-    sym (ap (λ (xs : List ℕ). map (row_of rs) (filter (λ j. nat_lt j k && is_content rs n j) xs)) e
-    ∙ ap (map (row_of rs)) (before-one (is_content rs n) k 0 done rest (subst (Rises 0) e (passing-rises (is_child rs n) 0 (length rs)))))
+    sym (ap (λ (xs : List ℕ). map (tag_of rs) (filter (λ j. nat_lt j k && is_content rs n j) xs)) e
+    ∙ ap (map (tag_of rs)) (before-one (is_content rs n) k 0 done rest (subst (Rises 0) e (passing-rises (is_child rs n) 0 (length rs)))))

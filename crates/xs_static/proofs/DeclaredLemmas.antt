@@ -7,9 +7,9 @@ use Rattle.std.proofs.lemmas.Option.{get_or_from_slice_get, slice_get_within}
 use Rattle.std.specs.List.{All, list_any}
 use Rattle.std.specs.Option.{option_map_or}
 use Rattle.std.specs.Prelude.{◌&&◌, ◌||◌, not, slice_get}
-use Rattle.xs_elements.specs.declared.rows.Row.{Row}
+use Rattle.xs_elements.specs.declared.tags.Tag.{Tag}
 use Rattle.xs_elements.specs.Nodes.{Name, is_same_name, own_name}
-use Rattle.xs_elements.specs.Rows.{is_template, is_variable, row_of}
+use Rattle.xs_elements.specs.Tags.{is_template, is_variable, tag_of}
 use Rattle.xs_modules.specs.declared.modules.Module.{Module}
 use Rattle.xs_modules.specs.Numbering.{ModuleData}
 use Rattle.xs_modules.specs.Results.{module_data}
@@ -54,8 +54,8 @@ or-behind false false = refl
 any-more : (test : Place → Bool) (done : List Place) (p : Place) → list_any test (done ++ p ∷ []) ≡ (test p || list_any test done)
 any-more test done p = list_any-append test done (p ∷ []) ∙ or-behind (list_any test done) (test p)
 
-pub noted : (kind : Row → Bool) (ms : List ModuleData) (done : List Place) (p : Place) (old new : Declared)
-    → HasDeclared kind ms done old → Noted old new (kind (row_of (records_at ms p.0) p.1)) (precedence_at ms p.0) (own_name (records_at ms p.0) p.1)
+pub noted : (kind : Tag → Bool) (ms : List ModuleData) (done : List Place) (p : Place) (old new : Declared)
+    → HasDeclared kind ms done old → Noted old new (kind (tag_of (records_at ms p.0) p.1)) (precedence_at ms p.0) (own_name (records_at ms p.0) p.1)
     → HasDeclared kind ms (done ++ p ∷ []) new
 noted kind ms done p old new h n = record {
   names = λ uri local.
@@ -66,10 +66,10 @@ noted kind ms done p old new h n = record {
 }
 
 -- whether there was one of its name
-pub repeated : (kind : Row → Bool) (ms : List ModuleData) (done : List Place) (p : Place) (old : Declared) → HasDeclared kind ms done old
-    → (kind (row_of (records_at ms p.0) p.1) && option_map_or (is_ranked old.ranked.keys (precedence_at ms p.0)) (own_name (records_at ms p.0) p.1) false)
+pub repeated : (kind : Tag → Bool) (ms : List ModuleData) (done : List Place) (p : Place) (old : Declared) → HasDeclared kind ms done old
+    → (kind (tag_of (records_at ms p.0) p.1) && option_map_or (is_ranked old.ranked.keys (precedence_at ms p.0)) (own_name (records_at ms p.0) p.1) false)
     ≡ repeats kind ms done p
-repeated kind ms done p old h = ap (λ x. kind (row_of (records_at ms p.0) p.1) && x) (by_name (own_name (records_at ms p.0) p.1))
+repeated kind ms done p old h = ap (λ x. kind (tag_of (records_at ms p.0) p.1) && x) (by_name (own_name (records_at ms p.0) p.1))
   where
     by_name : (o : Option Name) → option_map_or (is_ranked old.ranked.keys (precedence_at ms p.0)) o false
         ≡ option_map_or (λ name. list_any (declares_again kind ms p name) done) o false
@@ -103,9 +103,9 @@ answer-as d was kind kind' rank rank' name name' a b c e =
 pub met-names : (ms : List ModuleData) (done : List Place) (p : Place) (old : Names) (l x1 x2 : Option StaticFault) (g t : Bool) (line : ℕ)
     → AreDeclared ms done old
     → line ≡ line_at ms p.0 p.1
-    → g ≡ (is_variable (row_of (records_at ms p.0) p.1)
+    → g ≡ (is_variable (tag_of (records_at ms p.0) p.1)
     && option_map_or (is_ranked old.globals.ranked.keys (precedence_at ms p.0)) (own_name (records_at ms p.0) p.1) false)
-    → t ≡ (is_template (row_of (records_at ms p.0) p.1)
+    → t ≡ (is_template (tag_of (records_at ms p.0) p.1)
     && option_map_or (is_ranked old.templates.ranked.keys (precedence_at ms p.0)) (own_name (records_at ms p.0) p.1) false)
     → x1 ≡ least_of l (fault_where g p.0 line 41) → x2 ≡ least_of x1 (fault_where t p.0 line 42) → x2 ≡ least_of l (name_faults ms done p)
 met-names ms done p old l x1 x2 g t line declared lined gs ts h1 h2 =
@@ -124,7 +124,7 @@ pub record SoFar (ms : List ModuleData) (all : List Place) (start least : Option
   pub inside : All (IsIn ms) rest
   pub faults : least_of least (names_faults ms done rest) ≡ least_of start (names_faults ms [] all)
 
-none-declared : (kind : Row → Bool) (ms : List ModuleData) (d : Declared) → d.names.keys ≡ [] → d.ranked.keys ≡ [] → HasDeclared kind ms [] d
+none-declared : (kind : Tag → Bool) (ms : List ModuleData) (d : Declared) → d.names.keys ≡ [] → d.ranked.keys ≡ [] → HasDeclared kind ms [] d
 none-declared kind ms d names ranked = record {
   names = λ uri local. ap (λ ks. is_among ks (uri, local)) names;
   ranked = λ rank uri local. ap (λ ks. is_ranked ks rank (uri, local)) ranked;

@@ -7,7 +7,7 @@ use Rattle.std.specs.Prelude.{Bool, true, false, ◌&&◌, ◌||◌, Option, Som
 use Rattle.xs_elements.specs.declared.forms.Form.{Form}
 use Rattle.xs_elements.specs.Nodes.{scope_at}
 use Rattle.xs_elements.specs.Reading.{form_of, has_read_attributes}
-use Rattle.xs_elements.specs.Rows.{is_decimal_format, row_of}
+use Rattle.xs_elements.specs.Tags.{is_decimal_format, tag_of}
 use Rattle.xs_elements.specs.Values.{is_unbound}
 use Rattle.xs_static.proofs.BooleanLemmas.{and-false, or-false}
 use Rattle.xs_static.proofs.LeastLemmas.{joined, one, only, same-least}
@@ -21,15 +21,15 @@ use Rattle.xs_tree.specs.Record.{Record, at, attributes}
 
 -- ---- by itself
 own-shown : (rs : List Record) (n : ℕ) (f : Fault)
-    → has_own rs n f ≡ (only bad_root (is_bad_root rs n) f || only unsupported (is_decimal_format (row_of rs n)) f)
+    → has_own rs n f ≡ (only bad_root (is_bad_root rs n) f || only unsupported (is_decimal_format (tag_of rs n)) f)
 own-shown rs n bad_root = sym (or-false (is_bad_root rs n))
 own-shown rs n unsupported = refl
 own-shown rs n f = refl
 
 pub own_is_least : (rs : List Record) (n : ℕ) → IsLeastNumber (has_own rs n) (own_least rs n)
 own_is_least rs n =
-    joined (has_own rs n) (only bad_root (is_bad_root rs n)) (only unsupported (is_decimal_format (row_of rs n))) (own-shown rs n) _ _
-    (one bad_root (is_bad_root rs n)) (one unsupported (is_decimal_format (row_of rs n)))
+    joined (has_own rs n) (only bad_root (is_bad_root rs n)) (only unsupported (is_decimal_format (tag_of rs n))) (own-shown rs n) _ _
+    (one bad_root (is_bad_root rs n)) (one unsupported (is_decimal_format (tag_of rs n)))
 
 -- ---- in its attributes
 module _ (rs : List Record) (n : ℕ) (known : Form → List ℕ → List ℕ → Bool) where

@@ -5,7 +5,7 @@ use Rattle.std.specs.Option.{option_to_list}
 use Rattle.std.specs.Prelude.{◌&&◌}
 use Rattle.xs_elements.specs.Nodes.{Name}
 use Rattle.xs_elements.specs.Reading.{is_seen}
-use Rattle.xs_elements.specs.Rows.{is_template, is_variable}
+use Rattle.xs_elements.specs.Tags.{is_template, is_variable}
 use Rattle.xs_modules.specs.Numbering.{ModuleData}
 use Rattle.xs_static.proofs.CoveringLemmas.{are_in_append, at_most_left, at_most_right, least_of_covering}
 use Rattle.xs_static.proofs.MeetLemmas.{least_append}

@@ -21,14 +21,14 @@ then-less p q r h k = grind (arith, nat_tests)
 same-place : (p : Place) → is_at_most p p ≡ true
 same-place p = grind (arith, nat_tests)
 
--- ---- what a test told
-pub told-true : (P Q : Type 0) (b : Bool) → b ≡ true → MatchBool b P Q → P
-told-true P Q true e h = h
-told-true P Q false e h = cc
+-- ---- what a test reported
+pub reported-true : (P Q : Type 0) (b : Bool) → b ≡ true → MatchBool b P Q → P
+reported-true P Q true e h = h
+reported-true P Q false e h = cc
 
-pub told-false : (P Q : Type 0) (b : Bool) → b ≡ false → MatchBool b P Q → Q
-told-false P Q true e h = cc
-told-false P Q false e h = h
+pub reported-false : (P Q : Type 0) (b : Bool) → b ≡ false → MatchBool b P Q → Q
+reported-false P Q true e h = cc
+reported-false P Q false e h = h
 
 -- ---- one declaration more
 pub first-none : (ds : List Declared) → IsFirstOf ds [] None

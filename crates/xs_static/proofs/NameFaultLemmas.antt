@@ -6,10 +6,10 @@ use Rattle.std.proofs.lemmas.List.Folds.{list_any-append}
 use Rattle.std.specs.List.{All, list_any}
 use Rattle.std.specs.Option.{option_map_or}
 use Rattle.std.specs.Prelude.{◌&&◌, ◌||◌, nat_le}
-use Rattle.xs_elements.specs.declared.rows.Row.{Row}
+use Rattle.xs_elements.specs.declared.tags.Tag.{Tag}
 use Rattle.xs_elements.specs.Nodes.{Name, own_name}
 use Rattle.xs_elements.specs.Reading.{is_seen}
-use Rattle.xs_elements.specs.Rows.{is_template, is_variable, row_of}
+use Rattle.xs_elements.specs.Tags.{is_template, is_variable, tag_of}
 use Rattle.xs_modules.specs.Numbering.{ModuleData}
 use Rattle.xs_static.proofs.CoveringLemmas.{are_in_append, at_most_left, at_most_right, by_number, same_number}
 use Rattle.xs_static.specs.declared.fault.StaticFault.{StaticFault}
@@ -56,20 +56,20 @@ module _ (ms : List ModuleData) (trees : AreTrees ms) where
         holds = holds;
       }
 
-  repeated : (kind : Row → Bool) (done rest : List Place) (p : Place) → declarations ms ≡ done ++ p ∷ rest → (o : Option Name)
+  repeated : (kind : Tag → Bool) (done rest : List Place) (p : Place) → declarations ms ≡ done ++ p ∷ rest → (o : Option Name)
       → option_map_or (λ name. list_any (declares_again kind ms p name) done) o false ≡ true
       → option_map_or (λ name. stands_behind (declares_again kind ms p name) p (declarations ms)) o false ≡ true
   repeated kind done rest p e None h = absurd (false≢true h)
   repeated kind done rest p e (Some name) h =
       ap (stands_behind (declares_again kind ms p name) p) e ∙ behind (declares_again kind ms p name) p done rest h
 
-  repeats-double : (kind : Row → Bool) (done rest : List Place) (p : Place) → declarations ms ≡ done ++ p ∷ rest → repeats kind ms done p ≡ true
+  repeats-double : (kind : Tag → Bool) (done rest : List Place) (p : Place) → declarations ms ≡ done ++ p ∷ rest → repeats kind ms done p ≡ true
       → is_double kind ms p ≡ true
   repeats-double kind done rest p e r =
       let rs = records_at ms p.0 in
-      let both = and_parts (kind (row_of rs p.1))
+      let both = and_parts (kind (tag_of rs p.1))
       (option_map_or (λ name. list_any (declares_again kind ms p name) done) (own_name rs p.1) false) r in
-      and_from (kind (row_of rs p.1))
+      and_from (kind (tag_of rs p.1))
       (option_map_or (λ name. stands_behind (declares_again kind ms p name) p (declarations ms)) (own_name rs p.1) false) both.0
       (repeated kind done rest p e (own_name rs p.1) both.1)
 
@@ -101,7 +101,7 @@ module _ (ms : List ModuleData) (trees : AreTrees ms) where
   names_sound some = names-sound [] (declarations ms) refl (all-declared ms some)
 
 -- ---- and a name that is declared twice is met
-module _ (ms : List ModuleData) (kind : Row → Bool) (p : Place) (name : Name) (f : StaticFault) (is_kind : kind (row_of (records_at ms p.0) p.1) ≡ true)
+module _ (ms : List ModuleData) (kind : Tag → Bool) (p : Place) (name : Name) (f : StaticFault) (is_kind : kind (tag_of (records_at ms p.0) p.1) ≡ true)
     (own : own_name (records_at ms p.0) p.1 ≡ Some name)
     (met : (done : List Place) → repeats kind ms done p ≡ true → HasAtMost f (name_faults ms done p)) where
   abbrev test : Place → Bool
@@ -109,7 +109,7 @@ module _ (ms : List ModuleData) (kind : Row → Bool) (p : Place) (name : Name) 
 
   repeats-here : (done : List Place) → list_any test done ≡ true → repeats kind ms done p ≡ true
   repeats-here done h =
-      and_from (kind (row_of (records_at ms p.0) p.1))
+      and_from (kind (tag_of (records_at ms p.0) p.1))
       (option_map_or (λ name. list_any (declares_again kind ms p name) done) (own_name (records_at ms p.0) p.1) false) is_kind
       (ap (λ o. option_map_or (λ name. list_any (declares_again kind ms p name) done) o false) own ∙ h)
 
@@ -172,20 +172,20 @@ module _ (ms : List ModuleData) (p : Place) where
   abbrev here : ℕ → StaticFault
   here number = fault_of p.0 (line_at ms p.0 p.1) number
 
-  double-met : (kind : Row → Bool) (number : ℕ)
+  double-met : (kind : Tag → Bool) (number : ℕ)
       → ((done : List Place) → repeats kind ms done p ≡ true → HasAtMost (here number) (name_faults ms done p))
-      → kind (row_of (records_at ms p.0) p.1) ≡ true
+      → kind (tag_of (records_at ms p.0) p.1) ≡ true
       → (o : Option Name) → own_name (records_at ms p.0) p.1 ≡ o
       → option_map_or (λ name. stands_behind (declares_again kind ms p name) p (declarations ms)) o false ≡ true
       → HasAtMost (here number) (names_faults ms [] (declarations ms))
   double-met kind number met is_kind None e h = absurd (false≢true h)
   double-met kind number met is_kind (Some name) e h = from-behind ms kind p name (here number) is_kind e met h
 
-  is-met : (kind : Row → Bool) (number : ℕ)
+  is-met : (kind : Tag → Bool) (number : ℕ)
       → ((done : List Place) → repeats kind ms done p ≡ true → HasAtMost (here number) (name_faults ms done p))
       → is_double kind ms p ≡ true → HasAtMost (here number) (names_faults ms [] (declarations ms))
   is-met kind number met h =
-      let both = and_parts (kind (row_of (records_at ms p.0) p.1))
+      let both = and_parts (kind (tag_of (records_at ms p.0) p.1))
       (option_map_or (λ name. stands_behind (declares_again kind ms p name) p (declarations ms)) (own_name (records_at ms p.0) p.1) false) h in
       double-met kind number met both.0 (own_name (records_at ms p.0) p.1) refl both.1
 

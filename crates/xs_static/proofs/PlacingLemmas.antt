@@ -9,11 +9,11 @@ use Rattle.std.specs.Str.{bytes_eq}
 use Rattle.xs_elements.specs.Nodes.{has}
 use Rattle.xs_elements.specs.declared.reading.Reading.{Reading}
 use Rattle.xs_elements.specs.declared.reading.Reading.TheVariants.{Known, Literal, Extension, Unread}
-use Rattle.xs_elements.specs.declared.rows.Row.{Row}
-use Rattle.xs_elements.specs.declared.rows.Row.TheVariants.{NoElement, Other}
+use Rattle.xs_elements.specs.declared.tags.Tag.{Tag}
+use Rattle.xs_elements.specs.declared.tags.Tag.TheVariants.{NoElement, Other}
 use Rattle.xs_elements.specs.Contents.{may_stand}
 use Rattle.xs_elements.specs.Reading.{content_by, is_in_extension, is_none, is_seen, is_shown, reading_by, reading_of, shows, shows_at}
-use Rattle.xs_elements.specs.Rows.{is_document_element, is_top_level, row_named, row_of, xslt_uri}
+use Rattle.xs_elements.specs.Tags.{is_document_element, is_top_level, tag_named, tag_of, xslt_uri}
 use Rattle.xs_static.specs.Placing.{content_before, has_misplaced_text, is_misplaced, is_misplaced_element, lacks_branch, stands_in}
 use Rattle.xs_static.specs.steps.Misplaced.{is_refused, misplaced_nodes, refused}
 use Rattle.xs_structure.proofs.AroundLemmas.{around-some, parent-before}
@@ -101,16 +101,16 @@ module _ (rs : List Record) (tree : IsTree rs) where
   no-root (suc n) h = ne_eqb (suc n) 0 (λ e. absurd (omega (arith, e)))
 
   -- where anything is refused, the element is read, and shows its children
-  shows-refused : (row child : Row) (reading : Reading) (has_select has_namespace : Bool) (before : List Row)
-      → not (may_stand (content_by reading row has_select) child has_namespace before) ≡ true → shows reading child ≡ true
-  shows-refused row child Known has_select has_namespace before h = refl
-  shows-refused row child Literal has_select has_namespace before h = refl
-  shows-refused row child Extension has_select has_namespace before h = absurd (false≢true h)
-  shows-refused row child Unread has_select has_namespace before h = absurd (false≢true h)
+  shows-refused : (tag child : Tag) (reading : Reading) (has_select has_namespace : Bool) (before : List Tag)
+      → not (may_stand (content_by reading tag has_select) child has_namespace before) ≡ true → shows reading child ≡ true
+  shows-refused tag child Known has_select has_namespace before h = refl
+  shows-refused tag child Literal has_select has_namespace before h = refl
+  shows-refused tag child Extension has_select has_namespace before h = absurd (false≢true h)
+  shows-refused tag child Unread has_select has_namespace before h = absurd (false≢true h)
 
-  child-shown : (n k : ℕ) → (at rs k).parent ≡ Some n → shows (reading_of rs n) (row_of rs k) ≡ true → is_shown rs k ≡ true
+  child-shown : (n k : ℕ) → (at rs k).parent ≡ Some n → shows (reading_of rs n) (tag_of rs k) ≡ true → is_shown rs k ≡ true
   child-shown n k e s =
-      ap (λ o. option_map_or (λ p. shows_at rs p k) o true) e ∙ or_right (is_document_element rs k) (shows (reading_of rs n) (row_of rs k)) s
+      ap (λ o. option_map_or (λ p. shows_at rs p k) o true) e ∙ or_right (is_document_element rs k) (shows (reading_of rs n) (tag_of rs k)) s
 
   misplaced-child : (n k : ℕ) → is_element_kind (at rs n).kind ≡ true → (at rs k).parent ≡ Some n → not (stands_in rs n k) ≡ true
       → is_misplaced_element rs k ≡ true
@@ -133,7 +133,7 @@ module _ (rs : List Record) (tree : IsTree rs) where
       let within : k < length rs = omega (arith, in-range 0 (length rs) k c.1) in
       let e : (at rs k).parent ≡ Some n = is_place-true n (at rs k).parent (and_parts (is_place n (at rs k).parent) (is_child_kind (at rs k).kind) c.0).0 in
       let both = and_parts (is_element_kind (at rs k).kind) (not (stands_in rs n k)) r.0 in
-      let shown = child-shown n k e (shows-refused (row_of rs n) (row_of rs k) (reading_of rs n) (has rs n (codes "select"))
+      let shown = child-shown n k e (shows-refused (tag_of rs n) (tag_of rs k) (reading_of rs n) (has rs n (codes "select"))
       (not (is_none (uri_at rs k))) (content_before rs n k) both.1) in (
         within,
         both.0,
@@ -164,12 +164,12 @@ module _ (rs : List Record) (tree : IsTree rs) where
   IsAmongThose k =
       (n : ℕ) × (n < length rs) × (is_element_kind (at rs n).kind ≡ true) × (is_seen rs n ≡ true) × (has_place k (misplaced_nodes rs n) ≡ true)
 
-  holds-element : (b : Bool) (row child : Row) (top extension has_select has_namespace : Bool) (before : List Row)
-      → not (may_stand (content_by (reading_by (if b then row else NoElement) top extension) (if b then row else NoElement) has_select)
+  holds-element : (b : Bool) (tag child : Tag) (top extension has_select has_namespace : Bool) (before : List Tag)
+      → not (may_stand (content_by (reading_by (if b then tag else NoElement) top extension) (if b then tag else NoElement) has_select)
       child has_namespace before) ≡ true
       → b ≡ true
-  holds-element true row child top extension has_select has_namespace before h = refl
-  holds-element false row child top extension has_select has_namespace before h = absurd (false≢true h)
+  holds-element true tag child top extension has_select has_namespace before h = refl
+  holds-element false tag child top extension has_select has_namespace before h = absurd (false≢true h)
 
   element-child : (kind : Kind) → is_element_kind kind ≡ true → is_child_kind kind ≡ true
   element-child Element h = refl
@@ -183,7 +183,7 @@ module _ (rs : List Record) (tree : IsTree rs) where
       and_from (is_place p (at rs k).parent) (is_child_kind (at rs k).kind) (ap (is_place p) e ∙ eq-eqb p p refl) (element-child (at rs k).kind element) in (
         p,
         omega (arith, within, parent-before rs tree k p within e),
-        holds-element (is_element_kind (at rs p).kind) (if bytes_eq (uri_at rs p) xslt_uri then row_named (local_at rs p) else Other) (row_of rs k)
+        holds-element (is_element_kind (at rs p).kind) (if bytes_eq (uri_at rs p) xslt_uri then tag_named (local_at rs p) else Other) (tag_of rs k)
             (is_top_level rs p) (is_in_extension rs p) (has rs p (codes "select")) (not (is_none (uri_at rs k))) (content_before rs p k) refuses,
         (and_parts (is_shown rs k) (is_seen rs p) (sym (seen-up k p within e) ∙ seen)).1,
         list_any-append (λ j. j == k) (refused rs p) (if own then p ∷ [] else [])

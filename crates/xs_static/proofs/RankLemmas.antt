@@ -93,6 +93,6 @@ module _ (ranks : Numbers) (ds : List Declaration) (ranked : list_all (rises_now
       below-own ranks (number_in ranks (name_data d.name)) d.sets.items fall circle.0 circle.1 in
       omega arith
 
--- what a test of both tells
-pub told-both : (a b : Bool) → true ≡ (a && b) → (a ≡ true) × (b ≡ true)
-told-both a b h = both a b (sym h)
+-- what a test of both reports
+pub reported-both : (a b : Bool) → true ≡ (a && b) → (a ≡ true) × (b ≡ true)
+reported-both a b h = both a b (sym h)

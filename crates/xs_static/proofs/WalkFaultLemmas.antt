@@ -7,7 +7,7 @@ use Rattle.xs_elements.specs.declared.forms.Form.{Form}
 use Rattle.xs_elements.specs.Forms.{sees_locals}
 use Rattle.xs_elements.specs.Nodes.{Name, own_name}
 use Rattle.xs_elements.specs.Reading.{is_seen}
-use Rattle.xs_elements.specs.Rows.{is_call_template, is_decimal_format, row_of}
+use Rattle.xs_elements.specs.Tags.{is_call_template, is_decimal_format, tag_of}
 use Rattle.xs_elements.specs.Values.{is_unsupported}
 use Rattle.xs_modules.specs.Numbering.{ModuleData}
 use Rattle.xs_static.proofs.CoveringLemmas.{are_in_append, at_most_left, at_most_right, by_number, same_number}
@@ -78,14 +78,14 @@ module _ (ms : List ModuleData) (m : ℕ) (lines : List ℕ) (names : Names) (kn
   same-name (Some name) = ap not (templates name)
 
   same-calls : (n : ℕ) → calls_other names rs n ≡ calls_unknown ms (m, n)
-  same-calls n = ap (λ (b : Bool). is_call_template (row_of rs n) && b) (same-name (own_name rs n))
+  same-calls n = ap (λ (b : Bool). is_call_template (tag_of rs n) && b) (same-name (own_name rs n))
 
   -- ---- of an element that is looked at, what holds of it by one part is a fault
   own-holds : (n : ℕ) → is_seen rs n ≡ true → (f : Fault) → has_own rs n f ≡ true → Holds f ms (m, n)
   own-holds n seen bad_root h = and_from (is_seen rs n) (shows bad_root ms (m, n)) seen h
   own-holds n seen unsupported h =
       and_from (is_seen rs n) (shows unsupported ms (m, n)) seen
-      (or_right (some_value rs n is_unsupported) (is_decimal_format (row_of rs n)) h)
+      (or_right (some_value rs n is_unsupported) (is_decimal_format (tag_of rs n)) h)
   own-holds n seen f h = absurd (false≢true h)
 
   attributes-hold : (n : ℕ) → is_seen rs n ≡ true → (f : Fault) → has_in_attributes rs n (known_here n) f ≡ true → Holds f ms (m, n)
@@ -97,7 +97,7 @@ module _ (ms : List ModuleData) (m : ℕ) (lines : List ℕ) (names : Names) (kn
   attributes-hold n seen not_pattern h = and_from (is_seen rs n) (shows not_pattern ms (m, n)) seen h
   attributes-hold n seen unsupported h =
       and_from (is_seen rs n) (shows unsupported ms (m, n)) seen
-      (or_left (some_value rs n is_unsupported) (is_decimal_format (row_of rs n)) h)
+      (or_left (some_value rs n is_unsupported) (is_decimal_format (tag_of rs n)) h)
   attributes-hold n seen missing_attribute h = and_from (is_seen rs n) (shows missing_attribute ms (m, n)) seen h
   attributes-hold n seen unknown_attribute h = and_from (is_seen rs n) (shows unknown_attribute ms (m, n)) seen h
   attributes-hold n seen bad_attribute h = and_from (is_seen rs n) (shows bad_attribute ms (m, n)) seen h
@@ -309,7 +309,7 @@ module _ (ms : List ModuleData) (m : ℕ) (lines : List ℕ) (names : Names) (kn
     module_complete unsupported w h =
         here unsupported h (λ x.
         ⊎_elim (attributes-complete n unsupported) (own-complete n unsupported)
-        (or_cases (some_value rs n is_unsupported) (is_decimal_format (row_of rs n)) x))
+        (or_cases (some_value rs n is_unsupported) (is_decimal_format (tag_of rs n)) x))
     module_complete missing_attribute w h = here missing_attribute h (attributes-complete n missing_attribute)
     module_complete unknown_attribute w h = here unknown_attribute h (attributes-complete n unknown_attribute)
     module_complete bad_attribute w h = here bad_attribute h (attributes-complete n bad_attribute)

@@ -45,7 +45,7 @@ expressions_of form pairs value =
     else if is_value_template form then expressions_if (template_in pairs value)
     else []
 
--- Whether an expression has a variable that is not among these, which are told by the URI and the local part of their names.
+-- Whether an expression has a variable that is not among these, which are known by the URI and the local part of their names.
 abbrev mutual
   pub has_unknown : (List ℕ → List ℕ → Bool) → Tree → Bool
   has_unknown known (number n) = false

@@ -13,7 +13,7 @@ use Rattle.xs_structure.specs.Modules.{Place, records_at, line_at}
 use Rattle.xs_elements.specs.Nodes.{ancestors_or_self, has, scope_at}
 use Rattle.xs_static.specs.Placing.{is_misplaced}
 use Rattle.xs_elements.specs.Reading.{form_of, has_read_attributes, has_version, is_seen}
-use Rattle.xs_elements.specs.Rows.{row_of, is_variable, is_template, is_decimal_format, is_document_element}
+use Rattle.xs_elements.specs.Tags.{tag_of, is_variable, is_template, is_decimal_format, is_document_element}
 use Rattle.xs_static.specs.Sets.{IsCircular}
 use Rattle.xs_elements.specs.Values.{is_bad, is_unbound, is_unsupported}
 use Rattle.xs_tree.specs.Kinds.{is_element_kind}
@@ -83,17 +83,17 @@ is_bad_root rs n = is_document_element rs n && not (has_version rs n)
 
 -- 33: another version than 1.0, or `xsl:decimal-format`, which this project does not have
 abbrev pub is_unsupported_at : List Record → ℕ → Bool
-is_unsupported_at rs n = some_value rs n is_unsupported || is_decimal_format (row_of rs n)
+is_unsupported_at rs n = some_value rs n is_unsupported || is_decimal_format (tag_of rs n)
 
 -- 34: an attribute is missing; a template has to have `match` or `name` (XSLT 1.0, 5.3)
 abbrev pub is_missing : List Record → ℕ → Allowed → Bool
 is_missing rs n a = a.is_required && not (has rs n a.name)
 
 abbrev pub lacks_both : List Record → ℕ → Bool
-lacks_both rs n = is_template (row_of rs n) && not (has rs n (codes "match")) && not (has rs n (codes "name"))
+lacks_both rs n = is_template (tag_of rs n) && not (has rs n (codes "match")) && not (has rs n (codes "name"))
 
 abbrev pub lacks_some : List Record → ℕ → Bool
-lacks_some rs n = list_any (is_missing rs n) (attributes_of (row_of rs n)) || lacks_both rs n
+lacks_some rs n = list_any (is_missing rs n) (attributes_of (tag_of rs n)) || lacks_both rs n
 
 abbrev pub lacks_attribute : List Record → ℕ → Bool
 lacks_attribute rs n = has_read_attributes rs n && lacks_some rs n
@@ -146,7 +146,7 @@ shows double_global ms p = is_double is_variable ms p
 shows double_template ms p = is_double is_template ms p
 -- 43
 shows unknown_template ms p = calls_unknown ms p
--- 44 is told below
+-- 44 is said below
 shows circular_set ms p = false
 shows forbidden ms p = holds_forbidden (records_at ms p.0) p.1
 shows module_too_deep ms p = false

@@ -50,14 +50,14 @@ fn is_past(first: Option<Place>, place: Place) -> bool
     }
 }
 
-/// Whether ranks tell of a declaration that it is not circular.
-fn is_told(ranks: &Numbers<'_>, is_ranked: bool, declaration: &Declaration<'_>) -> bool
+/// Whether ranks show of a declaration that it is not circular.
+fn is_reported(ranks: &Numbers<'_>, is_ranked: bool, declaration: &Declaration<'_>) -> bool
     ensures { result ≡ (is_ranked && falls ranks.now declaration.now) }
 {
     is_ranked && falls(ranks, declaration)
 }
 
-/// The first place, after one declaration more was looked at, by ranks that tell something where
+/// The first place, after one declaration more was looked at, by ranks that show something where
 /// they rise nowhere.
 fn take<'a>(
     alloc: Global,
@@ -74,7 +74,7 @@ fn take<'a>(
     if is_past(first, declaration.place) {
         return Ok(first);
     }
-    if is_told(ranks, is_ranked, declaration) {
+    if is_reported(ranks, is_ranked, declaration) {
         return Ok(first);
     }
     if leads_back(alloc, declarations, declaration)? {

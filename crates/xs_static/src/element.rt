@@ -11,13 +11,13 @@ ghost use Rattle.xs_elements.specs.WhiteSpace.{is_kept_text};
 ghost use Rattle.xs_elements.specs.Contents.{before_of};
 ghost use Rattle.xs_static.specs.steps.Least.{fault_where, least_of};
 ghost use Rattle.xs_static.specs.steps.Misplaced.{is_refused, misplaced_fault, misplaced_faults};
-ghost use Rattle.xs_static.specs.steps.Misplaced.{refused, rows_among};
+ghost use Rattle.xs_static.specs.steps.Misplaced.{refused, tags_among};
 ghost use Rattle.xs_elements.specs.Nodes.{has, scope_at};
 ghost use Rattle.xs_elements.specs.Reading.{content_at, form_of, has_read_attributes, has_version};
 ghost use Rattle.xs_static.specs.steps.Elements.{IsAt, attribute_least, attributes_least, known_by};
 ghost use Rattle.xs_static.specs.steps.Elements.{own_least, records_of, value_least};
 ghost use Rattle.xs_elements.specs.Attributes.{allowed_data, attributes_of};
-ghost use Rattle.xs_elements.specs.Rows.{row_of};
+ghost use Rattle.xs_elements.specs.Tags.{tag_of};
 ghost use Rattle.xs_tree.specs.Record.{at};
 
 use crate::expressions::{Found, found_in_value};
@@ -33,8 +33,8 @@ use xs_elements::contents::{Before, Content, content_of, holds_text, may_stand};
 use xs_elements::forms::Form;
 use xs_elements::kept::is_kept;
 use xs_elements::reading::Reading;
-use xs_elements::rows::{Row, XSLT_URI, is_document_element, row_of};
 use xs_elements::scope::{has, value_of};
+use xs_elements::tags::{Tag, XSLT_URI, is_document_element, tag_of};
 use xs_elements::value::{is_bad, is_unbound, is_unsupported};
 use xs_tree::{Kind, Node, Tree};
 use xs_xpath::scope::Scope;
@@ -44,7 +44,7 @@ use xs_xpath::scope::Scope;
 pub(crate) struct Element<'m> {
     pub(crate) tree: &'m Tree,
     pub(crate) node: Node,
-    pub(crate) row: Row,
+    pub(crate) tag: Tag,
     pub(crate) reading: Reading,
     /// Whether white space in it is preserved.
     pub(crate) preserves: bool,
@@ -64,9 +64,9 @@ impl Element<'_> {
         requires { IsAt self.now }
         ensures { result ≡ has_version (records_of self.now) self.now.node }
     {
-        match self.row {
-            Row::Stylesheet => self.has("version"),
-            Row::Other => value_of(self.tree, self.node, XSLT_URI, "version").is_some(),
+        match self.tag {
+            Tag::Stylesheet => self.has("version"),
+            Tag::Other => value_of(self.tree, self.node, XSLT_URI, "version").is_some(),
             _ => false,
         }
     }
@@ -80,11 +80,11 @@ impl Element<'_> {
         let is_bad = is_document_element(self.tree, self.node) && !self.has_version();
         lesser(
             where_holds(is_bad, BAD_ROOT),
-            where_holds(matches!(self.row, Row::DecimalFormat), UNSUPPORTED),
+            where_holds(matches!(self.tag, Tag::DecimalFormat), UNSUPPORTED),
         )
     }
 
-    /// Whether the attributes are read. Those of an element that is not XSLT's and stands for a
+    /// Whether the attributes are read. Those of an element that is not XSLT's and represents a
     /// whole module without a version are not.
     fn has_read_attributes(&self) -> bool
         requires { IsAt self.now }
@@ -108,9 +108,9 @@ impl Element<'_> {
         let uri = self.tree.uri(attribute);
         let local = self.tree.local(attribute);
         match self.reading {
-            Reading::Known if uri.is_empty() => form_named(self.row, local),
+            Reading::Known if uri.is_empty() => form_named(self.tag, local),
             Reading::Known if uri == XSLT_URI => None,
-            Reading::Literal | Reading::Extension if uri == XSLT_URI => form_named(self.row, local),
+            Reading::Literal | Reading::Extension if uri == XSLT_URI => form_named(self.tag, local),
             Reading::Literal => Some(Form::ValueTemplate),
             Reading::Known | Reading::Extension | Reading::Unread => Some(Form::Anything),
         }
@@ -152,9 +152,9 @@ impl Element<'_> {
     fn lacks_required(&self) -> bool
         requires { IsAt self.now }
         ensures { result ≡ list_any (is_missing (records_of self.now) self.now.node)
-            (attributes_of (row_of (records_of self.now) self.now.node)) }
+            (attributes_of (tag_of (records_of self.now) self.now.node)) }
     {
-        let mut rest = attributes(self.row);
+        let mut rest = attributes(self.tag);
         while let Some((attribute, behind)) = rest.split_first() {
             if self.lacks(attribute) {
                 return true;
@@ -170,7 +170,7 @@ impl Element<'_> {
         requires { IsAt self.now }
         ensures { result ≡ lacks_both (records_of self.now) self.now.node }
     {
-        matches!(self.row, Row::Template) && !self.has("match") && !self.has("name")
+        matches!(self.tag, Tag::Template) && !self.has("match") && !self.has("name")
     }
 
     /// Whether attributes are missing.
@@ -210,18 +210,18 @@ impl Element<'_> {
         ensures { result ≡ content_at (records_of self.now) self.now.node }
     {
         match self.reading {
-            Reading::Known | Reading::Literal => content_of(self.row, self.has("select")),
+            Reading::Known | Reading::Literal => content_of(self.tag, self.has("select")),
             Reading::Extension | Reading::Unread => Content::Unread,
         }
     }
 
     /// Whether a child is an element that may not stand in this content, after what stands before
     /// it.
-    fn is_refused(&self, content: Content, child: Node, row: Row, before: Before) -> bool
+    fn is_refused(&self, content: Content, child: Node, tag: Tag, before: Before) -> bool
         requires at { IsAt self.now }
         requires content { content ≡ content_at (records_of self.now) self.now.node }
         requires inside { child < length (records_of self.now) }
-        requires row { row ≡ row_of (records_of self.now) child }
+        requires tag { tag ≡ tag_of (records_of self.now) child }
         requires before { before ≡ before_of (content_before (records_of self.now)
             self.now.node child) }
         ensures { result ≡ is_refused (records_of self.now) self.now.node child }
@@ -230,7 +230,7 @@ impl Element<'_> {
             return false;
         }
         let has_namespace = !self.tree.uri(child).is_empty();
-        !may_stand(content, row, has_namespace, before)
+        !may_stand(content, tag, has_namespace, before)
     }
 
     /// Whether a child is a text that is kept.
@@ -240,7 +240,7 @@ impl Element<'_> {
         ensures { result ≡ is_kept_text (records_of self.now) self.now.node child }
     {
         matches!(self.tree.kind(child), Kind::Text)
-            && is_kept(self.tree, child, self.row, self.preserves)
+            && is_kept(self.tree, child, self.tag, self.preserves)
     }
 
     /// Whether a child is a part of the content.
@@ -253,16 +253,16 @@ impl Element<'_> {
     }
 
     /// What stands behind a child, with what stands before it.
-    fn with_child(&self, before: Before, child: Node, row: Row) -> Before
+    fn with_child(&self, before: Before, child: Node, tag: Tag) -> Before
         requires at { IsAt self.now }
         requires inside { child < length (records_of self.now) }
-        requires row { row ≡ row_of (records_of self.now) child }
-        ensures { (done : List ℕ) → before ≡ before_of (rows_among (records_of self.now)
-            self.now.node done) → result ≡ before_of (rows_among (records_of self.now)
+        requires tag { tag ≡ tag_of (records_of self.now) child }
+        ensures { (done : List ℕ) → before ≡ before_of (tags_among (records_of self.now)
+            self.now.node done) → result ≡ before_of (tags_among (records_of self.now)
             self.now.node (done ++ child ∷ [])) }
     {
         if self.is_content(child) {
-            before.and(row)
+            before.and(tag)
         } else {
             before
         }
@@ -277,10 +277,10 @@ impl Element<'_> {
         let content = self.content();
         let mut before = Before::none();
         for child in self.tree.children(self.node) {
-            let row = row_of(self.tree, child);
-            let is_refused = self.is_refused(content, child, row, before);
+            let tag = tag_of(self.tree, child);
+            let is_refused = self.is_refused(content, child, tag, before);
             meet_where(is_refused, module, line_of(lines, child), least);
-            before = self.with_child(before, child, row);
+            before = self.with_child(before, child, tag);
         }
     }
 
@@ -309,7 +309,7 @@ impl Element<'_> {
             return false;
         }
         for child in self.tree.children(self.node) {
-            if matches!(row_of(self.tree, child), Row::When) {
+            if matches!(tag_of(self.tree, child), Tag::When) {
                 return false;
             }
         }

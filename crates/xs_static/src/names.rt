@@ -5,7 +5,7 @@ ghost use Rattle.std.specs.Prelude.{option_map, IfOk, OnOk};
 ghost use Rattle.std.specs.List.{All};
 ghost use Rattle.std.specs.Option.{option_map_or};
 ghost use Rattle.xs_elements.specs.Nodes.{is_same_name, name_data};
-ghost use Rattle.xs_elements.specs.Rows.{is_template, is_variable};
+ghost use Rattle.xs_elements.specs.Tags.{is_template, is_variable};
 ghost use Rattle.xs_modules.specs.Results.{modules_data};
 ghost use Rattle.xs_structure.specs.Modules.{Place};
 ghost use Rattle.xs_static.specs.steps.Declared.{AreDeclared, Noted, is_ranked, name_faults};
@@ -19,8 +19,8 @@ use crate::fault::Least;
 use crate::numbers::{DOUBLE_GLOBAL, DOUBLE_TEMPLATE};
 use std::alloc::{AllocError, Global};
 use std::collections::HashSet;
-use xs_elements::rows::{Row, row_of};
 use xs_elements::scope::{Expanded, own_name};
+use xs_elements::tags::{Tag, tag_of};
 use xs_modules::Modules;
 use xs_structure::places::Place;
 use xs_tree::Node;
@@ -88,17 +88,17 @@ impl<'m> Declared<'m> {
 }
 
 /// Whether an element binds a variable (11).
-fn is_variable(row: Row) -> bool
-    ensures { result ≡ is_variable row }
+fn is_variable(tag: Tag) -> bool
+    ensures { result ≡ is_variable tag }
 {
-    matches!(row, Row::Variable | Row::Param)
+    matches!(tag, Tag::Variable | Tag::Param)
 }
 
 /// Whether an element is a template (5.3, 6).
-fn is_template(row: Row) -> bool
-    ensures { result ≡ is_template row }
+fn is_template(tag: Tag) -> bool
+    ensures { result ≡ is_template tag }
 {
-    matches!(row, Row::Template)
+    matches!(tag, Tag::Template)
 }
 
 /// The names of global variables and parameters, and of templates.
@@ -179,13 +179,13 @@ impl<'m> Names<'m> {
             (name_faults (modules_data modules.now) done («number», element))) }
     {
         let module = &modules.list[number as usize];
-        let row = row_of(&module.tree, element);
+        let tag = tag_of(&module.tree, element);
         let name = own_name(&module.tree, element);
         let line = module.lines[element.place() as usize];
         let precedence = module.precedence;
-        let is_double = self.globals.note(is_variable(row), precedence, name)?;
+        let is_double = self.globals.note(is_variable(tag), precedence, name)?;
         least.meet_where(is_double, number, line, DOUBLE_GLOBAL);
-        let is_again = self.templates.note(is_template(row), precedence, name)?;
+        let is_again = self.templates.note(is_template(tag), precedence, name)?;
         least.meet_where(is_again, number, line, DOUBLE_TEMPLATE);
         Ok(())
     }

@@ -101,7 +101,7 @@ fn left_in_order<'a>(
     Ok(order)
 }
 
-/// Ranks a name and all that lead to it, but for those that were ranked before.
+/// Ranks a name and all that lead to it, except those that were ranked before.
 fn rank_users<'a>(
     alloc: Global,
     left: &mut Uses<'a>,

@@ -6,7 +6,7 @@ ghost use Rattle.std.specs.List.{All};
 ghost use Rattle.xs_static.specs.Declarations.{declared};
 ghost use Rattle.xs_elements.specs.Contents.{is_attribute};
 ghost use Rattle.xs_elements.specs.Nodes.{expanded, name_data};
-ghost use Rattle.xs_elements.specs.Rows.{is_attribute_set, row_of};
+ghost use Rattle.xs_elements.specs.Tags.{is_attribute_set, tag_of};
 ghost use Rattle.xs_elements.specs.Reading.{is_seen};
 ghost use Rattle.xs_modules.specs.Results.{modules_data};
 ghost use Rattle.xs_static.specs.Faults.{IsLeastOf, IsStaticFault};
@@ -24,8 +24,8 @@ use crate::fault::StaticFault;
 use crate::numbers::CIRCULAR_SET;
 use crate::walk::Walked;
 use std::alloc::{AllocError, Global};
-use xs_elements::rows::{Row, XSLT_URI, row_of};
 use xs_elements::scope::{Expanded, own_name, value_of};
+use xs_elements::tags::{Tag, XSLT_URI, tag_of};
 use xs_elements::words::first_word;
 use xs_modules::{Module, Modules};
 use xs_structure::places::Place;
@@ -38,13 +38,13 @@ use xs_xpath::scope::Scope;
 fn sets_value(tree: &Tree, n: Node) -> Option<&str>
     requires { n < length tree.now }
     ensures { option_map (λ value. value.now) result
-        ≡ sets_value (row_of tree.now n) tree.now n }
+        ≡ sets_value (tag_of tree.now n) tree.now n }
 {
-    match row_of(tree, n) {
-        Row::AttributeSet => value_of(tree, n, "", "use-attribute-sets"),
-        Row::Element => value_of(tree, n, "", "use-attribute-sets"),
-        Row::Copy => value_of(tree, n, "", "use-attribute-sets"),
-        Row::Other => value_of(tree, n, XSLT_URI, "use-attribute-sets"),
+    match tag_of(tree, n) {
+        Tag::AttributeSet => value_of(tree, n, "", "use-attribute-sets"),
+        Tag::Element => value_of(tree, n, "", "use-attribute-sets"),
+        Tag::Copy => value_of(tree, n, "", "use-attribute-sets"),
+        Tag::Other => value_of(tree, n, XSLT_URI, "use-attribute-sets"),
         _ => None,
     }
 }
@@ -63,7 +63,7 @@ fn push_name<'m>(name: Option<Expanded<'m>>, out: &mut Vec<Expanded<'m>>) -> Res
     }
 }
 
-/// The expanded name that a name stands for in a scope: without a prefix it is in no namespace
+/// The expanded name that a name represents in a scope: without a prefix it is in no namespace
 /// (XSLT 1.0, 2.4). None where the text is no name, or its prefix is not bound.
 fn expanded<'a>(scope: &'a Scope, name: &'a str) -> Option<Expanded<'a>>
     ensures { option_map name_data result ≡ expanded scope.now.pairs.items name.now }
@@ -158,10 +158,10 @@ fn push_sets_within<'m>(
 }
 
 /// Whether an element is an `xsl:attribute`.
-fn is_attribute(row: Row) -> bool
-    ensures { result ≡ is_attribute row }
+fn is_attribute(tag: Tag) -> bool
+    ensures { result ≡ is_attribute tag }
 {
-    matches!(row, Row::Attribute)
+    matches!(tag, Tag::Attribute)
 }
 
 /// Adds the sets that a child of a declaration uses, which is to be an `xsl:attribute`.
@@ -176,7 +176,7 @@ fn push_attribute_sets<'m>(
     ensures { OnOk result (map name_data out.new.items
         ≡ map name_data out.old.items ++ attribute_sets tree.now child) }
 {
-    if is_attribute(row_of(tree, child)) {
+    if is_attribute(tag_of(tree, child)) {
         return push_sets_within(tree, walked, child, out);
     }
     Ok(())
@@ -202,10 +202,10 @@ fn own_sets<'m>(
 }
 
 /// Whether an element declares an attribute set.
-fn is_attribute_set(row: Row) -> bool
-    ensures { result ≡ is_attribute_set row }
+fn is_attribute_set(tag: Tag) -> bool
+    ensures { result ≡ is_attribute_set tag }
 {
-    matches!(row, Row::AttributeSet)
+    matches!(tag, Tag::AttributeSet)
 }
 
 /// Adds the declaration that an element of a module is, where it has a name.
@@ -253,7 +253,7 @@ fn push_in<'m>(
         place) }
 {
     let n = place.1;
-    if is_attribute_set(row_of(&module.tree, n)) {
+    if is_attribute_set(tag_of(&module.tree, n)) {
         let name = own_name(&module.tree, n);
         return push_named(alloc, module, walked, place, name, out);
     }

@@ -2,7 +2,7 @@
 
 ghost use Rattle.std.specs.Prelude.{◌≡◌, ◌+◌, ◌<◌, length, option_map, IfOk, OnOk};
 ghost use Rattle.xs_elements.specs.Nodes.{name_data};
-ghost use Rattle.xs_elements.specs.Rows.{row_of};
+ghost use Rattle.xs_elements.specs.Tags.{tag_of};
 ghost use Rattle.xs_static.specs.steps.Elements.{IsAt};
 ghost use Rattle.xs_static.specs.steps.Found.{calls_other, element_faults, line_in, node_faults};
 ghost use Rattle.xs_static.specs.steps.Found.{nodes_faults, seen_faults};
@@ -20,8 +20,8 @@ use crate::names::Names;
 use crate::numbers::{MODULE_TOO_DEEP, SHADOWING, UNKNOWN_TEMPLATE};
 use crate::variables::Visible;
 use std::alloc::{AllocError, Global};
-use xs_elements::rows::Row;
 use xs_elements::scope::{Expanded, own_name};
+use xs_elements::tags::Tag;
 use xs_modules::Module;
 use xs_structure::bindings::local_name;
 use xs_structure::scopes::Scopes;
@@ -55,12 +55,12 @@ impl<'w, 'm> Site<'w, 'm> {
     }
 
     /// Whether an element calls a template that the stylesheet does not have.
-    fn calls_other(&self, n: Node, row: Row) -> bool
+    fn calls_other(&self, n: Node, tag: Tag) -> bool
         requires inside { n < length self.now.tree.now }
-        requires row { row ≡ row_of self.now.tree.now n }
+        requires tag { tag ≡ tag_of self.now.tree.now n }
         ensures { result ≡ calls_other self.now.names.now self.now.tree.now n }
     {
-        if !matches!(row, Row::CallTemplate) {
+        if !matches!(tag, Tag::CallTemplate) {
             return false;
         }
         match own_name(self.tree, n) {
@@ -109,7 +109,7 @@ impl<'w, 'm> Site<'w, 'm> {
         let fault = element.attributes_fault(self.alloc, scope, &visible)?;
         least.meet_any(self.number, line, fault);
         element.meet_misplaced(self.number, self.lines, least);
-        let calls_other = self.calls_other(element.node, element.row);
+        let calls_other = self.calls_other(element.node, element.tag);
         least.meet_where(calls_other, self.number, line, UNKNOWN_TEMPLATE);
         let shadows = self.shadows(element.node, name, locals);
         least.meet_where(shadows, self.number, line, SHADOWING);
@@ -141,11 +141,11 @@ impl<'w, 'm> Site<'w, 'm> {
         let element = Element {
             tree: self.tree,
             node: n,
-            row: standing.row,
+            tag: standing.tag,
             reading: standing.reading,
             preserves: standing.preserves,
         };
-        let name = local_name(self.tree, n, standing.row, true);
+        let name = local_name(self.tree, n, standing.tag, true);
         self.meet_seen(&element, name, locals, least)
     }
 
@@ -185,7 +185,7 @@ impl<'w, 'm> Site<'w, 'm> {
         locals.pass(self.tree, n)?;
         let standing = standing_in(self.standings, self.tree, n);
         self.meet_node(n, standing, locals, least)?;
-        let name = local_name(self.tree, n, standing.row, standing.is_seen);
+        let name = local_name(self.tree, n, standing.tag, standing.is_seen);
         locals.note(self.tree, n, name)?;
         Ok(())
     }

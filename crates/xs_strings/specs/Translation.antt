@@ -2,7 +2,7 @@
 use Rattle.std.specs.Prelude.{ℕ, ◌==◌, List, Option, Some, None, slice_get}
 use Rattle.std.specs.List.{filter_map, position}
 
--- what stands for a character that has this place in the second argument, if any
+-- what represents a character that has this place in the second argument, if any
 abbrev pub replacement_at : List ℕ → ℕ → Option ℕ → Option ℕ
 replacement_at to c None = Some c
 replacement_at to c (Some place) = slice_get to place

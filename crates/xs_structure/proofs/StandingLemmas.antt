@@ -15,11 +15,11 @@ use Rattle.xs_structure.specs.Excluded.{excluded_value, excludes, is_left_out}
 use Rattle.xs_structure.specs.steps.Namespaces.{AreNamespaces, is_left_out_by, is_meant}
 use Rattle.xs_structure.specs.InForce.{in_force_at}
 use Rattle.xs_structure.specs.Standing.{standing_of}
-use Rattle.xs_elements.specs.declared.rows.Row.{Row}
-use Rattle.xs_elements.specs.declared.rows.Row.TheVariants.{NoElement}
+use Rattle.xs_elements.specs.declared.tags.Tag.{Tag}
+use Rattle.xs_elements.specs.declared.tags.Tag.TheVariants.{NoElement}
 use Rattle.xs_elements.specs.Nodes.{ancestors_or_self, chain, scope_at}
 use Rattle.xs_elements.specs.Reading.{declares_extension, extension_value, is_in_extension, is_seen, is_shown, means_uri, reading_by, reading_of, shows, shows_at}
-use Rattle.xs_elements.specs.Rows.{is_document_element, is_top_level, row_of, xslt_uri}
+use Rattle.xs_elements.specs.Tags.{is_document_element, is_top_level, tag_of, xslt_uri}
 use Rattle.xs_elements.specs.WhiteSpace.{first_said, own_space, preserves, words, xml_uri}
 use Rattle.xs_structure.specs.steps.Around.{any_around}
 use Rattle.xs_tree.specs.Kinds.{is_element_kind}
@@ -97,11 +97,11 @@ depth-alone rs n e = ap length (sym (around-none rs n (no-parent rs n e)))
 
 -- ---- whether a node is looked at
 pub seen_in : (rs : List Record) → IsTree rs → (n : ℕ) (s : Standing) → n < length rs → Some s ≡ option_map (standing_of rs) (at rs n).parent
-    → (row : Row) → row ≡ row_of rs n → ((is_document_element rs n || shows s.reading row) && s.is_seen) ≡ is_seen rs n
-seen_in rs tree n s inside e row rowed =
+    → (tag : Tag) → tag ≡ tag_of rs n → ((is_document_element rs n || shows s.reading tag) && s.is_seen) ≡ is_seen rs n
+seen_in rs tree n s inside e tag tagged =
     let h = parent-of rs n s e in
-    ap (λ (t : Standing). (is_document_element rs n || shows t.reading row) && t.is_seen) h.stands
-    ∙ ap (λ (x : Row). (is_document_element rs n || shows (reading_of rs h.place) x) && is_seen rs h.place) rowed
+    ap (λ (t : Standing). (is_document_element rs n || shows t.reading tag) && t.is_seen) h.stands
+    ∙ ap (λ (x : Tag). (is_document_element rs n || shows (reading_of rs h.place) x) && is_seen rs h.place) tagged
     ∙ ap (λ (o : Option ℕ). option_map_or (λ q. shows_at rs q n) o true && is_seen rs h.place) (sym h.parent)
     ∙ ap (list_all (is_shown rs)) (sym (around-some rs tree n h.place inside h.parent))
 
@@ -132,8 +132,8 @@ none_declared rs ns e x = record { extensions = λ uri k from inside. e uri k; e
 -- those of the next node as well, by the pairs in scope there
 module _ (rs : List Record) (n end : ℕ) where
   pub declared_more : (old new : Namespaces) → IsTree rs → EndsAt rs n end → AreNamespaces rs n old
-      → (pairs : List (List ℕ × List ℕ)) → pairs ≡ scope_at rs n → (extensions excluded : Option (List ℕ)) → extensions ≡ extension_value (row_of rs n) rs n
-      → excluded ≡ excluded_value (reading_of rs n) (row_of rs n) rs n
+      → (pairs : List (List ℕ × List ℕ)) → pairs ≡ scope_at rs n → (extensions excluded : Option (List ℕ)) → extensions ≡ extension_value (tag_of rs n) rs n
+      → excluded ≡ excluded_value (reading_of rs n) (tag_of rs n) rs n
       → ((uri : List ℕ) (k : ℕ) → in_force_at new.extensions uri [] k ≡ (is_meant pairs uri extensions && nat_lt k end || in_force_at old.extensions uri [] k))
       → ((uri : List ℕ) (k : ℕ) → in_force_at new.excluded uri [] k ≡ (is_meant pairs uri excluded && nat_lt k end || in_force_at old.excluded uri [] k))
       → AreNamespaces rs (n + 1) new
@@ -152,7 +152,7 @@ module _ (rs : List Record) (n end : ℕ) where
 
   -- of the next node its extensions alone
   pub extension_next : (old : Namespaces) (new : InForce) → IsTree rs → EndsAt rs n end → n < length rs → AreNamespaces rs n old
-      → (pairs : List (List ℕ × List ℕ)) → pairs ≡ scope_at rs n → (extensions : Option (List ℕ)) → extensions ≡ extension_value (row_of rs n) rs n
+      → (pairs : List (List ℕ × List ℕ)) → pairs ≡ scope_at rs n → (extensions : Option (List ℕ)) → extensions ≡ extension_value (tag_of rs n) rs n
       → ((uri : List ℕ) (k : ℕ) → in_force_at new uri [] k ≡ (is_meant pairs uri extensions && nat_lt k end || in_force_at old.extensions uri [] k))
       → in_force_at new (uri_at rs n) [] n ≡ is_in_extension rs n
   extension_next old new tree ends inside a pairs same extensions e h =
@@ -180,17 +180,17 @@ left_out_is rs tree n inside ns a uri =
 
 -- ---- a node that is no element declares nothing, so that a namespace node leaves out what its element does
 module _ (rs : List Record) (n : ℕ) (other : is_element_kind (at rs n).kind ≡ false) where
-  no_row : row_of rs n ≡ NoElement
-  no_row = rw other refl
+  no_tag : tag_of rs n ≡ NoElement
+  no_tag = rw other refl
 
   pub no_extension : (uri : List ℕ) → declares_extension rs uri n ≡ false
   no_extension uri =
-      ap (λ row. option_map_or (λ value. list_any (means_uri (scope_at rs n) uri) (words value)) (extension_value row rs n) false) no_row
+      ap (λ tag. option_map_or (λ value. list_any (means_uri (scope_at rs n) uri) (words value)) (extension_value tag rs n) false) no_tag
 
   pub excludes_nothing : (uri : List ℕ) → excludes rs uri n ≡ false
   excludes_nothing uri =
-      ap (λ row. option_map_or (λ value. list_any (means_uri (scope_at rs n) uri) (words value))
-      (excluded_value (reading_by row (is_top_level rs n) (is_in_extension rs n)) row rs n) false) no_row
+      ap (λ tag. option_map_or (λ value. list_any (means_uri (scope_at rs n) uri) (words value))
+      (excluded_value (reading_by tag (is_top_level rs n) (is_in_extension rs n)) tag rs n) false) no_tag
 
   -- what its parent leaves out it leaves out
   pub left_out_of_parent : IsTree rs → n < length rs → (p : ℕ) → (at rs n).parent ≡ Some p → (uri : List ℕ)

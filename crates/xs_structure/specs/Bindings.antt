@@ -4,12 +4,12 @@ use Rattle.std.specs.List.{list_any}
 use Rattle.std.specs.Option.{option_map_or}
 use Rattle.xs_elements.specs.Nodes.{Name, is_named, own_name}
 use Rattle.xs_elements.specs.Reading.{is_seen}
-use Rattle.xs_elements.specs.Rows.{row_of, is_variable, is_top_level}
+use Rattle.xs_elements.specs.Tags.{tag_of, is_variable, is_top_level}
 use Rattle.xs_tree.specs.Record.{Record, at, is_inside, places}
 
 -- a variable or a parameter that is not of the top level
 abbrev pub is_local : List Record → ℕ → Bool
-is_local rs b = is_variable (row_of rs b) && not (is_top_level rs b) && is_seen rs b
+is_local rs b = is_variable (tag_of rs b) && not (is_top_level rs b) && is_seen rs b
 
 -- the name of the local binding that a node is, if it is one
 abbrev pub local_name : List Record → ℕ → Option Name

@@ -5,24 +5,24 @@ use Rattle.std.specs.Option.{option_map_or}
 use Rattle.std.specs.Str.{bytes_eq}
 use Rattle.xs_elements.specs.declared.reading.Reading.{Reading}
 use Rattle.xs_elements.specs.declared.reading.Reading.TheVariants.{Known, Literal}
-use Rattle.xs_elements.specs.declared.rows.Row.{Row}
-use Rattle.xs_elements.specs.declared.rows.Row.TheVariants.{Stylesheet}
+use Rattle.xs_elements.specs.declared.tags.Tag.{Tag}
+use Rattle.xs_elements.specs.declared.tags.Tag.TheVariants.{Stylesheet}
 use Rattle.xs_elements.specs.Nodes.{ancestors_or_self, pair_at, scope_at, value_of}
 use Rattle.xs_elements.specs.Reading.{declares_extension, means_uri, reading_of}
-use Rattle.xs_elements.specs.Rows.{row_of, xslt_uri}
+use Rattle.xs_elements.specs.Tags.{tag_of, xslt_uri}
 use Rattle.xs_elements.specs.WhiteSpace.{words, xml_uri}
 use Rattle.xs_tree.specs.Record.{Record, at, namespaces}
 
 -- the attribute with the prefixes of excluded namespaces: of the stylesheet's element, or of a literal element
-abbrev pub excluded_value : Reading → Row → List Record → ℕ → Option (List ℕ)
+abbrev pub excluded_value : Reading → Tag → List Record → ℕ → Option (List ℕ)
 excluded_value Known Stylesheet rs n = value_of rs n [] (codes "exclude-result-prefixes")
-excluded_value Literal row rs n = value_of rs n xslt_uri (codes "exclude-result-prefixes")
-excluded_value _ row rs n = None
+excluded_value Literal tag rs n = value_of rs n xslt_uri (codes "exclude-result-prefixes")
+excluded_value _ tag rs n = None
 
 -- an element excludes a namespace in its whole subtree
 abbrev pub excludes : List Record → List ℕ → ℕ → Bool
 excludes rs uri n =
-    option_map_or (λ value. list_any (means_uri (scope_at rs n) uri) (words value)) (excluded_value (reading_of rs n) (row_of rs n) rs n) false
+    option_map_or (λ value. list_any (means_uri (scope_at rs n) uri) (words value)) (excluded_value (reading_of rs n) (tag_of rs n) rs n) false
 
 -- a namespace that is not copied from a literal element: XSLT's, an extension's, an excluded one; that of `xml` is in force
 -- everywhere

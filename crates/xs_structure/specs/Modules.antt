@@ -3,7 +3,7 @@ use Rattle.std.specs.Prelude.{ℕ, ◌==◌, ◌&&◌, Bool, false, List, [], le
 use Rattle.std.specs.List.{range_with_len}
 use Rattle.std.specs.Option.{option_map_or}
 use Rattle.xs_modules.specs.Numbering.{ModuleData}
-use Rattle.xs_elements.specs.Rows.{is_top_level}
+use Rattle.xs_elements.specs.Tags.{is_top_level}
 use Rattle.xs_tree.specs.Kinds.{is_element_kind}
 use Rattle.xs_tree.specs.Record.{Record, at}
 

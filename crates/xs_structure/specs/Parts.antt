@@ -3,18 +3,18 @@ use Rattle.std.specs.Prelude.{ℕ, ◌&&◌, ◌||◌, not, Bool, List, [], map,
 use Rattle.std.specs.Option.{option_map_or, unwrap_or}
 use Rattle.xs_modules.specs.Numbering.{ModuleData}
 use Rattle.xs_elements.specs.declared.reading.Reading.{Reading}
-use Rattle.xs_elements.specs.declared.rows.Row.{Row}
+use Rattle.xs_elements.specs.declared.tags.Tag.{Tag}
 use Rattle.xs_elements.specs.Nodes.{Name, own_name, scope_at, value_of}
 use Rattle.xs_elements.specs.Reading.{reading_of}
-use Rattle.xs_elements.specs.Rows.{row_of, is_param, is_sort}
+use Rattle.xs_elements.specs.Tags.{tag_of, is_param, is_sort}
 use Rattle.xs_structure.specs.Modules.{Place, records_at, line_at}
 use Rattle.xs_elements.specs.WhiteSpace.{is_kept_text}
 use Rattle.xs_trace.specs.declared.item.Site.{Site}
 use Rattle.xs_tree.specs.Kinds.{is_element_kind}
 use Rattle.xs_tree.specs.Record.{Record, at, children, string_value}
 
-abbrev pub row_at : List ModuleData → Place → Row
-row_at ms p = row_of (records_at ms p.0) p.1
+abbrev pub tag_at : List ModuleData → Place → Tag
+tag_at ms p = tag_of (records_at ms p.0) p.1
 
 abbrev pub reading_at : List ModuleData → Place → Reading
 reading_at ms p = reading_of (records_at ms p.0) p.1
@@ -51,8 +51,8 @@ abbrev pub children_at : List ModuleData → Place → List Place
 children_at ms p = map (λ k. (p.0, k)) (children (records_at ms p.0) p.1)
 
 -- those that are elements of a kind
-abbrev pub children_with : (Row → Bool) → List ModuleData → Place → List Place
-children_with kind ms p = filter (λ q. kind (row_at ms q)) (children_at ms p)
+abbrev pub children_with : (Tag → Bool) → List ModuleData → Place → List Place
+children_with kind ms p = filter (λ q. kind (tag_at ms q)) (children_at ms p)
 
 -- the content of an element: its elements, and the texts that are kept
 abbrev pub is_content : List Record → (inside : ℕ) → ℕ → Bool
@@ -61,7 +61,7 @@ is_content rs inside k = is_element_kind (at rs k).kind || is_kept_text rs insid
 -- those that are its body: elements, and texts that are kept (XSLT 1.0, 3.4), after the parameters of a template (5.3) and the
 -- sort keys of a loop (8)
 abbrev pub is_in_body : List ModuleData → (inside : Place) → Place → Bool
-is_in_body ms p q = is_content (records_at ms p.0) p.1 q.1 && not (is_param (row_at ms q) || is_sort (row_at ms q))
+is_in_body ms p q = is_content (records_at ms p.0) p.1 q.1 && not (is_param (tag_at ms q) || is_sort (tag_at ms q))
 
 abbrev pub body_at : List ModuleData → Place → List Place
 body_at ms p = filter (is_in_body ms p) (children_at ms p)

@@ -2,7 +2,7 @@
 use Rattle.std.specs.Prelude.{ℕ, ◌&&◌, Bool, List, length}
 use Rattle.xs_elements.specs.Nodes.{ancestors_or_self}
 use Rattle.xs_elements.specs.Reading.{is_seen, reading_of}
-use Rattle.xs_elements.specs.Rows.{row_of}
+use Rattle.xs_elements.specs.Tags.{tag_of}
 use Rattle.xs_elements.specs.WhiteSpace.{preserves}
 use Rattle.xs_tree.specs.Kinds.{is_namespace_kind}
 use Rattle.xs_tree.specs.Record.{Record, at}
@@ -15,7 +15,7 @@ is_space_left_out rs k = is_namespace_kind (at rs k).kind && is_left_out rs k (a
 
 abbrev pub standing_of : List Record → ℕ → Standing
 standing_of rs n = record {
-  row = row_of rs n;
+  tag = tag_of rs n;
   depth = length (ancestors_or_self rs n);
   reading = reading_of rs n;
   is_seen = is_seen rs n;

@@ -16,7 +16,7 @@ ghost use Rattle.xs_structure.specs.Modules.{is_same_place, mentioned};
 
 use crate::places::Place;
 use std::alloc::{AllocError, Global};
-use xs_elements::rows::{Row, is_document_element, is_top_level, row_of};
+use xs_elements::tags::{Tag, is_document_element, is_top_level, tag_of};
 use xs_modules::{Module, Modules};
 use xs_tree::{Kind, Node, Tree};
 
@@ -46,7 +46,7 @@ fn mentioned(modules: &[Module], number: u32, n: Node) -> Option<u32>
 }
 
 /// Whether a node is a declaration: an element of the top level (2.2), or one that is no XSLT and
-/// stands for a whole module (2.3).
+/// represents a whole module (2.3).
 fn is_declaration(tree: &Tree, n: Node) -> bool
     requires { n < length tree.now }
     ensures { result ≡ is_declaration tree.now n }
@@ -54,7 +54,7 @@ fn is_declaration(tree: &Tree, n: Node) -> bool
     if matches!(tree.kind(n), Kind::Element) && is_top_level(tree, n) {
         return true;
     }
-    is_document_element(tree, n) && matches!(row_of(tree, n), Row::Other)
+    is_document_element(tree, n) && matches!(tag_of(tree, n), Tag::Other)
 }
 
 /// Adds a node to the declarations of a module, if it is one.

@@ -9,7 +9,7 @@ ghost use Rattle.std.specs.Str.{bytes_eq};
 ghost use Rattle.xs_elements.specs.Nodes.{scope_at};
 ghost use Rattle.xs_elements.specs.Reading.{extension_value, is_in_extension, means_uri};
 ghost use Rattle.xs_elements.specs.Reading.{reading_of, reading_of_other};
-ghost use Rattle.xs_elements.specs.Rows.{is_top_level, row_of};
+ghost use Rattle.xs_elements.specs.Tags.{is_top_level, tag_of};
 ghost use Rattle.xs_elements.specs.WhiteSpace.{words};
 ghost use Rattle.xs_structure.specs.Excluded.{excluded_value};
 ghost use Rattle.xs_structure.specs.InForce.{in_force_at};
@@ -18,8 +18,8 @@ ghost use Rattle.xs_structure.specs.steps.Namespaces.{AreNamespaces, is_left_out
 use crate::in_force::InForce;
 use std::alloc::{AllocError, Global};
 use xs_elements::reading::Reading;
-use xs_elements::rows::{Row, XSLT_URI, is_top_level};
 use xs_elements::scope::value_of;
+use xs_elements::tags::{Tag, XSLT_URI, is_top_level};
 use xs_elements::words::first_word;
 use xs_text::XML_URI;
 use xs_tree::{Node, Tree};
@@ -94,29 +94,29 @@ fn enter_value<'s>(
 }
 
 /// The attribute with the prefixes of extension namespaces, if an element has it.
-fn extension_value(tree: &Tree, n: Node, row: Row) -> Option<&str>
+fn extension_value(tree: &Tree, n: Node, tag: Tag) -> Option<&str>
     requires inside { n < length tree.now }
-    ensures { option_map (λ value. value.now) result ≡ extension_value row tree.now n }
+    ensures { option_map (λ value. value.now) result ≡ extension_value tag tree.now n }
 {
-    match row {
-        Row::Stylesheet => value_of(tree, n, "", "extension-element-prefixes"),
-        Row::Other => value_of(tree, n, XSLT_URI, "extension-element-prefixes"),
+    match tag {
+        Tag::Stylesheet => value_of(tree, n, "", "extension-element-prefixes"),
+        Tag::Other => value_of(tree, n, XSLT_URI, "extension-element-prefixes"),
         _ => None,
     }
 }
 
 /// The attribute with the prefixes of excluded namespaces, if an element has it: the stylesheet's
 /// element, or a literal one.
-fn excluded_value(tree: &Tree, n: Node, row: Row, is_extension: bool) -> Option<&str>
+fn excluded_value(tree: &Tree, n: Node, tag: Tag, is_extension: bool) -> Option<&str>
     requires inside { n < length tree.now }
-    requires row { row ≡ row_of tree.now n }
+    requires tag { tag ≡ tag_of tree.now n }
     requires extension { is_extension ≡ is_in_extension tree.now n }
     ensures { option_map (λ value. value.now) result
-        ≡ excluded_value (reading_of tree.now n) row tree.now n }
+        ≡ excluded_value (reading_of tree.now n) tag tree.now n }
 {
-    match row {
-        Row::Stylesheet => value_of(tree, n, "", "exclude-result-prefixes"),
-        Row::Other => {
+    match tag {
+        Tag::Stylesheet => value_of(tree, n, "", "exclude-result-prefixes"),
+        Tag::Other => {
             if is_extension || is_top_level(tree, n) {
                 return None;
             }
@@ -152,20 +152,20 @@ impl<'s> Namespaces<'s> {
         &mut self,
         tree: &Tree,
         n: Node,
-        row: Row,
+        tag: Tag,
         scope: &'s Scope,
     ) -> Result<(), AllocError>
         requires inside { n < length tree.now }
-        requires row { row ≡ row_of tree.now n }
+        requires tag { tag ≡ tag_of tree.now n }
         requires scope { scope.now.pairs.items ≡ scope_at tree.now n }
         requires namespaces { AreNamespaces tree.now n self.old }
         ensures { OnOk result (AreNamespaces tree.now (n + 1) self.new) }
     {
         let end = tree.subtree_end(n);
-        let extensions = extension_value(tree, n, row);
+        let extensions = extension_value(tree, n, tag);
         enter_value(&mut self.extensions, scope, extensions, end)?;
         let is_extension = self.extensions.has(tree.uri(n), "", n.place());
-        let excluded = excluded_value(tree, n, row, is_extension);
+        let excluded = excluded_value(tree, n, tag, is_extension);
         enter_value(&mut self.excluded, scope, excluded, end)?;
         Ok(())
     }
@@ -197,15 +197,15 @@ impl<'s> Namespaces<'s> {
     }
 
     /// How a node is read.
-    pub(crate) fn reading_of(&self, tree: &Tree, n: Node, row: Row) -> Reading
+    pub(crate) fn reading_of(&self, tree: &Tree, n: Node, tag: Tag) -> Reading
         requires inside { n < length tree.now }
-        requires row { row ≡ row_of tree.now n }
+        requires tag { tag ≡ tag_of tree.now n }
         requires namespaces { AreNamespaces tree.now (n + 1) self.now }
         ensures { result ≡ reading_of tree.now n }
     {
-        match row {
-            Row::Other => self.reading_of_other(tree, n),
-            Row::DecimalFormat | Row::Unknown | Row::NoElement => Reading::Unread,
+        match tag {
+            Tag::Other => self.reading_of_other(tree, n),
+            Tag::DecimalFormat | Tag::Unknown | Tag::NoElement => Reading::Unread,
             _ => Reading::Known,
         }
     }

@@ -2,7 +2,7 @@
 
 ghost use Rattle.std.specs.Prelude.{◌≡◌, ◌<◌, length, option_map, IfOk};
 ghost use Rattle.xs_structure.specs.Order.{is_simplified, is_template_place};
-ghost use Rattle.xs_structure.specs.Parts.{imports_from_at, is_in_body, name_at, pairs_at, row_at};
+ghost use Rattle.xs_structure.specs.Parts.{imports_from_at, is_in_body, name_at, pairs_at, tag_at};
 ghost use Rattle.xs_structure.specs.Parts.{said_at, site_at, text_at, value_at};
 ghost use Rattle.xs_structure.specs.Places.{HaveLines, IsIn};
 ghost use Rattle.xs_elements.specs.Nodes.{name_data};
@@ -12,11 +12,11 @@ ghost use Rattle.xs_structure.specs.Modules.{precedence_at, records_at};
 
 use std::alloc::{AllocError, Global};
 use xs_elements::kept::is_kept;
-use xs_elements::rows::{Row, is_document_element, row_of};
 use xs_elements::scope::{Expanded, own_name, scope_at, value_of};
+use xs_elements::tags::{Tag, is_document_element, tag_of};
 use xs_modules::Modules;
-use xs_trace::item::Site;
 use xs_text::TextBuf;
+use xs_trace::item::Site;
 use xs_tree::{Kind, Node, Tree};
 use xs_xpath::scope::Scope;
 
@@ -65,30 +65,30 @@ pub fn imports_from_at(modules: &Modules, number: u32) -> u32
 }
 
 /// What a node is, by its name.
-pub fn row_at(modules: &Modules, number: u32, n: Node) -> Row
+pub fn tag_at(modules: &Modules, number: u32, n: Node) -> Tag
     requires at { IsIn (modules_data modules.now) («number», n) }
-    ensures { result ≡ row_at (modules_data modules.now) («number», n) }
+    ensures { result ≡ tag_at (modules_data modules.now) («number», n) }
 {
-    row_of(tree_of(modules, number), n)
+    tag_of(tree_of(modules, number), n)
 }
 
-/// Whether a node is an element that is no XSLT and stands for a whole module (2.3).
+/// Whether a node is an element that is no XSLT and represents a whole module (2.3).
 fn is_simplified(modules: &Modules, number: u32, n: Node) -> bool
     requires at { IsIn (modules_data modules.now) («number», n) }
     ensures { result ≡ is_simplified (records_at (modules_data modules.now) «number») n }
 {
-    if !matches!(row_at(modules, number, n), Row::Other) {
+    if !matches!(tag_at(modules, number, n), Tag::Other) {
         return false;
     }
     is_document_element(tree_of(modules, number), n)
 }
 
-/// Whether a node stands for a template: an `xsl:template`, or a whole module.
+/// Whether a node represents a template: an `xsl:template`, or a whole module.
 pub fn is_template(modules: &Modules, number: u32, n: Node) -> bool
     requires at { IsIn (modules_data modules.now) («number», n) }
     ensures { result ≡ is_template_place (modules_data modules.now) («number», n) }
 {
-    if matches!(row_at(modules, number, n), Row::Template) {
+    if matches!(tag_at(modules, number, n), Tag::Template) {
         return true;
     }
     is_simplified(modules, number, n)
@@ -148,8 +148,8 @@ pub fn is_in_body(
 {
     let tree = tree_of(modules, number);
     match tree.kind(child) {
-        Kind::Element => !matches!(row_at(modules, number, child), Row::Param | Row::Sort),
-        Kind::Text => is_kept(tree, child, row_at(modules, number, inside), preserved),
+        Kind::Element => !matches!(tag_at(modules, number, child), Tag::Param | Tag::Sort),
+        Kind::Text => is_kept(tree, child, tag_at(modules, number, inside), preserved),
         _ => false,
     }
 }

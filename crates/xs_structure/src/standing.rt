@@ -9,7 +9,7 @@ ghost use Rattle.xs_structure.specs.Standing.{is_space_left_out, standing_of};
 ghost use Rattle.xs_elements.specs.Nodes.{ancestors_or_self};
 ghost use Rattle.xs_elements.specs.Reading.{is_seen, shows};
 ghost use Rattle.xs_structure.specs.Scopes.{scopes_in, scopes_of};
-ghost use Rattle.xs_elements.specs.Rows.{is_document_element, row_of};
+ghost use Rattle.xs_elements.specs.Tags.{is_document_element, tag_of};
 ghost use Rattle.xs_elements.specs.WhiteSpace.{preserves};
 ghost use Rattle.xs_tree.specs.Kinds.{is_element_kind};
 ghost use Rattle.xs_tree.specs.Record.{at, places};
@@ -19,14 +19,14 @@ use crate::scopes::Scopes;
 use std::alloc::{AllocError, Global};
 use xs_elements::kept::own_space;
 use xs_elements::reading::Reading;
-use xs_elements::rows::{Row, is_document_element, row_of};
+use xs_elements::tags::{Tag, is_document_element, tag_of};
 use xs_tree::{Kind, Node, Tree};
 
 /// How a node stands in its module.
 #[derive(Clone, Copy)]
 pub struct Standing {
     /// What it is, by its name.
-    pub row: Row,
+    pub tag: Tag,
     /// How many nodes are around it, itself among them.
     pub depth: u32,
     /// How it is read.
@@ -63,44 +63,44 @@ fn depth_at(tree: &Tree, n: Node, parent: Option<Standing>) -> u32
 }
 
 /// Whether children of a kind are looked at in an element that is read so.
-fn shows(reading: Reading, child: Row) -> bool
+fn shows(reading: Reading, child: Tag) -> bool
     ensures { result ≡ shows reading child }
 {
     match reading {
         Reading::Known => true,
         Reading::Literal => true,
-        Reading::Extension => matches!(child, Row::Fallback),
+        Reading::Extension => matches!(child, Tag::Fallback),
         Reading::Unread => false,
     }
 }
 
 /// Whether a node is shown by its parent, which is read so.
-fn is_shown(tree: &Tree, n: Node, row: Row, parent: Reading) -> bool
+fn is_shown(tree: &Tree, n: Node, tag: Tag, parent: Reading) -> bool
     requires { n < length tree.now }
-    ensures { result ≡ (is_document_element tree.now n || shows parent row) }
+    ensures { result ≡ (is_document_element tree.now n || shows parent tag) }
 {
-    is_document_element(tree, n) || shows(parent, row)
+    is_document_element(tree, n) || shows(parent, tag)
 }
 
 /// Whether a node is looked at, whose parent stands so.
-fn is_seen_in(tree: &Tree, n: Node, row: Row, parent: Standing) -> bool
+fn is_seen_in(tree: &Tree, n: Node, tag: Tag, parent: Standing) -> bool
     requires { n < length tree.now }
-    ensures { result ≡ ((is_document_element tree.now n || shows parent.reading row)
+    ensures { result ≡ ((is_document_element tree.now n || shows parent.reading tag)
         && parent.is_seen) }
 {
-    is_shown(tree, n, row, parent.reading) && parent.is_seen
+    is_shown(tree, n, tag, parent.reading) && parent.is_seen
 }
 
 /// Whether a node is looked at, by how its parent stands.
-fn is_seen(tree: &Tree, n: Node, row: Row, parent: Option<Standing>) -> bool
+fn is_seen(tree: &Tree, n: Node, tag: Tag, parent: Option<Standing>) -> bool
     requires inside { n < length tree.now }
-    requires row { row ≡ row_of tree.now n }
+    requires tag { tag ≡ tag_of tree.now n }
     requires parent { parent ≡ option_map (standing_of tree.now) (at tree.now n).parent }
     ensures { result ≡ is_seen tree.now n }
 {
     let _count = tree.len();
     match parent {
-        Some(parent) => is_seen_in(tree, n, row, parent),
+        Some(parent) => is_seen_in(tree, n, tag, parent),
         None => true,
     }
 }
@@ -158,21 +158,21 @@ fn is_left_out(tree: &Tree, n: Node, namespaces: &Namespaces<'_>) -> bool
 fn standing_at(
     tree: &Tree,
     n: Node,
-    row: Row,
+    tag: Tag,
     namespaces: &Namespaces<'_>,
     parent: Option<Standing>,
 ) -> Standing
     requires inside { n < length tree.now }
-    requires row { row ≡ row_of tree.now n }
+    requires tag { tag ≡ tag_of tree.now n }
     requires namespaces { AreNamespaces tree.now (n + 1) namespaces.now }
     requires parent { parent ≡ option_map (standing_of tree.now) (at tree.now n).parent }
     ensures { result ≡ standing_of tree.now n }
 {
     Standing {
-        row,
+        tag,
         depth: depth_at(tree, n, parent),
-        reading: namespaces.reading_of(tree, n, row),
-        is_seen: is_seen(tree, n, row, parent),
+        reading: namespaces.reading_of(tree, n, tag),
+        is_seen: is_seen(tree, n, tag, parent),
         preserves: preserves(tree, n, parent),
         is_left_out: is_left_out(tree, n, namespaces),
     }
@@ -187,10 +187,10 @@ pub fn standings(alloc: Global, tree: &Tree, scopes: &Scopes) -> Result<Vec<Stan
     let mut standings = Vec::new(alloc);
     for place in 0..tree.len() as u32 {
         let n = Node::at(place);
-        let row = row_of(tree, n);
-        namespaces.enter(tree, n, row, scopes.get(tree, n))?;
+        let tag = tag_of(tree, n);
+        namespaces.enter(tree, n, tag, scopes.get(tree, n))?;
         let parent = parent_standing(&standings, tree, n);
-        standings.push(standing_at(tree, n, row, &namespaces, parent))?;
+        standings.push(standing_at(tree, n, tag, &namespaces, parent))?;
     }
     Ok(standings)
 }

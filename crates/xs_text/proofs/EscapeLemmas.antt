@@ -19,7 +19,7 @@ escaped-append xs ys = flat_map-append escaped_byte xs ys
 escaped-one : (b : ℕ) → escaped (b ∷ []) ≡ escaped_byte b
 escaped-one b = escaped-cons b [] ∙ ap (λ w. escaped_byte b ++ w) escaped-nil ∙ append-nil (escaped_byte b)
 
--- a run of bytes that stand for themselves, one byte longer
+-- a run of bytes that represent themselves, one byte longer
 pub plain_more : (xs : List ℕ) (i d : ℕ) → i < length xs → letter_of (get_or xs i d) ≡ None → escaped (take i xs) ≡ take i xs
     → escaped (take (i + 1) xs) ≡ take (i + 1) xs
 plain_more xs i d l none h =

@@ -2,7 +2,7 @@
 use Rattle.std.proofs.Common.{◌≡◌, ◌≢◌, ℕ, ◌+◌, ◌<◌, ◌≤◌, List, [], ◌∷◌, ◌++◌, Option, Some, None, IsSomeAnd, false, cond, eqb, length, take, drop, get_or, refl, sym, ap, subst, ◌∙◌, append_assoc, arith, ◌⊎◌, ◌↔◌, inl, inr}
 use Rattle.std.proofs.lemmas.List.{take_more, drop_more, take-append-drop, take_all, drop_all, append-nil}
 use Rattle.std.proofs.lemmas.Bool.Decides.{nat_tests, eqb_tells}
-use Rattle.xs_text.specs.Escapes.{letter_of, byte_of, written_by, escaped, first_and_rest, unescaped, behind, StandsFor, nothing, itself, pair}
+use Rattle.xs_text.specs.Escapes.{letter_of, byte_of, written_by, escaped, first_and_rest, unescaped, behind, Represents, nothing, itself, pair}
 use Rattle.xs_text.proofs.EscapeLemmas.{escaped-nil, escaped-cons}
 
 pub unescaped-nil : unescaped [] ≡ Some []
@@ -43,11 +43,11 @@ unescaped-escaped [] = ap unescaped escaped-nil ∙ unescaped-nil
 unescaped-escaped (b ∷ text) = ap unescaped (escaped-cons b text) ∙ unescaped-written (letter_of b) b (escaped text) text refl (unescaped-escaped text)
 
 -- the rules say what the function says
-pub unescaped-StandsFor : (w text : List ℕ) → StandsFor w text → unescaped w ≡ Some text
-unescaped-StandsFor _ _ nothing = unescaped-nil
-unescaped-StandsFor _ _ (itself b w text n h) = unescaped-plain b w n ∙ ap (λ o. first_and_rest (Some b) o) (unescaped-StandsFor w text h)
-unescaped-StandsFor _ _ (pair l b w text e h) = unescaped-pair l w ∙ ap (λ o. first_and_rest o (unescaped w)) e
-    ∙ ap (λ o. first_and_rest (Some b) o) (unescaped-StandsFor w text h)
+pub unescaped-Represents : (w text : List ℕ) → Represents w text → unescaped w ≡ Some text
+unescaped-Represents _ _ nothing = unescaped-nil
+unescaped-Represents _ _ (itself b w text n h) = unescaped-plain b w n ∙ ap (λ o. first_and_rest (Some b) o) (unescaped-Represents w text h)
+unescaped-Represents _ _ (pair l b w text e h) = unescaped-pair l w ∙ ap (λ o. first_and_rest o (unescaped w)) e
+    ∙ ap (λ o. first_and_rest (Some b) o) (unescaped-Represents w text h)
 
 -- the parts of what was read
 pub first_and_rest-parts : (o : Option ℕ) (p : Option (List ℕ)) (text : List ℕ) → first_and_rest o p ≡ Some text → (b : ℕ) × (more : List ℕ) × (o ≡ Some b)
@@ -56,42 +56,42 @@ first_and_rest-parts None p text e = absurd (cc)
 first_and_rest-parts (Some b) None text e = absurd (cc)
 first_and_rest-parts (Some b) (Some more) text e = (b, more, refl, refl, cc)
 
-StandsFor-itself : (b : ℕ) (w text : List ℕ) → b ≢ 92 → ((t : List ℕ) → unescaped w ≡ Some t → StandsFor w t) → unescaped (b ∷ w) ≡ Some text
-    → StandsFor (b ∷ w) text
-StandsFor-itself b w text n rest e =
+Represents-itself : (b : ℕ) (w text : List ℕ) → b ≢ 92 → ((t : List ℕ) → unescaped w ≡ Some t → Represents w t) → unescaped (b ∷ w) ≡ Some text
+    → Represents (b ∷ w) text
+Represents-itself b w text n rest e =
     let p = first_and_rest-parts (Some b) (unescaped w) text (sym (unescaped-plain b w n) ∙ e) in
     let same : b ∷ p.1 ≡ text = let first : b ≡ p.0 = cc in ap (λ x. x ∷ p.1) first ∙ p.4 in
-    subst (λ (t : List ℕ). StandsFor (b ∷ w) t) same (itself b w p.1 n (rest p.1 p.3))
+    subst (λ (t : List ℕ). Represents (b ∷ w) t) same (itself b w p.1 n (rest p.1 p.3))
 
-StandsFor-pair : (l : ℕ) (w text : List ℕ) → ((t : List ℕ) → unescaped w ≡ Some t → StandsFor w t) → unescaped (92 ∷ l ∷ w) ≡ Some text
-    → StandsFor (92 ∷ l ∷ w) text
-StandsFor-pair l w text rest e =
+Represents-pair : (l : ℕ) (w text : List ℕ) → ((t : List ℕ) → unescaped w ≡ Some t → Represents w t) → unescaped (92 ∷ l ∷ w) ≡ Some text
+    → Represents (92 ∷ l ∷ w) text
+Represents-pair l w text rest e =
     let p = first_and_rest-parts (byte_of l) (unescaped w) text (sym (unescaped-pair l w) ∙ e) in
-    subst (λ (t : List ℕ). StandsFor (92 ∷ l ∷ w) t) p.4 (pair l p.0 w p.1 p.2 (rest p.1 p.3))
+    subst (λ (t : List ℕ). Represents (92 ∷ l ∷ w) t) p.4 (pair l p.0 w p.1 p.2 (rest p.1 p.3))
 
 pub by_byte : (b : ℕ) → (b ≡ 92) ⊎ (b ≢ 92)
 by_byte b = elim (eqb_tells b 92) [ inl h ↦ inl h.1 | inr h ↦ inr h.1 ]
 
-pub StandsFor-unescaped : (w text : List ℕ) → unescaped w ≡ Some text → StandsFor w text
-StandsFor-unescaped [] text e =
+pub Represents-unescaped : (w text : List ℕ) → unescaped w ≡ Some text → Represents w text
+Represents-unescaped [] text e =
     let same : [] ≡ text = let said : Some [] ≡ Some text = sym unescaped-nil ∙ e in cc in
-    subst (λ (t : List ℕ). StandsFor [] t) same nothing
-StandsFor-unescaped (b ∷ []) text e =
+    subst (λ (t : List ℕ). Represents [] t) same nothing
+Represents-unescaped (b ∷ []) text e =
     elim (by_byte b) [
       | inl is ↦ let said : None ≡ Some text = sym (ap (λ x. unescaped (x ∷ [])) is ∙ unescaped-last) ∙ e in absurd (cc)
-      | inr n ↦ StandsFor-itself b [] text n (λ t h. StandsFor-unescaped [] t h) e
+      | inr n ↦ Represents-itself b [] text n (λ t h. Represents-unescaped [] t h) e
     ]
-StandsFor-unescaped (b ∷ l ∷ w) text e =
+Represents-unescaped (b ∷ l ∷ w) text e =
     elim (by_byte b) [
-      | inl is ↦ subst (λ (x : ℕ). StandsFor (x ∷ l ∷ w) text) (sym is)
-          (StandsFor-pair l w text (λ t h. StandsFor-unescaped w t h) (sym (ap (λ x. unescaped (x ∷ l ∷ w)) is) ∙ e))
-      | inr n ↦ StandsFor-itself b (l ∷ w) text n (λ t h. StandsFor-unescaped (l ∷ w) t h) e
+      | inl is ↦ subst (λ (x : ℕ). Represents (x ∷ l ∷ w) text) (sym is)
+          (Represents-pair l w text (λ t h. Represents-unescaped w t h) (sym (ap (λ x. unescaped (x ∷ l ∷ w)) is) ∙ e))
+      | inr n ↦ Represents-itself b (l ∷ w) text n (λ t h. Represents-unescaped (l ∷ w) t h) e
     ]
 
-pub unescaped_by_rules : (w text : List ℕ) → (unescaped w ≡ Some text) ↔ StandsFor w text
-unescaped_by_rules w text = (StandsFor-unescaped w text, unescaped-StandsFor w text)
+pub unescaped_by_rules : (w text : List ℕ) → (unescaped w ≡ Some text) ↔ Represents w text
+unescaped_by_rules w text = (Represents-unescaped w text, unescaped-Represents w text)
 
--- a front of bytes that stand for themselves
+-- a front of bytes that represent themselves
 abbrev pub IsPlain : List ℕ → Type 0
 IsPlain xs = (w : List ℕ) → unescaped (xs ++ w) ≡ behind xs (unescaped w)
 

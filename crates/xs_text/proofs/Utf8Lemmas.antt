@@ -95,7 +95,7 @@ IsUtf8-read (c ∷ d ∷ cs) read s e =
       | inr n ↦ IsUtf8-behind_char c (encode_utf8_all (d ∷ cs)) read p.0 n (λ r h. IsUtf8-read (d ∷ cs) r p.1 h) e
     ]
 
--- what a UTF-8 text stands for is UTF-8
+-- what a UTF-8 text represents is UTF-8
 pub IsUtf8-unescaped : (written read : List ℕ) → IsUtf8 written → unescaped written ≡ Some read → IsUtf8 read
 IsUtf8-unescaped written read u e = IsUtf8-read u.0 read u.1.0 (ap unescaped u.1.1 ∙ e)
 

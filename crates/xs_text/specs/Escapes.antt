@@ -1,5 +1,5 @@
--- The escapes of PYX data. In a written text a backslash and a letter stand for one byte, and every other
--- byte stands for itself. No byte of a character past ASCII is one of these, so all is said of bytes.
+-- The escapes of PYX data. In a written text a backslash and a letter represent one byte, and every other
+-- byte represents itself. No byte of a character past ASCII is one of these, so all is said of bytes.
 use Rattle.std.specs.Prelude.{ℕ, ◌≡◌, ◌≢◌, ◌==◌, List, [], ◌∷◌, ◌++◌, Option, Some, None, if◌then◌else◌}
 use Rattle.std.specs.List.{flat_map}
 
@@ -41,7 +41,7 @@ abbrev pub byte_in : List EscapePair → ℕ → Option ℕ
 byte_in [] l = None
 byte_in (p ∷ ps) l = if p.letter == l then Some p.byte else byte_in ps l
 
--- the byte that a letter stands for after a backslash, if it is one of the four letters
+-- the byte that a letter represents after a backslash, if it is one of the four letters
 abbrev pub byte_of : ℕ → Option ℕ
 byte_of l = byte_in escape_pairs l
 
@@ -50,7 +50,7 @@ first_and_rest None rest = None
 first_and_rest (Some b) None = None
 first_and_rest (Some b) (Some more) = Some (b ∷ more)
 
--- the data that a written text stands for; None where a backslash begins no pair
+-- the data that a written text represents; None where a backslash begins no pair
 unfoldable pub unescaped : List ℕ → Option (List ℕ)
 unescaped [] = Some []
 unescaped (b ∷ []) = if b == 92 then None else Some (b ∷ [])
@@ -62,9 +62,9 @@ abbrev pub behind : List ℕ → Option (List ℕ) → Option (List ℕ)
 behind front None = None
 behind front (Some more) = Some (front ++ more)
 
--- The same by rules: a written text stands for data. A byte other than a backslash stands for itself, and a
+-- The same by rules: a written text represents data. A byte other than a backslash represents itself, and a
 -- backslash and one of the four letters for the letter's byte.
-pub data StandsFor : List ℕ → List ℕ → Type 0 where
-  nothing : StandsFor [] []
-  itself : (b : ℕ) (written read : List ℕ) → b ≢ 92 → StandsFor written read → StandsFor (b ∷ written) (b ∷ read)
-  pair : (l b : ℕ) (written read : List ℕ) → byte_of l ≡ Some b → StandsFor written read → StandsFor (92 ∷ l ∷ written) (b ∷ read)
+pub data Represents : List ℕ → List ℕ → Type 0 where
+  nothing : Represents [] []
+  itself : (b : ℕ) (written read : List ℕ) → b ≢ 92 → Represents written read → Represents (b ∷ written) (b ∷ read)
+  pair : (l b : ℕ) (written read : List ℕ) → byte_of l ≡ Some b → Represents written read → Represents (92 ∷ l ∷ written) (b ∷ read)

@@ -4,7 +4,7 @@ ghost use Rattle.std.specs.Prelude.{◌≡◌, ℕ, ◌+◌, ◌<◌, ◌↔◌,
 ghost use Rattle.std.specs.Prelude.{vec_len, IsTrue, IsSome, IsSomeAnd, IsErrOf, OnOk, OnErr};
 ghost use Rattle.std.specs.Prelude.{MatchOption, MatchResult};
 ghost use Rattle.std.specs.Str.{IsUtf8};
-ghost use Rattle.xs_text.specs.Escapes.{letter_of, byte_of, escaped, unescaped, behind, StandsFor};
+ghost use Rattle.xs_text.specs.Escapes.{letter_of, byte_of, escaped, unescaped, behind, Represents};
 
 use std::alloc::AllocError;
 use thiserror::Error;
@@ -159,7 +159,7 @@ pub fn unescape_into(out: &mut Vec<u8>, s: &str) -> Result<(), TextFault>
     ensures utf8 { IsUtf8 out.old.items → IsUtf8 out.new.items }
 
     // What a text represents is what the rules say.
-    ensures rules { (read : List ℕ) → (unescaped s.now ≡ Some read) ↔ StandsFor s.now read }
+    ensures rules { (read : List ℕ) → (unescaped s.now ≡ Some read) ↔ Represents s.now read }
 {
     let start = out.len();
     if append_unescaped(out, s.as_bytes()).is_ok() {

@@ -1,4 +1,4 @@
--- What was told stays at the beginning of what is told; and so, where a part ends, the whole ends.
+-- What was reported stays at the beginning of what is reported; and so, where a part ends, the whole ends.
 use Rattle.std.proofs.Common.{◌≡◌, ℕ, zero, suc, ◌+◌, ◌-◌, ◌/◌, length, List, [], ◌∷◌, ◌++◌, Option, Some, None, Result, Err, Bool, true, false, cond}
 use Rattle.std.proofs.Common.{refl, sym, ap, subst, ◌∙◌, append_assoc, append-nil, arith}
 use Rattle.std.proofs.lemmas.Bool.{true≢false}
@@ -7,7 +7,7 @@ use Rattle.xs_trace.specs.Event.{text_of}
 use Rattle.xs_trace.specs.Mark.{Mark, Tick, Put, Say, Stop, Need, Hole, Trace, ticks, tick_count, untimed}
 use Rattle.xs_trace.specs.Cut.{End, Fault as CutFault, Needs as CutNeeds, Spent as CutSpent, Full as CutFull, less}
 use Rattle.xs_trace.specs.State.{State, Log, Nothing, All, Untimed, allows, adds, said, shown, place, passed}
-use Rattle.xs_trace.specs.Play.{Step, Goes, Ends, goes, stops, and_then, ticked, ticked_by, number, put_in, put, put_at, said_at, play, told_of}
+use Rattle.xs_trace.specs.Play.{Step, Goes, Ends, goes, stops, and_then, ticked, ticked_by, number, put_in, put, put_at, said_at, play, reported_of}
 use Rattle.xs_trace.specs.Play.{left_of, shared_of, raised, Before, IsStepBy}
 use Rattle.xs_trace.specs.PlayLaws.{Extends}
 use Rattle.xs_trace.specs.declared.event.Event.{Event}
@@ -63,32 +63,32 @@ some-left (Some m) n h = let e : m ≡ 0 + m = omega arith in ap Some e
 count-both : {H : Type 0} → (x y : Trace H) → tick_count x + tick_count y ≡ tick_count (x ++ y)
 count-both x y = sym (parts-join x y).ticks
 
--- nothing more was told
-pub same : {H : Type 0} → {A : Type 0} (s : State H) (g : Step H A) → told_of g ≡ s.told → s.left ≡ left_of g → Before s g
-same s g t l = record { rest = []; told = t ∙ sym (adds-nil s.told); left = l ∙ raised-none (left_of g) }
+-- nothing more was reported
+pub same : {H : Type 0} → {A : Type 0} (s : State H) (g : Step H A) → reported_of g ≡ s.reported → s.left ≡ left_of g → Before s g
+same s g t l = record { rest = []; reported = t ∙ sym (adds-nil s.reported); left = l ∙ raised-none (left_of g) }
 
-pub along : {H : Type 0} → {A : Type 0} (s m : State H) (g : Step H A) (a : Trace H) → m.told ≡ adds s.told a → s.left ≡ raised m.left (tick_count a) →
+pub along : {H : Type 0} → {A : Type 0} (s m : State H) (g : Step H A) (a : Trace H) → m.reported ≡ adds s.reported a → s.left ≡ raised m.left (tick_count a) →
     Before m g → Before s g
 along s m g a t l b = record {
   rest = a ++ b.rest;
-  told = b.told ∙ ap (λ o. adds o b.rest) t ∙ adds-adds s.told a b.rest;
+  reported = b.reported ∙ ap (λ o. adds o b.rest) t ∙ adds-adds s.reported a b.rest;
   left =
       l ∙ ap (λ o. raised o (tick_count a)) b.left ∙ raised-more (left_of g) (tick_count a) (tick_count b.rest) ∙ ap (raised (left_of g)) (count-both a b.rest);
 }
 
--- a step from each state that tells no less than the state
+-- a step from each state that reports no less than the state
 abbrev pub Grows : {H : Type 0} → {A : Type 0} → (State H → Step H A) → Type 0
 Grows {H = H} f = (s : State H) → Extends s (f s)
 
 pub before-then : {H : Type 0} → {A B : Type 0} (s : State H) (g : Step H A) (f : A → State H → Step H B) → Before s g → ((x : A) → Grows {H = H} (f x)) →
     Before s (and_then g f)
-before-then s (Goes x m) f b k = along s m (f x m) b.rest b.told b.left (k x m).before
-before-then s (Ends e told left h) f b k = record { rest = b.rest; told = b.told; left = b.left }
+before-then s (Goes x m) f b k = along s m (f x m) b.rest b.reported b.left (k x m).before
+before-then s (Ends e reported left h) f b k = record { rest = b.rest; reported = b.reported; left = b.left }
 
 pub shared-then : {H : Type 0} → {A B : Type 0} (g : Step H A) (f : A → State H → Step H B) → ((x : A) → Grows {H = H} (f x)) →
     shared_of (and_then g f) ≡ shared_of g
 shared-then (Goes x m) f k = (k x m).shared
-shared-then (Ends e told left h) f k = refl
+shared-then (Ends e reported left h) f k = refl
 
 pub grows-then : {H : Type 0} → {A B : Type 0} (s : State H) (g : Step H A) (f : A → State H → Step H B) → Extends s g → ((x : A) → Grows {H = H} (f x)) →
     Extends s (and_then g f)
@@ -106,19 +106,19 @@ pub goes-grows : {H : Type 0} → {A : Type 0} (x : A) → Grows {H = H} (Goes x
 goes-grows x s = record { before = same s (Goes x s) refl refl; shared = refl }
 
 pub shown-grows : {H : Type 0} → (k : Mark H) → tick_count (k ∷ []) ≡ 0 → Grows {H = H} (λ s. goes (shown k s))
-shown-grows k e s = record { before = record { rest = k ∷ []; told = refl; left = raised-none s.left ∙ ap (raised s.left) (sym e) }; shared = refl }
+shown-grows k e s = record { before = record { rest = k ∷ []; reported = refl; left = raised-none s.left ∙ ap (raised s.left) (sym e) }; shared = refl }
 
 pub ticked-grows : {H : Type 0} → (p : Site) → Grows {H = H} (ticked p)
 ticked-grows p s = if-grows s (allows s.left 1) _ _
-    (λ h. record { before = record { rest = Tick p ∷ []; told = refl; left = raised-less s.left 1 h }; shared = refl })
-    (λ h. record { before = same s (Ends (CutSpent p) s.told (Some 0) s.shared) refl (one-left s.left h); shared = refl })
+    (λ h. record { before = record { rest = Tick p ∷ []; reported = refl; left = raised-less s.left 1 h }; shared = refl })
+    (λ h. record { before = same s (Ends (CutSpent p) s.reported (Some 0) s.shared) refl (one-left s.left h); shared = refl })
 
 pub by-grows : {H : Type 0} → (n : ℕ) (p : Site) → Grows {H = H} (ticked_by n p)
 by-grows n p s = if-grows s (allows s.left n) _ _
     (λ h. record {
       before = record {
         rest = ticks p n [];
-        told = refl;
+        reported = refl;
         left = raised-less s.left n h ∙ ap (raised (less s.left n))
             (sym (count-ticks _ p n));
       };
@@ -127,7 +127,7 @@ by-grows n p s = if-grows s (allows s.left n) _ _
     (λ h. record {
       before = record {
         rest = ticks p (number s.left) [];
-        told = refl;
+        reported = refl;
         left = some-left s.left n h ∙ ap (raised (Some 0))
             (sym (count-ticks _ p (number s.left)));
       };
@@ -136,7 +136,7 @@ by-grows n p s = if-grows s (allows s.left n) _ _
 
 put_in-grows : {H : Type 0} → (cs : List (List Event)) (e : Event) (s : State H) → Extends s (put_in cs e s)
 put_in-grows [] e s = if-grows s (allows s.room 1) _ _
-    (λ h. record { before = record { rest = Put e ∷ []; told = refl; left = raised-none s.left }; shared = refl })
+    (λ h. record { before = record { rest = Put e ∷ []; reported = refl; left = raised-none s.left }; shared = refl })
     (λ h. stops-grow (CutFull (place s.at)) s)
 put_in-grows (c ∷ cs) e s = record { before = same s (put_in (c ∷ cs) e s) refl refl; shared = refl }
 

@@ -4,9 +4,9 @@ use Rattle.std.proofs.Common.{subst, ◌∙◌}
 use Rattle.xs_trace.specs.Mark.{Tick, Put, Say, Stop, Need, Hole, Trace, ◌⨾◌, NeedsNothing, ticks, events_of, messages_of, untimed, without_puts, captured}
 use Rattle.xs_trace.specs.State.{State, Log, Nothing, All, Untimed, alone, allows, said, shown, passed, IsAbove}
 use Rattle.xs_trace.specs.Cut.{End, Whole, Fault, Needs, Spent, Full, cut, nowhere}
-use Rattle.xs_trace.specs.Play.{Step, Goes, Ends, Told, stops, and_then, ticked, put, put_in, play, told_of, left_of, end_of}
-use Rattle.xs_trace.specs.PlayLaws.{TellsCut, begun}
-use Rattle.xs_trace.specs.Keeping.{IsCutAt, ToldIsCut, NeedComesFromNeed}
+use Rattle.xs_trace.specs.Play.{Step, Goes, Ends, Reported, stops, and_then, ticked, put, put_in, play, reported_of, left_of, end_of}
+use Rattle.xs_trace.specs.PlayLaws.{ReportsCut, begun}
+use Rattle.xs_trace.specs.Keeping.{IsCutAt, ReportedIsCut, NeedComesFromNeed}
 use Rattle.xs_trace.specs.declared.event.Event.{Event}
 use Rattle.xs_trace.specs.declared.item.Site.{Site}
 use Rattle.xs_trace.specs.declared.recorder.Halt.TheVariants as halt
@@ -30,7 +30,7 @@ WantsNone (Ends (Needs g p) t l h) = ⊥
 WantsNone (Ends (Spent p) t l h) = Unit {0}
 WantsNone (Ends (Full p) t l h) = Unit {0}
 
-wants-then : {H : Type 0} (g : Told H) (f : State H → Told H) → WantsNone g → ((m : State H) → WantsNone (f m)) → WantsNone (and_then g (λ u m. f m))
+wants-then : {H : Type 0} (g : Reported H) (f : State H → Reported H) → WantsNone g → ((m : State H) → WantsNone (f m)) → WantsNone (and_then g (λ u m. f m))
 wants-then (Goes x m) f h k = k m
 wants-then (Ends Whole t l o) f h k = tt
 wants-then (Ends (Fault n p) t l o) f h k = tt
@@ -38,7 +38,7 @@ wants-then (Ends (Needs g p) t l o) f h k = h
 wants-then (Ends (Spent p) t l o) f h k = tt
 wants-then (Ends (Full p) t l o) f h k = tt
 
-wants-if : {H : Type 0} (b : Bool) (x y : Told H) → WantsNone x → WantsNone y → WantsNone (cond b x y)
+wants-if : {H : Type 0} (b : Bool) (x y : Reported H) → WantsNone x → WantsNone y → WantsNone (cond b x y)
 wants-if true x y h k = h
 wants-if false x y h k = k
 
@@ -46,27 +46,27 @@ put-wants : {H : Type 0} (cs : List (List Event)) (e : Event) (s : State H) → 
 put-wants [] e s = wants-if (allows s.room 1) _ _ tt tt
 put-wants (c ∷ cs) e s = tt
 
--- what a run told, and how it ended, is a cut
+-- what a run reported, and how it ended, is a cut
 cut-at : {H : Type 0} (l : Log H) (x : Trace H) (b : ℕ) (m : Option ℕ) (e : End) (s : State H) → play x (begun l b m) ≡ stops e s →
     IsCutAt l e b (cut x b m) s
 cut-at l x b m e s q =
-    let h : TellsCut l b (cut x b m) (play x (begun l b m)) = play-cut x l nowhere b m alone in
-    record { told = sym (ap told_of q) ∙ h.told; end = sym h.end ∙ ap end_of q; left = sym (ap left_of q) ∙ h.left }
+    let h : ReportsCut l b (cut x b m) (play x (begun l b m)) = play-cut x l nowhere b m alone in
+    record { reported = sym (ap reported_of q) ∙ h.reported; end = sym h.end ∙ ap end_of q; left = sym (ap left_of q) ∙ h.left }
 
 cut-whole : {H : Type 0} (l : Log H) (x : Trace H) (b : ℕ) (m : Option ℕ) (s : State H) → play x (begun l b m) ≡ Goes tt s →
     IsCutAt l Whole b (cut x b m) s
 cut-whole l x b m s q =
-    let h : TellsCut l b (cut x b m) (play x (begun l b m)) = play-cut x l nowhere b m alone in
-    record { told = sym (ap told_of q) ∙ h.told; end = sym h.end ∙ ap end_of q; left = sym (ap left_of q) ∙ h.left }
+    let h : ReportsCut l b (cut x b m) (play x (begun l b m)) = play-cut x l nowhere b m alone in
+    record { reported = sym (ap reported_of q) ∙ h.reported; end = sym h.end ∙ ap end_of q; left = sym (ap left_of q) ∙ h.left }
 
-pub told-is-cut : (H : Type 0) → ToldIsCut H
-told-is-cut H l x b m (Ok u) s q = cut-whole l x b m s q
-told-is-cut H l x b m (Err (halt.Fault f p)) s q = cut-at l x b m (Fault f p) s q
-told-is-cut H l x b m (Err (halt.Needs g p)) s q = cut-at l x b m (Needs g p) s q
-told-is-cut H l x b m (Err (halt.Spent p)) s q = cut-at l x b m (Spent p) s q
-told-is-cut H l x b m (Err (halt.Full p)) s q = cut-at l x b m (Full p) s q
-told-is-cut H l x b m (Err (halt.Over n)) s q = subst (λ h. IsAbove h.most n) (q.shared ∙ ap (passed n s.left) (play-grows x (begun l b m)).shared) q.above
-told-is-cut H l x b m (Err halt.NoMemory) s q = tt
+pub reported-is-cut : (H : Type 0) → ReportedIsCut H
+reported-is-cut H l x b m (Ok u) s q = cut-whole l x b m s q
+reported-is-cut H l x b m (Err (halt.Fault f p)) s q = cut-at l x b m (Fault f p) s q
+reported-is-cut H l x b m (Err (halt.Needs g p)) s q = cut-at l x b m (Needs g p) s q
+reported-is-cut H l x b m (Err (halt.Spent p)) s q = cut-at l x b m (Spent p) s q
+reported-is-cut H l x b m (Err (halt.Full p)) s q = cut-at l x b m (Full p) s q
+reported-is-cut H l x b m (Err (halt.Over n)) s q = subst (λ h. IsAbove h.most n) (q.shared ∙ ap (passed n s.left) (play-grows x (begun l b m)).shared) q.above
+reported-is-cut H l x b m (Err halt.NoMemory) s q = tt
 
 -- what a log keeps
 marks_in : {H : Type 0} → Log H → Trace H

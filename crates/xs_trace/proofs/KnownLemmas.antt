@@ -1,4 +1,4 @@
--- What is known of a cut trace serves all smaller remainders; and what is told of a trace is told by its cut.
+-- What is known of a cut trace serves all smaller remainders; and what is said of a trace is known by its cut.
 use Rattle.std.proofs.Common.{◌≡◌, ◌≤◌, ℕ, zero, suc, ◌-◌, [], ◌∷◌, length, Option, Some, None, true, cond, nat_le}
 use Rattle.std.proofs.Common.{refl, sym, ap, ◌∙◌, arith}
 use Rattle.std.proofs.lemmas.Bool.Decides.{nat_tests}
@@ -6,7 +6,7 @@ use Rattle.xs_trace.specs.Mark.{Mark, Tick, Put, Say, Stop, Need, Hole, Trace, �
 use Rattle.xs_trace.specs.Cut.{End, Whole, Fault, Needs, Spent, Full, Cut, after_mark, cut_from, less, Within, followed}
 use Rattle.xs_trace.specs.Fill.{fill, numbered}
 use Rattle.xs_trace.specs.State.{Log, Shared, adds}
-use Rattle.xs_trace.specs.Play.{Told, Ends, goes, and_then, play}
+use Rattle.xs_trace.specs.Play.{Reported, Ends, goes, and_then, play}
 use Rattle.xs_trace.specs.declared.item.Site.{Site}
 use Rattle.xs_trace.proofs.CutLemmas.{then-assoc, cut-then}
 use Rattle.xs_trace.proofs.GrowthLemmas.{adds-nil, adds-adds}
@@ -46,15 +46,15 @@ cut-serves {H} {K} f (Hole k ∷ x) y from at b r m s le w =
         followed (cut_from (f k) at r s) (cut_from (fill f z ⨾ y) (last_site at (f k)) (r - tick_count (f k)) (less s (length (events_of (f k)))))
     split z = ap (λ t. cut_from t at r s) (then-assoc (f k) (fill f z) y) ∙ cut-then (f k) (fill f z ⨾ y) at r s
 
--- what is told, by what passed and the end
-abbrev pub shows : {H : Type 0} → Log H → Site → ℕ → Option ℕ → Shared → Trace H → End → Told H
+-- what is reported, by what passed and the end
+abbrev pub shows : {H : Type 0} → Log H → Site → ℕ → Option ℕ → Shared → Trace H → End → Reported H
 shows l at b m h x Whole = goes (plain (adds l x) (last_site at x) (b - tick_count x) (less m (length (events_of x))) h)
 shows l at b m h x (Fault f p) = Ends (Fault f p) (adds l x) (Some (b - tick_count x)) h
 shows l at b m h x (Needs g p) = Ends (Needs g p) (adds l x) (Some (b - tick_count x)) h
 shows l at b m h x (Spent p) = Ends (Spent p) (adds l x) (Some 0) h
 shows l at b m h x (Full p) = Ends (Full p) (adds l x) (Some (b - tick_count x)) h
 
--- a mark that is told first
+-- a mark that is reported first
 shows-after : {H : Type 0} → (l : Log H) (at to : Site) (b d : ℕ) (m n : Option ℕ) (h : Shared) (k : Mark H) (x : Trace H) (e : End) →
     last_site at (k ∷ x) ≡ last_site to x → b - tick_count (k ∷ x) ≡ d - tick_count x → less m (length (events_of (k ∷ x))) ≡ less n (length (events_of x)) →
     shows (adds l (k ∷ [])) to d n h x e ≡ shows l at b m h (k ∷ x) e

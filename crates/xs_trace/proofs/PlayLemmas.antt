@@ -1,4 +1,4 @@
--- The laws of traces that are told to a recorder, by induction on the marks.
+-- The laws of traces that are reported to a recorder, by induction on the marks.
 use Rattle.std.proofs.Common.{◌≡◌, ℕ, zero, suc, ◌-◌, ◌/◌, length, List, [], ◌∷◌, ◌++◌, Option, Some, None, Bool, true, false, cond, nat_le, refl}
 use Rattle.std.proofs.Common.{sym, ap, ◌∙◌, arith, append_assoc, append-nil}
 use Rattle.std.proofs.lemmas.Bool.Decides.{nat_tests}
@@ -6,8 +6,8 @@ use Rattle.xs_trace.specs.Event.{text_of}
 use Rattle.xs_trace.specs.Mark.{Tick, Put, Say, Stop, Need, Hole, Trace, ◌⨾◌, ticks, tick_count, events_of, without_puts, captured}
 use Rattle.xs_trace.specs.Cut.{End, Spent, Full, cut_from, less}
 use Rattle.xs_trace.specs.State.{State, Log, Shared, moved, allows, adds, stands, with_ticks, after_tick, captures_are, opened, popped, top, said, shown}
-use Rattle.xs_trace.specs.Play.{Step, Goes, Ends, Told, goes, and_then, ticked, ticked_by, number, put, put_at, said_at, play, told_of, left_of, end_of}
-use Rattle.xs_trace.specs.PlayLaws.{TellsCut, captures_from}
+use Rattle.xs_trace.specs.Play.{Step, Goes, Ends, Reported, goes, and_then, ticked, ticked_by, number, put, put_at, said_at, play, reported_of, left_of, end_of}
+use Rattle.xs_trace.specs.PlayLaws.{ReportsCut, captures_from}
 use Rattle.xs_trace.specs.declared.event.Event.{Event}
 use Rattle.xs_trace.specs.declared.item.Site.{Site}
 use Rattle.xs_trace.proofs.GrowthLemmas.{adds-nil, adds-adds}
@@ -16,16 +16,16 @@ use Rattle.xs_trace.proofs.GrowthLemmas.{adds-nil, adds-adds}
 pub then-same : {H : Type 0} → {A B : Type 0} (g : Step H A) (f h : A → State H → Step H B) → ((x : A) (s : State H) → f x s ≡ h x s) →
     and_then g f ≡ and_then g h
 then-same (Goes x s) f h e = e x s
-then-same (Ends end told left o) f h e = refl
+then-same (Ends end reported left o) f h e = refl
 
 pub then-then : {H : Type 0} → {A B C : Type 0} (g : Step H A) (f : A → State H → Step H B) (h : B → State H → Step H C) →
     and_then (and_then g f) h ≡ and_then g (λ x s. and_then (f x s) h)
 then-then (Goes x s) f h = refl
-then-then (Ends end told left o) f h = refl
+then-then (Ends end reported left o) f h = refl
 
 pub then-goes : {H : Type 0} → {A : Type 0} (g : Step H A) → and_then g (λ x s. Goes x s) ≡ g
 then-goes (Goes x s) = refl
-then-goes (Ends end told left o) = refl
+then-goes (Ends end reported left o) = refl
 
 -- one trace after another
 pub play-then : {H : Type 0} → (x y : Trace H) (s : State H) → play (x ⨾ y) s ≡ and_then (play x s) (λ u m. play y m)
@@ -59,48 +59,49 @@ stands-same zero p at = refl
 stands-same (suc n) p None = refl
 stands-same (suc n) p (Some q) = refl
 
--- what follows n ticks at p, from what was told, the place and what is left
-abbrev At_once : {H : Type 0} → ℕ → Site → Trace H → Log H → Option Site → Bool → Option ℕ → ℕ → State H → Told H
-At_once n p x told at b l k s =
-    and_then (cond b (goes (with_ticks (adds told (ticks p n [])) (stands n p at) l s)) (Ends (Spent p) (adds told (ticks p k [])) (Some 0) s.shared))
+-- what follows n ticks at p, from what was reported, the place and what is left
+abbrev At_once : {H : Type 0} → ℕ → Site → Trace H → Log H → Option Site → Bool → Option ℕ → ℕ → State H → Reported H
+At_once n p x reported at b l k s =
+    and_then (cond b (goes (with_ticks (adds reported (ticks p n [])) (stands n p at) l s)) (Ends (Spent p) (adds reported (ticks p k [])) (Some 0) s.shared))
     (λ u m. play x m)
 
-ticks-once : {H : Type 0} → (n : ℕ) (p : Site) (x : Trace H) (told : Log H) (at : Option Site) (l : Option ℕ) (s : State H) →
-    play (ticks p n x) (with_ticks told at l s) ≡ At_once n p x told at (allows l n) (less l n) (number l) s
-ticks-once zero p x told at None s = ap (λ o. play x (with_ticks o at None s)) (sym (adds-nil told))
-ticks-once zero p x told at (Some k) s =
+ticks-once : {H : Type 0} → (n : ℕ) (p : Site) (x : Trace H) (reported : Log H) (at : Option Site) (l : Option ℕ) (s : State H) →
+    play (ticks p n x) (with_ticks reported at l s) ≡ At_once n p x reported at (allows l n) (less l n) (number l) s
+ticks-once zero p x reported at None s = ap (λ o. play x (with_ticks o at None s)) (sym (adds-nil reported))
+ticks-once zero p x reported at (Some k) s =
     let e : k ≡ k - 0 = omega arith in
-    ap (λ o. play x (with_ticks o at (Some k) s)) (sym (adds-nil told))
-    ∙ ap (λ n. play x (with_ticks (adds told []) at (Some n) s)) e
-    ∙ ap (λ b. At_once 0 p x told at b (Some (k - 0)) k s) (sym (le-zero k))
-ticks-once (suc n) p x told at None s =
-    ticks-once n p x (adds told (Tick p ∷ [])) (moved p at) None s
-    ∙ ap (λ o. play x (with_ticks o (stands n p (moved p at)) None s)) (adds-adds told (Tick p ∷ []) (ticks p n []))
-    ∙ ap (λ q. play x (with_ticks (adds told (Tick p ∷ ticks p n [])) q None s)) (stands-same n p at)
-ticks-once (suc n) p x told at (Some zero) s =
-    ap (λ o. Ends (Spent p) o (Some 0) s.shared) (sym (adds-nil told))
-    ∙ ap (λ b. At_once (suc n) p x told at b (Some (0 - suc n)) 0 s) (sym (le-none n))
-ticks-once (suc n) p x told at (Some (suc k)) s =
+    ap (λ o. play x (with_ticks o at (Some k) s)) (sym (adds-nil reported))
+    ∙ ap (λ n. play x (with_ticks (adds reported []) at (Some n) s)) e
+    ∙ ap (λ b. At_once 0 p x reported at b (Some (k - 0)) k s) (sym (le-zero k))
+ticks-once (suc n) p x reported at None s =
+    ticks-once n p x (adds reported (Tick p ∷ [])) (moved p at) None s
+    ∙ ap (λ o. play x (with_ticks o (stands n p (moved p at)) None s)) (adds-adds reported (Tick p ∷ []) (ticks p n []))
+    ∙ ap (λ q. play x (with_ticks (adds reported (Tick p ∷ ticks p n [])) q None s)) (stands-same n p at)
+ticks-once (suc n) p x reported at (Some zero) s =
+    ap (λ o. Ends (Spent p) o (Some 0) s.shared) (sym (adds-nil reported))
+    ∙ ap (λ b. At_once (suc n) p x reported at b (Some (0 - suc n)) 0 s) (sym (le-none n))
+ticks-once (suc n) p x reported at (Some (suc k)) s =
     let e : suc k - 1 ≡ k = omega arith in
     let d : k - n ≡ suc k - suc n = omega arith in
     ap
-    (λ b. and_then (cond b (goes (with_ticks (adds told (Tick p ∷ [])) (moved p at) (Some (suc k - 1)) s)) (Ends (Spent p) told (Some 0) s.shared))
+    (λ b. and_then (cond b (goes (with_ticks (adds reported (Tick p ∷ [])) (moved p at) (Some (suc k - 1)) s)) (Ends (Spent p) reported (Some 0) s.shared))
     (λ u m. play (ticks p n x) m))
     (le-one k)
-    ∙ ap (λ m. play (ticks p n x) (with_ticks (adds told (Tick p ∷ [])) (moved p at) (Some m) s)) e
-    ∙ ticks-once n p x (adds told (Tick p ∷ [])) (moved p at) (Some k) s
+    ∙ ap (λ m. play (ticks p n x) (with_ticks (adds reported (Tick p ∷ [])) (moved p at) (Some m) s)) e
+    ∙ ticks-once n p x (adds reported (Tick p ∷ [])) (moved p at) (Some k) s
     ∙ shift (nat_le n k)
-    ∙ ap (λ b. At_once (suc n) p x told at b (Some (k - n)) (suc k) s) (le-suc n k)
-    ∙ ap (λ m. At_once (suc n) p x told at (nat_le (suc n) (suc k)) (Some m) (suc k) s) d
+    ∙ ap (λ b. At_once (suc n) p x reported at b (Some (k - n)) (suc k) s) (le-suc n k)
+    ∙ ap (λ m. At_once (suc n) p x reported at (nat_le (suc n) (suc k)) (Some m) (suc k) s) d
   where
-    shift : (b : Bool) → At_once n p x (adds told (Tick p ∷ [])) (moved p at) b (Some (k - n)) k s ≡ At_once (suc n) p x told at b (Some (k - n)) (suc k) s
+    shift : (b : Bool) → At_once n p x (adds reported (Tick p ∷ [])) (moved p at) b (Some (k - n)) k s ≡ At_once (suc n) p x reported at b (Some (k - n))
+        (suc k) s
     shift true =
-        ap (λ o. play x (with_ticks o (stands n p (moved p at)) (Some (k - n)) s)) (adds-adds told (Tick p ∷ []) (ticks p n []))
-        ∙ ap (λ q. play x (with_ticks (adds told (Tick p ∷ ticks p n [])) q (Some (k - n)) s)) (stands-same n p at)
-    shift false = ap (λ o. Ends (Spent p) o (Some 0) s.shared) (adds-adds told (Tick p ∷ []) (ticks p k []))
+        ap (λ o. play x (with_ticks o (stands n p (moved p at)) (Some (k - n)) s)) (adds-adds reported (Tick p ∷ []) (ticks p n []))
+        ∙ ap (λ q. play x (with_ticks (adds reported (Tick p ∷ ticks p n [])) q (Some (k - n)) s)) (stands-same n p at)
+    shift false = ap (λ o. Ends (Spent p) o (Some 0) s.shared) (adds-adds reported (Tick p ∷ []) (ticks p k []))
 
 pub play-ticks : {H : Type 0} → (p : Site) (n : ℕ) (x : Trace H) (s : State H) → play (ticks p n x) s ≡ and_then (ticked_by n p s) (λ u m. play x m)
-play-ticks p n x s = ticks-once n p x s.told s.at s.left s
+play-ticks p n x s = ticks-once n p x s.reported s.at s.left s
 
 pub play-put : {H : Type 0} → (p : Site) (e : Event) (s : State H) → put_at p e s ≡ play (ticks p (length (text_of e) / 256) (Put e ∷ [])) s
 play-put p e s =
@@ -111,13 +112,13 @@ pub play-say : {H : Type 0} → (p : Site) (t : List ℕ) (s : State H) → said
 play-say p t s = sym (play-ticks p (length t / 256) (Say t ∷ []) s)
 
 -- captured content
-abbrev Closes : {H : Type 0} → (List Event → Trace H) → Told H → Told H
+abbrev Closes : {H : Type 0} → (List Event → Trace H) → Reported H → Reported H
 Closes f g = and_then g (λ u m. play (f (top m.captures)) (popped m))
 
 captured-tick : {H : Type 0} → (p : Site) (x y : Trace H) (f : List Event → Trace H) (es : List Event) (cs : List (List Event)) (s : State H) (b : Bool) →
     ((m : State H) → Closes f (play x (captures_are (es ∷ cs) m)) ≡ play y (captures_are cs m)) →
-    Closes f (and_then (cond b (goes (captures_are (es ∷ cs) (after_tick p s))) (Ends (Spent p) s.told (Some 0) s.shared)) (λ u m. play x m)) ≡ and_then
-    (cond b (goes (captures_are cs (after_tick p s))) (Ends (Spent p) s.told (Some 0) s.shared)) (λ u m. play y m)
+    Closes f (and_then (cond b (goes (captures_are (es ∷ cs) (after_tick p s))) (Ends (Spent p) s.reported (Some 0) s.shared)) (λ u m. play x m)) ≡ and_then
+    (cond b (goes (captures_are cs (after_tick p s))) (Ends (Spent p) s.reported (Some 0) s.shared)) (λ u m. play y m)
 captured-tick p x y f es cs s true e = e (after_tick p s)
 captured-tick p x y f es cs s false e = refl
 
@@ -136,9 +137,9 @@ play-captured-from (Hole k ∷ x) f es cs s = play-captured-from x f es cs (show
 -- content from the middle of a capture on, as a value
 from-tick : {H : Type 0} → (p : Site) (x y : Trace H) (es vs : List Event) (cs : List (List Event)) (s : State H) (b : Bool) →
     ((m : State H) → captures_from es cs x m ≡ and_then (play y (captures_are cs m)) (λ u n. Goes vs n)) →
-    and_then (and_then (cond b (goes (captures_are (es ∷ cs) (after_tick p s))) (Ends (Spent p) s.told (Some 0) s.shared)) (λ u m. play x m))
+    and_then (and_then (cond b (goes (captures_are (es ∷ cs) (after_tick p s))) (Ends (Spent p) s.reported (Some 0) s.shared)) (λ u m. play x m))
     (λ u m. Goes (top m.captures) (popped m)) ≡ and_then
-    (and_then (cond b (goes (captures_are cs (after_tick p s))) (Ends (Spent p) s.told (Some 0) s.shared)) (λ u m. play y m)) (λ u n. Goes vs n)
+    (and_then (cond b (goes (captures_are cs (after_tick p s))) (Ends (Spent p) s.reported (Some 0) s.shared)) (λ u m. play y m)) (λ u n. Goes vs n)
 from-tick p x y es vs cs s true e = e (after_tick p s)
 from-tick p x y es vs cs s false e = refl
 
@@ -159,18 +160,18 @@ play-captured x f s = play-captured-from x f [] s.captures s
 
 -- the cut
 abbrev From : {H : Type 0} → Log H → Site → ℕ → Option ℕ → Shared → State H
-From l at b m o = record { told = l; captures = []; at = Some at; room = m; left = Some b; shared = o }
+From l at b m o = record { reported = l; captures = []; at = Some at; room = m; left = Some b; shared = o }
 
 ends-cut : {H : Type 0} → (l : Log H) (b : ℕ) (e : End) (left : Option ℕ) (o : Shared) → left ≡ Some (b - 0) →
-    TellsCut l b (record { passed = []; end = e }) (Ends e l left o)
-ends-cut l b e left o q = record { told = sym (adds-nil l); end = refl; left = q }
+    ReportsCut l b (record { passed = []; end = e }) (Ends e l left o)
+ends-cut l b e left o q = record { reported = sym (adds-nil l); end = refl; left = q }
 
 unspent : (b : ℕ) → Some b ≡ Some (b - 0)
 unspent b = let e : b ≡ b - 0 = omega arith in ap Some e
 
 pub play-cut : {H : Type 0} → (x : Trace H) (l : Log H) (at : Site) (b : ℕ) (m : Option ℕ) (o : Shared) →
-    TellsCut l b (cut_from x at b m) (play x (From l at b m o))
-play-cut [] l at b m o = record { told = sym (adds-nil l); end = refl; left = unspent b }
+    ReportsCut l b (cut_from x at b m) (play x (From l at b m o))
+play-cut [] l at b m o = record { reported = sym (adds-nil l); end = refl; left = unspent b }
 play-cut (Tick p ∷ x) l at zero m o = ends-cut l 0 (Spent p) (Some 0) o (unspent 0)
 play-cut (Tick p ∷ x) l at (suc b) m o =
     let e : suc b - 1 ≡ b = omega arith in
@@ -178,36 +179,36 @@ play-cut (Tick p ∷ x) l at (suc b) m o =
     let k : play (Tick p ∷ x) (From l at (suc b) m o) ≡ play x (From (adds l (Tick p ∷ [])) p b m o) =
     ap (λ c. and_then (cond c (goes (From (adds l (Tick p ∷ [])) p (suc b - 1) m o)) (Ends (Spent p) l (Some 0) o)) (λ u n. play x n)) (le-one b)
     ∙ ap (λ n. play x (From (adds l (Tick p ∷ [])) p n m o)) e in
-    let h : TellsCut (adds l (Tick p ∷ [])) b (cut_from x p b m) (play x (From (adds l (Tick p ∷ [])) p b m o)) = play-cut x (adds l (Tick p ∷ [])) p b m o in
+    let h : ReportsCut (adds l (Tick p ∷ [])) b (cut_from x p b m) (play x (From (adds l (Tick p ∷ [])) p b m o)) = play-cut x (adds l (Tick p ∷ [])) p b m o in
     record {
-      told = ap told_of k ∙ h.told ∙ adds-adds l (Tick p ∷ []) (cut_from x p b m).passed;
+      reported = ap reported_of k ∙ h.reported ∙ adds-adds l (Tick p ∷ []) (cut_from x p b m).passed;
       end = ap end_of k ∙ h.end;
       left = ap left_of k ∙ h.left ∙ ap Some d;
     }
 play-cut (Put v ∷ x) l at b None o =
-    let h : TellsCut (adds l (Put v ∷ [])) b (cut_from x at b None) (play x (From (adds l (Put v ∷ [])) at b None o))
+    let h : ReportsCut (adds l (Put v ∷ [])) b (cut_from x at b None) (play x (From (adds l (Put v ∷ [])) at b None o))
     = play-cut x (adds l (Put v ∷ [])) at b None o in
-    record { told = h.told ∙ adds-adds l (Put v ∷ []) (cut_from x at b None).passed; end = h.end; left = h.left }
+    record { reported = h.reported ∙ adds-adds l (Put v ∷ []) (cut_from x at b None).passed; end = h.end; left = h.left }
 play-cut (Put v ∷ x) l at b (Some zero) o = ends-cut l b _ (Some b) o (unspent b)
 play-cut (Put v ∷ x) l at b (Some (suc m)) o =
     let e : suc m - 1 ≡ m = omega arith in
     let k : play (Put v ∷ x) (From l at b (Some (suc m)) o) ≡ play x (From (adds l (Put v ∷ [])) at b (Some m) o) =
     ap (λ c. and_then (cond c (goes (From (adds l (Put v ∷ [])) at b (Some (suc m - 1)) o)) (Ends (Full at) l (Some b) o)) (λ u n. play x n)) (le-one m)
     ∙ ap (λ n. play x (From (adds l (Put v ∷ [])) at b (Some n) o)) e in
-    let h : TellsCut (adds l (Put v ∷ [])) b (cut_from x at b (Some m)) (play x (From (adds l (Put v ∷ [])) at b (Some m) o))
+    let h : ReportsCut (adds l (Put v ∷ [])) b (cut_from x at b (Some m)) (play x (From (adds l (Put v ∷ [])) at b (Some m) o))
     = play-cut x (adds l (Put v ∷ [])) at b
     (Some m) o in
     record {
-      told = ap told_of k ∙ h.told ∙ adds-adds l (Put v ∷ []) (cut_from x at b (Some m)).passed;
+      reported = ap reported_of k ∙ h.reported ∙ adds-adds l (Put v ∷ []) (cut_from x at b (Some m)).passed;
       end = ap end_of k ∙ h.end;
       left = ap left_of k ∙ h.left;
     }
 play-cut (Say s ∷ x) l at b m o =
-    let h : TellsCut (adds l (Say s ∷ [])) b (cut_from x at b m) (play x (From (adds l (Say s ∷ [])) at b m o)) = play-cut x (adds l (Say s ∷ [])) at b m o in
-    record { told = h.told ∙ adds-adds l (Say s ∷ []) (cut_from x at b m).passed; end = h.end; left = h.left }
+    let h : ReportsCut (adds l (Say s ∷ [])) b (cut_from x at b m) (play x (From (adds l (Say s ∷ [])) at b m o)) = play-cut x (adds l (Say s ∷ [])) at b m o in
+    record { reported = h.reported ∙ adds-adds l (Say s ∷ []) (cut_from x at b m).passed; end = h.end; left = h.left }
 play-cut (Stop f p ∷ x) l at b m o = ends-cut l b _ (Some b) o (unspent b)
 play-cut (Need g p ∷ x) l at b m o = ends-cut l b _ (Some b) o (unspent b)
 play-cut (Hole k ∷ x) l at b m o =
-    let h : TellsCut (adds l (Hole k ∷ [])) b (cut_from x at b m) (play x (From (adds l (Hole k ∷ [])) at b m o))
+    let h : ReportsCut (adds l (Hole k ∷ [])) b (cut_from x at b m) (play x (From (adds l (Hole k ∷ [])) at b m o))
     = play-cut x (adds l (Hole k ∷ [])) at b m o in
-    record { told = h.told ∙ adds-adds l (Hole k ∷ []) (cut_from x at b m).passed; end = h.end; left = h.left }
+    record { reported = h.reported ∙ adds-adds l (Hole k ∷ []) (cut_from x at b m).passed; end = h.end; left = h.left }

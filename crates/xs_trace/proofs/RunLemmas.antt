@@ -11,7 +11,7 @@ use Rattle.xs_trace.specs.declared.item.Site.{Site}
 use Rattle.xs_trace.proofs.GrowthLemmas.{goes-grows, stops-grow, grows-then, by-grows, Grows}
 use Rattle.xs_trace.proofs.PlayLemmas.{then-same, then-then, then-goes, play-ticks}
 
--- ticks alone, told one by one
+-- ticks alone, reported one by one
 by-play : {H : Type 0} → (n : ℕ) (p : Site) (s : State H) → ticked_by n p s ≡ play (ticks p n []) s
 by-play n p s = sym (then-goes (ticked_by n p s)) ∙ sym (play-ticks p n [] s)
 
@@ -67,18 +67,18 @@ pub limited-bind : {H : Type 0} → {A B : Type 0} (p : Site) (r : Run A) (f : A
     limited p (r >>= f) s ≡ and_then (limited p r s) (λ x m. limited p (f x) m)
 limited-bind p r f s = bound p r.cost r.end f s ∙ sym (then-then (ticked_by r.cost p s) (λ u m. answered p r.end m) (λ x k. limited p (f x) k))
 
-told-answer : {H : Type 0} → {A : Type 0} (p : Site) (a : Answer A) (f : A → Trace H) (s : State H) →
+reported-answer : {H : Type 0} → {A : Type 0} (p : Site) (a : Answer A) (f : A → Trace H) (s : State H) →
     play (on_answer p a f) s ≡ and_then (answered p a s) (λ x m. play (f x) m)
-told-answer p (Gives x) f s = refl
-told-answer p (Faults n) f s = refl
-told-answer p (Lacks g) f s = refl
+reported-answer p (Gives x) f s = refl
+reported-answer p (Faults n) f s = refl
+reported-answer p (Lacks g) f s = refl
 
 pub play-evaluated : {H : Type 0} → {A : Type 0} (p : Site) (r : Run A) (f : A → Trace H) (s : State H) →
     play (evaluated p r f) s ≡ and_then (limited p r s) (λ x m. play (f x) m)
 play-evaluated p r f s =
     play-ticks p r.cost (on_answer p r.end f) s
     ∙ then-same (ticked_by r.cost p s) (λ u m. play (on_answer p r.end f) m) (λ u m. and_then (answered p r.end m) (λ x k. play (f x) k))
-    (λ u m. told-answer p r.end f m)
+    (λ u m. reported-answer p r.end f m)
     ∙ sym (then-then (ticked_by r.cost p s) (λ u m. answered p r.end m) (λ x k. play (f x) k))
 
 answered-grows : {H : Type 0} → {A : Type 0} (p : Site) (a : Answer A) → Grows {H = H} (answered p a)
@@ -97,7 +97,7 @@ limited-laws H A B = record {
   ticks = λ p r s. limited-tick p r s;
   more = λ p n r s. limited-more p n r s;
   binds = λ p r f s. limited-bind p r f s;
-  tells = λ p r f s. play-evaluated p r f s;
+  reports = λ p r f s. play-evaluated p r f s;
 }
 
 -- binds

@@ -12,7 +12,7 @@ use Rattle.xs_trace.specs.declared.recorder.Halt.TheVariants as halt
 
 -- A state in which all that passed a cut was recorded, after what was kept before, at an end, with b ticks at the start.
 pub record IsCutAt {H : Type 0} (l : Log H) (e : End) (b : ℕ) (c : Cut H) (s : State H) : Type 0 where
-  pub told : s.told ≡ adds l c.passed
+  pub reported : s.reported ≡ adds l c.passed
   pub end : c.end ≡ e
   pub left : s.left ≡ Some (b - tick_count c.passed)
 
@@ -26,13 +26,13 @@ IsCutOf l (Err (halt.Full p)) b c s = IsCutAt l (Full p) b c s
 IsCutOf l (Err (halt.Over t)) b c s = ⊥
 IsCutOf l (Err halt.NoMemory) b c s = Unit {0}
 
-abbrev pub ToldIsCut : Type 0 → Type 0
-ToldIsCut H = (l : Log H) (x : Trace H) (b : ℕ) (m : Option ℕ) (told : Result (Unit {0}) Halt) (s : State H) →
-    IsStep (play x (begun l b m)) told s → IsCutOf l told b (cut x b m) s
+abbrev pub ReportedIsCut : Type 0 → Type 0
+ReportedIsCut H = (l : Log H) (x : Trace H) (b : ℕ) (m : Option ℕ) (reported : Result (Unit {0}) Halt) (s : State H) →
+    IsStep (play x (begun l b m)) reported s → IsCutOf l reported b (cut x b m) s
 
 -- from whatever state, and from whatever view of what it gives
 abbrev pub NeedComesFromNeed : Type 0 → Type 0
-NeedComesFromNeed H = (x : Trace H) (s m : State H) (told : Result (Unit {0}) Halt) → NeedsNothing x → IsStep (play x s) told m → NeedsNone told
+NeedComesFromNeed H = (x : Trace H) (s m : State H) (reported : Result (Unit {0}) Halt) → NeedsNothing x → IsStep (play x s) reported m → NeedsNone reported
 
 -- packed items with the same marks are the same
 abbrev pub PackedOnce : Type 0 → Type 0

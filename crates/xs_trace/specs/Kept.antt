@@ -1,4 +1,4 @@
--- The marks that kept items stand for.
+-- The marks that kept items represent.
 use Rattle.std.specs.Prelude.{◌≡◌, ◌<◌, List, [], ◌∷◌, ◌++◌, Option, Some, None, Result, Ok, Err}
 use Rattle.xs_trace.specs.Mark.{Put, Say, Trace, ticks}
 use Rattle.xs_trace.specs.Cut.{End, Whole, Fault, Needs, Spent, Full}

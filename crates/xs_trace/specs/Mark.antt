@@ -5,7 +5,7 @@ use Rattle.xs_trace.specs.declared.fault.Fault.{Fault as RunFault}
 use Rattle.xs_trace.specs.declared.item.Site.{Site}
 
 -- One thing that a run does: a step of its work at an instruction, an event put into the result, a message said to the
--- user, a stop in a fault, or a stop at a global variable that has no value yet. A hole stands for a part that is
+-- user, a stop in a fault, or a stop at a global variable that has no value yet. A hole represents a part that is
 -- evaluated apart; no trace of a whole run has one.
 pub data Mark (H : Type 0) : Type 0 where
   Tick : (site : Site) → Mark H

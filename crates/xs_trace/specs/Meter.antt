@@ -11,7 +11,7 @@ use Rattle.xs_trace.specs.declared.meter.Meter.{Meter}
 
 -- what is left of a limit
 abbrev pub metered : {H : Type 0} → Meter → State H
-metered m = record { told = Nothing; captures = []; at = None; room = None; left = less m.limit m.spent; shared = alone }
+metered m = record { reported = Nothing; captures = []; at = None; room = None; left = less m.limit m.spent; shared = alone }
 
 -- A limit, and what was spent together with what is left.
 pub record Stock : Type 0 where

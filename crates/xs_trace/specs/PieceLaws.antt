@@ -15,7 +15,7 @@ CutServes H K = (f : H → Trace K) (x : Trace H) (y : Trace K) (from at : Site)
 
 -- a state with limits, outside captures
 abbrev pub plain : {H : Type 0} → Log H → Site → ℕ → Option ℕ → Shared → State H
-plain l at b m h = record { told = l; captures = []; at = Some at; room = m; left = Some b; shared = h }
+plain l at b m h = record { reported = l; captures = []; at = Some at; room = m; left = Some b; shared = h }
 
 -- What is recorded of two traces is the same where their cuts are.
 abbrev pub CutsTellSame : Type 0 → Type 0

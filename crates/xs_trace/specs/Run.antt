@@ -79,7 +79,7 @@ pub record LimitedLaws (H A B : Type 0) : Type 0 where
   pub ticks : (p : Site) (r : Run A) (s : State H) → limited p (tick r) s ≡ and_then (ticked p s) (λ u m. limited p r m)
   pub more : (p : Site) (n : ℕ) (r : Run A) (s : State H) → limited p (costs n r) s ≡ and_then (ticked_by n p s) (λ u m. limited p r m)
   pub binds : (p : Site) (r : Run A) (f : A → Run B) (s : State H) → limited p (r >>= f) s ≡ and_then (limited p r s) (λ x m. limited p (f x) m)
-  pub tells : (p : Site) (r : Run A) (f : A → Trace H) (s : State H) → play (evaluated p r f) s ≡ and_then (limited p r s) (λ x m. play (f x) m)
+  pub reports : (p : Site) (r : Run A) (f : A → Trace H) (s : State H) → play (evaluated p r f) s ≡ and_then (limited p r s) (λ x m. play (f x) m)
 
 -- A fold under limits, item by item; of two lists in turn, the second goes on from what the first gave.
 pub record FoldLaws (H A B : Type 0) : Type 0 where

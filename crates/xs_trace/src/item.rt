@@ -2,8 +2,8 @@
 
 use crate::event::Event;
 use crate::fault::Fault;
-use xs_text::TextBuf;
 use std::mem::size_of;
+use xs_text::TextBuf;
 
 /// Where an instruction stands: the number of its module, and its line there.
 #[derive(Clone, Copy, PartialEq, Eq, Debug)]

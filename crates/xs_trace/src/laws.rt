@@ -4,7 +4,7 @@ ghost use Rattle.xs_trace.specs.Laws.{CutOfThen, CutOfCut, CutWithoutPuts, Parts
 ghost use Rattle.xs_trace.specs.PlayLaws.{PlayOfThen, PlayOfTicks, PlayOfPut, PlayOfSay};
 ghost use Rattle.xs_trace.specs.PlayLaws.{PlayOfCaptured, CapturesFrom, PlayGrows, PlayIsCut};
 ghost use Rattle.xs_trace.specs.Run.{LimitedLaws, FoldLaws};
-ghost use Rattle.xs_trace.specs.Keeping.{ToldIsCut, NeedComesFromNeed, PackedOnce};
+ghost use Rattle.xs_trace.specs.Keeping.{ReportedIsCut, NeedComesFromNeed, PackedOnce};
 ghost use Rattle.xs_trace.specs.Fill.{FillLaws};
 ghost use Rattle.xs_trace.specs.PieceLaws.{CutServes, CutsTellSame, NumberedLaws};
 
@@ -50,19 +50,19 @@ pub fn play_of_ticks<H>()
     ensures { PlayOfTicks H }
 {}
 
-/// What puts an event, and says a message, tells the ticks for its text and then the mark.
+/// What puts an event, and says a message, reports the ticks for its text and then the mark.
 pub fn play_of_texts<H>()
     ensures event { PlayOfPut H }
     ensures message { PlayOfSay H }
 {}
 
-/// To open a capture, tell the content, close the capture and go on with its events is to tell the
+/// To open a capture, report the content, close the capture and go on with its events is to report the
 /// captured content.
 pub fn play_of_captured<H>()
     ensures { PlayOfCaptured H }
 {}
 
-/// What is captured from some events on gives those and the content's events, and tells all else of
+/// What is captured from some events on gives those and the content's events, and reports all else of
 /// the content.
 pub fn captures_from<H>()
     ensures { CapturesFrom H }
@@ -96,8 +96,8 @@ pub fn fold_laws<H, A, B>()
 
 /// What was recorded of a trace from the start on, and how that ended, is the cut of the trace at
 /// the limits.
-pub fn told_is_cut<H>()
-    ensures { ToldIsCut H }
+pub fn reported_is_cut<H>()
+    ensures { ReportedIsCut H }
 {}
 
 /// Packed items with the same marks are the same: ticks side by side at one place are one run, and
@@ -118,7 +118,7 @@ pub fn cut_serves<H, K>()
 {}
 
 /// What is recorded of two traces is the same where their cuts are.
-pub fn cuts_tell_same<H>()
+pub fn cuts_report_same<H>()
     ensures { CutsTellSame H }
 {}
 

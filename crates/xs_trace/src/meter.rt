@@ -27,7 +27,7 @@ impl Tally for Meter {
 
     /// One more spent, up to the limit. It takes no memory.
     fn tick(&mut self, site: Site) -> Result<(), Halt>
-        ensures told { IsStep (ticked site (⟦<Meter as Tally>⟧.state self.old))
+        ensures reported { IsStep (ticked site (⟦<Meter as Tally>⟧.state self.old))
             result (⟦<Meter as Tally>⟧.state self.new) }
         ensures kept { stock self.new ≡ stock self.old }
         ensures memory { HasMemory result }

@@ -8,8 +8,8 @@ ghost use Rattle.xs_trace.specs.declared.recorder.Halt.TheVariants.{NoMemory};
 use crate::event::{Event, Fragment, text_ticks};
 use crate::fault::Fault;
 use crate::item::Site;
-use xs_text::TextBuf;
 use std::alloc::{AllocError, AllocFailed};
+use xs_text::TextBuf;
 
 /// How a run ends that does not finish.
 #[derive(Clone, Copy, PartialEq, Eq, Debug)]
@@ -62,7 +62,7 @@ pub trait Tally {
 
     /// One tick at an instruction.
     fn tick(&mut self, site: Site) -> Result<(), Halt>
-        ensures told { IsStep (ticked site (state self.old)) result (state self.new) }
+        ensures reported { IsStep (ticked site (state self.old)) result (state self.new) }
         ensures kept { kept self.new ≡ kept self.old };
 }
 
@@ -73,31 +73,31 @@ pub trait Recorder: Tally {
 
     /// Several ticks at one instruction; where fewer are left, those, and then the end.
     fn ticks(&mut self, site: Site, count: u64) -> Result<(), Halt>
-        ensures told { IsStep (ticked_by count site (Self.state self.old))
+        ensures reported { IsStep (ticked_by count site (Self.state self.old))
             result (Self.state self.new) }
         ensures kept { Self.kept self.new ≡ Self.kept self.old };
 
     /// An event, to the capture that was opened last of those still open, or else to the result.
     fn put(&mut self, event: Event) -> Result<(), Halt>
-        ensures told { IsStep (put event (Self.state self.old)) result (Self.state self.new) }
+        ensures reported { IsStep (put event (Self.state self.old)) result (Self.state self.new) }
         ensures kept { Self.kept self.new ≡ Self.kept self.old };
 
     /// A message for the user.
     fn say(&mut self, text: TextBuf) -> Result<(), Halt>
-        ensures told { IsStep (goes (said text (Self.state self.old)))
+        ensures reported { IsStep (goes (said text (Self.state self.old)))
             result (Self.state self.new) }
         ensures kept { Self.kept self.new ≡ Self.kept self.old };
 
     /// A part that is evaluated apart, by the task that fills it.
     fn hole(&mut self, task: Self::Task) -> Result<(), Halt>
         requires takes { takes_holes ≡ true }
-        ensures told { IsStep (goes (shown (Hole task) (Self.state self.old)))
+        ensures reported { IsStep (goes (shown (Hole task) (Self.state self.old)))
             result (Self.state self.new) }
         ensures kept { Self.kept self.new ≡ Self.kept self.old };
 
     /// From here on what is put makes a fragment of its own.
     fn open_capture(&mut self) -> Result<(), Halt>
-        ensures told { IsStep (goes (opened (Self.state self.old))) result (Self.state self.new) }
+        ensures reported { IsStep (goes (opened (Self.state self.old))) result (Self.state self.new) }
         ensures kept { Self.kept self.new ≡ Self.kept self.old };
 
     /// What was put since the last capture that is still open; that capture is closed. It is empty
@@ -111,7 +111,7 @@ pub trait Recorder: Tally {
 /// Some ticks at one instruction, one by one.
 #[inline(always)]
 pub fn tick_several<T: Tally>(tally: &mut T, site: Site, count: u64) -> Result<(), Halt>
-    ensures told { IsStep (ticked_by count site (T.state tally.old)) result (T.state tally.new) }
+    ensures reported { IsStep (ticked_by count site (T.state tally.old)) result (T.state tally.new) }
     ensures kept { T.kept tally.new ≡ T.kept tally.old }
 {
     for _ in 0..count {
@@ -122,7 +122,7 @@ pub fn tick_several<T: Tally>(tally: &mut T, site: Site, count: u64) -> Result<(
 
 /// Puts an event at an instruction, after the ticks for its text.
 pub fn put_event<R: Recorder>(recorder: &mut R, site: Site, event: Event) -> Result<(), Halt>
-    ensures told { IsStep (put_at site event (R.state recorder.old)) result (R.state recorder.new) }
+    ensures reported { IsStep (put_at site event (R.state recorder.old)) result (R.state recorder.new) }
     ensures kept { R.kept recorder.new ≡ R.kept recorder.old }
 {
     recorder.ticks(site, text_ticks(&event))?;
@@ -131,7 +131,7 @@ pub fn put_event<R: Recorder>(recorder: &mut R, site: Site, event: Event) -> Res
 
 /// Says a message at an instruction, after the ticks for its text.
 pub fn say_message<R: Recorder>(recorder: &mut R, site: Site, text: TextBuf) -> Result<(), Halt>
-    ensures told { IsStep (said_at site text (R.state recorder.old)) result (R.state recorder.new) }
+    ensures reported { IsStep (said_at site text (R.state recorder.old)) result (R.state recorder.new) }
     ensures kept { R.kept recorder.new ≡ R.kept recorder.old }
 {
     recorder.ticks(site, (text.as_str().len() / 256) as u64)?;

@@ -56,18 +56,18 @@ climbs-none : (steps : ℕ) (rs : List Record) (n k : ℕ) → (at rs k).parent 
 climbs-none zero rs n k e = refl
 climbs-none (suc steps) rs n k e = rw e refl
 
-module _ (marks : List Bool) (rs : List Record) (t : IsTree rs) where
+module _ (flags : List Bool) (rs : List Record) (t : IsTree rs) where
   abbrev new : ℕ → ℕ
-  new = new_place marks rs
+  new = new_place flags rs
 
   abbrev stay : ℕ → Bool
-  stay = stays marks rs
+  stay = stays flags rs
 
   -- places that pass a test, which says of new places what another says of the old ones
   passing-new : (test new_test : ℕ → Bool) → ((k : ℕ) → k < length rs → stay k ≡ true → new_test (new k) ≡ test k)
-      → filter new_test (places (without marks rs)) ≡ map new (filter test (staying marks rs))
+      → filter new_test (places (without flags rs)) ≡ map new (filter test (staying flags rs))
   passing-new test new_test agree =
-      ap (λ n. filter new_test (range_with_len 0 n)) (length-without marks rs) ∙ passing_upto stay test new_test (length rs) agree
+      ap (λ n. filter new_test (range_with_len 0 n)) (length-without flags rs) ∙ passing_upto stay test new_test (length rs) agree
 
   same_place : (q n : ℕ) → stay q ≡ true → stay n ≡ true → (new q == new n) ≡ (q == n)
   same_place q n sq sn =
@@ -79,27 +79,27 @@ module _ (marks : List Bool) (rs : List Record) (t : IsTree rs) where
   is_place-new n None s h = refl
   is_place-new n (Some q) s h = same_place q n (h q refl) s
 
-  holds-new : (n k : ℕ) → stay n ≡ true → k < length rs → is_place (new n) (renumbered marks rs k).parent ≡ is_place n (at rs k).parent
-  holds-new n k s w = is_place-new n (at rs k).parent s (λ q e. holder-stays marks rs t k q w e)
+  holds-new : (n k : ℕ) → stay n ≡ true → k < length rs → is_place (new n) (renumbered flags rs k).parent ≡ is_place n (at rs k).parent
+  holds-new n k s w = is_place-new n (at rs k).parent s (λ q e. holder-stays flags rs t k q w e)
 
   -- the children, the attributes and the namespace nodes of a node are those that stay
-  pub children-without : (n : ℕ) → stay n ≡ true → children (without marks rs) (new n) ≡ map new (filter (is_child rs n) (staying marks rs))
+  pub children-without : (n : ℕ) → stay n ≡ true → children (without flags rs) (new n) ≡ map new (filter (is_child rs n) (staying flags rs))
   children-without n s =
-      passing-new (is_child rs n) (is_child (without marks rs) (new n))
-      (λ k w q. rw (at-new marks rs k w q) (ap (λ b. b && is_child_kind (at rs k).kind) (holds-new n k s w)))
+      passing-new (is_child rs n) (is_child (without flags rs) (new n))
+      (λ k w q. rw (at-new flags rs k w q) (ap (λ b. b && is_child_kind (at rs k).kind) (holds-new n k s w)))
 
-  pub attributes-without : (n : ℕ) → stay n ≡ true → attributes (without marks rs) (new n) ≡ map new (filter (is_attribute rs n) (staying marks rs))
+  pub attributes-without : (n : ℕ) → stay n ≡ true → attributes (without flags rs) (new n) ≡ map new (filter (is_attribute rs n) (staying flags rs))
   attributes-without n s =
-      passing-new (is_attribute rs n) (is_attribute (without marks rs) (new n))
-      (λ k w q. rw (at-new marks rs k w q) (ap (λ b. b && is_attribute_kind (at rs k).kind) (holds-new n k s w)))
+      passing-new (is_attribute rs n) (is_attribute (without flags rs) (new n))
+      (λ k w q. rw (at-new flags rs k w q) (ap (λ b. b && is_attribute_kind (at rs k).kind) (holds-new n k s w)))
 
-  pub namespaces-without : (n : ℕ) → stay n ≡ true → namespaces (without marks rs) (new n) ≡ map new (filter (is_namespace rs n) (staying marks rs))
+  pub namespaces-without : (n : ℕ) → stay n ≡ true → namespaces (without flags rs) (new n) ≡ map new (filter (is_namespace rs n) (staying flags rs))
   namespaces-without n s =
-      passing-new (is_namespace rs n) (is_namespace (without marks rs) (new n))
-      (λ k w q. rw (at-new marks rs k w q) (ap (λ b. b && is_namespace_kind (at rs k).kind) (holds-new n k s w)))
+      passing-new (is_namespace rs n) (is_namespace (without flags rs) (new n))
+      (λ k w q. rw (at-new flags rs k w q) (ap (λ b. b && is_namespace_kind (at rs k).kind) (holds-new n k s w)))
 
-  parent-new : (k : ℕ) (o : Option ℕ) → k < length rs → stay k ≡ true → (at rs k).parent ≡ o → (at (without marks rs) (new k)).parent ≡ option_map new o
-  parent-new k o w s e = ap (λ r. r.parent) (at-new marks rs k w s) ∙ ap (option_map new) e
+  parent-new : (k : ℕ) (o : Option ℕ) → k < length rs → stay k ≡ true → (at rs k).parent ≡ o → (at (without flags rs) (new k)).parent ≡ option_map new o
+  parent-new k o w s e = ap (λ r. r.parent) (at-new flags rs k w s) ∙ ap (option_map new) e
 
   no_parent : (k : ℕ) → ((p : ℕ) → (at rs k).parent ≡ Some p → ⊥) → (at rs k).parent ≡ None
   no_parent k h = by_parent (at rs k).parent refl
@@ -110,14 +110,14 @@ module _ (marks : List Bool) (rs : List Record) (t : IsTree rs) where
 
   parent-before : (k p : ℕ) → k < length rs → (at rs k).parent ≡ Some p → (p < k) × (new p < new k)
   parent-before k p w e =
-      let before : p < k = (IsPlaced-at rs k p t w e).before in (before, place-below stay p k (holder-stays marks rs t k p w e) before)
+      let before : p < k = (IsPlaced-at rs k p t w e).before in (before, place-below stay p k (holder-stays flags rs t k p w e) before)
 
   -- chains of parents lead where they led
   climbs-new : (steps new_steps n k : ℕ) → stay n ≡ true → k < length rs → stay k ≡ true → k ≤ steps → new k ≤ new_steps
-      → climbs new_steps (without marks rs) (new n) (new k) ≡ climbs steps rs n k
+      → climbs new_steps (without flags rs) (new n) (new k) ≡ climbs steps rs n k
   climbs-new zero new_steps n k sn w s le new_le =
       let none : (at rs k).parent ≡ None = no_parent k (λ p e. omega (arith, le, (parent-before k p w e).0)) in
-      climbs-none new_steps (without marks rs) (new n) (new k) (parent-new k None w s none)
+      climbs-none new_steps (without flags rs) (new n) (new k) (parent-new k None w s none)
   climbs-new (suc steps) zero n k sn w s le new_le =
       let none : (at rs k).parent ≡ None = no_parent k (λ p e. omega (arith, new_le, (parent-before k p w e).1)) in
       sym (climbs-none (suc steps) rs n k none)
@@ -126,68 +126,68 @@ module _ (marks : List Bool) (rs : List Record) (t : IsTree rs) where
     where
       by_parent : (o : Option ℕ) → (at rs k).parent ≡ o
           → ((p : ℕ) → p < length rs → stay p ≡ true → p ≤ steps → new p ≤ new_steps
-          → climbs new_steps (without marks rs) (new n) (new p) ≡ climbs steps rs n p)
-          → climbs (suc new_steps) (without marks rs) (new n) (new k) ≡ climbs (suc steps) rs n k
-      by_parent None e again = climbs-none (suc new_steps) (without marks rs) (new n) (new k) (parent-new k None w s e) ∙ sym (climbs-none (suc steps) rs n k e)
+          → climbs new_steps (without flags rs) (new n) (new p) ≡ climbs steps rs n p)
+          → climbs (suc new_steps) (without flags rs) (new n) (new k) ≡ climbs (suc steps) rs n k
+      by_parent None e again = climbs-none (suc new_steps) (without flags rs) (new n) (new k) (parent-new k None w s e) ∙ sym (climbs-none (suc steps) rs n k e)
       by_parent (Some p) e again =
-          let ps : stay p ≡ true = holder-stays marks rs t k p w e in
+          let ps : stay p ≡ true = holder-stays flags rs t k p w e in
           let before : (p < k) × (new p < new k) = parent-before k p w e in
-          let there : climbs new_steps (without marks rs) (new n) (new p) ≡ climbs steps rs n p =
+          let there : climbs new_steps (without flags rs) (new n) (new p) ≡ climbs steps rs n p =
           again p (omega (arith, w, before.0)) ps (omega (arith, le, before.0)) (omega (arith, new_le, before.1)) in
           rw (parent-new k (Some p) w s e, e, same_place p n ps sn, there) refl
 
-  pub is_inside-without : (n k : ℕ) → stay n ≡ true → k < length rs → stay k ≡ true → is_inside (without marks rs) (new n) (new k) ≡ is_inside rs n k
+  pub is_inside-without : (n k : ℕ) → stay n ≡ true → k < length rs → stay k ≡ true → is_inside (without flags rs) (new n) (new k) ≡ is_inside rs n k
   is_inside-without n k sn w s = climbs-new k (new k) n k sn w s (omega arith) (omega arith)
 
   is_text_inside-without : (n k : ℕ) → stay n ≡ true → k < length rs → stay k ≡ true
-      → is_text_inside (without marks rs) (new n) (new k) ≡ is_text_inside rs n k
+      → is_text_inside (without flags rs) (new n) (new k) ≡ is_text_inside rs n k
   is_text_inside-without n k sn w s =
-      ap (λ b. b && is_text_kind (at (without marks rs) (new k)).kind) (is_inside-without n k sn w s)
-      ∙ ap (λ r. is_inside rs n k && is_text_kind r.kind) (at-new marks rs k w s)
+      ap (λ b. b && is_text_kind (at (without flags rs) (new k)).kind) (is_inside-without n k sn w s)
+      ∙ ap (λ r. is_inside rs n k && is_text_kind r.kind) (at-new flags rs k w s)
 
   -- the texts inside a node are those that stay
-  pub texts-without : (n : ℕ) → stay n ≡ true → texts (without marks rs) (new n) ≡ map new (filter (is_text_inside rs n) (staying marks rs))
+  pub texts-without : (n : ℕ) → stay n ≡ true → texts (without flags rs) (new n) ≡ map new (filter (is_text_inside rs n) (staying flags rs))
   texts-without n s =
-      passing-new (is_text_inside rs n) (is_text_inside (without marks rs) (new n)) (λ k w q. is_text_inside-without n k s w q)
+      passing-new (is_text_inside rs n) (is_text_inside (without flags rs) (new n)) (λ k w q. is_text_inside-without n k s w q)
 
   gather : (test : ℕ → Bool) (n : ℕ) → n ≤ length rs
-      → flat_map (λ k. (at (without marks rs) k).text) (map new (filter test (before stay n))) ≡ flat_map (λ k. (at rs k).text) (filter test (before stay n))
+      → flat_map (λ k. (at (without flags rs) k).text) (map new (filter test (before stay n))) ≡ flat_map (λ k. (at rs k).text) (filter test (before stay n))
   gather test zero h = refl
   gather test (suc n) h =
       let n_is : suc n ≡ n + 1 = omega arith in
-      subst (λ x. flat_map (λ k. (at (without marks rs) k).text) (map new (filter test (before stay x)))
+      subst (λ x. flat_map (λ k. (at (without flags rs) k).text) (map new (filter test (before stay x)))
       ≡ flat_map (λ k. (at rs k).text) (filter test (before stay x)))
       (sym n_is) (step (gather test n (omega (arith, h))) (stay n) refl)
     where
       last : stay n ≡ true → (b : Bool) → test n ≡ b
-          → flat_map (λ k. (at (without marks rs) k).text) (map new (filter test (n ∷ []))) ≡ flat_map (λ k. (at rs k).text) (filter test (n ∷ []))
-      last s true e = rw (e, at-new marks rs n (omega (arith, h)) s) refl
+          → flat_map (λ k. (at (without flags rs) k).text) (map new (filter test (n ∷ []))) ≡ flat_map (λ k. (at rs k).text) (filter test (n ∷ []))
+      last s true e = rw (e, at-new flags rs n (omega (arith, h)) s) refl
       last s false e = rw e refl
 
-      step : flat_map (λ k. (at (without marks rs) k).text) (map new (filter test (before stay n)))
+      step : flat_map (λ k. (at (without flags rs) k).text) (map new (filter test (before stay n)))
           ≡ flat_map (λ k. (at rs k).text) (filter test (before stay n))
           → (b : Bool) → stay n ≡ b
-          → flat_map (λ k. (at (without marks rs) k).text) (map new (filter test (before stay (n + 1))))
+          → flat_map (λ k. (at (without flags rs) k).text) (map new (filter test (before stay (n + 1))))
           ≡ flat_map (λ k. (at rs k).text) (filter test (before stay (n + 1)))
       step again false e = rw (before-false stay n e) again
       step again true e =
           rw (before-true stay n e)
-          (ap (λ xs. flat_map (λ k. (at (without marks rs) k).text) (map new xs)) (filter-append test (before stay n) (n ∷ []))
-          ∙ ap (flat_map (λ k. (at (without marks rs) k).text)) (map-append new (filter test (before stay n)) (filter test (n ∷ [])))
-          ∙ flat_map-append (λ k. (at (without marks rs) k).text) (map new (filter test (before stay n))) (map new (filter test (n ∷ [])))
-          ∙ ap (λ xs. xs ++ flat_map (λ k. (at (without marks rs) k).text) (map new (filter test (n ∷ [])))) again
+          (ap (λ xs. flat_map (λ k. (at (without flags rs) k).text) (map new xs)) (filter-append test (before stay n) (n ∷ []))
+          ∙ ap (flat_map (λ k. (at (without flags rs) k).text)) (map-append new (filter test (before stay n)) (filter test (n ∷ [])))
+          ∙ flat_map-append (λ k. (at (without flags rs) k).text) (map new (filter test (before stay n))) (map new (filter test (n ∷ [])))
+          ∙ ap (λ xs. xs ++ flat_map (λ k. (at (without flags rs) k).text) (map new (filter test (n ∷ [])))) again
           ∙ ap (λ xs. flat_map (λ k. (at rs k).text) (filter test (before stay n)) ++ xs) (last e (test n) refl)
           ∙ sym (ap (flat_map (λ k. (at rs k).text)) (filter-append test (before stay n) (n ∷ []))
           ∙ flat_map-append (λ k. (at rs k).text) (filter test (before stay n)) (filter test (n ∷ []))))
 
   -- the string value of a root or an element is that of the texts inside it that stay, and that of any other node is as it was
-  pub string_value-without : (n : ℕ) → n < length rs → stay n ≡ true → string_value (without marks rs) (new n)
-      ≡ (if has_content (at rs n).kind then flat_map (λ k. (at rs k).text) (filter (is_text_inside rs n) (staying marks rs)) else (at rs n).text)
+  pub string_value-without : (n : ℕ) → n < length rs → stay n ≡ true → string_value (without flags rs) (new n)
+      ≡ (if has_content (at rs n).kind then flat_map (λ k. (at rs k).text) (filter (is_text_inside rs n) (staying flags rs)) else (at rs n).text)
   string_value-without n w s =
-      ap (λ r. if has_content r.kind then flat_map (λ k. (at (without marks rs) k).text) (texts (without marks rs) (new n)) else r.text)
-      (at-new marks rs n w s)
+      ap (λ r. if has_content r.kind then flat_map (λ k. (at (without flags rs) k).text) (texts (without flags rs) (new n)) else r.text)
+      (at-new flags rs n w s)
       ∙ ap (λ xs. if has_content (at rs n).kind then xs else (at rs n).text)
-      (ap (flat_map (λ k. (at (without marks rs) k).text)) (texts-without n s) ∙ gather (is_text_inside rs n) (length rs) (omega arith))
+      (ap (flat_map (λ k. (at (without flags rs) k).text)) (texts-without n s) ∙ gather (is_text_inside rs n) (length rs) (omega arith))
 
 filter-true : (p : ℕ → Bool) (x : ℕ) (xs : List ℕ) → p x ≡ true → filter p (x ∷ xs) ≡ x ∷ filter p xs
 filter-true p x xs e = rw e refl
@@ -212,27 +212,27 @@ filter-swap p q (x ∷ xs) = by_tests (filter-swap p q xs) (p x) refl (q x) refl
     by_tests again false e false f = ap (filter p) (filter-false q x xs f) ∙ again ∙ sym (ap (filter q) (filter-false p x xs e))
 
 -- nodes that pass a test, among those that stay and among all
-passing_kept : (marks : List Bool) (rs : List Record) (test : ℕ → Bool)
-    → map (new_place marks rs) (filter test (staying marks rs)) ≡ moved marks rs (filter test (places rs))
-passing_kept marks rs test = ap (map (new_place marks rs)) (filter-swap test (stays marks rs) (places rs))
+passing_kept : (flags : List Bool) (rs : List Record) (test : ℕ → Bool)
+    → map (new_place flags rs) (filter test (staying flags rs)) ≡ moved flags rs (filter test (places rs))
+passing_kept flags rs test = ap (map (new_place flags rs)) (filter-swap test (stays flags rs) (places rs))
 
 pub children_kept : KeepsNodes children
-children_kept marks rs n t s = children-without marks rs t n s ∙ passing_kept marks rs (is_child rs n)
+children_kept flags rs n t s = children-without flags rs t n s ∙ passing_kept flags rs (is_child rs n)
 
 pub attributes_kept : KeepsNodes attributes
-attributes_kept marks rs n t s = attributes-without marks rs t n s ∙ passing_kept marks rs (is_attribute rs n)
+attributes_kept flags rs n t s = attributes-without flags rs t n s ∙ passing_kept flags rs (is_attribute rs n)
 
 pub namespaces_kept : KeepsNodes namespaces
-namespaces_kept marks rs n t s = namespaces-without marks rs t n s ∙ passing_kept marks rs (is_namespace rs n)
+namespaces_kept flags rs n t s = namespaces-without flags rs t n s ∙ passing_kept flags rs (is_namespace rs n)
 
 pub texts_kept : KeepsNodes texts
-texts_kept marks rs n t s = texts-without marks rs t n s ∙ passing_kept marks rs (is_text_inside rs n)
+texts_kept flags rs n t s = texts-without flags rs t n s ∙ passing_kept flags rs (is_text_inside rs n)
 
 pub inside_kept : KeepsInside
-inside_kept marks rs n k t s w q = is_inside-without marks rs t n k s w q
+inside_kept flags rs n k t s w q = is_inside-without flags rs t n k s w q
 
 pub texts_that_stay : HasTextsThatStay
-texts_that_stay marks rs n t w s =
-    string_value-without marks rs t n w s
+texts_that_stay flags rs n t w s =
+    string_value-without flags rs t n w s
     ∙ ap (λ ks. if has_content (at rs n).kind then flat_map (λ k. (at rs k).text) ks else (at rs n).text)
-    (filter-swap (is_text_inside rs n) (stays marks rs) (places rs))
+    (filter-swap (is_text_inside rs n) (stays flags rs) (places rs))

@@ -14,7 +14,7 @@ bears_name Comment = false
 bears_name Pi = true
 
 -- whether what names a node of this kind is a local part alone, in no namespace and without a prefix: the prefix that a
--- namespace node stands for, the target of a processing instruction (XPath 1.0, 5.4 and 5.5)
+-- namespace node represents, the target of a processing instruction (XPath 1.0, 5.4 and 5.5)
 abbrev pub has_local_name : Kind → Bool
 has_local_name Root = false
 has_local_name Element = false

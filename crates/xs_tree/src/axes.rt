@@ -14,10 +14,10 @@ pub enum Axis {
     FollowingSibling,
     /// The children of the node's parent before the node. Goes backwards.
     PrecedingSibling,
-    /// All after the node in document order, but for its descendants, attributes and namespace
+    /// All after the node in document order, except its descendants, attributes and namespace
     /// nodes.
     Following,
-    /// All before the node in document order, but for its ancestors, attributes and namespace
+    /// All before the node in document order, except its ancestors, attributes and namespace
     /// nodes. Goes backwards.
     Preceding,
     /// The attributes of the node.

@@ -4,7 +4,7 @@ ghost use Rattle.xs_tree.specs.Record.{attributes, children, namespaces, texts};
 ghost use Rattle.xs_tree.specs.StrippingLaws.{HasTextsThatStay, KeepsInside, KeepsNodes};
 
 /// A node of a tree without some of its text nodes has the children, attributes, namespace nodes
-/// and texts that it had, but for those that are left out.
+/// and texts that it had, except those that are left out.
 pub fn stripping_keeps_nodes()
     ensures children { KeepsNodes children }
     ensures attributes { KeepsNodes attributes }

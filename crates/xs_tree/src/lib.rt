@@ -16,5 +16,5 @@ mod trees;
 pub use axes::Axis;
 pub use kinds::Kind;
 pub use names::{Name, NameText};
-pub use nodes::{Node, is_marked};
+pub use nodes::{Node, is_flagged};
 pub use trees::{Attributes, Children, MOST_NODES, Namespaces, Texts, Tree, TreeFault};

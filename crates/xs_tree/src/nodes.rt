@@ -43,13 +43,13 @@ impl Node {
     }
 }
 
-/// Whether a node is marked, by marks of all nodes; none is after the last mark.
-pub fn is_marked(marks: &[bool], node: Node) -> bool
-    ensures { result ≡ get_or marks.now node false }
+/// Whether a node is flagged, by flags of all nodes; none is after the last flag.
+pub fn is_flagged(flags: &[bool], node: Node) -> bool
+    ensures { result ≡ get_or flags.now node false }
 {
     let place = node.place() as usize;
-    if place < marks.len() {
-        marks[place]
+    if place < flags.len() {
+        flags[place]
     } else {
         false
     }

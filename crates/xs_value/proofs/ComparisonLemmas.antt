@@ -70,7 +70,7 @@ beside_boolean rs op (Nodes ns) (Boolean y) h = single rs op (beside (Nodes ns))
 beside_boolean rs op (Piece es) (Boolean y) h = single rs op (Boolean true) (Boolean y)
 beside_boolean rs op a b h = absurd (cc)
 
--- ---- what stands for a value that is no boolean
+-- ---- what represents a value that is no boolean
 
 -- a value that is no boolean, and a number as another one is
 pub record IsPlain (numeral : Bool) (x : Value) : Type 0 where

@@ -14,7 +14,7 @@ use Rattle.xs_num.specs.declared.number.NumFault.{NumFault}
 use Rattle.xs_value.specs.declared.comparison.CompareOp.{CompareOp}
 use Rattle.xs_value.specs.declared.comparison.CompareOp.TheVariants.{Eq, Ne, Lt, Le, Gt, Ge}
 use Rattle.xs_value.specs.Comparison.{by_number, holds, is_ordering, or_else, some}
-use Rattle.xs_value.specs.steps.Operands.{StandsFor, further}
+use Rattle.xs_value.specs.steps.Operands.{Represents, further}
 use Rattle.xs_value.proofs.ComparisonLemmas.{or_else-false, some-append}
 
 -- what an operator that orders says of two whole numbers
@@ -95,7 +95,7 @@ or-none : (op : CompareOp) (b : Bool) → is_ordering op ≡ true → b ≡ (b |
 or-none op true h = refl
 or-none op false h = sym (none op h)
 
--- the further of two numbers stands for both
+-- the further of two numbers represents both
 further-holds : (op : CompareOp) (x e y : Number) → is_ordering op ≡ true
     → holds op (comparison_of x (further op e y)) ≡ (holds op (comparison_of x e) || holds op (comparison_of x y))
 further-holds op NaN e y h = rw (none op h) refl
@@ -104,11 +104,11 @@ further-holds op (Whole x) (Whole e) NaN h =
     rw (none op h) (or-none op (holds op (Some (int_cmp x e))) h ∙ ap (λ b. holds op (Some (int_cmp x e)) || b) (none op h))
 further-holds op (Whole x) (Whole e) (Whole y) h = further-whole op x e y (holds op (Some (int_cmp e y))) h (decides op e y h)
 
--- a number that stands for those of a list that have no fault
-abbrev pub StandsForWhole : CompareOp → List (Result Number NumFault) → Number → Type 0
-StandsForWhole op ys e = (x : Number) → some (by_number op (Ok x)) ys ≡ Ok (holds op (comparison_of x e))
+-- a number that represents those of a list that have no fault
+abbrev pub RepresentsWhole : CompareOp → List (Result Number NumFault) → Number → Type 0
+RepresentsWhole op ys e = (x : Number) → some (by_number op (Ok x)) ys ≡ Ok (holds op (comparison_of x e))
 
-pub stands-none : (op : CompareOp) → is_ordering op ≡ true → StandsForWhole op [] NaN
+pub stands-none : (op : CompareOp) → is_ordering op ≡ true → RepresentsWhole op [] NaN
 stands-none op h NaN = ap (λ (b : Bool). Ok b) (sym (none op h))
 stands-none op h (Whole x) = ap (λ (b : Bool). Ok b) (sym (none op h))
 
@@ -117,8 +117,8 @@ either true c = refl
 either false true = refl
 either false false = refl
 
-pub stands-more : (op : CompareOp) (ys : List (Result Number NumFault)) (e y : Number) → is_ordering op ≡ true → StandsForWhole op ys e
-    → StandsForWhole op (ys ++ Ok y ∷ []) (further op e y)
+pub stands-more : (op : CompareOp) (ys : List (Result Number NumFault)) (e y : Number) → is_ordering op ≡ true → RepresentsWhole op ys e
+    → RepresentsWhole op (ys ++ Ok y ∷ []) (further op e y)
 stands-more op ys e y h s x =
     some-append (by_number op (Ok x)) ys (Ok y ∷ [])
     ∙ ap (λ r. or_else r (or_else (Ok (holds op (comparison_of x y))) (Ok false))) (s x)
@@ -126,11 +126,11 @@ stands-more op ys e y h s x =
     ∙ ap (λ (b : Bool). Ok b) (sym (further-holds op x e y h))
 
 -- where there is a number, a fault on the left comes first
-pub stands-all : (op : CompareOp) (y : Result Number NumFault) (ys : List (Result Number NumFault)) (e : Number) → StandsForWhole op (y ∷ ys) e
-    → StandsFor op (y ∷ ys) e
+pub stands-all : (op : CompareOp) (y : Result Number NumFault) (ys : List (Result Number NumFault)) (e : Number) → RepresentsWhole op (y ∷ ys) e
+    → Represents op (y ∷ ys) e
 stands-all op y ys e s (Ok x) = s x
 stands-all op y ys e s (Err f) = refl
 
-pub stands-one : (op : CompareOp) (e : Number) → StandsFor op (Ok e ∷ []) e
+pub stands-one : (op : CompareOp) (e : Number) → Represents op (Ok e ∷ []) e
 stands-one op e (Ok x) = or_else-false (Ok (holds op (comparison_of x e)))
 stands-one op e (Err f) = refl

@@ -6,7 +6,7 @@ use Rattle.std.specs.Option.{is_none, is_some}
 use Rattle.xs_num.specs.Text.{number_in}
 use Rattle.xs_num.specs.declared.number.Number.{Number}
 use Rattle.xs_num.specs.declared.number.NumFault.{NumFault}
-use Rattle.xs_num.specs.declared.number.NumFault.TheVariants as due
+use Rattle.xs_num.specs.declared.number.NumFault.TheVariants as expected
 use Rattle.xs_tree.specs.Record.{Record, string_value}
 use Rattle.xs_value.specs.Comparison.{by_number, compared, is_boolean, is_numeral, is_ordering, or_else, some}
 use Rattle.xs_value.specs.Conversion.{IsIn}
@@ -116,13 +116,13 @@ none-is (Some e) false h = refl
 -- ---- faults handed on
 
 pub number-fault : (of : Result Bool NumFault) (f : NumFault) → of ≡ Err f → Answers of (Err (as_value_fault f))
-number-fault of due.Fraction h = h
-number-fault of due.Range h = h
+number-fault of expected.Fraction h = h
+number-fault of expected.Range h = h
 
 pub fault-answer : (n : Result Number NumFault) (of : Result Bool NumFault) (e : ValueFault) → Answers n (Err e)
     → ((f : NumFault) → n ≡ Err f → of ≡ Err f) → Answers of (Err e)
-fault-answer n of Fraction a h = h due.Fraction a
-fault-answer n of Range a h = h due.Range a
+fault-answer n of Fraction a h = h expected.Fraction a
+fault-answer n of Range a h = h expected.Range a
 fault-answer n of NoMemory a h = tt
 
 pub row-fault-answer : (op : CompareOp) (x : Number) (ys : List (Result Number NumFault)) (can : Type 0) (of : Result Bool NumFault) (e : ValueFault)

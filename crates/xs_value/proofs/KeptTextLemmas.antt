@@ -88,7 +88,7 @@ compared-different rs Le a b l r h e k j = absurd (ordered Le a b h refl)
 compared-different rs Gt a b l r h e k j = absurd (ordered Gt a b h refl)
 compared-different rs Ge a b l r h e k j = absurd (ordered Ge a b h refl)
 
--- an answer of what is due
+-- an answer of what is expected
 pub ok-holds : {E : Type 0} (r : Result Bool E) (of : Result Bool NumFault) (b : Bool) → of ≡ Ok b → IfOk r (λ h. h ≡ b) → IfOk r (λ h. of ≡ Ok h)
 ok-holds (Ok x) of b e h = e ∙ ap (λ (z : Bool). Ok z) (sym h)
 ok-holds (Err x) of b e h = tt

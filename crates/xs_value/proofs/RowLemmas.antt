@@ -9,18 +9,18 @@ use Rattle.xs_num.specs.declared.number.NumFault.{NumFault}
 use Rattle.xs_tree.specs.Record.{Record, string_value}
 use Rattle.xs_value.specs.declared.comparison.CompareOp.{CompareOp}
 use Rattle.xs_value.specs.Comparison.{by_number, holds, is_ordering, or_else, some}
-use Rattle.xs_value.specs.steps.Operands.{StandsFor, further, node_numbers}
-use Rattle.xs_value.proofs.FurtherLemmas.{StandsForWhole, stands-none, stands-more, stands-all}
+use Rattle.xs_value.specs.steps.Operands.{Represents, further, node_numbers}
+use Rattle.xs_value.proofs.FurtherLemmas.{RepresentsWhole, stands-none, stands-more, stands-all}
 
 -- how x compares with the numbers of nodes
 abbrev pub row : List Record → CompareOp → Number → List ℕ → Result Bool NumFault
 row rs op x ns = some (by_number op (Ok x)) (node_numbers rs ns)
 
--- a number that stands for those of the nodes before the ones that are left
+-- a number that represents those of the nodes before the ones that are left
 pub record StandsBefore (rs : List Record) (op : CompareOp) (nodes left : List ℕ) (furthest : Number) : Type 0 where
   pub before : List ℕ
   pub whole : nodes ≡ before ++ left
-  pub stands : StandsForWhole op (node_numbers rs before) furthest
+  pub stands : RepresentsWhole op (node_numbers rs before) furthest
 
 -- what is left decides
 pub record Row (rs : List Record) (op : CompareOp) (x : Number) (nodes left : List ℕ) (furthest : Number) : Type 0 where
@@ -57,29 +57,29 @@ row-step rs op x y f n nodes left rest e num h r = record {
   stood = λ o. let s = r.stood o in record {
     before = s.before ++ n ∷ [];
     whole = s.whole ∙ ap (λ l. s.before ++ l) e ∙ one-more s.before rest n;
-    stands = subst (λ l. StandsForWhole op l (further op f y))
+    stands = subst (λ l. RepresentsWhole op l (further op f y))
         (sym (map-append (λ k. number_in (string_value rs k)) s.before (n ∷ []) ∙ ap (λ m. node_numbers rs s.before ++ m ∷ []) num))
         (stands-more op (node_numbers rs s.before) f y o s.stands);
   };
 }
 
-all-nodes : (rs : List Record) (op : CompareOp) (nodes : List ℕ) (f : Number) → 0 < length nodes → StandsForWhole op (node_numbers rs nodes) f
-    → StandsFor op (node_numbers rs nodes) f
+all-nodes : (rs : List Record) (op : CompareOp) (nodes : List ℕ) (f : Number) → 0 < length nodes → RepresentsWhole op (node_numbers rs nodes) f
+    → Represents op (node_numbers rs nodes) f
 all-nodes rs op [] f l s = absurd (omega arith)
 all-nodes rs op (n ∷ ns) f l s = stands-all op (number_in (string_value rs n)) (node_numbers rs ns) f s
 
 pub row-end : (rs : List Record) (op : CompareOp) (x f : Number) (nodes left : List ℕ) → left ≡ [] → 0 < length nodes → Row rs op x nodes left f
-    → (row rs op x nodes ≡ Ok false) × (is_ordering op ≡ true → StandsFor op (node_numbers rs nodes) f)
+    → (row rs op x nodes ≡ Ok false) × (is_ordering op ≡ true → Represents op (node_numbers rs nodes) f)
 row-end rs op x f nodes left e l r = (
   sym r.decides ∙ ap (row rs op x) e,
   λ o. let s = r.stood o in
-      all-nodes rs op nodes f l (subst (λ k. StandsForWhole op (node_numbers rs k) f) (sym (s.whole ∙ ap
+      all-nodes rs op nodes f l (subst (λ k. RepresentsWhole op (node_numbers rs k) f) (sym (s.whole ∙ ap
       (λ l. s.before ++ l) e ∙ append-nil s.before)) s.stands),
 )
 
 -- ---- the nodes on the left, of which the first was compared with each number
 
-pub rest-stands : (op : CompareOp) (ys : List (Result Number NumFault)) (e : Number) (xs : List (Result Number NumFault)) → StandsFor op ys e
+pub rest-stands : (op : CompareOp) (ys : List (Result Number NumFault)) (e : Number) (xs : List (Result Number NumFault)) → Represents op ys e
     → some (λ x. some (by_number op x) ys) xs ≡ some (λ x. by_number op x (Ok e)) xs
 rest-stands op ys e [] s = refl
 rest-stands op ys e (x ∷ xs) s =

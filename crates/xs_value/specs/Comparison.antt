@@ -88,7 +88,7 @@ compared_single rs op x y =
     else (if is_numeral x || is_numeral y then by_number op (number_value rs x) (number_value rs y)
     else Ok (same_or_not op (bytes_eq (text_value rs x) (text_value rs y)))))
 
--- What stands for a value in a comparison: for a node-set the strings of its nodes, in document order, or its boolean beside a
+-- What represents a value in a comparison: for a node-set the strings of its nodes, in document order, or its boolean beside a
 -- boolean; a fragment is like a node-set with one node (XSLT 1.0, 11.1); any other value is by itself.
 abbrev pub members : List Record → Bool → Value → List Value
 members rs beside_boolean (Boolean b) = Boolean b ∷ []

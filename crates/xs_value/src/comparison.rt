@@ -72,7 +72,7 @@ enum ComparedAs {
     Strings,
 }
 
-/// Whether two values compare so: some pair of what stands for them does. Pairs are tried in
+/// Whether two values compare so: some pair of what represents them does. Pairs are tried in
 /// document order, the left operand first, until one decides; a fault on the way is the answer.
 ///
 /// The time is linear in the sizes of both, with the texts of their nodes.

@@ -7,7 +7,7 @@ use Rattle.clap.specs.declared.parser.matches.ArgMatches.{ArgMatches}
 use Rattle.xs_words.specs.Choice.{Choice}
 use Rattle.xs_words.specs.Command.{command_line, rows_of_words}
 use Rattle.xs_words.specs.Options.{choice_of_rows, options_of}
-use Rattle.xs_words.specs.Results.{Gives, told}
+use Rattle.xs_words.specs.Results.{Gives, reported}
 use Rattle.xs_words.specs.Rows.{rows_in}
 use Rattle.xs_words.specs.Steps.{given}
 use Rattle.xs_words.specs.declared.choice.Options.{Options}
@@ -25,12 +25,12 @@ options_refused words e = ap (λ (r : Option (List Row)). given r choice_of_rows
 
 -- what the rows give is what the words do
 pub taken_gives : (app : App) (words : List Text) (m : ArgMatches) (r : Result Options WordsEnd) → app ≡ command_line → HasMatchesOf app words m
-    → Answers app words (Ok m) → Gives told (choice_of_rows (rows_in m)) r → Gives told (options_of words) r
+    → Answers app words (Ok m) → Gives reported (choice_of_rows (rows_in m)) r → Gives reported (options_of words) r
 taken_gives app words m r e h f g =
-    subst (λ (wanted : Option Choice). Gives told wanted r) (sym (options_taken words (rows_in m) (taken_rows app words m e h f))) g
+    subst (λ (wanted : Option Choice). Gives reported wanted r) (sym (options_taken words (rows_in m) (taken_rows app words m e h f))) g
 
--- where there are no matches, `Usage` is right but for want of memory
+-- where there are no matches, `Usage` is right except want of memory
 pub refused_gives : (app : App) (words : List Text) (e : Error) (end : WordsEnd) → app ≡ command_line → (end ≡ Usage → kind_of e ≢ kind.OutOfMemory)
-    → Answers app words (Err e) → Gives told (options_of words) (Err end)
+    → Answers app words (Err e) → Gives reported (options_of words) (Err end)
 refused_gives app words e Usage s k f = options_refused words (refused_rows app words e s (k refl) f)
 refused_gives app words e NoMemory s k f = tt

@@ -7,7 +7,7 @@ use Rattle.xs_words.specs.Choice.{Choice, Text}
 use Rattle.xs_words.specs.Inputs.{work_of}
 use Rattle.xs_words.specs.Options.{AreWithin, Limits, Sizes, choice_of_rows, has_flag, inputs_of, limits_of, may_stand, number_of, number_or_none, sizes_of}
 use Rattle.xs_words.specs.Numbers.{is_number, number_up_to, up_to, value_from}
-use Rattle.xs_words.specs.Results.{Gives, told}
+use Rattle.xs_words.specs.Results.{Gives, reported}
 use Rattle.xs_words.specs.Steps.{given, where_it_holds}
 use Rattle.xs_words.specs.declared.choice.Options.{Options}
 use Rattle.xs_words.specs.declared.choice.WordsEnd.{WordsEnd}
@@ -132,6 +132,6 @@ rows-fit rows choice e =
     }
 
 -- so are those of the options that were read
-pub options_fit : (rows : List Row) (r : Result Options WordsEnd) → Gives told (choice_of_rows rows) r → IfOk r (λ options. AreWithin (told options))
-options_fit rows (Ok options) is = rows-fit rows (told options) is
+pub options_fit : (rows : List Row) (r : Result Options WordsEnd) → Gives reported (choice_of_rows rows) r → IfOk r (λ options. AreWithin (reported options))
+options_fit rows (Ok options) is = rows-fit rows (reported options) is
 options_fit rows (Err end) is = tt

@@ -23,10 +23,10 @@ pub record Choice : Type 0 where
   pub workers : ℕ
   -- how many nodes of a loop make a piece
   pub grain : ℕ
-  -- whether the ticks and the pieces are told, and the ticks of each place
+  -- whether the ticks and the pieces are reported, and the ticks of each place
   pub stats : Bool
   pub profile : Bool
-  -- the tick whose place is told
+  -- the tick whose place is reported
   pub at : Option ℕ
   -- whether the result is written while the run goes on
   pub stream : Bool

@@ -1,4 +1,4 @@
--- The options that words stand for, and which words stand for none.
+-- The options that words represent, and which words represent none.
 use Rattle.std.specs.Prelude.{ℕ, ◌≤◌, ◌^◌, ◌&&◌, ◌||◌, Bool, false, not, List, []}
 use Rattle.std.specs.Prelude.{Option, Some, None, is_some, option_map, unwrap_or, codes}
 use Rattle.std.specs.Str.{bytes_eq}

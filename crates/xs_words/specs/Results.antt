@@ -1,4 +1,4 @@
--- What the options and their parts stand for.
+-- What the options and their parts represent.
 use Rattle.std.specs.Prelude.{◌≡◌, Bool, true, false, List, [], ◌∷◌, ◌++◌, map, Option, Some, None, Result, Ok, Err, ⊤, String, string_bytes}
 use Rattle.std.specs.Borrow.{Bor}
 use Rattle.std.specs.declared.alloc.Global.{Global}
@@ -15,13 +15,13 @@ use Rattle.xs_words.specs.declared.choice.WordsEnd.TheVariants.{Usage, NoMemory}
 abbrev pub texts : List (String Global) → List Text
 texts words = map string_bytes words
 
-abbrev pub job_told : CodeJob → Job
-job_told (code.Files sheet source pairs) = files sheet source pairs.items
-job_told (code.Check sheet) = check sheet
-job_told (code.Load n) = load n
+abbrev pub job_reported : CodeJob → Job
+job_reported (code.Files sheet source pairs) = files sheet source pairs.items
+job_reported (code.Check sheet) = check sheet
+job_reported (code.Load n) = load n
 
-abbrev pub told : Options → Choice
-told options = record {
+abbrev pub reported : Options → Choice
+reported options = record {
   budget = options.budget;
   max_events = options.max_events;
   workers = options.workers;
@@ -30,7 +30,7 @@ told options = record {
   profile = options.profile;
   at = options.at;
   stream = options.stream;
-  job = job_told options.job;
+  job = job_reported options.job;
   documents = options.documents.items;
 }
 
@@ -40,12 +40,12 @@ Gives view wanted (Ok x) = wanted ≡ Some (view x)
 Gives view wanted (Err Usage) = wanted ≡ None
 Gives view wanted (Err NoMemory) = ⊤
 
-abbrev pub work_told : CodeWork → Work
-work_told work = record { job = job_told work.job; documents = work.documents.items }
+abbrev pub work_reported : CodeWork → Work
+work_reported work = record { job = job_reported work.job; documents = work.documents.items }
 
 -- a name and a text, as the code has them
-abbrev pub pair_told : Bor Text × Bor Text → Pair
-pair_told pair = (pair.0.now, pair.1.now)
+abbrev pub pair_reported : Bor Text × Bor Text → Pair
+pair_reported pair = (pair.0.now, pair.1.now)
 
 -- words that are borrowed, as their bytes
 abbrev pub borrowed : List (Bor Text) → List Text

@@ -10,8 +10,8 @@ use Rattle.xs_words.specs.Options.{Limits, Sizes}
 abbrev pub rows_in : ArgMatches → List Row
 rows_in matches = walk.rows_of (found_of matches)
 
-abbrev pub limits_told : CodeLimits → Limits
-limits_told limits = record { budget = limits.budget; max_events = limits.max_events; at = limits.at }
+abbrev pub limits_reported : CodeLimits → Limits
+limits_reported limits = record { budget = limits.budget; max_events = limits.max_events; at = limits.at }
 
-abbrev pub sizes_told : CodeSizes → Sizes
-sizes_told sizes = record { workers = sizes.workers; grain = sizes.grain; load = sizes.load }
+abbrev pub sizes_reported : CodeSizes → Sizes
+sizes_reported sizes = record { workers = sizes.workers; grain = sizes.grain; load = sizes.load }

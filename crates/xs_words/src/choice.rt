@@ -18,11 +18,11 @@ pub struct Options {
     pub workers: u32,
     /// How many nodes of a loop make a piece.
     pub grain: u32,
-    /// Whether the ticks and pieces of the run are told.
+    /// Whether the ticks and pieces of the run are reported.
     pub stats: bool,
-    /// Whether the ticks of each place are told.
+    /// Whether the ticks of each place are reported.
     pub profile: bool,
-    /// The tick whose place is told.
+    /// The tick whose place is reported.
     pub at: Option<u64>,
     /// Whether the result is written while the run goes on.
     pub stream: bool,

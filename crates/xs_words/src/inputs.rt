@@ -6,7 +6,7 @@ ghost use Rattle.std.specs.List.{flat_map};
 ghost use Rattle.xs_words.specs.Inputs.{all_pairs, check_work, document_in, files_work};
 ghost use Rattle.xs_words.specs.Inputs.{has_distinct_names, is_document, load_work, named};
 ghost use Rattle.xs_words.specs.Inputs.{pair_of, pairs_of, parameter_in, run_work, work_of};
-ghost use Rattle.xs_words.specs.Results.{Gives, HasAdded, borrowed, pair_told, work_told};
+ghost use Rattle.xs_words.specs.Results.{Gives, HasAdded, borrowed, pair_reported, work_reported};
 
 use crate::choice::{Job, WordsEnd};
 use indexmap::IndexSet;
@@ -34,7 +34,7 @@ pub fn work_of(
     is_check: bool,
     inputs: &[&str],
 ) -> Result<Work, WordsEnd>
-    ensures { Gives work_told (work_of load is_check (borrowed inputs.now)) result }
+    ensures { Gives work_reported (work_of load is_check (borrowed inputs.now)) result }
 {
     match load {
         Some(rows) => load_work(alloc, rows, is_check, inputs),
@@ -50,7 +50,7 @@ pub fn work_of(
 
 /// A made input: no word stands beside it, and nothing is only checked.
 fn load_work(alloc: Global, rows: u32, is_check: bool, inputs: &[&str]) -> Result<Work, WordsEnd>
-    ensures { Gives work_told (load_work rows is_check (borrowed inputs.now)) result }
+    ensures { Gives work_reported (load_work rows is_check (borrowed inputs.now)) result }
 {
     if is_check {
         return Err(WordsEnd::Usage);
@@ -66,7 +66,7 @@ fn load_work(alloc: Global, rows: u32, is_check: bool, inputs: &[&str]) -> Resul
 
 /// A check of one stylesheet.
 fn check_work(alloc: Global, inputs: &[&str]) -> Result<Work, WordsEnd>
-    ensures { Gives work_told (check_work (borrowed inputs.now)) result }
+    ensures { Gives work_reported (check_work (borrowed inputs.now)) result }
 {
     match inputs {
         [sheet] => Ok(Work {
@@ -81,7 +81,7 @@ fn check_work(alloc: Global, inputs: &[&str]) -> Result<Work, WordsEnd>
 
 /// A run of a stylesheet on a source.
 fn run_work(alloc: Global, inputs: &[&str]) -> Result<Work, WordsEnd>
-    ensures { Gives work_told (run_work (borrowed inputs.now)) result }
+    ensures { Gives work_reported (run_work (borrowed inputs.now)) result }
 {
     match inputs {
         [sheet, source, rest @ ..] => files_work(alloc, sheet, source, rest),
@@ -92,7 +92,7 @@ fn run_work(alloc: Global, inputs: &[&str]) -> Result<Work, WordsEnd>
 /// A run of a stylesheet on a source, with the parameters and documents of the other inputs.
 #[tactic(auto, unfolding(crate::specs::Inputs::files_work), using(crate::proofs::InputLemmas::parameters_borrowed, crate::proofs::InputLemmas::documents_borrowed))]
 fn files_work(alloc: Global, sheet: &str, source: &str, rest: &[&str]) -> Result<Work, WordsEnd>
-    ensures { Gives work_told (files_work sheet.now source.now (borrowed rest.now)) result }
+    ensures { Gives work_reported (files_work sheet.now source.now (borrowed rest.now)) result }
 {
     let parameters = parameters_in(alloc, rest)?;
     let documents = documents_in(alloc, rest)?;
@@ -234,7 +234,7 @@ fn owned_pair(alloc: Global, word: &str) -> Result<(TextBuf, TextBuf), WordsEnd>
 /// The name and the text of `name=text`; `None` where the word is none.
 #[tactic(auto, unfolding(crate::specs::Inputs::pair_of))]
 fn pair_of(word: &str) -> Option<(&str, &str)>
-    ensures { option_map pair_told result ≡ pair_of word.now }
+    ensures { option_map pair_reported result ≡ pair_of word.now }
 {
     match word.split_once('=') {
         Some((name, text)) => named(name, text),
@@ -244,7 +244,7 @@ fn pair_of(word: &str) -> Option<(&str, &str)>
 
 /// A name and a text, where the name is an NCName.
 fn named<'a>(name: &'a str, text: &'a str) -> Option<(&'a str, &'a str)>
-    ensures { option_map pair_told result ≡ named name.now text.now }
+    ensures { option_map pair_reported result ≡ named name.now text.now }
 {
     if is_ncname(name) {
         Some((name, text))

@@ -4,7 +4,7 @@ ghost use Rattle.std.specs.Prelude.{◌≡◌, ◌≢◌, IfOk};
 ghost use Rattle.clap.specs.Words.{kind_of};
 ghost use Rattle.clap.specs.declared.error.kind.ErrorKind.TheVariants.{OutOfMemory};
 ghost use Rattle.xs_words.specs.Options.{choice_of_rows, options_of, AreWithin};
-ghost use Rattle.xs_words.specs.Results.{Gives, texts, told};
+ghost use Rattle.xs_words.specs.Results.{Gives, texts, reported};
 ghost use Rattle.xs_words.specs.Rows.{rows_in};
 ghost use Rattle.xs_words.specs.declared.choice.WordsEnd.TheVariants.{NoMemory, Usage};
 
@@ -25,8 +25,8 @@ pub const USAGE: &str = "\
 /// What the words after the program's name ask for. `Usage` exactly where `clap` refuses the words,
 /// or they break the rule on options and inputs.
 pub fn read_words(alloc: Global, words: &[String]) -> Result<Options, WordsEnd>
-    ensures gives { Gives told (options_of (texts words.now)) result }
-    ensures within { IfOk result (λ options. AreWithin (told options)) }
+    ensures gives { Gives reported (options_of (texts words.now)) result }
+    ensures within { IfOk result (λ options. AreWithin (reported options)) }
 {
     let command = command_line(alloc)?;
     match command.try_get_matches_from(words) {
@@ -49,7 +49,7 @@ fn refusal(error: &Error) -> WordsEnd
 /// The options that matches give.
 #[tactic(auto, unfolding(crate::specs::Options::choice_of_rows))]
 fn options_in(alloc: Global, matches: &ArgMatches<'_>) -> Result<Options, WordsEnd>
-    ensures { Gives told (choice_of_rows (rows_in matches.now)) result }
+    ensures { Gives reported (choice_of_rows (rows_in matches.now)) result }
 {
     let limits = limits_of(matches)?;
     let sizes = sizes_of(matches)?;

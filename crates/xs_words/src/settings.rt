@@ -3,7 +3,7 @@
 ghost use Rattle.std.specs.Prelude.{◌≤◌, IfOk, IfSome};
 ghost use Rattle.xs_words.specs.Options.{limits_of, number_of, sizes_of};
 ghost use Rattle.xs_words.specs.Results.{Gives};
-ghost use Rattle.xs_words.specs.Rows.{limits_told, rows_in, sizes_told};
+ghost use Rattle.xs_words.specs.Rows.{limits_reported, rows_in, sizes_reported};
 
 use crate::choice::WordsEnd;
 use crate::numbers::number_up_to;
@@ -38,7 +38,7 @@ pub struct Limits {
     pub budget: u64,
     /// The greatest number of events.
     pub max_events: Option<u64>,
-    /// The tick whose place is told.
+    /// The tick whose place is reported.
     pub at: Option<u64>,
 }
 
@@ -56,7 +56,7 @@ pub struct Sizes {
 /// The limits that the words give.
 #[tactic(auto, unfolding(crate::specs::Options::limits_of))]
 pub fn limits_of(matches: &ArgMatches<'_>) -> Result<Limits, WordsEnd>
-    ensures { Gives limits_told (limits_of (rows_in matches.now)) result }
+    ensures { Gives limits_reported (limits_of (rows_in matches.now)) result }
 {
     let budget = number_of(matches, "budget", MOST_BUDGET)?;
     let max_events = number_of(matches, "max-events", MOST_BUDGET)?;
@@ -71,7 +71,7 @@ pub fn limits_of(matches: &ArgMatches<'_>) -> Result<Limits, WordsEnd>
 /// The sizes that the words give.
 #[tactic(auto, unfolding(crate::specs::Options::sizes_of))]
 pub fn sizes_of(matches: &ArgMatches<'_>) -> Result<Sizes, WordsEnd>
-    ensures { Gives sizes_told (sizes_of (rows_in matches.now)) result }
+    ensures { Gives sizes_reported (sizes_of (rows_in matches.now)) result }
 {
     let workers = size_of(matches, "workers", MOST_WORKERS)?;
     let grain = size_of(matches, "grain", MOST_GRAIN)?;

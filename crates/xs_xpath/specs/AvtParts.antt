@@ -1,4 +1,4 @@
--- What the parts of a value template stand for in the code.
+-- What the parts of a value template represent in the code.
 use Rattle.std.specs.Prelude.{List, map}
 use Rattle.xs_xpath.specs.declared.avt.AvtPart.{AvtPart}
 use Rattle.xs_xpath.specs.declared.avt.AvtPart.TheVariants.{Fixed, Computed}

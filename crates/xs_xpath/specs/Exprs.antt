@@ -1,4 +1,4 @@
--- The tree that an expression of the code stands for.
+-- The tree that an expression of the code represents.
 use Rattle.std.specs.Prelude.{List, map}
 use Rattle.xs_xpath.specs.declared.expr.Expr.{Expr}
 use Rattle.xs_xpath.specs.declared.expr.Expr.TheOpen.{Expr-F, Number, Literal, Variable, Call, Negative, Chain, Group, Here, Root, Step, Descend, Filter, Path}

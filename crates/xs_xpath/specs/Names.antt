@@ -1,4 +1,4 @@
--- What names stand for (XPath 1.0, 1 and 2.3): in a scope, the pairs of prefix and URI that are in force.
+-- What names represent (XPath 1.0, 1 and 2.3): in a scope, the pairs of prefix and URI that are in force.
 use Rattle.std.specs.Prelude.{ℕ, Bool, true, false, ◌||◌, if◌then◌else◌, List, [], ◌∷◌, Option, Some, None, is_some, codes}
 use Rattle.std.specs.Option.{unwrap_or}
 use Rattle.std.specs.Str.{bytes_eq}
@@ -16,7 +16,7 @@ uri_in [] prefix = None
 uri_in (pair ∷ pairs) prefix = if bytes_eq pair.0 prefix then Some pair.1 else uri_in pairs prefix
 
 -- The URI of a name with this prefix: without a prefix a name is in no namespace (2.3). A prefix that is not bound, which is a
--- fault, stands for no namespace here.
+-- fault, represents no namespace here.
 abbrev pub uri_of : List (List ℕ × List ℕ) → List ℕ → List ℕ
 uri_of pairs prefix = if is_nil prefix then [] else unwrap_or (uri_in pairs prefix) []
 

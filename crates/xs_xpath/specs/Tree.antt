@@ -27,7 +27,7 @@ mutual
     root : Tree
     -- a step by its axis, its node test and its predicates
     step : Axis → NodeTest → Trees → Tree
-    -- the step that `//` stands for, which is `descendant-or-self::node()`
+    -- the step that `//` represents, which is `descendant-or-self::node()`
     descend : Tree
     -- an expression with predicates
     filter : Tree → Trees → Tree

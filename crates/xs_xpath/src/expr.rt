@@ -27,7 +27,7 @@ pub enum Expr {
     Root,
     /// A step by its axis, its node test and its predicates.
     Step(Axis, NodeTest, Vec<Expr>),
-    /// The step that `//` stands for, `descendant-or-self::node()`.
+    /// The step that `//` represents, `descendant-or-self::node()`.
     Descend,
     /// An expression, and predicates.
     Filter(Box<Expr>, Vec<Expr>),

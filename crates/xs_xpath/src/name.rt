@@ -1,4 +1,4 @@
-//! What names stand for: functions, node tests and variables.
+//! What names represent: functions, node tests and variables.
 
 use xs_text::TextBuf;
 

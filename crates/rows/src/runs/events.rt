@@ -4,9 +4,9 @@ use crate::answer::{Answer, text_of};
 use crate::fields::cut_prefix;
 use std::alloc::{AllocError, Global};
 use xs_result::{build, write_text};
+use xs_result_lines::{PyxStream, write_pyx};
 use xs_text::{Characters, TextBuf};
 use xs_trace::event::{Event, Fragment, Label};
-use xs_result_lines::{PyxStream, write_pyx};
 
 /// The name with this URI, prefix and local part.
 pub(crate) fn label_of(

@@ -8,8 +8,8 @@ use xs_elements::attributes::{Need, attributes, form_named};
 use xs_elements::contents::{Before, Content, content_of, holds_text, may_stand};
 use xs_elements::forms::{Form, forbids_current, forbids_key, forbids_variables, sees_locals};
 use xs_elements::kept::{is_kept, own_space};
-use xs_elements::rows::{Row, is_document_element, is_top_level, row_of};
 use xs_elements::scope::{expanded, has, own_name, scope_at, uri_of, value_of};
+use xs_elements::tags::{Tag, is_document_element, is_top_level, tag_of};
 use xs_elements::value::{is_bad, is_unbound, is_unsupported};
 use xs_elements::words::first_word;
 use xs_tree::{Kind, Node, Tree};
@@ -34,9 +34,9 @@ fn put_element(out: &Answer, tree: &Tree, node: Node)
     requires { node < length tree.now }
 {
     out.put(tree.local(node));
-    out.put(match row_of(tree, node) {
-        Row::Unknown => " unknown",
-        Row::Other => " literal",
+    out.put(match tag_of(tree, node) {
+        Tag::Unknown => " unknown",
+        Tag::Other => " literal",
         _ => " of XSLT",
     });
     out.put_if(is_document_element(tree, node), ", document element");
@@ -61,7 +61,7 @@ fn put_text(out: &Answer, tree: &Tree, node: Node)
         return;
     };
     let preserves = own_space(tree, parent) == Some(true);
-    let kept = is_kept(tree, node, row_of(tree, parent), preserves);
+    let kept = is_kept(tree, node, tag_of(tree, parent), preserves);
     out.put(if kept { "text kept" } else { "text stripped" });
 }
 
@@ -103,12 +103,12 @@ pub(crate) fn put_contents(out: &Answer, tree: &Tree) {
     for place in 0..tree.len() as u32 {
         let node = Node::at(place);
         if is_document_element(tree, node) {
-            content = content_of(row_of(tree, node), has(tree, node, "select"));
+            content = content_of(tag_of(tree, node), has(tree, node, "select"));
             out.put(name_of(CONTENTS, &content));
             out.put_if(holds_text(content), " with text");
             out.put_byte(b':');
         } else if tree.kind(node) == Kind::Element {
-            let row = row_of(tree, node);
+            let row = tag_of(tree, node);
             let has_namespace = !tree.uri(node).is_empty();
             let stands = may_stand(content, row, has_namespace, before);
             out.put(if stands { " yes" } else { " no" });
@@ -139,7 +139,7 @@ const FORMS: &[(&str, Form)] = &[
 ];
 
 /// Whether an element has to have an attribute with this local part.
-fn is_required(row: Row, local: &str) -> bool {
+fn is_required(row: Tag, local: &str) -> bool {
     for attribute in attributes(row) {
         if attribute.0 == local {
             return attribute.1 == Need::Required;
@@ -153,7 +153,7 @@ fn put_value(out: &Answer, tree: &Tree, element: Node, attribute: Node)
     requires element { element < length tree.now }
     requires attribute { attribute < length tree.now }
 {
-    let row = row_of(tree, element);
+    let row = tag_of(tree, element);
     let local = tree.local(attribute);
     let Some(form) = form_named(row, local) else {
         return;

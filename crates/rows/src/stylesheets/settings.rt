@@ -6,7 +6,7 @@ use crate::lookups::value_named;
 use crate::repeats::put_repeated;
 use std::alloc::Global;
 
-/// How often names are replaced in a text: in its form, in its fields, and in what these stand for.
+/// How often names are replaced in a text: in its form, in its fields, and in what these represent.
 const ROUNDS: u32 = 3;
 
 /// What rows are.

@@ -1,4 +1,4 @@
--- An attempt at a global, told to a recorder.
+-- An attempt at a global, reported to a recorder.
 use Rattle.std.specs.Prelude.{◌≡◌, ℕ, [], List, Option, Result, Ok, Err}
 use Rattle.xs_sheet.specs.declared.body.Binding.{Binding}
 use Rattle.xs_sheet.specs.declared.body.Body.{Body}
@@ -41,6 +41,6 @@ StopsAt (Err (halt.Over t)) q = ⊥
 StopsAt (Err halt.NoMemory) q = ⊥
 
 abbrev pub IsAttemptOf : Result Value Halt → List (List ℕ) → ℕ → Attempt → Type 0
-IsAttemptOf told says ticks (attempt.Done v s n) = (told ≡ Ok v) × ((s.items ≡ says) × (n ≡ ticks))
-IsAttemptOf told says ticks (attempt.Stopped s n q) = StopsAt told q × ((s.items ≡ says) × (n ≡ ticks))
-IsAttemptOf told says ticks (attempt.Needs g p s n) = (told ≡ Err (halt.Needs g p)) × ((s.items ≡ says) × (n ≡ ticks))
+IsAttemptOf reported says ticks (attempt.Done v s n) = (reported ≡ Ok v) × ((s.items ≡ says) × (n ≡ ticks))
+IsAttemptOf reported says ticks (attempt.Stopped s n q) = StopsAt reported q × ((s.items ≡ says) × (n ≡ ticks))
+IsAttemptOf reported says ticks (attempt.Needs g p s n) = (reported ≡ Err (halt.Needs g p)) × ((s.items ≡ says) × (n ≡ ticks))

@@ -27,7 +27,7 @@ use Rattle.xs_trace.specs.Label.{Label}
 use Rattle.xs_trace.specs.Mark.{Hole, Trace, ◌⨾◌}
 use Rattle.xs_trace.specs.Run.{Run, give, limited, ◌>>=◌}
 use Rattle.xs_trace.specs.State.{State, opened, popped, top}
-use Rattle.xs_trace.specs.Play.{Step, Goes, Told, and_then, goes, ticked, put, said_at, stops, play}
+use Rattle.xs_trace.specs.Play.{Step, Goes, Reported, and_then, goes, ticked, put, said_at, stops, play}
 use Rattle.xs_trace.specs.declared.event.Event.TheVariants.{Start, End}
 use Rattle.xs_trace.specs.declared.fault.Fault.TheVariants as fault
 use Rattle.xs_trace.specs.declared.item.Site.{Site}
@@ -152,17 +152,17 @@ bound c = more 1 c
 abbrev pub after : InstrKind → Scope → Scope
 after kind c = more (slots_taken kind) c
 
--- ---- what works stand for
+-- ---- what works represent
 abbrev pub filled : Trace Task → List Value → State Task → Step Task (List Value)
 filled x vs s = and_then (play x s) (λ u m. Goes vs m)
 
-abbrev pub ended : Bool → Site → State Task → Told Task
+abbrev pub ended : Bool → Site → State Task → Reported Task
 ended terminate p s = if terminate then stops (Fault fault.Terminated p) s else goes s
 
-abbrev pub message_steps : Site → Bool → List ℕ → State Task → Told Task
+abbrev pub message_steps : Site → Bool → List ℕ → State Task → Reported Task
 message_steps p terminate text s = and_then (said_at p text s) (λ u m. ended terminate p m)
 
-abbrev pub message_ended : Site → Bool → State Task → Told Task
+abbrev pub message_ended : Site → Bool → State Task → Reported Task
 message_ended p terminate s = message_steps p terminate (fragment_text (top s.captures)) (popped s)
 
 abbrev pub fragment_at : State Task → Value
@@ -190,13 +190,13 @@ work_steps w (take_value left all us callee p c) vs s =
 work_steps w (params_left bs ps body c) vs s =
     filled (params_trace bs ps w (calls_at w c.focus) c.focus (last c.seen vs) (body_trace body w (calls_at w c.focus) c.focus)) (without c.own vs) s
 
--- what is told of all that is still to be done
-abbrev pub stack_steps : World → List Work → List Value → State Task → Told Task
+-- what is said of all that is still to be done
+abbrev pub stack_steps : World → List Work → List Value → State Task → Reported Task
 stack_steps w [] vs s = goes s
 stack_steps w (x ∷ xs) vs s = and_then (work_steps w x vs s) (λ us m. stack_steps w xs us m)
 
-abbrev pub stack_told : Evaluation → State Task → Told Task
-stack_told t s = stack_steps t.world t.works t.slots s
+abbrev pub stack_reported : Evaluation → State Task → Reported Task
+stack_reported t s = stack_steps t.world t.works t.slots s
 
 -- what is left of a body, if anything is: instructions, or values of its own, which its end takes away
 abbrev pub end_works : Scope → List Work
@@ -217,7 +217,7 @@ slots_are vs t = record { world = t.world; works = t.works; slots = vs }
 abbrev pub filled_up : List Value → Evaluation → Evaluation
 filled_up vs t = slots_are (t.slots ++ vs) t
 
-abbrev pub stays : Told Task → Evaluation → Step Task Evaluation
+abbrev pub stays : Reported Task → Evaluation → Step Task Evaluation
 stays g t = and_then g (λ u m. Goes t m)
 
 -- ---- attribute sets
@@ -353,10 +353,10 @@ abbrev pub loop_begun : Body → Site → Scope → List ℕ → Evaluation → 
 loop_begun body p c ns t s =
     run_begun (body_job body (last c.seen t.slots)) p (looping c.focus ns) ns (each_left body p (over (looping c.focus ns) c) 1 ns) t s
 
-abbrev pub value_steps : ScopedExpr → Site → Scope → Evaluation → State Task → Told Task
+abbrev pub value_steps : ScopedExpr → Site → Scope → Evaluation → State Task → Reported Task
 value_steps select p c t s = and_then (limited p (text_run t.world select c.focus (last c.seen t.slots)) s) (λ text m. chars_steps p text m)
 
-abbrev pub number_steps : NumberDecl → Site → Scope → Evaluation → State Task → Told Task
+abbrev pub number_steps : NumberDecl → Site → Scope → Evaluation → State Task → Reported Task
 number_steps decl p c t s = and_then (limited p (number_run t.world decl c.focus (last c.seen t.slots)) s) (λ text m. chars_steps p text m)
 
 abbrev pub choice_begun : Choice → Site → Scope → Evaluation → State Task → Step Task Evaluation
@@ -450,7 +450,7 @@ copy_begun sets body p c t s =
     and_then (events_steps p (shallow_copy t.world.tree c.focus.node) s)
     (λ u m. Goes (copied_begun (at t.world.tree c.focus.node).kind sets body c t) m)
 
-abbrev pub copy_of_steps : ScopedExpr → Site → Scope → Evaluation → State Task → Told Task
+abbrev pub copy_of_steps : ScopedExpr → Site → Scope → Evaluation → State Task → Reported Task
 copy_of_steps select p c t s =
     and_then (limited p (value_run t.world select c.focus (last c.seen t.slots)) s) (λ v m. copy_steps t.world.tree p v m)
 

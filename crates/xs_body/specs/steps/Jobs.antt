@@ -1,4 +1,4 @@
--- What the code's jobs stand for.
+-- What the code's jobs represent.
 use Rattle.std.specs.Prelude.{List, []}
 use Rattle.std.specs.Arc.{arc_value}
 use Rattle.xs_value.specs.declared.value.Value.{Value}

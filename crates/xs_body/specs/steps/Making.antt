@@ -14,7 +14,7 @@ use Rattle.xs_trace.specs.Cut.{Fault}
 use Rattle.xs_trace.specs.Label.{Label}
 use Rattle.xs_trace.specs.Run.{limited}
 use Rattle.xs_trace.specs.State.{State, popped, top}
-use Rattle.xs_trace.specs.Play.{Step, Goes, Told, and_then, goes, put_at, stops, ticked_by}
+use Rattle.xs_trace.specs.Play.{Step, Goes, Reported, and_then, goes, put_at, stops, ticked_by}
 use Rattle.xs_trace.specs.declared.event.Event.{Event}
 use Rattle.xs_trace.specs.declared.event.Event.TheVariants.{Start, Space, Attr, Chars, End, Comment, Pi}
 use Rattle.xs_trace.specs.declared.fault.Fault.{Fault as RunFault}
@@ -40,45 +40,45 @@ use Rattle.xs_body_spec.specs.World.{World, template_run}
 use Rattle.xs_body_spec.specs.Making.{aliased, attribute_label, content_text, element_label, made_events}
 
 -- ---- events
-abbrev pub chars_steps : {H : Type 0} → Site → List ℕ → State H → Told H
+abbrev pub chars_steps : {H : Type 0} → Site → List ℕ → State H → Reported H
 chars_steps p t s = if length t == 0 then goes s else put_at p (Chars t) s
 
 -- a namespace node, and an attribute, where they are put
 abbrev pub is_unbound : (uri : List ℕ) → Bool
 is_unbound uri = is_empty uri || bytes_eq uri xml_uri
 
-abbrev pub space_steps : {H : Type 0} → Site → (prefix uri : List ℕ) → State H → Told H
+abbrev pub space_steps : {H : Type 0} → Site → (prefix uri : List ℕ) → State H → Reported H
 space_steps p prefix uri s = if is_unbound uri then goes s else put_at p (Space prefix uri) s
 
 abbrev pub is_declaration : Label → Bool
 is_declaration name = is_empty name.uri && bytes_eq name.local (codes "xmlns")
 
-abbrev pub named_steps : {H : Type 0} → Site → Label → List ℕ → State H → Told H
+abbrev pub named_steps : {H : Type 0} → Site → Label → List ℕ → State H → Reported H
 named_steps p name value s = if is_declaration name then goes s else put_at p (Attr name value) s
 
 -- ---- literal elements
-abbrev pub spaces_steps : {H : Type 0} → List Alias → Site → List (List ℕ × List ℕ) → State H → Told H
+abbrev pub spaces_steps : {H : Type 0} → List Alias → Site → List (List ℕ × List ℕ) → State H → Reported H
 spaces_steps aliases p [] s = goes s
 spaces_steps aliases p (x ∷ xs) s = and_then (space_steps p x.0 (aliased aliases x.1) s) (λ u m. spaces_steps aliases p xs m)
 
-abbrev pub literal_steps : {H : Type 0} → List Alias → Site → LiteralStart → State H → Told H
+abbrev pub literal_steps : {H : Type 0} → List Alias → Site → LiteralStart → State H → Reported H
 literal_steps aliases p start s =
     and_then (put_at p (Start (element_label aliases start.name)) s) (λ u m. spaces_steps aliases p start.spaces m)
 
-abbrev pub attribute_steps : {H : Type 0} → World → Site → Focus → List Value → Label × ValueTemplate → State H → Told H
+abbrev pub attribute_steps : {H : Type 0} → World → Site → Focus → List Value → Label × ValueTemplate → State H → Reported H
 attribute_steps w p f vs a s =
     and_then (limited p (template_run w a.1 f vs) s) (λ text m. named_steps p (attribute_label w.sheet.aliases a.0) text m)
 
-abbrev pub attributes_steps : {H : Type 0} → World → Site → Focus → List Value → List (Label × ValueTemplate) → State H → Told H
+abbrev pub attributes_steps : {H : Type 0} → World → Site → Focus → List Value → List (Label × ValueTemplate) → State H → Reported H
 attributes_steps w p f vs [] s = goes s
 attributes_steps w p f vs (a ∷ xs) s = and_then (attribute_steps w p f vs a s) (λ u m. attributes_steps w p f vs xs m)
 
 -- ---- copies
-abbrev pub nodes_steps : {H : Type 0} → List Record → Site → List ℕ → State H → Told H
+abbrev pub nodes_steps : {H : Type 0} → List Record → Site → List ℕ → State H → Reported H
 nodes_steps rs p [] s = goes s
 nodes_steps rs p (n ∷ ns) s = and_then (events_steps p (deep_copy rs n) s) (λ u m. nodes_steps rs p ns m)
 
-abbrev pub copy_steps : {H : Type 0} → List Record → Site → Value → State H → Told H
+abbrev pub copy_steps : {H : Type 0} → List Record → Site → Value → State H → Reported H
 copy_steps rs p (value.Nodes ns) s = nodes_steps rs p ns s
 copy_steps rs p (value.Piece events) s = events_steps p events s
 copy_steps rs p (value.Chars text) s = chars_steps p text s
@@ -164,12 +164,12 @@ text_ticked p text s = and_then (ticked_by (length text / 256) p s) (λ u m. Goe
 abbrev pub made_at : {H : Type 0} → Made → State H → List Event
 made_at m s = made_events m (content_text (top s.captures))
 
-abbrev pub made_steps : {H : Type 0} → Made → List ℕ → Site → State H → Told H
+abbrev pub made_steps : {H : Type 0} → Made → List ℕ → Site → State H → Reported H
 made_steps (Attribute name) text p s = named_steps p name text s
 made_steps made.Comment text p s = put_at p (Comment (comment_text text)) s
 made_steps (Instruction target) text p s = put_at p (Pi target (instruction_text text)) s
 
-abbrev pub made_ended : {H : Type 0} → Made → Site → State H → Told H
+abbrev pub made_ended : {H : Type 0} → Made → Site → State H → Reported H
 made_ended m p s = made_steps m (content_text (top s.captures)) p (popped s)
 
 -- the text that an event adds, where so many elements are open, and how many are open after it

@@ -1,7 +1,7 @@
 -- A run that is left to tasks, node by node.
 use Rattle.std.specs.Prelude.{ℕ, ◌-◌, ◌==◌, ◌++◌, List, length, map, if◌then◌else◌}
 use Rattle.xs_trace.specs.Mark.{Hole}
-use Rattle.xs_trace.specs.Play.{Step, Goes, Told, play}
+use Rattle.xs_trace.specs.Play.{Step, Goes, Reported, play}
 use Rattle.xs_trace.specs.State.{State, shown}
 use Rattle.xs_body.specs.declared.tasks.Sharing as code
 use Rattle.xs_body_spec.specs.Tasks.{Task, with_node, task_behind, shared}
@@ -27,6 +27,6 @@ with_nodes t ns = record { job = t.job; site = t.site; focus = t.focus; first = 
 abbrev pub filled : Share → List ℕ → Share
 filled z ns = record { task = with_nodes z.task ns; room = z.room - length ns }
 
--- what is told of the nodes that are left
-abbrev pub shares : (grain : ℕ) → Share → List ℕ → State Task → Told Task
+-- what is said of the nodes that are left
+abbrev pub shares : (grain : ℕ) → Share → List ℕ → State Task → Reported Task
 shares grain z ns s = play (map Hole (shared grain z.room z.task ns)) s

@@ -20,11 +20,11 @@ use Rattle.xs_build.specs.DocumentTree.{is_prefix, is_well_named}
 use Rattle.xs_build.specs.Namespaces.{Bindings, is_empty, is_ncname, named, uri_of, QName, uri_in, element_name, attribute_name, declared_prefix, xml_uri}
 use Rattle.xs_build.specs.steps.Lines.{same_name}
 use Rattle.xs_build.specs.Nodes.{element, attribute, space, spaces}
-use Rattle.xs_build.proofs.WellFormedLemmas.OwnNodeLemmas.{has_local, own_spaces, own_attributes, stands_for, is_default, is_unnamed, same_names, is_scoped}
+use Rattle.xs_build.proofs.WellFormedLemmas.OwnNodeLemmas.{has_local, own_spaces, own_attributes, represents, is_default, is_unnamed, same_names, is_scoped}
 use Rattle.xs_build.proofs.WellFormedLemmas.OwnNodeLemmas.{is_named, IsWhole}
 use Rattle.xs_build.proofs.WellFormedLemmas.ScopeLemmas.{IsAllowed, IsScope, IsWritten, has_key, key_later, keys_sorted, found_among, none_default, none_empty}
 
--- the namespace nodes stand for the bindings
+-- the namespace nodes represent the bindings
 locals_spaces : (p : ℕ) (scope : Bindings) → map name_local (spaces p scope) ≡ keys_of scope
 locals_spaces p [] = refl
 locals_spaces p (b ∷ scope) = ap (λ (ks : List (List ℕ)). b.0 ∷ ks) (locals_spaces p scope)
@@ -34,8 +34,8 @@ any_spaces f p [] = refl
 any_spaces f p (b ∷ scope) = ap (λ x. f (space p b) || x) (any_spaces f p scope)
 
 stands_found : (p : ℕ) (scope : Bindings) (prefix uri : List ℕ) → lookup (is_at (order_of_texts prefix)) scope ≡ Some uri
-    → list_any (stands_for prefix uri) (spaces p scope) ≡ true
-stands_found p scope prefix uri h = any_spaces (stands_for prefix uri) p scope ∙ found_among scope prefix uri h
+    → list_any (represents prefix uri) (spaces p scope) ≡ true
+stands_found p scope prefix uri h = any_spaces (represents prefix uri) p scope ∙ found_among scope prefix uri h
 
 or_true : (a : Bool) → (a || true) ≡ true
 or_true true = refl
@@ -45,7 +45,7 @@ or_true false = refl
 plain_named : (p : ℕ) (scope : Bindings) (local : List ℕ) (parent : ℕ) (o : Option (List ℕ)) → lookup (is_at (order_of_texts [])) scope ≡ o →
     is_named (spaces p scope) (element (record { uri = unwrap_or o []; local = local; prefix = [] }) parent) ≡ true
 plain_named p scope local parent (Some uri) is = rw (stands_found p scope [] uri is) refl
-plain_named p scope local parent None is = rw (any_spaces is_default p scope ∙ none_default scope is) (or_true (list_any (stands_for [] []) (spaces p scope)))
+plain_named p scope local parent None is = rw (any_spaces is_default p scope ∙ none_default scope is) (or_true (list_any (represents [] []) (spaces p scope)))
 
 prefix_named : (p : ℕ) (scope : Bindings) (b : ℕ) (prefix local : List ℕ) (parent : ℕ) (full : Name) (o : Option (List ℕ))
     → lookup (is_at (order_of_texts (b ∷ prefix))) scope ≡ o →
@@ -129,12 +129,12 @@ whole_added e ss attrs a w scoped apart = record {
 }
 
 -- the names of a start tag
-abbrev pub told : Record → Expanded
-told a = record { uri = name_uri a; local = name_local a }
+abbrev pub reported : Record → Expanded
+reported a = record { uri = name_uri a; local = name_local a }
 
 -- a name that none of the start tag has is that of none of these attributes
 abbrev pub Tagged : List Record → List Expanded → Type 0
-Tagged attrs seen = (x : Expanded) → list_any (same_name x) seen ≡ false → AllByRecursion (λ a. same_name x (told a) ≡ false) attrs
+Tagged attrs seen = (x : Expanded) → list_any (same_name x) seen ≡ false → AllByRecursion (λ a. same_name x (reported a) ≡ false) attrs
 
 or_false : (a b : Bool) → (a || b) ≡ false → (a ≡ false) × (b ≡ false)
 or_false true b h = absurd (let no : true ≡ false = h in cc)
@@ -153,9 +153,9 @@ tagged_none = λ x h. tt
 pub tagged_more : (attrs : List Record) (seen : List Expanded) (y : Expanded) → Tagged attrs seen → Tagged attrs (seen ++ y ∷ [])
 tagged_more attrs seen y t = λ x h. t x (any_front (same_name x) seen y h).0
 
-pub tagged_added : (attrs : List Record) (seen : List Expanded) (a : Record) → Tagged attrs seen → Tagged (attrs ++ a ∷ []) (seen ++ told a ∷ [])
-tagged_added attrs seen a t = λ x h. all_added (λ b. same_name x (told b) ≡ false) attrs a (t x (any_front (same_name x) seen (told a) h).0)
-    (any_front (same_name x) seen (told a) h).1
+pub tagged_added : (attrs : List Record) (seen : List Expanded) (a : Record) → Tagged attrs seen → Tagged (attrs ++ a ∷ []) (seen ++ reported a ∷ [])
+tagged_added attrs seen a t = λ x h. all_added (λ b. same_name x (reported b) ≡ false) attrs a (t x (any_front (same_name x) seen (reported a) h).0)
+    (any_front (same_name x) seen (reported a) h).1
 
 bytes_flip : (a b : List ℕ) → bytes_eq a b ≡ bytes_eq b a
 bytes_flip a b =
@@ -167,10 +167,10 @@ bytes_flip a b =
       ]
     ]
 
-names_flip : (a b : Record) → same_names a b ≡ same_name (told b) (told a)
+names_flip : (a b : Record) → same_names a b ≡ same_name (reported b) (reported a)
 names_flip a b = rw (bytes_flip (name_uri a) (name_uri b), bytes_flip (name_local a) (name_local b)) refl
 
-pub all_flipped : (attrs : List Record) (a : Record) → AllByRecursion (λ x. same_name (told a) (told x) ≡ false) attrs
+pub all_flipped : (attrs : List Record) (a : Record) → AllByRecursion (λ x. same_name (reported a) (reported x) ≡ false) attrs
     → AllByRecursion (λ x. same_names x a ≡ false) attrs
 all_flipped [] a h = tt
 all_flipped (x ∷ attrs) a h = (names_flip x a ∙ h.0, all_flipped attrs a h.1)

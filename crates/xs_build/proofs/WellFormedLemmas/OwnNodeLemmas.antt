@@ -28,8 +28,8 @@ own_spaces n rs = filter (owns_space n) rs
 abbrev pub own_attributes : ℕ → List Record → List Record
 own_attributes n rs = filter (owns_attribute n) rs
 
-abbrev pub stands_for : List ℕ → List ℕ → Record → Bool
-stands_for prefix uri r = bytes_eq (name_local r) prefix && bytes_eq r.text uri
+abbrev pub represents : List ℕ → List ℕ → Record → Bool
+represents prefix uri r = bytes_eq (name_local r) prefix && bytes_eq r.text uri
 
 abbrev pub is_default : Record → Bool
 is_default r = is_empty (name_local r)
@@ -44,18 +44,18 @@ same_names a b = bytes_eq (name_uri a) (name_uri b) && bytes_eq (name_local a) (
 abbrev pub is_scoped : List Record → Record → Bool
 is_scoped ss a =
     if is_empty (name_prefix a) then is_empty (name_uri a) && not (bytes_eq (name_local a) (codes "xmlns"))
-    else list_any (stands_for (name_prefix a) (name_uri a)) ss
+    else list_any (represents (name_prefix a) (name_uri a)) ss
 
 -- an element beside these namespace nodes
 abbrev pub is_named : List Record → Record → Bool
 is_named ss e =
-    list_any (stands_for (name_prefix e) (name_uri e)) ss
+    list_any (represents (name_prefix e) (name_uri e)) ss
     || is_empty (name_prefix e) && is_empty (name_uri e) && not (list_any is_default ss)
 
 -- what IsElement says, of an element, its namespace nodes and its attributes
 pub record IsWhole (e : Record) (ss : List Record) (attrs : List Record) : Type 0 where
   pub order : IsStrictlySortedBy order_of_texts (map name_local ss)
-  pub xml : list_any (stands_for (codes "xml") xml_uri) ss ≡ true
+  pub xml : list_any (represents (codes "xml") xml_uri) ss ≡ true
   pub full : list_any is_unnamed ss ≡ false
   pub scope : is_named ss e ≡ true
   pub distinct : IsDistinct same_names attrs
@@ -124,15 +124,15 @@ map_owned f t rs = map_mapped (at rs) f (filter (λ k. t (at rs k)) (places rs))
 pub spaces_whole : (rs : List Record) (n : ℕ) (attrs : List Record) → IsWhole (at rs n) (own_spaces n rs) attrs → HasSpaces rs n
 spaces_whole rs n attrs w = record {
   order = subst (IsStrictlySortedBy order_of_texts) (sym (map_owned name_local (owns_space n) rs)) w.order;
-  xml = any_owned (stands_for (codes "xml") xml_uri) (owns_space n) rs ∙ w.xml;
+  xml = any_owned (represents (codes "xml") xml_uri) (owns_space n) rs ∙ w.xml;
   full = any_owned is_unnamed (owns_space n) rs ∙ w.full;
 }
 
 pub scope_whole : (rs : List Record) (n : ℕ) (attrs : List Record) → IsWhole (at rs n) (own_spaces n rs) attrs → is_element_in_scope rs n ≡ true
 scope_whole rs n attrs w =
     ap (λ b. b || is_empty (prefix_at rs n) && is_empty (uri_at rs n) && not (has_default rs n))
-    (any_owned (stands_for (prefix_at rs n) (uri_at rs n)) (owns_space n) rs)
-    ∙ ap (λ b. list_any (stands_for (prefix_at rs n) (uri_at rs n)) (own_spaces n rs) || is_empty (prefix_at rs n) && is_empty (uri_at rs n) && not b)
+    (any_owned (represents (prefix_at rs n) (uri_at rs n)) (owns_space n) rs)
+    ∙ ap (λ b. list_any (represents (prefix_at rs n) (uri_at rs n)) (own_spaces n rs) || is_empty (prefix_at rs n) && is_empty (uri_at rs n) && not b)
     (any_owned is_default (owns_space n) rs)
     ∙ w.scope
 
@@ -142,7 +142,7 @@ distinct_whole rs n ss w = distinct_mapped (at rs) same_names (attributes rs n) 
 scoped_at : (rs : List Record) (n k : ℕ) → not (is_attribute_in_scope rs n k) ≡ not (is_scoped (own_spaces n rs) (at rs k))
 scoped_at rs n k =
     ap (λ b. not (if is_empty (prefix_at rs k) then is_empty (uri_at rs k) && not (bytes_eq (local_at rs k) (codes "xmlns")) else b))
-    (any_owned (stands_for (prefix_at rs k) (uri_at rs k)) (owns_space n) rs)
+    (any_owned (represents (prefix_at rs k) (uri_at rs k)) (owns_space n) rs)
 
 pub attributes_whole : (rs : List Record) (n : ℕ) → IsWhole (at rs n) (own_spaces n rs) (own_attributes n rs)
     → list_any (λ k. not (is_attribute_in_scope rs n k)) (attributes rs n) ≡ false

@@ -197,7 +197,7 @@ abbrev pub put_before : List Record → ℕ → Outcome → Outcome
 put_before nodes line (tree more lines) = tree (nodes ++ more) (map (λ _. line) nodes ++ lines)
 put_before nodes line (refused number at) = refused number at
 
--- one line, and what the others stand for behind it
+-- one line, and what the others represent behind it
 abbrev pub and_then : ℕ → Step → (Context → Outcome) → Outcome
 and_then line (bad number) rest = refused number line
 and_then line (gives nodes c) rest = put_before nodes line (rest c)
@@ -209,7 +209,7 @@ at_end c last =
     else if not (is_empty c.around) then refused truncated last
     else tree [] []
 
--- what the lines from this number on stand for, in a context
+-- what the lines from this number on represent, in a context
 unfoldable pub meaning : Context → ℕ → List Row → Outcome
 meaning c line [] = at_end c (line - 1)
 meaning c line (row ∷ rows) = and_then line (row_step c line row rows) (λ next. meaning next (line + 1) rows)

@@ -22,11 +22,11 @@ abbrev pub behind : List Record → List ℕ → Outcome → Outcome
 behind records lines (tree nodes more) = tree (records ++ nodes) (lines ++ more)
 behind records lines (refused number line) = refused number line
 
--- what was read and these lines stand for
+-- what was read and these lines represent
 unfoldable pub left : State → List Row → Outcome
 left s rows = behind (with_text_node s.records (innermost s.around) (going_on s.text (text_ahead rows))) s.lines (meaning (context s) s.line rows)
 
--- what was read stands for by itself
+-- what was read represents by itself
 unfoldable pub concluded : State → Outcome
 concluded s = behind (with_text_node s.records (innermost s.around) s.text) s.lines (at_end (context s) (s.line - 1))
 

@@ -19,7 +19,7 @@ use Rattle.xs_build.specs.Nodes.{element, spaces, text_node}
 use Rattle.xs_text.specs.WhiteSpace.{is_blank}
 
 pub record State : Type 0 where
-  pub records : List Record  -- the nodes, but for the text before the next line
+  pub records : List Record  -- the nodes, except the text before the next line
   pub lines : List ℕ  -- the line of each node, also of the text before the next line
   pub text : List ℕ  -- the text before the next line, which is no node yet; empty: none
   pub around : List Opened  -- the open elements, the innermost first

@@ -1,4 +1,4 @@
--- What declarations that were read stand for.
+-- What declarations that were read represent.
 use Rattle.std.specs.Prelude.{List, map, Vec}
 use Rattle.std.specs.declared.alloc.Global.{Global}
 use Rattle.xs_build.specs.declared.scope.Declared.{Declared}

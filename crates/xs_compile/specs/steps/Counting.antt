@@ -2,13 +2,13 @@
 use Rattle.std.specs.Prelude.{ℕ, ◌&&◌, nat_lt, Bool, List, Option, Some, None, if◌then◌else◌}
 use Rattle.std.specs.Option.{option_or}
 use Rattle.xs_elements.specs.Nodes.{Name}
-use Rattle.xs_elements.specs.Rows.{is_template}
+use Rattle.xs_elements.specs.Tags.{is_template}
 use Rattle.xs_modules.specs.Numbering.{ModuleData}
 use Rattle.xs_structure.specs.Modules.{Place, precedence_at}
 use Rattle.xs_structure.specs.Order.{declares}
 use Rattle.xs_compile.specs.declared.counted.Kind.{Kind}
 use Rattle.xs_compile.specs.Counted.{is_counted, named}
-use Rattle.xs_structure.specs.Parts.{name_at, row_at}
+use Rattle.xs_structure.specs.Parts.{name_at, tag_at}
 use Rattle.xs_compile.specs.Tables.{kind_test}
 
 -- the first module has the higher precedence
@@ -22,7 +22,7 @@ counts_for ms (Some other) p = Some (if behind ms other.0 p.0 then other else p)
 
 -- the name of an element, if it is of a kind
 abbrev pub name_of : List ModuleData → Kind → Place → Option Name
-name_of ms kind p = if kind_test kind (row_at ms p) then name_at ms p else None
+name_of ms kind p = if kind_test kind (tag_at ms p) then name_at ms p else None
 
 -- the number of a name, with this one where a test holds, unless it has one already
 abbrev pub numbered_as : Bool → Option ℕ → ℕ → Option ℕ

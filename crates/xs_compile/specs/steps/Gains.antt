@@ -12,7 +12,7 @@ abbrev pub Gains : {E : Type 0} → Result InstrKind E → Site → (before afte
 Gains (Ok kind) site before after = after ≡ before ++ (record { site = site; kind = kind }) ∷ []
 Gains (Err e) site before after = ⊥
 
--- the one that a place stands for
+-- the one that a place represents
 pub record GainsInstr (s : Source) (p : Place) (before after : List Instr) : Type 0 where
   pub instr : Instr
   pub grown : after ≡ before ++ instr ∷ []

@@ -5,11 +5,11 @@ use Rattle.xs_modules.specs.Numbering.{ModuleData}
 use Rattle.xs_sheet.specs.declared.declarations.Method.{Method}
 use Rattle.xs_structure.specs.Modules.{Place, precedence_at}
 use Rattle.xs_compile.specs.Output.{is_output, method_named}
-use Rattle.xs_structure.specs.Parts.{row_at, value_at}
+use Rattle.xs_structure.specs.Parts.{tag_at, value_at}
 
 -- the method that an element says, if it is an `xsl:output` that says one
 abbrev pub said_method : List ModuleData → Place → Option Method
-said_method ms p = if is_output (row_at ms p) then option_map method_named (value_at ms p (codes "method")) else None
+said_method ms p = if is_output (tag_at ms p) then option_map method_named (value_at ms p (codes "method")) else None
 
 -- of the method that counts so far, with its precedence, and of one more the one that counts
 abbrev pub of_two : ℕ → Option (ℕ × Method) → Method → Option (ℕ × Method)

@@ -5,16 +5,16 @@ use Rattle.xs_compile.specs.declared.compiler.Compiler.{Compiler}
 use Rattle.xs_compile.specs.declared.parts.Part.{Part}
 use Rattle.xs_compile.specs.Bodies.{Source}
 use Rattle.xs_compile.specs.Counted.{global_number, template_number}
-use Rattle.xs_structure.specs.Parts.{row_at}
+use Rattle.xs_structure.specs.Parts.{tag_at}
 use Rattle.xs_compile.specs.Tables.{number_in}
 use Rattle.xs_compile.specs.Modes.{HaveModes, modes_in, modes_of}
-use Rattle.xs_compile.specs.steps.Rows.{is_body_row, part_row}
+use Rattle.xs_compile.specs.steps.Tags.{is_body_tag, part_tag}
 use Rattle.xs_structure.specs.Standing.{standing_of}
 use Rattle.xs_compile.specs.steps.Tables.{HasLocals}
 use Rattle.xs_structure.specs.Scopes.{scopes_in, scopes_of}
 use Rattle.xs_structure.specs.Places.{IsIn}
 use Rattle.xs_elements.specs.Reading.{is_seen}
-use Rattle.xs_elements.specs.Rows.{is_top_level}
+use Rattle.xs_elements.specs.Tags.{is_top_level}
 use Rattle.xs_modules.specs.Numbering.{ModuleData}
 use Rattle.xs_modules.specs.Results.{modules_data}
 use Rattle.xs_modules.specs.Sound.{IsSound}
@@ -49,7 +49,7 @@ pub record IsReady (c : Compiler) (p : Place) : Type 0 where
 -- as an instruction
 pub record IsInstruction (c : Compiler) (p : Place) : Type 0 where
   pub ready : IsReady c p
-  pub row : is_body_row (row_at (modules_of c) p) ≡ true
+  pub tag : is_body_tag (tag_at (modules_of c) p) ≡ true
   pub inner : is_top_level (records_at (modules_of c) p.0) p.1 ≡ false
 
 -- as an instruction in the body of an element, or as a part of one
@@ -60,7 +60,7 @@ pub record IsInBody (c : Compiler) (inside p : Place) : Type 0 where
 
 pub record IsPartOf (c : Compiler) (inside : Place) (part : Part) (p : Place) : Type 0 where
   pub ready : IsReady c p
-  pub row : row_at (modules_of c) p ≡ part_row part
+  pub tag : tag_at (modules_of c) p ≡ part_tag part
   pub «module» : p.0 ≡ inside.0
   pub parent : (at (records_at (modules_of c) inside.0) p.1).parent ≡ Some inside.1
   pub behind : inside.1 < p.1

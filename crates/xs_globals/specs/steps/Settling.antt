@@ -17,11 +17,11 @@ use Rattle.xs_globals.specs.declared.settled.Turn.TheVariants as turn
 abbrev pub table_of : code.Table → Table
 table_of t = record { values = t.values.items; says = t.says.items; ticks = t.ticks; thrown = t.thrown }
 
--- those of which an attempt was begun are marked: of the globals without a value, those under attempt
-abbrev pub IsMarked : List Bool → (under : List ℕ) → List (Option Value) → Type 0
-IsMarked begun under values = (h : ℕ) → slice_get values h ≡ Some None → slice_get begun h ≡ Some (is_under under h)
+-- those of which an attempt was begun are flagged: of the globals without a value, those under attempt
+abbrev pub IsFlagged : List Bool → (under : List ℕ) → List (Option Value) → Type 0
+IsFlagged begun under values = (h : ℕ) → slice_get values h ≡ Some None → slice_get begun h ≡ Some (is_under under h)
 
--- how many are not marked
+-- how many are not flagged
 abbrev pub unmarked : Bool → ℕ
 unmarked true = 0
 unmarked false = 1
@@ -30,7 +30,7 @@ abbrev pub left_over : List Bool → ℕ
 left_over begun = sum_by unmarked begun
 
 -- What holds of a table between attempts: its values are in the tree, the ticks within the budget, and no more attempts were thrown
--- away than globals are marked.
+-- away than globals are flagged.
 pub record IsGoing (w : World) (budget : ℕ) (begun : List Bool) (t : Table) : Type 0 where
   pub values : All (IsInIf w.tree) t.values
   pub within : t.ticks ≤ budget
@@ -70,7 +70,7 @@ Unwinds w budget (g ∷ gs) t r =
 pub record IsUnderWay (w : World) (budget : ℕ) (g : ℕ) (first : Table) (begun : List Bool) (under : List ℕ) (t : Table) : Type 0 where
   pub settles : (r : Settled) → Unwinds w budget under t r → Settles w budget [] g first r
   pub going : IsGoing w budget begun t
-  pub marked : IsMarked begun under t.values
+  pub flagged : IsFlagged begun under t.values
 
 -- a turn leaves it under way, with less to be done than so much; or the run has ended
 abbrev pub GoesOn : World → (budget : ℕ) → (g : ℕ) → Table → List Bool → List ℕ → Table → (most : ℕ) → Option Spot → Type 0

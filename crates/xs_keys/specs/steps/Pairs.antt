@@ -88,9 +88,9 @@ decls_in members = map (λ m. m.now) members
 
 -- tables of the nodes that match each declaration
 abbrev pub AreMarked : List Record → List KeyDecl → List (Vec Bool Global) → Type 0
-AreMarked rs ds marks =
-    (length marks ≡ length ds)
-    × ((k : ℕ) (d : KeyDecl) (t : Vec Bool Global) → k < length ds → IsMatchTable [] rs (get_or ds k d).pattern (get_or marks k t).items)
+AreMarked rs ds flags =
+    (length flags ≡ length ds)
+    × ((k : ℕ) (d : KeyDecl) (t : Vec Bool Global) → k < length ds → IsMatchTable [] rs (get_or ds k d).pattern (get_or flags k t).items)
 
 -- what was gathered from one place to another
 pub record IsBetween (rs : List Record) (ds : List KeyDecl) (start end : ℕ) (g : Gathered) : Type 0 where

@@ -6,4 +6,4 @@ use Rattle.xs_trace.specs.declared.event.Event.{Event}
 
 -- without limits
 abbrev pub listed : {H : Type 0} → List Event → State H
-listed es = record { told = Untimed (map Put es); captures = []; at = None; room = None; left = None; shared = alone }
+listed es = record { reported = Untimed (map Put es); captures = []; at = None; room = None; left = None; shared = alone }

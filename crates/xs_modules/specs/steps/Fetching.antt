@@ -7,7 +7,7 @@ use Rattle.xs_modules.specs.declared.document.Unread.{Unread}
 use Rattle.xs_modules.specs.declared.document.Unread.TheVariants.{Failed, Bad, NoMemory}
 use Rattle.xs_modules.specs.Reading.{Holds, module_limit}
 
--- a file of the library, where that tells its files, whose bytes stand for a document
+-- a file of the library, where that shows its files, whose bytes represent a document
 pub record HasDocument (files : Option Files) (name : List ℕ) (built : Built) : Type 0 where
   pub bytes : List ℕ
   pub holds : Holds files name bytes

@@ -1,4 +1,4 @@
--- The code's types as what they stand for.
+-- The code's types as what they represent.
 use Rattle.std.specs.Prelude.{List, [], map, None}
 use Rattle.xs_modules.specs.declared.precedence.Sheet.{Sheet as SheetStruct}
 use Rattle.xs_modules.specs.declared.precedence.Imports.{Imports as ImportsStruct}

@@ -3,7 +3,7 @@ use Rattle.std.specs.Prelude.{◌≡◌, ℕ, List, [], map, Option, Some, None,
 use Rattle.std.specs.declared.alloc.Global.{Global}
 use Rattle.xs_pattern.specs.MatchTables.{IsMatchTable}
 use Rattle.xs_numbering.specs.Counting.{any_number, is_alike, sibling_number}
-use Rattle.xs_numbering.specs.steps.Passes.{is_marked}
+use Rattle.xs_numbering.specs.steps.Passes.{is_flagged}
 use Rattle.xs_sheet.specs.declared.body.Level.{Level}
 use Rattle.xs_sheet.specs.declared.body.Level.TheVariants.{Single, Multiple, Any}
 use Rattle.xs_sheet.specs.declared.body.NumberDecl.{NumberDecl}
@@ -13,28 +13,28 @@ use Rattle.xs_value.specs.Tables.{Table}
 use Rattle.xs_number_tables.specs.declared.counter.Counter.{Counter}
 use Rattle.xs_pattern_spec.specs.Counted.{alike_any_number, alike_number}
 
--- the marks of the nodes that match `count`, where there is one
+-- the flags of the nodes that match `count`, where there is one
 abbrev pub AreCounts : List Table → List Record → Option ScopedPattern → Option (Vec Bool Global) → Type 0
 AreCounts keys rs None None = Unit {0}
-AreCounts keys rs None (Some marks) = ⊥
+AreCounts keys rs None (Some flags) = ⊥
 AreCounts keys rs (Some p) None = ⊥
-AreCounts keys rs (Some p) (Some marks) = IsMatchTable keys rs p marks.items
+AreCounts keys rs (Some p) (Some flags) = IsMatchTable keys rs p flags.items
 
 -- those of the nodes that match `from`; none without one
 abbrev pub AreFrom : List Table → List Record → Option ScopedPattern → List Bool → Type 0
-AreFrom keys rs None marks = marks ≡ []
-AreFrom keys rs (Some p) marks = IsMatchTable keys rs p marks
+AreFrom keys rs None flags = flags ≡ []
+AreFrom keys rs (Some p) flags = IsMatchTable keys rs p flags
 
--- a number for each node at a level, by marks, and among the nodes that are alike
+-- a number for each node at a level, by flags, and among the nodes that are alike
 abbrev pub NumbersBy : Level → (counts from : List Bool) → List Record → List ℕ → Type 0
-NumbersBy Single counts from rs numbers = numbers ≡ map (sibling_number (is_marked counts) rs) (places rs)
-NumbersBy Multiple counts from rs numbers = numbers ≡ map (sibling_number (is_marked counts) rs) (places rs)
-NumbersBy Any counts from rs numbers = numbers ≡ map (any_number (is_marked counts) (is_marked from) rs) (places rs)
+NumbersBy Single counts from rs numbers = numbers ≡ map (sibling_number (is_flagged counts) rs) (places rs)
+NumbersBy Multiple counts from rs numbers = numbers ≡ map (sibling_number (is_flagged counts) rs) (places rs)
+NumbersBy Any counts from rs numbers = numbers ≡ map (any_number (is_flagged counts) (is_flagged from) rs) (places rs)
 
 abbrev pub AlikeNumbers : Level → (from : List Bool) → List Record → List ℕ → Type 0
 AlikeNumbers Single from rs numbers = numbers ≡ map (alike_number rs) (places rs)
 AlikeNumbers Multiple from rs numbers = numbers ≡ map (alike_number rs) (places rs)
-AlikeNumbers Any from rs numbers = numbers ≡ map (alike_any_number (is_marked from) rs) (places rs)
+AlikeNumbers Any from rs numbers = numbers ≡ map (alike_any_number (is_flagged from) rs) (places rs)
 
 abbrev pub AreNumbers : Level → Option (Vec Bool Global) → (from : List Bool) → List Record → List ℕ → Type 0
 AreNumbers level None from rs numbers = AlikeNumbers level from rs numbers

@@ -5,9 +5,9 @@ use Rattle.xs_tree.specs.Kinds.{is_child_kind}
 use Rattle.xs_tree.specs.Record.{Record, is_child}
 use Rattle.xs_numbering.specs.Counting.{looked_at}
 
--- whether a table has a mark for a place
-abbrev pub is_marked : List Bool → ℕ → Bool
-is_marked marks n = get_or marks n false
+-- whether a table has a flag for a place
+abbrev pub is_flagged : List Bool → ℕ → Bool
+is_flagged flags n = get_or flags n false
 
 -- one more where a node is counted
 abbrev pub counted_on : Bool → ℕ → ℕ

@@ -1,4 +1,4 @@
--- What the parts and paths of the code stand for, and what its loops make of the parts that are left.
+-- What the parts and paths of the code represent, and what its loops make of the parts that are left.
 use Rattle.std.specs.Prelude.{ℕ, suc, List, Vec, [], ◌∷◌, ◌++◌, Option, map, reverse, if◌then◌else◌}
 use Rattle.std.specs.declared.alloc.Global.{Global}
 use Rattle.xs_xpath.specs.declared.expr.Expr.{Expr}
@@ -19,7 +19,7 @@ part_of (Predicate e) = predicate (tree_from e)
 abbrev pub parts_of : List Given → List Part
 parts_of = map part_of
 
--- the last of a list of the code is the first of the list that it stands for
+-- the last of a list of the code is the first of the list that it represents
 abbrev pub ahead_of : GivenAhead → Ahead
 ahead_of (Tail preds steps) = tail (trees_from (reverse preds.items)) (trees_from (reverse steps.items))
 ahead_of (Tested test preds steps) = tested test (trees_from (reverse preds.items)) (trees_from (reverse steps.items))

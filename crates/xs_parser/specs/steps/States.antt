@@ -1,4 +1,4 @@
--- What the states of the code stand for: the innermost open bracket is the last of its list.
+-- What the states of the code represent: the innermost open bracket is the last of its list.
 use Rattle.std.specs.Prelude.{Bool, true, false, map, reverse}
 use Rattle.xs_xpath.specs.Exprs.{trees_from}
 use Rattle.xs_xpath.specs.Tree.{Tree, here}

@@ -1,4 +1,4 @@
--- A builder as the state that it stands for.
+-- A builder as the state that it represents.
 use Rattle.xs_result.specs.declared.builder.Builder.{Builder}
 use Rattle.xs_result.specs.steps.Building.{State}
 

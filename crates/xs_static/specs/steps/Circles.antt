@@ -5,7 +5,7 @@ use Rattle.xs_static.specs.declared.circles.Place.{Place as CirclePlace}
 use Rattle.xs_static.specs.Circles.{Declared}
 use Rattle.xs_elements.specs.Nodes.{Name, own_name}
 use Rattle.xs_elements.specs.Reading.{is_seen}
-use Rattle.xs_elements.specs.Rows.{is_attribute_set, row_of}
+use Rattle.xs_elements.specs.Tags.{is_attribute_set, tag_of}
 use Rattle.xs_modules.specs.Numbering.{ModuleData}
 use Rattle.xs_static.specs.declared.fault.StaticFault.{StaticFault}
 use Rattle.xs_structure.specs.Modules.{Place, line_at, records_at}
@@ -22,7 +22,7 @@ declared_as rs line p None = []
 declared_as rs line p (Some name) = record { place = record { «module» = p.0; line = line }; name = name; sets = own_sets rs p.1 } ∷ []
 
 abbrev pub declaration_from : List Record → (line : ℕ) → Place → List Declared
-declaration_from rs line p = if is_attribute_set (row_of rs p.1) then declared_as rs line p (own_name rs p.1) else []
+declaration_from rs line p = if is_attribute_set (tag_of rs p.1) then declared_as rs line p (own_name rs p.1) else []
 
 abbrev pub declaration_at : List ModuleData → Place → List Declared
 declaration_at ms p = declaration_from (records_at ms p.0) (line_at ms p.0 p.1) p

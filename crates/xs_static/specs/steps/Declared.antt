@@ -4,9 +4,9 @@ use Rattle.std.specs.Borrow.{Bor}
 use Rattle.std.specs.List.{list_any}
 use Rattle.std.specs.Option.{option_map_or}
 use Rattle.xs_modules.specs.Numbering.{ModuleData}
-use Rattle.xs_elements.specs.declared.rows.Row.{Row}
+use Rattle.xs_elements.specs.declared.tags.Tag.{Tag}
 use Rattle.xs_elements.specs.Nodes.{Name, is_named, is_same_name, name_data, own_name}
-use Rattle.xs_elements.specs.Rows.{row_of, is_variable, is_template}
+use Rattle.xs_elements.specs.Tags.{tag_of, is_variable, is_template}
 use Rattle.xs_static.specs.declared.fault.StaticFault.{StaticFault}
 use Rattle.xs_static.specs.declared.names.Declared.{Declared}
 use Rattle.xs_static.specs.declared.names.Names.{Names}
@@ -27,11 +27,11 @@ pub record Noted (old new : Declared) (is_kind : Bool) (precedence : ℕ) (name 
       ≡ (((is_kind && is_named (uri, local) name) && precedence == rank) || is_ranked old.ranked.keys rank (uri, local))
 
 -- a declaration of this kind, name and precedence
-abbrev pub declares_at : (Row → Bool) → List ModuleData → ℕ → Name → Place → Bool
+abbrev pub declares_at : (Tag → Bool) → List ModuleData → ℕ → Name → Place → Bool
 declares_at kind ms rank name q = declares kind ms name q && precedence_at ms q.0 == rank
 
 -- the names of some elements of the top level of one kind
-pub record HasDeclared (kind : Row → Bool) (ms : List ModuleData) (done : List Place) (d : Declared) : Type 0 where
+pub record HasDeclared (kind : Tag → Bool) (ms : List ModuleData) (done : List Place) (d : Declared) : Type 0 where
   pub names : (uri local : List ℕ) → is_among d.names.keys (uri, local) ≡ list_any (declares kind ms (uri, local)) done
   pub ranked : (rank : ℕ) (uri local : List ℕ) → is_ranked d.ranked.keys rank (uri, local) ≡ list_any (declares_at kind ms rank (uri, local)) done
 
@@ -40,9 +40,9 @@ pub record AreDeclared (ms : List ModuleData) (done : List Place) (n : Names) : 
   pub templates : HasDeclared is_template ms done n.templates
 
 -- an element of this kind has the name and the precedence of one of these
-abbrev pub repeats : (Row → Bool) → List ModuleData → List Place → Place → Bool
+abbrev pub repeats : (Tag → Bool) → List ModuleData → List Place → Place → Bool
 repeats kind ms done p =
-    kind (row_of (records_at ms p.0) p.1)
+    kind (tag_of (records_at ms p.0) p.1)
     && option_map_or (λ name. list_any (declares_again kind ms p name) done) (own_name (records_at ms p.0) p.1) false
 
 -- the faults of the next element of the top level, behind these

@@ -9,7 +9,7 @@ use Rattle.xs_elements.specs.Forms.{sees_locals}
 use Rattle.xs_static.specs.Faults.{is_bad_root, lacks_some}
 use Rattle.xs_elements.specs.Nodes.{scope_at}
 use Rattle.xs_elements.specs.Reading.{form_of, has_read_attributes, reading_of}
-use Rattle.xs_elements.specs.Rows.{is_decimal_format, row_of}
+use Rattle.xs_elements.specs.Tags.{is_decimal_format, tag_of}
 use Rattle.xs_elements.specs.Values.{is_bad, is_unbound, is_unsupported}
 use Rattle.xs_elements.specs.WhiteSpace.{preserves}
 use Rattle.xs_static.specs.steps.InForce.{visible_in}
@@ -23,7 +23,7 @@ records_of e = e.tree.now
 -- what the walk keeps of an element is so
 pub record IsAt (e : Element) : Type 0 where
   pub within : e.node < length (records_of e)
-  pub row : e.row ≡ row_of (records_of e) e.node
+  pub tag : e.tag ≡ tag_of (records_of e) e.node
   pub reading : e.reading ≡ reading_of (records_of e) e.node
   pub preserves : e.preserves ≡ preserves (records_of e) e.node
 
@@ -31,7 +31,7 @@ abbrev pub if_holds : Bool → ℕ → Option ℕ
 if_holds holds number = if holds then Some number else None
 
 abbrev pub own_least : List Record → ℕ → Option ℕ
-own_least rs n = lesser (if_holds (is_bad_root rs n) 32) (if_holds (is_decimal_format (row_of rs n)) 33)
+own_least rs n = lesser (if_holds (is_bad_root rs n) 32) (if_holds (is_decimal_format (tag_of rs n)) 33)
 
 -- the variables that are visible to a value of a form
 abbrev pub seen_by : Visible → Form → Visible

@@ -6,7 +6,7 @@ use Rattle.xs_elements.specs.declared.forms.Form.{Form}
 use Rattle.xs_elements.specs.Forms.{sees_locals}
 use Rattle.xs_elements.specs.Nodes.{Name, own_name}
 use Rattle.xs_elements.specs.Reading.{is_seen}
-use Rattle.xs_elements.specs.Rows.{row_of, is_call_template}
+use Rattle.xs_elements.specs.Tags.{tag_of, is_call_template}
 use Rattle.xs_structure.specs.Bindings.{has_binding, shadows}
 use Rattle.xs_static.specs.declared.fault.StaticFault.{StaticFault}
 use Rattle.xs_static.specs.declared.names.Names.{Names}
@@ -30,7 +30,7 @@ abbrev pub known_at : Names → List Record → ℕ → Form → List ℕ → Li
 known_at names rs n form uri local = has_global names uri local || (sees_locals form && has_binding rs n (uri, local))
 
 abbrev pub calls_other : Names → List Record → ℕ → Bool
-calls_other names rs n = is_call_template (row_of rs n) && option_map_or (λ name. not (has_template names name)) (own_name rs n) false
+calls_other names rs n = is_call_template (tag_of rs n) && option_map_or (λ name. not (has_template names name)) (own_name rs n) false
 
 abbrev pub line_in : List ℕ → ℕ → ℕ
 line_in lines n = get_or lines n 0

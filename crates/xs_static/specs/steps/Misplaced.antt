@@ -1,7 +1,7 @@
 -- The nodes at which an element has faults of places, its own and those of its children.
 use Rattle.std.specs.Prelude.{ℕ, ◌&&◌, ◌||◌, not, Bool, List, [], ◌∷◌, ◌++◌, map, filter, get_or, if◌then◌else◌}
-use Rattle.xs_elements.specs.declared.rows.Row.{Row}
-use Rattle.xs_elements.specs.Rows.{row_of}
+use Rattle.xs_elements.specs.declared.tags.Tag.{Tag}
+use Rattle.xs_elements.specs.Tags.{tag_of}
 use Rattle.xs_static.specs.declared.fault.StaticFault.{StaticFault}
 use Rattle.xs_static.specs.Placing.{has_misplaced_text, lacks_branch, stands_in}
 use Rattle.xs_structure.specs.Parts.{is_content}
@@ -10,8 +10,8 @@ use Rattle.xs_tree.specs.Kinds.{is_element_kind}
 use Rattle.xs_tree.specs.Record.{Record, at, children}
 
 -- of some children those that are content, by their kinds
-abbrev pub rows_among : List Record → (inside : ℕ) → List ℕ → List Row
-rows_among rs inside ks = map (row_of rs) (filter (is_content rs inside) ks)
+abbrev pub tags_among : List Record → (inside : ℕ) → List ℕ → List Tag
+tags_among rs inside ks = map (tag_of rs) (filter (is_content rs inside) ks)
 
 -- a child is an element that may not stand there
 abbrev pub is_refused : List Record → (inside : ℕ) → ℕ → Bool

@@ -3,7 +3,7 @@ use Rattle.std.specs.Prelude.{◌≡◌, ◌≤◌, ℕ, ◌||◌, Bool, true, f
 use Rattle.std.specs.List.{list_any}
 use Rattle.xs_elements.specs.declared.forms.Form.{Form}
 use Rattle.xs_elements.specs.Nodes.{scope_at}
-use Rattle.xs_elements.specs.Rows.{is_decimal_format, row_of}
+use Rattle.xs_elements.specs.Tags.{is_decimal_format, tag_of}
 use Rattle.xs_elements.specs.Values.{is_bad, is_unbound, is_unsupported}
 use Rattle.xs_static.specs.Expressions.{expressions_of, has_parse_fault, has_unknown, is_forbidden_in}
 use Rattle.xs_static.specs.Faults.{Fault, bad_syntax, unknown_function, arg_count, bad_literal, too_nested, not_pattern, bad_root, unsupported, missing_attribute, unknown_attribute, bad_attribute, unbound_prefix, unknown_variable, forbidden, number_of, has_bad_value, has_unbound_prefix, has_unknown_attribute, holds_forbidden, is_bad_root, is_misspelled, lacks_attribute, some_value}
@@ -12,7 +12,7 @@ use Rattle.xs_tree.specs.Record.{Record}
 -- ---- by itself
 abbrev pub has_own : List Record → ℕ → Fault → Bool
 has_own rs n bad_root = is_bad_root rs n
-has_own rs n unsupported = is_decimal_format (row_of rs n)
+has_own rs n unsupported = is_decimal_format (tag_of rs n)
 has_own rs n _ = false
 
 -- ---- in a value of this form, where these variables are known

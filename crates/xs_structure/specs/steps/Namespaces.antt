@@ -4,7 +4,7 @@ use Rattle.std.specs.List.{list_any}
 use Rattle.std.specs.Option.{option_map_or}
 use Rattle.std.specs.Str.{bytes_eq}
 use Rattle.xs_elements.specs.Reading.{declares_extension, means_uri}
-use Rattle.xs_elements.specs.Rows.{xslt_uri}
+use Rattle.xs_elements.specs.Tags.{xslt_uri}
 use Rattle.xs_elements.specs.WhiteSpace.{words, xml_uri}
 use Rattle.xs_structure.specs.steps.Around.{any_around}
 use Rattle.xs_tree.specs.Record.{Record}

@@ -8,7 +8,7 @@ use Rattle.xs_num.specs.Number.{comparison_of}
 use Rattle.xs_num.specs.declared.number.Number.{Number}
 use Rattle.xs_num.specs.declared.number.Number.TheVariants.{Whole, NaN}
 use Rattle.xs_num.specs.declared.number.NumFault.{NumFault}
-use Rattle.xs_num.specs.declared.number.NumFault.TheVariants as due
+use Rattle.xs_num.specs.declared.number.NumFault.TheVariants as expected
 use Rattle.xs_tree.specs.Record.{Record, string_value}
 use Rattle.xs_value.specs.declared.comparison.CompareOp.{CompareOp}
 use Rattle.xs_value.specs.declared.comparison.ComparedAs.{ComparedAs}
@@ -40,7 +40,7 @@ beside (Piece events) = Boolean true
 abbrev pub node_numbers : List Record → List ℕ → List (Result Number NumFault)
 node_numbers rs ns = map (λ n. number_in (string_value rs n)) ns
 
--- the numbers that stand for a value
+-- the numbers that represent a value
 abbrev pub numbers_of : List Record → Value → List (Result Number NumFault)
 numbers_of rs (Boolean b) = []
 numbers_of rs (Numeral n) = Ok n ∷ []
@@ -69,21 +69,21 @@ Keeps (Piece events) (numbers.Nodes ks) = ⊥
 abbrev pub some_numbers : CompareOp → List (Result Number NumFault) → List (Result Number NumFault) → Result Bool NumFault
 some_numbers op xs ys = some (λ x. some (by_number op x) ys) xs
 
--- a number that stands for all of a list, on the right
-abbrev pub StandsFor : CompareOp → List (Result Number NumFault) → Number → Type 0
-StandsFor op ys e = (x : Result Number NumFault) → some (by_number op x) ys ≡ by_number op x (Ok e)
+-- a number that represents all of a list, on the right
+abbrev pub Represents : CompareOp → List (Result Number NumFault) → Number → Type 0
+Represents op ys e = (x : Result Number NumFault) → some (by_number op x) ys ≡ by_number op x (Ok e)
 
--- whether one number can stand for all
+-- whether one number can represent all
 abbrev pub CanStand : CompareOp → Numbers → Type 0
 CanStand op (numbers.One y) = Unit {0}
 CanStand op (numbers.Nodes ns) = is_ordering op ≡ true
 
--- What the comparison of one number with all of a list answers: none where it holds, else the number that stands for the list.
+-- What the comparison of one number with all of a list answers: none where it holds, else the number that represents the list.
 abbrev pub AnswersRow : CompareOp → Number → List (Result Number NumFault) → Type 0 → Result (Option Number) ValueFault → Type 0
 AnswersRow op x ys can (Ok None) = some (by_number op (Ok x)) ys ≡ Ok true
-AnswersRow op x ys can (Ok (Some e)) = (some (by_number op (Ok x)) ys ≡ Ok false) × (can → StandsFor op ys e)
-AnswersRow op x ys can (Err Fraction) = some (by_number op (Ok x)) ys ≡ Err due.Fraction
-AnswersRow op x ys can (Err Range) = some (by_number op (Ok x)) ys ≡ Err due.Range
+AnswersRow op x ys can (Ok (Some e)) = (some (by_number op (Ok x)) ys ≡ Ok false) × (can → Represents op ys e)
+AnswersRow op x ys can (Err Fraction) = some (by_number op (Ok x)) ys ≡ Err expected.Fraction
+AnswersRow op x ys can (Err Range) = some (by_number op (Ok x)) ys ≡ Err expected.Range
 AnswersRow op x ys can (Err NoMemory) = Unit {0}
 
 -- the nodes are in the tree
@@ -95,7 +95,7 @@ abbrev pub is_nan : Number → Bool
 is_nan (Whole z) = false
 is_nan NaN = true
 
--- Of two numbers the one that stands for both on the right of an operator that orders: the greater one for `<` and `<=`, the
+-- Of two numbers the one that represents both on the right of an operator that orders: the greater one for `<` and `<=`, the
 -- lesser for `>` and `>=`; the other one where one is NaN.
 abbrev pub further : CompareOp → Number → Number → Number
 further op x y = if is_nan x || holds op (comparison_of x y) then y else x
@@ -104,7 +104,7 @@ further op x y = if is_nan x || holds op (comparison_of x y) then y else x
 abbrev pub node_texts : List Record → List ℕ → List (List ℕ)
 node_texts rs ns = map (string_value rs) ns
 
--- the strings that stand for a value
+-- the strings that represent a value
 abbrev pub texts_of : List Record → Value → List (List ℕ)
 texts_of rs (Boolean b) = []
 texts_of rs (Numeral n) = []

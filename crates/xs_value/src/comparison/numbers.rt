@@ -22,7 +22,7 @@ use xs_num::number::{Num, NumFault, Number};
 use xs_num::reading::read_num;
 use xs_tree::{Node, Tree};
 
-// The numbers that stand for an operand.
+// The numbers that represent an operand.
 #[derive(Drop)]
 enum Numbers<'a> {
     // That of a value that is no node-set.
@@ -60,7 +60,7 @@ pub(super) fn compare_numbers(
     }
 }
 
-// The numbers that stand for a value that is no boolean.
+// The numbers that represent a value that is no boolean.
 fn numbers_of(alloc: Global, v: &Value) -> Result<Numbers<'_>, AllocError>
     requires { is_boolean v.now ≡ false }
     ensures { IfOk result (Keeps v.now) }
@@ -114,7 +114,7 @@ fn compare_one(
 }
 
 // Compares the numbers of nodes with those on the right, of which there are some. The first node is
-// compared with each of them; then one number stands for all.
+// compared with each of them; then one number represents all.
 fn compare_nodes(
     alloc: Global,
     tree: &Tree,
@@ -140,7 +140,7 @@ fn compare_nodes(
 }
 
 // Compares one number with those on the right: none where it holds for one of them, and else the
-// number that stands for all of them.
+// number that represents all of them.
 fn compare_row(
     alloc: Global,
     tree: &Tree,
@@ -189,7 +189,7 @@ fn compare_with_nodes(
     Ok(Some(furthest))
 }
 
-// Of two numbers the one that stands for both on the right of an operator that orders: the greater
+// Of two numbers the one that represents both on the right of an operator that orders: the greater
 // one for `<` and `<=`, the lesser for `>` and `>=`, and the other one where one is NaN.
 fn further(op: CompareOp, x: Num, y: Num) -> Num
     ensures { result ≡ further op x y }

@@ -21,7 +21,7 @@ use std::alloc::{AllocError, Global};
 use std::borrow::CowStr;
 use xs_tree::{Node, Tree};
 
-// The strings that stand for an operand.
+// The strings that represent an operand.
 #[derive(Drop)]
 enum Texts<'a> {
     // That of a value that is no node-set.
@@ -52,7 +52,7 @@ pub(super) fn compare_texts(
     }
 }
 
-// The strings that stand for a value that is neither a boolean nor a number.
+// The strings that represent a value that is neither a boolean nor a number.
 fn texts_of(alloc: Global, v: &Value) -> Result<Texts<'_>, AllocError>
     requires boolean { is_boolean v.now ≡ false }
     requires number { is_numeral v.now ≡ false }

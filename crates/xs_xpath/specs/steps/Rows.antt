@@ -1,11 +1,11 @@
--- Names and what they stand for, as the tables that the code goes through.
+-- Names and what they represent, as the tables that the code goes through.
 use Rattle.std.specs.Prelude.{ℕ, List, [], ◌∷◌, ◌++◌, Option, Some, None, codes, if◌then◌else◌}
 use Rattle.std.specs.Borrow.{Bor}
 use Rattle.std.specs.Str.{bytes_eq}
 use Rattle.xs_xpath.specs.declared.name.Function.{Function}
 use Rattle.xs_xpath.specs.declared.name.Function.TheVariants.{Last, Position, Count, Id, LocalName, NamespaceUri, Name, String, Concat, StartsWith, Contains, SubstringBefore, SubstringAfter, Substring, StringLength, NormalizeSpace, Translate, Boolean, Not, True, False, Lang, Number, Sum, Floor, Ceiling, Round, Key, Current, GenerateId, SystemProperty, ElementAvailable, FunctionAvailable, UnparsedEntityUri}
 
--- a name and what it stands for as the code has them
+-- a name and what it represents as the code has them
 abbrev pub row_data : {A : Type 0} → Bor (List ℕ) × A → List ℕ × A
 row_data row = (row.0.now, row.1)
 

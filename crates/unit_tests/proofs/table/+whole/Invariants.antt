@@ -15,7 +15,7 @@ decreases-record_whole_entry g l = 3 * (length l.rows.now - (l.task.now.row + 1)
 
 abbrev pub invariant-record_whole_entries-loop-entry : goal.invariant-record_whole_entries-loop-entry
 invariant-record_whole_entries-loop-entry g l = record {
-  told : play (entries_marks (λ n k. whole_marks l.rows (child_of l.task n k)) 0 l.entries) (g.R.Tally.state l.fn.recorder) ≡
+  reported : play (entries_marks (λ n k. whole_marks l.rows (child_of l.task n k)) 0 l.entries) (g.R.Tally.state l.fn.recorder) ≡
       play (entries_marks (λ n k. whole_marks l.rows (child_of l.task n k)) l.number (drop l.entry-index l.entries)) (g.R.Tally.state l.recorder);
   room : l.number ≤ l.entry-index;
   kept : g.R.Tally.kept l.recorder ≡ g.R.Tally.kept l.fn.recorder;

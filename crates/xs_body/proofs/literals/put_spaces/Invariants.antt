@@ -2,7 +2,7 @@ use Rattle.std.proofs.Common.{◌≡◌, length}
 use Rattle.xs_body.specs.steps.Making.{spaces_steps}
 use Rattle.xs_body.proofs.literals.put_spaces.Given as goal
 
--- what is told of all is told of those that are left
+-- what is said of all is said of those that are left
 abbrev pub invariant-loop-space : goal.invariant-loop-space
 invariant-loop-space g l =
     (spaces_steps l.aliases l.site l.spaces (g.R.Tally.state l.fn.recorder) ≡ spaces_steps l.aliases l.site l.left (g.R.Tally.state l.recorder)) ×

@@ -2,7 +2,7 @@ use Rattle.std.proofs.Common.{◌≡◌, length}
 use Rattle.xs_making.specs.Putting.{events_steps}
 use Rattle.xs_body.proofs.putting.put_events.Given as goal
 
--- what is told of all is told of those that are left
+-- what is said of all is said of those that are left
 abbrev pub invariant-loop-event : goal.invariant-loop-event
 invariant-loop-event g l =
     (events_steps l.site l.events (g.R.Tally.state l.fn.recorder) ≡ events_steps l.site l.left (g.R.Tally.state l.recorder)) ×

@@ -8,8 +8,8 @@ use Rattle.xs_body.specs.steps.Sharing.{share_of, share_step, shares}
 use Rattle.xs_body.proofs.SharingLemmas.{shares-filled, shares-next}
 use Rattle.xs_body.proofs.tasks.leave.Goals as goal
 
-pub returns-in_err-shared-clause-told : goal.returns-in_err-shared-clause-told
-returns-in_err-shared-clause-told g c =
+pub returns-in_err-shared-clause-reported : goal.returns-in_err-shared-clause-reported
+returns-in_err-shared-clause-reported g c =
     let p = err_from_is_err_and c.from_residual.result c.from_residual.ensures.1 in
     let e : c.loop-node.left.now ≡ (c.in-Some.node.now ∷ c.in-Some.behind.now) = search rules in
     let s = g.R.Tally.state c.loop-node.recorder in
@@ -17,7 +17,7 @@ returns-in_err-shared-clause-told g c =
     passes (λ y. share_of y) (λ x. x) _ (share_step c.args.grain z c.in-Some.node.now s) (λ y m. shares c.args.grain y c.in-Some.behind.now m)
     (g.R.Tally.state c.share.new.recorder) c.from_residual.result _ _
     (c.loop-node.invariant.0 ∙ ap (λ ns. shares c.args.grain z ns s) e ∙ shares-next c.args.grain z c.in-Some.node.now c.in-Some.behind.now s)
-    (λ y. play-grows (map Hole (shared c.args.grain y.room y.task c.in-Some.behind.now))) p.1 p.2 c.in_err-shared.ensures.told
+    (λ y. play-grows (map Hole (shared c.args.grain y.room y.task c.in-Some.behind.now))) p.1 p.2 c.in_err-shared.ensures.reported
 
 pub loop-node-preserved : goal.loop-node-preserved
 loop-node-preserved g c =
@@ -29,7 +29,7 @@ loop-node-preserved g c =
     let own = c.cut-parts.result.0.now in
     let others = c.cut-parts.result.1.now in (
       c.loop-node.invariant.0 ∙ ap (λ ns. shares c.args.grain z ns s) e ∙ shares-next c.args.grain z c.in-Some.node.now c.in-Some.behind.now s
-          ∙ ap (λ j. and_then j (λ y m. shares c.args.grain y c.in-Some.behind.now m)) c.in_ok-shared.ensures.told
+          ∙ ap (λ j. and_then j (λ y m. shares c.args.grain y c.in-Some.behind.now m)) c.in_ok-shared.ensures.reported
           ∙ ap (λ ns. shares c.args.grain y ns m) c.cut-parts.ensures.joined ∙ shares-filled c.args.grain y own others m c.cut-parts.ensures.few
           ∙ ap (λ q. shares c.args.grain q others m) (sym c.in_ok-sharing.ensures),
       c.share.ensures.kept ∙ c.loop-node.invariant.1,

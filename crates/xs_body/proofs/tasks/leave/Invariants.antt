@@ -5,7 +5,7 @@ use Rattle.xs_body_spec.specs.Tasks.{shared}
 use Rattle.xs_body.specs.steps.Sharing.{share_of, shares}
 use Rattle.xs_body.proofs.tasks.leave.Given as goal
 
--- the holes of the whole run are those of the nodes that are left, behind those that were told
+-- the holes of the whole run are those of the nodes that are left, behind those that were reported
 abbrev pub invariant-loop-node : goal.invariant-loop-node
 invariant-loop-node g l =
     (play (map Hole (shared l.grain l.grain l.fn.task l.fn.nodes)) (g.R.Tally.state l.fn.recorder)

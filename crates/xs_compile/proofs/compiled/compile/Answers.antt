@@ -6,7 +6,7 @@ use Rattle.xs_static.specs.Faults.{IsFirstFault}
 use Rattle.xs_structure.specs.Modules.{Place}
 use Rattle.xs_compile.proofs.compiled.compile.Goals as goal
 
--- what stands for modules without a fault is sound
+-- what represents modules without a fault is sound
 pub returns : goal.returns
 returns c =
     let ms = modules_data c.args.modules.now in

@@ -5,7 +5,7 @@ use Rattle.xs_compile.proofs.CountedLemmas.{drop_next}
 use Rattle.xs_compile.proofs.NumberLemmas.{number_from, number_more, or_none, position_is}
 use Rattle.xs_compile.specs.Counted.{globals, is_global}
 use Rattle.xs_compile.specs.Tables.{number_in}
-use Rattle.xs_elements.specs.Rows.{is_variable}
+use Rattle.xs_elements.specs.Tags.{is_variable}
 use Rattle.xs_modules.specs.Results.{modules_data}
 use Rattle.xs_structure.specs.Modules.{Place}
 use Rattle.xs_structure.specs.Order.{declares}

@@ -3,7 +3,7 @@ use Rattle.std.specs.Option.{option_or}
 use Rattle.xs_compile.proofs.NumberLemmas.{number_from}
 use Rattle.xs_compile.specs.Counted.{is_global}
 use Rattle.xs_compile.specs.Tables.{number_in}
-use Rattle.xs_elements.specs.Rows.{is_variable}
+use Rattle.xs_elements.specs.Tags.{is_variable}
 use Rattle.xs_modules.specs.Results.{modules_data}
 use Rattle.xs_structure.specs.Order.{declares}
 use Rattle.xs_compile.proofs.counted.global_numbers.Given as goal

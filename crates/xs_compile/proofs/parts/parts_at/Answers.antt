@@ -1,7 +1,7 @@
 use Rattle.std.proofs.Common.{◌∙◌, ◌++◌, ◌∷◌, [], ap, append_assoc, filter, sym, map, ℕ, List}
 use Rattle.xs_compile.proofs.PartLemmas.{part_more}
-use Rattle.xs_structure.specs.Parts.{row_at}
-use Rattle.xs_compile.specs.steps.Rows.{part_test}
+use Rattle.xs_structure.specs.Parts.{tag_at}
+use Rattle.xs_compile.specs.steps.Tags.{part_test}
 use Rattle.xs_modules.specs.Results.{modules_data}
 use Rattle.xs_structure.specs.Modules.{Place, records_at}
 use Rattle.xs_tree.proofs.WalkLemmas.{child-within}
@@ -25,9 +25,9 @@ loop-child-preserved c =
       tt,
       append_assoc c.loop-child.yielded (c.in-Some.child ∷ []) c.next.new.self
           ∙ ap (λ (xs : List ℕ). c.loop-child.yielded ++ xs) (sym c.in-Some.ensures.steps) ∙ c.loop-child.invariant.2,
-      part_more (λ q. part_test c.args.part (row_at ms q)) (place c.in-Some.child) (map place c.next.new.self) c.loop-child.places.items
+      part_more (λ q. part_test c.args.part (tag_at ms q)) (place c.in-Some.child) (map place c.next.new.self) c.loop-child.places.items
           c.push_part.new.out.items _
           c.in_ok-push_part.ensures
-          (ap (λ (ks : List ℕ). c.loop-child.places.items ++ filter (λ q. part_test c.args.part (row_at ms q)) (map place ks)) (sym c.in-Some.ensures.steps)
+          (ap (λ (ks : List ℕ). c.loop-child.places.items ++ filter (λ q. part_test c.args.part (tag_at ms q)) (map place ks)) (sym c.in-Some.ensures.steps)
           ∙ c.loop-child.invariant.3),
     )

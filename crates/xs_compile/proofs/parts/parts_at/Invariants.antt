@@ -1,6 +1,6 @@
 use Rattle.std.proofs.Common.{◌≡◌, ◌++◌, filter, map}
-use Rattle.xs_structure.specs.Parts.{children_with, row_at}
-use Rattle.xs_compile.specs.steps.Rows.{part_test}
+use Rattle.xs_structure.specs.Parts.{children_with, tag_at}
+use Rattle.xs_compile.specs.steps.Tags.{part_test}
 use Rattle.xs_modules.specs.Results.{modules_data}
 use Rattle.xs_structure.specs.Modules.{records_at}
 use Rattle.xs_tree.specs.Record.{children}
@@ -12,5 +12,5 @@ invariant-loop-child l =
     goal.iterator-loop-child.can_next l.child-iterator ×
     goal.iterator-loop-child.is_finite l.child-iterator ×
     (l.yielded ++ l.child-iterator ≡ children (records_at (modules_data l.modules) l.fn.«number») l.fn.n) ×
-    (l.places.items ++ filter (λ q. part_test l.fn.part (row_at (modules_data l.modules) q)) (map (λ k. (l.fn.«number», k)) l.child-iterator)
+    (l.places.items ++ filter (λ q. part_test l.fn.part (tag_at (modules_data l.modules) q)) (map (λ k. (l.fn.«number», k)) l.child-iterator)
     ≡ children_with (part_test l.fn.part) (modules_data l.modules) (l.fn.«number», l.fn.n))

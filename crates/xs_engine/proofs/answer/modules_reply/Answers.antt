@@ -1,7 +1,7 @@
 use Rattle.std.proofs.Common.{refl}
 use Rattle.xs_modules.specs.Results.{modules_data}
 use Rattle.xs_reply.specs.Reply.{job_data}
-use Rattle.xs_reply.proofs.DueLemmas.{checked_owed, run_owed, static_owed}
+use Rattle.xs_reply.proofs.ExpectedLemmas.{checked_owed, run_owed, static_owed}
 use Rattle.xs_reply.proofs.FetchLemmas.{sheet_asked_for, source_left}
 use Rattle.xs_result_laws.specs.Named.{IsNamedSheet}
 use Rattle.xs_engine.proofs.answer.modules_reply.Goals as goal
@@ -14,20 +14,20 @@ returns-in-Ok-clause-asks g c =
     (g.L.Library.failed c.args.library.now) (g.L.Library.failed c.run_reply.new.library) c.in-Some.is
     c.in-Ok.ensures.accepted c.run_reply.ensures.asks
 
-pub returns-in-Ok-clause-due : goal.returns-in-Ok-clause-due
-returns-in-Ok-clause-due g c =
+pub returns-in-Ok-clause-expected : goal.returns-in-Ok-clause-expected
+returns-in-Ok-clause-expected g c =
     run_owed (g.L.Library.files c.args.library.now) (job_data c.args.job.now) (modules_data c.args.modules.now)
     (g.L.Library.failed c.args.library.now) (g.L.Library.failed c.run_reply.new.library) c.run_reply.result
     (IsNamedSheet c.in-Ok.sheet) c.in-Ok.sheet _
     (c.sheets_are_named.ensures (modules_data c.args.modules.now) c.in-Ok.sheet c.requires.sound c.modules_are_trees.ensures c.in-Ok.ensures.stands)
-    c.in-Some.is c.in-Ok.ensures.accepted c.in-Ok.ensures.stands c.run_reply.ensures.due
+    c.in-Some.is c.in-Ok.ensures.accepted c.in-Ok.ensures.stands c.run_reply.ensures.expected
 
 -- A static fault, or out of memory.
 pub returns-in-Err-Refused-clause-asks : goal.returns-in-Err-Refused-clause-asks
 returns-in-Err-Refused-clause-asks g c = source_left _ _ _ _ _ _ _ refl refl
 
-pub returns-in-Err-Refused-clause-due : goal.returns-in-Err-Refused-clause-due
-returns-in-Err-Refused-clause-due g c =
+pub returns-in-Err-Refused-clause-expected : goal.returns-in-Err-Refused-clause-expected
+returns-in-Err-Refused-clause-expected g c =
     let first = rw c.in-Err-Refused.field-0-is at c.in-Err-Refused.ensures in
     static_owed (g.L.Library.files c.args.library.now) (job_data c.args.job.now) (modules_data c.args.modules.now)
     (g.L.Library.failed c.args.library.now) (g.L.Library.failed c.args.library.now) c.static_reply.result c.in-Err-Refused.fault refl first
@@ -40,7 +40,7 @@ returns-in-Err-NoMemory-clause-asks g c = source_left _ _ _ _ _ _ _ refl refl
 pub returns-in-None-clause-asks : goal.returns-in-None-clause-asks
 returns-in-None-clause-asks g c = source_left _ _ _ _ _ _ _ refl refl
 
-pub returns-in-None-clause-due : goal.returns-in-None-clause-due
-returns-in-None-clause-due g c =
+pub returns-in-None-clause-expected : goal.returns-in-None-clause-expected
+returns-in-None-clause-expected g c =
     checked_owed (g.L.Library.files c.args.library.now) (job_data c.args.job.now) (modules_data c.args.modules.now)
     (g.L.Library.failed c.args.library.now) (g.L.Library.failed c.args.library.now) c.check_reply.result c.in-None.is refl c.check_reply.ensures.answer

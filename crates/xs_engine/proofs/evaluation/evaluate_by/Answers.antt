@@ -1,6 +1,6 @@
 use mir.Syntax.{named}
 use Rattle.xs_making.specs.Laws.{AreWell}
-use Rattle.xs_globals.specs.Results.{told_in}
+use Rattle.xs_globals.specs.Results.{reported_in}
 use Rattle.xs_lookup.proofs.SyncLemmas.{finder_sync}
 use Rattle.xs_lookup.specs.Ready.{tables_in}
 use Rattle.xs_body_spec.specs.World.{ground}
@@ -16,7 +16,7 @@ use Rattle.xs_engine.proofs.evaluation.evaluate_by.Goals as goal
 pub returns-in-Some-clause-answer : goal.returns-in-Some-clause-answer
 returns-in-Some-clause-answer c =
     let w = ground c.args.sheet.now c.args.index.now c.args.tree.now (tables_in c.args.finder.now) in
-    ended_in_globals (job_data c.args.job.now) w (told_in c.in_ok-settled.settled) c.stopped_reply.result
+    ended_in_globals (job_data c.args.job.now) w (reported_in c.in_ok-settled.settled) c.stopped_reply.result
     (IsNamedSheet c.args.sheet.now × AreWell c.args.tree.now) c.in-Some.spot
     (ended_globals (job_data c.args.job.now) w c.in_ok-settled.settled (rw c.deref.ensures.value at c.in_ok-settled.ensures.settles)
     c.in-Some.spot c.in-Some.is)

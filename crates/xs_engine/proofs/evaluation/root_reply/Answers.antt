@@ -1,6 +1,6 @@
 use Rattle.std.proofs.Common.{◌∙◌, Some, ap, arith, refl, subst, sym}
 use Rattle.xs_body_spec.specs.Inside.{IsWorld}
-use Rattle.xs_globals.specs.Results.{told_in}
+use Rattle.xs_globals.specs.Results.{reported_in}
 use Rattle.xs_body_spec.specs.Globals.{with_globals}
 use Rattle.xs_body_spec.specs.World.{World, with_grain}
 use Rattle.xs_reply.specs.Reply.{job_data}
@@ -11,10 +11,10 @@ use Rattle.xs_engine.proofs.evaluation.root_reply.Goals as goal
 pub returns-clause-answer : goal.returns-clause-answer
 returns-clause-answer c =
     let grain = c.args.job.now.grain in
-    c.executed_reply.ensures.answer c.args.world.now (told_in c.args.settled.now) (ap (λ (w : World). w.sheet) c.world.view_is)
+    c.executed_reply.ensures.answer c.args.world.now (reported_in c.args.settled.now) (ap (λ (w : World). w.sheet) c.world.view_is)
     (sym c.deref-2.ensures.value) refl
     (all_settled (job_data c.args.job.now) c.args.world.now c.args.settled.now c.requires.settled c.requires.none)
-    (is_ran (job_data c.args.job.now) c.args.world.now (told_in c.args.settled.now) c.new-runner.result c.in_ok-root.root c.in_ok-executed.executed
+    (is_ran (job_data c.args.job.now) c.args.world.now (reported_in c.args.settled.now) c.new-runner.result c.in_ok-root.root c.in_ok-executed.executed
     c.requires.whole
     (c.new-runner.ensures ∙ ap (λ (w : World). with_grain (Some grain) (with_globals w c.deref.result.now)) c.world.view_is
     ∙ ap (λ vs. with_grain (Some grain) (with_globals c.args.world.now vs)) c.deref.ensures.value)

@@ -9,31 +9,32 @@ use Rattle.xs_engine.proofs.top.transform.Goals as goal
 -- There is a reply, and it was written.
 pub returns-in-Ok-clause-gives : goal.returns-in-Ok-clause-gives
 returns-in-Ok-clause-gives g c = λ _. (
-  answer_of c.in-Ok.reply c.in-Ok.ensures.due.document c.in-Ok.ensures.due.pieces,
-  c.in-Ok.ensures.due.answers,
+  answer_of c.in-Ok.reply c.in-Ok.ensures.expected.document c.in-Ok.ensures.expected.pieces,
+  c.in-Ok.ensures.expected.answers,
   gives (is_streamed (request_of (texts c.args.words.now))) (account_of c.report_of.result)
       (g.O.Sink.held c.args.out.now) (g.O.Sink.held c.deliver-status.new.out) (g.E.Sink.held c.args.err.now) (g.E.Sink.held c.deliver-status.new.err)
-      c.in-Ok.reply c.in-Ok.ensures.due.document c.in-Ok.ensures.due.pieces c.deliver-status.result c.report_of.ensures.status c.report_of.ensures.ticks
+      c.in-Ok.reply c.in-Ok.ensures.expected.document c.in-Ok.ensures.expected.pieces c.deliver-status.result c.report_of.ensures.status
+      c.report_of.ensures.ticks
       c.report_of.ensures.fault
-      (claimed c.in-Ok.reply c.in-Ok.ensures.due.document c.in-Ok.ensures.due.pieces (account_of c.report_of.result)
-      c.in-Ok.ensures.due.run c.report_of.ensures.pieces c.report_of.ensures.claims c.report_of.ensures.inline c.report_of.ensures.worked)
-      c.deliver-status.ensures.writes (c.in-Ok.ensures.due.reads tt),
+      (claimed c.in-Ok.reply c.in-Ok.ensures.expected.document c.in-Ok.ensures.expected.pieces (account_of c.report_of.result)
+      c.in-Ok.ensures.expected.run c.report_of.ensures.pieces c.report_of.ensures.claims c.report_of.ensures.inline c.report_of.ensures.worked)
+      c.deliver-status.ensures.writes (c.in-Ok.ensures.expected.reads tt),
 )
 
 pub returns-in-Ok-clause-only : goal.returns-in-Ok-clause-only
 returns-in-Ok-clause-only g c =
     gives_only (g.L.Library.files c.args.library.now) _ (g.L.Library.failed c.args.library.now) (g.L.Library.failed c.reply_to.new.library)
-    (answer_of c.in-Ok.reply c.in-Ok.ensures.due.document c.in-Ok.ensures.due.pieces) (is_streamed (request_of (texts c.args.words.now)))
+    (answer_of c.in-Ok.reply c.in-Ok.ensures.expected.document c.in-Ok.ensures.expected.pieces) (is_streamed (request_of (texts c.args.words.now)))
     (account_of c.report_of.result)
     (g.O.Sink.held c.args.out.now) (g.O.Sink.held c.deliver-status.new.out) (g.E.Sink.held c.args.err.now) (g.E.Sink.held c.deliver-status.new.err)
-    c.in-Ok.ensures.due.answers
+    c.in-Ok.ensures.expected.answers
     (gives (is_streamed (request_of (texts c.args.words.now))) (account_of c.report_of.result)
     (g.O.Sink.held c.args.out.now) (g.O.Sink.held c.deliver-status.new.out) (g.E.Sink.held c.args.err.now) (g.E.Sink.held c.deliver-status.new.err)
-    c.in-Ok.reply c.in-Ok.ensures.due.document c.in-Ok.ensures.due.pieces c.deliver-status.result c.report_of.ensures.status c.report_of.ensures.ticks
+    c.in-Ok.reply c.in-Ok.ensures.expected.document c.in-Ok.ensures.expected.pieces c.deliver-status.result c.report_of.ensures.status c.report_of.ensures.ticks
     c.report_of.ensures.fault
-    (claimed c.in-Ok.reply c.in-Ok.ensures.due.document c.in-Ok.ensures.due.pieces (account_of c.report_of.result)
-    c.in-Ok.ensures.due.run c.report_of.ensures.pieces c.report_of.ensures.claims c.report_of.ensures.inline c.report_of.ensures.worked)
-    c.deliver-status.ensures.writes (c.in-Ok.ensures.due.reads tt))
+    (claimed c.in-Ok.reply c.in-Ok.ensures.expected.document c.in-Ok.ensures.expected.pieces (account_of c.report_of.result)
+    c.in-Ok.ensures.expected.run c.report_of.ensures.pieces c.report_of.ensures.claims c.report_of.ensures.inline c.report_of.ensures.worked)
+    c.deliver-status.ensures.writes (c.in-Ok.ensures.expected.reads tt))
 
 pub returns-in-Ok-clause-at_once : goal.returns-in-Ok-clause-at_once
 returns-in-Ok-clause-at_once g c = λ _.
@@ -48,10 +49,10 @@ returns-in-Ok-clause-unstreamed g c = never_streamed (texts c.args.words.now)
 pub returns-in-Ok-clause-refused_only : goal.returns-in-Ok-clause-refused_only
 returns-in-Ok-clause-refused_only g c =
     listed_fault (g.L.Library.files c.args.library.now) (request_of (texts c.args.words.now)) (g.L.Library.failed c.args.library.now)
-    (g.L.Library.failed c.reply_to.new.library) (answer_of c.in-Ok.reply c.in-Ok.ensures.due.document c.in-Ok.ensures.due.pieces)
+    (g.L.Library.failed c.reply_to.new.library) (answer_of c.in-Ok.reply c.in-Ok.ensures.expected.document c.in-Ok.ensures.expected.pieces)
     c.report_of.result.status
-    c.report_of.result.fault c.in-Ok.ensures.due.answers
-    (own_or_cut (answer_of c.in-Ok.reply c.in-Ok.ensures.due.document c.in-Ok.ensures.due.pieces)
+    c.report_of.result.fault c.in-Ok.ensures.expected.answers
+    (own_or_cut (answer_of c.in-Ok.reply c.in-Ok.ensures.expected.document c.in-Ok.ensures.expected.pieces)
     c.deliver-status.result c.report_of.result.status c.report_of.ensures.status
     c.deliver-status.ensures.status)
     c.report_of.ensures.fault
@@ -59,10 +60,10 @@ returns-in-Ok-clause-refused_only g c =
 pub returns-in-Ok-clause-decided : goal.returns-in-Ok-clause-decided
 returns-in-Ok-clause-decided g c = λ stays.
     decides (g.L.Library.files c.args.library.now) (request_of (texts c.args.words.now)) (g.L.Library.failed c.args.library.now)
-    (g.L.Library.failed c.reply_to.new.library) (answer_of c.in-Ok.reply c.in-Ok.ensures.due.document c.in-Ok.ensures.due.pieces)
+    (g.L.Library.failed c.reply_to.new.library) (answer_of c.in-Ok.reply c.in-Ok.ensures.expected.document c.in-Ok.ensures.expected.pieces)
     c.report_of.result.status
-    c.in-Ok.ensures.due.answers stays
-    (own_or_cut (answer_of c.in-Ok.reply c.in-Ok.ensures.due.document c.in-Ok.ensures.due.pieces)
+    c.in-Ok.ensures.expected.answers stays
+    (own_or_cut (answer_of c.in-Ok.reply c.in-Ok.ensures.expected.document c.in-Ok.ensures.expected.pieces)
     c.deliver-status.result c.report_of.result.status c.report_of.ensures.status
     c.deliver-status.ensures.status)
 

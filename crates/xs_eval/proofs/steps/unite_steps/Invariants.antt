@@ -8,7 +8,7 @@ use Rattle.xs_eval.proofs.steps.unite_steps.Given as goal
 
 abbrev pub invariant-loop-operand : goal.invariant-loop-operand
 invariant-loop-operand g l = record {
-  told :
+  reported :
       limited l.site (united l.context l.operands) (g.T.Tally.state l.fn.tally)
       ≡ Rest l.site (and_step l.context) (λ found. give (Nodes (in_order found))) l.operands l.operand-index l.found (g.T.Tally.state l.tally);
   inside : All (λ k. k < length l.context.tree) l.found;

@@ -6,7 +6,7 @@ use Rattle.xs_body_spec.specs.Globals.{Table, value_given}
 use Rattle.xs_body_spec.specs.World.{World}
 use Rattle.xs_globals.specs.Results.{settled_by}
 use Rattle.xs_globals.specs.steps.Settling.{table_of}
-use Rattle.xs_globals.proofs.SettledLemmas.{first-going, first-marked, settles-so, whole-there}
+use Rattle.xs_globals.proofs.SettledLemmas.{first-going, first-flagged, settles-so, whole-there}
 use Rattle.xs_globals.proofs.settling.settle.Goals as goal
 
 pub settle_in_turn-requires-clause-going : goal.settle_in_turn-requires-clause-going
@@ -18,10 +18,10 @@ settle_in_turn-requires-clause-going g c κs within =
     (c.with-table.ensures.begun ∙ c.in_ok-begun.ensures.marks ∙ ap (map (λ x. false)) s)
     (c.with-table.ensures.table ∙ ap first (c.in_ok-values.ensures.values ∙ ap (map (value_given c.args.given.now)) s))
 
-pub settle_in_turn-requires-clause-marked : goal.settle_in_turn-requires-clause-marked
-settle_in_turn-requires-clause-marked g c κs within =
+pub settle_in_turn-requires-clause-flagged : goal.settle_in_turn-requires-clause-flagged
+settle_in_turn-requires-clause-flagged g c κs within =
     let s = c.as_slice-globals.ensures ∙ ap (λ (w : World). w.sheet.globals) c.world.view_is in
-    first-marked c.args.given.now c.args.world.now.sheet.globals c.with-table.result.begun.items c.with-table.result.values.items
+    first-flagged c.args.given.now c.args.world.now.sheet.globals c.with-table.result.begun.items c.with-table.result.values.items
     (c.with-table.ensures.begun ∙ c.in_ok-begun.ensures.marks ∙ ap (map (λ x. false)) s)
     (ap (λ (t : Table). t.values) c.with-table.ensures.table ∙ c.in_ok-values.ensures.values ∙ ap (map (value_given c.args.given.now)) s)
 

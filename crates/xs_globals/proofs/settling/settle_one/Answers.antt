@@ -8,7 +8,7 @@ loop-top-init g c =
     let t = table_of c.args.table.now in
     let begun = slice_set c.args.table.now.begun.items c.args.global true in
     subst (λ (ws : List ℕ). IsUnderWay c.args.world.now c.args.budget c.args.global t begun (reverse ws) t) (sym c.in_ok-waiting.ensures.items)
-    (starts c.args.world.now c.args.budget c.args.table.now.begun.items c.args.global t c.requires.going c.requires.marked c.requires.lacks)
+    (starts c.args.world.now c.args.budget c.args.table.now.begun.items c.args.global t c.requires.going c.requires.flagged c.requires.lacks)
 
 pub returns-in-Some-2-clause-settles : goal.returns-in-Some-2-clause-settles
 returns-in-Some-2-clause-settles g c =

@@ -5,9 +5,9 @@ use Rattle.xs_keys.specs.steps.Cells.{IsCell}
 use Rattle.xs_keys.specs.steps.Pairs.{AreMarked, decls_in}
 use Rattle.xs_keys.proofs.cells.cell_of.Goals as goal
 
-pub fill-requires-clause-marks : goal.fill-requires-clause-marks
-fill-requires-clause-marks g c κs within =
-    subst (λ (ms : List (Vec Bool Global)). AreMarked c.args.tree.now (decls_in c.as_slice-members.result.now) ms) (sym c.as_slice-marks.ensures.value)
+pub fill-requires-clause-flags : goal.fill-requires-clause-flags
+fill-requires-clause-flags g c κs within =
+    subst (λ (ms : List (Vec Bool Global)). AreMarked c.args.tree.now (decls_in c.as_slice-members.result.now) ms) (sym c.as_slice-flags.ensures.value)
     c.in_ok-tables.ensures
 
 pub returns-clause-cell : goal.returns-clause-cell

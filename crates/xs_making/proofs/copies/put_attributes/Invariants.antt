@@ -5,7 +5,7 @@ use Rattle.xs_making.specs.Copies.{attribute_events}
 use Rattle.xs_making.specs.Putting.{events_steps}
 use Rattle.xs_making.proofs.copies.put_attributes.Given as goal
 
--- what is told of all is told of those that are left
+-- what is said of all is said of those that are left
 abbrev pub invariant-loop-attribute : goal.invariant-loop-attribute
 invariant-loop-attribute g l =
     (goal.iterator-loop-attribute g).can_next l.attribute-iterator ×

@@ -10,7 +10,7 @@ returns-then-deep c =
     record {
       listed =
           subst (λ b. OnOk c.put_deep_copy.result (ys ≡ xs ++ copy_of b c.args.tree.now c.args.node)) (sym c.if-deep.true)
-          (listed-puts _ _ (deep_copy c.args.tree.now c.args.node) xs ys c.put_deep_copy.result c.put_deep_copy.ensures.told);
+          (listed-puts _ _ (deep_copy c.args.tree.now c.args.node) xs ys c.put_deep_copy.result c.put_deep_copy.ensures.reported);
     }
 
 pub returns-else-deep : goal.returns-else-deep
@@ -20,5 +20,5 @@ returns-else-deep c =
     record {
       listed =
           subst (λ b. OnOk c.put_shallow_copy.result (ys ≡ xs ++ copy_of b c.args.tree.now c.args.node)) (sym c.if-deep.false)
-          (listed-puts _ _ (shallow_copy c.args.tree.now c.args.node) xs ys c.put_shallow_copy.result c.put_shallow_copy.ensures.told);
+          (listed-puts _ _ (shallow_copy c.args.tree.now c.args.node) xs ys c.put_shallow_copy.result c.put_shallow_copy.ensures.reported);
     }

@@ -13,13 +13,13 @@ loop-child-init g c =
       refl,
     )
 
-pub returns-in_err-put_opening-clause-told : goal.returns-in_err-put_opening-clause-told
-returns-in_err-put_opening-clause-told g c =
+pub returns-in_err-put_opening-clause-reported : goal.returns-in_err-put_opening-clause-reported
+returns-in_err-put_opening-clause-reported g c =
     let p = err_from_is_err_and c.from_residual.result c.from_residual.ensures.1 in
     copying-stops c.args.site c.args.tree.now c.args.node (g.R.Tally.state c.args.recorder.now) (g.R.Tally.state c.loop-child.recorder)
     (g.R.Tally.state c.put_opening.new.recorder) c.loop-child.holder c.loop-child.from c.in-Some.child c.from_residual.result _ _
     c.next_place-from.ensures.tree c.in-Some.ensures.within c.in-Some.ensures.after c.loop-child.invariant.0 c.in-Some.ensures.value p.1 p.2
-    c.in_err-put_opening.ensures.told
+    c.in_err-put_opening.ensures.reported
 
 pub loop-child-smaller-in-Some : goal.loop-child-smaller-in-Some
 loop-child-smaller-in-Some g c =
@@ -32,22 +32,22 @@ loop-child-preserved-in-Some g c = (
   copying-next c.args.site c.args.tree.now c.args.node (g.R.Tally.state c.args.recorder.now) (g.R.Tally.state c.loop-child.recorder)
       (g.R.Tally.state c.put_opening.new.recorder) c.loop-child.holder c.loop-child.from c.in-Some.child c.next_place-from-in-Some.result
       c.holder_after-holder.result c.next_place-from.ensures.tree c.in-Some.ensures.within c.in-Some.ensures.after c.loop-child.invariant.0
-      c.in-Some.ensures.value c.in_ok-put_opening.ensures.told c.holder_after-holder.ensures c.next_place-from-in-Some.ensures.place,
+      c.in-Some.ensures.value c.in_ok-put_opening.ensures.reported c.holder_after-holder.ensures c.next_place-from-in-Some.ensures.place,
   c.in_ok-put_opening.ensures.kept ∙ c.loop-child.invariant.1,
 )
 
-pub returns-then-eq-clause-told : goal.returns-then-eq-clause-told
-returns-then-eq-clause-told g c =
+pub returns-then-eq-clause-reported : goal.returns-then-eq-clause-reported
+returns-then-eq-clause-reported g c =
     copying-all c.args.site c.args.tree.now c.args.node (g.R.Tally.state c.args.recorder.now) (g.R.Tally.state c.loop-child.recorder)
     c.loop-child.holder c.loop-child.from c.loop-child.invariant.0 (eqb-true c.loop-child.holder c.args.node (sym c.eq.ensures ∙ c.if-eq.true))
     c.in_default.ensures.value
 
-pub returns-in_err-put_one-clause-told : goal.returns-in_err-put_one-clause-told
-returns-in_err-put_one-clause-told g c =
+pub returns-in_err-put_one-clause-reported : goal.returns-in_err-put_one-clause-reported
+returns-in_err-put_one-clause-reported g c =
     let p = err_from_is_err_and c.from_residual-in_err-put_one.result c.from_residual-in_err-put_one.ensures.1 in
     copying-stops-end c.args.site c.args.tree.now c.args.node (g.R.Tally.state c.args.recorder.now) (g.R.Tally.state c.loop-child.recorder)
     (g.R.Tally.state c.put_one.new.recorder) c.loop-child.holder c.loop-child.from c.from_residual-in_err-put_one.result _ _ c.loop-child.invariant.0
-    (eqb-false c.loop-child.holder c.args.node (sym c.eq.ensures ∙ c.if-eq.false)) c.in_default.ensures.value p.1 p.2 c.in_err-put_one.ensures.told
+    (eqb-false c.loop-child.holder c.args.node (sym c.eq.ensures ∙ c.if-eq.false)) c.in_default.ensures.value p.1 p.2 c.in_err-put_one.ensures.reported
 
 pub parent_of-holder-requires-clause-inside : goal.parent_of-holder-requires-clause-inside
 parent_of-holder-requires-clause-inside g c =
@@ -70,6 +70,6 @@ loop-child-preserved g c =
           (copying-end c.args.site c.args.tree.now c.args.node s (g.R.Tally.state c.loop-child.recorder) m c.loop-child.holder c.loop-child.from
           c.parent_of-holder.result c.subtree_end.result c.subtree_end.ensures.tree c.loop-child.invariant.0
           (eqb-false c.loop-child.holder c.args.node (sym c.eq.ensures ∙ c.if-eq.false)) c.in_default.ensures.value c.parent_of-holder.ensures
-          c.subtree_end.ensures.end c.in_ok-put_one.ensures.told),
+          c.subtree_end.ensures.end c.in_ok-put_one.ensures.reported),
       c.in_ok-put_one.ensures.kept ∙ c.loop-child.invariant.1,
     )

@@ -5,7 +5,7 @@ use Rattle.xs_making.specs.Copies.{space_events}
 use Rattle.xs_making.specs.Putting.{events_steps}
 use Rattle.xs_making.proofs.copies.put_spaces.Given as goal
 
--- what is told of all is told of those that are left
+-- what is said of all is said of those that are left
 abbrev pub invariant-loop-space : goal.invariant-loop-space
 invariant-loop-space g l =
     (goal.iterator-loop-space g).can_next l.space-iterator ×

@@ -1,4 +1,4 @@
-use Rattle.xs_modules.proofs.OneReadingLemmas.{tells_only}
+use Rattle.xs_modules.proofs.OneReadingLemmas.{reports_only}
 use Rattle.xs_modules.proofs.WholeLemmas.{answer_sound}
 use Rattle.xs_modules.proofs.reading.read_modules.Goals as goal
 
@@ -8,4 +8,4 @@ returns-clause-sound g c =
 
 pub returns-clause-only : goal.returns-clause-only
 returns-clause-only g c =
-    tells_only c.read_all.result (g.L.Library.files c.args.library.now) c.args.name.now _ _ _ _ c.read_all.ensures.modules
+    reports_only c.read_all.result (g.L.Library.files c.args.library.now) c.args.name.now _ _ _ _ c.read_all.ensures.modules

@@ -2,7 +2,7 @@ use Rattle.std.proofs.Common.{[], ◌∷◌, ◌++◌, append_assoc, filter, map
 use Rattle.xs_tree.specs.declared.axes.Axis.TheVariants.{Ancestor}
 use Rattle.xs_tree.specs.Axis.{axis_list}
 use Rattle.xs_numbering.specs.Counting.{sibling_number}
-use Rattle.xs_numbering.specs.steps.Passes.{is_marked}
+use Rattle.xs_numbering.specs.steps.Passes.{is_flagged}
 use Rattle.xs_numbering.proofs.LevelLemmas.{ancestor-within, levels-next}
 use Rattle.xs_number_tables.specs.steps.Counters.{alike_to}
 use Rattle.xs_number_tables.proofs.counter.add_above.Goals as goal
@@ -15,7 +15,7 @@ add_alike-requires-clause-node c =
 pub loop-ancestor-preserved : goal.loop-ancestor-preserved
 loop-ancestor-preserved c =
     let counts = alike_to c.args.tree.now c.args.node in
-    let from = is_marked c.args.from.now in
+    let from = is_flagged c.args.from.now in
     let f = sibling_number counts c.args.tree.now in
     record {
       can = tt;
@@ -27,5 +27,5 @@ loop-ancestor-preserved c =
           levels-next f counts from c.in-Some.ancestor c.loop-ancestor.ancestor-iterator c.next.new.self c.loop-ancestor.out.items
           c.add_alike.new.out.items
           (c.args.out.now.items ++ map f (filter counts (take_while (λ k. not (from k)) (axis_list Ancestor c.args.tree.now c.args.node))))
-          (sym c.is_marked.ensures ∙ c.if-is_marked.false) c.in-Some.ensures.steps c.in_ok-add_alike.ensures c.loop-ancestor.invariant.whole;
+          (sym c.is_flagged.ensures ∙ c.if-is_flagged.false) c.in-Some.ensures.steps c.in_ok-add_alike.ensures c.loop-ancestor.invariant.whole;
     }

@@ -2,7 +2,7 @@ use Rattle.std.proofs.Common.{◌≡◌, ◌++◌, filter, map, not, take_while}
 use Rattle.xs_tree.specs.declared.axes.Axis.TheVariants.{Ancestor}
 use Rattle.xs_tree.specs.Axis.{axis_list}
 use Rattle.xs_numbering.specs.Counting.{sibling_number}
-use Rattle.xs_numbering.specs.steps.Passes.{is_marked}
+use Rattle.xs_numbering.specs.steps.Passes.{is_flagged}
 use Rattle.xs_number_tables.specs.steps.Counters.{alike_to}
 use Rattle.xs_number_tables.proofs.counter.add_above.Given as goal
 
@@ -15,8 +15,8 @@ invariant-loop-ancestor l = record {
   whole :
       l.out.items
       ++ map (sibling_number (alike_to l.tree l.fn.node) l.tree)
-      (filter (alike_to l.tree l.fn.node) (take_while (λ k. not (is_marked l.from k)) l.ancestor-iterator))
+      (filter (alike_to l.tree l.fn.node) (take_while (λ k. not (is_flagged l.from k)) l.ancestor-iterator))
       ≡ l.fn.out.items
       ++ map (sibling_number (alike_to l.tree l.fn.node) l.tree)
-      (filter (alike_to l.tree l.fn.node) (take_while (λ k. not (is_marked l.from k)) (axis_list Ancestor l.tree l.fn.node)));
+      (filter (alike_to l.tree l.fn.node) (take_while (λ k. not (is_flagged l.from k)) (axis_list Ancestor l.tree l.fn.node)));
 }

@@ -2,7 +2,7 @@ use Rattle.std.proofs.Common.{[], ◌∷◌, ◌++◌, append_assoc, filter, map
 use Rattle.xs_tree.specs.declared.axes.Axis.TheVariants.{Ancestor}
 use Rattle.xs_tree.specs.Axis.{axis_list}
 use Rattle.xs_numbering.specs.Counting.{sibling_number}
-use Rattle.xs_numbering.specs.steps.Passes.{is_marked}
+use Rattle.xs_numbering.specs.steps.Passes.{is_flagged}
 use Rattle.xs_numbering.proofs.LevelLemmas.{ancestor-within, levels-next}
 use Rattle.xs_numbering.proofs.levels.add_above.Goals as goal
 
@@ -13,8 +13,8 @@ add_number-requires-clause-node c =
 
 pub loop-ancestor-preserved : goal.loop-ancestor-preserved
 loop-ancestor-preserved c =
-    let counts = is_marked c.args.counts.now in
-    let from = is_marked c.args.from.now in
+    let counts = is_flagged c.args.counts.now in
+    let from = is_flagged c.args.from.now in
     let f = sibling_number counts c.args.tree.now in
     record {
       can = tt;
@@ -26,5 +26,5 @@ loop-ancestor-preserved c =
           levels-next f counts from c.in-Some.ancestor c.loop-ancestor.ancestor-iterator c.next.new.self c.loop-ancestor.out.items
           c.add_number.new.out.items
           (c.args.out.now.items ++ map f (filter counts (take_while (λ k. not (from k)) (axis_list Ancestor c.args.tree.now c.args.node))))
-          (sym c.is_marked.ensures ∙ c.if-is_marked.false) c.in-Some.ensures.steps c.in_ok-add_number.ensures c.loop-ancestor.invariant.whole;
+          (sym c.is_flagged.ensures ∙ c.if-is_flagged.false) c.in-Some.ensures.steps c.in_ok-add_number.ensures c.loop-ancestor.invariant.whole;
     }

@@ -2,7 +2,7 @@ use Rattle.std.proofs.Common.{◌≡◌, ◌++◌, filter, not, take_while}
 use Rattle.xs_tree.specs.declared.axes.Axis.TheVariants.{Ancestor}
 use Rattle.xs_tree.specs.Axis.{axis_list}
 use Rattle.xs_numbering.specs.Counting.{counted}
-use Rattle.xs_numbering.specs.steps.Passes.{is_marked}
+use Rattle.xs_numbering.specs.steps.Passes.{is_flagged}
 use Rattle.xs_numbering.proofs.levels.first_counted.Given as goal
 
 -- none of the ancestors that were passed is counted
@@ -12,6 +12,6 @@ invariant-loop-ancestor l = record {
   ends : goal.iterator-loop-ancestor.is_finite l.ancestor-iterator;
   nodes : l.yielded ++ l.ancestor-iterator ≡ axis_list Ancestor l.tree l.fn.node;
   none :
-      counted (is_marked l.counts) (is_marked l.from) l.tree l.fn.node
-      ≡ filter (is_marked l.counts) (take_while (λ k. not (is_marked l.from k)) l.ancestor-iterator);
+      counted (is_flagged l.counts) (is_flagged l.from) l.tree l.fn.node
+      ≡ filter (is_flagged l.counts) (take_while (λ k. not (is_flagged l.from k)) l.ancestor-iterator);
 }

@@ -3,7 +3,7 @@ use Rattle.xs_numbering.proofs.numerals.append_times.Given as goal
 
 abbrev pub invariant-loop-done : goal.invariant-loop-done
 invariant-loop-done l = record {
-  made : string_bytes l.out ≡ string_bytes l.initial.out ++ replicate l.done l.mark;
+  made : string_bytes l.out ≡ string_bytes l.initial.out ++ replicate l.done l.flag;
   most : l.done ≤ l.count;
 }
 

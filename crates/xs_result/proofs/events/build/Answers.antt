@@ -5,5 +5,5 @@ use Rattle.xs_result.proofs.events.build.Goals as goal
 
 pub returns : goal.returns
 returns g c =
-    let told = c.in_ok-builder.ensures in
-    (told.0, told.2, c.in_ok-fragment.ensures ∙ ap flushed told.1 ∙ built_is (map (λ e. e.now) told.0))
+    let reported = c.in_ok-builder.ensures in
+    (reported.0, reported.2, c.in_ok-fragment.ensures ∙ ap flushed reported.1 ∙ built_is (map (λ e. e.now) reported.0))

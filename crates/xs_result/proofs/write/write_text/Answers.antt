@@ -4,5 +4,5 @@ use Rattle.xs_result.proofs.write.write_text.Goals as goal
 
 pub returns-in-Ok-clause-text : goal.returns-in-Ok-clause-text
 returns-in-Ok-clause-text g c =
-    let told = c.in-Ok.ensures.text in
-    (told.0, told.2, told.1 ∙ ap (λ t. c.args.out.now.items ++ t) (text_built (map (λ e. e.now) told.0)))
+    let reported = c.in-Ok.ensures.text in
+    (reported.0, reported.2, reported.1 ∙ ap (λ t. c.args.out.now.items ++ t) (text_built (map (λ e. e.now) reported.0)))

@@ -16,10 +16,10 @@ more f n k before after b e p q i =
 
 pub loop-place-preserved : goal.loop-place-preserved
 loop-place-preserved c = record {
-  marks =
-      more (is_stripped c.args.rules.now c.args.tree.now) c.loop-place.place c.at-node.result c.loop-place.marks.items c.push.new.self.items
+  flags =
+      more (is_stripped c.args.rules.now c.args.tree.now) c.loop-place.place c.at-node.result c.loop-place.flags.items c.push.new.self.items
       c.is_stripped.result
-      c.loop-place.invariant.marks c.in_ok-push.ensures.items
+      c.loop-place.invariant.flags c.in_ok-push.ensures.items
       (c.is_stripped.ensures ∙ ap (λ (rules : List StripRule). is_stripped rules c.args.tree.now c.at-node.result) c.in_ok-index.ensures.rules)
       c.at-node.ensures;
   kept =

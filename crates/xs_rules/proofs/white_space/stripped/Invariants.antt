@@ -5,6 +5,6 @@ use Rattle.xs_rules.proofs.white_space.stripped.Given as goal
 
 abbrev pub invariant-loop-place : goal.invariant-loop-place
 invariant-loop-place l = record {
-  marks : l.marks.items ≡ map (is_stripped l.rules l.tree) (range_with_len 0 l.place);
+  flags : l.flags.items ≡ map (is_stripped l.rules l.tree) (range_with_len 0 l.place);
   kept : l.kept.items ≡ map (preserves l.tree) (range_with_len 0 l.place);
 }

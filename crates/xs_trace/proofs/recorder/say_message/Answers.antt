@@ -11,7 +11,7 @@ returns-in_err-ticks g c =
     let e = ap (λ t. and_then (ticked_by (length t / 256) c.args.site (g.R.Tally.state c.args.recorder.now)) (λ u m. goes (said c.args.text m)))
     (sym c.as_str.ensures.text) in
     record {
-      told = passes (λ x. x) (λ x. x) _ _ (λ u m. goes (said c.args.text m)) (g.R.Tally.state c.ticks.new.self) c.from_residual.result _ _ e
-          (λ u. said-grows c.args.text) p.1 p.2 c.in_err-ticks.ensures.told;
+      reported = passes (λ x. x) (λ x. x) _ _ (λ u m. goes (said c.args.text m)) (g.R.Tally.state c.ticks.new.self) c.from_residual.result _ _ e
+          (λ u. said-grows c.args.text) p.1 p.2 c.in_err-ticks.ensures.reported;
       kept = c.in_err-ticks.ensures.kept;
     }

@@ -9,8 +9,8 @@ pub returns : goal.returns
 returns c =
     let now : List (Bor AttrSet) → List AttrSet = λ ss. map (λ s. s.now) ss in
     record {
-      index = served c.args.sets.now (record { lists = c.in_ok-lists.lists; marks = c.in_ok-marks.marks })
+      index = served c.args.sets.now (record { lists = c.in_ok-lists.lists; flags = c.in_ok-flags.flags })
           (λ name. c.in_ok-lists.ensures name ∙ ap (λ ss. filter (has_name name) (now ss)) c.as_slice.ensures.value
           ∙ ap (filter (has_name name)) c.in_ok-all.ensures)
-          c.in_ok-marks.ensures;
+          c.in_ok-flags.ensures;
     }

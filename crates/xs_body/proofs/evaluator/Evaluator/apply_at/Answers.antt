@@ -18,8 +18,8 @@ use Rattle.xs_body.proofs.GrowthLemmas.{fitting-grows}
 use Rattle.xs_body.specs.declared.frames.ApplyLeft.{ApplyLeft}
 use Rattle.xs_body.proofs.evaluator.Evaluator.apply_at.Goals as goal
 
-pub returns-in_err-tick-clause-told : goal.returns-in_err-tick-clause-told
-returns-in_err-tick-clause-told g c =
+pub returns-in_err-tick-clause-reported : goal.returns-in_err-tick-clause-reported
+returns-in_err-tick-clause-reported g c =
     let p = err_from_is_err_and c.from_residual.result c.from_residual.ensures.1 in
     let a = c.args.left.value in
     let t = pushed (apply_left a.rules.mode a.rules.passed a.site a.focus (a.position + 1) (drop (a.next + 1) (nodes_in a.nodes)) ∷ []) c.args.self.now in
@@ -29,7 +29,7 @@ returns-in_err-tick-clause-told g c =
     let s = g.R.Tally.state c.args.recorder.now in
     passes (λ x. x) _ _ (ticked c.deref.result.now.site s) (λ u m. entering_fitting mode ps a.site f t m) (g.R.Tally.state c.tick.new.self)
     c.from_residual.result _ _ (ap (λ (b : ApplyLeft). and_then (ticked b.site s) (λ u m. entering_fitting mode ps a.site f t m)) (sym c.deref.ensures))
-    (λ u. fitting-grows mode ps a.site f t) p.1 p.2 c.in_err-tick.ensures.told
+    (λ u. fitting-grows mode ps a.site f t) p.1 p.2 c.in_err-tick.ensures.reported
 
 pub enter_fitting-requires-sync-K : goal.enter_fitting-requires-sync-K
 enter_fitting-requires-sync-K g c κs within =

@@ -9,8 +9,8 @@ use Rattle.xs_body.proofs.ExitLemmas.{stack-exit}
 use Rattle.xs_body.proofs.GrowthLemmas.{passes-grow}
 use Rattle.xs_body.proofs.evaluator.Evaluator.begin_apply.Goals as goal
 
-pub returns-in_err-nodes-clause-told : goal.returns-in_err-nodes-clause-told
-returns-in_err-nodes-clause-told g c =
+pub returns-in_err-nodes-clause-reported : goal.returns-in_err-nodes-clause-reported
+returns-in_err-nodes-clause-reported g c =
     let p = err_from_is_err_and c.from_residual.result c.from_residual.ensures.1 in
     let t = c.args.self.now in
     let bs = bindings_of c.args.passed.now in
@@ -19,4 +19,4 @@ returns-in_err-nodes-clause-told g c =
     (limited c.args.site (applied_nodes t.world c.args.applied.now.select c.args.applied.now.sorts c.args.scope.focus (last c.args.scope.seen t.slots))
     (g.R.Tally.state c.args.recorder.now))
     (λ ns m. passes_on bs bs [] (by_rules mode ns) c.args.site c.args.scope t m) _ _ c.from_residual.result _ _
-    (λ ns. passes-grow bs bs [] (by_rules mode ns) c.args.site c.args.scope t) p.1 p.2 c.in_err-nodes.ensures.told
+    (λ ns. passes-grow bs bs [] (by_rules mode ns) c.args.site c.args.scope t) p.1 p.2 c.in_err-nodes.ensures.reported

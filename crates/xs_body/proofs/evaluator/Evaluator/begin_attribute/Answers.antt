@@ -7,14 +7,14 @@ use Rattle.xs_body.proofs.ExitLemmas.{stack-exit}
 use Rattle.xs_body.proofs.GrowthLemmas.{made-grows}
 use Rattle.xs_body.proofs.evaluator.Evaluator.begin_attribute.Goals as goal
 
-pub returns-in_err-name-clause-told : goal.returns-in_err-name-clause-told
-returns-in_err-name-clause-told g c =
+pub returns-in_err-name-clause-reported : goal.returns-in_err-name-clause-reported
+returns-in_err-name-clause-reported g c =
     let p = err_from_is_err_and c.from_residual.result c.from_residual.ensures.1 in
     let t = c.args.self.now in
     stack-exit (λ x. x)
     (name_steps t.world c.args.site c.args.scope.focus (last c.args.scope.seen t.slots) true c.args.name.now (g.R.Tally.state c.args.recorder.now))
     (λ label m. made_begun (made.Attribute label) c.args.body.now c.args.site c.args.scope t m) _ _ c.from_residual.result _ _
-    (λ label. made-grows (made.Attribute label) c.args.body.now c.args.site c.args.scope t) p.1 p.2 c.in_err-name.ensures.told
+    (λ label. made-grows (made.Attribute label) c.args.body.now c.args.site c.args.scope t) p.1 p.2 c.in_err-name.ensures.reported
 
 pub begin_made-requires-sync-K : goal.begin_made-requires-sync-K
 begin_made-requires-sync-K g c κs within =

@@ -9,8 +9,8 @@ use Rattle.xs_making.specs.Putting.{events_steps}
 use Rattle.xs_body.specs.steps.Frames.{Evaluation, copied_begun}
 use Rattle.xs_body.proofs.evaluator.Evaluator.begin_copy.Goals as goal
 
-pub returns-in_err-put_shallow_copy-clause-told : goal.returns-in_err-put_shallow_copy-clause-told
-returns-in_err-put_shallow_copy-clause-told g c =
+pub returns-in_err-put_shallow_copy-clause-reported : goal.returns-in_err-put_shallow_copy-clause-reported
+returns-in_err-put_shallow_copy-clause-reported g c =
     let p = err_from_is_err_and c.from_residual.result c.from_residual.ensures.1 in
     let rs = c.args.self.now.world.tree in
     let n = c.args.scope.focus.node in
@@ -22,4 +22,4 @@ returns-in_err-put_shallow_copy-clause-told g c =
     passes (λ x. x) _ _ (events_steps c.args.site (shallow_copy c.self.inside.tree.now c.at-node.result) s) (λ u m. Goes t m) m
     c.from_residual.result _ _
     (ap (λ (es : List Event). and_then (events_steps c.args.site es s) (λ u m. Goes t m)) (sym q)) (λ u. goes-grows t) p.1 p.2
-    c.in_err-put_shallow_copy.ensures.told
+    c.in_err-put_shallow_copy.ensures.reported

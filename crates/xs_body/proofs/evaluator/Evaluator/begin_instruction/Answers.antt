@@ -6,11 +6,11 @@ use Rattle.xs_body.proofs.ExitLemmas.{stack-exit}
 use Rattle.xs_body.proofs.GrowthLemmas.{made-grows}
 use Rattle.xs_body.proofs.evaluator.Evaluator.begin_instruction.Goals as goal
 
-pub returns-in_err-target-clause-told : goal.returns-in_err-target-clause-told
-returns-in_err-target-clause-told g c =
+pub returns-in_err-target-clause-reported : goal.returns-in_err-target-clause-reported
+returns-in_err-target-clause-reported g c =
     let p = err_from_is_err_and c.from_residual.result c.from_residual.ensures.1 in
     let t = c.args.self.now in
     stack-exit (λ x. x)
     (target_steps t.world c.args.site c.args.scope.focus (last c.args.scope.seen t.slots) c.args.name.now (g.R.Tally.state c.args.recorder.now))
     (λ target m. made_begun (made.Instruction target) c.args.body.now c.args.site c.args.scope t m) _ _ c.from_residual.result _ _
-    (λ target. made-grows (made.Instruction target) c.args.body.now c.args.site c.args.scope t) p.1 p.2 c.in_err-target.ensures.told
+    (λ target. made-grows (made.Instruction target) c.args.body.now c.args.site c.args.scope t) p.1 p.2 c.in_err-target.ensures.reported

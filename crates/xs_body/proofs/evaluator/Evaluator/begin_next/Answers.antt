@@ -9,13 +9,13 @@ use Rattle.xs_body.proofs.GrowthLemmas.{begun-grows}
 use Rattle.xs_body.proofs.ExitLemmas.{stack-exit}
 use Rattle.xs_body.proofs.evaluator.Evaluator.begin_next.Goals as goal
 
-pub returns-in_err-tick-clause-told : goal.returns-in_err-tick-clause-told
-returns-in_err-tick-clause-told g c =
+pub returns-in_err-tick-clause-reported : goal.returns-in_err-tick-clause-reported
+returns-in_err-tick-clause-reported g c =
     let p = err_from_is_err_and c.from_residual.result c.from_residual.ensures.1 in
     let i = c.args.instr.now in
     let t = pushed (rest_works c.args.behind.now (after i.kind c.args.scope)) c.args.self.now in
     stack-exit (λ x. x) (ticked i.site (g.R.Tally.state c.args.recorder.now)) (λ u m. begun i.kind i.site c.args.scope t m) _ _ c.from_residual.result _ _
-    (λ u. begun-grows i.kind i.site c.args.scope t) p.1 p.2 c.in_err-tick.ensures.told
+    (λ u. begun-grows i.kind i.site c.args.scope t) p.1 p.2 c.in_err-tick.ensures.reported
 
 pub begin-requires-sync-K : goal.begin-requires-sync-K
 begin-requires-sync-K g c κs within =

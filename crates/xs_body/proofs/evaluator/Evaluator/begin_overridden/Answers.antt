@@ -6,11 +6,11 @@ use Rattle.xs_body_spec.specs.Trace.{overridden}
 use Rattle.xs_body.proofs.ExitLemmas.{stack-exit}
 use Rattle.xs_body.proofs.evaluator.Evaluator.begin_overridden.Goals as goal
 
-pub returns-in_err-tick-clause-told : goal.returns-in_err-tick-clause-told
-returns-in_err-tick-clause-told g c =
+pub returns-in_err-tick-clause-reported : goal.returns-in_err-tick-clause-reported
+returns-in_err-tick-clause-reported g c =
     let p = err_from_is_err_and c.from_residual.result c.from_residual.ensures.1 in
     let e = overridden c.args.rule in
     let t = c.args.self.now in
     stack-exit (λ x. x) (ticked c.args.site (g.R.Tally.state c.args.recorder.now))
     (λ u m. entering e c.args.site c.args.focus t m) _ _ c.from_residual.result _ _
-    (λ u. entering-grows e c.args.site c.args.focus t) p.1 p.2 c.in_err-tick.ensures.told
+    (λ u. entering-grows e c.args.site c.args.focus t) p.1 p.2 c.in_err-tick.ensures.reported

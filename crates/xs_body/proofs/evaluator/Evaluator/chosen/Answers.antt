@@ -11,8 +11,8 @@ use Rattle.xs_body_spec.specs.World.{test_run}
 use Rattle.xs_body.specs.steps.Frames.{chosen_of, last}
 use Rattle.xs_body.proofs.evaluator.Evaluator.chosen.Goals as goal
 
-pub returns-in_err-holds-clause-told : goal.returns-in_err-holds-clause-told
-returns-in_err-holds-clause-told g c =
+pub returns-in_err-holds-clause-reported : goal.returns-in_err-holds-clause-reported
+returns-in_err-holds-clause-reported g c =
     let p = err_from_is_err_and c.from_residual.result c.from_residual.ensures.1 in
     let e : c.loop-when.left.now ≡ (c.in-Some.when.now ∷ c.in-Some.behind.now) = search rules in
     let s = g.T.Tally.state c.loop-when.tally in
@@ -27,7 +27,7 @@ returns-in_err-holds-clause-told g c =
     c.from_residual.result _ _
     (c.loop-when.invariant.0 ∙ ap (λ ts. limited c.args.site (chosen_of ts other w f vs) s) e ∙ limited-bind
     c.args.site r k s)
-    (λ b. limited-grows c.args.site (k b)) p.1 p.2 c.in_err-holds.ensures.told
+    (λ b. limited-grows c.args.site (k b)) p.1 p.2 c.in_err-holds.ensures.reported
 
 pub loop-when-preserved : goal.loop-when-preserved
 loop-when-preserved g c =
@@ -42,13 +42,13 @@ loop-when-preserved g c =
     (chosen_of c.in-Some.behind.now other w f vs) in (
       c.loop-when.invariant.0 ∙ ap (λ ts. limited c.args.site (chosen_of ts other w f vs) s) e ∙ limited-bind
           c.args.site r k s
-          ∙ ap (λ j. and_then j (λ b m. limited c.args.site (k b) m)) c.in_ok-holds.ensures.told ∙ ap
+          ∙ ap (λ j. and_then j (λ b m. limited c.args.site (k b) m)) c.in_ok-holds.ensures.reported ∙ ap
           (λ b. limited c.args.site (k b) (g.T.Tally.state c.holds.new.tally)) c.if-branch.false,
       c.holds.ensures.kept ∙ c.loop-when.invariant.1,
     )
 
-pub returns-then-branch-clause-told : goal.returns-then-branch-clause-told
-returns-then-branch-clause-told g c =
+pub returns-then-branch-clause-reported : goal.returns-then-branch-clause-reported
+returns-then-branch-clause-reported g c =
     let e : c.loop-when.left.now ≡ (c.in-Some.when.now ∷ c.in-Some.behind.now) = search rules in
     let s = g.T.Tally.state c.loop-when.tally in
     let m = g.T.Tally.state c.holds.new.tally in
@@ -62,6 +62,6 @@ returns-then-branch-clause-told g c =
     c.loop-when.invariant.0
     ∙ ap (λ ts. limited c.args.site (chosen_of ts other w f vs) s) e
     ∙ limited-bind c.args.site r k s
-    ∙ ap (λ j. and_then j (λ b n. limited c.args.site (k b) n)) c.in_ok-holds.ensures.told
+    ∙ ap (λ j. and_then j (λ b n. limited c.args.site (k b) n)) c.in_ok-holds.ensures.reported
     ∙ ap (λ b. limited c.args.site (k b) m) c.if-branch.true
     ∙ limited-end c.args.site (Gives body) m

@@ -14,8 +14,8 @@ use Rattle.xs_body.specs.steps.Lists.{nodes_in}
 use Rattle.xs_body.specs.declared.frames.EachLeft.{EachLeft}
 use Rattle.xs_body.proofs.evaluator.Evaluator.do_at.Goals as goal
 
-pub returns-in_err-tick-clause-told : goal.returns-in_err-tick-clause-told
-returns-in_err-tick-clause-told g c =
+pub returns-in_err-tick-clause-reported : goal.returns-in_err-tick-clause-reported
+returns-in_err-tick-clause-reported g c =
     let p = err_from_is_err_and c.from_residual.result c.from_residual.ensures.1 in
     let a = c.args.left.value in
     let t = pushed (each_left a.body.now a.site a.scope (a.position + 1) (drop (a.next + 1) (nodes_in a.nodes)) ∷ []) c.args.self.now in
@@ -24,7 +24,7 @@ returns-in_err-tick-clause-told g c =
     let s = g.R.Tally.state c.args.recorder.now in
     passes (λ x. x) _ _ (ticked c.deref-5.result.now.site s) (λ u m. rest_begun is here t m) (g.R.Tally.state c.tick.new.self) c.from_residual.result _ _
     (ap (λ (e : EachLeft). and_then (ticked e.site s) (λ u m. rest_begun is here t m)) (sym c.deref-5.ensures)) (λ u. rest-grows is here t) p.1 p.2
-    c.in_err-tick.ensures.told
+    c.in_err-tick.ensures.reported
 
 pub begin_body-requires-sync-K : goal.begin_body-requires-sync-K
 begin_body-requires-sync-K g c κs within =

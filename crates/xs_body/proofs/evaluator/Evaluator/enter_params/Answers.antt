@@ -5,16 +5,16 @@ use Rattle.xs_body.specs.steps.Frames.{Evaluation, outer, params_first, pushed}
 use Rattle.xs_body.proofs.ExitLemmas.{body-entered, params-entered}
 use Rattle.xs_body.proofs.evaluator.Evaluator.enter_params.Goals as goal
 
-pub returns-then-is_empty-clause-told : goal.returns-then-is_empty-clause-told
-returns-then-is_empty-clause-told g c =
+pub returns-then-is_empty-clause-reported : goal.returns-then-is_empty-clause-reported
+returns-then-is_empty-clause-reported g c =
     let template : Template = c.args.template.now in
     let none : (length template.params == 0) ≡ true = search rules in
     body-entered template.params c.args.passed template.body c.args.focus c.outer-scope.result c.args.self.now c.begin_body.new.self
     (g.R.Tally.state c.args.recorder.now) (g.R.Tally.state c.begin_body.new.recorder) c.begin_body.result none c.outer-scope.ensures
-    c.begin_body.ensures.told
+    c.begin_body.ensures.reported
 
-pub returns-clause-told : goal.returns-clause-told
-returns-clause-told g c =
+pub returns-clause-reported : goal.returns-clause-reported
+returns-clause-reported g c =
     let t : Evaluation = c.args.self.now in
     let template : Template = c.args.template.now in
     let some : (length template.params == 0) ≡ false = search rules in

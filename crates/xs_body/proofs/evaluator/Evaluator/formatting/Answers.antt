@@ -13,8 +13,8 @@ use Rattle.xs_body.proofs.evaluator.Evaluator.formatting.Goals as goal
 abbrev by_parts : List ℕ → Option (List ℕ × ℕ) → Formatting
 by_parts format group = record { format = format; group = group }
 
-pub returns-in_err-format-clause-told : goal.returns-in_err-format-clause-told
-returns-in_err-format-clause-told g c =
+pub returns-in_err-format-clause-reported : goal.returns-in_err-format-clause-reported
+returns-in_err-format-clause-reported g c =
     let p = err_from_is_err_and c.from_residual.result c.from_residual.ensures.1 in
     let w = c.args.self.now.world in
     let d = c.args.decl.now in
@@ -24,10 +24,10 @@ returns-in_err-format-clause-told g c =
     let next : List ℕ → Option (List ℕ) → Run Formatting = λ x y. optional_run w d.grouping_size f vs >>= last_part x y in
     exits (λ (t : List ℕ). t) (λ (z : code_formatting.Formatting). formatting_of z) c.args.site (format_run w d.format f vs)
     (λ x. optional_run w d.grouping_separator f vs >>= next x) _ (g.T.Tally.state c.args.tally.now) (g.T.Tally.state c.format.new.tally)
-    c.from_residual.result _ _ refl p.1 p.2 c.in_err-format.ensures.told
+    c.from_residual.result _ _ refl p.1 p.2 c.in_err-format.ensures.reported
 
-pub returns-in_err-separator-clause-told : goal.returns-in_err-separator-clause-told
-returns-in_err-separator-clause-told g c =
+pub returns-in_err-separator-clause-reported : goal.returns-in_err-separator-clause-reported
+returns-in_err-separator-clause-reported g c =
     let p = err_from_is_err_and c.from_residual-in_err-separator.result c.from_residual-in_err-separator.ensures.1 in
     let w = c.args.self.now.world in
     let d = c.args.decl.now in
@@ -40,10 +40,10 @@ returns-in_err-separator-clause-told g c =
     (optional_run w d.grouping_separator f vs) (next format) _ (g.T.Tally.state c.format.new.tally) (g.T.Tally.state c.optional.new.tally)
     c.from_residual-in_err-separator.result _ _
     (goes_on c.args.site (format_run w d.format f vs) (λ x. optional_run w d.grouping_separator f vs >>= next x) format
-    (g.T.Tally.state c.args.tally.now) (g.T.Tally.state c.format.new.tally) c.in_ok-format.ensures.told) p.1 p.2 c.in_err-separator.ensures.told
+    (g.T.Tally.state c.args.tally.now) (g.T.Tally.state c.format.new.tally) c.in_ok-format.ensures.reported) p.1 p.2 c.in_err-separator.ensures.reported
 
-pub returns-in_err-size-clause-told : goal.returns-in_err-size-clause-told
-returns-in_err-size-clause-told g c =
+pub returns-in_err-size-clause-reported : goal.returns-in_err-size-clause-reported
+returns-in_err-size-clause-reported g c =
     let p = err_from_is_err_and c.from_residual-in_err-size.result c.from_residual-in_err-size.ensures.1 in
     let w = c.args.self.now.world in
     let d = c.args.decl.now in
@@ -57,12 +57,12 @@ returns-in_err-size-clause-told g c =
     (last_part format separator) _ (g.T.Tally.state c.optional.new.tally) (g.T.Tally.state c.optional-2.new.tally)
     c.from_residual-in_err-size.result _ _
     (goes_on c.args.site (format_run w d.format f vs) (λ x. optional_run w d.grouping_separator f vs >>= next x) format
-    (g.T.Tally.state c.args.tally.now) (g.T.Tally.state c.format.new.tally) c.in_ok-format.ensures.told
+    (g.T.Tally.state c.args.tally.now) (g.T.Tally.state c.format.new.tally) c.in_ok-format.ensures.reported
     ∙ goes_on c.args.site (optional_run w d.grouping_separator f vs) (next format) separator
-    (g.T.Tally.state c.format.new.tally) (g.T.Tally.state c.optional.new.tally) c.in_ok-separator.ensures.told) p.1 p.2 c.in_err-size.ensures.told
+    (g.T.Tally.state c.format.new.tally) (g.T.Tally.state c.optional.new.tally) c.in_ok-separator.ensures.reported) p.1 p.2 c.in_err-size.ensures.reported
 
-pub returns-clause-told : goal.returns-clause-told
-returns-clause-told g c =
+pub returns-clause-reported : goal.returns-clause-reported
+returns-clause-reported g c =
     let w = c.args.self.now.world in
     let d = c.args.decl.now in
     let f = c.args.scope.focus in
@@ -74,10 +74,10 @@ returns-clause-told g c =
     let last_part : List ℕ → Option (List ℕ) → Option (List ℕ) → Run Formatting = λ x y z. give (by_parts x (group_in y z)) in
     let next : List ℕ → Option (List ℕ) → Run Formatting = λ x y. optional_run w d.grouping_size f vs >>= last_part x y in
     goes_on c.args.site (format_run w d.format f vs) (λ x. optional_run w d.grouping_separator f vs >>= next x) format
-    (g.T.Tally.state c.args.tally.now) (g.T.Tally.state c.format.new.tally) c.in_ok-format.ensures.told
+    (g.T.Tally.state c.args.tally.now) (g.T.Tally.state c.format.new.tally) c.in_ok-format.ensures.reported
     ∙ goes_on c.args.site (optional_run w d.grouping_separator f vs) (next format) separator
-    (g.T.Tally.state c.format.new.tally) (g.T.Tally.state c.optional.new.tally) c.in_ok-separator.ensures.told
+    (g.T.Tally.state c.format.new.tally) (g.T.Tally.state c.optional.new.tally) c.in_ok-separator.ensures.reported
     ∙ goes_on c.args.site (optional_run w d.grouping_size f vs) (last_part format separator) size
-    (g.T.Tally.state c.optional.new.tally) m c.in_ok-size.ensures.told
+    (g.T.Tally.state c.optional.new.tally) m c.in_ok-size.ensures.reported
     ∙ gives c.args.site (by_parts format (group_in separator size)) m
     ∙ ap (λ (o : Option (List ℕ × ℕ)). Goes (by_parts format o) m) (sym c.group_in-group.ensures)

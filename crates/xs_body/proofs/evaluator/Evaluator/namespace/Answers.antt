@@ -7,8 +7,8 @@ use Rattle.xs_body.specs.steps.Frames.{last}
 use Rattle.xs_body.specs.steps.Making.{namespace_steps}
 use Rattle.xs_body.proofs.evaluator.Evaluator.namespace.Goals as goal
 
-pub returns-in_err-template-in-Some-clause-told : goal.returns-in_err-template-in-Some-clause-told
-returns-in_err-template-in-Some-clause-told g c =
+pub returns-in_err-template-in-Some-clause-reported : goal.returns-in_err-template-in-Some-clause-reported
+returns-in_err-template-in-Some-clause-reported g c =
     let p = err_from_is_err_and c.from_residual.result c.from_residual.ensures.1 in
     let w = c.args.self.now.world in
     let f = c.args.scope.focus in
@@ -17,4 +17,4 @@ returns-in_err-template-in-Some-clause-told g c =
     passes {A = List ℕ} {B = Option (List ℕ)} {C = List ℕ} {D = Option (List ℕ)} (λ x. x) (λ x. x) _ _ (λ uri m. Goes (Some uri) m)
     (g.R.Tally.state c.template.new.tally) c.from_residual.result _ _
     (ap (λ (o : Option ValueTemplate). namespace_steps w c.args.site f vs o s) c.in-Some.is) (λ uri. goes-grows (Some uri)) p.1 p.2
-    c.in_err-template-in-Some.ensures.told
+    c.in_err-template-in-Some.ensures.reported

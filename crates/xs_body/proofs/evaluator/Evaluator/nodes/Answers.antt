@@ -7,11 +7,11 @@ use Rattle.xs_body_spec.specs.World.{value_run}
 use Rattle.xs_body.specs.steps.Frames.{last}
 use Rattle.xs_body.proofs.evaluator.Evaluator.nodes.Goals as goal
 
-pub returns-in_err-nodes-clause-told : goal.returns-in_err-nodes-clause-told
-returns-in_err-nodes-clause-told g c =
+pub returns-in_err-nodes-clause-reported : goal.returns-in_err-nodes-clause-reported
+returns-in_err-nodes-clause-reported g c =
     let p = err_from_is_err_and c.from_residual.result c.from_residual.ensures.1 in
     let r = value_run c.args.self.now.world c.args.expr.now c.args.scope.focus (last c.args.scope.seen c.args.self.now.slots) in
     passes (λ v. v) (λ x. x) _ _ (λ v m. limited c.args.site (given (nodes_in v)) m) (g.T.Tally.state c.value.new.tally) c.from_residual.result _ _
     (limited-bind c.args.site r (λ v. given (nodes_in v))
     (g.T.Tally.state c.args.tally.now))
-    (λ v. limited-grows c.args.site (given (nodes_in v))) p.1 p.2 c.in_err-nodes.ensures.told
+    (λ v. limited-grows c.args.site (given (nodes_in v))) p.1 p.2 c.in_err-nodes.ensures.reported

@@ -13,8 +13,8 @@ use Rattle.xs_body.specs.steps.Frames.{Evaluation, called_of, last, passes_on}
 use Rattle.xs_body.proofs.GrowthLemmas.{passes-grow}
 use Rattle.xs_body.proofs.evaluator.Evaluator.pass_selected.Goals as goal
 
-pub returns-in_err-value-clause-told : goal.returns-in_err-value-clause-told
-returns-in_err-value-clause-told g c =
+pub returns-in_err-value-clause-reported : goal.returns-in_err-value-clause-reported
+returns-in_err-value-clause-reported g c =
     let p = err_from_is_err_and c.from_residual.result c.from_residual.ensures.1 in
     let t = c.args.self.now in
     let q = c.args.passing.value in
@@ -27,4 +27,4 @@ returns-in_err-value-clause-told g c =
     passes (λ x. x) _ _ (limited at.site (run from.scope) s) next (g.R.Tally.state c.value.new.tally) c.from_residual.result _ _
     (ap (λ (p : Passing). and_then (limited p.site (run q.scope) s) next) (sym c.deref.ensures)
     ∙ ap (λ (p : Passing). and_then (limited at.site (run p.scope) s) next) (sym c.deref-2.ensures))
-    (λ v. passes-grow q.left.now q.all.now (q.values.items ++ v ∷ []) (called_of q.callee) q.site q.scope t) p.1 p.2 c.in_err-value.ensures.told
+    (λ v. passes-grow q.left.now q.all.now (q.values.items ++ v ∷ []) (called_of q.callee) q.site q.scope t) p.1 p.2 c.in_err-value.ensures.reported

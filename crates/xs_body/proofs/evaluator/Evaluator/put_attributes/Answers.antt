@@ -12,8 +12,8 @@ put_literal-requires-sync-K g c κs within =
     let node = subst (λ (t : Evaluation). c.args.all.scope.focus.node < length t.world.tree) (sym c.loop-attribute.invariant.1.1) c.requires.node in
     (search rules, ((refl, tt), node))
 
-pub returns-in_err-put_literal-clause-told : goal.returns-in_err-put_literal-clause-told
-returns-in_err-put_literal-clause-told g c =
+pub returns-in_err-put_literal-clause-reported : goal.returns-in_err-put_literal-clause-reported
+returns-in_err-put_literal-clause-reported g c =
     let p = err_from_is_err_and c.from_residual.result c.from_residual.ensures.1 in
     let e : c.loop-attribute.left.now ≡ (c.in-Some.attribute.now ∷ c.in-Some.others.now) = search rules in
     let s = g.R.Tally.state c.loop-attribute.recorder in
@@ -26,7 +26,7 @@ returns-in_err-put_literal-clause-told g c =
     (c.loop-attribute.invariant.0
     ∙ ap (λ (v : Evaluation). attributes_steps v.world site f (last n v.slots) c.loop-attribute.left.now s) (sym c.loop-attribute.invariant.1.1)
     ∙ ap (λ xs. attributes_steps t.world site f (last n t.slots) xs s) e)
-    (λ u. attributes-grow t.world site f (last n t.slots) c.in-Some.others.now) p.1 p.2 c.in_err-put_literal.ensures.told
+    (λ u. attributes-grow t.world site f (last n t.slots) c.in-Some.others.now) p.1 p.2 c.in_err-put_literal.ensures.reported
 
 pub loop-attribute-preserved : goal.loop-attribute-preserved
 loop-attribute-preserved g c =
@@ -42,7 +42,7 @@ loop-attribute-preserved g c =
       c.loop-attribute.invariant.0
           ∙ ap (λ (v : Evaluation). attributes_steps v.world site f (last n v.slots) c.loop-attribute.left.now s) (sym q)
           ∙ ap (λ xs. attributes_steps t.world site f (last n t.slots) xs s) e
-          ∙ ap (λ j. and_then j (λ u k. attributes_steps t.world site f (last n t.slots) others k)) c.in_ok-put_literal.ensures.told
+          ∙ ap (λ j. and_then j (λ u k. attributes_steps t.world site f (last n t.slots) others k)) c.in_ok-put_literal.ensures.reported
           ∙ ap (λ (v : Evaluation). attributes_steps v.world site f (last n v.slots) others m) q,
       (c.put_literal.ensures.kept ∙ c.loop-attribute.invariant.1.0, c.put_literal.ensures.same ∙ q),
     )

@@ -3,7 +3,7 @@ use Rattle.xs_body.specs.steps.Frames.{last}
 use Rattle.xs_body.specs.steps.Making.{attributes_steps}
 use Rattle.xs_body.proofs.evaluator.Evaluator.put_attributes.Given as goal
 
--- what is told of all is told of those that are left
+-- what is said of all is said of those that are left
 abbrev pub invariant-loop-attribute : goal.invariant-loop-attribute
 invariant-loop-attribute g l =
     (attributes_steps l.fn.self.world l.all.site l.all.scope.focus (last l.all.scope.seen l.fn.self.slots) l.all.attributes.now

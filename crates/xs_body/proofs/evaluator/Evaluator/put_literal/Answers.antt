@@ -8,10 +8,10 @@ use Rattle.xs_body.specs.steps.Making.{named_steps}
 use Rattle.xs_body.proofs.MakingLemmas.{named-grows}
 use Rattle.xs_body.proofs.evaluator.Evaluator.put_literal.Goals as goal
 
-pub returns-in_err-value-clause-told : goal.returns-in_err-value-clause-told
-returns-in_err-value-clause-told g c =
+pub returns-in_err-value-clause-reported : goal.returns-in_err-value-clause-reported
+returns-in_err-value-clause-reported g c =
     let p = err_from_is_err_and c.from_residual.result c.from_residual.ensures.1 in
     let name = attribute_label c.args.self.now.world.sheet.aliases c.args.attribute.now.0 in
     passes (λ t. cow_str_bytes {Z = Global} t) (λ x. x) _ _ (λ text m. named_steps c.args.site name text m) (g.R.Tally.state c.lend_template.new.tally)
     c.from_residual.result _ _ refl
-    (λ text. named-grows c.args.site name text) p.1 p.2 c.in_err-value.ensures.told
+    (λ text. named-grows c.args.site name text) p.1 p.2 c.in_err-value.ensures.reported

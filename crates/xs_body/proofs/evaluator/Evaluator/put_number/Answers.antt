@@ -11,8 +11,8 @@ use Rattle.xs_body.specs.steps.Numbers.{formatting_of, numbered_of}
 use Rattle.xs_body.proofs.NumberLemmas.{put-ends}
 use Rattle.xs_body.proofs.evaluator.Evaluator.put_number.Goals as goal
 
-pub returns-in_err-numbered-clause-told : goal.returns-in_err-numbered-clause-told
-returns-in_err-numbered-clause-told g c =
+pub returns-in_err-numbered-clause-reported : goal.returns-in_err-numbered-clause-reported
+returns-in_err-numbered-clause-reported g c =
     let p = err_from_is_err_and c.from_residual.result c.from_residual.ensures.1 in
     let w = c.args.self.now.world in
     let d = c.args.decl.now in
@@ -21,10 +21,10 @@ returns-in_err-numbered-clause-told g c =
     let next : Numbered → Run (List ℕ) = λ n. formatting_run w d f vs >>= (λ z. give (written n z)) in
     put-ends (λ (n : code_numbered.Numbered). numbered_of n) c.args.site (numbered_by w d.value d f vs) next _
     (g.R.Tally.state c.args.recorder.now) (g.R.Tally.state c.numbered.new.tally) c.from_residual.result _ _ refl p.1 p.2
-    c.in_err-numbered.ensures.told
+    c.in_err-numbered.ensures.reported
 
-pub returns-in_err-formatting-clause-told : goal.returns-in_err-formatting-clause-told
-returns-in_err-formatting-clause-told g c =
+pub returns-in_err-formatting-clause-reported : goal.returns-in_err-formatting-clause-reported
+returns-in_err-formatting-clause-reported g c =
     let p = err_from_is_err_and c.from_residual-in_err-formatting.result c.from_residual-in_err-formatting.ensures.1 in
     let w = c.args.self.now.world in
     let d = c.args.decl.now in
@@ -36,10 +36,10 @@ returns-in_err-formatting-clause-told g c =
     (g.R.Tally.state c.numbered.new.tally) (g.R.Tally.state c.formatting.new.tally) c.from_residual-in_err-formatting.result _ _
     (ap (λ j. and_then j (λ text m. chars_steps c.args.site text m))
     (goes_on c.args.site (numbered_by w d.value d f vs) next n (g.R.Tally.state c.args.recorder.now) (g.R.Tally.state c.numbered.new.tally)
-    c.in_ok-numbered.ensures.told)) p.1 p.2 c.in_err-formatting.ensures.told
+    c.in_ok-numbered.ensures.reported)) p.1 p.2 c.in_err-formatting.ensures.reported
 
-pub returns-clause-told : goal.returns-clause-told
-returns-clause-told g c =
+pub returns-clause-reported : goal.returns-clause-reported
+returns-clause-reported g c =
     let w = c.args.self.now.world in
     let d = c.args.decl.now in
     let f = c.args.scope.focus in
@@ -52,7 +52,7 @@ returns-clause-told g c =
     continues (λ (u : Unit {0}). u) _ _ c.put_text.result (g.R.Tally.state c.put_text.new.recorder)
     (ap (λ j. and_then j (λ text i. chars_steps p text i))
     (goes_on p (numbered_by w d.value d f vs) next n (g.R.Tally.state c.args.recorder.now) (g.R.Tally.state c.numbered.new.tally)
-    c.in_ok-numbered.ensures.told
-    ∙ goes_on p (formatting_run w d f vs) (λ q. give (written n q)) z (g.R.Tally.state c.numbered.new.tally) m c.in_ok-formatting.ensures.told
+    c.in_ok-numbered.ensures.reported
+    ∙ goes_on p (formatting_run w d f vs) (λ q. give (written n q)) z (g.R.Tally.state c.numbered.new.tally) m c.in_ok-formatting.ensures.reported
     ∙ gives p (written n z) m)
-    ∙ ap (λ (text : List ℕ). chars_steps p text m) (sym c.in_ok-text.ensures)) c.put_text.ensures.told
+    ∙ ap (λ (text : List ℕ). chars_steps p text m) (sym c.in_ok-text.ensures)) c.put_text.ensures.reported

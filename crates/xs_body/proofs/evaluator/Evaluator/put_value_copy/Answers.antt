@@ -16,8 +16,8 @@ put_nodes-requires g c =
           (subst (λ (ns : List ℕ). All (λ n. n < length rs) ns) (sym c.nodes.ensures.nodes) inside);
     }
 
-pub returns-in-Nodes-clause-told : goal.returns-in-Nodes-clause-told
-returns-in-Nodes-clause-told g c =
+pub returns-in-Nodes-clause-reported : goal.returns-in-Nodes-clause-reported
+returns-in-Nodes-clause-reported g c =
     let rs = c.args.self.now.world.tree in
     let site = c.args.site in
     let s = g.R.Tally.state c.args.recorder.now in
@@ -25,4 +25,4 @@ returns-in-Nodes-clause-told g c =
     subst (λ (v : Value). IsStep (copy_steps rs site v s) c.put_nodes.result m) (sym c.in-Nodes.is)
     (subst (λ (ns : List ℕ). IsStep (nodes_steps rs site ns s) c.put_nodes.result m) c.nodes.ensures.nodes
     (subst (λ (t : Evaluation). IsStep (nodes_steps t.world.tree site c.nodes.result.now s) c.put_nodes.result m) c.self.view_is
-    c.put_nodes.ensures.told))
+    c.put_nodes.ensures.reported))

@@ -6,12 +6,12 @@ use Rattle.std.specs.declared.alloc.Global.{Global}
 use Rattle.xs_body.specs.declared.lists.NodeList.{NodeList}
 use Rattle.xs_body.specs.steps.Frames.{Evaluation, last}
 use Rattle.xs_body.specs.steps.Lists.{nodes_in}
-use Rattle.xs_body.proofs.SortLemmas.{set-inside, sort-ends, sort-told, unsorted-told}
+use Rattle.xs_body.proofs.SortLemmas.{set-inside, sort-ends, sort-reported, unsorted-reported}
 use Rattle.xs_body.proofs.evaluator.Evaluator.sorted.Goals as goal
 
-pub returns-in-None-clause-told : goal.returns-in-None-clause-told
-returns-in-None-clause-told g c =
-    unsorted-told c.args.self.now.world c.args.sorts.now c.args.scope.focus (last c.args.scope.seen c.args.self.now.slots) (nodes_in c.args.nodes)
+pub returns-in-None-clause-reported : goal.returns-in-None-clause-reported
+returns-in-None-clause-reported g c =
+    unsorted-reported c.args.self.now.world c.args.sorts.now c.args.scope.focus (last c.args.scope.seen c.args.self.now.slots) (nodes_in c.args.nodes)
     c.args.site (g.T.Tally.state c.args.tally.now) c.in-None.ensures.cases
 
 pub sorted-requires-clause-inside : goal.sorted-requires-clause-inside
@@ -19,22 +19,22 @@ sorted-requires-clause-inside g c κs within =
     set-inside c.args.self.now.world c.args.scope.focus (last c.args.scope.seen c.args.self.now.slots) c.in-Some.first.now.select.scope
     c.context-context.result c.in_ok-set-in-Some.set (nodes_in c.args.nodes) c.context-context.ensures.is c.in_ok-set-in-Some.ensures c.requires.nodes
 
-pub returns-in_err-ordered-in-Some-clause-told : goal.returns-in_err-ordered-in-Some-clause-told
-returns-in_err-ordered-in-Some-clause-told g c =
+pub returns-in_err-ordered-in-Some-clause-reported : goal.returns-in_err-ordered-in-Some-clause-reported
+returns-in_err-ordered-in-Some-clause-reported g c =
     let p = err_from_is_err_and c.from_residual-in_err-ordered-in-Some.result c.from_residual-in_err-ordered-in-Some.ensures.1 in
     sort-ends (λ (v : Vec ℕ Global). v.items) (λ (l : NodeList). nodes_in l) c.args.self.now.world c.args.sorts.now c.args.scope.focus
     (last c.args.scope.seen c.args.self.now.slots) c.in-Some.first.now.select.scope _ c.context-context.result c.in_ok-set-in-Some.set (nodes_in c.args.nodes)
     c.args.site (g.T.Tally.state c.args.tally.now) (g.T.Tally.state c.sorted.new.tally) c.from_residual-in_err-ordered-in-Some.result _ _
     (ap (λ (e : Evaluation). e.world.keys) c.self.view_is) c.context-context.ensures.is c.in_ok-set-in-Some.ensures p.1 p.2
-    c.in_err-ordered-in-Some.ensures.told
+    c.in_err-ordered-in-Some.ensures.reported
 
-pub returns-in_ok-ordered-in-Some-clause-told : goal.returns-in_ok-ordered-in-Some-clause-told
-returns-in_ok-ordered-in-Some-clause-told g c =
-    sort-told (λ (v : Vec ℕ Global). v.items) c.args.self.now.world c.args.sorts.now c.args.scope.focus
+pub returns-in_ok-ordered-in-Some-clause-reported : goal.returns-in_ok-ordered-in-Some-clause-reported
+returns-in_ok-ordered-in-Some-clause-reported g c =
+    sort-reported (λ (v : Vec ℕ Global). v.items) c.args.self.now.world c.args.sorts.now c.args.scope.focus
     (last c.args.scope.seen c.args.self.now.slots) c.in-Some.first.now.select.scope _ c.context-context.result c.in_ok-set-in-Some.set (nodes_in c.args.nodes)
     c.args.site (g.T.Tally.state c.args.tally.now) (g.T.Tally.state c.sorted.new.tally) (Ok c.in_ok-ordered-in-Some.ordered)
     (ap (λ (e : Evaluation). e.world.keys) c.self.view_is) c.context-context.ensures.is c.in_ok-set-in-Some.ensures
-    c.in_ok-ordered-in-Some.ensures.told
+    c.in_ok-ordered-in-Some.ensures.reported
 
 pub returns-in_ok-ordered-in-Some-clause-inside : goal.returns-in_ok-ordered-in-Some-clause-inside
 returns-in_ok-ordered-in-Some-clause-inside g c =

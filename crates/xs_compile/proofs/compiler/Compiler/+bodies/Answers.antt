@@ -2,20 +2,20 @@ use Rattle.std.proofs.Common.{◌≡◌, ◌∙◌, ◌<◌, ◌+◌, ap, refl, 
 use Rattle.std.specs.List.{AllZip}
 use Rattle.std.specs.Prelude.{slice_get}
 use Rattle.xs_compile.proofs.BodyLemmas.{body-empty, gains-instr, none-in, some-in, body-is, body-some, choice-is, fallbacks-are, passed-are}
-use Rattle.xs_compile.proofs.RowLemmas.{binding-named, binding-takes, body-row-is, first-none, other-reading, row-body, row-holds, row-known}
+use Rattle.xs_compile.proofs.TagLemmas.{binding-named, binding-takes, body-tag-is, first-none, other-reading, tag-body, tag-holds, tag-known}
 use Rattle.xs_compile.proofs.ZipLemmas.{behind-falls, first-of, item-of, zip-end, zip-more}
 use Rattle.xs_compile.specs.Bodies.{IsBody, IsWhen, first_body, is_otherwise}
 use Rattle.xs_compile.specs.Declarations.{IsBinding, IsInstr}
 use Rattle.xs_structure.specs.Parts.{body_at, children_with}
 use Rattle.xs_structure.specs.declared.standing.Standing.{Standing}
 use Rattle.xs_compile.specs.declared.parts.Part.TheVariants.{Fallback as FallbackPart, Otherwise as OtherwisePart, When as WhenPart, WithParam as WithParamPart}
-use Rattle.xs_compile.specs.steps.Rows.{is_binding}
+use Rattle.xs_compile.specs.steps.Tags.{is_binding}
 use Rattle.xs_compile.specs.steps.State.{IsInBody, IsPartOf, modules_of, source_of}
 use Rattle.xs_elements.specs.declared.reading.Reading.{Reading}
-use Rattle.xs_elements.specs.declared.rows.Row.TheVariants.{Choose, Fallback, ForEach, Otherwise, WithParam}
+use Rattle.xs_elements.specs.declared.tags.Tag.TheVariants.{Choose, Fallback, ForEach, Otherwise, WithParam}
 use Rattle.xs_elements.specs.Contents.{is_with_param}
 use Rattle.xs_elements.specs.Reading.{shows}
-use Rattle.xs_elements.specs.Rows.{is_fallback, is_when}
+use Rattle.xs_elements.specs.Tags.{is_fallback, is_when}
 use Rattle.xs_structure.specs.Modules.{Place, records_at}
 use Rattle.xs_sheet.specs.declared.body.Body.{out-Body, out-roll-Body, roll-Body}
 use Rattle.xs_sheet.specs.declared.body.Choice.{out-roll-Choice, roll-Choice}
@@ -64,12 +64,12 @@ add_instr-returns t c =
 pub for_each-sorts-requires-clause-known : goal.for_each-sorts-requires-clause-known
 for_each-sorts-requires-clause-known t c =
     let p : Place = (c.args.number, c.args.n) in
-    row-known (modules_of c.args.self.now) p ForEach c.requires.row (λ a b. refl)
+    tag-known (modules_of c.args.self.now) p ForEach c.requires.tag (λ a b. refl)
 
 pub whens-parts-requires-clause-shown : goal.whens-parts-requires-clause-shown
 whens-parts-requires-clause-shown t c =
     let p : Place = (c.args.number, c.args.n) in
-    λ row h. ap (λ (r : Reading). shows r row) (row-known (modules_of c.args.self.now) p Choose c.requires.row (λ a b. refl))
+    λ tag h. ap (λ (r : Reading). shows r tag) (tag-known (modules_of c.args.self.now) p Choose c.requires.tag (λ a b. refl))
 
 pub whens-when-requires : goal.whens-when-requires
 whens-when-requires t c =
@@ -79,7 +79,7 @@ whens-when-requires t c =
     (subst (λ (qs : List Place). All (IsPartOf c.args.self.now inside WhenPart) qs) (sym c.deref-place-items.ensures.value) c.in_ok-places.ensures.parts)
     (omega arith) c.place-item.is in (
       behind-falls (modules_of c.args.self.now) inside c.place-item.result 1 2 t c.decreases h.«module» h.behind h.ready.within.node (omega arith),
-      (h.ready, h.row),
+      (h.ready, h.tag),
     )
 
 pub whens-loop-place-preserved : goal.whens-loop-place-preserved
@@ -100,7 +100,7 @@ whens-returns t c =
     (zip-end (IsWhen (source_of c.args.self.now)) items c.loop-place.whens.items c.loop-place.place-index (omega arith) c.loop-place.invariant)
 
 pub passed-parts-requires-clause-shown : goal.passed-parts-requires-clause-shown
-passed-parts-requires-clause-shown t c = λ row h. ap (λ (r : Reading). shows r row) (c.requires.known)
+passed-parts-requires-clause-shown t c = λ tag h. ap (λ (r : Reading). shows r tag) (c.requires.known)
 
 pub passed-binding-requires : goal.passed-binding-requires
 passed-binding-requires t c =
@@ -110,7 +110,7 @@ passed-binding-requires t c =
     (subst (λ (qs : List Place). All (IsPartOf c.args.self.now inside WithParamPart) qs) (sym c.deref-place-items.ensures.value) c.in_ok-places.ensures.parts)
     (omega arith) c.place-item.is in (
       behind-falls (modules_of c.args.self.now) inside c.place-item.result 3 4 t c.decreases h.«module» h.behind h.ready.within.node (omega arith),
-      (h.ready, row-holds is_binding WithParam _ h.row refl),
+      (h.ready, tag-holds is_binding WithParam _ h.tag refl),
     )
 
 pub passed-loop-place-preserved : goal.passed-loop-place-preserved
@@ -135,7 +135,7 @@ passed-returns t c =
     (zip-end (IsBinding (source_of c.args.self.now)) items c.loop-place.params.items c.loop-place.place-index (omega arith) c.loop-place.invariant)))
 
 pub fallbacks-parts-requires-clause-shown : goal.fallbacks-parts-requires-clause-shown
-fallbacks-parts-requires-clause-shown t c = λ row h. ap (λ (r : Reading). shows r row) c.requires.extension ∙ h
+fallbacks-parts-requires-clause-shown t c = λ tag h. ap (λ (r : Reading). shows r tag) c.requires.extension ∙ h
 
 pub fallbacks-body-requires : goal.fallbacks-body-requires
 fallbacks-body-requires t c =
@@ -145,7 +145,7 @@ fallbacks-body-requires t c =
     (subst (λ (qs : List Place). All (IsPartOf c.args.self.now inside FallbackPart) qs) (sym c.deref-place-items.ensures.value) c.in_ok-places.ensures.parts)
     (omega arith) c.place-item.is in (
       behind-falls (modules_of c.args.self.now) inside c.place-item.result 0 1 t c.decreases h.«module» h.behind h.ready.within.node (omega arith),
-      (h.ready, row-body (records_at (modules_of c.args.self.now) c.place-item.result.0) c.place-item.result.1 Fallback h.row (λ a b s. refl)),
+      (h.ready, tag-body (records_at (modules_of c.args.self.now) c.place-item.result.0) c.place-item.result.1 Fallback h.tag (λ a b s. refl)),
     )
 
 pub fallbacks-loop-place-preserved : goal.fallbacks-loop-place-preserved
@@ -173,7 +173,7 @@ fallbacks-returns t c =
     c.loop-place.place-index (omega arith) c.loop-place.invariant)))
 
 pub content-own_expr_if-requires-clause-form : goal.content-own_expr_if-requires-clause-form
-content-own_expr_if-requires-clause-form t c = binding-takes _ c.requires.row
+content-own_expr_if-requires-clause-form t c = binding-takes _ c.requires.tag
 
 pub own_content-returns-then-is_empty : goal.own_content-returns-then-is_empty
 own_content-returns-then-is_empty t c =
@@ -195,12 +195,12 @@ own_content-returns-else-is_empty t c =
     )
 
 pub binding-own_name-requires-clause-named : goal.binding-own_name-requires-clause-named
-binding-own_name-requires-clause-named t c = binding-named _ c.requires.row
+binding-own_name-requires-clause-named t c = binding-named _ c.requires.tag
 
 pub otherwise-parts-requires-clause-shown : goal.otherwise-parts-requires-clause-shown
 otherwise-parts-requires-clause-shown t c =
     let p : Place = (c.args.number, c.args.n) in
-    λ row h. ap (λ (r : Reading). shows r row) (row-known (modules_of c.args.self.now) p Choose c.requires.row (λ a b. refl))
+    λ tag h. ap (λ (r : Reading). shows r tag) (tag-known (modules_of c.args.self.now) p Choose c.requires.tag (λ a b. refl))
 
 pub otherwise-body-requires : goal.otherwise-body-requires
 otherwise-body-requires t c =
@@ -209,7 +209,7 @@ otherwise-body-requires t c =
     first-of (IsPartOf c.args.self.now inside OtherwisePart) c.in_ok-places.places.items c.in-Some.place.now c.in_ok-places.ensures.parts
     (ap (λ (qs : List Place). slice_get qs 0) (sym c.deref.ensures.value) ∙ sym c.in-Some.ensures.value) in (
       behind-falls (modules_of c.args.self.now) inside c.in-Some.place.now 0 1 t c.decreases h.«module» h.behind h.ready.within.node (omega arith),
-      (h.ready, row-body (records_at (modules_of c.args.self.now) c.in-Some.place.now.0) c.in-Some.place.now.1 Otherwise h.row (λ a b s. refl)),
+      (h.ready, tag-body (records_at (modules_of c.args.self.now) c.in-Some.place.now.0) c.in-Some.place.now.1 Otherwise h.tag (λ a b s. refl)),
     )
 
 pub otherwise-returns : goal.otherwise-returns
@@ -225,26 +225,26 @@ otherwise-returns t c =
 
 pub kind-unreachable-requires : goal.kind-unreachable-requires
 kind-unreachable-requires t c =
-    body-row-is _ c.requires.row (record {
-      not_NoElement = λ e. c.in_default.not-NoElement (c.row_at.ensures ∙ e);
-      not_Text = λ e. c.in_default.not-Text (c.row_at.ensures ∙ e);
-      not_ApplyTemplates = λ e. c.in_default.not-ApplyTemplates (c.row_at.ensures ∙ e);
-      not_CallTemplate = λ e. c.in_default.not-CallTemplate (c.row_at.ensures ∙ e);
-      not_ApplyImports = λ e. c.in_default.not-ApplyImports (c.row_at.ensures ∙ e);
-      not_ForEach = λ e. c.in_default.not-ForEach (c.row_at.ensures ∙ e);
-      not_ValueOf = λ e. c.in_default.not-ValueOf (c.row_at.ensures ∙ e);
-      not_CopyOf = λ e. c.in_default.not-CopyOf (c.row_at.ensures ∙ e);
-      not_Copy = λ e. c.in_default.not-Copy (c.row_at.ensures ∙ e);
-      not_Number = λ e. c.in_default.not-Number (c.row_at.ensures ∙ e);
-      not_Choose = λ e. c.in_default.not-Choose (c.row_at.ensures ∙ e);
-      not_If = λ e. c.in_default.not-If (c.row_at.ensures ∙ e);
-      not_Variable = λ e. c.in_default.not-Variable (c.row_at.ensures ∙ e);
-      not_Element = λ e. c.in_default.not-Element (c.row_at.ensures ∙ e);
-      not_Attribute = λ e. c.in_default.not-Attribute (c.row_at.ensures ∙ e);
-      not_Comment = λ e. c.in_default.not-Comment (c.row_at.ensures ∙ e);
-      not_ProcessingInstruction = λ e. c.in_default.not-ProcessingInstruction (c.row_at.ensures ∙ e);
-      not_Message = λ e. c.in_default.not-Message (c.row_at.ensures ∙ e);
-      not_Other = λ e. c.in_default.not-Other (c.row_at.ensures ∙ e);
+    body-tag-is _ c.requires.tag (record {
+      not_NoElement = λ e. c.in_default.not-NoElement (c.tag_at.ensures ∙ e);
+      not_Text = λ e. c.in_default.not-Text (c.tag_at.ensures ∙ e);
+      not_ApplyTemplates = λ e. c.in_default.not-ApplyTemplates (c.tag_at.ensures ∙ e);
+      not_CallTemplate = λ e. c.in_default.not-CallTemplate (c.tag_at.ensures ∙ e);
+      not_ApplyImports = λ e. c.in_default.not-ApplyImports (c.tag_at.ensures ∙ e);
+      not_ForEach = λ e. c.in_default.not-ForEach (c.tag_at.ensures ∙ e);
+      not_ValueOf = λ e. c.in_default.not-ValueOf (c.tag_at.ensures ∙ e);
+      not_CopyOf = λ e. c.in_default.not-CopyOf (c.tag_at.ensures ∙ e);
+      not_Copy = λ e. c.in_default.not-Copy (c.tag_at.ensures ∙ e);
+      not_Number = λ e. c.in_default.not-Number (c.tag_at.ensures ∙ e);
+      not_Choose = λ e. c.in_default.not-Choose (c.tag_at.ensures ∙ e);
+      not_If = λ e. c.in_default.not-If (c.tag_at.ensures ∙ e);
+      not_Variable = λ e. c.in_default.not-Variable (c.tag_at.ensures ∙ e);
+      not_Element = λ e. c.in_default.not-Element (c.tag_at.ensures ∙ e);
+      not_Attribute = λ e. c.in_default.not-Attribute (c.tag_at.ensures ∙ e);
+      not_Comment = λ e. c.in_default.not-Comment (c.tag_at.ensures ∙ e);
+      not_ProcessingInstruction = λ e. c.in_default.not-ProcessingInstruction (c.tag_at.ensures ∙ e);
+      not_Message = λ e. c.in_default.not-Message (c.tag_at.ensures ∙ e);
+      not_Other = λ e. c.in_default.not-Other (c.tag_at.ensures ∙ e);
     })
 
 pub other-literal_start-requires-clause-literal : goal.other-literal_start-requires-clause-literal
@@ -252,7 +252,7 @@ other-literal_start-requires-clause-literal t c = sym (ap (λ (s : Standing). s.
 
 pub other-unreachable-requires : goal.other-unreachable-requires
 other-unreachable-requires t c =
-    other-reading (records_at (modules_of c.args.self.now) c.args.number) c.args.n c.requires.row c.requires.instruction.inner
+    other-reading (records_at (modules_of c.args.self.now) c.args.number) c.args.n c.requires.tag c.requires.instruction.inner
     (λ e. c.in_default.not-Literal (ap (λ (s : Standing). s.reading) c.standing.ensures
     ∙ e)) (λ e. c.in_default.not-Extension (ap (λ (s : Standing). s.reading) c.standing.ensures ∙ e))
 
@@ -260,7 +260,7 @@ pub choose-returns : goal.choose-returns
 choose-returns t c =
     let s = source_of c.args.self.now in
     let p : Place = (c.args.number, c.args.n) in (
-      c.requires.row,
+      c.requires.tag,
       choice-is s p (roll-Choice (record { whens = c.of.result; otherwise = c.in_ok-otherwise.otherwise }))
           (subst (AllZip (IsWhen s) (children_with is_when (modules_of c.args.self.now) p))
           (sym (ap (λ x. x.whens) (out-roll-Choice (record { whens = c.of.result; otherwise = c.in_ok-otherwise.otherwise })) ∙ c.of.ensures))

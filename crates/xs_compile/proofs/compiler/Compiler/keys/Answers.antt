@@ -3,7 +3,7 @@ use Rattle.std.specs.List.{AllZip}
 use Rattle.xs_compile.proofs.DeclaredLemmas.{declared-item, one-more}
 use Rattle.xs_compile.specs.Declarations.{IsKey, is_key}
 use Rattle.xs_compile.specs.steps.State.{modules_of, source_of}
-use Rattle.xs_structure.specs.Parts.{row_at}
+use Rattle.xs_structure.specs.Parts.{tag_at}
 use Rattle.xs_structure.specs.Modules.{Place}
 use Rattle.xs_compile.proofs.compiler.Compiler.keys.Goals as goal
 
@@ -21,7 +21,7 @@ key-requires-clause-ready c =
 pub loop-place-preserved : goal.loop-place-preserved
 loop-place-preserved c =
     let stands = IsKey (source_of c.args.self.now) in
-    let test = λ (p : Place). is_key (row_at (modules_of c.args.self.now) p) in
+    let test = λ (p : Place). is_key (tag_at (modules_of c.args.self.now) p) in
     let declared = c.args.declared.now in
     let i = c.loop-place.place-index in
     subst (λ found. AllZip stands (filter test (take (i + 1) declared)) found) (sym c.in_ok-push.ensures.items)

@@ -2,7 +2,7 @@ use Rattle.std.proofs.Common.{◌≡◌, subst, sym, All, List}
 use Rattle.std.proofs.lemmas.Result.{IfOk-weaker}
 use Rattle.xs_compile.proofs.ChildLemmas.{all-parts}
 use Rattle.xs_structure.specs.Parts.{children_with}
-use Rattle.xs_compile.specs.steps.Rows.{part_test}
+use Rattle.xs_compile.specs.steps.Tags.{part_test}
 use Rattle.xs_compile.specs.steps.State.{IsPartOf, modules_of}
 use Rattle.xs_structure.specs.Modules.{Place}
 use Rattle.xs_compile.proofs.compiler.Compiler.parts.Goals as goal

@@ -7,4 +7,4 @@ pub priority_in-requires : goal.priority_in-requires
 priority_in-requires c =
     let ready = c.requires.ready in
     valid_priority (modules_of c.args.self.now) ready.state.accepted (c.args.number, c.args.n) ready.within ready.seen c.in-Some.text.now
-    c.requires.row (sym c.in-Some.ensures)
+    c.requires.tag (sym c.in-Some.ensures)

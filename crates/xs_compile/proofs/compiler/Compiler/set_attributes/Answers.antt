@@ -4,9 +4,9 @@ use Rattle.xs_compile.proofs.ShownLemmas.{inner-child}
 use Rattle.xs_compile.proofs.ZipLemmas.{item-of, zip-end, zip-more}
 use Rattle.xs_compile.specs.declared.parts.Part.TheVariants.{Attribute}
 use Rattle.xs_compile.specs.Declarations.{IsInstr}
-use Rattle.xs_compile.specs.steps.Rows.{is_body_row}
+use Rattle.xs_compile.specs.steps.Tags.{is_body_tag}
 use Rattle.xs_compile.specs.steps.State.{IsPartOf, modules_of, source_of}
-use Rattle.xs_elements.specs.Rows.{is_stylesheet, is_top_level}
+use Rattle.xs_elements.specs.Tags.{is_stylesheet, is_top_level}
 use Rattle.xs_structure.specs.Modules.{Place, records_at}
 use Rattle.xs_compile.proofs.compiler.Compiler.set_attributes.Goals as goal
 
@@ -21,9 +21,9 @@ add_instr-requires c =
     (subst (λ (ps : List Place). All part ps) (sym c.deref-place-items.ensures.value) c.in_ok-places.ensures.parts) c.loop-place-test.true c.place-item.is in
     record {
       ready = h.ready;
-      row = ap is_body_row h.row;
+      tag = ap is_body_tag h.tag;
       inner = subst (λ (m : ℕ). is_top_level (records_at ms m) p.1 ≡ false) (sym h.«module»)
-          (inner-child (records_at ms c.args.number) c.args.n p.1 h.parent (ap is_stylesheet c.requires.row));
+          (inner-child (records_at ms c.args.number) c.args.n p.1 h.parent (ap is_stylesheet c.requires.tag));
     }
 
 pub loop-place-preserved : goal.loop-place-preserved

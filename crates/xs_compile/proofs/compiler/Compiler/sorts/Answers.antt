@@ -10,7 +10,7 @@ use Rattle.xs_structure.specs.Modules.{Place}
 use Rattle.xs_compile.proofs.compiler.Compiler.sorts.Goals as goal
 
 pub parts-requires-clause-shown : goal.parts-requires-clause-shown
-parts-requires-clause-shown c = λ row h. ap (λ (r : Reading). shows r row) c.requires.known
+parts-requires-clause-shown c = λ tag h. ap (λ (r : Reading). shows r tag) c.requires.known
 
 pub sort-requires-clause-ready : goal.sort-requires-clause-ready
 sort-requires-clause-ready c =
@@ -19,12 +19,12 @@ sort-requires-clause-ready c =
     (subst (λ (qs : List Place). All (IsPartOf c.args.self.now inside SortPart) qs) (sym c.deref-place-items.ensures.value) c.in_ok-places.ensures.parts)
     (omega arith) c.place-item.is).ready
 
-pub sort-requires-clause-row : goal.sort-requires-clause-row
-sort-requires-clause-row c =
+pub sort-requires-clause-tag : goal.sort-requires-clause-tag
+sort-requires-clause-tag c =
     let inside : Place = (c.args.number, c.args.n) in
     (item-of (IsPartOf c.args.self.now inside SortPart) c.deref-place-items.result.now c.loop-place.place-index c.place-item.result
     (subst (λ (qs : List Place). All (IsPartOf c.args.self.now inside SortPart) qs) (sym c.deref-place-items.ensures.value) c.in_ok-places.ensures.parts)
-    (omega arith) c.place-item.is).row
+    (omega arith) c.place-item.is).tag
 
 pub loop-place-preserved : goal.loop-place-preserved
 loop-place-preserved c =

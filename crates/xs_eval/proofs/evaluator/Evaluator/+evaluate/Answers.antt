@@ -31,18 +31,18 @@ use Rattle.xs_eval.proofs.UnionLemmas.{only_runs, union_runs}
 use Rattle.xs_eval.proofs.evaluator.Evaluator.+evaluate.Goals as goal
 
 -- an expression of each kind that holds others in a list
-pub evaluate-returns-in-Call-clause-told : goal.evaluate-returns-in-Call-clause-told
-evaluate-returns-in-Call-clause-told g t c =
+pub evaluate-returns-in-Call-clause-reported : goal.evaluate-returns-in-Call-clause-reported
+evaluate-returns-in-Call-clause-reported g t c =
     let keys = g.K.KeyFinder.tables c.args.self.now.keys.now in
     let ctx = c.args.context.now in
     by_case c.args.self.now.site keys c.args.expr.now (expr.Call c.in-Call.function c.in-Call.arguments) ctx
     (called_of keys c.in-Call.function (runs_of keys c.deref.result.now) ctx)
     c.evaluate_call.result (g.T.Tally.state c.args.tally.now) (g.T.Tally.state c.evaluate_call.new.tally)
     c.in-Call.is (run_call keys c.in-Call.function c.in-Call.arguments ctx
-    ∙ ap (λ es. called_of keys c.in-Call.function (runs_of keys es) ctx) (sym c.deref.ensures.value)) c.evaluate_call.ensures.told
+    ∙ ap (λ es. called_of keys c.in-Call.function (runs_of keys es) ctx) (sym c.deref.ensures.value)) c.evaluate_call.ensures.reported
 
-pub evaluate-returns-in-Chain-clause-told : goal.evaluate-returns-in-Chain-clause-told
-evaluate-returns-in-Chain-clause-told g t c =
+pub evaluate-returns-in-Chain-clause-reported : goal.evaluate-returns-in-Chain-clause-reported
+evaluate-returns-in-Chain-clause-reported g t c =
     let keys = g.K.KeyFinder.tables c.args.self.now.keys.now in
     let ctx = c.args.context.now in
     by_case c.args.self.now.site keys c.args.expr.now (expr.Chain c.in-Chain.operators c.in-Chain.operands) ctx
@@ -50,20 +50,20 @@ evaluate-returns-in-Chain-clause-told g t c =
     c.evaluate_chain.result (g.T.Tally.state c.args.tally.now) (g.T.Tally.state c.evaluate_chain.new.tally)
     c.in-Chain.is (run_chain keys c.in-Chain.operators c.in-Chain.operands ctx
     ∙ ap (λ ops. chain ops (runs_of keys c.in-Chain.operands.items) ctx) (sym c.deref-in-Chain.ensures.value)
-    ∙ ap (λ es. chain c.deref-in-Chain.result.now (runs_of keys es) ctx) (sym c.deref-in-Chain-2.ensures.value)) c.evaluate_chain.ensures.told
+    ∙ ap (λ es. chain c.deref-in-Chain.result.now (runs_of keys es) ctx) (sym c.deref-in-Chain-2.ensures.value)) c.evaluate_chain.ensures.reported
 
-pub evaluate-returns-in-Step-clause-told : goal.evaluate-returns-in-Step-clause-told
-evaluate-returns-in-Step-clause-told g t c =
+pub evaluate-returns-in-Step-clause-reported : goal.evaluate-returns-in-Step-clause-reported
+evaluate-returns-in-Step-clause-reported g t c =
     let keys = g.K.KeyFinder.tables c.args.self.now.keys.now in
     let ctx = c.args.context.now in
     by_case c.args.self.now.site keys c.args.expr.now (expr.Step c.in-Step.axis c.in-Step.test c.in-Step.predicates) ctx
     (step c.in-Step.axis c.in-Step.test (runs_of keys c.deref-in-Step.result.now) ctx)
     c.evaluate_step.result (g.T.Tally.state c.args.tally.now) (g.T.Tally.state c.evaluate_step.new.tally)
     c.in-Step.is (run_step keys c.in-Step.axis c.in-Step.test c.in-Step.predicates ctx
-    ∙ ap (λ es. step c.in-Step.axis c.in-Step.test (runs_of keys es) ctx) (sym c.deref-in-Step.ensures.value)) c.evaluate_step.ensures.told
+    ∙ ap (λ es. step c.in-Step.axis c.in-Step.test (runs_of keys es) ctx) (sym c.deref-in-Step.ensures.value)) c.evaluate_step.ensures.reported
 
-pub evaluate-returns-in-Filter-clause-told : goal.evaluate-returns-in-Filter-clause-told
-evaluate-returns-in-Filter-clause-told g t c =
+pub evaluate-returns-in-Filter-clause-reported : goal.evaluate-returns-in-Filter-clause-reported
+evaluate-returns-in-Filter-clause-reported g t c =
     let keys = g.K.KeyFinder.tables c.args.self.now.keys.now in
     let ctx = c.args.context.now in
     by_case c.args.self.now.site keys c.args.expr.now (expr.Filter c.in-Filter.inner c.in-Filter.predicates) ctx
@@ -72,10 +72,10 @@ evaluate-returns-in-Filter-clause-told g t c =
     c.in-Filter.is (run_filter keys c.in-Filter.inner c.in-Filter.predicates ctx
     ∙ ap (λ e. filter_expr (run_of keys e) (runs_of keys c.in-Filter.predicates.items) ctx) (sym c.deref-in-Filter.ensures)
     ∙ ap (λ es. filter_expr (run_of keys c.deref-in-Filter.result.now) (runs_of keys es) ctx) (sym c.deref-in-Filter-2.ensures.value))
-    c.evaluate_filter.ensures.told
+    c.evaluate_filter.ensures.reported
 
-pub evaluate-returns-in-Path-clause-told : goal.evaluate-returns-in-Path-clause-told
-evaluate-returns-in-Path-clause-told g t c =
+pub evaluate-returns-in-Path-clause-reported : goal.evaluate-returns-in-Path-clause-reported
+evaluate-returns-in-Path-clause-reported g t c =
     let keys = g.K.KeyFinder.tables c.args.self.now.keys.now in
     let ctx = c.args.context.now in
     by_case c.args.self.now.site keys c.args.expr.now (expr.Path c.in-Path.start c.in-Path.steps) ctx
@@ -83,41 +83,41 @@ evaluate-returns-in-Path-clause-told g t c =
     c.evaluate_path.result (g.T.Tally.state c.args.tally.now) (g.T.Tally.state c.evaluate_path.new.tally)
     c.in-Path.is (run_path keys c.in-Path.start c.in-Path.steps ctx
     ∙ ap (λ e. path (run_of keys e) (runs_of keys c.in-Path.steps.items) ctx) (sym c.deref-in-Path.ensures)
-    ∙ ap (λ es. path (run_of keys c.deref-in-Path.result.now) (runs_of keys es) ctx) (sym c.deref-in-Path-2.ensures.value)) c.evaluate_path.ensures.told
+    ∙ ap (λ es. path (run_of keys c.deref-in-Path.result.now) (runs_of keys es) ctx) (sym c.deref-in-Path-2.ensures.value)) c.evaluate_path.ensures.reported
 
 -- an operand that is lent
-pub operand-returns-in-Some-clause-told : goal.operand-returns-in-Some-clause-told
-operand-returns-in-Some-clause-told g t c =
+pub operand-returns-in-Some-clause-reported : goal.operand-returns-in-Some-clause-reported
+operand-returns-in-Some-clause-reported g t c =
     let s = g.T.Tally.state c.args.tally.now in
     ap (λ r. limited c.args.self.now.site r s) (c.in-Some.ensures.run (g.K.KeyFinder.tables c.args.self.now.keys.now))
     ∙ gives c.args.self.now.site c.in-Some.lent s
 
 -- a call: its tick
-pub evaluate_call-returns-in_err-tick-clause-told : goal.evaluate_call-returns-in_err-tick-clause-told
-evaluate_call-returns-in_err-tick-clause-told g t c =
+pub evaluate_call-returns-in_err-tick-clause-reported : goal.evaluate_call-returns-in_err-tick-clause-reported
+evaluate_call-returns-in_err-tick-clause-reported g t c =
     let p = err_from_is_err_and c.from_residual.result c.from_residual.ensures.1 in
     let keys = g.K.KeyFinder.tables c.args.self.now.keys.now in
     exits_at_tick (λ v. v) c.args.self.now.site
     (arguments c.args.context.now (runs_of keys c.args.arguments.now) >>= answered keys c.args.context.now c.args.function) _
-    (g.T.Tally.state c.args.tally.now) (g.T.Tally.state c.tick.new.self) c.from_residual.result _ _ refl p.1 p.2 c.in_err-tick.ensures.told
+    (g.T.Tally.state c.args.tally.now) (g.T.Tally.state c.tick.new.self) c.from_residual.result _ _ refl p.1 p.2 c.in_err-tick.ensures.reported
 
 -- its arguments
 pub evaluate_call-loop-argument-init : goal.evaluate_call-loop-argument-init
 evaluate_call-loop-argument-init g t c =
     let keys = g.K.KeyFinder.tables c.args.self.now.keys.now in
     record {
-      told =
+      reported =
           ticks_on c.args.self.now.site
           (arguments c.args.context.now (runs_of keys c.args.arguments.now) >>= answered keys c.args.context.now c.args.function) _
-          (g.T.Tally.state c.args.tally.now) (g.T.Tally.state c.tick.new.self) c.in_ok-tick.ensures.told
+          (g.T.Tally.state c.args.tally.now) (g.T.Tally.state c.tick.new.self) c.in_ok-tick.ensures.reported
           ∙ ap (λ vs. Rest c.args.self.now.site (and_argument c.args.context.now) (answered keys c.args.context.now c.args.function)
           (map (run_of keys) c.args.arguments.now) 0 vs (g.T.Tally.state c.tick.new.self)) (sym c.new-values.ensures.items);
       inside = search rules;
       kept = c.in_ok-tick.ensures.kept;
     }
 
-pub evaluate_call-returns-in_err-v-clause-told : goal.evaluate_call-returns-in_err-v-clause-told
-evaluate_call-returns-in_err-v-clause-told g t c =
+pub evaluate_call-returns-in_err-v-clause-reported : goal.evaluate_call-returns-in_err-v-clause-reported
+evaluate_call-returns-in_err-v-clause-reported g t c =
     let p = err_from_is_err_and c.from_residual-in_err-v.result c.from_residual-in_err-v.ensures.1 in
     let keys = g.K.KeyFinder.tables c.args.self.now.keys.now in
     let es = c.args.arguments.now in
@@ -125,8 +125,8 @@ evaluate_call-returns-in_err-v-clause-told g t c =
     let e = c.argument-item.result in
     exits_in_parts (λ v. v) (λ v. v) c.args.self.now.site (and_argument c.args.context.now) (answered keys c.args.context.now c.args.function)
     (map (run_of keys) es) k (run_of keys e) c.loop-argument.values.items (run_of keys e c.args.context.now) (λ v. c.loop-argument.values.items ++ v ∷ [])
-    (g.T.Tally.state c.loop-argument.tally) (g.T.Tally.state c.operand.new.tally) _ c.from_residual-in_err-v.result _ _ c.loop-argument.invariant.told
-    (mapped_below (run_of keys) es k (omega arith)) (mapped_at (run_of keys) es k e (omega arith) c.argument-item.is) refl p.1 p.2 c.in_err-v.ensures.told
+    (g.T.Tally.state c.loop-argument.tally) (g.T.Tally.state c.operand.new.tally) _ c.from_residual-in_err-v.result _ _ c.loop-argument.invariant.reported
+    (mapped_below (run_of keys) es k (omega arith)) (mapped_at (run_of keys) es k e (omega arith) c.argument-item.is) refl p.1 p.2 c.in_err-v.ensures.reported
 
 pub evaluate_call-loop-argument-preserved : goal.evaluate_call-loop-argument-preserved
 evaluate_call-loop-argument-preserved g t c =
@@ -135,12 +135,13 @@ evaluate_call-loop-argument-preserved g t c =
     let k = c.loop-argument.argument-index in
     let e = c.argument-item.result in
     record {
-      told =
+      reported =
           parts_on c.args.self.now.site (and_argument c.args.context.now) (answered keys c.args.context.now c.args.function) (map (run_of keys) es) k
           (run_of keys e) c.loop-argument.values.items (run_of keys e c.args.context.now) (λ v. c.loop-argument.values.items ++ v ∷ [])
           c.in_ok-v.v c.push.new.self.items (g.T.Tally.state c.loop-argument.tally) (g.T.Tally.state c.operand.new.tally) _
-          c.loop-argument.invariant.told (mapped_below (run_of keys) es k (omega arith)) (mapped_at (run_of keys) es k e (omega arith) c.argument-item.is) refl
-          c.in_ok-v.ensures.told c.in_ok-push.ensures.items;
+          c.loop-argument.invariant.reported (mapped_below (run_of keys) es k (omega arith)) (mapped_at (run_of keys) es k e (omega arith) c.argument-item.is)
+          refl
+          c.in_ok-v.ensures.reported c.in_ok-push.ensures.items;
       inside =
           subst (All (IsIn c.args.context.now.tree)) (sym c.in_ok-push.ensures.items)
           (All-push (IsIn c.args.context.now.tree) c.loop-argument.values.items c.in_ok-v.v c.loop-argument.invariant.inside c.in_ok-v.ensures.inside);
@@ -148,48 +149,48 @@ evaluate_call-loop-argument-preserved g t c =
     }
 
 -- its function
-pub evaluate_call-returns-clause-told : goal.evaluate_call-returns-clause-told
-evaluate_call-returns-clause-told g t c =
+pub evaluate_call-returns-clause-reported : goal.evaluate_call-returns-clause-reported
+evaluate_call-returns-clause-reported g t c =
     let keys = g.K.KeyFinder.tables c.args.self.now.keys.now in
     let es = c.args.arguments.now in
     let k = c.loop-argument.argument-index in
     let s = g.T.Tally.state c.loop-argument.tally in
     continues (λ v. v) _ _ _ _
-    (c.loop-argument.invariant.told
+    (c.loop-argument.invariant.reported
     ∙ items_done c.args.self.now.site (and_argument c.args.context.now) (answered keys c.args.context.now c.args.function) (map (run_of keys) es) k
     c.loop-argument.values.items s (mapped_end (run_of keys) es k (omega arith))
     ∙ ap (λ vs. limited c.args.self.now.site (answered keys c.args.context.now c.args.function vs) s) (sym c.deref.ensures.value))
-    c.answer.ensures.told
+    c.answer.ensures.reported
 
 -- minus signs
-pub evaluate_negative-returns-in_err-v-clause-told : goal.evaluate_negative-returns-in_err-v-clause-told
-evaluate_negative-returns-in_err-v-clause-told g t c =
+pub evaluate_negative-returns-in_err-v-clause-reported : goal.evaluate_negative-returns-in_err-v-clause-reported
+evaluate_negative-returns-in_err-v-clause-reported g t c =
     let p = err_from_is_err_and c.from_residual.result c.from_residual.ensures.1 in
     exits (λ v. v) (λ v. v) c.args.self.now.site (run_of (g.K.KeyFinder.tables c.args.self.now.keys.now) c.args.inner.now c.args.context.now)
     (λ v. given (negation c.args.signs c.args.context.now.tree v)) _
-    (g.T.Tally.state c.args.tally.now) (g.T.Tally.state c.operand.new.tally) c.from_residual.result _ _ refl p.1 p.2 c.in_err-v.ensures.told
+    (g.T.Tally.state c.args.tally.now) (g.T.Tally.state c.operand.new.tally) c.from_residual.result _ _ refl p.1 p.2 c.in_err-v.ensures.reported
 
-pub evaluate_negative-returns-clause-told : goal.evaluate_negative-returns-clause-told
-evaluate_negative-returns-clause-told g t c =
+pub evaluate_negative-returns-clause-reported : goal.evaluate_negative-returns-clause-reported
+evaluate_negative-returns-clause-reported g t c =
     let s = g.T.Tally.state c.operand.new.tally in
     closes (λ v. v) c.args.self.now.site (negation c.args.signs c.context.inside.tree.now c.in_ok-v.v) c.negate-negated.result _ c.settled.result s
     (goes_on c.args.self.now.site (run_of (g.K.KeyFinder.tables c.args.self.now.keys.now) c.args.inner.now c.args.context.now)
-    (λ v. given (negation c.args.signs c.args.context.now.tree v)) c.in_ok-v.v (g.T.Tally.state c.args.tally.now) s c.in_ok-v.ensures.told
+    (λ v. given (negation c.args.signs c.args.context.now.tree v)) c.in_ok-v.v (g.T.Tally.state c.args.tally.now) s c.in_ok-v.ensures.reported
     ∙ ap (λ (a : Context). limited c.args.self.now.site (given (negation c.args.signs a.tree c.in_ok-v.v)) s) (sym c.context.view_is))
     c.settled.ensures c.negate-negated.ensures.value
 
 -- a union of paths of one step
-pub evaluate_chain-returns-then-is_union_of_steps-clause-told : goal.evaluate_chain-returns-then-is_union_of_steps-clause-told
-evaluate_chain-returns-then-is_union_of_steps-clause-told g t c =
+pub evaluate_chain-returns-then-is_union_of_steps-clause-reported : goal.evaluate_chain-returns-then-is_union_of_steps-clause-reported
+evaluate_chain-returns-then-is_union_of_steps-clause-reported g t c =
     let keys = g.K.KeyFinder.tables c.args.self.now.keys.now in
     continues (λ v. v) _ _ _ _
     (ap (λ r. limited c.args.self.now.site r (g.T.Tally.state c.args.tally.now))
     (union_runs keys c.args.operators.now c.args.operands.now c.args.context.now (sym c.is_union_of_steps.ensures ∙ c.if-is_union_of_steps.true)))
-    c.unite_steps.ensures.told
+    c.unite_steps.ensures.reported
 
 -- operands joined
-pub evaluate_chain-returns-in_err-left-in-len1-up-clause-told : goal.evaluate_chain-returns-in_err-left-in-len1-up-clause-told
-evaluate_chain-returns-in_err-left-in-len1-up-clause-told g t c =
+pub evaluate_chain-returns-in_err-left-in-len1-up-clause-reported : goal.evaluate_chain-returns-in_err-left-in-len1-up-clause-reported
+evaluate_chain-returns-in_err-left-in-len1-up-clause-reported g t c =
     let p = err_from_is_err_and c.from_residual-in_err-left-in-len1-up.result c.from_residual-in_err-left-in-len1-up.ensures.1 in
     let keys = g.K.KeyFinder.tables c.args.self.now.keys.now in
     let e = c.first-item.result in
@@ -197,10 +198,10 @@ evaluate_chain-returns-in_err-left-in-len1-up-clause-told g t c =
     (λ v. joined_from c.args.context.now v c.args.operators.now (runs_of keys (but_first c.args.operands.now))) _
     (g.T.Tally.state c.args.tally.now) (g.T.Tally.state c.operand.new.tally) c.from_residual-in_err-left-in-len1-up.result _ _
     (ap (λ es. limited c.args.self.now.site (chain c.args.operators.now (runs_of keys es) c.args.context.now) (g.T.Tally.state c.args.tally.now))
-    (first_and_rest c.args.operands.now e (omega arith) c.first-item.is)) p.1 p.2 c.in_err-left-in-len1-up.ensures.told
+    (first_and_rest c.args.operands.now e (omega arith) c.first-item.is)) p.1 p.2 c.in_err-left-in-len1-up.ensures.reported
 
-pub evaluate_chain-returns-in_ok-left-in-len1-up-clause-told : goal.evaluate_chain-returns-in_ok-left-in-len1-up-clause-told
-evaluate_chain-returns-in_ok-left-in-len1-up-clause-told g t c =
+pub evaluate_chain-returns-in_ok-left-in-len1-up-clause-reported : goal.evaluate_chain-returns-in_ok-left-in-len1-up-clause-reported
+evaluate_chain-returns-in_ok-left-in-len1-up-clause-reported g t c =
     let keys = g.K.KeyFinder.tables c.args.self.now.keys.now in
     let e = c.first-item.result in
     continues (λ v. v) _ _ _ _
@@ -208,37 +209,37 @@ evaluate_chain-returns-in_ok-left-in-len1-up-clause-told g t c =
     (first_and_rest c.args.operands.now e (omega arith) c.first-item.is)
     ∙ goes_on c.args.self.now.site (run_of keys e c.args.context.now)
     (λ v. joined_from c.args.context.now v c.args.operators.now (runs_of keys (but_first c.args.operands.now))) c.in_ok-left-in-len1-up.left
-    (g.T.Tally.state c.args.tally.now) (g.T.Tally.state c.operand.new.tally) c.in_ok-left-in-len1-up.ensures.told)
-    c.join_all.ensures.told
+    (g.T.Tally.state c.args.tally.now) (g.T.Tally.state c.operand.new.tally) c.in_ok-left-in-len1-up.ensures.reported)
+    c.join_all.ensures.reported
 
 -- two operands
-pub join_right-returns-in_err-v-clause-told : goal.join_right-returns-in_err-v-clause-told
-join_right-returns-in_err-v-clause-told g t c =
+pub join_right-returns-in_err-v-clause-reported : goal.join_right-returns-in_err-v-clause-reported
+join_right-returns-in_err-v-clause-reported g t c =
     let p = err_from_is_err_and c.from_residual.result c.from_residual.ensures.1 in
     exits (λ v. v) (λ v. v) c.args.self.now.site (run_of (g.K.KeyFinder.tables c.args.self.now.keys.now) c.args.right.now c.args.context.now)
     (λ v. given (operated c.args.operator c.args.context.now.tree c.args.left v)) _
-    (g.T.Tally.state c.args.tally.now) (g.T.Tally.state c.operand.new.tally) c.from_residual.result _ _ refl p.1 p.2 c.in_err-v.ensures.told
+    (g.T.Tally.state c.args.tally.now) (g.T.Tally.state c.operand.new.tally) c.from_residual.result _ _ refl p.1 p.2 c.in_err-v.ensures.reported
 
-pub join_right-returns-clause-told : goal.join_right-returns-clause-told
-join_right-returns-clause-told g t c =
+pub join_right-returns-clause-reported : goal.join_right-returns-clause-reported
+join_right-returns-clause-reported g t c =
     let s = g.T.Tally.state c.operand.new.tally in
     closes (λ v. v) c.args.self.now.site (operated c.args.operator c.context.inside.tree.now c.args.left c.in_ok-v.v) c.operate-joined.result _
     c.settled.result s
     (goes_on c.args.self.now.site (run_of (g.K.KeyFinder.tables c.args.self.now.keys.now) c.args.right.now c.args.context.now)
-    (λ v. given (operated c.args.operator c.args.context.now.tree c.args.left v)) c.in_ok-v.v (g.T.Tally.state c.args.tally.now) s c.in_ok-v.ensures.told
+    (λ v. given (operated c.args.operator c.args.context.now.tree c.args.left v)) c.in_ok-v.v (g.T.Tally.state c.args.tally.now) s c.in_ok-v.ensures.reported
     ∙ ap (λ (a : Context). limited c.args.self.now.site (given (operated c.args.operator a.tree c.args.left c.in_ok-v.v)) s) (sym c.context.view_is))
     c.settled.ensures c.operate-joined.ensures.value
 
 -- all operands
-pub join_all-returns-in-empty-clause-told : goal.join_all-returns-in-empty-clause-told
-join_all-returns-in-empty-clause-told g t c =
-    c.loop-right.invariant.told ∙ joins_no_more c.args.self.now.site c.args.context.now c.loop-right.left c.loop-right.operators.now
+pub join_all-returns-in-empty-clause-reported : goal.join_all-returns-in-empty-clause-reported
+join_all-returns-in-empty-clause-reported g t c =
+    c.loop-right.invariant.reported ∙ joins_no_more c.args.self.now.site c.args.context.now c.loop-right.left c.loop-right.operators.now
     (drop c.loop-right.right-index (map (run_of (g.K.KeyFinder.tables c.args.self.now.keys.now)) c.args.operands.now)) (g.T.Tally.state c.loop-right.tally)
     (no_items c.loop-right.operators.now (omega arith))
     ∙ ap (λ v. Goes v (g.T.Tally.state c.loop-right.tally)) (sym c.in_ok-into_value-in-empty.ensures.value)
 
-pub join_all-returns-in_err-v-in-len1-up-clause-told : goal.join_all-returns-in_err-v-in-len1-up-clause-told
-join_all-returns-in_err-v-in-len1-up-clause-told g t c =
+pub join_all-returns-in_err-v-in-len1-up-clause-reported : goal.join_all-returns-in_err-v-in-len1-up-clause-reported
+join_all-returns-in_err-v-in-len1-up-clause-reported g t c =
     let p = err_from_is_err_and c.from_residual-in_err-v-in-len1-up.result c.from_residual-in_err-v-in-len1-up.ensures.1 in
     let keys = g.K.KeyFinder.tables c.args.self.now.keys.now in
     let ms = map (run_of keys) c.args.operands.now in
@@ -249,11 +250,11 @@ join_all-returns-in_err-v-in-len1-up-clause-told g t c =
     exits (λ v. v) (λ v. v) c.args.self.now.site (joined (get_or ops 0 Or) c.loop-right.left (run_of keys e) c.args.context.now)
     (λ v. joined_from c.args.context.now v (but_first ops) (drop (k + 1) ms)) _ s (g.T.Tally.state c.join.new.tally)
     c.from_residual-in_err-v-in-len1-up.result _ _
-    (c.loop-right.invariant.told
+    (c.loop-right.invariant.reported
     ∙ ap (λ o. limited c.args.self.now.site (joined_from c.args.context.now c.loop-right.left o (drop k ms)) s) (first_and_rest_at ops Or (omega arith))
     ∙ joins_here c.args.self.now.site c.args.context.now c.loop-right.left (get_or ops 0 Or) (but_first ops) ms k (run_of keys e) s
     (mapped_below (run_of keys) c.args.operands.now k (omega arith)) (mapped_at (run_of keys) c.args.operands.now k e (omega arith) c.right-item.is))
-    p.1 p.2 c.in_err-v-in-len1-up.ensures.told
+    p.1 p.2 c.in_err-v-in-len1-up.ensures.reported
 
 pub join_all-loop-right-preserved : goal.join_all-loop-right-preserved
 join_all-loop-right-preserved g t c =
@@ -264,14 +265,14 @@ join_all-loop-right-preserved g t c =
     let ops = c.loop-right.operators.now in
     let s = g.T.Tally.state c.loop-right.tally in
     record {
-      told =
-          c.loop-right.invariant.told
+      reported =
+          c.loop-right.invariant.reported
           ∙ ap (λ o. limited c.args.self.now.site (joined_from c.args.context.now c.loop-right.left o (drop k ms)) s) (first_and_rest_at ops Or (omega arith))
           ∙ joins_here c.args.self.now.site c.args.context.now c.loop-right.left (get_or ops 0 Or) (but_first ops) ms k (run_of keys e) s
           (mapped_below (run_of keys) c.args.operands.now k (omega arith)) (mapped_at (run_of keys) c.args.operands.now k e (omega arith) c.right-item.is)
           ∙ goes_on c.args.self.now.site (joined (get_or ops 0 Or) c.loop-right.left (run_of keys e) c.args.context.now)
           (λ v. joined_from c.args.context.now v (but_first ops) (drop (k + 1) ms)) c.in_ok-v-in-len1-up.v s (g.T.Tally.state c.join.new.tally)
-          c.in_ok-v-in-len1-up.ensures.told
+          c.in_ok-v-in-len1-up.ensures.reported
           ∙ ap (λ v. limited c.args.self.now.site (joined_from c.args.context.now v (but_first ops) (drop (k + 1) ms)) (g.T.Tally.state c.join.new.tally))
           (sym c.own-left.ensures.value);
       inside = subst (IsIn c.args.context.now.tree) (sym c.own-left.ensures.value) c.in_ok-v-in-len1-up.ensures.inside;
@@ -279,8 +280,8 @@ join_all-loop-right-preserved g t c =
     }
 
 -- a step: its ticks
-pub evaluate_step-returns-in_err-tick_several-clause-told : goal.evaluate_step-returns-in_err-tick_several-clause-told
-evaluate_step-returns-in_err-tick_several-clause-told g t c =
+pub evaluate_step-returns-in_err-tick_several-clause-reported : goal.evaluate_step-returns-in_err-tick_several-clause-reported
+evaluate_step-returns-in_err-tick_several-clause-reported g t c =
     let p = err_from_is_err_and c.from_residual-in_err-tick_several.result c.from_residual-in_err-tick_several.ensures.1 in
     let ms = runs_of (g.K.KeyFinder.tables c.args.self.now.keys.now) c.args.predicates.now in
     let ns = c.in_ok-nodes.nodes in
@@ -289,10 +290,10 @@ evaluate_step-returns-in_err-tick_several-clause-told g t c =
     exits_at_costs (λ v. v) c.args.self.now.site c.len.result (kept_of c.args.context.now ms ns) _ s (g.T.Tally.state c.tick_several.new.tally)
     c.from_residual-in_err-tick_several.result _ _
     (ap (λ l. limited c.args.self.now.site (costs (length l) (kept_of c.args.context.now ms l)) s) (sym c.in_ok-nodes.ensures.nodes)
-    ∙ ap (λ k. limited c.args.self.now.site (costs k (kept_of c.args.context.now ms ns)) s) (sym n)) p.1 p.2 c.in_err-tick_several.ensures.told
+    ∙ ap (λ k. limited c.args.self.now.site (costs k (kept_of c.args.context.now ms ns)) s) (sym n)) p.1 p.2 c.in_err-tick_several.ensures.reported
 
-pub evaluate_step-returns-clause-told : goal.evaluate_step-returns-clause-told
-evaluate_step-returns-clause-told g t c =
+pub evaluate_step-returns-clause-reported : goal.evaluate_step-returns-clause-reported
+evaluate_step-returns-clause-reported g t c =
     let ms = runs_of (g.K.KeyFinder.tables c.args.self.now.keys.now) c.args.predicates.now in
     let ns = c.in_ok-nodes.nodes in
     let s = g.T.Tally.state c.args.tally.now in
@@ -301,30 +302,30 @@ evaluate_step-returns-clause-told g t c =
     (ap (λ l. limited c.args.self.now.site (costs (length l) (kept_of c.args.context.now ms l)) s) (sym c.in_ok-nodes.ensures.nodes)
     ∙ ap (λ k. limited c.args.self.now.site (costs k (kept_of c.args.context.now ms ns)) s) (sym n)
     ∙ costs_on c.args.self.now.site c.len.result (kept_of c.args.context.now ms ns) _ s (g.T.Tally.state c.tick_several.new.tally)
-    c.in_ok-tick_several.ensures.told)
-    c.keep.ensures.told
+    c.in_ok-tick_several.ensures.reported)
+    c.keep.ensures.reported
 
 -- a filter: its nodes
-pub evaluate_filter-returns-in_err-set-clause-told : goal.evaluate_filter-returns-in_err-set-clause-told
-evaluate_filter-returns-in_err-set-clause-told g t c =
+pub evaluate_filter-returns-in_err-set-clause-reported : goal.evaluate_filter-returns-in_err-set-clause-reported
+evaluate_filter-returns-in_err-set-clause-reported g t c =
     let p = err_from_is_err_and c.from_residual.result c.from_residual.ensures.1 in
     let keys = g.K.KeyFinder.tables c.args.self.now.keys.now in
     exits (λ v. v) (λ v. v) c.args.self.now.site (selected (run_of keys c.args.inner.now) c.args.context.now)
     (λ ns. kept_of c.args.context.now (runs_of keys c.args.predicates.now) ns) _
-    (g.T.Tally.state c.args.tally.now) (g.T.Tally.state c.evaluate_nodes.new.tally) c.from_residual.result _ _ refl p.1 p.2 c.in_err-set.ensures.told
+    (g.T.Tally.state c.args.tally.now) (g.T.Tally.state c.evaluate_nodes.new.tally) c.from_residual.result _ _ refl p.1 p.2 c.in_err-set.ensures.reported
 
-pub evaluate_filter-returns-clause-told : goal.evaluate_filter-returns-clause-told
-evaluate_filter-returns-clause-told g t c =
+pub evaluate_filter-returns-clause-reported : goal.evaluate_filter-returns-clause-reported
+evaluate_filter-returns-clause-reported g t c =
     let keys = g.K.KeyFinder.tables c.args.self.now.keys.now in
     let ms = runs_of keys c.args.predicates.now in
     continues (λ v. v) _ _ _ _
     (goes_on c.args.self.now.site (selected (run_of keys c.args.inner.now) c.args.context.now) (λ ns. kept_of c.args.context.now ms ns) c.in_ok-set.set
-    (g.T.Tally.state c.args.tally.now) (g.T.Tally.state c.evaluate_nodes.new.tally) c.in_ok-set.ensures.told)
-    c.keep_of_set.ensures.told
+    (g.T.Tally.state c.args.tally.now) (g.T.Tally.state c.evaluate_nodes.new.tally) c.in_ok-set.ensures.reported)
+    c.keep_of_set.ensures.reported
 
 -- what predicates keep of a set
-pub keep_of_set-returns-in_ok-into_set-in-empty-clause-told : goal.keep_of_set-returns-in_ok-into_set-in-empty-clause-told
-keep_of_set-returns-in_ok-into_set-in-empty-clause-told g t c =
+pub keep_of_set-returns-in_ok-into_set-in-empty-clause-reported : goal.keep_of_set-returns-in_ok-into_set-in-empty-clause-reported
+keep_of_set-returns-in_ok-into_set-in-empty-clause-reported g t c =
     let keys = g.K.KeyFinder.tables c.args.self.now.keys.now in
     let s = g.T.Tally.state c.args.tally.now in
     ap (λ es. limited c.args.self.now.site (kept_of c.args.context.now (runs_of keys es) c.args.set) s) (no_items c.args.predicates.now (omega arith))
@@ -338,8 +339,8 @@ keep_of_set-filter-requires-clause-some g t c =
     subst (AreSome c.args.context.now.tree) (sym c.nodes.ensures.nodes)
     (some_in_list c.args.context.now.tree c.args.set c.nodes.ensures.list c.requires.inside)
 
-pub keep_of_set-returns-in_err-nodes-in-len1-up-clause-told : goal.keep_of_set-returns-in_err-nodes-in-len1-up-clause-told
-keep_of_set-returns-in_err-nodes-in-len1-up-clause-told g t c =
+pub keep_of_set-returns-in_err-nodes-in-len1-up-clause-reported : goal.keep_of_set-returns-in_err-nodes-in-len1-up-clause-reported
+keep_of_set-returns-in_err-nodes-in-len1-up-clause-reported g t c =
     let p = err_from_is_err_and c.from_residual-in_err-nodes-in-len1-up.result c.from_residual-in_err-nodes-in-len1-up.ensures.1 in
     let keys = g.K.KeyFinder.tables c.args.self.now.keys.now in
     let ctx = c.args.context.now in
@@ -350,10 +351,10 @@ keep_of_set-returns-in_err-nodes-in-len1-up-clause-told g t c =
     c.nodes.result.now s (g.T.Tally.state c.filter.new.tally) _ c.from_residual-in_err-nodes-in-len1-up.result _ _
     (ap (λ xs. limited c.args.self.now.site (kept_of ctx (runs_of keys xs) c.args.set) s) (first_and_rest c.args.predicates.now e (omega arith) c.first-item.is)
     ∙ ap (λ ns. limited c.args.self.now.site (kept_of ctx (runs_of keys es) ns) s) (sym c.nodes.ensures.nodes))
-    (omega arith) refl p.1 p.2 c.in_err-nodes-in-len1-up.ensures.told
+    (omega arith) refl p.1 p.2 c.in_err-nodes-in-len1-up.ensures.reported
 
-pub keep_of_set-returns-in_ok-nodes-in-len1-up-clause-told : goal.keep_of_set-returns-in_ok-nodes-in-len1-up-clause-told
-keep_of_set-returns-in_ok-nodes-in-len1-up-clause-told g t c =
+pub keep_of_set-returns-in_ok-nodes-in-len1-up-clause-reported : goal.keep_of_set-returns-in_ok-nodes-in-len1-up-clause-reported
+keep_of_set-returns-in_ok-nodes-in-len1-up-clause-reported g t c =
     let keys = g.K.KeyFinder.tables c.args.self.now.keys.now in
     let ctx = c.args.context.now in
     let e = c.first-item.result in
@@ -364,12 +365,12 @@ keep_of_set-returns-in_ok-nodes-in-len1-up-clause-told g t c =
     c.nodes.result.now c.in_ok-nodes-in-len1-up.nodes s (g.T.Tally.state c.filter.new.tally) _
     (ap (λ xs. limited c.args.self.now.site (kept_of ctx (runs_of keys xs) c.args.set) s) (first_and_rest c.args.predicates.now e (omega arith) c.first-item.is)
     ∙ ap (λ ns. limited c.args.self.now.site (kept_of ctx (runs_of keys es) ns) s) (sym c.nodes.ensures.nodes))
-    (omega arith) refl c.in_ok-nodes-in-len1-up.ensures.told)
-    c.keep.ensures.told
+    (omega arith) refl c.in_ok-nodes-in-len1-up.ensures.reported)
+    c.keep.ensures.reported
 
 -- what predicates keep
-pub keep-returns-in_err-nodes-clause-told : goal.keep-returns-in_err-nodes-clause-told
-keep-returns-in_err-nodes-clause-told g t c =
+pub keep-returns-in_err-nodes-clause-reported : goal.keep-returns-in_err-nodes-clause-reported
+keep-returns-in_err-nodes-clause-reported g t c =
     let p = err_from_is_err_and c.from_residual.result c.from_residual.ensures.1 in
     let keys = g.K.KeyFinder.tables c.args.self.now.keys.now in
     let es = c.args.predicates.now in
@@ -379,10 +380,10 @@ keep-returns-in_err-nodes-clause-told g t c =
     exits_in_items (λ ns. ns) (λ v. v) c.args.self.now.site (filtered c.args.context.now) (λ kept. give (Nodes (in_order kept)))
     (map (run_of keys) es) k
     (run_of keys e) c.as_slice.result.now s (g.T.Tally.state c.filter.new.tally) _ c.from_residual.result _ _
-    (c.loop-predicate.invariant.told
+    (c.loop-predicate.invariant.reported
     ∙ ap (λ ns. Rest c.args.self.now.site (filtered c.args.context.now) (λ kept. give (Nodes (in_order kept))) (map (run_of keys) es) k ns s) (sym
     c.as_slice.ensures.nodes))
-    (mapped_below (run_of keys) es k (omega arith)) (mapped_at (run_of keys) es k e (omega arith) c.predicate-item.is) p.1 p.2 c.in_err-nodes.ensures.told
+    (mapped_below (run_of keys) es k (omega arith)) (mapped_at (run_of keys) es k e (omega arith) c.predicate-item.is) p.1 p.2 c.in_err-nodes.ensures.reported
 
 pub keep-loop-predicate-preserved : goal.keep-loop-predicate-preserved
 keep-loop-predicate-preserved g t c =
@@ -392,24 +393,24 @@ keep-loop-predicate-preserved g t c =
     let e = c.predicate-item.result in
     let s = g.T.Tally.state c.loop-predicate.tally in
     record {
-      told =
+      reported =
           items_on c.args.self.now.site (filtered c.args.context.now) (λ kept. give (Nodes (in_order kept))) (map (run_of keys) es) k
           (run_of keys e) c.as_slice.result.now c.in_ok-nodes.nodes s (g.T.Tally.state c.filter.new.tally) _
-          (c.loop-predicate.invariant.told
+          (c.loop-predicate.invariant.reported
           ∙ ap (λ ns. Rest c.args.self.now.site (filtered c.args.context.now) (λ kept. give (Nodes (in_order kept))) (map (run_of keys) es) k ns s)
           (sym c.as_slice.ensures.nodes))
-          (mapped_below (run_of keys) es k (omega arith)) (mapped_at (run_of keys) es k e (omega arith) c.predicate-item.is) c.in_ok-nodes.ensures.told;
+          (mapped_below (run_of keys) es k (omega arith)) (mapped_at (run_of keys) es k e (omega arith) c.predicate-item.is) c.in_ok-nodes.ensures.reported;
       some = c.in_ok-nodes.ensures.some;
       kept = c.in_ok-nodes.ensures.kept ∙ c.loop-predicate.invariant.kept;
     }
 
-pub keep-returns-clause-told : goal.keep-returns-clause-told
-keep-returns-clause-told g t c =
+pub keep-returns-clause-reported : goal.keep-returns-clause-reported
+keep-returns-clause-reported g t c =
     let keys = g.K.KeyFinder.tables c.args.self.now.keys.now in
     let es = c.args.predicates.now in
     let k = c.loop-predicate.predicate-index in
     let s = g.T.Tally.state c.loop-predicate.tally in
-    c.loop-predicate.invariant.told
+    c.loop-predicate.invariant.reported
     ∙ items_done c.args.self.now.site (filtered c.args.context.now) (λ kept. give (Nodes (in_order kept))) (map (run_of keys) es) k c.loop-predicate.nodes s
     (mapped_end (run_of keys) es k (omega arith))
     ∙ gives c.args.self.now.site (Nodes (in_order c.loop-predicate.nodes)) s
@@ -421,8 +422,8 @@ keep-returns-clause-inside g t c =
     (in_order_all (λ k. k < length c.args.context.now.tree) c.loop-predicate.nodes c.loop-predicate.invariant.some.inside)
 
 -- what a number keeps
-pub filter-returns-in_ok-picked-in-Some-clause-told : goal.filter-returns-in_ok-picked-in-Some-clause-told
-filter-returns-in_ok-picked-in-Some-clause-told g t c =
+pub filter-returns-in_ok-picked-in-Some-clause-reported : goal.filter-returns-in_ok-picked-in-Some-clause-reported
+filter-returns-in_ok-picked-in-Some-clause-reported g t c =
     let keys = g.K.KeyFinder.tables c.args.self.now.keys.now in
     let ns = c.args.nodes.now in
     let n = c.in-Some.number in
@@ -438,8 +439,8 @@ filter-returns-in_ok-picked-in-Some-clause-some g t c =
     subst (AreSome tree) (sym c.in_ok-picked-in-Some.ensures.nodes) (picked_some tree c.in-Some.number c.args.nodes.now c.requires.some)
 
 -- what one predicate keeps
-pub filter_each-returns-in_err-v-clause-told : goal.filter_each-returns-in_err-v-clause-told
-filter_each-returns-in_err-v-clause-told g t c =
+pub filter_each-returns-in_err-v-clause-reported : goal.filter_each-returns-in_err-v-clause-reported
+filter_each-returns-in_err-v-clause-reported g t c =
     let p = err_from_is_err_and c.from_residual.result c.from_residual.ensures.1 in
     let keys = g.K.KeyFinder.tables c.args.self.now.keys.now in
     let ctx = c.args.context.now in
@@ -455,8 +456,8 @@ filter_each-returns-in_err-v-clause-told g t c =
     ap (λ a. m a >>= (λ v. give (kept_if (selects v (k + 1)) kept x))) (sym around) in
     exits_in_parts (λ v. v) (λ l. l) c.args.self.now.site (judged ctx (length ns) m) (λ l. give l) (enumerate_from 1 ns) k (k + 1, x) kept
     (m c.at_node-around.result) (λ v. kept_if (selects v (k + 1)) kept x) (g.T.Tally.state c.loop-node.tally) (g.T.Tally.state c.evaluate.new.tally) _
-    c.from_residual.result _ _ c.loop-node.invariant.told (placed_below ns k (omega arith)) (placed_at ns k x (omega arith) c.node-item.is) here
-    p.1 p.2 c.in_err-v.ensures.told
+    c.from_residual.result _ _ c.loop-node.invariant.reported (placed_below ns k (omega arith)) (placed_at ns k x (omega arith) c.node-item.is) here
+    p.1 p.2 c.in_err-v.ensures.reported
 
 pub filter_each-loop-node-preserved : goal.filter_each-loop-node-preserved
 filter_each-loop-node-preserved g t c =
@@ -474,11 +475,11 @@ filter_each-loop-node-preserved g t c =
     ap (λ a. m a >>= (λ v. give (kept_if (selects v (k + 1)) kept x))) (sym around) in
     let P = λ (n : ℕ). n < length ctx.tree in
     record {
-      told =
+      reported =
           parts_on c.args.self.now.site (judged ctx (length ns) m) (λ l. give l) (enumerate_from 1 ns) k (k + 1, x) kept
           (m c.at_node-around.result) (λ v. kept_if (selects v (k + 1)) kept x) c.in_ok-v.v c.in_ok-kept.kept
           (g.T.Tally.state c.loop-node.tally) (g.T.Tally.state c.evaluate.new.tally) _
-          c.loop-node.invariant.told (placed_below ns k (omega arith)) (placed_at ns k x (omega arith) c.node-item.is) here c.in_ok-v.ensures.told
+          c.loop-node.invariant.reported (placed_below ns k (omega arith)) (placed_at ns k x (omega arith) c.node-item.is) here c.in_ok-v.ensures.reported
           (c.in_ok-kept.ensures.nodes
           ∙ ap (λ b. kept_if b kept x) (c.selects-is_kept.ensures ∙ ap (λ j. selects c.in_ok-v.v (j + 1)) c.loop-node.invariant.place));
       place = ap (λ j. j + 1) c.loop-node.invariant.place;
@@ -491,49 +492,49 @@ filter_each-loop-node-preserved g t c =
       kept = c.in_ok-v.ensures.kept ∙ c.loop-node.invariant.kept;
     }
 
-pub filter_each-returns-clause-told : goal.filter_each-returns-clause-told
-filter_each-returns-clause-told g t c =
+pub filter_each-returns-clause-reported : goal.filter_each-returns-clause-reported
+filter_each-returns-clause-reported g t c =
     let m = run_of (g.K.KeyFinder.tables c.args.self.now.keys.now) c.args.predicate.now in
     let ns = c.args.nodes.now in
     let k = c.loop-node.node-index in
     let s = g.T.Tally.state c.loop-node.tally in
-    c.loop-node.invariant.told
+    c.loop-node.invariant.reported
     ∙ items_done c.args.self.now.site (judged c.args.context.now (length ns) m) (λ l. give l) (enumerate_from 1 ns) k c.loop-node.kept s
     (placed_end ns k (omega arith))
     ∙ gives c.args.self.now.site c.loop-node.kept s
 
 -- a relative path of one step
-pub evaluate_path-returns-in-Some-clause-told : goal.evaluate_path-returns-in-Some-clause-told
-evaluate_path-returns-in-Some-clause-told g t c =
+pub evaluate_path-returns-in-Some-clause-reported : goal.evaluate_path-returns-in-Some-clause-reported
+evaluate_path-returns-in-Some-clause-reported g t c =
     let keys = g.K.KeyFinder.tables c.args.self.now.keys.now in
     continues (λ v. v) _ _ _ _
     (ap (λ r. limited c.args.self.now.site r (g.T.Tally.state c.args.tally.now))
     (only_runs keys c.args.start.now c.args.steps.now c.in-Some.step.now c.args.context.now c.in-Some.ensures))
-    c.evaluate.ensures.told
+    c.evaluate.ensures.reported
 
 -- a path: where it begins
-pub evaluate_path-returns-in_err-nodes-clause-told : goal.evaluate_path-returns-in_err-nodes-clause-told
-evaluate_path-returns-in_err-nodes-clause-told g t c =
+pub evaluate_path-returns-in_err-nodes-clause-reported : goal.evaluate_path-returns-in_err-nodes-clause-reported
+evaluate_path-returns-in_err-nodes-clause-reported g t c =
     let p = err_from_is_err_and c.from_residual.result c.from_residual.ensures.1 in
     let keys = g.K.KeyFinder.tables c.args.self.now.keys.now in
     exits (λ v. v) (λ v. v) c.args.self.now.site (selected (run_of keys c.args.start.now) c.args.context.now)
     (λ ns. steps_from c.args.context.now (runs_of keys c.args.steps.now) ns) _
-    (g.T.Tally.state c.args.tally.now) (g.T.Tally.state c.evaluate_nodes.new.tally) c.from_residual.result _ _ refl p.1 p.2 c.in_err-nodes.ensures.told
+    (g.T.Tally.state c.args.tally.now) (g.T.Tally.state c.evaluate_nodes.new.tally) c.from_residual.result _ _ refl p.1 p.2 c.in_err-nodes.ensures.reported
 
 pub evaluate_path-loop-step-init : goal.evaluate_path-loop-step-init
 evaluate_path-loop-step-init g t c =
     let keys = g.K.KeyFinder.tables c.args.self.now.keys.now in
     record {
-      told =
+      reported =
           goes_on c.args.self.now.site (selected (run_of keys c.args.start.now) c.args.context.now)
           (λ ns. steps_from c.args.context.now (runs_of keys c.args.steps.now) ns) c.in_ok-nodes.nodes (g.T.Tally.state c.args.tally.now)
-          (g.T.Tally.state c.evaluate_nodes.new.tally) c.in_ok-nodes.ensures.told;
+          (g.T.Tally.state c.evaluate_nodes.new.tally) c.in_ok-nodes.ensures.reported;
       inside = c.in_ok-nodes.ensures.inside;
       kept = c.in_ok-nodes.ensures.kept;
     }
 
-pub evaluate_path-returns-in_err-reached-clause-told : goal.evaluate_path-returns-in_err-reached-clause-told
-evaluate_path-returns-in_err-reached-clause-told g t c =
+pub evaluate_path-returns-in_err-reached-clause-reported : goal.evaluate_path-returns-in_err-reached-clause-reported
+evaluate_path-returns-in_err-reached-clause-reported g t c =
     let p = err_from_is_err_and c.from_residual-in_err-reached.result c.from_residual-in_err-reached.ensures.1 in
     let keys = g.K.KeyFinder.tables c.args.self.now.keys.now in
     let es = c.args.steps.now in
@@ -543,9 +544,9 @@ evaluate_path-returns-in_err-reached-clause-told g t c =
     let list = c.nodes-in-loop-step.ensures.nodes in
     exits_in_items (λ ns. ns) (λ v. v) c.args.self.now.site (through c.args.context.now) (λ reached. give (Nodes reached)) (map (run_of keys) es) k
     (run_of keys e) c.nodes-in-loop-step.result.now s (g.T.Tally.state c.follow.new.tally) _ c.from_residual-in_err-reached.result _ _
-    (c.loop-step.invariant.told
+    (c.loop-step.invariant.reported
     ∙ ap (λ ns. Rest c.args.self.now.site (through c.args.context.now) (λ reached. give (Nodes reached)) (map (run_of keys) es) k ns s) (sym list))
-    (mapped_below (run_of keys) es k (omega arith)) (mapped_at (run_of keys) es k e (omega arith) c.step-item.is) p.1 p.2 c.in_err-reached.ensures.told
+    (mapped_below (run_of keys) es k (omega arith)) (mapped_at (run_of keys) es k e (omega arith) c.step-item.is) p.1 p.2 c.in_err-reached.ensures.reported
 
 pub evaluate_path-loop-step-preserved : goal.evaluate_path-loop-step-preserved
 evaluate_path-loop-step-preserved g t c =
@@ -556,25 +557,25 @@ evaluate_path-loop-step-preserved g t c =
     let s = g.T.Tally.state c.loop-step.tally in
     let list = c.nodes-in-loop-step.ensures.nodes in
     record {
-      told =
+      reported =
           items_on c.args.self.now.site (through c.args.context.now) (λ reached. give (Nodes reached)) (map (run_of keys) es) k
           (run_of keys e) c.nodes-in-loop-step.result.now c.in_ok-reached.reached s (g.T.Tally.state c.follow.new.tally) _
-          (c.loop-step.invariant.told
+          (c.loop-step.invariant.reported
           ∙ ap (λ ns. Rest c.args.self.now.site (through c.args.context.now) (λ reached. give (Nodes reached)) (map (run_of keys) es) k ns s) (sym list))
-          (mapped_below (run_of keys) es k (omega arith)) (mapped_at (run_of keys) es k e (omega arith) c.step-item.is) c.in_ok-reached.ensures.told
+          (mapped_below (run_of keys) es k (omega arith)) (mapped_at (run_of keys) es k e (omega arith) c.step-item.is) c.in_ok-reached.ensures.reported
           ∙ ap (λ ns. Rest c.args.self.now.site (through c.args.context.now) (λ reached. give (Nodes reached)) (map (run_of keys) es) (k + 1) ns
           (g.T.Tally.state c.follow.new.tally)) (sym c.own-nodes.ensures.nodes);
       inside = subst (All (λ n. n < length c.args.context.now.tree)) (sym c.own-nodes.ensures.nodes) c.in_ok-reached.ensures.inside;
       kept = c.in_ok-reached.ensures.kept ∙ c.loop-step.invariant.kept;
     }
 
-pub evaluate_path-returns-clause-told : goal.evaluate_path-returns-clause-told
-evaluate_path-returns-clause-told g t c =
+pub evaluate_path-returns-clause-reported : goal.evaluate_path-returns-clause-reported
+evaluate_path-returns-clause-reported g t c =
     let keys = g.K.KeyFinder.tables c.args.self.now.keys.now in
     let es = c.args.steps.now in
     let k = c.loop-step.step-index in
     let s = g.T.Tally.state c.loop-step.tally in
-    c.loop-step.invariant.told
+    c.loop-step.invariant.reported
     ∙ items_done c.args.self.now.site (through c.args.context.now) (λ reached. give (Nodes reached)) (map (run_of keys) es) k c.loop-step.nodes s
     (mapped_end (run_of keys) es k (omega arith))
     ∙ gives c.args.self.now.site (Nodes c.loop-step.nodes) s
@@ -587,13 +588,13 @@ follow-follow_one-requires-clause-inside g t c =
     let P = λ (n : ℕ). n < length c.args.context.now.tree in
     subst P (sym c.node-item.is) (All-get_or P c.args.nodes.now 0 c.node-item.result (omega arith) c.requires.inside)
 
-pub follow-returns-in-len1-clause-told : goal.follow-returns-in-len1-clause-told
-follow-returns-in-len1-clause-told g t c =
+pub follow-returns-in-len1-clause-reported : goal.follow-returns-in-len1-clause-reported
+follow-returns-in-len1-clause-reported g t c =
     let m = run_of (g.K.KeyFinder.tables c.args.self.now.keys.now) c.args.step.now in
     continues (λ v. v) _ _ _ _
     (ap (λ ns. limited c.args.self.now.site (through c.args.context.now ns m) (g.T.Tally.state c.args.tally.now))
     (only_item c.args.nodes.now c.node-item.result (omega arith) c.node-item.is))
-    c.follow_one.ensures.told
+    c.follow_one.ensures.reported
 
 -- a step from one node
 pub follow_one-evaluate_nodes-requires-clause-context : goal.follow_one-evaluate_nodes-requires-clause-context
@@ -603,8 +604,8 @@ follow_one-evaluate_nodes-requires-clause-context g t c =
     (moved (g.K.KeyFinder.tables c.args.self.now.keys.now) c.args.context.now c.args.node c.context.inside.position c.context.inside.size c.requires.context
     c.requires.inside)
 
-pub follow_one-returns-in_err-set-clause-told : goal.follow_one-returns-in_err-set-clause-told
-follow_one-returns-in_err-set-clause-told g t c =
+pub follow_one-returns-in_err-set-clause-reported : goal.follow_one-returns-in_err-set-clause-reported
+follow_one-returns-in_err-set-clause-reported g t c =
     let p = err_from_is_err_and c.from_residual.result c.from_residual.ensures.1 in
     let ctx = c.args.context.now in
     let m = run_of (g.K.KeyFinder.tables c.args.self.now.keys.now) c.args.step.now in
@@ -615,10 +616,10 @@ follow_one-returns-in_err-set-clause-told g t c =
     ap (λ a. selected m a >>= (λ l. give ([] ++ l))) (sym around) in
     exits_in_parts (λ l. l) (λ l. l) c.args.self.now.site (and_from ctx m) (λ l. give (in_order l)) (x ∷ []) 0 x []
     (selected m c.at_node-around.result) (λ l. [] ++ l) (g.T.Tally.state c.args.tally.now) (g.T.Tally.state c.evaluate_nodes.new.tally) _
-    c.from_residual.result _ _ refl (omega arith) refl here p.1 p.2 c.in_err-set.ensures.told
+    c.from_residual.result _ _ refl (omega arith) refl here p.1 p.2 c.in_err-set.ensures.reported
 
-pub follow_one-returns-clause-told : goal.follow_one-returns-clause-told
-follow_one-returns-clause-told g t c =
+pub follow_one-returns-clause-reported : goal.follow_one-returns-clause-reported
+follow_one-returns-clause-reported g t c =
     let ctx = c.args.context.now in
     let m = run_of (g.K.KeyFinder.tables c.args.self.now.keys.now) c.args.step.now in
     let x = c.args.node in
@@ -630,7 +631,7 @@ follow_one-returns-clause-told g t c =
     ap (λ a. selected m a >>= (λ l. give ([] ++ l))) (sym around) in
     parts_on c.args.self.now.site (and_from ctx m) (λ l. give (in_order l)) (x ∷ []) 0 x []
     (selected m c.at_node-around.result) (λ l. [] ++ l) set set (g.T.Tally.state c.args.tally.now) s _
-    refl (omega arith) refl here c.in_ok-set.ensures.told refl
+    refl (omega arith) refl here c.in_ok-set.ensures.reported refl
     ∙ items_done c.args.self.now.site (and_from ctx m) (λ l. give (in_order l)) (x ∷ []) 1 set s (omega arith)
     ∙ gives c.args.self.now.site (in_order set) s
     ∙ ap (λ l. Goes l s) (in_order-same set c.nodes-nodes.ensures.list)
@@ -646,8 +647,8 @@ follow_each-evaluate_nodes-requires-clause-context g t c =
     c.requires.context
     (subst P (sym c.node-item.is) (All-get_or P c.args.nodes.now c.loop-node.node-index c.node-item.result (omega arith) c.requires.inside)))
 
-pub follow_each-returns-in_err-set-clause-told : goal.follow_each-returns-in_err-set-clause-told
-follow_each-returns-in_err-set-clause-told g t c =
+pub follow_each-returns-in_err-set-clause-reported : goal.follow_each-returns-in_err-set-clause-reported
+follow_each-returns-in_err-set-clause-reported g t c =
     let p = err_from_is_err_and c.from_residual.result c.from_residual.ensures.1 in
     let keys = g.K.KeyFinder.tables c.args.self.now.keys.now in
     let ctx = c.args.context.now in
@@ -662,7 +663,7 @@ follow_each-returns-in_err-set-clause-told g t c =
     ap (λ a. selected m a >>= (λ l. give (found ++ l))) (sym around) in
     exits_in_parts (λ l. l) (λ l. l) c.args.self.now.site (and_from ctx m) (λ l. give (in_order l)) ns k x found
     (selected m c.at_node-around.result) (λ l. found ++ l) (g.T.Tally.state c.loop-node.tally) (g.T.Tally.state c.evaluate_nodes.new.tally) _
-    c.from_residual.result _ _ c.loop-node.invariant.told (omega arith) (sym c.node-item.is) here p.1 p.2 c.in_err-set.ensures.told
+    c.from_residual.result _ _ c.loop-node.invariant.reported (omega arith) (sym c.node-item.is) here p.1 p.2 c.in_err-set.ensures.reported
 
 pub follow_each-loop-node-preserved : goal.follow_each-loop-node-preserved
 follow_each-loop-node-preserved g t c =
@@ -680,11 +681,11 @@ follow_each-loop-node-preserved g t c =
     let P = λ (n : ℕ). n < length ctx.tree in
     let items = c.in_ok-extend_from_slice.ensures.nodes ∙ ap (λ l. found ++ l) c.nodes.ensures.nodes in
     record {
-      told =
+      reported =
           parts_on c.args.self.now.site (and_from ctx m) (λ l. give (in_order l)) ns k x found
           (selected m c.at_node-around.result) (λ l. found ++ l) c.in_ok-set.set c.extend_from_slice.new.self
           (g.T.Tally.state c.loop-node.tally) (g.T.Tally.state c.evaluate_nodes.new.tally) _
-          c.loop-node.invariant.told (omega arith) (sym c.node-item.is) here c.in_ok-set.ensures.told items;
+          c.loop-node.invariant.reported (omega arith) (sym c.node-item.is) here c.in_ok-set.ensures.reported items;
       inside =
           subst (All P) (sym items)
           (All-append P found c.in_ok-set.set c.loop-node.invariant.inside
@@ -692,13 +693,13 @@ follow_each-loop-node-preserved g t c =
       kept = c.in_ok-set.ensures.kept ∙ c.loop-node.invariant.kept;
     }
 
-pub follow_each-returns-clause-told : goal.follow_each-returns-clause-told
-follow_each-returns-clause-told g t c =
+pub follow_each-returns-clause-reported : goal.follow_each-returns-clause-reported
+follow_each-returns-clause-reported g t c =
     let m = run_of (g.K.KeyFinder.tables c.args.self.now.keys.now) c.args.step.now in
     let ns = c.args.nodes.now in
     let k = c.loop-node.node-index in
     let s = g.T.Tally.state c.loop-node.tally in
-    c.loop-node.invariant.told
+    c.loop-node.invariant.reported
     ∙ items_done c.args.self.now.site (and_from c.args.context.now m) (λ l. give (in_order l)) ns k c.loop-node.found s (omega arith)
     ∙ gives c.args.self.now.site (in_order c.loop-node.found) s
     ∙ ap (λ l. Goes l s) (sym c.in_ok-of_list.ensures.nodes)
@@ -709,9 +710,9 @@ follow_each-returns-clause-inside g t c =
     (in_order_all (λ k. k < length c.args.context.now.tree) c.loop-node.found c.loop-node.invariant.inside)
 
 -- nodes
-pub evaluate_nodes-returns-in_err-v-clause-told : goal.evaluate_nodes-returns-in_err-v-clause-told
-evaluate_nodes-returns-in_err-v-clause-told g t c =
+pub evaluate_nodes-returns-in_err-v-clause-reported : goal.evaluate_nodes-returns-in_err-v-clause-reported
+evaluate_nodes-returns-in_err-v-clause-reported g t c =
     let p = err_from_is_err_and c.from_residual.result c.from_residual.ensures.1 in
     exits (λ v. v) (λ v. v) c.args.self.now.site (run_of (g.K.KeyFinder.tables c.args.self.now.keys.now) c.args.expr.now c.args.context.now)
     (λ v. given (nodes_in v)) _
-    (g.T.Tally.state c.args.tally.now) (g.T.Tally.state c.operand.new.tally) c.from_residual.result _ _ refl p.1 p.2 c.in_err-v.ensures.told
+    (g.T.Tally.state c.args.tally.now) (g.T.Tally.state c.operand.new.tally) c.from_residual.result _ _ refl p.1 p.2 c.in_err-v.ensures.reported

@@ -72,7 +72,7 @@ decreases-evaluate_nodes g l = 8 * size-Expr l.expr.now + 2
 
 abbrev pub invariant-evaluate_call-loop-argument : goal.invariant-evaluate_call-loop-argument
 invariant-evaluate_call-loop-argument g l = record {
-  told :
+  reported :
       limited l.self.site (called_of (g.K.KeyFinder.tables l.self.keys.now) l.function (runs_of (g.K.KeyFinder.tables l.self.keys.now) l.arguments) l.context)
       (g.T.Tally.state l.fn.tally)
       ≡ Rest l.self.site (and_argument l.context) (answered (g.K.KeyFinder.tables l.self.keys.now) l.context l.function)
@@ -83,7 +83,7 @@ invariant-evaluate_call-loop-argument g l = record {
 
 abbrev pub invariant-join_all-loop-right : goal.invariant-join_all-loop-right
 invariant-join_all-loop-right g l = record {
-  told :
+  reported :
       limited l.self.site (joined_from l.context l.fn.left l.fn.operators (runs_of (g.K.KeyFinder.tables l.self.keys.now) l.operands))
       (g.T.Tally.state l.fn.tally)
       ≡ limited l.self.site (joined_from l.context l.left l.operators
@@ -94,7 +94,7 @@ invariant-join_all-loop-right g l = record {
 
 abbrev pub invariant-keep-loop-predicate : goal.invariant-keep-loop-predicate
 invariant-keep-loop-predicate g l = record {
-  told :
+  reported :
       limited l.self.site (kept_of l.context (runs_of (g.K.KeyFinder.tables l.self.keys.now) l.predicates) l.fn.nodes) (g.T.Tally.state l.fn.tally)
       ≡ Rest l.self.site (filtered l.context) (λ kept. give (Nodes (in_order kept)))
       (map (run_of (g.K.KeyFinder.tables l.self.keys.now)) l.predicates) l.predicate-index l.nodes (g.T.Tally.state l.tally);
@@ -104,7 +104,7 @@ invariant-keep-loop-predicate g l = record {
 
 abbrev pub invariant-filter_each-loop-node : goal.invariant-filter_each-loop-node
 invariant-filter_each-loop-node g l = record {
-  told :
+  reported :
       limited l.self.site (filtered l.context l.nodes (run_of (g.K.KeyFinder.tables l.self.keys.now) l.predicate)) (g.T.Tally.state l.fn.tally)
       ≡ Rest l.self.site (judged l.context (length l.nodes) (run_of (g.K.KeyFinder.tables l.self.keys.now) l.predicate)) (λ kept. give kept)
       (enumerate_from 1 l.nodes) l.node-index l.kept (g.T.Tally.state l.tally);
@@ -116,7 +116,7 @@ invariant-filter_each-loop-node g l = record {
 
 abbrev pub invariant-evaluate_path-loop-step : goal.invariant-evaluate_path-loop-step
 invariant-evaluate_path-loop-step g l = record {
-  told :
+  reported :
       limited l.self.site (path (run_of (g.K.KeyFinder.tables l.self.keys.now) l.start) (runs_of (g.K.KeyFinder.tables l.self.keys.now) l.steps) l.context)
       (g.T.Tally.state l.fn.tally)
       ≡ Rest l.self.site (through l.context) (λ reached. give (Nodes reached))
@@ -127,7 +127,7 @@ invariant-evaluate_path-loop-step g l = record {
 
 abbrev pub invariant-follow_each-loop-node : goal.invariant-follow_each-loop-node
 invariant-follow_each-loop-node g l = record {
-  told :
+  reported :
       limited l.self.site (through l.context l.nodes (run_of (g.K.KeyFinder.tables l.self.keys.now) l.step)) (g.T.Tally.state l.fn.tally)
       ≡ Rest l.self.site (and_from l.context (run_of (g.K.KeyFinder.tables l.self.keys.now) l.step)) (λ found. give (in_order found))
       l.nodes l.node-index l.found (g.T.Tally.state l.tally);

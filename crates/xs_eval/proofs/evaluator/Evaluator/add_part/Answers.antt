@@ -11,8 +11,8 @@ use Rattle.xs_eval_spec.specs.Templates.{and_part}
 use Rattle.xs_eval_spec.proofs.StepLemmas.{exits, gives, goes_on}
 use Rattle.xs_eval.proofs.evaluator.Evaluator.add_part.Goals as goal
 
-pub returns-in_err-v-in-Computed-clause-told : goal.returns-in_err-v-in-Computed-clause-told
-returns-in_err-v-in-Computed-clause-told g c =
+pub returns-in_err-v-in-Computed-clause-reported : goal.returns-in_err-v-in-Computed-clause-reported
+returns-in_err-v-in-Computed-clause-reported g c =
     let r = c.from_residual-in_err-v-in-Computed in
     let p = err_from_is_err_and r.result r.ensures.1 in
     let keys = g.K.KeyFinder.tables c.args.self.now.keys.now in
@@ -23,10 +23,10 @@ returns-in_err-v-in-Computed-clause-told g c =
     (limited c.args.self.now.site (and_part keys around text (part_from c.args.part.now)) s) s
     (g.T.Tally.state c.evaluate.new.tally) r.result _ _
     (ap (λ part. limited c.args.self.now.site (and_part keys around text (part_from part)) s) c.in-Computed.is) p.1 p.2
-    c.in_err-v-in-Computed.ensures.told
+    c.in_err-v-in-Computed.ensures.reported
 
-pub returns-in_ok-with_text-in-Computed-clause-told : goal.returns-in_ok-with_text-in-Computed-clause-told
-returns-in_ok-with_text-in-Computed-clause-told g c =
+pub returns-in_ok-with_text-in-Computed-clause-reported : goal.returns-in_ok-with_text-in-Computed-clause-reported
+returns-in_ok-with_text-in-Computed-clause-reported g c =
     let keys = g.K.KeyFinder.tables c.args.self.now.keys.now in
     let around = c.args.context.now in
     let text = string_bytes c.args.text in
@@ -39,5 +39,5 @@ returns-in_ok-with_text-in-Computed-clause-told g c =
     c.in_ok-with_text-in-Computed.ensures.text ∙ ap (λ b. text ++ b) more in
     ap (λ part. limited c.args.self.now.site (and_part keys around text (part_from part)) s) c.in-Computed.is
     ∙ goes_on c.args.self.now.site (run_of keys c.in-Computed.expr around) (λ w. give (text ++ text_value around.tree w)) v s m
-    c.in_ok-v-in-Computed.ensures.told
+    c.in_ok-v-in-Computed.ensures.reported
     ∙ gives c.args.self.now.site (text ++ text_value around.tree v) m ∙ ap (λ b. Goes b m) (sym all)

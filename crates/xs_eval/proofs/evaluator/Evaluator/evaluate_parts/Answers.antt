@@ -8,8 +8,8 @@ use Rattle.xs_eval_spec.proofs.StepLemmas.{exits_in_items, gives_alone, items_on
 use Rattle.xs_eval.proofs.TemplateLemmas.{and_parsed, parts-run}
 use Rattle.xs_eval.proofs.evaluator.Evaluator.evaluate_parts.Goals as goal
 
-pub returns-in_err-text-clause-told : goal.returns-in_err-text-clause-told
-returns-in_err-text-clause-told g c =
+pub returns-in_err-text-clause-reported : goal.returns-in_err-text-clause-reported
+returns-in_err-text-clause-reported g c =
     let p = err_from_is_err_and c.from_residual.result c.from_residual.ensures.1 in
     let keys = g.K.KeyFinder.tables c.args.self.now.keys.now in
     let f = and_parsed keys c.args.context.now in
@@ -21,7 +21,7 @@ returns-in_err-text-clause-told g c =
     (limited c.args.self.now.site (template keys (parts_from c.args.parts.now) c.args.context.now) (g.T.Tally.state c.args.tally.now))
     c.from_residual.result _ _
     (l.invariant.0 ∙ sym (gives_alone c.args.self.now.site (fold f (string_bytes l.text) (drop l.part-index c.args.parts.now)) s))
-    (omega arith) (sym c.part-item.is) p.1 p.2 c.in_err-text.ensures.told
+    (omega arith) (sym c.part-item.is) p.1 p.2 c.in_err-text.ensures.reported
 
 pub loop-part-preserved : goal.loop-part-preserved
 loop-part-preserved g c =
@@ -34,7 +34,7 @@ loop-part-preserved g c =
       items_on c.args.self.now.site f (λ text. give text) c.args.parts.now l.part-index c.part-item.result (string_bytes l.text) next s m
           (limited c.args.self.now.site (template keys (parts_from c.args.parts.now) c.args.context.now) (g.T.Tally.state c.args.tally.now))
           (l.invariant.0 ∙ sym (gives_alone c.args.self.now.site (fold f (string_bytes l.text) (drop l.part-index c.args.parts.now)) s))
-          (omega arith) (sym c.part-item.is) c.in_ok-text.ensures.told
+          (omega arith) (sym c.part-item.is) c.in_ok-text.ensures.reported
           ∙ gives_alone c.args.self.now.site (fold f next (drop (l.part-index + 1) c.args.parts.now)) m,
       c.in_ok-text.ensures.kept ∙ l.invariant.1,
     )

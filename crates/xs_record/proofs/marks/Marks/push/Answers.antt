@@ -8,9 +8,10 @@ pub invariant_of-self-2 : goal.invariant_of-self-2
 invariant_of-self-2 g c =
     λ q. subst (λ js. IsPacked (js ++ pending q 1))
     (sym c.in_ok-push.ensures.items)
-    (takes-any (g.R.Row.items c.self.inside.row) c.self.inside.at c.self.inside.run c.args.item c.requires.single c.self.invariant q)
+    (takes-any (g.R.ItemLog.items c.self.inside.log) c.self.inside.at c.self.inside.run c.args.item c.requires.single c.self.invariant q)
 
-pub returns-clause-told : goal.returns-clause-told
-returns-clause-told g c =
-    push-marked (g.R.Row.items c.self.inside.row) _ _ c.self.inside.at c.self.inside.run c.args.item c.args.self.now.store (ap (λ v. v.store) c.self.view_is)
+pub returns-clause-reported : goal.returns-clause-reported
+returns-clause-reported g c =
+    push-marked (g.R.ItemLog.items c.self.inside.log) _ _ c.self.inside.at c.self.inside.run c.args.item c.args.self.now.store
+    (ap (λ v. v.store) c.self.view_is)
     c.in_ok-push.ensures.items

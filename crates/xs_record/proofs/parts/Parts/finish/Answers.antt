@@ -9,7 +9,7 @@ use Rattle.xs_record.proofs.parts.Parts.finish.Goals as goal
 pub returns-in-Err-clause-free : goal.returns-in-Err-clause-free
 returns-in-Err-clause-free g c =
     refused-back c.self.inside.before.items c.take_last.new.before.items c.self.inside.marks.blocks c.take_last.new.marks.blocks _ c.into_pool.result
-    c.args.self.blocks c.reclaim.result c.in-Err.ensures.before (ap (λ v. v.blocks) c.self.view_is) c.in-Err.ensures.refused c.into_row.ensures.blocks
+    c.args.self.blocks c.reclaim.result c.in-Err.ensures.before (ap (λ v. v.blocks) c.self.view_is) c.in-Err.ensures.refused c.into_log.ensures.blocks
     c.into_pool.ensures.blocks c.reclaim.ensures.blocks
 
 pub returns-in-Ok-append-clause-marks : goal.returns-in-Ok-append-clause-marks
@@ -35,7 +35,7 @@ returns-in-Ok-append-clause-blocks g c =
     let p : Part = record { items = c.in-Ok.items; hole = None } in
     finish-blocks c.self.inside.before.items c.take_last.new.before.items c.push_reserved.new.self.items p c.self.inside.marks.blocks
     c.take_last.new.marks.blocks _ c.into_pool-pool.result c.args.self.blocks c.in-Ok.ensures.before c.push_reserved.ensures.items
-    (ap (λ v. v.blocks) c.self.view_is) c.in-Ok.ensures.blocks c.into_row-2.ensures.blocks c.into_pool-pool.ensures.blocks
+    (ap (λ v. v.blocks) c.self.view_is) c.in-Ok.ensures.blocks c.into_log-2.ensures.blocks c.into_pool-pool.ensures.blocks
 
 pub returns-clause-free : goal.returns-clause-free
 returns-clause-free g c =
@@ -43,5 +43,5 @@ returns-clause-free g c =
     parts-back (part_blocks c.push_reserved.new.self.items) c.args.self.blocks c.into_pool-pool.result c.reclaim-in-Err-append.result
     (finish-blocks c.self.inside.before.items c.take_last.new.before.items c.push_reserved.new.self.items p c.self.inside.marks.blocks
     c.take_last.new.marks.blocks _ c.into_pool-pool.result c.args.self.blocks c.in-Ok.ensures.before c.push_reserved.ensures.items
-    (ap (λ v. v.blocks) c.self.view_is) c.in-Ok.ensures.blocks c.into_row-2.ensures.blocks c.into_pool-pool.ensures.blocks)
+    (ap (λ v. v.blocks) c.self.view_is) c.in-Ok.ensures.blocks c.into_log-2.ensures.blocks c.into_pool-pool.ensures.blocks)
     c.reclaim-in-Err-append.ensures.blocks

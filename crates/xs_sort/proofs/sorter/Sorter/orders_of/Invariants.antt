@@ -6,7 +6,7 @@ use Rattle.xs_sort.proofs.sorter.Sorter.orders_of.Given as goal
 
 abbrev pub invariant-loop-decl : goal.invariant-loop-decl
 invariant-loop-decl g l = record {
-  told :
+  reported :
       limited l.self.site (orders_of (g.K.KeyFinder.tables l.self.keys.now) l.context l.sorts) (g.T.Tally.state l.fn.tally)
       ≡ Rest l.self.site (and_order (g.K.KeyFinder.tables l.self.keys.now) l.context) (λ orders. give orders) l.sorts l.decl-index l.orders.items
       (g.T.Tally.state l.tally);

@@ -10,8 +10,8 @@ use Rattle.xs_tree.proofs.WalkLemmas.{child-within}
 use Rattle.xs_static.proofs.element.Element.meet_refused.Goals as goal
 
 -- the child that comes next is in the tree
-pub row_of-row-requires : goal.row_of-row-requires
-row_of-row-requires c =
+pub tag_of-tag-requires : goal.tag_of-tag-requires
+tag_of-tag-requires c =
     child-within (records_of c.args.self.now) c.args.self.now.node c.loop-child.yielded c.next.new.self c.in-Some.child
     (sym c.loop-child.invariant.2 ∙ ap (λ xs. c.loop-child.yielded ++ xs) c.in-Some.ensures.steps)
 

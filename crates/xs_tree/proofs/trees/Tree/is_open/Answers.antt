@@ -15,6 +15,6 @@ returns c =
     let here : slice_get c.self.inside.nodes.items c.place.result ≡ Some c.index.result.now =
     slice_get_read c.self.inside.nodes.items _ c.place.result c.index.result.now refl within c.index.ensures in
     let end_is : IsEnd (records c.self.inside) c.place.result c.index.result.now.end = c.self.invariant.ends c.place.result c.index.result.now here in
-    let told : (c.index.result.now.end ≡ 0) ↔ IsOpen c.args.self.now c.args.n =
+    let reported : (c.index.result.now.end ≡ 0) ↔ IsOpen c.args.self.now c.args.n =
     rw (← c.self.view_is, ← c.place.ensures) (IsOpen-end (records c.self.inside) c.place.result c.index.result.now.end end_is) in
-    (λ h. told.0 (eqb-true c.index.result.now.end 0 h), λ o. eq-eqb c.index.result.now.end 0 (told.1 o))
+    (λ h. reported.0 (eqb-true c.index.result.now.end 0 h), λ o. eq-eqb c.index.result.now.end 0 (reported.1 o))

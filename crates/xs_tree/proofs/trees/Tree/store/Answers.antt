@@ -79,7 +79,7 @@ kept c =
       is_open = rw (c.self.view_is, c.place.ensures) c.requires.open;
     }
 
--- the entry stands for the record
+-- the entry represents the record
 entry_is : (c : In_ok-node) → record_of c.keep_text.new.self (entry c) ≡ added c
 entry_is c =
     let name_is : name_at c.keep_text.new.self.names c.in_ok-name.name ≡ c.args.name =

@@ -90,7 +90,7 @@ kept c =
       is_open = rw (c.self.view_is, c.place-2.ensures) c.requires.open;
     }
 
--- the entry stands for the record
+-- the entry represents the record
 entry_is : (c : In_ok-node) → record_of c.keep_text.new.self (entry c) ≡ added c
 entry_is c =
     let name_is : name_at c.keep_text.new.self.names c.index.result.now.name ≡ (at c.args.self.now c.args.like).name =

@@ -71,7 +71,7 @@ like_utf8 c =
     let all : AreUtf8 c.args.self.now = rw (← c.self.view_is) c.self.invariant.utf8 in
     all c.args.like root_record c.requires.found
 
--- the entry stands for the record
+-- the entry represents the record
 entry_is : (c : In_ok-node) → record_of c.self.inside.store (entry c) ≡ added c
 entry_is c = rw (like_is c, kind_is c, c.place.ensures) refl
 

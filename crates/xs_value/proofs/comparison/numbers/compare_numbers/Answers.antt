@@ -16,10 +16,10 @@ compare_one-requires-clause-right c = kept-in c.args.tree.now c.args.right.now c
 
 pub returns-in-One : goal.returns-in-One
 returns-in-One c =
-    let due = compared-kept c.args.tree.now c.args.op c.args.left.now c.args.right.now c.in-Ok.left c.in-Ok-numbers_of.right c.requires.numbers
+    let expected = compared-kept c.args.tree.now c.args.op c.args.left.now c.args.right.now c.in-Ok.left c.in-Ok-numbers_of.right c.requires.numbers
     c.in-Ok.ensures c.in-Ok-numbers_of.ensures in
     subst (λ d. Answers d c.compare_one.result)
-    (sym (due ∙ ap (λ l. some_numbers c.args.op (kept_numbers c.args.tree.now l) (kept_numbers c.args.tree.now c.in-Ok-numbers_of.right)) c.in-One.is))
+    (sym (expected ∙ ap (λ l. some_numbers c.args.op (kept_numbers c.args.tree.now l) (kept_numbers c.args.tree.now c.in-Ok-numbers_of.right)) c.in-One.is))
     c.compare_one.ensures
 
 pub compare_nodes-requires-clause-left : goal.compare_nodes-requires-clause-left
@@ -35,8 +35,8 @@ compare_nodes-requires-clause-can c = can-stand c.args.op c.args.left.now c.args
 
 pub returns-in-Nodes : goal.returns-in-Nodes
 returns-in-Nodes c =
-    let due = compared-kept c.args.tree.now c.args.op c.args.left.now c.args.right.now c.in-Ok.left c.in-Ok-numbers_of.right c.requires.numbers
+    let expected = compared-kept c.args.tree.now c.args.op c.args.left.now c.args.right.now c.in-Ok.left c.in-Ok-numbers_of.right c.requires.numbers
     c.in-Ok.ensures c.in-Ok-numbers_of.ensures in
     subst (λ d. Answers d c.compare_nodes.result)
-    (sym (due ∙ ap (λ l. some_numbers c.args.op (kept_numbers c.args.tree.now l) (kept_numbers c.args.tree.now c.in-Ok-numbers_of.right)) c.in-Nodes.is))
+    (sym (expected ∙ ap (λ l. some_numbers c.args.op (kept_numbers c.args.tree.now l) (kept_numbers c.args.tree.now c.in-Ok-numbers_of.right)) c.in-Nodes.is))
     c.compare_nodes.ensures

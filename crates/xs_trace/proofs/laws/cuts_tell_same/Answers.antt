@@ -1,5 +1,0 @@
-use Rattle.xs_trace.proofs.KnownLemmas.{play-same}
-use Rattle.xs_trace.proofs.laws.cuts_tell_same.Goals as goal
-
-pub returns : goal.returns
-returns g c = play-same
