@@ -303,7 +303,8 @@ fn record_whole_entry<R: Recorder<Task = RowTask>>(
     recorder: &mut R,
 ) -> Result<(), Halt>
     requires row { task.now.row < length rows.now }
-    ensures reported { IsStep (play (entry_marks (λ n k. whole_marks rows.now (child_of task.now n k))
+    ensures reported { IsStep (play (entry_marks
+        (λ n k. whole_marks rows.now (child_of task.now n k))
         number entry.now) (R.state recorder.old)) result (R.state recorder.new) }
     ensures kept { R.kept recorder.new ≡ R.kept recorder.old }
 {

@@ -1,10 +1,11 @@
-//! FlaggedSets of the attribute sets that reach an attribute, by themselves or by the sets that they use.
+//! The attribute sets that reach an attribute, by themselves or by the sets that they use.
 
 ghost use Rattle.std.specs.Prelude.{◌≡◌, not, IfOk};
 ghost use Rattle.std.specs.List.{list_any};
 ghost use Rattle.indexmap.specs.IndexSet.{contains_by};
 ghost use Rattle.xs_attribute_sets.specs.Indexed.{is_flagged, is_of};
-ghost use Rattle.xs_attribute_sets.specs.steps.FlaggedSets.{are_none, is_closed, is_closed_at, is_idle};
+ghost use Rattle.xs_attribute_sets.specs.steps.FlaggedSets.{are_none, is_closed, is_closed_at};
+ghost use Rattle.xs_attribute_sets.specs.steps.FlaggedSets.{is_idle};
 
 use crate::lists::Expanded;
 use indexmap::IndexSet;

@@ -50,8 +50,8 @@ impl<'a> SetIndex<'a> {
     }
 }
 
-/// FlaggedSets of the sets that reach an attribute; all are flagged where another one is not idle, which
-/// can't come.
+/// The sets that reach an attribute are flagged; all are where another one is not idle, which can't
+/// come.
 fn checked_flags<'a>(alloc: Global, sets: &'a [AttrSet]) -> Result<FlaggedSets<'a>, AllocError>
     ensures { IfOk result (λ flags. is_closed flags sets.entry.now ≡ true) }
 {

@@ -9,7 +9,7 @@ use xs_sheet::declarations::AttrSet;
 /// Of each set, the names of those that use it.
 type Users<'a> = IndexMap<Expanded<'a>, Vec<Expanded<'a>>>;
 
-/// FlaggedSets the sets that have an attribute, then those that use them, and so on, each set once. The
+/// Flags the sets that have an attribute, then those that use them, and so on, each set once. The
 /// contract does not say which: `SetIndex` looks whether the others are idle.
 pub(crate) fn flags_of<'a>(
     alloc: Global,
@@ -36,7 +36,7 @@ pub(crate) fn flags_of<'a>(
     Ok(FlaggedSets { names, all: false })
 }
 
-/// FlaggedSets a set; where it was not flagged, those that use it are to be flagged.
+/// Flags a set; where it was not flagged, those that use it are to be flagged.
 fn flag<'a>(
     name: Expanded<'a>,
     names: &mut IndexSet<Expanded<'a>>,

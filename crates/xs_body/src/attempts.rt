@@ -190,7 +190,7 @@ fn global_focus<'a, K: Finder>(world: &World<'a, K>) -> Focus
     ensures { result ≡ global_focus world.now }
 {
     let set_levels = world.sheet.sets.as_slice().len();
-    Focus::alone_at(Node::root(), MOST_DEPTH, set_levels).captured()
+    Focus::alone_at(Node::root(), MOST_DEPTH, set_levels).in_capture()
 }
 
 /// The value of an expression of a global.
@@ -201,7 +201,8 @@ fn report_selected<'a, K: Finder, R: Recorder<Task = Task<'a>>>(
     site: Site,
     recorder: &mut R,
 ) -> Result<Value, Halt>
-    ensures reported { IsStep (limited site (value_run world.now expr.now (global_focus world.now) [])
+    ensures reported { IsStep (limited site
+        (value_run world.now expr.now (global_focus world.now) [])
         (R.state recorder.old)) result (R.state recorder.new) }
     ensures kept { R.kept recorder.new ≡ R.kept recorder.old }
     ensures inside { IfOk result (IsIn world.now.tree) }

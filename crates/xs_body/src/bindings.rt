@@ -82,7 +82,7 @@ impl<'a, K: Finder> Evaluator<'a, K> {
     {
         recorder.open_capture()?;
         self.push(Frame::Fill)?;
-        self.push_body(body, scope.captured())?;
+        self.push_body(body, scope.in_capture())?;
         Ok(())
     }
 

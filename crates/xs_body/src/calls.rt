@@ -165,7 +165,7 @@ impl<'a, K: Finder> Evaluator<'a, K> {
         let scope = passing.scope;
         recorder.open_capture()?;
         self.push(Frame::Take(passing))?;
-        self.push_body(body, scope.captured())?;
+        self.push_body(body, scope.in_capture())?;
         Ok(())
     }
 

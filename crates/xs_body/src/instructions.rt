@@ -139,7 +139,7 @@ impl<'a, K: Finder> Evaluator<'a, K> {
     {
         recorder.open_capture()?;
         self.push(Frame::Say { site, terminate })?;
-        self.push_body(body, scope.captured())?;
+        self.push_body(body, scope.in_capture())?;
         Ok(())
     }
 

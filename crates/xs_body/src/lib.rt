@@ -1,4 +1,4 @@
-//! The evaluation of a compiled stylesheet, which reports a recorder what it does.
+//! The evaluation of a compiled stylesheet, which reports what it does to a recorder.
 #![tactic(auto)]
 
 mod applying;

@@ -284,7 +284,7 @@ impl<'a, K: Finder> Evaluator<'a, K> {
     {
         recorder.open_capture()?;
         self.push(Frame::Make(made, site))?;
-        self.push_body(body, scope.captured())?;
+        self.push_body(body, scope.in_capture())?;
         Ok(())
     }
 

@@ -29,10 +29,10 @@ impl Scope {
     }
 
     /// Of captured content.
-    pub(crate) fn captured(self) -> Scope
+    pub(crate) fn in_capture(self) -> Scope
         ensures { result ≡ captured_scope self }
     {
-        self.over(self.focus.captured())
+        self.over(self.focus.in_capture())
     }
 
     /// Of a template, which sees nothing from outside.

@@ -14,7 +14,7 @@ use crate::lists::NodeList;
 use xs_body_spec::finder::Finder;
 use xs_sheet::body::{Applied, SortDecl};
 use xs_sheet::scoped::ScopedExpr;
-use xs_sort::sorting::sorted;
+use xs_sort::sorting::sort_by_keys;
 use xs_trace::item::Site;
 use xs_trace::recorder::{Halt, Recorder, Tally};
 
@@ -86,7 +86,15 @@ impl<'a, K: Finder> Evaluator<'a, K> {
             Some((first, _)) => {
                 let set = nodes.into_set()?;
                 let context = self.context(&first.select.scope, scope);
-                let ordered = sorted(self.alloc, &set, sorts, &context, self.finder, site, tally)?;
+                let ordered = sort_by_keys(
+                    self.alloc,
+                    &set,
+                    sorts,
+                    &context,
+                    self.finder,
+                    site,
+                    tally,
+                )?;
                 Ok(NodeList::List(ordered))
             }
         }

@@ -11,7 +11,7 @@ use Rattle.xs_sort_order.specs.declared.keys.Direction.TheVariants.{Ascending, D
 use Rattle.xs_sort_order.specs.declared.keys.Key.{Key}
 use Rattle.xs_sort_order.specs.declared.keys.Key.TheVariants.{Numeral}
 use Rattle.xs_sort.specs.declared.orders.Order.{Order}
-use Rattle.xs_sort.specs.Sorting.{and_key, and_order, and_row, direction_in, in_turn, key_in, key_of, keys_of, order_in, order_of, orders_of, rows_of}
+use Rattle.xs_sort.specs.Sorting.{and_key, and_order, and_node, direction_in, in_turn, key_in, key_of, keys_of, order_in, order_of, orders_of, keyed_nodes}
 use Rattle.xs_sort.specs.Sorting.{sorted, sorted_nodes, template_text, under}
 use Rattle.xs_trace.specs.Run.{Run, Answer, Gives, Faults, Lacks, ◌>>=◌, go_on, give, fail, fold}
 use Rattle.xs_trace.specs.declared.fault.Fault.TheVariants.{BadValue}
@@ -262,8 +262,8 @@ module _ (gs : List (Option Value)) where
   keys-value keys c e sorts = fold-value (and_key keys c) [] sorts (λ done s.
       value-then (key_of keys c s) (λ key. give (done ++ key ∷ [])) (key-value keys c e s) (λ key. tt))
 
-  rows-value : (keys : List Table) (c : Context) → c.globals ≡ gs → (sorts : List (SortDecl × Order)) (ns : List ℕ) → HasValue (rows_of keys c sorts ns).end
-  rows-value keys c e sorts ns = fold-value (and_row keys c (length ns) sorts) [] (enumerate_from 1 ns) (λ rows at.
+  rows-value : (keys : List Table) (c : Context) → c.globals ≡ gs → (sorts : List (SortDecl × Order)) (ns : List ℕ) → HasValue (keyed_nodes keys c sorts ns).end
+  rows-value keys c e sorts ns = fold-value (and_node keys c (length ns) sorts) [] (enumerate_from 1 ns) (λ rows at.
       value-then (keys_of keys (in_turn c (length ns) at) sorts) (λ row. give (rows ++ (row, at.1) ∷ []))
       (keys-value keys (in_turn c (length ns) at) e sorts) (λ row. tt))
 
@@ -275,6 +275,6 @@ module _ (gs : List (Option Value)) where
   pub sorted-value : (keys : List Table) (sorts : List SortDecl) (c : Context) → c.globals ≡ gs → (ns : List ℕ) → HasValue (sorted keys sorts c ns).end
   sorted-value keys sorts c e ns =
       let last : List Order → List (List Key × ℕ) → Run (List ℕ) = λ orders rows. give (sorted_nodes orders rows) in
-      let begun : List Order → Run (List ℕ) = λ orders. rows_of keys c (zip sorts orders) ns >>= last orders in
+      let begun : List Order → Run (List ℕ) = λ orders. keyed_nodes keys c (zip sorts orders) ns >>= last orders in
       value-then (orders_of keys c sorts) begun (orders-value keys c e sorts) (λ orders.
-      value-then (rows_of keys c (zip sorts orders) ns) (last orders) (rows-value keys c e (zip sorts orders) ns) (λ rows. tt))
+      value-then (keyed_nodes keys c (zip sorts orders) ns) (last orders) (rows-value keys c e (zip sorts orders) ns) (λ rows. tt))

@@ -7,3 +7,5 @@ pub mod CapturedLemmas
 pub mod IndexLemmas
 pub mod FullLemmas
 pub mod RankLemmas
+mod ChainLemmas
+mod LevelLemmas

@@ -1,18 +1,21 @@
 -- What is true of the evaluation.
-use Rattle.std.specs.Prelude.{◌≡◌, ℕ, ◌+◌, ◌<◌, List, [], ◌∷◌, ◌++◌, slice_get, Option, Some, None}
+use Rattle.std.specs.Prelude.{◌≡◌, ℕ, ◌+◌, ◌<◌, ◌≤◌, List, [], ◌∷◌, ◌++◌, slice_get, Option, Some, None}
 use Rattle.std.specs.List.{All}
 use Rattle.std.specs.Option.{IsSome}
 use Rattle.xs_sheet.specs.declared.body.Body.{Body}
 use Rattle.xs_sheet.specs.declared.declarations.Global.{Global}
+use Rattle.xs_sheet.specs.Sound.{IsSound}
 use Rattle.xs_trace.specs.Fill.{HolesAre, fill, tasks_of}
+use Rattle.xs_trace.specs.Label.{Label}
 use Rattle.xs_trace.specs.Mark.{Tick, Put, Say, Stop, Need, Hole, Trace, GoesOn, NeedsNothing, captured, events_of, messages_of, tick_count}
 use Rattle.xs_trace.specs.declared.event.Event.{Event}
+use Rattle.xs_trace.specs.declared.item.Site.{Site}
 use Rattle.xs_value.specs.declared.value.Value.{Value}
 use Rattle.xs_attribute_sets.specs.declared.index.SetIndex.{SetIndex}
 use Rattle.xs_body_spec.specs.declared.focus.Focus.{Focus}
-use Rattle.xs_body_spec.specs.World.{World, captured_in, with_grain, with_index}
+use Rattle.xs_body_spec.specs.World.{World, all_set_levels, captured_in, with_grain, with_index}
 use Rattle.xs_body_spec.specs.Tasks.{Task}
-use Rattle.xs_body_spec.specs.Trace.{body_trace, calls_at, task_trace}
+use Rattle.xs_body_spec.specs.Trace.{body_trace, called, calls_at, task_trace, using}
 use Rattle.xs_body_spec.specs.Ranks.{BeginsWithTick, HasNodes, rank_of}
 use Rattle.xs_body_spec.specs.Globals.{Settled, SettlesAll, attempt_trace, attempt_value}
 
@@ -73,3 +76,9 @@ TasksFall = (w : World) (t : Task) → HolesAre (λ c. rank_of w c < rank_of w t
 -- where the grain is not 0, a task that is left has nodes, and begins with a tick
 abbrev pub TasksBegin : Type 0
 TasksBegin = (w : World) (t : Task) → (w.grain ≡ Some 0 → ⊥) → HolesAre (λ c. HasNodes c.nodes × BeginsWithTick (task_trace w c)) (task_trace w t)
+
+-- Of a sound stylesheet, where nothing is left to tasks, no more levels of attribute sets are begun than it has declarations: no set uses
+-- itself (XSLT 1.0, 7.1.4).
+abbrev pub LevelsSuffice : Type 0
+LevelsSuffice = (w : World) (names : List Label) (depth n : ℕ) (p : Site) (f : Focus) → IsSound w.sheet → w.grain ≡ None → all_set_levels w ≤ n →
+    called (using names) w depth n p f ≡ called (using names) w depth (all_set_levels w) p f

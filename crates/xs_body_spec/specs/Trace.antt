@@ -281,8 +281,7 @@ entered (overridden current) w k p f = ruled (import_for w current f) f.mode no_
 entered (using names) w k p f = sets_trace names w k f
 
 -- The same where so many levels of templates, and of attribute sets, may be begun. Past the last level of sets nothing is put. That can't
--- come: no set uses itself, directly or through others (7.1.4; `is_apart` of xs_sheet/specs/Sets.antt), so no chain of sets that use one
--- another is longer than there are declarations.
+-- come: no set uses itself, directly or through others (7.1.4; `LevelsSuffice` of specs/Laws.antt).
 abbrev pub called : Entry → World → (depth set_levels : ℕ) → Site → Focus → Trace Task
 called (using names) w depth zero p f = []
 called (using names) w depth (suc level) p f = entered (using names) w (λ e. called e w depth level) p (with_levels depth level f)

@@ -64,7 +64,7 @@ impl Focus {
     }
 
     /// In captured content.
-    pub fn captured(self) -> Focus
+    pub fn in_capture(self) -> Focus
         ensures { result ≡ captured_in self }
     {
         Focus {

@@ -1,7 +1,8 @@
 //! What is true of the evaluation. The functions do nothing: their contracts are the laws.
 
 ghost use Rattle.xs_body_spec.specs.Laws.{AttemptsAreTheSame, AttemptsNeed, CapturedLeavesNothing};
-ghost use Rattle.xs_body_spec.specs.Laws.{CapturedSays, CapturedTakesTicks, SettledNeedsNothing};
+ghost use Rattle.xs_body_spec.specs.Laws.{CapturedSays, CapturedTakesTicks, LevelsSuffice};
+ghost use Rattle.xs_body_spec.specs.Laws.{SettledNeedsNothing};
 ghost use Rattle.xs_body_spec.specs.Laws.{SettlingIsTheSame, TasksAreTheSame, TasksBegin};
 ghost use Rattle.xs_body_spec.specs.Laws.{TasksFall, TasksFill, TasksNeed};
 
@@ -47,4 +48,10 @@ pub fn tasks_fall()
 /// Each task that is left has nodes, and begins with a tick, where the grain is not 0.
 pub fn tasks_begin()
     ensures { TasksBegin }
+{}
+
+/// Attribute sets that use one another are begun in full: more levels of them than there are
+/// declarations change nothing.
+pub fn levels_suffice()
+    ensures { LevelsSuffice }
 {}

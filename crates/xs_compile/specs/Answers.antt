@@ -14,7 +14,7 @@ pub record IsCompiled (ms : List ModuleData) (sheet : Sheet) : Type 0 where
   pub stands : Represents ms sheet
   pub sound : IsSound sheet
 
--- any other is refused for the least of its faults; want of memory may be the answer in any case
+-- any other is refused for the least of its faults; out of memory may be the answer in any case
 abbrev pub Answers : List ModuleData → Result Sheet CompileEnd → Type 0
 Answers ms (Ok sheet) = IsCompiled ms sheet
 Answers ms (Err (Refused fault)) = IsFirstFault ms (Some fault)

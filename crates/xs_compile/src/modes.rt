@@ -12,7 +12,7 @@ ghost use Rattle.xs_tree.specs.Record.{Record};
 use crate::counted::following;
 use indexmap::IndexSet;
 use std::alloc::{AllocError, Global};
-use xs_elements::scope::{Expanded, expanded, value_of};
+use xs_elements::scope::{Expanded, expand_name, value_of};
 use xs_modules::Modules;
 use xs_tree::{Kind, Node, Tree};
 
@@ -29,7 +29,7 @@ pub(crate) fn mode_at(tree: &Tree, n: Node) -> Option<Expanded<'_>>
     ensures { option_map name_data result ≡ tree_mode tree.now n }
 {
     let text = value_of(tree, n, "", "mode")?;
-    expanded(tree, n, text)
+    expand_name(tree, n, text)
 }
 
 /// The mode that a node names. An element alone names one, and a node that is none has no

@@ -17,7 +17,7 @@ use xs_xpath::expr::Expr;
 use xs_xpath::pattern::Pattern;
 use xs_xpath::scope::Scope;
 
-/// Refuses a text of 4 GiB, for want of memory: no module is so long.
+/// Refuses a text of 4 GiB as out of memory: no module is so long.
 fn check_length(text: &str) -> Result<(), AllocError>
     ensures { OnOk result (length text.now < 2 ^ 32) }
 {

@@ -50,7 +50,7 @@ pub fn uri_of<'a>(tree: &'a Tree, n: Node, prefix: &str) -> Option<&'a str>
 
 /// The expanded name that a name represents at an element: without a prefix it is in no namespace
 /// (XSLT 1.0, 2.4). None where the text is no name, or its prefix is not bound.
-pub fn expanded<'a>(tree: &'a Tree, n: Node, name: &'a str) -> Option<Expanded<'a>>
+pub fn expand_name<'a>(tree: &'a Tree, n: Node, name: &'a str) -> Option<Expanded<'a>>
     requires { n < length tree.now }
     ensures { option_map name_data result ≡ expanded (scope_at tree.now n) name.now }
 {
@@ -109,5 +109,5 @@ pub fn own_name(tree: &Tree, n: Node) -> Option<Expanded<'_>>
     ensures { option_map name_data result ≡ own_name tree.now n }
 {
     let name = value_of(tree, n, "", "name")?;
-    expanded(tree, n, name)
+    expand_name(tree, n, name)
 }

@@ -5,7 +5,8 @@ ghost use Rattle.xs_reply.specs.declared.status.TheConstants.{NO_MEMORY, READ_FA
 ghost use Rattle.xs_reply.specs.declared.status.TheConstants.{REFUSED, USAGE};
 ghost use Rattle.xs_words.specs.Results.{texts};
 ghost use Rattle.xs_reply.specs.Fetches.{Fetches};
-ghost use Rattle.xs_reply.specs.Headline.{AtOnce, Gained, Gives, HasTicks, OfExpected, OnlyExpected};
+ghost use Rattle.xs_reply.specs.Headline.{AtOnce, Gained, Gives, HasTicks, OfExpected};
+ghost use Rattle.xs_reply.specs.Headline.{OnlyExpected};
 ghost use Rattle.xs_reply.specs.Job.{is_streamed, request_of};
 ghost use Rattle.xs_reply.specs.Refusals.{Decides, IsListed};
 ghost use Rattle.xs_reply.specs.Reply.{account_of};
@@ -36,8 +37,8 @@ pub fn transform<R: Threads + Sync, L: Library, O: Sink, E: Sink, G: Gate>(
         (L.asked library.old) (L.asked library.new) (L.failed library.old) (L.failed library.new) }
 
     // What the arguments and the files define is what the report and the sinks get; and the lines
-    // of a result are those of a document with the same elements, attributes, texts, comments and
-    // instructions as what that run put.
+    // of a result read back as what stays of what that run put, by themselves where they are one
+    // document, unless they are too large.
     ensures gives { result.status ≢ NO_MEMORY
         → OfExpected (L.files library.old) (request_of (texts words.now))
         (L.failed library.old) (L.failed library.new)

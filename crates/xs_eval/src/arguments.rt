@@ -14,7 +14,7 @@ use crate::operand::Operand;
 use std::alloc::{AllocError, Global};
 use std::borrow::CowStr;
 use xs_eval_spec::context::Context;
-use xs_eval_spec::trouble::{Trouble, computed};
+use xs_eval_spec::trouble::{Trouble, or_trouble};
 use xs_num::number::{Num, NumFault};
 use xs_num::reading::read_num;
 use xs_text::TextBuf;
@@ -144,7 +144,7 @@ pub(crate) fn number_or_node(
             let text = node_text(alloc, context.tree, context.node)?;
             let number = read_num(text.as_str());
             drop(text);
-            computed(number)
+            or_trouble(number)
         }
     }
 }
@@ -215,7 +215,7 @@ pub(crate) fn single(alloc: Global, node: Node) -> Result<Value, AllocError>
 pub(crate) fn natural(count: u64) -> Result<Num, Trouble>
     ensures number { Answers (natural count) result }
 {
-    computed(bounded(count))
+    or_trouble(bounded(count))
 }
 
 // A whole number of any size, where it is in range.

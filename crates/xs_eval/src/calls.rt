@@ -23,7 +23,7 @@ use crate::operand::Operand;
 use crate::{nodes, strings};
 use std::alloc::Global;
 use xs_eval_spec::context::Context;
-use xs_eval_spec::trouble::{Trouble, settled};
+use xs_eval_spec::trouble::{Trouble, or_halt};
 use xs_num::number::Num;
 use xs_trace::recorder::{Halt, Tally};
 use xs_tree::Tree;
@@ -52,7 +52,7 @@ impl<K: KeyFinder> Evaluator<'_, K> {
         if is_key(function) {
             return self.find_by_key(context, values, tally);
         }
-        settled(apply(self.alloc, function, context, values), self.site)
+        or_halt(apply(self.alloc, function, context, values), self.site)
     }
 }
 

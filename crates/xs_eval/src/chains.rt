@@ -13,7 +13,7 @@ use crate::operand::Operand;
 use crate::operators::{decided, operate};
 use crate::steps::{is_union_of_steps, unite_steps};
 use xs_eval_spec::context::Context;
-use xs_eval_spec::trouble::settled;
+use xs_eval_spec::trouble::or_halt;
 use xs_text::TextBuf;
 use xs_trace::recorder::{Halt, Tally};
 use xs_value::keys::KeyFinder;
@@ -135,6 +135,6 @@ impl<K: KeyFinder> Evaluator<'_, K> {
         let joined = operate(self.alloc, operator, context.tree, &left, &v);
         drop(left);
         drop(v);
-        settled(joined, self.site)
+        or_halt(joined, self.site)
     }
 }

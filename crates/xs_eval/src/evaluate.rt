@@ -14,7 +14,7 @@ use crate::operators::negate;
 use crate::variables::{lend, variable};
 use std::alloc::Global;
 use xs_eval_spec::context::Context;
-use xs_eval_spec::trouble::settled;
+use xs_eval_spec::trouble::or_halt;
 use xs_trace::item::Site;
 use xs_trace::recorder::{Halt, Tally};
 use xs_tree::Axis;
@@ -163,6 +163,6 @@ impl<K: KeyFinder> Evaluator<'_, K> {
         let v = self.operand(inner, context, tally)?;
         let negated = negate(self.alloc, signs, context.tree, &v);
         drop(v);
-        settled(negated, self.site)
+        or_halt(negated, self.site)
     }
 }

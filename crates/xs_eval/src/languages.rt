@@ -3,7 +3,8 @@
 ghost use Rattle.std.specs.Prelude.{◌≡◌, ◌<◌, [], filter, length, IfSome};
 ghost use Rattle.std.specs.Prelude.{Some, None, slice_get};
 ghost use Rattle.xs_tree.specs.Record.{attributes};
-ghost use Rattle.xs_eval_spec.specs.Languages.{is_in_language, is_lang, is_language, lang_attributes};
+ghost use Rattle.xs_eval_spec.specs.Languages.{is_in_language, is_lang, is_language};
+ghost use Rattle.xs_eval_spec.specs.Languages.{lang_attributes};
 ghost use Rattle.xs_eval.specs.steps.Languages.{is_part, is_same_word};
 
 use xs_axes::axis_nodes;

@@ -17,7 +17,7 @@ use crate::arguments::{chars, chars_of, natural, node_or_first, nodes_at};
 use crate::operand::Operand;
 use std::alloc::Global;
 use xs_eval_spec::context::Context;
-use xs_eval_spec::trouble::{Trouble, computed};
+use xs_eval_spec::trouble::{Trouble, or_trouble};
 use xs_num::arithmetic::add;
 use xs_num::number::Num;
 use xs_num::reading::read_num;
@@ -156,5 +156,5 @@ fn and_number(alloc: Global, tree: &Tree, total: Num, node: Node) -> Result<Num,
     let text = node_text(alloc, tree, node)?;
     let number = read_num(text.as_str());
     drop(text);
-    computed(add(total, computed(number)?))
+    or_trouble(add(total, or_trouble(number)?))
 }

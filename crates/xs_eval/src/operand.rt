@@ -15,7 +15,7 @@ use crate::arguments::{into_set, nodes_of, number_of, set_of};
 use std::alloc::{AllocError, Global};
 use std::borrow::CowStr;
 use std::marker::Model;
-use xs_eval_spec::trouble::{Trouble, computed};
+use xs_eval_spec::trouble::{Trouble, or_trouble};
 use xs_num::number::Num;
 use xs_num::reading::read_num;
 use xs_text::TextBuf;
@@ -140,7 +140,7 @@ impl<'a> Operand<'a> {
     {
         match self.seen() {
             Seen::Value(value) => number_of(alloc, tree, value),
-            Seen::Text(text) => computed(read_num(text.as_str())),
+            Seen::Text(text) => or_trouble(read_num(text.as_str())),
         }
     }
 

@@ -14,7 +14,7 @@ use crate::node_tests::tested;
 use crate::operand::SetOperand;
 use crate::steps::only_step;
 use xs_eval_spec::context::Context;
-use xs_eval_spec::trouble::settled;
+use xs_eval_spec::trouble::or_halt;
 use xs_trace::recorder::{Halt, Tally, tick_several};
 use xs_tree::{Axis, Node};
 use xs_value::keys::KeyFinder;
@@ -168,6 +168,6 @@ impl<K: KeyFinder> Evaluator<'_, K> {
         ensures inside { IfOk result (λ ns. All (λ k. k < length context.now.tree) ns) }
     {
         let v = self.operand(expr, context, tally)?;
-        settled(v.into_set(), self.site)
+        or_halt(v.into_set(), self.site)
     }
 }

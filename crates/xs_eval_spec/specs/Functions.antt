@@ -31,7 +31,7 @@ second vs = argument vs 1
 abbrev pub third : List Value → Value
 third vs = argument vs 2
 
--- an argument that may be left out represents the context node then (XPath 1.0, 4.1, 4.2 and 4.4)
+-- an argument that may be left out is the context node then (XPath 1.0, 4.1, 4.2 and 4.4)
 abbrev pub first_or_node : Context → List Value → Value
 first_or_node c vs = unwrap_or (slice_get vs 0) (Nodes (c.node ∷ []))
 

@@ -38,7 +38,7 @@ impl<T: Drop> From<AllocFailed<T>> for Trouble {
 }
 
 /// What an operation on numbers gives.
-pub fn computed(operation: Result<Num, NumFault>) -> Result<Num, Trouble>
+pub fn or_trouble(operation: Result<Num, NumFault>) -> Result<Num, Trouble>
     ensures number { Answers (numeric operation) result }
 {
     match operation {
@@ -62,7 +62,7 @@ impl Trouble {
 
 /// What is answered at an instruction.
 #[inline(always)]
-pub fn settled<A>(answer: Result<A, Trouble>, site: Site) -> Result<A, Halt>
+pub fn or_halt<A>(answer: Result<A, Trouble>, site: Site) -> Result<A, Halt>
     ensures { result ≡ settled site answer }
 {
     match answer {

@@ -11,7 +11,7 @@ ghost use Rattle.xs_keys.specs.steps.Pairs.{AreMarked, decls_in, either, is_last
 ghost use Rattle.xs_keys.specs.steps.Pairs.{pairs_in, pushed};
 
 use crate::pairs::{Gathered, Pair};
-use crate::runs::{gather, size_of};
+use crate::runs::{Cut, gather, size_of};
 use std::alloc::{AllocError, Global};
 use std::collections::HashMap;
 use std::thread::Threads;
@@ -124,7 +124,8 @@ impl KeyCell {
     {
         let size = size_of(tree.len());
         let count = tree.len() / size + 1;
-        let runs = gather(rt, alloc, members, flags, tree, size, count)?;
+        let cut = Cut { size, count };
+        let runs = gather(rt, alloc, members, flags, tree, cut)?;
         for outcome in runs {
             let run = outcome?;
             self.add_run(run)?;

@@ -16,10 +16,9 @@ ghost use Rattle.xs_value.specs.Conversion.{IsIn, text_value};
 use crate::uses::{Used, use_at};
 use std::alloc::{AllocError, Global};
 use std::borrow::CowStr;
-use xs_pattern::tables::is_in_table;
 use xs_sheet::declarations::KeyDecl;
 use xs_trace::fault::Fault;
-use xs_tree::{Node, Tree};
+use xs_tree::{Node, Tree, is_flagged};
 use xs_value::conversion::{lend_text, node_text};
 use xs_value::value::Value;
 
@@ -90,7 +89,7 @@ impl Gathered {
         ensures fault { OnOk result (self.new.fault
             ≡ either self.old.fault (first_of (faults_at tree.now node decl.now))) }
     {
-        if !is_in_table(flags, node) {
+        if !is_flagged(flags, node) {
             return Ok(());
         }
         match use_at(alloc, decl, tree, node)? {

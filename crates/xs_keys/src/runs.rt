@@ -16,6 +16,15 @@ const MOST: usize = 64;
 /// The fewest nodes of a run, except the last.
 const FEWEST: usize = 4096;
 
+/// How nodes are cut into runs.
+#[derive(Clone, Copy)]
+pub(crate) struct Cut {
+    /// How many nodes a run has, except the last.
+    pub(crate) size: usize,
+    /// How many runs there are.
+    pub(crate) count: usize,
+}
+
 /// How many nodes a run of so many has.
 pub(crate) fn size_of(count: usize) -> usize
     ensures positive { 0 < result }
@@ -34,19 +43,19 @@ pub(crate) fn gather<R: Threads + Sync>(
     members: &[&KeyDecl],
     flags: &[Vec<bool>],
     tree: &Tree,
-    size: usize,
-    count: usize,
+    cut: Cut,
 ) -> Result<Vec<Result<Gathered, AllocError>>, AllocError>
     requires flags { AreMarked tree.now (decls_in members.now) flags.now }
-    ensures long { IfOk result (λ runs. length runs.items ≡ count) }
-    ensures runs { IfOk result (λ runs. (i : ℕ) (d : _) → i < count
-        → IsRun tree.now (decls_in members.now) size i (get_or runs.items i d)) }
+    ensures long { IfOk result (λ runs. length runs.items ≡ cut.count) }
+    ensures runs { IfOk result (λ runs. (i : ℕ) (d : _) → i < cut.count
+        → IsRun tree.now (decls_in members.now) cut.size i (get_or runs.items i d)) }
 {
+    let size = cut.size;
     let run = |i: usize| -> Result<Gathered, AllocError>
         requires { (i + 1 < 2 ^ 64) × AreMarked tree.now (decls_in members.now) flags.now }
         ensures { IsRun tree.entry.now (decls_in members.entry.now) size i result }
     { run_at(alloc, members, flags, tree, size, i) };
-    thread::map_indices(rt, alloc, count, &run)
+    thread::map_indices(rt, alloc, cut.count, &run)
 }
 
 // What they give in the run with a number.

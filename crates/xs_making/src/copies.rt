@@ -157,7 +157,8 @@ fn put_spaces<R: Recorder>(
     recorder: &mut R,
 ) -> Result<(), Halt>
     requires { n < length tree.now }
-    ensures reported { Puts site (flat_map (λ k. space_events (at tree.now k)) (namespaces tree.now n))
+    ensures reported { Puts site
+        (flat_map (λ k. space_events (at tree.now k)) (namespaces tree.now n))
         (R.state recorder.old) result (R.state recorder.new) }
     ensures kept { R.kept recorder.new ≡ R.kept recorder.old }
 {

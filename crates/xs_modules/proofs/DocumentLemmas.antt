@@ -26,7 +26,7 @@ document_takes limit bytes = go (nat_le (length bytes) limit) refl
     go true e = ap (document limit) (take_within limit bytes e)
     go false e = too_large limit (take (limit + 1) bytes) (too_long limit bytes e) ∙ sym (too_large limit bytes e)
 
--- the bytes of a file that is reported, or those that were given
+-- the bytes of a file that is shown, or those that were given
 abbrev Gives : Option Files → List ℕ → Outcome → Type 0
 Gives files name outcome = (bytes : List ℕ) × Holds files name bytes × (document module_limit bytes ≡ outcome)
 

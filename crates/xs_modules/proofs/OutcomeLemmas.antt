@@ -13,7 +13,7 @@ use Rattle.xs_modules.specs.Results.{ComesTo, end_of}
 use Rattle.xs_modules.specs.steps.Joining.{join}
 use Rattle.xs_modules.proofs.ReadingLemmas.{all_of_both, trouble_behind, trouble_before, out_at_end}
 
--- an answer that is no list of modules reports of trouble
+-- an answer that is no list of modules reports trouble
 pub trouble_of : (e : ModulesEnd) → IsTrouble (end_of e)
 trouble_of (Failed name) = tt
 trouble_of (Refused number name line) = tt

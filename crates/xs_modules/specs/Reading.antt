@@ -26,7 +26,7 @@ abbrev pub too_many_modules : ℕ
 too_many_modules = 31
 
 -- How the reading ends: with the modules; with a name that can't be read; with a fault, by its number, the name of a module and a
--- line; or, anywhere, for want of memory.
+-- line; or, anywhere, where memory ran out.
 pub data End : Type 0 where
   whole : Mentioned → End
   unread : List ℕ → End

@@ -5,7 +5,8 @@ ghost use Rattle.std.specs.Prelude.{◌≡◌, ◌<◌, ◌+◌, ◌^◌, ◌==�
 ghost use Rattle.std.specs.Prelude.{if◌then◌else◌, length, map};
 ghost use Rattle.xs_pattern_spec.specs.Counted.{alike_any_number, alike_number};
 ghost use Rattle.xs_numbering.specs.Counting.{has_level, is_alike};
-ghost use Rattle.xs_number_tables.specs.steps.Alike.{KindAndName, group_after, group_at, held_count};
+ghost use Rattle.xs_number_tables.specs.steps.Alike.{KindAndName, group_after, group_at};
+ghost use Rattle.xs_number_tables.specs.steps.Alike.{held_count};
 ghost use Rattle.xs_number_tables.specs.steps.Alike.{is_likeness, likeness, likeness_in, seen_by};
 ghost use Rattle.xs_number_tables.specs.steps.Alike.{seen_in};
 ghost use Rattle.xs_numbering.specs.steps.Passes.{counted_on, held_by, is_flagged};

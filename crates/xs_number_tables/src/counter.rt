@@ -4,7 +4,8 @@
 ghost use Rattle.std.specs.Prelude.{◌≡◌, ◌<◌, ◌∷◌, ◌++◌, [], IfOk, OnOk, filter, get_or, length};
 ghost use Rattle.std.specs.Prelude.{map, not, take_while};
 ghost use Rattle.xs_pattern_spec.specs.Counted.{alike_number, number_list};
-ghost use Rattle.xs_number_tables.specs.steps.Counters.{AlikeNumbers, AreCounts, AreFrom, AreNumbers};
+ghost use Rattle.xs_number_tables.specs.steps.Counters.{AlikeNumbers, AreCounts, AreFrom};
+ghost use Rattle.xs_number_tables.specs.steps.Counters.{AreNumbers};
 ghost use Rattle.xs_number_tables.specs.steps.Counters.{IsCounter, NumbersBy, alike_to};
 ghost use Rattle.xs_numbering.specs.Counting.{is_alike, list_at, multiple, sibling_number};
 ghost use Rattle.xs_tree.specs.declared.axes.Axis.TheVariants.{Ancestor};

@@ -65,7 +65,8 @@ fn first_counted(counts: &[bool], from: &[bool], tree: &Tree, node: Node) -> Opt
     requires { node < length tree.now }
     ensures { MatchOption result
         (counted (is_flagged counts.now) (is_flagged from.now) tree.now node ≡ [])
-        (λ k. (take 1 (counted (is_flagged counts.now) (is_flagged from.now) tree.now node) ≡ k ∷ [])
+        (λ k. (take 1 (counted (is_flagged counts.now) (is_flagged from.now) tree.now node)
+        ≡ k ∷ [])
         × (is_flagged counts.now k ≡ true) × (k < length tree.now)) }
 {
     if is_flagged(counts, node) {

@@ -21,7 +21,8 @@ pub fn any_numbers(
     tree: &Tree,
 ) -> Result<Vec<u32>, AllocError>
     ensures { IfOk result (λ t. t.items
-        ≡ map (any_number (is_flagged counts.now) (is_flagged from.now) tree.now) (places tree.now)) }
+        ≡ map (any_number (is_flagged counts.now) (is_flagged from.now) tree.now)
+        (places tree.now)) }
 {
     let mut numbers = Vec::new(alloc);
     let mut carried = 0;

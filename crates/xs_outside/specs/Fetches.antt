@@ -13,7 +13,7 @@ names fetches = map (λ f. f.name) fetches
 abbrev pub failed_names : List Fetch → List (List ℕ)
 failed_names fetches = map (λ f. f.name) (filter (λ f. f.failed) fetches)
 
--- after one more answer; one for want of memory is none
+-- after one more answer; one that was out of memory is none
 abbrev pub fetches_after : {A : Type 0} → Result A FetchEnd → List ℕ → List Fetch → List Fetch
 fetches_after (Ok bytes) name fetches = fetches ++ record { name = name; failed = false } ∷ []
 fetches_after (Err Failed) name fetches = fetches ++ record { name = name; failed = true } ∷ []

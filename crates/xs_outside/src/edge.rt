@@ -22,7 +22,7 @@ pub enum FetchEnd {
 impl From<AllocError> for FetchEnd {
     ghost from_gives = { λ _ e. e ≡ NoMemory };
 
-    /// A refused growth is want of memory.
+    /// A refused growth is out of memory.
     fn from(_refused: AllocError) -> FetchEnd {
         FetchEnd::NoMemory
     }

@@ -14,10 +14,9 @@ ghost use Rattle.xs_pattern.specs.steps.Climb.{backwards, before_slashes};
 use crate::node_tests::is_root;
 use crate::paths::{start_of, steps_of};
 use crate::steps::{is_descend, stands_on};
-use crate::tables::is_in_table;
 use std::alloc::{AllocError, Global};
 use xs_eval::node_tests::passes;
-use xs_tree::{Axis, Node, Tree};
+use xs_tree::{Axis, Node, Tree, is_flagged};
 use xs_xpath::expr::Expr;
 use xs_xpath::name::NodeTest;
 
@@ -171,12 +170,12 @@ fn is_below(table: &[bool], found: &[bool], tree: &Tree, node: Node) -> bool
     requires found { found.now ≡ map (is_below table.now tree.now) (range_with_len 0 node) }
     ensures { result ≡ is_below table.now tree.now node }
 {
-    if is_in_table(table, node) {
+    if is_flagged(table, node) {
         return true;
     }
     match tree.parent(node) {
         None => false,
-        Some(parent) => is_in_table(found, parent),
+        Some(parent) => is_flagged(found, parent),
     }
 }
 
@@ -207,7 +206,7 @@ fn is_led(axis: Axis, test: &NodeTest, table: &[bool], tree: &Tree, node: Node) 
     match tree.parent(node) {
         None => false,
         Some(parent) => {
-            if !is_in_table(table, parent) {
+            if !is_flagged(table, parent) {
                 return false;
             }
             if !stands_on(axis, tree.kind(node)) {

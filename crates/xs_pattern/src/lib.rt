@@ -11,5 +11,4 @@ pub mod path_tables;
 pub mod paths;
 mod predicates;
 mod steps;
-pub mod tables;
 mod values;

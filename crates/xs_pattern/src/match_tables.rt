@@ -10,10 +10,9 @@ ghost use Rattle.xs_xpath.specs.Exprs.{tree_from};
 
 use crate::matcher::Matcher;
 use crate::path_tables::path_table;
-use crate::tables::is_in_table;
 use std::alloc::{AllocError, Global};
 use xs_sheet::scoped::ScopedPattern;
-use xs_tree::{Node, Tree};
+use xs_tree::{Node, Tree, is_flagged};
 use xs_value::keys::KeyFinder;
 use xs_xpath::expr::Expr;
 use xs_xpath::scope::Scope;
@@ -103,7 +102,7 @@ impl<'a, K: KeyFinder> Matcher<'a, K> {
             (tree_from alternative.now)) }
     {
         match table {
-            Some(found) => Ok(is_in_table(found, node)),
+            Some(found) => Ok(is_flagged(found, node)),
             None => self.matches_path(alternative, scope, node),
         }
     }
@@ -113,7 +112,7 @@ impl<'a, K: KeyFinder> Matcher<'a, K> {
 fn is_either(found: &[bool], node: Node, is_matched: bool) -> bool
     ensures { result ≡ (get_or found.now node false || is_matched) }
 {
-    if is_in_table(found, node) {
+    if is_flagged(found, node) {
         return true;
     }
     is_matched

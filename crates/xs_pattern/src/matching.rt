@@ -17,10 +17,9 @@ use crate::matcher::Matcher;
 use crate::node_tests::is_root;
 use crate::paths::{start_of, steps_of};
 use crate::steps::is_descend;
-use crate::tables::is_in_table;
 use std::alloc::AllocError;
 use xs_eval_spec::context::Context;
-use xs_tree::Node;
+use xs_tree::{Node, is_flagged};
 use xs_value::keys::KeyFinder;
 use xs_xpath::expr::Expr;
 use xs_xpath::pattern::Pattern;
@@ -133,7 +132,7 @@ impl<'a, K: KeyFinder> Matcher<'a, K> {
             Ok(Reached::Fits) => Ok(true),
             Ok(Reached::Differs) => Ok(false),
             Ok(Reached::Below(before, top)) => match above {
-                Some(table) => Ok(is_in_table(table, Node::at(top))),
+                Some(table) => Ok(is_flagged(table, Node::at(top))),
                 None => self.ends_above(start, before, Node::at(top), context),
             },
         }

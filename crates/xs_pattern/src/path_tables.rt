@@ -20,10 +20,9 @@ use crate::matcher::Matcher;
 use crate::node_tests::tested;
 use crate::paths::{start_of, steps_of};
 use crate::steps::is_descend;
-use crate::tables::is_in_table;
 use std::alloc::{AllocError, Global};
 use xs_eval_spec::context::Context;
-use xs_tree::{Axis, Node, Tree};
+use xs_tree::{Axis, Node, Tree, is_flagged};
 use xs_value::keys::NoKeys;
 use xs_xpath::expr::Expr;
 use xs_xpath::name::NodeTest;
@@ -142,7 +141,7 @@ fn nodes_from(
     ensures nodes { IfOk result (λ nodes. (n : ℕ) → is_among n nodes.items
         ≡ is_selected tree.now scope.now.pairs.items (tree_from step.now) ends.now n parent) }
 {
-    if !is_in_table(ends, parent) {
+    if !is_flagged(ends, parent) {
         return Ok(Vec::new(alloc));
     }
     let context = Context {

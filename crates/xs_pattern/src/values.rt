@@ -6,7 +6,8 @@ ghost use Rattle.xs_eval_spec.specs.Conditions.{IsContext};
 ghost use Rattle.xs_eval_spec.specs.Context.{at_node};
 ghost use Rattle.xs_eval_spec.specs.Evaluation.{run_of};
 ghost use Rattle.xs_eval_spec.specs.Paths.{selects};
-ghost use Rattle.xs_pattern_spec.specs.Predicates.{holds, is_among, nodes_given, nodes_of, value_in};
+ghost use Rattle.xs_pattern_spec.specs.Predicates.{holds, is_among, nodes_given, nodes_of};
+ghost use Rattle.xs_pattern_spec.specs.Predicates.{value_in};
 ghost use Rattle.xs_pattern.specs.steps.Alone.{IsSaid, said, said_by};
 
 use crate::keys::is_among;

@@ -126,14 +126,6 @@ piece-of {H} {E} x l most m before after last old new r o e f g h =
     subst (λ (z : Result Outcome E). IfOk z (IsPiece x l most before after last old new)) e h in
     subst (λ (k : ℕ). IsPiece x l k before after last [] new o) f (subst (λ (y : List H). IsPiece x l most before after last y new o) g i)
 
-pub not-true : (b : Bool) → not b ≡ true → b ≡ false
-not-true true h = absurd (true≢false (sym h))
-not-true false h = refl
-
-pub not-false : (b : Bool) → not b ≡ false → b ≡ true
-not-false true h = refl
-not-false false h = absurd (true≢false h)
-
 pub ran-set : {H : Type 0} → (ps : List (Piece H)) (i : ℕ) (p : Piece H) (o : Outcome) → i < length ps → p ≡ get_or ps i p →
     set ps i (record { task = p.task; outcome = Some o }) ≡ ran_at i o ps
 ran-set [] i p o h e = absurd (omega (arith, h))

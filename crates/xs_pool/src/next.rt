@@ -1,7 +1,6 @@
 //! The next piece that waits is run.
 
-ghost use Rattle.std.specs.Prelude.{◌≡◌, ◌++◌, ◌<◌, ◌≤◌, ◌+◌, length, map, IfOk, OnOk, not};
-ghost use Rattle.xs_record.specs.Outcome.{is_done};
+ghost use Rattle.std.specs.Prelude.{◌≡◌, ◌++◌, ◌<◌, ◌≤◌, ◌+◌, length, map, IfOk, OnOk};
 ghost use Rattle.xs_pieces.specs.Ready.{IsReady};
 ghost use Rattle.xs_pool.specs.steps.Running.{waiting, ran_at, IsRun, IsNext};
 
@@ -47,9 +46,9 @@ pub(crate) fn run_next<R: PieceRunner<T>, T: Total + Drop>(
     let mut children = Vec::new(alloc);
     let Ran { outcome, desk } = runner.run(alloc, &pieces[index].task, limits, desk, &mut children);
     let outcome = outcome?;
-    let is_over = !outcome.is_done();
+    let is_done = outcome.is_done();
     set_outcome(pieces, index, outcome);
-    if is_over {
+    if !is_done {
         return Ok(Next {
             desk,
             is_over: true,

@@ -10,7 +10,7 @@ use crate::read::{view_line, view_text_line};
 use crate::view::LineView;
 use std::str::from_utf8;
 
-/// What is left of a document. Bytes that are UTF-8 as a whole are reported to be so once, and not line
+/// What is left of a document. Bytes that are UTF-8 as a whole are found to be so once, not line
 /// by line.
 #[derive(Clone, Copy, Debug)]
 pub enum Rest<'a> {

@@ -124,7 +124,8 @@ impl<T: Drop> Brief<T> {
 
     /// What was recorded, except ticks: no item is a run of them.
     pub fn finish(self) -> Vec<Item>
-        ensures items { (⟦<Brief<T> as Tally>⟧.state self).reported ≡ Untimed (marks_of result.items) }
+        ensures items { (⟦<Brief<T> as Tally>⟧.state self).reported
+            ≡ Untimed (marks_of result.items) }
         ensures single { All IsSingle result.items }
     {
         self.marks.finish()

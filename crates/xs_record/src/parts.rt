@@ -146,7 +146,8 @@ impl<H: Drop> Parts<H> {
     /// What was recorded, as parts; the tasks of their holes are appended to the children. The pool
     /// comes back whatever the answer: out of memory, with all blocks.
     pub(crate) fn finish(self, children: &mut Vec<H>) -> Left
-        ensures marks { IfOk result.parts (λ ps. part_marks ps.items ≡ numbered 0 self.store.reported) }
+        ensures marks { IfOk result.parts (λ ps.
+            part_marks ps.items ≡ numbered 0 self.store.reported) }
         ensures parts { IfOk result.parts (λ ps. AreParts 0 ps.items) }
         ensures tasks { IfOk result.parts (λ ps.
             children.new.items ≡ children.old.items ++ tasks_of self.store.reported) }

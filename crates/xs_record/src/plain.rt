@@ -100,7 +100,8 @@ impl<T> Plain<T> {
 
     /// A capture is opened.
     pub fn open(&mut self) -> Result<(), AllocError>
-        ensures reported { OnOk result (self.new ≡ with_captures ([] ∷ self.old.captures) self.old) }
+        ensures reported { OnOk result
+            (self.new ≡ with_captures ([] ∷ self.old.captures) self.old) }
         ensures refused { OnErr result
             ((self.new.reported ≡ self.old.reported) × (self.new.at ≡ self.old.at)) }
     {

@@ -1,5 +1,5 @@
 -- The answer that is expected, by what was read of the files of a run.
-use Rattle.std.proofs.Common.{◌≡◌, ◌∙◌, refl, ap, ℕ, List, [], ◌∷◌, ◌++◌, Option, Some, None, Result, IfOk, length, drop, sym, subst, arith, append-nil, length-append}
+use Rattle.std.proofs.Common.{◌≡◌, ◌∙◌, refl, ap, ℕ, List, [], ◌∷◌, ◌++◌, Option, Some, None, Result, IfOk, length, drop, sym, subst, arith, append-nil, length-append, unwrap_or}
 use Rattle.std.proofs.Math.Seq.{drop-append_seam}
 use Rattle.xs_outside.specs.Edge.{Files}
 use Rattle.xs_tree.specs.Record.{Record}
@@ -23,7 +23,7 @@ use Rattle.xs_sheet.specs.declared.sheet.Sheet.{Sheet}
 use Rattle.xs_reply.specs.Evaluation.{IsEvaluatedOver}
 use Rattle.xs_reply.specs.Inputs.{Document, named_document}
 use Rattle.xs_reply.specs.Run.{source_of, module_name}
-use Rattle.xs_reply.specs.Expected.{IsFile, IsReadAnswer, IsBytesAnswer, IsInputsAnswer, IsSheetAnswer, IsFaultlessAnswer, IsStaticAnswer, IsModulesAnswer, IsEndAnswer}
+use Rattle.xs_reply.specs.Expected.{IsReadAnswer, IsInputsAnswer, IsSheetAnswer, IsFaultlessAnswer, IsStaticAnswer, IsModulesAnswer, IsEndAnswer}
 use Rattle.xs_reply.specs.Expected.{IsAnswer, IsRunAnswer, Owed, fault, own, IsExpected}
 use Rattle.xs_reply.proofs.FirstFaultLemmas.{one_fault}
 use Rattle.xs_reply.proofs.OneAnswerLemmas.{one-evaluated}
@@ -53,27 +53,16 @@ pub fault_owed : {E : Type 0} (r : Result Reply E) (N : Type 0) (P : Answer → 
     → failed' ≡ failed ++ name ∷ [] → IfOk r (IsPlain (read_fault name)) → IfOk r (Replies N (Owed P failed failed'))
 fault_owed r N P failed failed' name grew is = reply_owed r N P failed failed' (read_fault name) (fault name grew refl) is
 
--- the bytes of a file
-file : (files : Option Files) (name : List ℕ) → (bytes : Option (List ℕ)) × IsFile files name bytes
-file None name = (None, tt)
-file (Some map) name = (map name, refl)
-
--- and those that it was read by
-read_file : (files : Option Files) (name bytes : List ℕ) → Holds files name bytes → IsFile files name (Some bytes)
-read_file None name bytes holds = tt
-read_file (Some map) name bytes holds = holds
-
 -- an answer of a compiled stylesheet on its only input, whose bytes were read to this
 read_answer : (files : Option Files) (job : Job) (sheet : Sheet) (source name : List ℕ) (found : Read (List Record)) (a : Answer) → name ≡ source
     → FileGives source_of files name found
     → IsReadAnswer source found (λ records. IsInputsAnswer files job sheet job.documents (named_document [] records ∷ []) a) a
     → IsSheetAnswer files job sheet (inputs_on job source) a
-read_answer files job sheet source name found a same given is =
-    let bytes = given.bytes in
-    let holds : Holds files source bytes = subst (λ n. Holds files n bytes) same given.holds in
-    let over : IsBytesAnswer source (Some bytes) (λ records. IsInputsAnswer files job sheet job.documents (named_document [] records ∷ []) a) a =
-    subst (λ f. IsReadAnswer source f (λ records. IsInputsAnswer files job sheet job.documents (named_document [] records ∷ []) a) a) given.gives is in
-    (Some bytes, read_file files source bytes holds, over)
+read_answer files job sheet source name found a same given is = (
+  given.bytes,
+  subst (λ n. Holds files n given.bytes) same given.holds,
+  subst (λ f. IsReadAnswer source f (λ records. IsInputsAnswer files job sheet job.documents (named_document [] records ∷ []) a) a) given.gives is,
+)
 
 module _ (files : Option Files) (job : Job) (sheet : Sheet) (source : List ℕ) (failed failed' : List (List ℕ)) where
   abbrev pub Owes : Answer → Type 0
@@ -185,15 +174,15 @@ one_name xs ys m n e f =
 
 -- ---- files give one answer alone
 
+-- a file has one list of bytes
+pub one_file : (files : Files) (name xs ys : List ℕ) → files name ≡ Some xs → files name ≡ Some ys → xs ≡ ys
+one_file files name xs ys p q = ap (λ (o : Option (List ℕ)). unwrap_or o []) (sym p ∙ q)
+
 -- by what follows of the records of an input
 module _ (a b : Answer) (name : List ℕ) (P Q : List Record → Type 0) (one : (records : List Record) → P records → Q records → a ≡ b) where
   over_read : (found : Read (List Record)) → IsReadAnswer name found P a → IsReadAnswer name found Q b → a ≡ b
   over_read (read records) p q = one records p q
   over_read (bad number line) p q = p ∙ sym q
-
-  over_bytes : (bytes : Option (List ℕ)) → IsBytesAnswer name bytes P a → IsBytesAnswer name bytes Q b → a ≡ b
-  over_bytes None p q = p ∙ sym q
-  over_bytes (Some bytes) p q = over_read (source_of bytes) p q
 
 -- a compiled stylesheet has one on its inputs
 module _ (files : Files) (job : Job) (sheet : Sheet) (a b : Answer) where
@@ -201,11 +190,11 @@ module _ (files : Files) (job : Job) (sheet : Sheet) (a b : Answer) where
       → a ≡ b
   over_inputs [] ds p q = one-evaluated job sheet ds a b p q
   over_inputs (input ∷ left) ds p q =
-      let same : p.0 ≡ q.0 = sym p.1 ∙ q.1 in
-      over_bytes a b input.1 (λ records. IsInputsAnswer (Some files) job sheet left (ds ++ named_document input.0 records ∷ []) a)
+      let same : p.0 ≡ q.0 = one_file files input.1 p.0 q.0 p.1 q.1 in
+      over_read a b input.1 (λ records. IsInputsAnswer (Some files) job sheet left (ds ++ named_document input.0 records ∷ []) a)
       (λ records. IsInputsAnswer (Some files) job sheet left (ds ++ named_document input.0 records ∷ []) b)
-      (λ records. over_inputs left (ds ++ named_document input.0 records ∷ [])) q.0
-      (subst (λ bytes. IsBytesAnswer input.1 bytes
+      (λ records. over_inputs left (ds ++ named_document input.0 records ∷ [])) (source_of q.0)
+      (subst (λ bytes. IsReadAnswer input.1 (source_of bytes)
       (λ records. IsInputsAnswer (Some files) job sheet left (ds ++ named_document input.0 records ∷ []) a) a) same p.2) q.2
 
   over_sheet : (inputs : List Pair) → IsSheetAnswer (Some files) job sheet inputs a → IsSheetAnswer (Some files) job sheet inputs b → a ≡ b

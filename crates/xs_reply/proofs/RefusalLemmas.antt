@@ -6,7 +6,7 @@ use Rattle.xs_outside.specs.Edge.{Files}
 use Rattle.xs_modules.specs.Mentions.{named_by_words}
 use Rattle.xs_modules.specs.Mentioned.{Mentioned}
 use Rattle.xs_modules.specs.Numbering.{ModuleData, numbered}
-use Rattle.xs_modules.specs.Reading.{End, whole, unread, refused, out_of_memory}
+use Rattle.xs_modules.specs.Reading.{Holds, End, whole, unread, refused, out_of_memory}
 use Rattle.xs_modules.specs.ReadingLaws.{IsOwn}
 use Rattle.xs_modules.proofs.OneReadingLemmas.{one_reading}
 use Rattle.xs_body_spec.specs.Tasks.{Task}
@@ -22,7 +22,7 @@ use Rattle.xs_words.specs.Choice.{Pair}
 use Rattle.xs_reply.specs.declared.reply.ReportedFault.{ReportedFault}
 use Rattle.xs_reply.specs.declared.status.TheConstants.{NO_MEMORY, OK, READ_FAULT, REFUSED, RUN_FAULT, USAGE, WRITE_FAULT}
 use Rattle.xs_reply.specs.Answer.{Answer, Pieces, reported}
-use Rattle.xs_reply.specs.Expected.{IsAnswer, IsBytesAnswer, IsExpected, IsEndAnswer, IsFaultlessAnswer, IsFile, IsInputsAnswer, IsModulesAnswer, IsReadAnswer}
+use Rattle.xs_reply.specs.Expected.{IsAnswer, IsExpected, IsEndAnswer, IsFaultlessAnswer, IsInputsAnswer, IsModulesAnswer, IsReadAnswer}
 use Rattle.xs_reply.specs.Expected.{IsRunAnswer, IsStaticAnswer, Owed, fault, own}
 use Rattle.xs_reply.specs.Evaluation as run
 use Rattle.xs_reply.specs.Evaluation.{IsEvaluated, IsEvaluatedOver, in_globals, in_root}
@@ -35,7 +35,7 @@ use Rattle.xs_reply.specs.Read.{Read, read, bad}
 use Rattle.xs_reply.specs.Refusals.{AreDocuments, Decides, IsDecided, IsDecidedBy, IsEnd, IsFaultless, IsFirstBad, IsListed, IsRefused}
 use Rattle.xs_reply.specs.Refusals.{module_refused, stylesheet_refused, input_refused}
 use Rattle.xs_reply.specs.Run.{module_name, source_of}
-use Rattle.xs_reply.proofs.ExpectedLemmas.{not_both, own_end}
+use Rattle.xs_reply.proofs.ExpectedLemmas.{not_both, one_file, own_end}
 use Rattle.xs_reply.proofs.FirstFaultLemmas.{one_fault}
 
 -- ---- statuses
@@ -92,27 +92,23 @@ RefusedBy P a = (f : ReportedFault) × (a.fault ≡ Some f) × P f
 -- an input, by what follows of its records
 module _ (files : Option Files) (name : List ℕ) (names : List (List ℕ)) (a : Answer) (refuses : a.status ≡ REFUSED) (Next : List Record → Type 0)
     (next : (records : List Record) → Next records → RefusedBy (IsFirstBad files names) a) where
-  passed-input : (bytes : List ℕ) (records : List Record) → IsFile files name (Some bytes) → source_of bytes ≡ read records
+  passed-input : (bytes : List ℕ) (records : List Record) → Holds files name bytes → source_of bytes ≡ read records
       → RefusedBy (IsFirstBad files names) a → RefusedBy (IsFirstBad files (name ∷ names)) a
   passed-input bytes records holds e later =
       (later.0, later.1, inr (record { bytes = bytes; holds = holds; records = records; document = e }, later.2))
 
-  read-fault : (bytes : List ℕ) → IsFile files name (Some bytes) → (found : Read (List Record)) → source_of bytes ≡ found
+  read-fault : (bytes : List ℕ) → Holds files name bytes → (found : Read (List Record)) → source_of bytes ≡ found
       → IsReadAnswer name found Next a → RefusedBy (IsFirstBad files (name ∷ names)) a
   read-fault bytes holds (read records) e over = passed-input bytes records holds e (next records over)
   read-fault bytes holds (bad number line) e over =
       (reported number name line, ap (λ (x : Answer). x.fault) over, inl (record { bytes = bytes; holds = holds; refused = e; named = refl }))
 
-  bytes-fault : (bytes : Option (List ℕ)) → IsFile files name bytes → IsBytesAnswer name bytes Next a → RefusedBy (IsFirstBad files (name ∷ names)) a
-  bytes-fault None is over = absurd (not-unread a.status (ap status_in over) refuses)
-  bytes-fault (Some bytes) is over = read-fault bytes is (source_of bytes) refl over
-
 inputs-fault : (files : Option Files) (job : Job) (sheet : Sheet) (a : Answer) → a.status ≡ REFUSED → (left : List Pair) (ds : List Document)
     → IsInputsAnswer files job sheet left ds a → RefusedBy (IsFirstBad files (map file_of left)) a
 inputs-fault files job sheet a refuses [] ds is = absurd (not-run a.status (evaluated-status job sheet ds a is) refuses)
 inputs-fault files job sheet a refuses (input ∷ left) ds is =
-    bytes-fault files input.1 (map file_of left) a refuses (λ records. IsInputsAnswer files job sheet left (ds ++ named_document input.0 records ∷ []) a)
-    (λ records. inputs-fault files job sheet a refuses left (ds ++ named_document input.0 records ∷ [])) is.0 is.1 is.2
+    read-fault files input.1 (map file_of left) a refuses (λ records. IsInputsAnswer files job sheet left (ds ++ named_document input.0 records ∷ []) a)
+    (λ records. inputs-fault files job sheet a refuses left (ds ++ named_document input.0 records ∷ [])) is.0 is.1 (source_of is.0) refl is.2
 
 module _ (files : Option Files) (job : Job) (a : Answer) (refuses : a.status ≡ REFUSED) where
   abbrev RefusesJob : Type 0
@@ -157,11 +153,11 @@ listed_fault files request failed failed' a status reported_fault expected (inr 
 
 -- ---- known files decide
 -- what follows of an input whose bytes are known
-known-bytes : (files : Files) (name bytes : List ℕ) (a : Answer) (Next : List Record → Type 0) (found : Read (List Record)) (given : Option (List ℕ))
-    → files name ≡ given → files name ≡ Some bytes → source_of bytes ≡ found → IsBytesAnswer name given Next a → IsReadAnswer name found Next a
-known-bytes files name bytes a Next found given e h d is =
-    subst (λ (r : Read (List Record)). IsReadAnswer name r Next a) d
-    (subst (λ (o : Option (List ℕ)). IsBytesAnswer name o Next a) (sym e ∙ h) is)
+known-bytes : (files : Files) (name given bytes : List ℕ) (a : Answer) (Next : List Record → Type 0) (found : Read (List Record))
+    → files name ≡ Some given → files name ≡ Some bytes → source_of bytes ≡ found → IsReadAnswer name (source_of given) Next a
+    → IsReadAnswer name found Next a
+known-bytes files name given bytes a Next found e h d is =
+    subst (λ (r : Read (List Record)). IsReadAnswer name r Next a) (ap source_of (one_file files name given bytes e h) ∙ d) is
 
 module _ (files : Files) (job : Job) (sheet : Sheet) (a : Answer) where
   abbrev Left : Pair → List Pair → List Document → List Record → Type 0
@@ -171,13 +167,13 @@ module _ (files : Files) (job : Job) (sheet : Sheet) (a : Answer) where
   next-input : (input : Pair) (left : List Pair) (ds : List Document) → (d : IsDocument (Some files) input.1)
       → IsInputsAnswer (Some files) job sheet (input ∷ left) ds a → Left input left ds d.records
   next-input input left ds d is =
-      known-bytes files input.1 d.bytes a (Left input left ds) (read d.records) is.0 is.1 d.holds d.document is.2
+      known-bytes files input.1 is.0 d.bytes a (Left input left ds) (read d.records) is.1 d.holds d.document is.2
 
   bad-input : (left : List Pair) (ds : List Document) (f : ReportedFault) → IsFirstBad (Some files) (map file_of left) f
       → IsInputsAnswer (Some files) job sheet left ds a → a.status ≡ REFUSED
   bad-input [] ds f first is = absurd first
   bad-input (input ∷ left) ds f (inl h) is =
-      ap status_in (known-bytes files input.1 h.bytes a (Left input left ds) (bad f.number f.line) is.0 is.1 h.holds h.refused is.2)
+      ap status_in (known-bytes files input.1 is.0 h.bytes a (Left input left ds) (bad f.number f.line) is.1 h.holds h.refused is.2)
   bad-input (input ∷ left) ds f (inr h) is =
       bad-input left (ds ++ named_document input.0 h.0.records ∷ []) f h.1 (next-input input left ds h.0 is)
 

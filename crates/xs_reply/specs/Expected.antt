@@ -1,9 +1,9 @@
 -- The answer that is expected of a run.
-use Rattle.std.specs.Prelude.{◌≡◌, ℕ, List, [], ◌∷◌, ◌++◌, Option, Some, None, IfSome}
+use Rattle.std.specs.Prelude.{◌≡◌, ℕ, List, [], ◌∷◌, ◌++◌, Option, Some, None}
 use Rattle.xs_compile.specs.Represents.{Represents}
 use Rattle.xs_outside.specs.Edge.{Files}
 use Rattle.xs_modules.specs.Numbering.{ModuleData, numbered}
-use Rattle.xs_modules.specs.Reading.{End, whole, unread, refused, out_of_memory}
+use Rattle.xs_modules.specs.Reading.{Holds, End, whole, unread, refused, out_of_memory}
 use Rattle.xs_static.specs.Faults.{IsFirstFault}
 use Rattle.xs_static.specs.declared.fault.StaticFault.{StaticFault}
 use Rattle.xs_tree.specs.Record.{Record}
@@ -18,27 +18,18 @@ use Rattle.xs_reply.specs.Read.{Read, read, bad}
 use Rattle.xs_reply.specs.Run.{module_name, source_of}
 use Rattle.xs_words.specs.Choice.{Pair}
 
--- these are the bytes of a file, None where there is none; any, where the library records no files
-abbrev pub IsFile : Option Files → List ℕ → Option (List ℕ) → Type 0
-IsFile files name bytes = IfSome files (λ map. map name ≡ bytes)
-
 -- the answer over what the bytes of an input represent, by what follows of its records
 abbrev pub IsReadAnswer : (name : List ℕ) → Read (List Record) → (next : List Record → Type 0) → Answer → Type 0
 IsReadAnswer name (read records) next answer = next records
 IsReadAnswer name (bad number line) next answer = answer ≡ refused_file number name line
 
--- over its bytes, or the fault that there is no file of that name
-abbrev pub IsBytesAnswer : (name : List ℕ) → Option (List ℕ) → (next : List Record → Type 0) → Answer → Type 0
-IsBytesAnswer name None next answer = answer ≡ read_fault name
-IsBytesAnswer name (Some bytes) next answer = IsReadAnswer name (source_of bytes) next answer
-
 -- The answer of a compiled stylesheet on the inputs that are left, after those that were read to these documents. The first input
--- that can't be read, or is no document, is reported.
+-- that is no document is reported; one that can't be read has no answer here.
 abbrev pub IsInputsAnswer : Option Files → Job → Sheet → (left : List Pair) → List Document → Answer → Type 0
 IsInputsAnswer files job sheet [] documents answer = IsEvaluatedOver job sheet documents answer
 IsInputsAnswer files job sheet (input ∷ left) documents answer =
-    (bytes : Option (List ℕ)) × IsFile files input.1 bytes
-    × IsBytesAnswer input.1 bytes (λ records. IsInputsAnswer files job sheet left (documents ++ named_document input.0 records ∷ []) answer) answer
+    (bytes : List ℕ) × Holds files input.1 bytes
+    × IsReadAnswer input.1 (source_of bytes) (λ records. IsInputsAnswer files job sheet left (documents ++ named_document input.0 records ∷ []) answer) answer
 
 -- on all its inputs
 abbrev pub IsSheetAnswer : Option Files → Job → Sheet → (inputs : List Pair) → Answer → Type 0

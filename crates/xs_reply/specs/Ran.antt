@@ -10,6 +10,7 @@ use Rattle.xs_reply.specs.Evaluation.{root_cut, root_pieces}
 use Rattle.xs_reply.specs.Headline.{AreRun}
 use Rattle.xs_reply.specs.Items.{events_in}
 use Rattle.xs_reply.specs.Job.{Job}
+use Rattle.xs_reply.specs.declared.reply.Pieces.{Pieces}
 
 -- It is the cut of the root's trace over the values of the globals: its events, its messages, its end and its ticks. Its pieces were
 -- run; all of them, where it has no fault.
@@ -19,3 +20,7 @@ pub record IsRan (job : Job) (w : World) (t : Table) (e : Executed) : Type 0 whe
   pub end : EndsIn (root_cut job w t).end e.assembled.end
   pub ticks : e.assembled.ticks ≡ tick_count (root_cut job w t).passed
   pub run : AreRun (root_pieces job w t) (e.assembled.end ≡ None) e.claims.items e.assembled.inline e.worked
+
+-- how its pieces were run: who claimed them, how many were evaluated again in their place, what all took, and what they recorded
+abbrev pub pieces_of : Executed → Pieces
+pieces_of e = record { claims = e.claims; inline = e.assembled.inline; worked = e.worked; items = e.assembled.items }

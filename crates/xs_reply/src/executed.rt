@@ -5,7 +5,7 @@ ghost use Rattle.xs_body_spec.specs.Globals.{settled, SettlesAll, Table};
 ghost use Rattle.xs_body_spec.specs.World.{World};
 ghost use Rattle.xs_reply.specs.declared.status.TheConstants.{OK, RUN_FAULT};
 ghost use Rattle.xs_reply.specs.Evaluation.{IsEvaluated};
-ghost use Rattle.xs_reply.specs.Ran.{IsRan};
+ghost use Rattle.xs_reply.specs.Ran.{IsRan, pieces_of};
 ghost use Rattle.xs_reply.specs.Reply.{IsWholeOrEmpty, Replies, job_data};
 ghost use Rattle.xs_result_laws.specs.Named.{IsNamedWorld};
 
@@ -31,6 +31,7 @@ pub fn executed_reply(
         SettlesAll w (job_data job.now).given job.now.budget (settled t) →
         IsRan (job_data job.now) w t executed →
         IfOk result (Replies (IsNamedWorld w) (IsEvaluated (job_data job.now) w)) }
+    ensures pieces { IfOk result (λ reply. reply.pieces ≡ pieces_of executed) }
     ensures status { IfOk result (λ reply.
         (reply.status ≡ OK) ⊎ (reply.status ≡ RUN_FAULT)) }
     ensures whole_only { IfOk result IsWholeOrEmpty }
@@ -50,25 +51,19 @@ pub fn executed_reply(
         ..
     } = assembled;
     let all = ticks + taken;
+    let pieces = Pieces {
+        claims,
+        inline,
+        worked,
+        items,
+    };
     match end {
         None => {
-            let reply = whole_reply(alloc, sheet.method, says, &more, &items, all)?;
-            let pieces = Pieces {
-                claims,
-                inline,
-                worked,
-                items,
-            };
+            let reply = whole_reply(alloc, sheet.method, says, &more, &pieces.items, all)?;
             with_stats(reply, pieces, job.stats)
         }
         Some(spot) => {
             let reply = stopped_reply(alloc, sheet, spot, says, &more, all)?;
-            let pieces = Pieces {
-                claims,
-                inline,
-                worked,
-                items,
-            };
             Ok(with_pieces(reply, pieces))
         }
     }

@@ -81,7 +81,7 @@ settled-end xs e h g = settled-before xs e [] h ∙ ap (λ t. xs ++ (if t then [
 all-with : (name : Label) (value : List ℕ) (es : List Event) → list_all is_in_tag es ≡ true → list_all is_in_tag (with_attribute name value es) ≡ true
 unfolding with_attribute
 all-with name value [] h = refl
-all-with name value (e ∷ es) h = by_test (is_attribute_of name.uri name.local e)
+all-with name value (e ∷ es) h = by_test (is_attribute_of name.uri name.local e) (all-with name value es)
   where
     same : (x : Event) → is_in_tag (revalued value x) ≡ is_in_tag x
     same (Attr other old) = refl
@@ -100,11 +100,12 @@ all-with name value (e ∷ es) h = by_test (is_attribute_of name.uri name.local 
     first true t u k l = l
     first false t u k l = absurd (cc)
 
-    by_test : (t : Bool) → list_all is_in_tag (if t then revalued value e ∷ es else e ∷ with_attribute name value es) ≡ true
-    by_test true = ap (λ b. b && list_all is_in_tag es) (same e) ∙ h
-    by_test false =
+    by_test : (t : Bool) → (list_all is_in_tag es ≡ true → list_all is_in_tag (with_attribute name value es) ≡ true)
+        → list_all is_in_tag (if t then revalued value e ∷ es else e ∷ with_attribute name value es) ≡ true
+    by_test true more = ap (λ b. b && list_all is_in_tag es) (same e) ∙ h
+    by_test false more =
         first (is_in_tag e) (list_all is_in_tag es) (list_all is_in_tag (with_attribute name value es)) h
-        (all-with name value es (rest (is_in_tag e) (list_all is_in_tag es) h))
+        (more (rest (is_in_tag e) (list_all is_in_tag es) h))
 
 all-behind : (es : List Event) (e : Event) → list_all is_in_tag es ≡ true → is_in_tag e ≡ true → list_all is_in_tag (es ++ e ∷ []) ≡ true
 all-behind es e h k = list_all-append is_in_tag es (e ∷ []) ∙ ap (λ t. t && list_all is_in_tag (e ∷ [])) h ∙ ap (λ t. t && true) k

@@ -5,7 +5,8 @@ ghost use Rattle.std.specs.Str.{IsUtf8, bytes_eq};
 ghost use Rattle.xs_result.specs.steps.Building.{flushed};
 ghost use Rattle.xs_result_lines.specs.Bindings.{attributes_in, outermost};
 ghost use Rattle.xs_result_lines.specs.Lines.{bytes_of};
-ghost use Rattle.xs_result_lines.specs.steps.InForce.{are_plain, is_plain_tag, own_lines, plain_lines};
+ghost use Rattle.xs_result_lines.specs.steps.InForce.{are_plain, is_plain_tag, own_lines};
+ghost use Rattle.xs_result_lines.specs.steps.InForce.{plain_lines};
 ghost use Rattle.xs_result_lines.specs.steps.Pending.{IsNamed, begun, clashes, is_clear, is_simple};
 ghost use Rattle.xs_result_lines.specs.steps.Pending.{lent};
 

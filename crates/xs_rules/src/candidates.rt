@@ -8,18 +8,19 @@ ghost use Rattle.xs_value.specs.Tables.{TablesIn};
 ghost use Rattle.xs_xpath.specs.Exprs.{tree_from};
 ghost use Rattle.xs_rules.specs.Ranks.{outranks};
 ghost use Rattle.xs_rules.specs.Rules.{candidate, candidates_of, rank_of};
-ghost use Rattle.xs_rules.specs.steps.Candidates.{best_before, is_matching, looks_at, passes};
-ghost use Rattle.xs_rules.specs.steps.Candidates.{rule_of_best};
+ghost use Rattle.xs_rules.specs.steps.Candidates.{best_before, candidate_of, is_matching, looks_at};
+ghost use Rattle.xs_rules.specs.steps.Candidates.{passes, rule_of_best};
 ghost use Rattle.xs_rules.specs.steps.Index.{IsTable, IsTableOf, nth_of};
 
 use crate::choice::Rule;
+use crate::lists::Entry;
 use crate::ranks::{Rank, default_priority};
+use crate::search::Search;
 use crate::tables::{RuleTable, matches_by};
-use std::alloc::{AllocError, Global};
+use std::alloc::AllocError;
 use xs_pattern::matcher::Matcher;
 use xs_sheet::declarations::Template;
 use xs_sheet::scoped::ScopedPattern;
-use xs_tree::{Node, Tree};
 use xs_value::keys::KeyFinder;
 use xs_xpath::expr::Expr;
 
@@ -32,6 +33,18 @@ pub(crate) enum Looked {
     Nothing,
     /// Those from the first up to just below the second.
     Within(u32, u32),
+}
+
+/// A rule: one of the alternatives of a template's pattern.
+#[derive(Drop)]
+pub(crate) struct Alternative<'a> {
+    /// The number of its template.
+    number: u32,
+    template: &'a Template,
+    pattern: &'a ScopedPattern,
+    expr: &'a Expr,
+    /// By what it is compared with others.
+    rank: Rank,
 }
 
 /// The best rule so far.
@@ -55,35 +68,172 @@ impl Looked {
     }
 }
 
-/// The best rule of a template with a number, before the best one after it.
-pub(crate) fn best_of_template<K: KeyFinder>(
-    alloc: Global,
-    number: u32,
-    template: &Template,
-    looked: Looked,
-    tree: &Tree,
-    node: Node,
-    mode: u32,
-    keys: &K,
-    best: Option<Best>,
-) -> Result<Option<Best>, AllocError>
-    requires node { node < length tree.now }
-    requires tables { TablesIn tree.now (K.tables keys.now) }
-    ensures best { IfOk result (λ found. found
-        ≡ best_before (passes looked (K.tables keys.now) tree.now mode node)
-        (candidates_of (number, template.now)) best) }
-{
-    match &template.pattern {
-        None => Ok(best),
-        Some(pattern) => {
-            if template.mode != mode {
-                return Ok(best);
+impl<'a, K: KeyFinder> Search<'a, K> {
+    /// The best rule of a template with a number, before the best one after it.
+    pub(crate) fn best_of_template(
+        &self,
+        number: u32,
+        template: &Template,
+        best: Option<Best>,
+    ) -> Result<Option<Best>, AllocError>
+        requires node { self.now.node < length self.now.tree.now }
+        requires tables { TablesIn self.now.tree.now (K.tables self.now.keys.now) }
+        ensures best { IfOk result (λ found. found
+            ≡ best_before (passes self.now.looked (K.tables self.now.keys.now)
+            self.now.tree.now self.now.mode self.now.node)
+            (candidates_of (number, template.now)) best) }
+    {
+        match &template.pattern {
+            None => Ok(best),
+            Some(pattern) => {
+                if template.mode != self.mode {
+                    return Ok(best);
+                }
+                if !self.looked.looks_at(template.precedence) {
+                    return Ok(best);
+                }
+                self.best_of_pattern(number, template, pattern, best)
             }
-            if !looked.looks_at(template.precedence) {
-                return Ok(best);
-            }
-            best_of_pattern(alloc, number, template, pattern, tree, node, keys, best)
         }
+    }
+
+    // The best of the alternatives of a pattern that match, before the best rule after it.
+    fn best_of_pattern(
+        &self,
+        number: u32,
+        template: &Template,
+        pattern: &ScopedPattern,
+        best: Option<Best>,
+    ) -> Result<Option<Best>, AllocError>
+        requires node { self.now.node < length self.now.tree.now }
+        requires tables { TablesIn self.now.tree.now (K.tables self.now.keys.now) }
+        ensures best { IfOk result (λ found. found
+            ≡ best_before (is_matching (K.tables self.now.keys.now) self.now.tree.now self.now.node)
+            (map (candidate number template.now pattern.now)
+            pattern.now.pattern) best) }
+    {
+        let mut best = best;
+        let mut rest = pattern.pattern.alternatives();
+        while let Some((alternative, before)) = rest.split_last() {
+            let rule = Alternative {
+                number,
+                template,
+                pattern,
+                expr: alternative,
+                rank: rank_of(template, alternative),
+            };
+            best = self.best_of_alternative(&rule, None, best)?;
+            rest = before;
+        }
+        Ok(best)
+    }
+
+    // An alternative where it matches and is above the best rule after it; otherwise that one.
+    fn best_of_alternative(
+        &self,
+        rule: &Alternative<'_>,
+        table: Option<&RuleTable>,
+        best: Option<Best>,
+    ) -> Result<Option<Best>, AllocError>
+        requires rank { rule.now.rank ≡ (candidate_of rule.now).rank }
+        requires node { self.now.node < length self.now.tree.now }
+        requires tables { TablesIn self.now.tree.now (K.tables self.now.keys.now) }
+        requires table { IfSome table (λ t. IsTable self.now.tree.now
+            rule.now.pattern.now.scope (tree_from rule.now.expr.now) t.now) }
+        ensures best { IfOk result (λ found. found
+            ≡ best_before (is_matching (K.tables self.now.keys.now) self.now.tree.now self.now.node)
+            (candidate_of rule.now ∷ []) best) }
+    {
+        if !is_above(rule.rank, best) {
+            return Ok(best);
+        }
+        let matcher = Matcher {
+            alloc: self.alloc,
+            tree: self.tree,
+            keys: self.keys,
+        };
+        if matches_by(
+            &matcher,
+            rule.expr,
+            rule.pattern.scope.scope(),
+            self.node,
+            table,
+        )? {
+            return Ok(Some(Best {
+                template: rule.number,
+                rank: rule.rank,
+            }));
+        }
+        Ok(best)
+    }
+
+    /// The rule of one of a template's alternatives, by its number and with its rank, before the
+    /// best one after it.
+    pub(crate) fn best_of_nth(
+        &self,
+        template: &Template,
+        entry: Entry,
+        table: Option<&RuleTable>,
+        best: Option<Best>,
+    ) -> Result<Option<Best>, AllocError>
+        requires node { self.now.node < length self.now.tree.now }
+        requires tables { TablesIn self.now.tree.now (K.tables self.now.keys.now) }
+        requires rank { IfSome (option_and_then
+            (nth_of entry.template template.now entry.alternative) template.now.pattern)
+            (λ c. entry.rank ≡ c.rank) }
+        requires table { IsTableOf self.now.tree.now
+            (option_and_then (nth_of entry.template template.now entry.alternative)
+            template.now.pattern)
+            (option_copied table) }
+        ensures best { IfOk result (λ found. found ≡ option_map_or (λ c. best_before
+            (passes self.now.looked (K.tables self.now.keys.now)
+            self.now.tree.now self.now.mode self.now.node) (c ∷ []) best)
+            (option_and_then (nth_of entry.template template.now entry.alternative)
+            template.now.pattern) best) }
+    {
+        match &template.pattern {
+            None => Ok(best),
+            Some(pattern) => match nth_alternative(pattern, entry.alternative) {
+                None => Ok(best),
+                Some(expr) => {
+                    let rule = Alternative {
+                        number: entry.template,
+                        template,
+                        pattern,
+                        expr,
+                        rank: entry.rank,
+                    };
+                    self.best_of_rule(&rule, table, best)
+                }
+            },
+        }
+    }
+
+    // An alternative where it is looked at, is of the mode, matches, and is above the best rule
+    // after it; otherwise that one.
+    fn best_of_rule(
+        &self,
+        rule: &Alternative<'_>,
+        table: Option<&RuleTable>,
+        best: Option<Best>,
+    ) -> Result<Option<Best>, AllocError>
+        requires rank { rule.now.rank ≡ (candidate_of rule.now).rank }
+        requires node { self.now.node < length self.now.tree.now }
+        requires tables { TablesIn self.now.tree.now (K.tables self.now.keys.now) }
+        requires table { IfSome table (λ t. IsTable self.now.tree.now
+            rule.now.pattern.now.scope (tree_from rule.now.expr.now) t.now) }
+        ensures best { IfOk result (λ found. found
+            ≡ best_before (passes self.now.looked (K.tables self.now.keys.now)
+            self.now.tree.now self.now.mode self.now.node)
+            (candidate_of rule.now ∷ []) best) }
+    {
+        if rule.template.mode != self.mode {
+            return Ok(best);
+        }
+        if !self.looked.looks_at(rule.template.precedence) {
+            return Ok(best);
+        }
+        self.best_of_alternative(rule, table, best)
     }
 }
 
@@ -94,82 +244,6 @@ pub(crate) fn nth_alternative(pattern: &ScopedPattern, place: usize) -> Option<&
         ≡ slice_get pattern.now.pattern place }
 {
     pattern.pattern.alternatives().get(place)
-}
-
-// The best of the alternatives of a pattern that match, before the best rule after it.
-fn best_of_pattern<K: KeyFinder>(
-    alloc: Global,
-    number: u32,
-    template: &Template,
-    pattern: &ScopedPattern,
-    tree: &Tree,
-    node: Node,
-    keys: &K,
-    best: Option<Best>,
-) -> Result<Option<Best>, AllocError>
-    requires node { node < length tree.now }
-    requires tables { TablesIn tree.now (K.tables keys.now) }
-    ensures best { IfOk result (λ found. found
-        ≡ best_before (is_matching (K.tables keys.now) tree.now node)
-        (map (candidate number template.now pattern.now)
-        pattern.now.pattern) best) }
-{
-    let mut best = best;
-    let mut rest = pattern.pattern.alternatives();
-    while let Some((alternative, before)) = rest.split_last() {
-        let rank = rank_of(template, alternative);
-        best = best_of_alternative(
-            alloc,
-            number,
-            template,
-            pattern,
-            alternative,
-            rank,
-            tree,
-            node,
-            keys,
-            None,
-            best,
-        )?;
-        rest = before;
-    }
-    Ok(best)
-}
-
-// An alternative where it matches and is above the best rule after it; otherwise that one.
-fn best_of_alternative<K: KeyFinder>(
-    alloc: Global,
-    number: u32,
-    template: &Template,
-    pattern: &ScopedPattern,
-    alternative: &Expr,
-    rank: Rank,
-    tree: &Tree,
-    node: Node,
-    keys: &K,
-    table: Option<&RuleTable>,
-    best: Option<Best>,
-) -> Result<Option<Best>, AllocError>
-    requires rank { rank ≡ rank_of template.now (tree_from alternative.now) }
-    requires node { node < length tree.now }
-    requires tables { TablesIn tree.now (K.tables keys.now) }
-    requires table { IfSome table (λ t. IsTable tree.now
-        pattern.now.scope (tree_from alternative.now) t.now) }
-    ensures best { IfOk result (λ found. found
-        ≡ best_before (is_matching (K.tables keys.now) tree.now node)
-        (candidate number template.now pattern.now (tree_from alternative.now) ∷ []) best) }
-{
-    if !is_above(rank, best) {
-        return Ok(best);
-    }
-    let matcher = Matcher { alloc, tree, keys };
-    if matches_by(&matcher, alternative, pattern.scope.scope(), node, table)? {
-        return Ok(Some(Best {
-            template: number,
-            rank,
-        }));
-    }
-    Ok(best)
 }
 
 /// Whether there is no later rule, or one that is outranked.
@@ -205,101 +279,4 @@ pub(crate) fn rule_of_best(best: Option<Best>) -> Rule
         Some(best) => Rule::Template(best.template),
         None => Rule::BuiltIn,
     }
-}
-
-/// The rule of one of a template's alternatives, by its number and with its rank, before the best
-/// one after it.
-pub(crate) fn best_of_nth<K: KeyFinder>(
-    alloc: Global,
-    number: u32,
-    template: &Template,
-    place: usize,
-    rank: Rank,
-    looked: Looked,
-    tree: &Tree,
-    node: Node,
-    mode: u32,
-    keys: &K,
-    table: Option<&RuleTable>,
-    best: Option<Best>,
-) -> Result<Option<Best>, AllocError>
-    requires node { node < length tree.now }
-    requires tables { TablesIn tree.now (K.tables keys.now) }
-    requires rank { IfSome (option_and_then (nth_of number template.now place)
-        template.now.pattern) (λ c. rank ≡ c.rank) }
-    requires table { IsTableOf tree.now
-        (option_and_then (nth_of number template.now place) template.now.pattern)
-        (option_copied table) }
-    ensures best { IfOk result (λ found. found ≡ option_map_or (λ c. best_before
-        (passes looked (K.tables keys.now) tree.now mode node) (c ∷ []) best)
-        (option_and_then (nth_of number template.now place) template.now.pattern) best) }
-{
-    match &template.pattern {
-        None => Ok(best),
-        Some(pattern) => match nth_alternative(pattern, place) {
-            None => Ok(best),
-            Some(alternative) => best_of_rule(
-                alloc,
-                number,
-                template,
-                pattern,
-                alternative,
-                rank,
-                looked,
-                tree,
-                node,
-                mode,
-                keys,
-                table,
-                best,
-            ),
-        },
-    }
-}
-
-// An alternative where it is looked at, is of the mode, matches, and is above the best rule after
-// it; otherwise that one.
-fn best_of_rule<K: KeyFinder>(
-    alloc: Global,
-    number: u32,
-    template: &Template,
-    pattern: &ScopedPattern,
-    alternative: &Expr,
-    rank: Rank,
-    looked: Looked,
-    tree: &Tree,
-    node: Node,
-    mode: u32,
-    keys: &K,
-    table: Option<&RuleTable>,
-    best: Option<Best>,
-) -> Result<Option<Best>, AllocError>
-    requires rank { rank ≡ rank_of template.now (tree_from alternative.now) }
-    requires node { node < length tree.now }
-    requires tables { TablesIn tree.now (K.tables keys.now) }
-    requires table { IfSome table (λ t. IsTable tree.now
-        pattern.now.scope (tree_from alternative.now) t.now) }
-    ensures best { IfOk result (λ found. found
-        ≡ best_before (passes looked (K.tables keys.now) tree.now mode node)
-        (candidate number template.now pattern.now (tree_from alternative.now) ∷ []) best) }
-{
-    if template.mode != mode {
-        return Ok(best);
-    }
-    if !looked.looks_at(template.precedence) {
-        return Ok(best);
-    }
-    best_of_alternative(
-        alloc,
-        number,
-        template,
-        pattern,
-        alternative,
-        rank,
-        tree,
-        node,
-        keys,
-        table,
-        best,
-    )
 }

@@ -6,7 +6,8 @@ ghost use Rattle.xs_rules.specs.Rules.{candidates, chosen, chosen_import, is_imp
 ghost use Rattle.xs_rules.specs.steps.Candidates.{best_before, looks_at, passes};
 ghost use Rattle.xs_rules.specs.steps.Candidates.{rule_of_best};
 
-use crate::candidates::{Looked, best_of_template, rule_of_best};
+use crate::candidates::{Looked, rule_of_best};
+use crate::search::Search;
 use std::alloc::{AllocError, Global};
 pub use xs_pattern_spec::rule::Rule;
 use xs_sheet::declarations::Template;
@@ -30,7 +31,15 @@ pub fn choose<K: KeyFinder>(
     ensures chosen { IfOk result (λ rule. rule
         ≡ chosen (K.tables keys.now) sheet.now.templates tree.now mode node) }
 {
-    choose_among(alloc, Looked::All, sheet, tree, node, mode, keys)
+    let search = Search {
+        alloc,
+        tree,
+        keys,
+        looked: Looked::All,
+        mode,
+        node,
+    };
+    search.choose_among(sheet)
 }
 
 /// The rule that a node takes in a mode of those that were imported into the module of the template
@@ -52,7 +61,15 @@ pub fn choose_import<K: KeyFinder>(
         ≡ chosen_import under (K.tables keys.now) sheet.now.templates tree.now mode node) }
 {
     let looked = imported_into(sheet.templates.as_slice(), under);
-    choose_among(alloc, looked, sheet, tree, node, mode, keys)
+    let search = Search {
+        alloc,
+        tree,
+        keys,
+        looked,
+        mode,
+        node,
+    };
+    search.choose_among(sheet)
 }
 
 /// Which rules are looked at for the module of the template with a number.
@@ -66,31 +83,24 @@ pub(crate) fn imported_into(templates: &[Template], under: u32) -> Looked
     }
 }
 
-// The rule that a node takes of those that are looked at.
-fn choose_among<K: KeyFinder>(
-    alloc: Global,
-    looked: Looked,
-    sheet: &Sheet,
-    tree: &Tree,
-    node: Node,
-    mode: u32,
-    keys: &K,
-) -> Result<Rule, AllocError>
-    requires few { length sheet.now.templates < 2 ^ 32 }
-    requires node { node < length tree.now }
-    requires tables { TablesIn tree.now (K.tables keys.now) }
-    ensures chosen { IfOk result (λ rule. rule ≡ rule_of_best (best_before
-        (passes looked (K.tables keys.now) tree.now mode node)
-        (candidates sheet.now.templates) None)) }
-{
-    let mut best = None;
-    let mut rest = sheet.templates.as_slice();
-    while let Some((template, before)) = rest.split_last() {
-        let number = before.len() as u32;
-        best = best_of_template(
-            alloc, number, template, looked, tree, node, mode, keys, best,
-        )?;
-        rest = before;
+impl<'a, K: KeyFinder> Search<'a, K> {
+    // The rule that a node takes of those that are looked at.
+    fn choose_among(&self, sheet: &Sheet) -> Result<Rule, AllocError>
+        requires few { length sheet.now.templates < 2 ^ 32 }
+        requires node { self.now.node < length self.now.tree.now }
+        requires tables { TablesIn self.now.tree.now (K.tables self.now.keys.now) }
+        ensures chosen { IfOk result (λ rule. rule ≡ rule_of_best (best_before
+            (passes self.now.looked (K.tables self.now.keys.now)
+            self.now.tree.now self.now.mode self.now.node)
+            (candidates sheet.now.templates) None)) }
+    {
+        let mut best = None;
+        let mut rest = sheet.templates.as_slice();
+        while let Some((template, before)) = rest.split_last() {
+            let number = before.len() as u32;
+            best = self.best_of_template(number, template, best)?;
+            rest = before;
+        }
+        Ok(rule_of_best(best))
     }
-    Ok(rule_of_best(best))
 }

@@ -10,6 +10,7 @@ ghost use Rattle.xs_rules.specs.Rules.{chosen, chosen_import};
 use crate::candidates::Looked;
 use crate::choice::{Rule, imported_into};
 use crate::lists::Lists;
+use crate::search::Search;
 use crate::tables::{RuleTable, tables_for};
 use std::alloc::{AllocError, Global};
 use xs_sheet::declarations::Template;
@@ -80,17 +81,17 @@ pub fn choose_with<K: KeyFinder>(
     ensures chosen { IfOk result (λ rule. rule
         ≡ chosen (K.tables keys.now) index.now.templates.now tree.now mode node) }
 {
-    let looked = Looked::All;
-    index.lists.choose_among(
+    let search = Search {
         alloc,
-        index.templates,
-        looked,
         tree,
-        node,
-        mode,
         keys,
-        &index.tables,
-    )
+        looked: Looked::All,
+        mode,
+        node,
+    };
+    index
+        .lists
+        .choose_among(&search, index.templates, &index.tables)
 }
 
 /// The rule that a node takes in a mode of those that were imported into the module of the template
@@ -112,14 +113,15 @@ pub fn choose_import_with<K: KeyFinder>(
         ≡ chosen_import under (K.tables keys.now) index.now.templates.now tree.now mode node) }
 {
     let looked = imported_into(index.templates, under);
-    index.lists.choose_among(
+    let search = Search {
         alloc,
-        index.templates,
-        looked,
         tree,
-        node,
-        mode,
         keys,
-        &index.tables,
-    )
+        looked,
+        mode,
+        node,
+    };
+    index
+        .lists
+        .choose_among(&search, index.templates, &index.tables)
 }

@@ -11,6 +11,7 @@ mod places;
 mod ranks;
 mod rule_keys;
 mod rule_kinds;
+mod search;
 mod shapes;
 mod strip_index;
 mod tables;

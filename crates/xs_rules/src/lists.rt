@@ -17,12 +17,13 @@ ghost use Rattle.xs_rules.specs.steps.Index.{AreTables, IsIndexed, IsTableOf, Ke
 ghost use Rattle.xs_rules.specs.steps.Index.{has_key, key_of, may_match, node_key, with_place};
 ghost use Rattle.xs_rules.specs.steps.Lists.{named_in, unnamed_in};
 
-use crate::candidates::{Best, Looked, best_of_nth, is_above, rank_of, rule_of_best};
+use crate::candidates::{Best, Looked, is_above, rank_of, rule_of_best};
 use crate::choice::Rule;
 use crate::places::{Named, Unnamed, add_named, add_unnamed, kinds_of, later, named_by, without};
 use crate::ranks::Rank;
 use crate::rule_keys::{key_of, node_key};
 use crate::rule_kinds::is_certain;
+use crate::search::Search;
 use crate::tables::{RuleTable, table_at};
 use indexmap::IndexMap;
 use std::alloc::{AllocError, Global};
@@ -174,37 +175,30 @@ impl<'a> Lists<'a> {
     /// table is tried by it.
     pub(crate) fn choose_among<K: KeyFinder>(
         &self,
-        alloc: Global,
+        search: &Search<'_, K>,
         templates: &[Template],
-        looked: Looked,
-        tree: &Tree,
-        node: Node,
-        mode: u32,
-        keys: &K,
         rule_tables: &[Option<RuleTable>],
     ) -> Result<Rule, AllocError>
         requires indexed { IsIndexed templates.now (candidates templates.now)
             self.now.entries.items (named_in self.now.named) (unnamed_in self.now.unnamed) }
-        requires node { node < length tree.now }
-        requires tables { TablesIn tree.now (K.tables keys.now) }
-        requires rule_tables { AreTables templates.now self.now.entries.items tree.now
-            rule_tables.now }
+        requires node { search.now.node < length search.now.tree.now }
+        requires tables { TablesIn search.now.tree.now (K.tables search.now.keys.now) }
+        requires rule_tables { AreTables templates.now self.now.entries.items
+            search.now.tree.now rule_tables.now }
         ensures chosen { IfOk result (λ rule. rule ≡ rule_of_best (best_before
-            (passes looked (K.tables keys.now) tree.now mode node)
-            (candidates templates.now) None)) }
+            (passes search.now.looked (K.tables search.now.keys.now) search.now.tree.now
+            search.now.mode search.now.node) (candidates templates.now) None)) }
     {
         // `len` says that it is a tree, whose roots are the nodes that `/` matches.
-        let count = tree.len();
-        prove!((node.place() as usize) < count);
-        let mut named = self.named_for(mode, tree, node);
-        let mut unnamed = self.unnamed_for(mode, tree.kind(node));
+        let count = search.tree.len();
+        prove!((search.node.place() as usize) < count);
+        let mut named = self.named_for(search.mode, search.tree, search.node);
+        let mut unnamed = self.unnamed_for(search.mode, search.tree.kind(search.node));
         let mut best = None;
         while let Some(place) = later(named, unnamed) {
             let entry = self.entries[place];
             let table = table_at(rule_tables, place);
-            best = best_of_entry(
-                alloc, templates, entry, looked, tree, node, mode, keys, table, best,
-            )?;
+            best = search.best_of_entry(templates, entry, table, best)?;
             named = without(named, place);
             unnamed = without(unnamed, place);
         }
@@ -212,78 +206,60 @@ impl<'a> Lists<'a> {
     }
 }
 
-// The rule of an entry before the best one after it, where it is above that one, is looked at and
-// matches, which one that is certain does.
-fn best_of_entry<K: KeyFinder>(
-    alloc: Global,
-    templates: &[Template],
-    entry: Entry,
-    looked: Looked,
-    tree: &Tree,
-    node: Node,
-    mode: u32,
-    keys: &K,
-    table: Option<&RuleTable>,
-    best: Option<Best>,
-) -> Result<Option<Best>, AllocError>
-    requires node { node < length tree.now }
-    requires tables { TablesIn tree.now (K.tables keys.now) }
-    requires rank { IfSome (at_entry templates.now entry) (λ c. entry.rank ≡ c.rank) }
-    requires certain { entry.is_certain ≡ true → option_map_or
-        (takes (K.tables keys.now) tree.now mode node) (at_entry templates.now entry) false ≡ true }
-    requires table { IsTableOf tree.now (at_entry templates.now entry) (option_copied table) }
-    ensures best { IfOk result (λ found. found ≡ option_map_or (λ c. best_before
-        (passes looked (K.tables keys.now) tree.now mode node) (c ∷ []) best)
-        (at_entry templates.now entry) best) }
-{
-    if entry.is_certain {
-        return Ok(best_of_certain(entry, looked, best));
+impl<'a, K: KeyFinder> Search<'a, K> {
+    // The rule of an entry before the best one after it, where it is above that one, is looked at
+    // and matches, which one that is certain does.
+    fn best_of_entry(
+        &self,
+        templates: &[Template],
+        entry: Entry,
+        table: Option<&RuleTable>,
+        best: Option<Best>,
+    ) -> Result<Option<Best>, AllocError>
+        requires node { self.now.node < length self.now.tree.now }
+        requires tables { TablesIn self.now.tree.now (K.tables self.now.keys.now) }
+        requires rank { IfSome (at_entry templates.now entry) (λ c. entry.rank ≡ c.rank) }
+        requires certain { entry.is_certain ≡ true → option_map_or
+            (takes (K.tables self.now.keys.now) self.now.tree.now self.now.mode self.now.node)
+            (at_entry templates.now entry) false ≡ true }
+        requires table { IsTableOf self.now.tree.now (at_entry templates.now entry)
+            (option_copied table) }
+        ensures best { IfOk result (λ found. found ≡ option_map_or (λ c. best_before
+            (passes self.now.looked (K.tables self.now.keys.now)
+            self.now.tree.now self.now.mode self.now.node) (c ∷ []) best)
+            (at_entry templates.now entry) best) }
+    {
+        if entry.is_certain {
+            return Ok(best_of_certain(entry, self.looked, best));
+        }
+        self.best_at(templates, entry, table, best)
     }
-    best_at(
-        alloc, templates, entry, looked, tree, node, mode, keys, table, best,
-    )
-}
 
-// The same of one that may not match.
-fn best_at<K: KeyFinder>(
-    alloc: Global,
-    templates: &[Template],
-    entry: Entry,
-    looked: Looked,
-    tree: &Tree,
-    node: Node,
-    mode: u32,
-    keys: &K,
-    table: Option<&RuleTable>,
-    best: Option<Best>,
-) -> Result<Option<Best>, AllocError>
-    requires node { node < length tree.now }
-    requires tables { TablesIn tree.now (K.tables keys.now) }
-    requires rank { IfSome (at_entry templates.now entry) (λ c. entry.rank ≡ c.rank) }
-    requires table { IsTableOf tree.now (at_entry templates.now entry) (option_copied table) }
-    ensures best { IfOk result (λ found. found ≡ option_map_or (λ c. best_before
-        (passes looked (K.tables keys.now) tree.now mode node) (c ∷ []) best)
-        (at_entry templates.now entry) best) }
-{
-    if !is_above(entry.rank, best) {
-        return Ok(best);
-    }
-    match templates.get(entry.template as usize) {
-        None => Ok(best),
-        Some(template) => best_of_nth(
-            alloc,
-            entry.template,
-            template,
-            entry.alternative,
-            entry.rank,
-            looked,
-            tree,
-            node,
-            mode,
-            keys,
-            table,
-            best,
-        ),
+    // The same of one that may not match.
+    fn best_at(
+        &self,
+        templates: &[Template],
+        entry: Entry,
+        table: Option<&RuleTable>,
+        best: Option<Best>,
+    ) -> Result<Option<Best>, AllocError>
+        requires node { self.now.node < length self.now.tree.now }
+        requires tables { TablesIn self.now.tree.now (K.tables self.now.keys.now) }
+        requires rank { IfSome (at_entry templates.now entry) (λ c. entry.rank ≡ c.rank) }
+        requires table { IsTableOf self.now.tree.now (at_entry templates.now entry)
+            (option_copied table) }
+        ensures best { IfOk result (λ found. found ≡ option_map_or (λ c. best_before
+            (passes self.now.looked (K.tables self.now.keys.now)
+            self.now.tree.now self.now.mode self.now.node) (c ∷ []) best)
+            (at_entry templates.now entry) best) }
+    {
+        if !is_above(entry.rank, best) {
+            return Ok(best);
+        }
+        match templates.get(entry.template as usize) {
+            None => Ok(best),
+            Some(template) => self.best_of_nth(template, entry, table, best),
+        }
     }
 }
 

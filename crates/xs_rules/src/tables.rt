@@ -18,9 +18,8 @@ use std::alloc::{AllocError, Global};
 use xs_pattern::above::above_of;
 use xs_pattern::matcher::Matcher;
 use xs_pattern::path_tables::path_table;
-use xs_pattern::tables::is_in_table;
 use xs_sheet::declarations::Template;
-use xs_tree::{Node, Tree};
+use xs_tree::{Node, Tree, is_flagged};
 use xs_value::keys::KeyFinder;
 use xs_xpath::expr::Expr;
 use xs_xpath::scope::Scope;
@@ -82,7 +81,7 @@ pub(crate) fn matches_by<K: KeyFinder>(
         (tree_from alternative.now)) }
 {
     match table {
-        Some(RuleTable::Matches(nodes)) => Ok(is_in_table(nodes, node)),
+        Some(RuleTable::Matches(nodes)) => Ok(is_flagged(nodes, node)),
         Some(RuleTable::Above(above)) => {
             let above = Some(above.as_slice());
             matcher.matches_path_by(alternative, scope, node, above)
@@ -193,7 +192,7 @@ fn matching_nodes(
 {
     match path_table(alloc, alternative, scope, tree)? {
         None => Ok(None),
-        Some(flags) => Ok(Some(RuleTable::Matches(nodes))),
+        Some(nodes) => Ok(Some(RuleTable::Matches(nodes))),
     }
 }
 

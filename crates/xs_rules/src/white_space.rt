@@ -24,13 +24,17 @@ pub fn strip_space(alloc: Global, tree: &mut Tree, rules: &[StripRule]) -> Resul
     ensures stripped { OnOk result (tree.new ≡ without (stripped rules.now tree.old) tree.old) }
     ensures refused { OnErr result (tree.new ≡ tree.old) }
 {
-    let flags = stripped(alloc, tree, rules)?;
+    let flags = stripped_flags(alloc, tree, rules)?;
     tree.strip(&flags)
 }
 
 /// Which nodes of a source are stripped, one after another, with which `Tree::strip` strips them
 /// and `Tree::strip_numbers` what is kept beside them.
-pub fn stripped(alloc: Global, tree: &Tree, rules: &[StripRule]) -> Result<Vec<bool>, AllocError>
+pub fn stripped_flags(
+    alloc: Global,
+    tree: &Tree,
+    rules: &[StripRule],
+) -> Result<Vec<bool>, AllocError>
     ensures flags { IfOk result (λ flags. flags.items ≡ stripped rules.now tree.now) }
 {
     let index = StripIndex::of(alloc, rules)?;

@@ -1,4 +1,4 @@
--- A code for trees of expressions and the parts of value templates, which reports them apart: a value that contracts see has to have one.
+-- A code for trees of expressions and the parts of value templates, which distinguishes them: a value that contracts see has to have one.
 use Rattle.std.proofs.Common.{◌≡◌, ◌∙◌, ◌⊎◌, inl, inr, ℕ, ◌==◌, List, Option, Bool, true, false, refl, sym, ap, arith}
 use Rattle.std.proofs.lemmas.Bool.Decides.{nat_tests}
 use Rattle.std.proofs.lemmas.Bool.{true≢false}

@@ -23,7 +23,7 @@ use Rattle.xs_tree.proofs.WalkLemmas.{climbs-within, is_inside-within}
 use Rattle.xs_tree.specs.Record.{Record, is_inside, places}
 use Rattle.xs_tree.specs.Shape.{EndsAt, IsTree}
 
--- ---- what nodes in a tag have
+-- ---- what nodes one after another have
 module _ {X : Type 0} where
   pub flat-more : (f : ℕ → List X) (m a j : ℕ) → a + m ≡ j → flat_map f (range_with_len a (suc m)) ≡ flat_map f (range_with_len a m) ++ f j
   flat-more f zero a j e = append-nil (f a) ∙ ap f (let same : a ≡ j = omega arith in same)

@@ -144,7 +144,7 @@ fn found_in_template(
     }
 }
 
-/// What is found in a value of this form. A text of 4 GiB is not read, for want of memory.
+/// What is found in a value of this form. A text of 4 GiB is out of memory, unread.
 pub(crate) fn found_in_value(
     alloc: Global,
     form: Form,

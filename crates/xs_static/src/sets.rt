@@ -65,7 +65,7 @@ fn push_name<'m>(name: Option<Expanded<'m>>, out: &mut Vec<Expanded<'m>>) -> Res
 
 /// The expanded name that a name represents in a scope: without a prefix it is in no namespace
 /// (XSLT 1.0, 2.4). None where the text is no name, or its prefix is not bound.
-fn expanded<'a>(scope: &'a Scope, name: &'a str) -> Option<Expanded<'a>>
+fn expand_name<'a>(scope: &'a Scope, name: &'a str) -> Option<Expanded<'a>>
     ensures { option_map name_data result ≡ expanded scope.now.pairs.items name.now }
 {
     let (prefix, local) = split_qname(name)?;
@@ -87,7 +87,7 @@ fn push_names<'m>(
 {
     let mut rest = value;
     while let Some((word, behind)) = first_word(rest) {
-        push_name(expanded(scope, word), out)?;
+        push_name(expand_name(scope, word), out)?;
         rest = behind;
     }
     Ok(())

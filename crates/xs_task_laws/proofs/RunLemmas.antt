@@ -18,7 +18,7 @@ use Rattle.xs_eval_spec.proofs.AxisListLemmas.{axis-inside}
 use Rattle.xs_sort_order.specs.declared.keys.Key.{Key}
 use Rattle.xs_sort.specs.declared.orders.Order.{Order}
 use Rattle.xs_sort_order.specs.InOrder.{in_order, insert}
-use Rattle.xs_sort.specs.Sorting.{and_row, comes_before, in_turn, keys_of, orders_of, rows_of, sorted, sorted_nodes}
+use Rattle.xs_sort.specs.Sorting.{and_node, comes_before, in_turn, keys_of, orders_of, keyed_nodes, sorted, sorted_nodes}
 use Rattle.xs_body_spec.specs.declared.focus.Focus.{Focus}
 use Rattle.xs_body_spec.specs.World.{World, applied_nodes, context, looped_nodes, nodes_or_children, nodes_run, sorted_run, value_run}
 use Rattle.xs_task_laws.proofs.ValueLemmas.{AnswerHas, AreIn, AreNodesIn, has_any, has_folded, has_then, nodes_given, placed_in, tree_in}
@@ -46,7 +46,7 @@ ordered_in rs before (x ∷ xs) h =
     (ordered_in rs before xs (All-tail (λ (row : Row). row.1 < length rs) x xs h))
 
 row_in : (keys : List Table) (c : Context) (size : ℕ) (sorts : List (SortDecl × Order)) (rows : List Row) (p : ℕ × ℕ) → AreRowsIn c.tree rows
-    → p.1 < length c.tree → AnswerHas (AreRowsIn c.tree) (and_row keys c size sorts rows p).end
+    → p.1 < length c.tree → AnswerHas (AreRowsIn c.tree) (and_node keys c size sorts rows p).end
 row_in keys c size sorts rows p h w =
     let r : Run (List Key) = keys_of keys (in_turn c size p) sorts in
     has_then (λ ks. Unit {0}) (AreRowsIn c.tree) r.cost r.end (λ ks. give (rows ++ (ks, p.1) ∷ [])) (has_any r.end)
@@ -56,11 +56,11 @@ sorted_in : (keys : List Table) (sorts : List SortDecl) (c : Context) (ns : List
     → AnswerHas (AreNodesIn c.tree) (sorted keys sorts c ns).end
 sorted_in keys sorts c ns h =
     let r : Run (List Order) = orders_of keys c sorts in
-    let rows : List Order → Run (List Row) = λ orders. rows_of keys c (zip sorts orders) ns in
+    let rows : List Order → Run (List Row) = λ orders. keyed_nodes keys c (zip sorts orders) ns in
     let begun : List Order → Run (List ℕ) = λ orders. rows orders >>= (λ found. give (sorted_nodes orders found)) in
     has_then (λ orders. Unit {0}) (AreNodesIn c.tree) r.cost r.end begun (has_any r.end) (λ orders u.
     has_then (AreRowsIn c.tree) (AreNodesIn c.tree) (rows orders).cost (rows orders).end (λ found. give (sorted_nodes orders found))
-    (has_folded (λ (p : ℕ × ℕ). p.1 < length c.tree) (AreRowsIn c.tree) (and_row keys c (length ns) (zip sorts orders))
+    (has_folded (λ (p : ℕ × ℕ). p.1 < length c.tree) (AreRowsIn c.tree) (and_node keys c (length ns) (zip sorts orders))
     (row_in keys c (length ns) (zip sorts orders)) [] (enumerate_from 1 ns) (All-nil (λ (row : Row). row.1 < length c.tree)) (placed_in c.tree 1 ns h))
     (λ found q. All-map (λ k. k < length c.tree) (λ (row : Row). row.1) (in_order (comes_before (map (λ (o : Order). o.direction) orders)) found)
     (ordered_in c.tree (comes_before (map (λ (o : Order). o.direction) orders)) found q)))

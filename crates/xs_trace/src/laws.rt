@@ -56,14 +56,14 @@ pub fn play_of_texts<H>()
     ensures message { PlayOfSay H }
 {}
 
-/// To open a capture, report the content, close the capture and go on with its events is to report the
-/// captured content.
+/// To open a capture, report the content, close the capture and go on with its events is to report
+/// the captured content.
 pub fn play_of_captured<H>()
     ensures { PlayOfCaptured H }
 {}
 
-/// What is captured from some events on gives those and the content's events, and reports all else of
-/// the content.
+/// What is captured from some events on gives those and the content's events, and reports all else
+/// of the content.
 pub fn captures_from<H>()
     ensures { CapturesFrom H }
 {}

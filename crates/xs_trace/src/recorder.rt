@@ -97,7 +97,8 @@ pub trait Recorder: Tally {
 
     /// From here on what is put makes a fragment of its own.
     fn open_capture(&mut self) -> Result<(), Halt>
-        ensures reported { IsStep (goes (opened (Self.state self.old))) result (Self.state self.new) }
+        ensures reported { IsStep (goes (opened (Self.state self.old))) result
+            (Self.state self.new) }
         ensures kept { Self.kept self.new ≡ Self.kept self.old };
 
     /// What was put since the last capture that is still open; that capture is closed. It is empty
@@ -111,7 +112,8 @@ pub trait Recorder: Tally {
 /// Some ticks at one instruction, one by one.
 #[inline(always)]
 pub fn tick_several<T: Tally>(tally: &mut T, site: Site, count: u64) -> Result<(), Halt>
-    ensures reported { IsStep (ticked_by count site (T.state tally.old)) result (T.state tally.new) }
+    ensures reported { IsStep (ticked_by count site (T.state tally.old)) result
+        (T.state tally.new) }
     ensures kept { T.kept tally.new ≡ T.kept tally.old }
 {
     for _ in 0..count {
@@ -122,7 +124,8 @@ pub fn tick_several<T: Tally>(tally: &mut T, site: Site, count: u64) -> Result<(
 
 /// Puts an event at an instruction, after the ticks for its text.
 pub fn put_event<R: Recorder>(recorder: &mut R, site: Site, event: Event) -> Result<(), Halt>
-    ensures reported { IsStep (put_at site event (R.state recorder.old)) result (R.state recorder.new) }
+    ensures reported { IsStep (put_at site event (R.state recorder.old)) result
+        (R.state recorder.new) }
     ensures kept { R.kept recorder.new ≡ R.kept recorder.old }
 {
     recorder.ticks(site, text_ticks(&event))?;
@@ -131,7 +134,8 @@ pub fn put_event<R: Recorder>(recorder: &mut R, site: Site, event: Event) -> Res
 
 /// Says a message at an instruction, after the ticks for its text.
 pub fn say_message<R: Recorder>(recorder: &mut R, site: Site, text: TextBuf) -> Result<(), Halt>
-    ensures reported { IsStep (said_at site text (R.state recorder.old)) result (R.state recorder.new) }
+    ensures reported { IsStep (said_at site text (R.state recorder.old)) result
+        (R.state recorder.new) }
     ensures kept { R.kept recorder.new ≡ R.kept recorder.old }
 {
     recorder.ticks(site, (text.as_str().len() / 256) as u64)?;

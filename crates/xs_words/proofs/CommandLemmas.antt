@@ -51,7 +51,7 @@ pub taken_rows : (app : App) (words : List Text) (m : ArgMatches) → app ≡ co
 taken_rows app words m e =
     subst (λ (a : App). HasMatchesOf a words m → Answers a words (Ok m) → rows_of_words words ≡ Some (rows_in m)) (sym e) (own_taken words m)
 
--- and one that answers an error, but want of memory, refuses them
+-- and one that answers an error, other than out of memory, refuses them
 pub refused_rows : (app : App) (words : List Text) (e : Error) → app ≡ command_line → kind_of e ≢ kind.OutOfMemory → Answers app words (Err e)
     → rows_of_words words ≡ None
 refused_rows app words e s k =

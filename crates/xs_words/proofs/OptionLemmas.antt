@@ -29,7 +29,7 @@ pub taken_gives : (app : App) (words : List Text) (m : ArgMatches) (r : Result O
 taken_gives app words m r e h f g =
     subst (λ (wanted : Option Choice). Gives reported wanted r) (sym (options_taken words (rows_in m) (taken_rows app words m e h f))) g
 
--- where there are no matches, `Usage` is right except want of memory
+-- where there are no matches, `Usage` is right, or memory ran out
 pub refused_gives : (app : App) (words : List Text) (e : Error) (end : WordsEnd) → app ≡ command_line → (end ≡ Usage → kind_of e ≢ kind.OutOfMemory)
     → Answers app words (Err e) → Gives reported (options_of words) (Err end)
 refused_gives app words e Usage s k f = options_refused words (refused_rows app words e s (k refl) f)

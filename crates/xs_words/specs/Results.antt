@@ -34,7 +34,7 @@ reported options = record {
   documents = options.documents.items;
 }
 
--- The answer has what is wanted, and `Usage` comes exactly where nothing is. Want of memory alone is free.
+-- The answer has what is wanted, and `Usage` comes exactly where nothing is. Out of memory alone is free.
 abbrev pub Gives : {X Y : Type 0} → (X → Y) → Option Y → Result X WordsEnd → Type 0
 Gives view wanted (Ok x) = wanted ≡ Some (view x)
 Gives view wanted (Err Usage) = wanted ≡ None

@@ -67,7 +67,7 @@ pub enum WordsEnd {
 impl From<AllocError> for WordsEnd {
     ghost from_gives = { λ _ e. e ≡ end_of.NoMemory };
 
-    /// Want of memory.
+    /// Out of memory.
     fn from(_error: AllocError) -> WordsEnd {
         WordsEnd::NoMemory
     }
@@ -76,7 +76,7 @@ impl From<AllocError> for WordsEnd {
 impl<T: Drop> From<AllocFailed<T>> for WordsEnd {
     ghost from_gives = { λ _ e. e ≡ end_of.NoMemory };
 
-    /// Want of memory; what there was no room for is dropped.
+    /// Out of memory; what there was no room for is dropped.
     fn from(_error: AllocFailed<T>) -> WordsEnd {
         WordsEnd::NoMemory
     }

@@ -9,8 +9,7 @@ use crate::expressions::settings::Settings;
 use xs_pattern::above::above_of;
 use xs_pattern::matcher::Matcher;
 use xs_pattern::path_tables::path_table;
-use xs_pattern::tables::is_in_table;
-use xs_tree::Node;
+use xs_tree::{Node, is_flagged};
 use xs_value::keys::NoKeys;
 use xs_xpath::expr::Expr;
 use xs_xpath::pattern::Pattern;
@@ -134,7 +133,7 @@ fn is_as_matched(out: &Answer, settings: &Settings, alternative: &Expr, nodes: &
     for place in 0..tree.len() as u32 {
         let node = Node::at(place);
         let climbed = matcher.matches_path(alternative, scope, node);
-        if is_in_table(nodes, node) != out.holds(climbed) {
+        if is_flagged(nodes, node) != out.holds(climbed) {
             return false;
         }
     }

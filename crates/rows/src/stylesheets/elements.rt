@@ -8,7 +8,7 @@ use xs_elements::attributes::{Need, attributes, form_named};
 use xs_elements::contents::{Before, Content, content_of, holds_text, may_stand};
 use xs_elements::forms::{Form, forbids_current, forbids_key, forbids_variables, sees_locals};
 use xs_elements::kept::{is_kept, own_space};
-use xs_elements::scope::{expanded, has, own_name, scope_at, uri_of, value_of};
+use xs_elements::scope::{expand_name, has, own_name, scope_at, uri_of, value_of};
 use xs_elements::tags::{Tag, is_document_element, is_top_level, tag_of};
 use xs_elements::value::{is_bad, is_unbound, is_unsupported};
 use xs_elements::words::first_word;
@@ -19,7 +19,7 @@ fn put_own_name(out: &Answer, tree: &Tree, node: Node)
     requires { node < length tree.now }
 {
     if let Some(value) = value_of(tree, node, "", "name") {
-        let name = expanded(tree, node, value);
+        let name = expand_name(tree, node, value);
         out.put(", name ");
         match name {
             Some((uri, local)) => out.put_name(uri, "", local),

@@ -1,7 +1,7 @@
 //! White space of a document that is stripped (XSLT 1.0, 3.4).
 
 use crate::answer::Answer;
-use xs_rules::white_space::{strip_space, stripped};
+use xs_rules::white_space::{strip_space, stripped_flags};
 use xs_sheet::declarations::StripRule;
 use xs_tree::{Kind, Node, Tree};
 
@@ -25,7 +25,7 @@ fn put_marked(out: &Answer, tree: &Tree, marks: &[bool]) -> usize {
 
 /// Adds which texts are stripped, and whether just these are gone.
 pub(crate) fn put_kept(out: &Answer, rules: &[StripRule], tree: &mut Tree) {
-    let Ok(marks) = stripped(out.alloc, tree, rules) else {
+    let Ok(marks) = stripped_flags(out.alloc, tree, rules) else {
         return out.refuse();
     };
     let gone = put_marked(out, tree, &marks);

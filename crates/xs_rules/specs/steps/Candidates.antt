@@ -3,6 +3,8 @@ use Rattle.std.specs.Prelude.{ℕ, ◌&&◌, Bool, true, false, nat_le, nat_lt, 
 use Rattle.xs_tree.specs.Record.{Record}
 use Rattle.xs_value.specs.Tables.{Table}
 use Rattle.xs_pattern_spec.specs.Matching.{matches_path, pattern_context}
+use Rattle.xs_xpath.specs.Exprs.{tree_from}
+use Rattle.xs_rules.specs.declared.candidates.Alternative.{Alternative}
 use Rattle.xs_rules.specs.declared.candidates.Best.{Best}
 use Rattle.xs_rules.specs.declared.candidates.Looked.{Looked}
 use Rattle.xs_rules.specs.declared.candidates.Looked.TheVariants.{All, Nothing, Within}
@@ -10,13 +12,17 @@ use Rattle.xs_pattern_spec.specs.declared.rule.Rule.{Rule}
 use Rattle.xs_pattern_spec.specs.declared.rule.Rule.TheVariants.{Template as OfTemplate, BuiltIn}
 use Rattle.xs_pattern_spec.specs.declared.ranks.Rank.{Rank}
 use Rattle.xs_rules.specs.Ranks.{or_above}
-use Rattle.xs_rules.specs.Rules.{Candidate, takes}
+use Rattle.xs_rules.specs.Rules.{Candidate, candidate, takes}
 
 -- whether rules of a precedence are looked at
 abbrev pub looks_at : Looked → ℕ → Bool
 looks_at All precedence = true
 looks_at Nothing precedence = false
 looks_at (Within from below) precedence = nat_le from precedence && nat_lt precedence below
+
+-- the candidate that an alternative is
+abbrev pub candidate_of : Alternative → Candidate
+candidate_of a = candidate a.number a.template.now a.pattern.now (tree_from a.expr.now)
 
 -- what is kept of a candidate
 abbrev pub best_with : (template : ℕ) → Rank → Best

@@ -29,7 +29,7 @@ abbrev pub found_parts : {F : Type 0} → (F → ℕ) → (List ℕ → List ℕ
 found_parts to_number known (Ok parts) = record { fault = None; has_unknown = list_any (has_unknown known) (expressions parts); has_forbidden = false }
 found_parts to_number known (Err fault) = found_fault (to_number fault)
 
--- what is found in a text with a fault, want of memory apart
+-- what is found in a text with a fault, where memory suffices
 abbrev pub IsFoundFault : ParseFault → Found → Type 0
 IsFoundFault (Bad number at) found = found ≡ found_fault number
 IsFoundFault NoMemory found = ⊥

@@ -1,14 +1,9 @@
 use Rattle.std.proofs.Common.{refl}
-use Rattle.xs_assemble.specs.declared.assembled.Executed.{Executed}
 use Rattle.xs_result_laws.specs.Named.{IsNamedWorld}
+use Rattle.xs_reply.specs.Ran.{pieces_of}
 use Rattle.xs_reply.specs.Reply.{job_data}
-use Rattle.xs_reply.specs.declared.reply.Pieces.{Pieces}
 use Rattle.xs_reply.proofs.EvaluationLemmas.{stopped_in_root, whole_in_root}
 use Rattle.xs_reply.proofs.executed.executed_reply.Goals as goal
-
--- how its pieces were run
-abbrev pieces_of : Executed → Pieces
-pieces_of e = record { claims = e.claims; inline = e.assembled.inline; worked = e.worked; items = e.assembled.items }
 
 pub returns-in-None-clause-answer : goal.returns-in-None-clause-answer
 returns-in-None-clause-answer c = λ w t of said took settles ran.
@@ -25,3 +20,9 @@ returns-clause-answer c = λ w t of said took settles ran.
     (pieces_of c.args.executed)
     c.in-Some.spot c.in-Some.is refl refl refl (rw c.deref-in-Some.ensures.value at c.in_ok-reply-in-Some.ensures)
     c.with_pieces.ensures.answer c.with_pieces.ensures.pieces
+
+pub returns-in-None-clause-pieces : goal.returns-in-None-clause-pieces
+returns-in-None-clause-pieces c = c.with_stats.ensures.pieces
+
+pub returns-clause-pieces : goal.returns-clause-pieces
+returns-clause-pieces c = c.with_pieces.ensures.pieces

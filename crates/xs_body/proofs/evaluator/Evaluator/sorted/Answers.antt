@@ -14,8 +14,8 @@ returns-in-None-clause-reported g c =
     unsorted-reported c.args.self.now.world c.args.sorts.now c.args.scope.focus (last c.args.scope.seen c.args.self.now.slots) (nodes_in c.args.nodes)
     c.args.site (g.T.Tally.state c.args.tally.now) c.in-None.ensures.cases
 
-pub sorted-requires-clause-inside : goal.sorted-requires-clause-inside
-sorted-requires-clause-inside g c κs within =
+pub sort_by_keys-requires-clause-inside : goal.sort_by_keys-requires-clause-inside
+sort_by_keys-requires-clause-inside g c κs within =
     set-inside c.args.self.now.world c.args.scope.focus (last c.args.scope.seen c.args.self.now.slots) c.in-Some.first.now.select.scope
     c.context-context.result c.in_ok-set-in-Some.set (nodes_in c.args.nodes) c.context-context.ensures.is c.in_ok-set-in-Some.ensures c.requires.nodes
 
@@ -24,7 +24,7 @@ returns-in_err-ordered-in-Some-clause-reported g c =
     let p = err_from_is_err_and c.from_residual-in_err-ordered-in-Some.result c.from_residual-in_err-ordered-in-Some.ensures.1 in
     sort-ends (λ (v : Vec ℕ Global). v.items) (λ (l : NodeList). nodes_in l) c.args.self.now.world c.args.sorts.now c.args.scope.focus
     (last c.args.scope.seen c.args.self.now.slots) c.in-Some.first.now.select.scope _ c.context-context.result c.in_ok-set-in-Some.set (nodes_in c.args.nodes)
-    c.args.site (g.T.Tally.state c.args.tally.now) (g.T.Tally.state c.sorted.new.tally) c.from_residual-in_err-ordered-in-Some.result _ _
+    c.args.site (g.T.Tally.state c.args.tally.now) (g.T.Tally.state c.sort_by_keys.new.tally) c.from_residual-in_err-ordered-in-Some.result _ _
     (ap (λ (e : Evaluation). e.world.keys) c.self.view_is) c.context-context.ensures.is c.in_ok-set-in-Some.ensures p.1 p.2
     c.in_err-ordered-in-Some.ensures.reported
 
@@ -32,7 +32,7 @@ pub returns-in_ok-ordered-in-Some-clause-reported : goal.returns-in_ok-ordered-i
 returns-in_ok-ordered-in-Some-clause-reported g c =
     sort-reported (λ (v : Vec ℕ Global). v.items) c.args.self.now.world c.args.sorts.now c.args.scope.focus
     (last c.args.scope.seen c.args.self.now.slots) c.in-Some.first.now.select.scope _ c.context-context.result c.in_ok-set-in-Some.set (nodes_in c.args.nodes)
-    c.args.site (g.T.Tally.state c.args.tally.now) (g.T.Tally.state c.sorted.new.tally) (Ok c.in_ok-ordered-in-Some.ordered)
+    c.args.site (g.T.Tally.state c.args.tally.now) (g.T.Tally.state c.sort_by_keys.new.tally) (Ok c.in_ok-ordered-in-Some.ordered)
     (ap (λ (e : Evaluation). e.world.keys) c.self.view_is) c.context-context.ensures.is c.in_ok-set-in-Some.ensures
     c.in_ok-ordered-in-Some.ensures.reported
 

@@ -173,11 +173,11 @@ evaluate_negative-returns-in_err-v-clause-reported g t c =
 pub evaluate_negative-returns-clause-reported : goal.evaluate_negative-returns-clause-reported
 evaluate_negative-returns-clause-reported g t c =
     let s = g.T.Tally.state c.operand.new.tally in
-    closes (λ v. v) c.args.self.now.site (negation c.args.signs c.context.inside.tree.now c.in_ok-v.v) c.negate-negated.result _ c.settled.result s
+    closes (λ v. v) c.args.self.now.site (negation c.args.signs c.context.inside.tree.now c.in_ok-v.v) c.negate-negated.result _ c.or_halt.result s
     (goes_on c.args.self.now.site (run_of (g.K.KeyFinder.tables c.args.self.now.keys.now) c.args.inner.now c.args.context.now)
     (λ v. given (negation c.args.signs c.args.context.now.tree v)) c.in_ok-v.v (g.T.Tally.state c.args.tally.now) s c.in_ok-v.ensures.reported
     ∙ ap (λ (a : Context). limited c.args.self.now.site (given (negation c.args.signs a.tree c.in_ok-v.v)) s) (sym c.context.view_is))
-    c.settled.ensures c.negate-negated.ensures.value
+    c.or_halt.ensures c.negate-negated.ensures.value
 
 -- a union of paths of one step
 pub evaluate_chain-returns-then-is_union_of_steps-clause-reported : goal.evaluate_chain-returns-then-is_union_of_steps-clause-reported
@@ -224,11 +224,11 @@ pub join_right-returns-clause-reported : goal.join_right-returns-clause-reported
 join_right-returns-clause-reported g t c =
     let s = g.T.Tally.state c.operand.new.tally in
     closes (λ v. v) c.args.self.now.site (operated c.args.operator c.context.inside.tree.now c.args.left c.in_ok-v.v) c.operate-joined.result _
-    c.settled.result s
+    c.or_halt.result s
     (goes_on c.args.self.now.site (run_of (g.K.KeyFinder.tables c.args.self.now.keys.now) c.args.right.now c.args.context.now)
     (λ v. given (operated c.args.operator c.args.context.now.tree c.args.left v)) c.in_ok-v.v (g.T.Tally.state c.args.tally.now) s c.in_ok-v.ensures.reported
     ∙ ap (λ (a : Context). limited c.args.self.now.site (given (operated c.args.operator a.tree c.args.left c.in_ok-v.v)) s) (sym c.context.view_is))
-    c.settled.ensures c.operate-joined.ensures.value
+    c.or_halt.ensures c.operate-joined.ensures.value
 
 -- all operands
 pub join_all-returns-in-empty-clause-reported : goal.join_all-returns-in-empty-clause-reported

@@ -16,24 +16,27 @@ use Rattle.xs_rules.proofs.lists.Lists.choose_among.Goals as goal
 
 pub loop-place-init : goal.loop-place-init
 loop-place-init g c =
-    let p = passes c.args.looked (g.K.KeyFinder.tables c.args.keys.now) c.args.tree.now c.args.mode c.args.node in
+    let p = passes c.args.search.now.looked (g.K.KeyFinder.tables c.args.search.now.keys.now) c.args.search.now.tree.now c.args.search.now.mode
+    c.args.search.now.node in
     let ts = c.args.templates.now in
     let cs = candidates ts in
     let es = c.args.self.now.entries.items in
     let names = named_in c.args.self.now.named in
     let kinds = unnamed_in c.args.self.now.unnamed in
-    let r = at c.args.tree.now c.args.node in
-    search-none p cs (passes_at (named_for c.args.mode r) cs) (passes_at (is_unnamed c.args.mode r.kind) cs) (reverse c.named_for-named.result.now)
+    let r = at c.args.search.now.tree.now c.args.search.now.node in
+    search-none p cs (passes_at (named_for c.args.search.now.mode r) cs) (passes_at (is_unnamed c.args.search.now.mode r.kind) cs) (reverse
+    c.named_for-named.result.now)
     (reverse c.unnamed_for-unnamed.result.now)
-    (named-list ts cs es names kinds c.args.mode r c.named_for-named.result.now c.requires.indexed c.named_for-named.ensures)
-    (unnamed-list ts cs es names kinds c.args.mode r.kind c.unnamed_for-unnamed.result.now c.requires.indexed
-    (c.unnamed_for-unnamed.ensures ∙ ap (kinds c.args.mode) c.kind.ensures.kind))
+    (named-list ts cs es names kinds c.args.search.now.mode r c.named_for-named.result.now c.requires.indexed c.named_for-named.ensures)
+    (unnamed-list ts cs es names kinds c.args.search.now.mode r.kind c.unnamed_for-unnamed.result.now c.requires.indexed
+    (c.unnamed_for-unnamed.ensures ∙ ap (kinds c.args.search.now.mode) c.kind.ensures.kind))
 
 pub index-entry-requires : goal.index-entry-requires
 index-entry-requires g c =
     let cs = candidates c.args.templates.now in
     let inside : c.in-Some.place < length c.args.self.now.entries.items =
-    index-inside c.args.looked (g.K.KeyFinder.tables c.args.keys.now) c.args.tree.now c.args.mode c.args.node c.args.templates.now cs
+    index-inside c.args.search.now.looked (g.K.KeyFinder.tables c.args.search.now.keys.now) c.args.search.now.tree.now c.args.search.now.mode
+    c.args.search.now.node c.args.templates.now cs
     c.args.self.now.entries.items (named_in c.args.self.now.named) (unnamed_in c.args.self.now.unnamed) (reverse c.loop-place.named.now)
     (reverse c.loop-place.unnamed.now) c.loop-place.best c.in-Some.place c.requires.indexed c.loop-place.invariant (sym c.later.ensures ∙ c.in-Some.is) in
     let long : vec_len c.args.self.now.entries ≡ length c.args.self.now.entries.items = c.args.self.now.entries.ok.0 in
@@ -44,12 +47,13 @@ best_of_entry-requires-clause-table g c κs within =
     let cs : List Candidate = candidates c.args.templates.now in
     let entry : Entry = c.index-entry.result.now in
     let inside : c.in-Some.place < length c.args.self.now.entries.items =
-    index-inside c.args.looked (g.K.KeyFinder.tables c.args.keys.now) c.args.tree.now c.args.mode c.args.node c.args.templates.now cs
+    index-inside c.args.search.now.looked (g.K.KeyFinder.tables c.args.search.now.keys.now) c.args.search.now.tree.now c.args.search.now.mode
+    c.args.search.now.node c.args.templates.now cs
     c.args.self.now.entries.items (named_in c.args.self.now.named) (unnamed_in c.args.self.now.unnamed) (reverse c.loop-place.named.now)
     (reverse c.loop-place.unnamed.now) c.loop-place.best c.in-Some.place c.requires.indexed c.loop-place.invariant (sym c.later.ensures ∙ c.in-Some.is) in
     let read : slice_get c.args.self.now.entries.items c.in-Some.place ≡ Some entry =
     slice_get_read c.args.self.now.entries.items (length c.args.self.now.entries.items) c.in-Some.place entry refl inside c.index-entry.ensures in
-    subst (λ (o : Option RuleTable). IsTableOf c.args.tree.now (at_entry c.args.templates.now entry) o) (sym c.table_at-table.ensures)
+    subst (λ (o : Option RuleTable). IsTableOf c.args.search.now.tree.now (at_entry c.args.templates.now entry) o) (sym c.table_at-table.ensures)
     (c.requires.rule_tables.each c.in-Some.place entry read)
 
 pub best_of_entry-requires-clause-rank : goal.best_of_entry-requires-clause-rank
@@ -57,7 +61,8 @@ best_of_entry-requires-clause-rank g c κs within =
     let cs : List Candidate = candidates c.args.templates.now in
     let entry : Entry = c.index-entry.result.now in
     let inside : c.in-Some.place < length c.args.self.now.entries.items =
-    index-inside c.args.looked (g.K.KeyFinder.tables c.args.keys.now) c.args.tree.now c.args.mode c.args.node c.args.templates.now cs
+    index-inside c.args.search.now.looked (g.K.KeyFinder.tables c.args.search.now.keys.now) c.args.search.now.tree.now c.args.search.now.mode
+    c.args.search.now.node c.args.templates.now cs
     c.args.self.now.entries.items (named_in c.args.self.now.named) (unnamed_in c.args.self.now.unnamed) (reverse c.loop-place.named.now)
     (reverse c.loop-place.unnamed.now) c.loop-place.best c.in-Some.place c.requires.indexed c.loop-place.invariant (sym c.later.ensures ∙ c.in-Some.is) in
     let read : slice_get c.args.self.now.entries.items c.in-Some.place ≡ Some entry =
@@ -67,7 +72,7 @@ best_of_entry-requires-clause-rank g c κs within =
 
 pub best_of_entry-requires-clause-certain : goal.best_of_entry-requires-clause-certain
 best_of_entry-requires-clause-certain g c κs within = λ sure.
-    let keys = g.K.KeyFinder.tables c.args.keys.now in
+    let keys = g.K.KeyFinder.tables c.args.search.now.keys.now in
     let cs : List Candidate = candidates c.args.templates.now in
     let es : List Entry = c.args.self.now.entries.items in
     let names = named_in c.args.self.now.named in
@@ -75,10 +80,12 @@ best_of_entry-requires-clause-certain g c κs within = λ sure.
     let entry : Entry = c.index-entry.result.now in
     let l : later (reverse c.loop-place.named.now) (reverse c.loop-place.unnamed.now) ≡ Some c.in-Some.place = sym c.later.ensures ∙ c.in-Some.is in
     let inside : c.in-Some.place < length es =
-    index-inside c.args.looked keys c.args.tree.now c.args.mode c.args.node c.args.templates.now cs es names kinds (reverse c.loop-place.named.now)
+    index-inside c.args.search.now.looked keys c.args.search.now.tree.now c.args.search.now.mode c.args.search.now.node c.args.templates.now cs es names kinds
+    (reverse c.loop-place.named.now)
     (reverse c.loop-place.unnamed.now) c.loop-place.best c.in-Some.place c.requires.indexed c.loop-place.invariant l in
     let read : slice_get es c.in-Some.place ≡ Some entry = slice_get_read es (length es) c.in-Some.place entry refl inside c.index-entry.ensures in
-    index-certain c.args.looked keys c.args.tree.now c.args.mode c.args.node c.args.templates.now cs es names kinds (reverse c.loop-place.named.now)
+    index-certain c.args.search.now.looked keys c.args.search.now.tree.now c.args.search.now.mode c.args.search.now.node c.args.templates.now cs es names kinds
+    (reverse c.loop-place.named.now)
     (reverse c.loop-place.unnamed.now) c.loop-place.best c.in-Some.place entry c.len-count.ensures.tree c.requires.node c.requires.indexed
     c.loop-place.invariant l read sure
 
@@ -94,7 +101,7 @@ loop-place-smaller g c =
 
 pub loop-place-preserved : goal.loop-place-preserved
 loop-place-preserved g c =
-    let keys = g.K.KeyFinder.tables c.args.keys.now in
+    let keys = g.K.KeyFinder.tables c.args.search.now.keys.now in
     let cs : List Candidate = candidates c.args.templates.now in
     let es : List Entry = c.args.self.now.entries.items in
     let names = named_in c.args.self.now.named in
@@ -102,29 +109,35 @@ loop-place-preserved g c =
     let entry : Entry = c.index-entry.result.now in
     let l : later (reverse c.loop-place.named.now) (reverse c.loop-place.unnamed.now) ≡ Some c.in-Some.place = sym c.later.ensures ∙ c.in-Some.is in
     let inside : c.in-Some.place < length es =
-    index-inside c.args.looked keys c.args.tree.now c.args.mode c.args.node c.args.templates.now cs es names kinds (reverse c.loop-place.named.now)
+    index-inside c.args.search.now.looked keys c.args.search.now.tree.now c.args.search.now.mode c.args.search.now.node c.args.templates.now cs es names kinds
+    (reverse c.loop-place.named.now)
     (reverse c.loop-place.unnamed.now) c.loop-place.best c.in-Some.place c.requires.indexed c.loop-place.invariant l in
     let read : slice_get es c.in-Some.place ≡ Some entry = slice_get_read es (length es) c.in-Some.place entry refl inside c.index-entry.ensures in
-    subst (λ x. IsNodeSearched c.args.looked keys c.args.tree.now c.args.mode c.args.node cs x (reverse c.without-unnamed.result.now) c.in_ok-best.best)
+    subst (λ x. IsNodeSearched c.args.search.now.looked keys c.args.search.now.tree.now c.args.search.now.mode c.args.search.now.node cs x (reverse
+    c.without-unnamed.result.now) c.in_ok-best.best)
     (sym c.without-named.ensures)
-    (subst (λ y. IsNodeSearched c.args.looked keys c.args.tree.now c.args.mode c.args.node cs (passed c.in-Some.place (reverse c.loop-place.named.now)) y
+    (subst (λ y. IsNodeSearched c.args.search.now.looked keys c.args.search.now.tree.now c.args.search.now.mode c.args.search.now.node cs (passed
+    c.in-Some.place (reverse c.loop-place.named.now)) y
     c.in_ok-best.best) (sym c.without-unnamed.ensures)
-    (index-step c.args.looked keys c.args.tree.now c.args.mode c.args.node c.args.templates.now cs es names kinds (reverse c.loop-place.named.now)
+    (index-step c.args.search.now.looked keys c.args.search.now.tree.now c.args.search.now.mode c.args.search.now.node c.args.templates.now cs es names kinds
+    (reverse c.loop-place.named.now)
     (reverse c.loop-place.unnamed.now) c.loop-place.best c.in_ok-best.best c.in-Some.place entry c.len-count.ensures.tree c.requires.node c.requires.indexed
     c.loop-place.invariant l read c.in_ok-best.ensures.best))
 
 pub returns : goal.returns
 returns g c =
-    let keys = g.K.KeyFinder.tables c.args.keys.now in
-    let p = passes c.args.looked keys c.args.tree.now c.args.mode c.args.node in
+    let keys = g.K.KeyFinder.tables c.args.search.now.keys.now in
+    let p = passes c.args.search.now.looked keys c.args.search.now.tree.now c.args.search.now.mode c.args.search.now.node in
     let cs = candidates c.args.templates.now in
-    let r = at c.args.tree.now c.args.node in
+    let r = at c.args.search.now.tree.now c.args.search.now.node in
     record {
       chosen =
           c.rule_of_best.ensures
           ∙ ap rule_of_best
-          (search-end p cs (passes_at (named_for c.args.mode r) cs) (passes_at (is_unnamed c.args.mode r.kind) cs) (reverse c.loop-place.named.now)
+          (search-end p cs (passes_at (named_for c.args.search.now.mode r) cs) (passes_at (is_unnamed c.args.search.now.mode r.kind) cs) (reverse
+          c.loop-place.named.now)
           (reverse c.loop-place.unnamed.now) c.loop-place.best
-          (complete c.args.looked keys c.args.tree.now c.args.mode c.args.node cs c.len-count.ensures.tree c.requires.node) c.loop-place.invariant
+          (complete c.args.search.now.looked keys c.args.search.now.tree.now c.args.search.now.mode c.args.search.now.node cs c.len-count.ensures.tree
+          c.requires.node) c.loop-place.invariant
           (sym c.later.ensures ∙ c.in_default.is));
     }

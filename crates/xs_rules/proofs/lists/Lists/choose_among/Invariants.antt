@@ -5,7 +5,8 @@ use Rattle.xs_rules.proofs.lists.Lists.choose_among.Given as goal
 
 abbrev pub invariant-loop-place : goal.invariant-loop-place
 invariant-loop-place g l =
-    IsNodeSearched l.looked (g.K.KeyFinder.tables l.keys) l.tree l.mode l.node (candidates l.templates) (reverse l.named) (reverse l.unnamed) l.best
+    IsNodeSearched l.search.looked (g.K.KeyFinder.tables l.search.keys.now) l.search.tree.now l.search.mode l.search.node (candidates l.templates) (reverse
+    l.named) (reverse l.unnamed) l.best
 
 abbrev pub decreases-loop-place : goal.decreases-loop-place
 decreases-loop-place g l = length (reverse l.named) + length (reverse l.unnamed)
