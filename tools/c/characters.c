@@ -39,7 +39,7 @@ bool is_allowed(struct text text) {
 }
 
 /* What a byte is written as where that is not itself; a value has more such than a text. */
-static const char *reference(char byte, bool is_value) {
+static const char *byte_reference(char byte, bool is_value) {
     switch (byte) {
     case '&': return "&amp;";
     case '<': return "&lt;";
@@ -52,17 +52,19 @@ static const char *reference(char byte, bool is_value) {
     }
 }
 
+const char *reference(struct text text, bool is_value, size_t *read) {
+    bool is_mark = text.length >= 3 && memcmp(text.bytes, "\xef\xbb\xbf", 3) == 0;
+    *read = is_mark ? 3 : 1;
+    return is_mark ? "&#xFEFF;" : byte_reference(*text.bytes, is_value);
+}
+
 /* Writes the byte at a place that may need a reference or be none of XML's: how many bytes
  * of the text that was, 0 where it is none. */
 static size_t put_special(char **to, const char *at, size_t left, bool is_value) {
-    const char *made = reference(*at, is_value);
-    size_t read = 1;
+    size_t read;
+    const char *made = reference((struct text){at, left}, is_value, &read);
     if (is_control((unsigned char)*at) || is_no_character(at, left))
         return 0;
-    if (left >= 3 && memcmp(at, "\xef\xbb\xbf", 3) == 0) {
-        made = "&#xFEFF;";
-        read = 3;
-    }
     if (!made) {
         *(*to)++ = *at;
         return 1;
@@ -83,6 +85,12 @@ static bool is_special(char byte) {
         ['&'] = 1, ['<'] = 1, ['>'] = 1, ['"'] = 1, [0xef] = 1,
     };
     return SPECIAL[(unsigned char)byte];
+}
+
+size_t plain_length(struct text text, size_t from) {
+    while (from < text.length && !is_special(text.bytes[from]))
+        from++;
+    return from;
 }
 
 bool put_text(struct output *out, struct text text, bool is_value) {

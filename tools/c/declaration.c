@@ -35,8 +35,7 @@ static unsigned unit(const struct units *units, size_t at) {
 }
 
 static bool is_space(unsigned unit) {
-    return unit == ' ' || (unit >= '\t' && unit <= '\r') || (unit >= 0x1c && unit <= 0x1f)
-        || unit == 0x85 || unit == 0xa0;
+    return unit == ' ' || unit == '\t' || unit == '\r' || unit == '\n';
 }
 
 /* Each of these answers the place after what it looks for, or NOWHERE. */
@@ -63,8 +62,10 @@ static size_t after_quoted(const struct units *units, size_t at) {
     return NOWHERE;
 }
 
-/* White space, the name, an equals sign and a quoted text. */
-static size_t after_attribute(const struct units *units, size_t at, const char *name) {
+/* White space, the name, an equals sign and a quoted text; from where on that stands, with its
+ * quote. */
+static size_t after_attribute(const struct units *units, size_t at, const char *name,
+                              size_t *value) {
     size_t end = after_blanks(units, at);
     if (end == at)
         return NOWHERE;
@@ -72,12 +73,10 @@ static size_t after_attribute(const struct units *units, size_t at, const char *
     if (end == NOWHERE)
         return NOWHERE;
     end = after_word(units, after_blanks(units, end), "=");
-    return end == NOWHERE ? NOWHERE : after_quoted(units, after_blanks(units, end));
-}
-
-static size_t after_optional(const struct units *units, size_t at, const char *name) {
-    size_t end = after_attribute(units, at, name);
-    return end == NOWHERE ? at : end;
+    if (end == NOWHERE)
+        return NOWHERE;
+    *value = after_blanks(units, end);
+    return after_quoted(units, *value);
 }
 
 static size_t after_mark(const struct units *units) {
@@ -87,14 +86,19 @@ static size_t after_mark(const struct units *units) {
     return end == NOWHERE ? 0 : end;
 }
 
-/* The line ends before a place, and the units from the last one to there. */
-static size_t line_ends(const struct units *units, size_t end, size_t *last) {
+static bool is_line_end(const struct units *units, size_t at) {
+    unsigned here = unit(units, at);
+    return here == '\n' || (here == '\r' && unit(units, at + 1) != '\n');
+}
+
+/* How many line ends there are between two places, and how much comes after the last. */
+static size_t line_ends(const struct units *units, size_t from, size_t to, size_t *last) {
     size_t count = 0;
-    *last = end;
-    for (size_t at = 0; at < end; at++) {
-        if (unit(units, at) == '\n') {
+    *last = to - from;
+    for (size_t at = from; at < to; at++) {
+        if (is_line_end(units, at)) {
             count++;
-            *last = end - at - 1;
+            *last = to - at - 1;
         }
     }
     return count;
@@ -113,19 +117,35 @@ static void replace(struct units *units, size_t from, size_t to, const char *tex
     units->count = units->count - (to - from) + size;
 }
 
-/* Replaces the end of the declaration after `kept`. A line end that was left out would
- * move the places of all that follows, so each is put before the last two characters. */
-static struct moved replace_end(struct units *units, size_t kept, size_t end) {
-    static const char ALONE[] = " standalone=\"yes\"";
-    size_t old_last, new_last;
-    size_t lines = line_ends(units, end, &old_last);
-    size_t lost = lines - line_ends(units, kept, &new_last);
-    replace(units, kept, end - 2, ALONE, sizeof ALONE - 1);
-    size_t close = kept + sizeof ALONE - 1;
-    for (size_t line = 0; line < lost; line++, close++)
-        replace(units, close, close, "\n", 1);
-    line_ends(units, close + 2, &new_last);
-    return (struct moved){lines + 1, (long)new_last - (long)old_last};
+/* Puts a text in the place of a part of the declaration that ends at `end`. */
+static struct moved change(struct units *units, size_t from, size_t to, const char *text,
+                           size_t end) {
+    size_t size = strlen(text), column, last;
+    size_t line = 1 + line_ends(units, 0, from, &column);
+    bool is_last = line_ends(units, to, end, &last) == 0;
+    long columns = is_last ? (long)size - (long)(to - from) : 0;
+    replace(units, from, to, text, size);
+    return (struct moved){line, column, columns};
+}
+
+/* Makes a document stand alone whose XML declaration begins here, unless that is none or has
+ * a fault. */
+static struct moved change_declaration(struct units *units, size_t start) {
+    const struct moved none = {1, 0, 0};
+    size_t value = NOWHERE, kept = after_attribute(units, start, "version", &value);
+    if (kept == NOWHERE)
+        return none;
+    size_t encoding = after_attribute(units, kept, "encoding", &value);
+    kept = encoding == NOWHERE ? kept : encoding;
+    size_t alone = after_attribute(units, kept, "standalone", &value);
+    size_t end = after_word(units, after_blanks(units, alone == NOWHERE ? kept : alone), "?>");
+    if (end == NOWHERE)
+        return none;
+    if (alone == NOWHERE)
+        return change(units, kept, kept, " standalone=\"yes\"", end);
+    if (after_word(units, value + 1, "no") != alone - 1)
+        return none;
+    return change(units, value + 1, alone - 1, "yes", end);
 }
 
 struct moved standing_alone(char *head, size_t *length) {
@@ -136,21 +156,12 @@ struct moved standing_alone(char *head, size_t *length) {
         units = (struct units){units.bytes, *length / 2, 2, strcmp(wide, "UTF-16BE") == 0};
     size_t odd = *length - units.count * units.width, mark = after_mark(&units);
     char rest = odd ? head[*length - 1] : 0;
-    struct moved moved = {1, 0};
+    struct moved moved;
     size_t start = after_word(&units, mark, "<?xml");
-    size_t kept = start == NOWHERE ? NOWHERE : after_attribute(&units, start, "version");
-    size_t end = NOWHERE;
-    if (kept != NOWHERE) {
-        kept = after_optional(&units, kept, "encoding");
-        end = after_blanks(&units, after_optional(&units, kept, "standalone"));
-        end = after_word(&units, end, "?>");
-    }
-    if (end != NOWHERE) {
-        moved = replace_end(&units, kept, end);
-    } else if (start == NOWHERE || !is_space(unit(&units, start))) {
-        replace(&units, mark, mark, MADE, sizeof MADE - 1);
-        moved.columns = sizeof MADE - 1;
-    }
+    if (start != NOWHERE && is_space(unit(&units, start)))
+        moved = change_declaration(&units, start);
+    else
+        moved = change(&units, mark, mark, MADE, mark);
     *length = units.count * units.width + odd;
     if (odd)
         head[*length - 1] = rest;

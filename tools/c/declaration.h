@@ -5,9 +5,9 @@
 #include <stdbool.h>
 #include <stddef.h>
 
-/* By how many columns the places on a line have moved. */
+/* By how many columns the places on a line have moved, from a column on. */
 struct moved {
-    unsigned long line;
+    unsigned long line, from;
     long columns;
 };
 
@@ -16,8 +16,8 @@ enum { DECLARATION_ROOM = 128 };
 
 /* Puts `standalone="yes"` into the XML declaration of a document's head, in place: where a
  * document points at declarations outside itself, expat passes over an entity in an
- * attribute that it does not know, without a word. Told that the document stands alone, it
- * refuses it. */
+ * attribute that it does not know, without a word. Where the document stands alone, expat
+ * refuses it. Nothing but `no` is replaced, so that a fault of the declaration stays. */
 struct moved standing_alone(char *head, size_t *length);
 
 /* The encoding of a head in units of two bytes, or NULL. */

@@ -3,7 +3,6 @@
 #include <stdlib.h>
 #include <string.h>
 
-#include "characters.h"
 #include "names.h"
 
 /* An `A` line of the start whose attributes are still read; its texts are in a store. */
@@ -14,9 +13,9 @@ struct attribute {
     enum reason fault;      /* its own, as long as no other one comes first */
 };
 
-bool elements_open(struct elements *to, struct output *out, struct refusal *refusal,
+bool elements_open(struct elements *to, struct target *target, struct refusal *refusal,
                    bool is_fragment) {
-    *to = (struct elements){.out = out, .refusal = refusal, .is_fragment = is_fragment};
+    *to = (struct elements){.target = target, .refusal = refusal, .is_fragment = is_fragment};
     return scopes_open(&to->scopes);
 }
 
@@ -45,7 +44,7 @@ static void *grow(struct elements *to, void *items, size_t *room, size_t used, s
 /* Puts bytes into a store: where they begin. */
 static size_t keep(struct elements *to, struct store *store, struct text text) {
     size_t begin = store->used;
-    while (store->room - begin < text.length && !is_refused(to->refusal))
+    while ((!store->bytes || store->room - begin < text.length) && !is_refused(to->refusal))
         store->bytes = grow(to, store->bytes, &store->room, store->room, 1);
     if (is_refused(to->refusal))
         return begin;
@@ -88,15 +87,16 @@ static void bind(struct elements *to) {
 /* The expanded name of an attribute, that of a declaration being its prefix among the
  * declarations. False: its own prefix is not bound. */
 static bool expand(const struct elements *to, struct text name, struct expanded *made) {
-    static const struct binding DECLARATIONS = {.length = 0};
+    static const struct space DECLARATIONS = {.uses = 0};
     struct text prefix;
     if (is_declaration(name, &made->local)) {
         made->space = &DECLARATIONS;
         return true;
     }
     split_name(name, &prefix, &made->local);
-    made->space = prefix.length > 0 ? scopes_find(&to->scopes, prefix) : NULL;
-    return made->space || prefix.length == 0;
+    const struct binding *bound = prefix.length > 0 ? scopes_find(&to->scopes, prefix) : NULL;
+    made->space = bound ? bound->space : NULL;
+    return bound || prefix.length == 0;
 }
 
 /* Refuses the lines for the first fault of an attribute of the start, if there is one. */
@@ -123,21 +123,23 @@ static void test_attributes(struct elements *to) {
     if (fault == UNBOUND_PREFIX)
         split_name(name, &name, &local);
     refuse(to->refusal, to->attributes[place].number, fault,
-           fault == NO_CHARACTER ? (struct text){NULL, 0} : name);
+           fault == NO_CHARACTER || fault == NOT_ENCODED ? (struct text){NULL, 0} : name);
 }
 
 void finish_start(struct elements *to, bool is_empty) {
-    struct text prefix, local;
+    struct text name = opened_last(&to->opened), prefix, local;
     if (to->start == 0)
         return;
     bind(to);
-    split_name(opened_last(&to->opened), &prefix, &local);
-    if (prefix.length > 0 && !scopes_find(&to->scopes, prefix))
+    split_name(name, &prefix, &local);
+    const struct binding *bound = scopes_find(&to->scopes, prefix);
+    if (prefix.length > 0 && !bound)
         refuse(to->refusal, to->start, UNBOUND_PREFIX, prefix);
     if (!is_refused(to->refusal))
         test_attributes(to);
+    struct text uri = bound ? bound->space->uri : text_of("");
     if (!is_refused(to->refusal))
-        output_text(to->out, is_empty ? "/>" : ">");
+        target_start_end(to->target, name, uri, is_empty);
     to->start = 0;
     to->count = 0;
     to->texts.used = 0;
@@ -159,8 +161,9 @@ void open_element(struct elements *to, unsigned long number, struct text name) {
     }
     to->has_top = true;
     to->start = number;
-    output_byte(to->out, '<');
-    output_put(to->out, name.bytes, name.length);
+    enum reason reason = target_start(to->target, name);
+    if (reason != FINE)
+        refuse_line(to->refusal, number, reason);
 }
 
 void close_element(struct elements *to, unsigned long number, struct text name,
@@ -171,11 +174,7 @@ void close_element(struct elements *to, unsigned long number, struct text name,
     }
     scopes_leave(&to->scopes, to->opened.depth);
     opened_pop(&to->opened);
-    if (is_empty)
-        return;
-    output_text(to->out, "</");
-    output_put(to->out, name.bytes, name.length);
-    output_byte(to->out, '>');
+    target_end(to->target, name, is_empty);
 }
 
 /* Makes room for one more attribute. */
@@ -208,10 +207,9 @@ void add_attribute(struct elements *to, unsigned long number, struct text name,
         made->uri = keep(to, &to->texts, value);
         made->uri_length = value.length;
     }
-    output_byte(to->out, ' ');
-    output_put(to->out, name.bytes, name.length);
-    output_text(to->out, "=\"");
-    if (!put_text(to->out, value, true) && made->fault == FINE)
-        made->fault = NO_CHARACTER;
-    output_byte(to->out, '"');
+    enum reason reason = target_attribute(to->target, name, value);
+    if (made->fault == FINE)
+        made->fault = reason;
+    if (reason == NO_MEMORY)
+        refuse_line(to->refusal, 0, NO_MEMORY);
 }

@@ -1,4 +1,4 @@
-/* The open elements of lines: their starts with attributes and declarations, tested and written. */
+/* The open elements of lines: their starts with attributes and declarations, tested and put. */
 #ifndef ELEMENTS_H
 #define ELEMENTS_H
 
@@ -6,9 +6,9 @@
 #include <stddef.h>
 
 #include "opened.h"
-#include "output.h"
 #include "refusal.h"
 #include "scopes.h"
+#include "target.h"
 
 /* Bytes that grow. */
 struct store {
@@ -17,7 +17,7 @@ struct store {
 };
 
 struct elements {
-    struct output *out;
+    struct target *target;
     struct refusal *refusal; /* what is refused, out of memory too, is noted here */
     bool is_fragment;        /* any number of elements may be at the top */
     bool has_top;
@@ -31,14 +31,14 @@ struct elements {
 };
 
 /* False: out of memory. */
-bool elements_open(struct elements *to, struct output *out, struct refusal *refusal,
+bool elements_open(struct elements *to, struct target *target, struct refusal *refusal,
                    bool is_fragment);
 void elements_close(struct elements *to);
 
 /* A `(` line. */
 void open_element(struct elements *to, unsigned long number, struct text name);
 
-/* An `A` line: written at once, and tested when the start is whole. */
+/* An `A` line: put at once, and tested when the start is whole. */
 void add_attribute(struct elements *to, unsigned long number, struct text name,
                    struct text value);
 
@@ -46,7 +46,7 @@ void add_attribute(struct elements *to, unsigned long number, struct text name,
  * element where its end follows. */
 void finish_start(struct elements *to, bool is_empty);
 
-/* A `)` line; of an empty element nothing is left to write. */
+/* A `)` line; of an empty element nothing is left to put. */
 void close_element(struct elements *to, unsigned long number, struct text name, bool is_empty);
 
 #endif

@@ -4,8 +4,9 @@
 
 #include <expat.h>
 
-/* Fills the table of an encoding in which each character is one byte, by iconv. To be set
- * as expat's handler of unknown encodings; others than such are unknown still. */
+/* Fills the table of an encoding in which each character is one byte, by iconv, where it is
+ * one of those that lib/encodings.py names too. To be set as expat's handler of unknown
+ * encodings; all others are unknown still. */
 int know_encoding(void *data, const XML_Char *name, XML_Encoding *encoding);
 
 #endif

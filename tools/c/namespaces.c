@@ -115,13 +115,13 @@ static enum XML_Error test_attributes(struct namespaces *namespaces, const char 
         struct text name = text_of(*attributes), prefix = prefix_of(*attributes), declared;
         if (prefix.length == 0 || is_declaration(name, &declared))
             continue;
-        const struct binding *space = scopes_find(&namespaces->scopes, prefix);
+        const struct binding *bound = scopes_find(&namespaces->scopes, prefix);
         struct text local = {name.bytes + prefix.length + 1, name.length - prefix.length - 1};
-        is_unbound = !space;
+        is_unbound = !bound;
         if (!make_room(namespaces, count + 1))
             return XML_ERROR_NO_MEMORY;
-        if (space) {
-            namespaces->attributes[count] = (struct expanded){space, local, count};
+        if (bound) {
+            namespaces->attributes[count] = (struct expanded){bound->space, local, count};
             count++;
         }
     }

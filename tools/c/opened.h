@@ -19,8 +19,10 @@ bool opened_push(struct opened *opened, struct text name);
 
 void opened_close(struct opened *opened);
 
-/* The name of the innermost element, where there is one. */
+/* The name of the innermost element, empty where there is none. */
 static inline struct text opened_last(const struct opened *opened) {
+    if (opened->depth == 0)
+        return (struct text){"", 0};
     size_t from = opened->depth > 1 ? opened->ends[opened->depth - 2] : 0;
     return (struct text){opened->bytes + from, opened->used - from};
 }

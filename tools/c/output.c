@@ -5,6 +5,8 @@
 #include <stdlib.h>
 #include <unistd.h>
 
+enum { MOST_HELD = 8 };
+
 bool output_open(struct output *out, int target, bool is_held) {
     *out = (struct output){.target = target, .file = target, .is_held = is_held};
     out->bytes = malloc(OUTPUT_ROOM);
@@ -72,8 +74,20 @@ static void write_buffer(struct output *out, size_t kept) {
     out->used = kept;
 }
 
+/* How many of the last bytes stay when the buffer is emptied. */
+static size_t count_held(const struct output *out) {
+    size_t held = 1;
+    while (held < out->used && held < MOST_HELD) {
+        char last = out->bytes[out->used - held - 1]; /* of those that are written */
+        if (last != '\n' && last != '>')
+            break;
+        held++;
+    }
+    return held;
+}
+
 void output_flush(struct output *out) {
-    write_buffer(out, 1);
+    write_buffer(out, count_held(out));
 }
 
 void output_put_long(struct output *out, const char *bytes, size_t length) {

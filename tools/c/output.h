@@ -1,7 +1,8 @@
-/* Buffered output whose last byte is held back until all input was found right.
+/* Buffered output whose end is held back until all input was found right.
  *
- * So what is written before a refusal lacks its end: lines without the last line
- * feed, or a tag without its `>`. Nobody takes it for a whole document.
+ * What is written before a refusal lacks its end, and ends in no byte that a whole result
+ * may end in: lines without the last line feed, or a tag without its `>`. Nobody takes it
+ * for a whole document.
  */
 #ifndef OUTPUT_H
 #define OUTPUT_H
@@ -33,10 +34,11 @@ bool output_open(struct output *out, int target, bool is_held);
 /* Begins again with what has to begin as what was put so far: that is not written twice. */
 void output_restart(struct output *out);
 
-/* Empties the buffer except for its last byte. */
+/* Empties the buffer except for its last bytes: one, and those before it that may end a whole
+ * result, a few at most. */
 void output_flush(struct output *out);
 
-/* Writes all that is left, the last byte too. False: `fault` says why not. */
+/* Writes all that is left, what was held back too. False: `fault` says why not. */
 bool output_finish(struct output *out);
 
 void output_close(struct output *out);

@@ -194,11 +194,11 @@ static bool convert_line(const struct converter *to, struct place *place) {
 }
 
 void convert_plain_pyx(struct lines *lines, struct elements *elements) {
-    struct output *out = elements->out;
+    struct output *out = elements->target->out;
     const char *from = lines->bytes + lines->from;
     struct converter to = {elements, lines->bytes + lines->to, NULL};
     struct place done = {from, NULL, 0}, next;
-    if (elements->start > 0 || lines->is_inside)
+    if (elements->start > 0 || elements->target->nodes || lines->is_inside)
         return;
     to.limit = out->bytes + OUTPUT_ROOM - SLACK;
     done.made = out->bytes + out->used;

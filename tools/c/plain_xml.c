@@ -180,10 +180,10 @@ static const char *convert_instruction(struct converter *to) {
 }
 
 static const char *convert_end(struct converter *to) {
-    struct text name = opened_last(&to->opened);
     const char *at = to->at + 2;
     if (to->opened.depth == 0)
         return stop_at(to, at);
+    struct text name = opened_last(&to->opened);
     if ((size_t)(to->end - at) <= name.length)
         return stop_at(to, to->end);
     if (memcmp(at, name.bytes, name.length) != 0)

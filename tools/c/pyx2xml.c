@@ -9,10 +9,10 @@
  * Of a fragment a beginning may be one: with --fragment nothing is written before that.
  * Lines that are refused get FILE:LINE and the reason on standard error, and status 1.
  *
- * With --result the lines are what a program is still writing, and the caller holds what
- * comes: a document or else a piece of one, which of them is reported on standard error
- * (shape.h). All lines are read even where they are refused, so that the program's own
- * end is that of its work.
+ * With --result, or an option of an xsl:output, the lines are the result of a stylesheet,
+ * maybe still being written by a program, and the caller holds what comes: it is written as the
+ * options say (serializer.h). All lines are read even where they are refused, so that the program's
+ * own end is that of its work.
  */
 #include <errno.h>
 #include <fcntl.h>
@@ -31,25 +31,36 @@
 #include "output.h"
 #include "plain_pyx.h"
 #include "refusal.h"
-#include "shape.h"
+#include "serializer.h"
+#include "settings.h"
+#include "streams.h"
+#include "target.h"
 
 enum { REFUSED = 1, USAGE = 2 };
 
 struct options {
     bool is_fragment;
     bool is_result; /* a document or a fragment */
+    struct settings settings;
     const char *file;
 };
 
 struct converter {
     bool is_fragment; /* or may become one */
     bool is_result;
-    struct shape shape; /* of a result */
+    struct serializer serializer;
     struct lines lines;
     struct output out;
+    struct target target;
     struct refusal refusal;
     struct elements elements;
 };
+
+/* Refuses a line where its part could not be put. */
+static void refuse_part(struct converter *to, unsigned long number, enum reason reason) {
+    if (reason != FINE)
+        refuse_line(&to->refusal, number, reason);
+}
 
 static void add_comment(struct converter *to, unsigned long number, struct text text) {
     bool is_bad = has_pair(text, '-', '-') || memchr(text.bytes, '\r', text.length)
@@ -58,9 +69,7 @@ static void add_comment(struct converter *to, unsigned long number, struct text 
         refuse_line(&to->refusal, number, is_bad ? BAD_COMMENT : NO_CHARACTER);
         return;
     }
-    output_text(&to->out, "<!--");
-    output_put(&to->out, text.bytes, text.length);
-    output_text(&to->out, "-->");
+    refuse_part(to, number, target_comment(&to->target, text));
 }
 
 static bool is_xml(struct text target) {
@@ -84,25 +93,17 @@ static void add_instruction(struct converter *to, unsigned long number, struct t
         refuse_line(&to->refusal, number, is_bad ? BAD_INSTRUCTION : NO_CHARACTER);
         return;
     }
-    output_text(&to->out, "<?");
-    output_put(&to->out, target.bytes, target.length);
-    if (text.length > 0)
-        output_byte(&to->out, ' ');
-    output_put(&to->out, text.bytes, text.length);
-    output_text(&to->out, "?>");
+    refuse_part(to, number, target_instruction(&to->target, target, text));
 }
 
-/* Writes a text or a part of one. */
-static enum reason write_text(struct converter *to, struct text text) {
-    uint64_t from = output_count(&to->out);
-    if (to->elements.opened.depth == 0 && !to->is_fragment)
+/* Puts a text or a part of one. */
+static enum reason put_part(struct converter *to, struct text text) {
+    bool is_top = to->elements.opened.depth == 0;
+    if (is_top && !to->is_fragment)
         return is_blank(text) ? FINE : TEXT_OUTSIDE;
-    if (!put_text(&to->out, text, false))
-        return NO_CHARACTER;
-    struct span span = {from, output_count(&to->out)};
-    if (to->is_result && to->elements.opened.depth == 0 && !shape_text(&to->shape, text, span))
-        return NO_MEMORY;
-    return FINE;
+    if (is_top && to->is_result)
+        serializer_top(&to->serializer, TEXT, text);
+    return target_text(&to->target, text);
 }
 
 /* A `-` line or a part of one. What comes first in the order of reasons counts, in
@@ -117,7 +118,7 @@ static void add_text(struct converter *to, struct line *line) {
     else if (line->ends && !line->has_line_feed)
         reason = NO_LINE_FEED;
     else
-        reason = write_text(to, text);
+        reason = put_part(to, text);
     if (reason != FINE && (!is_refused(&to->refusal) || reason < to->refusal.reason))
         to->refusal = (struct refusal){.reason = reason, .number = line->number};
 }
@@ -152,12 +153,19 @@ static enum reason read_line(const struct converter *to, const struct line *line
     return line->has_line_feed ? FINE : NO_LINE_FEED;
 }
 
-/* Notes what a line says of the shape of a result. */
-static void note_shape(struct converter *to, unsigned long number, char kind, struct text name) {
-    if (kind == 'A')
-        shape_attribute(&to->shape, number, name);
-    else if (kind == '(' && to->elements.opened.depth == 0 && !shape_element(&to->shape, number, name))
-        refuse_line(&to->refusal, number, NO_MEMORY);
+/* Tells a result of a line that begins a node at the top. */
+static void note_top(struct converter *to, char kind) {
+    static const enum kind KINDS[128] = {['('] = ELEMENT, ['C'] = COMMENT, ['?'] = INSTRUCTION};
+    if (to->is_result && to->elements.opened.depth == 0 && KINDS[(int)kind] != NO_NODE)
+        serializer_top(&to->serializer, KINDS[(int)kind], (struct text){NULL, 0});
+}
+
+/* Ends the start tag that was read, if there is one. */
+static void finish_tag(struct converter *to, bool is_empty) {
+    bool is_top = to->elements.start > 0 && to->elements.opened.depth == 1;
+    finish_start(&to->elements, is_empty);
+    if (is_top && to->is_result && !is_refused(&to->refusal))
+        serializer_start_end(&to->serializer, opened_last(&to->elements.opened), is_empty);
 }
 
 /* A line that is no text. */
@@ -167,11 +175,11 @@ static void add_line(struct converter *to, const struct line *line) {
     bool is_empty = kind == ')' && to->elements.start > 0;
     enum reason reason = read_line(to, line, &name, &text);
     if (kind != 'A' || reason != FINE)
-        finish_start(&to->elements, is_empty); /* a fault of an earlier line comes first */
+        finish_tag(to, is_empty); /* a fault of an earlier line comes first */
     if (is_refused(&to->refusal))
         return;
-    if (reason == FINE && to->is_result)
-        note_shape(to, line->number, kind, name);
+    if (reason == FINE)
+        note_top(to, kind);
     if (reason != FINE)
         refuse_line(&to->refusal, line->number, reason);
     else if (kind == '(')
@@ -197,7 +205,7 @@ static void convert_lines(struct converter *to) {
         if (line.begins) {
             is_text = line.length > 0 && line.bytes[0] == '-';
             if (is_text)
-                finish_start(&to->elements, false);
+                finish_tag(to, false);
             if (is_refused(&to->refusal))
                 return;
         }
@@ -215,12 +223,14 @@ static void convert(struct converter *to) {
     convert_lines(to);
     if (is_refused(&to->refusal) || to->out.fault || to->lines.fault)
         return;
-    finish_start(&to->elements, false);
+    finish_tag(to, false);
     if (to->elements.opened.depth > 0)
         refuse_line(&to->refusal, to->lines.number, TRUNCATED);
     else if (!to->elements.has_top && !to->is_fragment)
         refuse_line(&to->refusal, to->lines.number, NO_ROOT);
-    if (to->is_result ? shape_is_document(&to->shape) : !to->is_fragment)
+    else if (to->is_result && !is_refused(&to->refusal))
+        serializer_finish(&to->serializer);
+    if (!to->is_fragment)
         output_byte(&to->out, '\n');
 }
 
@@ -230,15 +240,18 @@ static bool open_converter(struct converter *to, const struct options *options, 
     *to = (struct converter){.is_fragment = is_fragment, .is_result = options->is_result};
     bool has_lines = lines_open(&to->lines, file);
     bool has_output = output_open(&to->out, STDOUT_FILENO, options->is_fragment);
-    return elements_open(&to->elements, &to->out, &to->refusal, is_fragment) && has_lines
-        && has_output;
+    bool has_elements = elements_open(&to->elements, &to->target, &to->refusal, is_fragment);
+    to->target.out = &to->out;
+    if (options->is_result && !serializer_open(&to->serializer, &options->settings, &to->target))
+        return false;
+    return has_elements && has_lines && has_output;
 }
 
 static void close_converter(struct converter *to) {
     lines_close(&to->lines);
     output_close(&to->out);
     elements_close(&to->elements);
-    shape_close(&to->shape);
+    serializer_close(&to->serializer);
     free(to->refusal.subject);
 }
 
@@ -265,8 +278,6 @@ static int finish(struct converter *to, const char *name) {
         return complain_of(&to->refusal, name);
     if (!output_finish(&to->out))
         return complain("standard output", strerror(to->out.fault));
-    if (to->is_result)
-        shape_print(stderr, &to->shape);
     return 0;
 }
 
@@ -291,23 +302,31 @@ static int run(const struct options *options) {
     return status;
 }
 
+enum { FRAGMENT = SETTINGS_COUNT, RESULT, OPTION_COUNT };
+
+/* Sets what an option says. False: there is no such one. */
+static bool set_option(struct options *options, int option, const char *value) {
+    if (option == FRAGMENT)
+        options->is_fragment = true;
+    else
+        options->is_result = true;
+    return option == FRAGMENT || option == RESULT
+        || (option < SETTINGS_COUNT && settings_set(&options->settings, option, value));
+}
+
 /* Reads the options. False: the arguments are not as they should be. */
 static bool read_options(int count, char **given, struct options *options) {
-    static const struct option OPTIONS[] = {
-        {"fragment", no_argument, NULL, 'f'},
-        {"result", no_argument, NULL, 'r'},
-        {NULL, 0, NULL, 0},
+    struct option names[OPTION_COUNT + 1] = {
+        [FRAGMENT] = {"fragment", no_argument, NULL, FRAGMENT},
+        [RESULT] = {"result", no_argument, NULL, RESULT},
     };
+    for (int at = 0; at < SETTINGS_COUNT; at++)
+        names[at] = (struct option){SETTINGS[at], required_argument, NULL, at};
     int option;
     *options = (struct options){.file = NULL};
-    while ((option = getopt_long(count, given, "", OPTIONS, NULL)) != -1) {
-        if (option == 'f')
-            options->is_fragment = true;
-        else if (option == 'r')
-            options->is_result = true;
-        else
+    while ((option = getopt_long(count, given, "", names, NULL)) != -1)
+        if (!set_option(options, option, optarg))
             return false;
-    }
     if (optind < count)
         options->file = given[optind++];
     return optind == count && !(options->is_fragment && options->is_result);
@@ -316,9 +335,13 @@ static bool read_options(int count, char **given, struct options *options) {
 int main(int count, char **given) {
     struct options options;
     if (!read_options(count, given, &options)) {
-        fprintf(stderr, "usage: pyx2xml [--fragment | --result] [FILE]\n");
+        fprintf(stderr, "usage: pyx2xml [--fragment | --result [OPTION VALUE]...] [FILE]\n");
+        return USAGE;
+    }
+    if (!is_known_encoding(options.settings.encoding)) {
+        fprintf(stderr, "pyx2xml: the encoding %s is not known\n", options.settings.encoding);
         return USAGE;
     }
     signal(SIGPIPE, SIG_IGN);
-    return run(&options);
+    return streams_take() ? run(&options) : REFUSED;
 }

@@ -13,6 +13,7 @@ static const char *const REASONS[] = {
     [NO_LINE_FEED] = "NoFinalLineFeed: the last line has no line feed",
     [TEXT_OUTSIDE] = "Unbalanced: text outside the top element",
     [NO_CHARACTER] = "XML has no such character",
+    [NOT_ENCODED] = "the encoding has no such character, and here no reference can be written",
     [SECOND_TOP] = "Unbalanced: a second top element",
     [NOT_OPEN] = "Unbalanced: closes no open element of this name",
     [BAD_NAME] = "BadName: ",

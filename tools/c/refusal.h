@@ -17,6 +17,7 @@ enum reason {
     NO_LINE_FEED,
     TEXT_OUTSIDE,
     NO_CHARACTER,
+    NOT_ENCODED,
     SECOND_TOP,
     NOT_OPEN,
     BAD_NAME,

@@ -1,14 +1,13 @@
 #include "scopes.h"
 
+#include <search.h>
 #include <stdint.h>
 #include <stdlib.h>
 #include <string.h>
 
 struct prefix {
-    struct prefix *next; /* in its bucket */
+    struct text name;
     struct binding *bound;
-    size_t length;
-    char name[];
 };
 
 enum { FEW = 8 };
@@ -31,92 +30,72 @@ bool is_declaration(struct text name, struct text *prefix) {
     return true;
 }
 
-static size_t hash(struct text text) {
-    uint64_t sum = 14695981039346656037u;
-    for (size_t at = 0; at < text.length; at++)
-        sum = (sum ^ (unsigned char)text.bytes[at]) * 1099511628211u;
-    return (size_t)(sum ^ sum >> 32);
+static int compare_texts(struct text one, struct text other) {
+    if (one.length != other.length)
+        return one.length < other.length ? -1 : 1;
+    return memcmp(one.bytes, other.bytes, one.length);
 }
 
-static struct prefix *find(const struct scopes *scopes, struct text name) {
-    struct prefix *prefix = scopes->buckets[hash(name) & (scopes->room - 1)];
-    while (prefix && !same_text((struct text){prefix->name, prefix->length}, name))
-        prefix = prefix->next;
-    return prefix;
+/* Orders prefixes or namespaces by the text that each begins with. */
+static int compare_keys(const void *left, const void *right) {
+    const struct text *one = left, *other = right;
+    return compare_texts(*one, *other);
 }
 
-static void put(struct scopes *scopes, struct prefix *prefix) {
-    size_t place = hash((struct text){prefix->name, prefix->length}) & (scopes->room - 1);
-    prefix->next = scopes->buckets[place];
-    scopes->buckets[place] = prefix;
+/* Finds what has a text in a tree, or NULL. */
+static void *find(struct text text, void *const *tree) {
+    void **found = tfind(&text, tree, compare_keys);
+    return found ? *found : NULL;
 }
 
-/* Makes twice as many buckets, or leaves them as they are where there is no memory. */
-static void grow(struct scopes *scopes) {
-    struct prefix **old = scopes->buckets;
-    size_t room = scopes->room;
-    struct prefix **buckets = calloc(room * 2, sizeof *buckets);
-    if (!buckets)
-        return;
-    scopes->buckets = buckets;
-    scopes->room = room * 2;
-    for (size_t place = 0; place < room; place++) {
-        for (struct prefix *prefix = old[place], *next; prefix; prefix = next) {
-            next = prefix->next;
-            put(scopes, prefix);
-        }
-    }
-    free(old);
-}
-
-/* Finds a prefix, or adds it without a binding. NULL: out of memory. */
-static struct prefix *find_or_add(struct scopes *scopes, struct text name) {
-    struct prefix *prefix = find(scopes, name);
-    if (prefix)
-        return prefix;
-    prefix = malloc(sizeof *prefix + name.length);
-    if (!prefix)
+/* Finds what has a text in a tree, or adds it, of so many bytes that are zero after the text. */
+static void *find_or_add(struct text text, void **tree, size_t size) {
+    void *found = find(text, tree);
+    if (found)
+        return found;
+    char *made = calloc(1, size + text.length);
+    if (!made)
         return NULL;
-    *prefix = (struct prefix){.length = name.length};
-    memcpy(prefix->name, name.bytes, name.length);
-    if (++scopes->count > scopes->room)
-        grow(scopes);
-    put(scopes, prefix);
-    return prefix;
+    memcpy(made + size, text.bytes, text.length);
+    *(struct text *)made = (struct text){made + size, text.length};
+    if (tsearch(made, tree, compare_keys))
+        return made;
+    free(made);
+    return NULL;
+}
+
+static void remove_from(void **tree, void *kept) {
+    tdelete(kept, tree, compare_keys);
+    free(kept);
+}
+
+/* Removes a prefix that is not bound and a namespace that nothing is bound to. */
+static void forget(struct scopes *scopes, struct prefix *prefix, struct space *space) {
+    if (prefix && !prefix->bound)
+        remove_from(&scopes->prefixes, prefix);
+    if (space && space->uses == 0)
+        remove_from(&scopes->spaces, space);
 }
 
 bool scopes_open(struct scopes *scopes) {
-    *scopes = (struct scopes){.room = 64};
-    scopes->buckets = calloc(scopes->room, sizeof *scopes->buckets);
-    return scopes->buckets
-        && scopes_bind(scopes, text_of("xml"),
-                       text_of("http://www.w3.org/XML/1998/namespace"), 0);
+    *scopes = (struct scopes){.last = NULL};
+    return scopes_bind(scopes, text_of("xml"), text_of("http://www.w3.org/XML/1998/namespace"), 0);
 }
 
 void scopes_close(struct scopes *scopes) {
     scopes_leave(scopes, 0);
-    for (size_t place = 0; scopes->buckets && place < scopes->room; place++) {
-        for (struct prefix *prefix = scopes->buckets[place], *next; prefix; prefix = next) {
-            next = prefix->next;
-            free(prefix);
-        }
-    }
-    free(scopes->buckets);
 }
 
 bool scopes_bind(struct scopes *scopes, struct text name, struct text uri, size_t depth) {
-    struct prefix *prefix = find_or_add(scopes, name);
-    struct binding *binding = prefix ? malloc(sizeof *binding + uri.length) : NULL;
-    if (!binding)
+    struct prefix *prefix = find_or_add(name, &scopes->prefixes, sizeof *prefix);
+    struct space *space = find_or_add(uri, &scopes->spaces, sizeof *space);
+    struct binding *binding = prefix && space ? malloc(sizeof *binding) : NULL;
+    if (!binding) {
+        forget(scopes, prefix, space);
         return false;
-    *binding = (struct binding){
-        .prefix = prefix,
-        .hidden = prefix->bound,
-        .before = scopes->last,
-        .depth = depth,
-        .length = uri.length,
-    };
-    memcpy(binding->uri, uri.bytes, uri.length);
+    }
+    *binding = (struct binding){prefix, space, prefix->bound, scopes->last, depth};
+    space->uses++;
     scopes->last = prefix->bound = binding;
     return true;
 }
@@ -125,31 +104,22 @@ void scopes_leave(struct scopes *scopes, size_t depth) {
     while (scopes->last && scopes->last->depth >= depth) {
         struct binding *binding = scopes->last;
         binding->prefix->bound = binding->hidden;
+        binding->space->uses--;
         scopes->last = binding->before;
+        forget(scopes, binding->prefix, binding->space);
         free(binding);
     }
 }
 
 const struct binding *scopes_find(const struct scopes *scopes, struct text name) {
-    const struct prefix *prefix = find(scopes, name);
+    const struct prefix *prefix = find(name, &scopes->prefixes);
     return prefix ? prefix->bound : NULL;
-}
-
-static int compare_texts(struct text one, struct text other) {
-    if (one.length != other.length)
-        return one.length < other.length ? -1 : 1;
-    return memcmp(one.bytes, other.bytes, one.length);
 }
 
 /* Orders attributes by their expanded names alone. */
 static int compare_names(const struct expanded *one, const struct expanded *other) {
-    if (!one->space || !other->space) {
-        int order = (one->space != NULL) - (other->space != NULL);
-        return order ? order : compare_texts(one->local, other->local);
-    }
-    struct text here = {one->space->uri, one->space->length};
-    struct text there = {other->space->uri, other->space->length};
-    int order = one->space == other->space ? 0 : compare_texts(here, there);
+    uintptr_t here = (uintptr_t)one->space, there = (uintptr_t)other->space;
+    int order = (here > there) - (here < there);
     return order ? order : compare_texts(one->local, other->local);
 }
 

@@ -1,7 +1,8 @@
 /* The prefixes in scope, and what namespaces they are bound to.
  *
- * A prefix knows its innermost binding, and a binding the one that it hides: finding
- * one costs the same however many prefixes are in scope, and so does leaving an element.
+ * A prefix knows its innermost binding, and a binding the one that it hides. Prefixes and
+ * namespaces are kept in ordered trees, each once, so that no choice of them makes finding one
+ * slow, and two namespaces are the same where they are one.
  */
 #ifndef SCOPES_H
 #define SCOPES_H
@@ -14,18 +15,21 @@ struct text {
     size_t length;
 };
 
+struct space {
+    struct text uri;
+    size_t uses; /* by bindings */
+};
+
 struct binding {
     struct prefix *prefix;
+    struct space *space;
     struct binding *hidden; /* what the prefix is bound to outside */
     struct binding *before; /* the binding that was made before this one */
     size_t depth;           /* of the element that declares it */
-    size_t length;
-    char uri[];
 };
 
 struct scopes {
-    struct prefix **buckets;
-    size_t room, count;
+    void *prefixes, *spaces; /* trees of tsearch */
     struct binding *last;
 };
 
@@ -45,7 +49,7 @@ const struct binding *scopes_find(const struct scopes *scopes, struct text prefi
 
 /* An attribute with its expanded name, and where it stands among the others. */
 struct expanded {
-    const struct binding *space; /* NULL: no namespace */
+    const struct space *space; /* NULL: no namespace */
     struct text local;
     size_t place;
 };

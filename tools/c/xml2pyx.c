@@ -21,6 +21,7 @@
 #include <stdio.h>
 #include <stdlib.h>
 #include <string.h>
+#include <strings.h>
 #include <unistd.h>
 
 #include "chunks.h"
@@ -29,7 +30,9 @@
 #include "escapes.h"
 #include "namespaces.h"
 #include "output.h"
+#include "places.h"
 #include "plain_xml.h"
+#include "streams.h"
 #include "table.h"
 
 enum { REASON = 128, REFUSED = 1, USAGE = 2 };
@@ -57,6 +60,7 @@ struct converter {
     struct moved moved;
     size_t depth;
     char encoding[64]; /* for reading a tag alone; empty: UTF-8 */
+    bool is_latin;     /* that is ISO-8859-1 */
     bool in_text, is_blank, in_doctype, has_doctype, has_root, is_out_of_memory;
     bool is_inside; /* a token: nothing came of the latest bytes */
 };
@@ -75,11 +79,15 @@ static void refuse(struct converter *to, unsigned long line, unsigned long colum
     snprintf(kept->reason, sizeof kept->reason, "%s", reason);
 }
 
-/* Refuses the document where the reader is, so many columns further, and reads no more. */
-static void refuse_here(struct converter *to, unsigned long columns, const char *reason) {
-    refuse(to, XML_GetCurrentLineNumber(to->reader),
-           XML_GetCurrentColumnNumber(to->reader) + columns, reason);
+/* Refuses the document at a place, and reads no more. */
+static void refuse_at(struct converter *to, struct place place, const char *reason) {
+    refuse(to, place.line, place.column, reason);
     XML_StopParser(to->reader, XML_FALSE);
+}
+
+/* Refuses it where the reader is. */
+static void refuse_here(struct converter *to, const char *reason) {
+    refuse_at(to, place_here(to->reader), reason);
 }
 
 /* Notes that a PYX line comes from here. */
@@ -97,35 +105,27 @@ static void begin_line(struct converter *to, char kind) {
     note_place(to);
 }
 
-/* Refuses a tag of which a name has a colon too many: where, a parser says that reads the
- * tag alone. */
-static void refuse_name(struct converter *to) {
-    int offset = 0, size = 0;
-    const char *context = XML_GetInputContext(to->reader, &offset, &size);
-    int length = XML_GetCurrentByteCount(to->reader);
-    unsigned long line = XML_GetCurrentLineNumber(to->reader);
-    unsigned long column = XML_GetCurrentColumnNumber(to->reader);
-    XML_Parser tag = XML_ParserCreateNS(to->encoding[0] ? to->encoding : NULL, '\1');
-    if (tag && context) {
-        XML_SetUnknownEncodingHandler(tag, know_encoding, NULL);
-        if (XML_Parse(tag, context + offset, length, XML_TRUE) == XML_STATUS_ERROR) {
-            bool is_first = XML_GetCurrentLineNumber(tag) == 1;
-            line += XML_GetCurrentLineNumber(tag) - 1;
-            column = (is_first ? column : 0) + XML_GetCurrentColumnNumber(tag);
-        }
-    }
-    XML_ParserFree(tag);
-    refuse(to, line, column, XML_ErrorString(XML_ERROR_INVALID_TOKEN));
-    XML_StopParser(to->reader, XML_FALSE);
+/* Refuses a name. */
+static void refuse_name(struct converter *to, struct place place) {
+    refuse_at(to, place, XML_ErrorString(XML_ERROR_INVALID_TOKEN));
+}
+
+/* Tests the letters of a tag's names in ISO-8859-1, which expat does not. */
+static void test_letters(struct converter *to, const char *name, const char **attributes) {
+    bool is_fine = !has_no_letter(name);
+    for (; is_fine && *attributes; attributes += 2)
+        is_fine = !has_no_letter(*attributes);
+    if (!is_fine)
+        refuse_name(to, place_of_no_letter(to->reader));
 }
 
 /* Tests a start tag by the rules of namespaces, unless a parser of its own does. */
 static void test_start(struct converter *to, const char *name, const char **attributes) {
     enum XML_Error fault = namespaces_enter(&to->namespaces, name, attributes, to->depth);
     if (fault == XML_ERROR_INVALID_TOKEN)
-        refuse_name(to);
+        refuse_name(to, place_of_colon(to->reader, to->encoding[0] ? to->encoding : NULL));
     else if (fault != XML_ERROR_NONE)
-        refuse_here(to, 0, XML_ErrorString(fault));
+        refuse_here(to, XML_ErrorString(fault));
     to->is_out_of_memory |= fault == XML_ERROR_NO_MEMORY;
 }
 
@@ -134,7 +134,9 @@ static void start(void *data, const char *name, const char **attributes) {
     struct output *out = &to->out;
     to->depth++;
     to->has_root = true;
-    if (!to->has_doctype)
+    if (to->is_latin)
+        test_letters(to, name, attributes);
+    if (!to->has_doctype && !to->refusal.is_set)
         test_start(to, name, attributes);
     begin_line(to, '(');
     put_name(out, name, '\n');
@@ -190,20 +192,14 @@ static void comment(void *data, const char *text) {
     put_data(&to->out, text);
 }
 
-/* The characters before the first colon, or 0 where there is none. */
-static unsigned long before_colon(const char *target) {
-    unsigned long count = 0;
-    for (; *target && *target != ':'; target++)
-        count += ((unsigned char)*target & 0xc0) != 0x80;
-    return *target ? count : 0;
-}
-
 static void instruction(void *data, const char *target, const char *text) {
     struct converter *to = data;
     if (to->in_doctype)
         return;
-    if (!to->has_doctype && strchr(target, ':'))
-        refuse_here(to, 2 + before_colon(target), XML_ErrorString(XML_ERROR_INVALID_TOKEN));
+    if (to->is_latin)
+        test_letters(to, target, (const char *[]){NULL});
+    if (!to->has_doctype && !to->refusal.is_set && strchr(target, ':'))
+        refuse_name(to, place_in_target(to->reader, target));
     begin_line(to, '?');
     put_name(&to->out, target, ' ');
     put_data(&to->out, text);
@@ -213,10 +209,10 @@ static void start_doctype(void *data, const char *name, const char *system, cons
                           int has_subset) {
     struct converter *to = data;
     (void)name, (void)system, (void)public, (void)has_subset;
-    if (!to->options.drops_doctype)
-        refuse_here(to, 0,
-                    "a document type declaration; --drop-doctype reads on without it");
-    to->in_doctype = to->has_doctype = true;
+    if (to->options.drops_doctype)
+        to->in_doctype = to->has_doctype = true;
+    else
+        refuse_here(to, "a document type declaration; --drop-doctype reads on without it");
 }
 
 static void end_doctype(void *data) {
@@ -228,7 +224,7 @@ static int outside(XML_Parser parser, const char *context, const char *base, con
                    const char *public) {
     struct converter *to = XML_GetUserData(parser);
     (void)context, (void)base, (void)system, (void)public;
-    refuse_here(to, 0, "an entity that stands outside the document");
+    refuse_here(to, "an entity that stands outside the document");
     return XML_STATUS_ERROR;
 }
 
@@ -237,11 +233,12 @@ static void declaration(void *data, const char *version, const char *encoding, i
     (void)version, (void)standalone;
     if (encoding && !to->encoding[0])
         snprintf(to->encoding, sizeof to->encoding, "%s", encoding);
+    to->is_latin = strcasecmp(to->encoding, "ISO-8859-1") == 0;
 }
 
 /* Opens all that a converter needs. False: out of memory. */
 static bool open_converter(struct converter *to, const struct options *options) {
-    *to = (struct converter){.options = *options, .moved = {1, 0}};
+    *to = (struct converter){.options = *options, .moved = {1, 0, 0}};
     to->reader = XML_ParserCreate(NULL);
     to->tester = XML_ParserCreateNS(NULL, '\1');
     bool is_open = namespaces_open(&to->namespaces) & output_open(&to->out, STDOUT_FILENO, false);
@@ -284,7 +281,7 @@ static void parse(struct converter *to, XML_Parser parser, const char *bytes, si
 /* Converts the next bytes, none at the end; whether to go on. */
 static bool feed(struct converter *to, const char *bytes, size_t length) {
     parse(to, to->reader, bytes, length);
-    if (to->has_root && !to->has_doctype) {
+    if (!to->has_doctype && (to->has_root || to->refusal.is_set)) {
         XML_ParserFree(to->tester);
         to->tester = NULL;
     }
@@ -330,8 +327,8 @@ static int complain(const char *name, const char *reason) {
 static int complain_of(const struct converter *to, const char *name) {
     const struct refusal *refusal = &to->refusal;
     long column = (long)refusal->column;
-    if (refusal->line == to->moved.line)
-        column = column > to->moved.columns ? column - to->moved.columns : 0;
+    if (refusal->line == to->moved.line && refusal->column >= to->moved.from)
+        column -= to->moved.columns;
     fprintf(stderr, "xml2pyx: %s:%lu:%ld: %s\n", name, refusal->line, column + 1,
             refusal->reason);
     return REFUSED;
@@ -345,6 +342,9 @@ static int finish(struct converter *to, const char *name, int read_fault) {
         return complain(name, "out of memory");
     if (to->refusal.is_set)
         return complain_of(to, name);
+    output_flush(&to->out); /* a table of lines that can't be written would look whole */
+    if (to->out.fault)
+        return complain("standard output", strerror(to->out.fault));
     if (to->options.table && !table_write(&to->table, to->options.table))
         return complain(to->options.table, strerror(to->table.fault));
     if (!output_finish(&to->out))
@@ -395,5 +395,5 @@ int main(int count, char **given) {
         return USAGE;
     }
     signal(SIGPIPE, SIG_IGN);
-    return run(&options);
+    return streams_take() ? run(&options) : REFUSED;
 }

@@ -206,15 +206,6 @@ def answer(tool, done):
     return said[1]
 
 
-def agree(one, other):
-    """Whether two answers are the same. Where one tag or reference has two faults the parser of namespaces may
-    name another place in it than the one without: both are refused, then, for a token."""
-    tokens = r"\d+:\d+: (not well-formed \(invalid token\)|unclosed token)"
-    if isinstance(one, str) and isinstance(other, str) and re.fullmatch(tokens, one):
-        return re.fullmatch(tokens, other) is not None
-    return one == other
-
-
 def damage(chance, data):
     """The same bytes with some of them cut off, changed, left out or added."""
     data, parts = bytearray(data), [b":", b"&x;", b"&#1;", b' p:x="1"', b"<!DOCTYPE a>", b"<?p:q?>", b"\xc2\xb7"]
@@ -270,10 +261,7 @@ def compare_natives(tests):
             found = list(pool.map(lambda row: run_native(tool, *row[1:]), rows))
             for (name, data, flag), got in zip(rows, found):
                 wanted = call(tool, data, flag)
-                if not agree(wanted, got):
-                    tests.check(f"{tool} in C: {name}", got, wanted)
-                else:
-                    tests.holds(name, True)
+                tests.check(f"{tool} in C: {name}", got, wanted)
             fast_paths(tests, pool, tool, rows)
     native_tables(tests)
     native_memory(tests)

@@ -1,14 +1,17 @@
 """The modules of a stylesheet: their lines for the program, and their elements for messages."""
 
+import contextlib
 import os
 import re
 from array import array
 
-from lib import xml2pyx
+from lib import encoder, xml2pyx
 from lib.declarations import declared
-from lib.vocabulary import XSLT
+from lib.messages.vocabulary import BODY, WITH_BODY, XSLT
 
 MOST_MODULES = 256
+CDATA = "cdata-section-elements"
+UNESCAPED = "disable-output-escaping"
 ENCODING = re.compile(rb"""<\?xml[^>]*?encoding\s*=\s*["']([\w.\-]+)""")
 
 
@@ -22,13 +25,18 @@ class Element:
         self.spaces = self.namespaces()
         self.space = self.spaces.get(name.rpartition(":")[0], "")  # the URI of its namespace
         self.children = []
-        self.has_text = False  # other than white space
+        self.text_place = None  # of its first text other than white space: the line and the column
+        self.is_after_text = False  # whether such a text of its parent comes before it
 
     def namespaces(self):
         """The namespaces in scope, by prefix."""
         outer = self.parent.spaces if self.parent else {"": "", "xml": ""}
         own = {declared(name): uri for name, uri in self.attributes if declared(name) is not None}
         return {**outer, **own} if own else outer
+
+    @property
+    def has_text(self):
+        return self.text_place is not None
 
     @property
     def local(self):
@@ -43,6 +51,13 @@ class Element:
     @property
     def is_xslt(self):
         return self.space == XSLT
+
+    @property
+    def is_instruction(self):
+        """Whether it stands in a body, and something may come before it there."""
+        parent = self.parent
+        is_in_body = parent and parent.parent and (parent.local in WITH_BODY if parent.is_xslt else True)
+        return bool(is_in_body) and (not self.is_xslt or self.local in BODY)
 
     def is_a(self, *locals_):
         return self.is_xslt and self.local in locals_
@@ -66,6 +81,16 @@ class Element:
             element = element.parent
 
 
+def said_by(output):
+    """The attributes of an xsl:output, with expanded names of elements, {URI}LOCAL or LOCAL; the default namespace counts."""
+    said = dict(output.attributes)
+    if CDATA in said:
+        names = [name.rpartition(":") for name in said[CDATA].split()]
+        spaces = [output.spaces.get(prefix, "") for prefix, _, _ in names]
+        said[CDATA] = " ".join(f"{{{uri}}}{local}" if uri else local for uri, (_, _, local) in zip(spaces, names))
+    return said
+
+
 class Reader(xml2pyx.Converter):
     """Converts one module and keeps its elements. What it mentions gets the name of the folder."""
 
@@ -73,6 +98,7 @@ class Reader(xml2pyx.Converter):
         super().__init__(out, drop_doctype, array("Q"))
         self.rename = rename
         self.root = self.inner = None
+        self.unescaped = None  # the first element that asks for disable-output-escaping
         self.parts = []  # in their order: ("import" or "include", name, element), ("output", attributes, element)
 
     def start(self, name, attributes):
@@ -81,7 +107,10 @@ class Reader(xml2pyx.Converter):
         made = Element(name, pairs, self.inner, len(self.places) + 1, place)
         if self.inner:
             self.inner.children.append(made)
+            made.is_after_text = self.inner.has_text
         self.root, self.inner = self.root or made, made
+        if UNESCAPED in attributes and not self.unescaped and made.is_a("text", "value-of") and made.get(UNESCAPED) == "yes":
+            self.unescaped = made
         super().start(name, self.with_mentions(made, attributes))
 
     def with_mentions(self, element, attributes):
@@ -90,7 +119,7 @@ class Reader(xml2pyx.Converter):
         if not is_top or not self.root.is_a("stylesheet", "transform") or not element.is_xslt:
             return attributes
         if element.local == "output":
-            self.parts.append(("output", dict(element.attributes), element))
+            self.parts.append(("output", said_by(element), element))
         for at in range(0, len(attributes), 2):
             if element.local in ("import", "include") and attributes[at] == "href":
                 self.parts.append((element.local, attributes[at + 1], element))
@@ -99,7 +128,10 @@ class Reader(xml2pyx.Converter):
 
     def text(self, text):
         super().text(text)
-        self.inner.has_text = self.inner.has_text or bool(text.strip(xml2pyx.SPACE))
+        before = text[: len(text) - len(text.lstrip(xml2pyx.SPACE))]
+        if not self.inner.has_text and before != text:
+            line, column = self.reader.CurrentLineNumber, self.reader.CurrentColumnNumber
+            self.inner.text_place = line + before.count("\n"), column * ("\n" not in before) + len(before.rpartition("\n")[2])
 
     def end(self, name):
         super().end(name)
@@ -112,7 +144,7 @@ class Module:
 
     def __init__(self, xml, path, name, parts=()):
         self.xml, self.path, self.name = xml, path, name  # its name, its file, and its name in the folder
-        self.root = None
+        self.root = self.unescaped = None
         self.places = array("Q")  # of the PYX lines the lines of XML
         self.parts = parts  # what it says of other modules and of the result
         self.rows = []  # the lines that are left, each with its number
@@ -126,6 +158,16 @@ class Module:
     def element(self, row):
         """The element whose start is this PYX line."""
         return next((each for each in self.elements() if each.row == row), None)
+
+    @contextlib.contextmanager
+    def with_lines(self, folder, lines):
+        """Gives the program other lines for a while."""
+        path = os.path.join(folder.path, self.name)
+        for rows in (lines, None):
+            with open(path, "wb") as made:
+                made.writelines(rows if rows is not None else (line for _, line in self.rows))
+            if rows is not None:
+                yield
 
     def elements(self):
         return self.root.walk() if self.root else iter(())
@@ -158,6 +200,7 @@ class Folder:
         self.names = {}  # by XML names
         self.modules = {}  # by XML names, those that were read
         self.paths = {}  # of an XML name, where the file is if not there
+        self.sheet = ""  # the XML name of the stylesheet
         self.has_too_many = False  # modules, so that the program refuses the stylesheet
 
     def name(self, xml):
@@ -186,9 +229,11 @@ class Folder:
             made.reason = str(fault)
         else:
             made.root, made.places, made.parts = reader.root, reader.places, reader.parts
+            made.unescaped = reader.unescaped
 
     def add_sheet(self, xml):
         """Writes the lines of a stylesheet with all modules, in the order in which they are read."""
+        self.sheet = xml
         todo, count = [(xml, ())], 0
         while todo and count < MOST_MODULES:
             xml, above = todo.pop()
@@ -208,17 +253,22 @@ class Folder:
                     return module, element
         return None, None
 
+    def asks_in_vain(self, said):
+        """Whether a warning may be needed where the outputs say this."""
+        is_unescaped = any(module.unescaped for module in self.modules.values())
+        return is_unescaped or not encoder.is_known(said.get("encoding", "UTF-8"))
+
     def output(self, xml, above=()):
-        """What the outputs of a stylesheet say of the result, by attribute: its own last word, or else its imports' (XSLT 1.0, 16)."""
+        """What the outputs of a stylesheet say of the result, by attribute: its own last word, or else its imports' (XSLT 1.0, 16); of
+        cdata-section-elements all of them."""
         if self.has_too_many:
             return {}
         own, imports = self.outputs_of(xml, above)
-        said = {}
-        for other, inside in imports:
-            said.update(self.output(other, inside))
-        for attributes in own:
+        said, cdata = {}, []
+        for attributes in [*(self.output(other, inside) for other, inside in imports), *own]:
+            cdata += attributes.get(CDATA, "").split()
             said.update(attributes)
-        return said
+        return {**said, CDATA: " ".join(dict.fromkeys(cdata))} if cdata else said
 
     def outputs_of(self, xml, above):
         """The outputs of a module with what it includes, and what these import."""

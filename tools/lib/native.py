@@ -14,13 +14,13 @@ FLAGS = ["-std=gnu11", "-O3"]
 # Of each program its files and libraries.
 PROGRAMS = {
     "xml2pyx": (
-        ["xml2pyx", "chunks", "declaration", "encodings", "escapes", "names", "namespaces", "opened", "output", "plain"]
-        + ["plain_xml", "references", "scopes", "table"],
+        ["xml2pyx", "charsets", "chunks", "declaration", "encodings", "escapes", "names", "namespaces", "opened", "output", "places"]
+        + ["plain", "plain_xml", "references", "scopes", "streams", "table"],
         ["-lexpat"],
     ),
     "pyx2xml": (
-        ["pyx2xml", "characters", "elements", "lines", "names", "opened", "output", "plain", "plain_pyx", "refusal"]
-        + ["scopes", "shape"],
+        ["pyx2xml", "characters", "charsets", "elements", "encoder", "html_names", "lines", "names", "nodes", "opened", "output", "plain"]
+        + ["plain_pyx", "refusal", "scopes", "serializer", "settings", "streams", "target", "write_html", "write_xml"],
         [],
     ),
 }
@@ -46,23 +46,32 @@ def is_new(path):
     return max(sources, default=0) <= os.path.getmtime(path)
 
 
-def build(name, path, flags=()):
-    """Compiles a program, with more flags; whether that succeeded."""
+def build(name, path, flags=(), compiler=None):
+    """Compiles a program, with more flags, by `cc` where no compiler is named; whether that succeeded."""
     import shlex  # most runs need none of these
     import shutil
     import subprocess
     import tempfile
 
-    compiler = shlex.split(os.environ.get("CC", "cc"))
+    from lib import processes
+
+    compiler = shlex.split(compiler or os.environ.get("CC", "cc"))
     if not compiler or not shutil.which(compiler[0]):
         return False
     files, libraries = PROGRAMS[name]
     sources = [os.path.join(SOURCES, file + ".c") for file in files]
+    if not os.path.exists(sources[0]):  # an installed tool
+        return False
     os.makedirs(os.path.dirname(path), exist_ok=True)
     with tempfile.TemporaryDirectory(dir=os.path.dirname(path)) as folder:
         made = os.path.join(folder, name)
         command = [*compiler, *FLAGS, *flags, "-o", made, *sources, *libraries]
-        if subprocess.run(command, capture_output=True, check=False).returncode != 0:
+        try:
+            status, _, _ = processes.run(command, stdout=subprocess.DEVNULL, stderr=subprocess.DEVNULL)
+        except BaseException:
+            processes.end_all()  # the compiler's own parts too
+            raise
+        if status != 0:
             return False
         os.replace(made, path)
     return True

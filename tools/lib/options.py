@@ -3,9 +3,14 @@
 import os
 import re
 
+from lib.messages.nearest import hint
+
+USAGE_FAULT, READ_FAULT, WRITE_FAULT, NO_MEMORY, NOT_RUN = 1, 2, 5, 6, 125
 TOP = os.path.dirname(os.path.dirname(os.path.dirname(os.path.realpath(__file__))))
 # Options of the program that have a value.
 VALUED = {"--budget", "--max-events", "--workers", "--grain", "--at", "--load"}
+# Those that have none.
+FLAGS = {"--check", "--stats", "--profile", "--stream"}
 PARAMETER = re.compile(r"@?[^\W\d][\w.\-\u00b7]*=.*", re.DOTALL)
 USAGE = """\
 usage: tools/xslt-xml [-o FILE] [option]... SHEET.xsl SOURCE.xml [name=text]...
@@ -24,18 +29,22 @@ class Options:
     def __init__(self, arguments):
         self.program = os.path.join(TOP, "xslt")
         self.output = self.outdir = None
-        self.drop_doctype = self.is_raw = self.has_time = self.has_help = self.has_version = False
+        self.most_faults = "10"
+        self.drop_doctype = self.is_raw = self.is_quiet = self.has_time = self.has_help = self.has_version = False
+        self.has_warnings = self.has_hints = False
         self.passed_on, inputs = [], []
         self.read(iter(arguments), inputs)
         self.is_check = "--check" in self.passed_on
+        if not re.fullmatch("[1-9][0-9]{0,3}", self.most_faults):
+            raise Usage(f"--faults {self.most_faults}: that is a number from 1 to 9999")
         if not self.has_help and not self.has_version:
             self.sort(inputs)
 
     def read(self, arguments, inputs):
         """Reads the arguments one by one."""
-        flags = {"--drop-doctype": "drop_doctype", "--raw": "is_raw", "--time": "has_time"}
-        flags.update({"--help": "has_help", "-h": "has_help", "--version": "has_version"})
-        values = {"--program": "program", "-o": "output", "--output": "output", "--outdir": "outdir"}
+        flags = {"--drop-doctype": "drop_doctype", "--raw": "is_raw", "--time": "has_time", "--quiet": "is_quiet"}
+        flags.update({"--warn": "has_warnings", "--hints": "has_hints", "--help": "has_help", "-h": "has_help", "--version": "has_version"})
+        values = {"--program": "program", "-o": "output", "--output": "output", "--outdir": "outdir", "--faults": "most_faults"}
         for argument in arguments:
             name, equals, value = argument.partition("=")
             if argument in flags:
@@ -50,8 +59,12 @@ class Options:
             elif argument == "--":
                 inputs.extend(arguments)
             elif argument.startswith("-") and argument != "-":
-                self.passed_on.append(argument)
-                self.passed_on.extend([next(arguments, "")] if argument in VALUED else [])
+                if name not in VALUED | FLAGS:
+                    raise Usage(f"option {name} is not known{hint(name, {*VALUED, *FLAGS, *flags, *values})}")
+                value = next(arguments, None) if argument in VALUED else ""
+                if value is None:
+                    raise Usage(f"{name} needs a value")
+                self.passed_on.extend([argument, value] if argument in VALUED else [argument])
             else:
                 inputs.append(argument)
 

@@ -10,6 +10,14 @@ takes it for what separates the target. With --fragment the lines need not have 
 texts and any number of elements may be at the top, as in a result that is a
 piece of a document.
 
+With --result the lines are the result of a stylesheet, and the other options say what its
+xsl:output says (XSLT 1.0, 16), each with the name of an attribute; any of them implies
+--result. --method is xml or html, and without it html is what begins with that element;
+--indent, --omit-xml-declaration and --standalone are yes or no; --encoding is UTF-8, UTF-16,
+US-ASCII or one of a byte for each character; --version chooses a document type of HTML;
+--cdata-section-elements has names {URI}LOCAL or LOCAL between spaces. Where the
+Recommendation leaves a choice the bytes are those that xsltproc writes.
+
 Malformed lines get one line on standard error, FILE:LINE with the fault's name, and
 status 1; so does what no XML document can hold (most control characters, `--` in a
 comment, and such). What was written until then lacks its last byte, so that nothing takes
@@ -26,8 +34,11 @@ import shutil
 import sys
 import tempfile
 
-from lib import native
+from lib import native, settings, streams
 from lib.declarations import declared
+from lib.encoder import NOT_ENCODED
+from lib.serializer import Serializer
+from lib.target import NotEncoded, Target
 
 IN_MEMORY = 1 << 24
 FLUSH = 1 << 12
@@ -70,16 +81,6 @@ def allowed(number, text):
     return text
 
 
-def as_text(text):
-    text = text.replace("&", "&amp;").replace("<", "&lt;").replace(">", "&gt;")
-    return text.replace("\r", "&#13;").replace("\ufeff", "&#xFEFF;")
-
-
-def as_value(text):
-    text = as_text(text).replace('"', "&quot;")
-    return text.replace("\t", "&#9;").replace("\n", "&#10;")
-
-
 def bad_binding(prefix, uri):
     return (
         (prefix != "" and uri == "")
@@ -90,12 +91,12 @@ def bad_binding(prefix, uri):
 
 
 class Converter:
-    """Reads lines one by one and keeps the XML that they represent."""
+    """Reads lines one by one and passes the parts that they represent on to a target: of a result, with settings, a serializer."""
 
-    def __init__(self, out, fragment):
+    def __init__(self, out, fragment, said=None):
         self.out = out
-        self.fragment = fragment
-        self.pieces = []
+        self.fragment = fragment or said is not None
+        self.target = Target() if said is None else Serializer(said)
         self.open = []  # the open elements: name, and the bindings outside
         self.bound = {"xml": XML}
         self.start = None  # a start whose attributes are still being read: line and name
@@ -103,6 +104,13 @@ class Converter:
         self.seen_top = False
 
     def line(self, number, raw):
+        try:
+            self.read_line(number, raw)
+        except NotEncoded:
+            raise Refused(number, NOT_ENCODED) from None
+
+    def read_line(self, number, raw):
+        """Reads a line and passes on its part."""
         try:
             kind, name, text = self.read(number, raw)
         except Refused:
@@ -119,14 +127,14 @@ class Converter:
                 raise Refused(number, "BadName: " + ascii(name))
             self.seen_top = True
             self.start = (number, name)
+            self.target.start(name, not self.open)
         elif kind == "A":
             self.attributes.append((number, name, text))
         elif kind == ")":
             if not self.open or self.open[-1][0] != name:
                 raise Refused(number, "Unbalanced: closes no open element of this name")
             self.bound = self.open.pop()[1]
-            if not empty:
-                self.pieces.append("</" + name + ">")
+            self.target.end(name, empty)
         elif kind == "-":
             self.text(number, text)
         elif kind == "C":
@@ -165,8 +173,8 @@ class Converter:
             if prefix is not None and prefix not in own and not bad_binding(prefix, uri):
                 own.add(prefix)
                 bound[prefix] = uri
-        self.resolve(number, name, bound)
-        self.pieces.append("<" + name)
+        uri, local = self.resolve(number, name, bound)
+        uri = bound.get("", "") if uri is None else uri
         seen = set()
         for number, attribute, value in self.attributes:
             if not QNAME.fullmatch(attribute):
@@ -178,8 +186,11 @@ class Converter:
             seen.add(key)
             if prefix is not None and bad_binding(prefix, value):
                 raise Refused(number, "BadNamespace: " + attribute)
-            self.pieces.append(f' {attribute}="{as_value(allowed(number, value))}"')
-        self.pieces.append("/>" if empty else ">")
+            try:
+                self.target.attribute(attribute, allowed(number, value))
+            except NotEncoded:
+                raise Refused(number, NOT_ENCODED) from None
+        self.target.end_start(name, uri, local, empty, not self.open)
         self.open.append((name, self.bound))
         self.bound = bound
         self.start, self.attributes = None, []
@@ -193,14 +204,14 @@ class Converter:
 
     def text(self, number, text):
         if self.open or self.fragment:
-            self.pieces.append(as_text(allowed(number, text)))
+            self.target.text(allowed(number, text), not self.open)
         elif text.strip(SPACE):
             raise Refused(number, "Unbalanced: text outside the top element")
 
     def comment(self, number, text):
         if "--" in text or text.endswith("-") or "\r" in text:
             raise Refused(number, "an XML comment can't hold `--`, a last `-` or a carriage return")
-        self.pieces.append("<!--" + allowed(number, text) + "-->")
+        self.target.comment(allowed(number, text), not self.open)
 
     def instruction(self, number, target, text):
         if not NCNAME.fullmatch(target) or target.lower() == "xml":
@@ -208,7 +219,7 @@ class Converter:
         text = text.lstrip(" \t\n")
         if "?>" in text or "\r" in text:
             raise Refused(number, "an XML instruction can't hold `?>` or a carriage return")
-        self.pieces.append(f"<?{target} {allowed(number, text)}?>" if text else f"<?{target}?>")
+        self.target.instruction(target, allowed(number, text), not self.open)
 
     def finish(self, number):
         if self.start:
@@ -217,21 +228,19 @@ class Converter:
             raise Refused(number, "Truncated: an element is open at the end")
         if not self.seen_top and not self.fragment:
             raise Refused(number, "NoRoot: no element")
-        if not self.fragment:
-            self.pieces.append("\n")
+        self.target.finish(not self.fragment)
 
     def convert(self, source):
         number = 0
         for number, raw in enumerate(source, 1):
             self.line(number, raw)
-            if len(self.pieces) > FLUSH:
+            if len(self.target.pieces) > FLUSH:
                 self.flush()
         self.finish(number)
         self.flush()
 
     def flush(self):
-        self.out.write("".join(self.pieces).encode())
-        self.pieces.clear()
+        self.out.write(self.target.taken())
 
 
 def arguments():
@@ -245,27 +254,43 @@ def arguments():
         "--fragment", action="store_true", help="take lines without a single top element"
     )
     parser.add_argument(
+        "--result", action="store_true", help="take lines as the result of a stylesheet, written as the other options say"
+    )
+    for option, values in settings.OPTIONS.items():
+        parser.add_argument("--" + option, choices=values, metavar="VALUE", dest=option, help=f"{option} of xsl:output")
+    parser.add_argument(
         "file", nargs="?", metavar="FILE", help="the lines; standard input where none is named"
     )
-    return parser.parse_args()
+    options = parser.parse_args()
+    options.said = {name: value for name, value in vars(options).items() if name in settings.OPTIONS and value is not None}
+    options.result = options.result or bool(options.said)
+    fault = settings.fault(options.said)
+    if options.fragment and options.result:
+        fault = "--fragment takes no option of a result"
+    if fault:
+        parser.exit(2, f"pyx2xml: {fault}\n")
+    return options
 
 
 def run_native(options):
     """Goes on as the program in C, where there is one."""
     program = native.program("pyx2xml")
     if program:
-        fragment = ["--fragment"] if options.fragment else []
-        os.execv(program, ["pyx2xml", *fragment, "--", *filter(None, [options.file])])
+        kind = ["--fragment"] if options.fragment else ["--result"] if options.result else []
+        said = settings.Settings(options.said).arguments()
+        os.execv(program, ["pyx2xml", *kind, *said, "--", *filter(None, [options.file])])
 
 
 def main():
+    streams.take()
     options = arguments()
     run_native(options)
+    said = options.said if options.result else None
     name = options.file or "standard input"
     try:
         with tempfile.SpooledTemporaryFile(IN_MEMORY) as made:
             with open(options.file or 0, "rb", closefd=bool(options.file)) as source:
-                Converter(made, options.fragment).convert(source)
+                Converter(made, options.fragment, said).convert(source)
             made.seek(0)
             name = "standard output"
             with open(1, "wb", closefd=False) as out:

@@ -95,6 +95,9 @@ DROPPED = {
         ["(a", "-é", ")a"],
     ),
     "no document type declaration at all": ("<a/>", ["(a", ")a"]),
+    "values and line ends of the XML declaration": (
+        "<?xml version='1.0'\r\nencoding=\"utf-8\"\r standalone = 'no'\r?><!DOCTYPE a><a/>", ["(a", ")a"],
+    ),
 }
 
 # Documents that are refused, whether with --drop-doctype, and the place and reason.
@@ -131,6 +134,44 @@ BAD_XML = {
     ),
     "a fault on the first line": (
         "<!DOCTYPE a SYSTEM 'x'><a></b>", True, "1:29: mismatched tag",
+    ),
+    "a second top element after a long comment": (
+        "<a>" + "x" * 200000 + "</a><!--" + "y" * 40000 + "--><b/>", False, "1:240015: junk after document element",
+    ),
+    "two faults in one tag": ('<r><a xmlns:p=""\n b="" b=""/></r>', False, "2:7: duplicate attribute"),
+    "two faults in the top tag": ('<a xmlns:p=""\n b="" b=""/>', False, "2:7: duplicate attribute"),
+    "a name with two colons and one without a value": (
+        "<r><a:b:c d/></r>", False, "1:12: not well-formed (invalid token)",
+    ),
+    "standalone with markup": (
+        "<?xml version='1.0' standalone='<&'?><a/>", True, "1:33: XML declaration not well-formed",
+    ),
+    "a form feed before standalone": (
+        "<?xml version='1.0'\fstandalone='yes'?><a/>", True, "1:20: not well-formed (invalid token)",
+    ),
+    "an unknown encoding": ("<?xml version='1.0' encoding='x'?><a/>", True, "1:31: unknown encoding"),
+    "an encoding that Python alone knows": ("<?xml version='1.0' encoding='utf8'?><a/>", False, "1:31: unknown encoding"),
+    "a fault after a changed declaration": (
+        "<?xml version='1.0' standalone='no'?><!DOCTYPE a><a></b>", True, "1:55: mismatched tag",
+    ),
+    "a fault after a declaration that ends later": (
+        "<?xml version='1.0' standalone='no'\r?><!DOCTYPE a><a></b>", True, "2:20: mismatched tag",
+    ),
+    "no letter in ISO-8859-1": (
+        b"<?xml version='1.0' encoding='iso-8859-1'?><\xb5/>", False, "1:45: not well-formed (invalid token)",
+    ),
+    "no letter after a prefix in ISO-8859-1": (
+        b"<?xml version='1.0' encoding='ISO-8859-1'?>\n<p:\xb5 xmlns:p='u'/>", False, "2:4: not well-formed (invalid token)",
+    ),
+    "no letter in the name of an attribute": (
+        b"<?xml version='1.0' encoding='ISO-8859-1'?><a b='\xb5'\r\nc\xaa='\xaa'/>", True, "2:2: not well-formed (invalid token)",
+    ),
+    "no letter in a target": (
+        b"<?xml version='1.0' encoding='ISO-8859-1'?><?t\xba \xaa?><a/>", True, "1:47: not well-formed (invalid token)",
+    ),
+    "no letter in an entity": (
+        b"<?xml version='1.0' encoding='ISO-8859-1'?><!DOCTYPE a [<!ENTITY e '<\xb5/>'>]>\n<a>&e;</a>", True,
+        "2:4: not well-formed (invalid token)",
     ),
 }
 

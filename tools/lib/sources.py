@@ -7,11 +7,12 @@ a pipe; else the lines are written to a file first.
 import itertools
 import os
 import re
+import signal
 import subprocess
 import tempfile
 from array import array
 
-from lib import native, pipes, xml2pyx
+from lib import native, pipes, processes, xml2pyx
 
 
 def open_source(xml, path, drop_doctype, lines):
@@ -33,6 +34,10 @@ class MissingSource:
         self.name = os.path.basename(lines)  # for the program
         self.ends = ()  # of pipes, for the program
 
+    def again(self):
+        """The same source once more."""
+        return self
+
     def begin(self):
         """The program has begun to read."""
 
@@ -42,6 +47,10 @@ class MissingSource:
     def place(self, row):
         """The line of XML that a PYX line comes from."""
         return row
+
+    def progress(self):
+        """The bytes that were read, and all."""
+        return 0, 0
 
 
 class FileSource(MissingSource):
@@ -57,6 +66,10 @@ class FileSource(MissingSource):
                 self.reason = str(fault)
         if self.reason:
             os.remove(lines)
+
+    def progress(self):
+        size = os.path.getsize(self.path)
+        return size, size
 
     def place(self, row):
         return self.places[row - 1] if 0 < row <= len(self.places) else row
@@ -74,9 +87,12 @@ class PipedSource(MissingSource):
             read_end, write_end = os.pipe()
             pipes.widen(write_end)
             command = [program, *self.options]
-            self.converter = subprocess.Popen(command, stdin=source, stdout=write_end, stderr=self.complaint)
+            self.converter = processes.start(command, stdin=source, stdout=write_end, stderr=self.complaint)
             os.close(write_end)
         self.name, self.ends = f"/dev/fd/{read_end}", (read_end,)
+
+    def again(self):
+        return PipedSource(self.xml, self.path, bool(self.options), self.program)
 
     def begin(self):
         """The pipe is the program's alone, so that the converter notices its end."""
@@ -84,20 +100,30 @@ class PipedSource(MissingSource):
 
     def finish(self):
         """Finds out why the document is refused. That the program did not read to the end is no reason."""
-        self.converter.wait()
+        status = processes.wait(self.converter)
         self.complaint.seek(0)
         said = self.complaint.read().decode(errors="surrogateescape").rstrip("\n")
         self.complaint.close()
+        processes.check_end("the converter to PYX lines", status, said)
         found = re.fullmatch(r"xml2pyx: standard input: ?(.*)", said, re.DOTALL)
         self.reason = found[1] if found else ""
+        if status < 0 and status != -signal.SIGPIPE:
+            self.reason = f"the converter {processes.how_ended(-status)}"
+
+    def progress(self):
+        size = os.path.getsize(self.path)
+        try:
+            with open(f"/proc/{self.converter.pid}/fdinfo/0", encoding="ascii") as facts:
+                return int(facts.readline().split()[1]), size
+        except OSError:
+            return size, size  # it has ended
 
     def place(self, row):
         """Reads the document once more, for its table of lines."""
         with tempfile.TemporaryDirectory(prefix="xslt-xml-") as folder, open(self.path, "rb") as source:
             table = os.path.join(folder, "table")
             command = [self.program, *self.options, "--lines", table]
-            done = subprocess.run(command, stdin=source, stdout=subprocess.DEVNULL, check=False)
-            if done.returncode != 0:
+            if processes.run(command, stdin=source, stdout=subprocess.DEVNULL)[0]:
                 return row
             with open(table, "rb") as places:
                 return int(next(itertools.islice(places, row - 1, None), row))

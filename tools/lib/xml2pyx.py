@@ -2,7 +2,8 @@
 
 A convenience outside the proved product: nothing here is proved. XML is read by
 expat, from Python's standard library, which takes names as XML 1.0 has them in its
-fourth edition.
+fourth edition. The encodings are those of lib/encodings.py: UTF-8, UTF-16 and the
+usual ones of one byte for each character, by their registered names.
 
 Entities are expanded, CDATA sections are text, and the namespace rules are
 tested. Two things are lost, since PYX has no place for them: the XML declaration
@@ -26,29 +27,33 @@ some thirty times more slowly, and writes nothing at all of a document that is r
 
 import os
 import re
-import shutil
 import sys
 import tempfile
 from array import array
 from xml.parsers import expat
 
-from lib import native
+from lib import native, streams
+from lib.encodings import is_known
+from lib.namespaces import NO_LETTERS, Namespaces, place_in_target, place_of, place_of_colon, place_of_no_letter
 
 CHUNK = 1 << 16
 IN_MEMORY = 1 << 24
 SPACE = " \t\r\n"
 UNKNOWN_ENCODING = expat.errors.XML_ERROR_UNKNOWN_ENCODING
+INVALID_TOKEN = expat.errors.XML_ERROR_INVALID_TOKEN
 WIDE = {
-    b"\xff\xfe": "utf-16-le",
-    b"<\0": "utf-16-le",
-    b"\xfe\xff": "utf-16-be",
-    b"\0<": "utf-16-be",
+    b"\xff\xfe": "UTF-16LE",
+    b"<\0": "UTF-16LE",
+    b"\xfe\xff": "UTF-16BE",
+    b"\0<": "UTF-16BE",
 }
+MARK = "(?:\ufeff|\xef\xbb\xbf)?"
 DECLARATION = re.compile(
-    r"""(\ufeff|\xef\xbb\xbf)?"""
-    r"""(<\?xml\s+version\s*=\s*(?:"[^"]*"|'[^']*')(?:\s+encoding\s*=\s*(?:"[^"]*"|'[^']*'))?)"""
-    r"""(?:\s+standalone\s*=\s*(?:"[^"]*"|'[^']*'))?\s*\?>"""
+    MARK + r"""(<\?xml[ \t\r\n]+version[ \t\r\n]*=[ \t\r\n]*(?:"[^"]*"|'[^']*')"""
+    r"""(?:[ \t\r\n]+encoding[ \t\r\n]*=[ \t\r\n]*(?:"[^"]*"|'[^']*'))?)"""
+    r"""(?:[ \t\r\n]+standalone[ \t\r\n]*=[ \t\r\n]*(?:"(no)"|'(no)'))?[ \t\r\n]*\?>"""
 )
+LINE_END = re.compile("\r\n?|\n")
 
 
 class Refused(Exception):
@@ -68,25 +73,27 @@ def standing_alone(head):
     """The head of a document with an XML declaration that says `standalone="yes"`.
 
     Where a document points at declarations outside itself, expat passes over an
-    entity in an attribute that it does not know, without a word. Told that the
-    document stands alone, it refuses it. With the new head come the line on which
-    the places of faults have moved and by how many columns.
+    entity in an attribute that it does not know, without a word. Where the document
+    stands alone, expat refuses it. Nothing but `no` is replaced, so that a fault of the
+    declaration stays. With the new head come the line on which the places of faults have
+    moved, from which column on, and by how many columns.
     """
     codec = WIDE.get(head[:2], "latin-1")
     text = head.decode(codec, "ignore")
     found = DECLARATION.match(text)
     if found:
-        mark, kept, old = found[1] or "", found[2], found[0]
-        made = mark + kept + ' standalone="yes"?>'
-    elif re.match(r"(\ufeff|\xef\xbb\xbf)?<\?xml\s", text):
-        return head, (1, 0)
+        alone = 2 if found[2] else 3 if found[3] else None
+        start, end = found.span(alone) if alone else (found.end(1), found.end(1))
+        made = "yes" if alone else ' standalone="yes"'
+    elif re.match(MARK + r"<\?xml[ \t\r\n]", text):
+        return head, (1, 0, 0)
     else:
-        old = re.match(r"(\ufeff|\xef\xbb\xbf)?", text)[0]
-        made = old + '<?xml version="1.0" standalone="yes"?>'
-    # A line end that was left out would move the places of all that follows.
-    made = made.replace("?>", "\n" * (old.count("\n") - made.count("\n")) + "?>")
-    moved = len(made.rpartition("\n")[2]) - len(old.rpartition("\n")[2])
-    return made.encode(codec) + head[len(old.encode(codec)) :], (old.count("\n") + 1, moved)
+        start = end = re.match(MARK, text).end()
+        made = '<?xml version="1.0" standalone="yes"?>'
+    before, rest = LINE_END.split(text[:start]), text[end : found.end() if found else end]
+    columns = 0 if LINE_END.search(rest) else len(made) - (end - start)
+    kept = len(text[:start].encode(codec)), len(text[:end].encode(codec))
+    return head[: kept[0]] + made.encode(codec) + head[kept[1] :], (len(before), len(before[-1]), columns)
 
 
 class Converter:
@@ -99,13 +106,16 @@ class Converter:
         self.places = places  # where asked for: of each PYX line so far its line of XML
         self.in_text = False
         self.is_blank = True  # the text so far is white space
-        self.in_doctype = False
-        self.moved = (1, 0)
-        # expat without namespaces gives declarations and attributes in their order;
-        # a second reader, with namespaces, hears nothing and tests the namespace rules.
+        self.in_doctype = self.has_doctype = self.has_root = False
+        self.moved = (1, 0, 0)
+        self.encoding = None  # for reading a tag alone
+        self.namespaces = Namespaces()
+        # expat without namespaces gives declarations and attributes in their order. Where there is a document type
+        # declaration a second reader, with namespaces, hears nothing and tests their rules in the entities too.
         self.reader = expat.ParserCreate()
         self.tester = expat.ParserCreate(namespace_separator="\x01")
         reader = self.reader
+        reader.XmlDeclHandler = self.tester.XmlDeclHandler = self.declaration
         reader.ordered_attributes = True
         if places is None:
             # Of a text that is joined by expat one learns where it ends, and not where it begins.
@@ -122,7 +132,8 @@ class Converter:
 
     def convert(self, source):
         head = source.read(CHUNK)
-        if self.drop_doctype:
+        self.encoding = WIDE.get(head[:2])
+        if self.drop_doctype and head:
             head, self.moved = standing_alone(head)
         while head:
             self.feed(head, False)
@@ -130,27 +141,44 @@ class Converter:
         self.feed(b"", True)
 
     def feed(self, data, last):
-        refusals = []
-        for parser in (self.reader, self.tester):
-            try:
-                parser.Parse(data, last)
-            except expat.ExpatError as fault:
-                refusals.append((fault.lineno, fault.offset, expat.ErrorString(fault.code)))
-            except Refused as fault:
-                refusals.append(fault.args)
-            except (LookupError, ValueError):
-                place = parser.ErrorLineNumber, parser.ErrorColumnNumber
-                refusals.append((*place, UNKNOWN_ENCODING))
+        refusals = self.parse(self.reader, data, last)
+        if not self.has_doctype and (self.has_root or refusals):
+            self.tester = None
+        if self.tester:
+            refusals += self.parse(self.tester, data, last)
         if refusals:
             line, column, reason = min(refusals)
-            if line == self.moved[0]:
-                column = max(0, column - self.moved[1])
+            if line == self.moved[0] and column >= self.moved[1]:
+                column -= self.moved[2]
             raise Refused(line, column + 1, reason)
         self.out.write("".join(self.lines).encode())
         self.lines.clear()
 
-    def refuse(self, reason):
-        raise Refused(self.reader.CurrentLineNumber, self.reader.CurrentColumnNumber, reason)
+    def parse(self, parser, data, last):
+        """Gives a parser the next bytes: where and why it refuses them, in a list."""
+        try:
+            parser.Parse(data, last)
+        except expat.ExpatError as fault:
+            return [(fault.lineno, fault.offset, expat.ErrorString(fault.code))]
+        except Refused as fault:
+            return [fault.args]
+        except (LookupError, ValueError):
+            return [(parser.ErrorLineNumber, parser.ErrorColumnNumber, UNKNOWN_ENCODING)]
+        return []
+
+    def refuse(self, reason, place=None):
+        raise Refused(*(place or place_of(self.reader)), reason)
+
+    def declaration(self, version, encoding, _):
+        """A declared encoding that the converters do not take is unknown, though Python may know it."""
+        if encoding and not is_known(encoding):
+            raise LookupError(encoding)
+        self.encoding = self.encoding or encoding
+
+    def test_letters(self, *names):
+        """Tests the letters of names in ISO-8859-1, which expat does not."""
+        if (self.encoding or "").upper() == "ISO-8859-1" and any(map(NO_LETTERS.search, names)):
+            self.refuse(INVALID_TOKEN, place_of_no_letter(self.reader))
 
     def line(self, text):
         if self.in_text:
@@ -165,12 +193,19 @@ class Converter:
             self.places.extend([self.reader.CurrentLineNumber] * count)
 
     def start(self, name, attributes):
+        self.has_root = True
+        self.test_letters(name, *attributes[::2])
+        fault = None if self.has_doctype else self.namespaces.enter(name, attributes)
+        if fault:
+            self.refuse(fault, place_of_colon(self.reader, self.encoding) if fault == INVALID_TOKEN else None)
         self.line("(" + name + "\n")
         for at in range(0, len(attributes), 2):
             self.lines.append("A" + attributes[at] + " " + escape(attributes[at + 1]) + "\n")
         self.place(len(attributes) // 2)
 
     def end(self, name):
+        if not self.has_doctype:
+            self.namespaces.leave()
         self.line(")" + name + "\n")
 
     def text(self, text):
@@ -188,13 +223,17 @@ class Converter:
             self.line("C" + escape(text) + "\n")
 
     def instruction(self, target, text):
-        if not self.in_doctype:
-            self.line("?" + target + " " + escape(text) + "\n")
+        if self.in_doctype:
+            return
+        self.test_letters(target)
+        if not self.has_doctype and ":" in target:
+            self.refuse(INVALID_TOKEN, place_in_target(self.reader, target))
+        self.line("?" + target + " " + escape(text) + "\n")
 
     def start_doctype(self, *_):
         if not self.drop_doctype:
             self.refuse("a document type declaration; --drop-doctype reads on without it")
-        self.in_doctype = True
+        self.in_doctype = self.has_doctype = True
 
     def end_doctype(self):
         self.in_doctype = False
@@ -231,7 +270,28 @@ def run_native(options):
         os.execv(program, ["xml2pyx", *drop, *table, "--", *filter(None, [options.file])])
 
 
+def write_all(made, places, table):
+    """Writes the lines, and before their last line feed the table, if one is asked for: of neither a failed run leaves all."""
+    name = "standard output"
+    try:
+        with open(1, "wb", closefd=False) as out:
+            last = made.seek(-1, os.SEEK_END)
+            made.seek(0)
+            while made.tell() < last:
+                out.write(made.read(min(CHUNK, last - made.tell())))
+            out.flush()
+            if table:
+                name = table
+                with open(table, "w", encoding="ascii") as rows:
+                    rows.writelines(f"{place}\n" for place in places)
+            name = "standard output"
+            out.write(made.read())
+    except OSError as fault:
+        sys.exit(f"xml2pyx: {name}: {fault.strerror}")
+
+
 def main():
+    streams.take()
     options = arguments()
     run_native(options)
     name = options.file or "standard input"
@@ -240,14 +300,7 @@ def main():
         with tempfile.SpooledTemporaryFile(IN_MEMORY) as made:
             with open(options.file or 0, "rb", closefd=bool(options.file)) as source:
                 Converter(made, options.drop_doctype, places).convert(source)
-            made.seek(0)
-            if options.lines:
-                name = options.lines
-                with open(options.lines, "w", encoding="ascii") as table:
-                    table.writelines(f"{place}\n" for place in places)
-            name = "standard output"
-            with open(1, "wb", closefd=False) as out:
-                shutil.copyfileobj(made, out)
+            write_all(made, places, options.lines)
     except Refused as fault:
         sys.exit(f"xml2pyx: {name}:{fault}")
     except OSError as fault:

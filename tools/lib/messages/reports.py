@@ -1,11 +1,11 @@
 """Reports of faults as compilers write them: FILE:LINE, what is wrong, the line and a caret."""
 
 import re
-import sys
 
-from lib import misplaced, other_faults, static_faults
-from lib.faults import READ_FAULT
-from lib.findings import Finding
+from lib.messages import misplaced, other_faults, run_faults, static_faults
+from lib.messages.faults import READ_FAULT
+from lib.messages.findings import Finding
+from lib.reporting import say
 from lib.xml2pyx import escape
 
 ATTRIBUTE = re.compile(r"""\s+([^\s=/>"'<]+)\s*=\s*("[^"]*"|'[^']*')""")
@@ -35,11 +35,17 @@ FINDERS = {
     43: static_faults.unknown_template,
     44: static_faults.circular_set,
     45: static_faults.forbidden,
+    51: run_faults.fraction,
+    52: run_faults.out_of_range,
+    53: run_faults.no_nodes,
+    54: run_faults.no_key,
     55: other_faults.too_deep,
     56: other_faults.no_rule,
     57: other_faults.terminated,
     58: other_faults.no_extension,
     59: other_faults.circular_global,
+    60: run_faults.result_name,
+    61: run_faults.unbound_result_prefix,
     62: other_faults.bad_order,
 }
 
@@ -65,6 +71,8 @@ def written(raw, place):
 
 def locate(module, finding):
     """The line, from 1, and the column, from 0, of what is wrong: of its element, or better."""
+    if finding.at:
+        return finding.at
     element, lines = finding.element, module.source_lines()
     start = sum(len(line) + 1 for line in lines[: element.line - 1]) + element.column
     text = "\n".join(lines)
@@ -89,13 +97,6 @@ def picture(line, column):
     shown = line[start : start + WIDTH]
     pad = "".join("\t" if letter == "\t" else " " for letter in shown[: column - start])
     return f"  {shown.rstrip()}\n  {pad}^\n"
-
-
-def say(text):
-    """Writes to standard error, names of files as they are."""
-    sys.stderr.flush()
-    sys.stderr.buffer.write(text.encode(errors="surrogateescape"))
-    sys.stderr.flush()
 
 
 def report_at(name, lines, line, column, text, kind="error"):
@@ -132,8 +133,8 @@ def report_unread(folder, module, fault):
         say(f"{module.xml}: error: {reason} {fault.tag}\n")
 
 
-def report_fault(folder, fault):
-    """Reports a fault of the stylesheet or of a run; what was found, where that can be changed."""
+def report_fault(folder, fault, ask):
+    """Reports a fault of the stylesheet or of a run; what was found, where that can be changed. ask gives the value of an expression."""
     module = folder.module(fault.file)
     if module and fault.number == READ_FAULT:
         report_unread(folder, module, fault)
@@ -141,6 +142,8 @@ def report_fault(folder, fault):
         say(f"{module.xml}:{module.line(fault.row)}: error: {fault.phrase} {fault.tag}\n")
     elif module:
         finding = find(list(folder.modules.values()), module, fault)
+        value = ask(module, finding) if finding.question else None
+        finding = finding if value is None else finding.answer(value)
         line_only = finding.element is None and fault.row
         if line_only:
             say(f"{module.xml}:{module.line(fault.row)}: error: {finding.text} {fault.tag}\n")

@@ -1,6 +1,7 @@
 """The elements of XSLT 1.0 with their attributes and places, and the functions of both standards."""
 
 XSLT = "http://www.w3.org/1999/XSL/Transform"
+XMLNS = "http://www.w3.org/2000/xmlns/"
 
 # Of each element the attributes that it must have, and those that it may have.
 ELEMENTS = {
@@ -130,6 +131,8 @@ FUNCTIONS = {
     "element-available": (1, 1),
     "function-available": (1, 1),
 }
+# Those of XSLT 1.0 that are not supported.
+NOT_HERE = ("document", "format-number")
 
 
 def attributes_of(local):

@@ -1,8 +1,8 @@
 """Finds out which element or text is where none may be (fault 37)."""
 
-from lib.findings import Finding
-from lib.nearest import hint
-from lib.vocabulary import BODY, ELEMENTS, PARTS, PLACES, TOP_LEVEL, WITH_BODY
+from lib.messages.findings import Finding
+from lib.messages.nearest import hint
+from lib.messages.vocabulary import BODY, ELEMENTS, PARTS, PLACES, TOP_LEVEL, WITH_BODY
 
 NO_TEXT = (
     "stylesheet transform attribute-set apply-templates call-template choose import include strip-space "
@@ -15,7 +15,7 @@ def misplaced(_modules, _module, element):
     for test in (unknown, outside_its_place, in_selected, with_text, without_when):
         text = test(element)
         if text:
-            return Finding(text, element)
+            return Finding(text, element, at=element.text_place if test is with_text else None)
     return Finding(f"{element.name} may not be here", element)
 
 

@@ -4,9 +4,9 @@ from __future__ import annotations
 
 from dataclasses import dataclass
 
-from lib import xpath
+from lib.messages import xpath
 from lib.declarations import declared
-from lib.vocabulary import EXPRESSIONS, PATTERNS, TEMPLATES, XSLT, attributes_of
+from lib.messages.vocabulary import EXPRESSIONS, PATTERNS, TEMPLATES, XSLT, attributes_of
 
 LONGEST = 60
 
@@ -19,6 +19,9 @@ class Finding:
     element: object = None
     attribute: str | None = None
     place: int | None = None  # in the attribute's value
+    at: tuple | None = None  # the line and the column, of what is neither an element nor an attribute
+    question: str | None = None  # an expression: with its value in the run the finding says more
+    answer: object = None  # the finding, by that value
     cure: tuple = ("drop",)  # or ("without", attribute), ("with", attribute, value), ("stop",)
 
 
@@ -35,7 +38,7 @@ class Reading:
     def finding(self, text, place):
         """A fault of this attribute; with a harmless value the element is right."""
         harmless = {"expression": "''", "pattern": "*", "value template": ""}[self.kind]
-        return Finding(text, self.element, self.attribute, place, ("with", self.attribute, harmless))
+        return Finding(text, self.element, self.attribute, place, cure=("with", self.attribute, harmless))
 
 
 def kind_of(element, attribute):

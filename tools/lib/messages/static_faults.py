@@ -6,9 +6,9 @@ answers a finding, or None where it sees nothing.
 
 import re
 
-from lib.findings import Finding, expanded, readings, short, unknown_attributes
-from lib.nearest import hint
-from lib.vocabulary import ELEMENTS, FUNCTIONS, XSLT, attributes_of, required_of
+from lib.messages.findings import Finding, expanded, readings, short, unknown_attributes
+from lib.messages.nearest import hint
+from lib.messages.vocabulary import ELEMENTS, FUNCTIONS, NOT_HERE, XSLT, attributes_of, required_of
 
 GREATEST = 9_007_199_254_740_991
 NCNAME = r"[^\W\d][\w.\-\u00b7]*"
@@ -41,7 +41,8 @@ def unknown_function(_modules, _module, element):
     for reading in readings(element):
         for call in reading.content.calls:
             if call.name not in FUNCTIONS:
-                text = f"function {call.name} is not known{hint(call.name, FUNCTIONS)}"
+                what = f"is not known{hint(call.name, FUNCTIONS)}"
+                text = f"function {call.name} {'is of XSLT 1.0, and not supported here' if call.name in NOT_HERE else what}"
                 return reading.finding(text, call.place)
     return None
 
@@ -62,7 +63,7 @@ def bad_literal(_modules, _module, element):
     for reading in readings(element):
         for number, place in reading.content.numbers:
             if "." in number or int(number) > GREATEST:
-                what = "no whole number" if "." in number else f"past {GREATEST:,}"
+                what = "no whole number, and only those are supported" if "." in number else f"past {GREATEST:,}"
                 return reading.finding(f"number {number} is {what}", place)
     return None
 
@@ -92,10 +93,10 @@ def no_stylesheet(_modules, module, element):
 
 def unsupported(_modules, _module, element):
     if element.is_a("decimal-format"):
-        return Finding(f"{element.name} is not supported", element)
+        return Finding(f"{element.name} is of XSLT 1.0, and not supported here", element)
     for name, value in element.attributes:
         if name.rpartition(":")[2] == "version" and value != "1.0":
-            return Finding(f'version="{short(value)}" is not supported, 1.0 is', element, name, 0, ("with", name, "1.0"))
+            return Finding(f'version="{short(value)}" is not supported, 1.0 is', element, name, 0, cure=("with", name, "1.0"))
     return None
 
 
@@ -127,7 +128,7 @@ def unknown_attribute(_modules, _module, element):
     if not unknown:
         return None
     text = f"{element.name} has no attribute {unknown[0]}{hint(unknown[0], known)}"
-    return Finding(text, element, unknown[0], None, ("without", unknown[0]))
+    return Finding(text, element, unknown[0], None, cure=("without", unknown[0]))
 
 
 def bad_attribute(_modules, _module, element):
@@ -137,7 +138,7 @@ def bad_attribute(_modules, _module, element):
         if element.is_xslt and pattern and not pattern.fullmatch(value):
             # Whoever refers to a name that is bad would be reported besides.
             cure = ("without", name) if name in optional and name != "name" else ("stop",)
-            return Finding(f'{name}="{short(value)}" is {what}', element, name, 0, cure)
+            return Finding(f'{name}="{short(value)}" is {what}', element, name, 0, cure=cure)
     return None
 
 
@@ -163,7 +164,7 @@ def unbound_prefix(_modules, _module, element):
         if prefix not in element.spaces:
             text = f"prefix {prefix} is not bound{hint(prefix, filter(None, element.spaces))}"
             reading = next((each for each in readings(element) if each.attribute == attribute), None)
-            return reading.finding(text, place) if reading else Finding(text, element, attribute, place, ("without", attribute))
+            return reading.finding(text, place) if reading else Finding(text, element, attribute, place, cure=("without", attribute))
     return None
 
 
@@ -228,7 +229,7 @@ def unknown_template(modules, _module, element):
 
 def circular_set(_modules, _module, element):
     text = f"attribute set {element.get('name')} uses itself"
-    return Finding(text, element, "use-attribute-sets", 0, ("without", "use-attribute-sets"))
+    return Finding(text, element, "use-attribute-sets", 0, cure=("without", "use-attribute-sets"))
 
 
 def forbidden(_modules, _module, element):

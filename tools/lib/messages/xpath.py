@@ -12,6 +12,7 @@ TOKEN = re.compile(
 )
 SPACE = re.compile(r"[ \t\r\n]*")
 LEVELS = [{"or"}, {"and"}, {"=", "!="}, {"<", "<=", ">", ">="}, {"+", "-"}, {"*", "div", "mod"}]
+ARITHMETIC = 4  # the first level of it
 NODE_TYPES = {"comment", "text", "processing-instruction", "node"}
 AXES = set(
     "ancestor ancestor-or-self attribute child descendant descendant-or-self following following-sibling "
@@ -36,11 +37,15 @@ class Token:
 
 @dataclass
 class Call:
-    """A call of a function: its name, where it begins, and the number of its arguments."""
+    """A call of a function: its name, where it begins, and its arguments, each with its place."""
 
     name: str
     place: int
-    count: int = 0
+    arguments: list = field(default_factory=list)
+
+    @property
+    def count(self):
+        return len(self.arguments)
 
 
 @dataclass
@@ -50,7 +55,10 @@ class Expression:
     variables: list = field(default_factory=list)
     calls: list = field(default_factory=list)
     names: list = field(default_factory=list)  # of nodes
+    elements: list = field(default_factory=list)  # of these the names of elements, each with whether it is in a predicate
     numbers: list = field(default_factory=list)
+    operators: list = field(default_factory=list)  # of arithmetic
+    parts: list = field(default_factory=list)  # of a value template, each with whether it is an expression
     fault: NoExpression | None = None
 
 
@@ -71,7 +79,7 @@ def read_template(text):
     made, place = Expression(), 0
     try:
         while place < len(text):
-            pair = text[place : place + 2]
+            pair, begin = text[place : place + 2], place
             if pair in ("{{", "}}"):
                 place += 2
             elif pair[0] == "}":
@@ -80,6 +88,8 @@ def read_template(text):
                 place = Reader(text, place + 1, made).part()
             else:
                 place += 1
+            is_expression = pair[0] == "{" and pair != "{{"
+            made.parts.append((is_expression, text[begin + 1 : place - 1] if is_expression else pair[0]))
     except NoExpression as fault:
         made.fault = fault
     return made
@@ -89,7 +99,7 @@ class Reader:
     """Reads one expression by the grammar of XPath 1.0, from left to right."""
 
     def __init__(self, text, place, made):
-        self.text, self.made, self.end = text, made, place
+        self.text, self.made, self.end, self.depth = text, made, place, 0
         self.token = None
         self.step()
 
@@ -147,6 +157,8 @@ class Reader:
             return
         self.operators(level + 1)
         while self.token.kind in ("symbol", "name") and self.token.text in LEVELS[level]:
+            if level >= ARITHMETIC:
+                self.made.operators.append((self.token.text, self.token.place))
             self.step()
             self.operators(level + 1)
 
@@ -206,16 +218,19 @@ class Reader:
         self.step()
         self.take("(")
         while not self.is_symbol(")"):
-            if made.count:
+            if made.arguments:
                 self.take(",", ", or )")
+            begin = self.token.place
             self.operators(0)
-            made.count += 1
+            made.arguments.append((self.text[begin : self.token.place].rstrip(), begin))
         self.step()
 
     def predicates(self):
         while self.is_symbol("["):
             self.step()
+            self.depth += 1
             self.operators(0)
+            self.depth -= 1
             self.take("]")
 
     def begins_step(self):
@@ -231,17 +246,20 @@ class Reader:
         if self.is_symbol(".", ".."):
             self.step()
             return
+        axis = "child"
         if self.is_symbol("@"):
+            axis = "attribute"
             self.step()
         elif self.token.kind == "name" and self.next_is("::"):
-            if self.token.text not in AXES:
+            axis = self.token.text
+            if axis not in AXES:
                 self.stop("an axis")
             self.step()
             self.step()
-        self.node_test()
+        self.node_test(axis not in ("attribute", "namespace"))
         self.predicates()
 
-    def node_test(self):
+    def node_test(self, is_element):
         token = self.token
         if token.kind != "name" and not self.is_symbol("*"):
             self.stop("a step" if self.begins_step() else "an expression")
@@ -253,3 +271,4 @@ class Reader:
             self.take(")")
         elif token.kind == "name":
             self.made.names.append((token.text, token.place))
+            self.made.elements += [(token.text, token.place, self.depth > 0)] if is_element else []

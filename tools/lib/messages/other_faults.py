@@ -1,6 +1,6 @@
 """Finds out what the faults of reading modules and of a run are about."""
 
-from lib.findings import Finding, short
+from lib.messages.findings import Finding, short
 
 
 def circular_module(_modules, _module, element):
