@@ -7,6 +7,7 @@ pub mod GrammarLemmas
 pub mod InvariantLemmas
 pub mod LineAgreementLemmas
 pub mod NameLemmas
+pub mod NameSetLemmas
 pub mod NamespaceNodeLemmas
 pub mod NodeRunLemmas
 pub mod OpenElementLemmas

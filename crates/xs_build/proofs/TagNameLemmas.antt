@@ -32,15 +32,28 @@ same_either_way a b =
     ap (λ x. x && bytes_eq a.uri b.uri) (same_bytes a.local b.local) ∙ ap (λ x. bytes_eq b.local a.local && x) (same_bytes a.uri b.uri)
     ∙ same_either_order b a
 
-any_either_way : (name : Expanded) (xs : List Expanded) → list_any (λ x. is_same x name) xs ≡ list_any (same_name name) xs
+pub any_either_way : (name : Expanded) (xs : List Expanded) → list_any (λ x. is_same x name) xs ≡ list_any (same_name name) xs
 any_either_way name [] = refl
 any_either_way name (x ∷ xs) =
     ap (λ b. b || list_any (λ x. is_same x name) xs) (same_either_way x name) ∙ ap (λ b. same_name name x || b) (any_either_way name xs)
 
-any_either_order : (name : Expanded) (xs : List Expanded) → list_any (is_same name) xs ≡ list_any (same_name name) xs
-any_either_order name [] = refl
-any_either_order name (x ∷ xs) =
-    ap (λ b. b || list_any (is_same name) xs) (same_either_order name x) ∙ ap (λ b. same_name name x || b) (any_either_order name xs)
+-- two names that are the same by their bytes are equal
+pub from_same_name : (a b : Expanded) → same_name a b ≡ true → a ≡ b
+from_same_name a b e = by_parts a b ((bytes_eq-Decides a.local b.local).0 (and_first _ _ (same_either_order a b ∙ e)))
+    ((bytes_eq-Decides a.uri b.uri).0 (and_second _ _ (same_either_order a b ∙ e)))
+  where
+    and_first : (p q : Bool) → (p && q) ≡ true → p ≡ true
+    and_first true q h = refl
+    and_first false q h = h
+
+    and_second : (p q : Bool) → (p && q) ≡ true → q ≡ true
+    and_second true q h = h
+    and_second false q h = cc
+
+    by_parts : (x y : Expanded) → x.local ≡ y.local → x.uri ≡ y.uri → x ≡ y
+    by_parts x y l u =
+        ap (λ (t : List ℕ). let r : Expanded = record { local = t; uri = x.uri } in r) l
+        ∙ ap (λ (t : List ℕ). let r : Expanded = record { local = y.local; uri = t } in r) u
 
 -- the names of a tag, and whether one of the first few is this one
 module _ (few others names : List Expanded) (name : Expanded) (found : Bool) (view : few ++ others ≡ names)
@@ -53,10 +66,10 @@ module _ (few others names : List Expanded) (name : Expanded) (found : Bool) (vi
   pub found_in_few : found ≡ true → false ≡ not (list_any (same_name name) names)
   found_in_few is_so = ap (λ b. not (b || list_any (same_name name) others)) (sym is_so) ∙ ap not found_among
 
-  pub found_in_others : (is_new : Bool) → found ≡ false → is_new ≡ not (list_any (is_same name) others)
+  pub found_in_others : (is_new : Bool) → found ≡ false → is_new ≡ not (list_any (same_name name) others)
       → is_new ≡ not (list_any (same_name name) names)
-  found_in_others is_new is_not is = is ∙ ap not (any_either_order name others)
+  found_in_others is_new is_not is = is
       ∙ ap (λ b. not (b || list_any (same_name name) others)) (sym is_not) ∙ ap not found_among
 
   pub found_nowhere : found ≡ false → others ≡ [] → true ≡ not (list_any (same_name name) names)
-  found_nowhere is_not none = found_in_others true is_not (ap (λ xs. not (list_any (is_same name) xs)) (sym none))
+  found_nowhere is_not none = found_in_others true is_not (ap (λ xs. not (list_any (same_name name) xs)) (sym none))

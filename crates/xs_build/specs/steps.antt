@@ -3,6 +3,7 @@
 pub mod Invariant
 pub mod Known
 pub mod Lines
+pub mod NameSets
 pub mod Names
 pub mod Rest
 pub mod State

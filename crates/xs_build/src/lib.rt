@@ -11,6 +11,7 @@ pub mod fault;
 mod known;
 pub mod laws;
 mod local_part;
+mod name_set;
 mod nodes;
 mod opened;
 mod pending_text;

@@ -1,14 +1,14 @@
 //! Local parts of names, in the bytes of the document.
 
-ghost use Rattle.std.specs.Prelude.{◌≡◌};
+ghost use Rattle.std.specs.Prelude.{◌≡◌, Some};
 ghost use Rattle.std.specs.Cmp;
-ghost use Rattle.std.specs.Cmp.Lexicographic.{nat_list_eq_equiv};
-ghost use Rattle.std.specs.Hash as fed;
-ghost use Rattle.std.specs.Cmp.Rules.{hashing};
-ghost use Rattle.std.proofs.Common.{rules};
-ghost use Rattle.xs_tree.specs.Names.{same_text};
+ghost use Rattle.std.specs.Cmp.{on_equiv, on_per};
+ghost use Rattle.std.specs.Cmp.Lexicographic.{nat_list_eq_equiv, nat_list_cmp_total, texts_ties};
+ghost use Rattle.std.specs.Cmp.Lexicographic.{texts_po};
+ghost use Rattle.std.proofs.Common.{refl};
+ghost use Rattle.xs_tree.specs.Names.{same_text, order_of_texts};
 
-use std::hash::{Hash, Hasher};
+use std::cmp::Ordering;
 use std::marker::Model;
 
 /// The local part of a name (Namespaces in XML 1.0, 4). Contracts see it as its bytes.
@@ -34,7 +34,7 @@ impl<'a> LocalPart<'a> {
     }
 
     /// The characters.
-    fn as_str(&self) -> &str
+    pub fn as_str(&self) -> &'a str
         ensures { result.now ≡ self.now }
     {
         self.text
@@ -55,12 +55,26 @@ impl<'a> Eq for LocalPart<'a> {
     ghost laws = { nat_list_eq_equiv };
 }
 
-impl<'a> Hash for LocalPart<'a> {
-    ghost hash_input = { fed.str };
+impl<'a> PartialOrd for LocalPart<'a> {
+    ghost partial_cmp = { λ a b. Some (order_of_texts a b) };
 
-    ghost respects_eq = { Prim.search (hashing, rules) };
+    ghost laws = { texts_po };
 
-    fn hash<H: Hasher>(&self, state: &mut H) {
-        self.as_str().hash(state);
+    fn partial_cmp(&self, other: &Self) -> Option<Ordering> {
+        Some(self.cmp(other))
+    }
+}
+
+impl<'a> Ord for LocalPart<'a> {
+    ghost cmp = { order_of_texts };
+
+    ghost total = { nat_list_cmp_total };
+
+    ghost matches_partial_cmp = { λ a b. refl };
+
+    ghost matches_eq = { texts_ties };
+
+    fn cmp(&self, other: &Self) -> Ordering {
+        self.as_str().cmp(other.as_str())
     }
 }

@@ -3,20 +3,30 @@
 ghost use Rattle.std.specs.Prelude.{◌≡◌, [], ◌∷◌, ◌++◌, not, true, IfOk};
 ghost use Rattle.std.specs.List.{list_any};
 ghost use Rattle.xs_build.specs.steps.Lines.{same_name};
+ghost use Rattle.xs_build.specs.steps.NameSets.{key_of};
 
 use crate::local_part::LocalPart;
-use indexmap::IndexSet;
+use crate::name_set::NameSet;
 use std::alloc::{AllocError, Global};
 use std::marker::Model;
 use xs_tree::NameText;
 
 /// A namespace URI, empty for none, and a local part (Namespaces in XML 1.0, 2.1).
-#[derive(Drop, Debug, PartialEq, Eq, Hash)]
+#[derive(Drop, Debug, PartialEq, Eq)]
 pub struct Expanded<'a> {
     /// The local part, which is compared first.
     pub local: LocalPart<'a>,
     /// The namespace URI, empty for none.
     pub uri: NameText,
+}
+
+impl<'a> Expanded<'a> {
+    /// What names are sorted by: the local part and then the URI, in memory of its own.
+    pub fn key(&self) -> Result<(LocalPart<'a>, NameText), AllocError>
+        ensures { IfOk result (λ key. key ≡ key_of self.now) }
+    {
+        Ok((LocalPart::of(self.local.as_str()), self.uri.copy()?))
+    }
 }
 
 /// The most names that are compared one by one.
@@ -27,7 +37,7 @@ const FEW: usize = 8;
 #[derive(Drop)]
 pub struct TagNames<'a> {
     few: Vec<Expanded<'a>>,
-    others: IndexSet<Expanded<'a>>,
+    others: NameSet<'a>,
 }
 
 impl<'a> Model for TagNames<'a> {
@@ -36,7 +46,7 @@ impl<'a> Model for TagNames<'a> {
 
     ghost Value = { List Expanded };
 
-    ghost view = { λ t. t.few.items ++ t.others.keys };
+    ghost view = { λ t. t.few.items ++ t.others };
 }
 
 impl<'a> TagNames<'a> {
@@ -46,7 +56,7 @@ impl<'a> TagNames<'a> {
     {
         TagNames {
             few: Vec::new(alloc),
-            others: IndexSet::new(alloc),
+            others: NameSet::new(alloc),
         }
     }
 
@@ -64,7 +74,7 @@ impl<'a> TagNames<'a> {
             self.few.push(name)?;
             return Ok(true);
         }
-        Ok(self.others.insert(name)?)
+        self.others.insert(name)
     }
 
     /// Forgets all names. The memory of a few is kept, so that a start tag of many names costs no
@@ -74,7 +84,7 @@ impl<'a> TagNames<'a> {
     {
         self.few.clear();
         if !self.others.is_empty() {
-            let _many = std::mem::replace(&mut self.others, IndexSet::new(alloc));
+            let _many = std::mem::replace(&mut self.others, NameSet::new(alloc));
         }
     }
 }

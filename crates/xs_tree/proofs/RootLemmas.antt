@@ -141,6 +141,12 @@ same-inside rs n e k t ends a b =
     (root_of-same rs (root_of rs n) k a (λ j x y. inside-no_root rs (root_of rs n) j t (omega (arith, y, b, ends.within))
     (ends.inside j x (omega (arith, y, b)))) ∙ root_of-root rs (root_of rs n) (root_of-kind rs n t)))
 
+-- what is inside a root has that root
+pub root_of-inside : (rs : List Record) (r e k : ℕ) → IsTree rs → (at rs r).kind ≡ Root → EndsAt rs r e → r ≤ k → k < e → root_of rs k ≡ r
+root_of-inside rs r e k t root ends a b =
+    root_of-same rs r k a (λ j x y. inside-no_root rs r j t (omega (arith, y, b, ends.within)) (ends.inside j x (omega (arith, y, b))))
+    ∙ root_of-root rs r root
+
 -- the node after all that is inside a root is a root
 pub end-root : (rs : List Record) (r e : ℕ) → IsTree rs → r < length rs → (at rs r).kind ≡ Root → EndsAt rs r e → e < length rs → (at rs e).kind ≡ Root
 end-root rs r e t h root ends w = by_parent (at rs e).parent refl

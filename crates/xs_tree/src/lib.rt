@@ -5,6 +5,7 @@ mod axes;
 mod closing;
 mod compaction;
 mod entries;
+mod input_hashes;
 mod kinds;
 pub mod laws;
 mod names;
@@ -14,6 +15,7 @@ mod table;
 mod trees;
 
 pub use axes::Axis;
+pub use input_hashes::InputHashes;
 pub use kinds::Kind;
 pub use names::{Name, NameText};
 pub use nodes::{Node, is_flagged};

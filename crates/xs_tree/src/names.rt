@@ -5,15 +5,12 @@ ghost use Rattle.std.specs.Cmp;
 ghost use Rattle.std.specs.Cmp.{on_equiv, on_per};
 ghost use Rattle.std.specs.Cmp.Lexicographic.{nat_list_eq_equiv, nat_list_cmp_total, texts_ties};
 ghost use Rattle.std.specs.Cmp.Lexicographic.{texts_po};
-ghost use Rattle.std.specs.Hash as fed;
-ghost use Rattle.std.specs.Cmp.Rules.{hashing};
-ghost use Rattle.std.proofs.Common.{rules, refl};
+ghost use Rattle.std.proofs.Common.{refl};
 ghost use Rattle.xs_tree.specs.Names.{same_text, order_of_texts};
 ghost use Rattle.xs_tree.specs.Shape.{IsLocalName};
 
 use std::alloc::{AllocError, Global};
 use std::cmp::Ordering;
-use std::hash::{Hash, Hasher};
 use std::marker::Model;
 
 /// A part of a name: a prefix, a local part or a namespace URI.
@@ -107,18 +104,8 @@ impl Ord for NameText {
     }
 }
 
-impl Hash for NameText {
-    ghost hash_input = { fed.str };
-
-    ghost respects_eq = { Prim.search (hashing, rules) };
-
-    fn hash<H: Hasher>(&self, state: &mut H) {
-        self.as_str().hash(state);
-    }
-}
-
 /// An expanded name with the prefix that it was written with (Namespaces in XML 1.0, 2.1 and 4).
-#[derive(Drop, Debug, PartialEq, Eq, Hash)]
+#[derive(Drop, Debug, PartialEq, Eq, PartialOrd, Ord)]
 pub struct Name {
     /// The namespace URI, empty for none.
     pub uri: NameText,
@@ -134,5 +121,16 @@ impl Name {
         ensures { IsTrue result ↔ IsLocalName self.now }
     {
         self.uri.as_str().is_empty() && self.prefix.as_str().is_empty()
+    }
+
+    /// The same name in memory of its own.
+    pub fn copy(&self) -> Result<Name, AllocError>
+        ensures value { IfOk result (λ name. name ≡ self.now) }
+    {
+        Ok(Name {
+            uri: self.uri.copy()?,
+            local: self.local.copy()?,
+            prefix: self.prefix.copy()?,
+        })
     }
 }

@@ -8,14 +8,19 @@ use crate::nodes::Node;
 
 impl Tree {
     /// The root of the document that a node is in (XPath 1.0, 5.1).
+    ///
+    /// Goes from one document's end to the next, and takes constant time for each document before
+    /// the node's.
     pub fn root_of(&self, n: Node) -> Node
         requires { n < length self.now }
         ensures root { result ≡ root_of self.now n }
         ensures before { result ≤ n }
     {
-        let mut root = n;
-        while let Some(parent) = self.parent(root) {
-            root = parent;
+        let mut root = Node::root();
+        let mut end = self.subtree_end(root);
+        while end <= n.place() {
+            root = Node::at(end);
+            end = self.subtree_end(root);
         }
         root
     }

@@ -9,6 +9,7 @@ ghost use Rattle.xs_tree.specs.Shape.{EndsAt, HasParentFrom, IsTree};
 ghost use Rattle.xs_tree.specs.Utf8.{AreUtf8};
 
 use super::Tree;
+use crate::input_hashes::InputHashes;
 use crate::kinds::Kind;
 use crate::names::Name;
 use crate::nodes::Node;
@@ -28,6 +29,16 @@ impl Tree {
         ensures { AreUtf8 self.now }
     {
         let _nodes = &self.nodes;
+    }
+
+    /// Hashes for tables whose keys come from this tree: who wrote its documents cannot choose them.
+    ///
+    /// Takes time linear in the texts and names of the tree.
+    pub fn hashes(&self) -> InputHashes {
+        let mut hashes = InputHashes::new();
+        hashes.take_in(self.store.text.as_str());
+        self.store.names.take_in(&mut hashes);
+        hashes
     }
 
     /// The kind of a node.

@@ -1,10 +1,12 @@
-use Rattle.std.proofs.Common.{◌≡◌, ◌≤◌}
-use Rattle.xs_tree.specs.Axis.{root_of}
+use Rattle.std.proofs.Common.{◌≡◌, ◌-◌, ◌≤◌, length}
+use Rattle.xs_tree.specs.declared.kinds.Kind.TheVariants.{Root}
+use Rattle.xs_tree.specs.Record.{at}
+use Rattle.xs_tree.specs.Shape.{EndsAt, IsTree}
 use Rattle.xs_tree.proofs.trees.Tree.root_of.Given as goal
 
--- the ancestors passed are in one document
-abbrev pub invariant-loop-parent : goal.invariant-loop-parent
-invariant-loop-parent l = (l.root ≤ l.fn.n) × (root_of l.self l.fn.n ≡ root_of l.self l.root)
+-- a root that is not after the node, and where its document ends
+abbrev pub invariant-loop-end : goal.invariant-loop-end
+invariant-loop-end l = (l.root ≤ l.fn.n) × ((at l.self l.root).kind ≡ Root) × EndsAt l.self l.root l.end × IsTree l.self
 
-abbrev pub decreases-loop-parent : goal.decreases-loop-parent
-decreases-loop-parent l = l.root
+abbrev pub decreases-loop-end : goal.decreases-loop-end
+decreases-loop-end l = length l.self - l.end

@@ -1,5 +1,5 @@
 -- The store grows before the entry is kept, which leaves the records as they were.
-use Rattle.std.proofs.Common.{arith, refl, length, ◌≡◌, ◌<◌, ap, ◌∙◌, OnErr, Ok, Err, Some, slice_get}
+use Rattle.std.proofs.Common.{arith, refl, length, ◌≡◌, ◌<◌, ap, ◌∙◌, OnErr, Ok, Err, Some}
 use Rattle.std.specs.Prelude.{Result}
 use Rattle.xs_tree.specs.Store.{name_at}
 use Rattle.xs_tree.specs.declared.trees.Tree.TheInside.{Inside}

@@ -1,5 +1,5 @@
 -- The store grows by a text before the entry is kept, and the new entry has the name of the other one.
-use Rattle.std.proofs.Common.{arith, refl, length, subst, sym, ◌≡◌, ◌<◌, ap, ◌∙◌, OnErr, Ok, Err, Some, slice_get}
+use Rattle.std.proofs.Common.{arith, refl, length, subst, sym, ◌≡◌, ◌<◌, ap, ◌∙◌, OnErr, Ok, Err, Some}
 use Rattle.std.proofs.lemmas.Option.{slice_get_read}
 use Rattle.std.specs.Prelude.{Result}
 use Rattle.xs_tree.specs.Store.{name_at}
