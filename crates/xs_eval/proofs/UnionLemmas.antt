@@ -14,7 +14,7 @@ use Rattle.xs_value.proofs.NodeSetLemmas.{in_order-list, in_order-same, nil-cont
 use Rattle.xs_xpath.specs.declared.expr.Expr.{Expr}
 use Rattle.xs_xpath.specs.declared.name.NodeTest.{NodeTest}
 use Rattle.xs_xpath.specs.declared.token.Operator.{Operator}
-use Rattle.xs_xpath.specs.declared.token.Operator.TheVariants.{Or, And, Equal, Unequal, Less, LessEqual, Greater, GreaterEqual, Plus, Minus, Times, Div, Mod, Union}
+use Rattle.xs_xpath.specs.declared.token.Operator.TheVariants.{Or, And, Equal, Unequal, Less, LessEqual, Greater, GreaterEqual, Plus, Minus, Times, Div, FloorDiv, CeilingDiv, NearestDiv, Mod, Union}
 use Rattle.xs_xpath.specs.Exprs.{tree_from, trees_from}
 use Rattle.xs_xpath.specs.Patterns.{are_unions, is_union}
 use Rattle.xs_xpath.specs.Tree as syntax
@@ -269,6 +269,9 @@ union_is Plus h = absurd (cc)
 union_is Minus h = absurd (cc)
 union_is Times h = absurd (cc)
 union_is Div h = absurd (cc)
+union_is FloorDiv h = absurd (cc)
+union_is CeilingDiv h = absurd (cc)
+union_is NearestDiv h = absurd (cc)
 union_is Mod h = absurd (cc)
 union_is Union h = refl
 

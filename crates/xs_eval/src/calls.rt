@@ -136,7 +136,8 @@ fn number(alloc: Global, context: &Context<'_>, values: &[Operand<'_>]) -> Resul
     Ok(Value::Number(number_or_node(alloc, context, values)?))
 }
 
-// `floor`, `ceiling` and `round`, since each number is whole.
+// `floor`, `ceiling` and `round`, since each number is whole; a quotient that is all of the
+// argument was rounded.
 fn whole(alloc: Global, tree: &Tree, values: &[Operand<'_>]) -> Result<Value, Trouble>
     requires { All (IsIn tree.now) values.now }
     ensures value { Answers (number tree.now (first values.now)) result }

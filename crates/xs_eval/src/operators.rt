@@ -13,6 +13,7 @@ use std::alloc::Global;
 use xs_eval_spec::trouble::Trouble;
 use xs_num::arithmetic::{add, div, mul, neg, rem, sub};
 use xs_num::number::{Num, NumFault};
+use xs_num::quotients::{div_ceiling, div_floor, div_nearest};
 use xs_trace::fault::Fault;
 use xs_tree::Tree;
 use xs_value::comparison::CompareOp;
@@ -37,6 +38,9 @@ pub(crate) fn decided(operator: Operator, left: &Operand<'_>) -> Option<bool>
         Operator::Minus => None,
         Operator::Times => None,
         Operator::Div => None,
+        Operator::FloorDiv => None,
+        Operator::CeilingDiv => None,
+        Operator::NearestDiv => None,
         Operator::Mod => None,
         Operator::Union => None,
     }
@@ -80,6 +84,18 @@ pub(crate) fn operate(
         Operator::Div => {
             let (a, b) = numbers(alloc, tree, left, right)?;
             as_value(div(a, b))
+        }
+        Operator::FloorDiv => {
+            let (a, b) = numbers(alloc, tree, left, right)?;
+            as_value(div_floor(a, b))
+        }
+        Operator::CeilingDiv => {
+            let (a, b) = numbers(alloc, tree, left, right)?;
+            as_value(div_ceiling(a, b))
+        }
+        Operator::NearestDiv => {
+            let (a, b) = numbers(alloc, tree, left, right)?;
+            as_value(div_nearest(a, b))
         }
         Operator::Mod => {
             let (a, b) = numbers(alloc, tree, left, right)?;

@@ -97,7 +97,7 @@ string_length text = do
 
 -- 4.4
 
--- `number`, and as well `floor`, `ceiling` and `round`, since each number is whole
+-- `number`, and as well `floor`, `ceiling` and `round`, since each number is whole: a quotient that is their argument was rounded
 abbrev pub number : List Record → Value → Outcome Value
 number rs v = do
   n ← numeric (number_value rs v)

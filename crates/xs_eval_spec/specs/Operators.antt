@@ -1,6 +1,7 @@
 -- The operators (XPath 1.0, 3.3 to 3.5), on values.
 use Rattle.std.specs.Prelude.{ℕ, zero, suc, Bool, true, false, List, Option, Some, None, Result, Ok, if◌then◌else◌}
 use Rattle.xs_num.specs.Number.{sum_of, difference_of, product_of, quotient_of, remainder_of, negated}
+use Rattle.xs_num.specs.Quotients.{floored_quotient, ceiled_quotient, nearest_quotient}
 use Rattle.xs_num.specs.declared.number.Number.{Number}
 use Rattle.xs_num.specs.declared.number.NumFault.{NumFault}
 use Rattle.xs_tree.specs.Record.{Record}
@@ -12,7 +13,7 @@ use Rattle.xs_value.specs.Comparison.{compared}
 use Rattle.xs_value.specs.Conversion.{bool_value, number_value}
 use Rattle.xs_value.specs.NodeSet.{union_of}
 use Rattle.xs_xpath.specs.declared.token.Operator.{Operator}
-use Rattle.xs_xpath.specs.declared.token.Operator.TheVariants.{Or, And, Equal, Unequal, Less, LessEqual, Greater, GreaterEqual, Plus, Minus, Times, Div, Mod, Union}
+use Rattle.xs_xpath.specs.declared.token.Operator.TheVariants.{Or, And, Equal, Unequal, Less, LessEqual, Greater, GreaterEqual, Plus, Minus, Times, Div, FloorDiv, CeilingDiv, NearestDiv, Mod, Union}
 use Rattle.xs_eval_spec.specs.Results.{Outcome, ◌>>=◌, numeric, nodes_in}
 
 -- both operands are converted to numbers, the left one first (3.5)
@@ -65,6 +66,10 @@ operated Plus rs left right = computed sum_of rs left right
 operated Minus rs left right = computed difference_of rs left right
 operated Times rs left right = computed product_of rs left right
 operated Div rs left right = computed quotient_of rs left right
+-- in `floor`, `ceiling` and `round` of a quotient (4.4)
+operated FloorDiv rs left right = computed floored_quotient rs left right
+operated CeilingDiv rs left right = computed ceiled_quotient rs left right
+operated NearestDiv rs left right = computed nearest_quotient rs left right
 operated Mod rs left right = computed remainder_of rs left right
 operated Union rs left right = union left right
 

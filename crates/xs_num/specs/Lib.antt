@@ -1,3 +1,4 @@
 pub mod Range
 pub mod Number
+pub mod Quotients
 pub mod Text

@@ -24,10 +24,14 @@ abbrev pub product_of : Number → Number → Result Number NumFault
 product_of (Whole a) (Whole b) = bounded (a *ℤ b)
 product_of _ _ = Ok NaN
 
--- `div`: the exact quotient. 0 over 0 is NaN, and any other number over 0 is infinite.
+-- a quotient over 0: of 0 NaN, of any other number infinite
+abbrev pub over_zero : ℤ → Result Number NumFault
+over_zero a = if int_eq a (pos 0) then Ok NaN else Err Range
+
+-- `div`: the exact quotient, which has to be whole
 abbrev pub quotient_of : Number → Number → Result Number NumFault
 quotient_of (Whole a) (Whole b) =
-    if int_eq b (pos 0) then (if int_eq a (pos 0) then Ok NaN else Err Range)
+    if int_eq b (pos 0) then over_zero a
     else (if int_eq (int_rem a b) (pos 0) then Ok (Whole (int_div a b)) else Err Fraction)
 quotient_of _ _ = Ok NaN
 

@@ -7,8 +7,12 @@ use Rattle.xs_num.specs.declared.number.Number.TheVariants.{Whole, NaN}
 abbrev pub greatest : ℕ
 greatest = 9007199254740991
 
+-- of a magnitude of at most n
+abbrev pub IsWithin : ℕ → ℤ → Type 0
+IsWithin n z = (neg_ℤ (pos n) ≤ℤ z) × (z ≤ℤ pos n)
+
 abbrev pub IsInRange : ℤ → Type 0
-IsInRange z = (neg_ℤ (pos greatest) ≤ℤ z) × (z ≤ℤ pos greatest)
+IsInRange z = IsWithin greatest z
 
 -- the same, as a test
 abbrev pub is_in_range : ℤ → Bool

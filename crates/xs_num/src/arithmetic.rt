@@ -3,7 +3,7 @@
 ghost use Rattle.std.specs.Prelude.{◌≡◌};
 ghost use Rattle.xs_num.specs.Range.{IsInRange};
 ghost use Rattle.xs_num.specs.Number.{sum_of, difference_of, product_of, quotient_of, remainder_of};
-ghost use Rattle.xs_num.specs.Number.{negated, comparison_of};
+ghost use Rattle.xs_num.specs.Number.{negated, comparison_of, over_zero};
 
 use crate::number::{Num, NumFault, Number};
 use std::cmp::Ordering;
@@ -58,16 +58,23 @@ fn quotient(x: i64, y: i64) -> Result<Num, NumFault>
     ensures { result ≡ quotient_of (Number.Whole x) (Number.Whole y) }
 {
     if y == 0 {
-        return if x == 0 {
-            Ok(Num::NAN)
-        } else {
-            Err(NumFault::Range)
-        };
+        return over_zero(x);
     }
     if x % y == 0 {
         Ok(Num::whole(x / y))
     } else {
         Err(NumFault::Fraction)
+    }
+}
+
+/// A quotient over 0: NaN of 0, and `NumFault::Range` of any other number.
+pub(crate) fn over_zero(x: i64) -> Result<Num, NumFault>
+    ensures { result ≡ over_zero x }
+{
+    if x == 0 {
+        Ok(Num::NAN)
+    } else {
+        Err(NumFault::Range)
     }
 }
 

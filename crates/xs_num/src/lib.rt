@@ -3,5 +3,6 @@
 
 pub mod arithmetic;
 pub mod number;
+pub mod quotients;
 pub mod reading;
 pub mod writing;

@@ -8,7 +8,8 @@ use Rattle.xs_xpath.specs.declared.name.Function.{Function}
 use Rattle.xs_xpath.specs.declared.name.NodeTest.{NodeTest}
 use Rattle.xs_xpath.specs.declared.name.NodeTest.TheVariants.{Node}
 use Rattle.xs_xpath.specs.declared.token.Operator.{Operator}
-use Rattle.xs_xpath.specs.Tree.{Tree, call, negative, group, here, root, step, descend, path, trees, atom_tree, chained, filtered, followed}
+use Rattle.xs_xpath.specs.Quotients.{called}
+use Rattle.xs_xpath.specs.Tree.{Tree, negative, group, here, root, step, descend, path, trees, atom_tree, chained, filtered, followed}
 use Rattle.xs_parser.specs.declared.token.Token.{Token}
 use Rattle.xs_parser.specs.declared.token.Token.TheVariants.{Round, Call, EndRound, Square, EndSquare, Comma, Slash, Slashes, Negate, Infix, OnAxis, Test, Dots, Atom as AtomToken}
 use Rattle.xs_parser.specs.Tokens.{rank, expr_level}
@@ -301,7 +302,7 @@ arguments-last k [] e (part ∷ parts) h = rw h refl
 arguments-last k (a ∷ es) e parts h = rw h refl
 
 made-arguments : (k : Tree → Tree) (function : Function) (ts us : List Token) (es : List Tree) (e : Tree) → MadeCommas k ts es → Made k expr_level us e
-    → MadePrimary k (Call function ∷ ts ++ us ++ EndRound ∷ []) (call function (trees (es ++ k e ∷ [])))
+    → MadePrimary k (Call function ∷ ts ++ us ++ EndRound ∷ []) (called function (es ++ k e ∷ []))
 unfolding read
 made-arguments k function ts us es e c m frames front rest =
     ap (λ all. read (expr k) all (state (frame (arguments_of function []) front ∷ frames) []))
@@ -320,7 +321,7 @@ made-comma k ts us es e c m function before frames rest =
     ∙ m.reads (frame (arguments_of function es) before ∷ frames) [] (Comma ∷ rest)
     ∙ rw m.gives refl
 
-made-no-arguments : (k : Tree → Tree) (function : Function) → MadePrimary k (Call function ∷ EndRound ∷ []) (call function (trees []))
+made-no-arguments : (k : Tree → Tree) (function : Function) → MadePrimary k (Call function ∷ EndRound ∷ []) (called function [])
 unfolding read
 made-no-arguments k function frames front rest = refl
 

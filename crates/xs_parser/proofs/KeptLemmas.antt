@@ -3,7 +3,8 @@ use Rattle.std.proofs.Common.{◌≡◌, ℕ, suc, List, [], ◌∷◌, ◌++◌
 use Rattle.xs_xpath.specs.declared.token.Operator.{Operator}
 use Rattle.xs_tree.specs.declared.axes.Axis.TheVariants.{Child}
 use Rattle.xs_xpath.specs.declared.name.NodeTest.TheVariants.{Node}
-use Rattle.xs_xpath.specs.Tree.{Tree, call, negative, group, here, root, step, descend, path, trees, atom_tree, chained, filtered, followed}
+use Rattle.xs_xpath.specs.Quotients.{called}
+use Rattle.xs_xpath.specs.Tree.{Tree, negative, group, here, root, step, descend, path, trees, atom_tree, chained, filtered, followed}
 use Rattle.xs_parser.specs.declared.token.Token.{Token}
 use Rattle.xs_parser.specs.Tokens.{expr_level}
 use Rattle.xs_parser.specs.Grammar.{Spells, operands, signs, relative, only_root, absolute, anywhere, primary, Links, no_links, link, Steps, child_step, axis_step, dotted_step, Behind, nothing, a_predicate, next_step, next_anywhere, Primary, one_token, in_brackets, no_arguments, arguments, Commas, no_commas, argument}
@@ -59,11 +60,11 @@ mutual
   primary_again : (k l : Tree → Tree) (ts : List Token) (e : Tree) → Primary k ts e → (f : Tree) × Primary l ts f
   primary_again k l _ _ (one_token atom) = (atom_tree atom, one_token atom)
   primary_again k l _ _ (in_brackets ts e h) = let a = again k l expr_level ts e h in (group (l a.0), in_brackets ts a.0 a.1)
-  primary_again k l _ _ (no_arguments name) = (call name (trees []), no_arguments name)
+  primary_again k l _ _ (no_arguments name) = (called name [], no_arguments name)
   primary_again k l _ _ (arguments name ts us es e h m) =
       let a = commas_again k l ts es h in
       let b = again k l expr_level us e m in
-      (call name (trees (a.0 ++ l b.0 ∷ [])), arguments name ts us a.0 b.0 a.1 b.1)
+      (called name (a.0 ++ l b.0 ∷ []), arguments name ts us a.0 b.0 a.1 b.1)
 
   commas_again : (k l : Tree → Tree) (ts : List Token) (es : List Tree) → Commas k ts es → (fs : List Tree) × Commas l ts fs
   commas_again k l _ _ no_commas = ([], no_commas)

@@ -2,7 +2,8 @@
 use Rattle.std.proofs.Common.{◌≡◌, List, [], ◌∷◌, ◌++◌, Option, Some, option_map, refl, sym, ◌∙◌, ap, subst, append_assoc}
 use Rattle.std.proofs.lemmas.List.{append-nil}
 use Rattle.xs_xpath.specs.declared.name.Function.{Function}
-use Rattle.xs_xpath.specs.Tree.{Tree, call, group, trees, atom_tree}
+use Rattle.xs_xpath.specs.Quotients.{called}
+use Rattle.xs_xpath.specs.Tree.{Tree, group, atom_tree}
 use Rattle.xs_parser.specs.declared.token.Token.{Token}
 use Rattle.xs_parser.specs.declared.token.Token.TheVariants.{Round, Call, EndRound, Square, EndSquare, Comma, Slash, Slashes, Negate, Infix, OnAxis, Test, Dots, Atom as AtomToken}
 use Rattle.xs_parser.specs.Tokens.{expr_level}
@@ -64,20 +65,20 @@ no-commas k _ _ (argument ts us es e c l) h = absurd (nil-snoc es (k e) h)
 
 last-sound : (k : Tree → Tree) (function : Function) (es : List Tree) (parts : List Part) (all : List Tree) (us ws : List Token)
     → option_map (λ e. es ++ e ∷ []) (expr k parts) ≡ Some all → Commas k us es → Stands k ws parts
-    → Primary k (Call function ∷ us ++ ws ++ EndRound ∷ []) (call function (trees all))
+    → Primary k (Call function ∷ us ++ ws ++ EndRound ∷ []) (called function all)
 last-sound k function es parts all us ws h c s =
     let m = map-some (λ (e : Tree). es ++ e ∷ []) (expr k parts) all h in
     let f = expr-sound k parts m.0 ws m.1 s in
-    subst (λ xs. Primary k (Call function ∷ us ++ ws ++ EndRound ∷ []) (call function (trees xs))) m.2
-    (subst (λ e. Primary k (Call function ∷ us ++ ws ++ EndRound ∷ []) (call function (trees (es ++ e ∷ [])))) f.2 (arguments function us ws es f.0 c f.1))
+    subst (λ xs. Primary k (Call function ∷ us ++ ws ++ EndRound ∷ []) (called function xs)) m.2
+    (subst (λ e. Primary k (Call function ∷ us ++ ws ++ EndRound ∷ []) (called function (es ++ e ∷ []))) f.2 (arguments function us ws es f.0 c f.1))
 
 arguments-sound : (k : Tree → Tree) (function : Function) (es : List Tree) (parts : List Part) (all : List Tree) (us ws : List Token)
     → all_arguments (expr k) es parts ≡ Some all → Commas k us es → Stands k ws parts
-    → Primary k (Call function ∷ us ++ ws ++ EndRound ∷ []) (call function (trees all))
+    → Primary k (Call function ∷ us ++ ws ++ EndRound ∷ []) (called function all)
 arguments-sound k function [] [] all us ws h c s =
-    subst (λ xs. Primary k (Call function ∷ us ++ ws ++ EndRound ∷ []) (call function (trees xs))) (some-same [] all h)
-    (subst (λ vs. Primary k (Call function ∷ vs ++ ws ++ EndRound ∷ []) (call function (trees []))) (sym (no-commas k us [] c refl))
-    (subst (λ vs. Primary k (Call function ∷ vs ++ EndRound ∷ []) (call function (trees []))) (sym s) (no_arguments function)))
+    subst (λ xs. Primary k (Call function ∷ us ++ ws ++ EndRound ∷ []) (called function xs)) (some-same [] all h)
+    (subst (λ vs. Primary k (Call function ∷ vs ++ ws ++ EndRound ∷ []) (called function [])) (sym (no-commas k us [] c refl))
+    (subst (λ vs. Primary k (Call function ∷ vs ++ EndRound ∷ []) (called function [])) (sym s) (no_arguments function)))
 arguments-sound k function [] (part ∷ parts) all us ws h c s = last-sound k function [] (part ∷ parts) all us ws h c s
 arguments-sound k function (e ∷ es) parts all us ws h c s = last-sound k function (e ∷ es) parts all us ws h c s
 
@@ -94,8 +95,8 @@ round-sound k round parts part vs ws h o s =
     subst (IsPart k (vs ++ ws ++ EndRound ∷ [])) m.2 (subst (λ e. Primary k (vs ++ ws ++ EndRound ∷ []) (group e)) f.2
     (subst (λ all. Primary k (all ++ ws ++ EndRound ∷ []) (group (k f.0))) (sym o) (in_brackets ws f.0 f.1)))
 round-sound k (arguments_of function es) parts part vs ws h o s =
-    let m = map-some (λ (all : List Tree). whole (call function (trees all))) (all_arguments (expr k) es parts) part h in
-    subst (IsPart k (vs ++ ws ++ EndRound ∷ [])) m.2 (subst (λ all. Primary k (all ++ ws ++ EndRound ∷ []) (call function (trees m.0))) (sym o.1)
+    let m = map-some (λ (all : List Tree). whole (called function all)) (all_arguments (expr k) es parts) part h in
+    subst (IsPart k (vs ++ ws ++ EndRound ∷ [])) m.2 (subst (λ all. Primary k (all ++ ws ++ EndRound ∷ []) (called function m.0)) (sym o.1)
     (arguments-sound k function es parts m.0 o.0 ws m.1 o.2 s))
 round-sound k square parts part vs ws h o s = absurd (none-some part h)
 

@@ -2,7 +2,7 @@
 use Rattle.std.proofs.Common.{◌≡◌, ℕ, List, refl}
 use Rattle.xs_xpath.specs.steps.Rows.{first_named}
 use Rattle.xs_parser.specs.Lexing.{axis_named}
-use Rattle.xs_parser.specs.steps.Rows.{axes}
+use Rattle.xs_parser.specs.Axes.{axes}
 
 pub axes_named : (name : List ℕ) → first_named axes name ≡ axis_named name
 unfolding axes

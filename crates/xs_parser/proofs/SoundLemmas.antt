@@ -8,7 +8,7 @@ use Rattle.xs_tree.specs.declared.axes.Axis.TheVariants.{Child}
 use Rattle.xs_xpath.specs.declared.name.NodeTest.{NodeTest}
 use Rattle.xs_xpath.specs.declared.name.NodeTest.TheVariants.{Node}
 use Rattle.xs_xpath.specs.declared.token.Operator.{Operator}
-use Rattle.xs_xpath.specs.declared.token.Operator.TheVariants.{Or, And, Equal, Unequal, Less, LessEqual, Greater, GreaterEqual, Plus, Minus, Times, Div, Mod, Union}
+use Rattle.xs_xpath.specs.declared.token.Operator.TheVariants.{Or, And, Equal, Unequal, Less, LessEqual, Greater, GreaterEqual, Plus, Minus, Times, Div, FloorDiv, CeilingDiv, NearestDiv, Mod, Union}
 use Rattle.xs_xpath.specs.Tree.{Tree, root, step, descend, path, trees, chained, filtered, followed}
 use Rattle.xs_parser.specs.declared.token.Token.{Token}
 use Rattle.xs_parser.specs.declared.token.Token.TheVariants.{Square, EndSquare, Slash, Slashes, Negate, Infix, OnAxis, Test, Dots}
@@ -285,6 +285,9 @@ rank-not-two Plus h = omega arith
 rank-not-two Minus h = omega arith
 rank-not-two Times h = omega arith
 rank-not-two Div h = omega arith
+rank-not-two FloorDiv h = omega arith
+rank-not-two CeilingDiv h = omega arith
+rank-not-two NearestDiv h = omega arith
 rank-not-two Mod h = omega arith
 rank-not-two Union h = omega arith
 

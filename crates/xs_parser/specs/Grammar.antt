@@ -9,7 +9,8 @@ use Rattle.xs_xpath.specs.declared.name.NodeTest.{NodeTest}
 use Rattle.xs_xpath.specs.declared.name.NodeTest.TheVariants.{Node}
 use Rattle.xs_xpath.specs.declared.token.Operator.{Operator}
 use Rattle.xs_xpath.specs.declared.token.Atom.{Atom}
-use Rattle.xs_xpath.specs.Tree.{Tree, call, negative, group, here, root, step, descend, path, trees, atom_tree, chained, filtered, followed}
+use Rattle.xs_xpath.specs.Quotients.{called}
+use Rattle.xs_xpath.specs.Tree.{Tree, negative, group, here, root, step, descend, path, trees, atom_tree, chained, filtered, followed}
 use Rattle.xs_parser.specs.declared.token.Token.{Token}
 use Rattle.xs_parser.specs.declared.token.Token.TheVariants.{Round, Call, EndRound, Square, EndSquare, Comma, Slash, Slashes, Negate, Infix, OnAxis, Test, Dots, Atom as AtomToken}
 use Rattle.xs_parser.specs.Tokens.{rank, expr_level}
@@ -67,9 +68,9 @@ mutual
     one_token : (atom : Atom) → Primary keep (AtomToken atom ∷ []) (atom_tree atom)
     in_brackets : (ts : List Token) (e : Tree) → Spells keep expr_level ts e → Primary keep (Round ∷ ts ++ EndRound ∷ []) (group (keep e))
     -- [16] [17]
-    no_arguments : (function : Function) → Primary keep (Call function ∷ EndRound ∷ []) (call function (trees []))
+    no_arguments : (function : Function) → Primary keep (Call function ∷ EndRound ∷ []) (called function [])
     arguments : (function : Function) (ts us : List Token) (es : List Tree) (e : Tree) → Commas keep ts es → Spells keep expr_level us e
-        → Primary keep (Call function ∷ ts ++ us ++ EndRound ∷ []) (call function (trees (es ++ keep e ∷ [])))
+        → Primary keep (Call function ∷ ts ++ us ++ EndRound ∷ []) (called function (es ++ keep e ∷ []))
 
   -- arguments, each with a comma after it
   pub data Commas (keep : Tree → Tree) : List Token → List Tree → Type 0 where

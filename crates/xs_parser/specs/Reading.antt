@@ -7,7 +7,8 @@ use Rattle.xs_xpath.specs.declared.name.Function.{Function}
 use Rattle.xs_xpath.specs.declared.name.NodeTest.{NodeTest}
 use Rattle.xs_xpath.specs.declared.name.NodeTest.TheVariants.{Node}
 use Rattle.xs_xpath.specs.declared.token.Operator.{Operator}
-use Rattle.xs_xpath.specs.Tree.{Tree, call, negative, group, here, root, step, descend, path, trees, atom_tree, chained, filtered, followed}
+use Rattle.xs_xpath.specs.Quotients.{called}
+use Rattle.xs_xpath.specs.Tree.{Tree, negative, group, here, root, step, descend, path, trees, atom_tree, chained, filtered, followed}
 use Rattle.xs_parser.specs.declared.token.Token.{Token}
 use Rattle.xs_parser.specs.declared.token.Token.TheVariants.{Round, Call, EndRound, Square, EndSquare, Comma, Slash, Slashes, Negate, Infix, OnAxis, Test, Dots, Atom}
 use Rattle.xs_parser.specs.Tokens.{rank, expr_level}
@@ -180,7 +181,7 @@ all_arguments p es parts = option_map (λ e. es ++ e ∷ []) (p parts)
 -- what a round bracket ends
 abbrev pub round_ended : (List Part → Option Tree) → Bracket → List Part → Option Part
 round_ended p round parts = option_map (λ e. whole (group e)) (p parts)
-round_ended p (arguments_of function es) parts = option_map (λ es. whole (call function (trees es))) (all_arguments p es parts)
+round_ended p (arguments_of function es) parts = option_map (λ es. whole (called function es)) (all_arguments p es parts)
 round_ended p square parts = None
 
 -- what a square bracket ends

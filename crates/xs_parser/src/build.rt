@@ -1,7 +1,8 @@
 //! Expressions, made of their parts.
 ghost use Rattle.std.specs.Prelude.{◌≡◌, None, IfOk};
 ghost use Rattle.xs_xpath.specs.Exprs.{tree_from, trees_from};
-ghost use Rattle.xs_xpath.specs.Tree.{atom_tree, call, chain, descend, filtered, followed, group};
+ghost use Rattle.xs_xpath.specs.Quotients.{called};
+ghost use Rattle.xs_xpath.specs.Tree.{atom_tree, chain, descend, filtered, followed, group};
 ghost use Rattle.xs_xpath.specs.Tree.{here, path, root, step, trees};
 ghost use Rattle.xs_parser.specs.Reading.{negated};
 
@@ -95,9 +96,9 @@ pub(crate) fn group(alloc: Global, e: Expr) -> Result<Expr, AllocError>
 
 /// A call of a function.
 pub(crate) fn call(name: Function, arguments: Vec<Expr>) -> Expr
-    ensures tree { tree_from result ≡ call name (trees (trees_from arguments.items)) }
+    ensures tree { tree_from result ≡ called name (trees_from arguments.items) }
 {
-    Expr::Call(name, arguments)
+    Expr::call(name, arguments)
 }
 
 /// The expression that one token is.

@@ -19,3 +19,5 @@ mod resolve;
 mod scan;
 mod signs;
 pub mod token;
+
+pub use names::axes;

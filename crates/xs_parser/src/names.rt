@@ -4,7 +4,7 @@ ghost use Rattle.xs_xpath.specs.Names.{is_nil};
 ghost use Rattle.xs_xpath.specs.steps.Rows.{row_data};
 ghost use Rattle.xs_parser.specs.Lexing.{axis_named, is_ncname, is_pi, kind_named};
 ghost use Rattle.xs_parser.specs.Lexing.{operator_named, qname, qualified, unprefixed, with_local};
-ghost use Rattle.xs_parser.specs.steps.Rows.{axes};
+ghost use Rattle.xs_parser.specs.Axes.{axes};
 
 use crate::bytes::{Class, local_at, split_run};
 use crate::token::QName;
@@ -129,8 +129,8 @@ static AXES: [(&str, Axis); 13] = [
 ];
 
 /// The axes by their names.
-#[tactic(auto, unfolding(crate::specs::steps::Rows::axes))]
-fn axes() -> &'static [(&'static str, Axis)]
+#[tactic(auto, unfolding(crate::specs::Axes::axes))]
+pub fn axes() -> &'static [(&'static str, Axis)]
     ensures { map row_data result.now ≡ axes }
 {
     &AXES

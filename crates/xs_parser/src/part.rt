@@ -31,6 +31,9 @@ fn rank(operator: Operator) -> u8
         Operator::Union => 1,
         Operator::Times => 3,
         Operator::Div => 3,
+        Operator::FloorDiv => 3,
+        Operator::CeilingDiv => 3,
+        Operator::NearestDiv => 3,
         Operator::Mod => 3,
         Operator::Plus => 4,
         Operator::Minus => 4,
@@ -207,6 +210,8 @@ pub fn level(alloc: Global, n: u8, parts: Vec<Part>) -> Result<Option<Expr>, All
             Some(next) => now = next,
         }
     }
+    // The buffer is empty: the levels below are not to keep it.
+    drop(rest);
     gather_all(alloc, n - 1, now)
 }
 

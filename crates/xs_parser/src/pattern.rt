@@ -203,6 +203,9 @@ fn is_union(operator: Operator) -> bool
         Operator::Minus => false,
         Operator::Times => false,
         Operator::Div => false,
+        Operator::FloorDiv => false,
+        Operator::CeilingDiv => false,
+        Operator::NearestDiv => false,
         Operator::Mod => false,
     }
 }

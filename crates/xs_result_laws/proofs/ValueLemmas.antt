@@ -5,6 +5,7 @@ use Rattle.std.specs.Option.{option_map_or}
 use Rattle.std.specs.Str.{bytes_eq, chars}
 use Rattle.std.specs.Prelude.{Result, codes, pos}
 use Rattle.xs_num.specs.Number.{sum_of, difference_of, product_of, quotient_of, remainder_of}
+use Rattle.xs_num.specs.Quotients.{floored_quotient, ceiled_quotient, nearest_quotient}
 use Rattle.xs_num.specs.declared.number.Number.{Number as Num}
 use Rattle.xs_num.specs.declared.number.Number.TheVariants.{Whole}
 use Rattle.xs_num.specs.declared.number.NumFault.{NumFault}
@@ -26,7 +27,7 @@ use Rattle.xs_xpath.specs.declared.name.NodeTest.TheVariants.{Node}
 use Rattle.xs_xpath.specs.declared.name.Slot.{Slot}
 use Rattle.xs_xpath.specs.declared.name.Slot.TheVariants.{Local, Global}
 use Rattle.xs_xpath.specs.declared.token.Operator.{Operator}
-use Rattle.xs_xpath.specs.declared.token.Operator.TheVariants.{Or, And, Equal, Unequal, Less, LessEqual, Greater, GreaterEqual, Plus, Minus, Times, Div, Mod, Union}
+use Rattle.xs_xpath.specs.declared.token.Operator.TheVariants.{Or, And, Equal, Unequal, Less, LessEqual, Greater, GreaterEqual, Plus, Minus, Times, Div, FloorDiv, CeilingDiv, NearestDiv, Mod, Union}
 use Rattle.xs_tree.specs.declared.axes.Axis.TheVariants.{DescendantOrSelf}
 use Rattle.xs_xpath.specs.Tree as syntax
 use Rattle.xs_xpath.specs.Tree.{Tree, Trees, no_trees, first_tree}
@@ -174,6 +175,9 @@ operated_named Plus rs left right = computed_named sum_of rs left right
 operated_named Minus rs left right = computed_named difference_of rs left right
 operated_named Times rs left right = computed_named product_of rs left right
 operated_named Div rs left right = computed_named quotient_of rs left right
+operated_named FloorDiv rs left right = computed_named floored_quotient rs left right
+operated_named CeilingDiv rs left right = computed_named ceiled_quotient rs left right
+operated_named NearestDiv rs left right = computed_named nearest_quotient rs left right
 operated_named Mod rs left right = computed_named remainder_of rs left right
 operated_named Union rs left right =
     after (nodes_in left) (λ ns. nodes_in right >>= (λ ks. Ok (Nodes (union_of ns ks))))

@@ -6,6 +6,7 @@ use Rattle.std.specs.List.{AllByRecursion, enumerate_from, flat_map}
 use Rattle.std.specs.Option.{option_map_or}
 use Rattle.std.specs.Str.{bytes_eq, chars}
 use Rattle.xs_num.specs.Number.{difference_of, product_of, quotient_of, remainder_of, sum_of}
+use Rattle.xs_num.specs.Quotients.{floored_quotient, ceiled_quotient, nearest_quotient}
 use Rattle.xs_num.specs.declared.number.Number.{Number as Num}
 use Rattle.xs_num.specs.declared.number.Number.TheVariants.{Whole}
 use Rattle.xs_num.specs.declared.number.NumFault.{NumFault}
@@ -33,7 +34,7 @@ use Rattle.xs_xpath.specs.declared.name.NodeTest.TheVariants.{Node}
 use Rattle.xs_xpath.specs.declared.name.Slot.{Slot}
 use Rattle.xs_xpath.specs.declared.name.Slot.TheVariants.{Global, Local}
 use Rattle.xs_xpath.specs.declared.token.Operator.{Operator}
-use Rattle.xs_xpath.specs.declared.token.Operator.TheVariants.{Or, And, Equal, Unequal, Less, LessEqual, Greater, GreaterEqual, Plus, Minus, Times, Div, Mod, Union}
+use Rattle.xs_xpath.specs.declared.token.Operator.TheVariants.{Or, And, Equal, Unequal, Less, LessEqual, Greater, GreaterEqual, Plus, Minus, Times, Div, FloorDiv, CeilingDiv, NearestDiv, Mod, Union}
 use Rattle.xs_xpath.specs.Tree as syntax
 use Rattle.xs_xpath.specs.Tree.{Tree, Trees, first_tree, no_trees}
 use Rattle.xs_eval_spec.specs.Calls.{called, is_key}
@@ -245,6 +246,9 @@ operated_in Plus rs left right p q = computed_in sum_of rs left right
 operated_in Minus rs left right p q = computed_in difference_of rs left right
 operated_in Times rs left right p q = computed_in product_of rs left right
 operated_in Div rs left right p q = computed_in quotient_of rs left right
+operated_in FloorDiv rs left right p q = computed_in floored_quotient rs left right
+operated_in CeilingDiv rs left right p q = computed_in ceiled_quotient rs left right
+operated_in NearestDiv rs left right p q = computed_in nearest_quotient rs left right
 operated_in Mod rs left right p q = computed_in remainder_of rs left right
 operated_in Union rs left right p q = union_in rs left right p q
 

@@ -1,4 +1,5 @@
 pub mod BindLemmas
+pub mod QuotientLemmas
 mod RisingLemmas
 mod RowLemmas
 pub mod RunLemmas

@@ -3,6 +3,7 @@
 
 pub mod avt;
 pub mod bind;
+pub mod calls;
 pub mod expr;
 pub mod name;
 pub mod pattern;

@@ -18,6 +18,12 @@ pub enum Operator {
     Minus,
     Times,
     Div,
+    /// A `div` that is all of the argument of `floor`.
+    FloorDiv,
+    /// A `div` that is all of the argument of `ceiling`.
+    CeilingDiv,
+    /// A `div` that is all of the argument of `round`.
+    NearestDiv,
     Mod,
     Union,
 }

@@ -1,9 +1,9 @@
--- The names of the axes, as the table that the code goes through.
+-- The axes by their names.
 use Rattle.std.specs.Prelude.{ℕ, List, [], ◌∷◌, codes}
 use Rattle.xs_tree.specs.declared.axes.Axis.{Axis}
 use Rattle.xs_tree.specs.declared.axes.Axis.TheVariants.{Child, Descendant, Parent, Ancestor, FollowingSibling, PrecedingSibling, Following, Preceding, Attribute, Namespace, SelfNode, DescendantOrSelf, AncestorOrSelf}
 
--- the axes (XPath 1.0, 2.2)
+-- (XPath 1.0, 2.2)
 unfoldable pub axes : List (List ℕ × Axis)
 axes =
     (codes "child", Child)
