@@ -9,7 +9,7 @@ ghost use Rattle.xs_num.specs.Text.{number_in};
 ghost use Rattle.xs_body_spec.specs.Numbers.{format_run, formatting_run, group_in, numbered_by};
 ghost use Rattle.xs_body_spec.specs.Numbers.{optional_run, size_from, written};
 ghost use Rattle.xs_body_spec.specs.World.{numeric_run};
-ghost use Rattle.xs_sort.specs.steps.Given.{IsGiven};
+ghost use Rattle.xs_sort.specs.Given.{IsGiven};
 ghost use Rattle.xs_trace.specs.Play.{IsStep, IsStepBy};
 ghost use Rattle.xs_trace.specs.Run.{limited};
 ghost use Rattle.xs_value.specs.Conversion.{IsIn, number_value};

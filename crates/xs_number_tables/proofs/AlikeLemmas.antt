@@ -11,7 +11,7 @@ use Rattle.xs_number_tables.specs.declared.alike.Seen.{Seen}
 use Rattle.xs_pattern_spec.specs.Counted.{alike_any_number, alike_number}
 use Rattle.xs_numbering.specs.Counting.{has_level, is_alike, kind_number}
 use Rattle.xs_number_tables.specs.steps.Alike.{KindAndName, group_after, group_at, held_count, is_likeness, likeness, seen_by, seen_in}
-use Rattle.xs_numbering.specs.steps.Passes.{carried_on, children_seen, counted_on, held_by, running}
+use Rattle.xs_numbering.specs.Passes.{carried_on, children_seen, counted_on, held_by, running}
 use Rattle.xs_numbering.proofs.PassLemmas.{before-is, carried-few, carried-is, number-is, numbers-more}
 use Rattle.xs_numbering.proofs.SiblingLemmas.{children-few, children-next, number-of}
 

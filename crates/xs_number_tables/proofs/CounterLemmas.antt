@@ -6,7 +6,7 @@ use Rattle.xs_pattern_spec.specs.Counted.{alike_any_number, alike_number, counts
 use Rattle.xs_number_tables.specs.steps.Alike.{is_likeness, likeness}
 use Rattle.xs_number_tables.specs.steps.Counters.{AlikeNumbers, AreCounts, AreFrom, AreNumbers, IsCounter, NumbersBy, alike_to}
 use Rattle.xs_numbering.specs.Counting.{any_number, is_alike, list_at, sibling_number}
-use Rattle.xs_numbering.specs.steps.Passes.{is_flagged}
+use Rattle.xs_numbering.specs.Passes.{is_flagged}
 use Rattle.xs_numbering.proofs.LevelLemmas.{first-itself, number-in, table-long}
 use Rattle.xs_sheet.specs.declared.body.Level.{Level}
 use Rattle.xs_sheet.specs.declared.body.Level.TheVariants.{Single, Multiple, Any}

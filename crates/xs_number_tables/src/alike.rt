@@ -9,7 +9,7 @@ ghost use Rattle.xs_number_tables.specs.steps.Alike.{KindAndName, group_after, g
 ghost use Rattle.xs_number_tables.specs.steps.Alike.{held_count};
 ghost use Rattle.xs_number_tables.specs.steps.Alike.{is_likeness, likeness, likeness_in, seen_by};
 ghost use Rattle.xs_number_tables.specs.steps.Alike.{seen_in};
-ghost use Rattle.xs_numbering.specs.steps.Passes.{counted_on, held_by, is_flagged};
+ghost use Rattle.xs_numbering.specs.Passes.{counted_on, held_by, is_flagged};
 ghost use Rattle.xs_tree.specs.Record.{Record, at, is_place, places};
 
 use std::alloc::{AllocError, Global};

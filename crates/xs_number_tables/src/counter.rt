@@ -10,7 +10,7 @@ ghost use Rattle.xs_number_tables.specs.steps.Counters.{IsCounter, NumbersBy, al
 ghost use Rattle.xs_numbering.specs.Counting.{is_alike, list_at, multiple, sibling_number};
 ghost use Rattle.xs_tree.specs.declared.axes.Axis.TheVariants.{Ancestor};
 ghost use Rattle.xs_tree.specs.Axis.{axis_list};
-ghost use Rattle.xs_numbering.specs.steps.Passes.{is_flagged};
+ghost use Rattle.xs_numbering.specs.Passes.{is_flagged};
 ghost use Rattle.xs_tree.specs.Record.{at, places};
 ghost use Rattle.xs_value.specs.Tables.{TablesIn};
 

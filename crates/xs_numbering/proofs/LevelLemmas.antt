@@ -1,14 +1,14 @@
 -- The numbers of a node and its ancestors, one after another.
 use Rattle.std.proofs.Common.{◌≡◌, ℕ, zero, suc, ◌+◌, ◌-◌, ◌<◌, ◌≤◌, Bool, true, false, All, cond, not, List, [], ◌∷◌, ◌++◌, filter, get_or, length, map, reverse, take, take_while, refl, sym, subst, ap, ◌∙◌, append_assoc, arith}
 use Rattle.std.specs.List.{range_with_len}
-use Rattle.std.proofs.lemmas.List.{append-nil, get_or-reverse, length-reverse, map-append}
+use Rattle.std.proofs.lemmas.List.{get_or-reverse, length-reverse, map-append}
 use Rattle.std.proofs.lemmas.List.Elements.{All-cons, All-filter, All-from_get_or, All-get_or, All-head, All-nil, All-tail, filter-append}
 use Rattle.std.proofs.lemmas.List.FromFn.{get_or-map-range_with_len, length-map-range_with_len}
 use Rattle.std.proofs.lemmas.List.Sums.{take_while-cons}
 use Rattle.xs_tree.specs.declared.axes.Axis.TheVariants.{Ancestor}
 use Rattle.xs_tree.specs.Axis.{axis_list, is_on}
 use Rattle.xs_tree.specs.Record.{Record, places}
-use Rattle.xs_numbering.specs.Counting.{counted, searched}
+use Rattle.xs_numbering.specs.Counting.{counted}
 
 -- ancestors are in the tree
 
@@ -51,13 +51,6 @@ front : (from : ℕ → Bool) (k : ℕ) (rest : List ℕ) (t : Bool) → from k 
 front from k rest t is =
     take_while-cons (λ j. not (from j)) k rest ∙ ap (λ u. cond (not u) (k ∷ take_while (λ j. not (from j)) rest) []) is
 
-pub levels-stop : (f : ℕ → ℕ) (counts from : ℕ → Bool) (k : ℕ) (left rest out whole : List ℕ) → from k ≡ true → left ≡ k ∷ rest
-    → out ++ map f (filter counts (take_while (λ j. not (from j)) left)) ≡ whole → out ≡ whole
-levels-stop f counts from k left rest out whole stops is so_far =
-    sym (append-nil out)
-    ∙ ap (λ xs. out ++ map f (filter counts xs))
-    (sym (ap (take_while (λ j. not (from j))) is ∙ front from k rest true stops)) ∙ so_far
-
 pub levels-next : (f : ℕ → ℕ) (counts from : ℕ → Bool) (k : ℕ) (left rest out new whole : List ℕ) → from k ≡ false → left ≡ k ∷ rest
     → new ≡ out ++ map f (filter counts (k ∷ []))
     → out ++ map f (filter counts (take_while (λ j. not (from j)) left)) ≡ whole
@@ -71,11 +64,6 @@ levels-next f counts from k left rest out new whole goes is pushed so_far =
     ∙ append_assoc out (map f (filter counts (k ∷ []))) (map f (filter counts later))
     ∙ ap (λ xs. out ++ xs) (sym parts) ∙ so_far
 
-pub levels-end : (f : ℕ → ℕ) (counts from : ℕ → Bool) (left out whole : List ℕ) → left ≡ []
-    → out ++ map f (filter counts (take_while (λ j. not (from j)) left)) ≡ whole → out ≡ whole
-levels-end f counts from left out whole is so_far =
-    sym (append-nil out) ∙ ap (λ xs. out ++ map f (filter counts (take_while (λ j. not (from j)) xs))) (sym is) ∙ so_far
-
 -- the first one
 
 counts-yes : (counts : ℕ → Bool) (k : ℕ) (ks : List ℕ) → counts k ≡ true → filter counts (k ∷ ks) ≡ k ∷ filter counts ks
@@ -86,15 +74,6 @@ counts-no counts k ks is = rw is refl
 
 pub first-itself : (counts from : ℕ → Bool) (rs : List Record) (n : ℕ) → counts n ≡ true → take 1 (counted counts from rs n) ≡ n ∷ []
 first-itself counts from rs n is = ap (take 1) (counts-yes counts n (take_while (λ k. not (from k)) (axis_list Ancestor rs n)) is)
-
-pub first-above : (counts from : ℕ → Bool) (rs : List Record) (n : ℕ) → counts n ≡ false
-    → counted counts from rs n ≡ filter counts (take_while (λ k. not (from k)) (axis_list Ancestor rs n))
-first-above counts from rs n is = counts-no counts n (take_while (λ k. not (from k)) (axis_list Ancestor rs n)) is
-
-pub first-stop : (counts from : ℕ → Bool) (k : ℕ) (whole left rest : List ℕ) → from k ≡ true → left ≡ k ∷ rest
-    → whole ≡ filter counts (take_while (λ j. not (from j)) left) → whole ≡ []
-first-stop counts from k whole left rest stops is so_far =
-    so_far ∙ ap (filter counts) (ap (take_while (λ j. not (from j))) is ∙ front from k rest true stops)
 
 pub first-found : (counts from : ℕ → Bool) (k : ℕ) (whole left rest : List ℕ) → from k ≡ false → counts k ≡ true → left ≡ k ∷ rest
     → whole ≡ filter counts (take_while (λ j. not (from j)) left) → take 1 whole ≡ k ∷ []
@@ -108,6 +87,3 @@ pub first-later : (counts from : ℕ → Bool) (k : ℕ) (whole left rest : List
 first-later counts from k whole left rest goes missing is so_far =
     so_far ∙ ap (filter counts) (ap (take_while (λ j. not (from j))) is ∙ front from k rest false goes)
     ∙ counts-no counts k (take_while (λ j. not (from j)) rest) missing
-
-pub first-end : (counts from : ℕ → Bool) (whole left : List ℕ) → left ≡ [] → whole ≡ filter counts (take_while (λ j. not (from j)) left) → whole ≡ []
-first-end counts from whole left is so_far = so_far ∙ ap (λ xs. filter counts (take_while (λ j. not (from j)) xs)) is

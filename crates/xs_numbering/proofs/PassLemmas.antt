@@ -10,7 +10,7 @@ use Rattle.xs_tree.specs.Axis.{root_of}
 use Rattle.xs_tree.specs.Kinds.{is_root_kind}
 use Rattle.xs_tree.specs.Record.{Record, at}
 use Rattle.xs_numbering.specs.Counting.{any_number, has_level, looked_at, passed}
-use Rattle.xs_numbering.specs.steps.Passes.{carried_on, counted_on, running}
+use Rattle.xs_numbering.specs.Passes.{carried_on, counted_on, running}
 
 pub range-next : (n : ℕ) → range_with_len 0 (n + 1) ≡ range_with_len 0 n ++ n ∷ []
 range-next n =

@@ -11,7 +11,7 @@ use Rattle.xs_tree.specs.Record.{Record, at, is_child, is_place}
 use Rattle.xs_tree.specs.Shape.{IsTree}
 use Rattle.xs_tree.proofs.WalkLemmas.{IsPlaced-at}
 use Rattle.xs_numbering.specs.Counting.{sibling_number}
-use Rattle.xs_numbering.specs.steps.Passes.{children_seen, counted_on, held_by, seen_at, seen_with}
+use Rattle.xs_numbering.specs.Passes.{children_seen, counted_on, held_by, seen_at, seen_with}
 use Rattle.xs_numbering.proofs.PassLemmas.{numbers-more, range-next}
 
 filter-never : (xs : List ℕ) → filter (λ k. false) xs ≡ []

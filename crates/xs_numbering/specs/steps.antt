@@ -1,3 +1,2 @@
 -- What the code mirrors.
 pub mod Pairs
-pub mod Passes

@@ -7,7 +7,7 @@ ghost use Rattle.xs_tree.specs.declared.axes.Axis.TheVariants.{Ancestor};
 ghost use Rattle.xs_tree.specs.Axis.{axis_list};
 ghost use Rattle.xs_tree.specs.Record.{places};
 ghost use Rattle.xs_numbering.specs.Counting.{counted, multiple, sibling_number, single};
-ghost use Rattle.xs_numbering.specs.steps.Passes.{is_flagged};
+ghost use Rattle.xs_numbering.specs.Passes.{is_flagged};
 
 use std::alloc::{AllocError, Global};
 use xs_axes::axis_nodes;

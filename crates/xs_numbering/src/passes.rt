@@ -6,8 +6,8 @@ ghost use Rattle.xs_tree.specs.Kinds.{is_root_kind};
 ghost use Rattle.xs_tree.specs.Record.{at, places};
 ghost use Rattle.xs_numbering.specs.Counting.{any_number, has_level, is_alike, kind_number};
 ghost use Rattle.xs_numbering.specs.Counting.{sibling_number};
-ghost use Rattle.xs_numbering.specs.steps.Passes.{carried_on, counted_on, held_by, is_flagged};
-ghost use Rattle.xs_numbering.specs.steps.Passes.{seen_at, seen_with};
+ghost use Rattle.xs_numbering.specs.Passes.{carried_on, counted_on, held_by, is_flagged};
+ghost use Rattle.xs_numbering.specs.Passes.{seen_at, seen_with};
 
 use std::alloc::{AllocError, Global};
 use xs_tree::{Kind, Node, Tree, is_flagged};

@@ -18,7 +18,7 @@ use Rattle.xs_eval_spec.specs.Context.{Context}
 use Rattle.xs_eval_spec.specs.Paths.{passes}
 use Rattle.xs_pattern_spec.specs.Matching.{ends_path, pattern_context, placed_at, start_of, step_nodes, steps_of}
 use Rattle.xs_pattern_spec.specs.Predicates.{is_among}
-use Rattle.xs_pattern.specs.steps.Above.{EndsBy, IsAbove, IsAboveIn, is_below, is_led, is_plain, is_plain_path, is_root_at, is_tabled}
+use Rattle.xs_pattern.specs.steps.Above.{EndsBy, IsAbove, is_below, is_led, is_plain, is_plain_path, is_root_at}
 use Rattle.xs_pattern.specs.steps.Climb.{before_slashes, ends_above, is_anywhere, stands_on}
 use Rattle.xs_pattern.proofs.AncestorLemmas.{any-root, any-same, any-self, any-up}
 use Rattle.xs_pattern.proofs.ClimbLemmas.{ends-descend, ends-no_parent, ends-parent, ends-start}
@@ -137,14 +137,6 @@ above-table rs e start before table t made ends s b = λ keys scope m n h.
     ∙ ap (λ (x : Tree). ends_above keys (pattern_context rs scope m) x before n) s
     ∙ ap (λ (l : List Tree). ends_above keys (pattern_context rs scope m) (start_of e) l n) b
 
--- in the context of a node that is tried
-pub above-in : (rs : List Record) (e start : Tree) (steps : List Tree) (t : List Bool) (keys : List Table) (scope : List (List ℕ × List ℕ)) (m : ℕ)
-    → IsAbove rs e t → start ≡ start_of e → steps ≡ reverse (steps_of e) → IsAboveIn keys (pattern_context rs scope m) start steps t
-above-in rs e start steps t keys scope m a s b = λ n h.
-    a keys scope m n h
-    ∙ ap (λ (x : Tree). ends_above keys (pattern_context rs scope m) x (before_slashes (reverse (steps_of e))) n) (sym s)
-    ∙ ap (λ (l : List Tree). ends_above keys (pattern_context rs scope m) start (before_slashes l) n) (sym b)
-
 -- ---- which paths have one
 
 -- whether there are predicates
@@ -177,13 +169,3 @@ plain-not start s rest ts w f =
 -- each is
 pub plain-whole : (start : Tree) (ts : List Tree) → is_anywhere start ≡ true → true ≡ list_all is_plain ts → is_plain_path start (reverse ts) ≡ true
 plain-whole start ts a w = ap (λ b. b && list_all is_plain (reverse ts)) a ∙ all-reverse is_plain ts ∙ sym w
-
-pub plain-next : (s : Tree) (rest ts : List Tree) → list_all is_plain (s ∷ rest) ≡ list_all is_plain ts → is_plain s ≡ true
-    → list_all is_plain rest ≡ list_all is_plain ts
-plain-next s rest ts w e = sym (ap (λ b. b && list_all is_plain rest) e) ∙ w
-
-pub tabled-none : (start : Tree) (before : List Tree) → length before ≡ 0 → is_tabled start before ≡ false
-tabled-none start before e = ap (λ (n : ℕ). not (n == 0) && is_plain_path start before) e
-
-pub tabled-some : (start : Tree) (before : List Tree) (b : Bool) → (length before == 0) ≡ false → is_plain_path start before ≡ b → is_tabled start before ≡ b
-tabled-some start before b n e = ap (λ x. not x && is_plain_path start before) n ∙ e

@@ -168,9 +168,6 @@ slashes-step s before d = rw d refl
 pub slashes-here : (s : Tree) (before : List Tree) → is_descend s ≡ true → before_slashes (s ∷ before) ≡ before
 slashes-here s before d = rw d refl
 
-pub gone-none : (keys : List Table) (c : Context) (start : Tree) (all : List Tree) (n : ℕ) → Gone keys c start all all n n
-gone-none keys c start all n = record { here = refl; above = λ e. e; slashes = refl; within = omega arith }
-
 pub gone-step : (keys : List Table) (c : Context) (start s : Tree) (all before : List Tree) (first n p : ℕ) → IsTree c.tree → n < length c.tree
     → Gone keys c start all (s ∷ before) first n → is_descend s ≡ false → (at c.tree n).parent ≡ Some p
     → true ≡ is_among n (selected keys s (placed_at c p)) → Gone keys c start all before first p

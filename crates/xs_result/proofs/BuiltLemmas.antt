@@ -11,8 +11,8 @@ use Rattle.xs_trace.specs.declared.event.Event.{Event}
 use Rattle.xs_trace.specs.declared.event.Event.TheVariants.{Start, Space, Attr, Chars, End, Comment, Pi}
 use Rattle.xs_trace.specs.Label.{Label}
 use Rattle.xs_result.specs.Built.{built, depth, in_front, is_inside, is_same_name, is_start_open, joined, kept_from, last_value, single_attributes}
-use Rattle.xs_result.specs.steps.Building.{State, behind, began, ended, flushed, is_open, nothing, spoken, tagged, taken, taken_all, text_events}
-use Rattle.xs_result.specs.steps.Places.{is_attribute_of, revalued, with_attribute}
+use Rattle.xs_result.specs.Building.{State, behind, began, ended, flushed, is_open, nothing, spoken, tagged, taken, taken_all, text_events}
+use Rattle.xs_result.specs.Places.{is_attribute_of, revalued, with_attribute}
 
 -- ---- what is to come, behind what is there
 -- an attribute of the open start tag, with the last value that it gets

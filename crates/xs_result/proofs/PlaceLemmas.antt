@@ -10,7 +10,7 @@ use Rattle.std.specs.Str.{bytes_eq}
 use Rattle.xs_trace.specs.declared.event.Event.{Event}
 use Rattle.xs_trace.specs.declared.event.Event.TheVariants.{Start, Space, Attr, Chars, End, Comment, Pi}
 use Rattle.xs_trace.specs.Label.{Label}
-use Rattle.xs_result.specs.steps.Places.{Parts, has_parts, is_attribute, is_attribute_of, place_in, place_of, revalued, with_attribute}
+use Rattle.xs_result.specs.Places.{Parts, has_parts, is_attribute, is_attribute_of, place_in, place_of, revalued, with_attribute}
 
 -- no attributes have no places
 pub no_places : (few others : List (Parts × ℕ)) (es : List Event) → few ≡ [] → others ≡ [] → es ≡ []

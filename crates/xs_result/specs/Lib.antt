@@ -1,3 +1,5 @@
+pub mod Building
 pub mod Built
+pub mod Places
 pub mod Text
 pub mod steps

@@ -1,9 +1,9 @@
 //! The events that stay, as one comes after the other.
 
 ghost use Rattle.std.specs.Prelude.{◌≡◌, ◌++◌, ◌∷◌, [], IfOk, OnOk};
-ghost use Rattle.xs_result.specs.steps.Building.{began, behind, ended, flushed};
-ghost use Rattle.xs_result.specs.steps.Building.{if_open, if_text, nothing, tagged, taken};
-ghost use Rattle.xs_result.specs.steps.Places.{with_attribute};
+ghost use Rattle.xs_result.specs.Building.{began, behind, ended, flushed};
+ghost use Rattle.xs_result.specs.Building.{if_open, if_text, nothing, tagged, taken};
+ghost use Rattle.xs_result.specs.Places.{with_attribute};
 ghost use Rattle.xs_result.specs.steps.Views.{state};
 ghost use Rattle.xs_trace.specs.declared.event.Event.TheVariants.{Space};
 
@@ -42,7 +42,7 @@ impl<'e> Builder<'e> {
     }
 
     /// One event more.
-    #[tactic(auto, unfolding(crate::specs::steps::Building::taken))]
+    #[tactic(auto, unfolding(crate::specs::Building::taken))]
     pub(crate) fn take(&mut self, event: &'e Event) -> Result<(), AllocError>
         ensures { OnOk result (state self.new ≡ taken (state self.old) event.now) }
     {
@@ -125,7 +125,7 @@ impl<'e> Builder<'e> {
     }
 
     /// Ends the start tag and the text.
-    #[tactic(auto, unfolding(crate::specs::steps::Building::flushed))]
+    #[tactic(auto, unfolding(crate::specs::Building::flushed))]
     fn flush(&mut self) -> Result<(), AllocError>
         ensures events { OnOk result (self.new.events.items ≡ flushed (state self.old)) }
         ensures tag { OnOk result (self.new.tag ≡ []) }

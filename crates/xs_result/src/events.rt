@@ -3,7 +3,7 @@
 ghost use Rattle.std.specs.Prelude.{◌≡◌, List, IfOk, OnOk, map};
 ghost use Rattle.std.specs.Iterator.{Drains, IsFinite};
 ghost use Rattle.xs_result.specs.Built.{built};
-ghost use Rattle.xs_result.specs.steps.Building.{nothing, taken_all};
+ghost use Rattle.xs_result.specs.Building.{nothing, taken_all};
 ghost use Rattle.xs_result.specs.steps.Views.{state};
 ghost use Rattle.xs_trace.specs.declared.event.Event.{Event};
 ghost use denote.Ref.{Bor};

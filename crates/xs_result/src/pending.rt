@@ -1,7 +1,7 @@
 //! The text before the next event.
 
 ghost use Rattle.std.specs.Prelude.{◌≡◌, ◌++◌, [], IfOk, OnOk};
-ghost use Rattle.xs_result.specs.steps.Building.{option_events, text_events};
+ghost use Rattle.xs_result.specs.Building.{option_events, text_events};
 
 use std::alloc::{AllocError, Global};
 use std::marker::Model;
@@ -75,7 +75,7 @@ impl PendingText {
     }
 
     /// The text, if it is not empty.
-    #[tactic(auto, unfolding(crate::specs::steps::Building::text_events))]
+    #[tactic(auto, unfolding(crate::specs::Building::text_events))]
     fn text(&self, alloc: Global) -> Result<Option<Characters>, AllocError>
         ensures { IfOk result (λ text. option_events text ≡ text_events self.now) }
     {

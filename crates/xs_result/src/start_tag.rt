@@ -2,9 +2,9 @@
 
 ghost use Rattle.std.specs.Prelude.{◌≡◌, ◌++◌, ◌∷◌, [], ℕ, IfOk, List, None, OnErr, OnOk, Some};
 ghost use Rattle.std.specs.Prelude.{false, if◌then◌else◌};
-ghost use Rattle.xs_result.specs.steps.Building.{is_open};
-ghost use Rattle.xs_result.specs.steps.Places.{has_parts, is_attribute, place_in, place_of};
-ghost use Rattle.xs_result.specs.steps.Places.{revalued, with_attribute};
+ghost use Rattle.xs_result.specs.Building.{is_open};
+ghost use Rattle.xs_result.specs.Places.{has_parts, is_attribute, place_in, place_of};
+ghost use Rattle.xs_result.specs.Places.{revalued, with_attribute};
 ghost use Rattle.xs_trace.specs.Label.{Label};
 
 use indexmap::IndexMap;
@@ -39,7 +39,7 @@ pub(crate) struct StartTag<'e> {
 
 impl<'e> Model for StartTag<'e> {
     ghost use Rattle.std.specs.Prelude.{◌≡◌, ◌++◌, ℕ, List};
-    ghost use Rattle.xs_result.specs.steps.Places.{place_in, place_of};
+    ghost use Rattle.xs_result.specs.Places.{place_in, place_of};
     ghost use Rattle.xs_trace.specs.declared.event.Event.{Event};
 
     ghost Value = { List Event };

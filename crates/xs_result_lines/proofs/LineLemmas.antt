@@ -9,7 +9,7 @@ use Rattle.xs_trace.specs.declared.event.Event.{Event}
 use Rattle.xs_trace.specs.declared.event.Event.TheVariants.{Start, Space, Attr, Chars, End, Comment, Pi}
 use Rattle.xs_result_lines.specs.Bindings.{attribute_of, attributes_in, bindings, bindings_before, is_in_tag, space_of, spaces_in, with_attributes, with_spaces, own_binding}
 use Rattle.xs_result_lines.specs.Laws.{ElementsGoOn, LinesGoOn, begins_in_tag}
-use Rattle.xs_result_lines.specs.Lines.{OpenElement, declared_in, entered, lines, open_after, tag_lines}
+use Rattle.xs_result_lines.specs.Lines.{OpenElement, entered, lines, open_after, tag_lines}
 
 -- what follows does not belong to the start tag
 tag_ends : (es more : List Event) → begins_in_tag more ≡ false → take_while is_in_tag (es ++ more) ≡ take_while is_in_tag es
@@ -35,10 +35,6 @@ unfolding bindings
 bindings-before name es more h =
     ap (λ m. with_attributes m (attributes_in (es ++ more))) (bound-before name es more h)
     ∙ ap (with_attributes (bindings_before name es)) (attributes-before es more h)
-
-declared-before : (around : List OpenElement) (name : Label) (es more : List Event) → begins_in_tag more ≡ false
-    → declared_in around name (es ++ more) ≡ declared_in around name es
-declared-before around name es more h = rw (bindings-before name es more h) refl
 
 tag-before : (around : List OpenElement) (name : Label) (es more : List Event) → begins_in_tag more ≡ false
     → tag_lines around name (es ++ more) ≡ tag_lines around name es

@@ -32,11 +32,6 @@ one_opened fs f ds more count theirs =
     ap (λ xs. record { name = f.name; scope = (more ++ ds) ++ outermost } ∷ opened fs xs) same
     ∙ ap (λ s. record { name = f.name; scope = s } ∷ opened fs ds) (append_assoc more ds outermost ∙ ap (λ s. more ++ s) (sym (scope-opened fs ds theirs)))
 
-one_theirs : (fs : List Frame) (f : Frame) (ds more : List Binding) → f.declared ≡ length more → AreTheirs fs ds → AreTheirs (f ∷ fs) (more ++ ds)
-one_theirs fs f ds more count theirs =
-    let same : drop f.declared (more ++ ds) ≡ ds = ap (λ n. drop n (more ++ ds)) count ∙ drop-front more ds in
-    subst (AreTheirs fs) (sym same) theirs
-
 -- ---- as a vector has them, the innermost last
 turned : (items now : List Frame) (f : Frame) → now ≡ items ++ f ∷ [] → reverse now ≡ f ∷ reverse items
 turned items now f is = ap reverse is ∙ reverse-append items (f ∷ [])
@@ -49,13 +44,6 @@ entered_opened items now f ds new all around more is count theirs view =
     ap (λ fs. opened fs new) (turned items now f more) ∙ ap (opened (f ∷ reverse items)) is
     ∙ one_opened (reverse items) f ds (bindings_of all) counted theirs
     ∙ ap (λ os. record { name = f.name; scope = bindings_of all ++ scope_of os } ∷ os) view
-
-pub entered_theirs : (items now : List Frame) (f : Frame) (ds new : List Binding) (all : List Declared) → now ≡ items ++ f ∷ [] → new ≡ bindings_of all ++ ds
-    → f.declared ≡ length all → AreTheirs (reverse items) ds → AreTheirs (reverse now) new
-entered_theirs items now f ds new all more is count theirs =
-    let counted : f.declared ≡ length (bindings_of all) = count ∙ sym (length-map all binding) in
-    subst (λ fs. AreTheirs fs new) (sym (turned items now f more))
-    (subst (AreTheirs (f ∷ reverse items)) (sym is) (one_theirs (reverse items) f ds (bindings_of all) counted theirs))
 
 -- ---- a start tag, by its parts
 pub tag_is : (tag : StartTag) (around : List OpenElement) (name : Label) (es : List Event) (m all : List Binding) (start : List ℕ)

@@ -10,8 +10,8 @@ use denote.Ref.{Bor}
 use Rattle.xs_pyx.specs.Writing.{written}
 use Rattle.xs_pyx.specs.declared.line.Line.TheVariants as line
 use Rattle.xs_result.specs.Built.{is_empty}
-use Rattle.xs_result.specs.steps.Building.{State, ended, flushed, forgotten, is_open, nothing, tagged, taken, taken_all, text_events}
-use Rattle.xs_result.specs.steps.Places.{is_attribute_of, with_attribute}
+use Rattle.xs_result.specs.Building.{State, ended, flushed, forgotten, is_open, nothing, tagged, taken, taken_all, text_events}
+use Rattle.xs_result.specs.Places.{is_attribute_of, with_attribute}
 use Rattle.xs_result.proofs.BuiltLemmas.{taken_behind}
 use Rattle.xs_text.specs.Escapes.{escaped, escaped_byte}
 use Rattle.xs_trace.specs.Label.{Label}
@@ -22,7 +22,7 @@ use Rattle.xs_result_lines.specs.Laws.{begins_in_tag}
 use Rattle.xs_result_lines.specs.Lines.{OpenElement, bytes_of, element_name, entered, lines, open_after, scope_of, tag_lines}
 use Rattle.xs_result_lines.specs.declared.writer.Frame.{Frame}
 use Rattle.xs_result_lines.specs.steps.InForce.{is_in_force, is_plain_tag, plain_lines}
-use Rattle.xs_result_lines.specs.steps.Open.{AreStillTheirs, AreTheirs, in_force, opened}
+use Rattle.xs_result_lines.specs.steps.Open.{AreStillTheirs, in_force, opened}
 use Rattle.xs_result_lines.specs.steps.Pending.{IsAlone, begun, clashes, is_clear, is_simple, added_to, joined, lent, text_lines}
 use Rattle.xs_result_lines.proofs.LineLemmas.{elements_go_on, lines_go_on}
 use Rattle.xs_result_lines.proofs.OpenLemmas.{scope_is}
@@ -339,15 +339,6 @@ pub plain_view : (items now : List Frame) (f : Frame) (known : Option (List Bind
     → opened (reverse now) (in_force known) ≡ record { name = f.name; scope = scope_of around } ∷ around
 plain_view items now f known around is none theirs view =
     ap (λ fs. opened fs (in_force known)) (turned items now f is) ∙ plain-one (reverse items) f known around none theirs view
-
-plain-theirs : (fs : List Frame) (f : Frame) (known : Option (List Binding)) → f.declared ≡ 0 → AreStillTheirs fs known → AreStillTheirs (f ∷ fs) known
-plain-theirs fs f None none theirs = tt
-plain-theirs fs f (Some ds) none theirs = subst (λ n. AreTheirs fs (drop n ds)) (sym none) theirs
-
-pub plain_theirs : (items now : List Frame) (f : Frame) (known : Option (List Binding)) → now ≡ items ++ f ∷ [] → f.declared ≡ 0
-    → AreStillTheirs (reverse items) known → AreStillTheirs (reverse now) known
-plain_theirs items now f known is none theirs =
-    subst (λ fs. AreStillTheirs fs known) (sym (turned items now f is)) (plain-theirs (reverse items) f known none theirs)
 
 -- the end of such an element
 pub plain_end : (items now : List Frame) (f : Frame) (known : Option (List Binding)) (around : List OpenElement) (old new : List ℕ) (es : List Event)

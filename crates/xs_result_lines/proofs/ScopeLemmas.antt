@@ -1,5 +1,5 @@
 -- The bindings in force: one declaration more, and one less.
-use Rattle.std.proofs.Common.{◌≡◌, ℕ, zero, suc, ◌-◌, ◌<◌, List, [], ◌∷◌, ◌++◌, Bool, true, false, Option, Some, cond, drop, refl, sym, ◌∙◌, ap, subst, arith, reverse}
+use Rattle.std.proofs.Common.{◌≡◌, ℕ, ◌-◌, List, [], ◌∷◌, ◌++◌, Bool, true, false, Option, Some, cond, refl, sym, ◌∙◌, ap, subst, reverse}
 use Rattle.std.proofs.lemmas.List.{reverse-append}
 use Rattle.std.specs.Prelude.{codes, not, unwrap_or}
 use Rattle.std.proofs.lemmas.Slice.Eq.{bytes_eq-Decides}
@@ -60,16 +60,6 @@ pub outermost_made : (table empty : List Binding) (items : List Undo) (key text 
 outermost_made table empty items key text uri none is k t u no_items =
     outermost_kept table items
     (is ∙ ap (λ es. insert_entry order_of_prefixes es key uri) none ∙ ap (λ x. (x, uri) ∷ []) (k ∙ t) ∙ ap (λ x. (codes "xml", x) ∷ []) u) no_items
-
--- ---- several declarations less
-drop-nil : (n : ℕ) → drop {A = Binding} n [] ≡ []
-drop-nil zero = refl
-drop-nil (suc n) = refl
-
-pub drop-one : (n : ℕ) (xs : List Binding) → 0 < n → drop n xs ≡ drop (n - 1) (drop 1 xs)
-drop-one zero xs h = absurd (omega arith)
-drop-one (suc n) [] h = sym (drop-nil (suc n - 1))
-drop-one (suc n) (x ∷ xs) h = let e : n ≡ suc n - 1 = omega arith in ap (λ i. drop i xs) e
 
 -- ---- the recent prefix, whose URI is kept beside the table
 same_text : (a b : List ℕ) (t : Bool) → t ≡ bytes_eq a b → t ≡ true → a ≡ b

@@ -7,8 +7,8 @@ use Rattle.std.proofs.lemmas.List.Folds.{list_all-append}
 use Rattle.std.specs.List.{list_all}
 use Rattle.std.specs.Prelude.{◌&&◌}
 use Rattle.xs_result.specs.Built.{built, is_empty}
-use Rattle.xs_result.specs.steps.Building.{State, ended, flushed, is_open, nothing, spoken, tagged, taken, taken_all, text_events}
-use Rattle.xs_result.specs.steps.Places.{is_attribute_of, revalued, with_attribute}
+use Rattle.xs_result.specs.Building.{State, ended, flushed, is_open, nothing, spoken, tagged, taken, taken_all, text_events}
+use Rattle.xs_result.specs.Places.{is_attribute_of, revalued, with_attribute}
 use Rattle.xs_result.proofs.BuiltLemmas.{built_is}
 use Rattle.xs_trace.specs.Label.{Label}
 use Rattle.xs_trace.specs.declared.event.Event.{Event}

@@ -6,8 +6,8 @@ use Rattle.std.proofs.lemmas.List.Concat.{flat_map-append}
 use Rattle.xs_pyx.specs.Writing.{written}
 use Rattle.xs_pyx.specs.declared.line.Line.{Line}
 use Rattle.xs_result.specs.Built.{built, is_empty}
-use Rattle.xs_result.specs.steps.Building.{State, ended, flushed, forgotten, is_open, nothing, spoken, tagged, taken, taken_all, text_events}
-use Rattle.xs_result.specs.steps.Places.{is_attribute_of, revalued, with_attribute}
+use Rattle.xs_result.specs.Building.{State, ended, flushed, forgotten, is_open, nothing, spoken, tagged, taken, taken_all, text_events}
+use Rattle.xs_result.specs.Places.{is_attribute_of, revalued, with_attribute}
 use Rattle.xs_result.proofs.BuiltLemmas.{built_is, taken_behind}
 use Rattle.xs_trace.specs.Label.{Label}
 use Rattle.xs_trace.specs.declared.event.Event.{Event}
@@ -16,7 +16,7 @@ use Rattle.xs_result_lines.specs.Bindings.{is_in_tag}
 use Rattle.xs_result_lines.specs.Laws.{begins_in_tag}
 use Rattle.xs_result_lines.specs.Lines.{OpenElement, bytes_of, lines, open_after, pyx}
 use Rattle.xs_result_lines.specs.Settled.{settled}
-use Rattle.xs_result_lines.specs.steps.Stream.{IsTaken, after}
+use Rattle.xs_result_lines.specs.Keeping.{IsTaken, after}
 use Rattle.xs_result_lines.proofs.LineLemmas.{elements_go_on, lines_go_on}
 use Rattle.xs_result_lines.proofs.SettledLemmas.{closed_is}
 

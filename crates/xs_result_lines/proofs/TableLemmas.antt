@@ -1,5 +1,5 @@
 -- The tables of a start tag, with a binding more.
-use Rattle.std.proofs.Common.{◌≡◌, ℕ, zero, suc, ◌+◌, ◌<◌, ◌≤◌, List, [], ◌∷◌, Bool, true, false, if◌then◌else◌, Option, None, Some, Result, Ok, Err, IfOk, cond, refl, sym, ◌∙◌, ap, subst, arith, length, below_more}
+use Rattle.std.proofs.Common.{◌≡◌, ℕ, zero, suc, ◌+◌, ◌<◌, ◌≤◌, List, [], ◌∷◌, Bool, true, false, if◌then◌else◌, Option, None, Some, Result, Ok, Err, IfOk, cond, refl, sym, ◌∙◌, ap, subst, arith, length}
 use Rattle.std.specs.Prelude.{◌==◌, ◌&&◌, is_some, not}
 use Rattle.std.specs.BTreeMap.{insert_entry, is_at}
 use Rattle.std.specs.List.{AllByRecursion}
@@ -51,9 +51,6 @@ pub first-is : (m : List Binding) (tries n : ℕ) → tries ≡ length m → n �
 first-is m tries n count within bound free =
     subst (λ k. new_from k m 0 ≡ new_prefix n) count
     (new_from-is tries m 0 n (omega arith) (omega (arith, within)) bound (λ h. free (omega (arith, h))))
-
-pub bound_further : (m : List Binding) (n : ℕ) → AreBound m n → binds m (new_prefix n) ≡ true → AreBound m (n + 1)
-bound_further m n bound here = below_more (λ j. binds m (new_prefix j) ≡ true) n bound here
 
 pub bound_below : (m : List Binding) (n k : ℕ) → k ≤ n → AreBound m n → AreBound m k
 bound_below m n k le bound j less = bound j (omega (arith, le, less))
@@ -130,26 +127,10 @@ least_more (b ∷ bs) p uri some rises free = by_order (order_of_prefixes p b.0)
         (more (bound_later (order_of_prefixes p b.0) b.1 (uri_in bs p) is free))
 
 -- ---- a table of the least prefixes, with a binding more
-pub noted_empty : (p uri some : List ℕ) (o : Option (List ℕ)) → is_empty p ≡ true → o ≡ least_with p uri o some
-noted_empty p uri some o h = rw h refl
-
-not_less : (p : List ℕ) (o : Option (List ℕ)) → is_less p o ≡ false → o ≡ lesser p o
-not_less p None h = absurd (cc)
-not_less p (Some q) h = sym (ap (λ t. cond t (Some p) (Some q)) h)
 
 less_is : (p : List ℕ) (o : Option (List ℕ)) → is_less p o ≡ true → Some p ≡ lesser p o
 less_is p None h = refl
 less_is p (Some q) h = sym (ap (λ t. cond t (Some p) (Some q)) h)
-
-pub noted_greater : (table : List Binding) (p uri some : List ℕ) → is_less p (uri_in table uri) ≡ false
-    → uri_in table some ≡ least_with p uri (uri_in table some) some
-noted_greater table p uri some h = by_tests (not (is_empty p)) (bytes_eq uri some) refl
-  where
-    by_tests : (a b : Bool) → bytes_eq uri some ≡ b → uri_in table some ≡ cond (a && b) (lesser p (uri_in table some)) (uri_in table some)
-    by_tests false b is = refl
-    by_tests true false is = refl
-    by_tests true true is =
-        subst (λ k. uri_in table k ≡ lesser p (uri_in table k)) ((bytes_eq-Decides uri some).0 is) (not_less p (uri_in table uri) h)
 
 itself : (a : List ℕ) → bytes_eq a a ≡ true
 itself a = (bytes_eq-Decides a a).1 refl

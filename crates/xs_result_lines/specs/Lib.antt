@@ -1,4 +1,6 @@
 pub mod Bindings
+pub mod Keeping
+pub mod Kept
 pub mod Lines
 pub mod Laws
 pub mod Settled

@@ -4,8 +4,8 @@ use Rattle.xs_trace.specs.declared.event.Event.{Event}
 use Rattle.xs_result_lines.specs.Lines.{bytes_of, lines}
 use Rattle.xs_result_lines.specs.Settled.{settled}
 use Rattle.xs_result_lines.specs.declared.stream.PyxStream.{PyxStream}
-use Rattle.xs_result_lines.specs.steps.Kept.{kept}
-use Rattle.xs_result_lines.specs.steps.Stream.{Keeps}
+use Rattle.xs_result_lines.specs.Kept.{kept}
+use Rattle.xs_result_lines.specs.Keeping.{Keeps}
 
 -- the bytes that were there first, and those now
 abbrev pub HasTaken : PyxStream → (old new : List ℕ) → List Event → Type 0

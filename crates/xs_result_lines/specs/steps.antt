@@ -1,10 +1,8 @@
 pub mod Bound
 pub mod InForce
-pub mod Stream
 pub mod Tables
 pub mod Open
 pub mod Ordered
 pub mod Tags
 pub mod Unfolding
 pub mod Pending
-pub mod Kept

@@ -2,7 +2,7 @@
 //! came, and any others, for which events are made.
 ghost use Rattle.std.specs.Prelude.{◌≡◌, ◌++◌, ◌&&◌, false, true, IfOk, OnOk, length, take};
 ghost use Rattle.std.specs.Str.{IsUtf8, bytes_eq};
-ghost use Rattle.xs_result.specs.steps.Building.{flushed};
+ghost use Rattle.xs_result.specs.Building.{flushed};
 ghost use Rattle.xs_result_lines.specs.Bindings.{attributes_in, outermost};
 ghost use Rattle.xs_result_lines.specs.Lines.{bytes_of};
 ghost use Rattle.xs_result_lines.specs.steps.InForce.{are_plain, is_plain_tag, own_lines};

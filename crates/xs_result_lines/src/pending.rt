@@ -2,12 +2,12 @@
 //! be added, and the text before the next event, which may go on.
 ghost use Rattle.std.specs.Prelude.{◌≡◌, ◌++◌, [], false, true, OnOk, length, take};
 ghost use Rattle.std.specs.Str.{IsUtf8};
-ghost use Rattle.xs_result.specs.steps.Building.{behind, began, ended, flushed, forgotten};
-ghost use Rattle.xs_result.specs.steps.Building.{if_text, nothing, taken};
+ghost use Rattle.xs_result.specs.Building.{behind, began, ended, flushed, forgotten};
+ghost use Rattle.xs_result.specs.Building.{if_text, nothing, taken};
 ghost use Rattle.xs_trace.specs.declared.event.Event.TheVariants as event_of;
 ghost use Rattle.xs_result_lines.specs.Bindings.{is_in_tag};
 ghost use Rattle.xs_result_lines.specs.Lines.{bytes_of, lines, open_after};
-ghost use Rattle.xs_result_lines.specs.steps.Kept.{kept};
+ghost use Rattle.xs_result_lines.specs.Kept.{kept};
 
 use crate::open_tag::OpenTag;
 use crate::open_text::OpenText;
@@ -38,7 +38,7 @@ impl<'e> Pending<'e> {
     }
 
     /// Takes an event, and writes what stays for good by now.
-    #[tactic(auto, unfolding(xs_result::specs::steps::Building::taken))]
+    #[tactic(auto, unfolding(xs_result::specs::Building::taken))]
     pub(crate) fn take(
         &mut self,
         writer: &mut PyxWriter,

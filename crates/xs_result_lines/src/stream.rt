@@ -4,8 +4,8 @@ ghost use Rattle.std.specs.Str.{IsUtf8};
 ghost use Rattle.xs_trace.specs.declared.event.Event.{Event};
 ghost use Rattle.xs_result_lines.specs.Lines.{pyx};
 ghost use Rattle.xs_result_lines.specs.Stream.{HasTaken};
-ghost use Rattle.xs_result_lines.specs.steps.Kept.{kept};
-ghost use Rattle.xs_result_lines.specs.steps.Stream.{IsTaken};
+ghost use Rattle.xs_result_lines.specs.Kept.{kept};
+ghost use Rattle.xs_result_lines.specs.Keeping.{IsTaken};
 
 use crate::pending::Pending;
 use crate::writer::PyxWriter;

@@ -5,7 +5,7 @@ ghost use Rattle.std.specs.Prelude.{◌≡◌, length, IfOk, codes};
 ghost use Rattle.std.specs.Str.{bytes_eq};
 ghost use Rattle.xs_eval_spec.specs.Conditions.{IsContext};
 ghost use Rattle.xs_sort.specs.Sorting.{direction_in, order_of, orders_of, template_text};
-ghost use Rattle.xs_sort.specs.steps.Given.{IsGiven};
+ghost use Rattle.xs_sort.specs.Given.{IsGiven};
 ghost use Rattle.xs_trace.specs.Play.{IsStep, IsStepBy};
 ghost use Rattle.xs_trace.specs.Run.{limited};
 

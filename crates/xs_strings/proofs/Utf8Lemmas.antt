@@ -1,15 +1,13 @@
 -- The bytes of what the definitions give are text, where those of their arguments are.
-use Rattle.std.proofs.Common.{◌≡◌, ℕ, ◌+◌, zero, suc, Bool, true, false, cond, ◌&&◌, List, [], ◌∷◌, map, length, drop, refl, ap, ◌∙◌, Option, Some, None, IfSome, slice_get, nat_eq}
+use Rattle.std.proofs.Common.{◌≡◌, ℕ, ◌+◌, zero, suc, Bool, true, false, cond, ◌&&◌, List, [], ◌∷◌, map, refl, ap, ◌∙◌, Option, Some, None, IfSome, slice_get, nat_eq}
 use Rattle.std.proofs.lemmas.Bool.{and_parts}
 use Rattle.std.proofs.lemmas.Str.{scalars-chars}
 use Rattle.std.proofs.str.Laws.{scalars-append}
-use Rattle.std.specs.List.{enumerate_from, filter, cons_option, list_all, slice_split, onto_first, join_with_byte, starts_with, position}
-use Rattle.std.specs.Option.{option_map}
+use Rattle.std.specs.List.{enumerate_from, filter, cons_option, list_all, slice_split, onto_first, join_with_byte, position}
 use Rattle.std.specs.Str.{chars, encode_utf8_all, all_scalars, IsUtf8}
 use Rattle.xs_text.specs.WhiteSpace.{is_white_space}
 use Rattle.xs_num.specs.declared.number.Number.{Number}
 use Rattle.xs_strings.specs.Positions.{is_kept, substring_of}
-use Rattle.xs_strings.specs.Searching.{parts_round, first_or_empty, second_or_empty, text_before, text_after}
 use Rattle.xs_strings.specs.Normalization.{is_nonempty, words, normalized}
 use Rattle.xs_strings.specs.Translation.{replacement_at, replacement, translated}
 use lib.Utf8.{scalar}
@@ -19,11 +17,6 @@ and_true a b h k = ap (λ x. x && b) h ∙ k
 
 encoded : (cs : List ℕ) → all_scalars cs ≡ true → IsUtf8 (encode_utf8_all cs)
 encoded cs h = (cs, (h, refl))
-
-scalars-drop : (n : ℕ) (cs : List ℕ) → all_scalars cs ≡ true → all_scalars (drop n cs) ≡ true
-scalars-drop zero cs h = h
-scalars-drop (suc n) [] h = refl
-scalars-drop (suc n) (c ∷ cs) h = scalars-drop n cs (and_parts (scalar c) (all_scalars cs) h).1
 
 -- characters by their positions
 scalars-passing : (test : ℕ → Bool) (n : ℕ) (cs : List ℕ) → all_scalars cs ≡ true
@@ -37,39 +30,6 @@ scalars-passing test n (c ∷ cs) h =
 
 pub IsUtf8-substring : (s : List ℕ) (first : Number) (count : Option Number) → IsUtf8 s → IsUtf8 (encode_utf8_all (substring_of (chars s) first count))
 IsUtf8-substring s first count u = encoded _ (scalars-passing (is_kept first count) 1 (chars s) (scalars-chars s u))
-
--- the parts round an occurrence
-abbrev AreScalars : List ℕ × List ℕ → Type 0
-AreScalars parts = (all_scalars parts.0 ≡ true) × (all_scalars parts.1 ≡ true)
-
-front_more : (c : ℕ) (found : Option (List ℕ × List ℕ)) → scalar c ≡ true → IfSome found AreScalars
-    → IfSome (option_map (λ (parts : List ℕ × List ℕ). (c ∷ parts.0, parts.1)) found) AreScalars
-front_more c None h k = tt
-front_more c (Some parts) h k = (and_true (scalar c) (all_scalars parts.0) h k.0, k.1)
-
-scalars-parts : (sought cs : List ℕ) → all_scalars cs ≡ true → IfSome (parts_round sought cs) AreScalars
-scalars-parts sought [] h = elim (starts_with nat_eq [] sought) as (λ b. IfSome (cond b (Some ([], [])) None) AreScalars) [ true ↦ (refl, refl) | false ↦ tt ]
-scalars-parts sought (c ∷ cs) h =
-    let parts = and_parts (scalar c) (all_scalars cs) h in
-    elim (starts_with nat_eq (c ∷ cs) sought) as (λ b. IfSome (cond b (Some ([], drop (length sought) (c ∷ cs))) (option_map (λ (p : List ℕ
-    × List ℕ). (c ∷ p.0, p.1)) (parts_round sought cs))) AreScalars)
-    [ true ↦ (refl, scalars-drop (length sought) (c ∷ cs) h) | false ↦ front_more c (parts_round sought cs) parts.0 (scalars-parts sought cs parts.1) ]
-
-scalars-first : (found : Option (List ℕ × List ℕ)) → IfSome found AreScalars → all_scalars (first_or_empty found) ≡ true
-scalars-first None h = refl
-scalars-first (Some parts) h = h.0
-
-scalars-second : (found : Option (List ℕ × List ℕ)) → IfSome found AreScalars → all_scalars (second_or_empty found) ≡ true
-scalars-second None h = refl
-scalars-second (Some parts) h = h.1
-
-pub IsUtf8-text_before : (s t : List ℕ) → IsUtf8 s → IsUtf8 (encode_utf8_all (text_before (chars s) (chars t)))
-unfolding text_before
-IsUtf8-text_before s t u = encoded _ (scalars-first (parts_round (chars t) (chars s)) (scalars-parts (chars t) (chars s) (scalars-chars s u)))
-
-pub IsUtf8-text_after : (s t : List ℕ) → IsUtf8 s → IsUtf8 (encode_utf8_all (text_after (chars s) (chars t)))
-unfolding text_after
-IsUtf8-text_after s t u = encoded _ (scalars-second (parts_round (chars t) (chars s)) (scalars-parts (chars t) (chars s) (scalars-chars s u)))
 
 -- replaced characters
 scalars-cons_option : (o : Option ℕ) (cs : List ℕ) → IfSome o (λ c. scalar c ≡ true) → all_scalars cs ≡ true → all_scalars (cons_option o cs) ≡ true

@@ -12,7 +12,7 @@ use Rattle.xs_value.specs.declared.value.Value.{Value}
 use Rattle.xs_value.specs.declared.value.Value.TheVariants.{Bool as Boolean, Number as Numeral, Chars, Nodes, Piece}
 use Rattle.xs_value.specs.Conversion.{bool_value, fragment_text, number_value, text_value}
 use Rattle.xs_value.specs.Comparison.{by_number, compared, compared_single, is_boolean, is_numeral, is_ordering, members, or_else, same_or_not, some}
-use Rattle.xs_value.specs.steps.Operands.{beside, node_numbers, node_texts, numbers_of, some_numbers, texts_of}
+use Rattle.xs_value.specs.steps.Operands.{node_numbers, node_texts, numbers_of, some_numbers, texts_of}
 
 pub or_else-false : (r : Result Bool NumFault) → or_else r (Ok false) ≡ r
 or_else-false (Ok true) = refl
@@ -56,19 +56,6 @@ some-any p (x ∷ xs) = ap (or_else (Ok (p x))) (some-any p xs) ∙ either (p x)
 
 single : (rs : List Record) (op : CompareOp) (x y : Value) → some (λ z. some (compared_single rs op z) (y ∷ [])) (x ∷ []) ≡ compared_single rs op x y
 single rs op x y = or_else-false (or_else (compared_single rs op x y) (Ok false)) ∙ or_else-false (compared_single rs op x y)
-
-pub beside_boolean : (rs : List Record) (op : CompareOp) (a b : Value) → (is_boolean a || is_boolean b) ≡ true
-    → compared rs op a b ≡ compared_single rs op (beside a) (beside b)
-beside_boolean rs op (Boolean x) (Boolean y) h = single rs op (Boolean x) (Boolean y)
-beside_boolean rs op (Boolean x) (Numeral n) h = single rs op (Boolean x) (Numeral n)
-beside_boolean rs op (Boolean x) (Chars t) h = single rs op (Boolean x) (Chars t)
-beside_boolean rs op (Boolean x) (Nodes ns) h = single rs op (Boolean x) (beside (Nodes ns))
-beside_boolean rs op (Boolean x) (Piece es) h = single rs op (Boolean x) (Boolean true)
-beside_boolean rs op (Numeral n) (Boolean y) h = single rs op (Numeral n) (Boolean y)
-beside_boolean rs op (Chars t) (Boolean y) h = single rs op (Chars t) (Boolean y)
-beside_boolean rs op (Nodes ns) (Boolean y) h = single rs op (beside (Nodes ns)) (Boolean y)
-beside_boolean rs op (Piece es) (Boolean y) h = single rs op (Boolean true) (Boolean y)
-beside_boolean rs op a b h = absurd (cc)
 
 -- ---- what represents a value that is no boolean
 

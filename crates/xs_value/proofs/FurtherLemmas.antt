@@ -15,7 +15,7 @@ use Rattle.xs_value.specs.declared.comparison.CompareOp.{CompareOp}
 use Rattle.xs_value.specs.declared.comparison.CompareOp.TheVariants.{Eq, Ne, Lt, Le, Gt, Ge}
 use Rattle.xs_value.specs.Comparison.{by_number, holds, is_ordering, or_else, some}
 use Rattle.xs_value.specs.steps.Operands.{Represents, further}
-use Rattle.xs_value.proofs.ComparisonLemmas.{or_else-false, some-append}
+use Rattle.xs_value.proofs.ComparisonLemmas.{some-append}
 
 -- what an operator that orders says of two whole numbers
 abbrev Orders : CompareOp → ℤ → ℤ → Type 0
@@ -108,10 +108,6 @@ further-holds op (Whole x) (Whole e) (Whole y) h = further-whole op x e y (holds
 abbrev pub RepresentsWhole : CompareOp → List (Result Number NumFault) → Number → Type 0
 RepresentsWhole op ys e = (x : Number) → some (by_number op (Ok x)) ys ≡ Ok (holds op (comparison_of x e))
 
-pub stands-none : (op : CompareOp) → is_ordering op ≡ true → RepresentsWhole op [] NaN
-stands-none op h NaN = ap (λ (b : Bool). Ok b) (sym (none op h))
-stands-none op h (Whole x) = ap (λ (b : Bool). Ok b) (sym (none op h))
-
 either : (b c : Bool) → or_else (Ok b) (or_else (Ok c) (Ok false)) ≡ Ok (b || c)
 either true c = refl
 either false true = refl
@@ -130,7 +126,3 @@ pub stands-all : (op : CompareOp) (y : Result Number NumFault) (ys : List (Resul
     → Represents op (y ∷ ys) e
 stands-all op y ys e s (Ok x) = s x
 stands-all op y ys e s (Err f) = refl
-
-pub stands-one : (op : CompareOp) (e : Number) → Represents op (Ok e ∷ []) e
-stands-one op e (Ok x) = or_else-false (Ok (holds op (comparison_of x e)))
-stands-one op e (Err f) = refl

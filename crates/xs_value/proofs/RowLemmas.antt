@@ -4,13 +4,12 @@ use Rattle.std.proofs.lemmas.List.{append-nil, map-append, append_assoc}
 use Rattle.xs_num.specs.Number.{comparison_of}
 use Rattle.xs_num.specs.Text.{number_in}
 use Rattle.xs_num.specs.declared.number.Number.{Number}
-use Rattle.xs_num.specs.declared.number.Number.TheVariants.{NaN}
 use Rattle.xs_num.specs.declared.number.NumFault.{NumFault}
 use Rattle.xs_tree.specs.Record.{Record, string_value}
 use Rattle.xs_value.specs.declared.comparison.CompareOp.{CompareOp}
 use Rattle.xs_value.specs.Comparison.{by_number, holds, is_ordering, or_else, some}
 use Rattle.xs_value.specs.steps.Operands.{Represents, further, node_numbers}
-use Rattle.xs_value.proofs.FurtherLemmas.{RepresentsWhole, stands-none, stands-more, stands-all}
+use Rattle.xs_value.proofs.FurtherLemmas.{RepresentsWhole, stands-more, stands-all}
 
 -- how x compares with the numbers of nodes
 abbrev pub row : List Record → CompareOp → Number → List ℕ → Result Bool NumFault
@@ -27,25 +26,9 @@ pub record Row (rs : List Record) (op : CompareOp) (x : Number) (nodes left : Li
   pub decides : row rs op x left ≡ row rs op x nodes
   pub stood : is_ordering op ≡ true → StandsBefore rs op nodes left furthest
 
-pub row-start : (rs : List Record) (op : CompareOp) (x : Number) (nodes : List ℕ) → Row rs op x nodes nodes NaN
-row-start rs op x nodes = record {
-  decides = refl;
-  stood = λ o. record { before = []; whole = refl; stands = stands-none op o };
-}
-
 row-one : (rs : List Record) (op : CompareOp) (x y : Number) (n : ℕ) (left rest : List ℕ) → left ≡ n ∷ rest → number_in (string_value rs n) ≡ Ok y
     → row rs op x left ≡ or_else (Ok (holds op (comparison_of x y))) (row rs op x rest)
 row-one rs op x y n left rest e num = ap (row rs op x) e ∙ ap (λ m. or_else (by_number op (Ok x) m) (row rs op x rest)) num
-
-pub row-holds : (rs : List Record) (op : CompareOp) (x y f : Number) (n : ℕ) (nodes left rest : List ℕ) → left ≡ n ∷ rest → number_in (string_value rs n) ≡ Ok y
-    → holds op (comparison_of x y) ≡ true → Row rs op x nodes left f → row rs op x nodes ≡ Ok true
-row-holds rs op x y f n nodes left rest e num h r =
-    sym r.decides ∙ row-one rs op x y n left rest e num ∙ ap (λ b. or_else (Ok b) (row rs op x rest)) h
-
-pub row-fault : (rs : List Record) (op : CompareOp) (x f : Number) (fault : NumFault) (n : ℕ) (nodes left rest : List ℕ) → left ≡ n ∷ rest
-    → number_in (string_value rs n) ≡ Err fault → Row rs op x nodes left f → row rs op x nodes ≡ Err fault
-row-fault rs op x f fault n nodes left rest e num r =
-    sym r.decides ∙ ap (row rs op x) e ∙ ap (λ m. or_else (by_number op (Ok x) m) (row rs op x rest)) num
 
 one-more : (before rest : List ℕ) (n : ℕ) → before ++ n ∷ rest ≡ (before ++ n ∷ []) ++ rest
 one-more before rest n = sym (append_assoc before (n ∷ []) rest)

@@ -8,7 +8,7 @@ use Rattle.std.specs.List.{list_any}
 use Rattle.std.specs.Str.{bytes_eq}
 use Rattle.xs_trace.specs.declared.event.Event.{Event}
 use Rattle.xs_value.specs.Conversion.{event_text, fragment_text}
-use Rattle.xs_value.specs.steps.Operands.{first_of, has_others, is_other, some_different, some_equal}
+use Rattle.xs_value.specs.steps.Operands.{first_of, has_others, is_other, some_different}
 
 pub bytes-sym : (x y : List ℕ) → bytes_eq x y ≡ bytes_eq y x
 bytes-sym x y = same_from_decides (bytes_eq x y) (bytes_eq y x) (bytes_decides x y) (Decides-like (bytes_eq y x) (λ e. sym e) (λ e. sym e) (bytes_decides y x))
@@ -24,13 +24,6 @@ or-twice false = refl
 pub any-same : (p q : List ℕ → Bool) (xs : List (List ℕ)) → ((x : List ℕ) → p x ≡ q x) → list_any p xs ≡ list_any q xs
 any-same p q [] h = refl
 any-same p q (x ∷ xs) h = ap (λ b. b || list_any p xs) (h x) ∙ ap (λ b. q x || b) (any-same p q xs h)
-
--- one string on the left, and one on the right
-pub equal_left : (text : List ℕ) (ys : List (List ℕ)) → list_any (bytes_eq text) ys ≡ some_equal (text ∷ []) ys
-equal_left text ys = sym (or-false (list_any (bytes_eq text) ys))
-
-pub equal_right : (text : List ℕ) (xs : List (List ℕ)) → list_any (bytes_eq text) xs ≡ some_equal xs (text ∷ [])
-equal_right text xs = any-same (bytes_eq text) (λ x. list_any (bytes_eq x) (text ∷ [])) xs (λ x. bytes-sym text x ∙ sym (or-false (bytes_eq x text)))
 
 -- ---- strings that are all one
 

@@ -5,10 +5,10 @@ use Rattle.std.proofs.Math.Seq.{drop-cons}
 use Rattle.std.proofs.lemmas.List.{append-nil, append_assoc}
 use Rattle.std.specs.Cmp.Lexicographic.{pointwise}
 use Rattle.std.specs.Str.{bytes_eq}
-use Rattle.std.specs.List.{after_first, before_first, flat_map, list_any, position_or_len}
+use Rattle.std.specs.List.{flat_map, list_any, position_or_len}
 use Rattle.xs_words.specs.Choice.{Pair, Text}
-use Rattle.xs_text.proofs.NameLemmas.{any-before, any-past}
-use Rattle.xs_words.specs.Inputs.{all_pairs, document_in, documents_in, is_document, is_among, is_equals, named, pair_of, parameter_in, parameters_in}
+use Rattle.xs_text.proofs.NameLemmas.{any-past}
+use Rattle.xs_words.specs.Inputs.{all_pairs, document_in, documents_in, is_document, is_among, is_equals, pair_of, parameter_in, parameters_in}
 use Rattle.xs_words.specs.Results.{Gives, HasAdded, borrowed}
 use Rattle.xs_words.specs.declared.choice.WordsEnd.{WordsEnd}
 use Rattle.xs_words.specs.declared.choice.WordsEnd.TheVariants.{Usage, NoMemory}
@@ -79,25 +79,12 @@ pub pairs_done : (done : List Pair) → prepended done (all_pairs (borrowed []))
 unfolding all_pairs
 pairs_done done = ap (λ (t : List Pair). Some t) (append-nil done)
 
-prepended-nothing : (o : Option (List Pair)) → prepended [] o ≡ o
-prepended-nothing None = refl
-prepended-nothing (Some x) = refl
-
-pub pairs_start : (words : List (Bor Text)) → prepended [] (all_pairs (borrowed words)) ≡ all_pairs (borrowed words)
-pairs_start words = prepended-nothing (all_pairs (borrowed words))
-
 -- ---- one word
 
 -- a word without `=`
 pub pair_whole : (word : Text) → position_or_len is_equals word ≡ length word → None ≡ pair_of word
 unfolding pair_of
 pair_whole word e = rw (any-past is_equals word e) refl
-
--- a word that is cut at its first `=`
-pub pair_cut : (word name text : Text) → name ≡ before_first is_equals word → text ≡ after_first is_equals word → position_or_len is_equals word < length word
-    → named name text ≡ pair_of word
-unfolding pair_of
-pair_cut word name text before after e = rw (before, after, any-before is_equals word e) refl
 
 document_none : (word : Text) → ((rest : Text) → word ≢ 64 ∷ rest) → is_document word ≡ false
 document_none [] h = refl

@@ -7,7 +7,7 @@ use Rattle.std.specs.Str.{bytes_eq}
 use Rattle.xs_tree.specs.Kinds.{is_root_kind}
 use Rattle.xs_tree.specs.Record.{Record, name_local, name_uri}
 use Rattle.xs_numbering.specs.Counting.{has_level, kind_number}
-use Rattle.xs_numbering.specs.steps.Passes.{held_by}
+use Rattle.xs_numbering.specs.Passes.{held_by}
 use Rattle.xs_number_tables.specs.declared.alike.Seen.{Seen}
 
 -- what alike nodes have in common

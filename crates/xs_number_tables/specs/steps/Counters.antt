@@ -3,7 +3,7 @@ use Rattle.std.specs.Prelude.{◌≡◌, ℕ, List, [], map, Option, Some, None,
 use Rattle.std.specs.declared.alloc.Global.{Global}
 use Rattle.xs_pattern.specs.MatchTables.{IsMatchTable}
 use Rattle.xs_numbering.specs.Counting.{any_number, is_alike, sibling_number}
-use Rattle.xs_numbering.specs.steps.Passes.{is_flagged}
+use Rattle.xs_numbering.specs.Passes.{is_flagged}
 use Rattle.xs_sheet.specs.declared.body.Level.{Level}
 use Rattle.xs_sheet.specs.declared.body.Level.TheVariants.{Single, Multiple, Any}
 use Rattle.xs_sheet.specs.declared.body.NumberDecl.{NumberDecl}

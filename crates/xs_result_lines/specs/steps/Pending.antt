@@ -6,8 +6,8 @@ use denote.Ref.{Bor}
 use Rattle.xs_pyx.specs.declared.line.Line.{Line}
 use Rattle.xs_pyx.specs.declared.line.Line.TheVariants as line
 use Rattle.xs_result.specs.Built.{is_empty}
-use Rattle.xs_result.specs.steps.Building.{State, nothing, taken, taken_all}
-use Rattle.xs_result.specs.steps.Places.{is_attribute_of}
+use Rattle.xs_result.specs.Building.{State, nothing, taken, taken_all}
+use Rattle.xs_result.specs.Places.{is_attribute_of}
 use Rattle.xs_trace.specs.Label.{Label}
 use Rattle.xs_trace.specs.declared.event.Event.{Event}
 use Rattle.xs_trace.specs.declared.event.Event.TheVariants.{Start, Space, Attr, Chars, End, Comment, Pi}

@@ -1,6 +1,6 @@
 use Rattle.std.proofs.Common.{arith}
 use Rattle.xs_tree.specs.Record.{at}
-use Rattle.xs_numbering.specs.steps.Passes.{is_flagged}
+use Rattle.xs_numbering.specs.Passes.{is_flagged}
 use Rattle.xs_number_tables.proofs.AlikeLemmas.{groups-few, here-few, next-any, none-seen}
 use Rattle.xs_number_tables.proofs.alike.alike_any_numbers.Goals as goal
 

@@ -1,7 +1,7 @@
 use Rattle.std.proofs.Common.{◌≡◌, map}
 use Rattle.std.specs.List.{range_with_len}
 use Rattle.xs_pattern_spec.specs.Counted.{alike_any_number}
-use Rattle.xs_numbering.specs.steps.Passes.{is_flagged}
+use Rattle.xs_numbering.specs.Passes.{is_flagged}
 use Rattle.xs_number_tables.proofs.AlikeLemmas.{IsSeen}
 use Rattle.xs_number_tables.proofs.alike.alike_any_numbers.Given as goal
 

@@ -3,7 +3,7 @@ use Rattle.std.specs.List.{range_with_len}
 use Rattle.xs_tree.specs.Record.{Record}
 use Rattle.xs_pattern_spec.specs.Counted.{alike_number}
 use Rattle.xs_number_tables.specs.steps.Alike.{seen_in}
-use Rattle.xs_numbering.specs.steps.Passes.{children_seen}
+use Rattle.xs_numbering.specs.Passes.{children_seen}
 use Rattle.xs_number_tables.proofs.AlikeLemmas.{alike}
 use Rattle.xs_number_tables.proofs.alike.alike_numbers.Given as goal
 

@@ -2,7 +2,7 @@ use Rattle.std.proofs.Common.{◌≡◌, ◌++◌, filter, map, not, take_while}
 use Rattle.xs_tree.specs.declared.axes.Axis.TheVariants.{Ancestor}
 use Rattle.xs_tree.specs.Axis.{axis_list}
 use Rattle.xs_numbering.specs.Counting.{sibling_number}
-use Rattle.xs_numbering.specs.steps.Passes.{is_flagged}
+use Rattle.xs_numbering.specs.Passes.{is_flagged}
 use Rattle.xs_numbering.proofs.levels.add_above.Given as goal
 
 -- the numbers so far, with those of the ancestors that are left, are all

@@ -1,6 +1,6 @@
 use Rattle.std.proofs.Common.{◌≡◌, ◌<◌, true, cond, [], ◌∷◌, ◌++◌, map, sym, subst, ap, ◌∙◌}
 use Rattle.xs_numbering.specs.Counting.{sibling_number}
-use Rattle.xs_numbering.specs.steps.Passes.{is_flagged}
+use Rattle.xs_numbering.specs.Passes.{is_flagged}
 use Rattle.xs_numbering.proofs.LevelLemmas.{number-in, table-long}
 use Rattle.xs_numbering.proofs.levels.add_number.Goals as goal
 

@@ -1,6 +1,6 @@
 use Rattle.std.proofs.Common.{[], ◌∷◌, ◌++◌, append_assoc, sym, ap, ◌∙◌}
 use Rattle.xs_numbering.specs.Counting.{counted}
-use Rattle.xs_numbering.specs.steps.Passes.{is_flagged}
+use Rattle.xs_numbering.specs.Passes.{is_flagged}
 use Rattle.xs_numbering.proofs.LevelLemmas.{ancestor-within, first-found, first-later}
 use Rattle.xs_numbering.proofs.levels.first_counted.Goals as goal
 

@@ -1,4 +1,4 @@
-use Rattle.xs_numbering.specs.steps.Passes.{is_flagged}
+use Rattle.xs_numbering.specs.Passes.{is_flagged}
 use Rattle.xs_numbering.proofs.PassLemmas.{next_number}
 use Rattle.xs_numbering.proofs.passes.any_numbers.Goals as goal
 

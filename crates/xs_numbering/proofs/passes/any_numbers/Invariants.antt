@@ -2,7 +2,7 @@ use Rattle.std.proofs.Common.{◌≡◌, ◌≤◌, ◌-◌, map}
 use Rattle.std.specs.List.{range_with_len}
 use Rattle.xs_tree.specs.Axis.{root_of}
 use Rattle.xs_numbering.specs.Counting.{any_number}
-use Rattle.xs_numbering.specs.steps.Passes.{is_flagged, running}
+use Rattle.xs_numbering.specs.Passes.{is_flagged, running}
 use Rattle.xs_numbering.proofs.passes.any_numbers.Given as goal
 
 -- the numbers of the nodes that were passed, and how many of them are counted for the next one

@@ -1,6 +1,6 @@
 use Rattle.std.proofs.Common.{◌<◌, length, refl, arith}
 use Rattle.xs_tree.specs.Record.{at}
-use Rattle.xs_numbering.specs.steps.Passes.{held_by, is_flagged}
+use Rattle.xs_numbering.specs.Passes.{held_by, is_flagged}
 use Rattle.xs_numbering.proofs.SiblingLemmas.{held-within, next_sibling, seen-few, seen-long}
 use Rattle.xs_numbering.proofs.passes.sibling_numbers.Goals as goal
 

@@ -1,7 +1,7 @@
 use Rattle.std.proofs.Common.{◌≡◌, ◌<◌, ℕ, get_or, length, map}
 use Rattle.std.specs.List.{range_with_len}
 use Rattle.xs_numbering.specs.Counting.{sibling_number}
-use Rattle.xs_numbering.specs.steps.Passes.{children_seen, is_flagged}
+use Rattle.xs_numbering.specs.Passes.{children_seen, is_flagged}
 use Rattle.xs_numbering.proofs.passes.sibling_numbers.Given as goal
 
 -- the numbers of the nodes that were passed, and how many children of each node were counted

@@ -1,5 +1,5 @@
 use Rattle.std.proofs.Common.{◌∙◌, ap, map}
-use Rattle.xs_result.specs.steps.Building.{flushed}
+use Rattle.xs_result.specs.Building.{flushed}
 use Rattle.xs_result.proofs.BuiltLemmas.{built_is}
 use Rattle.xs_result.proofs.events.build.Goals as goal
 

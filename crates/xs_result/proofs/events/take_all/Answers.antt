@@ -1,6 +1,6 @@
 use Rattle.std.proofs.Common.{◌∙◌, ap, map, sym, ◌∷◌, []}
 use Rattle.std.proofs.lemmas.List.{map-append}
-use Rattle.xs_result.specs.steps.Building.{nothing, taken, taken_all}
+use Rattle.xs_result.specs.Building.{nothing, taken, taken_all}
 use Rattle.xs_result.proofs.BuiltLemmas.{taken_behind}
 use Rattle.xs_result.proofs.events.take_all.Goals as goal
 

@@ -1,5 +1,5 @@
 use Rattle.std.proofs.Common.{◌≡◌, map}
-use Rattle.xs_result.specs.steps.Building.{nothing, taken_all}
+use Rattle.xs_result.specs.Building.{nothing, taken_all}
 use Rattle.xs_result.specs.steps.Views.{state}
 use Rattle.xs_result.proofs.events.take_all.Given as goal
 

@@ -1,5 +1,5 @@
 use Rattle.std.proofs.Common.{◌≡◌, drop}
-use Rattle.xs_result.specs.steps.Places.{place_in}
+use Rattle.xs_result.specs.Places.{place_in}
 use Rattle.xs_result.proofs.start_tag.place_among.Given as goal
 
 -- of the names that are left the name has the place that it has of all

@@ -1,6 +1,6 @@
 use Rattle.std.proofs.Common.{ap, sym}
 use Rattle.std.proofs.lemmas.List.{nil_from_length}
-use Rattle.xs_result.specs.steps.Places.{place_in}
+use Rattle.xs_result.specs.Places.{place_in}
 use Rattle.xs_result.proofs.start_tag.place_beyond.Goals as goal
 
 pub returns-then-is_empty : goal.returns-then-is_empty

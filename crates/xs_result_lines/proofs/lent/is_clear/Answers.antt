@@ -1,5 +1,5 @@
 use Rattle.std.proofs.Common.{ap, sym}
-use Rattle.xs_result.specs.steps.Places.{is_attribute_of}
+use Rattle.xs_result.specs.Places.{is_attribute_of}
 use Rattle.xs_result_lines.specs.steps.Pending.{lent}
 use Rattle.xs_result_lines.proofs.PendingLemmas.{unnamed_clear}
 use Rattle.xs_result_lines.proofs.lent.is_clear.Goals as goal

@@ -1,6 +1,6 @@
 use Rattle.std.proofs.Common.{refl}
-use Rattle.xs_result.specs.steps.Building.{taken}
-use Rattle.xs_result_lines.specs.steps.Kept.{kept}
+use Rattle.xs_result.specs.Building.{taken}
+use Rattle.xs_result_lines.specs.Kept.{kept}
 use Rattle.xs_result_lines.proofs.StreamLemmas.{stream_step}
 use Rattle.xs_result_lines.proofs.stream.take_event.Goals as goal
 

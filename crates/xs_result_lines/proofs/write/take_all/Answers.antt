@@ -1,7 +1,7 @@
 use Rattle.std.proofs.Common.{◌∷◌, [], map, subst, sym}
 use Rattle.std.proofs.lemmas.List.{map-append}
-use Rattle.xs_result_lines.specs.steps.Kept.{kept}
-use Rattle.xs_result_lines.specs.steps.Stream.{IsTaken}
+use Rattle.xs_result_lines.specs.Kept.{kept}
+use Rattle.xs_result_lines.specs.Keeping.{IsTaken}
 use Rattle.xs_result_lines.proofs.StreamLemmas.{kept-twice, kept_whole}
 use Rattle.xs_result_lines.proofs.write.take_all.Goals as goal
 

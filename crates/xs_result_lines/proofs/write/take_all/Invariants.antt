@@ -1,7 +1,7 @@
 use Rattle.std.proofs.Common.{◌≡◌, length, map, take}
 use Rattle.std.specs.Str.{IsUtf8}
-use Rattle.xs_result_lines.specs.steps.Kept.{kept}
-use Rattle.xs_result_lines.specs.steps.Stream.{IsTaken}
+use Rattle.xs_result_lines.specs.Kept.{kept}
+use Rattle.xs_result_lines.specs.Keeping.{IsTaken}
 use Rattle.xs_result_lines.proofs.write.take_all.Given as goal
 
 -- what is kept and the writer are those of the events that came

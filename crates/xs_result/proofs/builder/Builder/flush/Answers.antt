@@ -1,7 +1,7 @@
 use Rattle.std.proofs.Common.{◌∙◌, ap, sym, ◌++◌, ◌∷◌, []}
 use Rattle.std.proofs.lemmas.List.{append_assoc}
 use Rattle.xs_trace.specs.declared.event.Event.TheVariants.{Chars}
-use Rattle.xs_result.specs.steps.Building.{flushed, option_events}
+use Rattle.xs_result.specs.Building.{flushed, option_events}
 use Rattle.xs_result.proofs.builder.Builder.flush.Goals as goal
 
 pub returns-in_ok-push-clause-events : goal.returns-in_ok-push-clause-events

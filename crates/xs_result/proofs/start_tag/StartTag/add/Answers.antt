@@ -1,6 +1,6 @@
 use Rattle.std.proofs.Common.{◌∙◌, ap, sym, arith, ◌++◌, ◌∷◌, []}
 use Rattle.xs_trace.specs.declared.event.Event.TheVariants.{Attr}
-use Rattle.xs_result.specs.steps.Places.{place_in, place_of, with_attribute}
+use Rattle.xs_result.specs.Places.{place_in, place_of, with_attribute}
 use Rattle.xs_result.proofs.PlaceLemmas.{added, entered}
 use Rattle.xs_result.proofs.start_tag.StartTag.add.Goals as goal
 

@@ -1,5 +1,5 @@
 use Rattle.std.proofs.Common.{◌∙◌, ap, sym}
-use Rattle.xs_result.specs.steps.Places.{place_in, place_of}
+use Rattle.xs_result.specs.Places.{place_in, place_of}
 use Rattle.xs_result.proofs.PlaceLemmas.{among_few, beyond_few}
 use Rattle.xs_result.proofs.start_tag.StartTag.place.Goals as goal
 

@@ -1,5 +1,5 @@
 use Rattle.std.proofs.Common.{◌∙◌, ap, sym}
-use Rattle.xs_result.specs.steps.Places.{place_of}
+use Rattle.xs_result.specs.Places.{place_of}
 use Rattle.xs_result.proofs.PlaceLemmas.{place_of_pushed}
 use Rattle.xs_result.proofs.start_tag.StartTag.push.Goals as goal
 

@@ -1,5 +1,5 @@
 use Rattle.std.proofs.Common.{◌∙◌, [], ap, sym, arith, slice_set}
-use Rattle.xs_result.specs.steps.Places.{place_of, revalued, with_attribute}
+use Rattle.xs_result.specs.Places.{place_of, revalued, with_attribute}
 use Rattle.xs_result.proofs.PlaceLemmas.{place_within, places_replaced, replaced}
 use Rattle.xs_result.proofs.start_tag.StartTag.replace.Goals as goal
 

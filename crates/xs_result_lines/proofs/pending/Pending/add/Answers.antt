@@ -1,6 +1,6 @@
-use Rattle.xs_result.specs.steps.Building.{taken}
+use Rattle.xs_result.specs.Building.{taken}
 use Rattle.std.proofs.Common.{refl}
-use Rattle.xs_result_lines.specs.steps.Kept.{kept}
+use Rattle.xs_result_lines.specs.Kept.{kept}
 use Rattle.xs_result_lines.proofs.PendingLemmas.{added_is, none_closed, nothing_opened, nothing_written}
 use Rattle.xs_result_lines.proofs.StreamLemmas.{on_ok}
 use Rattle.xs_result_lines.proofs.pending.Pending.add.Goals as goal

@@ -1,6 +1,6 @@
 use Rattle.std.proofs.Common.{[], ◌∷◌}
-use Rattle.xs_result.specs.steps.Building.{flushed}
-use Rattle.xs_result_lines.specs.steps.Kept.{kept}
+use Rattle.xs_result.specs.Building.{flushed}
+use Rattle.xs_result_lines.specs.Kept.{kept}
 use Rattle.xs_result_lines.proofs.PendingLemmas.{two_opened, two_written}
 use Rattle.xs_result_lines.proofs.pending.Pending.child.Goals as goal
 

@@ -1,5 +1,5 @@
 use Rattle.std.proofs.Common.{refl}
-use Rattle.xs_result_lines.specs.steps.Kept.{kept}
+use Rattle.xs_result_lines.specs.Kept.{kept}
 use Rattle.xs_result_lines.proofs.PendingLemmas.{flushed_opened, flushed_written}
 use Rattle.xs_result_lines.proofs.pending.Pending.flush.Goals as goal
 

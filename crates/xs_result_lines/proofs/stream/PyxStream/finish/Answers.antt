@@ -1,6 +1,6 @@
 use Rattle.std.proofs.Common.{refl}
-use Rattle.xs_result.specs.steps.Building.{flushed}
-use Rattle.xs_result_lines.specs.steps.Kept.{kept}
+use Rattle.xs_result.specs.Building.{flushed}
+use Rattle.xs_result_lines.specs.Kept.{kept}
 use Rattle.xs_result_lines.proofs.StreamLemmas.{on_ok, stream_end}
 use Rattle.xs_result_lines.proofs.stream.PyxStream.finish.Goals as goal
 

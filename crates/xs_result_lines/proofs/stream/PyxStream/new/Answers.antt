@@ -1,4 +1,4 @@
-use Rattle.xs_result_lines.specs.steps.Kept.{kept}
+use Rattle.xs_result_lines.specs.Kept.{kept}
 use Rattle.xs_result_lines.proofs.StreamLemmas.{stream_start}
 use Rattle.xs_result_lines.proofs.stream.PyxStream.new.Goals as goal
 

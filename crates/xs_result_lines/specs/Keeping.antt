@@ -1,6 +1,6 @@
 -- What a stream keeps of the events that it took: what a builder has of them, without what is settled.
 use Rattle.std.specs.Prelude.{◌≡◌, ℕ, false, List, [], ◌++◌}
-use Rattle.xs_result.specs.steps.Building.{State, nothing, taken_all}
+use Rattle.xs_result.specs.Building.{State, nothing, taken_all}
 use Rattle.xs_trace.specs.declared.event.Event.{Event}
 use Rattle.xs_result_lines.specs.Laws.{begins_in_tag}
 use Rattle.xs_result_lines.specs.Lines.{OpenElement, bytes_of, lines, open_after}

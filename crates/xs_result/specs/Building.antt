@@ -4,7 +4,7 @@ use Rattle.xs_trace.specs.declared.event.Event.{Event}
 use Rattle.xs_trace.specs.declared.event.Event.TheVariants.{Start, Space, Attr, Chars, End, Comment, Pi}
 use Rattle.xs_trace.specs.Label.{Label}
 use Rattle.xs_result.specs.Built.{is_empty}
-use Rattle.xs_result.specs.steps.Places.{with_attribute}
+use Rattle.xs_result.specs.Places.{with_attribute}
 
 -- a text that may be none
 abbrev pub option_events : Option (List ℕ) → List Event

@@ -1,2 +1,0 @@
--- What the code mirrors.
-pub mod Given
