@@ -22,7 +22,7 @@ use xs_modules::Modules;
 use xs_sheet::declarations::Alias;
 use xs_structure::places::{Place, said_at, tag_at, tree_of};
 use xs_text::TextBuf;
-use xs_tree::Node;
+use xs_tree::{InputHashes, Node};
 
 /// A URI, empty where there is none.
 fn or_none(uri: Option<&str>) -> &str
@@ -102,6 +102,7 @@ fn note_alias<'m>(
 /// The declarations of aliases that count, each for another namespace, which represents its name.
 fn counted_aliases<'m>(
     alloc: Global,
+    hashes: InputHashes,
     modules: &'m Modules,
     places: &[Place],
 ) -> Result<Counted<'m>, AllocError>
@@ -110,7 +111,7 @@ fn counted_aliases<'m>(
         ≡ counted (modules_data modules.now)
         (filter (is_alias_for (modules_data modules.now) uri) places.now)) }
 {
-    let mut found = Counted::new(alloc);
+    let mut found = Counted::new(alloc, hashes);
     for place in places {
         note_alias(modules, place.0, place.1, &mut found)?;
     }
@@ -155,9 +156,10 @@ fn push_alias(
     Ok(())
 }
 
-/// The aliases that count.
+/// The aliases that count. A table has these hashes.
 pub(crate) fn aliases(
     alloc: Global,
+    hashes: InputHashes,
     modules: &Modules,
     places: &[Place],
 ) -> Result<Vec<Alias>, AllocError>
@@ -165,7 +167,7 @@ pub(crate) fn aliases(
     requires all { places.now ≡ declarations (modules_data modules.now) }
     ensures { IfOk result (λ found. found.items ≡ aliases (modules_data modules.now)) }
 {
-    let found = counted_aliases(alloc, modules, places)?;
+    let found = counted_aliases(alloc, hashes, modules, places)?;
     let mut aliases = Vec::new(alloc);
     for place in places {
         push_alias(alloc, modules, &found, place.0, place.1, &mut aliases)?;

@@ -30,6 +30,7 @@ use xs_sheet::items::Items;
 use xs_sheet::sheet::Sheet;
 use xs_static::{StaticFault, first_fault};
 use xs_structure::declarations::declarations;
+use xs_structure::hashes::hashes_of;
 use xs_structure::places::Place;
 use xs_structure::standing::is_element;
 use xs_text::TextBuf;
@@ -130,7 +131,13 @@ fn sheet_of(alloc: Global, modules: &Modules, declared: &[Place]) -> Result<Shee
     requires accepted { IsFirstFault (modules_data modules.now) None }
     ensures { IfOk result (Represents (modules_data modules.now)) }
 {
-    let counted = counted_of(alloc, modules, declared, Declared::Global)?;
+    let counted = counted_of(
+        alloc,
+        hashes_of(modules),
+        modules,
+        declared,
+        Declared::Global,
+    )?;
     let compiler = Compiler::new(alloc, modules, declared, &counted)?;
     sheet_by(&compiler, declared, &counted)
 }
@@ -157,7 +164,7 @@ fn sheet_by<'m>(
         keys: Items::of(compiler.keys(declared)?),
         sets: Items::of(compiler.sets(declared)?),
         strips: Items::of(strips(alloc, modules, declared)?),
-        aliases: Items::of(aliases(alloc, modules, declared)?),
+        aliases: Items::of(aliases(alloc, found.hashes(), modules, declared)?),
         method: method(modules, declared),
         modules: Items::of(names(alloc, modules)?),
         root_line: root_line(modules),

@@ -35,7 +35,7 @@ use xs_modules::Modules;
 use xs_structure::places::{Place, name_at, tree_of};
 use xs_structure::scopes::Scopes;
 use xs_structure::standing::{Standing, standings};
-use xs_tree::Node;
+use xs_tree::{InputHashes, Node};
 use xs_xpath::name::Slot;
 use xs_xpath::scope::Scope;
 
@@ -74,6 +74,7 @@ fn all_scopes(alloc: Global, modules: &Modules) -> Result<Vec<Scopes>, AllocErro
 /// How the nodes of all modules stand, by the namespaces in scope at them.
 fn all_standings(
     alloc: Global,
+    hashes: InputHashes,
     modules: &Modules,
     scopes: &[Scopes],
 ) -> Result<Vec<Vec<Standing>>, AllocError>
@@ -85,7 +86,7 @@ fn all_standings(
     let mut all = Vec::new(alloc);
     for number in 0..modules.list.len() {
         let tree = &modules.list[number].tree;
-        all.push(standings(alloc, tree, &scopes[number])?)?;
+        all.push(standings(alloc, hashes, tree, &scopes[number])?)?;
     }
     Ok(all)
 }
@@ -93,6 +94,7 @@ fn all_standings(
 /// The local bindings of all modules, whose nodes stand so.
 fn all_locals<'m>(
     alloc: Global,
+    hashes: InputHashes,
     modules: &'m Modules,
     standings: &[Vec<Standing>],
 ) -> Result<Vec<Locals<'m>>, AllocError>
@@ -104,7 +106,7 @@ fn all_locals<'m>(
     for number in 0..modules.list.len() {
         let tree = &modules.list[number].tree;
         let _count = tree.len();
-        all.push(Locals::of(alloc, tree, &standings[number])?)?;
+        all.push(Locals::of(alloc, hashes, tree, &standings[number])?)?;
     }
     Ok(all)
 }
@@ -128,12 +130,13 @@ impl<'m> Compiler<'m> {
         ensures modules { IfOk result (λ c. modules_of c ≡ modules_data modules.now) }
         ensures state { IfOk result IsState }
     {
+        let hashes = globals.hashes();
         let globals = global_numbers(alloc, modules, declared, globals)?;
-        let templates = template_numbers(alloc, modules, declared)?;
-        let modes = Modes::of(alloc, modules)?;
+        let templates = template_numbers(alloc, hashes, modules, declared)?;
+        let modes = Modes::of(alloc, hashes, modules)?;
         let scopes = all_scopes(alloc, modules)?;
-        let standings = all_standings(alloc, modules, &scopes)?;
-        let locals = all_locals(alloc, modules, &standings)?;
+        let standings = all_standings(alloc, hashes, modules, &scopes)?;
+        let locals = all_locals(alloc, hashes, modules, &standings)?;
         Ok(Compiler {
             alloc,
             modules,

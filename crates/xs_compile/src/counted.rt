@@ -23,23 +23,28 @@ use xs_elements::scope::Expanded;
 use xs_elements::tags::Tag;
 use xs_modules::Modules;
 use xs_structure::places::{Place, is_template, name_at, precedence_at, tag_at};
-use xs_tree::Node;
+use xs_tree::{InputHashes, Node};
 
 /// The declarations that count, by their names: the number of the module and the place there.
 #[derive(Drop)]
 pub(crate) struct Counted<'m> {
     /// Of each name the one that counts.
-    pub(crate) places: HashMap<Expanded<'m>, (u32, u32)>,
+    pub(crate) places: HashMap<Expanded<'m>, (u32, u32), InputHashes>,
 }
 
 impl<'m> Counted<'m> {
-    /// None.
-    pub(crate) fn new(alloc: Global) -> Counted<'m>
+    /// None, in a table with these hashes.
+    pub(crate) fn new(alloc: Global, hashes: InputHashes) -> Counted<'m>
         ensures { (uri local : List ℕ) → place_in result uri local ≡ None }
     {
         Counted {
-            places: HashMap::new(alloc),
+            places: HashMap::with_hasher(alloc, hashes),
         }
+    }
+
+    /// The hashes of the table.
+    pub(crate) fn hashes(&self) -> InputHashes {
+        *self.places.hasher()
     }
 
     /// Whether the declaration of a name that counts so far has a higher precedence.
@@ -136,9 +141,10 @@ fn note<'m>(
     }
 }
 
-/// The declarations of a kind that count, each for another name.
+/// The declarations of a kind that count, each for another name, in a table with these hashes.
 pub(crate) fn counted_of<'m>(
     alloc: Global,
+    hashes: InputHashes,
     modules: &'m Modules,
     places: &[Place],
     kind: Kind,
@@ -149,7 +155,7 @@ pub(crate) fn counted_of<'m>(
         (filter (declares (kind_test kind) (modules_data modules.now) (uri, local))
         places.now)) }
 {
-    let mut found = Counted::new(alloc);
+    let mut found = Counted::new(alloc, hashes);
     for place in places {
         note(modules, kind, place.0, place.1, &mut found)?;
     }
@@ -175,16 +181,16 @@ pub(crate) fn is_global(modules: &Modules, found: &Counted<'_>, number: u32, n: 
 #[derive(Drop)]
 pub(crate) struct Numbers<'m> {
     /// Of each name its number.
-    pub(crate) numbers: HashMap<Expanded<'m>, u32>,
+    pub(crate) numbers: HashMap<Expanded<'m>, u32, InputHashes>,
 }
 
 impl<'m> Numbers<'m> {
-    /// None.
-    fn new(alloc: Global) -> Numbers<'m>
+    /// None, in a table with these hashes.
+    fn new(alloc: Global, hashes: InputHashes) -> Numbers<'m>
         ensures { (uri local : List ℕ) → number_in result uri local ≡ None }
     {
         Numbers {
-            numbers: HashMap::new(alloc),
+            numbers: HashMap::with_hasher(alloc, hashes),
         }
     }
 
@@ -265,7 +271,7 @@ pub(crate) fn global_numbers<'m>(
     ensures { IfOk result (λ n. (uri local : List ℕ) → number_in n uri local
         ≡ global_number (modules_data modules.now) (uri, local)) }
 {
-    let mut numbers = Numbers::new(alloc);
+    let mut numbers = Numbers::new(alloc, found.hashes());
     let mut next: u32 = 0;
     for place in places {
         next = number_global(modules, found, place.0, place.1, next, &mut numbers)?;
@@ -304,6 +310,7 @@ fn number_template<'m>(
 /// one without a name.
 pub(crate) fn template_numbers<'m>(
     alloc: Global,
+    hashes: InputHashes,
     modules: &'m Modules,
     places: &[Place],
 ) -> Result<Numbers<'m>, AllocError>
@@ -312,8 +319,8 @@ pub(crate) fn template_numbers<'m>(
     ensures { IfOk result (λ n. (uri local : List ℕ) → number_in n uri local
         ≡ template_number (modules_data modules.now) (uri, local)) }
 {
-    let found = counted_of(alloc, modules, places, Kind::Template)?;
-    let mut numbers = Numbers::new(alloc);
+    let found = counted_of(alloc, hashes, modules, places, Kind::Template)?;
+    let mut numbers = Numbers::new(alloc, hashes);
     let mut next: u32 = 0;
     for place in places {
         next = number_template(modules, &found, place.0, place.1, next, &mut numbers)?;

@@ -14,13 +14,13 @@ use indexmap::IndexSet;
 use std::alloc::{AllocError, Global};
 use xs_elements::scope::{Expanded, expand_name, value_of};
 use xs_modules::Modules;
-use xs_tree::{Kind, Node, Tree};
+use xs_tree::{InputHashes, Kind, Node, Tree};
 
 /// The modes that a stylesheet names, by first use in the order of its modules and their nodes.
 #[derive(Drop)]
 pub(crate) struct Modes<'m> {
     /// Each name once.
-    pub(crate) names: IndexSet<Expanded<'m>>,
+    pub(crate) names: IndexSet<Expanded<'m>, InputHashes>,
 }
 
 /// The mode that an element names, if it does.
@@ -46,14 +46,18 @@ fn noted_at(tree: &Tree, n: Node) -> Option<Expanded<'_>>
 }
 
 impl<'m> Modes<'m> {
-    /// Those of all modules.
+    /// Those of all modules, in a table with these hashes.
     #[tactic(auto, unfolding(crate::specs::Modes::modes_of))]
-    pub(crate) fn of(alloc: Global, modules: &'m Modules) -> Result<Modes<'m>, AllocError>
+    pub(crate) fn of(
+        alloc: Global,
+        hashes: InputHashes,
+        modules: &'m Modules,
+    ) -> Result<Modes<'m>, AllocError>
         ensures modes { IfOk result (HaveModes (modules_data modules.now)) }
         ensures order { IfOk result (λ m. modes_in m ≡ modes_of (modules_data modules.now)) }
     {
         let mut modes = Modes {
-            names: IndexSet::new(alloc),
+            names: IndexSet::with_hasher(alloc, hashes),
         };
         for module in &modules.list {
             modes.note_module(&module.tree)?;

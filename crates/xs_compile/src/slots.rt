@@ -19,7 +19,7 @@ use xs_elements::scope::{Expanded, own_name};
 use xs_elements::tags::Tag;
 use xs_structure::bindings::is_local;
 use xs_structure::standing::{Standing, standing_in};
-use xs_tree::{Node, Tree};
+use xs_tree::{InputHashes, Node, Tree};
 use xs_xpath::name::Slot;
 
 /// From where on a local binding is visible, and its slot.
@@ -48,7 +48,7 @@ impl Local {
 #[derive(Drop)]
 pub(crate) struct Locals<'m> {
     /// The bindings, by the parent and the name.
-    pub(crate) entries: HashMap<(u32, Expanded<'m>), Local>,
+    pub(crate) entries: HashMap<(u32, Expanded<'m>), Local, InputHashes>,
 }
 
 /// How many local bindings are visible at a node, by how many are visible to the next child of
@@ -94,9 +94,10 @@ fn count(
 }
 
 impl<'m> Locals<'m> {
-    /// The local bindings of a module.
+    /// The local bindings of a module, in a table with these hashes.
     pub(crate) fn of(
         alloc: Global,
+        hashes: InputHashes,
         tree: &'m Tree,
         standings: &[Standing],
     ) -> Result<Locals<'m>, AllocError>
@@ -104,7 +105,7 @@ impl<'m> Locals<'m> {
         ensures { IfOk result (AreLocals tree.now (length tree.now)) }
     {
         let mut locals = Locals {
-            entries: HashMap::new(alloc),
+            entries: HashMap::with_hasher(alloc, hashes),
         };
         let mut counts = Vec::new(alloc);
         for place in 0..tree.len() as u32 {

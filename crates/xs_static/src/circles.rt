@@ -12,6 +12,7 @@ use crate::ranks::{falls, none_rise, ranks};
 use crate::search::leads_back;
 use std::alloc::{AllocError, Global};
 use xs_elements::scope::Expanded;
+use xs_tree::InputHashes;
 
 /// The place of a declaration: the number of its module, and its line there.
 #[derive(Clone, Copy, PartialEq, Eq, Debug)]
@@ -77,10 +78,28 @@ fn take<'a>(
     if is_reported(ranks, is_ranked, declaration) {
         return Ok(first);
     }
-    if leads_back(alloc, declarations, declaration)? {
+    if leads_back(alloc, ranks.hashes(), declarations, declaration)? {
         return Ok(Some(declaration.place));
     }
     Ok(first)
+}
+
+/// Hashes that have taken in the names of declarations.
+fn hashes_of(declarations: &[Declaration<'_>]) -> InputHashes {
+    let mut hashes = InputHashes::new();
+    for declaration in declarations {
+        take_in(&mut hashes, declaration.name);
+        for used in &declaration.sets {
+            take_in(&mut hashes, *used);
+        }
+    }
+    hashes
+}
+
+/// Hashes take in a name.
+fn take_in(hashes: &mut InputHashes, name: Expanded<'_>) {
+    hashes.take_in(name.0);
+    hashes.take_in(name.1);
 }
 
 /// The first place, by module and line, of a declaration whose own sets lead back to its name, none
@@ -95,7 +114,7 @@ pub fn first_circle<'a>(
 ) -> Result<Option<Place>, AllocError>
     ensures first { IfOk result (λ place. IsFirstCircle (declared_all declarations.now) place) }
 {
-    let ranks = ranks(alloc, declarations)?;
+    let ranks = ranks(alloc, hashes_of(declarations), declarations)?;
     let is_ranked = none_rise(&ranks, declarations);
     let mut first = None;
     for declaration in declarations {

@@ -9,7 +9,7 @@ ghost use Rattle.xs_structure.specs.Bindings.{local_name};
 use std::alloc::{AllocError, Global};
 use xs_elements::scope::Expanded;
 use xs_structure::in_force::InForce;
-use xs_tree::{Node, Tree};
+use xs_tree::{InputHashes, Node, Tree};
 
 /// A binding whose element is open: it is visible from the end of that on to the end of the parent.
 #[derive(Clone, Copy)]
@@ -31,13 +31,13 @@ pub(crate) struct Locals<'m> {
 }
 
 impl<'m> Locals<'m> {
-    /// None.
-    pub(crate) fn new(alloc: Global) -> Locals<'m>
+    /// None, in a table with these hashes.
+    pub(crate) fn new(alloc: Global, hashes: InputHashes) -> Locals<'m>
         ensures bound { (uri local : List ℕ) (k : ℕ) → bound_at result uri local k ≡ false }
         ensures none { open_in result ≡ [] }
     {
         Locals {
-            in_force: InForce::new(alloc),
+            in_force: InForce::new(alloc, hashes),
             open: Vec::new(alloc),
         }
     }

@@ -7,19 +7,25 @@ ghost use Rattle.xs_static.specs.steps.Ranks.{number_in};
 use std::alloc::{AllocError, Global};
 use std::collections::HashMap;
 use xs_elements::scope::Expanded;
+use xs_tree::InputHashes;
 
 /// Numbers of names.
 #[derive(Drop)]
 pub(crate) struct Numbers<'a> {
-    numbers: HashMap<Expanded<'a>, usize>,
+    numbers: HashMap<Expanded<'a>, usize, InputHashes>,
 }
 
 impl<'a> Numbers<'a> {
-    /// Of no name.
-    pub(crate) fn new(alloc: Global) -> Numbers<'a> {
+    /// Of no name, in a table with these hashes.
+    pub(crate) fn new(alloc: Global, hashes: InputHashes) -> Numbers<'a> {
         Numbers {
-            numbers: HashMap::new(alloc),
+            numbers: HashMap::with_hasher(alloc, hashes),
         }
+    }
+
+    /// The hashes of the table.
+    pub(crate) fn hashes(&self) -> InputHashes {
+        *self.numbers.hasher()
     }
 
     /// The number of a name, 0 where it has none.

@@ -22,27 +22,28 @@ use std::collections::HashSet;
 use xs_elements::scope::{Expanded, own_name};
 use xs_elements::tags::{Tag, tag_of};
 use xs_modules::Modules;
+use xs_structure::hashes::hashes_of;
 use xs_structure::places::Place;
-use xs_tree::Node;
+use xs_tree::{InputHashes, Node};
 
 /// Names of one kind.
 #[derive(Drop)]
 struct Declared<'m> {
     /// All of them.
-    names: HashSet<Expanded<'m>>,
+    names: HashSet<Expanded<'m>, InputHashes>,
     /// The same with the precedences of their declarations.
-    ranked: HashSet<(u32, Expanded<'m>)>,
+    ranked: HashSet<(u32, Expanded<'m>), InputHashes>,
 }
 
 impl<'m> Declared<'m> {
-    /// None.
-    fn new(alloc: Global) -> Declared<'m>
+    /// None, in tables with these hashes.
+    fn new(alloc: Global, hashes: InputHashes) -> Declared<'m>
         ensures names { result.names.keys ≡ [] }
         ensures ranked { result.ranked.keys ≡ [] }
     {
         Declared {
-            names: HashSet::new(alloc),
-            ranked: HashSet::new(alloc),
+            names: HashSet::with_hasher(alloc, hashes),
+            ranked: HashSet::with_hasher(alloc, hashes),
         }
     }
 
@@ -109,16 +110,16 @@ pub(crate) struct Names<'m> {
 }
 
 impl<'m> Names<'m> {
-    /// None.
-    fn new(alloc: Global) -> Names<'m>
+    /// None, in tables with these hashes.
+    fn new(alloc: Global, hashes: InputHashes) -> Names<'m>
         ensures globals { result.globals.names.keys ≡ [] }
         ensures ranked_globals { result.globals.ranked.keys ≡ [] }
         ensures templates { result.templates.names.keys ≡ [] }
         ensures ranked_templates { result.templates.ranked.keys ≡ [] }
     {
         Names {
-            globals: Declared::new(alloc),
-            templates: Declared::new(alloc),
+            globals: Declared::new(alloc, hashes),
+            templates: Declared::new(alloc, hashes),
         }
     }
 
@@ -136,7 +137,7 @@ impl<'m> Names<'m> {
         ensures faults { OnOk result (least.new.fault ≡ least_of least.old.fault
             (names_faults (modules_data modules.now) [] declared.now)) }
     {
-        let mut names = Names::new(alloc);
+        let mut names = Names::new(alloc, hashes_of(modules));
         let mut rest = declared;
         while let Some((place, behind)) = rest.split_first() {
             let (number, element) = *place;
@@ -147,10 +148,15 @@ impl<'m> Names<'m> {
     }
 
     /// The names of global variables and parameters.
-    pub(crate) fn globals(&self) -> &HashSet<Expanded<'m>>
+    pub(crate) fn globals(&self) -> &HashSet<Expanded<'m>, InputHashes>
         ensures { result.now ≡ self.now.globals.names }
     {
         &self.globals.names
+    }
+
+    /// The hashes of the tables.
+    pub(crate) fn hashes(&self) -> InputHashes {
+        *self.globals.names.hasher()
     }
 
     /// Whether a template has this name.

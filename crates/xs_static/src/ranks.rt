@@ -17,6 +17,7 @@ use crate::search::meet;
 use crate::uses::Uses;
 use std::alloc::{AllocError, Global};
 use xs_elements::scope::Expanded;
+use xs_tree::InputHashes;
 
 /// Whether no name is ranked below one that its declarations use.
 pub(crate) fn none_rise(ranks: &Numbers<'_>, declarations: &[Declaration<'_>]) -> bool
@@ -84,9 +85,10 @@ fn push_all<'a>(todo: &mut Vec<Step<'a>>, names: &[Expanded<'a>]) -> Result<(), 
 /// The declared names in the order in which the walk along the uses leaves them.
 fn left_in_order<'a>(
     alloc: Global,
+    hashes: InputHashes,
     declarations: &[Declaration<'a>],
 ) -> Result<Vec<Expanded<'a>>, AllocError> {
-    let mut left = Uses::of(alloc, declarations)?;
+    let mut left = Uses::of(alloc, hashes, declarations)?;
     let mut order = Vec::new(alloc);
     let mut todo = Vec::new(alloc);
     for declaration in declarations {
@@ -120,14 +122,15 @@ fn rank_users<'a>(
     Ok(())
 }
 
-/// Ranks of the declared names.
+/// Ranks of the declared names, in a table with these hashes.
 pub(crate) fn ranks<'a>(
     alloc: Global,
+    hashes: InputHashes,
     declarations: &[Declaration<'a>],
 ) -> Result<Numbers<'a>, AllocError> {
-    let order = left_in_order(alloc, declarations)?;
-    let mut left = Uses::turned(alloc, declarations)?;
-    let mut ranks = Numbers::new(alloc);
+    let order = left_in_order(alloc, hashes, declarations)?;
+    let mut left = Uses::turned(alloc, hashes, declarations)?;
+    let mut ranks = Numbers::new(alloc, hashes);
     for place in (0..order.len()).rev() {
         rank_users(alloc, &mut left, &mut ranks, order[place], place + 1)?;
     }

@@ -11,6 +11,7 @@ use crate::circles::Declaration;
 use crate::uses::Uses;
 use std::alloc::{AllocError, Global};
 use xs_elements::scope::Expanded;
+use xs_tree::InputHashes;
 
 /// Whether two names are the same.
 fn is_same(a: Expanded<'_>, b: Expanded<'_>) -> bool
@@ -38,18 +39,19 @@ pub(crate) fn meet<'a>(
     }
 }
 
-/// Whether what a declaration uses leads back to its own name.
+/// Whether what a declaration uses leads back to its own name. A table has these hashes.
 ///
 /// The time is linear in the size of the declarations.
 pub(crate) fn leads_back<'a>(
     alloc: Global,
+    hashes: InputHashes,
     declarations: &[Declaration<'a>],
     declaration: &Declaration<'a>,
 ) -> Result<bool, AllocError>
     ensures { let circle = IsCircular (declared_all declarations.now) (declared declaration.now)
         in IfOk result (λ b. MatchBool b circle (circle → ⊥)) }
 {
-    let mut left = Uses::of(alloc, declarations)?;
+    let mut left = Uses::of(alloc, hashes, declarations)?;
     let mut todo = Vec::from_slice(alloc, &declaration.sets)?;
     while let Some(name) = todo.pop() {
         if is_same(name, declaration.name) {

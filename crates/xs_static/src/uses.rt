@@ -12,24 +12,26 @@ use crate::circles::Declaration;
 use std::alloc::{AllocError, Global};
 use std::collections::HashMap;
 use xs_elements::scope::Expanded;
+use xs_tree::InputHashes;
 
 /// By name the names that its declarations use, one after another.
 #[derive(Drop)]
 pub(crate) struct Uses<'a> {
-    names: HashMap<Expanded<'a>, Vec<Expanded<'a>>>,
+    names: HashMap<Expanded<'a>, Vec<Expanded<'a>>, InputHashes>,
 }
 
 impl<'a> Uses<'a> {
-    /// Those of all declarations.
+    /// Those of all declarations, in a table with these hashes.
     pub(crate) fn of(
         alloc: Global,
+        hashes: InputHashes,
         declarations: &[Declaration<'a>],
     ) -> Result<Uses<'a>, AllocError>
         ensures { IfOk result (λ uses. (n : Name)
             → uses_in uses n ≡ used_by (declared_all declarations.now) n) }
     {
         let mut uses = Uses {
-            names: HashMap::new(alloc),
+            names: HashMap::with_hasher(alloc, hashes),
         };
         for declaration in declarations {
             uses.add(alloc, declaration.name, &declaration.sets)?;
@@ -41,10 +43,11 @@ impl<'a> Uses<'a> {
     /// that is declared and not used.
     pub(crate) fn turned(
         alloc: Global,
+        hashes: InputHashes,
         declarations: &[Declaration<'a>],
     ) -> Result<Uses<'a>, AllocError> {
         let mut users = Uses {
-            names: HashMap::new(alloc),
+            names: HashMap::with_hasher(alloc, hashes),
         };
         for declaration in declarations {
             users.add(alloc, declaration.name, &[])?;

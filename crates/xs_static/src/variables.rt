@@ -13,13 +13,14 @@ use std::collections::HashSet;
 use xs_elements::forms::{Form, sees_locals};
 use xs_elements::scope::Expanded;
 use xs_structure::in_force::InForce;
+use xs_tree::InputHashes;
 use xs_xpath::avt::AvtPart;
 use xs_xpath::expr::Expr;
 
 /// The bindings that are visible to a value: the global ones, and local ones if there are any.
 #[derive(Clone, Copy)]
 pub(crate) struct Visible<'v, 'm> {
-    pub(crate) globals: &'v HashSet<Expanded<'m>>,
+    pub(crate) globals: &'v HashSet<Expanded<'m>, InputHashes>,
     pub(crate) locals: Option<&'v InForce<'m>>,
     /// The place of the element that has the value.
     pub(crate) place: u32,
@@ -28,7 +29,7 @@ pub(crate) struct Visible<'v, 'm> {
 impl<'v, 'm> Visible<'v, 'm> {
     /// Global bindings and local ones.
     pub(crate) fn all(
-        globals: &'v HashSet<Expanded<'m>>,
+        globals: &'v HashSet<Expanded<'m>, InputHashes>,
         locals: &'v InForce<'m>,
         place: u32,
     ) -> Visible<'v, 'm>

@@ -197,7 +197,7 @@ impl<'w, 'm> Site<'w, 'm> {
             (nodes_faults self.now.number self.now.tree.now self.now.lines.now
             self.now.names.now (length self.now.tree.now))) }
     {
-        let mut locals = Locals::new(self.alloc);
+        let mut locals = Locals::new(self.alloc, self.names.hashes());
         for place in 0..self.tree.len() as u32 {
             self.visit(Node::at(place), &mut locals, least)?;
         }
@@ -227,7 +227,7 @@ pub(crate) fn walk_module<'m>(
         (length module.now.tree))) }
 {
     let scopes = Scopes::of(alloc, &module.tree)?;
-    let standings = standings(alloc, &module.tree, &scopes)?;
+    let standings = standings(alloc, names.hashes(), &module.tree, &scopes)?;
     let site = Site {
         alloc,
         number,

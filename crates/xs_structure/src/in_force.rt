@@ -8,27 +8,32 @@ ghost use Rattle.xs_structure.specs.InForce.{end_of, in_force_at};
 use std::alloc::{AllocError, Global};
 use std::collections::HashMap;
 use xs_elements::scope::Expanded;
+use xs_tree::InputHashes;
 
 /// Names, each with the greatest of the places before which it is in force.
 #[derive(Drop)]
 pub struct InForce<'m> {
-    ends: HashMap<Expanded<'m>, u32>,
+    ends: HashMap<Expanded<'m>, u32, InputHashes>,
 }
 
 impl<'m> InForce<'m> {
-    /// None.
-    pub fn new(alloc: Global) -> InForce<'m>
+    /// None, in a table with these hashes.
+    pub fn new(alloc: Global, hashes: InputHashes) -> InForce<'m>
         ensures { (uri local : List ℕ) (place : ℕ) → in_force_at result uri local place ≡ false }
     {
         InForce {
-            ends: HashMap::new(alloc),
+            ends: HashMap::with_hasher(alloc, hashes),
         }
     }
 
-    /// Whether a name is in force at a place.
+    /// Whether a name is in force at a place. Where there is none, as in most modules, no hash is
+    /// made.
     pub fn has(&self, uri: &str, local: &str, place: u32) -> bool
         ensures { result ≡ in_force_at self.now uri.now local.now place }
     {
+        if self.ends.is_empty() {
+            return false;
+        }
         match self.ends.get(&(uri, local)) {
             Some(end) => place < *end,
             None => false,

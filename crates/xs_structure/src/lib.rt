@@ -4,6 +4,7 @@
 
 pub mod bindings;
 pub mod declarations;
+pub mod hashes;
 pub mod in_force;
 mod namespaces;
 pub mod places;

@@ -22,7 +22,7 @@ use xs_elements::scope::value_of;
 use xs_elements::tags::{Tag, XSLT_URI, is_top_level};
 use xs_elements::words::first_word;
 use xs_text::XML_URI;
-use xs_tree::{Node, Tree};
+use xs_tree::{InputHashes, Node, Tree};
 use xs_xpath::scope::Scope;
 
 /// The namespace that a word means; `#default` is the default one, or none.
@@ -134,16 +134,16 @@ pub(crate) struct Namespaces<'s> {
 }
 
 impl<'s> Namespaces<'s> {
-    /// None.
-    pub(crate) fn new(alloc: Global) -> Namespaces<'s>
+    /// None, in tables with these hashes.
+    pub(crate) fn new(alloc: Global, hashes: InputHashes) -> Namespaces<'s>
         ensures extensions { (uri : List ℕ) (place : ℕ)
             → in_force_at result.extensions uri [] place ≡ false }
         ensures excluded { (uri : List ℕ) (place : ℕ)
             → in_force_at result.excluded uri [] place ≡ false }
     {
         Namespaces {
-            extensions: InForce::new(alloc),
-            excluded: InForce::new(alloc),
+            extensions: InForce::new(alloc, hashes),
+            excluded: InForce::new(alloc, hashes),
         }
     }
 

@@ -10,7 +10,6 @@ ghost use Rattle.xs_tree.specs.Record.{at, local_at};
 use crate::standing::is_element;
 use std::alloc::{AllocError, Global};
 use std::sync::Arc;
-use xs_elements::scope::scope_at;
 use xs_text::TextBuf;
 use xs_tree::{Node, Tree};
 use xs_xpath::scope::Scope;
@@ -65,6 +64,75 @@ fn are_in_scope(tree: &Tree, n: Node, pairs: &[(TextBuf, TextBuf)]) -> bool
     rest.is_empty()
 }
 
+/// The pairs from the first on whose prefix does not come before that of a namespace node. Prefixes
+/// rise, so there the node's own pair is, if the pairs have it. A hint, of which nothing is said.
+fn from_prefix<'p>(
+    tree: &Tree,
+    space: Node,
+    pairs: &'p [(TextBuf, TextBuf)],
+) -> &'p [(TextBuf, TextBuf)]
+    requires { space < length tree.now }
+{
+    let prefix = tree.local(space);
+    let mut rest = pairs;
+    while let Some((pair, behind)) = rest.split_first() {
+        if pair.0.as_str() >= prefix {
+            return rest;
+        }
+        rest = behind;
+    }
+    rest
+}
+
+/// The prefix and the URI of a namespace node, in memory of their own.
+fn new_pair(alloc: Global, tree: &Tree, space: Node) -> Result<(TextBuf, TextBuf), AllocError>
+    requires { space < length tree.now }
+    ensures { IfOk result (λ pair. pair ≡ pair_at tree.now space) }
+{
+    let prefix = TextBuf::of(alloc, tree.local(space))?;
+    let uri = TextBuf::of(alloc, tree.text(space))?;
+    Ok((prefix, uri))
+}
+
+/// The prefix and the URI of a namespace node: those of the first pair, if they are the same.
+fn pair_like(
+    alloc: Global,
+    tree: &Tree,
+    space: Node,
+    pairs: &[(TextBuf, TextBuf)],
+) -> Result<(TextBuf, TextBuf), AllocError>
+    requires { space < length tree.now }
+    ensures { IfOk result (λ pair. pair ≡ pair_at tree.now space) }
+{
+    if let Some((pair, _)) = pairs.split_first() {
+        if is_pair(tree, space, pair) {
+            let prefix = pair.0.copy()?;
+            let uri = pair.1.copy()?;
+            return Ok((prefix, uri));
+        }
+    }
+    new_pair(alloc, tree, space)
+}
+
+/// The namespaces in scope at a node, which shares the texts of the pairs that another one has too.
+fn scope_beside(
+    alloc: Global,
+    tree: &Tree,
+    n: Node,
+    other: &[(TextBuf, TextBuf)],
+) -> Result<Scope, AllocError>
+    requires { n < length tree.now }
+    ensures { IfOk result (λ scope. pairs_in scope ≡ scope_at tree.now n) }
+{
+    let mut pairs = Vec::new(alloc);
+    let mut rest = other;
+    for space in tree.namespaces(n) {
+        rest = from_prefix(tree, space, rest);
+        pairs.push(pair_like(alloc, tree, space, rest)?)?;
+    }
+    Ok(Scope::of(pairs))
+}
+
 /// The namespaces in scope at a node: those of another one, where they are the same.
 fn scope_like(
     alloc: Global,
@@ -78,7 +146,7 @@ fn scope_like(
     if are_in_scope(tree, n, &other.pairs) {
         return Ok(Arc::try_clone(other)?);
     }
-    let scope = scope_at(alloc, tree, n)?;
+    let scope = scope_beside(alloc, tree, n, &other.pairs)?;
     Ok(Arc::new(alloc, scope)?)
 }
 

@@ -20,7 +20,7 @@ use std::alloc::{AllocError, Global};
 use xs_elements::kept::own_space;
 use xs_elements::reading::Reading;
 use xs_elements::tags::{Tag, is_document_element, tag_of};
-use xs_tree::{Kind, Node, Tree};
+use xs_tree::{InputHashes, Kind, Node, Tree};
 
 /// How a node stands in its module.
 #[derive(Clone, Copy)]
@@ -178,12 +178,18 @@ fn standing_at(
     }
 }
 
-/// How the nodes of a module stand, in document order, by the namespaces in scope at them.
-pub fn standings(alloc: Global, tree: &Tree, scopes: &Scopes) -> Result<Vec<Standing>, AllocError>
+/// How the nodes of a module stand, in document order, by the namespaces in scope at them. Tables
+/// have these hashes.
+pub fn standings(
+    alloc: Global,
+    hashes: InputHashes,
+    tree: &Tree,
+    scopes: &Scopes,
+) -> Result<Vec<Standing>, AllocError>
     requires scopes { scopes_in scopes.now ≡ scopes_of tree.now }
     ensures { IfOk result (λ table. table.items ≡ map (standing_of tree.now) (places tree.now)) }
 {
-    let mut namespaces = Namespaces::new(alloc);
+    let mut namespaces = Namespaces::new(alloc, hashes);
     let mut standings = Vec::new(alloc);
     for place in 0..tree.len() as u32 {
         let n = Node::at(place);

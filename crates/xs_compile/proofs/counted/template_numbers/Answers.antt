@@ -4,7 +4,9 @@ use Rattle.std.specs.Option.{option_or}
 use Rattle.xs_compile.proofs.CountedLemmas.{drop_next}
 use Rattle.xs_compile.proofs.NumberLemmas.{number_from, number_more, or_none}
 use Rattle.xs_compile.proofs.TemplateNumberLemmas.{template_number_is}
+use Rattle.xs_compile.proofs.ZipLemmas.{item-of}
 use Rattle.xs_structure.specs.Order.{is_template_place}
+use Rattle.xs_structure.specs.Places.{IsIn}
 use Rattle.xs_compile.specs.steps.Counting.{is_called}
 use Rattle.xs_compile.specs.Tables.{number_in}
 use Rattle.xs_modules.specs.Results.{modules_data}
@@ -16,6 +18,10 @@ loop-place-init c = λ uri local.
     let ms = modules_data c.args.modules.now in
     ap (λ (o : Option ℕ). option_or o (number_from (is_called ms (uri, local)) 0 (filter (is_template_place ms) c.args.places.now)))
     (c.new-numbers.ensures uri local)
+
+pub number_template-requires-clause-at : goal.number_template-requires-clause-at
+number_template-requires-clause-at c =
+    item-of (IsIn (modules_data c.args.modules.now)) c.args.places.now c.loop-place.place-index c.place-item.result c.requires.inside (omega arith) c.place-item.is
 
 -- one declaration more
 pub loop-place-preserved : goal.loop-place-preserved
