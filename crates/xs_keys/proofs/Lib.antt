@@ -1,4 +1,5 @@
 pub mod FindLemmas
 pub mod GatherLemmas
-pub mod MarkedLemmas
+pub mod MatchTableLemmas
 pub mod RunLemmas
+mod AlternativeLemmas

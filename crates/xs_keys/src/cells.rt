@@ -7,27 +7,35 @@ ghost use Rattle.std.specs.String.{string_bytes};
 ghost use Rattle.xs_keys.specs.KeyTables.{declarations_of, is_same};
 ghost use Rattle.xs_keys.specs.Find.{IsKept};
 ghost use Rattle.xs_keys.specs.steps.Cells.{IsCell, IsFound, nodes_kept};
-ghost use Rattle.xs_keys.specs.steps.Pairs.{AreMarked, decls_in, either, is_last, nodes_by};
+ghost use Rattle.xs_keys.specs.steps.Pairs.{AreMatchTables, decls_in, either, is_last, nodes_by};
 ghost use Rattle.xs_keys.specs.steps.Pairs.{pairs_in, pushed};
 
 use crate::pairs::{Gathered, Pair};
 use crate::runs::{Cut, gather, size_of};
+use crate::tables::tables_of;
 use std::alloc::{AllocError, Global};
 use std::collections::HashMap;
 use std::thread::Threads;
-use xs_pattern::match_tables::match_table;
 use xs_sheet::declarations::KeyDecl;
 use xs_trace::event::Label;
 use xs_trace::fault::Fault;
-use xs_tree::{Node, Tree};
-use xs_value::keys::{Found, KeyEnd, NoKeys};
+use xs_tree::{InputHashes, Node, Tree};
+use xs_value::keys::{Found, KeyEnd};
 
 /// A key.
 #[derive(Drop)]
 pub(crate) struct KeyCell {
     pub(crate) name: Label,
     fault: Option<Fault>,
-    nodes: HashMap<String, Vec<Node>>,
+    /// Its texts are those of a document, and so are chosen by whoever writes it.
+    nodes: HashMap<String, Vec<Node>, InputHashes>,
+}
+
+/// A tree, with hashes that have taken it in.
+#[derive(Clone, Copy)]
+pub(crate) struct Hashed<'a> {
+    pub(crate) tree: &'a Tree,
+    pub(crate) hashes: InputHashes,
 }
 
 /// The key of a name, over the nodes of a tree.
@@ -36,21 +44,22 @@ pub(crate) fn cell_of<R: Threads + Sync>(
     alloc: Global,
     name: Label,
     decls: &[KeyDecl],
-    tree: &Tree,
+    hashed: &Hashed<'_>,
 ) -> Result<KeyCell, AllocError>
     ensures name { IfOk result (λ cell. cell.name ≡ name) }
-    ensures cell { IfOk result (IsCell tree.now (declarations_of name decls.now)) }
+    ensures cell { IfOk result (IsCell hashed.now.tree.now (declarations_of name decls.now)) }
 {
-    let list = members_of(alloc, &name, decls)?;
-    let members = list.as_slice();
-    let tables = flags_of(alloc, members, tree)?;
-    let flags = tables.as_slice();
+    let tree = hashed.tree;
+    let own = members_of(alloc, &name, decls)?;
+    let members = own.as_slice();
+    let list = tables_of(alloc, members, tree)?;
+    let tables = list.as_slice();
     let mut cell = KeyCell {
         name,
         fault: None,
-        nodes: HashMap::new(alloc),
+        nodes: HashMap::with_hasher(alloc, hashed.hashes),
     };
-    cell.fill(rt, alloc, members, flags, tree)?;
+    cell.fill(rt, alloc, members, tables, tree)?;
     Ok(cell)
 }
 
@@ -95,17 +104,6 @@ pub(crate) fn is_same(a: &Label, b: &Label) -> bool
     a.local() == b.local()
 }
 
-// Tables of the nodes that match each declaration.
-fn flags_of(alloc: Global, members: &[&KeyDecl], tree: &Tree) -> Result<Vec<Vec<bool>>, AllocError>
-    ensures { IfOk result (λ flags. AreMarked tree.now (decls_in members.now) flags.items) }
-{
-    let mut flags = Vec::new(alloc);
-    for member in members {
-        flags.push(match_table(alloc, &member.pattern, tree, &NoKeys)?)?;
-    }
-    Ok(flags)
-}
-
 impl KeyCell {
     // Adds what the declarations give at all nodes, in document order.
     fn fill<R: Threads + Sync>(
@@ -113,10 +111,10 @@ impl KeyCell {
         rt: &R,
         alloc: Global,
         members: &[&KeyDecl],
-        flags: &[Vec<bool>],
+        tables: &[Option<Vec<bool>>],
         tree: &Tree,
     ) -> Result<(), AllocError>
-        requires flags { AreMarked tree.now (decls_in members.now) flags.now }
+        requires tables { AreMatchTables tree.now (decls_in members.now) tables.now }
         requires fault { self.old.fault ≡ None }
         requires nodes { (text : List ℕ) → nodes_kept self.old text ≡ [] }
         ensures name { OnOk result (self.new.name ≡ self.old.name) }
@@ -125,7 +123,7 @@ impl KeyCell {
         let size = size_of(tree.len());
         let count = tree.len() / size + 1;
         let cut = Cut { size, count };
-        let runs = gather(rt, alloc, members, flags, tree, cut)?;
+        let runs = gather(rt, alloc, members, tables, tree, cut)?;
         for outcome in runs {
             let run = outcome?;
             self.add_run(run)?;

@@ -9,14 +9,14 @@ ghost use Rattle.xs_keys.specs.steps.Cells.{AreCells, IsCellOf, is_name, names_i
 ghost use Rattle.xs_value.specs.Keys.{Finds};
 ghost use Rattle.xs_value.specs.Tables.{TablesIn, table_at};
 
-use crate::cells::{KeyCell, cell_of, is_same};
+use crate::cells::{Hashed, KeyCell, cell_of, is_same};
 use std::alloc::{AllocError, Global};
 use std::snapshot::Snapshot;
 use std::thread::Threads;
 use xs_sheet::declarations::KeyDecl;
 use xs_sheet::sheet::Sheet;
 use xs_trace::event::Label;
-use xs_tree::Tree;
+use xs_tree::{InputHashes, Tree};
 use xs_value::keys::{Found, KeyEnd, KeyFinder};
 
 /// The keys of a stylesheet over the nodes of a tree. That they are those of both is the type's
@@ -110,10 +110,20 @@ fn cells_of<R: Threads + Sync>(
     ensures { IfOk result (λ cells. AreCells tree.now decls.now cells.items) }
 {
     let mut cells = Vec::new(alloc);
+    let hashes = hashes_for(decls, tree);
+    let hashed = Hashed { tree, hashes };
     for decl in decls {
-        add_cell(&mut cells, rt, alloc, &decl.name, decls, tree)?;
+        add_cell(&mut cells, rt, alloc, &decl.name, decls, &hashed)?;
     }
     Ok(cells)
+}
+
+// Hashes that have taken in a tree, where keys are declared.
+fn hashes_for(decls: &[KeyDecl], tree: &Tree) -> InputHashes {
+    if decls.is_empty() {
+        return InputHashes::new();
+    }
+    tree.hashes()
 }
 
 // Adds the key of a name, if it is not there.
@@ -123,18 +133,18 @@ fn add_cell<R: Threads + Sync>(
     alloc: Global,
     name: &Label,
     decls: &[KeyDecl],
-    tree: &Tree,
+    hashed: &Hashed<'_>,
 ) -> Result<(), AllocError>
-    requires cells { All (IsCellOf tree.now decls.now) cells.old.items }
+    requires cells { All (IsCellOf hashed.now.tree.now decls.now) cells.old.items }
     ensures names { OnOk result (names_in cells.new.items
         ≡ with_label (names_in cells.old.items) name.now) }
-    ensures cells { OnOk result (All (IsCellOf tree.now decls.now) cells.new.items) }
+    ensures cells { OnOk result (All (IsCellOf hashed.now.tree.now decls.now) cells.new.items) }
 {
     if has_name(cells, name) {
         return Ok(());
     }
     let own = name.copy()?;
-    let cell = cell_of(rt, alloc, own, decls, tree)?;
+    let cell = cell_of(rt, alloc, own, decls, hashed)?;
     cells.push(cell)?;
     Ok(())
 }

@@ -6,4 +6,5 @@ pub mod keys;
 pub mod laws;
 mod pairs;
 mod runs;
+mod tables;
 mod uses;

@@ -1,24 +1,26 @@
 //! The texts that the declarations of a key give, with their nodes (XSLT 1.0, 12.2).
 
-ghost use Rattle.std.specs.Prelude.{◌≡◌, ◌<◌, ◌++◌, ◌∷◌, [], IfOk, OnOk, None, Some, length, map};
+ghost use Rattle.std.specs.Prelude.{◌≡◌, ◌<◌, ◌++◌, ◌∷◌, [], IfOk, IfSome, OnOk, None, Some};
+ghost use Rattle.std.specs.Prelude.{length, map};
 ghost use Rattle.std.specs.Cow.{cow_str_bytes};
 ghost use Rattle.std.specs.List.{All};
 ghost use Rattle.std.specs.String.{string_bytes};
 ghost use Rattle.xs_eval_spec.specs.Keys.{sought};
 ghost use Rattle.xs_keys.specs.Keys.{faults_at, first_of, node_faults};
-ghost use Rattle.xs_keys.specs.steps.Pairs.{AreMarked, decls_in, either, node_pairs, paired};
+ghost use Rattle.xs_keys.specs.steps.Pairs.{AreMatchTables, decls_in, either, node_pairs, paired};
 ghost use Rattle.xs_keys.specs.steps.Pairs.{pairs_at, pairs_in};
 ghost use Rattle.xs_pattern.specs.MatchTables.{IsMatchTable};
 ghost use Rattle.xs_pattern_spec.specs.Matching.{pattern_context};
 ghost use Rattle.xs_tree.specs.Record.{string_value};
 ghost use Rattle.xs_value.specs.Conversion.{IsIn, text_value};
 
+use crate::tables::is_matched;
 use crate::uses::{Used, use_at};
 use std::alloc::{AllocError, Global};
 use std::borrow::CowStr;
 use xs_sheet::declarations::KeyDecl;
 use xs_trace::fault::Fault;
-use xs_tree::{Node, Tree, is_flagged};
+use xs_tree::{Node, Tree};
 use xs_value::conversion::{lend_text, node_text};
 use xs_value::value::Value;
 
@@ -49,17 +51,17 @@ impl Gathered {
         }
     }
 
-    /// Adds what all declarations of a key give at a node, by the flags of those that it matches.
+    /// Adds what all declarations of a key give at a node, by the tables of those that have one.
     pub(crate) fn add_node(
         &mut self,
         alloc: Global,
         members: &[&KeyDecl],
-        flags: &[Vec<bool>],
+        tables: &[Option<Vec<bool>>],
         tree: &Tree,
         node: Node,
     ) -> Result<(), AllocError>
         requires node { node < length tree.now }
-        requires flags { AreMarked tree.now (decls_in members.now) flags.now }
+        requires tables { AreMatchTables tree.now (decls_in members.now) tables.now }
         ensures pairs { OnOk result (pairs_in self.new.pairs.items
             ≡ pairs_in self.old.pairs.items
             ++ node_pairs tree.now (decls_in members.now) node) }
@@ -68,7 +70,7 @@ impl Gathered {
             (first_of (node_faults tree.now (decls_in members.now) node))) }
     {
         for place in 0..members.len() {
-            self.add_use(alloc, members[place], &flags[place], tree, node)?;
+            self.add_use(alloc, members[place], &tables[place], tree, node)?;
         }
         Ok(())
     }
@@ -78,18 +80,19 @@ impl Gathered {
         &mut self,
         alloc: Global,
         decl: &KeyDecl,
-        flags: &[bool],
+        table: &Option<Vec<bool>>,
         tree: &Tree,
         node: Node,
     ) -> Result<(), AllocError>
         requires node { node < length tree.now }
-        requires flags { IsMatchTable [] tree.now decl.now.pattern flags.now }
+        requires table { IfSome table.now (λ t.
+            IsMatchTable [] tree.now decl.now.pattern t.items) }
         ensures pairs { OnOk result (pairs_in self.new.pairs.items
             ≡ pairs_in self.old.pairs.items ++ pairs_at tree.now node decl.now) }
         ensures fault { OnOk result (self.new.fault
             ≡ either self.old.fault (first_of (faults_at tree.now node decl.now))) }
     {
-        if !is_flagged(flags, node) {
+        if !is_matched(alloc, &decl.pattern, table, tree, node)? {
             return Ok(());
         }
         match use_at(alloc, decl, tree, node)? {

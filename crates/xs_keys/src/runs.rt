@@ -1,7 +1,7 @@
 //! Runs of nodes, each gone over in a thread of its own where one can be started.
 
 ghost use Rattle.std.specs.Prelude.{◌≡◌, ◌+◌, ◌^◌, ◌<◌, ℕ, IfOk, get_or, length};
-ghost use Rattle.xs_keys.specs.steps.Pairs.{AreMarked, IsRun, bound, decls_in};
+ghost use Rattle.xs_keys.specs.steps.Pairs.{AreMatchTables, IsRun, bound, decls_in};
 
 use crate::pairs::Gathered;
 use std::alloc::{AllocError, Global};
@@ -41,20 +41,20 @@ pub(crate) fn gather<R: Threads + Sync>(
     rt: &R,
     alloc: Global,
     members: &[&KeyDecl],
-    flags: &[Vec<bool>],
+    tables: &[Option<Vec<bool>>],
     tree: &Tree,
     cut: Cut,
 ) -> Result<Vec<Result<Gathered, AllocError>>, AllocError>
-    requires flags { AreMarked tree.now (decls_in members.now) flags.now }
+    requires tables { AreMatchTables tree.now (decls_in members.now) tables.now }
     ensures long { IfOk result (λ runs. length runs.items ≡ cut.count) }
     ensures runs { IfOk result (λ runs. (i : ℕ) (d : _) → i < cut.count
         → IsRun tree.now (decls_in members.now) cut.size i (get_or runs.items i d)) }
 {
     let size = cut.size;
     let run = |i: usize| -> Result<Gathered, AllocError>
-        requires { (i + 1 < 2 ^ 64) × AreMarked tree.now (decls_in members.now) flags.now }
+        requires { (i + 1 < 2 ^ 64) × AreMatchTables tree.now (decls_in members.now) tables.now }
         ensures { IsRun tree.entry.now (decls_in members.entry.now) size i result }
-    { run_at(alloc, members, flags, tree, size, i) };
+    { run_at(alloc, members, tables, tree, size, i) };
     thread::map_indices(rt, alloc, cut.count, &run)
 }
 
@@ -62,12 +62,12 @@ pub(crate) fn gather<R: Threads + Sync>(
 fn run_at(
     alloc: Global,
     members: &[&KeyDecl],
-    flags: &[Vec<bool>],
+    tables: &[Option<Vec<bool>>],
     tree: &Tree,
     size: usize,
     i: usize,
 ) -> Result<Gathered, AllocError>
-    requires flags { AreMarked tree.now (decls_in members.now) flags.now }
+    requires tables { AreMatchTables tree.now (decls_in members.now) tables.now }
     requires number { i + 1 < 2 ^ 64 }
     ensures { IsRun tree.now (decls_in members.now) size i result }
 {
@@ -75,7 +75,7 @@ fn run_at(
     let end = bound(size, count, i + 1);
     let mut gathered = Gathered::new(alloc);
     for place in bound(size, count, i)..end {
-        gathered.add_node(alloc, members, flags, tree, Node::at(place as u32))?;
+        gathered.add_node(alloc, members, tables, tree, Node::at(place as u32))?;
     }
     Ok(gathered)
 }

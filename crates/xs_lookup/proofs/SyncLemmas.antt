@@ -32,10 +32,10 @@ use Rattle.xs_xpath.proofs.expr.Expr.TheLaws.TheKnot.{sync-Expr}
 use Rattle.xs_xpath.specs.contracts.expr.Expr as of_expr
 
 -- the tree, texts and names
-tree_sync : IsSync of_tree.the_row
+pub tree_sync : IsSync of_tree.the_row
 tree_sync = search (sendable, crosses, maps) depth 40 fits 20000
 
-label_sync : IsSync (of_label.the_field).row
+pub label_sync : IsSync (of_label.the_field).row
 label_sync = search (sendable, crosses, maps) depth 40 fits 20000
 
 -- expressions and patterns
@@ -72,7 +72,7 @@ number_sync = search (scoped_sync, pattern_sync, value_sync, sendable, crosses, 
 start_sync : IsSync (of_start.the_field).row
 start_sync = search (label_sync, text_sync, value_sync, sendable, crosses, maps) depth 40 fits 20000
 
-body_sync : IsSync (of_body.the_field).row
+pub body_sync : IsSync (of_body.the_field).row
 body_sync =
     sync-Body
     (search (scoped_sync, sendable, crosses, maps) depth 40 fits 20000)
@@ -90,7 +90,7 @@ body_sync =
     (search (label_sync, sendable, crosses, maps) depth 40 fits 20000)
     (search (sendable, crosses, maps) depth 40 fits 20000)
 
-binding_sync : IsSync (of_binding.the_field).row
+pub binding_sync : IsSync (of_binding.the_field).row
 binding_sync =
     sync-Binding
     (search (scoped_sync, sendable, crosses, maps) depth 40 fits 20000)
@@ -108,7 +108,7 @@ binding_sync =
     (search (label_sync, sendable, crosses, maps) depth 40 fits 20000)
     (search (sendable, crosses, maps) depth 40 fits 20000)
 
-instr_sync : IsSync (of_instr.the_field).row
+pub instr_sync : IsSync (of_instr.the_field).row
 instr_sync =
     sync-Instr
     (search (scoped_sync, sendable, crosses, maps) depth 40 fits 20000)
@@ -151,7 +151,7 @@ alias_sync = search (text_sync, sendable, crosses, maps) depth 40 fits 20000
 method_sync : IsSync (of_method.the_field).row
 method_sync = search (sendable, crosses, maps) depth 40 fits 20000
 
-sheet_sync : IsSync of_sheet.the_row
+pub sheet_sync : IsSync of_sheet.the_row
 sheet_sync =
     search (template_field, global_sync, key_sync, set_sync, strip_sync, alias_sync, method_sync, text_sync, sendable, crosses, maps) depth 40 fits 20000
 

@@ -24,12 +24,12 @@ first-not : (p q u : ℕ) (x y z : Bool) → (x ≡ false → y ≡ false → z 
     → (nat_lt u q || (u == q && y)) ≡ false → (nat_lt u p || (u == p && z)) ≡ false
 first-not p q u x y z f a b = grind (arith, f)
 
-over : (r s t : Rank) → outranks r s ≡ true → outranks s t ≡ true → outranks r t ≡ true
+pub over : (r s t : Rank) → outranks r s ≡ true → outranks s t ≡ true → outranks r t ≡ true
 over r s t a b =
     first-over r.precedence s.precedence t.precedence (int_lt s.priority r.priority) (int_lt t.priority s.priority) (int_lt t.priority r.priority)
     (int-over r.priority s.priority t.priority) a b
 
-not-over : (r s t : Rank) → outranks r s ≡ false → outranks s t ≡ false → outranks r t ≡ false
+pub not-over : (r s t : Rank) → outranks r s ≡ false → outranks s t ≡ false → outranks r t ≡ false
 not-over r s t a b =
     first-not r.precedence s.precedence t.precedence (int_lt s.priority r.priority) (int_lt t.priority s.priority) (int_lt t.priority r.priority)
     (int-not r.priority s.priority t.priority) a b

@@ -1,5 +1,6 @@
 pub mod HighestLemmas
 mod HigherLemmas
+pub mod RankLemmas
 pub mod RuleLemmas
 pub mod WhiteSpaceLemmas
 mod AttributeLemmas

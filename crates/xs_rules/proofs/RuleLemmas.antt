@@ -15,7 +15,7 @@ use Rattle.xs_rules.specs.declared.candidates.Looked.{Looked}
 use Rattle.xs_pattern_spec.specs.declared.ranks.Rank.{Rank}
 use Rattle.xs_rules.specs.Ranks.{highest, or_above, outranks}
 use Rattle.xs_rules.specs.Rules.{Candidate, candidate, candidates, candidates_of, chosen_among, rule_of, takes}
-use Rattle.xs_rules.specs.steps.Candidates.{best_before, best_of, best_with, is_matching, looks_at, or_best, passes, rule_of_best}
+use Rattle.xs_rules.specs.steps.Candidates.{best_before, best_of, is_matching, looks_at, or_best, passes, rule_of_best}
 
 -- ---- what stands after others
 
@@ -180,40 +180,21 @@ pub one-passed : (p : Candidate → Bool) (c : Candidate) (o : Option Best) → 
 unfolding best_before
 one-passed p c o f = sym (ap (λ b. cond b (or_best c o) o) f)
 
--- a rule that may be there
-pub option-below : (p : Candidate → Bool) (c : Option Candidate) (r : Rank) (o : Option Best) → IfSome c (λ c. r ≡ c.rank)
-    → option_map_or (λ (b : Best). outranks r b.rank) o true ≡ false → o ≡ option_map_or (λ c. best_before p (c ∷ []) o) c o
-option-below p None r o same e = refl
-option-below p (Some c) r o same e =
-    one-below p c o (sym (ap (λ (s : Rank). option_map_or (λ (b : Best). outranks s b.rank) o true) same) ∙ e)
-
 -- none
 pub none-before : (p : Candidate → Bool) (o : Option Best) → best_before p [] o ≡ o
 unfolding best_before
 none-before p o = refl
 
--- a rule that takes the node
-looked-best : (looked : Looked) (keys : List Table) (rs : List Record) (mode n : ℕ) (c : Candidate) (o : Option Best) (b : Bool) → takes keys rs mode n c ≡ true
-    → option_map_or (λ (x : Best). outranks c.rank x.rank) o true ≡ true → looks_at looked c.rank.precedence ≡ b
-    → cond b (Some (best_of c)) o ≡ best_before (passes looked keys rs mode n) (c ∷ []) o
-looked-best looked keys rs mode n c o true t above e =
-    one-taken (passes looked keys rs mode n) c o above (ap (λ b. b && takes keys rs mode n c) e ∙ t)
-looked-best looked keys rs mode n c o false t above e = one-passed (passes looked keys rs mode n) c o (ap (λ b. b && takes keys rs mode n c) e)
+-- whether a rule that may be there is looked at and takes the node
+pub passes-not-looked : (looked : Looked) (keys : List Table) (rs : List Record) (mode n : ℕ) (o : Option Candidate) (r : Rank)
+    → IfSome o (λ c. r ≡ c.rank) → looks_at looked r.precedence ≡ false → false ≡ option_map_or (passes looked keys rs mode n) o false
+passes-not-looked looked keys rs mode n None r same e = refl
+passes-not-looked looked keys rs mode n (Some c) r same e =
+    sym (ap (λ b. b && takes keys rs mode n c) (ap (λ (s : Rank). looks_at looked s.precedence) (sym same) ∙ e))
 
-above-or-below : (looked : Looked) (keys : List Table) (rs : List Record) (mode n : ℕ) (c : Candidate) (o : Option Best) (a : Bool)
-    → takes keys rs mode n c ≡ true → option_map_or (λ (x : Best). outranks c.rank x.rank) o true ≡ a
-    → cond a (cond (looks_at looked c.rank.precedence) (Some (best_of c)) o) o ≡ best_before (passes looked keys rs mode n) (c ∷ []) o
-above-or-below looked keys rs mode n c o true t e = looked-best looked keys rs mode n c o (looks_at looked c.rank.precedence) t e refl
-above-or-below looked keys rs mode n c o false t e = one-below (passes looked keys rs mode n) c o e
-
-pub certain-best : (looked : Looked) (keys : List Table) (rs : List Record) (mode n : ℕ) (c : Option Candidate) (number : ℕ) (r : Rank) (o : Option Best)
-    → option_map_or (takes keys rs mode n) c false ≡ true → IfSome c (λ c. r ≡ c.rank) → IfSome c (λ c. number ≡ c.template)
-    → cond (option_map_or (λ (b : Best). outranks r b.rank) o true) (cond (looks_at looked r.precedence) (Some (best_with number r)) o) o
-    ≡ option_map_or (λ c. best_before (passes looked keys rs mode n) (c ∷ []) o) c o
-certain-best looked keys rs mode n None number r o t rank_is number_is = absurd (true≢false (sym t))
-certain-best looked keys rs mode n (Some c) number r o t rank_is number_is =
-    ap (λ (s : Rank). cond (option_map_or (λ (b : Best). outranks s b.rank) o true)
-    (cond (looks_at looked s.precedence) (Some (best_with number s)) o) o) rank_is
-    ∙ ap (λ (k : ℕ). cond (option_map_or (λ (b : Best). outranks c.rank b.rank) o true)
-    (cond (looks_at looked c.rank.precedence) (Some (best_with k c.rank)) o) o) number_is
-    ∙ above-or-below looked keys rs mode n c o (option_map_or (λ (b : Best). outranks c.rank b.rank) o true) t refl
+pub passes-looked : (looked : Looked) (keys : List Table) (rs : List Record) (mode n : ℕ) (o : Option Candidate) (r : Rank)
+    → IfSome o (λ c. r ≡ c.rank) → looks_at looked r.precedence ≡ true
+    → option_map_or (passes looked keys rs mode n) o false ≡ option_map_or (takes keys rs mode n) o false
+passes-looked looked keys rs mode n None r same e = refl
+passes-looked looked keys rs mode n (Some c) r same e =
+    ap (λ b. b && takes keys rs mode n c) (ap (λ (s : Rank). looks_at looked s.precedence) (sym same) ∙ e)

@@ -1,13 +1,19 @@
 -- The best rule, as two lists are gone along together from their ends.
-use Rattle.std.proofs.Common.{◌≡◌, ℕ, zero, suc, ◌+◌, ◌-◌, ◌<◌, ◌≤◌, Bool, true, false, List, [], ◌∷◌, drop, length, Option, Some, None, refl, sym, ap, ◌∙◌}
+use Rattle.std.proofs.Common.{◌≡◌, ℕ, zero, suc, ◌+◌, ◌-◌, ◌<◌, ◌≤◌, Bool, true, false, List, [], ◌∷◌, drop, take, length, Option, Some, None, refl, sym, ap, ◌∙◌}
 use Rattle.std.proofs.Common.{arith, ◌⊎◌, inl, inr, slice_get}
 use Rattle.std.proofs.lemmas.Bool.{true≢false, false_from_ne_true}
-use Rattle.std.proofs.lemmas.List.{drop_all}
+use Rattle.std.proofs.lemmas.List.{drop_all, take-append-drop}
+use Rattle.std.proofs.lemmas.Option.{slice_get_within}
 use Rattle.xs_rules.specs.declared.candidates.Best.{Best}
 use Rattle.xs_rules.specs.Rules.{Candidate}
 use Rattle.xs_rules.specs.steps.Candidates.{best_before}
 use Rattle.xs_rules.specs.steps.Index.{later, passed}
+use Rattle.xs_sort_order.proofs.InOrderLemmas.{Rises}
+use Rattle.xs_rules.specs.steps.Candidates.{best_of}
+use Rattle.xs_rules.specs.steps.Index.{is_below}
 use Rattle.xs_rules.proofs.PlaceLemmas.{IsNext, down, next-is, none-next}
+use Rattle.xs_rules.proofs.RankLemmas.{none-above}
+use Rattle.xs_rules.proofs.RuleLemmas.{before-append, one-taken}
 
 -- what stands at a place, and after it
 drop-at : (cs : List Candidate) (j : ℕ) → j < length cs → (c : Candidate) × (slice_get cs j ≡ Some c) × (drop j cs ≡ c ∷ drop (j + 1) cs)
@@ -89,13 +95,23 @@ pub search-found : (p : Candidate → Bool) (cs : List Candidate) (t u : ℕ →
     → IsSearched p cs t u named unnamed best → later named unnamed ≡ Some j → (t j ≡ true) ⊎ (u j ≡ true)
 search-found p cs t u named unnamed best j s e = (next-in p cs t u named unnamed best j s e).found
 
+-- the best of the rules after the place that comes next
+search-rest : (p : Candidate → Bool) (cs : List Candidate) (t u : ℕ → Bool) (named unnamed : List ℕ) (best : Option Best) (j : ℕ) → IsComplete p cs t u
+    → IsSearched p cs t u named unnamed best → later named unnamed ≡ Some j → best_before p (drop (j + 1) cs) None ≡ best
+search-rest p cs t u named unnamed best j complete s e =
+    let next : IsNext t u s.until j = next-in p cs t u named unnamed best j s e in
+    let lt : j < s.until = next.below in
+    let rest : j + 1 ≤ s.until = omega (arith, lt) in
+    skip p cs (s.until - (j + 1)) (j + 1) s.until (omega (arith, rest)) s.within
+    (λ m d q x y. in-neither p cs t u m d complete q (next.none m (omega (arith, x)) y))
+    ∙ s.best_is
+
 pub search-step : (p : Candidate → Bool) (cs : List Candidate) (t u : ℕ → Bool) (named unnamed : List ℕ) (best found : Option Best) (j : ℕ) (c : Candidate)
     → IsComplete p cs t u → IsSearched p cs t u named unnamed best → later named unnamed ≡ Some j → slice_get cs j ≡ Some c
     → found ≡ best_before p (c ∷ []) best → IsSearched p cs t u (passed j named) (passed j unnamed) found
 search-step p cs t u named unnamed best found j c complete s e at is =
     let next : IsNext t u s.until j = next-in p cs t u named unnamed best j s e in
     let lt : j < s.until = next.below in
-    let rest : j + 1 ≤ s.until = omega (arith, lt) in
     let inside : j < length cs = omega (arith, lt, s.within) in
     record {
       until = j;
@@ -104,9 +120,7 @@ search-step p cs t u named unnamed best found j c complete s e at is =
       of_unnamed = ap (passed j) s.of_unnamed ∙ next.unnamed;
       best_is =
           best-step p cs j c inside at
-          ∙ ap (best_before p (c ∷ []))
-          (skip p cs (s.until - (j + 1)) (j + 1) s.until (omega (arith, rest)) s.within
-          (λ m d q x y. in-neither p cs t u m d complete q (next.none m (omega (arith, x)) y)) ∙ s.best_is)
+          ∙ ap (best_before p (c ∷ [])) (search-rest p cs t u named unnamed best j complete s e)
           ∙ sym is;
     }
 
@@ -119,3 +133,15 @@ search-end p cs t u named unnamed best complete s e =
     sym (skip p cs s.until 0 s.until (omega arith) s.within
     (λ m d q x y. in-neither p cs t u m d complete q (none-next t u s.until m none y))
     ∙ s.best_is)
+
+-- the first rule that passes, where none before it is above it
+pub search-first : (p : Candidate → Bool) (cs : List Candidate) (t u : ℕ → Bool) (named unnamed : List ℕ) (j : ℕ) (c : Candidate) → IsComplete p cs t u
+    → IsSearched p cs t u named unnamed None → Rises is_below cs → later named unnamed ≡ Some j → slice_get cs j ≡ Some c → p c ≡ true
+    → Some (best_of c) ≡ best_before p cs None
+search-first p cs t u named unnamed j c complete s up e at is =
+    let rest : best_before p (drop (j + 1) cs) None ≡ None = search-rest p cs t u named unnamed None j complete s e in
+    sym (ap (λ l. best_before p l None) (sym (take-append-drop j cs))
+    ∙ before-append p (take j cs) (drop j cs) None
+    ∙ ap (best_before p (take j cs))
+    (best-step p cs j c (slice_get_within cs j c at) at ∙ ap (best_before p (c ∷ [])) rest ∙ sym (one-taken p c None refl is))
+    ∙ none-above p cs j c up at)

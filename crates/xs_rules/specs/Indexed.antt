@@ -3,13 +3,13 @@ use Rattle.std.specs.Prelude.{List}
 use Rattle.xs_tree.specs.Record.{Record}
 use Rattle.xs_rules.specs.declared.index.RuleIndex.{RuleIndex}
 use Rattle.xs_rules.specs.Rules.{candidates}
-use Rattle.xs_rules.specs.steps.Index.{AreTables, IsIndexed}
+use Rattle.xs_rules.specs.steps.Index.{AreTables, IsIndexed, ranked}
 use Rattle.xs_rules.specs.steps.Lists.{named_in, unnamed_in}
 
--- By it each rule of its templates is found; so it is with those that are made of a stylesheet.
+-- By it each rule of its templates is found, by its rank; so it is with those that are made of a stylesheet.
 abbrev pub IsIndex : RuleIndex → Type 0
 IsIndex i =
-    IsIndexed i.templates.now (candidates i.templates.now) i.lists.entries.items (named_in i.lists.named) (unnamed_in i.lists.unnamed)
+    IsIndexed i.templates.now (ranked (candidates i.templates.now)) i.lists.entries.items (named_in i.lists.named) (unnamed_in i.lists.unnamed)
 
 -- The tables that are there say, each for the rule that it stands beside, which nodes match, or at or below which nodes what stands before
 -- the last `//` of the pattern ends (XSLT 1.0, 5.2).

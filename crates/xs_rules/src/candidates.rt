@@ -1,19 +1,21 @@
 //! The rules of a template, each an alternative of its pattern (XSLT 1.0, 5.3 and 5.5), and the
 //! best of those that match.
 
-ghost use Rattle.std.specs.Prelude.{◌≡◌, ◌<◌, ◌∷◌, [], true, IfOk, IfSome, length, map};
+ghost use Rattle.std.specs.Prelude.{◌≡◌, ◌==◌, ◌&&◌, ◌<◌, ◌∷◌, [], true, false, IfOk, IfSome};
+ghost use Rattle.std.specs.Prelude.{length, map};
 ghost use Rattle.std.specs.Prelude.{option_copied, option_map, slice_get};
 ghost use Rattle.std.specs.Option.{option_and_then, option_map_or};
+ghost use Rattle.xs_pattern_spec.specs.Matching.{matches_path, pattern_context};
 ghost use Rattle.xs_value.specs.Tables.{TablesIn};
 ghost use Rattle.xs_xpath.specs.Exprs.{tree_from};
 ghost use Rattle.xs_rules.specs.Ranks.{outranks};
-ghost use Rattle.xs_rules.specs.Rules.{candidate, candidates_of, rank_of};
+ghost use Rattle.xs_rules.specs.Rules.{candidate, candidates_of, rank_of, takes};
 ghost use Rattle.xs_rules.specs.steps.Candidates.{best_before, candidate_of, is_matching, looks_at};
 ghost use Rattle.xs_rules.specs.steps.Candidates.{passes, rule_of_best};
 ghost use Rattle.xs_rules.specs.steps.Index.{IsTable, IsTableOf, nth_of};
 
 use crate::choice::Rule;
-use crate::lists::Entry;
+use crate::entries::Entry;
 use crate::ranks::{Rank, default_priority};
 use crate::search::Search;
 use crate::tables::{RuleTable, matches_by};
@@ -122,7 +124,7 @@ impl<'a, K: KeyFinder> Search<'a, K> {
                 expr: alternative,
                 rank: rank_of(template, alternative),
             };
-            best = self.best_of_alternative(&rule, None, best)?;
+            best = self.best_of_alternative(&rule, best)?;
             rest = before;
         }
         Ok(best)
@@ -132,14 +134,11 @@ impl<'a, K: KeyFinder> Search<'a, K> {
     fn best_of_alternative(
         &self,
         rule: &Alternative<'_>,
-        table: Option<&RuleTable>,
         best: Option<Best>,
     ) -> Result<Option<Best>, AllocError>
         requires rank { rule.now.rank ≡ (candidate_of rule.now).rank }
         requires node { self.now.node < length self.now.tree.now }
         requires tables { TablesIn self.now.tree.now (K.tables self.now.keys.now) }
-        requires table { IfSome table (λ t. IsTable self.now.tree.now
-            rule.now.pattern.now.scope (tree_from rule.now.expr.now) t.now) }
         ensures best { IfOk result (λ found. found
             ≡ best_before (is_matching (K.tables self.now.keys.now) self.now.tree.now self.now.node)
             (candidate_of rule.now ∷ []) best) }
@@ -157,7 +156,7 @@ impl<'a, K: KeyFinder> Search<'a, K> {
             rule.expr,
             rule.pattern.scope.scope(),
             self.node,
-            table,
+            None,
         )? {
             return Ok(Some(Best {
                 template: rule.number,
@@ -167,73 +166,67 @@ impl<'a, K: KeyFinder> Search<'a, K> {
         Ok(best)
     }
 
-    /// The rule of one of a template's alternatives, by its number and with its rank, before the
-    /// best one after it.
-    pub(crate) fn best_of_nth(
+    /// Whether one of a template's alternatives is of the mode and matches the node.
+    pub(crate) fn takes_nth(
         &self,
         template: &Template,
         entry: Entry,
         table: Option<&RuleTable>,
-        best: Option<Best>,
-    ) -> Result<Option<Best>, AllocError>
+    ) -> Result<bool, AllocError>
         requires node { self.now.node < length self.now.tree.now }
         requires tables { TablesIn self.now.tree.now (K.tables self.now.keys.now) }
-        requires rank { IfSome (option_and_then
-            (nth_of entry.template template.now entry.alternative) template.now.pattern)
-            (λ c. entry.rank ≡ c.rank) }
         requires table { IsTableOf self.now.tree.now
             (option_and_then (nth_of entry.template template.now entry.alternative)
             template.now.pattern)
             (option_copied table) }
-        ensures best { IfOk result (λ found. found ≡ option_map_or (λ c. best_before
-            (passes self.now.looked (K.tables self.now.keys.now)
-            self.now.tree.now self.now.mode self.now.node) (c ∷ []) best)
+        ensures taken { IfOk result (λ taken. taken ≡ option_map_or
+            (takes (K.tables self.now.keys.now) self.now.tree.now self.now.mode self.now.node)
             (option_and_then (nth_of entry.template template.now entry.alternative)
-            template.now.pattern) best) }
+            template.now.pattern) false) }
     {
         match &template.pattern {
-            None => Ok(best),
+            None => Ok(false),
             Some(pattern) => match nth_alternative(pattern, entry.alternative) {
-                None => Ok(best),
-                Some(expr) => {
-                    let rule = Alternative {
-                        number: entry.template,
-                        template,
-                        pattern,
-                        expr,
-                        rank: entry.rank,
-                    };
-                    self.best_of_rule(&rule, table, best)
+                None => Ok(false),
+                Some(alternative) => {
+                    self.takes_alternative(template.mode, pattern, alternative, table)
                 }
             },
         }
     }
 
-    // An alternative where it is looked at, is of the mode, matches, and is above the best rule
-    // after it; otherwise that one.
-    fn best_of_rule(
+    // Whether an alternative of a pattern of a mode is of the node's mode and matches.
+    fn takes_alternative(
         &self,
-        rule: &Alternative<'_>,
+        mode: u32,
+        pattern: &ScopedPattern,
+        alternative: &Expr,
         table: Option<&RuleTable>,
-        best: Option<Best>,
-    ) -> Result<Option<Best>, AllocError>
-        requires rank { rule.now.rank ≡ (candidate_of rule.now).rank }
+    ) -> Result<bool, AllocError>
         requires node { self.now.node < length self.now.tree.now }
         requires tables { TablesIn self.now.tree.now (K.tables self.now.keys.now) }
         requires table { IfSome table (λ t. IsTable self.now.tree.now
-            rule.now.pattern.now.scope (tree_from rule.now.expr.now) t.now) }
-        ensures best { IfOk result (λ found. found
-            ≡ best_before (passes self.now.looked (K.tables self.now.keys.now)
-            self.now.tree.now self.now.mode self.now.node)
-            (candidate_of rule.now ∷ []) best) }
+            pattern.now.scope (tree_from alternative.now) t.now) }
+        ensures taken { IfOk result (λ taken. taken ≡ (mode == self.now.mode
+            && matches_path (K.tables self.now.keys.now)
+            (pattern_context self.now.tree.now pattern.now.scope self.now.node)
+            (tree_from alternative.now))) }
     {
-        if rule.template.mode != self.mode {
-            return Ok(best);
+        if mode != self.mode {
+            return Ok(false);
         }
-        if !self.looked.looks_at(rule.template.precedence) {
-            return Ok(best);
-        }
-        self.best_of_alternative(rule, table, best)
+        let matcher = Matcher {
+            alloc: self.alloc,
+            tree: self.tree,
+            keys: self.keys,
+        };
+        matches_by(
+            &matcher,
+            alternative,
+            pattern.scope.scope(),
+            self.node,
+            table,
+        )
     }
 }
 

@@ -9,7 +9,9 @@ ghost use Rattle.xs_rules.specs.Rules.{chosen, chosen_import};
 
 use crate::candidates::Looked;
 use crate::choice::{Rule, imported_into};
+use crate::entries::ranked_entries;
 use crate::lists::Lists;
+use crate::rule_keys::hashes_of;
 use crate::search::Search;
 use crate::tables::{RuleTable, tables_for};
 use std::alloc::{AllocError, Global};
@@ -30,7 +32,8 @@ pub struct RuleIndex<'a> {
 }
 
 impl<'a> RuleIndex<'a> {
-    /// The rules of a stylesheet, in time linear in it. Without tables it is prepared for any tree.
+    /// The rules of a stylesheet, in time linear in it except their order by rank. Without tables
+    /// it is prepared for any tree.
     pub fn new(alloc: Global, sheet: &'a Sheet) -> Result<RuleIndex<'a>, AllocError>
         requires few { length sheet.now.templates < 2 ^ 32 }
         ensures index { IfOk result IsIndex }
@@ -38,9 +41,11 @@ impl<'a> RuleIndex<'a> {
         ensures plain { IfOk result (λ index. (rs : List Record) → IsPrepared index rs) }
     {
         let templates = sheet.templates.as_slice();
-        let mut lists = Lists::new(alloc);
-        for number in 0..templates.len() {
-            lists.add_template(alloc, number as u32, &templates[number])?;
+        let list = ranked_entries(alloc, templates)?;
+        let entries = list.as_slice();
+        let mut lists = Lists::new(alloc, hashes_of(templates));
+        for place in 0..entries.len() {
+            lists.add_entry(alloc, templates, &entries[place])?;
         }
         Ok(RuleIndex {
             templates,

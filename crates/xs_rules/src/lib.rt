@@ -4,6 +4,7 @@
 
 mod candidates;
 pub mod choice;
+mod entries;
 pub mod index;
 mod kind_lists;
 mod lists;

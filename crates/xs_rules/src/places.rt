@@ -13,13 +13,14 @@ use crate::kind_lists::KindLists;
 use crate::rule_keys::{RuleKey, is_key};
 use indexmap::IndexMap;
 use std::alloc::{AllocError, Global};
+use xs_tree::InputHashes;
 use xs_xpath::expr::Expr;
 
 /// The most keys that are gone over one after another, which takes less time than a hash.
 const FEW_KEYS: usize = 8;
 
-/// The places of rules by their keys.
-pub(crate) type Named<'a> = IndexMap<RuleKey<'a>, Vec<usize>>;
+/// The places of rules by their keys, whose names whoever writes a stylesheet chooses.
+pub(crate) type Named<'a> = IndexMap<RuleKey<'a>, Vec<usize>, InputHashes>;
 
 /// The places of rules by their modes, and in each by kinds.
 pub(crate) type Unnamed = IndexMap<u32, KindLists>;

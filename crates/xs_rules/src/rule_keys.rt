@@ -7,7 +7,8 @@ ghost use Rattle.xs_rules.specs.steps.Index.{is_key, key_data, key_of, name_key,
 ghost use Rattle.xs_rules.specs.steps.Index.{step_key, test_key};
 
 use xs_pattern::paths::steps_of;
-use xs_tree::{Axis, Kind, Node, Tree};
+use xs_sheet::declarations::Template;
+use xs_tree::{Axis, InputHashes, Kind, Node, Tree};
 use xs_xpath::expr::Expr;
 use xs_xpath::name::NodeTest;
 
@@ -80,6 +81,27 @@ fn name_key<'a>(mode: u32, axis: Axis, uri: &'a str, local: &'a str) -> Option<R
         Axis::SelfNode => None,
         Axis::DescendantOrSelf => None,
         Axis::AncestorOrSelf => None,
+    }
+}
+
+/// Hashes that have taken in the names of all rules.
+pub(crate) fn hashes_of(templates: &[Template]) -> InputHashes {
+    let mut hashes = InputHashes::new();
+    for template in templates {
+        if let Some(pattern) = &template.pattern {
+            take_in(&mut hashes, pattern.pattern.alternatives());
+        }
+    }
+    hashes
+}
+
+// Lets hashes take in the names by which some alternatives are found.
+fn take_in(hashes: &mut InputHashes, alternatives: &[Expr]) {
+    for alternative in alternatives {
+        if let Some(key) = key_of(0, alternative) {
+            hashes.take_in(key.2);
+            hashes.take_in(key.3);
+        }
     }
 }
 

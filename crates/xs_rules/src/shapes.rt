@@ -3,7 +3,7 @@
 
 ghost use Rattle.std.specs.Prelude.{◌<◌, length};
 
-use crate::lists::Entry;
+use crate::entries::Entry;
 use std::alloc::{AllocError, Global};
 use xs_pattern::paths::steps_of;
 use xs_sheet::declarations::Template;
@@ -159,7 +159,14 @@ fn is_arithmetic(operators: &[Operator]) -> bool {
         None => false,
         Some(operator) => matches!(
             operator,
-            Operator::Plus | Operator::Minus | Operator::Times | Operator::Div | Operator::Mod
+            Operator::Plus
+                | Operator::Minus
+                | Operator::Times
+                | Operator::Div
+                | Operator::FloorDiv
+                | Operator::CeilingDiv
+                | Operator::NearestDiv
+                | Operator::Mod
         ),
     }
 }

@@ -16,7 +16,7 @@ use crate::ranks::Rank;
 use std::alloc::{AllocError, Global};
 use std::collections::HashMap;
 use xs_sheet::declarations::{NameTest, StripRule};
-use xs_tree::{Node, Tree};
+use xs_tree::{InputHashes, Node, Tree};
 
 /// The rules of white space, of those with one name test the highest.
 #[derive(Drop)]
@@ -24,9 +24,15 @@ pub(crate) struct StripIndex<'a> {
     /// All of them, for the clauses.
     pub(crate) rules: &'a [StripRule],
     any: Option<&'a StripRule>,
-    uris: HashMap<&'a str, &'a StripRule>,
-    names: HashMap<(&'a str, &'a str), &'a StripRule>,
+    uris: Uris<'a>,
+    names: Names<'a>,
 }
+
+/// Rules by the URIs of their tests, which whoever writes a stylesheet chooses.
+type Uris<'a> = HashMap<&'a str, &'a StripRule, InputHashes>;
+
+/// Rules by the names of their tests, by URI and local part.
+type Names<'a> = HashMap<(&'a str, &'a str), &'a StripRule, InputHashes>;
 
 impl<'a> StripIndex<'a> {
     /// The index of rules, in time linear in them.
@@ -34,11 +40,12 @@ impl<'a> StripIndex<'a> {
         ensures index { IfOk result IsStripIndex }
         ensures rules { IfOk result (λ index. index.rules.now ≡ rules.now) }
     {
+        let hashes = hashes_of(rules);
         let mut index = StripIndex {
             rules,
             any: None,
-            uris: HashMap::new(alloc),
-            names: HashMap::new(alloc),
+            uris: HashMap::with_hasher(alloc, hashes),
+            names: HashMap::with_hasher(alloc, hashes),
         };
         let mut rest = rules;
         while let Some((rule, before)) = rest.split_last() {
@@ -78,8 +85,24 @@ impl<'a> StripIndex<'a> {
     }
 }
 
+// Hashes that have taken in the names of all tests.
+fn hashes_of(rules: &[StripRule]) -> InputHashes {
+    let mut hashes = InputHashes::new();
+    for rule in rules {
+        match &rule.test {
+            NameTest::Any => (),
+            NameTest::Uri(uri) => hashes.take_in(uri.as_str()),
+            NameTest::Name(name) => {
+                hashes.take_in(name.uri());
+                hashes.take_in(name.local());
+            }
+        }
+    }
+    hashes
+}
+
 /// The highest rule for the elements of a namespace. Where there is none no URI is hashed.
-fn rule_of_uri<'a>(uris: &HashMap<&'a str, &'a StripRule>, uri: &str) -> Option<&'a StripRule>
+fn rule_of_uri<'a>(uris: &Uris<'a>, uri: &str) -> Option<&'a StripRule>
     ensures { option_copied result ≡ of_uri uris.now uri.now }
 {
     if uris.is_empty() {
@@ -89,11 +112,7 @@ fn rule_of_uri<'a>(uris: &HashMap<&'a str, &'a StripRule>, uri: &str) -> Option<
 }
 
 /// The highest rule for the elements of a name. Where there is none no name is hashed.
-fn rule_of_name<'a>(
-    names: &HashMap<(&'a str, &'a str), &'a StripRule>,
-    uri: &str,
-    local: &str,
-) -> Option<&'a StripRule>
+fn rule_of_name<'a>(names: &Names<'a>, uri: &str, local: &str) -> Option<&'a StripRule>
     ensures { option_copied result ≡ of_name names.now uri.now local.now }
 {
     if names.is_empty() {
@@ -103,11 +122,7 @@ fn rule_of_name<'a>(
 }
 
 /// Adds a rule for the elements of a namespace.
-fn add_uri<'a>(
-    uris: &mut HashMap<&'a str, &'a StripRule>,
-    uri: &'a str,
-    rule: &'a StripRule,
-) -> Result<(), AllocError>
+fn add_uri<'a>(uris: &mut Uris<'a>, uri: &'a str, rule: &'a StripRule) -> Result<(), AllocError>
     ensures { OnOk result ((u : List ℕ) → of_uri uris.new u
         ≡ (if bytes_eq u uri.entry.now then or_above rank_of rule.entry.now (of_uri uris.old u)
         else of_uri uris.old u)) }
@@ -119,7 +134,7 @@ fn add_uri<'a>(
 
 /// Adds a rule for the elements of a name.
 fn add_name<'a>(
-    names: &mut HashMap<(&'a str, &'a str), &'a StripRule>,
+    names: &mut Names<'a>,
     uri: &'a str,
     local: &'a str,
     rule: &'a StripRule,

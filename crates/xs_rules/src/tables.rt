@@ -12,7 +12,7 @@ ghost use Rattle.xs_rules.specs.steps.Index.{AreTables, IsTable, IsTableOf, at_e
 ghost use Rattle.xs_rules.specs.steps.Index.{table_at};
 
 use crate::candidates::nth_alternative;
-use crate::lists::Entry;
+use crate::entries::Entry;
 use crate::shapes::{Worth, has_positions, worth_of};
 use std::alloc::{AllocError, Global};
 use xs_pattern::above::above_of;
@@ -24,8 +24,12 @@ use xs_value::keys::KeyFinder;
 use xs_xpath::expr::Expr;
 use xs_xpath::scope::Scope;
 
-/// The most tables: each takes a byte a node, and the rules after it go without.
-const MOST: usize = 64;
+/// The bytes that tables take at most, unless they are few: each takes a byte a node, and the rules
+/// after the last one go without.
+const MOST_BYTES: usize = 67_108_864;
+
+/// So many tables may be made however many nodes there are.
+const FEWEST: usize = 64;
 
 /// A table beside a rule.
 #[derive(Drop)]
@@ -102,7 +106,7 @@ fn first_tables(
         tables.items) }
 {
     let mut tables = Vec::new(alloc);
-    let mut left = MOST;
+    let mut left = most_tables(tree.len());
     for entry in entries {
         if left == 0 {
             return Ok(tables);
@@ -112,6 +116,11 @@ fn first_tables(
         tables.push(table)?;
     }
     Ok(tables)
+}
+
+// How many tables there may be over so many nodes.
+fn most_tables(count: usize) -> usize {
+    (MOST_BYTES / count.max(1)).max(FEWEST)
 }
 
 // How many more tables there may be after one that may be there.

@@ -1,5 +1,5 @@
 -- Texts with their nodes, as they are found.
-use Rattle.std.specs.Prelude.{◌≡◌, ℕ, ◌+◌, ◌-◌, ◌*◌, ◌<◌, ◌==◌, Bool, false, List, [], ◌∷◌, ◌++◌, length, map, min, fold, get_or, Option, Some, None, Result, IfOk, Vec, slice_get, if◌then◌else◌}
+use Rattle.std.specs.Prelude.{◌≡◌, ℕ, ◌+◌, ◌-◌, ◌*◌, ◌<◌, ◌==◌, Bool, false, List, [], ◌∷◌, ◌++◌, length, map, min, fold, get_or, Option, Some, None, Result, IfOk, IfSome, Vec, slice_get, if◌then◌else◌}
 use denote.Ref.{Bor}
 use Rattle.std.specs.declared.alloc.AllocError.{AllocError}
 use Rattle.std.specs.declared.alloc.Global.{Global}
@@ -86,11 +86,12 @@ IsUsed rs end Nothing = (faults_in end ≡ []) × ((n : ℕ) → texts_in rs n e
 abbrev pub decls_in : List (Bor KeyDecl) → List KeyDecl
 decls_in members = map (λ m. m.now) members
 
--- tables of the nodes that match each declaration
-abbrev pub AreMarked : List Record → List KeyDecl → List (Vec Bool Global) → Type 0
-AreMarked rs ds flags =
-    (length flags ≡ length ds)
-    × ((k : ℕ) (d : KeyDecl) (t : Vec Bool Global) → k < length ds → IsMatchTable [] rs (get_or ds k d).pattern (get_or flags k t).items)
+-- tables of the nodes that match each declaration, if it has one
+abbrev pub AreMatchTables : List Record → List KeyDecl → List (Option (Vec Bool Global)) → Type 0
+AreMatchTables rs ds tables =
+    (length tables ≡ length ds)
+    × ((k : ℕ) (d : KeyDecl) (t : Option (Vec Bool Global)) → k < length ds
+    → IfSome (get_or tables k t) (λ v. IsMatchTable [] rs (get_or ds k d).pattern v.items))
 
 -- what was gathered from one place to another
 pub record IsBetween (rs : List Record) (ds : List KeyDecl) (start end : ℕ) (g : Gathered) : Type 0 where

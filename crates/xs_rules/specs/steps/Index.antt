@@ -16,11 +16,13 @@ use Rattle.xs_xpath.specs.declared.name.NodeTest.{NodeTest}
 use Rattle.xs_xpath.specs.declared.name.NodeTest.TheVariants.{Any, Uri, Name, Node, Text, Comment, Pi, Target}
 use Rattle.xs_xpath.specs.Tree.{Tree, step}
 use Rattle.xs_pattern_spec.specs.Matching.{steps_of}
+use Rattle.xs_sort_order.specs.InOrder.{in_order}
 use Rattle.xs_pattern.specs.steps.Above.{IsAbove}
 use Rattle.xs_pattern.specs.steps.PathTables.{IsPathTable}
-use Rattle.xs_rules.specs.declared.lists.Entry.{Entry}
+use Rattle.xs_rules.specs.declared.entries.Entry.{Entry}
 use Rattle.xs_rules.specs.declared.tables.RuleTable.{RuleTable}
 use Rattle.xs_rules.specs.declared.tables.RuleTable.TheVariants.{Above, Matches}
+use Rattle.xs_rules.specs.Ranks.{outranks}
 use Rattle.xs_rules.specs.Rules.{Candidate, candidate}
 use Rattle.xs_rules.specs.steps.Kinds.{allows_kind, is_certain}
 
@@ -119,6 +121,22 @@ candidate_at ts number k =
 
 abbrev pub at_entry : List Template → Entry → Option Candidate
 at_entry ts e = candidate_at ts e.template e.alternative
+
+-- The rules from the lowest rank to the highest; those of one rank in the order of the stylesheet.
+abbrev pub is_below : Candidate → Candidate → Bool
+is_below a b = outranks b.rank a.rank
+
+unfoldable pub ranked : List Candidate → List Candidate
+ranked cs = in_order is_below cs
+
+abbrev pub is_entry_below : Entry → Entry → Bool
+is_entry_below a b = outranks b.rank a.rank
+
+-- The entries represent rules, and each knows its rule's rank and whether it is certain.
+pub record AreEntries (ts : List Template) (cs : List Candidate) (entries : List Entry) : Type 0 where
+  pub each : map (at_entry ts) entries ≡ map Some cs
+  pub ranks : map (λ (e : Entry). e.rank) entries ≡ map (λ (c : Candidate). c.rank) cs
+  pub certain : map (λ (e : Entry). e.is_certain) entries ≡ map (λ (c : Candidate). is_certain c.alternative) cs
 
 -- The entries represent rules, each knows its rule's rank and whether it is certain, and by its key or its mode and kinds each is found.
 pub record IsIndexed (ts : List Template) (cs : List Candidate) (entries : List Entry) (named : Key → List ℕ) (unnamed : ℕ → Kind → List ℕ) : Type 0 where

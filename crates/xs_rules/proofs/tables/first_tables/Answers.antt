@@ -1,7 +1,7 @@
 use Rattle.std.proofs.Common.{◌≡◌, ◌+◌, ◌<◌, ◌∷◌, [], List, Some, ap, arith, false, get_or, length, pos, slice_get, sym, ◌∙◌}
 use Rattle.std.proofs.lemmas.List.{length-append}
 use Rattle.std.proofs.lemmas.Option.{slice_get-get_or}
-use Rattle.xs_rules.specs.declared.lists.Entry.{Entry}
+use Rattle.xs_rules.specs.declared.entries.Entry.{Entry}
 use Rattle.xs_rules.proofs.TableLemmas.{tables-more}
 use Rattle.xs_rules.proofs.tables.first_tables.Goals as goal
 

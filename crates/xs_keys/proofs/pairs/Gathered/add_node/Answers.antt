@@ -2,7 +2,7 @@ use Rattle.std.proofs.Common.{◌≡◌, ◌∙◌, ◌++◌, ◌∷◌, [], ◌
 use Rattle.std.specs.List.{flat_map}
 use Rattle.xs_keys.specs.Keys.{faults_at, first_of}
 use Rattle.xs_keys.specs.steps.Pairs.{decls_in, either, pairs_at, pairs_in}
-use Rattle.xs_keys.proofs.MarkedLemmas.{flags-at}
+use Rattle.xs_keys.proofs.MatchTableLemmas.{table-at}
 use Rattle.xs_keys.proofs.RunLemmas.{decl-fault, decl-pairs, decls-next}
 use Rattle.xs_keys.proofs.pairs.Gathered.add_node.Goals as goal
 
@@ -26,7 +26,7 @@ loop-place-preserved c =
           ∙ ap (λ ds. either c.args.self.now.fault (first_of (flat_map (faults_at rs n) ds))) (sym next);
     }
 
-pub add_use-requires-clause-flags : goal.add_use-requires-clause-flags
-add_use-requires-clause-flags c =
-    flags-at c.args.tree.now c.args.members.now c.args.flags.now c.loop-place.place c.index-members-place.result c.index-flags-place.result
-    c.deref.result.now c.requires.flags (omega arith) (sym c.index-members-place.is) (sym c.index-flags-place.is) c.deref.ensures.value
+pub add_use-requires-clause-table : goal.add_use-requires-clause-table
+add_use-requires-clause-table c =
+    table-at c.args.tree.now c.args.members.now c.args.tables.now c.loop-place.place c.index-members-place.result c.index-tables-place.result
+    c.requires.tables (omega arith) (sym c.index-members-place.is) (sym c.index-tables-place.is)

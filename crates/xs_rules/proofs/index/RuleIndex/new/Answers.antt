@@ -1,20 +1,42 @@
-use Rattle.std.proofs.Common.{◌≡◌, List, Some, arith, length, refl, slice_get, subst, take}
-use Rattle.std.proofs.lemmas.Option.{slice_get_read}
+use Rattle.std.proofs.Common.{◌≡◌, ◌<◌, ◌≤◌, false, List, arith, get_or, length, subst, sym}
+use Rattle.std.proofs.lemmas.List.{take_all}
+use Rattle.std.proofs.lemmas.Option.{slice_get-get_or}
+use Rattle.std.specs.Prelude.{pos}
 use Rattle.xs_sheet.specs.declared.declarations.Template.{Template}
-use Rattle.xs_rules.specs.Rules.{candidates}
+use Rattle.xs_rules.specs.declared.entries.Entry.{Entry}
+use Rattle.xs_rules.specs.Rules.{Candidate, candidates}
+use Rattle.xs_rules.specs.steps.Index.{AreEntries, IsIndexed, ranked}
 use Rattle.xs_rules.specs.steps.Lists.{named_in, unnamed_in}
-use Rattle.xs_rules.proofs.IndexLemmas.{template-more}
+use Rattle.xs_rules.proofs.IndexLemmas.{entries-length, entry-more}
 use Rattle.xs_rules.proofs.index.RuleIndex.new.Goals as goal
 
-pub loop-number-preserved : goal.loop-number-preserved
-loop-number-preserved c =
-    let ts : List Template = c.args.sheet.now.templates in
-    let slice : List Template = c.as_slice-templates.result.now in
-    let t : Template = c.index-templates-number.result in
-    let read : slice_get slice c.loop-number.number ≡ Some t =
-    slice_get_read slice (length slice) c.loop-number.number t refl (omega (arith, c.loop-number-test.true)) c.index-templates-number.is in
-    let of_number : slice_get ts c.loop-number.number ≡ Some t =
-    subst (λ xs. slice_get xs c.loop-number.number ≡ Some t) c.as_slice-templates.ensures read in
-    template-more ts c.loop-number.number t c.add_template.new.self.entries.items (named_in c.add_template.new.self.named)
-    (unnamed_in c.add_template.new.self.unnamed) of_number
-    (c.in_ok-add_template.ensures.indexed ts (candidates (take c.loop-number.number ts)) of_number c.loop-number.invariant)
+-- what a read past the end would give
+abbrev none : Entry
+none = record {
+  template = 0;
+  alternative = 0;
+  rank = record { precedence = 0; priority = pos 0 };
+  is_certain = false;
+}
+
+pub loop-place-preserved : goal.loop-place-preserved
+loop-place-preserved c =
+    let ts : List Template = c.as_slice-templates.result.now in
+    let es : List Entry = c.as_slice-entries.result.now in
+    let inside : c.loop-place.place < length es = omega (arith, c.loop-place-test.true) in
+    let are : AreEntries ts (ranked (candidates ts)) es =
+    subst (λ (l : List Entry). AreEntries ts (ranked (candidates ts)) l) (sym c.as_slice-entries.ensures.value) c.in_ok-list.ensures.ranked in
+    entry-more ts (ranked (candidates ts)) es c.loop-place.place (get_or es c.loop-place.place none) c.loop-place.lists c.add_entry.new.self are
+    (slice_get-get_or es c.loop-place.place none inside) c.loop-place.invariant c.in_ok-add_entry.ensures.added
+
+pub returns-clause-index : goal.returns-clause-index
+returns-clause-index c =
+    let ts : List Template = c.as_slice-templates.result.now in
+    let cs : List Candidate = ranked (candidates ts) in
+    let es : List Entry = c.as_slice-entries.result.now in
+    let are : AreEntries ts cs es =
+    subst (λ (l : List Entry). AreEntries ts cs l) (sym c.as_slice-entries.ensures.value) c.in_ok-list.ensures.ranked in
+    let same : length es ≡ length cs = entries-length ts cs es are.each in
+    let all : length cs ≤ c.loop-place.place = omega (arith, c.loop-place-test.false, same) in
+    subst (λ l. IsIndexed ts l c.loop-place.lists.entries.items (named_in c.loop-place.lists.named) (unnamed_in c.loop-place.lists.unnamed))
+    (take_all c.loop-place.place cs all) c.loop-place.invariant

@@ -1,17 +1,18 @@
-use Rattle.std.proofs.Common.{◌≡◌, ◌+◌, ◌<◌, List, Option, Some, ap, arith, length, refl, reverse, slice_get, subst, sym, ◌∙◌}
+use Rattle.std.proofs.Common.{◌≡◌, ◌+◌, ◌<◌, List, None, Option, Some, ap, arith, length, refl, reverse, slice_get, subst, sym, ◌∙◌}
 use Rattle.std.proofs.lemmas.Option.{slice_get_read}
 use Rattle.std.specs.Vec.{vec_len}
 use Rattle.xs_tree.specs.Record.{at}
-use Rattle.xs_rules.specs.declared.lists.Entry.{Entry}
+use Rattle.xs_rules.specs.declared.entries.Entry.{Entry}
 use Rattle.xs_rules.specs.declared.tables.RuleTable.{RuleTable}
 use Rattle.xs_rules.specs.Rules.{Candidate, candidates}
-use Rattle.xs_rules.specs.steps.Candidates.{passes, rule_of_best}
-use Rattle.xs_rules.specs.steps.Index.{IsTableOf, at_entry, is_unnamed, later, passed, passes_at}
+use Rattle.xs_rules.specs.steps.Candidates.{passes}
+use Rattle.xs_rules.specs.steps.Index.{IsTableOf, at_entry, is_unnamed, later, passed, passes_at, ranked}
 use Rattle.xs_rules.specs.steps.Lists.{named_in, unnamed_in}
-use Rattle.xs_rules.proofs.IndexLemmas.{IsNodeSearched, complete, entry-rank, index-certain, index-inside, index-step, named-list, unnamed-list}
+use Rattle.xs_rules.proofs.IndexLemmas.{IsNodeSearched, entry-rank, index-certain, index-inside, index-none, index-step, index-taken}
+use Rattle.xs_rules.proofs.IndexLemmas.{named-list, unnamed-list}
 use Rattle.xs_rules.proofs.KeyLemmas.{named_for}
 use Rattle.xs_rules.proofs.PlaceLemmas.{next-less}
-use Rattle.xs_rules.proofs.SearchLemmas.{search-end, search-none}
+use Rattle.xs_rules.proofs.SearchLemmas.{search-none}
 use Rattle.xs_rules.proofs.lists.Lists.choose_among.Goals as goal
 
 pub loop-place-init : goal.loop-place-init
@@ -19,7 +20,7 @@ loop-place-init g c =
     let p = passes c.args.search.now.looked (g.K.KeyFinder.tables c.args.search.now.keys.now) c.args.search.now.tree.now c.args.search.now.mode
     c.args.search.now.node in
     let ts = c.args.templates.now in
-    let cs = candidates ts in
+    let cs = ranked (candidates ts) in
     let es = c.args.self.now.entries.items in
     let names = named_in c.args.self.now.named in
     let kinds = unnamed_in c.args.self.now.unnamed in
@@ -33,47 +34,47 @@ loop-place-init g c =
 
 pub index-entry-requires : goal.index-entry-requires
 index-entry-requires g c =
-    let cs = candidates c.args.templates.now in
+    let cs = ranked (candidates c.args.templates.now) in
     let inside : c.in-Some.place < length c.args.self.now.entries.items =
     index-inside c.args.search.now.looked (g.K.KeyFinder.tables c.args.search.now.keys.now) c.args.search.now.tree.now c.args.search.now.mode
     c.args.search.now.node c.args.templates.now cs
     c.args.self.now.entries.items (named_in c.args.self.now.named) (unnamed_in c.args.self.now.unnamed) (reverse c.loop-place.named.now)
-    (reverse c.loop-place.unnamed.now) c.loop-place.best c.in-Some.place c.requires.indexed c.loop-place.invariant (sym c.later.ensures ∙ c.in-Some.is) in
+    (reverse c.loop-place.unnamed.now) None c.in-Some.place c.requires.indexed c.loop-place.invariant (sym c.later.ensures ∙ c.in-Some.is) in
     let long : vec_len c.args.self.now.entries ≡ length c.args.self.now.entries.items = c.args.self.now.entries.ok.0 in
     omega (arith, inside, long)
 
-pub best_of_entry-requires-clause-table : goal.best_of_entry-requires-clause-table
-best_of_entry-requires-clause-table g c κs within =
-    let cs : List Candidate = candidates c.args.templates.now in
+pub is_taken-requires-clause-table : goal.is_taken-requires-clause-table
+is_taken-requires-clause-table g c κs within =
+    let cs : List Candidate = ranked (candidates c.args.templates.now) in
     let entry : Entry = c.index-entry.result.now in
     let inside : c.in-Some.place < length c.args.self.now.entries.items =
     index-inside c.args.search.now.looked (g.K.KeyFinder.tables c.args.search.now.keys.now) c.args.search.now.tree.now c.args.search.now.mode
     c.args.search.now.node c.args.templates.now cs
     c.args.self.now.entries.items (named_in c.args.self.now.named) (unnamed_in c.args.self.now.unnamed) (reverse c.loop-place.named.now)
-    (reverse c.loop-place.unnamed.now) c.loop-place.best c.in-Some.place c.requires.indexed c.loop-place.invariant (sym c.later.ensures ∙ c.in-Some.is) in
+    (reverse c.loop-place.unnamed.now) None c.in-Some.place c.requires.indexed c.loop-place.invariant (sym c.later.ensures ∙ c.in-Some.is) in
     let read : slice_get c.args.self.now.entries.items c.in-Some.place ≡ Some entry =
     slice_get_read c.args.self.now.entries.items (length c.args.self.now.entries.items) c.in-Some.place entry refl inside c.index-entry.ensures in
     subst (λ (o : Option RuleTable). IsTableOf c.args.search.now.tree.now (at_entry c.args.templates.now entry) o) (sym c.table_at-table.ensures)
     (c.requires.rule_tables.each c.in-Some.place entry read)
 
-pub best_of_entry-requires-clause-rank : goal.best_of_entry-requires-clause-rank
-best_of_entry-requires-clause-rank g c κs within =
-    let cs : List Candidate = candidates c.args.templates.now in
+pub is_taken-requires-clause-rank : goal.is_taken-requires-clause-rank
+is_taken-requires-clause-rank g c κs within =
+    let cs : List Candidate = ranked (candidates c.args.templates.now) in
     let entry : Entry = c.index-entry.result.now in
     let inside : c.in-Some.place < length c.args.self.now.entries.items =
     index-inside c.args.search.now.looked (g.K.KeyFinder.tables c.args.search.now.keys.now) c.args.search.now.tree.now c.args.search.now.mode
     c.args.search.now.node c.args.templates.now cs
     c.args.self.now.entries.items (named_in c.args.self.now.named) (unnamed_in c.args.self.now.unnamed) (reverse c.loop-place.named.now)
-    (reverse c.loop-place.unnamed.now) c.loop-place.best c.in-Some.place c.requires.indexed c.loop-place.invariant (sym c.later.ensures ∙ c.in-Some.is) in
+    (reverse c.loop-place.unnamed.now) None c.in-Some.place c.requires.indexed c.loop-place.invariant (sym c.later.ensures ∙ c.in-Some.is) in
     let read : slice_get c.args.self.now.entries.items c.in-Some.place ≡ Some entry =
     slice_get_read c.args.self.now.entries.items (length c.args.self.now.entries.items) c.in-Some.place entry refl inside c.index-entry.ensures in
     entry-rank c.args.templates.now cs c.args.self.now.entries.items (named_in c.args.self.now.named) (unnamed_in c.args.self.now.unnamed) c.in-Some.place
     entry c.requires.indexed read
 
-pub best_of_entry-requires-clause-certain : goal.best_of_entry-requires-clause-certain
-best_of_entry-requires-clause-certain g c κs within = λ sure.
+pub is_taken-requires-clause-certain : goal.is_taken-requires-clause-certain
+is_taken-requires-clause-certain g c κs within = λ sure.
     let keys = g.K.KeyFinder.tables c.args.search.now.keys.now in
-    let cs : List Candidate = candidates c.args.templates.now in
+    let cs : List Candidate = ranked (candidates c.args.templates.now) in
     let es : List Entry = c.args.self.now.entries.items in
     let names = named_in c.args.self.now.named in
     let kinds = unnamed_in c.args.self.now.unnamed in
@@ -82,11 +83,11 @@ best_of_entry-requires-clause-certain g c κs within = λ sure.
     let inside : c.in-Some.place < length es =
     index-inside c.args.search.now.looked keys c.args.search.now.tree.now c.args.search.now.mode c.args.search.now.node c.args.templates.now cs es names kinds
     (reverse c.loop-place.named.now)
-    (reverse c.loop-place.unnamed.now) c.loop-place.best c.in-Some.place c.requires.indexed c.loop-place.invariant l in
+    (reverse c.loop-place.unnamed.now) None c.in-Some.place c.requires.indexed c.loop-place.invariant l in
     let read : slice_get es c.in-Some.place ≡ Some entry = slice_get_read es (length es) c.in-Some.place entry refl inside c.index-entry.ensures in
     index-certain c.args.search.now.looked keys c.args.search.now.tree.now c.args.search.now.mode c.args.search.now.node c.args.templates.now cs es names kinds
     (reverse c.loop-place.named.now)
-    (reverse c.loop-place.unnamed.now) c.loop-place.best c.in-Some.place entry c.len-count.ensures.tree c.requires.node c.requires.indexed
+    (reverse c.loop-place.unnamed.now) None c.in-Some.place entry c.len-count.ensures.tree c.requires.node c.requires.indexed
     c.loop-place.invariant l read sure
 
 pub loop-place-smaller : goal.loop-place-smaller
@@ -102,7 +103,7 @@ loop-place-smaller g c =
 pub loop-place-preserved : goal.loop-place-preserved
 loop-place-preserved g c =
     let keys = g.K.KeyFinder.tables c.args.search.now.keys.now in
-    let cs : List Candidate = candidates c.args.templates.now in
+    let cs : List Candidate = ranked (candidates c.args.templates.now) in
     let es : List Entry = c.args.self.now.entries.items in
     let names = named_in c.args.self.now.named in
     let kinds = unnamed_in c.args.self.now.unnamed in
@@ -111,33 +112,45 @@ loop-place-preserved g c =
     let inside : c.in-Some.place < length es =
     index-inside c.args.search.now.looked keys c.args.search.now.tree.now c.args.search.now.mode c.args.search.now.node c.args.templates.now cs es names kinds
     (reverse c.loop-place.named.now)
-    (reverse c.loop-place.unnamed.now) c.loop-place.best c.in-Some.place c.requires.indexed c.loop-place.invariant l in
+    (reverse c.loop-place.unnamed.now) None c.in-Some.place c.requires.indexed c.loop-place.invariant l in
     let read : slice_get es c.in-Some.place ≡ Some entry = slice_get_read es (length es) c.in-Some.place entry refl inside c.index-entry.ensures in
     subst (λ x. IsNodeSearched c.args.search.now.looked keys c.args.search.now.tree.now c.args.search.now.mode c.args.search.now.node cs x (reverse
-    c.without-unnamed.result.now) c.in_ok-best.best)
+    c.without-unnamed.result.now) None)
     (sym c.without-named.ensures)
     (subst (λ y. IsNodeSearched c.args.search.now.looked keys c.args.search.now.tree.now c.args.search.now.mode c.args.search.now.node cs (passed
     c.in-Some.place (reverse c.loop-place.named.now)) y
-    c.in_ok-best.best) (sym c.without-unnamed.ensures)
+    None) (sym c.without-unnamed.ensures)
     (index-step c.args.search.now.looked keys c.args.search.now.tree.now c.args.search.now.mode c.args.search.now.node c.args.templates.now cs es names kinds
     (reverse c.loop-place.named.now)
-    (reverse c.loop-place.unnamed.now) c.loop-place.best c.in_ok-best.best c.in-Some.place entry c.len-count.ensures.tree c.requires.node c.requires.indexed
-    c.loop-place.invariant l read c.in_ok-best.ensures.best))
+    (reverse c.loop-place.unnamed.now) c.in-Some.place entry c.in_ok-is_taken.is_taken c.len-count.ensures.tree c.requires.node c.requires.indexed
+    c.loop-place.invariant l read c.in_ok-is_taken.ensures.taken c.if-is_taken.false))
 
-pub returns : goal.returns
-returns g c =
+pub returns-then-is_taken : goal.returns-then-is_taken
+returns-then-is_taken g c =
     let keys = g.K.KeyFinder.tables c.args.search.now.keys.now in
-    let p = passes c.args.search.now.looked keys c.args.search.now.tree.now c.args.search.now.mode c.args.search.now.node in
-    let cs = candidates c.args.templates.now in
-    let r = at c.args.search.now.tree.now c.args.search.now.node in
+    let cs : List Candidate = ranked (candidates c.args.templates.now) in
+    let es : List Entry = c.args.self.now.entries.items in
+    let names = named_in c.args.self.now.named in
+    let kinds = unnamed_in c.args.self.now.unnamed in
+    let entry : Entry = c.index-entry.result.now in
+    let l : later (reverse c.loop-place.named.now) (reverse c.loop-place.unnamed.now) ≡ Some c.in-Some.place = sym c.later.ensures ∙ c.in-Some.is in
+    let inside : c.in-Some.place < length es =
+    index-inside c.args.search.now.looked keys c.args.search.now.tree.now c.args.search.now.mode c.args.search.now.node c.args.templates.now cs es names kinds
+    (reverse c.loop-place.named.now)
+    (reverse c.loop-place.unnamed.now) None c.in-Some.place c.requires.indexed c.loop-place.invariant l in
+    let read : slice_get es c.in-Some.place ≡ Some entry = slice_get_read es (length es) c.in-Some.place entry refl inside c.index-entry.ensures in
     record {
       chosen =
-          c.rule_of_best.ensures
-          ∙ ap rule_of_best
-          (search-end p cs (passes_at (named_for c.args.search.now.mode r) cs) (passes_at (is_unnamed c.args.search.now.mode r.kind) cs) (reverse
-          c.loop-place.named.now)
-          (reverse c.loop-place.unnamed.now) c.loop-place.best
-          (complete c.args.search.now.looked keys c.args.search.now.tree.now c.args.search.now.mode c.args.search.now.node cs c.len-count.ensures.tree
-          c.requires.node) c.loop-place.invariant
-          (sym c.later.ensures ∙ c.in_default.is));
+          index-taken c.args.search.now.looked keys c.args.search.now.tree.now c.args.search.now.mode c.args.search.now.node c.args.templates.now
+          (candidates c.args.templates.now) es names kinds (reverse c.loop-place.named.now) (reverse c.loop-place.unnamed.now) c.in-Some.place entry
+          c.in_ok-is_taken.is_taken c.len-count.ensures.tree c.requires.node c.requires.indexed c.loop-place.invariant l read
+          c.in_ok-is_taken.ensures.taken c.if-is_taken.true;
     }
+
+pub returns : goal.returns
+returns g c = record {
+  chosen =
+      index-none c.args.search.now.looked (g.K.KeyFinder.tables c.args.search.now.keys.now) c.args.search.now.tree.now c.args.search.now.mode
+      c.args.search.now.node (candidates c.args.templates.now) (reverse c.loop-place.named.now) (reverse c.loop-place.unnamed.now) c.len-count.ensures.tree
+      c.requires.node c.loop-place.invariant (sym c.later.ensures ∙ c.in_default.is);
+}

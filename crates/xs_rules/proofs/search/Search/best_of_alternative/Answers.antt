@@ -1,4 +1,4 @@
-use Rattle.std.proofs.Common.{true, IfSome, Some, List, ℕ, ap, subst, sym, ◌∙◌}
+use Rattle.std.proofs.Common.{true, Some, List, ℕ, ap, sym, ◌∙◌}
 use Rattle.std.specs.Option.{option_map_or}
 use Rattle.xs_xpath.specs.Exprs.{tree_from}
 use Rattle.xs_pattern_spec.specs.Matching.{matches_path, pattern_context}
@@ -7,7 +7,6 @@ use Rattle.xs_pattern_spec.specs.declared.ranks.Rank.{Rank}
 use Rattle.xs_rules.specs.Ranks.{outranks}
 use Rattle.xs_rules.specs.Rules.{candidate}
 use Rattle.xs_rules.specs.steps.Candidates.{is_matching}
-use Rattle.xs_rules.specs.steps.Index.{IsTable}
 use Rattle.xs_rules.proofs.RuleLemmas.{one-below, one-passed, one-taken}
 use Rattle.xs_rules.proofs.search.Search.best_of_alternative.Goals as goal
 
@@ -19,11 +18,6 @@ returns-then-not-is_above g c = record {
       (ap (λ (r : Rank). option_map_or (λ (b : Best). outranks r b.rank) c.args.best true) (sym c.requires.rank)
       ∙ sym c.is_above.ensures ∙ c.if-not-is_above.true);
 }
-
-pub matches_by-requires-clause-table : goal.matches_by-requires-clause-table
-matches_by-requires-clause-table g c κs within =
-    subst (λ (ps : List (List ℕ × List ℕ)). IfSome c.args.table (λ t. IsTable c.args.self.now.tree.now ps (tree_from c.args.rule.now.expr.now) t.now))
-    (sym c.scope.ensures) c.requires.table
 
 pub returns-then-branch : goal.returns-then-branch
 returns-then-branch g c = record {

@@ -10,8 +10,8 @@ loop-rule-init c = record {
   same = refl;
   found = λ q.
       ap (highest_before rank_of (is_rule_of q) c.args.rules.now)
-      (nothing-found (record { rules = c.args.rules; any = None; uris = c.new.result; names = c.new-2.result }) refl c.new.ensures.empty
-      c.new-2.ensures.empty q)
+      (nothing-found (record { rules = c.args.rules; any = None; uris = c.with_hasher.result; names = c.with_hasher-2.result }) refl c.with_hasher.ensures.empty
+      c.with_hasher-2.ensures.empty q)
       ∙ highest-before rank_of (is_rule_of q) c.args.rules.now;
 }
 

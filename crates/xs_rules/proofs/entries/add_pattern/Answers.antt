@@ -4,12 +4,11 @@ use Rattle.std.proofs.lemmas.Option.{slice_get-map, slice_get_read}
 use Rattle.xs_xpath.specs.declared.expr.Expr.{Expr}
 use Rattle.xs_xpath.specs.Exprs.{tree_from}
 use Rattle.xs_xpath.specs.Tree.{Tree}
-use Rattle.xs_rules.specs.declared.lists.Entry.{Entry}
+use Rattle.xs_rules.specs.declared.entries.Entry.{Entry}
 use Rattle.xs_rules.specs.Rules.{candidate}
-use Rattle.xs_rules.specs.steps.Index.{IsIndexed}
-use Rattle.xs_rules.specs.steps.Lists.{named_in, unnamed_in}
+use Rattle.xs_rules.specs.steps.Index.{AreEntries}
 use Rattle.xs_rules.proofs.IndexLemmas.{alternative-more}
-use Rattle.xs_rules.proofs.lists.Lists.add_pattern.Goals as goal
+use Rattle.xs_rules.proofs.entries.add_pattern.Goals as goal
 
 pub loop-place-preserved : goal.loop-place-preserved
 loop-place-preserved c = λ ts cs of_number of_pattern i.
@@ -22,19 +21,18 @@ loop-place-preserved c = λ ts cs of_number of_pattern i.
     let of_place : slice_get c.args.pattern.now.pattern c.loop-place.place ≡ Some (tree_from e) =
     subst (λ xs. slice_get xs c.loop-place.place ≡ Some (tree_from e)) c.alternatives-alternatives.ensures
     (slice_get-map tree_from es c.loop-place.place ∙ ap (option_map tree_from) read) in
-    alternative-more ts cs c.loop-place.place c.args.template.now c.args.pattern.now (tree_from e) n c.loop-place.self.entries.items
-    c.add.new.self.entries.items (named_in c.loop-place.self.named) (named_in c.add.new.self.named) (unnamed_in c.loop-place.self.unnamed)
-    (unnamed_in c.add.new.self.unnamed) (c.loop-place.invariant ts cs of_number of_pattern i) of_number of_pattern of_place refl c.rank_of-rank.ensures
-    c.is_certain-is_certain.ensures c.in_ok-add.ensures.entries c.in_ok-add.ensures.named c.in_ok-add.ensures.unnamed
+    alternative-more ts cs c.loop-place.place c.args.template.now c.args.pattern.now (tree_from e) n c.loop-place.entries.items
+    c.push.new.self.items (c.loop-place.invariant ts cs of_number of_pattern i) of_number of_pattern of_place refl c.rank_of-rank.ensures
+    c.is_certain-is_certain.ensures c.in_ok-push.ensures.items
 
 pub returns : goal.returns
 returns c = record {
-  indexed = λ ts cs of_number of_pattern i.
+  entries = λ ts cs of_number of_pattern i.
       let es : List Tree = c.args.pattern.now.pattern in
       let same : length c.alternatives-alternatives.result.now ≡ length es =
       sym (length-map c.alternatives-alternatives.result.now tree_from) ∙ ap length c.alternatives-alternatives.ensures in
       let all : length es ≤ c.loop-place.place = omega (arith, c.loop-place-test.false, same) in
-      subst (λ xs. IsIndexed ts (cs ++ map (candidate c.args.number c.args.template.now c.args.pattern.now) xs)
-      c.loop-place.self.entries.items (named_in c.loop-place.self.named) (unnamed_in c.loop-place.self.unnamed)) (take_all c.loop-place.place es all)
+      subst (λ xs. AreEntries ts (cs ++ map (candidate c.args.number c.args.template.now c.args.pattern.now) xs) c.loop-place.entries.items)
+      (take_all c.loop-place.place es all)
       (c.loop-place.invariant ts cs of_number of_pattern i);
 }
