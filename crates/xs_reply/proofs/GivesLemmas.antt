@@ -17,11 +17,6 @@ pub stays : (held : Option (List ℕ)) (P : List ℕ → Type 0) → P [] → Ga
 stays None P h = tt
 stays (Some b) P h = ([], ap Some (sym (append-nil b)), h)
 
--- whatever a sink gained, it holds what it held and then some more
-pub gains : (before after : Option (List ℕ)) (P : List ℕ → Type 0) → Gained before after P → Gained before after (λ _. Unit {0})
-gains None after P h = tt
-gains (Some b) after P h = (h.0, h.1, tt)
-
 -- the report has how the pieces of a reply were run
 pub claimed : (reply : Reply) (document : Option (List Event)) (pieces : Pieces) (account : Account) → RunsPieces pieces reply
     → account.pieces ≡ length reply.pieces.claims.items → account.claims ≡ reply.pieces.claims.items → account.inline ≡ reply.pieces.inline
