@@ -4,7 +4,6 @@ ghost use Rattle.std.specs.Prelude.{◌<◌, length};
 
 use crate::answer::Answer;
 use crate::expressions::calls::Call;
-use crate::expressions::names::AXES;
 use crate::expressions::parsed::{Form, put_parsed};
 use crate::expressions::settings::Settings;
 use crate::expressions::shown::show_all;
@@ -14,6 +13,7 @@ use crate::lookups::value_named;
 use xs_axes::axis_nodes;
 use xs_eval::evaluate::evaluate;
 use xs_eval_spec::context::Context;
+use xs_parser::axes;
 use xs_pattern::matcher::Matcher;
 use xs_trace::item::Site;
 use xs_trace::meter::Meter;
@@ -26,7 +26,7 @@ use xs_xpath::pattern::Pattern;
 /// Adds the nodes of an axis from the node at a place, in the axis' order.
 pub(crate) fn put_axis(out: &Answer, settings: &Settings, axis: &str) {
     let (name, place) = cut(axis, " ");
-    let Some(axis) = value_named(AXES, name) else {
+    let Some(axis) = value_named(axes(), name) else {
         return out.put("no such axis");
     };
     let place = whole(place);

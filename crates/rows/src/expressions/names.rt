@@ -1,27 +1,9 @@
 //! The names of axes, operators and functions.
 
-use xs_tree::Axis;
 use xs_value::comparison::CompareOp;
 use xs_xpath::name::Function;
 use xs_xpath::scope::function_of;
 use xs_xpath::token::Operator;
-
-/// The axes (XPath 1.0, 2.2).
-pub(crate) const AXES: &[(&str, Axis)] = &[
-    ("child", Axis::Child),
-    ("descendant", Axis::Descendant),
-    ("parent", Axis::Parent),
-    ("ancestor", Axis::Ancestor),
-    ("following-sibling", Axis::FollowingSibling),
-    ("preceding-sibling", Axis::PrecedingSibling),
-    ("following", Axis::Following),
-    ("preceding", Axis::Preceding),
-    ("attribute", Axis::Attribute),
-    ("namespace", Axis::Namespace),
-    ("self", Axis::SelfNode),
-    ("descendant-or-self", Axis::DescendantOrSelf),
-    ("ancestor-or-self", Axis::AncestorOrSelf),
-];
 
 /// The operators that compare.
 pub(crate) const COMPARISONS: &[(&str, CompareOp)] = &[
@@ -47,6 +29,9 @@ pub(crate) const OPERATORS: &[(&str, u8)] = &[
     ("-", Operator::Minus as u8),
     ("*", Operator::Times as u8),
     ("div", Operator::Div as u8),
+    ("floor div", Operator::FloorDiv as u8),
+    ("ceiling div", Operator::CeilingDiv as u8),
+    ("nearest div", Operator::NearestDiv as u8),
     ("mod", Operator::Mod as u8),
     ("|", Operator::Union as u8),
 ];

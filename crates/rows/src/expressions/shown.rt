@@ -3,8 +3,9 @@
 //! brackets, and `u:a` is a name with the URI `u`.
 
 use crate::answer::Answer;
-use crate::expressions::names::{AXES, OPERATORS, function_name};
+use crate::expressions::names::{OPERATORS, function_name};
 use crate::lookups::name_of;
+use xs_parser::axes;
 use xs_text::TextBuf;
 use xs_tree::Axis;
 use xs_xpath::avt::AvtPart;
@@ -24,7 +25,7 @@ fn show_name(out: &Answer, uri: &TextBuf, local: &str) {
 // Appends an axis; the child axis is left out.
 fn show_axis(out: &Answer, axis: Axis) {
     if axis != Axis::Child {
-        out.put_both(name_of(AXES, &axis), "::");
+        out.put_both(name_of(axes(), &axis), "::");
     }
 }
 
