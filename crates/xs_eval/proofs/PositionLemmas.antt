@@ -14,7 +14,7 @@ use Rattle.xs_tree.specs.Record.{Record}
 use Rattle.xs_value.specs.declared.value.Value.TheVariants.{Number as Numeral}
 use Rattle.xs_eval_spec.specs.Context.{Context, at_node}
 use Rattle.xs_eval_spec.specs.Paths.{Meaning, filtered, is_position, judged, kept_if, selects}
-use Rattle.xs_eval_spec.specs.steps.Nodes.{AreSome}
+use Rattle.xs_eval_spec.specs.Nodes.{AreSome}
 use Rattle.xs_eval.specs.steps.Positions.{node_at, picked}
 
 -- ---- what a constant predicate keeps

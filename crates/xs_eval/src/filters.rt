@@ -8,7 +8,7 @@ ghost use Rattle.xs_value.specs.Conversion.{IsIn};
 ghost use Rattle.xs_eval_spec.specs.Conditions.{IsContext};
 ghost use Rattle.xs_eval_spec.specs.Evaluation.{run_of, runs_of};
 ghost use Rattle.xs_eval_spec.specs.Paths.{filter_expr, filtered, kept_of};
-ghost use Rattle.xs_eval_spec.specs.steps.Nodes.{AreSome};
+ghost use Rattle.xs_eval_spec.specs.Nodes.{AreSome};
 
 use crate::evaluator::Evaluator;
 use crate::operand::SetOperand;

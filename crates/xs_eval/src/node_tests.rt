@@ -6,7 +6,7 @@ ghost use Rattle.std.specs.Str.{bytes_eq};
 ghost use Rattle.xs_tree.specs.Record.{at};
 ghost use Rattle.xs_tree.specs.declared.axes.Axis.TheVariants.{Attribute};
 ghost use Rattle.xs_eval_spec.specs.Paths.{is_named, is_principal, passes, tested};
-ghost use Rattle.xs_eval_spec.specs.steps.Nodes.{AreSome};
+ghost use Rattle.xs_eval_spec.specs.Nodes.{AreSome};
 
 use std::alloc::{AllocError, Global};
 use xs_axes::axis_nodes;

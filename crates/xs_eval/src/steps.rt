@@ -9,8 +9,7 @@ ghost use Rattle.xs_xpath.specs.Exprs.{tree_from, trees_from};
 ghost use Rattle.xs_xpath.specs.Patterns.{are_unions, is_union};
 ghost use Rattle.xs_xpath.specs.Tree.{trees};
 ghost use Rattle.xs_eval.specs.steps.Unions.{IsOnlyStep, and_step, are_plain, is_plain};
-ghost use Rattle.xs_eval_spec.specs.Paths.{is_here};
-ghost use Rattle.xs_eval.specs.steps.Unions.{is_step, is_union_of_steps, plain_among, plain_step};
+ghost use Rattle.xs_eval.specs.steps.Unions.{is_union_of_steps, plain_among, plain_step};
 ghost use Rattle.xs_eval.specs.steps.Unions.{test_of, united};
 
 use crate::node_tests::find;
@@ -32,7 +31,7 @@ pub(crate) fn only_step<'a>(start: &Expr, steps: &'a [Expr]) -> Option<&'a Expr>
 {
     match steps {
         [step] => {
-            if is_here(start) && is_step(step) {
+            if start.is_here() && step.as_step().is_some() {
                 Some(step)
             } else {
                 None
@@ -170,7 +169,7 @@ fn plain_among<'a>(start: &Expr, steps: &'a [Expr]) -> Option<(Axis, &'a NodeTes
         (λ step. plain_among (tree_from start.now) (trees (trees_from steps.now))
         ≡ Some (step.0, step.1.now)) }
 {
-    if !is_here(start) {
+    if !start.is_here() {
         return None;
     }
     match steps.split_first() {
@@ -187,64 +186,11 @@ fn test_of(step: &Expr) -> Option<(Axis, &NodeTest)>
     ensures { MatchOption result (test_of (tree_from step.now) ≡ None)
         (λ step_of. test_of (tree_from step.now) ≡ Some (step_of.0, step_of.1.now)) }
 {
-    match step {
-        Expr::Step(axis, test, predicates) => match predicates.split_first() {
-            None => Some((*axis, test)),
+    match step.as_step() {
+        None => None,
+        Some((axis, test, predicates)) => match predicates.split_first() {
+            None => Some((axis, test)),
             Some(_) => None,
         },
-        Expr::Number(_) => None,
-        Expr::Literal(_) => None,
-        Expr::Variable(_, _, _) => None,
-        Expr::Call(_, _) => None,
-        Expr::Negative(_, _) => None,
-        Expr::Chain(_, _) => None,
-        Expr::Group(_) => None,
-        Expr::Here => None,
-        Expr::Root => None,
-        Expr::Descend => None,
-        Expr::Filter(_, _) => None,
-        Expr::Path(_, _) => None,
-    }
-}
-
-// Whether a path begins at the context node.
-fn is_here(start: &Expr) -> bool
-    ensures { result ≡ is_here (tree_from start.now) }
-{
-    match start {
-        Expr::Here => true,
-        Expr::Number(_) => false,
-        Expr::Literal(_) => false,
-        Expr::Variable(_, _, _) => false,
-        Expr::Call(_, _) => false,
-        Expr::Negative(_, _) => false,
-        Expr::Chain(_, _) => false,
-        Expr::Group(_) => false,
-        Expr::Root => false,
-        Expr::Step(_, _, _) => false,
-        Expr::Descend => false,
-        Expr::Filter(_, _) => false,
-        Expr::Path(_, _) => false,
-    }
-}
-
-// Whether an expression is a step by its axis and its node test.
-fn is_step(expr: &Expr) -> bool
-    ensures { result ≡ is_step (tree_from expr.now) }
-{
-    match expr {
-        Expr::Step(_, _, _) => true,
-        Expr::Number(_) => false,
-        Expr::Literal(_) => false,
-        Expr::Variable(_, _, _) => false,
-        Expr::Call(_, _) => false,
-        Expr::Negative(_, _) => false,
-        Expr::Chain(_, _) => false,
-        Expr::Group(_) => false,
-        Expr::Here => false,
-        Expr::Root => false,
-        Expr::Descend => false,
-        Expr::Filter(_, _) => false,
-        Expr::Path(_, _) => false,
     }
 }

@@ -12,7 +12,7 @@ use Rattle.xs_tree.specs.Record.{Record, at, attributes, places}
 use Rattle.xs_xpath.specs.declared.name.NodeTest.{NodeTest}
 use Rattle.xs_eval_spec.specs.Context.{Context}
 use Rattle.xs_eval_spec.specs.Paths.{passes, tested}
-use Rattle.xs_eval_spec.specs.steps.Nodes.{AreSome}
+use Rattle.xs_eval_spec.specs.Nodes.{AreSome}
 
 range-inside : (b a n : ℕ) → a + n ≤ b → All (λ k. k < b) (range_with_len a n)
 range-inside b a zero h = All-nil (λ k. k < b)

@@ -14,7 +14,7 @@ use Rattle.xs_eval_spec.specs.Context.{Context, at_node}
 use Rattle.xs_eval_spec.specs.Conditions.{IsContext}
 use Rattle.xs_eval_spec.specs.Paths.{kept_if}
 use Rattle.xs_eval_spec.specs.Results.{Outcome, nodes_in}
-use Rattle.xs_eval_spec.specs.steps.Nodes.{AreSome}
+use Rattle.xs_eval_spec.specs.Nodes.{AreSome}
 
 if_all : (P : ℕ → Type 0) (b : Bool) (xs ys : List ℕ) → All P xs → All P ys → All P (cond b xs ys)
 if_all P true xs ys p q = p

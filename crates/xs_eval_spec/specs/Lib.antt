@@ -2,6 +2,7 @@
 -- cases on the expression.
 pub mod Context
 pub mod Conditions
+pub mod Nodes
 pub mod Results
 pub mod Operators
 pub mod Names
@@ -12,4 +13,3 @@ pub mod Calls
 pub mod Paths
 pub mod Evaluation
 pub mod Templates
-pub mod steps

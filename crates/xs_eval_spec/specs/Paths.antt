@@ -20,14 +20,10 @@ use Rattle.xs_value.specs.Conversion.{bool_value}
 use Rattle.xs_value.specs.NodeSet.{in_order}
 use Rattle.xs_xpath.specs.declared.name.NodeTest.{NodeTest}
 use Rattle.xs_xpath.specs.declared.name.NodeTest.TheVariants.{Any, Uri, Name, Node, Text, Comment, Pi, Target}
-use Rattle.xs_xpath.specs.Tree.{Tree, here}
+use Rattle.xs_xpath.specs.Tree.{Tree}
+pub use Rattle.xs_xpath.specs.Tree.{is_here}
 use Rattle.xs_eval_spec.specs.Context.{Context, at_node}
 use Rattle.xs_eval_spec.specs.Results.{given, nodes_in}
-
--- whether an expression is `.` alone (2.5)
-abbrev pub is_here : Tree → Bool
-is_here here = true
-is_here _ = false
 
 -- what an expression gives in each context
 abbrev pub Meaning : Type 0

@@ -1,6 +1,6 @@
 -- What a finder finds by.
 use Rattle.std.specs.Prelude.{◌≡◌, List}
-use Rattle.xs_number_tables.specs.steps.Tables.{AreCounters}
+use Rattle.xs_number_tables.specs.Tables.{AreCounters}
 use Rattle.xs_keys.specs.KeyTables.{tables_of}
 use Rattle.xs_rules.specs.Indexed.{IsIndex, IsPrepared}
 use Rattle.xs_value.specs.Tables.{Table, TablesIn}

@@ -8,7 +8,7 @@ use Rattle.xs_value.specs.Tables.{Table}
 use Rattle.xs_number_tables.specs.declared.counter.Counter.{Counter}
 use Rattle.xs_number_tables.specs.declared.counters.Counted.{Counted}
 use Rattle.xs_number_tables.specs.steps.Counters.{AreCounts, AreFrom, AreNumbers, IsCounter}
-use Rattle.xs_number_tables.specs.steps.Tables.{IsSameCounting}
+use Rattle.xs_number_tables.specs.Tables.{IsSameCounting}
 
 -- what a place has, once another entry was made
 pub entered : (P : Counted → Type 0) (b : Bool) (entry : Counted) (was now : Option Counted) → now ≡ cond b (Some entry) was → P entry

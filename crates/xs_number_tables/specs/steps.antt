@@ -1,4 +1,3 @@
 -- What the code mirrors.
 pub mod Alike
 pub mod Counters
-pub mod Tables

@@ -4,7 +4,7 @@
 ghost use Rattle.std.specs.Prelude.{◌≡◌, ◌<◌, IfOk, IfSome, List, OnOk, length};
 ghost use Rattle.xs_pattern_spec.specs.Counted.{number_list};
 ghost use Rattle.xs_number_tables.specs.steps.Counters.{IsCounter};
-ghost use Rattle.xs_number_tables.specs.steps.Tables.{AreCounters};
+ghost use Rattle.xs_number_tables.specs.Tables.{AreCounters};
 ghost use Rattle.xs_tree.specs.Record.{Record};
 ghost use Rattle.xs_value.specs.Tables.{Table, TablesIn};
 

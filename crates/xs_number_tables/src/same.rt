@@ -2,7 +2,7 @@
 //! part by part, and contracts speak of the answer `true` alone.
 
 ghost use Rattle.std.specs.Prelude.{◌≡◌, true};
-ghost use Rattle.xs_number_tables.specs.steps.Tables.{IsSameCounting};
+ghost use Rattle.xs_number_tables.specs.Tables.{IsSameCounting};
 ghost use Rattle.xs_xpath.specs.Exprs.{tree_from, trees_from};
 
 use xs_num::number::{Num, Number};

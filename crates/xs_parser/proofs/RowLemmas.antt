@@ -1,6 +1,6 @@
 -- What the table of the axes' names says is what the definition does.
 use Rattle.std.proofs.Common.{◌≡◌, ℕ, List, refl}
-use Rattle.xs_xpath.specs.steps.Rows.{first_named}
+use Rattle.xs_xpath.specs.Rows.{first_named}
 use Rattle.xs_parser.specs.Lexing.{axis_named}
 use Rattle.xs_parser.specs.Axes.{axes}
 

@@ -1,7 +1,7 @@
 //! Names of a text: of operators, node types and axes, and qualified ones.
 ghost use Rattle.std.specs.Prelude.{◌≡◌, IfOk, map, option_map};
 ghost use Rattle.xs_xpath.specs.Names.{is_nil};
-ghost use Rattle.xs_xpath.specs.steps.Rows.{row_data};
+ghost use Rattle.xs_xpath.specs.Rows.{row_data};
 ghost use Rattle.xs_parser.specs.Lexing.{axis_named, is_ncname, is_pi, kind_named};
 ghost use Rattle.xs_parser.specs.Lexing.{operator_named, qname, qualified, unprefixed, with_local};
 ghost use Rattle.xs_parser.specs.Axes.{axes};

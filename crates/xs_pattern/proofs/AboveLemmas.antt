@@ -18,7 +18,7 @@ use Rattle.xs_eval_spec.specs.Context.{Context}
 use Rattle.xs_eval_spec.specs.Paths.{passes}
 use Rattle.xs_pattern_spec.specs.Matching.{ends_path, pattern_context, placed_at, start_of, step_nodes, steps_of}
 use Rattle.xs_pattern_spec.specs.Predicates.{is_among}
-use Rattle.xs_pattern.specs.steps.Above.{EndsBy, IsAbove, is_below, is_led, is_plain, is_plain_path, is_root_at}
+use Rattle.xs_pattern.specs.Above.{EndsBy, IsAbove, is_below, is_led, is_plain, is_plain_path, is_root_at}
 use Rattle.xs_pattern.specs.steps.Climb.{before_slashes, ends_above, is_anywhere, stands_on}
 use Rattle.xs_pattern.proofs.AncestorLemmas.{any-root, any-same, any-self, any-up}
 use Rattle.xs_pattern.proofs.ClimbLemmas.{ends-descend, ends-no_parent, ends-parent, ends-start}

@@ -7,7 +7,7 @@ use Rattle.std.proofs.lemmas.List.Elements.{All-cons, All-head, All-nil, All-tai
 use Rattle.std.specs.List.{enumerate_from}
 use Rattle.xs_eval_spec.specs.Context.{Context}
 use Rattle.xs_eval_spec.specs.Paths.{Meaning, kept_if}
-use Rattle.xs_eval_spec.specs.steps.Nodes.{AreSome}
+use Rattle.xs_eval_spec.specs.Nodes.{AreSome}
 use Rattle.xs_eval_spec.proofs.StepLemmas.{from_here, placed_at, placed_below, placed_end}
 use Rattle.xs_pattern_spec.specs.Predicates.{all_kept, holds, is_among, kept}
 use Rattle.xs_pattern.specs.steps.Alone.{AreSaid, IsSaid}

@@ -25,7 +25,7 @@ use Rattle.xs_eval_spec.specs.Evaluation.{runs_of_trees}
 use Rattle.xs_eval_spec.specs.Paths.{Meaning, passes, tested}
 use Rattle.xs_pattern_spec.specs.Matching.{ends_path, is_descend, matches_path, pattern_context, placed_at, selected, start_of, step_nodes, steps_of}
 use Rattle.xs_pattern_spec.specs.Predicates.{all_kept, is_among}
-use Rattle.xs_pattern.specs.steps.Above.{is_below}
+use Rattle.xs_pattern.specs.Above.{is_below}
 use Rattle.xs_pattern.specs.steps.Climb.{backwards}
 use Rattle.xs_pattern.specs.steps.PathTables.{AreEndsIn, IsPathTable, EndsIn, IsNextIn, is_free, is_selected}
 use Rattle.xs_pattern.proofs.AboveLemmas.{below-above, table-at, swap}

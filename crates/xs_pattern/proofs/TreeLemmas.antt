@@ -17,7 +17,7 @@ use Rattle.xs_eval_spec.specs.Evaluation.{runs_of}
 use Rattle.xs_eval_spec.specs.Paths.{Meaning}
 use Rattle.xs_eval_spec.proofs.CaseLemmas.{runs_listed}
 use Rattle.xs_pattern_spec.specs.Matching.{selected, step_nodes, steps_of}
-use Rattle.xs_pattern.specs.steps.Above.{is_plain}
+use Rattle.xs_pattern.specs.Above.{is_plain}
 use Rattle.xs_pattern.specs.steps.Climb.{backwards}
 
 listed-trees : (ts : List Tree) → listed (trees ts) ≡ ts

@@ -7,8 +7,8 @@ ghost use Rattle.std.specs.List.{range_with_len};
 ghost use Rattle.xs_tree.specs.Record.{places};
 ghost use Rattle.xs_tree.specs.Shape.{IsTree};
 ghost use Rattle.xs_xpath.specs.Exprs.{tree_from};
-ghost use Rattle.xs_pattern.specs.steps.Above.{AreEnds, AreNext, IsAbove, has_table, is_below};
-ghost use Rattle.xs_pattern.specs.steps.Above.{is_led, is_root_at};
+ghost use Rattle.xs_pattern.specs.Above.{AreEnds, AreNext, IsAbove, has_table, is_below};
+ghost use Rattle.xs_pattern.specs.Above.{is_led, is_root_at};
 ghost use Rattle.xs_pattern.specs.steps.Climb.{backwards, before_slashes};
 
 use crate::node_tests::is_root;

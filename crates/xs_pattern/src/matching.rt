@@ -9,7 +9,7 @@ ghost use Rattle.xs_eval_spec.specs.Evaluation.{run_of};
 ghost use Rattle.xs_pattern_spec.specs.Matching.{ends_path, matches, matches_path, pattern_context};
 ghost use Rattle.xs_pattern_spec.specs.Matching.{placed_at};
 ghost use Rattle.xs_pattern_spec.specs.Predicates.{is_among, nodes_given};
-ghost use Rattle.xs_pattern.specs.steps.Above.{IsAbove, IsAboveIn};
+ghost use Rattle.xs_pattern.specs.Above.{IsAbove, IsAboveIn};
 ghost use Rattle.xs_pattern.specs.steps.Climb.{IsBehind, IsReached, backwards, ends_above};
 
 use crate::keys::key_call;

@@ -4,7 +4,7 @@ ghost use Rattle.std.specs.Prelude.{◌≡◌, ◌<◌, ◌∷◌, [], ◌++◌,
 ghost use Rattle.xs_tree.specs.Kinds.{is_root_kind};
 ghost use Rattle.xs_tree.specs.Record.{at};
 ghost use Rattle.xs_eval_spec.specs.Paths.{tested};
-ghost use Rattle.xs_eval_spec.specs.steps.Nodes.{AreSome};
+ghost use Rattle.xs_eval_spec.specs.Nodes.{AreSome};
 
 use std::alloc::{AllocError, Global};
 use xs_axes::axis_nodes;

@@ -4,7 +4,7 @@ ghost use Rattle.std.specs.Prelude.{◌≡◌, ◌<◌, ◌==◌, ◌&&◌, IfOk
 ghost use Rattle.xs_eval_spec.specs.Conditions.{IsContext};
 ghost use Rattle.xs_eval_spec.specs.Evaluation.{run_of, runs_of};
 ghost use Rattle.xs_eval_spec.specs.Paths.{kept_if};
-ghost use Rattle.xs_eval_spec.specs.steps.Nodes.{AreSome};
+ghost use Rattle.xs_eval_spec.specs.Nodes.{AreSome};
 ghost use Rattle.xs_pattern_spec.specs.Predicates.{all_kept, holds, is_among, kept};
 ghost use Rattle.xs_pattern.specs.steps.Alone.{AreSaid};
 

@@ -1,12 +1,12 @@
 -- Import precedence and priority, by which template rules and tests of elements are compared (XSLT 1.0, 2.6.2, 3.4 and 5.5).
 use Rattle.std.specs.Prelude.{◌==◌, ◌||◌, ◌&&◌, Bool, nat_lt, ℤ, pos, negsuc, int_lt, List, [], ◌∷◌, Option, Some, None, if◌then◌else◌}
-use Rattle.std.specs.Option.{option_map_or}
+use Rattle.std.specs.Option.{option_and_then, option_map_or}
 use Rattle.xs_pattern_spec.specs.declared.ranks.Rank.{Rank}
 use Rattle.xs_xpath.specs.declared.name.NodeTest.{NodeTest}
 use Rattle.xs_xpath.specs.declared.name.NodeTest.TheVariants.{Any, Uri, Name, Node, Text, Comment, Pi, Target}
 use Rattle.xs_pattern_spec.specs.Matching.{start_of, steps_of}
 pub use Rattle.xs_eval_spec.specs.Paths.{is_here}
-use Rattle.xs_xpath.specs.Tree.{Tree, Trees, step, no_trees, first_tree}
+use Rattle.xs_xpath.specs.Tree.{Tree, Trees, no_trees, first_tree, step_of}
 
 -- whether the first is above the second: by a higher precedence, or at the same one by a higher priority
 abbrev pub outranks : Rank → Rank → Bool
@@ -40,8 +40,7 @@ bare_of which no_trees = Some which
 bare_of which (first_tree e es) = None
 
 abbrev pub bare_test : Tree → Option NodeTest
-bare_test (step axis which es) = bare_of which es
-bare_test _ = None
+bare_test e = option_and_then (λ s. bare_of s.1 s.2) (step_of e)
 
 -- and of a path that is one such step
 abbrev pub lone_step : List Tree → Option NodeTest

@@ -2,7 +2,7 @@
 
 ghost use Rattle.std.specs.Prelude.{◌≡◌};
 ghost use Rattle.std.specs.Option.{option_copied};
-ghost use Rattle.xs_rules.specs.Ranks.{bare_of, bare_test, default_priority, is_here, lone_step};
+ghost use Rattle.xs_rules.specs.Ranks.{bare_of, bare_test, default_priority, lone_step};
 ghost use Rattle.xs_rules.specs.Ranks.{lone_test, test_priority};
 ghost use Rattle.xs_xpath.specs.Exprs.{tree_from, trees_from};
 ghost use Rattle.xs_xpath.specs.Tree.{trees};
@@ -42,7 +42,7 @@ fn test_priority(test: &NodeTest) -> i64
 pub(crate) fn lone_test(alternative: &Expr) -> Option<&NodeTest>
     ensures { option_copied result ≡ lone_test (tree_from alternative.now) }
 {
-    if !is_here(start_of(alternative)) {
+    if !start_of(alternative).is_here() {
         return None;
     }
     lone_step(steps_of(alternative))
@@ -62,20 +62,9 @@ fn lone_step(steps: &[Expr]) -> Option<&NodeTest>
 fn bare_test(step: &Expr) -> Option<&NodeTest>
     ensures { option_copied result ≡ bare_test (tree_from step.now) }
 {
-    match step {
-        Expr::Number(_) => None,
-        Expr::Literal(_) => None,
-        Expr::Variable(_, _, _) => None,
-        Expr::Call(_, _) => None,
-        Expr::Negative(_, _) => None,
-        Expr::Chain(_, _) => None,
-        Expr::Group(_) => None,
-        Expr::Here => None,
-        Expr::Root => None,
-        Expr::Step(_, test, predicates) => bare_of(test, predicates),
-        Expr::Descend => None,
-        Expr::Filter(_, _) => None,
-        Expr::Path(_, _) => None,
+    match step.as_step() {
+        None => None,
+        Some((_, test, predicates)) => bare_of(test, predicates),
     }
 }
 
@@ -87,26 +76,5 @@ fn bare_of<'a>(test: &'a NodeTest, predicates: &[Expr]) -> Option<&'a NodeTest>
         Some(test)
     } else {
         None
-    }
-}
-
-// Whether a relative path begins so.
-fn is_here(start: &Expr) -> bool
-    ensures { result ≡ is_here (tree_from start.now) }
-{
-    match start {
-        Expr::Number(_) => false,
-        Expr::Literal(_) => false,
-        Expr::Variable(_, _, _) => false,
-        Expr::Call(_, _) => false,
-        Expr::Negative(_, _) => false,
-        Expr::Chain(_, _) => false,
-        Expr::Group(_) => false,
-        Expr::Here => true,
-        Expr::Root => false,
-        Expr::Step(_, _, _) => false,
-        Expr::Descend => false,
-        Expr::Filter(_, _) => false,
-        Expr::Path(_, _) => false,
     }
 }

@@ -30,20 +30,9 @@ pub(crate) fn key_of(mode: u32, alternative: &Expr) -> Option<RuleKey<'_>>
 fn step_key(mode: u32, step: &Expr) -> Option<RuleKey<'_>>
     ensures { option_map key_data result ≡ step_key mode (tree_from step.now) }
 {
-    match step {
-        Expr::Step(axis, test, _) => test_key(mode, *axis, test),
-        Expr::Number(_) => None,
-        Expr::Literal(_) => None,
-        Expr::Variable(_, _, _) => None,
-        Expr::Call(_, _) => None,
-        Expr::Negative(_, _) => None,
-        Expr::Chain(_, _) => None,
-        Expr::Group(_) => None,
-        Expr::Here => None,
-        Expr::Root => None,
-        Expr::Descend => None,
-        Expr::Filter(_, _) => None,
-        Expr::Path(_, _) => None,
+    match step.as_step() {
+        None => None,
+        Some((axis, test, _)) => test_key(mode, axis, test),
     }
 }
 

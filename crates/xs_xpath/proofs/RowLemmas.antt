@@ -3,7 +3,7 @@ use Rattle.std.proofs.Common.{◌≡◌, ℕ, Bool, true, false, List, [], ◌�
 use Rattle.std.specs.Prelude.{if◌then◌else◌}
 use Rattle.std.specs.Str.{bytes_eq}
 use Rattle.xs_xpath.specs.Names.{function_named, node_function, or_else, string_function}
-use Rattle.xs_xpath.specs.steps.Rows.{first_named, functions, node_functions, string_functions, value_functions, xslt_functions}
+use Rattle.xs_xpath.specs.Rows.{first_named, functions, node_functions, string_functions, value_functions, xslt_functions}
 
 unless : {A : Type 0} → (test : Bool) (a : A) (x y z : Option A) → x ≡ or_else y z → (if test then Some a else x) ≡ or_else (if test then Some a else y) z
 unless true a x y z e = refl

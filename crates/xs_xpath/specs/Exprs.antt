@@ -1,9 +1,12 @@
 -- The tree that an expression of the code represents.
 use Rattle.std.specs.Prelude.{List, map}
+use Rattle.std.specs.Borrow.{Bor}
+use Rattle.xs_tree.specs.declared.axes.Axis.{Axis}
 use Rattle.xs_xpath.specs.declared.expr.Expr.{Expr}
 use Rattle.xs_xpath.specs.declared.expr.Expr.TheOpen.{Expr-F, Number, Literal, Variable, Call, Negative, Chain, Group, Here, Root, Step, Descend, Filter, Path}
 use Rattle.xs_xpath.specs.declared.expr.Expr.TheFolds.{fold-Expr}
-use Rattle.xs_xpath.specs.Tree.{Tree, number, literal, variable, call, negative, chain, group, here, root, step, descend, filter, path, trees}
+use Rattle.xs_xpath.specs.declared.name.NodeTest.{NodeTest}
+use Rattle.xs_xpath.specs.Tree.{Tree, Trees, number, literal, variable, call, negative, chain, group, here, root, step, descend, filter, path, trees}
 
 abbrev pub tree_step : Expr-F Tree → Tree
 tree_step (Number n) = number n
@@ -25,3 +28,7 @@ tree_from = fold-Expr Tree tree_step
 
 abbrev pub trees_from : List Expr → List Tree
 trees_from = map tree_from
+
+-- the parts of a step as the code has them
+abbrev pub step_data : Axis × Bor NodeTest × Bor (List Expr) → Axis × NodeTest × Trees
+step_data s = (s.0, s.1.now, trees (trees_from s.2.now))

@@ -7,6 +7,7 @@ pub mod Exprs
 pub mod Names
 pub mod Patterns
 pub mod Quotients
+pub mod Rows
 pub mod Templates
 pub mod Tree
 pub mod Uses

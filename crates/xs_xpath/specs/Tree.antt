@@ -1,5 +1,5 @@
 -- Expressions as plain data (XPath 1.0, 2 and 3). The operands of one precedence level are a list.
-use Rattle.std.specs.Prelude.{ℕ, List, [], ◌∷◌, map, Option, None}
+use Rattle.std.specs.Prelude.{ℕ, Bool, true, false, List, [], ◌∷◌, map, Option, Some, None}
 use Rattle.xs_num.specs.declared.number.Number.{Number as Value}
 use Rattle.xs_tree.specs.declared.axes.Axis.{Axis}
 use Rattle.xs_xpath.specs.declared.name.Function.{Function}
@@ -41,6 +41,16 @@ mutual
 abbrev pub trees : List Tree → Trees
 trees [] = no_trees
 trees (e ∷ es) = first_tree e (trees es)
+
+-- whether an expression is `.` alone (2.5)
+abbrev pub is_here : Tree → Bool
+is_here here = true
+is_here _ = false
+
+-- the axis, the node test and the predicates of a step (2.1)
+abbrev pub step_of : Tree → Option (Axis × NodeTest × Trees)
+step_of (step axis test predicates) = Some (axis, test, predicates)
+step_of _ = None
 
 -- the expression that one token is
 abbrev pub atom_tree : Atom → Tree

@@ -2,7 +2,7 @@
 ghost use Rattle.std.specs.Prelude.{◌≡◌, map, option_map};
 ghost use Rattle.xs_xpath.specs.Names.{function_named, uri_in};
 ghost use Rattle.xs_xpath.specs.steps.Rising.{rises};
-ghost use Rattle.xs_xpath.specs.steps.Rows.{functions, row_data};
+ghost use Rattle.xs_xpath.specs.Rows.{functions, row_data};
 
 use crate::name::Function;
 use crate::rising::{few_with, rises};
@@ -95,7 +95,7 @@ static FUNCTIONS: [(&str, Function); 34] = [
 ];
 
 /// The functions by their names.
-#[tactic(auto, unfolding(crate::specs::steps::Rows::functions))]
+#[tactic(auto, unfolding(crate::specs::Rows::functions))]
 fn functions() -> &'static [(&'static str, Function)]
     ensures { map row_data result.now ≡ functions }
 {

@@ -1,6 +1,6 @@
 //! Tables of what is before the last `//` of a pattern, and of the nodes that match one.
 
-ghost use Rattle.xs_pattern.specs.steps.Above.{IsAbove};
+ghost use Rattle.xs_pattern.specs.Above.{IsAbove};
 ghost use Rattle.xs_xpath.specs.Exprs.{tree_from};
 
 use crate::answer::Answer;

@@ -1,5 +1,6 @@
 -- Relative paths of one step, and unions of them, as the code evaluates them: into one list of nodes.
-use Rattle.std.specs.Prelude.{◌≡◌, ℕ, ◌+◌, ◌==◌, ◌&&◌, ◌++◌, Bool, true, false, List, [], ◌∷◌, Option, Some, None, length, if◌then◌else◌}
+use Rattle.std.specs.Prelude.{◌≡◌, ℕ, ◌+◌, ◌==◌, ◌&&◌, ◌++◌, Bool, true, false, List, [], ◌∷◌, Option, Some, None, is_some, length, if◌then◌else◌}
+use Rattle.std.specs.Option.{option_and_then}
 use Rattle.xs_trace.specs.Run.{Run, give, costs, fold, ◌>>=◌}
 use Rattle.xs_tree.specs.declared.axes.Axis.{Axis}
 use Rattle.xs_value.specs.declared.value.Value.{Value}
@@ -11,13 +12,12 @@ use Rattle.xs_xpath.specs.declared.token.Operator.{Operator}
 use Rattle.xs_xpath.specs.Exprs.{tree_from, trees_from}
 use Rattle.xs_xpath.specs.Patterns.{are_unions}
 use Rattle.xs_xpath.specs.Tree as syntax
-use Rattle.xs_xpath.specs.Tree.{Tree, Trees, no_trees, first_tree, trees}
+use Rattle.xs_xpath.specs.Tree.{Tree, Trees, no_trees, first_tree, step_of, trees}
 use Rattle.xs_eval_spec.specs.Context.{Context}
 use Rattle.xs_eval_spec.specs.Paths.{is_here, tested}
 
 abbrev pub is_step : Tree → Bool
-is_step (syntax.step _ _ _) = true
-is_step _ = false
+is_step e = is_some (step_of e)
 
 -- a relative path has this step alone
 pub record IsOnlyStep (start : Expr) (steps : List Expr) (step : Expr) : Type 0 where
@@ -26,9 +26,12 @@ pub record IsOnlyStep (start : Expr) (steps : List Expr) (step : Expr) : Type 0 
   pub kind : is_step (tree_from step) ≡ true
 
 -- the axis and the node test of a step without predicates
+abbrev pub bare_test : Axis → NodeTest → Trees → Option (Axis × NodeTest)
+bare_test axis which no_trees = Some (axis, which)
+bare_test axis which (first_tree e es) = None
+
 abbrev pub test_of : Tree → Option (Axis × NodeTest)
-test_of (syntax.step axis test no_trees) = Some (axis, test)
-test_of _ = None
+test_of e = option_and_then (λ s. bare_test s.0 s.1 s.2) (step_of e)
 
 abbrev pub test_alone : Trees → Option (Axis × NodeTest)
 test_alone (first_tree e no_trees) = test_of e

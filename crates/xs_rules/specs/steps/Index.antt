@@ -14,10 +14,10 @@ use Rattle.xs_tree.specs.declared.kinds.Kind.TheVariants.{Root, Element, Attribu
 use Rattle.xs_tree.specs.Record.{Record, name_local, name_uri}
 use Rattle.xs_xpath.specs.declared.name.NodeTest.{NodeTest}
 use Rattle.xs_xpath.specs.declared.name.NodeTest.TheVariants.{Any, Uri, Name, Node, Text, Comment, Pi, Target}
-use Rattle.xs_xpath.specs.Tree.{Tree, step}
+use Rattle.xs_xpath.specs.Tree.{Tree, step_of}
 use Rattle.xs_pattern_spec.specs.Matching.{steps_of}
 use Rattle.xs_sort_order.specs.InOrder.{in_order}
-use Rattle.xs_pattern.specs.steps.Above.{IsAbove}
+use Rattle.xs_pattern.specs.Above.{IsAbove}
 use Rattle.xs_pattern.specs.steps.PathTables.{IsPathTable}
 use Rattle.xs_rules.specs.declared.entries.Entry.{Entry}
 use Rattle.xs_rules.specs.declared.tables.RuleTable.{RuleTable}
@@ -60,8 +60,7 @@ test_key mode axis Comment = None
 test_key mode axis Pi = None
 
 abbrev pub step_key : (mode : ℕ) → Tree → Option Key
-step_key mode (step axis which es) = test_key mode axis which
-step_key mode _ = None
+step_key mode e = option_and_then (λ s. test_key mode s.0 s.1) (step_of e)
 
 -- the steps with the last one first
 abbrev pub path_key : (mode : ℕ) → (steps : List Tree) → Option Key

@@ -1,6 +1,6 @@
 use Rattle.std.proofs.Common.{ℕ, ◌++◌, List, ap, subst, sym, ◌∙◌}
 use Rattle.xs_eval_spec.specs.Paths.{tested}
-use Rattle.xs_eval_spec.specs.steps.Nodes.{AreSome}
+use Rattle.xs_eval_spec.specs.Nodes.{AreSome}
 use Rattle.xs_eval_spec.proofs.AxisListLemmas.{tested-some}
 use Rattle.xs_eval.proofs.node_tests.tested.Goals as goal
 

@@ -1,5 +1,5 @@
 use Rattle.std.proofs.Common.{ap, ◌∙◌}
-use Rattle.xs_xpath.specs.steps.Rows.{first_named}
+use Rattle.xs_xpath.specs.Rows.{first_named}
 use Rattle.xs_parser.proofs.RowLemmas.{axes_named}
 use Rattle.xs_parser.proofs.names.axis_of.Goals as goal
 

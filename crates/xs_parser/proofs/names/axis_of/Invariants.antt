@@ -1,5 +1,5 @@
 use Rattle.std.proofs.Common.{◌≡◌, map, drop}
-use Rattle.xs_xpath.specs.steps.Rows.{first_named, row_data}
+use Rattle.xs_xpath.specs.Rows.{first_named, row_data}
 use Rattle.xs_parser.specs.Lexing.{axis_named}
 use Rattle.xs_parser.proofs.names.axis_of.Given as goal
 

@@ -1,7 +1,7 @@
 use Rattle.std.proofs.Common.{Bool, List, Option, Some, Vec, Global, ap, reverse, subst, sym, ◌∙◌}
 use Rattle.xs_xpath.specs.Exprs.{tree_from}
 use Rattle.xs_xpath.specs.Tree.{Tree}
-use Rattle.xs_pattern.specs.steps.Above.{AreEnds, EndsBy}
+use Rattle.xs_pattern.specs.Above.{AreEnds, EndsBy}
 use Rattle.xs_pattern.specs.steps.Climb.{backwards, before_slashes}
 use Rattle.xs_pattern.proofs.AboveLemmas.{above-table}
 use Rattle.xs_pattern.proofs.above.above_of.Goals as goal

@@ -1,7 +1,7 @@
 use Rattle.std.proofs.Common.{◌≡◌, true, [], ap, length, replicate, subst, sym, ◌∙◌}
 use Rattle.xs_xpath.specs.Exprs.{tree_from}
 use Rattle.xs_xpath.specs.Tree.{Tree, here, root}
-use Rattle.xs_pattern.specs.steps.Above.{EndsBy, is_plain_path}
+use Rattle.xs_pattern.specs.Above.{EndsBy, is_plain_path}
 use Rattle.xs_pattern.proofs.AboveLemmas.{ends-anywhere, ends-roots}
 use Rattle.xs_pattern.proofs.TreeLemmas.{here-tree, root-tree}
 use Rattle.xs_pattern.proofs.above.beginnings.Goals as goal

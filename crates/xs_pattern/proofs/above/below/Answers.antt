@@ -1,4 +1,4 @@
-use Rattle.xs_pattern.specs.steps.Above.{is_below}
+use Rattle.xs_pattern.specs.Above.{is_below}
 use Rattle.xs_pattern.proofs.AboveLemmas.{table-more}
 use Rattle.xs_pattern.proofs.above.below.Goals as goal
 

@@ -1,6 +1,6 @@
 use Rattle.std.proofs.Common.{◌≡◌, map}
 use Rattle.std.specs.List.{range_with_len}
-use Rattle.xs_pattern.specs.steps.Above.{is_below}
+use Rattle.xs_pattern.specs.Above.{is_below}
 use Rattle.xs_pattern.proofs.above.below.Given as goal
 
 -- the table of the nodes that were passed

@@ -4,7 +4,7 @@ use Rattle.std.specs.List.{list_all}
 use Rattle.xs_xpath.specs.declared.expr.Expr.{Expr}
 use Rattle.xs_xpath.specs.Exprs.{tree_from, trees_from}
 use Rattle.xs_eval_spec.proofs.StepLemmas.{from_here}
-use Rattle.xs_pattern.specs.steps.Above.{AreNext, EndsBy, is_plain}
+use Rattle.xs_pattern.specs.Above.{AreNext, EndsBy, is_plain}
 use Rattle.xs_pattern.specs.steps.Climb.{backwards}
 use Rattle.xs_pattern.proofs.AboveLemmas.{plain-not, plain-whole}
 use Rattle.xs_pattern.proofs.above.ends_of.Goals as goal

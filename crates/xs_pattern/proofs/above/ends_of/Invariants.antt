@@ -1,7 +1,7 @@
 use Rattle.std.proofs.Common.{◌≡◌, true, drop, take}
 use Rattle.std.specs.List.{list_all}
 use Rattle.xs_xpath.specs.Exprs.{tree_from, trees_from}
-use Rattle.xs_pattern.specs.steps.Above.{EndsBy, is_plain}
+use Rattle.xs_pattern.specs.Above.{EndsBy, is_plain}
 use Rattle.xs_pattern.specs.steps.Climb.{backwards, is_anywhere}
 use Rattle.xs_pattern.proofs.above.ends_of.Given as goal
 

@@ -1,4 +1,4 @@
-use Rattle.xs_pattern.specs.steps.Above.{is_led}
+use Rattle.xs_pattern.specs.Above.{is_led}
 use Rattle.xs_pattern.proofs.AboveLemmas.{table-more}
 use Rattle.xs_pattern.proofs.above.led.Goals as goal
 

@@ -1,6 +1,6 @@
 use Rattle.std.proofs.Common.{◌≡◌, map}
 use Rattle.std.specs.List.{range_with_len}
-use Rattle.xs_pattern.specs.steps.Above.{is_led}
+use Rattle.xs_pattern.specs.Above.{is_led}
 use Rattle.xs_pattern.proofs.above.led.Given as goal
 
 -- the table of the nodes that were passed

@@ -4,7 +4,7 @@ use Rattle.std.specs.Vec.{vec_len}
 use Rattle.xs_xpath.specs.Exprs.{tree_from}
 use Rattle.xs_xpath.specs.Tree.{Tree, descend, no_trees, step}
 use Rattle.xs_xpath.specs.declared.expr.Expr.{Expr}
-use Rattle.xs_pattern.specs.steps.Above.{EndsBy, is_plain}
+use Rattle.xs_pattern.specs.Above.{EndsBy, is_plain}
 use Rattle.xs_pattern.proofs.AboveLemmas.{ends-below, ends-led, no-items, some-items}
 use Rattle.xs_pattern.proofs.TreeLemmas.{descend-tree, step-none, step-plain}
 use Rattle.xs_pattern.proofs.above.next_ends.Goals as goal

@@ -1,4 +1,4 @@
-use Rattle.xs_pattern.specs.steps.Above.{is_root_at}
+use Rattle.xs_pattern.specs.Above.{is_root_at}
 use Rattle.xs_pattern.proofs.AboveLemmas.{table-more}
 use Rattle.xs_pattern.proofs.above.roots.Goals as goal
 

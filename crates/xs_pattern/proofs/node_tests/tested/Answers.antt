@@ -2,7 +2,7 @@ use Rattle.std.proofs.Common.{◌≡◌, ℕ, ◌++◌, ◌<◌, List, ap, lengt
 use Rattle.xs_tree.specs.Axis.{axis_list}
 use Rattle.xs_eval_spec.specs.Context.{Context}
 use Rattle.xs_eval_spec.specs.Paths.{tested}
-use Rattle.xs_eval_spec.specs.steps.Nodes.{AreSome}
+use Rattle.xs_eval_spec.specs.Nodes.{AreSome}
 use Rattle.xs_eval_spec.proofs.AxisListLemmas.{axis-inside, next-inside, tested-some}
 use Rattle.xs_pattern.proofs.node_tests.tested.Goals as goal
 

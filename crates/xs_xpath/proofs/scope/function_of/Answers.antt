@@ -1,5 +1,5 @@
 use Rattle.std.proofs.Common.{ap, ◌∙◌}
-use Rattle.xs_xpath.specs.steps.Rows.{first_named}
+use Rattle.xs_xpath.specs.Rows.{first_named}
 use Rattle.xs_xpath.proofs.RowLemmas.{functions_named}
 use Rattle.xs_xpath.proofs.scope.function_of.Goals as goal
 

@@ -1,6 +1,6 @@
 use Rattle.std.proofs.Common.{◌≡◌, map, drop}
 use Rattle.xs_xpath.specs.Names.{function_named}
-use Rattle.xs_xpath.specs.steps.Rows.{first_named, row_data}
+use Rattle.xs_xpath.specs.Rows.{first_named, row_data}
 use Rattle.xs_xpath.proofs.scope.function_of.Given as goal
 
 -- the first of those that are left is the first of all

@@ -15,7 +15,7 @@ use Rattle.xs_eval_spec.specs.Conditions.{IsContext}
 use Rattle.xs_eval_spec.specs.Context.{Context, at_node}
 use Rattle.xs_eval_spec.specs.Evaluation.{and_argument, answered, arguments, called_of, chain, joined, joined_from, run_of, runs_of}
 use Rattle.xs_eval_spec.specs.Operators.{negation, operated}
-use Rattle.xs_eval_spec.specs.steps.Nodes.{AreSome}
+use Rattle.xs_eval_spec.specs.Nodes.{AreSome}
 use Rattle.xs_eval.specs.steps.Positions.{picked}
 use Rattle.xs_eval_spec.specs.Paths.{and_from, filter_expr, filtered, judged, kept_if, kept_of, path, selected, selects, step, steps_from, through}
 use Rattle.xs_eval_spec.specs.Results.{given, nodes_in}

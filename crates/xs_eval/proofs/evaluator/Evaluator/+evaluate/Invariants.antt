@@ -8,7 +8,7 @@ use Rattle.xs_value.specs.NodeSet.{in_order}
 use Rattle.xs_xpath.specs.declared.expr.Expr.{size-Expr}
 use Rattle.xs_eval_spec.specs.Evaluation.{and_argument, answered, called_of, joined_from, run_of, runs_of}
 use Rattle.xs_eval_spec.specs.Paths.{and_from, filtered, judged, kept_of, path, through}
-use Rattle.xs_eval_spec.specs.steps.Nodes.{AreSome}
+use Rattle.xs_eval_spec.specs.Nodes.{AreSome}
 use Rattle.xs_eval_spec.proofs.StepLemmas.{Rest}
 use Rattle.xs_eval.proofs.evaluator.Evaluator.+evaluate.Given as goal
 

@@ -1,5 +1,5 @@
 use Rattle.xs_number_tables.specs.steps.Counters.{IsCounter}
-use Rattle.xs_number_tables.specs.steps.Tables.{counted_at}
+use Rattle.xs_number_tables.specs.Tables.{counted_at}
 use Rattle.xs_number_tables.proofs.TableLemmas.{entered}
 use Rattle.xs_number_tables.proofs.counters.Counters.add.Goals as goal
 

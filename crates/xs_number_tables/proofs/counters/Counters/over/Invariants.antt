@@ -1,4 +1,4 @@
-use Rattle.xs_number_tables.specs.steps.Tables.{AreCounters}
+use Rattle.xs_number_tables.specs.Tables.{AreCounters}
 use Rattle.xs_number_tables.proofs.counters.Counters.over.Given as goal
 
 -- the counters so far are those of their declarations

@@ -1,6 +1,6 @@
 use Rattle.std.proofs.Common.{◌≡◌, drop, map}
 use Rattle.xs_eval_spec.specs.Evaluation.{run_of, runs_of}
-use Rattle.xs_eval_spec.specs.steps.Nodes.{AreSome}
+use Rattle.xs_eval_spec.specs.Nodes.{AreSome}
 use Rattle.xs_pattern_spec.specs.Predicates.{all_kept}
 use Rattle.xs_pattern.proofs.matcher.Matcher.all_kept.Given as goal
 

@@ -1,6 +1,6 @@
 use Rattle.std.proofs.Common.{◌≡◌, ℕ, ◌+◌, ◌++◌, List, arith, ap, length, subst, sym, ◌∙◌}
 use Rattle.xs_eval_spec.specs.Evaluation.{run_of}
-use Rattle.xs_eval_spec.specs.steps.Nodes.{AreSome}
+use Rattle.xs_eval_spec.specs.Nodes.{AreSome}
 use Rattle.xs_pattern_spec.specs.Predicates.{holds, kept}
 use Rattle.xs_pattern.proofs.KeptLemmas.{from_place, kept-end, kept-on, kept-some}
 use Rattle.xs_pattern.proofs.matcher.Matcher.kept.Goals as goal
