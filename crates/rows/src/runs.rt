@@ -4,6 +4,7 @@ mod answers;
 mod calls;
 pub(crate) mod events;
 pub(crate) mod files;
+mod meeting;
 mod parts;
 mod replies;
 mod setup;

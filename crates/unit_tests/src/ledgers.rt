@@ -5,6 +5,7 @@ ghost use Rattle.std.specs.Prelude.{◌≡◌, ◌≤◌, IfOk};
 ghost use Rattle.xs_ledger.specs.Shares.{ledger_id, seats_of, share_ledger_id, IsShareOf, IsUnused};
 
 use std::alloc::{AllocError, Global};
+use std::sync::Arc;
 use std::thread;
 use xs_ledger::ledger::{Ledger, Share};
 use xs_ledger::total::LedgerTotal;
@@ -27,10 +28,10 @@ fn ledger_for_two(alloc: Global) -> Result<(Ledger, Share, Share), AllocError>
 }
 
 // The total, where both shares come back.
-fn total_of_two(alloc: Global, ledger: Ledger, one: Share, two: Share) -> Result<u64, AllocError>
-    requires seats { seats_of ledger ≡ 2 }
-    requires one { IsShareOf (ledger_id ledger) one }
-    requires two { IsShareOf (ledger_id ledger) two }
+fn total_of_two(alloc: Global, ledger: &Ledger, one: Share, two: Share) -> Result<u64, AllocError>
+    requires seats { seats_of ledger.now ≡ 2 }
+    requires one { IsShareOf (ledger_id ledger.now) one }
+    requires two { IsShareOf (ledger_id ledger.now) two }
 {
     let mut shares = Vec::new(alloc);
     shares.push(one)?;
@@ -52,13 +53,13 @@ fn answers_the_word_after_each_addition(rt: HostRuntime) -> Result<(), AllocErro
     let (ledger, mut one, mut two) = ledger_for_two(rt.alloc())?;
     let first = ledger.add(&mut one, 10);
     let second = ledger.add(&mut two, 10);
-    let total = total_of_two(rt.alloc(), ledger, one, two)?;
+    let total = total_of_two(rt.alloc(), &ledger, one, two)?;
     assert!(rt; first == 10 && second == 20 && total == 20);
     Ok(())
 }
 
 // One addition, unless the last answer was above the limit.
-fn add_within(total: &mut LedgerTotal<'_>, count: u64) -> Option<u64>
+fn add_within(total: &mut LedgerTotal, count: u64) -> Option<u64>
     requires few { count ≤ 1024 }
     ensures ledger { share_ledger_id total.new.share ≡ share_ledger_id total.old.share }
 {
@@ -69,7 +70,7 @@ fn add_within(total: &mut LedgerTotal<'_>, count: u64) -> Option<u64>
 }
 
 // Whether 1024 are added, and do not go above the limit.
-fn stays_below(total: &mut LedgerTotal<'_>) -> bool
+fn stays_below(total: &mut LedgerTotal) -> bool
     ensures ledger { share_ledger_id total.new.share ≡ share_ledger_id total.old.share }
 {
     let added = add_within(total, 1024);
@@ -77,7 +78,7 @@ fn stays_below(total: &mut LedgerTotal<'_>) -> bool
 }
 
 // Whether one more goes above the limit of 1030, and another is not added.
-fn goes_above(total: &mut LedgerTotal<'_>) -> bool
+fn goes_above(total: &mut LedgerTotal) -> bool
     ensures ledger { share_ledger_id total.new.share ≡ share_ledger_id total.old.share }
 {
     let added = add_within(total, 1);
@@ -89,12 +90,13 @@ fn goes_above(total: &mut LedgerTotal<'_>) -> bool
 #[test]
 fn a_share_as_a_total_goes_above_its_limit_once(rt: HostRuntime) -> Result<(), AllocError> {
     let (ledger, one, mut two) = ledger_for_two(rt.alloc())?;
-    let mut total = LedgerTotal::new(&ledger, one, 1030, 0);
+    let ledger = Arc::new(rt.alloc(), ledger)?;
+    let mut total = LedgerTotal::new(ledger.clone()?, one, 1030, 0);
     let is_below = total.limit() == 1030 && stays_below(&mut total);
     let others = ledger.add(&mut two, 6);
     let is_above = goes_above(&mut total);
     let one = total.into_share();
-    let sum = total_of_two(rt.alloc(), ledger, one, two)?;
+    let sum = total_of_two(rt.alloc(), &ledger, one, two)?;
     assert!(rt; is_below && is_above && others == 1030 && sum == 1031);
     Ok(())
 }
@@ -108,7 +110,7 @@ fn counts_what_two_threads_add(rt: HostRuntime) -> Result<(), AllocError> {
         move || add_once(counted, one, 1024),
         move || add_once(counted, two, 3),
     );
-    let total = total_of_two(rt.alloc(), ledger, one, two)?;
+    let total = total_of_two(rt.alloc(), &ledger, one, two)?;
     assert!(rt; total == 1027);
     Ok(())
 }

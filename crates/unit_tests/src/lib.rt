@@ -8,6 +8,8 @@ mod copies;
 #[cfg(test)]
 mod document_laws;
 #[cfg(test)]
+mod ears;
+#[cfg(test)]
 mod edges;
 #[cfg(test)]
 mod laws;
@@ -30,3 +32,5 @@ mod recorders;
 pub mod table;
 #[cfg(test)]
 mod ticks;
+#[cfg(test)]
+mod workers;

@@ -6,8 +6,8 @@ ghost use Rattle.xs_core.specs.Facts.{AreFew};
 use std::alloc::{AllocError, Global};
 use xs_core::machine::Core;
 use xs_core::piece::PieceFacts;
+use xs_core::place::Place;
 use xs_core::step::Step;
-use xs_trace::place::Place;
 
 // The facts of a root with one tick and one hole, and of its child with none, the child first.
 fn two_pieces(alloc: Global) -> Result<Vec<PieceFacts>, AllocError>

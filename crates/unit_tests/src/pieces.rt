@@ -1,14 +1,18 @@
 //! Runs in pieces of which some are missing, and are run again in their places.
 
-ghost use Rattle.std.specs.Prelude.{◌≡◌, ◌≤◌, ◌^◌};
+ghost use Rattle.std.specs.Prelude.{◌≡◌, ◌<◌, ◌≤◌, ◌^◌};
 
 use crate::table::{Entry, Row, TableRunner, table_is_ready};
 use std::alloc::{AllocError, Global};
+use std::thread::Threads;
 use xs_assemble::assembled::{Assembled, Executed};
 use xs_assemble::execute::execute;
 use xs_block::chain::Chain;
 use xs_block::pool::Pool;
+use xs_outside::{Gate, OpenGate};
 use xs_pieces::runner::Runner;
+use xs_pool::crew::Crew;
+use xs_pool::ear::{Deaf, Ear};
 use xs_record::outcome::{Outcome, Part};
 use xs_record::segment::{Run, Segment};
 use xs_text::TextBuf;
@@ -75,18 +79,51 @@ pub(crate) fn limits_of(ticks: u64) -> Limits
     }
 }
 
-/// What a run in pieces gives within so many ticks.
-pub(crate) fn in_pieces(
+/// What a run in pieces by a crew gives, of which an ear hears.
+pub(crate) fn run_heard<X: Threads + Sync, G: Gate, H: Ear>(
+    rt: &X,
+    crew: &Crew<'_, TableRunner, G>,
+    ear: &mut H,
+) -> Result<Executed, AllocError>
+    requires few { crew.now.limits.ticks ≤ 2 ^ 40 }
+    requires count { (0 < crew.now.count) × (crew.now.count ≤ 64) }
+{
+    let mut pool = Pool::new(crew.alloc);
+    let root = crew.runner.root_task(crew.alloc);
+    table_is_ready();
+    execute(rt, crew, root, ear, &mut pool)
+}
+
+/// What a run in pieces by a crew gives.
+pub(crate) fn run_by<X: Threads + Sync, G: Gate>(
+    rt: &X,
+    crew: &Crew<'_, TableRunner, G>,
+) -> Result<Executed, AllocError>
+    requires few { crew.now.limits.ticks ≤ 2 ^ 40 }
+    requires count { (0 < crew.now.count) × (crew.now.count ≤ 64) }
+{
+    run_heard(rt, crew, &mut Deaf)
+}
+
+/// What a run in pieces by so many workers gives within so many ticks.
+pub(crate) fn in_pieces<X: Threads + Sync>(
+    rt: &X,
     alloc: Global,
     runner: &TableRunner,
     ticks: u64,
+    count: u32,
 ) -> Result<Executed, AllocError>
     requires few { ticks ≤ 2 ^ 40 }
+    requires count { (0 < count) × (count ≤ 64) }
 {
-    let mut pool = Pool::new(alloc);
-    let root = runner.root_task(alloc);
-    table_is_ready();
-    execute(alloc, runner, root, limits_of(ticks), &mut pool)
+    let crew = Crew {
+        alloc,
+        runner,
+        gate: &OpenGate,
+        limits: limits_of(ticks),
+        count,
+    };
+    run_by(rt, &crew)
 }
 
 /// What a run as a whole gives within so many ticks.
@@ -190,9 +227,10 @@ pub(crate) fn agrees(
     )
 }
 
-// Whether within so many ticks a run in pieces gives what one at once gives, and so many pieces are
-// run again in their places.
-fn is_run_again(
+// Whether within so many ticks one worker gives what one run gives, and so many pieces are run
+// again in their places.
+fn is_run_again<X: Threads + Sync>(
+    rt: &X,
     alloc: Global,
     runner: &TableRunner,
     ticks: u64,
@@ -200,20 +238,21 @@ fn is_run_again(
 ) -> Result<bool, AllocError>
     requires few { ticks ≤ 2 ^ 40 }
 {
-    let run = in_pieces(alloc, runner, ticks)?;
+    let run = in_pieces(rt, alloc, runner, ticks, 1)?;
     let whole = at_once(alloc, runner, ticks)?;
     Ok(agrees(alloc, &run.assembled, &whole)? && run.assembled.inline == inline)
 }
 
 /// Whether within no tick, one tick, and so on, so many pieces are run again in their places.
-pub(crate) fn are_run_again(
+pub(crate) fn are_run_again<X: Threads + Sync>(
+    rt: &X,
     alloc: Global,
     runner: &TableRunner,
     inline: &[u64],
 ) -> Result<bool, AllocError> {
     let mut ticks = 0_u32;
     for count in inline {
-        if !is_run_again(alloc, runner, ticks as u64, *count)? {
+        if !is_run_again(rt, alloc, runner, ticks as u64, *count)? {
             return Ok(false);
         }
         ticks = ticks.wrapping_add(1);
@@ -221,13 +260,13 @@ pub(crate) fn are_run_again(
     Ok(true)
 }
 
-// The root and its children run first, then theirs; the first one above the limit is the last one.
-// In the document's order the pieces begin at the ticks 1, 2, 3, 5, 8, 9 and 11.
+// One worker runs the pieces in the document's order, where they begin at the ticks 1, 2, 3, 5, 8,
+// 9 and 11; the first one above the limit is the last one.
 #[test]
 fn missing_pieces_are_run_in_their_places(rt: HostRuntime) -> Result<(), AllocError> {
     let runner = seven_pieces(rt.alloc())?;
-    let inline = [0, 1, 1, 1, 1, 1, 2, 3, 3, 3, 3, 2, 1, 0, 0];
-    let are_run = are_run_again(rt.alloc(), &runner, &inline);
+    let inline = [0, 1, 1, 1, 1, 1, 2, 2, 1, 1, 1, 2, 1, 0, 0];
+    let are_run = are_run_again(&rt, rt.alloc(), &runner, &inline);
     drop(runner);
     assert!(rt; are_run?);
     Ok(())
@@ -262,11 +301,17 @@ fn is_said(says: &[TextBuf], text: &str) -> bool {
 
 // Whether a run within so many ticks says `a` and takes all of them, the child is run again in its
 // place, and the next tick, at a line, is one too many; and how many ticks were taken in all.
-fn ends_at(alloc: Global, ticks: u64, line: u32, worked: u64) -> Result<bool, AllocError>
+fn ends_at<X: Threads + Sync>(
+    rt: &X,
+    alloc: Global,
+    ticks: u64,
+    line: u32,
+    worked: u64,
+) -> Result<bool, AllocError>
     requires few { ticks ≤ 2 ^ 40 }
 {
     let runner = two_pieces(alloc)?;
-    let run = in_pieces(alloc, &runner, ticks);
+    let run = in_pieces(rt, alloc, &runner, ticks, 1);
     drop(runner);
     let run = run?;
     let spent = Spot {
@@ -286,7 +331,7 @@ fn ends_at(alloc: Global, ticks: u64, line: u32, worked: u64) -> Result<bool, Al
 
 #[test]
 fn a_missing_piece_is_run_in_its_place(rt: HostRuntime) -> Result<(), AllocError> {
-    assert!(rt; ends_at(rt.alloc(), 4, 11, 8)?);
-    assert!(rt; ends_at(rt.alloc(), 3, 5, 7)?);
+    assert!(rt; ends_at(&rt, rt.alloc(), 4, 11, 8)?);
+    assert!(rt; ends_at(&rt, rt.alloc(), 3, 5, 7)?);
     Ok(())
 }

@@ -6,6 +6,7 @@ ghost use Rattle.xs_trace.specs.Kept.{NeedsNone};
 use std::alloc::{AllocError, Global};
 use std::cmp::Ordering;
 use xs_block::pool::Pool;
+use xs_core::place::{Claim, Place, compare_places};
 use xs_record::brief::Brief;
 use xs_record::outcome::{Outcome, Part};
 use xs_record::piece::{Finished, PieceRecorder};
@@ -15,7 +16,6 @@ use xs_trace::event::{Event, Fragment};
 use xs_trace::fault::Fault;
 use xs_trace::item::{Ended, Item, Limits, Site};
 use xs_trace::meter::Meter;
-use xs_trace::place::{Claim, Place, compare_places};
 use xs_trace::recorder::{Halt, Recorder, Tally, put_event, say_message, tick_several};
 use xs_trace::total::{LocalTotal, Total};
 

@@ -12,6 +12,7 @@ ghost use Rattle.xs_trace.specs.Play.{IsStep, play};
 use std::alloc::{AllocError, Global};
 use std::mem::replace;
 use xs_block::pool::Pool;
+use xs_core::place::Place;
 use xs_pieces::piece::{Desk, Ran};
 use xs_pieces::runner::{PieceRunner, Runner};
 use xs_record::outcome::Outcome;
@@ -21,7 +22,6 @@ use xs_text::TextBuf;
 use xs_trace::event::Event;
 use xs_trace::fault::Fault;
 use xs_trace::item::{Limits, Site};
-use xs_trace::place::Place;
 use xs_trace::recorder::{Halt, Recorder};
 use xs_trace::total::{LocalTotal, Total};
 

@@ -5,6 +5,7 @@ ghost use Rattle.std.specs.Prelude.{◌≤◌, ◌^◌};
 use crate::pieces::{agrees, are_run_again, at, at_once, in_pieces, push_log};
 use crate::table::{Entry, Row, TableRunner};
 use std::alloc::{AllocError, Global};
+use std::thread::Threads;
 use xs_record::outcome::{Outcome, Part};
 use xs_record::segment::Segment;
 use xs_trace::event::Event;
@@ -41,7 +42,7 @@ fn ticks_in_a_row(alloc: Global) -> Result<TableRunner, AllocError> {
 fn ticks_in_a_row_are_cut_at_each(rt: HostRuntime) -> Result<(), AllocError> {
     let runner = ticks_in_a_row(rt.alloc())?;
     let inline = [0, 1, 1, 1, 1, 2, 2, 2, 2, 1, 0];
-    let are_cut = are_run_again(rt.alloc(), &runner, &inline);
+    let are_cut = are_run_again(&rt, rt.alloc(), &runner, &inline);
     drop(runner);
     assert!(rt; are_cut?);
     Ok(())
@@ -95,18 +96,28 @@ fn ticks_at_places(alloc: Global, ticks: u64) -> Result<TableRunner, AllocError>
 }
 
 // Whether within so many ticks a run in pieces gives what one at once gives.
-fn is_same_within(alloc: Global, runner: &TableRunner, ticks: u64) -> Result<bool, AllocError>
+fn is_same_within<X: Threads + Sync>(
+    rt: &X,
+    alloc: Global,
+    runner: &TableRunner,
+    ticks: u64,
+) -> Result<bool, AllocError>
     requires few { ticks ≤ 2 ^ 40 }
 {
-    let run = in_pieces(alloc, runner, ticks)?;
+    let run = in_pieces(rt, alloc, runner, ticks, 1)?;
     let whole = at_once(alloc, runner, ticks)?;
     agrees(alloc, &run.assembled, &whole)
 }
 
 // Whether a run in pieces gives what one at once gives within each limit below this one.
-fn is_same_below(alloc: Global, runner: &TableRunner, limit: u32) -> Result<bool, AllocError> {
+fn is_same_below<X: Threads + Sync>(
+    rt: &X,
+    alloc: Global,
+    runner: &TableRunner,
+    limit: u32,
+) -> Result<bool, AllocError> {
     for ticks in 0..limit {
-        if !is_same_within(alloc, runner, ticks as u64)? {
+        if !is_same_within(rt, alloc, runner, ticks as u64)? {
             return Ok(false);
         }
     }
@@ -115,17 +126,17 @@ fn is_same_below(alloc: Global, runner: &TableRunner, limit: u32) -> Result<bool
 
 // Whether a run in pieces gives the same within each limit, where each child has so many ticks
 // more than its first.
-fn is_cut_alike(alloc: Global, ticks: u64) -> Result<bool, AllocError> {
+fn is_cut_alike<X: Threads + Sync>(rt: &X, alloc: Global, ticks: u64) -> Result<bool, AllocError> {
     let runner = ticks_at_places(alloc, ticks)?;
-    let is_same = is_same_below(alloc, &runner, 310);
+    let is_same = is_same_below(rt, alloc, &runner, 310);
     drop(runner);
     is_same
 }
 
 // Whether ticks at many places are cut at each tick, up to eight before the last one recorded.
-fn are_places_cut(alloc: Global) -> Result<bool, AllocError> {
+fn are_places_cut<X: Threads + Sync>(rt: &X, alloc: Global) -> Result<bool, AllocError> {
     for ticks in 0..8_u64 {
-        if !is_cut_alike(alloc, ticks)? {
+        if !is_cut_alike(rt, alloc, ticks)? {
             return Ok(false);
         }
     }
@@ -134,7 +145,7 @@ fn are_places_cut(alloc: Global) -> Result<bool, AllocError> {
 
 #[test]
 fn ticks_at_places_are_cut_at_each(rt: HostRuntime) -> Result<(), AllocError> {
-    assert!(rt; are_places_cut(rt.alloc())?);
+    assert!(rt; are_places_cut(&rt, rt.alloc())?);
     Ok(())
 }
 

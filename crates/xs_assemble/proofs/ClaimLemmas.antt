@@ -14,7 +14,7 @@ use Rattle.xs_trace.specs.Mark.{Trace, tick_count}
 use Rattle.xs_trace.specs.Cut.{End, Whole, Fault, Needs, Spent, Full, cut, nowhere}
 use Rattle.xs_trace.specs.Fill.{fill}
 use Rattle.xs_trace.specs.declared.item.Limits.{Limits}
-use Rattle.xs_trace.specs.declared.place.Claim.{Claim}
+use Rattle.xs_core.specs.declared.place.Claim.{Claim}
 use Rattle.xs_trace.proofs.CutLemmas.{cut-longest}
 use Rattle.xs_core.specs.declared.piece.Progress.{Progress}
 use Rattle.xs_core.specs.Good.{total, is_place, PiecesWithin}
@@ -100,11 +100,8 @@ is-true : (b : Bool) → (b ≡ false → ⊥) → b ≡ true
 is-true true f = refl
 is-true false f = absurd (f refl)
 
-is-first : (n : ℕ) → n < 1 → n ≡ 0
-is-first n h = omega (arith, h)
-
 module _ {H : Type 0} (IsOwn : H → Type 0) (place : H → List ℕ) (own : H → Trace H) (root : H) (l : Limits) (ps : List (Piece H)) (t : ℕ)
-    (coll : IsCollection IsOwn place own root l ps t) (cs ds : List Claim) (claims : AreClaims place 1 ps cs) (same : IsPermutation cs ds) where
+    (coll : IsCollection IsOwn place own root l ps t) (cs ds : List Claim) {count : ℕ} (claims : AreClaims place count ps cs) (same : IsPermutation cs ds) where
   -- sorted claims weigh what pieces that were run do
   claims-weigh : (h : List ℕ → ℕ) → total h (claimed_places ds) ≡ total h (claimed_in place ps)
   claims-weigh h =
@@ -112,10 +109,10 @@ module _ {H : Type 0} (IsOwn : H → Type 0) (place : H → List ℕ) (own : H �
       total-map h (λ (c : Claim). c.place) ds ∙ total-sum f ds ∙ sum_by-IsPermutation f cs ds same ∙ sym (total-sum f cs) ∙ claims.places h
 
   -- so they are claims of these
-  pub sorted-claims : AreClaims place 1 ps ds
+  pub sorted-claims : AreClaims place count ps ds
   sorted-claims = record {
     places = λ h. sym (total-map h (λ (c : Claim). c.place) ds) ∙ claims-weigh h;
-    workers = All-permutation (λ c. c.worker < 1) cs ds same claims.workers;
+    workers = All-permutation (λ c. c.worker < count) cs ds same claims.workers;
     root = All-permutation (λ c. c.place ≡ [] → c.worker ≡ 0) cs ds same claims.root;
   }
 
@@ -126,10 +123,11 @@ module _ {H : Type 0} (IsOwn : H → Type 0) (place : H → List ℕ) (own : H �
   of-tree : (p : List ℕ) → Contains (places_in place ps) p → (t : H) × (task_at own (Some root) p ≡ Some t)
   of-tree p c = let r = at-place place ps c.0 p c.1 c.2 in of-piece p c.0 r.0 r.1 r.2
 
-  pub are-of-tree : IsSortedBy (λ c d. is_below c.place d.place) ds → AreOfTree own root ds
+  pub are-of-tree : IsSortedBy (λ c d. is_below c.place d.place) ds → AreOfTree own root count ds
   are-of-tree sorted = record {
     sorted = sorted;
-    workers = All-permutation (λ c. c.worker ≡ 0) cs ds same (λ k d h. is-first (get_or cs k d).worker (claims.workers k d h));
+    workers = All-permutation (λ c. c.worker < count) cs ds same claims.workers;
+    first = All-permutation (λ c. c.place ≡ [] → c.worker ≡ 0) cs ds same claims.root;
     once = λ p.
         let a = claims-weigh (is_place p) in
         let b = claimed-fewer (is_place p) place ps in
@@ -224,10 +222,11 @@ ends-whole (Full p) s h n = absurd (cc)
 
 -- where it ran to its end, each place was claimed, no piece was missing, and the total is of its ticks
 pub all-claimed : {H : Type 0} → (IsOwn : H → Type 0) (place : H → List ℕ) (own whole : H → Trace H) → IsReady IsOwn place own whole → (root : H) (l : Limits)
-    (ps : List (Piece H)) (t : ℕ) → IsCollection IsOwn place own root l ps t → (cs ds : List Claim) → AreClaims place 1 ps cs → IsPermutation cs ds →
-    (a : Assembled) → IsAssembled (cut (whole root) l.ticks l.events) a → (t ≤ l.ticks → (a.inline ≡ 0) × (a.inline_ticks ≡ 0)) → a.end ≡ None →
+    (ps : List (Piece H)) (t : ℕ) → IsCollection IsOwn place own root l ps t → (cs ds : List Claim) → {count : ℕ} → AreClaims place count ps cs →
+    IsPermutation cs ds → (a : Assembled) → IsAssembled (cut (whole root) l.ticks l.events) a
+    → (t ≤ l.ticks → (a.inline ≡ 0) × (a.inline_ticks ≡ 0)) → a.end ≡ None →
     AreAll own root ds × (a.inline ≡ 0) × (t + a.inline_ticks ≡ a.ticks)
-all-claimed {H} IsOwn place own whole ready root l ps t coll cs ds claims same a is none ended =
+all-claimed {H} IsOwn place own whole ready root l ps t coll cs ds {count} claims same a is none ended =
     let e = ends-whole (cut (whole root) l.ticks l.events).end a.end is.end ended in
     let w = whole-is-complete H place own whole ready.fills root l ps t coll.tasks coll.good e in
     let n = none w.within in

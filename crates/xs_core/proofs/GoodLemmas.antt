@@ -3,11 +3,13 @@ use Rattle.std.proofs.Common.{◌≡◌, ◌<◌, ◌≤◌, ◌+◌, ℕ, zero,
 use Rattle.std.proofs.Common.{refl, ap, subst, ◌∙◌, arith}
 use Rattle.xs_core.specs.declared.piece.Progress.{Progress}
 use Rattle.xs_core.specs.declared.step.Step.{Step}
-use Rattle.xs_core.specs.Machine.{Place, Facts, Worker, State, IsStep, worker, fresh, idle, opening, Has, with, with_total, with_finished, with_dropped}
+use Rattle.xs_core.specs.Machine.{Place, Facts, Worker, State, IsStep, worker, fresh, next_child}
+use Rattle.xs_core.specs.Machine.{idle, opening, Has, with, with_total, with_finished, with_dropped}
 use Rattle.xs_core.specs.Machine.IsStep.{takes, steals, misses, gives, spends, finishes, drops, drops_first}
-use Rattle.xs_core.specs.Good.{total, of_hand, children, places_of, children_of, IsWithin, HandWithin, HandsWithin, PiecesWithin, IsGood}
+use Rattle.xs_core.specs.Good.{total, of_hand, children, given_by, places_of, children_of, IsWithin, HandWithin, HandsWithin, PiecesWithin, IsGood}
 use Rattle.xs_core.specs.Laws.{Runs, ReachesGood, StaysGood}
 use Rattle.xs_core.specs.Laws.Runs.{ended, goes_on}
+use Rattle.xs_core.proofs.ChildLemmas.{last-all, last-next, last-none}
 use Rattle.xs_core.proofs.SumLemmas.{total-set, total-push}
 
 -- ---- what is in the hands and what was dropped
@@ -29,6 +31,10 @@ dropped-push f (y ∷ xs) x h k = (h.0, dropped-push f xs x h.1 k)
 fresh-within : (f : Facts) (p : Place) → IsWithin f (fresh p)
 fresh-within f p = record { spent = omega arith; given = omega arith }
 
+-- and has given no child
+fresh-gives : (weight : Place → ℕ) (f : Facts) (p : Place) → given_by weight f (fresh p) ≡ 0
+fresh-gives weight f p = last-none weight p (f.holes p)
+
 get-other : (ws : List Worker) (v t : ℕ) (y : Worker) → ¬ t ≡ v → slice_get (set ws v y) t ≡ slice_get ws t
 get-other [] v t y f = refl
 get-other (w ∷ ws) zero zero y f = absurd (f refl)
@@ -36,20 +42,19 @@ get-other (w ∷ ws) zero (suc t) y f = refl
 get-other (w ∷ ws) (suc v) zero y f = refl
 get-other (w ∷ ws) (suc v) (suc t) y f = get-other ws v t y (λ e. f (ap suc e))
 
-children-next : (weight : Place → ℕ) (p : Place) (n : ℕ) → children weight p (n + 1) ≡ children weight p n + weight (p ++ n ∷ [])
-children-next weight p n = let e : n + 1 ≡ suc n = omega arith in ap (children weight p) e
-
 -- ---- the steps
 
-good-take : (f : Facts) (b w : ℕ) (p : Place) (ps : List Place) (s : State) → IsGood f b s → Has s w (p ∷ ps) None
+good-take : (f : Facts) (b w : ℕ) (p : Place) (ps : List Place) (s : State) → IsGood f b s → Has s w (ps ++ p ∷ []) None
     → IsGood f b (with w ps (Some (fresh p)) s)
 good-take f b w p ps s g at =
-    let x : Worker = worker (p ∷ ps) None in
+    let x : Worker = worker (ps ++ p ∷ []) None in
     let y : Worker = worker ps (Some (fresh p)) in
     record {
       counted = λ k.
+          let u = total-push k ps p in
+          let z = fresh-gives k f p in
           let a = total-set (places_of k) s.workers w x y at in
-          let c = total-set (children_of k) s.workers w x y at in
+          let c = total-set (children_of k f) s.workers w x y at in
           let r = g.counted k in
           omega arith;
       hands = hands-set f s.workers w y g.hands (fresh-within f p);
@@ -74,8 +79,9 @@ good-steal f b t v p ps hand s g ne thief victim =
       counted = λ h.
           let a = total-set (places_of h) s.workers v k z victim in
           let d = total-set (places_of h) ws t x y free in
-          let c = total-set (children_of h) s.workers v k z victim in
-          let e = total-set (children_of h) ws t x y free in
+          let c = total-set (children_of h f) s.workers v k z victim in
+          let e = total-set (children_of h f) ws t x y free in
+          let z = fresh-gives h f p in
           let r = g.counted h in
           omega arith;
       hands = hands-set f ws t y (hands-set f s.workers v z g.hands (hand-at f s.workers v k g.hands victim)) (fresh-within f p);
@@ -89,17 +95,17 @@ good-steal f b t v p ps hand s g ne thief victim =
     }
 
 good-give : (f : Facts) (b w : ℕ) (ps : List Place) (h : Progress) (s : State) → IsGood f b s → Has s w ps (Some h) → h.given < f.holes h.place
-    → IsGood f b (with w (ps ++ (h.place ++ h.given ∷ []) ∷ []) (Some (record h { given = h.given + 1 })) s)
+    → IsGood f b (with w (ps ++ (h.place ++ next_child f h ∷ []) ∷ []) (Some (record h { given = h.given + 1 })) s)
 good-give f b w ps h s g at fewer =
     let x : Worker = worker ps (Some h) in
-    let y : Worker = worker (ps ++ (h.place ++ h.given ∷ []) ∷ []) (Some (record h { given = h.given + 1 })) in
+    let y : Worker = worker (ps ++ (h.place ++ next_child f h ∷ []) ∷ []) (Some (record h { given = h.given + 1 })) in
     let within : IsWithin f h = hand-at f s.workers w x g.hands at in
     record {
       counted = λ k.
-          let u = total-push k ps (h.place ++ h.given ∷ []) in
-          let n = children-next k h.place h.given in
+          let u = total-push k ps (h.place ++ next_child f h ∷ []) in
+          let n = last-next k h.place (f.holes h.place) h.given fewer in
           let a = total-set (places_of k) s.workers w x y at in
-          let c = total-set (children_of k) s.workers w x y at in
+          let c = total-set (children_of k f) s.workers w x y at in
           let r = g.counted k in
           omega arith;
       hands = hands-set f s.workers w y g.hands (record { spent = within.spent; given = omega (arith, fewer) });
@@ -120,7 +126,7 @@ good-spend f b w n ps h s g at most =
     record {
       counted = λ k.
           let a = total-set (places_of k) s.workers w x y at in
-          let c = total-set (children_of k) s.workers w x y at in
+          let c = total-set (children_of k f) s.workers w x y at in
           let r = g.counted k in
           omega arith;
       hands = hands-set f s.workers w y g.hands (record { spent = most; given = within.given });
@@ -139,11 +145,11 @@ good-finish f b w ps h s g at ticks holes =
     let y : Worker = worker ps None in
     record {
       counted = λ k.
-          let same : children k h.place h.given ≡ children k h.place (f.holes h.place) = ap (children k h.place) holes in
+          let same : given_by k f h ≡ children k h.place (f.holes h.place) = last-all k h.place (f.holes h.place) h.given holes in
           let u = total-push k s.finished h.place in
           let v = total-push (λ p. children k p (f.holes p)) s.finished h.place in
           let a = total-set (places_of k) s.workers w x y at in
-          let c = total-set (children_of k) s.workers w x y at in
+          let c = total-set (children_of k f) s.workers w x y at in
           let r = g.counted k in
           omega arith;
       hands = hands-set f s.workers w y g.hands tt;
@@ -164,9 +170,9 @@ good-drop f b w ps h s g over at =
     record {
       counted = λ k.
           let u = total-push (λ h. k h.place) s.dropped h in
-          let v = total-push (λ h. children k h.place h.given) s.dropped h in
+          let v = total-push (given_by k f) s.dropped h in
           let a = total-set (places_of k) s.workers w x y at in
-          let c = total-set (children_of k) s.workers w x y at in
+          let c = total-set (children_of k f) s.workers w x y at in
           let r = g.counted k in
           omega arith;
       hands = hands-set f s.workers w y g.hands tt;
@@ -187,9 +193,10 @@ good-drop-first f b w p ps s g over at =
     record {
       counted = λ k.
           let u = total-push (λ h. k h.place) s.dropped (fresh p) in
-          let v = total-push (λ h. children k h.place h.given) s.dropped (fresh p) in
+          let v = total-push (given_by k f) s.dropped (fresh p) in
+          let z = fresh-gives k f p in
           let a = total-set (places_of k) s.workers w x y at in
-          let c = total-set (children_of k) s.workers w x y at in
+          let c = total-set (children_of k f) s.workers w x y at in
           let r = g.counted k in
           omega arith;
       hands = hands-set f s.workers w y g.hands tt;
@@ -226,7 +233,7 @@ pub good-opening : (f : Facts) (b others : ℕ) → IsGood f b (opening others)
 good-opening f b others = record {
   counted = λ k.
       let a = idle-none (places_of k) refl others in
-      let c = idle-none (children_of k) refl others in
+      let c = idle-none (children_of k f) refl others in
       omega arith;
   hands = (tt, idle-within f others);
   dropped = tt;

@@ -1,4 +1,5 @@
 pub mod SumLemmas
+pub mod ChildLemmas
 pub mod GoodLemmas
 pub mod OnceLemmas
 pub mod StepLemmas

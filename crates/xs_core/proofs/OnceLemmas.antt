@@ -4,8 +4,9 @@ use Rattle.std.proofs.Common.{refl, ap, ◌∙◌, arith, append_assoc, append-n
 use Rattle.std.proofs.lemmas.Bool.Decides.{nat_tests}
 use Rattle.xs_core.specs.declared.piece.Progress.{Progress}
 use Rattle.xs_core.specs.Machine.{Place, Facts, State}
-use Rattle.xs_core.specs.Good.{total, children, of_hand, places_of, children_of, held, IsGood, is_place}
+use Rattle.xs_core.specs.Good.{total, children, given_by, of_hand, places_of, children_of, held, IsGood, is_place}
 use Rattle.xs_core.specs.Laws.{OnePart}
+use Rattle.xs_core.proofs.ChildLemmas.{last-fewer}
 use Rattle.xs_core.proofs.SumLemmas.{total-less, total-none}
 
 -- a place one step below
@@ -71,6 +72,19 @@ pub root-children : (r : Place) (n : ℕ) → children (is_place []) r n ≡ 0
 root-children r zero = refl
 root-children r (suc n) = let i = root-children r n in let j = root-never r n in omega arith
 
+-- those that a piece has given are some of them
+given-root : (f : Facts) (x : Progress) → given_by (is_place []) f x ≡ 0
+given-root f x =
+    let a = last-fewer (is_place []) x.place (f.holes x.place) x.given in
+    let b = root-children x.place (f.holes x.place) in
+    omega arith
+
+given-at : (f : Facts) (p : Place) (k : ℕ) (x : Progress) → given_by (is_place (p ++ k ∷ [])) f x ≤ is_place p x.place
+given-at f p k x =
+    let a = last-fewer (is_place (p ++ k ∷ [])) x.place (f.holes x.place) x.given in
+    let b = children-at p x.place k (f.holes x.place) in
+    omega arith
+
 hand-less : (f g : Progress → ℕ) (n : ℕ) → ((x : Progress) → f x ≤ g x) → (o : Option Progress) → of_hand f o ≤ n + of_hand g o
 hand-less f g n h None = omega arith
 hand-less f g n h (Some x) = let b = h x in omega arith
@@ -82,22 +96,19 @@ hand-none f h (Some x) = h x
 once-root : (f : Facts) (b : ℕ) (s : State) → IsGood f b s → held (is_place []) s ≤ 1
 once-root f b s g =
     let c = g.counted (is_place []) in
-    let w = total-none (children_of (is_place []))
-    (λ w. hand-none (λ x. children (is_place []) x.place x.given) (λ x. root-children x.place x.given) w.hand) s.workers in
+    let w = total-none (children_of (is_place []) f) (λ w. hand-none (given_by (is_place []) f) (given-root f) w.hand) s.workers in
     let d = total-none (λ p. children (is_place []) p (f.holes p)) (λ p. root-children p (f.holes p)) s.finished in
-    let e = total-none (λ (x : Progress). children (is_place []) x.place x.given) (λ x. root-children x.place x.given) s.dropped in
+    let e = total-none (given_by (is_place []) f) (given-root f) s.dropped in
     omega arith
 
 once-step : (f : Facts) (b : ℕ) (s : State) → IsGood f b s → (p : Place) (k : ℕ) → held (is_place (p ++ k ∷ [])) s ≤ held (is_place p) s
 once-step f b s g p k =
     let c = g.counted (is_place (p ++ k ∷ [])) in
     let z = not-root p k in
-    let w = total-less (children_of (is_place (p ++ k ∷ []))) (places_of (is_place p))
-    (λ w. hand-less (λ x. children (is_place (p ++ k ∷ [])) x.place x.given) (λ x. is_place p x.place) (total (is_place p) w.deque)
-    (λ x. children-at p x.place k x.given) w.hand) s.workers in
+    let w = total-less (children_of (is_place (p ++ k ∷ [])) f) (places_of (is_place p))
+    (λ w. hand-less (given_by (is_place (p ++ k ∷ [])) f) (λ x. is_place p x.place) (total (is_place p) w.deque) (given-at f p k) w.hand) s.workers in
     let d = total-less (λ r. children (is_place (p ++ k ∷ [])) r (f.holes r)) (is_place p) (λ r. children-at p r k (f.holes r)) s.finished in
-    let e = total-less (λ (x : Progress). children (is_place (p ++ k ∷ [])) x.place x.given) (λ x. is_place p x.place)
-    (λ x. children-at p x.place k x.given) s.dropped in
+    let e = total-less (given_by (is_place (p ++ k ∷ [])) f) (λ (x : Progress). is_place p x.place) (given-at f p k) s.dropped in
     omega arith
 
 -- a place from its root on

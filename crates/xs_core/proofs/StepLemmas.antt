@@ -5,10 +5,13 @@ use Rattle.std.proofs.lemmas.Bool.Decides.{nat_tests}
 use Rattle.xs_core.specs.declared.piece.Progress.{Progress}
 use Rattle.xs_core.specs.declared.step.Step.{Step}
 use Rattle.xs_core.specs.declared.step.Step.TheVariants.{Take, Steal, Miss, Give, Spend, Finish, Discard}
-use Rattle.xs_core.specs.Machine.{Place, Facts, Worker, State, IsStep, worker, Has}
+use Rattle.xs_core.specs.Machine.{Place, Facts, Worker, State, IsStep, worker, fresh, next_child, Has}
 use Rattle.xs_core.specs.Machine.IsStep.{takes, steals, misses, gives, spends, finishes, drops, drops_first}
 use Rattle.xs_core.specs.Laws.{OneState}
-use Rattle.xs_core.specs.steps.Stepped.{stepped, at_worker, put, put_total, put_finished, put_dropped, took, gave, spent, done, let_go, stolen, missed}
+use Rattle.std.specs.Option.{is_some}
+use Rattle.xs_core.specs.steps.Parts.{IsChanged}
+use Rattle.xs_core.specs.steps.Stepped.{stepped, at_worker, put, put_total, put_finished, put_dropped, last_from, took}
+use Rattle.xs_core.specs.steps.Stepped.{gave, spent, done, let_go, stolen, missed}
 
 -- ---- tests
 
@@ -37,10 +40,25 @@ within a c e = grind (arith, nat_tests, e)
 within-from : (a c : ℕ) → nat_le a c ≡ true → a ≤ c
 within-from a c e = grind (arith, nat_tests, e)
 
+-- ---- the last place of a deque
+
+last-pushed : (q : Place) (ps : List Place) (p : Place) → last_from q (ps ++ p ∷ []) ≡ (q ∷ ps, p)
+last-pushed q [] p = refl
+last-pushed q (r ∷ ps) p = ap (λ (e : List Place × Place). (q ∷ e.0, e.1)) (last-pushed r ps p)
+
+pub took-last : (ps : List Place) (p : Place) → took None (ps ++ p ∷ []) ≡ Some (worker ps (Some (fresh p)))
+took-last [] p = refl
+took-last (q ∷ ps) p = ap (λ (e : List Place × Place). Some (worker e.0 (Some (fresh e.1)))) (last-pushed q ps p)
+
+last-parts : (p : Place) (ps : List Place) → p ∷ ps ≡ (last_from p ps).0 ++ (last_from p ps).1 ∷ []
+last-parts p [] = refl
+last-parts p (q ∷ ps) = ap (λ t. p ∷ t) (last-parts q ps)
+
 -- ---- from the relation
 
 pub stepped-from : (f : Facts) (b : ℕ) (s n : State) (step : Step) → IsStep f b s step n → stepped f b step s ≡ Some n
-stepped-from f b s n step (takes w p ps at) = ap (λ o. at_worker o (λ x. put w s (took x.hand x.deque))) at
+stepped-from f b s n step (takes w p ps at) =
+    ap (λ o. at_worker o (λ x. put w s (took x.hand x.deque))) at ∙ ap (put w s) (took-last ps p)
 stepped-from f b s n step (steals t v p ps hand ne thief victim) =
     ap (λ c. cond c None (at_worker (slice_get s.workers t) (λ x. at_worker (slice_get s.workers v) (λ y. stolen t v s x.hand x.deque y.hand y.deque))))
     (not-same t v (eqb t v) refl ne)
@@ -53,7 +71,7 @@ stepped-from f b s n step (misses t v ps hand ne thief victim) =
     ∙ ap (λ o. at_worker o (λ y. missed s None y.deque)) victim
 stepped-from f b s n step (gives w ps h at fewer) =
     ap (λ o. at_worker o (λ x. put w s (gave f x.hand x.deque))) at
-    ∙ ap (λ c. put w s (cond c (Some (worker (ps ++ (h.place ++ h.given ∷ []) ∷ []) (Some (record h { given = h.given + 1 })))) None))
+    ∙ ap (λ c. put w s (cond c (Some (worker (ps ++ (h.place ++ next_child f h ∷ []) ∷ []) (Some (record h { given = h.given + 1 })))) None))
     (below h.given (f.holes h.place) fewer)
 stepped-from f b s n step (spends w i ps h at most) =
     ap (λ o. at_worker o (λ x. put_total i (put w s (spent f i x.hand x.deque)))) at
@@ -85,7 +103,8 @@ take-by : (f : Facts) (b w : ℕ) (ps : List Place) (hand : Option Progress) (s 
     → IsStep f b s (Take w) n
 take-by f b w ps (Some h) s n at e = absurd (cc)
 take-by f b w [] None s n at e = absurd (cc)
-take-by f b w (p ∷ ps) None s n at e = lead f b (Take w) s _ n e (takes w p ps at)
+take-by f b w (p ∷ ps) None s n at e =
+    lead f b (Take w) s _ n e (takes w (last_from p ps).1 (last_from p ps).0 (subst (λ (d : List Place). Has s w d None) (last-parts p ps) at))
 
 take-at : (f : Facts) (b w : ℕ) (o : Option Worker) (s n : State) → slice_get s.workers w ≡ o
     → at_worker o (λ x. put w s (took x.hand x.deque)) ≡ Some n → IsStep f b s (Take w) n
@@ -130,7 +149,7 @@ miss-if f b t v true s n is e = absurd (cc)
 miss-if f b t v false s n is e = miss-at f b t v (slice_get s.workers t) (slice_get s.workers v) s n (differ t v is) refl refl e
 
 give-if : (f : Facts) (b w : ℕ) (ps : List Place) (h : Progress) (c : Bool) (s n : State) → Has s w ps (Some h) → nat_lt h.given (f.holes h.place) ≡ c
-    → put w s (cond c (Some (worker (ps ++ (h.place ++ h.given ∷ []) ∷ []) (Some (record h { given = h.given + 1 })))) None) ≡ Some n
+    → put w s (cond c (Some (worker (ps ++ (h.place ++ next_child f h ∷ []) ∷ []) (Some (record h { given = h.given + 1 })))) None) ≡ Some n
     → IsStep f b s (Give w) n
 give-if f b w ps h false s n at is e = absurd (cc)
 give-if f b w ps h true s n at is e = lead f b (Give w) s _ n e (gives w ps h at (below-from h.given (f.holes h.place) is))
@@ -203,3 +222,17 @@ step-from f b s n (Give w) e = give-at f b w (slice_get s.workers w) s n refl e
 step-from f b s n (Spend w i) e = spend-at f b w i (slice_get s.workers w) s n refl e
 step-from f b s n (Finish w) e = finish-at f b w (slice_get s.workers w) s n refl e
 step-from f b s n (Discard w) e = drop-if f b w (nat_lt b s.total) s n refl e
+
+-- ---- a seat that takes
+
+no-hand : (o : Option Progress) → false ≡ is_some o → o ≡ None
+no-hand None e = refl
+no-hand (Some h) e = absurd (cc)
+
+-- a worker whose hand was empty took the last place of its deque
+pub took-by : (s n : Worker) (hand : Option Progress) (ds ps : List Place) (p : Place) → worker ds hand ≡ s → false ≡ is_some hand → ds ≡ ps ++ p ∷ []
+    → n ≡ worker ps (Some (fresh p)) → IsChanged (took s.hand s.deque) true s n
+took-by s n hand ds ps p view none last is =
+    let e : took s.hand s.deque ≡ Some (worker ps (Some (fresh p))) =
+    ap (λ (x : Worker). took x.hand x.deque) (sym view) ∙ ap (λ o. took o ds) (no-hand hand none) ∙ ap (took None) last ∙ took-last ps p in
+    subst (λ (o : Option Worker). IsChanged o true s n) (sym e) (refl, is)

@@ -3,12 +3,12 @@ use Rattle.std.proofs.Common.{◌≡◌, ◌+◌, ◌∷◌, ◌++◌, [], ℕ, 
 use Rattle.std.proofs.lemmas.List.{length-set}
 use Rattle.std.proofs.lemmas.Option.{slice_get_within}
 use Rattle.xs_core.specs.declared.step.Step.{Step}
-use Rattle.xs_core.specs.Machine.{Facts, State, IsStep, worker, fresh, idle, opening}
+use Rattle.xs_core.specs.Machine.{Facts, State, IsStep, worker, fresh, next_child, idle, opening}
 use Rattle.xs_core.specs.Machine.IsStep.{takes, steals, misses, gives, spends, finishes, drops, drops_first}
 use Rattle.xs_core.specs.Laws.{AreBelow, WorkersStay}
 
 below : (f : Facts) (b : ℕ) (s n : State) (step : Step) → IsStep f b s step n → AreBelow (length s.workers) step
-below f b s n step (takes w p ps at) = slice_get_within s.workers w (worker (p ∷ ps) None) at
+below f b s n step (takes w p ps at) = slice_get_within s.workers w (worker (ps ++ p ∷ []) None) at
 below f b s n step (steals t v p ps hand ne thief victim) =
     (slice_get_within s.workers t (worker [] None) thief, slice_get_within s.workers v (worker (p ∷ ps) hand) victim)
 below f b s n step (misses t v ps hand ne thief victim) =
@@ -25,7 +25,7 @@ stay f b s n step (steals t v p ps hand ne thief victim) =
     length-set (set s.workers v (worker ps hand)) t (worker [] (Some (fresh p))) ∙ length-set s.workers v (worker ps hand)
 stay f b s n step (misses t v ps hand ne thief victim) = refl
 stay f b s n step (gives w ps h at fewer) =
-    length-set s.workers w (worker (ps ++ (h.place ++ h.given ∷ []) ∷ []) (Some (record h { given = h.given + 1 })))
+    length-set s.workers w (worker (ps ++ (h.place ++ next_child f h ∷ []) ∷ []) (Some (record h { given = h.given + 1 })))
 stay f b s n step (spends w i ps h at most) = length-set s.workers w (worker ps (Some (record h { spent = h.spent + i })))
 stay f b s n step (finishes w ps h at ticks holes) = length-set s.workers w (worker ps None)
 stay f b s n step (drops w ps h over at) = length-set s.workers w (worker ps None)

@@ -18,13 +18,23 @@ abbrev pub children : (Place → ℕ) → Place → ℕ → ℕ
 children weight p zero = 0
 children weight p (suc n) = children weight p n + weight (p ++ n ∷ [])
 
+-- the weights of the last n of the first h children of a place
+abbrev pub last_children : (Place → ℕ) → Place → (h n : ℕ) → ℕ
+last_children weight p zero n = 0
+last_children weight p (suc h) zero = 0
+last_children weight p (suc h) (suc n) = weight (p ++ h ∷ []) + last_children weight p h n
+
+-- the weights of the children that a piece has given: the last of those that it has
+abbrev pub given_by : (Place → ℕ) → Facts → Progress → ℕ
+given_by weight f h = last_children weight h.place (f.holes h.place) h.given
+
 -- the weights of the places that a worker has
 abbrev pub places_of : (Place → ℕ) → Worker → ℕ
 places_of weight w = total weight w.deque + of_hand (λ h. weight h.place) w.hand
 
 -- the weights of the children that the piece in its hand has given
-abbrev pub children_of : (Place → ℕ) → Worker → ℕ
-children_of weight w = of_hand (λ h. children weight h.place h.given) w.hand
+abbrev pub children_of : (Place → ℕ) → Facts → Worker → ℕ
+children_of weight f w = of_hand (given_by weight f) w.hand
 
 -- the weights of all places that are in a part of the state: a deque, a hand, finished or dropped
 abbrev pub held : (Place → ℕ) → State → ℕ
@@ -33,8 +43,7 @@ held weight s = total (places_of weight) s.workers + (total weight s.finished + 
 -- the weights of the root and of all children that were given; a finished piece has given one for each of its holes
 abbrev pub born : (Place → ℕ) → Facts → State → ℕ
 born weight f s =
-    weight [] + (total (children_of weight) s.workers +
-    (total (λ p. children weight p (f.holes p)) s.finished + total (λ h. children weight h.place h.given) s.dropped))
+    weight [] + (total (children_of weight f) s.workers + (total (λ p. children weight p (f.holes p)) s.finished + total (given_by weight f) s.dropped))
 
 -- all ticks that were spent; a finished piece has spent all of its own
 abbrev pub spending : Facts → State → ℕ

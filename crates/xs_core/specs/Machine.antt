@@ -1,5 +1,5 @@
 -- The machine of pieces and workers: its states, and the steps that it allows.
-use Rattle.std.specs.Prelude.{◌≡◌, ℕ, zero, suc, ◌+◌, ◌<◌, ◌≤◌, List, [], ◌∷◌, ◌++◌, Option, Some, None, slice_get, set}
+use Rattle.std.specs.Prelude.{◌≡◌, ℕ, zero, suc, ◌+◌, ◌-◌, ◌<◌, ◌≤◌, List, [], ◌∷◌, ◌++◌, Option, Some, None, slice_get, set}
 use Rattle.xs_core.specs.declared.piece.Progress.{Progress}
 use Rattle.xs_core.specs.declared.step.Step.{Step}
 use Rattle.xs_core.specs.declared.step.Step.TheVariants.{Take, Steal, Miss, Give, Spend, Finish, Discard}
@@ -13,7 +13,7 @@ pub record Facts : Type 0 where
   pub ticks : Place → ℕ
   pub holes : Place → ℕ
 
--- a worker has places that wait in its deque, the first to be taken first, and perhaps a piece in its hand
+-- a worker has places that wait in its deque, and perhaps a piece in its hand; it takes the last place itself, and others take the first
 pub record Worker : Type 0 where
   pub deque : List Place
   pub hand : Option Progress
@@ -32,6 +32,10 @@ worker ps hand = record { deque = ps; hand = hand }
 -- a piece that was just taken: nothing is spent on it, and it has given no child
 abbrev pub fresh : Place → Progress
 fresh p = record { place = p; spent = 0; given = 0 }
+
+-- the number of the child that a piece gives next: the last of those that it has not given
+abbrev pub next_child : Facts → Progress → ℕ
+next_child f h = f.holes h.place - (h.given + 1)
 
 -- so many workers that have nothing
 abbrev pub idle : ℕ → List Worker
@@ -64,9 +68,9 @@ with_dropped h s = record { workers = s.workers; finished = s.finished; dropped 
 
 -- The steps that the machine allows in a state, each with the state to which it leads.
 pub data IsStep (f : Facts) (budget : ℕ) (s : State) : Step → State → Type 0 where
-  -- an empty hand takes the first place of its own deque
+  -- an empty hand takes the last place of its own deque
   takes : (w : ℕ) (p : Place) (ps : List Place)
-      → Has s w (p ∷ ps) None
+      → Has s w (ps ++ p ∷ []) None
       → IsStep f budget s (Take w) (with w ps (Some (fresh p)) s)
   -- a worker that has nothing takes the first place of another one's deque
   steals : (t v : ℕ) (p : Place) (ps : List Place) (hand : Option Progress)
@@ -76,10 +80,10 @@ pub data IsStep (f : Facts) (budget : ℕ) (s : State) : Step → State → Type
   misses : (t v : ℕ) (ps : List Place) (hand : Option Progress)
       → ¬ t ≡ v → Has s t ps None → Has s v [] hand
       → IsStep f budget s (Miss t v) s
-  -- a piece that has given fewer children than it has holes gives the next one to the end of the deque
+  -- a piece that has given fewer children than it has holes gives its next child to the end of the deque
   gives : (w : ℕ) (ps : List Place) (h : Progress)
       → Has s w ps (Some h) → h.given < f.holes h.place
-      → IsStep f budget s (Give w) (with w (ps ++ (h.place ++ h.given ∷ []) ∷ []) (Some (record h { given = h.given + 1 })) s)
+      → IsStep f budget s (Give w) (with w (ps ++ (h.place ++ next_child f h ∷ []) ∷ []) (Some (record h { given = h.given + 1 })) s)
   -- ticks are spent, at most as many as the piece takes
   spends : (w n : ℕ) (ps : List Place) (h : Progress)
       → Has s w ps (Some h) → h.spent + n ≤ f.ticks h.place

@@ -5,9 +5,9 @@ ghost use Rattle.xs_core.specs.Facts.{AreFew, facts_of, find_facts};
 ghost use Rattle.xs_core.specs.steps.Table.{IsPoint};
 
 use crate::piece::PieceFacts;
+use crate::place::{Place, compare_places};
 use std::alloc::{AllocError, Global};
 use std::marker::Model;
-use xs_trace::place::{Place, compare_places};
 
 /// Facts, sorted by place. Contracts see the list of them.
 #[derive(Drop)]

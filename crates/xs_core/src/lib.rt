@@ -6,6 +6,7 @@ pub mod laws;
 pub mod machine;
 mod parts;
 pub mod piece;
+pub mod place;
 mod places;
 mod seat;
 pub mod step;

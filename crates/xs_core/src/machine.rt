@@ -8,10 +8,10 @@ ghost use Rattle.xs_core.specs.Good.{IsGood};
 use crate::facts::Table;
 use crate::parts::Parts;
 use crate::piece::PieceFacts;
+use crate::place::Place;
 use crate::step::Step;
 use std::alloc::{AllocError, Global};
 use std::marker::Model;
-use xs_trace::place::Place;
 
 /// The machine of pieces and workers. Contracts see its facts, its budget and its state.
 #[derive(Drop)]

@@ -14,12 +14,12 @@ ghost use Rattle.xs_core.specs.steps.Stepped.{stepped, stolen, took};
 
 use crate::facts::Table;
 use crate::piece::Progress;
+use crate::place::Place;
 use crate::places::{copy_dropped, copy_places, copy_seats};
 use crate::seat::Seat;
 use crate::step::Step;
 use std::alloc::{AllocError, Global};
 use std::marker::Model;
-use xs_trace::place::Place;
 
 /// The workers, the finished places, the dropped pieces, and how many ticks were spent.
 #[derive(Drop)]
@@ -87,7 +87,7 @@ impl Parts {
         }
     }
 
-    /// The first place of a worker's deque goes to its hand, where that is empty.
+    /// The last place of a worker's deque goes to its hand, where that is empty.
     fn take(&mut self, worker: usize) -> bool
         ensures taken { IsChanged (at_worker (slice_get self.old.workers worker)
             (λ x. put worker self.old (took x.hand x.deque)))
@@ -137,7 +137,7 @@ impl Parts {
         self.is_empty(victim)
     }
 
-    /// The next child of the piece in a worker's hand goes to the end of its deque.
+    /// The last child that the piece in a worker's hand has not given goes to the end of its deque.
     fn give(&mut self, worker: usize, facts: &Table) -> Result<bool, AllocError>
         ensures given { Changes (at_worker (slice_get self.old.workers worker)
             (λ x. put worker self.old (gave (facts_of facts.now) x.hand x.deque)))

@@ -1,6 +1,6 @@
 //! A piece: how much work it is, and how far a worker has come with it.
 
-use xs_trace::place::Place;
+use crate::place::Place;
 
 /// What is known of a piece before it is run.
 #[derive(Debug, Drop)]

@@ -6,9 +6,9 @@ ghost use Rattle.xs_core.specs.Answer.{place_in};
 ghost use Rattle.xs_core.specs.Machine.{Worker};
 
 use crate::piece::Progress;
+use crate::place::Place;
 use crate::seat::Seat;
 use std::alloc::AllocError;
-use xs_trace::place::Place;
 
 /// Appends copies of the places that workers have.
 pub(crate) fn copy_seats(seats: &[Seat], places: &mut Vec<Place>) -> Result<(), AllocError>

@@ -12,11 +12,11 @@ ghost use Rattle.xs_core.specs.steps.Stepped.{done, gave, let_go, spent, took};
 
 use crate::facts::Table;
 use crate::piece::Progress;
+use crate::place::Place;
 use crate::places::copy_places;
 use std::alloc::{AllocError, Global};
 use std::collections::VecDeque;
 use std::marker::Model;
-use xs_trace::place::Place;
 
 /// The places in a worker's deque, and the piece in its hand.
 #[derive(Drop)]
@@ -104,21 +104,22 @@ impl Seat {
         self.hand = Some(fresh(place));
     }
 
-    /// Takes the first place of the deque into the hand, where that is empty.
+    /// Takes the last place of the deque into the hand, where that is empty.
     pub(crate) fn take(&mut self) -> bool
         ensures taken { IsChanged (took self.old.hand self.old.deque) result self.old self.new }
     {
         if self.hand.is_some() {
             return false;
         }
-        let Some(place) = self.deque.pop_front() else {
+        let Some(place) = self.deque.pop_back() else {
             return false;
         };
         self.hold(place);
         true
     }
 
-    /// Puts the next child of the piece in the hand at the end of the deque, if one is left.
+    /// Puts the last child that the piece in the hand has not given at the end of the deque, if one
+    /// is left.
     pub(crate) fn give(&mut self, facts: &Table) -> Result<bool, AllocError>
         ensures given { Changes (gave (facts_of facts.now) self.old.hand self.old.deque)
             result self.old self.new }
@@ -127,10 +128,11 @@ impl Seat {
             return Ok(false);
         };
         let given = piece.given;
-        if given >= facts.holes(&piece.place) {
+        let holes = facts.holes(&piece.place);
+        if given >= holes {
             return Ok(false);
         }
-        let child = piece.place.child(given)?;
+        let child = piece.place.child(holes - (given + 1))?;
         self.push(child)?;
         self.set_given(given + 1);
         Ok(true)

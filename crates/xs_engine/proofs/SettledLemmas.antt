@@ -1,5 +1,5 @@
 -- Settled globals, by how settling ended.
-use Rattle.std.proofs.Common.{◌≡◌, ℕ, List, Option, Some, None, subst}
+use Rattle.std.proofs.Common.{◌≡◌, Some, None, subst}
 use Rattle.xs_globals.specs.Results.{settled_by, settled_of, reported_in}
 use Rattle.xs_globals.specs.declared.settled.Settled.{Settled}
 use Rattle.xs_body_spec.specs.Globals.{SettlesAll, ended, settled}

@@ -7,11 +7,12 @@ ghost use Rattle.xs_words.specs.Results.{texts};
 ghost use Rattle.xs_reply.specs.Fetches.{Fetches};
 ghost use Rattle.xs_reply.specs.Headline.{AtOnce, Gained, Gives, HasTicks, OfExpected};
 ghost use Rattle.xs_reply.specs.Headline.{OnlyExpected};
-ghost use Rattle.xs_reply.specs.Job.{is_streamed, request_of};
+ghost use Rattle.xs_reply.specs.Job.{is_streamed, request_of, workers_of};
 ghost use Rattle.xs_reply.specs.Refusals.{Decides, IsListed};
 ghost use Rattle.xs_reply.specs.Reply.{account_of};
 
 use crate::answer::reply_to;
+use crate::host::Host;
 use std::alloc::Global;
 use std::thread::Threads;
 use xs_outside::{Gate, Library, Sink};
@@ -42,13 +43,15 @@ pub fn transform<R: Threads + Sync, L: Library, O: Sink, E: Sink, G: Gate>(
     ensures gives { result.status ≢ NO_MEMORY
         → OfExpected (L.files library.old) (request_of (texts words.now))
         (L.failed library.old) (L.failed library.new)
-        (λ expected. Gives (is_streamed (request_of (texts words.now))) expected (account_of result)
+        (λ expected. Gives (is_streamed (request_of (texts words.now)))
+        (workers_of (request_of (texts words.now))) expected (account_of result)
         (O.held out.old) (O.held out.new) (E.held err.old) (E.held err.new)) }
 
     // Where the files are known, the arguments and these files define one answer alone.
     ensures only { OnlyExpected (L.files library.old) (request_of (texts words.now))
         (L.failed library.old) (L.failed library.new)
-        (λ expected. Gives (is_streamed (request_of (texts words.now))) expected (account_of result)
+        (λ expected. Gives (is_streamed (request_of (texts words.now)))
+        (workers_of (request_of (texts words.now))) expected (account_of result)
         (O.held out.old) (O.held out.new) (E.held err.old) (E.held err.new)) }
 
     // A stylesheet is refused for a static fault alone, the least, and a source for its first bad
@@ -80,8 +83,8 @@ pub fn transform<R: Threads + Sync, L: Library, O: Sink, E: Sink, G: Gate>(
     ensures err_extends { Gained (E.held err.old) (E.held err.new) (λ _. Unit {0}) }
     ensures no_memory { result.status ≡ NO_MEMORY → E.held err.new ≡ E.held err.old }
 {
-    let _gate = gate;
-    match reply_to(rt, alloc, words, library) {
+    let host = Host { rt, alloc, gate };
+    match reply_to(&host, words, library) {
         Ok(reply) => {
             let status = deliver(&reply, out, err);
             report_of(status, reply)

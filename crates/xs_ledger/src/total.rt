@@ -8,28 +8,29 @@ ghost use Rattle.xs_ledger.specs.Shares.{IsShareOf};
 ghost use Rattle.xs_ledger.specs.Totals.{answer_before, AreWithin};
 
 use crate::ledger::{Ledger, Share};
+use std::sync::Arc;
 use xs_trace::total::Total;
 
-/// A share with its ledger, and the most that the word may come to. Each of its additions is of at
-/// most 1,024 ticks, and each but the last was answered with at most the limit.
+/// A share that holds its ledger, and the most that the word may come to. Each of its additions is
+/// of at most 1,024 ticks, and each but the last was answered with at most the limit.
 #[derive(Drop)]
-pub struct LedgerTotal<'a> {
-    ledger: &'a Ledger,
+pub struct LedgerTotal {
+    ledger: Arc<Ledger>,
     share: Share,
     limit: u64,
     // The last answer, 0 where there is none.
     last: u64,
-    ghost of_ledger: { IsShareOf (ledger_id ledger.now) share },
+    ghost of_ledger: { IsShareOf (ledger_id ledger.value) share },
     ghost bounded: { limit ≤ 2 ^ 40 },
     ghost answered: { last ≡ last_answer (additions share) },
     ghost are_within: { AreWithin limit (additions share) },
     pub ghost earlier: { answer_before (additions share) ≤ limit },
 }
 
-impl<'a> LedgerTotal<'a> {
+impl LedgerTotal {
     /// A share, whose last answer is known. A share that has added nothing has the last answer 0.
-    pub fn new(ledger: &'a Ledger, share: Share, limit: u64, last: u64) -> LedgerTotal<'a>
-        requires share { IsShareOf (ledger_id ledger.now) share }
+    pub fn new(ledger: Arc<Ledger>, share: Share, limit: u64, last: u64) -> LedgerTotal
+        requires share { IsShareOf (ledger_id ledger.value) share }
         requires limit { limit ≤ 2 ^ 40 }
         requires last { last ≡ last_answer (additions share) }
         requires within { AreWithin limit (additions share) }
@@ -47,17 +48,17 @@ impl<'a> LedgerTotal<'a> {
     /// The share, with all its additions. Of their ticks at most 1,024 were answered above the
     /// limit.
     pub fn into_share(self) -> Share
-        ensures share { result ≡ self.entry.share }
-        ensures of_ledger { IsShareOf (ledger_id self.entry.ledger.now) result }
-        ensures within { AreWithin self.entry.limit (additions result) }
-        ensures above { weight (ticks_above self.entry.limit) result ≤ 1024 }
+        ensures share { result ≡ self.share }
+        ensures of_ledger { IsShareOf (ledger_id self.ledger.value) result }
+        ensures within { AreWithin self.limit (additions result) }
+        ensures above { weight (ticks_above self.limit) result ≤ 1024 }
     {
         let LedgerTotal { share, .. } = self;
         share
     }
 }
 
-impl<'a> Total for LedgerTotal<'a> {
+impl Total for LedgerTotal {
     ghost Kept = { TableId };
 
     ghost kept = { λ t. share_ledger_id t.share };

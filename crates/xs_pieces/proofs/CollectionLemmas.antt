@@ -14,7 +14,8 @@ use Rattle.xs_trace.specs.declared.item.Site.{Site}
 use Rattle.xs_trace.proofs.CutLemmas.{cut-longest}
 use Rattle.xs_trace.proofs.KeptLemmas.{some_same}
 use Rattle.xs_core.specs.declared.piece.Progress.{Progress}
-use Rattle.xs_core.specs.Good.{total, children, is_place, PiecesWithin, IsGood}
+use Rattle.xs_core.specs.Good.{total, children, given_by, is_place, PiecesWithin, IsGood}
+use Rattle.xs_core.proofs.ChildLemmas.{last-fewer}
 use Rattle.xs_pieces.specs.Tree.{task_at, or_nothing}
 use Rattle.xs_pieces.specs.Collection.{is_finished, ticks_in, holes_in, facts_of, children_in, ticks_spent, places_in, finished_in, dropped_in, state_of}
 use Rattle.xs_pieces.specs.Laws.{WholeIsComplete}
@@ -345,21 +346,13 @@ module _ {H : Type 0} (own whole : H → Trace H) (fills : (t : H) → whole t �
       ap (children (weight root) p) (j ∙ sym (z (length (tasks_of (own t))))) in
       omega arith
 
-  fewer-children : (w : List ℕ → ℕ) (p : List ℕ) (n m : ℕ) → n ≤ m → children w p n ≤ children w p m
-  fewer-children w p n zero h = let e : n ≡ 0 = omega (arith, h) in let i : children w p n ≡ children w p 0 = ap (children w p) e in omega arith
-  fewer-children w p n (suc m) h = by (eqb n (suc m)) refl (fewer-children w p n m)
-    where
-      by : (b : Bool) → eqb n (suc m) ≡ b → (n ≤ m → children w p n ≤ children w p m) → children w p n ≤ children w p (suc m)
-      by true e f = let i : n ≡ suc m = grind (arith, nat_tests, e) in let j : children w p n ≡ children w p (suc m) = ap (children w p) i in omega arith
-      by false e f = let i : n ≤ m = grind (arith, nat_tests, e, h) in let j = f i in omega arith
-
   module _ (place : H → List ℕ) (root : H) (fit : Fits l (whole root)) where
     -- each piece and its children weigh no more than the tree at its place
     all-weigh : (places : List (List ℕ)) (ps : List (Piece H)) → All (λ p. task_at own (Some root) (place p.task) ≡ Some p.task) ps →
         PiecesWithin (facts_of own root l) (dropped_in place places ps) →
         (total (λ p. ticks_in own l (task_at own (Some root) p)) (finished_in place ps) + total (λ x. x.spent) (dropped_in place places ps))
         + (total (λ p. children (weight root) p (holes_in own l (task_at own (Some root) p))) (finished_in place ps)
-        + total (λ x. children (weight root) x.place x.given) (dropped_in place places ps))
+        + total (given_by (weight root) (facts_of own root l)) (dropped_in place places ps))
         ≤ total (weight root) (finished_in place ps) + total (λ x. weight root x.place) (dropped_in place places ps)
     all-weigh places [] a w = omega arith
     all-weigh places (p ∷ ps) a w = by (is_finished p.outcome) (all-weigh places ps (All-tail (λ p. task_at own (Some root) (place p.task) ≡
@@ -380,14 +373,14 @@ module _ {H : Type 0} (own whole : H → Trace H) (fills : (t : H) → whole t �
             (PiecesWithin (facts_of own root l) (dropped_in place places ps) →
             (total (λ p. ticks_in own l (task_at own (Some root) p)) (finished_in place ps) + total (λ x. x.spent) (dropped_in place places ps))
             + (total (λ p. children (weight root) p (holes_in own l (task_at own (Some root) p))) (finished_in place ps)
-            + total (λ x. children (weight root) x.place x.given) (dropped_in place places ps))
+            + total (given_by (weight root) (facts_of own root l)) (dropped_in place places ps))
             ≤ total (weight root) (finished_in place ps) + total (λ x. weight root x.place) (dropped_in place places ps)) →
             PiecesWithin (facts_of own root l) (cond b (dropped_in place places ps) (dropped place places p ∷ dropped_in place places ps)) →
             (total (λ p. ticks_in own l (task_at own (Some root) p)) (cond b (place p.task ∷ finished_in place ps) (finished_in place ps))
             + total (λ (x : Progress). x.spent) (cond b (dropped_in place places ps) (dropped place places p ∷ dropped_in place places ps)))
             + (total (λ p. children (weight root) p (holes_in own l (task_at own (Some root) p))) (cond b (place p.task ∷ finished_in place ps)
             (finished_in place ps))
-            + total (λ (x : Progress). children (weight root) x.place x.given) (cond b (dropped_in place places ps)
+            + total (given_by (weight root) (facts_of own root l)) (cond b (dropped_in place places ps)
             (dropped place places p ∷ dropped_in place places ps)))
             ≤ total (weight root) (cond b (place p.task ∷ finished_in place ps) (finished_in place ps))
             + total (λ (x : Progress). weight root x.place) (cond b (dropped_in place places ps) (dropped place places p ∷ dropped_in place places ps))
@@ -396,8 +389,7 @@ module _ {H : Type 0} (own whole : H → Trace H) (fills : (t : H) → whole t �
             let i = f w.1 in
             let j = here in
             let s = w.0.spent in
-            let g = fewer-children (weight root) (place p.task) (children_in places (place p.task)) (holes_in own l (task_at own (Some root)
-            (place p.task))) w.0.given in
+            let g = last-fewer (weight root) (place p.task) (holes_in own l (task_at own (Some root) (place p.task))) (children_in places (place p.task)) in
             omega arith
 
     total-fits : (ps : List (Piece H)) (t : ℕ) → All (λ p. task_at own (Some root) (place p.task) ≡ Some p.task) ps →
@@ -497,7 +489,7 @@ module _ {H : Type 0} (own whole : H → Trace H) (fills : (t : H) → whole t �
       let b = ap (total (λ p. children (weight own whole fills l root) p (holes_in own l (task_at own (Some root) p)))) e.0 in
       let d = ap (total (λ p. ticks_in own l (task_at own (Some root) p))) e.0 in
       let f = ap (total (λ (x : Progress). weight own whole fills l root x.place)) e.1 in
-      let h = ap (total (λ (x : Progress). children (weight own whole fills l root) x.place x.given)) e.1 in
+      let h = ap (total (given_by (weight own whole fills l root) (facts_of own root l))) e.1 in
       let k = ap (total (λ (x : Progress). x.spent)) e.1 in
       omega arith
 

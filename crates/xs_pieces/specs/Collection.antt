@@ -5,7 +5,7 @@ use Rattle.xs_trace.specs.Mark.{Trace, tick_count}
 use Rattle.xs_trace.specs.Cut.{cut}
 use Rattle.xs_trace.specs.Fill.{tasks_of}
 use Rattle.xs_trace.specs.declared.item.Limits.{Limits}
-use Rattle.xs_trace.specs.declared.place.Claim.{Claim}
+use Rattle.xs_core.specs.declared.place.Claim.{Claim}
 use Rattle.xs_core.specs.declared.piece.Progress.{Progress}
 use Rattle.xs_core.specs.Machine.{Facts, State}
 use Rattle.xs_core.specs.Good.{total, IsGood}

@@ -2,9 +2,9 @@
 
 use std::alloc::AllocError;
 use xs_block::pool::Pool;
+use xs_core::place::Claim;
 use xs_record::outcome::Outcome;
 use xs_record::segment::Segment;
-use xs_trace::place::Claim;
 
 /// What a worker runs pieces with: its share in the total of ticks, and the free blocks in which it
 /// records.

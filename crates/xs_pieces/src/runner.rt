@@ -9,10 +9,10 @@ ghost use Rattle.xs_trace.specs.Mark.{Trace};
 use crate::piece::{Desk, Ran};
 use std::alloc::{AllocError, Global};
 use xs_block::pool::Pool;
+use xs_core::place::Place;
 use xs_record::outcome::Outcome;
 use xs_record::segment::Segment;
 use xs_trace::item::Limits;
-use xs_trace::place::Place;
 use xs_trace::total::Total;
 
 /// A tree of pieces, and what runs a task with all that is below it.

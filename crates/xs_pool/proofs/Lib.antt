@@ -1,4 +1,16 @@
 pub mod RunLemmas
-pub mod SoleLemmas
 pub mod StoppedLemmas
 pub mod SwapLemmas
+pub mod ListLemmas
+pub mod RuleLemmas
+pub mod RightLemmas
+pub mod OwnerLemmas
+pub mod LogLemmas
+pub mod DeskLemmas
+pub mod OrderLemmas
+pub mod StartLemmas
+pub mod KnownLemmas
+pub mod CrewLemmas
+pub mod TurnLemmas
+pub mod WholeLemmas
+pub mod WorkedLemmas

@@ -1,6 +1,6 @@
 -- Pieces that grow by those that one more leaves.
 use Rattle.std.proofs.Common.{◌≡◌, ◌<◌, ◌≤◌, ◌+◌, ℕ, zero, suc, List, [], ◌∷◌, ◌++◌, map, length, get_or, set, slice_get, Option, Some, None, Bool, true}
-use Rattle.std.proofs.Common.{◌-◌, false, cond, nat_lt, not, Result, Ok, IfOk}
+use Rattle.std.proofs.Common.{◌-◌, false, cond, nat_lt, Result, Ok, IfOk}
 use Rattle.std.proofs.Common.{refl, sym, ap, subst, ◌∙◌, arith}
 use Rattle.std.specs.List.{All}
 use Rattle.std.proofs.lemmas.List.{map-append}
@@ -12,10 +12,9 @@ use Rattle.xs_trace.specs.Cut.{End, Whole, Fault, Needs, Spent, Full, Cut, cut_f
 use Rattle.xs_trace.specs.Fill.{tasks_of, numbered, HolesAre}
 use Rattle.xs_trace.specs.Kept.{ended_by}
 use Rattle.xs_trace.specs.declared.item.Ended.{Ended}
-use Rattle.xs_trace.specs.declared.item.Ended.TheVariants as ended
 use Rattle.xs_trace.specs.declared.item.Limits.{Limits}
 use Rattle.xs_trace.specs.declared.item.Site.{Site}
-use Rattle.xs_trace.specs.declared.place.Claim.{Claim}
+use Rattle.xs_core.specs.declared.place.Claim.{Claim}
 use Rattle.xs_trace.proofs.KnownLemmas.{numbered-laws}
 use Rattle.xs_core.specs.declared.piece.Progress.{Progress}
 use Rattle.xs_core.specs.Good.{total, children}
@@ -56,7 +55,8 @@ pub piece-finished : {H : Type 0} → (x : Trace H) (l : Limits) (most before af
 piece-finished x l most before after last old new o i d = finished-by (nat_lt most last) x l most last old new o refl i.ends d
 
 -- the ticks of a beginning
-numbers-ticks : {H : Type 0} → (x : Trace H) (l : Limits) → tick_count (cut (numbered 0 x) l.ticks l.events).passed ≡ tick_count (cut x l.ticks l.events).passed
+pub numbers-ticks : {H : Type 0} → (x : Trace H) (l : Limits) →
+    tick_count (cut (numbered 0 x) l.ticks l.events).passed ≡ tick_count (cut x l.ticks l.events).passed
 numbers-ticks {H} x l =
     ap (λ (c : Cut ℕ). tick_count c.passed) ((numbered-laws H).cuts x nowhere l.ticks l.events 0)
     ∙ (numbered-laws H).ticks 0 (cut x l.ticks l.events).passed
@@ -86,7 +86,7 @@ pub piece-over : {H : Type 0} → (x : Trace H) (l : Limits) (most before after 
 piece-over x l most before after last old new o i d = over-by (nat_lt most last) x l most last old new o refl i.ends i.ticks d
 
 -- what begins with a tick takes one, unless there are none; then it leaves nothing
-begins-ticks : {H : Type 0} → (x : Trace H) (b : ℕ) (m : Option ℕ) → BeginsWithTick x → 0 < b → 0 < tick_count (cut x b m).passed
+pub begins-ticks : {H : Type 0} → (x : Trace H) (b : ℕ) (m : Option ℕ) → BeginsWithTick x → 0 < b → 0 < tick_count (cut x b m).passed
 begins-ticks [] b m h k = absurd h
 begins-ticks (Tick p ∷ x) zero m h k = absurd (omega (arith, k))
 begins-ticks (Tick p ∷ x) (suc b) m h k = omega arith
@@ -160,10 +160,10 @@ places-next place i o ps ts =
     ∙ ap (λ z. z ++ places_in place (map waiting ts)) (places-ran place i o ps)
     ∙ ap (λ z. places_in place ps ++ z) (places-waiting place ts)
 
-all-waiting : {H : Type 0} → (P : Piece H → Type 0) (ts : List H) → All (λ t. P (waiting t)) ts → All P (map waiting ts)
+pub all-waiting : {H : Type 0} → (P : Piece H → Type 0) (ts : List H) → All (λ t. P (waiting t)) ts → All P (map waiting ts)
 all-waiting P ts h = All-map P waiting ts h
 
-total-join : {X : Type 0} → (f : X → ℕ) (xs ys : List X) → total f (xs ++ ys) ≡ total f xs + total f ys
+pub total-join : {X : Type 0} → (f : X → ℕ) (xs ys : List X) → total f (xs ++ ys) ≡ total f xs + total f ys
 total-join f [] ys = omega arith
 total-join f (x ∷ xs) ys = let i = total-join f xs ys in omega arith
 
@@ -256,11 +256,11 @@ holes-tasks P (Stop f p ∷ x) h = holes-tasks P x h
 holes-tasks P (Need g p ∷ x) h = holes-tasks P x h
 holes-tasks P (Hole k ∷ x) h = All-cons P k (tasks_of x) h.0 (holes-tasks P x h.1)
 
-children-are : {H : Type 0} → (P : H → Type 0) (x : Trace H) (l : Limits) → HolesAre P x → All P (tasks_of (cut x l.ticks l.events).passed)
+pub children-are : {H : Type 0} → (P : H → Type 0) (x : Trace H) (l : Limits) → HolesAre P x → All P (tasks_of (cut x l.ticks l.events).passed)
 children-are P x l h = holes-tasks P (cut x l.ticks l.events).passed (holes-passed P x nowhere l.ticks l.events h)
 
 -- each hole's task is the tree's at its place
-child-tasks : {H : Type 0} → (place : H → List ℕ) (own : H → Trace H) (root t : H) (p : List ℕ) (n : ℕ) (x : Trace H) → task_at own (Some root) p ≡ Some t →
+pub child-tasks : {H : Type 0} → (place : H → List ℕ) (own : H → Trace H) (root t : H) (p : List ℕ) (n : ℕ) (x : Trace H) → task_at own (Some root) p ≡ Some t →
     ((k : ℕ) → slice_get (tasks_of (own t)) (n + k) ≡ slice_get (tasks_of x) k) → ArePlaced place p n x →
     HolesAre (λ c. task_at own (Some root) (place c) ≡ Some c) x
 child-tasks place own root t p n [] e f a = tt
@@ -278,7 +278,7 @@ child-tasks {H} place own root t p n (Hole c ∷ x) e f a =
     )
 
 -- the places of a piece's children, weighed
-child-weights : {H : Type 0} → (h : List ℕ → ℕ) (place : H → List ℕ) (p : List ℕ) (n : ℕ) (x : Trace H) (at : Site) (b : ℕ) (m : Option ℕ) →
+pub child-weights : {H : Type 0} → (h : List ℕ → ℕ) (place : H → List ℕ) (p : List ℕ) (n : ℕ) (x : Trace H) (at : Site) (b : ℕ) (m : Option ℕ) →
     ArePlaced place p n x →
     children h p (n + length (tasks_of (cut_from x at b m).passed)) ≡ children h p n + total h (map place (tasks_of (cut_from x at b m).passed))
 child-weights h place p n [] at b m a = no-more h p n
@@ -546,7 +546,7 @@ waiting-claimed place [] [] = refl
 waiting-claimed place [] (t ∷ ts) = waiting-claimed place [] ts
 waiting-claimed place (p ∷ ps) ts = ap (if_run p.outcome (place p.task)) (waiting-claimed place ps ts)
 
-total-map : {A B : Type 0} → (f : B → ℕ) (g : A → B) (xs : List A) → total (λ x. f (g x)) xs ≡ total f (map g xs)
+pub total-map : {A B : Type 0} → (f : B → ℕ) (g : A → B) (xs : List A) → total (λ x. f (g x)) xs ≡ total f (map g xs)
 total-map f g [] = refl
 total-map f g (x ∷ xs) = ap (λ n. f (g x) + n) (total-map f g xs)
 

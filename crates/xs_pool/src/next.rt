@@ -19,7 +19,7 @@ pub(crate) struct Next<T> {
 }
 
 /// Runs the piece at an index. Its children wait, unless it ended in the total.
-pub(crate) fn run_next<R: PieceRunner<T>, T: Total + Drop>(
+pub(crate) fn run_next<R, T>(
     alloc: Global,
     runner: &R,
     pieces: &mut Vec<Piece<R::Task>>,
@@ -27,6 +27,9 @@ pub(crate) fn run_next<R: PieceRunner<T>, T: Total + Drop>(
     limits: Limits,
     desk: Desk<T>,
 ) -> Result<Next<T>, AllocError>
+where
+    R: PieceRunner<T>,
+    T: Total + Drop,
     requires ready { IsReady (R.is_own runner.now) (R.place_of runner.now) (R.own runner.now)
         (R.whole runner.now) }
     requires within { index < length pieces.old.items }
@@ -70,7 +73,10 @@ fn set_outcome<T: Drop>(pieces: &mut Vec<Piece<T>>, index: usize, outcome: Outco
 }
 
 /// Appends pieces that wait, in order.
-fn push_waiting<T: Drop>(pieces: &mut Vec<Piece<T>>, tasks: Vec<T>) -> Result<(), AllocError>
+pub(crate) fn push_waiting<T: Drop>(
+    pieces: &mut Vec<Piece<T>>,
+    tasks: Vec<T>,
+) -> Result<(), AllocError>
     ensures pushed { OnOk result
         (pieces.new.items ≡ pieces.old.items ++ map waiting tasks.items) }
 {

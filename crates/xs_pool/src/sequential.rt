@@ -5,14 +5,14 @@ ghost use Rattle.xs_pieces.specs.Collection.{AreClaims, IsCollection};
 ghost use Rattle.xs_pieces.specs.Ready.{IsReady};
 ghost use Rattle.xs_pool.specs.steps.Running.{waiting, IsRunTo};
 
+use crate::desks::{Desks, close_desks, open_desks};
 use crate::next::{Next, run_next};
-use crate::sole::SoleTotal;
 use std::alloc::{AllocError, Global};
-use xs_block::pool::Pool;
+use xs_core::place::Claim;
+use xs_ledger::total::LedgerTotal;
 use xs_pieces::piece::{Collected, Desk, Piece};
 use xs_pieces::runner::{PieceRunner, Runner};
 use xs_trace::item::Limits;
-use xs_trace::place::Claim;
 use xs_trace::total::Total;
 
 /// Pieces that were run, who claimed them, and the desk at which they were.
@@ -23,32 +23,10 @@ struct Run<H, T> {
     desk: Desk<T>,
 }
 
-/// Runs the root's task and all that tasks leave, first in, first out, until all have been run or
-/// one ended in the total. Pieces that are left then were not run.
-pub fn run_all<R: PieceRunner<SoleTotal>>(
-    alloc: Global,
-    runner: &R,
-    root: R::Task,
-    limits: Limits,
-) -> Result<Collected<R::Task>, AllocError>
-    requires ready { IsReady (R.is_own runner.now) (R.place_of runner.now) (R.own runner.now)
-        (R.whole runner.now) }
-    requires root { R.is_own runner.now root }
-    requires place { R.place_of runner.now root ≡ [] }
-    requires limit { limits.ticks ≤ 2 ^ 40 }
-    ensures collection { IfOk result (λ c. IsCollection (R.is_own runner.now)
-        (R.place_of runner.now) (R.own runner.now) root limits c.pieces.items c.total) }
-    ensures claims { IfOk result (λ c.
-        AreClaims (R.place_of runner.now) 1 c.pieces.items c.claims.items) }
-    ensures bounded { IfOk result (λ c. c.total ≤ limits.ticks + 1024) }
-{
-    run_in_order(alloc, runner, root, limits, &[])
-}
-
 /// Runs the root's task and all that tasks leave, in an order, until all have been run or one ended
 /// in the total. Of those that wait, the k-th to be run is the one with the k-th number; the first,
 /// where there is no such number, or fewer wait.
-pub fn run_in_order<R: PieceRunner<SoleTotal>>(
+pub fn run_in_order<R: PieceRunner<LedgerTotal>>(
     alloc: Global,
     runner: &R,
     root: R::Task,
@@ -66,9 +44,9 @@ pub fn run_in_order<R: PieceRunner<SoleTotal>>(
         AreClaims (R.place_of runner.now) 1 c.pieces.items c.claims.items) }
     ensures bounded { IfOk result (λ c. c.total ≤ limits.ticks + 1024) }
 {
-    let desk = Desk {
-        share: SoleTotal::new(alloc, limits.ticks)?,
-        pool: Pool::new(alloc),
+    let Desks { ledger, mut desks } = open_desks(alloc, limits.ticks, 1)?;
+    let Some(desk) = desks.pop() else {
+        unreachable!()
     };
     let ran = run_pieces(alloc, runner, root, limits, order, desk)?;
     let Run {
@@ -76,8 +54,8 @@ pub fn run_in_order<R: PieceRunner<SoleTotal>>(
         claims,
         desk,
     } = ran;
-    let Desk { share, .. } = desk;
-    let total = share.close(alloc)?;
+    desks.push(desk)?;
+    let total = close_desks(alloc, &ledger, desks, limits.ticks)?;
     Ok(Collected {
         pieces,
         claims,

@@ -13,7 +13,7 @@ use Rattle.xs_core.specs.Good.{total, is_place}
 use Rattle.xs_pieces.specs.Tree.{task_at}
 use Rattle.xs_pieces.proofs.CollectionLemmas.{place-same}
 use Rattle.xs_trace.specs.Mark.{Trace}
-use Rattle.xs_trace.specs.declared.place.Claim.{Claim}
+use Rattle.xs_core.specs.declared.place.Claim.{Claim}
 use Rattle.xs_reply.specs.Headline.{claimed_places}
 use Rattle.xs_reply.proofs.PlaceLemmas.{Has, InOrder, before-by}
 
@@ -62,8 +62,9 @@ far-once (c ∷ cs) far once = (
   far-once cs (λ i j d l m. far (suc i) (suc j) d (omega (arith, l)) (omega (arith, m))) (λ p. let o = once p in omega (arith, o)),
 )
 
-pub claims-ordered : {H : Type 0} → (own : H → Trace H) (root : H) (cs : List Claim) → AreOfTree own root cs → InOrder (claimed_places cs)
-claims-ordered own root cs a = far-once cs (λ i j d l m. sorted_far is_below weak cs a.sorted i j d l m) a.once
+pub claims-ordered : {H : Type 0} → (own : H → Trace H) (root : H) (count : ℕ) (cs : List Claim) → AreOfTree own root count cs
+    → InOrder (claimed_places cs)
+claims-ordered own root count cs a = far-once cs (λ i j d l m. sorted_far is_below weak cs a.sorted i j d l m) a.once
 
 -- a place that is among some
 pub contains-has : (ps : List (List ℕ)) (p : List ℕ) → Contains ps p → Has p ps

@@ -33,7 +33,7 @@ use Rattle.xs_trace.specs.Cut.{Cut}
 use Rattle.xs_trace.specs.Mark.{events_of, messages_of, tick_count}
 use Rattle.xs_trace.specs.declared.event.Event.{Event}
 use Rattle.xs_trace.specs.declared.item.Spot.{Spot}
-use Rattle.xs_trace.specs.declared.place.Claim.{Claim}
+use Rattle.xs_core.specs.declared.place.Claim.{Claim}
 use Rattle.xs_tree.specs.Record.{Record}
 use Rattle.xs_tree.specs.Stripping.{without}
 use Rattle.xs_result_laws.specs.PutLaws.{RunsPutResults}
@@ -70,34 +70,35 @@ unfolding joined joined_later
 one_document source = append-nil source
 
 -- a source that is stripped, by the rules of the stylesheet
-pub from_stripped : {E : Type 0} (r : Result Reply E) (N M : Type 0) (job : Job) (sheet : Sheet) (rules : List StripRule) (source tree : List Record)
-    → (M → N) → rules ≡ sheet.strips → tree ≡ without (stripped rules source) source → IfOk r (Replies N (IsEvaluatedOn job sheet tree))
-    → IfOk r (Replies M (IsEvaluatedOver job sheet (named_document [] source ∷ [])))
-from_stripped r N M job sheet rules source tree m same is over =
+pub from_stripped : {E : Type 0} (count : ℕ) (r : Result Reply E) (N M : Type 0) (job : Job) (sheet : Sheet) (rules : List StripRule)
+    (source tree : List Record) → (M → N) → rules ≡ sheet.strips → tree ≡ without (stripped rules source) source
+    → IfOk r (Replies count N (IsEvaluatedOn job sheet tree))
+    → IfOk r (Replies count M (IsEvaluatedOver job sheet (named_document [] source ∷ [])))
+from_stripped count r N M job sheet rules source tree m same is over =
     let stripped_all : tree ≡ without (stripped sheet.strips source) source = is ∙ ap (λ rs. without (stripped rs source) source) same in
-    replies_so r N M (IsEvaluatedOn job sheet tree) (IsEvaluatedOver job sheet (named_document [] source ∷ [])) m
+    replies_so count r N M (IsEvaluatedOn job sheet tree) (IsEvaluatedOver job sheet (named_document [] source ∷ [])) m
     (λ a on. subst (λ rs. IsEvaluatedFrom job sheet rs a) (sym (one_document source)) (subst (λ t. IsEvaluatedOn job sheet t a) stripped_all on)) over
 
 -- over some index
-pub over_index : {E : Type 0} (r : Result Reply E) (N : Type 0) (job : Job) (sheet : Sheet) (index : SetIndex) (tree : List Record) (keys : List KeyTable)
-    → keys ≡ tables_of tree sheet.keys → IfOk r (Replies N (IsEvaluated job (ground sheet index tree keys)))
-    → IfOk r (Replies N (IsEvaluatedOn job sheet tree))
-over_index r N job sheet index tree keys same is =
-    replies_so r N N (IsEvaluated job (ground sheet index tree keys)) (IsEvaluatedOn job sheet tree) (λ n. n)
+pub over_index : {E : Type 0} (count : ℕ) (r : Result Reply E) (N : Type 0) (job : Job) (sheet : Sheet) (index : SetIndex)
+    (tree : List Record) (keys : List KeyTable) → keys ≡ tables_of tree sheet.keys → IfOk r (Replies count N (IsEvaluated job (ground sheet index tree keys)))
+    → IfOk r (Replies count N (IsEvaluatedOn job sheet tree))
+over_index count r N job sheet index tree keys same is =
+    replies_so count r N N (IsEvaluated job (ground sheet index tree keys)) (IsEvaluatedOn job sheet tree) (λ n. n)
     (λ a by. (index, subst (λ (ts : List KeyTable). IsEvaluated job (ground sheet index tree ts) a) same by)) is
 
 module _ (job : Job) (w : World) (t : Table) where
   -- the run ended in a global
-  pub ended_in_globals : {E : Type 0} (r : Result Reply E) (N : Type 0) (s : Spot) → SettlesAll w job.given job.budget (ended t s)
+  pub ended_in_globals : {E : Type 0} (count : ℕ) (r : Result Reply E) (N : Type 0) (s : Spot) → SettlesAll w job.given job.budget (ended t s)
       → IfOk r (IsPlain (stopped_answer w.sheet.modules s (t.says ++ []) t.ticks no_pieces))
-      → IfOk r (Replies N (IsEvaluated job w))
-  ended_in_globals r N s settles same =
-      reply_is r N (IsEvaluated job w) (stopped_answer w.sheet.modules s (t.says ++ []) t.ticks no_pieces)
+      → IfOk r (Replies count N (IsEvaluated job w))
+  ended_in_globals count r N s settles same =
+      reply_is count r N (IsEvaluated job w) (stopped_answer w.sheet.modules s (t.says ++ []) t.ticks no_pieces)
       (in_globals {t = t} {s = s} settles (ap (λ says. stopped_answer w.sheet.modules s says t.ticks no_pieces) (append-nil t.says))) same
 
   -- or the globals are settled, with these messages and ticks
   module _ (sheet : Sheet) (of : sheet ≡ w.sheet) (reported : List (List ℕ)) (said : t.says ≡ reported) (before_root : ℕ) (took : t.ticks ≡ before_root)
-      (all_settled : SettlesAll w job.given job.budget (settled t)) (e : Executed) (ran : IsRan job w t e) where
+      (all_settled : SettlesAll w job.given job.budget (settled t)) (e : Executed) (count : ℕ) (ran : IsRan job count w t e) where
     abbrev events : List Event
     events = events_in (items_of e.assembled.items)
 
@@ -156,12 +157,13 @@ module _ (job : Job) (w : World) (t : Table) where
 
     -- the reply has its pieces
     runs : (reply : Reply) (pieces : CodePieces) → reply.pieces ≡ pieces → pieces.claims.items ≡ e.claims.items → pieces.inline ≡ e.assembled.inline
-        → pieces.worked ≡ e.worked → (reply.status ≡ OK → e.assembled.end ≡ None) → RunsPieces expected reply
+        → pieces.worked ≡ e.worked → (reply.status ≡ OK → e.assembled.end ≡ None) → RunsPieces count expected reply
     runs reply pieces has c i k ok =
         let all = ran.run in
-        let q : AreRun expected (reply.status ≡ OK) e.claims.items e.assembled.inline e.worked = record {
+        let q : AreRun expected (reply.status ≡ OK) count e.claims.items e.assembled.inline e.worked = record {
           claimed = all.claimed;
           workers = all.workers;
+          first = all.first;
           whole = λ s. all.whole (ok s);
           taken = all.taken;
           again = all.again;
@@ -169,10 +171,10 @@ module _ (job : Job) (w : World) (t : Table) where
           bound = all.bound;
           idle = all.idle;
         } in
-        subst (λ (p : CodePieces). AreRun expected (reply.status ≡ OK) p.claims.items p.inline p.worked) (sym has)
-        (subst (λ cs. AreRun expected (reply.status ≡ OK) cs pieces.inline pieces.worked) (sym c)
-        (subst (λ n. AreRun expected (reply.status ≡ OK) e.claims.items n pieces.worked) (sym i)
-        (subst (λ n. AreRun expected (reply.status ≡ OK) e.claims.items e.assembled.inline n) (sym k) q)))
+        subst (λ (p : CodePieces). AreRun expected (reply.status ≡ OK) count p.claims.items p.inline p.worked) (sym has)
+        (subst (λ cs. AreRun expected (reply.status ≡ OK) count cs pieces.inline pieces.worked) (sym c)
+        (subst (λ n. AreRun expected (reply.status ≡ OK) count e.claims.items n pieces.worked) (sym i)
+        (subst (λ n. AreRun expected (reply.status ≡ OK) count e.claims.items e.assembled.inline n) (sym k) q)))
 
     -- the root came to its end
     whole_so : RunsPutResults → (before all : Reply) (pieces : CodePieces) → e.assembled.end ≡ None → pieces.claims.items ≡ e.claims.items
@@ -180,10 +182,10 @@ module _ (job : Job) (w : World) (t : Table) where
         → reply_of before ≡ plain_whole sheet.method says events ticks
         → (IsResult events → ReadsAs (document_of sheet.method events) before.result.items)
         → reply_of all ≡ with_lines (before.lines.items ++ stats_lines job.stats before.ticks (length pieces.claims.items)) (reply_of before)
-        → all.pieces ≡ pieces → Replies (IsNamedWorld w) (IsEvaluated job w) all
+        → all.pieces ≡ pieces → Replies count (IsNamedWorld w) (IsEvaluated job w) all
     whole_so law before all pieces is c i k plain reads with has =
         let claimed = ran.run.whole is in
-        let count : length pieces.claims.items ≡ length expected.places =
+        let counted : length pieces.claims.items ≡ length expected.places =
         ap length c ∙ sym (claims-counted e.claims.items) ∙ ap length claimed.0 in
         let lines : before.lines.items ≡ message_lines says = ap (λ (a : Answer). a.lines) plain in
         let took_all : before.ticks ≡ ticks = ap (λ (a : Answer). a.ticks) plain in
@@ -197,7 +199,7 @@ module _ (job : Job) (w : World) (t : Table) where
         ∙ ap (λ n. in_full (document_of sheet.method events) expected
         (with_lines (message_lines says ++ stats_lines job.stats n (length pieces.claims.items)) (plain_whole sheet.method says events ticks))) took_all
         ∙ ap (λ n. in_full (document_of sheet.method events) expected
-        (with_lines (message_lines says ++ stats_lines job.stats ticks n) (plain_whole sheet.method says events ticks))) count in
+        (with_lines (message_lines says ++ stats_lines job.stats ticks n) (plain_whole sheet.method says events ticks))) counted in
         record {
           document = document_of sheet.method events;
           pieces = expected;
@@ -212,7 +214,7 @@ module _ (job : Job) (w : World) (t : Table) where
         → (IsResult events → ReadsAs (document_of sheet.method events) before.result.items)
         → IfOk r (λ all. reply_of all
         ≡ with_lines (before.lines.items ++ stats_lines job.stats before.ticks (length pieces.claims.items)) (reply_of before))
-        → IfOk r (λ all. all.pieces ≡ pieces) → IfOk r (Replies (IsNamedWorld w) (IsEvaluated job w))
+        → IfOk r (λ all. all.pieces ≡ pieces) → IfOk r (Replies count (IsNamedWorld w) (IsEvaluated job w))
     whole_in_root law (Err x) before pieces is c i k plain reads with has = tt
     whole_in_root law (Ok all) before pieces is c i k plain reads with has = whole_so law before all pieces is c i k plain reads with has
 
@@ -220,7 +222,7 @@ module _ (job : Job) (w : World) (t : Table) where
     pub stopped_in_root : (N : Type 0) (before all : Reply) (pieces : CodePieces) (s : Spot) → e.assembled.end ≡ Some s → pieces.claims.items ≡ e.claims.items
         → pieces.inline ≡ e.assembled.inline → pieces.worked ≡ e.worked
         → IsPlain (stopped_answer sheet.modules s says ticks no_pieces) before → reply_of all ≡ reply_of before → all.pieces ≡ pieces
-        → Replies N (IsEvaluated job w) all
+        → Replies count N (IsEvaluated job w) all
     stopped_in_root N before all pieces s is c i k plain with has =
         let a : reply_of all ≡ stopped_answer sheet.modules s says ticks no_pieces = with ∙ ap (λ (p : Plain). p.answer) plain in
         record {

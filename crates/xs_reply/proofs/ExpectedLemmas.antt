@@ -14,7 +14,7 @@ use Rattle.xs_static.specs.declared.fault.StaticFault.{StaticFault}
 use Rattle.xs_static.specs.Faults.{IsFirstFault}
 use Rattle.xs_reply.specs.declared.reply.Reply.{Reply}
 use Rattle.xs_reply.specs.Answer.{Answer, read_fault, refused_file, usage}
-use Rattle.xs_reply.specs.Job.{Job, Request, inputs_on}
+use Rattle.xs_reply.specs.Job.{Job, Request, inputs_on, workers_of}
 use Rattle.xs_reply.specs.Made.{files_of}
 use Rattle.xs_reply.specs.Read.{Read, read, bad}
 use Rattle.xs_compile.proofs.OneSheetLemmas.{one_sheet}
@@ -44,14 +44,14 @@ owed_behind : (P : Answer → Type 0) (failed middle failed' : List (List ℕ)) 
 owed_behind P failed middle failed' a e owed = subst (λ f. Owed P f failed' a) (e ∙ append-nil failed) owed
 
 -- a reply whose answer is owed
-reply_owed : {E : Type 0} (r : Result Reply E) (N : Type 0) (P : Answer → Type 0) (failed failed' : List (List ℕ)) (a : Answer) → Owed P failed failed' a
-    → IfOk r (IsPlain a) → IfOk r (Replies N (Owed P failed failed'))
-reply_owed r N P failed failed' a owed is = reply_is r N (Owed P failed failed') a owed is
+reply_owed : {E : Type 0} (count : ℕ) (r : Result Reply E) (N : Type 0) (P : Answer → Type 0) (failed failed' : List (List ℕ)) (a : Answer)
+    → Owed P failed failed' a → IfOk r (IsPlain a) → IfOk r (Replies count N (Owed P failed failed'))
+reply_owed count r N P failed failed' a owed is = reply_is count r N (Owed P failed failed') a owed is
 
 -- a fetch failed
-pub fault_owed : {E : Type 0} (r : Result Reply E) (N : Type 0) (P : Answer → Type 0) (failed failed' : List (List ℕ)) (name : List ℕ)
-    → failed' ≡ failed ++ name ∷ [] → IfOk r (IsPlain (read_fault name)) → IfOk r (Replies N (Owed P failed failed'))
-fault_owed r N P failed failed' name grew is = reply_owed r N P failed failed' (read_fault name) (fault name grew refl) is
+pub fault_owed : {E : Type 0} (count : ℕ) (r : Result Reply E) (N : Type 0) (P : Answer → Type 0) (failed failed' : List (List ℕ)) (name : List ℕ)
+    → failed' ≡ failed ++ name ∷ [] → IfOk r (IsPlain (read_fault name)) → IfOk r (Replies count N (Owed P failed failed'))
+fault_owed count r N P failed failed' name grew is = reply_owed count r N P failed failed' (read_fault name) (fault name grew refl) is
 
 -- an answer of a compiled stylesheet on its only input, whose bytes were read to this
 read_answer : (files : Option Files) (job : Job) (sheet : Sheet) (source name : List ℕ) (found : Read (List Record)) (a : Answer) → name ≡ source
@@ -69,19 +69,19 @@ module _ (files : Option Files) (job : Job) (sheet : Sheet) (source : List ℕ) 
   Owes = Owed (IsSheetAnswer files job sheet (inputs_on job source)) failed failed'
 
   -- the source is no document
-  pub refused_owed : {E : Type 0} (r : Result Reply E) (N : Type 0) (number line : ℕ) (name : List ℕ) → name ≡ source → failed' ≡ failed
+  pub refused_owed : {E : Type 0} (count : ℕ) (r : Result Reply E) (N : Type 0) (number line : ℕ) (name : List ℕ) → name ≡ source → failed' ≡ failed
       → FileGives source_of files name (bad number line) → IfOk r (IsPlain (refused_file number source line))
-      → IfOk r (Replies N Owes)
-  refused_owed r N number line name same stays given is =
-      reply_owed r N (IsSheetAnswer files job sheet (inputs_on job source)) failed failed' (refused_file number source line)
+      → IfOk r (Replies count N Owes)
+  refused_owed count r N number line name same stays given is =
+      reply_owed count r N (IsSheetAnswer files job sheet (inputs_on job source)) failed failed' (refused_file number source line)
       (own stays (read_answer files job sheet source name (bad number line) (refused_file number source line) same given refl)) is
 
   -- it is read, it is the only input, and the stylesheet is evaluated from it
-  pub evaluated_owed : {E : Type 0} (r : Result Reply E) (N W : Type 0) (records : List Record) (name : List ℕ) → W → job.documents ≡ [] → name ≡ source
-      → failed' ≡ failed → FileGives source_of files name (read records)
-      → IfOk r (Replies (N × W) (IsEvaluatedOver job sheet (named_document [] records ∷ []))) → IfOk r (Replies N Owes)
-  evaluated_owed r N W records name well none same stays given is =
-      replies_so r (N × W) N (IsEvaluatedOver job sheet (named_document [] records ∷ [])) Owes (λ named. (named, well))
+  pub evaluated_owed : {E : Type 0} (count : ℕ) (r : Result Reply E) (N W : Type 0) (records : List Record) (name : List ℕ)
+      → W → job.documents ≡ [] → name ≡ source → failed' ≡ failed → FileGives source_of files name (read records)
+      → IfOk r (Replies count (N × W) (IsEvaluatedOver job sheet (named_document [] records ∷ []))) → IfOk r (Replies count N Owes)
+  evaluated_owed count r N W records name well none same stays given is =
+      replies_so count r (N × W) N (IsEvaluatedOver job sheet (named_document [] records ∷ [])) Owes (λ named. (named, well))
       (λ a over. own stays (read_answer files job sheet source name (read records) a same given
       (subst (λ left. IsInputsAnswer files job sheet left (named_document [] records ∷ []) a) (sym none) over))) is
 
@@ -96,26 +96,26 @@ module _ (files : Option Files) (job : Job) (modules : List ModuleData) (failed 
   OwesModules = Owed (IsModulesAnswer files job modules) failed failed'
 
   -- a static fault
-  pub static_owed : {E : Type 0} (r : Result Reply E) (f : StaticFault) → failed' ≡ failed → IsFirstFault modules (Some f)
+  pub static_owed : {E : Type 0} (count : ℕ) (r : Result Reply E) (f : StaticFault) → failed' ≡ failed → IsFirstFault modules (Some f)
       → IfOk r (IsPlain (refused_file f.number (module_name modules f.«module») f.line))
-      → IfOk r (Replies (Unit {0}) OwesModules)
-  static_owed r f stays first same =
-      reply_owed r (Unit {0}) (IsModulesAnswer files job modules) failed failed' (refused_file f.number (module_name modules f.«module») f.line)
+      → IfOk r (Replies count (Unit {0}) OwesModules)
+  static_owed count r f stays first same =
+      reply_owed count r (Unit {0}) (IsModulesAnswer files job modules) failed failed' (refused_file f.number (module_name modules f.«module») f.line)
       (own stays (record { fault = Some f; first = first; answers = refl })) same
 
   -- the stylesheet is only checked
-  pub checked_owed : {E : Type 0} (r : Result Reply E) → job.source ≡ None → failed' ≡ failed
-      → IfOk r (IsChecked modules) → IfOk r (Replies (Unit {0}) OwesModules)
-  checked_owed r none stays is =
-      plain_reply r (Unit {0}) (IsChecked modules) OwesModules (λ reply h. check_answer h.fault modules)
+  pub checked_owed : {E : Type 0} (count : ℕ) (r : Result Reply E) → job.source ≡ None → failed' ≡ failed
+      → IfOk r (IsChecked modules) → IfOk r (Replies count (Unit {0}) OwesModules)
+  checked_owed count r none stays is =
+      plain_reply count r (Unit {0}) (IsChecked modules) OwesModules (λ reply h. check_answer h.fault modules)
       (λ reply h. own stays (record { fault = h.fault; first = h.first; answers = checked_answer files job modules none h.fault })) (λ reply h. h.answers) is
 
   -- a run of a compiled stylesheet that represents them
-  pub run_owed : {E : Type 0} (r : Result Reply E) (N : Type 0) (sheet : Sheet) (source : List ℕ) → N → job.source ≡ Some source
+  pub run_owed : {E : Type 0} (count : ℕ) (r : Result Reply E) (N : Type 0) (sheet : Sheet) (source : List ℕ) → N → job.source ≡ Some source
       → IsFirstFault modules None → Represents modules sheet
-      → IfOk r (Replies N (Owed (IsSheetAnswer files job sheet (inputs_on job source)) failed failed')) → IfOk r (Replies (Unit {0}) OwesModules)
-  run_owed r N sheet source named run first stands owed =
-      replies_so r N (Unit {0}) (Owed (IsSheetAnswer files job sheet (inputs_on job source)) failed failed') OwesModules (λ _. named)
+      → IfOk r (Replies count N (Owed (IsSheetAnswer files job sheet (inputs_on job source)) failed failed')) → IfOk r (Replies count (Unit {0}) OwesModules)
+  run_owed count r N sheet source named run first stands owed =
+      replies_so count r N (Unit {0}) (Owed (IsSheetAnswer files job sheet (inputs_on job source)) failed failed') OwesModules (λ _. named)
       (λ b is. owed_same (IsSheetAnswer files job sheet (inputs_on job source)) (IsModulesAnswer files job modules) failed failed' b
       (λ a over. record {
         fault = None;
@@ -124,21 +124,21 @@ module _ (files : Option Files) (job : Job) (modules : List ModuleData) (failed 
       }) is) owed
 
 -- a module is refused
-pub module_owed : {E : Type 0} (r : Result Reply E) (files : Option Files) (job : Job) (number line : ℕ) (name : List ℕ)
+pub module_owed : {E : Type 0} (count : ℕ) (r : Result Reply E) (files : Option Files) (job : Job) (number line : ℕ) (name : List ℕ)
     (asked asked' failed failed' : List (List ℕ)) → ComesTo (refused number name line) files [] 0 (named_by_words job.sheet ∷ []) asked asked' failed failed'
-    → IfOk r (IsPlain (refused_file number name line)) → IfOk r (Replies (Unit {0}) (Owed (IsAnswer files job) failed failed'))
-module_owed r files job number line name asked asked' failed failed' comes is =
-    reply_owed r (Unit {0}) (IsAnswer files job) failed failed' (refused_file number name line)
+    → IfOk r (IsPlain (refused_file number name line)) → IfOk r (Replies count (Unit {0}) (Owed (IsAnswer files job) failed failed'))
+module_owed count r files job number line name asked asked' failed failed' comes is =
+    reply_owed count r (Unit {0}) (IsAnswer files job) failed failed' (refused_file number name line)
     (own (comes.fails ∙ append-nil failed)
     (record { names = comes.names; end = refused number name line; reads = comes.reads; answers = refl })) is
 
 -- the modules were read, and the answer is that over them
-pub modules_owed : {E : Type 0} (r : Result Reply E) (files : Option Files) (job : Job) (found : Mentioned) (modules : List ModuleData)
+pub modules_owed : {E : Type 0} (count : ℕ) (r : Result Reply E) (files : Option Files) (job : Job) (found : Mentioned) (modules : List ModuleData)
     (asked middle failed failing failed' : List (List ℕ)) → ComesTo (whole found) files [] 0 (named_by_words job.sheet ∷ []) asked middle failed failing
-    → modules ≡ numbered found → IfOk r (Replies (Unit {0}) (Owed (IsModulesAnswer files job modules) failing failed'))
-    → IfOk r (Replies (Unit {0}) (Owed (IsAnswer files job) failed failed'))
-modules_owed r files job found modules asked middle failed failing failed' comes are owed =
-    replies_so r (Unit {0}) (Unit {0}) (Owed (IsModulesAnswer files job modules) failing failed') (Owed (IsAnswer files job) failed failed') (λ n. n)
+    → modules ≡ numbered found → IfOk r (Replies count (Unit {0}) (Owed (IsModulesAnswer files job modules) failing failed'))
+    → IfOk r (Replies count (Unit {0}) (Owed (IsAnswer files job) failed failed'))
+modules_owed count r files job found modules asked middle failed failing failed' comes are owed =
+    replies_so count r (Unit {0}) (Unit {0}) (Owed (IsModulesAnswer files job modules) failing failed') (Owed (IsAnswer files job) failed failed') (λ n. n)
     (λ a is. owed_behind (IsAnswer files job) failed failing failed' a comes.fails
     (owed_same (IsModulesAnswer files job modules) (IsAnswer files job) failing failed' a (λ b over.
     record { names = comes.names; end = whole found; reads = comes.reads; answers = subst (λ ms. IsModulesAnswer files job ms b) are over }) is)) owed
@@ -148,19 +148,20 @@ pub not_both : (xs ys : List (List ℕ)) (name : List ℕ) → ys ≡ xs ++ name
 not_both xs ys name grew stays = omega (arith, ap length (sym stays ∙ grew), length-append xs (name ∷ []))
 
 -- the arguments are refused
-pub usage_owed : {E : Type 0} (r : Result Reply E) (N : Type 0) (files : Option Files) (request : Option Request) (failed : List (List ℕ))
-    → request ≡ None → IfOk r (IsPlain usage) → IfOk r (Replies N (IsExpected files request failed failed))
-usage_owed r N files request failed none is =
-    reply_is r N (IsExpected files request failed failed) usage (subst (λ q. IsExpected files q failed failed usage) (sym none) (refl, refl)) is
+pub usage_owed : {E : Type 0} (count : ℕ) (r : Result Reply E) (N : Type 0) (files : Option Files) (request : Option Request) (failed : List (List ℕ))
+    → request ≡ None → IfOk r (IsPlain usage) → IfOk r (Replies count N (IsExpected files request failed failed))
+usage_owed count r N files request failed none is =
+    reply_is count r N (IsExpected files request failed failed) usage (subst (λ q. IsExpected files q failed failed usage) (sym none) (refl, refl)) is
 
 -- they ask for a job, over the files of the library
 pub job_owed : {E : Type 0} (r : Result Reply E) (N : Type 0) (files : Option Files) (request : Option Request) (q : Request)
-    (failed failed' : List (List ℕ)) → request ≡ Some q → q.made ≡ None → IfOk r (Replies N (Owed (IsAnswer files q.job) failed failed'))
-    → IfOk r (Replies N (IsExpected files request failed failed'))
+    (failed failed' : List (List ℕ)) → request ≡ Some q → q.made ≡ None → IfOk r (Replies q.workers N (Owed (IsAnswer files q.job) failed failed'))
+    → IfOk r (Replies (workers_of request) N (IsExpected files request failed failed'))
 job_owed r N files request q failed failed' is none owed =
-    replies_so r N N (Owed (IsAnswer files q.job) failed failed') (IsExpected files request failed failed') (λ n. n)
+    subst (λ n. IfOk r (Replies n N (IsExpected files request failed failed'))) (sym (ap workers_of is))
+    (replies_so q.workers r N N (Owed (IsAnswer files q.job) failed failed') (IsExpected files request failed failed') (λ n. n)
     (λ a own_or_fault. subst (λ x. IsExpected files x failed failed' a) (sym is)
-    (subst (λ made. Owed (IsAnswer (files_of made files) q.job) failed failed' a) (sym none) own_or_fault)) owed
+    (subst (λ made. Owed (IsAnswer (files_of made files) q.job) failed failed' a) (sym none) own_or_fault)) owed)
 
 -- one name, added twice
 first_name : List ℕ → List (List ℕ) → List ℕ

@@ -18,23 +18,23 @@ stays None P h = tt
 stays (Some b) P h = ([], ap Some (sym (append-nil b)), h)
 
 -- the report has how the pieces of a reply were run
-pub claimed : (reply : Reply) (document : Option (List Event)) (pieces : Pieces) (account : Account) → RunsPieces pieces reply
+pub claimed : (reply : Reply) (count : ℕ) (document : Option (List Event)) (pieces : Pieces) (account : Account) → RunsPieces count pieces reply
     → account.pieces ≡ length reply.pieces.claims.items → account.claims ≡ reply.pieces.claims.items → account.inline ≡ reply.pieces.inline
-    → account.worked ≡ reply.pieces.worked → AreClaimed (answer_of reply document pieces) account
-claimed reply document pieces account run n c i w = record {
+    → account.worked ≡ reply.pieces.worked → AreClaimed count (answer_of reply document pieces) account
+claimed reply count document pieces account run n c i w = record {
   number = n ∙ ap length (sym c);
   run =
-      subst (λ cs. AreRun pieces (reply.status ≡ OK) cs account.inline account.worked) (sym c)
-      (subst (λ m. AreRun pieces (reply.status ≡ OK) reply.pieces.claims.items m account.worked) (sym i)
-      (subst (λ m. AreRun pieces (reply.status ≡ OK) reply.pieces.claims.items reply.pieces.inline m) (sym w) run));
+      subst (λ cs. AreRun pieces (reply.status ≡ OK) count cs account.inline account.worked) (sym c)
+      (subst (λ m. AreRun pieces (reply.status ≡ OK) count reply.pieces.claims.items m account.worked) (sym i)
+      (subst (λ m. AreRun pieces (reply.status ≡ OK) count reply.pieces.claims.items reply.pieces.inline m) (sym w) run));
 }
 
-module _ (streamed : Bool) (account : Account) (out out' err err' : Option (List ℕ)) where
+module _ (streamed : Bool) (count : ℕ) (account : Account) (out out' err err' : Option (List ℕ)) where
   -- what was written of a reply, with this account
   pub gives : (reply : Reply) (document : Option (List Event)) (pieces : Pieces) (ended : ℕ) → account.status ≡ ended → account.ticks ≡ reply.ticks
-      → account.fault ≡ reply.fault → AreClaimed (answer_of reply document pieces) account
+      → account.fault ≡ reply.fault → AreClaimed count (answer_of reply document pieces) account
       → Writes (reply_of reply) ended out out' err err' → ReadsAs document reply.result.items
-      → Gives streamed (answer_of reply document pieces) account out out' err err'
+      → Gives streamed count (answer_of reply document pieces) account out out' err err'
   gives reply document pieces ended e t f c w reads = record {
     status = subst (λ s. (s ≡ reply.status) ⊎ IsCutShort s) (sym e) w.status;
     result = subst (λ s. Gained out out' (IsWritten reply.result.items s)) (sym e) w.result;
@@ -47,9 +47,9 @@ module _ (streamed : Bool) (account : Account) (out out' err err' : Option (List
   }
 
 -- out of memory nothing is written
-nothing_given : (streamed : Bool) (answer : Answer) (account : Account) (out err : Option (List ℕ)) → account.status ≡ NO_MEMORY
-    → Gives streamed answer account out out err err
-nothing_given streamed answer account out err e = record {
+nothing_given : (streamed : Bool) (count : ℕ) (answer : Answer) (account : Account) (out err : Option (List ℕ)) → account.status ≡ NO_MEMORY
+    → Gives streamed count answer account out out err err
+nothing_given streamed count answer account out err e = record {
   status = inr (inr e);
   result = stays out (IsWritten answer.result account.status) ((answer.result, refl), inl (inr e));
   lines = stays err (IsWritten answer.lines account.status) ((answer.lines, refl), inl (inr e));
@@ -61,19 +61,19 @@ nothing_given streamed answer account out err e = record {
 }
 
 -- and so it is whatever is expected
-pub gives_nothing : (files : Option Files) (request : Option Request) (failed failed' : List (List ℕ)) (streamed : Bool) (account : Account)
-    (out err : Option (List ℕ)) → account.status ≡ NO_MEMORY
-    → OnlyExpected files request failed failed' (λ expected. Gives streamed expected account out out err err)
-gives_nothing files request failed failed' streamed account out err e =
-    each_expected files request failed failed' (λ expected. Gives streamed expected account out out err err)
-    (λ expected. nothing_given streamed expected account out err e)
+pub gives_nothing : (files : Option Files) (request : Option Request) (failed failed' : List (List ℕ)) (streamed : Bool) (count : ℕ)
+    (account : Account) (out err : Option (List ℕ)) → account.status ≡ NO_MEMORY
+    → OnlyExpected files request failed failed' (λ expected. Gives streamed count expected account out out err err)
+gives_nothing files request failed failed' streamed count account out err e =
+    each_expected files request failed failed' (λ expected. Gives streamed count expected account out out err err)
+    (λ expected. nothing_given streamed count expected account out err e)
 
 -- what was given is all that is expected
-pub gives_only : (files : Option Files) (request : Option Request) (failed failed' : List (List ℕ)) (a : Answer) (streamed : Bool) (account : Account)
-    (out out' err err' : Option (List ℕ)) → IsExpected files request failed failed' a → Gives streamed a account out out' err err'
-    → OnlyExpected files request failed failed' (λ expected. Gives streamed expected account out out' err err')
-gives_only files request failed failed' a streamed account out out' err err' expected given =
-    only_expected files request failed failed' a (λ expected. Gives streamed expected account out out' err err') expected given
+pub gives_only : (files : Option Files) (request : Option Request) (failed failed' : List (List ℕ)) (a : Answer) (streamed : Bool) (count : ℕ)
+    (account : Account) (out out' err err' : Option (List ℕ)) → IsExpected files request failed failed' a → Gives streamed count a account out out' err err'
+    → OnlyExpected files request failed failed' (λ expected. Gives streamed count expected account out out' err err')
+gives_only files request failed failed' a streamed count account out out' err err' expected given =
+    only_expected files request failed failed' a (λ expected. Gives streamed count expected account out out' err err') expected given
 
 -- what holds of a result that is written at once
 pub at_once : (ended ended' : ℕ) (out out' : Option (List ℕ)) (f f' g g' : ℕ) → ended' ≡ ended → (ended ≢ OK → ended ≢ WRITE_FAULT → out' ≡ out)

@@ -17,7 +17,7 @@ use Rattle.xs_trace.specs.Fill.{tasks_of}
 use Rattle.xs_trace.specs.Mark.{Tick, Put, Say, Stop, Need, Hole, Trace, tick_count}
 use Rattle.xs_trace.specs.declared.item.Limits.{Limits}
 use Rattle.xs_trace.specs.declared.item.Site.{Site}
-use Rattle.xs_trace.specs.declared.place.Claim.{Claim}
+use Rattle.xs_core.specs.declared.place.Claim.{Claim}
 use Rattle.xs_reply.specs.Headline.{AreSome, claimed_places}
 use Rattle.xs_reply.specs.Places.{task_places, tree_places}
 use Rattle.xs_reply.proofs.ClaimLemmas.{claim-there, claims-ordered, contains-has}
@@ -55,7 +55,7 @@ placed-there w root p t None is e =
 falls : (w : World) → Falls (rank_of w) (task_trace w)
 falls w = λ t. tasks-fall w t
 
-module _ (w : World) (root : Placed) (cs : List Claim) (a : AreOfTree (own w) root cs) where
+module _ (w : World) (root : Placed) (count : ℕ) (cs : List Claim) (a : AreOfTree (own w) root count cs) where
   expected-there : (q : List ℕ) → Has q (claimed_places cs) → Has q (task_places w root.task)
   expected-there q h =
       let t = claim-there (own w) root cs a.there q h in
@@ -66,7 +66,7 @@ module _ (w : World) (root : Placed) (cs : List Claim) (a : AreOfTree (own w) ro
   expected-ordered = tree-ordered (task_trace w) (suc (rank_of w root.task)) root.task
 
   pub are-some : AreSome (claimed_places cs) (task_places w root.task)
-  are-some = some-of (task_places w root.task) (claimed_places cs) (claims-ordered (own w) root cs a) expected-ordered expected-there
+  are-some = some-of (task_places w root.task) (claimed_places cs) (claims-ordered (own w) root count cs a) expected-ordered expected-there
 
   pub are-same : AreAll (own w) root cs → claimed_places cs ≡ task_places w root.task
   are-same all =

@@ -79,7 +79,7 @@ ready law runner w globals g over is inside values some =
 module _ (job : Job) (w : World) (t : Table) (runner : World) (root : Placed) (e : Executed) (none : w.grain ≡ None)
     (over : runner ≡ in_pieces job w t) (at : root ≡ at_place [] (root_task runner)) (law : WholeIsRun)
     (is : IsAssembled (cut (whole runner root) (job.budget - t.ticks) job.most_events) e.assembled)
-    (tree : AreOfTree (own runner) root e.claims.items) where
+    (count : ℕ) (tree : AreOfTree (own runner) root count e.claims.items) where
   task-is : root.task ≡ root_task runner
   task-is = ap (λ (p : Placed). p.task) at
 
@@ -110,10 +110,11 @@ module _ (job : Job) (w : World) (t : Table) (runner : World) (root : Placed) (e
 
   pub is_ran : (e.assembled.end ≡ None → AreAll (own runner) root e.claims.items × (e.assembled.inline ≡ 0) × (e.worked ≡ e.assembled.ticks)) →
       e.assembled.ticks ≤ e.worked → (0 < e.assembled.inline → job.budget - t.ticks < e.worked) →
-      (0 < e.assembled.inline → job.budget - t.ticks < claimed_ticks (own runner) root limits e.claims.items) → e.worked ≤ 2 * (job.budget - t.ticks) + 1024 →
+      (0 < e.assembled.inline → job.budget - t.ticks < claimed_ticks (own runner) root limits e.claims.items) →
+      e.worked ≤ 2 * (job.budget - t.ticks) + 1024 * count →
       ((p : Place) → IsReached (own runner) root limits p → (Contains (claimed_places e.claims.items) p → ⊥) →
       job.budget - t.ticks < claimed_ticks (own runner) root limits e.claims.items) →
-      IsRan job w t e
+      IsRan job count w t e
   is_ran all taken above over_claimed bound reached =
       let g = law runner root (job.budget - t.ticks) job.most_events in
       let took : e.assembled.ticks ≡ tick_count (root_cut job w t).passed =
@@ -126,9 +127,10 @@ module _ (job : Job) (w : World) (t : Table) (runner : World) (root : Placed) (e
         end = subst (λ k. EndsIn k e.assembled.end) (g.end ∙ ap (λ (c : Cut Task). c.end) cut-is) is.end;
         ticks = took;
         run = record {
-          claimed = subst (λ ps. AreSome (claimed_places e.claims.items) ps) places-are (are-some runner root e.claims.items tree);
+          claimed = subst (λ ps. AreSome (claimed_places e.claims.items) ps) places-are (are-some runner root count e.claims.items tree);
           workers = tree.workers;
-          whole = λ n. let h = all n in (are-same runner root e.claims.items tree h.0 ∙ places-are, h.1, h.2 ∙ took);
+          first = tree.first;
+          whole = λ n. let h = all n in (are-same runner root count e.claims.items tree h.0 ∙ places-are, h.1, h.2 ∙ took);
           taken = omega (arith, took, taken);
           again = λ h. (above h, (let a = over_claimed h in let s = taken-are in omega (arith, a, s)));
           reached = λ p c n.

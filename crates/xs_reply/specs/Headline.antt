@@ -10,7 +10,7 @@ use Rattle.xs_reply.specs.Expected.{IsExpected}
 use Rattle.xs_reply.specs.Job.{Request}
 use Rattle.xs_reply.specs.Made.{files_of}
 use Rattle.xs_reply.specs.ReadBack.{ReadsBack}
-use Rattle.xs_trace.specs.declared.place.Claim.{Claim}
+use Rattle.xs_core.specs.declared.place.Claim.{Claim}
 
 -- P of an answer that is expected. Where the library records its files there is one alone (`OnlyExpected`); where it records none, these are some
 -- files of which it is expected.
@@ -79,12 +79,13 @@ claimed_places claims = map (λ claim. claim.place) claims
 abbrev pub claimed_ticks : Pieces → List Claim → ℕ
 claimed_ticks expected claims = total expected.taken (claimed_places claims)
 
--- How the pieces that are expected were run, by the claims in the order of places, how many pieces were evaluated again in their place, and
--- how many ticks all took.
-pub record AreRun (expected : Pieces) (is_whole : Type 0) (claims : List Claim) (inline worked : ℕ) : Type 0 where
-  -- each was claimed at most once, by the first worker, and no other place was
+-- How the pieces that are expected were run by so many workers: by the claims in the order of places, how many pieces were evaluated again
+-- in their place, and how many ticks all took.
+pub record AreRun (expected : Pieces) (is_whole : Type 0) (count : ℕ) (claims : List Claim) (inline worked : ℕ) : Type 0 where
+  -- each was claimed at most once, and no other place was; the root by the first worker
   pub claimed : AreSome (claimed_places claims) expected.places
-  pub workers : All (λ claim. claim.worker ≡ 0) claims
+  pub workers : All (λ claim. claim.worker < count) claims
+  pub first : All (λ claim. claim.place ≡ [] → claim.worker ≡ 0) claims
   -- where the run came to its end, each was, none was evaluated again, and they took the ticks that are expected and no more
   pub whole : is_whole → (claimed_places claims ≡ expected.places) × (inline ≡ 0) × (worked ≡ expected.ticks)
   -- they took the ticks that are expected, and maybe more; one is evaluated again only where that, and the ticks of the claimed ones, are
@@ -93,17 +94,17 @@ pub record AreRun (expected : Pieces) (is_whole : Type 0) (claims : List Claim) 
   pub again : 0 < inline → (expected.limit < worked) × (expected.limit < claimed_ticks expected claims)
   -- and so it is with a piece that was reached and not claimed
   pub reached : (p : Place) → Contains expected.reached p → (Contains (claimed_places claims) p → ⊥) → expected.limit < claimed_ticks expected claims
-  pub bound : worked ≤ 2 * expected.limit + 1024
+  pub bound : worked ≤ 2 * expected.limit + 1024 * count
   -- where there are none, nothing was done
   pub idle : expected.places ≡ [] → (inline ≡ 0) × (worked ≡ 0)
 
--- The pieces of a run: as many as claims, which are of those that are expected.
-pub record AreClaimed (expected : Answer) (account : Account) : Type 0 where
+-- The pieces of a run by so many workers: as many as claims, which are of those that are expected.
+pub record AreClaimed (count : ℕ) (expected : Answer) (account : Account) : Type 0 where
   pub number : account.pieces ≡ length account.claims
-  pub run : AreRun expected.pieces (expected.status ≡ OK) account.claims account.inline account.worked
+  pub run : AreRun expected.pieces (expected.status ≡ OK) count account.claims account.inline account.worked
 
--- A run gave what is expected: the report has this account, and the sinks hold these bytes before the run and after.
-pub record Gives (streamed : Bool) (expected : Answer) (account : Account) (out out_after err err_after : Option (List ℕ)) : Type 0 where
+-- A run by so many workers gave what is expected: the report has this account, and the sinks hold these bytes before the run and after.
+pub record Gives (streamed : Bool) (count : ℕ) (expected : Answer) (account : Account) (out out_after err err_after : Option (List ℕ)) : Type 0 where
   -- the status is the one that is expected, unless the run was cut short
   pub status : (account.status ≡ expected.status) ⊎ IsCutShort account.status
   -- `out` holds what it held, and then a beginning of the result; all of it, unless the run was cut short
@@ -117,7 +118,7 @@ pub record Gives (streamed : Bool) (expected : Answer) (account : Account) (out 
   -- and so is the fault
   pub fault : account.status ≢ NO_MEMORY → account.fault ≡ expected.fault
   -- and the claims are of the pieces that are expected
-  pub pieces : account.status ≢ NO_MEMORY → AreClaimed expected account
+  pub pieces : account.status ≢ NO_MEMORY → AreClaimed count expected account
   -- and the lines of its result read back as the document that this very run put
   pub document : account.status ≢ NO_MEMORY → ReadsBack expected
 

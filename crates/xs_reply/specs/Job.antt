@@ -39,15 +39,22 @@ pub record Request : Type 0 where
   pub made : Option ℕ
   -- whether the result is written while the evaluation goes on
   pub stream : Bool
+  -- how many workers run its pieces, of which the answer knows nothing
+  pub workers : ℕ
 
--- a job over the files of the library, whose result is written once the evaluation has ended
-abbrev pub plain : Job → Request
-plain job = record { job = job; made = None; stream = false }
+-- a job over the files of the library by so many workers, whose result is written once the evaluation has ended
+abbrev pub plain : (workers : ℕ) → Job → Request
+plain workers job = record { job = job; made = None; stream = false; workers = workers }
 
 -- Refused arguments stream nothing.
 abbrev pub is_streamed : Option Request → Bool
 is_streamed None = false
 is_streamed (Some request) = request.stream
+
+-- and need no worker.
+abbrev pub workers_of : Option Request → ℕ
+workers_of None = 0
+workers_of (Some request) = request.workers
 
 abbrev pub has_none : List Pair → Bool
 has_none [] = true
@@ -99,11 +106,10 @@ made_job budget most_events grain stats = record {
   stats = stats;
 }
 
--- The workers change nothing.
 abbrev pub work_request : Choice → Work → Request
-work_request choice (files sheet source texts) = plain (source_job choice sheet source texts)
-work_request choice (check sheet) = plain (check_job choice sheet)
-work_request choice (load count) = record (plain (made_job choice.budget choice.max_events choice.grain choice.stats)) { made = Some count }
+work_request choice (files sheet source texts) = plain choice.workers (source_job choice sheet source texts)
+work_request choice (check sheet) = plain choice.workers (check_job choice sheet)
+work_request choice (load count) = record (plain choice.workers (made_job choice.budget choice.max_events choice.grain choice.stats)) { made = Some count }
 
 abbrev pub supported_request : Choice → Option Request
 supported_request choice = where_it_holds (is_supported choice) (Some (work_request choice choice.job))

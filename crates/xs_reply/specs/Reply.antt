@@ -10,7 +10,7 @@ use Rattle.xs_reply.specs.declared.reply.Reply.{Reply}
 use Rattle.xs_reply.specs.declared.report.Report.{Report}
 use Rattle.xs_reply.specs.declared.status.TheConstants.{OK}
 use Rattle.xs_trace.specs.declared.event.Event.{Event}
-use Rattle.xs_trace.specs.declared.place.Claim.{Claim}
+use Rattle.xs_core.specs.declared.place.Claim.{Claim}
 use Rattle.xs_modules.specs.Numbering.{ModuleData}
 use Rattle.xs_static.specs.Faults.{IsFirstFault}
 use Rattle.xs_static.specs.declared.fault.StaticFault.{StaticFault}
@@ -35,12 +35,13 @@ job_data job = record {
 }
 
 -- the numbers of a job are within their limits
-pub record IsWithin (job : Job) : Type 0 where
+pub record IsWithin (job : CodeJob) : Type 0 where
   pub budget : job.budget ≤ 2 ^ 40
   pub grain : 1 ≤ job.grain
+  pub workers : (1 ≤ job.workers) × (job.workers ≤ 64)
 
 abbrev pub request_data : CodeRequest → Request
-request_data request = record (plain (job_data request.job)) { made = request.made }
+request_data request = record (plain request.job.workers (job_data request.job)) { made = request.made }
 
 -- a reply as an answer, which has these pieces, and of which the result is the lines of these events
 abbrev pub answer_of : Reply → (document : Option (List Event)) → Pieces → Answer
@@ -84,17 +85,17 @@ IsPlain answer reply = plain_of reply ≡ without_pieces answer
 abbrev pub IsUnspent : Reply → Type 0
 IsUnspent reply = (reply.ticks ≡ 0) × (reply.pieces.claims.items ≡ []) × (reply.pieces.inline ≡ 0) × (reply.pieces.worked ≡ 0)
 
--- the pieces of a reply were run, of which these are expected
-abbrev pub RunsPieces : Pieces → Reply → Type 0
-RunsPieces expected reply = AreRun expected (reply.status ≡ OK) reply.pieces.claims.items reply.pieces.inline reply.pieces.worked
+-- the pieces of a reply were run by so many workers, of which these are expected
+abbrev pub RunsPieces : (count : ℕ) → Pieces → Reply → Type 0
+RunsPieces count expected reply = AreRun expected (reply.status ≡ OK) count reply.pieces.claims.items reply.pieces.inline reply.pieces.worked
 
--- A reply is an answer of which P says this, and its pieces were run; and where N holds, its result reads back as the events of this
--- very answer.
-pub record Replies (N : Type 0) (P : Answer → Type 0) (reply : Reply) : Type 0 where
+-- A reply is an answer of which P says this, and its pieces were run by so many workers; and where N holds, its result reads back as the
+-- events of this very answer.
+pub record Replies (count : ℕ) (N : Type 0) (P : Answer → Type 0) (reply : Reply) : Type 0 where
   pub document : Option (List Event)
   pub pieces : Pieces
   pub answers : P (answer_of reply document pieces)
-  pub run : RunsPieces pieces reply
+  pub run : RunsPieces count pieces reply
   pub reads : N → ReadsAs document reply.result.items
 
 abbrev pub account_of : Report → Account

@@ -29,8 +29,8 @@ pub fn executed_reply(
     ensures answer { (w : World) (t : Table) → sheet.now ≡ w.sheet →
         t.says ≡ says.now → t.ticks ≡ ticks →
         SettlesAll w (job_data job.now).given job.now.budget (settled t) →
-        IsRan (job_data job.now) w t executed →
-        IfOk result (Replies (IsNamedWorld w) (IsEvaluated (job_data job.now) w)) }
+        IsRan (job_data job.now) job.now.workers w t executed →
+        IfOk result (Replies job.now.workers (IsNamedWorld w) (IsEvaluated (job_data job.now) w)) }
     ensures pieces { IfOk result (λ reply. reply.pieces ≡ pieces_of executed) }
     ensures status { IfOk result (λ reply.
         (reply.status ≡ OK) ⊎ (reply.status ≡ RUN_FAULT)) }

@@ -27,6 +27,8 @@ pub struct Job {
     pub grain: u32,
     /// Whether its ticks and pieces are reported.
     pub stats: bool,
+    /// How many workers run its pieces, 1 to 64. They change nothing of the answer.
+    pub workers: u32,
 }
 
 /// What the arguments of a run ask for.
@@ -43,7 +45,7 @@ pub struct Request {
 /// supported.
 pub fn read_request(alloc: Global, words: &[String]) -> Result<Request, WordsEnd>
     ensures gives { Gives request_data (request_of (texts words.now)) result }
-    ensures within { IfOk result (λ request. IsWithin (job_data request.job)) }
+    ensures within { IfOk result (λ request. IsWithin request.job) }
 {
     match read_words(alloc, words) {
         Ok(options) => {
@@ -78,6 +80,7 @@ fn work_request(alloc: Global, options: Options) -> Result<Request, AllocError>
         max_events,
         grain,
         stats,
+        workers,
         job,
         ..
     } = options;
@@ -95,6 +98,7 @@ fn work_request(alloc: Global, options: Options) -> Result<Request, AllocError>
                 most_events: max_events,
                 grain,
                 stats,
+                workers,
             },
             made: None,
         }),
@@ -107,11 +111,12 @@ fn work_request(alloc: Global, options: Options) -> Result<Request, AllocError>
                 most_events: max_events,
                 grain,
                 stats,
+                workers,
             },
             made: None,
         }),
         Work::Load(count) => Ok(Request {
-            job: made_job(alloc, budget, max_events, grain, stats)?,
+            job: made_job(alloc, budget, max_events, grain, stats, workers)?,
             made: Some(count),
         }),
     }
@@ -124,8 +129,10 @@ fn made_job(
     most_events: Option<u64>,
     grain: u32,
     stats: bool,
+    workers: u32,
 ) -> Result<Job, AllocError>
-    ensures { IfOk result (λ job. job_data job ≡ made_job budget most_events grain stats) }
+    ensures job { IfOk result (λ job. job_data job ≡ made_job budget most_events grain stats) }
+    ensures workers { IfOk result (λ job. job.workers ≡ workers) }
 {
     Ok(Job {
         sheet: TextBuf::of(alloc, MADE_SHEET)?,
@@ -135,5 +142,6 @@ fn made_job(
         most_events,
         grain,
         stats,
+        workers,
     })
 }

@@ -19,12 +19,12 @@ use crate::status::{OK, READ_FAULT, REFUSED, RUN_FAULT, USAGE};
 use itoa::Buffer;
 use std::alloc::{AllocError, Global};
 use xs_block::chain::Chain;
+use xs_core::place::Claim;
 use xs_record::segment::Segment;
 use xs_sheet::declarations::Method;
 use xs_sheet::sheet::Sheet;
 use xs_text::{TextBuf, escape_into};
 use xs_trace::item::Spot;
-use xs_trace::place::Claim;
 use xs_words::USAGE as USAGE_LINE;
 
 /// The fault that ended a run.

@@ -7,8 +7,8 @@ use crate::reply::{Pieces, Reply, ReportedFault};
 use crate::status::NO_MEMORY;
 use std::alloc::Global;
 use xs_block::chain::Chain;
+use xs_core::place::Claim;
 use xs_record::segment::Segment;
-use xs_trace::place::Claim;
 
 /// What a run reports besides what it wrote.
 #[derive(Drop)]

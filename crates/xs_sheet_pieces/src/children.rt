@@ -9,9 +9,9 @@ use crate::placed::PlacedTask;
 use std::alloc::{AllocError, Global};
 use xs_block::pool::Pool;
 use xs_body::task::Task;
+use xs_core::place::Place;
 use xs_record::outcome::{Outcome, free_parts};
 use xs_record::segment::Segment;
-use xs_trace::place::Place;
 
 /// What a piece did, after its tasks were appended to the children, each at its place below that of
 /// the piece. Out of memory the children stay, and the blocks of what it did are free.

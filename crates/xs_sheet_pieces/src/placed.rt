@@ -2,7 +2,7 @@
 
 use std::marker::Model;
 use xs_body::task::Task;
-use xs_trace::place::Place;
+use xs_core::place::Place;
 
 /// A task at a place of the tree of pieces. Contracts see it as plain data.
 #[derive(Drop)]

@@ -1,4 +1,4 @@
-//! What a run of a stylesheet does, and the texts, names, faults and places that it speaks of.
+//! What a run of a stylesheet does, and the texts, names and faults that it speaks of.
 #![tactic(auto)]
 
 pub mod event;
@@ -6,6 +6,5 @@ pub mod fault;
 pub mod item;
 pub mod laws;
 pub mod meter;
-pub mod place;
 pub mod recorder;
 pub mod total;

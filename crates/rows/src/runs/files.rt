@@ -106,6 +106,7 @@ impl<'t> Rows<'t> {
             Part::With => self.with = rest,
             Part::Call => self.call = value_named(CALLS, rest),
             Part::Most => self.setup.set_most(rest),
+            Part::Gate => self.setup.set_meeting(),
             _ => self.setup.add_failing(out, rest),
         }
     }
@@ -190,7 +191,8 @@ impl<'t> Rows<'t> {
         push_words(out, &mut words, self.words);
         let outcome = self.setup.run(out, rt, &words, b"");
         put_parts(out, &outcome);
-        if self.with.is_empty() {
+        out.put_if(outcome.is_met, "= met\n");
+        if !self.with.contains("--grain") {
             put_pieces(out, &outcome.report);
         }
         drop(outcome);

@@ -32,6 +32,8 @@ pub(crate) enum Part {
     Most,
     /// A fetch or a write that fails.
     Failing,
+    /// Two workers have to meet.
+    Gate,
     /// A part of an answer.
     Answer,
 }
@@ -49,12 +51,14 @@ pub(crate) const PARTS: &[(&str, Part)] = &[
     ("call", Part::Call),
     ("most", Part::Most),
     ("failing", Part::Failing),
+    ("gate", Part::Gate),
     ("status", Part::Answer),
     ("ticks", Part::Answer),
     ("pieces", Part::Answer),
     ("text", Part::Answer),
     ("result", Part::Answer),
     ("lines", Part::Answer),
+    ("met", Part::Answer),
     ("differs", Part::Answer),
 ];
 

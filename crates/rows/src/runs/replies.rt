@@ -1,7 +1,7 @@
 //! A stylesheet that is compiled once and run on several sources (docs/LIBRARY.md).
 
 ghost use Rattle.std.specs.Prelude.{IfOk};
-ghost use Rattle.xs_reply.specs.Reply.{IsWithin, job_data};
+ghost use Rattle.xs_reply.specs.Reply.{IsWithin};
 ghost use Rattle.xs_modules.specs.Results.{modules_data};
 ghost use Rattle.xs_modules.specs.Sound.{IsSound as AreSound};
 ghost use Rattle.xs_sheet.specs.Sound.{IsSound};
@@ -12,9 +12,9 @@ use crate::stylesheets::modules::{put_end, put_fault, put_numbered};
 use std::alloc::{AllocError, Global};
 use std::thread::Threads;
 use xs_compile::{CompileEnd, compile};
-use xs_engine::{Job, Reply, run_reply};
+use xs_engine::{Host, Job, Reply, run_reply};
 use xs_modules::{Modules, read_modules};
-use xs_outside::MemLibrary;
+use xs_outside::{MemLibrary, OpenGate};
 use xs_sheet::sheet::Sheet;
 use xs_text::TextBuf;
 
@@ -100,14 +100,19 @@ fn reply_on<R: Threads + Sync>(
 {
     let name = TextBuf::of(alloc, name)?;
     let job = greeting_job(alloc)?;
-    let reply = run_reply(rt, alloc, &job, &name, sheet, library);
+    let host = Host {
+        rt,
+        alloc,
+        gate: &OpenGate,
+    };
+    let reply = run_reply(&host, &job, &name, sheet, library);
     drop(job);
     reply
 }
 
 /// A job with a text for the parameter `word`.
 fn greeting_job(alloc: Global) -> Result<Job, AllocError>
-    ensures within { IfOk result (λ job. IsWithin (job_data job)) }
+    ensures within { IfOk result (λ job. IsWithin job) }
 {
     let sheet = TextBuf::of(alloc, "s.pyx")?;
     let given = vec![in alloc; greeting(alloc)?]?;
@@ -119,6 +124,7 @@ fn greeting_job(alloc: Global) -> Result<Job, AllocError>
         most_events: None,
         grain: 16,
         stats: false,
+        workers: 4,
     })
 }
 

@@ -3,12 +3,13 @@
 use crate::answer::{Answer, text_of};
 use crate::fields::{cut, whole};
 use crate::library::file_of;
+use crate::runs::meeting::Meeting;
 use crate::runs::parts::FileKind;
 use crate::texts::put_decoded;
 use std::alloc::Global;
 use std::thread::Threads;
 use xs_engine::{Report, transform};
-use xs_outside::{MemLibrary, MemSink, OpenGate};
+use xs_outside::{Gate, MemLibrary, MemSink, OpenGate};
 
 /// The first lines of a stylesheet.
 const START: &str =
@@ -52,6 +53,8 @@ pub(crate) struct Setup<'t> {
     /// What fails: `fetch`, or a write of the sink `result` or `lines`, and its number.
     failing: Vec<(&'t str, u64)>,
     most: usize,
+    /// Whether two workers have to meet.
+    has_meeting: bool,
 }
 
 /// What a run left.
@@ -60,6 +63,8 @@ pub(crate) struct Outcome {
     pub(crate) report: Report,
     pub(crate) result: MemSink,
     pub(crate) lines: MemSink,
+    /// Whether two workers had to meet, and did.
+    pub(crate) is_met: bool,
 }
 
 impl<'t> Setup<'t> {
@@ -70,6 +75,7 @@ impl<'t> Setup<'t> {
             shared: 0,
             failing: Vec::new(alloc),
             most: ROOM,
+            has_meeting: false,
         }
     }
 
@@ -78,6 +84,7 @@ impl<'t> Setup<'t> {
         self.files.truncate(self.shared);
         self.failing.clear();
         self.most = ROOM;
+        self.has_meeting = false;
     }
 
     /// Begins a file, by its kind and the rest of the line that begins its part: one of a row, or
@@ -114,6 +121,11 @@ impl<'t> Setup<'t> {
     /// Takes how many bytes a sink takes at once, at most.
     pub(crate) fn set_most(&mut self, rest: &str) {
         self.most = rest.parse().unwrap_or(ROOM);
+    }
+
+    /// Takes it that two workers have to meet.
+    pub(crate) fn set_meeting(&mut self) {
+        self.has_meeting = true;
     }
 
     /// Takes the number of a fetch, or of a write of a sink, that fails.
@@ -160,6 +172,24 @@ impl<'t> Setup<'t> {
         words: &[String],
         text: &[u8],
     ) -> Outcome {
+        if !self.has_meeting {
+            return self.run_through(written, rt, words, text, &OpenGate);
+        }
+        let meeting = Meeting::new();
+        let mut outcome = self.run_through(written, rt, words, text, &meeting);
+        outcome.is_met = meeting.is_met();
+        outcome
+    }
+
+    /// The same, through a gate.
+    fn run_through<R: Threads + Sync, G: Gate>(
+        &self,
+        written: &Answer,
+        rt: &R,
+        words: &[String],
+        text: &[u8],
+        gate: &G,
+    ) -> Outcome {
         let mut library = self.library(written, text);
         let mut result = self.sink(written, "result");
         let mut lines = self.sink(written, "lines");
@@ -170,13 +200,14 @@ impl<'t> Setup<'t> {
             &mut library,
             &mut result,
             &mut lines,
-            &OpenGate,
+            gate,
         );
         drop(library);
         Outcome {
             report,
             result,
             lines,
+            is_met: false,
         }
     }
 }

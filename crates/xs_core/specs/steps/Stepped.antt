@@ -3,7 +3,7 @@ use Rattle.std.specs.Prelude.{◌+◌, ◌++◌, ◌∷◌, [], ◌==◌, ℕ, L
 use Rattle.xs_core.specs.declared.piece.Progress.{Progress}
 use Rattle.xs_core.specs.declared.step.Step.{Step}
 use Rattle.xs_core.specs.declared.step.Step.TheVariants.{Take, Steal, Miss, Give, Spend, Finish, Discard}
-use Rattle.xs_core.specs.Machine.{Place, Facts, Worker, State, worker, fresh, with, with_total, with_finished, with_dropped}
+use Rattle.xs_core.specs.Machine.{Place, Facts, Worker, State, worker, fresh, next_child, with, with_total, with_finished, with_dropped}
 
 -- of one worker, where there is one
 abbrev pub at_worker : Option Worker → (Worker → Option State) → Option State
@@ -20,17 +20,22 @@ abbrev pub put_total : ℕ → Option State → Option State
 put_total n None = None
 put_total n (Some s) = Some (with_total (s.total + n) s)
 
--- a worker that takes the first place of its deque
+-- the last of a place and those after it, with all before that
+abbrev pub last_from : Place → List Place → List Place × Place
+last_from p [] = ([], p)
+last_from p (q ∷ ps) = (p ∷ (last_from q ps).0, (last_from q ps).1)
+
+-- a worker that takes the last place of its deque
 abbrev pub took : Option Progress → List Place → Option Worker
 took (Some h) ps = None
 took None [] = None
-took None (p ∷ ps) = Some (worker ps (Some (fresh p)))
+took None (p ∷ ps) = Some (worker (last_from p ps).0 (Some (fresh (last_from p ps).1)))
 
--- that gives the next child of its piece
+-- that gives the last child that its piece has not given
 abbrev pub gave : Facts → Option Progress → List Place → Option Worker
 gave f None ps = None
 gave f (Some h) ps =
-    if nat_lt h.given (f.holes h.place) then Some (worker (ps ++ (h.place ++ h.given ∷ []) ∷ []) (Some (record h { given = h.given + 1 }))) else None
+    if nat_lt h.given (f.holes h.place) then Some (worker (ps ++ (h.place ++ next_child f h ∷ []) ∷ []) (Some (record h { given = h.given + 1 }))) else None
 
 -- that spends ticks on its piece
 abbrev pub spent : Facts → ℕ → Option Progress → List Place → Option Worker

@@ -1,10 +1,10 @@
 -- Pieces that are run one after another.
-use Rattle.std.specs.Prelude.{◌≡◌, ◌<◌, ◌≤◌, ◌+◌, ◌++◌, ◌∷◌, [], ℕ, zero, suc, length, get_or, List, map, Option, Some, None, Bool, true, false}
+use Rattle.std.specs.Prelude.{◌≡◌, ◌<◌, ◌≤◌, ◌+◌, ◌++◌, ◌∷◌, [], ℕ, zero, suc, length, get_or, List, map, Some, None, Bool, true, false}
 use Rattle.std.specs.List.{All}
 use Rattle.xs_trace.specs.Mark.{Trace}
 use Rattle.xs_trace.specs.declared.item.Limits.{Limits}
 use Rattle.xs_core.specs.Good.{total, children}
-use Rattle.xs_record.specs.Outcome.{IsOutcome, is_done}
+use Rattle.xs_record.specs.Outcome.{IsOutcome}
 use Rattle.xs_record.specs.declared.outcome.Outcome.{Outcome}
 use Rattle.xs_pieces.specs.Tree.{task_at, BeginsWithTick}
 use Rattle.xs_pieces.specs.Collection.{is_finished, IfFinished, ticks_in, holes_in, places_in, finished_in, IsCollection}

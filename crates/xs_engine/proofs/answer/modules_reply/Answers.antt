@@ -17,7 +17,7 @@ returns-in-Ok-clause-asks g c =
 pub returns-in-Ok-clause-expected : goal.returns-in-Ok-clause-expected
 returns-in-Ok-clause-expected g c =
     run_owed (g.L.Library.files c.args.library.now) (job_data c.args.job.now) (modules_data c.args.modules.now)
-    (g.L.Library.failed c.args.library.now) (g.L.Library.failed c.run_reply.new.library) c.run_reply.result
+    (g.L.Library.failed c.args.library.now) (g.L.Library.failed c.run_reply.new.library) c.args.job.now.workers c.run_reply.result
     (IsNamedSheet c.in-Ok.sheet) c.in-Ok.sheet _
     (c.sheets_are_named.ensures (modules_data c.args.modules.now) c.in-Ok.sheet c.requires.sound c.modules_are_trees.ensures c.in-Ok.ensures.stands)
     c.in-Some.is c.in-Ok.ensures.accepted c.in-Ok.ensures.stands c.run_reply.ensures.expected
@@ -30,7 +30,8 @@ pub returns-in-Err-Refused-clause-expected : goal.returns-in-Err-Refused-clause-
 returns-in-Err-Refused-clause-expected g c =
     let first = rw c.in-Err-Refused.field-0-is at c.in-Err-Refused.ensures in
     static_owed (g.L.Library.files c.args.library.now) (job_data c.args.job.now) (modules_data c.args.modules.now)
-    (g.L.Library.failed c.args.library.now) (g.L.Library.failed c.args.library.now) c.static_reply.result c.in-Err-Refused.fault refl first
+    (g.L.Library.failed c.args.library.now) (g.L.Library.failed c.args.library.now) c.args.job.now.workers c.static_reply.result
+    c.in-Err-Refused.fault refl first
     (rw c.in-Err-Refused.fault-is at c.static_reply.ensures.answer)
 
 pub returns-in-Err-NoMemory-clause-asks : goal.returns-in-Err-NoMemory-clause-asks
@@ -43,4 +44,5 @@ returns-in-None-clause-asks g c = source_left _ _ _ _ _ _ _ refl refl
 pub returns-in-None-clause-expected : goal.returns-in-None-clause-expected
 returns-in-None-clause-expected g c =
     checked_owed (g.L.Library.files c.args.library.now) (job_data c.args.job.now) (modules_data c.args.modules.now)
-    (g.L.Library.failed c.args.library.now) (g.L.Library.failed c.args.library.now) c.check_reply.result c.in-None.is refl c.check_reply.ensures.answer
+    (g.L.Library.failed c.args.library.now) (g.L.Library.failed c.args.library.now) c.args.job.now.workers c.check_reply.result
+    c.in-None.is refl c.check_reply.ensures.answer

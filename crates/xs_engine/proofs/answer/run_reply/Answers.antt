@@ -33,19 +33,19 @@ returns-in-Ok-Ok-clause-expected g c =
     let well : AreWell c.in-Ok-Ok.tree = rw c.in-Ok-Ok.field-0-is at c.in-Ok-Ok.ensures.well in
     evaluated_owed (g.L.Library.files c.args.library.now) (job_data c.args.job.now) c.args.sheet.now c.args.source.now
     (g.L.Library.failed c.args.library.now) (g.L.Library.failed c.read_source.new.library)
-    c.evaluate.result (IsNamedSheet c.args.sheet.now) (AreWell c.in-Ok-Ok.tree) c.in-Ok-Ok.tree c.as_str.result.now well refl c.as_str.ensures.text
-    c.in-Ok-Ok.ensures.failed gives c.evaluate.ensures.answer
+    c.args.job.now.workers c.evaluate.result (IsNamedSheet c.args.sheet.now) (AreWell c.in-Ok-Ok.tree) c.in-Ok-Ok.tree c.as_str.result.now well
+    refl c.as_str.ensures.text c.in-Ok-Ok.ensures.failed gives c.evaluate.ensures.answer
 
 pub returns-in-Ok-Err-clause-expected : goal.returns-in-Ok-Err-clause-expected
 returns-in-Ok-Err-clause-expected g c =
     let gives = rw c.in-Ok-Err.field-0-is at c.in-Ok-Err.ensures.tree in
     refused_owed (g.L.Library.files c.args.library.now) (job_data c.args.job.now) c.args.sheet.now c.args.source.now
     (g.L.Library.failed c.args.library.now) (g.L.Library.failed c.read_source.new.library)
-    c.refused_reply.result (IsNamedSheet c.args.sheet.now) c.in-Ok-Err.fault.number c.in-Ok-Err.fault.line c.as_str.result.now c.as_str.ensures.text
-    c.in-Ok-Err.ensures.failed gives c.refused_reply.ensures
+    c.args.job.now.workers c.refused_reply.result (IsNamedSheet c.args.sheet.now) c.in-Ok-Err.fault.number c.in-Ok-Err.fault.line c.as_str.result.now
+    c.as_str.ensures.text c.in-Ok-Err.ensures.failed gives c.refused_reply.ensures
 
 pub returns-in-Err-Failed-clause-expected : goal.returns-in-Err-Failed-clause-expected
 returns-in-Err-Failed-clause-expected g c =
     let grew = rw (c.in-Err-Failed.field-0-is, c.as_str.ensures.text) at c.in-Err-Failed.ensures.failed in
-    fault_owed c.read_fault_reply.result (IsNamedSheet c.args.sheet.now) _ (g.L.Library.failed c.args.library.now)
+    fault_owed c.args.job.now.workers c.read_fault_reply.result (IsNamedSheet c.args.sheet.now) _ (g.L.Library.failed c.args.library.now)
     (g.L.Library.failed c.read_source.new.library) c.args.source.now grew c.read_fault_reply.ensures

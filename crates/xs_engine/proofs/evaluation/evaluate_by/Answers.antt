@@ -14,18 +14,18 @@ use Rattle.xs_engine.proofs.SettledLemmas.{ended_globals}
 use Rattle.xs_engine.proofs.evaluation.evaluate_by.Goals as goal
 
 pub returns-in-Some-clause-answer : goal.returns-in-Some-clause-answer
-returns-in-Some-clause-answer c =
+returns-in-Some-clause-answer g c =
     let w = ground c.args.sheet.now c.args.index.now c.args.tree.now (tables_in c.args.finder.now) in
-    ended_in_globals (job_data c.args.job.now) w (reported_in c.in_ok-settled.settled) c.stopped_reply.result
+    ended_in_globals (job_data c.args.job.now) w (reported_in c.in_ok-settled.settled) c.args.job.now.workers c.stopped_reply.result
     (IsNamedSheet c.args.sheet.now × AreWell c.args.tree.now) c.in-Some.spot
     (ended_globals (job_data c.args.job.now) w c.in_ok-settled.settled (rw c.deref.ensures.value at c.in_ok-settled.ensures.settles)
     c.in-Some.spot c.in-Some.is)
     (rw c.deref-in-Some.ensures.value at c.stopped_reply.ensures)
 
 pub returns-clause-answer : goal.returns-clause-answer
-returns-clause-answer c =
+returns-clause-answer g c =
     let w = ground c.args.sheet.now c.args.index.now c.args.tree.now (tables_in c.args.finder.now) in
-    replies_so c.root_reply.result (IsNamedWorld w) (IsNamedSheet c.args.sheet.now × AreWell c.args.tree.now)
+    replies_so c.args.job.now.workers c.root_reply.result (IsNamedWorld w) (IsNamedSheet c.args.sheet.now × AreWell c.args.tree.now)
     (IsEvaluated (job_data c.args.job.now) w) (IsEvaluated (job_data c.args.job.now) w)
     (λ h.
     ground_named c.args.sheet.now c.args.index.now c.args.tree.now (tables_in c.args.finder.now)
@@ -33,4 +33,4 @@ returns-clause-answer c =
     (λ a is. is) c.root_reply.ensures.answer
 
 pub settle-requires-sync-K : goal.settle-requires-sync-K
-settle-requires-sync-K c κs = search (finder_sync (record { mir = named 3; lft = κs.1.1.1.0 }))
+settle-requires-sync-K g c κs = search (finder_sync (record { mir = named 3; lft = κs.1.1.1.0 }))

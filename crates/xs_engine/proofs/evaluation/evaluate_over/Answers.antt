@@ -6,5 +6,5 @@ use Rattle.xs_engine.proofs.evaluation.evaluate_over.Goals as goal
 
 pub returns-clause-answer : goal.returns-clause-answer
 returns-clause-answer g c =
-    over_index c.evaluate_by.result (IsNamedSheet c.args.sheet.now × AreWell c.args.tree.now) (job_data c.args.job.now) c.args.sheet.now
+    over_index c.args.job.now.workers c.evaluate_by.result (IsNamedSheet c.args.sheet.now × AreWell c.args.tree.now) (job_data c.args.job.now) c.args.sheet.now
     c.in_ok-index.index c.args.tree.now _ c.in_ok-finder.ensures.tables c.evaluate_by.ensures.answer

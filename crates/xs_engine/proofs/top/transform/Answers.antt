@@ -1,5 +1,5 @@
 use Rattle.xs_words.specs.Results.{texts}
-use Rattle.xs_reply.specs.Job.{is_streamed, request_of}
+use Rattle.xs_reply.specs.Job.{is_streamed, request_of, workers_of}
 use Rattle.xs_reply.specs.Reply.{account_of, answer_of}
 use Rattle.xs_reply.proofs.GivesLemmas.{at_once, claimed, gives, gives_nothing, gives_only, nothing_at_once}
 use Rattle.xs_reply.proofs.JobLemmas.{never_streamed}
@@ -11,12 +11,13 @@ pub returns-in-Ok-clause-gives : goal.returns-in-Ok-clause-gives
 returns-in-Ok-clause-gives g c = λ _. (
   answer_of c.in-Ok.reply c.in-Ok.ensures.expected.document c.in-Ok.ensures.expected.pieces,
   c.in-Ok.ensures.expected.answers,
-  gives (is_streamed (request_of (texts c.args.words.now))) (account_of c.report_of.result)
+  gives (is_streamed (request_of (texts c.args.words.now))) (workers_of (request_of (texts c.args.words.now))) (account_of c.report_of.result)
       (g.O.Sink.held c.args.out.now) (g.O.Sink.held c.deliver-status.new.out) (g.E.Sink.held c.args.err.now) (g.E.Sink.held c.deliver-status.new.err)
       c.in-Ok.reply c.in-Ok.ensures.expected.document c.in-Ok.ensures.expected.pieces c.deliver-status.result c.report_of.ensures.status
       c.report_of.ensures.ticks
       c.report_of.ensures.fault
-      (claimed c.in-Ok.reply c.in-Ok.ensures.expected.document c.in-Ok.ensures.expected.pieces (account_of c.report_of.result)
+      (claimed c.in-Ok.reply (workers_of (request_of (texts c.args.words.now))) c.in-Ok.ensures.expected.document
+      c.in-Ok.ensures.expected.pieces (account_of c.report_of.result)
       c.in-Ok.ensures.expected.run c.report_of.ensures.pieces c.report_of.ensures.claims c.report_of.ensures.inline c.report_of.ensures.worked)
       c.deliver-status.ensures.writes (c.in-Ok.ensures.expected.reads tt),
 )
@@ -25,14 +26,15 @@ pub returns-in-Ok-clause-only : goal.returns-in-Ok-clause-only
 returns-in-Ok-clause-only g c =
     gives_only (g.L.Library.files c.args.library.now) _ (g.L.Library.failed c.args.library.now) (g.L.Library.failed c.reply_to.new.library)
     (answer_of c.in-Ok.reply c.in-Ok.ensures.expected.document c.in-Ok.ensures.expected.pieces) (is_streamed (request_of (texts c.args.words.now)))
-    (account_of c.report_of.result)
+    (workers_of (request_of (texts c.args.words.now))) (account_of c.report_of.result)
     (g.O.Sink.held c.args.out.now) (g.O.Sink.held c.deliver-status.new.out) (g.E.Sink.held c.args.err.now) (g.E.Sink.held c.deliver-status.new.err)
     c.in-Ok.ensures.expected.answers
-    (gives (is_streamed (request_of (texts c.args.words.now))) (account_of c.report_of.result)
+    (gives (is_streamed (request_of (texts c.args.words.now))) (workers_of (request_of (texts c.args.words.now))) (account_of c.report_of.result)
     (g.O.Sink.held c.args.out.now) (g.O.Sink.held c.deliver-status.new.out) (g.E.Sink.held c.args.err.now) (g.E.Sink.held c.deliver-status.new.err)
     c.in-Ok.reply c.in-Ok.ensures.expected.document c.in-Ok.ensures.expected.pieces c.deliver-status.result c.report_of.ensures.status c.report_of.ensures.ticks
     c.report_of.ensures.fault
-    (claimed c.in-Ok.reply c.in-Ok.ensures.expected.document c.in-Ok.ensures.expected.pieces (account_of c.report_of.result)
+    (claimed c.in-Ok.reply (workers_of (request_of (texts c.args.words.now))) c.in-Ok.ensures.expected.document
+    c.in-Ok.ensures.expected.pieces (account_of c.report_of.result)
     c.in-Ok.ensures.expected.run c.report_of.ensures.pieces c.report_of.ensures.claims c.report_of.ensures.inline c.report_of.ensures.worked)
     c.deliver-status.ensures.writes (c.in-Ok.ensures.expected.reads tt))
 
@@ -81,7 +83,8 @@ returns-in-Err-clause-decided g c = λ stays.
 pub returns-in-Err-clause-only : goal.returns-in-Err-clause-only
 returns-in-Err-clause-only g c =
     gives_nothing (g.L.Library.files c.args.library.now) _ (g.L.Library.failed c.args.library.now) (g.L.Library.failed c.reply_to.new.library)
-    (is_streamed (request_of (texts c.args.words.now))) (account_of c.refused_memory.result) (g.O.Sink.held c.args.out.now)
+    (is_streamed (request_of (texts c.args.words.now))) (workers_of (request_of (texts c.args.words.now)))
+    (account_of c.refused_memory.result) (g.O.Sink.held c.args.out.now)
     (g.E.Sink.held c.args.err.now) c.refused_memory.ensures.status
 
 pub returns-in-Err-clause-at_once : goal.returns-in-Err-clause-at_once

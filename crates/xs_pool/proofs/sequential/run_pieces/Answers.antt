@@ -1,6 +1,6 @@
 use Rattle.std.proofs.Common.{◌≡◌, All, map, true, false, refl, ap, subst, ◌∙◌, sym, arith}
 use Rattle.std.proofs.lemmas.List.Elements.{All-nil}
-use Rattle.xs_trace.specs.declared.place.Claim.{Claim}
+use Rattle.xs_core.specs.declared.place.Claim.{Claim}
 use Rattle.xs_pieces.specs.Collection.{claimed_in}
 use Rattle.xs_pool.proofs.RunLemmas.{starts, none-claims, runs-out, as-ran, claims-run, claims-next, workers-more, smaller, are-claims}
 use Rattle.xs_pool.proofs.SwapLemmas.{claimed-swapped, length-swapped, run-swapped}
