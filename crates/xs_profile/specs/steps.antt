@@ -1,0 +1,4 @@
+pub mod Runs
+pub mod Table
+pub mod Parts
+pub mod Search
